@@ -1,0 +1,24 @@
+-- What an admission rule makes of the attributes of a new key.
+use Rattle.std.specs.Prelude.{ℕ, not, ◌&&◌, ◌==◌, if◌then◌else◌, bit_and}
+use Rattle.key_attributes.specs.declared.Attributes.{Attributes}
+use Rattle.policy_rules.specs.Policy.{IsWithin}
+use Rattle.policy_rules.specs.declared.narrowing.Label.{Label}
+use Rattle.policy_rules.specs.declared.narrowing.Label.TheVariants.{NoExport, NoCopy, NoEcb, Aes256}
+use Rattle.policy_rules.specs.declared.narrowing.Verdict.{Verdict}
+use Rattle.policy_rules.specs.declared.narrowing.Verdict.TheVariants.{Keep, Refuse}
+
+-- the attributes with these flags alone
+abbrev pub only_usage : Attributes → ℕ → Attributes
+only_usage a flags = record a { policy = record { usage = record { 0 = bit_and a.policy.usage.0 flags }; alg = a.policy.alg } }
+
+-- the usage without EXPORT (1) or COPY (2); no ECB without padding (04404400); AES keys (2400) of 256 bits alone
+abbrev pub narrowed : Label → Attributes → Verdict
+narrowed NoExport a = Keep (only_usage a 0xfffffffe)
+narrowed NoCopy a = Keep (only_usage a 0xfffffffd)
+narrowed NoEcb a = if a.policy.alg == 0x04404400 then Refuse else Keep a
+narrowed Aes256 a = if a.key_type.0 == 0x2400 && not (a.bits == 256) then Refuse else Keep a
+
+-- the policy that is kept has no flag and permits no algorithm that the one before doesn't
+abbrev pub KeepsWithin : Attributes → Verdict → Type 0
+KeepsWithin a (Keep kept) = IsWithin kept.policy a.policy
+KeepsWithin a Refuse = Unit {0}

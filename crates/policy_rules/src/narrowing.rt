@@ -1,0 +1,71 @@
+// Admission rules.
+ghost use Rattle.std.specs.Prelude.{◌≡◌};
+ghost use Rattle.policy_rules.specs.Narrow.{KeepsWithin, narrowed, only_usage};
+
+use key_attributes::{Attributes, Policy, Usage};
+
+/// What an admission rule does with a new key.
+#[derive(Clone, Copy, Debug, PartialEq, Eq, Drop)]
+pub enum Label {
+    /// Takes the flag EXPORT away.
+    NoExport,
+    /// Takes the flag COPY away.
+    NoCopy,
+    /// Refuses a key for ECB.
+    NoEcb,
+    /// Refuses an AES key of other than 256 bits.
+    Aes256,
+}
+
+/// What a rule answers.
+#[derive(Clone, Copy, Debug, PartialEq, Eq, Drop)]
+pub enum Verdict {
+    Keep(Attributes),
+    Refuse,
+}
+
+const EXPORT: u32 = 0x1;
+
+const COPY: u32 = 0x2;
+
+const ECB_NO_PADDING: u32 = 0x0440_4400;
+
+const AES: u16 = 0x2400;
+
+fn with_usage(attributes: &Attributes, flags: u32) -> Attributes
+    ensures { result ≡ only_usage attributes.now flags }
+{
+    let policy = attributes.policy;
+    Attributes {
+        policy: Policy {
+            usage: Usage(policy.usage.0 & flags),
+            alg: policy.alg,
+        },
+        ..*attributes
+    }
+}
+
+/// What the rule with this label makes of a new key's attributes.
+pub fn narrow(label: Label, attributes: &Attributes) -> Verdict
+    ensures value { result ≡ narrowed label attributes.now }
+    ensures within { KeepsWithin attributes.now result }
+{
+    match label {
+        Label::NoExport => Verdict::Keep(with_usage(attributes, !EXPORT)),
+        Label::NoCopy => Verdict::Keep(with_usage(attributes, !COPY)),
+        Label::NoEcb => {
+            if attributes.policy.alg == ECB_NO_PADDING {
+                Verdict::Refuse
+            } else {
+                Verdict::Keep(*attributes)
+            }
+        }
+        Label::Aes256 => {
+            if attributes.key_type.0 == AES && attributes.bits != 256 {
+                Verdict::Refuse
+            } else {
+                Verdict::Keep(*attributes)
+            }
+        }
+    }
+}
