@@ -1,0 +1,128 @@
+-- Laws of the field GF(2^8): what is tried at every byte, and products of sums.
+use Rattle.std.proofs.Common.{◌≡◌, ℕ, zero, suc, ◌+◌, ◌*◌, ◌/◌, ◌%◌, ◌^◌, ◌<◌, ◌≤◌, Bool, true, false, cond, eqb, nat_lt, bit_xor, refl, sym, ap, ap₂, ◌∙◌, inl, inr, arith}
+use Rattle.std.specs.Prelude.{◌&&◌}
+use Rattle.std.specs.Int.Bits.{xor_zero_r, xor_assoc, xor_self, xor_block}
+use Rattle.std.proofs.lemmas.Nat.{xor_shr, xor_comm, xor_lt}
+use Rattle.std.proofs.lemmas.Bool.{ltb-true, cases_eq, cases_lt, le-ltb, lt-ltb}
+use Rattle.crypto_specs.specs.Field.{xtime, gf_mul, sum_of_shifts}
+
+-- the test holds at each number below n
+unfoldable pub all_below : ℕ → (ℕ → Bool) → Bool
+all_below zero test = true
+all_below (suc n) test = test n && all_below n test
+
+pub both : (a b : Bool) → (a && b) ≡ true → (a ≡ true) × (b ≡ true)
+both true true h = (refl, refl)
+both true false h = (refl, h)
+both false b h = cc
+
+pub below_all : (n : ℕ) (test : ℕ → Bool) → all_below n test ≡ true → (i : ℕ) → i < n → test i ≡ true
+unfolding all_below
+below_all zero test h i k = absurd (omega arith)
+below_all (suc n) test h i k = elim (cases_eq i n) [
+  | inl e ↦ rw e ((both (test n) (all_below n test) h).0)
+  | inr e ↦ below_all n test ((both (test n) (all_below n test) h).1) i (omega arith)
+]
+
+-- ---- sums of four, and of two doubled
+
+pub xor_four : (a b c d : ℕ) → bit_xor (bit_xor a b) (bit_xor c d) ≡ bit_xor (bit_xor a c) (bit_xor b d)
+xor_four a b c d =
+    xor_assoc a b (bit_xor c d) ∙ ap (bit_xor a) (sym (xor_assoc b c d) ∙ ap (λ (n : ℕ). bit_xor n d) (xor_comm b c) ∙ xor_assoc c b d)
+    ∙ sym (xor_assoc a c (bit_xor b d))
+
+pub xor_twice : (a b : ℕ) → bit_xor (bit_xor a b) b ≡ a
+xor_twice a b = xor_assoc a b b ∙ ap (bit_xor a) (xor_self b) ∙ xor_zero_r a
+
+double-xor : (a b : ℕ) → 2 * bit_xor a b ≡ bit_xor (2 * a) (2 * b)
+double-xor a b =
+    let left : 2 * a ≡ a * 2 ^ 1 + 0 = omega arith in
+    let right : 2 * b ≡ b * 2 ^ 1 + 0 = omega arith in
+    let whole : 2 * bit_xor a b ≡ bit_xor a b * 2 ^ 1 + 0 = omega arith in
+    rw (left, right, whole) (sym (xor_block 1 a b 0 0 (omega arith) (omega arith)))
+
+-- ---- the product by x
+
+correction : ℕ → ℕ
+correction b = cond (nat_lt b 128) 0 0x11b
+
+corrected : (b : ℕ) → xtime b ≡ bit_xor (2 * b) (correction b)
+unfolding correction
+corrected b = by_case (nat_lt b 128)
+  where
+    by_case : (t : Bool) → cond t (2 * b) (bit_xor (2 * b) 0x11b) ≡ bit_xor (2 * b) (cond t 0 0x11b)
+    by_case true = sym (xor_zero_r (2 * b))
+    by_case false = refl
+
+low : (b : ℕ) → b < 128 → correction b ≡ 0
+unfolding correction
+low b h = rw (lt-ltb b 128 h) refl
+
+high : (b : ℕ) → 128 ≤ b → correction b ≡ 0x11b
+unfolding correction
+high b h = rw (le-ltb b 128 h) refl
+
+correction-xor : (a b : ℕ) → a < 256 → b < 256 → correction (bit_xor a b) ≡ bit_xor (correction a) (correction b)
+correction-xor a b ha hb =
+    let top : bit_xor a b / 128 ≡ bit_xor (a / 128) (b / 128) = xor_shr a b 7 in
+    elim (cases_lt a 128) [
+      | inl la ↦ elim (cases_lt b 128) [
+        | inl lb ↦ rw (low a la, low b lb) (low (bit_xor a b) (xor_lt 7 a b la lb))
+        | inr gb ↦
+            let none : a / 128 ≡ 0 = omega arith in
+            let one : b / 128 ≡ 1 = omega arith in
+            rw (low a la, high b gb) (high (bit_xor a b) (omega (arith, rw (none, one) at top)))
+      ]
+      | inr ga ↦ elim (cases_lt b 128) [
+        | inl lb ↦
+            let one : a / 128 ≡ 1 = omega arith in
+            let none : b / 128 ≡ 0 = omega arith in
+            rw (high a ga, low b lb) (high (bit_xor a b) (omega (arith, rw (one, none) at top)))
+        | inr gb ↦
+            let one : a / 128 ≡ 1 = omega arith in
+            let other : b / 128 ≡ 1 = omega arith in
+            rw (high a ga, high b gb) (low (bit_xor a b) (omega (arith, rw (one, other) at top)))
+      ]
+    ]
+
+pub xtime-xor : (a b : ℕ) → a < 256 → b < 256 → xtime (bit_xor a b) ≡ bit_xor (xtime a) (xtime b)
+xtime-xor a b ha hb =
+    corrected (bit_xor a b) ∙ ap₂ bit_xor (double-xor a b) (correction-xor a b ha hb)
+    ∙ xor_four (2 * a) (2 * b) (correction a) (correction b) ∙ sym (ap₂ bit_xor (corrected a) (corrected b))
+
+xtime-test : all_below 256 (λ b. nat_lt (xtime b) 256) ≡ true
+unfolding all_below
+xtime-test = refl
+
+pub xtime-byte : (b : ℕ) → b < 256 → xtime b < 256
+xtime-byte b h = ltb-true (xtime b) 256 (below_all 256 (λ b. nat_lt (xtime b) 256) xtime-test b h)
+
+-- ---- products
+
+cond-xor : (t : Bool) (a b : ℕ) → cond t (bit_xor a b) 0 ≡ bit_xor (cond t a 0) (cond t b 0)
+cond-xor true a b = refl
+cond-xor false a b = refl
+
+cond-byte : (t : Bool) (b : ℕ) → b < 256 → cond t b 0 < 256
+cond-byte true b h = h
+cond-byte false b h = omega arith
+
+sum-xor : (n c a b : ℕ) → a < 256 → b < 256 → sum_of_shifts n c (bit_xor a b) ≡ bit_xor (sum_of_shifts n c a) (sum_of_shifts n c b)
+unfolding sum_of_shifts
+sum-xor zero c a b ha hb = refl
+sum-xor (suc n) c a b ha hb =
+    let t : Bool = eqb (c % 2) 1 in
+    ap₂ bit_xor (cond-xor t a b) (ap (sum_of_shifts n (c / 2)) (xtime-xor a b ha hb) ∙ sum-xor n (c / 2) (xtime a) (xtime b) (xtime-byte a ha) (xtime-byte b hb))
+    ∙ xor_four (cond t a 0) (cond t b 0) (sum_of_shifts n (c / 2) (xtime a)) (sum_of_shifts n (c / 2) (xtime b))
+
+pub gf_mul-xor : (c a b : ℕ) → a < 256 → b < 256 → gf_mul c (bit_xor a b) ≡ bit_xor (gf_mul c a) (gf_mul c b)
+gf_mul-xor c a b ha hb = sum-xor 8 c a b ha hb
+
+sum-byte : (n c b : ℕ) → b < 256 → sum_of_shifts n c b < 256
+unfolding sum_of_shifts
+sum-byte zero c b h = omega arith
+sum-byte (suc n) c b h =
+    xor_lt 8 (cond (eqb (c % 2) 1) b 0) (sum_of_shifts n (c / 2) (xtime b)) (cond-byte (eqb (c % 2) 1) b h) (sum-byte n (c / 2) (xtime b) (xtime-byte b h))
+
+pub gf_mul-byte : (c b : ℕ) → b < 256 → gf_mul c b < 256
+gf_mul-byte c b h = sum-byte 8 c b h

@@ -1,0 +1,74 @@
+-- The key stream byte by byte.
+use Rattle.std.proofs.Common.{◌≡◌, ℕ, zero, suc, ◌+◌, ◌-◌, ◌*◌, ◌/◌, ◌%◌, ◌<◌, ◌≤◌, List, [], ◌∷◌, ◌++◌, length, take, drop, slice_index, slice_set, bit_xor, refl, ap, ap₂, ◌∙◌, inl, inr, arith}
+use Rattle.std.proofs.lemmas.Bool.{cases_lt}
+use Rattle.std.proofs.lemmas.List.{length-append, get_or_append_left, get_or-append_right}
+use Rattle.crypto_specs.specs.Bytes.{xor_bytes}
+use Rattle.crypto_specs.specs.Modes.{key_stream, stream_byte, xor_stream, counter_block, ctr_xor, block_count}
+
+-- any cutting: the second part goes on where the first ended
+pub xor_stream_of_parts : (e : List ℕ → List ℕ) (iv xs ys : List ℕ) (j : ℕ) → xor_stream e iv j (xs ++ ys) ≡ xor_stream e iv j xs ++ xor_stream e iv (j + length xs) ys
+unfolding xor_stream
+xor_stream_of_parts e iv [] ys j = ap (λ (n : ℕ). xor_stream e iv n ys) (omega arith)
+xor_stream_of_parts e iv (x ∷ xs) ys j =
+    ap (λ (l : List ℕ). bit_xor x (stream_byte e iv j) ∷ l) (xor_stream_of_parts e iv xs ys (suc j)
+    ∙ ap (λ (n : ℕ). xor_stream e iv (suc j) xs ++ xor_stream e iv n ys) (omega arith))
+
+-- where each counter block is enciphered to 16 bytes
+module _ (e : List ℕ → List ℕ) (iv : List ℕ) (long : (n : ℕ) → length (e (counter_block iv n)) ≡ 16) where
+  pub length-blocks_of_stream : (n : ℕ) → length (key_stream e iv n) ≡ 16 * n
+  unfolding key_stream
+  length-blocks_of_stream zero = refl
+  length-blocks_of_stream (suc n) = omega (arith, length-append (key_stream e iv n) (e (counter_block iv n)), length-blocks_of_stream n, long n)
+
+  pub byte_of_blocks : (n j : ℕ) → j < 16 * n → slice_index (key_stream e iv n) j ≡ stream_byte e iv j
+  unfolding key_stream stream_byte
+  byte_of_blocks zero j h = absurd (omega arith)
+  byte_of_blocks (suc n) j h = elim (cases_lt j (16 * n)) [
+    | inl lt ↦ get_or_append_left (key_stream e iv n) (e (counter_block iv n)) 0 j (omega (arith, length-blocks_of_stream n)) ∙ byte_of_blocks n j lt
+    | inr ge ↦
+        let row : n ≡ j / 16 = omega arith in
+        let place : j - 16 * n ≡ j % 16 = omega arith in
+        get_or-append_right (key_stream e iv n) (e (counter_block iv n)) (16 * n) j 0 (length-blocks_of_stream n) ge
+        ∙ ap₂ (λ (m i : ℕ). slice_index (e (counter_block iv m)) i) row place
+  ]
+
+  by_byte : (text stream : List ℕ) (j : ℕ) → length text ≤ length stream → ((i : ℕ) → i < length text → slice_index stream i ≡ stream_byte e iv (j + i)) → xor_bytes text stream ≡ xor_stream e iv j text
+  unfolding xor_stream
+  by_byte [] stream j h at = refl
+  by_byte (x ∷ xs) [] j h at = absurd (omega arith)
+  by_byte (x ∷ xs) (s ∷ stream) j h at =
+      ap₂ (λ (a : ℕ) (l : List ℕ). bit_xor x a ∷ l) (at 0 (omega arith) ∙ ap (stream_byte e iv) (omega arith))
+      (by_byte xs stream (suc j) (omega arith) (λ i lt. at (suc i) (omega arith) ∙ ap (stream_byte e iv) (omega arith)))
+
+  -- CTR is the xor with the key stream from its first byte on
+  pub ctr_by_blocks : (text : List ℕ) → ctr_xor e iv text ≡ xor_stream e iv 0 text
+  unfolding ctr_xor
+  ctr_by_blocks text =
+      let n : ℕ = block_count (length text) in
+      by_byte text (key_stream e iv n) 0 (omega (arith, length-blocks_of_stream n))
+      (λ i lt. byte_of_blocks n i (omega arith) ∙ ap (stream_byte e iv) (omega arith))
+
+-- the same, where every list is enciphered to 16 bytes
+module _ (e : List ℕ → List ℕ) (long : (b : List ℕ) → length (e b) ≡ 16) (iv : List ℕ) where
+  pub xor_stream-append : (xs ys : List ℕ) (j : ℕ) → xor_stream e iv j (xs ++ ys) ≡ xor_stream e iv j xs ++ xor_stream e iv (j + length xs) ys
+  xor_stream-append xs ys j = xor_stream_of_parts e iv xs ys j
+
+  pub length-key_stream : (n : ℕ) → length (key_stream e iv n) ≡ 16 * n
+  length-key_stream n = length-blocks_of_stream e iv (λ k. long (counter_block iv k)) n
+
+  pub byte_of_stream : (n j : ℕ) → j < 16 * n → slice_index (key_stream e iv n) j ≡ stream_byte e iv j
+  byte_of_stream n j h = byte_of_blocks e iv (λ k. long (counter_block iv k)) n j h
+
+  pub ctr_by_byte : (text : List ℕ) → ctr_xor e iv text ≡ xor_stream e iv 0 text
+  ctr_by_byte text = ctr_by_blocks e iv (λ k. long (counter_block iv k)) text
+
+-- one more byte xored in place
+pub xor_stream_next : (e : List ℕ → List ℕ) (iv text : List ℕ) (i j : ℕ) → i < length text
+    → let now : List ℕ = xor_stream e iv j (take i text) ++ drop i text in slice_set now i (bit_xor (slice_index now i) (stream_byte e iv (j + i))) ≡ xor_stream e iv j (take (i + 1) text) ++ drop (i + 1) text
+unfolding xor_stream
+xor_stream_next e iv [] i j h = absurd (omega arith)
+xor_stream_next e iv (x ∷ xs) zero j h = ap (λ (n : ℕ). bit_xor x (stream_byte e iv n) ∷ xs) (omega arith)
+xor_stream_next e iv (x ∷ xs) (suc i) j h =
+    let s : suc i + 1 ≡ suc (i + 1) = omega arith in
+    let at : j + suc i ≡ suc j + i = omega arith in
+    rw (s, at) (ap (λ (l : List ℕ). bit_xor x (stream_byte e iv j) ∷ l) (xor_stream_next e iv xs i (suc j) (omega arith)))

@@ -1,0 +1,17 @@
+pub mod Bytes
+pub mod Field
+pub mod Sbox
+pub mod KeyExpansion
+pub mod Aes
+pub mod AesInverse
+pub mod Modes
+pub mod Cmac
+pub mod Ccm
+pub mod Ghash
+pub mod Gcm
+pub mod Hmac
+pub mod Hkdf
+pub mod Pbkdf2
+pub mod KeyWrap
+pub mod Absorb
+pub mod Laws
