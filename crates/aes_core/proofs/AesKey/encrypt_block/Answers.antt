@@ -1,0 +1,8 @@
+use Rattle.std.proofs.Common.{◌∙◌}
+use Rattle.aes_core.proofs.KeyRules.{ready, cipher_of}
+use Rattle.aes_core.proofs.AesKey.encrypt_block.Goals as goal
+
+pub returns : goal.returns
+returns c =
+    let s = c.self.inside in
+    c.cipher.ensures ∙ cipher_of c.args.self.now s.schedule c.args.block.now s.rounds (ready c.args.self.now s.schedule s.rounds c.self.invariant c.self.view_is c.requires)

@@ -1,0 +1,6 @@
+pub mod BoxValues
+pub mod Doublings
+pub mod Expansion
+pub mod RoundKeys
+pub mod KeyRules
+pub mod BlockNumbers

@@ -1,0 +1,6 @@
+use Rattle.std.proofs.Common.{arith}
+use Rattle.aes_core.proofs.BoxValues.{inv_sbox_at}
+use Rattle.aes_core.proofs.tables.inv_sub_byte.Goals as goal
+
+pub returns : goal.returns
+returns c = inv_sbox_at c.args.x (omega arith)

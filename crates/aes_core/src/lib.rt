@@ -1,0 +1,105 @@
+//! AES (FIPS 197): one block of 16 bytes under a key of 16, 24 or 32 bytes.
+#![tactic(auto)]
+
+ghost use Rattle.std.specs.Prelude.{◌≡◌, ℕ, List, [], MatchOption};
+ghost use Rattle.crypto_specs.specs.Aes.{aes_encrypt, IsKey};
+ghost use Rattle.crypto_specs.specs.AesInverse.{aes_decrypt};
+ghost use Rattle.crypto_specs.specs.Modes.{number_block};
+
+use rounds::{cipher, inv_cipher};
+use schedule::key_expansion;
+use std::marker::Model;
+
+mod products;
+mod rounds;
+mod schedule;
+mod state;
+mod tables;
+
+/// A key with its schedule. A contract sees the key's bytes, and none of them once it is wiped.
+#[derive(Drop)]
+pub struct AesKey {
+    rounds: usize,
+    schedule: [u8; 240],
+}
+
+impl Model for AesKey {
+    ghost use Rattle.std.specs.Prelude.{List, ℕ};
+
+    ghost Value = { List ℕ };
+
+    ghost use Rattle.aes_core.specs.KeyFields.{key_of, IsReadyOrWiped};
+
+    ghost view = { λ a. key_of a.rounds a.schedule };
+
+    ghost invariant = { λ a. IsReadyOrWiped a.rounds a.schedule };
+}
+
+impl AesKey {
+    /// The key of these bytes; `None` exactly where they are not 16, 24 or 32 (FIPS 197 section 5).
+    pub fn new(key: &[u8]) -> Option<AesKey>
+        ensures { MatchOption result (IsKey key.now → ⊥)
+            (λ k. IsKey key.now × (k ≡ key.now)) }
+    {
+        let rounds = match key.len() {
+            16 => 10,
+            24 => 12,
+            32 => 14,
+            _ => return None,
+        };
+        Some(AesKey {
+            rounds,
+            schedule: key_expansion(key, rounds),
+        })
+    }
+
+    /// Enciphers a block in place (FIPS 197 section 5.1).
+    pub fn encrypt_block(&self, block: &mut [u8; 16])
+        requires { IsKey self.now }
+        ensures { block.new ≡ aes_encrypt self.now block.old }
+    {
+        *block = cipher(&self.schedule, self.rounds, *block);
+    }
+
+    /// Deciphers a block in place (FIPS 197 section 5.3).
+    pub fn decrypt_block(&self, block: &mut [u8; 16])
+        requires { IsKey self.now }
+        ensures { block.new ≡ aes_decrypt self.now block.old }
+    {
+        *block = inv_cipher(&self.schedule, self.rounds, *block);
+    }
+
+    /// The block enciphered, where a block is a number whose highest byte is the block's first.
+    pub fn encrypt_number(&self, block: u128) -> u128
+        requires { IsKey self.now }
+        ensures { number_block result ≡ aes_encrypt self.now (number_block block) }
+    {
+        number_of(&cipher(&self.schedule, self.rounds, block.to_be_bytes()))
+    }
+
+    /// The block deciphered, where a block is a number whose highest byte is the block's first.
+    pub fn decrypt_number(&self, block: u128) -> u128
+        requires { IsKey self.now }
+        ensures { number_block result ≡ aes_decrypt self.now (number_block block) }
+    {
+        number_of(&inv_cipher(&self.schedule, self.rounds, block.to_be_bytes()))
+    }
+
+    /// Clears the key: its schedule is zeros, and no call takes it from then on.
+    pub fn wipe(&mut self)
+        ensures { self.new ≡ [] }
+    {
+        self.rounds = 0;
+        self.schedule = [0; 240];
+    }
+}
+
+// The number of a block, first byte highest.
+fn number_of(block: &[u8; 16]) -> u128
+    ensures { number_block result ≡ block.now }
+{
+    u128::from_be_bytes(*block)
+}
+
+#[cfg(test)]
+mod tests;

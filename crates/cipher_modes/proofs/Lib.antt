@@ -1,0 +1,4 @@
+pub mod InPlace
+pub mod Chaining
+pub mod CounterBlocks
+pub mod PaddingRules

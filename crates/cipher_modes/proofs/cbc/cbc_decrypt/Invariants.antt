@@ -1,0 +1,8 @@
+use Rattle.std.proofs.Common.{◌≡◌}
+use Rattle.crypto_specs.specs.AesInverse.{aes_decrypt}
+use Rattle.crypto_specs.specs.Modes.{cbc_plain_blocks, number_block, cbc_decrypt}
+use Rattle.cipher_modes.proofs.InPlace.{mode_from}
+use Rattle.cipher_modes.proofs.cbc.cbc_decrypt.Given as goal
+
+abbrev pub invariant-turns : goal.invariant-turns
+invariant-turns l = mode_from (cbc_plain_blocks (aes_decrypt l.key) (number_block l.chain)) l.n l.text ≡ cbc_decrypt (aes_decrypt l.key) l.fn.iv l.fn.text

@@ -1,0 +1,30 @@
+use Rattle.std.proofs.Common.{◌∙◌, List, ℕ, ◌∷◌, length, sym, ap, refl, arith}
+use Rattle.crypto_specs.specs.Bytes.{xor_bytes}
+use Rattle.crypto_specs.specs.Aes.{aes_encrypt}
+use Rattle.crypto_specs.specs.Modes.{cbc_blocks, number_block, cbc_encrypt}
+use Rattle.aes_core.proofs.BlockNumbers.{length-number_block, block_of_xor}
+use Rattle.cipher_modes.proofs.Chaining.{cbc_block}
+use Rattle.cipher_modes.proofs.InPlace.{mode_from, block_done, all_done, none_done}
+use Rattle.cipher_modes.proofs.cbc.cbc_encrypt.Goals as goal
+
+pub turns-init : goal.turns-init
+unfolding cbc_encrypt
+turns-init c =
+    let e = aes_encrypt c.args.key.now in
+    ap (λ (iv : List ℕ). mode_from (cbc_blocks e iv) 0 c.args.text.now) c.number_of-chain.ensures ∙ none_done (cbc_blocks e c.args.iv.now) c.args.text.now
+
+pub turns-preserved : goal.turns-preserved
+turns-preserved c =
+    let e = aes_encrypt c.args.key.now in
+    let chain = number_block c.turns.chain in
+    let next = number_block c.encrypt_number-chain.result in
+    let xored = block_of_xor c.number_of.result c.turns.chain ∙ ap (λ (b : List ℕ). xor_bytes b chain) c.number_of.ensures in
+    let out = c.encrypt_number-chain.ensures ∙ ap e xored in
+    block_done (cbc_blocks e chain) (cbc_blocks e next) c.turns.text c.set_number.new.piece c.turns.n _ (omega arith) (omega arith)
+    (ap length c.set_number.ensures ∙ length-number_block _)
+    (λ rest. cbc_block e chain _ next out rest ∙ ap (λ (b : List ℕ). b ∷ cbc_blocks e next rest) (sym c.set_number.ensures))
+    ∙ c.turns.invariant
+
+pub returns : goal.returns
+unfolding cbc_blocks
+returns c = sym (all_done (cbc_blocks (aes_encrypt c.args.key.now) (number_block c.turns.chain)) c.turns.text c.turns.n refl (omega arith) (omega arith)) ∙ c.turns.invariant

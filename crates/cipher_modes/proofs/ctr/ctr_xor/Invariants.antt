@@ -1,0 +1,11 @@
+use Rattle.std.proofs.Common.{◌≡◌, ◌++◌, ◌+◌, ◌*◌, ◌%◌, ◌^◌, take, drop}
+use Rattle.crypto_specs.specs.Bytes.{xor_bytes}
+use Rattle.crypto_specs.specs.Aes.{aes_encrypt}
+use Rattle.crypto_specs.specs.Modes.{key_stream, block_number}
+use Rattle.cipher_modes.proofs.ctr.ctr_xor.Given as goal
+
+abbrev pub invariant-turns : goal.invariant-turns
+invariant-turns l = record {
+  counter : l.counter ≡ (block_number l.iv + l.n) % 2 ^ 128;
+  text : l.text ≡ xor_bytes (take (16 * l.n) l.fn.text) (key_stream (aes_encrypt l.key) l.iv l.n) ++ drop (16 * l.n) l.fn.text;
+}

@@ -1,0 +1,8 @@
+use Rattle.std.proofs.Common.{◌≡◌}
+use Rattle.crypto_specs.specs.AesInverse.{aes_decrypt}
+use Rattle.crypto_specs.specs.Modes.{ecb_blocks, ecb_decrypt}
+use Rattle.cipher_modes.proofs.InPlace.{mode_from}
+use Rattle.cipher_modes.proofs.ecb.ecb_decrypt.Given as goal
+
+abbrev pub invariant-turns : goal.invariant-turns
+invariant-turns l = mode_from (ecb_blocks (aes_decrypt l.key)) l.n l.text ≡ ecb_decrypt (aes_decrypt l.key) l.fn.text

@@ -1,0 +1,8 @@
+use Rattle.std.proofs.Common.{◌≡◌}
+use Rattle.crypto_specs.specs.Aes.{aes_encrypt}
+use Rattle.crypto_specs.specs.Modes.{ecb_blocks, ecb_encrypt}
+use Rattle.cipher_modes.proofs.InPlace.{mode_from}
+use Rattle.cipher_modes.proofs.ecb.ecb_encrypt.Given as goal
+
+abbrev pub invariant-turns : goal.invariant-turns
+invariant-turns l = mode_from (ecb_blocks (aes_encrypt l.key)) l.n l.text ≡ ecb_encrypt (aes_encrypt l.key) l.fn.text

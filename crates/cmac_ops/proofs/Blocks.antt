@@ -1,0 +1,31 @@
+-- The first blocks of a message that grows.
+use Rattle.std.proofs.Common.{◌≡◌, ℕ, zero, suc, ◌+◌, ◌*◌, ◌≤◌, List, [], ◌∷◌, ◌++◌, length, take, drop, refl, ap, ap₂, ◌∙◌, arith}
+use Rattle.std.proofs.lemmas.List.{take-append-le, drop-append-le, length-drop, drop-drop}
+use Rattle.std.proofs.lemmas.List.Sums.{fold-append}
+use Rattle.crypto_specs.specs.Bytes.{xor_bytes}
+use Rattle.crypto_specs.specs.Cmac.{chain_step, chained}
+use Rattle.crypto_specs.specs.Modes.{blocks}
+
+-- what comes later changes no earlier block
+pub blocks-append : (n : ℕ) (xs ys : List ℕ) → 16 * n ≤ length xs → blocks n (xs ++ ys) ≡ blocks n xs
+unfolding blocks
+blocks-append zero xs ys h = refl
+blocks-append (suc n) xs ys h =
+    let front : take 16 (xs ++ ys) ≡ take 16 xs = take-append-le 16 xs ys (omega arith) in
+    let back : drop 16 (xs ++ ys) ≡ drop 16 xs ++ ys = drop-append-le 16 xs ys (omega arith) in
+    ap₂ (λ (b : List ℕ) (bs : List (List ℕ)). b ∷ bs) front (ap (blocks n) back ∙ blocks-append n (drop 16 xs) ys (omega (arith, length-drop 16 xs)))
+
+-- one more block
+pub blocks-add-one : (n : ℕ) (xs : List ℕ) → blocks (n + 1) xs ≡ blocks n xs ++ take 16 (drop (16 * n) xs) ∷ []
+unfolding blocks
+blocks-add-one zero xs = refl
+blocks-add-one (suc n) xs =
+    let more : suc n + 1 ≡ suc (n + 1) = omega arith in
+    let place : 16 + 16 * n ≡ 16 * suc n = omega arith in
+    ap (λ (k : ℕ). blocks k xs) more
+    ∙ ap (λ (bs : List (List ℕ)). take 16 xs ∷ bs) (blocks-add-one n (drop 16 xs) ∙ ap (λ (l : List ℕ). blocks n (drop 16 xs) ++ take 16 l ∷ []) (drop-drop (16 * n) 16 xs ∙ ap (λ (k : ℕ). drop k xs) place))
+
+-- the chain over one more block
+pub chained_push : (e : List ℕ → List ℕ) (bs : List (List ℕ)) (b : List ℕ) → chained e (bs ++ b ∷ []) ≡ e (xor_bytes (chained e bs) b)
+unfolding chained
+chained_push e bs b = fold-append (chain_step e) _ bs (b ∷ [])

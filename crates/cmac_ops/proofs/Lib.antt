@@ -1,0 +1,4 @@
+pub mod Blocks
+pub mod Chaining
+pub mod Numbers
+pub mod Tags

@@ -1,0 +1,6 @@
+use Rattle.std.proofs.Common.{◌≡◌, ◌-◌, ◌++◌, take}
+use Rattle.std.specs.Prelude.{replicate}
+use Rattle.cmac_ops.proofs.chain.Chain.filled.Given as goal
+
+abbrev pub invariant-bytes : goal.invariant-bytes
+invariant-bytes l = l.out ≡ take l.i l.self.block ++ replicate (16 - l.i) 0

@@ -1,0 +1,6 @@
+use Rattle.std.proofs.Common.{refl}
+use Rattle.cmac_ops.proofs.Chaining.{started}
+use Rattle.cmac_ops.proofs.chain.Chain.new.Goals as goal
+
+pub returns : goal.returns
+returns c = λ key. started _ key refl refl

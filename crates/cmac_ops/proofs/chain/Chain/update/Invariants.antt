@@ -1,0 +1,12 @@
+use Rattle.std.proofs.Common.{◌-◌, ◌≤◌, ◌++◌, ℕ, List, length, take}
+use Rattle.cmac_ops.specs.Chains.{Holds}
+use Rattle.cmac_ops.proofs.chain.Chain.update.Given as goal
+
+abbrev pub invariant-turns : goal.invariant-turns
+invariant-turns l = record {
+  within : l.done ≤ length l.piece;
+  holds : (m : List ℕ) → Holds l.fn.self l.key m → Holds l.self l.key (m ++ take l.done l.piece);
+}
+
+abbrev pub decreases-turns : goal.decreases-turns
+decreases-turns l = length l.piece - l.done

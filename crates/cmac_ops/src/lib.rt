@@ -1,0 +1,25 @@
+//! CMAC (SP 800-38B) over AES.
+#![tactic(auto)]
+
+ghost use Rattle.std.specs.Prelude.{◌≡◌};
+ghost use Rattle.crypto_specs.specs.Aes.{IsKey, aes_encrypt};
+ghost use Rattle.crypto_specs.specs.Cmac.{cmac};
+
+use aes_core::AesKey;
+use chain::Chain;
+pub use state::CmacState;
+
+mod chain;
+mod state;
+#[cfg(test)]
+mod tests;
+
+/// The tag of a message, of 16 bytes; a shorter tag is its front (SP 800-38B, section 6.2).
+pub fn cmac(key: &AesKey, message: &[u8]) -> [u8; 16]
+    requires { IsKey key.now }
+    ensures { result ≡ cmac (aes_encrypt key.now) message.now }
+{
+    let mut chain = Chain::new();
+    chain.update(key, message);
+    chain.tag(key)
+}
