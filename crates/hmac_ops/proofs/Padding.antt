@@ -1,0 +1,30 @@
+-- The key's block and its pads.
+use Rattle.std.proofs.Common.{◌≡◌, ℕ, ◌+◌, ◌-◌, ◌<◌, ◌≤◌, Bool, true, false, cond, List, ◌++◌, length, take, bit_xor, sym, ap, ◌∙◌, arith}
+use Rattle.std.specs.Prelude.{replicate, nat_lt}
+use Rattle.std.proofs.Math.Seq.{take-append-add}
+use Rattle.std.proofs.lemmas.Bool.{le-ltb, lt-ltb}
+use Rattle.std.proofs.lemmas.List.{take-replicate, take-map}
+use Rattle.crypto_specs.specs.Hmac.{filled, key_block, xored_with}
+
+-- the front of a filled list
+fill_taken : (k : List ℕ) (b n : ℕ) → length k ≤ b → b ≤ n → take b (filled n k) ≡ filled b k
+fill_taken k b n h l =
+    let e : b ≡ length k + (b - length k) = omega arith in
+    ap (λ (j : ℕ). take j (filled n k)) e ∙ take-append-add k (replicate (n - length k) 0) (b - length k)
+    ∙ ap (λ (r : List ℕ). k ++ r) (take-replicate (b - length k) (n - length k) 0 (omega arith))
+
+pub key_block_short : (hash : List ℕ → List ℕ) (n : ℕ) (key : List ℕ) → n ≤ 128 → length key ≤ n → take n (filled 128 key) ≡ key_block hash n key
+unfolding key_block
+key_block_short hash n key b l =
+    let test : nat_lt n (length key) ≡ false = le-ltb n (length key) l in
+    fill_taken key n 128 l b ∙ ap (λ (t : Bool). filled n (cond t (hash key) key)) (sym test)
+
+pub key_block_long : (hash : List ℕ → List ℕ) (n : ℕ) (key digest : List ℕ) → n ≤ 128 → n < length key → digest ≡ hash key → length digest ≤ n → take n (filled 128 digest) ≡ key_block hash n key
+unfolding key_block
+key_block_long hash n key digest b l e d =
+    let test : nat_lt n (length key) ≡ true = lt-ltb n (length key) l in
+    fill_taken digest n 128 d b ∙ ap (filled n) e ∙ ap (λ (t : Bool). filled n (cond t (hash key) key)) (sym test)
+
+-- the front of a block, xored
+pub pad_of : (n : ℕ) (front block pad : List ℕ) (c : ℕ) → take n block ≡ front → pad ≡ xored_with c block → take n pad ≡ xored_with c front
+pad_of n front block pad c eb ep = ap (take n) ep ∙ take-map (λ b. bit_xor b c) n block ∙ ap (xored_with c) eb

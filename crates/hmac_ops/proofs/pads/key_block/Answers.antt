@@ -1,0 +1,21 @@
+use Rattle.std.proofs.Common.{◌≤◌, ◌∙◌, length, take, ap, refl, arith}
+use Rattle.crypto_specs.specs.Hmac.{filled}
+use Rattle.hash_ops.specs.Hashes.{block_length, hash_of}
+use Rattle.hash_ops.proofs.Digests.{length-hash_of, length_bounds}
+use Rattle.hmac_ops.proofs.Padding.{key_block_short, key_block_long}
+use Rattle.hmac_ops.proofs.pads.key_block.Goals as goal
+
+pub returns-then-key-block_length : goal.returns-then-key-block_length
+returns-then-key-block_length c =
+    let which = c.args.which in
+    let key = c.args.key.now in
+    let bounds = length_bounds which in
+    let long : length (hash_of which key) ≤ block_length which = omega (arith, length-hash_of which key, bounds.0) in
+    ap (take (block_length which)) (c.filled.ensures ∙ ap (filled 128) c.hash-length.ensures.digest)
+    ∙ key_block_long (hash_of which) (block_length which) key _ bounds.1 (omega arith) refl long
+
+pub returns-else-key-block_length : goal.returns-else-key-block_length
+returns-else-key-block_length c =
+    let which = c.args.which in
+    ap (take (block_length which)) c.filled-else-key-block_length.ensures
+    ∙ key_block_short (hash_of which) (block_length which) c.args.key.now (length_bounds which).1 (omega arith)

@@ -1,0 +1,6 @@
+use Rattle.std.proofs.Common.{◌≡◌, length, take}
+use Rattle.crypto_specs.specs.Hmac.{xored_with}
+use Rattle.hmac_ops.proofs.pads.xored_with.Given as goal
+
+abbrev pub invariant-bytes : goal.invariant-bytes
+invariant-bytes l = (length l.out ≡ 128) × (take l.i l.out ≡ xored_with l.with (take l.i l.block))

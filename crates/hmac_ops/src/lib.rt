@@ -1,0 +1,28 @@
+//! HMAC (RFC 2104) over SHA-224, SHA-256, SHA-384 and SHA-512.
+#![tactic(auto)]
+
+ghost use Rattle.std.specs.Prelude.{◌≡◌, drop, take};
+ghost use Rattle.crypto_specs.specs.Hmac.{hmac};
+ghost use Rattle.hash_ops.specs.Hashes.{block_length, digest_length, hash_of};
+
+use hash_ops::Hash;
+pub use key::HmacKey;
+pub use state::HmacState;
+
+mod key;
+mod pads;
+mod state;
+#[cfg(test)]
+mod tests;
+
+/// Writes the authentication code of a message to the front of `out`, whose rest stays, and answers
+/// its length.
+pub fn hmac(which: Hash, key: &[u8], message: &[u8], out: &mut [u8; 64]) -> usize
+    ensures length { result ≡ digest_length which }
+    ensures code { take result out.new ≡ hmac (hash_of which) (block_length which) key.now message.now }
+    ensures rest { drop result out.new ≡ drop result out.old }
+{
+    let mut state = HmacState::new(which, key);
+    state.update(message);
+    state.finish(out)
+}
