@@ -1,0 +1,53 @@
+-- The chain over the formatted blocks, in parts.
+use Rattle.std.proofs.Common.{◌≡◌, ℕ, ◌+◌, ◌-◌, ◌*◌, ◌<◌, List, ◌∷◌, ◌++◌, length, take, drop, bit_xor, replicate, refl, sym, ap, ap₂, ◌∙◌, arith}
+use Rattle.std.specs.Prelude.{min}
+use Rattle.std.specs.Int.Bits.{xor_zero_l}
+use Rattle.std.proofs.lemmas.List.{drop-drop, take_min, length-drop}
+use Rattle.std.proofs.lemmas.List.Sums.{fold-append}
+use Rattle.crypto_specs.specs.Bytes.{xor_bytes}
+use Rattle.crypto_specs.specs.Modes.{block_count, number_block}
+use Rattle.crypto_specs.specs.Cmac.{chain_step, chained}
+use Rattle.crypto_specs.specs.Ccm.{filled_blocks}
+use Rattle.aes_core.proofs.BlockNumbers.{block_of_xor}
+use Rattle.aead_ccm.specs.Chaining.{filled_block, chained_from}
+use Rattle.aead_ccm.proofs.FilledBlocks.{filled_blocks-next, filled_blocks-empty}
+
+-- one block more: w is what the value v and the block x become
+step_is : (e : List ℕ → List ℕ) (v x w : ℕ) (block : List ℕ) → number_block x ≡ block → number_block w ≡ e (number_block (bit_xor v x)) → number_block w ≡ chain_step e (number_block v) block
+step_is e v x w block ex ew = ew ∙ ap e (block_of_xor v x ∙ ap (xor_bytes (number_block v)) ex)
+
+-- the front of a text, and what the chain goes on with
+pub front_chained : (e : List ℕ → List ℕ) (v x w : ℕ) (text rest : List ℕ) → 0 < length text → number_block x ≡ filled_block (take 16 text) → rest ≡ drop 16 text
+    → number_block w ≡ e (number_block (bit_xor v x)) → chained_from e (number_block w) (filled_blocks rest) ≡ chained_from e (number_block v) (filled_blocks text)
+front_chained e v x w text rest some ex er ew =
+    ap₂ (λ (y l : List ℕ). chained_from e y (filled_blocks l)) (step_is e v x w (filled_block (take 16 text)) ex ew) er
+    ∙ sym (ap (chained_from e (number_block v)) (filled_blocks-next text some))
+
+-- block n of a text
+pub block_chained : (e : List ℕ → List ℕ) (v x w n end : ℕ) (text : List ℕ) → n < block_count (length text) → end ≡ min (length text) (16 * n + 16)
+    → number_block x ≡ filled_block (take (end - 16 * n) (drop (16 * n) text)) → number_block w ≡ e (number_block (bit_xor v x))
+    → chained_from e (number_block w) (filled_blocks (drop (16 * (n + 1)) text)) ≡ chained_from e (number_block v) (filled_blocks (drop (16 * n) text))
+block_chained e v x w n end text below ee ex ew =
+    let d : List ℕ = drop (16 * n) text in
+    let next : drop (16 * (n + 1)) text ≡ drop 16 d = ap (λ (k : ℕ). drop k text) (omega arith) ∙ sym (drop-drop 16 (16 * n) text) in
+    let count : end - 16 * n ≡ min 16 (length d) = omega (arith, length-drop (16 * n) text) in
+    let piece : take (end - 16 * n) d ≡ take 16 d = ap (λ (k : ℕ). take k d) count ∙ take_min 16 d in
+    front_chained e v x w d (drop (16 * (n + 1)) text) (omega (arith, length-drop (16 * n) text)) (ex ∙ ap filled_block piece) next ew
+
+pub all_chained : (e : List ℕ → List ℕ) (y text : List ℕ) (n : ℕ) → block_count (length text) ≡ n → y ≡ chained_from e y (filled_blocks (drop (16 * n) text))
+all_chained e y text n h = sym (ap (chained_from e y) (filled_blocks-empty (drop (16 * n) text) (omega (arith, length-drop (16 * n) text))))
+
+zero_block : number_block 0 ≡ replicate 16 0
+unfolding number_block
+zero_block = refl
+
+-- from the zero block: the first block, the associated data and the payload
+pub chained_in_turn : (e : List ℕ → List ℕ) (control start value result : ℕ) (first : List ℕ) (front payload : List (List ℕ)) → number_block control ≡ first → number_block start ≡ e (number_block control)
+    → number_block value ≡ chained_from e (number_block start) front → number_block result ≡ chained_from e (number_block value) payload
+    → number_block result ≡ chained e (first ∷ front ++ payload)
+unfolding chained
+chained_in_turn e control start value result first front payload ef es ev er =
+    let sum : number_block control ≡ xor_bytes (replicate 16 0) first =
+    ap number_block (sym (xor_zero_l control)) ∙ block_of_xor 0 control ∙ ap₂ xor_bytes zero_block ef in
+    er ∙ ap (λ (y : List ℕ). chained_from e y payload) (ev ∙ ap (λ (y : List ℕ). chained_from e y front) (es ∙ ap e sum))
+    ∙ sym (fold-append (chain_step e) (e (xor_bytes (replicate 16 0) first)) front payload)

@@ -1,0 +1,74 @@
+-- The blocks of a text whose end is filled with zeros.
+use Rattle.std.proofs.Common.{◌≡◌, ℕ, zero, suc, ◌-◌, ◌%◌, ◌<◌, ◌≤◌, List, [], ◌∷◌, ◌++◌, length, take, drop, sym, ap, ap₂, ◌∙◌, inl, inr, arith}
+use Rattle.std.specs.Prelude.{replicate}
+use Rattle.std.proofs.lemmas.Bool.{cases_lt}
+use Rattle.std.proofs.lemmas.List.{length-append, length-replicate, length-drop, length-take, take_all, take-append-le, drop-append-le, append-nil, drop-replicate}
+use Rattle.crypto_specs.specs.Bytes.{zero_filled}
+use Rattle.crypto_specs.specs.Modes.{blocks, block_count, block_number, number_block}
+use Rattle.crypto_specs.specs.Ccm.{filled_blocks}
+use Rattle.aes_core.proofs.BlockNumbers.{AreBytes, block_of_number}
+use Rattle.aead_ccm.specs.Chaining.{filled_block}
+
+-- ---- one block
+
+length-filled_block : (piece : List ℕ) → length piece ≤ 16 → length (filled_block piece) ≡ 16
+length-filled_block piece h = omega (arith, length-append piece (replicate (16 - length piece) 0), length-replicate {A = ℕ} (16 - length piece) 0)
+
+pub filled_block-whole : (block : List ℕ) → length block ≡ 16 → filled_block block ≡ block
+filled_block-whole block h =
+    let none : 16 - length block ≡ 0 = omega arith in
+    ap (λ (n : ℕ). block ++ replicate n 0) none ∙ append-nil block
+
+zeros-bytes : (n : ℕ) → AreBytes (replicate n 0)
+zeros-bytes zero i = omega arith
+zeros-bytes (suc n) zero = omega arith
+zeros-bytes (suc n) (suc i) = zeros-bytes n i
+
+append-bytes : (xs ys : List ℕ) → AreBytes xs → AreBytes ys → AreBytes (xs ++ ys)
+append-bytes [] ys h k i = k i
+append-bytes (x ∷ xs) ys h k zero = h 0
+append-bytes (x ∷ xs) ys h k (suc i) = append-bytes xs ys (λ j. h (suc j)) k i
+
+-- a part that is written over the front of zeros
+pub written_in_zeros : (piece block : List ℕ) → block ≡ piece ++ drop (length piece) (replicate 16 0) → block ≡ filled_block piece
+written_in_zeros piece block e = e ∙ ap (λ (l : List ℕ). piece ++ l) (drop-replicate (length piece) 16 0)
+
+-- a filled block comes back from its number
+pub number_of_filled : (piece : List ℕ) → length piece ≤ 16 → AreBytes piece → number_block (block_number (filled_block piece)) ≡ filled_block piece
+number_of_filled piece h all =
+    block_of_number (filled_block piece) (length-filled_block piece h) (append-bytes piece (replicate (16 - length piece) 0) all (zeros-bytes (16 - length piece)))
+
+-- ---- the blocks of a text
+
+pub filled_blocks-empty : (text : List ℕ) → length text ≡ 0 → filled_blocks text ≡ []
+unfolding blocks
+filled_blocks-empty text h =
+    let none : block_count (length text) ≡ 0 = omega arith in
+    ap (λ (n : ℕ). blocks n (zero_filled text)) none
+
+pub filled_blocks-next : (text : List ℕ) → 0 < length text → filled_blocks text ≡ filled_block (take 16 text) ∷ filled_blocks (drop 16 text)
+unfolding blocks
+filled_blocks-next text some =
+    let n : ℕ = length text in
+    let rest : List ℕ = drop 16 text in
+    let m : ℕ = block_count (length rest) in
+    let zeros : List ℕ = replicate ((16 - n % 16) % 16) 0 in
+    let count : block_count n ≡ suc m = omega (arith, length-drop 16 text) in
+    let first : filled_blocks text ≡ take 16 (zero_filled text) ∷ blocks m (drop 16 (zero_filled text)) = ap (λ (k : ℕ). blocks k (zero_filled text)) count in
+    first ∙ elim (cases_lt n 16) [
+      | inl short ↦
+          let whole : take 16 text ≡ text = take_all 16 text (omega arith) in
+          let fill : (16 - n % 16) % 16 ≡ 16 - n = omega arith in
+          let long : length (zero_filled text) ≡ 16 = omega (arith, length-append text zeros, length-replicate {A = ℕ} ((16 - n % 16) % 16) 0) in
+          let none : m ≡ 0 = omega (arith, length-drop 16 text) in
+          ap₂ (λ (b : List ℕ) (bs : List (List ℕ)). b ∷ bs)
+          (take_all 16 (zero_filled text) (omega arith) ∙ ap (λ (k : ℕ). text ++ replicate k 0) fill ∙ sym (ap filled_block whole))
+          (ap (λ (k : ℕ). blocks k (drop 16 (zero_filled text))) none ∙ sym (filled_blocks-empty rest (omega (arith, length-drop 16 text))))
+      | inr long ↦
+          let front : take 16 (zero_filled text) ≡ take 16 text = take-append-le 16 text zeros (omega arith) in
+          let back : drop 16 (zero_filled text) ≡ rest ++ zeros = drop-append-le 16 text zeros (omega arith) in
+          let fill : (16 - n % 16) % 16 ≡ (16 - length rest % 16) % 16 = omega (arith, length-drop 16 text) in
+          ap₂ (λ (b : List ℕ) (bs : List (List ℕ)). b ∷ bs)
+          (front ∙ sym (filled_block-whole (take 16 text) (omega (arith, length-take 16 text))))
+          (ap (blocks m) (back ∙ ap (λ (k : ℕ). rest ++ replicate k 0) fill))
+    ]

@@ -1,0 +1,13 @@
+use Rattle.std.proofs.Common.{◌∙◌, arith}
+use Rattle.crypto_specs.specs.Aes.{aes_encrypt}
+use Rattle.crypto_specs.specs.Modes.{number_block}
+use Rattle.aead_ccm.proofs.Chains.{block_chained, all_chained}
+use Rattle.aead_ccm.proofs.chaining.chain_text.Goals as goal
+
+pub turns-preserved : goal.turns-preserved
+turns-preserved c =
+    block_chained (aes_encrypt c.args.key.now) c.turns.value c.number_of.result c.encrypt_number-value.result c.turns.n c.min-end.result c.args.text.now (omega arith) c.min-end.ensures c.number_of.ensures c.encrypt_number-value.ensures
+    ∙ c.turns.invariant
+
+pub returns : goal.returns
+returns c = all_chained (aes_encrypt c.args.key.now) (number_block c.turns.value) c.args.text.now c.turns.n (omega arith) ∙ c.turns.invariant

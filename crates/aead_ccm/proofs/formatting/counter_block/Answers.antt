@@ -1,0 +1,7 @@
+use Rattle.std.proofs.Common.{ℕ, ◌-◌, ◌∷◌, ◌++◌, ◌∙◌, length, ap, arith}
+use Rattle.crypto_specs.specs.Ccm.{ccm_counter_block, in_bytes}
+use Rattle.aead_ccm.proofs.formatting.counter_block.Goals as goal
+
+pub returns : goal.returns
+unfolding ccm_counter_block
+returns c = c.nonce_block.ensures ∙ ap (λ (f : ℕ). f ∷ c.args.nonce.now ++ in_bytes (15 - length c.args.nonce.now) c.args.i) (omega arith)

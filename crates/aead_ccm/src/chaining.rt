@@ -1,0 +1,55 @@
+// The CBC-MAC over the formatted blocks (SP 800-38C, section 6.1, steps 1 to 3).
+
+ghost use Rattle.std.specs.Prelude.{◌≡◌, ℕ, ◌^◌, ◌<◌, length};
+ghost use Rattle.crypto_specs.specs.Aes.{aes_encrypt, IsKey};
+ghost use Rattle.crypto_specs.specs.Modes.{number_block};
+ghost use Rattle.crypto_specs.specs.Cmac.{chained};
+ghost use Rattle.crypto_specs.specs.Ccm.{encoded_data, filled_blocks, formatted_blocks};
+ghost use Rattle.aead_ccm.specs.Chaining.{chained_from};
+ghost use Rattle.aead_ccm.specs.Lengths.{IsNonceLength, IsTagLength};
+
+use crate::blocks::number_of;
+use crate::formatting::{control_block, data_front};
+use aes_core::AesKey;
+
+// The chain's value Y_r, of which the tag's bytes are taken.
+pub(crate) fn mac(key: &AesKey, tag: usize, nonce: &[u8], ad: &[u8], payload: &[u8]) -> u128
+    requires key { IsKey key.now }
+    requires tag { IsTagLength tag }
+    requires nonce { IsNonceLength (length nonce.now) }
+    requires ad { length ad.now < 2 ^ 32 }
+    ensures { number_block result ≡
+        chained (aes_encrypt key.now) (formatted_blocks tag nonce.now ad.now payload.now) }
+{
+    let start = key.encrypt_number(control_block(tag, nonce, ad.len(), payload.len()));
+    let value = chain_data(key, start, ad);
+    chain_text(key, value, payload)
+}
+
+// Chains associated data on, with its length before it: nothing where there is none.
+fn chain_data(key: &AesKey, value: u128, ad: &[u8]) -> u128
+    requires key { IsKey key.now }
+    requires ad { length ad.now < 2 ^ 32 }
+    ensures { number_block result ≡
+        chained_from (aes_encrypt key.now) (number_block value) (filled_blocks (encoded_data ad.now)) }
+{
+    if ad.is_empty() {
+        return value;
+    }
+    let (front, count) = data_front(ad);
+    chain_text(key, key.encrypt_number(value ^ front), &ad[count..])
+}
+
+// Chains the blocks of a text on, zeros being added to the last one.
+fn chain_text(key: &AesKey, start: u128, text: &[u8]) -> u128
+    requires { IsKey key.now }
+    ensures { number_block result ≡
+        chained_from (aes_encrypt key.now) (number_block start) (filled_blocks text.now) }
+{
+    let mut value = start;
+    'turns: for n in 0..text.len().div_ceil(16) {
+        let end = text.len().min(16 * n + 16);
+        value = key.encrypt_number(value ^ number_of(&text[16 * n..end]));
+    }
+    value
+}

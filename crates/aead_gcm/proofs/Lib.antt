@@ -1,0 +1,4 @@
+pub mod FilledBlocks
+pub mod GhashSteps
+pub mod CounterBlocks
+pub mod Tags

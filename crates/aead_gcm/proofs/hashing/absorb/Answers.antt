@@ -1,0 +1,21 @@
+use Rattle.std.proofs.Common.{ℕ, ◌∙◌, ap, ap₂, bit_xor, arith}
+use Rattle.crypto_specs.specs.Ghash.{block_product}
+use Rattle.crypto_specs.specs.Gcm.{numbers_of}
+use Rattle.aead_gcm.proofs.GhashSteps.{block_taken, all_taken}
+use Rattle.aead_gcm.proofs.hashing.absorb.Goals as goal
+
+pub turns-preserved : goal.turns-preserved
+turns-preserved c =
+    let h = c.args.running.now.0 in
+    let y = c.turns.running.1 in
+    let x = c.number_of.result in
+    let key = ap (λ (p : ℕ × ℕ). p.0) c.block.ensures in
+    let value = ap (λ (p : ℕ × ℕ). p.1) c.block.ensures ∙ ap (λ (k : ℕ). block_product (bit_xor y x) k) c.turns.invariant.key in
+    record {
+      key = key ∙ c.turns.invariant.key;
+      rest = rw value (block_taken h y x _ c.turns.n c.min-end.result c.args.text.now (omega arith) c.min-end.ensures c.number_of.ensures.number c.turns.invariant.rest);
+    }
+
+pub returns : goal.returns
+unfolding numbers_of
+returns c = ap₂ (λ (h y : ℕ). (h, y)) c.turns.invariant.key (all_taken c.args.running.now.0 c.turns.running.1 _ _ _ (omega arith) c.turns.invariant.rest)

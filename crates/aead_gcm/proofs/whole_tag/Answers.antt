@@ -1,0 +1,11 @@
+use Rattle.std.proofs.Common.{◌∙◌, ap₂, ap}
+use Rattle.crypto_specs.specs.Bytes.{xor_bytes}
+use Rattle.crypto_specs.specs.Modes.{number_block}
+use Rattle.aes_core.proofs.BlockNumbers.{block_of_xor}
+use Rattle.aead_gcm.proofs.whole_tag.Goals as goal
+
+pub returns : goal.returns
+unfolding number_block
+returns c =
+    c.to_be_bytes.ensures ∙ block_of_xor c.encrypt_number.result c.ghash_of.result
+    ∙ ap₂ xor_bytes c.encrypt_number.ensures (ap number_block c.ghash_of.ensures)

@@ -1,0 +1,76 @@
+//! GCM (SP 800-38D) over AES, on a whole text in place.
+#![tactic(auto)]
+
+ghost use Rattle.std.specs.Prelude.{◌≡◌, ℕ, ◌^◌, ◌<◌, length, take, replicate, IsTrue, ◌↔◌, MatchBool};
+ghost use Rattle.crypto_specs.specs.Aes.{aes_encrypt, IsKey};
+ghost use Rattle.crypto_specs.specs.Bytes.{xor_bytes};
+ghost use Rattle.crypto_specs.specs.Modes.{number_block};
+ghost use Rattle.crypto_specs.specs.Gcm.{gcm_tag, gcm_text, ghash_of};
+ghost use Rattle.aead_gcm.specs.Lengths.{IsNonceLength, IsTagLength};
+
+use aes_core::AesKey;
+pub use blocks::number_of;
+pub use counters::{increment, initial_counter_block};
+pub use hashing::{absorb, hash_subkey, length_block};
+
+mod blocks;
+mod counters;
+mod hashing;
+#[cfg(test)]
+mod tests;
+
+/// Enciphers a text in place and writes its tag, which covers the associated data `ad` too (SP
+/// 800-38D, section 7.1).
+pub fn seal(key: &AesKey, nonce: &[u8], ad: &[u8], text: &mut [u8], tag: &mut [u8])
+    requires key { IsKey key.now }
+    requires nonce { IsNonceLength (length nonce.now) }
+    requires ad { length ad.now < 2 ^ 32 }
+    requires text { length text.old < 2 ^ 32 }
+    requires tag { IsTagLength (length tag.old) }
+    ensures text { text.new ≡ gcm_text (aes_encrypt key.now) nonce.now text.old }
+    ensures tag { tag.new ≡ gcm_tag (aes_encrypt key.now) (length tag.old) nonce.now ad.now text.new }
+{
+    let subkey = hash_subkey(key);
+    let first = initial_counter_block(subkey, nonce);
+    counters::xor_stream(key, first, text);
+    let whole = whole_tag(key, subkey, first, ad, text);
+    tag.copy_from_slice(&whole[..tag.len()]);
+}
+
+/// Deciphers a text in place where the tag is its tag, and otherwise makes it zeros (SP 800-38D,
+/// section 7.2). False exactly where the tag differs.
+pub fn open(key: &AesKey, nonce: &[u8], ad: &[u8], text: &mut [u8], tag: &[u8]) -> bool
+    requires key { IsKey key.now }
+    requires nonce { IsNonceLength (length nonce.now) }
+    requires ad { length ad.now < 2 ^ 32 }
+    requires text { length text.old < 2 ^ 32 }
+    requires tag { IsTagLength (length tag.now) }
+    ensures tag { IsTrue result ↔
+        (tag.now ≡ gcm_tag (aes_encrypt key.now) (length tag.now) nonce.now ad.now text.old) }
+    ensures text { MatchBool result
+        (text.new ≡ gcm_text (aes_encrypt key.now) nonce.now text.old)
+        (text.new ≡ replicate (length text.old) 0) }
+{
+    let subkey = hash_subkey(key);
+    let first = initial_counter_block(subkey, nonce);
+    let expected = whole_tag(key, subkey, first, ad, text);
+    if tag == &expected[..tag.len()] {
+        counters::xor_stream(key, first, text);
+        true
+    } else {
+        text.fill(0);
+        false
+    }
+}
+
+// The tag of a cipher text, whole: `first` is the initial counter block (SP 800-38D, section 7.1,
+// steps 4 to 6).
+fn whole_tag(key: &AesKey, subkey: u128, first: u128, ad: &[u8], text: &[u8]) -> [u8; 16]
+    requires key { IsKey key.now }
+    requires ad { length ad.now < 2 ^ 32 }
+    requires text { length text.now < 2 ^ 32 }
+    ensures { result ≡ xor_bytes (aes_encrypt key.now (number_block first))
+        (number_block (ghash_of subkey ad.now text.now)) }
+{
+    (key.encrypt_number(first) ^ hashing::ghash_of(subkey, ad, text)).to_be_bytes()
+}
