@@ -1,0 +1,12 @@
+use Rattle.std.proofs.Common.{◌≤◌, ◌∙◌, [], arith}
+use Rattle.crypto_specs.specs.Hkdf.{hash_length}
+use Rattle.hash_ops.specs.Hashes.{block_length, hash_of}
+use Rattle.hash_ops.proofs.Digests.{length-hash_of, length_bounds}
+use Rattle.kdf_core.proofs.Blocks.{extract_by_hmac}
+use Rattle.kdf_core.proofs.hkdf.hkdf_extract.Goals as goal
+
+pub returns-clause-key : goal.returns-clause-key
+returns-clause-key c =
+    let which = c.args.which in
+    let fits : hash_length (hash_of which) ≤ block_length which = omega (arith, length-hash_of which [], (length_bounds which).0) in
+    c.hmac.ensures.code ∙ extract_by_hmac (hash_of which) (block_length which) c.args.salt.now c.args.secret.now fits
