@@ -1,0 +1,4 @@
+pub mod SeedWords
+pub mod Drawing
+pub mod FirstWord
+mod WordVectors

@@ -1,0 +1,15 @@
+-- Key streams that others computed, as the definition gives them.
+use Rattle.std.proofs.Common.{◌≡◌, [], ◌∷◌, replicate, refl}
+use Rattle.rand_core.specs.Steps.{u32_at}
+use Rattle.rand_chacha.specs.Block.{quarter_round, column_round, diagonal_round, double_rounds, block_word}
+use Rattle.random_streams.specs.RandomWords.{random_word, random_bytes, bytes_of_words}
+
+-- RFC 8439, A.1, test vector 1: the fifth byte uses a second word
+first_bytes : random_bytes (replicate 32 0) 0 0 5 ≡ 0x76 ∷ 0xb8 ∷ 0xe0 ∷ 0xad ∷ 0xa0 ∷ []
+unfolding bytes_of_words u32_at quarter_round column_round diagonal_round double_rounds block_word
+first_bytes = refl
+
+-- the first word of the second block of caller 3 under the seed 00 01 .. 1f: the bytes 57 73 74 7a
+second_block : random_word (0 ∷ 1 ∷ 2 ∷ 3 ∷ 4 ∷ 5 ∷ 6 ∷ 7 ∷ 8 ∷ 9 ∷ 10 ∷ 11 ∷ 12 ∷ 13 ∷ 14 ∷ 15 ∷ 16 ∷ 17 ∷ 18 ∷ 19 ∷ 20 ∷ 21 ∷ 22 ∷ 23 ∷ 24 ∷ 25 ∷ 26 ∷ 27 ∷ 28 ∷ 29 ∷ 30 ∷ 31 ∷ []) 3 16 ≡ 0x7a747357
+unfolding u32_at quarter_round column_round diagonal_round double_rounds block_word
+second_block = refl
