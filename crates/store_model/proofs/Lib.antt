@@ -1,0 +1,9 @@
+pub mod Callers
+pub mod Drawn
+pub mod DrawnBytes
+pub mod Filled
+pub mod Live
+pub mod Origin
+pub mod Refusals
+pub mod Sound
+pub mod Counted

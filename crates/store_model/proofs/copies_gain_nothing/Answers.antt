@@ -1,0 +1,5 @@
+use Rattle.store_model.proofs.Origin.{gain_nothing}
+use Rattle.store_model.proofs.copies_gain_nothing.Goals as goal
+
+pub returns : goal.returns
+returns c = gain_nothing

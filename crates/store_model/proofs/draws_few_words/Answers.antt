@@ -1,0 +1,5 @@
+use Rattle.store_model.proofs.Drawn.{draws}
+use Rattle.store_model.proofs.draws_few_words.Goals as goal
+
+pub returns : goal.returns
+returns c = draws

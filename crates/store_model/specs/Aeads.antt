@@ -1,0 +1,75 @@
+-- AEADs of a whole message: the ciphertext, and the tag behind it.
+use Rattle.std.specs.Prelude.{ℕ, ◌+◌, ◌-◌, ◌*◌, ◌^◌, not, nat_lt, nat_le, ◌||◌, ◌&&◌, ◌==◌, bytes_eq, Bool, List, ◌∷◌, ◌++◌, length, take, drop, Option, if◌then◌else◌}
+use Rattle.std.specs.FinMap as map
+use Rattle.psa_status.specs.declared.Status.TheVariants.{InvalidArgument, InvalidSignature}
+use Rattle.psa_status.specs.Rows.{Rows, first_row}
+use Rattle.alg_encoding.specs.declared.table.Class.TheVariants.{Aead}
+use Rattle.alg_encoding.specs.Encoding.{base_of}
+use Rattle.crypto_specs.specs.Aes.{aes_encrypt}
+use Rattle.crypto_specs.specs.Ccm.{ccm_text, ccm_tag}
+use Rattle.crypto_specs.specs.Gcm.{gcm_text, gcm_tag}
+use Rattle.store_model.specs.Store.{Key, Store}
+use Rattle.store_model.specs.Call.{Reply}
+use Rattle.store_model.specs.KeyUse.{bytes_of}
+use Rattle.store_model.specs.Algorithms.{tag_bytes}
+use Rattle.store_model.specs.Rules.{use_rows, room_rows, total_limit}
+use Rattle.store_model.specs.Outcome.{Outcome, answered, given, spoiled}
+
+abbrev pub is_ccm : ℕ → Bool
+is_ccm alg = base_of alg == 0x05400100
+
+-- CCM takes nonces of 7 to 13 bytes, GCM of 1 to 256
+abbrev pub permits_nonce : ℕ → ℕ → Bool
+permits_nonce alg n = if is_ccm alg then (nat_le 7 n && nat_le n 13) else (nat_le 1 n && nat_le n 256)
+
+-- the payload's length fits the bytes that CCM has for it beside a nonce of n bytes, and none is past the total
+abbrev pub permits_payload : ℕ → (nonce payload : ℕ) → Bool
+permits_payload alg n payload = nat_le payload total_limit && (not (is_ccm alg) || nat_lt payload (2 ^ (8 * (15 - n))))
+
+abbrev pub permits_lengths : ℕ → (nonce ad payload : ℕ) → Bool
+permits_lengths alg nonce ad payload = permits_nonce alg nonce && nat_le ad total_limit && permits_payload alg nonce payload
+
+-- the text enciphered or deciphered
+abbrev pub aead_text : ℕ → (key nonce text : List ℕ) → List ℕ
+aead_text alg key nonce text = if is_ccm alg then ccm_text (aes_encrypt key) nonce text else gcm_text (aes_encrypt key) nonce text
+
+-- the tag: CCM's over the plaintext, GCM's over the ciphertext
+abbrev pub aead_tag : ℕ → (key nonce ad plain cipher : List ℕ) → List ℕ
+aead_tag alg key nonce ad plain cipher =
+    if is_ccm alg then ccm_tag (aes_encrypt key) (tag_bytes alg) nonce ad plain
+    else gcm_tag (aes_encrypt key) (tag_bytes alg) nonce ad cipher
+
+-- aead_encrypt: ENCRYPT
+abbrev pub encrypt_rows : Option Key → ℕ → (nonce ad payload room : ℕ) → Rows
+encrypt_rows found alg nonce ad payload room =
+    use_rows Aead 0x100 alg found
+    ++ (not (permits_lengths alg nonce ad payload), InvalidArgument)
+    ∷ room_rows (payload + tag_bytes alg) room
+
+abbrev pub sealed : ℕ → (key nonce ad text : List ℕ) → List ℕ
+sealed alg key nonce ad text = let cipher : List ℕ = aead_text alg key nonce text in cipher ++ aead_tag alg key nonce ad text cipher
+
+abbrev pub step_aead_encrypt : Store → (id alg : ℕ) → (nonce ad input : List ℕ) → ℕ → Outcome
+step_aead_encrypt store id alg nonce ad input room =
+    let found : Option Key = map.get store.keys id in
+    answered store (first_row (encrypt_rows found alg (length nonce) (length ad) (length input) room)) (given (sealed alg (bytes_of found) nonce ad input))
+
+-- aead_decrypt: DECRYPT. The input ends with the tag.
+abbrev pub decrypt_rows : Option Key → ℕ → (nonce ad input room : ℕ) → Rows
+decrypt_rows found alg nonce ad input room =
+    use_rows Aead 0x200 alg found
+    ++ (nat_lt input (tag_bytes alg) || not (permits_lengths alg nonce ad (input - tag_bytes alg)), InvalidArgument)
+    ∷ room_rows (input - tag_bytes alg) room
+
+-- what a tag opens, and zeros where it isn't the text's
+abbrev pub opened : ℕ → (key nonce ad cipher tag : List ℕ) → Reply
+opened alg key nonce ad cipher tag =
+    let plain : List ℕ = aead_text alg key nonce cipher in
+    if bytes_eq tag (aead_tag alg key nonce ad plain cipher) then given plain else spoiled InvalidSignature (length cipher)
+
+abbrev pub step_aead_decrypt : Store → (id alg : ℕ) → (nonce ad input : List ℕ) → ℕ → Outcome
+step_aead_decrypt store id alg nonce ad input room =
+    let found : Option Key = map.get store.keys id in
+    let n : ℕ = length input - tag_bytes alg in
+    answered store (first_row (decrypt_rows found alg (length nonce) (length ad) (length input) room))
+    (opened alg (bytes_of found) nonce ad (take n input) (drop n input))

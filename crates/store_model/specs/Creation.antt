@@ -1,0 +1,48 @@
+-- Calls that create a key.
+use Rattle.std.specs.Prelude.{ℕ, ◌+◌, ◌^◌, nat_le, ◌||◌, List, [], ◌∷◌, ◌++◌, length}
+use Rattle.std.specs.FinMap as map
+use Rattle.psa_status.specs.declared.Status.TheVariants.{Success, KeyLimit}
+use Rattle.psa_status.specs.Rows.{Rows, first_row}
+use Rattle.key_attributes.specs.declared.Attributes.{Attributes}
+use Rattle.key_attributes.specs.Checks.{attribute_rows, filled}
+use Rattle.store_model.specs.Store.{Key, Store, CallerState, caller_state, with_caller, has_secure_element, next_volatile, live_volatile}
+use Rattle.store_model.specs.Call.{Identifier}
+use Rattle.store_model.specs.Outcome.{Outcome, decided, counted}
+
+-- a caller has at most 16 live volatile keys, and makes at most 2^20 of them
+abbrev pub limit_rows : Store → ℕ → Rows
+limit_rows store caller =
+    (nat_le 16 (live_volatile store.keys caller) || nat_le (2 ^ 20) (caller_state store caller).made, KeyLimit)
+    ∷ []
+
+-- the refusals of every creation of a key with these stated attributes and so many bytes
+abbrev pub creation_rows : Store → ℕ → Attributes → ℕ → Rows
+creation_rows store caller a bytes = attribute_rows a bytes (has_secure_element store) ++ limit_rows store caller
+
+-- the attributes with an identifier
+abbrev pub identified : Attributes → ℕ → Attributes
+identified a id = record a { id = record { 0 = id } }
+
+-- The call's place in the order gives the creation number. What is recorded has the key's identifier.
+abbrev pub new_key : Store → ℕ → ℕ → Attributes → List ℕ → Key
+new_key store caller id a bytes = record {
+  number = store.found + store.calls;
+  attributes = identified (filled a (length bytes)) id;
+  bytes = bytes;
+  creator = caller;
+}
+
+abbrev pub one_more_made : CallerState → CallerState
+one_more_made state = record state { made = state.made + 1 }
+
+-- a volatile key comes into being under the caller's next identifier
+abbrev pub created : Store → ℕ → Attributes → List ℕ → Outcome
+created store caller a bytes =
+    let id = next_volatile store caller in
+    record {
+      store = record (with_caller (counted store) caller (one_more_made (caller_state store caller))) { keys = map.insert store.keys id (new_key store caller id a bytes) };
+      reply = record { status = Success; output = Identifier id; needed = 0 };
+    }
+
+abbrev pub step_import : Store → ℕ → Attributes → List ℕ → Outcome
+step_import store caller a bytes = decided store (first_row (creation_rows store caller a (length bytes))) (created store caller a bytes)

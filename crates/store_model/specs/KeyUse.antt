@@ -1,0 +1,56 @@
+-- Calls on a key that is there.
+use Rattle.std.specs.Prelude.{ℕ, Bool, true, not, nat_lt, ◌==◌, ◌&&◌, List, [], ◌∷◌, length, bit_and, Option, Some, None, is_some}
+use Rattle.std.specs.FinMap as map
+use Rattle.psa_status.specs.declared.Status.TheVariants.{Success, NotPermitted, InvalidHandle, BufferTooSmall}
+use Rattle.psa_status.specs.Rows.{Rows, first_row}
+use Rattle.store_model.specs.Store.{Key, Store}
+use Rattle.store_model.specs.Call.{Reply, Nothing, Bytes, Description}
+use Rattle.store_model.specs.Outcome.{Outcome, counted, decided, refusal, reply_unless}
+
+-- whether a flag is in a key's usage
+abbrev pub has_usage : Key → ℕ → Bool
+has_usage key flag = not (bit_and key.attributes.policy.usage.0 flag == 0)
+
+-- EXPORT
+abbrev pub export_rows : Option Key → ℕ → Rows
+export_rows None room = (true, InvalidHandle) ∷ []
+export_rows (Some key) room =
+    (not (has_usage key 1), NotPermitted)
+    ∷ (nat_lt room (length key.bytes), BufferTooSmall)
+    ∷ []
+
+abbrev pub bytes_of : Option Key → List ℕ
+bytes_of None = []
+bytes_of (Some key) = key.bytes
+
+abbrev pub exported : List ℕ → Reply
+exported bytes = record { status = Success; output = Bytes bytes; needed = length bytes }
+
+-- the reply of an export, by what the map has at the identifier
+abbrev pub export_reply : Option Key → ℕ → Reply
+export_reply found room = reply_unless (first_row (export_rows found room)) (exported (bytes_of found))
+
+-- an export changes no key
+abbrev pub step_export : Store → ℕ → ℕ → Outcome
+step_export store id room = record { store = counted store; reply = export_reply (map.get store.keys id) room }
+
+-- GET ATTRIBUTES
+
+abbrev pub attributes_reply : Option Key → Reply
+attributes_reply None = refusal InvalidHandle
+attributes_reply (Some key) = record { status = Success; output = Description key.attributes; needed = 0 }
+
+-- asking for the attributes changes no key
+abbrev pub step_attributes : Store → ℕ → Outcome
+step_attributes store id = record { store = counted store; reply = attributes_reply (map.get store.keys id) }
+
+-- DESTROY: destroying no key succeeds
+
+abbrev pub destroy_rows : Option Key → ℕ → Rows
+destroy_rows found id = (not (id == 0) && not (is_some found), InvalidHandle) ∷ []
+
+abbrev pub destroyed : Store → ℕ → Outcome
+destroyed store id = record { store = record (counted store) { keys = map.remove store.keys id }; reply = record { status = Success; output = Nothing; needed = 0 } }
+
+abbrev pub step_destroy : Store → ℕ → Outcome
+step_destroy store id = decided store (first_row (destroy_rows (map.get store.keys id) id)) (destroyed store id)

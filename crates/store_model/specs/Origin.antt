@@ -1,0 +1,82 @@
+-- Where a copy comes from, over a history.
+use Rattle.std.specs.Prelude.{◌≡◌, ◌≤◌, ℕ, List, [], ◌∷◌, ◌++◌, ◌==◌, find, Option, None, Some, if◌then◌else◌}
+use Rattle.std.specs.List.{AllByRecursion}
+use Rattle.std.specs.Option.{option_map}
+use Rattle.std.specs.FinMap as map
+use Rattle.key_attributes.specs.declared.Policy.{Policy}
+use Rattle.policy_rules.specs.Policy.{IsWithin}
+use Rattle.store_model.specs.Store.{Key, Store, Settings, caller_count, start_of}
+use Rattle.store_model.specs.Call.{Call, Import, Export, GetAttributes, Destroy, Copy, Generate, HashCompute, HashCompare, MacCompute, MacVerify, CipherEncrypt, CipherDecrypt, AeadEncrypt, AeadDecrypt, Output, Nothing, Identifier, Description, Bytes, Number}
+use Rattle.store_model.specs.Replay.{Entry, outcome_of}
+
+-- a creation: its number, the policy that it recorded, and of a copy the source's number
+pub record Made : Type 0 where
+  pub number : ℕ
+  pub policy : Policy
+  pub source : Option ℕ
+
+-- the creation number of a copy's source
+abbrev pub source_of : Store → Call → Option ℕ
+source_of store (Copy source stated) = option_map (λ key. key.number) (map.get store.keys source)
+source_of store (Import a bytes) = None
+source_of store (Export id room) = None
+source_of store (GetAttributes id) = None
+source_of store (Destroy id) = None
+source_of store (Generate a) = None
+source_of store (HashCompute alg input room) = None
+source_of store (HashCompare alg input hash) = None
+source_of store (MacCompute id alg input room) = None
+source_of store (MacVerify id alg input mac) = None
+source_of store (CipherEncrypt id alg input room) = None
+source_of store (CipherDecrypt id alg input room) = None
+source_of store (AeadEncrypt id alg nonce ad input room) = None
+source_of store (AeadDecrypt id alg nonce ad input room) = None
+
+-- what a call made, where it answers the identifier of a key
+abbrev pub made_key : Option ℕ → Option Key → List Made
+made_key source None = []
+made_key source (Some key) = record { number = key.number; policy = key.attributes.policy; source = source } ∷ []
+
+abbrev pub made_at : Option ℕ → Store → Output → List Made
+made_at source after (Identifier id) = made_key source (map.get after.keys id)
+made_at source after Nothing = []
+made_at source after (Description attributes) = []
+made_at source after (Bytes bytes) = []
+made_at source after (Number number) = []
+
+abbrev pub made_by : Store → Entry → List Made
+made_by store e = let outcome = outcome_of store e in made_at (source_of store e.call) outcome.store outcome.reply.output
+
+-- what a history made, the newest first, on top of what was made before
+abbrev pub made_after : Store → List Entry → List Made → List Made
+made_after store [] made = made
+made_after store (e ∷ es) made = made_after (outcome_of store e).store es (made_by store e ++ made)
+
+-- the creation of this number
+abbrev pub creation_at : List Made → ℕ → Option Made
+creation_at made number = find (λ m. m.number == number) made
+
+-- the origin of a creation: a copy's is that of its source, and any other's is itself
+abbrev pub origin_from : ℕ → Option ℕ → (ℕ → ℕ) → ℕ
+origin_from number None older = number
+origin_from number (Some source) older = older source
+
+abbrev pub origin_of : List Made → ℕ → ℕ
+origin_of [] number = number
+origin_of (m ∷ older) number = if m.number == number then origin_from number m.source (origin_of older) else origin_of older number
+
+-- a creation has an origin, which is no copy, and whose policy has each flag and permits each algorithm of its own
+pub record HasOrigin (made : List Made) (m : Made) : Type 0 where
+  pub origin : Made
+  pub found : creation_at made (origin_of made m.number) ≡ Some origin
+  pub first : origin.source ≡ None
+  pub within : IsWithin m.policy origin.policy
+
+abbrev pub IsCaller : Entry → Type 0
+IsCaller e = (1 ≤ e.caller) × (e.caller ≤ caller_count)
+
+-- no chain of copies gains a flag or an algorithm, over every history
+abbrev pub CopiesGainNothing : Type 0
+CopiesGainNothing =
+    (settings : Settings) (h : List Entry) → AllByRecursion IsCaller h → (number : ℕ) (m : Made) →
+    creation_at (made_after (start_of settings) h []) number ≡ Some m → HasOrigin (made_after (start_of settings) h []) m

@@ -1,0 +1,46 @@
+-- What a call does to the store, and what it answers.
+use Rattle.std.specs.Prelude.{ℕ, ◌+◌, List, length, Option, Some, None}
+use Rattle.psa_status.specs.declared.Status.{Status}
+use Rattle.psa_status.specs.declared.Status.TheVariants.{Success}
+use Rattle.store_model.specs.Store.{Store}
+use Rattle.store_model.specs.Call.{Reply, Nothing, Bytes}
+
+-- the store after a call, and the reply
+pub record Outcome : Type 0 where
+  pub store : Store
+  pub reply : Reply
+
+-- the store with one more call
+abbrev pub counted : Store → Store
+counted store = record store { calls = store.calls + 1 }
+
+abbrev pub refusal : Status → Reply
+refusal status = record { status = status; output = Nothing; needed = 0 }
+
+-- a refusal leaves the store as it was, but for the count of calls
+abbrev pub refused : Store → Status → Outcome
+refused store status = record { store = counted store; reply = refusal status }
+
+-- what a call does where no row of its table holds, and else its refusal
+abbrev pub decided : Store → Option Status → Outcome → Outcome
+decided store None done = done
+decided store (Some status) done = refused store status
+
+abbrev pub reply_unless : Option Status → Reply → Reply
+reply_unless None reply = reply
+reply_unless (Some status) reply = refusal status
+
+-- a call that changes no key and nothing of a caller's
+abbrev pub answered : Store → Option Status → Reply → Outcome
+answered store status reply = record { store = counted store; reply = reply_unless status reply }
+
+-- success, without a result, and with bytes
+abbrev pub done : Reply
+done = record { status = Success; output = Nothing; needed = 0 }
+
+abbrev pub given : List ℕ → Reply
+given bytes = record { status = Success; output = Bytes bytes; needed = length bytes }
+
+-- a refusal that leaves zeros in the output buffer, as many as were needed
+abbrev pub spoiled : Status → ℕ → Reply
+spoiled status needed = record { status = status; output = Nothing; needed = needed }

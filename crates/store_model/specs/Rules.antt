@@ -1,0 +1,50 @@
+-- The refusals that calls with an algorithm share, in their order.
+use Rattle.std.specs.Option.{option_map_or}
+use Rattle.std.specs.Prelude.{ℕ, ◌-◌, ◌^◌, Bool, true, false, not, nat_lt, ◌&&◌, ◌==◌, [], ◌∷◌, ◌++◌, Option, Some, None, is_some, if◌then◌else◌}
+use Rattle.psa_status.specs.declared.Status.TheVariants.{NotPermitted, NotSupported, InvalidArgument, InvalidHandle, BufferTooSmall}
+use Rattle.psa_status.specs.Rows.{Rows}
+use Rattle.alg_encoding.specs.declared.table.Class.{Class}
+use Rattle.alg_encoding.specs.declared.table.Class.TheVariants as class
+use Rattle.alg_encoding.specs.Encoding.{class_of, is_concrete}
+use Rattle.policy_rules.specs.Policy.{may_use}
+use Rattle.store_model.specs.Store.{Key}
+use Rattle.store_model.specs.Algorithms.{is_hmac}
+
+-- the classes are told apart by a number each
+abbrev pub class_number : Class → ℕ
+class_number class.Hash = 0
+class_number class.Mac = 1
+class_number class.Cipher = 2
+class_number class.Aead = 3
+class_number class.Derivation = 4
+
+abbrev pub is_of_class : Class → ℕ → Bool
+is_of_class class alg = option_map_or (λ c. class_number c == class_number class) (class_of alg) false
+
+-- the number has a class; it is the call's, and the number is concrete
+abbrev pub class_rows : Class → ℕ → Rows
+class_rows class alg =
+    (not (is_some (class_of alg)), NotSupported)
+    ∷ (not (is_of_class class alg && is_concrete alg), InvalidArgument)
+    ∷ []
+
+-- HMAC is for keys of its type, and every other MAC, cipher and AEAD for AES keys
+abbrev pub fits_type : ℕ → ℕ → Bool
+fits_type alg key_type = key_type == (if is_hmac alg then 0x1100 else 0x2400)
+
+-- a call that uses a key with an algorithm, by what the map has at the identifier
+abbrev pub use_rows : Class → (usage alg : ℕ) → Option Key → Rows
+use_rows class usage alg None = (true, InvalidHandle) ∷ []
+use_rows class usage alg (Some key) =
+    class_rows class alg
+    ++ (not (may_use key.attributes.policy usage alg), NotPermitted)
+    ∷ (not (fits_type alg key.attributes.key_type.0), InvalidArgument)
+    ∷ []
+
+-- no input is longer than 2^32 - 1 bytes
+abbrev pub total_limit : ℕ
+total_limit = 2 ^ 32 - 1
+
+-- the output buffer has room for what is needed
+abbrev pub room_rows : (needed room : ℕ) → Rows
+room_rows needed room = (nat_lt room needed, BufferTooSmall) ∷ []

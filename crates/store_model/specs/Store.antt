@@ -1,0 +1,115 @@
+-- The one-thread store.
+use Rattle.std.specs.Prelude.{ℕ, ◌+◌, ◌*◌, ◌/◌, ◌^◌, Bool, List, [], ◌==◌, replicate, get_or, slice_set, refl}
+use Rattle.std.specs.List.{list_any}
+use Rattle.std.specs.Ordering.{nat_cmp}
+use Rattle.std.specs.Coded.{Coded, code_by, coded×, coded_ℕ, coded_list}
+use Rattle.std.specs.FinMap as map
+use Rattle.key_attributes.specs.declared.Attributes.{Attributes}
+
+-- a key that is alive: its creation number, its attributes, its bytes, and the caller that created it
+-- (0 where it was found at opening)
+pub record Key : Type 0 where
+  pub number : ℕ
+  pub attributes : Attributes
+  pub bytes : List ℕ
+  pub creator : ℕ
+
+abbrev pub KeyMap : Type 0
+KeyMap = map.FinMap nat_cmp Key
+
+-- what is a caller's own: how many volatile keys it has made, and how many random words it has drawn
+pub record CallerState : Type 0 where
+  pub made : ℕ
+  pub drawn : ℕ
+
+-- what never changes: the seed of the random words, and the locations that have a driver
+pub record Settings : Type 0 where
+  pub seed : List ℕ
+  pub locations : List ℕ
+
+-- the store: its keys by their identifiers, each caller's state by the caller's number (0 is nobody's), the
+-- calls so far, how many keys were found at opening, and what never changes
+pub record Store : Type 0 where
+  pub keys : KeyMap
+  pub callers : List CallerState
+  pub calls : ℕ
+  pub found : ℕ
+  pub settings : Settings
+
+-- how many callers there are
+abbrev pub caller_count : ℕ
+caller_count = 16
+
+abbrev pub new_caller : CallerState
+new_caller = record { made = 0; drawn = 0 }
+
+-- before any call, without a key
+abbrev pub start_of : Settings → Store
+start_of settings = record { keys = map.empty; callers = replicate (caller_count + 1) new_caller; calls = 0; found = 0; settings = settings }
+
+-- a seed of zeros, and no driver
+abbrev pub plain_settings : Settings
+plain_settings = record { seed = replicate 32 0; locations = [] }
+
+abbrev pub caller_state : Store → ℕ → CallerState
+caller_state store caller = get_or store.callers caller new_caller
+
+-- the store with another state of a caller
+abbrev pub with_caller : Store → ℕ → CallerState → Store
+with_caller store caller state = record store { callers = slice_set store.callers caller state }
+
+-- whether a driver of the secure element's location is there
+abbrev pub has_secure_element : Store → Bool
+has_secure_element store = list_any (λ location. location == 1) store.settings.locations
+
+-- the identifiers of a caller's volatile keys
+abbrev pub first_volatile : ℕ → ℕ
+first_volatile caller = 0x40000000 + caller * 2 ^ 20
+
+-- the identifier of the next volatile key of a caller
+abbrev pub next_volatile : Store → ℕ → ℕ
+next_volatile store caller = first_volatile caller + (caller_state store caller).made
+
+abbrev pub is_volatile_of : ℕ → ℕ → Bool
+is_volatile_of caller id = id / 2 ^ 20 == 1024 + caller
+
+-- how many volatile keys of a caller are alive
+abbrev pub live_volatile : KeyMap → ℕ → ℕ
+live_volatile keys caller = map.len (map.retain_keys keys (is_volatile_of caller))
+
+-- keys and stores are told apart by the numbers and bytes that they hold
+
+abbrev pub key_code : Coded Key
+key_code =
+    code_by ((ℕ × (List ℕ)) × ((ℕ × ((ℕ × ℕ) × (ℕ × ℕ))) × (ℕ × ℕ)))
+    (coded× (coded× coded_ℕ (coded_list coded_ℕ)) (coded× (coded× coded_ℕ (coded× (coded× coded_ℕ coded_ℕ) (coded× coded_ℕ coded_ℕ))) (coded× coded_ℕ coded_ℕ)))
+    (λ k. ((k.number, k.bytes), ((k.creator, ((k.attributes.lifetime.0, k.attributes.id.0), (k.attributes.key_type.0, k.attributes.bits))), (k.attributes.policy.usage.0, k.attributes.policy.alg))))
+    (λ p. record {
+      number = p.0.0;
+      bytes = p.0.1;
+      creator = p.1.0.0;
+      attributes = record {
+        lifetime = record { 0 = p.1.0.1.0.0 };
+        id = record { 0 = p.1.0.1.0.1 };
+        key_type = record { 0 = p.1.0.1.1.0 };
+        bits = p.1.0.1.1.1;
+        policy = record { usage = record { 0 = p.1.1.0 }; alg = p.1.1.1 };
+      };
+    })
+    (λ _. refl)
+
+abbrev pub caller_code : Coded CallerState
+caller_code = code_by (ℕ × ℕ) (coded× coded_ℕ coded_ℕ) (λ c. (c.made, c.drawn)) (λ p. record { made = p.0; drawn = p.1 }) (λ _. refl)
+
+abbrev pub settings_code : Coded Settings
+settings_code =
+    code_by (List ℕ × List ℕ) (coded× (coded_list coded_ℕ) (coded_list coded_ℕ)) (λ s. (s.seed, s.locations)) (λ p. record { seed = p.0; locations = p.1 })
+    (λ _. refl)
+
+abbrev pub store_code : Coded Store
+store_code =
+    code_by ((KeyMap × (List CallerState)) × ((ℕ × ℕ) × Settings))
+    (coded× (coded× (map.code coded_ℕ key_code) (coded_list caller_code)) (coded× (coded× coded_ℕ coded_ℕ) settings_code))
+    (λ s. ((s.keys, s.callers), ((s.calls, s.found), s.settings)))
+    (λ p. record { keys = p.0.0; callers = p.0.1; calls = p.1.0.0; found = p.1.0.1; settings = p.1.1 })
+    (λ _. refl)
