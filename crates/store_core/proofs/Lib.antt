@@ -1,0 +1,15 @@
+pub mod Callers
+pub mod Ciphering
+pub mod Classes
+pub mod Copying
+pub mod Counts
+pub mod Destroying
+pub mod Drawing
+pub mod Hashing
+pub mod Maps
+pub mod Paddings
+pub mod Permitted
+pub mod Places
+pub mod Refused
+pub mod Sizes
+pub mod Turns

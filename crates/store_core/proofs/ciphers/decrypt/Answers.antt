@@ -1,0 +1,25 @@
+use Rattle.std.proofs.Common.{◌-◌, [], length, take, drop, ap, sym, ◌∙◌}
+use Rattle.std.proofs.lemmas.Result.{err_from_is_err_and}
+use Rattle.psa_status.proofs.Rows.{unless-err}
+use Rattle.store_model.specs.Ciphers.{iv_length, deciphered, plain_or_zeros}
+use Rattle.store_core.specs.Ciphered.{cipher_rows}
+use Rattle.store_core.specs.Modes.{model_mode}
+use Rattle.store_core.proofs.Refused.{refused_or_spoilt}
+use Rattle.store_core.proofs.Ciphering.{decrypted_buffer}
+use Rattle.store_core.proofs.ciphers.decrypt.Goals as goal
+
+pub returns-in_err-needed-clause-reply : goal.returns-in_err-needed-clause-reply
+returns-in_err-needed-clause-reply c =
+    let p = err_from_is_err_and c.from_residual.result c.from_residual.ensures.1 in
+    let mode = model_mode c.args.mode in
+    refused_or_spoilt (cipher_rows mode (length c.args.input.now) (length c.args.out.now)) []
+    (plain_or_zeros (length c.args.input.now - iv_length mode) (deciphered mode c.args.key.now (take (iv_length mode) c.args.input.now) (drop (iv_length mode) c.args.input.now)))
+    c.from_residual.result _ c.in_err-needed.field-0.0 p.1 p.2 (unless-err _ _ _ (sym c.in_err-needed.ensures.value))
+
+pub returns-clause-buffer : goal.returns-clause-buffer
+returns-clause-buffer c =
+    let mode = model_mode c.args.mode in
+    decrypted_buffer mode c.args.key.now c.aes_key-aes.result c.args.input.now c.args.out.now c.split_at.result.0.now c.split_at.result.1.now c.decipher-answer.new.out c.in_ok-needed.needed
+    c.in_ok-needed.ensures.value c.in_ok-needed.ensures.room
+    (c.split_at.ensures.front ∙ ap (λ n. take n c.args.input.now) c.iv_length.ensures.value)
+    (c.split_at.ensures.back ∙ ap (λ n. drop n c.args.input.now) c.iv_length.ensures.value) c.aes_key-aes.ensures c.decipher-answer.ensures.buffer

@@ -1,0 +1,10 @@
+pub mod Answers
+pub mod Ciphered
+pub mod Copied
+pub mod Entries
+pub mod Generated
+pub mod Inside
+pub mod Modes
+pub mod Replies
+pub mod Streams
+pub mod Uses

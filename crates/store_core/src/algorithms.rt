@@ -1,0 +1,44 @@
+// What algorithm numbers say beside their class.
+ghost use Rattle.std.specs.Prelude.{◌≡◌, ◌≤◌};
+ghost use Rattle.hash_ops.specs.Hashes as hashes;
+ghost use Rattle.store_model.specs.Algorithms.{digest, hash_block_length, hash_length_of, is_hmac, low_byte, tag_bytes};
+ghost use Rattle.store_model.specs.Aeads.{is_ccm};
+
+use alg_encoding::Alg;
+use hash_ops::Hash;
+
+const CCM: u32 = 0x0540_0100;
+
+/// Whether a MAC's number is HMAC's.
+pub fn is_hmac(alg: Alg) -> bool
+    ensures { result ≡ is_hmac alg.0 }
+{
+    alg.base() >> 8 == 0x03_8000
+}
+
+/// Whether an AEAD's number is CCM's.
+pub fn is_ccm(alg: Alg) -> bool
+    ensures { result ≡ is_ccm alg.0 }
+{
+    alg.base() == CCM
+}
+
+/// The bytes of a MAC, or of an AEAD's tag.
+pub fn tag_bytes(alg: Alg) -> usize
+    ensures value { result ≡ tag_bytes alg.0 }
+    ensures bound { result ≤ 64 }
+{
+    match alg.tag_length() {
+        Some(length) => usize::from(length),
+        None => 0,
+    }
+}
+
+/// The hash function that an algorithm names by its low byte. SHA-512 stands for what names none.
+pub fn hash_function(alg: Alg) -> Hash
+    ensures digest { hashes.hash_of result ≡ digest (low_byte alg.0) }
+    ensures length { hashes.digest_length result ≡ hash_length_of alg.0 }
+    ensures block { hashes.block_length result ≡ hash_block_length (low_byte alg.0) }
+{
+    Hash::from_low_byte((alg.number() & 0xff) as u8).unwrap_or(Hash::Sha512)
+}

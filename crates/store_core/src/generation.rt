@@ -1,0 +1,82 @@
+// A key of random bytes.
+ghost use Rattle.std.specs.Prelude.{◌≡◌, ◌≤◌, ◌<◌, ◌^◌, ◌+◌, ◌/◌, ℕ, None, OnOk, IsTrue, length, replicate};
+ghost use Rattle.psa_status.specs.Rows.{first_row};
+ghost use Rattle.key_attributes.specs.declared.Attributes.{Attributes};
+ghost use Rattle.key_attributes.specs.Checks.{filled, permits_size};
+ghost use Rattle.store_model.specs.Store as model;
+ghost use Rattle.store_model.specs.Call.{Generate};
+ghost use Rattle.store_model.specs.Creation.{limit_rows, created};
+ghost use Rattle.store_model.specs.Draws.{with_drawn, next_random};
+ghost use Rattle.store_model.specs.Faults.{Plain};
+ghost use Rattle.store_model.specs.Generation.{key_bytes};
+ghost use Rattle.store_model.specs.Step.{step};
+ghost use Rattle.store_core.specs.Answers.{id_reply};
+ghost use Rattle.store_core.specs.Generated.{generation_checked};
+
+use crate::Store;
+use key_attributes::{Attributes, KeyId, check_attributes};
+use psa_status::Status;
+
+/// The attributes that a generation records, or the first refusal that the stated ones decide.
+fn check_generation(attributes: &Attributes) -> Result<Attributes, Status>
+    ensures value { result ≡ generation_checked attributes.now }
+    ensures short { OnOk result (key_bytes attributes.now ≤ 1024) }
+{
+    if attributes.bits == 0 || attributes.bits % 8 != 0 {
+        return Err(Status::InvalidArgument);
+    }
+    check_attributes(attributes, usize::from(attributes.bits / 8), false)
+}
+
+/// Clears a buffer.
+fn wipe(buffer: &mut [u8; 1024])
+    ensures { buffer.new ≡ replicate 1024 0 }
+{
+    *buffer = [0; 1024];
+}
+
+impl Store {
+    /// Creates a key of random bytes, as many as the stated bits say, and answers its identifier. A refusal
+    /// draws no random word.
+    pub fn generate_key(&mut self, caller: u8, attributes: &Attributes) -> Result<KeyId, Status>
+        requires first { 1 ≤ caller }
+        requires last { caller ≤ 16 }
+        requires turns { self.old.calls < 2 ^ 62 }
+        requires words { (model.caller_state self.old caller).drawn + 256 ≤ 2 ^ 60 }
+        ensures store { self.new ≡ (step self.old caller (Generate attributes.now) Plain).store }
+        ensures reply { id_reply result ≡ (step self.old caller (Generate attributes.now) Plain).reply }
+    {
+        let recorded = match check_generation(attributes) {
+            Ok(recorded) => recorded,
+            Err(status) => {
+                self.calls += 1;
+                return Err(status);
+            }
+        };
+        if self.at_limit(caller) {
+            self.calls += 1;
+            return Err(Status::KeyLimit);
+        }
+        Ok(self.add_random(caller, &recorded, usize::from(attributes.bits / 8)))
+    }
+
+    // Adds a key of so many random bytes. Its caller is at no limit.
+    fn add_random(&mut self, caller: u8, recorded: &Attributes, count: usize) -> KeyId
+        requires first { 1 ≤ caller }
+        requires last { caller ≤ 16 }
+        requires turns { self.old.calls < 2 ^ 62 }
+        requires words { (model.caller_state self.old caller).drawn + 256 ≤ 2 ^ 60 }
+        requires room { first_row (limit_rows self.old caller) ≡ None }
+        requires short { count ≤ 1024 }
+        requires sized { IsTrue (permits_size recorded.now.key_type.0 count) }
+        ensures store { (a : Attributes) → filled a count ≡ recorded.now →
+            self.new ≡ (created (with_drawn self.old caller count) caller a (next_random self.old caller count)).store }
+        ensures id { result.0 ≡ model.next_volatile (with_drawn self.old caller count) caller }
+    {
+        let mut buffer = [0; 1024];
+        self.draw(caller, &mut buffer[..count]);
+        let id = self.add(caller, recorded, &buffer[..count]);
+        wipe(&mut buffer);
+        id
+    }
+}

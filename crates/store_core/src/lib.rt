@@ -1,0 +1,21 @@
+//! The one-thread store as a plain list of keys. Each method is one turn, whose contract is a step of the model.
+#![tactic(auto)]
+
+mod aeads;
+mod algorithms;
+mod ciphers;
+mod copies;
+mod entries;
+mod generation;
+mod hashes;
+mod macs;
+mod modes;
+mod outputs;
+mod store;
+mod streams;
+mod uses;
+
+pub use store::Store;
+
+#[cfg(test)]
+mod tests;

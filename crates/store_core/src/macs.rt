@@ -1,0 +1,144 @@
+// MACs of a whole message.
+ghost use Rattle.std.specs.Prelude.{◌≡◌, ◌≤◌, ◌<◌, ◌^◌, length, take};
+ghost use Rattle.crypto_specs.specs.Aes.{IsKey, aes_encrypt};
+ghost use Rattle.crypto_specs.specs.Cmac.{cmac};
+ghost use Rattle.alg_encoding.specs.Encoding.{base_of};
+ghost use Rattle.store_model.specs.Call.{MacCompute, MacVerify, buffer_after};
+ghost use Rattle.store_model.specs.Faults.{Plain};
+ghost use Rattle.store_model.specs.Algorithms.{cmac_base, mac_of, tag_bytes, whole_mac};
+ghost use Rattle.store_model.specs.Step.{step};
+ghost use Rattle.store_core.specs.Answers.{AnswersLength, plain_reply};
+ghost use Rattle.store_core.specs.Replies.{mac_reply, verified_reply};
+
+use crate::Store;
+use crate::algorithms::{hash_function, tag_bytes};
+use crate::outputs::give;
+use crate::uses::{SIGN_MESSAGE, TOTAL_LIMIT, VERIFY_MESSAGE, aes_key};
+use alg_encoding::{Alg, Class};
+use cmac_ops::cmac;
+use hmac_ops::hmac;
+use key_attributes::KeyId;
+use psa_status::Status;
+
+const CMAC: u32 = 0x03c0_0200;
+
+// Writes bytes to the front of `out`, and answers how many they are.
+fn put(bytes: &[u8], out: &mut [u8; 64]) -> usize
+    requires { length bytes.now ≤ 64 }
+    ensures length { result ≡ length bytes.now }
+    ensures front { take result out.new ≡ bytes.now }
+{
+    out[..bytes.len()].copy_from_slice(bytes);
+    bytes.len()
+}
+
+// Writes CMAC's whole MAC of a message to the front of `out`, and answers its length.
+fn put_cmac(key: &[u8], message: &[u8], out: &mut [u8; 64]) -> usize
+    requires { IsKey key.now }
+    ensures bound { result ≤ 64 }
+    ensures mac { take result out.new ≡ cmac (aes_encrypt key.now) message.now }
+{
+    let mut aes = aes_key(key);
+    let tag = cmac(&aes, message);
+    aes.wipe();
+    put(&tag, out)
+}
+
+// Writes the whole MAC of a message to the front of `out`, and answers its length.
+fn put_whole_mac(alg: Alg, key: &[u8], message: &[u8], out: &mut [u8; 64]) -> usize
+    requires { base_of alg.0 ≡ cmac_base → IsKey key.now }
+    ensures bound { result ≤ 64 }
+    ensures mac { take result out.new ≡ whole_mac alg.0 key.now message.now }
+{
+    if alg.base() == CMAC {
+        put_cmac(key, message, out)
+    } else {
+        hmac(hash_function(alg), key, message, out)
+    }
+}
+
+// Writes the MAC of a message, which is the front of the whole one, to the front of `out`, and answers its length.
+fn put_mac(alg: Alg, key: &[u8], message: &[u8], out: &mut [u8; 64]) -> usize
+    requires { base_of alg.0 ≡ cmac_base → IsKey key.now }
+    ensures bound { result ≤ 64 }
+    ensures tag { result ≤ tag_bytes alg.0 }
+    ensures mac { take result out.new ≡ mac_of alg.0 key.now message.now }
+{
+    let whole = put_whole_mac(alg, key, message, out);
+    whole.min(tag_bytes(alg))
+}
+
+fn compute(alg: Alg, key: &[u8], input: &[u8], out: &mut [u8]) -> Result<usize, Status>
+    requires { base_of alg.0 ≡ cmac_base → IsKey key.now }
+    ensures reply { AnswersLength result (mac_reply alg.0 key.now input.now (length out.old)) }
+    ensures buffer { out.new ≡ buffer_after out.old (mac_reply alg.0 key.now input.now (length out.old)) }
+{
+    if input.len() > TOTAL_LIMIT {
+        return Err(Status::InvalidArgument);
+    }
+    if out.len() < tag_bytes(alg) {
+        return Err(Status::BufferTooSmall);
+    }
+    let mut mac = [0; 64];
+    let length = put_mac(alg, key, input, &mut mac);
+    give(&mac[..length], out)
+}
+
+fn verify(alg: Alg, key: &[u8], input: &[u8], mac: &[u8]) -> Result<(), Status>
+    requires { base_of alg.0 ≡ cmac_base → IsKey key.now }
+    ensures { plain_reply result ≡ verified_reply alg.0 key.now input.now mac.now }
+{
+    if input.len() > TOTAL_LIMIT {
+        return Err(Status::InvalidArgument);
+    }
+    let mut own = [0; 64];
+    let length = put_mac(alg, key, input, &mut own);
+    if mac == &own[..length] {
+        Ok(())
+    } else {
+        Err(Status::InvalidSignature)
+    }
+}
+
+impl Store {
+    /// Writes the MAC of a message under a key to the front of a buffer that has room for it, and answers its length.
+    pub fn mac_compute(
+        &mut self,
+        caller: u8,
+        key: KeyId,
+        alg: Alg,
+        input: &[u8],
+        out: &mut [u8],
+    ) -> Result<usize, Status>
+        requires first { 1 ≤ caller }
+        requires last { caller ≤ 16 }
+        requires turns { self.old.calls < 2 ^ 62 }
+        ensures store { self.new ≡ (step self.old caller (MacCompute key.0 alg.0 input.now (length out.old)) Plain).store }
+        ensures reply { AnswersLength result (step self.old caller (MacCompute key.0 alg.0 input.now (length out.old)) Plain).reply }
+        ensures buffer { out.new ≡ buffer_after out.old (step self.old caller (MacCompute key.0 alg.0 input.now (length out.old)) Plain).reply }
+    {
+        self.count();
+        let bytes = self.usable(Class::Mac, SIGN_MESSAGE, alg, key)?;
+        compute(alg, bytes, input, out)
+    }
+
+    /// Compares a MAC with that of a message under a key. `InvalidSignature` where a byte or the length differs.
+    pub fn mac_verify(
+        &mut self,
+        caller: u8,
+        key: KeyId,
+        alg: Alg,
+        input: &[u8],
+        mac: &[u8],
+    ) -> Result<(), Status>
+        requires first { 1 ≤ caller }
+        requires last { caller ≤ 16 }
+        requires turns { self.old.calls < 2 ^ 62 }
+        ensures store { self.new ≡ (step self.old caller (MacVerify key.0 alg.0 input.now mac.now) Plain).store }
+        ensures reply { plain_reply result ≡ (step self.old caller (MacVerify key.0 alg.0 input.now mac.now) Plain).reply }
+    {
+        self.count();
+        let bytes = self.usable(Class::Mac, VERIFY_MESSAGE, alg, key)?;
+        verify(alg, bytes, input, mac)
+    }
+}
