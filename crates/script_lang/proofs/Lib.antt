@@ -1,0 +1,13 @@
+mod Again
+mod Cuts
+mod Digits
+mod Means
+mod Names
+mod OutsideAgain
+mod OutsideMeans
+mod Rows
+mod States
+mod TextLines
+mod Texts
+mod Whole
+mod WholeMeans

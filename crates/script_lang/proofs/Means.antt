@@ -1,0 +1,196 @@
+-- What is read of a line is in the grammar.
+use Rattle.std.proofs.Common.{◌≡◌, ℕ, Bool, true, false, cond, not, List, [], ◌∷◌, ◌++◌, refl, sym, ap, subst, ◌∙◌, arith, append_assoc}
+use Rattle.std.proofs.lemmas.List.{append-nil}
+use Rattle.std.specs.Prelude.{Option, Some, None, Result, Ok, Err, find, ◌==◌}
+use Rattle.std.proofs.lemmas.Bool.Decides.{nat_tests}
+use Rattle.std.proofs.lemmas.Slice.Eq.{bytes_eq-Decides}
+use Rattle.script_lang.specs.Pieces.{cut_of, onto_front, words}
+use Rattle.script_lang.specs.Steps.{◌>>=◌, demand, some_or}
+use Rattle.script_lang.specs.Table.{Shape, shape_of, has_word, commands, command_named}
+use Rattle.script_lang.specs.Calls.{call_of}
+use Rattle.script_lang.specs.Fields.{Fields, all_fields, has_name, field_name, field_named, field_value, is_allowed, has_field, has_required, read_field, read_fields}
+use Rattle.script_lang.specs.Lines.{Places, Read, is_name, key_at, session_of, no_words, with_word, read_fixed, with_call, parts_at, words_at, is_comment, line_at}
+use Rattle.script_lang.specs.Grammar.{IsField, AreFields, IsFixed, AreFixed, IsLine, IsStep, IsStepBy}
+use Rattle.script_lang.proofs.Texts.{some_is, fine, fine_is, some_or_ok, name_means, key_means, value_means, session_means}
+use Rattle.script_lang.specs.declared.faults.Reason.{Reason}
+use Rattle.script_lang.specs.declared.faults.Reason.TheVariants.{BadSession, UnknownCommand, BadName, MissingField, UnknownField, RepeatedField}
+use Rattle.script_lang.specs.declared.fields.Field.{Field}
+use Rattle.script_lang.specs.declared.fields.FieldValue.{FieldValue}
+use Rattle.script_lang.specs.declared.fixed.Fixed.{Fixed}
+use Rattle.script_lang.specs.declared.script.ScriptCall.{ScriptCall}
+use Rattle.script_lang.specs.declared.table.Command.{Command}
+use Rattle.script_lang.specs.declared.table.Kind.{Kind}
+use Rattle.script_lang.specs.declared.table.Kind.TheVariants as kind
+
+pub bind_ok : {A B : Type 0} (r : Result A Reason) (f : A → Result B Reason) (y : B) → (r >>= f) ≡ Ok y → (x : A) × (r ≡ Ok x) × (f x ≡ Ok y)
+bind_ok (Ok x) f y e = (x, refl, e)
+bind_ok (Err d) f y e = absurd cc
+
+pub demand_ok : (b : Bool) (r : Reason) (u : Unit {0}) → demand b r ≡ Ok u → b ≡ true
+demand_ok true r u e = refl
+demand_ok false r u e = absurd cc
+
+find_turn : {X : Type 0} (p : X → Bool) (y : X) (rest : Option X) (x : X) (b : Bool) → p y ≡ b → (rest ≡ Some x → p x ≡ true) → cond b (Some y) rest ≡ Some x → p x ≡ true
+find_turn p y rest x true t h e = subst (λ z. p z ≡ true) (some_is y x e) t
+find_turn p y rest x false t h e = h e
+
+-- what find found is as the test says
+pub find_test : {X : Type 0} (p : X → Bool) (xs : List X) (x : X) → find p xs ≡ Some x → p x ≡ true
+find_test p [] x e = absurd cc
+find_test p (y ∷ ys) x e = find_turn p y (find p ys) x (p y) refl (find_test p ys x) e
+
+cut_turn : (s b : ℕ) (bs : List ℕ) (p : List ℕ × List ℕ) (t : Bool) (o : Option (List ℕ × List ℕ)) → (b == s) ≡ t →
+    ((q : List ℕ × List ℕ) → o ≡ Some q → bs ≡ q.0 ++ s ∷ q.1) → cond t (Some ([], bs)) (onto_front b o) ≡ Some p → b ∷ bs ≡ p.0 ++ s ∷ p.1
+cut_turn s b bs p true o t h e =
+    let same : b ≡ s = grind (arith, nat_tests) in
+    subst (λ (q : List ℕ × List ℕ). b ∷ bs ≡ q.0 ++ s ∷ q.1) (some_is ([], bs) p e) (ap (λ c. c ∷ bs) same)
+cut_turn s b bs p false None t h e = absurd cc
+cut_turn s b bs p false (Some q) t h e = subst (λ (q : List ℕ × List ℕ). b ∷ bs ≡ q.0 ++ s ∷ q.1) (some_is (b ∷ q.0, q.1) p e) (ap (λ (xs : List ℕ). b ∷ xs) (h q refl))
+
+pub cut_joined : (s : ℕ) (xs : List ℕ) (p : List ℕ × List ℕ) → cut_of s xs ≡ Some p → xs ≡ p.0 ++ s ∷ p.1
+cut_joined s [] p e = absurd cc
+cut_joined s (b ∷ bs) p e = cut_turn s b bs p (b == s) (cut_of s bs) refl (cut_joined s bs) e
+
+not_true : (b : Bool) → not b ≡ true → b ≡ false
+not_true true e = cc
+not_true false e = refl
+
+-- fields
+
+abbrev pub made : Field → FieldValue → Result (Field × FieldValue) Reason
+made f v = Ok (f, v)
+
+-- a field that is named by the text before the first `=`
+pub field_named_is : (name : List ℕ) (f : Field) → field_named name ≡ Some f → field_name f ≡ name
+field_named_is name f e = (bytes_eq-Decides (field_name f) name).0 (find_test (has_name name) all_fields f e)
+
+field_made : (row : Shape) (done : Fields) (w : List ℕ) (parts : List ℕ × List ℕ) (f : Field) (v : FieldValue) →
+    cut_of 61 w ≡ Some parts → field_named parts.0 ≡ Some f → field_value f parts.1 ≡ Ok v → IsField w (f, v)
+field_made row done w parts f v c n e = (parts.1, cut_joined 61 w parts c ∙ ap (λ (name : List ℕ). name ++ 61 ∷ parts.1) (sym (field_named_is parts.0 f n)), value_means f parts.1 v e)
+
+abbrev IsGood : Shape → Fields → List ℕ → Field × FieldValue → Type 0
+IsGood row done w f = IsField w f × (is_allowed row f.0 ≡ true) × (has_field done f.0 ≡ false)
+
+good_read : (row : Shape) (done : Fields) (w : List ℕ) (parts : List ℕ × List ℕ) (g : Field) (f : Field × FieldValue) → cut_of 61 w ≡ Some parts → field_named parts.0 ≡ Some g →
+    (demand (is_allowed row g) UnknownField >>= λ _. demand (not (has_field done g)) RepeatedField >>= λ _. field_value g parts.1 >>= λ v. made g v) ≡ Ok f → IsGood row done w f
+good_read row done w parts g f c n e =
+    let a = bind_ok (demand (is_allowed row g) UnknownField) (λ _. demand (not (has_field done g)) RepeatedField >>= λ _. field_value g parts.1 >>= λ v. made g v) f e in
+    let b = bind_ok (demand (not (has_field done g)) RepeatedField) (λ _. field_value g parts.1 >>= λ v. made g v) f a.2 in
+    let d = bind_ok (field_value g parts.1) (λ v. made g v) f b.2 in
+    let good : IsGood row done w (g, d.0) = (field_made row done w parts g d.0 c n d.1, demand_ok (is_allowed row g) UnknownField a.0 a.1, not_true (has_field done g) (demand_ok (not (has_field done g)) RepeatedField b.0 b.1)) in
+    subst (IsGood row done w) (fine_is (g, d.0) f d.2) good
+
+pub field_read : (row : Shape) (done : Fields) (w : List ℕ) (f : Field × FieldValue) → read_field row done w ≡ Ok f →
+    IsField w f × (is_allowed row f.0 ≡ true) × (has_field done f.0 ≡ false)
+unfolding read_field
+field_read row done w f e =
+    let a = bind_ok (some_or UnknownField (cut_of 61 w)) (λ parts. some_or UnknownField (field_named parts.0) >>= λ g. demand (is_allowed row g) UnknownField >>= λ _. demand (not (has_field done g)) RepeatedField >>= λ _. field_value g parts.1 >>= λ v. made g v) f e in
+    let b = bind_ok (some_or UnknownField (field_named a.0.0)) (λ g. demand (is_allowed row g) UnknownField >>= λ _. demand (not (has_field done g)) RepeatedField >>= λ _. field_value g a.0.1 >>= λ v. made g v) f a.2 in
+    good_read row done w a.0 b.0 f (some_or_ok UnknownField (cut_of 61 w) a.0 a.1) (some_or_ok UnknownField (field_named a.0.0) b.0 b.1) b.2
+
+fields_read : (row : Shape) (done all : Fields) (ws : List (List ℕ)) → read_fields row done ws ≡ Ok all → (fs : Fields) × (all ≡ done ++ fs) × AreFields row done ws fs
+unfolding read_fields
+fields_read row done all [] e = ([], sym (fine_is done all e) ∙ sym (append-nil done), tt)
+fields_read row done all (w ∷ ws) e =
+    let a = bind_ok (read_field row done w) (λ f. read_fields row (done ++ f ∷ []) ws) all e in
+    let h = field_read row done w a.0 a.1 in
+    let r = fields_read row (done ++ a.0 ∷ []) all ws a.2 in
+    (a.0 ∷ r.0, r.1 ∙ append_assoc done (a.0 ∷ []) r.0, (h.0, h.1, h.2, r.2))
+
+-- fixed words
+
+pub word_read : (places : Places) (k : Kind) (fixed : Fixed) (w : List ℕ) (next : Fixed) → with_word places k fixed w ≡ Ok next → IsFixed places k fixed w next
+unfolding with_word
+word_read places kind.Name fixed w next e =
+    let a = bind_ok (demand (is_name w) BadName) (λ _. Ok (record fixed { name = Some w })) next e in
+    (name_means w (demand_ok (is_name w) BadName a.0 a.1), fine_is (record fixed { name = Some w }) next a.2)
+word_read places kind.Key fixed w next e =
+    let a = bind_ok (key_at places w) (λ key. Ok (record fixed { key = key })) next e in
+    (a.0, key_means places w a.0 a.1, fine_is (record fixed { key = a.0 }) next a.2)
+
+pub fixed_read : (places : Places) (ks : List Kind) (fixed : Fixed) (ws : List (List ℕ)) (p : Fixed × List (List ℕ)) →
+    read_fixed places ks fixed ws ≡ Ok p → (front : List (List ℕ)) × (ws ≡ front ++ p.1) × AreFixed places ks fixed front p.0
+unfolding read_fixed
+fixed_read places [] fixed ws p e = ([], ap (λ (q : Fixed × List (List ℕ)). q.1) (fine_is (fixed, ws) p e), ap (λ (q : Fixed × List (List ℕ)). q.0) (fine_is (fixed, ws) p e))
+fixed_read places (k ∷ ks) fixed [] p e = absurd cc
+fixed_read places (k ∷ ks) fixed (w ∷ ws) p e =
+    let a = bind_ok (with_word places k fixed w) (λ next. read_fixed places ks next ws) p e in
+    let r = fixed_read places ks a.0 ws p a.2 in
+    (w ∷ r.0, ap (λ (xs : List (List ℕ)). w ∷ xs) r.1, (a.0, word_read places k fixed w a.0 a.1, r.2))
+
+-- the words after a command
+record AreParts (places : Places) (command : Command) (ws : List (List ℕ)) (parts : Option (List ℕ) × ScriptCall) : Type 0 where
+  fixed : Fixed
+  fields : Fields
+  fixed_words : List (List ℕ)
+  field_words : List (List ℕ)
+  joined : ws ≡ fixed_words ++ field_words
+  are_fixed : AreFixed places (shape_of command).fixed no_words fixed_words fixed
+  are_fields : AreFields (shape_of command) [] field_words fields
+  all : has_required (shape_of command) fields ≡ true
+  said : (fixed.name, call_of command fixed fields) ≡ parts
+
+abbrev pub said_by : Command → Fixed → Fields → Option (List ℕ) × ScriptCall
+said_by command fixed fields = (fixed.name, call_of command fixed fields)
+
+parts_read : (places : Places) (command : Command) (ws : List (List ℕ)) (parts : Option (List ℕ) × ScriptCall) → parts_at places command ws ≡ Ok parts → AreParts places command ws parts
+unfolding parts_at
+parts_read places command ws parts e =
+    let a = bind_ok (read_fixed places (shape_of command).fixed no_words ws) (λ fixed. read_fields (shape_of command) [] fixed.1 >>= λ fs. demand (has_required (shape_of command) fs) MissingField >>= λ _. Ok (said_by command fixed.0 fs)) parts e in
+    let b = bind_ok (read_fields (shape_of command) [] a.0.1) (λ fs. demand (has_required (shape_of command) fs) MissingField >>= λ _. Ok (said_by command a.0.0 fs)) parts a.2 in
+    let c = bind_ok (demand (has_required (shape_of command) b.0) MissingField) (λ _. Ok (said_by command a.0.0 b.0)) parts b.2 in
+    let f = fixed_read places (shape_of command).fixed no_words ws a.0 a.1 in
+    let g = fields_read (shape_of command) [] b.0 a.0.1 b.1 in
+    record {
+      fixed = a.0.0;
+      fields = b.0;
+      fixed_words = f.0;
+      field_words = a.0.1;
+      joined = f.1;
+      are_fixed = f.2;
+      are_fields = subst (AreFields (shape_of command) [] a.0.1) (sym g.1) g.2;
+      all = demand_ok (has_required (shape_of command) b.0) MissingField c.0 c.1;
+      said = fine_is (said_by command a.0.0 b.0) parts c.2;
+    }
+
+pub named_read : (name : List ℕ) (c : Command) → command_named name ≡ Some c → (shape_of c).word ≡ name
+named_read name c e = (bytes_eq-Decides (shape_of c).word name).0 (find_test (has_word name) commands c e)
+
+line_read : (read next : Read) (w : List ℕ) (ws : List (List ℕ)) → words_at read (w ∷ ws) ≡ Ok next → IsLine read (w ∷ ws) next
+unfolding words_at
+line_read read next w [] e =
+    let a = bind_ok (some_or BadSession (session_of w)) (λ _. Err UnknownCommand) next e in
+    absurd (no a.2)
+  where
+    no : Err UnknownCommand ≡ fine next → ⊥
+    no e = cc
+line_read read next w (name ∷ ws) e =
+    let a = bind_ok (some_or BadSession (session_of w)) (λ s. some_or UnknownCommand (command_named name) >>= λ c. parts_at (read.places s) c ws >>= λ parts. Ok (with_call read s parts.0 parts.1)) next e in
+    let c = bind_ok (some_or UnknownCommand (command_named name)) (λ c. parts_at (read.places a.0) c ws >>= λ parts. Ok (with_call read a.0 parts.0 parts.1)) next a.2 in
+    let p = bind_ok (parts_at (read.places a.0) c.0 ws) (λ parts. Ok (with_call read a.0 parts.0 parts.1)) next c.2 in
+    let r = parts_read (read.places a.0) c.0 ws p.0 p.1 in
+    record {
+      session = a.0;
+      command = c.0;
+      fixed = r.fixed;
+      fields = r.fields;
+      session_word = w;
+      fixed_words = r.fixed_words;
+      field_words = r.field_words;
+      is_session = session_means w a.0 (some_or_ok BadSession (session_of w) a.0 a.1);
+      line = ap (λ (n : List ℕ). w ∷ n ∷ ws) (sym (named_read name c.0 (some_or_ok UnknownCommand (command_named name) c.0 c.1))) ∙ ap (λ (xs : List (List ℕ)). w ∷ (shape_of c.0).word ∷ xs) r.joined;
+      are_fixed = r.are_fixed;
+      are_fields = r.are_fields;
+      all = r.all;
+      after = sym (fine_is (with_call read a.0 p.0.0 p.0.1) next p.2) ∙ ap (λ (q : Option (List ℕ) × ScriptCall). with_call read a.0 q.0 q.1) (sym r.said);
+    }
+
+step_read : (read next : Read) (ws : List (List ℕ)) (b : Bool) → cond b (Ok read) (words_at read ws) ≡ Ok next → IsStepBy b read ws next
+unfolding words_at
+step_read read next ws true e = fine_is read next e
+step_read read next [] false e = fine_is read next e
+step_read read next (w ∷ ws) false e = line_read read next w ws e
+
+pub line_means : (read next : Read) (line : List ℕ) → line_at read line ≡ Ok next → IsStep read line next
+unfolding line_at
+line_means read next line e = step_read read next (words line) (is_comment line) e

@@ -1,0 +1,207 @@
+-- A text that is outside the grammar isn't read, and the answer is its first reason.
+use Rattle.std.proofs.Common.{◌≡◌, ℕ, suc, ◌+◌, ◌<◌, ◌^◌, Bool, true, false, cond, not, List, [], ◌∷◌, ◌++◌, length, refl, sym, ap, ◌∙◌, arith, inl, inr, ◌⊎◌}
+use Rattle.std.specs.Prelude.{Option, Some, None, Result, Ok, Err, nat_lt, ◌==◌, ◌&&◌, option_map}
+use Rattle.std.proofs.lemmas.Bool.Decides.{nat_tests}
+use Rattle.script_lang.specs.Numbers.{number}
+use Rattle.script_lang.specs.Pieces.{cut_of, words, text_lines}
+use Rattle.script_lang.specs.Steps.{◌>>=◌, demand, some_or}
+use Rattle.script_lang.specs.Table.{Shape, shape_of, command_named}
+use Rattle.script_lang.specs.Fields.{Fields, field_name, field_named, field_value, is_allowed, has_field, has_required, read_field, read_fields}
+use Rattle.script_lang.specs.Lines.{Places, Read, nothing_read, no_words, is_name, key_at, with_word, read_fixed, session_of, parts_at, words_at, line_at, goes_on, lines_at, script_of, with_call}
+use Rattle.script_lang.specs.Grammar.{IsValue, AreSteps}
+use Rattle.script_lang.specs.Outside.{IsBadFixed, AreBadFixed, IsBadValue, IsBadField, AreBadFields, AreBadAfter, IsBadCommand, AreBadWords, IsBadLine, IsFault}
+use Rattle.script_lang.proofs.Texts.{given, number_means, name_means, name_again, value_means, session_means, session_again, and_true}
+use Rattle.script_lang.proofs.Means.{made, cut_joined, field_named_is, named_read, said_by}
+use Rattle.script_lang.proofs.Again.{cut_name, field_again, command_again, one_again, word_again, fixed_again, line_again}
+use Rattle.script_lang.proofs.OutsideMeans.{value_err, after_name, after_session}
+use Rattle.script_lang.proofs.WholeMeans.{not_more}
+use Rattle.script_lang.specs.declared.faults.Reason.{Reason}
+use Rattle.script_lang.specs.declared.faults.Reason.TheVariants.{BadSession, UnknownCommand, BadName, BadKey, UnknownName, UnknownField, RepeatedField, BadValue, MissingField}
+use Rattle.script_lang.specs.declared.faults.ScriptFault.{ScriptFault}
+use Rattle.script_lang.specs.declared.faults.ScriptFault.TheVariants as faults
+use Rattle.script_lang.specs.declared.faults.ScriptFault.TheVariants.{TooLong, TooManyLines, BadLine}
+use Rattle.script_lang.specs.declared.fields.Field.{Field}
+use Rattle.script_lang.specs.declared.fields.FieldValue.{FieldValue}
+use Rattle.script_lang.specs.declared.fixed.Fixed.{Fixed}
+use Rattle.script_lang.specs.declared.script.KeyWord.TheVariants.{Line}
+use Rattle.script_lang.specs.declared.table.Command.{Command}
+use Rattle.script_lang.specs.declared.table.Kind.{Kind}
+use Rattle.script_lang.specs.declared.table.Kind.TheVariants as kind
+
+no_such : {X : Type 0} (o : Option X) → ((x : X) → o ≡ Some x → ⊥) → o ≡ None
+no_such None never = refl
+no_such (Some x) never = absurd (never x refl)
+
+not_yes : (b : Bool) → (b ≡ true → ⊥) → b ≡ false
+not_yes true never = absurd (never refl)
+not_yes false never = refl
+
+only_err : {X : Type 0} (x : Result X Reason) → ((v : X) → x ≡ Ok v → ⊥) → (e : Reason) × (x ≡ Err e)
+only_err (Ok v) never = absurd (never v refl)
+only_err (Err e) never = (e, refl)
+
+-- keys and names
+
+neither_turn : (places : Places) (c : ℕ) (cs : List ℕ) (r : Reason) (b d : Bool) → (c == 35) ≡ b → (c == 36 && is_name cs) ≡ d → IsBadFixed places kind.Key (c ∷ cs) r → (r ≡ BadKey) →
+    cond b (some_or BadKey (option_map given (number 16 8 (2 ^ 32) cs))) (cond d (some_or UnknownName (option_map Line (places cs))) (Err BadKey)) ≡ Err r
+neither_turn places c cs r true d t u (inr h) e = absurd (differ r h.0 e)
+  where
+    differ : (r : Reason) → r ≡ UnknownName → r ≡ BadKey → ⊥
+    differ r e f = cc
+neither_turn places c cs r false d t u (inr h) e = absurd (differ r h.0 e)
+  where
+    differ : (r : Reason) → r ≡ UnknownName → r ≡ BadKey → ⊥
+    differ r e f = cc
+neither_turn places c cs r true d t u (inl h) e =
+    ap (λ o. some_or BadKey (option_map given o)) (no_such (number 16 8 (2 ^ 32) cs) (λ n k. h.1 (inl (same c t, (n, number_means 16 8 (2 ^ 32) cs n k)))))
+    ∙ ap Err (sym e)
+  where
+    same : (c : ℕ) → (c == 35) ≡ true → c ≡ 35
+    same c t = grind (arith, nat_tests)
+neither_turn places c cs r false true t u (inl h) e =
+    let k = and_true (c == 36) (is_name cs) u in absurd (h.1 (inr (same c k.0, name_means cs k.1)))
+  where
+    same : (c : ℕ) → (c == 36) ≡ true → c ≡ 36
+    same c t = grind (arith, nat_tests)
+neither_turn places c cs r false false t u (inl h) e = ap Err (sym e)
+
+key_unread : (places : Places) (word : List ℕ) (r : Reason) → IsBadFixed places kind.Key word r → key_at places word ≡ Err r
+unfolding key_at
+key_unread places [] r (inl h) = ap Err (sym h.0)
+key_unread places [] r (inr h) = absurd h.1
+key_unread places (c ∷ cs) r (inl h) = neither_turn places c cs r (c == 35) (c == 36 && is_name cs) refl refl (inl h) h.0
+key_unread places (c ∷ cs) r (inr h) = rw (h.1.0, name_again cs h.1.1, h.1.2) (ap Err (sym h.0))
+
+word_unread : (places : Places) (k : Kind) (fixed : Fixed) (w : List ℕ) (r : Reason) → IsBadFixed places k w r → with_word places k fixed w ≡ Err r
+unfolding with_word
+word_unread places kind.Name fixed w r h =
+    ap (λ b. demand b BadName >>= λ _. Ok (record fixed { name = Some w })) (not_yes (is_name w) (λ t. h.1 (name_means w t))) ∙ ap Err (sym h.0)
+word_unread places kind.Key fixed w r h = ap (λ x. x >>= λ key. Ok (record fixed { key = key })) (key_unread places w r h)
+
+fixed_unread : (places : Places) (ks : List Kind) (fixed : Fixed) (ws : List (List ℕ)) (r : Reason) → AreBadFixed places ks fixed ws r → read_fixed places ks fixed ws ≡ Err r
+unfolding read_fixed
+fixed_unread places [] fixed ws r h = absurd h
+fixed_unread places (k ∷ ks) fixed [] r h = ap Err (sym h)
+fixed_unread places (k ∷ ks) fixed (w ∷ ws) r (inl h) = ap (λ x. x >>= λ next. read_fixed places ks next ws) (word_unread places k fixed w r h)
+fixed_unread places (k ∷ ks) fixed (w ∷ ws) r (inr h) =
+    ap (λ x. x >>= λ next. read_fixed places ks next ws) (word_again places k fixed w h.0 h.1) ∙ fixed_unread places ks h.0 ws r h.2
+
+-- fields
+
+named_unread : (row : Shape) (done : Fields) (w : List ℕ) (r : Reason) (parts : List ℕ × List ℕ) → cut_of 61 w ≡ Some parts →
+    ((f : Field) (text : List ℕ) → w ≡ field_name f ++ 61 ∷ text → is_allowed row f ≡ false) → r ≡ UnknownField →
+    (o : Option Field) → field_named parts.0 ≡ o → (some_or UnknownField o >>= λ f. after_name row done f parts.1) ≡ Err r
+named_unread row done w r parts c none e None n = ap Err (sym e)
+named_unread row done w r parts c none e (Some f) n =
+    ap (λ b. demand b UnknownField >>= λ _. demand (not (has_field done f)) RepeatedField >>= λ _. field_value f parts.1 >>= λ v. made f v)
+    (none f parts.1 (cut_joined 61 w parts c ∙ ap (λ (name : List ℕ). name ++ 61 ∷ parts.1) (sym (field_named_is parts.0 f n))))
+    ∙ ap Err (sym e)
+
+cut_unread : (row : Shape) (done : Fields) (w : List ℕ) (r : Reason) →
+    ((f : Field) (text : List ℕ) → w ≡ field_name f ++ 61 ∷ text → is_allowed row f ≡ false) → r ≡ UnknownField →
+    (o : Option (List ℕ × List ℕ)) → cut_of 61 w ≡ o → (some_or UnknownField o >>= λ parts. some_or UnknownField (field_named parts.0) >>= λ f. after_name row done f parts.1) ≡ Err r
+cut_unread row done w r none e None c = ap Err (sym e)
+cut_unread row done w r none e (Some parts) c = named_unread row done w r parts c none e (field_named parts.0) refl
+
+value_unread : (f : Field) (text : List ℕ) → ((v : FieldValue) → IsValue f text v → ⊥) → field_value f text ≡ Err BadValue
+value_unread f text never =
+    let h = only_err (field_value f text) (λ v e. never v (value_means f text v e)) in h.1 ∙ ap Err (value_err f text h.0 h.1)
+
+field_unread : (row : Shape) (done : Fields) (w : List ℕ) (r : Reason) → IsBadField row done w r → read_field row done w ≡ Err r
+unfolding read_field
+field_unread row done w r (inl h) = cut_unread row done w r h.1 h.0 (cut_of 61 w) refl
+field_unread row done w r (inr h) =
+    rw (h.2, cut_name h.0 h.1, field_again h.0, h.3) (known h.0 h.1 h.4)
+  where
+    known : (f : Field) (text : List ℕ) → IsBadValue done f text r → (demand (not (has_field done f)) RepeatedField >>= λ _. field_value f text >>= λ v. made f v) ≡ Err r
+    known f text (inl k) = rw k.1 (ap Err (sym k.0))
+    known f text (inr k) = rw (k.1, value_unread f text k.2) (ap Err (sym k.0))
+
+abbrev then_all : Shape → Result Fields Reason → Result (Unit {0}) Reason
+then_all row x = x >>= λ fs. demand (has_required row fs) MissingField
+
+fields_unread : (row : Shape) (done : Fields) (ws : List (List ℕ)) (r : Reason) → AreBadFields row done ws r → then_all row (read_fields row done ws) ≡ Err r
+unfolding read_fields
+fields_unread row done [] r h = ap (λ b. demand b MissingField) h.1 ∙ ap Err (sym h.0)
+fields_unread row done (w ∷ ws) r (inl h) = ap (λ x. then_all row (x >>= λ f. read_fields row (done ++ f ∷ []) ws)) (field_unread row done w r h)
+fields_unread row done (w ∷ ws) r (inr h) =
+    ap (λ x. then_all row (x >>= λ f. read_fields row (done ++ f ∷ []) ws)) (one_again row done w h.0 h.1 h.2 h.3) ∙ fields_unread row (done ++ h.0 ∷ []) ws r h.4
+
+regroup : {A : Type 0} (row : Shape) (x : Result Fields Reason) (f : Fields → A) (r : Reason) → then_all row x ≡ Err r →
+    (x >>= λ fs. demand (has_required row fs) MissingField >>= λ _. Ok (f fs)) ≡ Err r
+regroup row (Ok fs) f r e = ap (λ y. y >>= λ _. Ok (f fs)) e
+regroup row (Err d) f r e = ap Err (wrong_same d r e)
+  where
+    wrong_same : (a b : Reason) → then_all row (Err a) ≡ Err b → a ≡ b
+    wrong_same a b e = cc
+
+-- the words after a command
+
+parts_unread : (places : Places) (command : Command) (ws : List (List ℕ)) (r : Reason) →
+    AreBadFixed places (shape_of command).fixed no_words ws r ⊎ AreBadAfter places (shape_of command) ws r → parts_at places command ws ≡ Err r
+unfolding parts_at
+parts_unread places command ws r (inl h) =
+    ap (λ x. x >>= λ fixed. read_fields (shape_of command) [] fixed.1 >>= λ fs. demand (has_required (shape_of command) fs) MissingField >>= λ _. Ok (said_by command fixed.0 fs))
+    (fixed_unread places (shape_of command).fixed no_words ws r h)
+parts_unread places command ws r (inr h) =
+    ap (λ x. x >>= λ fixed. read_fields (shape_of command) [] fixed.1 >>= λ fs. demand (has_required (shape_of command) fs) MissingField >>= λ _. Ok (said_by command fixed.0 fs))
+    (ap (read_fixed places (shape_of command).fixed no_words) h.joined ∙ fixed_again places (shape_of command).fixed no_words h.fixed_words h.field_words h.fixed h.are_fixed)
+    ∙ regroup (shape_of command) (read_fields (shape_of command) [] h.field_words) (said_by command h.fixed) r (fields_unread (shape_of command) [] h.field_words r h.are_bad)
+
+-- lines
+
+command_unread : (read : Read) (s : ℕ) (ws : List (List ℕ)) (r : Reason) → IsBadCommand read s ws r → after_session read s ws ≡ Err r
+command_unread read s [] r h = ap Err (sym h)
+command_unread read s (name ∷ ws) r (inl h) =
+    ap (λ o. some_or UnknownCommand o >>= λ c. parts_at (read.places s) c ws >>= λ parts. Ok (with_call read s parts.0 parts.1))
+    (no_such (command_named name) (λ c e. h.1 c (named_read name c e)))
+    ∙ ap Err (sym h.0)
+command_unread read s (name ∷ ws) r (inr h) =
+    ap (λ o. some_or UnknownCommand o >>= λ c. parts_at (read.places s) c ws >>= λ parts. Ok (with_call read s parts.0 parts.1))
+    (ap command_named (sym h.1) ∙ command_again h.0)
+    ∙ ap (λ x. x >>= λ parts. Ok (with_call read s parts.0 parts.1)) (parts_unread (read.places s) h.0 ws r h.2)
+
+words_unread : (read : Read) (ws : List (List ℕ)) (r : Reason) → AreBadWords read ws r → words_at read ws ≡ Err r
+unfolding words_at
+words_unread read [] r h = absurd h
+words_unread read (w ∷ ws) r (inl h) =
+    ap (λ o. some_or BadSession o >>= λ s. after_session read s ws) (no_such (session_of w) (λ s e. h.1 s (session_means w s e))) ∙ ap Err (sym h.0)
+words_unread read (w ∷ ws) r (inr h) =
+    ap (λ o. some_or BadSession o >>= λ s. after_session read s ws) (session_again w h.0 h.1) ∙ command_unread read h.0 ws r h.2
+
+line_unread : (read : Read) (line : List ℕ) (r : Reason) → IsBadLine read line r → line_at read line ≡ Err r
+unfolding line_at
+line_unread read line r h = ap (λ b. cond b (Ok read) (words_at read (words line))) h.0 ∙ words_unread read (words line) r h.1
+
+-- scripts
+
+lines_unread : (n : ℕ) (read last : Read) (before after : List (List ℕ)) (line : List ℕ) (r : Reason) → AreSteps read before last → IsBadLine last line r →
+    lines_at n read (before ++ line ∷ after) ≡ Err (BadLine (n + length before) r)
+unfolding lines_at
+lines_unread n read last [] after line r steps bad =
+    ap (λ (x : Read). goes_on (line_at x line) n (λ next. lines_at (n + 1) next after)) steps
+    ∙ ap (λ x. goes_on x n (λ next. lines_at (n + 1) next after)) (line_unread last line r bad)
+    ∙ ap (λ m. Err (BadLine m r)) (first n)
+  where
+    first : (n : ℕ) → n ≡ n + 0
+    first n = omega arith
+lines_unread n read last (text ∷ before) after line r steps bad =
+    ap (λ x. goes_on x n (λ next. lines_at (n + 1) next (before ++ line ∷ after))) (line_again read steps.0 text steps.1)
+    ∙ lines_unread (n + 1) steps.0 last before after line r steps.2 bad
+    ∙ ap (λ m. Err (BadLine m r)) (later n (length before))
+  where
+    later : (n k : ℕ) → n + 1 + k ≡ n + suc k
+    later n k = omega arith
+
+is_more : (a b : ℕ) → a < b → nat_lt a b ≡ true
+is_more a b h = grind (arith, nat_tests)
+
+pub fault_again : (text : List ℕ) (fault : ScriptFault) → IsFault text fault → script_of text ≡ Err fault
+unfolding script_of
+fault_again text faults.TooLong h = rw (is_more 4194304 (length text) h) refl
+fault_again text faults.TooManyLines h = rw (not_more 4194304 (length text) h.0, is_more 20000 (length (text_lines text)) h.1) refl
+fault_again text (faults.BadLine number r) h =
+    let place : number ≡ 1 + length h.before = omega (arith, h.place) in
+    rw (not_more 4194304 (length text) h.short, not_more 20000 (length (text_lines text)) h.few)
+    (ap (lines_at 1 nothing_read) h.joined ∙ lines_unread 1 nothing_read h.read h.before h.after h.line r h.steps h.bad ∙ ap (λ m. Err (BadLine m r)) (sym place))
+fault_again text faults.Memory h = absurd h

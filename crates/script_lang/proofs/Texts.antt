@@ -1,0 +1,273 @@
+-- Numbers, sessions, names, keys and values: what is read of a text is what the grammar says of it.
+use Rattle.std.proofs.Common.{◌≡◌, ℕ, ◌+◌, ◌*◌, ◌^◌, ◌<◌, ◌≤◌, Bool, true, false, cond, List, [], ◌∷◌, length, get_or, refl, sym, ap, subst, ◌∙◌, arith}
+use Rattle.std.specs.Prelude.{Option, Some, None, Result, Ok, Err, nat_lt, nat_le, ◌||◌, ◌&&◌, ◌==◌, option_and_then, option_map}
+use Rattle.std.specs.List.{list_all}
+use Rattle.std.specs.Char.{digit_value}
+use Rattle.std.specs.Fmt.{decimal}
+use Rattle.std.specs.Str.Parse.{AllDigits, digits_value, digits_value_after}
+use Rattle.hex.specs.Hex.{decode_of}
+use Rattle.std.proofs.lemmas.Bool.Decides.{nat_tests}
+use Rattle.std.proofs.lemmas.List.Sums.{AllPass-from_list_all, list_all-from_AllPass}
+use Rattle.std.proofs.lemmas.Fmt.{decimal_is_IsNumeral, length-decimal-le, first_decimal, decimal-digits_value}
+use Rattle.std.proofs.lemmas.Str.Parse.{IsNumeralModel}
+use Rattle.script_lang.proofs.Digits.{if_below, number_is, found}
+use Rattle.script_lang.specs.Numbers.{number_from, number}
+use Rattle.script_lang.specs.Steps.{some_or}
+use Rattle.script_lang.specs.Fields.{Form, ShortForm, WordForm, BytesForm, form_of, form_value, field_value, bytes_value, bytes_or_none}
+use Rattle.script_lang.specs.Lines.{Places, is_letter, is_name_byte, is_name, key_at, starts_with_zero, session_of}
+use Rattle.script_lang.specs.Grammar.{IsNumber, IsShort, IsWord, AreBytes, IsForm, IsValue, IsLetter, IsNameByte, IsName, IsKey, IsSession}
+use Rattle.script_lang.specs.declared.faults.Reason.{Reason}
+use Rattle.script_lang.specs.declared.faults.Reason.TheVariants.{BadValue, BadKey, UnknownName}
+use Rattle.script_lang.specs.declared.fields.Field.{Field}
+use Rattle.script_lang.specs.declared.fields.FieldValue.{FieldValue}
+use Rattle.script_lang.specs.declared.fields.FieldValue.TheVariants.{Short, Word, Bytes}
+use Rattle.script_lang.specs.declared.script.KeyWord.{KeyWord}
+use Rattle.script_lang.specs.declared.script.KeyWord.TheVariants.{Given, Line}
+
+abbrev pub some : {X : Type 0} → X → Option X
+some x = Some x
+
+pub some_is : {X : Type 0} (x y : X) → some x ≡ some y → x ≡ y
+some_is x y e = cc
+
+abbrev pub fine : {X : Type 0} → X → Result X Reason
+fine x = Ok x
+
+pub fine_is : {X : Type 0} (x y : X) → fine x ≡ fine y → x ≡ y
+fine_is x y e = cc
+
+-- numbers
+
+from_turn : (base front c : ℕ) (cs : List ℕ) (n : ℕ) (b : Bool) → nat_lt (digit_value c) base ≡ b →
+    ((m : ℕ) → number_from base m cs ≡ Some n → AllDigits base cs × (digits_value_after base m cs ≡ n)) →
+    option_and_then (λ d. number_from base (front * base + d) cs) (cond b (Some (digit_value c)) None) ≡ Some n →
+    AllDigits base (c ∷ cs) × (digits_value_after base front (c ∷ cs) ≡ n)
+from_turn base front c cs n true t ih e =
+    let h = ih (front * base + digit_value c) e in
+    let small : digit_value c < base = grind (arith, nat_tests) in ((small, h.0), h.1)
+from_turn base front c cs n false t ih e = absurd cc
+
+from_some : (base front : ℕ) (cs : List ℕ) (n : ℕ) → number_from base front cs ≡ Some n → AllDigits base cs × (digits_value_after base front cs ≡ n)
+unfolding number_from
+from_some base front [] n e = (tt, some_is front n e)
+from_some base front (c ∷ cs) n e = from_turn base front c cs n (nat_lt (digit_value c) base) refl (λ m. from_some base m cs n) e
+
+digit_small : (c base : ℕ) → digit_value c < base → nat_lt (digit_value c) base ≡ true
+digit_small c base h = below (digit_value c) base h
+  where
+    below : (v b : ℕ) → v < b → nat_lt v b ≡ true
+    below v b h = grind (arith, nat_tests)
+
+from_digits : (base front : ℕ) (cs : List ℕ) → AllDigits base cs → number_from base front cs ≡ Some (digits_value_after base front cs)
+unfolding number_from
+from_digits base front [] h = refl
+from_digits base front (c ∷ cs) h =
+    ap (λ b. option_and_then (λ d. number_from base (front * base + d) cs) (cond b (Some (digit_value c)) None)) (digit_small c base h.0)
+    ∙ from_digits base (front * base + digit_value c) cs h.1
+
+below_ok : (limit n m : ℕ) (b : Bool) → nat_lt m limit ≡ b → cond b (Some m) None ≡ Some n → (m ≡ n) × (n < limit)
+below_ok limit n m true t e = let same : m ≡ n = some_is m n e in (same, subst (λ k. k < limit) same (grind (arith, nat_tests)))
+below_ok limit n m false t e = absurd cc
+
+then_ok : (limit n : ℕ) (o : Option ℕ) → option_and_then (if_below limit) o ≡ Some n → (o ≡ Some n) × (n < limit)
+then_ok limit n None e = absurd cc
+then_ok limit n (Some m) e = let h = below_ok limit n m (nat_lt m limit) refl e in (ap some h.0, h.1)
+
+range_ok : (base most limit : ℕ) (text : List ℕ) (n : ℕ) (b : Bool) → (nat_lt (length text) 1 || nat_lt most (length text)) ≡ b →
+    cond b None (option_and_then (if_below limit) (number_from base 0 text)) ≡ Some n → IsNumber base most limit text n
+range_ok base most limit text n true t e = absurd cc
+range_ok base most limit text n false t e =
+    let h = then_ok limit n (number_from base 0 text) e in
+    let d = from_some base 0 text n h.0 in
+    let r = in_range (length text) most t in ((r.0, d.0), r.1, d.1, h.1)
+  where
+    in_range : (k m : ℕ) → (nat_lt k 1 || nat_lt m k) ≡ false → (0 < k) × (k ≤ m)
+    in_range k m t = grind (arith, nat_tests)
+
+pub number_means : (base most limit : ℕ) (text : List ℕ) (n : ℕ) → number base most limit text ≡ Some n → IsNumber base most limit text n
+number_means base most limit text n e = range_ok base most limit text n (nat_lt (length text) 1 || nat_lt most (length text)) refl e
+
+pub number_again : (base most limit : ℕ) (text : List ℕ) (n : ℕ) → IsNumber base most limit text n → number base most limit text ≡ Some n
+number_again base most limit text n h =
+    number_is base most limit text (Some n) (omega (arith, h.0.0)) h.1 (sym (from_digits base 0 text h.0.1 ∙ ap some h.2))
+    ∙ found limit n h.3
+
+-- sessions
+
+own : IsNumeralModel (AllDigits 10) (digits_value 10)
+own = record { to = λ ds h. h; from = λ ds h. h; same = λ ds h. refl }
+
+not_zero_first : (word : List ℕ) → starts_with_zero word ≡ false → get_or word 0 0 ≡ 48 → length word ≡ 1
+not_zero_first [] h e = absurd (omega arith)
+not_zero_first (c ∷ cs) h e = absurd (clash c h e)
+  where
+    clash : (c : ℕ) → (c == 48) ≡ false → c ≡ 48 → ⊥
+    clash c h e = grind (arith, nat_tests)
+
+at_least_one : (s : ℕ) (o : Option ℕ) → option_and_then (λ n. cond (nat_lt n 1) None (Some n)) o ≡ Some s → (o ≡ Some s) × (1 ≤ s)
+at_least_one s None e = absurd cc
+at_least_one s (Some n) e = one s n (nat_lt n 1) refl e
+  where
+    one : (s n : ℕ) (b : Bool) → nat_lt n 1 ≡ b → cond b None (Some n) ≡ Some s → (some n ≡ Some s) × (1 ≤ s)
+    one s n true t e = absurd cc
+    one s n false t e = let same : n ≡ s = some_is n s e in (ap some same, subst (λ k. 1 ≤ k) same (grind (arith, nat_tests)))
+
+session_read : (word : List ℕ) (s : ℕ) (b : Bool) → starts_with_zero word ≡ b →
+    cond b None (option_and_then (λ n. cond (nat_lt n 1) None (Some n)) (number 10 2 17 word)) ≡ Some s → IsSession word s
+session_read word s true t e = absurd cc
+session_read word s false t e =
+    let h = at_least_one s (number 10 2 17 word) e in
+    let n = number_means 10 2 17 word s h.0 in
+    let fits : digits_value 10 word < 2 ^ 64 = omega (arith, n.2, n.3) in
+    (sym (decimal-digits_value own word n.0.1 n.0.0 (not_zero_first word t) fits) ∙ ap decimal n.2, h.1, omega (arith, n.3))
+
+pub session_means : (word : List ℕ) (s : ℕ) → session_of word ≡ Some s → IsSession word s
+unfolding session_of
+session_means word s e = session_read word s (starts_with_zero word) refl e
+
+first_is_not_zero : (word : List ℕ) → 48 < get_or word 0 0 → starts_with_zero word ≡ false
+first_is_not_zero [] h = refl
+first_is_not_zero (c ∷ cs) h = above c h
+  where
+    above : (c : ℕ) → 48 < c → (c == 48) ≡ false
+    above c h = grind (arith, nat_tests)
+
+pub session_again : (word : List ℕ) (s : ℕ) → IsSession word s → session_of word ≡ Some s
+unfolding session_of
+session_again word s h =
+    let fits : s < 2 ^ 64 = omega (arith, h.2) in
+    let numeral = decimal_is_IsNumeral s fits in
+    let n : number 10 2 17 (decimal s) ≡ Some s = number_again 10 2 17 (decimal s) s (numeral.0, length-decimal-le 2 s (omega arith) (omega (arith, h.2)) fits, numeral.1, omega (arith, h.2)) in
+    let one : nat_lt s 1 ≡ false = not_below s h.1 in
+    rw (h.0, first_is_not_zero (decimal s) (first_decimal s (omega (arith, h.1)) fits), n, one) refl
+  where
+    not_below : (k : ℕ) → 1 ≤ k → nat_lt k 1 ≡ false
+    not_below k h = grind (arith, nat_tests)
+
+-- names
+
+pub and_true : (a b : Bool) → (a && b) ≡ true → (a ≡ true) × (b ≡ true)
+and_true true b e = (refl, e)
+and_true false b e = absurd cc
+
+letter_means : (c : ℕ) → is_letter c ≡ true → IsLetter c
+letter_means c e = grind (arith, nat_tests)
+
+letter_again : (c : ℕ) → IsLetter c → is_letter c ≡ true
+letter_again c h = grind (arith, nat_tests)
+
+name_byte_means : (c : ℕ) → is_name_byte c ≡ true → IsNameByte c
+name_byte_means c e = grind (arith, nat_tests)
+
+name_byte_again : (c : ℕ) → IsNameByte c → is_name_byte c ≡ true
+name_byte_again c h = grind (arith, nat_tests)
+
+pub name_means : (word : List ℕ) → is_name word ≡ true → IsName word
+unfolding is_name
+name_means [] e = cc
+name_means (c ∷ cs) e =
+    let h = and_true (is_letter c && nat_le (length cs) 15) (list_all is_name_byte cs) e in
+    let k = and_true (is_letter c) (nat_le (length cs) 15) h.0 in
+    (letter_means c k.0, at_most (length cs) k.1, λ i d l. name_byte_means (get_or cs i d) (AllPass-from_list_all is_name_byte cs h.1 i d l))
+  where
+    at_most : (n : ℕ) → nat_le n 15 ≡ true → n ≤ 15
+    at_most n e = grind (arith, nat_tests)
+
+pub name_again : (word : List ℕ) → IsName word → is_name word ≡ true
+unfolding is_name
+name_again [] h = absurd h
+name_again (c ∷ cs) h =
+    rw (letter_again c h.0, at_most (length cs) h.1) (list_all-from_AllPass is_name_byte cs (λ i d l. name_byte_again (get_or cs i d) (h.2 i d l)))
+  where
+    at_most : (n : ℕ) → n ≤ 15 → nat_le n 15 ≡ true
+    at_most n h = grind (arith, nat_tests)
+
+-- keys
+
+pub some_or_ok : {X : Type 0} (r : Reason) (o : Option X) (x : X) → some_or r o ≡ Ok x → o ≡ Some x
+some_or_ok r (Some y) x e = ap some (fine_is y x e)
+some_or_ok r None x e = absurd cc
+
+mapped : {X Y : Type 0} (f : X → Y) (o : Option X) (y : Y) → option_map f o ≡ Some y → (x : X) × (o ≡ Some x) × (f x ≡ y)
+mapped f (Some x) y e = (x, refl, some_is (f x) y e)
+mapped f None y e = absurd cc
+
+abbrev pub given : ℕ → KeyWord
+given n = Given (record { 0 = n })
+
+key_turn : (places : Places) (c : ℕ) (cs : List ℕ) (key : KeyWord) (b d : Bool) → (c == 35) ≡ b → (c == 36 && is_name cs) ≡ d →
+    cond b (some_or BadKey (option_map given (number 16 8 (2 ^ 32) cs))) (cond d (some_or UnknownName (option_map Line (places cs))) (Err BadKey)) ≡ Ok key →
+    IsKey places (c ∷ cs) key
+key_turn places c cs key true d t u e =
+    let m = mapped given (number 16 8 (2 ^ 32) cs) key (some_or_ok BadKey (option_map given (number 16 8 (2 ^ 32) cs)) key e) in
+    subst (IsKey places (c ∷ cs)) m.2 (same c t, number_means 16 8 (2 ^ 32) cs m.0 m.1)
+  where
+    same : (c : ℕ) → (c == 35) ≡ true → c ≡ 35
+    same c t = grind (arith, nat_tests)
+key_turn places c cs key false true t u e =
+    let m = mapped Line (places cs) key (some_or_ok UnknownName (option_map Line (places cs)) key e) in
+    let h = and_true (c == 36) (is_name cs) u in
+    subst (IsKey places (c ∷ cs)) m.2 (same c h.0, name_means cs h.1, m.1)
+  where
+    same : (c : ℕ) → (c == 36) ≡ true → c ≡ 36
+    same c t = grind (arith, nat_tests)
+key_turn places c cs key false false t u e = absurd cc
+
+pub key_means : (places : Places) (word : List ℕ) (key : KeyWord) → key_at places word ≡ Ok key → IsKey places word key
+unfolding key_at
+key_means places [] key e = absurd cc
+key_means places (c ∷ cs) key e = key_turn places c cs key (c == 35) (c == 36 && is_name cs) refl refl e
+
+pub key_again : (places : Places) (word : List ℕ) (key : KeyWord) → IsKey places word key → key_at places word ≡ Ok key
+unfolding key_at
+key_again places [] key h = absurd h
+key_again places (c ∷ cs) (Given id) h = rw (h.0, number_again 16 8 (2 ^ 32) cs id.0 h.1) refl
+key_again places (c ∷ cs) (Line place) h = rw (h.0, name_again cs h.1, h.2) refl
+
+-- values
+
+bytes_ok : {E : Type 0} (r : Result (List ℕ) E) (v : FieldValue) → bytes_or_none r ≡ Ok v → (bytes : List ℕ) × (r ≡ Ok bytes) × (Bytes bytes ≡ v)
+bytes_ok (Ok bytes) v e = (bytes, refl, fine_is (Bytes bytes) v e)
+bytes_ok (Err x) v e = absurd cc
+
+bytes_turn : (text : List ℕ) (v : FieldValue) (b : Bool) → nat_lt 32768 (length text) ≡ b → cond b (Err BadValue) (bytes_or_none (decode_of text)) ≡ Ok v → AreBytes text v
+bytes_turn text v true t e = absurd cc
+bytes_turn text v false t e =
+    let m = bytes_ok (decode_of text) v e in
+    subst (AreBytes text) m.2 (at_most (length text) t, m.1)
+  where
+    at_most : (n : ℕ) → nat_lt 32768 n ≡ false → n ≤ 32768
+    at_most n t = grind (arith, nat_tests)
+
+form_means : (form : Form) (text : List ℕ) (v : FieldValue) → form_value form text ≡ Ok v → IsForm form text v
+unfolding bytes_value
+form_means (ShortForm base most limit) text v e =
+    let m = mapped Short (number base most limit text) v (some_or_ok BadValue (option_map Short (number base most limit text)) v e) in
+    subst (IsShort base most limit text) m.2 (number_means base most limit text m.0 m.1)
+form_means WordForm text v e =
+    let m = mapped Word (number 16 8 (2 ^ 32) text) v (some_or_ok BadValue (option_map Word (number 16 8 (2 ^ 32) text)) v e) in
+    subst (IsWord text) m.2 (number_means 16 8 (2 ^ 32) text m.0 m.1)
+form_means BytesForm text v e = bytes_turn text v (nat_lt 32768 (length text)) refl e
+
+form_again : (form : Form) (text : List ℕ) (v : FieldValue) → IsForm form text v → form_value form text ≡ Ok v
+unfolding bytes_value
+form_again (ShortForm base most limit) text (Short n) h = ap (λ o. some_or BadValue (option_map Short o)) (number_again base most limit text n h)
+form_again (ShortForm base most limit) text (Word n) h = absurd h
+form_again (ShortForm base most limit) text (Bytes b) h = absurd h
+form_again WordForm text (Short n) h = absurd h
+form_again WordForm text (Word n) h = ap (λ o. some_or BadValue (option_map Word o)) (number_again 16 8 (2 ^ 32) text n h)
+form_again WordForm text (Bytes b) h = absurd h
+form_again BytesForm text (Short n) h = absurd h
+form_again BytesForm text (Word n) h = absurd h
+form_again BytesForm text (Bytes b) h = rw (at_most (length text) h.0, h.1) refl
+  where
+    at_most : (n : ℕ) → n ≤ 32768 → nat_lt 32768 n ≡ false
+    at_most n h = grind (arith, nat_tests)
+
+pub value_means : (f : Field) (text : List ℕ) (v : FieldValue) → field_value f text ≡ Ok v → IsValue f text v
+unfolding field_value
+value_means f text v e = form_means (form_of f) text v e
+
+pub value_again : (f : Field) (text : List ℕ) (v : FieldValue) → IsValue f text v → field_value f text ≡ Ok v
+unfolding field_value
+value_again f text v h = form_again (form_of f) text v h

@@ -1,0 +1,24 @@
+use Rattle.std.proofs.Common.{sym, ap, ◌∙◌, subst}
+use Rattle.std.proofs.lemmas.Result.{err_from_is_err_and}
+use Rattle.script_lang.specs.Table.{shape}
+use Rattle.script_lang.specs.Fields.{Fields, read_field, read_fields}
+use Rattle.script_lang.specs.Steps.{Fails}
+use Rattle.script_lang.proofs.Rows.{fields_end, fields_turn, fields_fail}
+use Rattle.script_lang.proofs.fields.fields_of.Goals as goal
+
+pub returns-in_err-field : goal.returns-in_err-field
+returns-in_err-field c =
+    let p = err_from_is_err_and c.from_residual.result c.from_residual.ensures.1 in
+    let failed = fields_fail c.in_err-field.field-0.0 (shape c.args.row) c.loop-word.done.items c.loop-word.words c.in-Some.word.now _ c.in-Some.ensures
+    (subst (λ (done : Fields). Fails c.in_err-field.field-0.0 (read_field (shape c.args.row) done c.in-Some.word.now)) c.deref.ensures.value c.in_err-field.ensures) in
+    rw (p.1, p.2) (subst (Fails c.in_err-field.field-0.0) c.loop-word.invariant failed)
+
+pub loop-word-preserved : goal.loop-word-preserved
+loop-word-preserved c =
+    ap (λ (done : Fields). read_fields (shape c.args.row) done c.next.new.self) c.in_ok-push.ensures.items
+    ∙ sym (fields_turn (shape c.args.row) c.loop-word.done.items c.loop-word.words c.in-Some.word.now c.next.new.self c.in_ok-field.field c.in-Some.ensures
+    (ap (λ (done : Fields). read_field (shape c.args.row) done c.in-Some.word.now) (sym c.deref.ensures.value) ∙ c.in_ok-field.ensures))
+    ∙ c.loop-word.invariant
+
+pub returns : goal.returns
+returns c = sym c.loop-word.invariant ∙ fields_end (shape c.args.row) c.loop-word.done.items c.loop-word.words c.in_default.ensures.0

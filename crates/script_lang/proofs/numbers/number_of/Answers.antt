@@ -1,0 +1,28 @@
+use Rattle.std.proofs.Common.{◌+◌, drop, refl, sym, ap, ◌∙◌, arith}
+use Rattle.std.specs.Prelude.{Some}
+use Rattle.script_lang.specs.Numbers.{number_from}
+use Rattle.script_lang.proofs.Digits.{number_is, found, not_found, no_number, next_digit, at_end}
+use Rattle.script_lang.proofs.numbers.number_of.Goals as goal
+
+pub returns-in-None : goal.returns-in-None
+returns-in-None c =
+    sym (number_is c.args.base c.args.most (c.args.greatest + 1) c.args.text.now _ (omega arith) (omega arith) c.loop-c.invariant
+    ∙ no_number c.args.base c.loop-c.value c.loop-c.c-index _ (c.args.greatest + 1) c.args.text.now (omega arith) (omega arith) (omega arith) refl c.in-None.ensures.none)
+
+pub loop-c-preserved : goal.loop-c-preserved
+loop-c-preserved c =
+    let p = c.in-Some.ensures.some in
+    ap (λ v. number_from c.args.base v (drop (c.loop-c.c-index + 1) c.args.text.now)) p.2
+    ∙ next_digit c.args.base c.loop-c.value c.loop-c.c-index _ p.0 c.args.text.now (omega arith) refl p.1 ∙ c.loop-c.invariant
+
+pub returns-then-value-greatest : goal.returns-then-value-greatest
+returns-then-value-greatest c =
+    sym (number_is c.args.base c.args.most (c.args.greatest + 1) c.args.text.now (Some c.loop-c.value) (omega arith) (omega arith)
+    (sym (at_end c.args.base c.loop-c.value c.loop-c.c-index c.args.text.now (omega arith)) ∙ c.loop-c.invariant)
+    ∙ found (c.args.greatest + 1) c.loop-c.value (omega (arith, c.if-value-greatest.true)))
+
+pub returns-else-value-greatest : goal.returns-else-value-greatest
+returns-else-value-greatest c =
+    sym (number_is c.args.base c.args.most (c.args.greatest + 1) c.args.text.now (Some c.loop-c.value) (omega arith) (omega arith)
+    (sym (at_end c.args.base c.loop-c.value c.loop-c.c-index c.args.text.now (omega arith)) ∙ c.loop-c.invariant)
+    ∙ not_found (c.args.greatest + 1) c.loop-c.value (omega (arith, c.if-value-greatest.false)))

@@ -1,0 +1,165 @@
+-- The fields of a line.
+use Rattle.std.specs.Prelude.{ℕ, ◌^◌, Bool, not, nat_lt, ◌==◌, List, [], ◌∷◌, ◌++◌, length, if◌then◌else◌, ◌||◌, Option, Some, option_map, find, Result, Ok, Err, codes}
+use Rattle.std.specs.List.{list_any, list_all}
+use Rattle.std.specs.Str.{bytes_eq}
+use Rattle.hex.specs.Hex.{decode_of}
+use Rattle.script_lang.specs.Numbers.{number}
+use Rattle.script_lang.specs.Pieces.{cut_of}
+use Rattle.script_lang.specs.Steps.{◌>>=◌, demand, some_or}
+use Rattle.script_lang.specs.Table.{Shape}
+use Rattle.script_lang.specs.declared.faults.Reason.{Reason}
+use Rattle.script_lang.specs.declared.faults.Reason.TheVariants.{UnknownField, RepeatedField, BadValue}
+use Rattle.script_lang.specs.declared.fields.Field.{Field}
+use Rattle.script_lang.specs.declared.fields.Field.TheVariants as field
+use Rattle.script_lang.specs.declared.fields.FieldValue.{FieldValue}
+use Rattle.script_lang.specs.declared.fields.FieldValue.TheVariants.{Short, Word, Bytes}
+
+-- fields are told apart by a number each
+abbrev pub field_number : Field → ℕ
+field_number field.Type = 0
+field_number field.Usage = 1
+field_number field.Alg = 2
+field_number field.Data = 3
+field_number field.Life = 4
+field_number field.Id = 5
+field_number field.Bits = 6
+field_number field.Room = 7
+field_number field.Hash = 8
+field_number field.Mac = 9
+field_number field.Nonce = 10
+field_number field.Ad = 11
+
+abbrev pub field_name : Field → List ℕ
+field_name field.Type = codes "type"
+field_name field.Usage = codes "usage"
+field_name field.Alg = codes "alg"
+field_name field.Data = codes "data"
+field_name field.Life = codes "life"
+field_name field.Id = codes "id"
+field_name field.Bits = codes "bits"
+field_name field.Room = codes "room"
+field_name field.Hash = codes "hash"
+field_name field.Mac = codes "mac"
+field_name field.Nonce = codes "nonce"
+field_name field.Ad = codes "ad"
+
+abbrev pub all_fields : List Field
+all_fields =
+    field.Type
+    ∷ field.Usage
+    ∷ field.Alg
+    ∷ field.Data
+    ∷ field.Life
+    ∷ field.Id
+    ∷ field.Bits
+    ∷ field.Room
+    ∷ field.Hash
+    ∷ field.Mac
+    ∷ field.Nonce
+    ∷ field.Ad
+    ∷ []
+
+abbrev pub has_name : List ℕ → Field → Bool
+has_name name f = bytes_eq (field_name f) name
+
+abbrev pub field_named : List ℕ → Option Field
+field_named name = find (has_name name) all_fields
+
+abbrev pub Fields : Type 0
+Fields = List (Field × FieldValue)
+
+abbrev pub is_among : List Field → Field → Bool
+is_among fields f = list_any (λ g. field_number g == field_number f) fields
+
+abbrev pub is_allowed : Shape → Field → Bool
+is_allowed row f = is_among row.required f || is_among row.optional f
+
+abbrev pub has_field : Fields → Field → Bool
+has_field done f = list_any (λ g. field_number g.0 == field_number f) done
+
+abbrev pub has_required : Shape → Fields → Bool
+has_required row done = list_all (has_field done) row.required
+
+-- What the text of a field is: a number of at most so many digits of a base and below a limit (of 16 bits, or
+-- of 32 bits in hex), or bytes.
+pub data Form : Type 0 where
+  ShortForm : (base most limit : ℕ) → Form
+  WordForm : Form
+  BytesForm : Form
+
+abbrev pub form_of : Field → Form
+form_of field.Type = ShortForm 16 4 (2 ^ 16)
+form_of field.Usage = WordForm
+form_of field.Alg = WordForm
+form_of field.Data = BytesForm
+form_of field.Life = WordForm
+form_of field.Id = WordForm
+form_of field.Bits = ShortForm 10 20 (2 ^ 16)
+form_of field.Room = ShortForm 10 20 16449
+form_of field.Hash = BytesForm
+form_of field.Mac = BytesForm
+form_of field.Nonce = BytesForm
+form_of field.Ad = BytesForm
+
+abbrev pub short_value : ℕ → ℕ → ℕ → List ℕ → Result FieldValue Reason
+short_value base most limit text = some_or BadValue (option_map Short (number base most limit text))
+
+abbrev pub word_value : List ℕ → Result FieldValue Reason
+word_value text = some_or BadValue (option_map Word (number 16 8 (2 ^ 32) text))
+
+abbrev pub bytes_or_none : {E : Type 0} → Result (List ℕ) E → Result FieldValue Reason
+bytes_or_none (Ok bytes) = Ok (Bytes bytes)
+bytes_or_none (Err e) = Err BadValue
+
+-- an even number of hex digits, of at most 16,384 bytes
+unfoldable pub bytes_value : List ℕ → Result FieldValue Reason
+bytes_value text = if nat_lt 32768 (length text) then Err BadValue else bytes_or_none (decode_of text)
+
+abbrev pub form_value : Form → List ℕ → Result FieldValue Reason
+form_value (ShortForm base most limit) text = short_value base most limit text
+form_value WordForm text = word_value text
+form_value BytesForm text = bytes_value text
+
+unfoldable pub field_value : Field → List ℕ → Result FieldValue Reason
+field_value f text = form_value (form_of f) text
+
+-- a further word of a line, after the fields that stand already
+unfoldable pub read_field : Shape → Fields → List ℕ → Result (Field × FieldValue) Reason
+read_field row done word = do
+  parts ← some_or UnknownField (cut_of 61 word)
+  f ← some_or UnknownField (field_named parts.0)
+  allowed_so ← demand (is_allowed row f) UnknownField
+  new_so ← demand (not (has_field done f)) RepeatedField
+  v ← field_value f parts.1
+  Ok (f, v)
+
+unfoldable pub read_fields : Shape → Fields → List (List ℕ) → Result Fields Reason
+read_fields row done [] = Ok done
+read_fields row done (word ∷ rest) = do
+  f ← read_field row done word
+  read_fields row (done ++ f ∷ []) rest
+
+abbrev pub is_field : Field → Field × FieldValue → Bool
+is_field f g = field_number g.0 == field_number f
+
+-- what a field says, and a default where it is missing
+abbrev pub short_of : ℕ → Option (Field × FieldValue) → ℕ
+short_of default (Some (f, Short n)) = n
+short_of default _ = default
+
+abbrev pub word_of : Option (Field × FieldValue) → ℕ
+word_of (Some (f, Word n)) = n
+word_of _ = 0
+
+abbrev pub bytes_of : Option (Field × FieldValue) → List ℕ
+bytes_of (Some (f, Bytes b)) = b
+bytes_of _ = []
+
+abbrev pub short_at : ℕ → Field → Fields → ℕ
+short_at default f fs = short_of default (find (is_field f) fs)
+
+abbrev pub word_at : Field → Fields → ℕ
+word_at f fs = word_of (find (is_field f) fs)
+
+abbrev pub bytes_at : Field → Fields → List ℕ
+bytes_at f fs = bytes_of (find (is_field f) fs)

@@ -1,0 +1,126 @@
+-- The grammar of scripts: which calls a text says, and why a text says none. It is stated by the texts of
+-- numbers (std's) and of bytes (hex's), and not by the functions that read them.
+use Rattle.std.specs.Prelude.{ℕ, ◌≡◌, ◌≤◌, ◌<◌, ◌^◌, ◌⊎◌, Bool, true, false, List, [], ◌∷◌, ◌++◌, length, All, Some, Ok}
+use Rattle.std.specs.Fmt.{decimal}
+use Rattle.std.specs.Str.Parse.{IsNumeral, digits_value}
+use Rattle.hex.specs.Hex.{decode_of}
+use Rattle.script_lang.specs.Pieces.{words, text_lines}
+use Rattle.script_lang.specs.Table.{Shape, shape_of}
+use Rattle.script_lang.specs.Calls.{call_of}
+use Rattle.script_lang.specs.Fields.{Form, ShortForm, WordForm, BytesForm, form_of, Fields, field_name, is_allowed, has_field, has_required}
+use Rattle.script_lang.specs.Lines.{Places, Read, nothing_read, no_words, with_call, is_comment}
+use Rattle.script_lang.specs.declared.fields.Field.{Field}
+use Rattle.script_lang.specs.declared.fields.FieldValue.{FieldValue}
+use Rattle.script_lang.specs.declared.fields.FieldValue.TheVariants.{Short, Word, Bytes}
+use Rattle.script_lang.specs.declared.fixed.Fixed.{Fixed}
+use Rattle.script_lang.specs.declared.script.KeyWord.{KeyWord}
+use Rattle.script_lang.specs.declared.script.KeyWord.TheVariants.{Given, Line}
+use Rattle.script_lang.specs.declared.script.ScriptLine.{ScriptLine}
+use Rattle.script_lang.specs.declared.table.Command.{Command}
+use Rattle.script_lang.specs.declared.table.Kind.{Kind}
+use Rattle.script_lang.specs.declared.table.Kind.TheVariants as kind
+
+-- one to so many digits of a base, of either case, which write a number below a limit
+abbrev pub IsNumber : (base most limit : ℕ) → List ℕ → ℕ → Type 0
+IsNumber base most limit text n = IsNumeral base text × (length text ≤ most) × (digits_value base text ≡ n) × (n < limit)
+
+abbrev pub IsShort : (base most limit : ℕ) → List ℕ → FieldValue → Type 0
+IsShort base most limit text (Short n) = IsNumber base most limit text n
+IsShort base most limit text _ = ⊥
+
+abbrev pub IsWord : List ℕ → FieldValue → Type 0
+IsWord text (Word n) = IsNumber 16 8 (2 ^ 32) text n
+IsWord text _ = ⊥
+
+-- hex digits in pairs, of either case, which write at most 16,384 bytes
+abbrev pub AreBytes : List ℕ → FieldValue → Type 0
+AreBytes text (Bytes bytes) = (length text ≤ 32768) × (decode_of text ≡ Ok bytes)
+AreBytes text _ = ⊥
+
+abbrev pub IsForm : Form → List ℕ → FieldValue → Type 0
+IsForm (ShortForm base most limit) text v = IsShort base most limit text v
+IsForm WordForm text v = IsWord text v
+IsForm BytesForm text v = AreBytes text v
+
+-- what the text after a field's `=` says
+abbrev pub IsValue : Field → List ℕ → FieldValue → Type 0
+IsValue f text v = IsForm (form_of f) text v
+
+-- name=value
+abbrev pub IsField : List ℕ → Field × FieldValue → Type 0
+IsField word f = (text : List ℕ) × (word ≡ field_name f.0 ++ 61 ∷ text) × IsValue f.0 text f.1
+
+-- fields of a row in any order, each at most once, after some that stand already
+abbrev pub AreFields : Shape → Fields → List (List ℕ) → Fields → Type 0
+AreFields row done [] [] = Unit {0}
+AreFields row done (w ∷ ws) (f ∷ fs) = IsField w f × (is_allowed row f.0 ≡ true) × (has_field done f.0 ≡ false) × AreFields row (done ++ f ∷ []) ws fs
+AreFields row done [] (f ∷ fs) = ⊥
+AreFields row done (w ∷ ws) [] = ⊥
+
+abbrev pub IsLetter : ℕ → Type 0
+IsLetter c = (97 ≤ c) × (c ≤ 122)
+
+abbrev pub IsNameByte : ℕ → Type 0
+IsNameByte c = IsLetter c ⊎ ((48 ≤ c) × (c ≤ 57)) ⊎ (c ≡ 95)
+
+-- a lower-case letter, and at most 15 more letters, digits or underscores
+abbrev pub IsName : List ℕ → Type 0
+IsName [] = ⊥
+IsName (c ∷ cs) = IsLetter c × (length cs ≤ 15) × All IsNameByte cs
+
+-- a key: `#` and 1 to 8 hex digits, or `$` and a name that an earlier line of the session gave
+abbrev pub IsKey : Places → List ℕ → KeyWord → Type 0
+IsKey places [] key = ⊥
+IsKey places (c ∷ cs) (Given id) = (c ≡ 35) × IsNumber 16 8 (2 ^ 32) cs id.0
+IsKey places (c ∷ cs) (Line place) = (c ≡ 36) × IsName cs × (places cs ≡ Some place)
+
+-- a fixed word of a kind, and the fixed words with it
+abbrev pub IsFixed : Places → Kind → Fixed → List ℕ → Fixed → Type 0
+IsFixed places kind.Name fixed word next = IsName word × (record fixed { name = Some word } ≡ next)
+IsFixed places kind.Key fixed word next = (key : KeyWord) × IsKey places word key × (record fixed { key = key } ≡ next)
+
+abbrev pub AreFixed : Places → List Kind → Fixed → List (List ℕ) → Fixed → Type 0
+AreFixed places [] fixed [] last = fixed ≡ last
+AreFixed places (k ∷ ks) fixed (w ∷ ws) last = (next : Fixed) × IsFixed places k fixed w next × AreFixed places ks next ws last
+AreFixed places [] fixed (w ∷ ws) last = ⊥
+AreFixed places (k ∷ ks) fixed [] last = ⊥
+
+abbrev pub IsSession : List ℕ → ℕ → Type 0
+IsSession word session = (word ≡ decimal session) × (1 ≤ session) × (session ≤ 16)
+
+-- a line that is a call: a session, a command, its fixed words in order, then its fields
+pub record IsLine (read : Read) (ws : List (List ℕ)) (next : Read) : Type 0 where
+  pub session : ℕ
+  pub command : Command
+  pub fixed : Fixed
+  pub fields : Fields
+  pub session_word : List ℕ
+  pub fixed_words : List (List ℕ)
+  pub field_words : List (List ℕ)
+  pub is_session : IsSession session_word session
+  pub line : ws ≡ session_word ∷ (shape_of command).word ∷ fixed_words ++ field_words
+  pub are_fixed : AreFixed (read.places session) (shape_of command).fixed no_words fixed_words fixed
+  pub are_fields : AreFields (shape_of command) [] field_words fields
+  pub all : has_required (shape_of command) fields ≡ true
+  pub after : next ≡ with_call read session fixed.name (call_of command fixed fields)
+
+-- a comment and a line without words say nothing
+abbrev pub IsStepBy : Bool → Read → List (List ℕ) → Read → Type 0
+IsStepBy true read ws next = read ≡ next
+IsStepBy false read [] next = read ≡ next
+IsStepBy false read (w ∷ ws) next = IsLine read (w ∷ ws) next
+
+abbrev pub IsStep : Read → List ℕ → Read → Type 0
+IsStep read line next = IsStepBy (is_comment line) read (words line) next
+
+abbrev pub AreSteps : Read → List (List ℕ) → Read → Type 0
+AreSteps read [] last = read ≡ last
+AreSteps read (line ∷ lines) last = (next : Read) × IsStep read line next × AreSteps next lines last
+
+-- at most 4 MiB and 20,000 lines, each in the grammar
+pub record IsScript (text : List ℕ) (calls : List ScriptLine) : Type 0 where
+  pub last : Read
+  pub short : length text ≤ 4194304
+  pub few : length (text_lines text) ≤ 20000
+  pub steps : AreSteps nothing_read (text_lines text) last
+  pub are_calls : last.lines ≡ calls

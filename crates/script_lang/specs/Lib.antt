@@ -1,0 +1,12 @@
+pub mod Numbers
+pub mod Pieces
+pub mod Steps
+pub mod Table
+pub mod Fields
+pub mod Calls
+pub mod Lines
+pub mod Sessions
+pub mod Grammar
+pub mod Outside
+pub mod Replies
+pub mod PrintedOrder

@@ -1,0 +1,166 @@
+-- The lines of a script, read from left to right.
+use Rattle.std.specs.Prelude.{◌≡◌, ◌≤◌, ℕ, ◌+◌, ◌^◌, Bool, false, ◌||◌, ◌&&◌, nat_lt, nat_le, ◌==◌, List, [], ◌∷◌, ◌++◌, length, filter, if◌then◌else◌, Option, Some, None, option_map, option_and_then, Result, Ok, Err}
+use Rattle.std.specs.List.{list_all}
+use Rattle.std.specs.Str.{bytes_eq}
+use Rattle.script_lang.specs.Numbers.{number}
+use Rattle.script_lang.specs.Pieces.{words, text_lines}
+use Rattle.script_lang.specs.Table.{shape_of, command_named}
+use Rattle.script_lang.specs.Calls.{call_of}
+use Rattle.script_lang.specs.Fields.{read_fields, has_required}
+use Rattle.script_lang.specs.Steps.{◌>>=◌, demand, some_or, first_or, rest_of}
+use Rattle.script_lang.specs.declared.faults.LineError.{LineError}
+use Rattle.script_lang.specs.declared.faults.LineError.TheVariants as errors
+use Rattle.script_lang.specs.declared.faults.Reason.{Reason}
+use Rattle.script_lang.specs.declared.faults.Reason.TheVariants.{BadSession, UnknownCommand, MissingWord, BadName, BadKey, UnknownName, MissingField}
+use Rattle.script_lang.specs.declared.faults.ScriptFault.{ScriptFault}
+use Rattle.script_lang.specs.declared.faults.ScriptFault.TheVariants.{TooLong, TooManyLines, BadLine}
+use Rattle.script_lang.specs.declared.faults.ScriptFault.TheVariants as faults
+use Rattle.script_lang.specs.declared.script.KeyWord.{KeyWord}
+use Rattle.script_lang.specs.declared.script.KeyWord.TheVariants.{Given, Line}
+use Rattle.script_lang.specs.declared.script.ScriptCall.{ScriptCall}
+use Rattle.script_lang.specs.declared.script.ScriptLine.{ScriptLine}
+use Rattle.script_lang.specs.declared.fixed.Fixed.{Fixed}
+use Rattle.script_lang.specs.declared.table.Command.{Command}
+use Rattle.script_lang.specs.declared.table.Kind.{Kind}
+use Rattle.script_lang.specs.declared.table.Kind.TheVariants as kind
+
+abbrev pub is_letter : ℕ → Bool
+is_letter c = nat_le 97 c && nat_le c 122
+
+abbrev pub is_name_byte : ℕ → Bool
+is_name_byte c = is_letter c || (nat_le 48 c && nat_le c 57) || c == 95
+
+-- a lower-case letter, and at most 15 more letters, digits or underscores
+unfoldable pub is_name : List ℕ → Bool
+is_name [] = false
+is_name (c ∷ cs) = is_letter c && nat_le (length cs) 15 && list_all is_name_byte cs
+
+-- what the names of a session stand for: places among its calls, from 0
+abbrev pub Places : Type 0
+Places = List ℕ → Option ℕ
+
+-- a key: `#` and hex digits, or `$` and a name
+unfoldable pub key_at : Places → List ℕ → Result KeyWord Reason
+key_at places [] = Err BadKey
+key_at places (c ∷ cs) =
+    if c == 35 then some_or BadKey (option_map (λ n. Given (record { 0 = n })) (number 16 8 (2 ^ 32) cs))
+    else if c == 36 && is_name cs then some_or UnknownName (option_map Line (places cs))
+    else Err BadKey
+
+-- no fixed word yet
+abbrev pub no_words : Fixed
+no_words = record { key = Given (record { 0 = 0 }); name = None }
+
+-- one more fixed word
+unfoldable pub with_word : Places → Kind → Fixed → List ℕ → Result Fixed Reason
+with_word places kind.Name fixed word = do
+  name_so ← demand (is_name word) BadName
+  Ok (record fixed { name = Some word })
+with_word places kind.Key fixed word = do
+  key ← key_at places word
+  Ok (record fixed { key = key })
+
+-- the fixed words of a line, and the words after them
+unfoldable pub read_fixed : Places → List Kind → Fixed → List (List ℕ) → Result (Fixed × List (List ℕ)) Reason
+read_fixed places [] fixed ws = Ok (fixed, ws)
+read_fixed places (k ∷ ks) fixed ws = do
+  word ← first_or MissingWord ws
+  next ← with_word places k fixed word
+  read_fixed places ks next (rest_of ws)
+
+-- what was read: the calls, and what the names of each session stand for
+pub record Read : Type 0 where
+  pub lines : List ScriptLine
+  pub places : ℕ → Places
+
+-- nothing was read, and no name stands for anything
+abbrev pub nothing_read : Read
+nothing_read = record { lines = []; places = λ session name. None }
+
+abbrev pub starts_with_zero : List ℕ → Bool
+starts_with_zero [] = false
+starts_with_zero (c ∷ cs) = c == 48
+
+-- 1 to 16, without a leading zero
+unfoldable pub session_of : List ℕ → Option ℕ
+session_of word =
+    if starts_with_zero word then None
+    else option_and_then (λ n. if nat_lt n 1 then None else Some n) (number 10 2 17 word)
+
+-- how many calls of a session were read
+abbrev pub calls_of : ℕ → List ScriptLine → ℕ
+calls_of session lines = length (filter (λ line. line.session == session) lines)
+
+-- a name that a line gives stands for the line's place from then on
+abbrev pub given_place : Places → Option (List ℕ) → ℕ → Places
+given_place places None place = places
+given_place places (Some name) place = λ n. if bytes_eq n name then Some place else places n
+
+abbrev pub named_at : (ℕ → Places) → ℕ → Option (List ℕ) → ℕ → ℕ → Places
+named_at places session name place = λ s. if s == session then given_place (places s) name place else places s
+
+-- one more call of a session, and the name that its line gives
+abbrev pub with_call : Read → ℕ → Option (List ℕ) → ScriptCall → Read
+with_call read session name call = record {
+  lines = read.lines ++ record { session = session; call = call } ∷ [];
+  places = named_at read.places session name (calls_of session read.lines);
+}
+
+-- the words after a command, by its row: the name that the line gives, and its call
+unfoldable pub parts_at : Places → Command → List (List ℕ) → Result (Option (List ℕ) × ScriptCall) Reason
+parts_at places command ws = do
+  fixed ← read_fixed places (shape_of command).fixed no_words ws
+  fs ← read_fields (shape_of command) [] fixed.1
+  all_so ← demand (has_required (shape_of command) fs) MissingField
+  Ok (fixed.0.name, call_of command fixed.0 fs)
+
+unfoldable pub words_at : Read → List (List ℕ) → Result Read Reason
+words_at read [] = Ok read
+words_at read (word ∷ ws) = do
+  session ← some_or BadSession (session_of word)
+  name ← first_or UnknownCommand ws
+  command ← some_or UnknownCommand (command_named name)
+  parts ← parts_at (read.places session) command (rest_of ws)
+  Ok (with_call read session parts.0 parts.1)
+
+abbrev pub is_comment : List ℕ → Bool
+is_comment [] = false
+is_comment (c ∷ cs) = c == 35
+
+-- one line
+unfoldable pub line_at : Read → List ℕ → Result Read Reason
+line_at read text = if is_comment text then Ok read else words_at read (words text)
+
+abbrev pub goes_on : Result Read Reason → ℕ → (Read → Result (List ScriptLine) ScriptFault) → Result (List ScriptLine) ScriptFault
+goes_on (Ok next) n f = f next
+goes_on (Err r) n f = Err (BadLine n r)
+
+-- the lines from one number on, or the first that is outside the grammar
+unfoldable pub lines_at : ℕ → Read → List (List ℕ) → Result (List ScriptLine) ScriptFault
+lines_at n read [] = Ok read.lines
+lines_at n read (line ∷ lines) = goes_on (line_at read line) n (λ next. lines_at (n + 1) next lines)
+
+-- the calls of a text, or why it isn't a script
+unfoldable pub script_of : List ℕ → Result (List ScriptLine) ScriptFault
+script_of text =
+    if nat_lt 4194304 (length text) then Err TooLong
+    else if nat_lt 20000 (length (text_lines text)) then Err TooManyLines
+    else lines_at 1 nothing_read (text_lines text)
+
+-- what a reader answered is what reading gives, unless memory ran out
+abbrev pub ScriptFails : {Y : Type 0} → ScriptFault → Result Y ScriptFault → Type 0
+ScriptFails faults.Memory read = Unit {0}
+ScriptFails f read = read ≡ Err f
+
+abbrev pub ScriptGives : {X Y : Type 0} → (X → Y) → Result X ScriptFault → Result Y ScriptFault → Type 0
+ScriptGives view (Ok x) read = read ≡ Ok (view x)
+ScriptGives view (Err f) read = ScriptFails f read
+
+-- why a script isn't read, where one of its lines isn't
+abbrev pub fault_at : ℕ → LineError → ScriptFault
+fault_at n errors.Memory = faults.Memory
+fault_at n (errors.Bad r) = BadLine n r
+
+-- a line of one of the sessions 1 to 16
+abbrev pub IsOfSession : ScriptLine → Type 0
+IsOfSession line = (1 ≤ line.session) × (line.session ≤ 16)

@@ -1,0 +1,97 @@
+-- Why a text is no script: the first line that is outside the grammar, and the first reason in it, from left
+-- to right.
+use Rattle.std.specs.Prelude.{ℕ, ◌≡◌, ◌≤◌, ◌<◌, ◌+◌, ◌^◌, ◌⊎◌, true, false, List, [], ◌∷◌, ◌++◌, length, None}
+use Rattle.script_lang.specs.Pieces.{words, text_lines}
+use Rattle.script_lang.specs.Table.{Shape, shape_of}
+use Rattle.script_lang.specs.Fields.{Fields, field_name, is_allowed, has_field, has_required}
+use Rattle.script_lang.specs.Lines.{Places, Read, nothing_read, no_words, is_comment}
+use Rattle.script_lang.specs.Grammar.{IsNumber, IsName, IsValue, IsField, IsFixed, AreFixed, IsSession, AreSteps}
+use Rattle.script_lang.specs.declared.faults.Reason.{Reason}
+use Rattle.script_lang.specs.declared.faults.Reason.TheVariants.{BadSession, UnknownCommand, MissingWord, BadName, BadKey, UnknownName, UnknownField, RepeatedField, BadValue, MissingField}
+use Rattle.script_lang.specs.declared.faults.ScriptFault.{ScriptFault}
+use Rattle.script_lang.specs.declared.faults.ScriptFault.TheVariants as faults
+use Rattle.script_lang.specs.declared.fields.Field.{Field}
+use Rattle.script_lang.specs.declared.fields.FieldValue.{FieldValue}
+use Rattle.script_lang.specs.declared.fixed.Fixed.{Fixed}
+use Rattle.script_lang.specs.declared.table.Command.{Command}
+use Rattle.script_lang.specs.declared.table.Kind.{Kind}
+use Rattle.script_lang.specs.declared.table.Kind.TheVariants as kind
+
+-- a word of one of the two forms of a key, whether or not its name was given
+abbrev pub IsKeyForm : List ℕ → Type 0
+IsKeyForm [] = ⊥
+IsKeyForm (c ∷ cs) = ((c ≡ 35) × ((n : ℕ) × IsNumber 16 8 (2 ^ 32) cs n)) ⊎ ((c ≡ 36) × IsName cs)
+
+abbrev pub IsUnknownName : Places → List ℕ → Type 0
+IsUnknownName places [] = ⊥
+IsUnknownName places (c ∷ cs) = (c ≡ 36) × IsName cs × (places cs ≡ None)
+
+-- a word that should be a fixed word of a kind
+abbrev pub IsBadFixed : Places → Kind → List ℕ → Reason → Type 0
+IsBadFixed places kind.Name word r = (r ≡ BadName) × (IsName word → ⊥)
+IsBadFixed places kind.Key word r = ((r ≡ BadKey) × (IsKeyForm word → ⊥)) ⊎ ((r ≡ UnknownName) × IsUnknownName places word)
+
+-- words of which the first should be fixed words of these kinds, after some
+abbrev pub AreBadFixed : Places → List Kind → Fixed → List (List ℕ) → Reason → Type 0
+AreBadFixed places [] fixed ws r = ⊥
+AreBadFixed places (k ∷ ks) fixed [] r = r ≡ MissingWord
+AreBadFixed places (k ∷ ks) fixed (w ∷ ws) r = IsBadFixed places k w r ⊎ ((next : Fixed) × IsFixed places k fixed w next × AreBadFixed places ks next ws r)
+
+-- the value of a field of the row, after some fields
+abbrev pub IsBadValue : Fields → Field → List ℕ → Reason → Type 0
+IsBadValue done f text r = ((r ≡ RepeatedField) × (has_field done f ≡ true)) ⊎ ((r ≡ BadValue) × (has_field done f ≡ false) × ((v : FieldValue) → IsValue f text v → ⊥))
+
+-- a further word: no `=`, or none of the row's fields before the first; or a field that is bad
+abbrev pub IsBadField : Shape → Fields → List ℕ → Reason → Type 0
+IsBadField row done word r =
+    ((r ≡ UnknownField) × ((f : Field) (text : List ℕ) → word ≡ field_name f ++ 61 ∷ text → is_allowed row f ≡ false))
+    ⊎ ((f : Field) × (text : List ℕ) × (word ≡ field_name f ++ 61 ∷ text) × (is_allowed row f ≡ true) × IsBadValue done f text r)
+
+abbrev pub AreBadFields : Shape → Fields → List (List ℕ) → Reason → Type 0
+AreBadFields row done [] r = (r ≡ MissingField) × (has_required row done ≡ false)
+AreBadFields row done (w ∷ ws) r =
+    IsBadField row done w r
+    ⊎ ((f : Field × FieldValue) × IsField w f × (is_allowed row f.0 ≡ true) × (has_field done f.0 ≡ false) × AreBadFields row (done ++ f ∷ []) ws r)
+
+-- fields that are bad after fixed words that are good
+pub record AreBadAfter (places : Places) (row : Shape) (ws : List (List ℕ)) (r : Reason) : Type 0 where
+  pub fixed : Fixed
+  pub fixed_words : List (List ℕ)
+  pub field_words : List (List ℕ)
+  pub joined : ws ≡ fixed_words ++ field_words
+  pub are_fixed : AreFixed places row.fixed no_words fixed_words fixed
+  pub are_bad : AreBadFields row [] field_words r
+
+-- the words after a session
+abbrev pub IsBadCommand : Read → ℕ → List (List ℕ) → Reason → Type 0
+IsBadCommand read s [] r = r ≡ UnknownCommand
+IsBadCommand read s (name ∷ ws) r =
+    ((r ≡ UnknownCommand) × ((c : Command) → (shape_of c).word ≡ name → ⊥))
+    ⊎ ((c : Command) × ((shape_of c).word ≡ name) × (AreBadFixed (read.places s) (shape_of c).fixed no_words ws r ⊎ AreBadAfter (read.places s) (shape_of c) ws r))
+
+abbrev pub AreBadWords : Read → List (List ℕ) → Reason → Type 0
+AreBadWords read [] r = ⊥
+AreBadWords read (w ∷ ws) r = ((r ≡ BadSession) × ((s : ℕ) → IsSession w s → ⊥)) ⊎ ((s : ℕ) × IsSession w s × IsBadCommand read s ws r)
+
+-- a line that is no comment and outside the grammar, after what was read
+abbrev pub IsBadLine : Read → List ℕ → Reason → Type 0
+IsBadLine read line r = (is_comment line ≡ false) × AreBadWords read (words line) r
+
+-- the first line that is outside: those before it are in the grammar, and lines are counted from 1
+pub record IsFirstBad (text : List ℕ) (number : ℕ) (r : Reason) : Type 0 where
+  pub before : List (List ℕ)
+  pub line : List ℕ
+  pub after : List (List ℕ)
+  pub read : Read
+  pub short : length text ≤ 4194304
+  pub few : length (text_lines text) ≤ 20000
+  pub joined : text_lines text ≡ before ++ line ∷ after
+  pub place : number ≡ length before + 1
+  pub steps : AreSteps nothing_read before read
+  pub bad : IsBadLine read line r
+
+abbrev pub IsFault : List ℕ → ScriptFault → Type 0
+IsFault text faults.TooLong = 4194304 < length text
+IsFault text faults.TooManyLines = (length text ≤ 4194304) × (20000 < length (text_lines text))
+IsFault text (faults.BadLine number r) = IsFirstBad text number r
+IsFault text faults.Memory = ⊥

@@ -1,0 +1,30 @@
+-- What is known of each session while its lines are read.
+use Rattle.std.specs.Prelude.{ℕ, ◌≡◌, List, Option, None, Some, slice_get, IfSome, length}
+use Rattle.std.specs.Ordering.{nat_cmp}
+use Rattle.std.specs.Cmp.Lexicographic.{slice_cmp}
+use Rattle.std.specs.BTreeMap.{get_by}
+use Rattle.script_lang.specs.Lines.{Places, Read, calls_of}
+use Rattle.script_lang.specs.declared.script.ScriptLine.{ScriptLine}
+use Rattle.script_lang.specs.declared.sessions.Session.{Session}
+
+-- what the names of a session stand for
+unfoldable pub places_of : Session → Places
+places_of session name = get_by (λ k. slice_cmp nat_cmp name k.items) session.names
+
+abbrev pub places_in : Option Session → Places
+places_in None = λ name. None
+places_in (Some session) = places_of session
+
+-- what stands for what was read: the calls, and the sessions, each at its number
+abbrev pub read_of : List ScriptLine → List Session → Read
+read_of lines sessions = record { lines = lines; places = λ s. places_in (slice_get sessions s) }
+
+-- each session counts its calls
+pub record AreCounted (lines : List ScriptLine) (sessions : List Session) : Type 0 where
+  pub seventeen : length sessions ≡ 17
+  pub counts : (s : ℕ) → IfSome (slice_get sessions s) (λ session. session.calls ≡ calls_of s lines)
+
+-- a session of which nothing was read
+pub record IsNew (session : Session) : Type 0 where
+  pub calls : session.calls ≡ 0
+  pub places : (name : List ℕ) → places_of session name ≡ None

@@ -1,0 +1,273 @@
+// The fields of a line.
+ghost use Rattle.std.specs.Prelude.{◌≡◌, ◌≤◌, ◌<◌, ◌+◌, ◌^◌, [], find};
+ghost use Rattle.std.specs.Option.{option_copied};
+ghost use Rattle.std.specs.Str.{bytes_eq};
+ghost use Rattle.script_lang.specs.Table.{shape};
+ghost use Rattle.script_lang.specs.Steps.{Gives};
+ghost use Rattle.script_lang.specs.Fields.{field_number, field_named, field_name, all_fields, field_value, has_field, is_among, has_required, short_value, word_value, bytes_value, is_field, short_at, word_at, bytes_at, read_field, read_fields};
+
+use crate::faults::{LineError, Reason};
+use crate::numbers::number_of;
+use crate::pieces::{Words, cut};
+use crate::script::ByteList;
+use crate::table::Row;
+use hex::FromHexError;
+use std::alloc::Global;
+
+#[derive(Clone, Copy, Drop)]
+pub(crate) enum Field {
+    Type,
+    Usage,
+    Alg,
+    Data,
+    Life,
+    Id,
+    Bits,
+    Room,
+    Hash,
+    Mac,
+    Nonce,
+    Ad,
+}
+
+/// What a field says.
+#[derive(Drop)]
+pub(crate) enum FieldValue {
+    Short(u16),
+    Word(u32),
+    Bytes(ByteList),
+}
+
+const FIELDS: &[Field] = &[
+    Field::Type,
+    Field::Usage,
+    Field::Alg,
+    Field::Data,
+    Field::Life,
+    Field::Id,
+    Field::Bits,
+    Field::Room,
+    Field::Hash,
+    Field::Mac,
+    Field::Nonce,
+    Field::Ad,
+];
+
+/// All fields.
+fn fields() -> &'static [Field]
+    ensures { result.now ≡ all_fields }
+{
+    FIELDS
+}
+
+impl Field {
+    /// The number that tells a field from the others.
+    pub fn number(self) -> u8
+        ensures { result ≡ field_number self }
+    {
+        match self {
+            Field::Type => 0,
+            Field::Usage => 1,
+            Field::Alg => 2,
+            Field::Data => 3,
+            Field::Life => 4,
+            Field::Id => 5,
+            Field::Bits => 6,
+            Field::Room => 7,
+            Field::Hash => 8,
+            Field::Mac => 9,
+            Field::Nonce => 10,
+            Field::Ad => 11,
+        }
+    }
+
+    /// The field of a name.
+    pub fn named(name: &[u8]) -> Option<&'static Field>
+        ensures { option_copied result ≡ field_named name.now }
+    {
+        fields().iter().find(|f| is_text(f.name(), name))
+    }
+
+    /// The name of a field.
+    pub fn name(self) -> &'static [u8]
+        ensures { result.now ≡ field_name self }
+    {
+        match self {
+            Field::Type => b"type",
+            Field::Usage => b"usage",
+            Field::Alg => b"alg",
+            Field::Data => b"data",
+            Field::Life => b"life",
+            Field::Id => b"id",
+            Field::Bits => b"bits",
+            Field::Room => b"room",
+            Field::Hash => b"hash",
+            Field::Mac => b"mac",
+            Field::Nonce => b"nonce",
+            Field::Ad => b"ad",
+        }
+    }
+}
+
+/// Whether two texts are equal.
+pub(crate) fn is_text(text: &[u8], other: &[u8]) -> bool
+    ensures { result ≡ bytes_eq text.now other.now }
+{
+    text == other
+}
+
+/// Whether a field is one of these.
+fn is_among(fields: &[Field], field: Field) -> bool
+    ensures { result ≡ is_among fields.now field }
+{
+    fields.iter().any(|f| f.number() == field.number())
+}
+
+/// Whether the fields that a row needs are all there.
+pub(crate) fn has_required(row: Row, done: &[(Field, FieldValue)]) -> bool
+    ensures { result ≡ has_required (shape row) done.now }
+{
+    row.required.iter().all(|f| has(done, *f))
+}
+
+/// Whether a field stands already.
+fn has(done: &[(Field, FieldValue)], field: Field) -> bool
+    ensures { result ≡ has_field done.now field }
+{
+    done.iter().any(|f| f.0.number() == field.number())
+}
+
+fn short(base: u8, most: usize, greatest: u64, text: &[u8]) -> Result<FieldValue, LineError>
+    requires first { 2 ≤ base }
+    requires last { base ≤ 16 }
+    requires fits { greatest < 2 ^ 16 }
+    ensures { Gives (λ v. v) result (short_value base most (greatest + 1) text.now) }
+{
+    match number_of(base, most, greatest, text) {
+        Some(number) => Ok(FieldValue::Short(number as u16)),
+        None => Err(LineError::Bad(Reason::BadValue)),
+    }
+}
+
+fn word(text: &[u8]) -> Result<FieldValue, LineError>
+    ensures { Gives (λ v. v) result (word_value text.now) }
+{
+    match number_of(16, 8, 0xffffffff, text) {
+        Some(number) => Ok(FieldValue::Word(number as u32)),
+        None => Err(LineError::Bad(Reason::BadValue)),
+    }
+}
+
+#[tactic(auto, unfolding(crate::specs::Fields::bytes_value))]
+fn decoded(alloc: Global, text: &[u8]) -> Result<FieldValue, LineError>
+    ensures { Gives (λ v. v) result (bytes_value text.now) }
+{
+    if text.len() > 32768 {
+        return Err(LineError::Bad(Reason::BadValue));
+    }
+    match hex::decode(alloc, text) {
+        Ok(items) => Ok(FieldValue::Bytes(ByteList::of(items))),
+        Err(FromHexError::OutOfMemory) => Err(LineError::Memory),
+        Err(_) => Err(LineError::Bad(Reason::BadValue)),
+    }
+}
+
+/// The value of a text for a field.
+#[tactic(auto, unfolding(crate::specs::Fields::field_value))]
+fn value_of(alloc: Global, field: Field, text: &[u8]) -> Result<FieldValue, LineError>
+    ensures { Gives (λ v. v) result (field_value field text.now) }
+{
+    match field {
+        Field::Type => short(16, 4, 0xffff, text),
+        Field::Usage => word(text),
+        Field::Alg => word(text),
+        Field::Data => decoded(alloc, text),
+        Field::Life => word(text),
+        Field::Id => word(text),
+        Field::Bits => short(10, 20, 0xffff, text),
+        Field::Room => short(10, 20, 16448, text),
+        Field::Hash => decoded(alloc, text),
+        Field::Mac => decoded(alloc, text),
+        Field::Nonce => decoded(alloc, text),
+        Field::Ad => decoded(alloc, text),
+    }
+}
+
+/// The field that stands among these.
+fn find_field(done: &[(Field, FieldValue)], field: Field) -> Option<&(Field, FieldValue)>
+    ensures { option_copied result ≡ find (is_field field) done.now }
+{
+    done.iter().find(|f| f.0.number() == field.number())
+}
+
+/// The number of a field, and a default where it is missing.
+pub(crate) fn short_in(done: &[(Field, FieldValue)], field: Field, default: u16) -> u16
+    ensures { result ≡ short_at default field done.now }
+{
+    match find_field(done, field) {
+        Some((_, FieldValue::Short(n))) => *n,
+        _ => default,
+    }
+}
+
+/// The number of a field, and 0 where it is missing.
+pub(crate) fn word_in(done: &[(Field, FieldValue)], field: Field) -> u32
+    ensures { result ≡ word_at field done.now }
+{
+    match find_field(done, field) {
+        Some((_, FieldValue::Word(n))) => *n,
+        _ => 0,
+    }
+}
+
+/// The bytes of a field, and none where it is missing.
+pub(crate) fn bytes_in(done: &[(Field, FieldValue)], field: Field) -> &[u8]
+    ensures { result.now ≡ bytes_at field done.now }
+{
+    match find_field(done, field) {
+        Some((_, FieldValue::Bytes(bytes))) => bytes.as_slice(),
+        _ => &[],
+    }
+}
+
+/// A further word of a line, after the fields that stand already.
+#[tactic(auto, unfolding(crate::specs::Fields::read_field))]
+fn field_at(
+    alloc: Global,
+    row: Row,
+    done: &[(Field, FieldValue)],
+    word: &[u8],
+) -> Result<(Field, FieldValue), LineError>
+    ensures { Gives (λ f. f) result (read_field (shape row) done.now word.now) }
+{
+    let Some((name, text)) = cut(word, b'=') else {
+        return Err(LineError::Bad(Reason::UnknownField));
+    };
+    let Some(field) = Field::named(name) else {
+        return Err(LineError::Bad(Reason::UnknownField));
+    };
+    if !is_among(row.required, *field) && !is_among(row.optional, *field) {
+        return Err(LineError::Bad(Reason::UnknownField));
+    }
+    if has(done, *field) {
+        return Err(LineError::Bad(Reason::RepeatedField));
+    }
+    let value = value_of(alloc, *field, text)?;
+    Ok((*field, value))
+}
+
+/// The fields of the words that are left.
+pub(crate) fn fields_of(
+    alloc: Global,
+    row: Row,
+    words: &mut Words,
+) -> Result<Vec<(Field, FieldValue)>, LineError>
+    ensures { Gives (λ v. v.items) result (read_fields (shape row) [] words.old) }
+{
+    let mut done = Vec::new(alloc);
+    while let Some(word) = words.next() {
+        let field = field_at(alloc, row, &done, word)?;
+        done.push(field)?;
+    }
+    Ok(done)
+}

@@ -1,0 +1,26 @@
+//! The script language: the lines that sessions' calls are written in, and the text of their replies.
+#![tactic(auto)]
+
+mod calls;
+mod families;
+mod faults;
+mod fields;
+mod fixed;
+mod grammar;
+mod numbers;
+mod pieces;
+mod reading;
+mod replies;
+mod script;
+mod sessions;
+mod table;
+
+pub use families::{AeadCall, CipherCall, Creation, HashCall, KeyCall, MacCall};
+pub use faults::{Reason, ScriptFault};
+pub use grammar::script_grammar;
+pub use reading::read_script;
+pub use replies::{ReplyLine, write_reply};
+pub use script::{ByteList, KeyWord, Script, ScriptCall, ScriptLine};
+
+#[cfg(test)]
+mod tests;

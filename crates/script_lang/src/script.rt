@@ -1,0 +1,126 @@
+// A script as it was read.
+ghost use Rattle.std.specs.Prelude.{◌≡◌, ◌<◌, IfOk, slice_get, length, Some};
+
+use crate::families::{AeadCall, CipherCall, Creation, HashCall, KeyCall, MacCall};
+use key_attributes::KeyId;
+use psa_status::Memory;
+use std::alloc::Global;
+use std::marker::Model;
+
+/// Bytes that are owned.
+#[derive(Drop)]
+pub struct ByteList {
+    items: Vec<u8>,
+}
+
+impl Model for ByteList {
+    ghost use Rattle.std.specs.Prelude.{List, ℕ};
+
+    ghost Value = { List ℕ };
+
+    ghost view = { λ b. b.items.items };
+}
+
+impl ByteList {
+    /// A copy of these bytes.
+    pub fn from_slice(alloc: Global, bytes: &[u8]) -> Result<ByteList, Memory>
+        ensures { IfOk result (λ list. list ≡ bytes.now) }
+    {
+        match bytes.to_vec(alloc) {
+            Ok(items) => Ok(ByteList { items }),
+            Err(_) => Err(Memory),
+        }
+    }
+
+    /// These bytes, without taking memory.
+    pub fn of(items: Vec<u8>) -> ByteList
+        ensures { result ≡ items.items }
+    {
+        ByteList { items }
+    }
+
+    /// The bytes as a vector.
+    pub(crate) fn into_items(self) -> Vec<u8>
+        ensures { result.items ≡ self }
+    {
+        self.items
+    }
+
+    pub fn as_slice(&self) -> &[u8]
+        ensures { result.now ≡ self.now }
+    {
+        &self.items
+    }
+}
+
+/// A key by its identifier, or by the creation line that gives it: the line's place among the calls of its
+/// own session, from 0.
+#[derive(Clone, Copy, Drop)]
+pub enum KeyWord {
+    Given(KeyId),
+    Line(u32),
+}
+
+/// A call of a script.
+#[derive(Drop)]
+pub enum ScriptCall {
+    Create(Creation),
+    Key(KeyCall),
+    Hash(HashCall),
+    Mac(MacCall),
+    Cipher(CipherCall),
+    Aead(AeadCall),
+}
+
+/// A line of a script that is a call, and the session that makes it, 1 to 16.
+#[derive(Drop)]
+pub struct ScriptLine {
+    pub session: u8,
+    pub call: ScriptCall,
+}
+
+/// The calls of a script, in its order.
+#[derive(Drop)]
+pub struct Script {
+    lines: Vec<ScriptLine>,
+}
+
+impl Model for Script {
+    ghost use Rattle.std.specs.Prelude.{List};
+    ghost use Rattle.script_lang.specs.declared.script.ScriptLine.{ScriptLine};
+
+    ghost Value = { List ScriptLine };
+
+    ghost view = { λ s. s.lines.items };
+}
+
+impl Script {
+    /// The script of these lines, without taking memory.
+    pub(crate) fn of(lines: Vec<ScriptLine>) -> Script
+        ensures { result ≡ lines.items }
+    {
+        Script { lines }
+    }
+
+    /// How many calls there are.
+    pub fn count(&self) -> usize
+        ensures { result ≡ length self.now }
+    {
+        self.lines.len()
+    }
+
+    /// The call at a place, from 0.
+    pub fn line(&self, place: usize) -> &ScriptLine
+        requires { place < length self.now }
+        ensures { slice_get self.now place ≡ Some result.now }
+    {
+        &self.lines[place]
+    }
+
+    /// All calls.
+    pub fn lines(&self) -> &[ScriptLine]
+        ensures { result.now ≡ self.now }
+    {
+        &self.lines
+    }
+}

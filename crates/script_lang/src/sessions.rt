@@ -1,0 +1,50 @@
+// What is known of each session while its lines are read.
+ghost use Rattle.std.specs.Prelude.{◌≡◌, ℕ, List, None, OnOk, IfErr};
+ghost use Rattle.script_lang.specs.declared.faults.LineError.TheVariants.{Memory};
+ghost use Rattle.script_lang.specs.Lines.{given_place};
+ghost use Rattle.script_lang.specs.Sessions.{places_of};
+
+use crate::faults::LineError;
+use crate::script::ByteList;
+use std::alloc::Global;
+use std::collections::BTreeMap;
+
+/// How many calls of a session were read, and at which place among them each name was given last.
+#[derive(Drop)]
+pub(crate) struct Session {
+    pub calls: u32,
+    pub names: BTreeMap<Vec<u8>, u32>,
+}
+
+impl Session {
+    pub fn new(alloc: Global) -> Session
+        ensures calls { result.calls ≡ 0 }
+        ensures places { (name : List ℕ) → places_of result name ≡ None }
+    {
+        Session {
+            calls: 0,
+            names: BTreeMap::new(alloc),
+        }
+    }
+
+    /// The place of the latest creation line under a name.
+    #[tactic(auto, unfolding(crate::specs::Sessions::places_of))]
+    pub fn place(&self, name: &[u8]) -> Option<u32>
+        ensures { result ≡ places_of self.now name.now }
+    {
+        self.names.get(name).copied()
+    }
+
+    /// The next line of the session gives a name, where it does.
+    #[tactic(auto, unfolding(crate::specs::Sessions::places_of))]
+    pub fn give(&mut self, name: Option<ByteList>) -> Result<(), LineError>
+        ensures calls { self.new.calls ≡ self.old.calls }
+        ensures ok { OnOk result ((n : List ℕ) → places_of self.new n ≡ given_place (places_of self.old) name self.old.calls n) }
+        ensures err { IfErr result (λ e. e ≡ Memory) }
+    {
+        if let Some(name) = name {
+            self.names.insert(name.into_items(), self.calls)?;
+        }
+        Ok(())
+    }
+}

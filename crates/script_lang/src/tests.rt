@@ -1,0 +1,151 @@
+use crate::{
+    ByteList, Creation, KeyCall, KeyWord, MacCall, ReplyLine, ScriptCall, ScriptLine, read_script,
+    write_reply,
+};
+use psa_status::{Memory, Status};
+use std::alloc::{AllocError, Global};
+
+/// What comes of a text: its calls, or the line that is printed of its fault.
+fn outcome(alloc: Global, text: &[u8]) -> Result<String, AllocError> {
+    match read_script(alloc, text) {
+        Ok(script) => {
+            let count = script.count();
+            format!(in alloc; "{count}")
+        }
+        Err(fault) => format!(in alloc; "{fault}"),
+    }
+}
+
+#[test]
+fn the_first_fault_is_named(rt: HostRuntime) -> Result<(), AllocError> {
+    for (text, want) in [
+        ("17 export #1", "line 1: bad session"),
+        ("01 export #1", "line 1: bad session"),
+        ("# no call\n1 frob", "line 2: unknown command"),
+        ("\n\n1", "line 3: unknown command"),
+        ("1 import", "line 1: missing word"),
+        ("1 import K", "line 1: bad name"),
+        ("1 export #", "line 1: bad key"),
+        ("1 export $k", "line 1: unknown name"),
+        ("1 export #1 data=00", "line 1: unknown field"),
+        ("1 export #1 room=1 room=x", "line 1: repeated field"),
+        ("1 export #1 room=16449", "line 1: bad value"),
+        (
+            "1 import k type=1001 usage=1 alg=0",
+            "line 1: missing field",
+        ),
+        ("1 hash_compute #1 alg=0 data=", "line 1: unknown field"),
+        ("1 generate k bits=65536", "line 1: bad value"),
+        ("1 hash_compare alg=0 data=", "line 1: missing field"),
+        (
+            "1 aead_decrypt #1 alg=0 ad= data= room=0",
+            "line 1: missing field",
+        ),
+    ] {
+        assert_eq!(rt; outcome(rt.alloc(), text.as_bytes())?.as_str(), want);
+    }
+    Ok(())
+}
+
+#[test]
+fn a_carriage_return_belongs_to_a_newline(rt: HostRuntime) -> Result<(), AllocError> {
+    for (text, want) in [
+        ("", "0"),
+        ("  1  export #00000001  room=00016448 \r\n\r\n", "1"),
+        ("1 export #1\n1 export #1\r", "line 2: bad key"),
+        ("1 export #1\r\r\n", "line 1: bad key"),
+    ] {
+        assert_eq!(rt; outcome(rt.alloc(), text.as_bytes())?.as_str(), want);
+    }
+    Ok(())
+}
+
+#[test]
+fn a_text_has_limits(rt: HostRuntime) -> Result<(), AllocError> {
+    let mut text = Vec::new(rt.alloc());
+    for _ in 0..20000 {
+        text.push(b'\n')?;
+    }
+    assert_eq!(rt; outcome(rt.alloc(), &text)?.as_str(), "0");
+    text.push(b' ')?;
+    assert_eq!(rt; outcome(rt.alloc(), &text)?.as_str(), "too many lines");
+    for _ in 20001..4194305 {
+        text.push(b' ')?;
+    }
+    assert_eq!(rt; outcome(rt.alloc(), &text)?.as_str(), "script too long");
+    Ok(())
+}
+
+/// The place that the key of a line stands for, and 9 where it has none.
+fn place(line: Option<&ScriptLine>) -> u32 {
+    let key = match line.map(|l| &l.call) {
+        Some(ScriptCall::Create(Creation::Copy { key, .. })) => *key,
+        Some(ScriptCall::Key(KeyCall::Export { key, .. })) => *key,
+        Some(ScriptCall::Key(KeyCall::Destroy { key })) => *key,
+        Some(ScriptCall::Key(KeyCall::Attributes { key })) => *key,
+        Some(ScriptCall::Mac(MacCall::Verify { key, .. })) => *key,
+        _ => return 9,
+    };
+    match key {
+        KeyWord::Line(place) => place,
+        KeyWord::Given(_) => 9,
+    }
+}
+
+#[test]
+fn a_name_is_the_latest_of_its_session(rt: HostRuntime) {
+    let text = b"1 import k type=1001 usage=1 alg=0 data=aa
+2 import k type=1001 usage=1 alg=0 data=AA
+1 export $k
+1 import k type=1001 usage=1 alg=0 data=
+1 export $k
+2 export $k";
+    let Ok(script) = read_script(rt.alloc(), text) else {
+        panic!(rt; "the text is a script");
+    };
+    let lines = script.lines();
+    assert_eq!(rt; place(lines.get(2)), 0);
+    assert_eq!(rt; place(lines.get(4)), 2);
+    assert_eq!(rt; place(lines.get(5)), 0);
+}
+
+#[test]
+fn a_copy_is_named_after_its_line(rt: HostRuntime) {
+    let text = b"1 import k type=1001 usage=1 alg=0 data=aa
+1 copy k $k usage=1 alg=0
+1 attributes $k
+1 generate k type=2400 bits=256 usage=800 alg=03c00200
+1 mac_verify $k mac= data=00 alg=03c00200
+1 destroy $k";
+    let Ok(script) = read_script(rt.alloc(), text) else {
+        panic!(rt; "the text is a script");
+    };
+    let lines = script.lines();
+    assert_eq!(rt; place(lines.get(1)), 0);
+    assert_eq!(rt; place(lines.get(2)), 1);
+    assert_eq!(rt; place(lines.get(4)), 3);
+    assert_eq!(rt; place(lines.get(5)), 3);
+}
+
+#[test]
+fn replies_are_written(rt: HostRuntime) -> Result<(), Memory> {
+    let mut out = Vec::new(rt.alloc());
+    for (session, number, rank, status, bytes) in [
+        (1, 1, 0, Status::Success, &[0u8, 0, 0, 0xab] as &[u8]),
+        (16, 3, 18446744073709551615, Status::InvalidHandle, &[]),
+    ] {
+        let line = ReplyLine {
+            session,
+            number,
+            rank,
+            status,
+            bytes: ByteList::from_slice(rt.alloc(), bytes)?,
+        };
+        write_reply(rt.alloc(), &line, &mut out)?;
+    }
+    assert_eq!(rt;
+        out.as_slice(),
+        b"1.1 @0 SUCCESS 000000ab\n16.3 @18446744073709551615 INVALID_HANDLE\n" as &[u8]
+    );
+    Ok(())
+}
