@@ -1,0 +1,51 @@
+-- Why a run ends as it does.
+use Rattle.std.proofs.Common.{◌≡◌, ◌<◌, ℕ, List, length, arith, ap, ◌∙◌, true, refl, length-append, inl, ◌⊎◌}
+use Rattle.std.specs.Prelude.{Option, None, Some, Result, Ok, Err, IfSome, IfOk, IsOk, nat_lt}
+use Rattle.std.proofs.lemmas.Bool.Decides.{nat_tests}
+use Rattle.std.specs.Io.KnownBytes.{Consumes}
+use Rattle.script_lang.specs.declared.script.ScriptLine.{ScriptLine}
+use Rattle.script_lang.specs.declared.faults.ScriptFault.{ScriptFault}
+use Rattle.script_lang.specs.declared.faults.ScriptFault.TheVariants as faults
+use Rattle.script_lang.specs.Lines.{script_of}
+use Rattle.psa_host.specs.declared.command.Exit.{Exit}
+use Rattle.psa_host.specs.declared.command.Exit.TheVariants.{Script, Memory}
+
+pub if_ok_weaker : {X E : Type 0} (r : Result X E) (P Q : X → Type 0) → ((x : X) → P x → Q x) → IfOk r P → IfOk r Q
+if_ok_weaker (Ok x) P Q f h = f x h
+if_ok_weaker (Err e) P Q f h = tt
+
+pub if_some_weaker : {X : Type 0} (o : Option X) (P Q : X → Type 0) → ((x : X) → P x → Q x) → IfSome o P → IfSome o Q
+if_some_weaker None P Q f h = tt
+if_some_weaker (Some x) P Q f h = f x h
+
+pub too_long : (text : List ℕ) → 4194304 < length text → script_of text ≡ Err faults.TooLong
+unfolding script_of
+too_long text h = let t : nat_lt 4194304 (length text) ≡ true = grind (arith, nat_tests) in rw t refl
+
+-- a source of more than 4 MiB
+pub long_source : (old new : Option (List ℕ)) → ((bytes : List ℕ) × (length bytes ≡ 4194305) × Consumes old new bytes) → IfSome old (λ text. script_of text ≡ Err faults.TooLong)
+long_source None new h = tt
+long_source (Some text) None h = absurd h.2
+long_source (Some text) (Some rest) h = too_long text (omega (arith, h.1, ap length h.2, length-append h.0 rest))
+
+-- the source's text isn't a script
+
+same_fault : (f g : ScriptFault) → Script f ≡ Script g → f ≡ g
+same_fault f g e = cc
+
+pub fault_told : (old : Option (List ℕ)) (f g : ScriptFault) → IfSome old (λ text. script_of text ≡ Err f) → Script f ≡ Script g → IfSome old (λ text. script_of text ≡ Err g)
+fault_told old f g h e = if_some_weaker old _ _ (λ text k. k ∙ ap Err (same_fault f g e)) h
+
+not_ok : (read : Result (List ScriptLine) ScriptFault) (f : ScriptFault) → read ≡ Err f → IsOk read → ⊥
+not_ok (Ok lines) f e h = cc
+not_ok (Err g) f e h = cc
+
+pub no_script : (old : Option (List ℕ)) (f : ScriptFault) (P : Type 0) → IfSome old (λ text. script_of text ≡ Err f) → IfSome old (λ text. IsOk (script_of text) → P)
+no_script old f P h = if_some_weaker old _ _ (λ text k ok. absurd (not_ok (script_of text) f k ok)) h
+
+one_fault : (read : Result (List ScriptLine) ScriptFault) (f g : ScriptFault) → read ≡ Err f → read ≡ Err g → Script f ≡ Script g
+one_fault read f g e k = cc
+
+pub fault_only : (old : Option (List ℕ)) (f : ScriptFault) (exit : Exit) → exit ≡ Script f → IfSome old (λ text. script_of text ≡ Err f) →
+    IfSome old (λ text. (g : ScriptFault) → script_of text ≡ Err g → (exit ≡ Script g) ⊎ (exit ≡ Memory))
+fault_only old f exit is h = if_some_weaker old _ _ (λ text k g e. inl (is ∙ one_fault (script_of text) f g k e)) h

@@ -1,0 +1,5 @@
+pub mod History
+pub mod LineOrder
+pub mod Ends
+pub mod Images
+pub mod Outputs

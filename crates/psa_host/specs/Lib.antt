@@ -1,0 +1,3 @@
+pub mod LineOrder
+pub mod Ends
+pub mod Program

@@ -1,0 +1,147 @@
+// The top call.
+ghost use Rattle.std.specs.Prelude.{◌≡◌, ◌≤◌, ◌↔◌, ◌⊎◌, List, ℕ, IfSome, IfOk, IsTrue, Ok, Err, IsOk, All, length};
+ghost use Rattle.std.specs.Io.KnownBytes.{IsAtEnd};
+ghost use Rattle.psa_status.specs.Causes.{Rose};
+ghost use Rattle.outside_io.specs.Causes.{TellsAsBefore};
+ghost use Rattle.script_lang.specs.declared.faults.ScriptFault.{ScriptFault};
+ghost use Rattle.script_lang.specs.declared.faults.ScriptFault.TheVariants as faults;
+ghost use Rattle.script_lang.specs.Lines.{script_of, IsOfSession};
+ghost use Rattle.script_lang.specs.PrintedOrder.{IsAnswer};
+ghost use Rattle.psa_host.specs.Ends.{AreWords, Answered, PartlyAnswered, IsReadToEnd, IsQuiet, status_of};
+
+use crate::sessions::answer_lines;
+use crate::texts::text_of_sessions;
+use disk_face::Disk;
+use outside_io::{ReadError, Sink, Source, read_text, write_all};
+use psa_status::{Failed, Memory};
+use script_lang::{ScriptFault, ScriptLine, read_script};
+use std::alloc::Global;
+
+/// How a run ended.
+#[derive(Clone, Copy, Debug, PartialEq, Eq, Drop)]
+pub enum Exit {
+    Done,
+    Usage,
+    Script(ScriptFault),
+    ReadFault,
+    WriteFault,
+    Memory,
+}
+
+impl Exit {
+    /// The status that the program ends with.
+    pub fn status(&self) -> u8
+        ensures { result ≡ status_of self.now }
+    {
+        match self {
+            Exit::Done => 0,
+            Exit::Usage => 1,
+            Exit::Script(_) => 2,
+            Exit::ReadFault => 3,
+            Exit::WriteFault => 4,
+            Exit::Memory => 7,
+        }
+    }
+}
+
+/// How a run ended, and the disk.
+pub struct Ended<D> {
+    pub exit: Exit,
+    pub disk: D,
+}
+
+/// Whether the words are those of a command.
+fn are_words(words: &[&str]) -> bool
+    ensures { IsTrue result ↔ AreWords words.now }
+{
+    match words {
+        [word] => *word == "run",
+        _ => false,
+    }
+}
+
+/// The text that answers a script.
+fn answer_text(alloc: Global, lines: &[ScriptLine]) -> Result<Vec<u8>, Memory>
+    requires sessions { All IsOfSession lines.now }
+    requires few { length lines.now ≤ 20000 }
+    ensures { IfOk result (λ out. (text : List ℕ) → script_of text ≡ Ok lines.now → IsAnswer text out.items) }
+{
+    let sessions = answer_lines(alloc, lines)?;
+    text_of_sessions(alloc, &sessions)
+}
+
+/// Takes the calls of a script from the source, makes them in line order on a store without a key, and
+/// writes one reply line a call to the sink. The disk is handed back as it was given.
+pub fn run_command<S: Source, K: Sink, D: Disk + Send>(
+    alloc: Global,
+    words: &[&str],
+    source: &mut S,
+    sink: &mut K,
+    disk: D,
+) -> Ended<D>
+    // The bytes written are the replies of one order of the script's calls, replayed on the one-thread store.
+    ensures done { result.exit ≡ Exit.Done → IfSome (S.left source.old) (λ text. Answered text (K.taken sink.old) (K.taken sink.new)) }
+    ensures partly { result.exit ≡ Exit.WriteFault → IfSome (S.left source.old) (λ text. PartlyAnswered text (K.taken sink.old) (K.taken sink.new)) }
+    ensures quiet { IsQuiet result.exit → sink.new ≡ sink.old }
+    ensures end { IsReadToEnd result.exit → IsAtEnd (S.left source.new) }
+    ensures usage { (result.exit ≡ Exit.Usage) ↔ (AreWords words.now → ⊥) }
+    ensures untouched { result.exit ≡ Exit.Usage → source.new ≡ source.old }
+    ensures script { (f : ScriptFault) → result.exit ≡ Exit.Script f → IfSome (S.left source.old) (λ text. script_of text ≡ Err f) }
+    ensures script_memory { result.exit ≡ Exit.Script faults.Memory → ⊥ }
+    ensures read { result.exit ≡ Exit.ReadFault → Rose (S.faults source.old) (S.faults source.new) }
+    ensures write { result.exit ≡ Exit.WriteFault → Rose (K.faults sink.old) (K.faults sink.new) }
+    ensures complete { AreWords words.now → (Rose (S.faults source.old) (S.faults source.new) → ⊥) → (Rose (K.faults sink.old) (K.faults sink.new) → ⊥) →
+        IfSome (S.left source.old) (λ text. IsOk (script_of text) → (result.exit ≡ Exit.Done) ⊎ (result.exit ≡ Exit.Memory)) }
+    ensures refused { AreWords words.now → (Rose (S.faults source.old) (S.faults source.new) → ⊥) →
+        IfSome (S.left source.old) (λ text. (f : ScriptFault) → script_of text ≡ Err f → (result.exit ≡ Exit.Script f) ⊎ (result.exit ≡ Exit.Memory)) }
+    ensures source_faults { S.faults source.old ≤ S.faults source.new }
+    ensures sink_faults { K.faults sink.old ≤ K.faults sink.new }
+    ensures source_tells { TellsAsBefore (S.left source.old) (S.left source.new) }
+    ensures sink_tells { TellsAsBefore (K.taken sink.old) (K.taken sink.new) }
+    ensures disk { result.disk ≡ disk }
+{
+    if !are_words(words) {
+        let exit = Exit::Usage;
+        return Ended { exit, disk };
+    }
+    let text = match read_text(alloc, source) {
+        Ok(text) => text,
+        Err(ReadError::TooLong) => {
+            let exit = Exit::Script(ScriptFault::TooLong);
+            return Ended { exit, disk };
+        }
+        Err(ReadError::Fault) => {
+            let exit = Exit::ReadFault;
+            return Ended { exit, disk };
+        }
+        Err(ReadError::Memory) => {
+            let exit = Exit::Memory;
+            return Ended { exit, disk };
+        }
+    };
+    let script = match read_script(alloc, &text) {
+        Ok(script) => script,
+        Err(fault) => match fault {
+            ScriptFault::Memory => {
+                let exit = Exit::Memory;
+                return Ended { exit, disk };
+            }
+            _ => {
+                let exit = Exit::Script(fault);
+                return Ended { exit, disk };
+            }
+        },
+    };
+    let out = match answer_text(alloc, script.lines()) {
+        Ok(out) => out,
+        Err(Memory) => {
+            let exit = Exit::Memory;
+            return Ended { exit, disk };
+        }
+    };
+    let exit = match write_all(sink, &out) {
+        Ok(()) => Exit::Done,
+        Err(Failed) => Exit::WriteFault,
+    };
+    Ended { exit, disk }
+}
