@@ -1,0 +1,41 @@
+-- What the words of the program ask for.
+use Rattle.std.specs.Prelude.{ℕ, ◌≡◌, ◌%◌, ◌^◌, ◌<◌, ◌≤◌, List, [], ◌∷◌, codes}
+use Rattle.std.specs.Str.Parse.{IsNumeral, digits_value, without_leading_plus}
+use Rattle.algorithm_bench.specs.declared.jobs.Algorithm.{Algorithm}
+use Rattle.algorithm_bench.specs.declared.jobs.Algorithm.TheVariants.{Sha2, Sha256, Hmac, Cmac, Ecb, Cbc, Ctr, Gcm, Ccm}
+use Rattle.algorithm_bench.specs.declared.jobs.Job.{Job}
+
+abbrev pub name_of : Algorithm → List ℕ
+name_of Sha2 = codes "sha2"
+name_of Sha256 = codes "sha256"
+name_of Hmac = codes "hmac"
+name_of Cmac = codes "cmac"
+name_of Ecb = codes "ecb"
+name_of Cbc = codes "cbc"
+name_of Ctr = codes "ctr"
+name_of Gcm = codes "gcm"
+name_of Ccm = codes "ccm"
+
+-- a number of 64 bits in decimal digits, before which a plus may stand
+pub record IsNumber (word : List ℕ) (n : ℕ) : Type 0 where
+  pub digits : IsNumeral 10 (without_leading_plus word)
+  pub value : digits_value 10 (without_leading_plus word) ≡ n
+  pub limit : n < 2 ^ 64
+
+-- a job that can be done: its text has whole blocks, one at least
+pub record IsJob (job : Job) : Type 0 where
+  pub some : 16 ≤ job.bytes
+  pub limit : job.bytes ≤ 65536
+  pub whole : job.bytes % 16 ≡ 0
+
+-- the words of a job, one after another
+pub record AreOfJob (name bytes turns : List ℕ) (job : Job) : Type 0 where
+  pub named : name ≡ name_of job.algorithm
+  pub bytes_read : IsNumber bytes job.bytes
+  pub turns_read : IsNumber turns job.turns
+  pub lawful : IsJob job
+
+-- three words ask for a job, and no other number of words does
+abbrev pub WordsAsk : List (List ℕ) → Job → Type 0
+WordsAsk (name ∷ bytes ∷ turns ∷ []) job = AreOfJob name bytes turns job
+WordsAsk _ job = ⊥
