@@ -14,7 +14,7 @@ use Rattle.store_model.specs.KeyUse.{bytes_of}
 use Rattle.store_model.specs.Rules.{use_rows}
 use Rattle.store_model.specs.Outcome.{Outcome, decided, refused, reply_unless, given}
 use Rattle.store_model.specs.Ciphers.{Mode, mode_of, iv_length, enciphered, enciphered_length, encrypt_rows, decrypt_rows, ciphertext_length, deciphered, plain_or_zeros}
-use Rattle.store_core.specs.Answers.{AnswersLength}
+use Rattle.store_model.specs.Answers.{AnswersLength}
 use Rattle.store_core.specs.Ciphered.{plain_rows, cipher_rows, decrypted_reply}
 use Rattle.store_core.specs.Uses.{IsUsable}
 

@@ -16,7 +16,7 @@ use Rattle.aead_gcm.specs.Lengths as gcm
 use Rattle.store_model.specs.Algorithms.{is_hmac, length_or_none, tag_bytes}
 use Rattle.store_model.specs.Rules.{class_number, is_of_class}
 use Rattle.store_model.specs.Aeads.{is_ccm}
-use Rattle.store_core.specs.Replies.{IsAead}
+use Rattle.algorithm_facts.specs.TagLengths.{IsAead}
 
 -- the row of a number's base
 record HasEntry (class : Class) (alg : ℕ) : Type 0 where

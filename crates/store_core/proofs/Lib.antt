@@ -5,7 +5,7 @@ pub mod Copying
 pub mod Counts
 pub mod Destroying
 pub mod Drawing
-pub mod Hashing
+pub mod Looks
 pub mod Maps
 pub mod Paddings
 pub mod Permitted

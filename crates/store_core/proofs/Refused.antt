@@ -6,7 +6,7 @@ use Rattle.psa_status.specs.Rows.{Rows, first_row}
 use Rattle.psa_status.proofs.Rows.{first_row-front}
 use Rattle.store_model.specs.Call.{Reply, buffer_after}
 use Rattle.store_model.specs.Outcome.{refusal, reply_unless}
-use Rattle.store_core.specs.Answers.{AnswersLength, AnswersOrSpoils}
+use Rattle.store_model.specs.Answers.{AnswersLength, AnswersOrSpoils}
 
 front_reply : (front rest : Rows) (reply : Reply) (s : Status) → first_row front ≡ Some s → reply_unless (first_row (front ++ rest)) reply ≡ refusal s
 front_reply front rest reply s h = ap (λ o. reply_unless o reply) (first_row-front front rest s h)

@@ -1,4 +1,3 @@
-pub mod Answers
 pub mod Ciphered
 pub mod Copied
 pub mod Entries

@@ -1,17 +1,9 @@
--- The modes of the cipher algorithms as the model's, and what deciphering gives before the padding is looked at.
+-- What deciphering gives before the padding is looked at.
 use Rattle.std.specs.Prelude.{ℕ, List}
 use Rattle.crypto_specs.specs.Aes.{aes_encrypt}
 use Rattle.crypto_specs.specs.AesInverse.{aes_decrypt}
 use Rattle.crypto_specs.specs.Modes.{ctr_xor, cbc_decrypt, ecb_decrypt}
 use Rattle.store_model.specs.Ciphers as model
-use Rattle.store_core.specs.declared.modes.Mode.{Mode}
-use Rattle.store_core.specs.declared.modes.Mode.TheVariants.{Ctr, CbcNoPadding, CbcPkcs7, EcbNoPadding}
-
-abbrev pub model_mode : Mode → model.Mode
-model_mode Ctr = model.Ctr
-model_mode CbcNoPadding = model.CbcNoPadding
-model_mode CbcPkcs7 = model.CbcPkcs7
-model_mode EcbNoPadding = model.EcbNoPadding
 
 abbrev pub deciphered_blocks : model.Mode → (key iv text : List ℕ) → List ℕ
 deciphered_blocks model.Ctr key iv text = ctr_xor (aes_encrypt key) iv text

@@ -1,10 +1,8 @@
 -- What a call with an algorithm replies once its number, and its key, are known to be for it.
-use Rattle.std.specs.Prelude.{ℕ, ◌≡◌, ◌+◌, ◌-◌, true, false, not, ◌||◌, nat_lt, length, take, drop, bytes_eq, List, [], ◌∷◌}
+use Rattle.std.specs.Prelude.{ℕ, ◌+◌, ◌-◌, not, ◌||◌, nat_lt, length, take, drop, bytes_eq, List, [], ◌∷◌}
 use Rattle.psa_status.specs.declared.Status.TheVariants.{InvalidArgument, InvalidSignature}
 use Rattle.psa_status.specs.Rows.{Rows, first_row}
-use Rattle.aead_ccm.specs.Lengths as ccm
-use Rattle.aead_gcm.specs.Lengths as gcm
-use Rattle.store_model.specs.Aeads.{is_ccm, permits_lengths, opened, sealed}
+use Rattle.store_model.specs.Aeads.{permits_lengths, opened, sealed}
 use Rattle.store_model.specs.Call.{Reply}
 use Rattle.store_model.specs.Algorithms.{mac_of, tag_bytes}
 use Rattle.store_model.specs.Rules.{room_rows, total_limit}
@@ -30,11 +28,6 @@ verified_rows alg key input mac =
 
 abbrev pub verified_reply : ℕ → (key input mac : List ℕ) → Reply
 verified_reply alg key input mac = reply_unless (first_row (verified_rows alg key input mac)) done
-
--- a number of CCM or GCM, with a tag length that its standard permits
-pub record IsAead (alg : ℕ) : Type 0 where
-  pub ccm : is_ccm alg ≡ true → ccm.IsTagLength (tag_bytes alg)
-  pub gcm : is_ccm alg ≡ false → gcm.IsTagLength (tag_bytes alg)
 
 -- aead_encrypt, once the key is known to be for it
 abbrev pub sealed_rows : ℕ → (nonce ad payload room : ℕ) → Rows

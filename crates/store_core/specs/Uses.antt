@@ -1,17 +1,20 @@
 -- What the look-up of a key gives, and of one that a call uses with an algorithm.
-use Rattle.std.specs.Prelude.{ℕ, ◌≡◌, ◌≤◌, false, not, List, [], ◌∷◌, ◌++◌, IsTrue, Option, Some, None}
+use Rattle.std.specs.Prelude.{ℕ, ◌≡◌, ◌≤◌, false, not, List, [], ◌∷◌, ◌++◌, length, IsTrue, Option, Some, None}
 use Rattle.psa_status.specs.declared.Status.TheVariants.{NotPermitted, InvalidArgument}
 use Rattle.psa_status.specs.Rows.{Rows, first_row}
 use Rattle.alg_encoding.specs.declared.table.Class.{Class}
-use Rattle.alg_encoding.specs.Encoding.{IsConcrete}
+use Rattle.alg_encoding.specs.declared.table.Class.TheVariants.{Cipher, Aead}
+use Rattle.alg_encoding.specs.Encoding.{IsConcrete, base_of}
 use Rattle.key_attributes.specs.declared.Attributes.{Attributes}
 use Rattle.key_attributes.specs.Checks.{permits_size}
 use Rattle.policy_rules.specs.Policy.{may_use}
 use Rattle.crypto_specs.specs.Aes.{IsKey}
 use Rattle.store_model.specs.Store.{Key}
 use Rattle.store_model.specs.KeyUse.{bytes_of}
-use Rattle.store_model.specs.Algorithms.{is_hmac}
+use Rattle.store_model.specs.Algorithms.{is_hmac, cmac_base}
+use Rattle.store_model.specs.HandleCalls.{creation_of, derive_usage, fits_step, derivation_key_rows}
 use Rattle.store_model.specs.Rules.{class_rows, is_of_class, fits_type, use_rows}
+use Rattle.algorithm_facts.specs.TagLengths.{IsAead}
 use Rattle.store_core.specs.declared.entries.Entry.{Entry}
 use Rattle.store_core.specs.Entries.{key_of}
 
@@ -36,3 +39,29 @@ pub record IsUsable (class : Class) (usage alg : ℕ) (found : Option Key) (byte
   pub of_class : IsTrue (is_of_class class alg)
   pub concrete : IsConcrete alg
   pub aes : is_hmac alg ≡ false → IsKey bytes
+
+-- a key of this creation has the bytes
+pub record IsCreation (id : ℕ) (found : Option Key) (bytes : List ℕ) (number : ℕ) : Type 0 where
+  pub there : bytes_of found ≡ bytes
+  pub creation : creation_of id found ≡ Some (record { id = id; number = number })
+  pub short : length bytes ≤ 1024
+
+-- an operation may be set up with the key, which has these bytes and this creation number
+pub record IsLookedUp (class : Class) (usage alg id : ℕ) (found : Option Key) (bytes : List ℕ) (number : ℕ) : Type 0 where
+  pub key : IsCreation id found bytes number
+  pub usable : IsUsable class usage alg found bytes
+  pub cmac : base_of alg ≡ cmac_base → IsKey bytes
+  pub cipher : class ≡ Cipher → IsKey bytes
+  pub aead : class ≡ Aead → IsKey bytes × IsAead alg
+
+-- the rows of a derivation's key that is there, by its attributes
+abbrev pub derivation_permission_rows : (step alg : ℕ) → Attributes → Rows
+derivation_permission_rows step alg a =
+    (not (may_use a.policy derive_usage alg), NotPermitted)
+    ∷ (not (fits_step step a.key_type.0), InvalidArgument)
+    ∷ []
+
+-- the key may be a derivation's secret
+pub record IsDerivationKey (step alg id : ℕ) (found : Option Key) (bytes : List ℕ) (number : ℕ) : Type 0 where
+  pub key : IsCreation id found bytes number
+  pub permitted : first_row (derivation_key_rows found step alg) ≡ None

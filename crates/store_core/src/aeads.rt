@@ -6,15 +6,16 @@ ghost use Rattle.store_model.specs.Faults.{Plain};
 ghost use Rattle.store_model.specs.Algorithms.{tag_bytes};
 ghost use Rattle.store_model.specs.Aeads.{aead_tag, aead_text, permits_lengths, sealed};
 ghost use Rattle.store_model.specs.Step.{step};
-ghost use Rattle.store_core.specs.Answers.{AnswersLength, AnswersOrSpoils};
-ghost use Rattle.store_core.specs.Replies.{IsAead, opened_reply, sealed_reply};
+ghost use Rattle.store_model.specs.Answers.{AnswersLength, AnswersOrSpoils};
+ghost use Rattle.store_core.specs.Replies.{opened_reply, sealed_reply};
+ghost use Rattle.algorithm_facts.specs.TagLengths.{IsAead};
 
 use crate::Store;
-use crate::algorithms::{is_ccm, tag_bytes};
-use crate::uses::{DECRYPT, ENCRYPT, TOTAL_LIMIT, aes_key};
+use crate::uses::{DECRYPT, ENCRYPT};
 use aead_ccm::permits_payload;
 use aes_core::AesKey;
 use alg_encoding::{Alg, Class};
+use algorithm_facts::{TOTAL_LIMIT, aes_key, is_ccm, tag_bytes};
 use key_attributes::KeyId;
 use psa_status::Status;
 

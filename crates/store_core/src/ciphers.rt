@@ -7,17 +7,18 @@ ghost use Rattle.store_model.specs.Call.{CipherDecrypt, CipherEncrypt, buffer_af
 ghost use Rattle.store_model.specs.Ciphers.{iv_length, takes_whole_blocks, enciphered_length, is_ciphertext_length};
 ghost use Rattle.store_model.specs.Faults.{Plain};
 ghost use Rattle.store_model.specs.Step.{step};
-ghost use Rattle.store_core.specs.Answers.{AnswersLength, AnswersOrSpoils};
+ghost use Rattle.store_model.specs.Answers.{AnswersLength, AnswersOrSpoils};
 ghost use Rattle.store_core.specs.Ciphered.{plain_rows, cipher_rows, decrypted_reply};
-ghost use Rattle.store_core.specs.Modes.{model_mode};
+ghost use Rattle.algorithm_facts.specs.Modes.{model_mode};
 
 use crate::Store;
-use crate::modes::{
-    Mode, decipher, encipher_behind, enciphered_length, is_ciphertext_length, iv_length, mode_of,
+use crate::modes::{decipher, encipher_behind};
+use crate::uses::{DECRYPT, ENCRYPT};
+use alg_encoding::{Alg, Class};
+use algorithm_facts::{
+    Mode, TOTAL_LIMIT, aes_key, enciphered_length, is_ciphertext_length, iv_length, mode_of,
     takes_whole_blocks,
 };
-use crate::uses::{DECRYPT, ENCRYPT, TOTAL_LIMIT, aes_key};
-use alg_encoding::{Alg, Class};
 use key_attributes::KeyId;
 use psa_status::Status;
 

@@ -10,7 +10,7 @@ ghost use Rattle.store_model.specs.Draws.{with_drawn, next_random};
 ghost use Rattle.store_model.specs.Faults.{Plain};
 ghost use Rattle.store_model.specs.Generation.{key_bytes};
 ghost use Rattle.store_model.specs.Step.{step};
-ghost use Rattle.store_core.specs.Answers.{id_reply};
+ghost use Rattle.store_model.specs.Answers.{id_reply};
 ghost use Rattle.store_core.specs.Generated.{generation_checked};
 
 use crate::Store;

@@ -7,13 +7,12 @@ ghost use Rattle.store_model.specs.Outcome.{reply_unless, done, given};
 ghost use Rattle.store_model.specs.Algorithms.{hash_length_of, hash_of};
 ghost use Rattle.store_model.specs.Hashes.{compare_rows, compute_rows};
 ghost use Rattle.store_model.specs.Step.{step};
-ghost use Rattle.store_core.specs.Answers.{AnswersLength, plain_reply};
+ghost use Rattle.store_model.specs.Answers.{AnswersLength, plain_reply};
 
 use crate::Store;
-use crate::algorithms::hash_function;
 use crate::outputs::give;
-use crate::uses::check_class;
 use alg_encoding::{Alg, Class};
+use algorithm_facts::{check_class, hash_function};
 use hash_ops::one_shot::hash;
 use psa_status::Status;
 

@@ -2,7 +2,6 @@
 #![tactic(auto)]
 
 mod aeads;
-mod algorithms;
 mod ciphers;
 mod copies;
 mod entries;
@@ -11,11 +10,13 @@ mod hashes;
 mod macs;
 mod modes;
 mod outputs;
+mod ranks;
 mod store;
 mod streams;
 mod uses;
 
 pub use store::Store;
+pub use uses::{DECRYPT, DERIVE, ENCRYPT, Found, SIGN_MESSAGE, VERIFY_MESSAGE};
 
 #[cfg(test)]
 mod tests;

@@ -7,14 +7,14 @@ ghost use Rattle.store_model.specs.Call.{MacCompute, MacVerify, buffer_after};
 ghost use Rattle.store_model.specs.Faults.{Plain};
 ghost use Rattle.store_model.specs.Algorithms.{cmac_base, mac_of, tag_bytes, whole_mac};
 ghost use Rattle.store_model.specs.Step.{step};
-ghost use Rattle.store_core.specs.Answers.{AnswersLength, plain_reply};
+ghost use Rattle.store_model.specs.Answers.{AnswersLength, plain_reply};
 ghost use Rattle.store_core.specs.Replies.{mac_reply, verified_reply};
 
 use crate::Store;
-use crate::algorithms::{hash_function, tag_bytes};
 use crate::outputs::give;
-use crate::uses::{SIGN_MESSAGE, TOTAL_LIMIT, VERIFY_MESSAGE, aes_key};
+use crate::uses::{SIGN_MESSAGE, VERIFY_MESSAGE};
 use alg_encoding::{Alg, Class};
+use algorithm_facts::{TOTAL_LIMIT, aes_key, hash_function, tag_bytes};
 use cmac_ops::cmac;
 use hmac_ops::hmac;
 use key_attributes::KeyId;

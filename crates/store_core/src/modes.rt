@@ -4,77 +4,14 @@ ghost use Rattle.crypto_specs.specs.Aes.{IsKey};
 ghost use Rattle.crypto_specs.specs.Modes.{pkcs7_padded, pkcs7_unpadded};
 ghost use Rattle.store_model.specs.Call.{buffer_after};
 ghost use Rattle.store_model.specs.Ciphers.{mode_of, iv_length, takes_whole_blocks, enciphered, enciphered_length, deciphered, is_ciphertext_length, plain_or_zeros};
-ghost use Rattle.store_core.specs.Answers.{AnswersOrSpoils};
-ghost use Rattle.store_core.specs.Modes.{model_mode, deciphered_blocks};
+ghost use Rattle.store_model.specs.Answers.{AnswersOrSpoils};
+ghost use Rattle.algorithm_facts.specs.Modes.{model_mode};
+ghost use Rattle.store_core.specs.Modes.{deciphered_blocks};
 
 use aes_core::AesKey;
-use alg_encoding::Alg;
+use algorithm_facts::{Mode, iv_length};
 use cipher_modes::{cbc_decrypt, cbc_encrypt, ctr_xor, ecb_decrypt, ecb_encrypt, unpad};
 use psa_status::Status;
-
-/// The modes of the cipher algorithms.
-#[derive(Clone, Copy, Drop)]
-pub enum Mode {
-    Ctr,
-    CbcNoPadding,
-    CbcPkcs7,
-    EcbNoPadding,
-}
-
-/// The mode of a cipher's number.
-pub fn mode_of(alg: Alg) -> Mode
-    ensures { model_mode result ≡ mode_of alg.0 }
-{
-    match alg.0 {
-        0x04c0_1000 => Mode::Ctr,
-        0x0440_4000 => Mode::CbcNoPadding,
-        0x0440_4100 => Mode::CbcPkcs7,
-        _ => Mode::EcbNoPadding,
-    }
-}
-
-/// The bytes of the initialisation vector, which stands before the ciphertext.
-pub fn iv_length(mode: Mode) -> usize
-    ensures value { result ≡ iv_length (model_mode mode) }
-    ensures bound { result ≤ 16 }
-{
-    match mode {
-        Mode::EcbNoPadding => 0,
-        Mode::Ctr | Mode::CbcNoPadding | Mode::CbcPkcs7 => 16,
-    }
-}
-
-/// Whether a text has to be whole blocks.
-pub fn takes_whole_blocks(mode: Mode) -> bool
-    ensures { result ≡ takes_whole_blocks (model_mode mode) }
-{
-    match mode {
-        Mode::CbcNoPadding | Mode::EcbNoPadding => true,
-        Mode::Ctr | Mode::CbcPkcs7 => false,
-    }
-}
-
-/// The bytes of the ciphertext of so many bytes.
-pub fn enciphered_length(mode: Mode, length: usize) -> usize
-    requires { length < 2 ^ 32 }
-    ensures { result ≡ enciphered_length (model_mode mode) length }
-{
-    match mode {
-        Mode::CbcPkcs7 => length + (16 - length % 16),
-        Mode::Ctr | Mode::CbcNoPadding | Mode::EcbNoPadding => length,
-    }
-}
-
-/// Whether a ciphertext may have so many bytes.
-pub fn is_ciphertext_length(mode: Mode, length: usize) -> bool
-    ensures { result ≡ is_ciphertext_length (model_mode mode) length }
-{
-    match mode {
-        Mode::Ctr => true,
-        Mode::CbcPkcs7 => length % 16 == 0 && length != 0,
-        Mode::CbcNoPadding | Mode::EcbNoPadding => length % 16 == 0,
-    }
-}
 
 // The block of these bytes.
 fn block_of(bytes: &[u8]) -> [u8; 16]

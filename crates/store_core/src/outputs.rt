@@ -1,7 +1,7 @@
 // Results in a caller's buffer.
 ghost use Rattle.std.specs.Prelude.{◌≡◌, length};
 ghost use Rattle.store_model.specs.Call.{buffer_after};
-ghost use Rattle.store_core.specs.Answers.{AnswersLength};
+ghost use Rattle.store_model.specs.Answers.{AnswersLength};
 ghost use Rattle.store_core.specs.Replies.{fitted};
 
 use psa_status::Status;

@@ -1,4 +1,4 @@
-ghost use Rattle.std.specs.Prelude.{◌≡◌, ◌≤◌, ◌<◌, ◌^◌, ◌+◌, ℕ, List, IfOk, Some, None, length, if◌then◌else◌, IsTrue, MatchOption};
+ghost use Rattle.std.specs.Prelude.{◌≡◌, ◌≤◌, ◌<◌, ◌^◌, ◌+◌, ℕ, List, IfOk, Some, None, length, if◌then◌else◌, min, IsTrue, MatchOption};
 ghost use Rattle.psa_status.specs.Rows.{first_row};
 ghost use Rattle.psa_status.specs.declared.Status.TheVariants.{KeyLimit};
 ghost use Rattle.random_streams.specs.RandomWords.{words_used, words_offered};
@@ -10,9 +10,10 @@ ghost use Rattle.store_model.specs.Call.{Import, Export, GetAttributes, Destroy,
 ghost use Rattle.store_model.specs.Faults.{Plain};
 ghost use Rattle.store_model.specs.Creation.{limit_rows, created};
 ghost use Rattle.store_model.specs.Draws.{with_drawn, next_random};
+ghost use Rattle.store_model.specs.Handles.{drawn_by};
 ghost use Rattle.store_model.specs.Outcome.{counted, decided};
 ghost use Rattle.store_model.specs.Step.{step};
-ghost use Rattle.store_core.specs.Answers.{id_reply, AnswersLength, attributes_answer, plain_reply};
+ghost use Rattle.store_model.specs.Answers.{id_reply, AnswersLength, attributes_answer, plain_reply};
 ghost use Rattle.store_core.specs.Uses.{IsFound};
 
 use crate::copies::check_copy;
@@ -66,21 +67,6 @@ impl Store {
             streams,
             calls: 0,
         })
-    }
-
-    /// How many calls were made.
-    pub fn ranked(&self) -> u64
-        ensures { result ≡ self.now.calls }
-    {
-        self.calls
-    }
-
-    /// Counts one more call.
-    pub(crate) fn count(&mut self)
-        requires turns { self.old.calls < 2 ^ 62 }
-        ensures { self.new ≡ counted self.old }
-    {
-        self.calls += 1;
     }
 
     /// The entry of a key.
@@ -215,6 +201,33 @@ impl Store {
         ensures bytes { out.new ≡ next_random self.old caller (length out.old) }
     {
         self.streams[caller as usize].fill(out);
+    }
+
+    /// The caller's next random bytes, which are not drawn.
+    pub fn peek(&mut self, caller: u8, out: &mut [u8; 16])
+        requires last { caller ≤ 16 }
+        requires words { (model.caller_state self.old caller).drawn + 256 ≤ 2 ^ 60 }
+        ensures store { self.new ≡ self.old }
+        ensures bytes { out.new ≡ next_random self.old caller 16 }
+    {
+        let stream = &mut self.streams[caller as usize];
+        let place = stream.place();
+        stream.fill(out);
+        stream.go_back(place);
+    }
+
+    /// Draws the caller's next random bytes, 16 at most, of which nothing is kept.
+    pub fn skip(&mut self, caller: u8, count: usize)
+        requires last { caller ≤ 16 }
+        requires words { (model.caller_state self.old caller).drawn + 256 ≤ 2 ^ 60 }
+        ensures { self.new ≡ drawn_by self.old caller (min count 16) }
+    {
+        if count == 0 {
+            return;
+        }
+        let drawn = count.min(16);
+        let mut bytes = [0; 16];
+        self.draw(caller, &mut bytes[..drawn]);
     }
 
     /// Copies a key that may be exported into the buffer, and answers its length.

@@ -1,22 +1,19 @@
 // Calls that use a key with an algorithm.
-ghost use Rattle.std.specs.Prelude.{◌≡◌, MatchResult, OnOk, Some};
+ghost use Rattle.std.specs.Prelude.{◌≡◌, ◌≤◌, IfOk, MatchResult, Some, length};
 ghost use Rattle.std.specs.FinMap as finite;
 ghost use Rattle.psa_status.specs.Rows.{first_row, unless};
 ghost use Rattle.alg_encoding.specs.Encoding.{IsConcrete};
-ghost use Rattle.crypto_specs.specs.Aes.{IsKey};
+ghost use Rattle.store_model.specs.Handles.{is_alive};
+ghost use Rattle.store_model.specs.HandleCalls.{derivation_key_rows, fits_step};
 ghost use Rattle.store_model.specs.Rules.{class_number, class_rows, fits_type, use_rows};
-ghost use Rattle.store_core.specs.Uses.{IsUsable, permission_rows};
+ghost use Rattle.store_core.specs.Uses.{IsUsable, IsLookedUp, IsDerivationKey, derivation_permission_rows, permission_rows};
 
 use crate::Store;
-use crate::algorithms::is_hmac;
-use aes_core::AesKey;
 use alg_encoding::{Alg, Class};
+use algorithm_facts::{check_class, is_hmac};
 use key_attributes::{Attributes, KeyId, KeyType, Usage};
 use policy_rules::permits;
 use psa_status::Status;
-
-/// No input is longer than this.
-pub const TOTAL_LIMIT: usize = 0xffff_ffff;
 
 pub const ENCRYPT: Usage = Usage(0x100);
 
@@ -26,19 +23,23 @@ pub const SIGN_MESSAGE: Usage = Usage(0x400);
 
 pub const VERIFY_MESSAGE: Usage = Usage(0x800);
 
+pub const DERIVE: Usage = Usage(0x4000);
+
 const HMAC: u16 = 0x1100;
 
 const AES: u16 = 0x2400;
 
-/// The AES key of these bytes.
-pub fn aes_key(bytes: &[u8]) -> AesKey
-    requires { IsKey bytes.now }
-    ensures { result ≡ bytes.now }
-{
-    match AesKey::new(bytes) {
-        Some(key) => key,
-        None => unreachable!(),
-    }
+const DERIVATION: u16 = 0x1200;
+
+const PASSWORD: u16 = 0x1203;
+
+const SECRET_STEP: u16 = 0x101;
+
+/// What a look-up gives of a key: its bytes, and its creation number, which no other key has.
+#[derive(Clone, Copy, Drop)]
+pub struct Found<'a> {
+    pub bytes: &'a [u8],
+    pub number: u64,
 }
 
 // Whether keys of this type are for this algorithm.
@@ -46,21 +47,6 @@ fn fits_type(alg: Alg, key_type: KeyType) -> bool
     ensures { result ≡ fits_type alg.0 key_type.0 }
 {
     key_type.0 == if is_hmac(alg) { HMAC } else { AES }
-}
-
-/// The refusal of a number that has no class, that has another one, or that isn't concrete.
-pub fn check_class(class: Class, alg: Alg) -> Result<(), Status>
-    ensures value { result ≡ unless (first_row (class_rows class alg.0)) tt }
-    ensures concrete { OnOk result (IsConcrete alg.0) }
-{
-    let Some(own) = alg.class() else {
-        return Err(Status::NotSupported);
-    };
-    if own == class && alg.is_concrete() {
-        Ok(())
-    } else {
-        Err(Status::InvalidArgument)
-    }
 }
 
 // The refusal of a use of a key that has these attributes.
@@ -77,7 +63,77 @@ fn check_use(class: Class, usage: Usage, alg: Alg, attributes: &Attributes) -> R
     Ok(())
 }
 
+// Whether keys of this type are for this step of a derivation.
+fn fits_step(step: u16, key_type: KeyType) -> bool
+    ensures { result ≡ fits_step step key_type.0 }
+{
+    key_type.0 == DERIVATION || (step != SECRET_STEP && key_type.0 == PASSWORD)
+}
+
+// The refusal of a key that has these attributes as the secret of a derivation. A number that isn't concrete is
+// permitted by no policy.
+fn check_derivation(step: u16, alg: Alg, attributes: &Attributes) -> Result<(), Status>
+    ensures { IsConcrete alg.0 → result ≡ unless (first_row (derivation_permission_rows step alg.0 attributes.now)) tt }
+{
+    if !alg.is_concrete() || !permits(&attributes.policy, DERIVE, alg) {
+        return Err(Status::NotPermitted);
+    }
+    if !fits_step(step, attributes.key_type) {
+        return Err(Status::InvalidArgument);
+    }
+    Ok(())
+}
+
 impl Store {
+    /// The key that an operation of this class is set up with, or the first refusal.
+    pub fn look(
+        &self,
+        class: Class,
+        usage: Usage,
+        alg: Alg,
+        key: KeyId,
+    ) -> Result<Found<'_>, Status>
+        ensures { MatchResult result
+            (λ found. IsLookedUp class usage.0 alg.0 key.0 (finite.get self.now.keys key.0) found.bytes.now found.number)
+            (λ status. first_row (use_rows class usage.0 alg.0 (finite.get self.now.keys key.0)) ≡ Some status) }
+    {
+        let Some(entry) = self.entry(key) else {
+            return Err(Status::InvalidHandle);
+        };
+        check_use(class, usage, alg, &entry.attributes)?;
+        Ok(Found {
+            bytes: &entry.buffer[..entry.length],
+            number: entry.number,
+        })
+    }
+
+    /// The key that is to be the secret, or the password, of a derivation, or the first refusal.
+    pub fn derivation_key(&self, step: u16, alg: Alg, key: KeyId) -> Result<Found<'_>, Status>
+        ensures short { IfOk result (λ found. length found.bytes.now ≤ 1024) }
+        ensures key { IsConcrete alg.0 → MatchResult result
+            (λ found. IsDerivationKey step alg.0 key.0 (finite.get self.now.keys key.0) found.bytes.now found.number)
+            (λ status. first_row (derivation_key_rows (finite.get self.now.keys key.0) step alg.0) ≡ Some status) }
+    {
+        let Some(entry) = self.entry(key) else {
+            return Err(Status::InvalidHandle);
+        };
+        check_derivation(step, alg, &entry.attributes)?;
+        Ok(Found {
+            bytes: &entry.buffer[..entry.length],
+            number: entry.number,
+        })
+    }
+
+    /// Whether the key of this creation is still there.
+    pub fn is_alive(&self, key: KeyId, number: u64) -> bool
+        ensures { result ≡ is_alive self.now (Some (record { id = key.0; number = number })) }
+    {
+        match self.entry(key) {
+            Some(entry) => entry.number == number,
+            None => false,
+        }
+    }
+
     /// The bytes of the key that a call of this class uses with an algorithm, or the first refusal.
     pub(crate) fn usable(
         &self,
@@ -90,10 +146,9 @@ impl Store {
             (λ bytes. IsUsable class usage.0 alg.0 (finite.get self.now.keys key.0) bytes.now)
             (λ status. first_row (use_rows class usage.0 alg.0 (finite.get self.now.keys key.0)) ≡ Some status) }
     {
-        let Some(entry) = self.entry(key) else {
-            return Err(Status::InvalidHandle);
-        };
-        check_use(class, usage, alg, &entry.attributes)?;
-        Ok(&entry.buffer[..entry.length])
+        match self.look(class, usage, alg, key) {
+            Ok(found) => Ok(found.bytes),
+            Err(status) => Err(status),
+        }
     }
 }

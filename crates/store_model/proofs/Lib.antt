@@ -3,7 +3,20 @@ pub mod Drawn
 pub mod DrawnBytes
 pub mod Filled
 pub mod Live
+mod Examples
+pub mod Steps
+pub mod Derivations
+pub mod Shape
+pub mod DerivedBytes
+pub mod Operations
+pub mod Others
+pub mod FewWords
+pub mod LeftAll
+pub mod Follows
+pub mod SoundService
+pub mod GainNothing
 pub mod Origin
 pub mod Refusals
 pub mod Sound
 pub mod Counted
+pub mod CountedRequests

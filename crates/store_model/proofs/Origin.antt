@@ -3,10 +3,7 @@ use Rattle.std.proofs.Common.{◌≡◌, ℕ, ◌+◌, ◌<◌, Bool, true, fals
 use Rattle.std.specs.Prelude.{Option, None, Some, ◌==◌, ◌-◌, IfSome, bytes_eq, length, take, drop}
 use Rattle.std.specs.Option.{option_map}
 use Rattle.std.specs.Ordering.{nat_cmp}
-use Rattle.std.specs.Cmp.{unsigned_tied}
-use Rattle.std.specs.List.{AllByRecursion}
 use Rattle.std.specs.FinMap as map
-use Rattle.std.proofs.lemmas.Cmp.{nat_cmp_total}
 use Rattle.std.proofs.lemmas.Bool.Decides.{nat_tests}
 use Rattle.psa_status.specs.declared.Status.{Status}
 use Rattle.psa_status.specs.declared.Status.TheVariants.{InvalidArgument}
@@ -16,7 +13,7 @@ use Rattle.key_attributes.specs.declared.Attributes.{Attributes}
 use Rattle.key_attributes.specs.declared.Policy.{Policy}
 use Rattle.policy_rules.specs.Policy.{meet_of, with_implied, IsWithin, IsFilled}
 use Rattle.policy_rules.proofs.Copies.{IsWithin-refl, IsWithin-trans, IsWithin-implied, meet-within_source}
-use Rattle.store_model.specs.Store.{Key, Store, next_volatile, start_of}
+use Rattle.store_model.specs.Store.{Key, Store, next_volatile}
 use Rattle.store_model.specs.Call.{Call, Reply, Import, Export, GetAttributes, Destroy, Copy, Generate, HashCompute, HashCompare, MacCompute, MacVerify, CipherEncrypt, CipherDecrypt, AeadEncrypt, AeadDecrypt}
 use Rattle.store_model.specs.Faults.{FaultMark}
 use Rattle.store_model.specs.Outcome.{Outcome, counted, decided, refused, answered}
@@ -33,16 +30,15 @@ use Rattle.store_model.specs.Macs as macs
 use Rattle.store_model.specs.Ciphers as ciphers
 use Rattle.store_model.specs.Aeads as aeads
 use Rattle.store_model.specs.Step.{step}
-use Rattle.store_model.specs.Replay.{Entry, outcome_of}
-use Rattle.store_model.specs.Sound.{IsSound}
-use Rattle.store_model.specs.Origin.{Made, source_of, made_key, made_at, made_by, made_after, creation_at, origin_from, origin_of, HasOrigin, IsCaller, CopiesGainNothing}
-use Rattle.store_model.proofs.Sound.{starts, stays, drawn_sound}
+use Rattle.store_model.specs.Sound.{IsSoundStore}
+use Rattle.store_model.specs.Origin.{Made, source_of, made_key, made_at, creation_at, origin_from, origin_of, HasOrigin}
+use Rattle.store_model.proofs.Sound.{drawn_sound, put, taken, left}
 
 -- the creations so far, beside the store that they led to
-record Tracks (store : Store) (made : List Made) : Type 0 where
-  alive : (id : ℕ) (key : Key) → map.get store.keys id ≡ Some key → (m : Made) × ((creation_at made key.number ≡ Some m) × (m.policy ≡ key.attributes.policy))
-  below : (n : ℕ) (m : Made) → creation_at made n ≡ Some m → n < store.found + store.calls
-  origin : (n : ℕ) (m : Made) → creation_at made n ≡ Some m → HasOrigin made m
+pub record Tracks (store : Store) (made : List Made) : Type 0 where
+  pub alive : (id : ℕ) (key : Key) → map.get store.keys id ≡ Some key → (m : Made) × ((creation_at made key.number ≡ Some m) × (m.policy ≡ key.attributes.policy))
+  pub below : (n : ℕ) (m : Made) → creation_at made n ≡ Some m → n < store.found + store.calls
+  pub origin : (n : ℕ) (m : Made) → creation_at made n ≡ Some m → HasOrigin made m
 
 -- a call that creates no key
 kept : (store after : Store) (made : List Made) → ((id : ℕ) (key : Key) → map.get after.keys id ≡ Some key → map.get store.keys id ≡ Some key) →
@@ -82,12 +78,12 @@ origin_in_front : (m : Made) (made : List Made) → origin_of (m ∷ made) m.num
 origin_in_front m made = ap (λ b. cond b (origin_from m.number m.source (origin_of made)) (origin_of made m.number)) (same_number m.number m.number refl)
 
 -- where the policy of a new creation comes from
-record ComesFrom (made : List Made) (source : ℕ) (policy : Policy) : Type 0 where
-  older : Made
-  there : creation_at made source ≡ Some older
-  within : IsWithin policy older.policy
+pub record ComesFrom (made : List Made) (source : ℕ) (policy : Policy) : Type 0 where
+  pub older : Made
+  pub there : creation_at made source ≡ Some older
+  pub within : IsWithin policy older.policy
 
-abbrev HasSource : List Made → Option ℕ → Policy → Type 0
+abbrev pub HasSource : List Made → Option ℕ → Policy → Type 0
 HasSource made None policy = Unit {0}
 HasSource made (Some source) policy = ComesFrom made source policy
 
@@ -125,11 +121,8 @@ new_origin store made m number t (Some source) s h =
       within = IsWithin-trans o.origin.policy h.older.policy m.policy h.within o.within;
     }
 
-put : (m : map.FinMap nat_cmp Key) (k : ℕ) (v : Key) (q : ℕ) → map.get (map.insert m k v) q ≡ cond (q == k) (Some v) (map.get m q)
-put m k v q = map.get-insert nat_cmp_total m k v q ∙ ap (λ b. cond b (Some v) (map.get m q)) (unsigned_tied q k)
-
 -- a creation
-pushed : (store after : Store) (made : List Made) (m : Made) (id : ℕ) (key : Key) → IsSound store → after.keys ≡ map.insert store.keys id key → after.found ≡ store.found → after.calls ≡ store.calls + 1 →
+pushed : (store after : Store) (made : List Made) (m : Made) (id : ℕ) (key : Key) → IsSoundStore store → after.keys ≡ map.insert store.keys id key → after.found ≡ store.found → after.calls ≡ store.calls + 1 →
     m.number ≡ store.found + store.calls → key.number ≡ m.number → m.policy ≡ key.attributes.policy → HasSource made m.source m.policy → Tracks store made → Tracks after (m ∷ made)
 pushed store after made m id key sound keys found calls number same policy source t = record {
   alive = λ q k e. here_or_there q k (q == id) refl (sym (put store.keys id key q) ∙ ap (λ l. map.get l q) (sym keys) ∙ e);
@@ -155,7 +148,7 @@ pushed store after made m id key sound keys found calls number same policy sourc
     own_or_older n x true u e = let is : m ≡ x = cc in subst (HasOrigin (m ∷ made)) is (new_origin store made m number t m.source refl source)
     own_or_older n x false u e = older_origin store made m x number t n e
 
-counted_tracks : (store : Store) (made : List Made) → Tracks store made → Tracks (counted store) made
+pub counted_tracks : (store : Store) (made : List Made) → Tracks store made → Tracks (counted store) made
 counted_tracks store made t = kept store (counted store) made (λ id key e. e) refl refl t
 
 decided_tracks : (store : Store) (source : Option ℕ) (made : List Made) (o : Option Status) (done : Outcome) → Tracks store made →
@@ -167,7 +160,7 @@ decided_tracks store source made (Some s) done t h = counted_tracks store made t
 there_now : (keys : map.FinMap nat_cmp Key) (id : ℕ) (key : Key) → map.get (map.insert keys id key) id ≡ Some key
 there_now keys id key = put keys id key id ∙ ap (λ b. cond b (Some key) (map.get keys id)) (same_number id id refl)
 
-created_tracks : (store : Store) (caller : ℕ) (a : Attributes) (bytes : List ℕ) (source : Option ℕ) (made : List Made) → IsSound store → Tracks store made →
+pub created_tracks : (store : Store) (caller : ℕ) (a : Attributes) (bytes : List ℕ) (source : Option ℕ) (made : List Made) → IsSoundStore store → Tracks store made →
     HasSource made source (with_implied a.policy) →
     let outcome = created store caller a bytes in Tracks outcome.store (made_at source outcome.store outcome.reply.output ++ made)
 created_tracks store caller a bytes source made sound t h =
@@ -202,33 +195,26 @@ described_output : (source : Option ℕ) (after : Store) (o : Option Key) → ma
 described_output source after None = refl
 described_output source after (Some key) = refl
 
-taken : (m : map.FinMap nat_cmp Key) (k q : ℕ) → map.get (map.remove m k) q ≡ cond (q == k) None (map.get m q)
-taken m k q = map.get-remove nat_cmp_total m k q ∙ ap (λ b. cond b None (map.get m q)) (unsigned_tied q k)
-
-left : (b : Bool) (o : Option Key) (key : Key) → cond b None o ≡ Some key → o ≡ Some key
-left true o key h = cc
-left false o key h = h
-
 destroyed_tracks : (store : Store) (id : ℕ) (made : List Made) → Tracks store made → Tracks (destroyed store id).store made
 destroyed_tracks store id made t = kept store (destroyed store id).store made (λ q key e. left (q == id) _ key (sym (taken store.keys id q) ∙ e)) refl refl t
 
-drawn_tracks : (store : Store) (caller n : ℕ) (made : List Made) → Tracks store made → Tracks (with_drawn store caller n) made
+pub drawn_tracks : (store : Store) (caller n : ℕ) (made : List Made) → Tracks store made → Tracks (with_drawn store caller n) made
 drawn_tracks store caller n made t = record { alive = t.alive; below = t.below; origin = t.origin }
 
-generated_tracks : (store : Store) (caller : ℕ) (a : Attributes) (made : List Made) → IsSound store → Tracks store made →
+generated_tracks : (store : Store) (caller : ℕ) (a : Attributes) (made : List Made) → IsSoundStore store → Tracks store made →
     let outcome = generated store caller a in Tracks outcome.store (made_at None outcome.store outcome.reply.output ++ made)
 generated_tracks store caller a made sound t =
     let n = key_bytes a in
     created_tracks (with_drawn store caller n) caller a (next_random store caller n) None made (drawn_sound store caller n sound) (drawn_tracks store caller n made t) tt
 
 -- a key's policy has the flags that its others imply
-filled_policy : (store : Store) (id : ℕ) (key : Key) → IsSound store → map.get store.keys id ≡ Some key → IsFilled key.attributes.policy
+filled_policy : (store : Store) (id : ℕ) (key : Key) → IsSoundStore store → map.get store.keys id ≡ Some key → IsFilled key.attributes.policy
 filled_policy store id key sound e = ap (λ (a : Attributes). a.policy.usage.0) (unless-ok _ _ _ (sound.keys id key e).attributes).1
 
 copy_policy : (source stated met : Policy) → IsFilled source → meet_of source stated ≡ Some met → IsWithin (with_implied met) source
 copy_policy source stated met filled e = (IsWithin-implied source met filled (subst (λ o. IfSome o (λ m. IsWithin m source)) e (meet-within_source source stated))).1
 
-met_tracks : (store : Store) (caller id : ℕ) (source : Key) (stated : Attributes) (made : List Made) → IsSound store → Tracks store made → map.get store.keys id ≡ Some source →
+met_tracks : (store : Store) (caller id : ℕ) (source : Key) (stated : Attributes) (made : List Made) → IsSoundStore store → Tracks store made → map.get store.keys id ≡ Some source →
     (met : Option Policy) → meet_of source.attributes.policy stated.policy ≡ met →
     let outcome = copy_met store caller source stated met in Tracks outcome.store (made_at (Some source.number) outcome.store outcome.reply.output ++ made)
 met_tracks store caller id source stated made sound t e None f = decided_tracks store (Some source.number) made _ (refused store InvalidArgument) t (λ n. counted_tracks store made t)
@@ -240,12 +226,12 @@ met_tracks store caller id source stated made sound t e (Some met) f =
     (λ n. created_tracks store caller a source.bytes (Some source.number) made sound t
     (record { older = older.0; there = older.1.0; within = subst (IsWithin (with_implied met)) (sym older.1.1) within }))
 
-found_tracks : (store : Store) (caller id : ℕ) (stated : Attributes) (made : List Made) → IsSound store → Tracks store made → (found : Option Key) → map.get store.keys id ≡ found →
+found_tracks : (store : Store) (caller id : ℕ) (stated : Attributes) (made : List Made) → IsSoundStore store → Tracks store made → (found : Option Key) → map.get store.keys id ≡ found →
     let outcome = copy_found store caller found stated in Tracks outcome.store (made_at (option_map (λ key. key.number) found) outcome.store outcome.reply.output ++ made)
 found_tracks store caller id stated made sound t None e = counted_tracks store made t
 found_tracks store caller id stated made sound t (Some source) e = met_tracks store caller id source stated made sound t e (meet_of source.attributes.policy stated.policy) refl
 
-step_tracks : (store : Store) (caller : ℕ) (call : Call) (mark : FaultMark) (made : List Made) → IsSound store → Tracks store made →
+pub step_tracks : (store : Store) (caller : ℕ) (call : Call) (mark : FaultMark) (made : List Made) → IsSoundStore store → Tracks store made →
     let outcome = step store caller call mark in Tracks outcome.store (made_at (source_of store call) outcome.store outcome.reply.output ++ made)
 step_tracks store caller (Import a bytes) mark made sound t = decided_tracks store None made _ (created store caller a bytes) t (λ n. created_tracks store caller a bytes None made sound t tt)
 step_tracks store caller (Export id room) mark made sound t =
@@ -275,20 +261,3 @@ step_tracks store caller (AeadDecrypt id alg nonce ad input room) mark made soun
     let n = length input - tag_bytes alg in
     answered_tracks store made (first_row (aeads.decrypt_rows (map.get store.keys id) alg (length nonce) (length ad) (length input) room)) _
     (opened_output (counted store) alg key nonce ad (take n input) (drop n input)) t
-
-over : (h : List Entry) (store : Store) (made : List Made) → AllByRecursion IsCaller h → IsSound store → Tracks store made →
-    (n : ℕ) (m : Made) → creation_at (made_after store h made) n ≡ Some m → HasOrigin (made_after store h made) m
-over [] store made c sound t = t.origin
-over (e ∷ es) store made c sound t =
-    over es (outcome_of store e).store (made_by store e ++ made) c.1 (stays store e.caller e.call e.mark c.0.0 c.0.1 sound) (step_tracks store e.caller e.call e.mark made sound t)
-
-no_key_at : (id : ℕ) (key : Key) → map.get (map.empty {X = Key} {R = nat_cmp}) id ≡ Some key → ⊥
-no_key_at id key e = let none = sym (map.get-empty nat_cmp id) ∙ e in cc
-
-none_made : (m : Made) → ◌≡◌ {A = Option Made} None (Some m) → ⊥
-none_made m e = cc
-
-pub gain_nothing : CopiesGainNothing
-gain_nothing settings h callers =
-    over h (start_of settings) [] callers (starts settings)
-    (record { alive = λ id key e. absurd (no_key_at id key e); below = λ n m e. absurd (none_made m e); origin = λ n m e. absurd (none_made m e) })

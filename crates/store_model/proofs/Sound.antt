@@ -1,4 +1,4 @@
--- Each call keeps a store sound.
+-- Each call on the store keeps it sound.
 use Rattle.std.proofs.Common.{◌≡◌, ℕ, ◌+◌, ◌*◌, ◌/◌, ◌^◌, ◌<◌, ◌≤◌, Bool, true, false, cond, List, suc, zero, length, refl, sym, ap, ◌∙◌, arith, subst, replicate}
 use Rattle.std.specs.Prelude.{Option, None, Some, Ok, ◌==◌, ◌||◌, nat_le, slice_index_or, slice_set}
 use Rattle.std.specs.Ordering.{nat_cmp}
@@ -15,8 +15,8 @@ use Rattle.key_attributes.specs.declared.Attributes.{Attributes}
 use Rattle.key_attributes.specs.declared.Policy.{Policy}
 use Rattle.key_attributes.specs.Checks.{attribute_rows, filled, checked}
 use Rattle.policy_rules.specs.Policy.{meet_of}
-use Rattle.store_model.specs.Store.{Key, Store, CallerState, caller_state, new_caller, next_volatile, is_volatile_of, live_volatile, has_secure_element}
-use Rattle.store_model.specs.Call.{Import, Export, GetAttributes, Destroy, Copy, Generate, HashCompute, HashCompare, MacCompute, MacVerify, CipherEncrypt, CipherDecrypt, AeadEncrypt, AeadDecrypt}
+use Rattle.store_model.specs.Store.{Key, Store, Settings, CallerState, start_of, caller_state, new_caller, next_volatile, is_volatile_of, live_volatile, has_secure_element}
+use Rattle.store_model.specs.Call.{Call, Import, Export, GetAttributes, Destroy, Copy, Generate, HashCompute, HashCompare, MacCompute, MacVerify, CipherEncrypt, CipherDecrypt, AeadEncrypt, AeadDecrypt}
 use Rattle.store_model.specs.Outcome.{Outcome, counted, decided, refused}
 use Rattle.store_model.specs.Creation.{limit_rows, creation_rows, created, new_key, identified, one_more_made}
 use Rattle.store_model.specs.Copies.{source_rows, copy_attributes, copy_met, copy_found}
@@ -24,14 +24,16 @@ use Rattle.store_model.specs.KeyUse.{destroyed}
 use Rattle.store_model.specs.Draws.{with_drawn, next_random}
 use Rattle.store_model.specs.Generation.{generated, generation_rows, key_bytes}
 use Rattle.store_model.specs.Ciphers.{mode_of, iv_length}
-use Rattle.store_model.specs.Sound.{IsSoundKey, IsSound, StartsSound, StaysSound}
+use Rattle.store_model.specs.Faults.{FaultMark}
+use Rattle.store_model.specs.Step.{step}
+use Rattle.store_model.specs.Sound.{IsSoundKey, IsSoundStore}
 use Rattle.store_model.proofs.Filled.{no_row, filled-checked}
 use Rattle.store_model.proofs.DrawnBytes.{drawn-made, drawn-rows, length-random}
 use Rattle.store_model.proofs.Live.{len_kept-insert, len_kept-empty, len_kept-remove}
 
 -- one more call
 
-pub counted_sound : (store : Store) → IsSound store → IsSound (counted store)
+pub counted_sound : (store : Store) → IsSoundStore store → IsSoundStore (counted store)
 counted_sound store h = record {
   keys = λ id key e. let k = h.keys id key e in record {
     identifier = k.identifier;
@@ -49,7 +51,7 @@ counted_sound store h = record {
 
 -- a caller draws random words
 
-pub drawn_sound : (store : Store) (caller n : ℕ) → IsSound store → IsSound (with_drawn store caller n)
+pub drawn_sound : (store : Store) (caller n : ℕ) → IsSoundStore store → IsSoundStore (with_drawn store caller n)
 drawn_sound store caller n h = record {
   keys = λ id key e. let k = h.keys id key e in record {
     identifier = k.identifier;
@@ -65,7 +67,7 @@ drawn_sound store caller n h = record {
   callers = length-set store.callers caller _ ∙ h.callers;
 }
 
-decided_sound : (store : Store) (o : Option Status) (done : Outcome) → IsSound store → (o ≡ None → IsSound done.store) → IsSound (decided store o done).store
+decided_sound : (store : Store) (o : Option Status) (done : Outcome) → IsSoundStore store → (o ≡ None → IsSoundStore done.store) → IsSoundStore (decided store o done).store
 decided_sound store None done h k = k refl
 decided_sound store (Some s) done h k = counted_sound store h
 
@@ -95,17 +97,17 @@ at_most : (b : Bool) (m k : ℕ) → k < 2 ^ 20 → m ≤ 2 ^ 20 → cond b (k +
 at_most true m k h g = omega arith
 at_most false m k h g = g
 
-put : (m : map.FinMap nat_cmp Key) (k : ℕ) (v : Key) (q : ℕ) → map.get (map.insert m k v) q ≡ cond (q == k) (Some v) (map.get m q)
+pub put : (m : map.FinMap nat_cmp Key) (k : ℕ) (v : Key) (q : ℕ) → map.get (map.insert m k v) q ≡ cond (q == k) (Some v) (map.get m q)
 put m k v q = map.get-insert nat_cmp_total m k v q ∙ ap (λ b. cond b (Some v) (map.get m q)) (unsigned_tied q k)
 
-taken : (m : map.FinMap nat_cmp Key) (k q : ℕ) → map.get (map.remove m k) q ≡ cond (q == k) None (map.get m q)
+pub taken : (m : map.FinMap nat_cmp Key) (k q : ℕ) → map.get (map.remove m k) q ≡ cond (q == k) None (map.get m q)
 taken m k q = map.get-remove nat_cmp_total m k q ∙ ap (λ b. cond b None (map.get m q)) (unsigned_tied q k)
 
 one_place : (c caller n m : ℕ) → 0x40000000 + caller * 2 ^ 20 + m ≡ 0x40000000 + c * 2 ^ 20 + n → n < 2 ^ 20 → m < 2 ^ 20 → (c ≡ caller) × (n ≡ m)
 one_place c caller n m e h g = (omega arith, omega arith)
 
 -- no key has the next identifier
-fresh_at : (store : Store) (caller : ℕ) → IsSound store → (caller_state store caller).made < 2 ^ 20 → (o : Option Key) → map.get store.keys (next_volatile store caller) ≡ o → o ≡ None
+fresh_at : (store : Store) (caller : ℕ) → IsSoundStore store → (caller_state store caller).made < 2 ^ 20 → (o : Option Key) → map.get store.keys (next_volatile store caller) ≡ o → o ≡ None
 fresh_at store caller h below None e = refl
 fresh_at store caller h below (Some key) e =
     let k = h.keys (next_volatile store caller) key e in
@@ -125,8 +127,8 @@ same_caller q other caller m n t e same h =
     let equal = same one in
     omega arith
 
-created_sound : (store : Store) (caller : ℕ) (a : Attributes) (bytes : List ℕ) → 1 ≤ caller → caller ≤ 16 → IsSound store →
-    first_row (creation_rows store caller a (length bytes)) ≡ None → IsSound (created store caller a bytes).store
+pub created_sound : (store : Store) (caller : ℕ) (a : Attributes) (bytes : List ℕ) → 1 ≤ caller → caller ≤ 16 → IsSoundStore store →
+    first_row (creation_rows store caller a (length bytes)) ≡ None → IsSoundStore (created store caller a bytes).store
 created_sound store caller a bytes first last h rows =
     let parts = no_row (attribute_rows a (length bytes) (has_secure_element store)) (limit_rows store caller) rows in
     let limits = below_both (live_volatile store.keys caller) (caller_state store caller).made (test_off _ parts.1) in
@@ -146,7 +148,7 @@ created_sound store caller a bytes first last h rows =
       callers = length-set store.callers caller (one_more_made (caller_state store caller)) ∙ h.callers;
     }
   where
-    new_or_old : (store : Store) (caller : ℕ) (a : Attributes) (bytes : List ℕ) → 1 ≤ caller → caller ≤ 16 → IsSound store → caller < length store.callers →
+    new_or_old : (store : Store) (caller : ℕ) (a : Attributes) (bytes : List ℕ) → 1 ≤ caller → caller ≤ 16 → IsSoundStore store → caller < length store.callers →
         (slice_index_or (created store caller a bytes).store.callers caller new_caller).made ≡ (caller_state store caller).made + 1 →
         checked (identified (filled a (length bytes)) 0) (length bytes) (has_secure_element store) ≡ Ok (identified (filled a (length bytes)) 0) →
         (q : ℕ) (key : Key) (b : Bool) → (q == next_volatile store caller) ≡ b →
@@ -180,7 +182,7 @@ created_sound store caller a bytes first last h rows =
           );
         }
 
-    apart : (store : Store) (caller : ℕ) (new : Key) (q r : ℕ) (key same : Key) → IsSound store → new.number ≡ store.found + store.calls →
+    apart : (store : Store) (caller : ℕ) (new : Key) (q r : ℕ) (key same : Key) → IsSoundStore store → new.number ≡ store.found + store.calls →
         (b c : Bool) → (q == next_volatile store caller) ≡ b → (r == next_volatile store caller) ≡ c →
         cond b (Some new) (map.get store.keys q) ≡ Some key → cond c (Some new) (map.get store.keys r) ≡ Some same → key.number ≡ same.number → q ≡ r
     apart store caller new q r key same h number true true t u e f g = grind (arith, nat_tests)
@@ -198,11 +200,11 @@ created_sound store caller a bytes first last h rows =
 
 -- a destruction
 
-left : (b : Bool) (o : Option Key) (key : Key) → cond b None o ≡ Some key → o ≡ Some key
+pub left : (b : Bool) (o : Option Key) (key : Key) → cond b None o ≡ Some key → o ≡ Some key
 left true o key h = cc
 left false o key h = h
 
-destroyed_sound : (store : Store) (id : ℕ) → IsSound store → IsSound (destroyed store id).store
+destroyed_sound : (store : Store) (id : ℕ) → IsSoundStore store → IsSoundStore (destroyed store id).store
 destroyed_sound store id h = let after = counted_sound store h in record {
   keys = λ q key e. let k = after.keys q key (left (q == id) _ key (sym (taken store.keys id q) ∙ e)) in record {
     identifier = k.identifier;
@@ -218,14 +220,14 @@ destroyed_sound store id h = let after = counted_sound store h in record {
   callers = h.callers;
 }
 
-met_sound : (store : Store) (caller : ℕ) (source : Key) (stated : Attributes) (met : Option Policy) → 1 ≤ caller → caller ≤ 16 → IsSound store → IsSound (copy_met store caller source stated met).store
+met_sound : (store : Store) (caller : ℕ) (source : Key) (stated : Attributes) (met : Option Policy) → 1 ≤ caller → caller ≤ 16 → IsSoundStore store → IsSoundStore (copy_met store caller source stated met).store
 met_sound store caller source stated None first last h = decided_sound store _ (refused store InvalidArgument) h (λ e. counted_sound store h)
 met_sound store caller source stated (Some met) first last h =
     let a = copy_attributes source.attributes stated met in
     decided_sound store _ (created store caller a source.bytes) h
     (λ e. created_sound store caller a source.bytes first last h (no_row (source_rows source.attributes stated) (creation_rows store caller a (length source.bytes)) e).1)
 
-found_sound : (store : Store) (caller : ℕ) (found : Option Key) (stated : Attributes) → 1 ≤ caller → caller ≤ 16 → IsSound store → IsSound (copy_found store caller found stated).store
+found_sound : (store : Store) (caller : ℕ) (found : Option Key) (stated : Attributes) → 1 ≤ caller → caller ≤ 16 → IsSoundStore store → IsSoundStore (copy_found store caller found stated).store
 found_sound store caller None stated first last h = counted_sound store h
 found_sound store caller (Some source) stated first last h = met_sound store caller source stated (meet_of source.attributes.policy stated.policy) first last h
 
@@ -234,8 +236,8 @@ unrefused true s o h = cc
 unrefused false s o h = h
 
 -- the key's bytes are as many as the rows were asked about
-generated_sound : (store : Store) (caller : ℕ) (a : Attributes) → 1 ≤ caller → caller ≤ 16 → IsSound store →
-    first_row (generation_rows store caller a) ≡ None → IsSound (generated store caller a).store
+generated_sound : (store : Store) (caller : ℕ) (a : Attributes) → 1 ≤ caller → caller ≤ 16 → IsSoundStore store →
+    first_row (generation_rows store caller a) ≡ None → IsSoundStore (generated store caller a).store
 generated_sound store caller a first last h rows =
     let n = key_bytes a in
     let bytes = next_random store caller n in
@@ -244,22 +246,22 @@ generated_sound store caller a first last h rows =
     created_sound (with_drawn store caller n) caller a bytes first last (drawn_sound store caller n h)
     (drawn-rows store caller n a (length bytes) ∙ ap (λ k. first_row (creation_rows store caller a k)) same ∙ own)
 
-pub stays : StaysSound
-stays store caller (Import a bytes) mark first last h = decided_sound store _ (created store caller a bytes) h (created_sound store caller a bytes first last h)
-stays store caller (Export id room) mark first last h = counted_sound store h
-stays store caller (GetAttributes id) mark first last h = counted_sound store h
-stays store caller (Destroy id) mark first last h = decided_sound store _ (destroyed store id) h (λ e. destroyed_sound store id h)
-stays store caller (Copy source stated) mark first last h = found_sound store caller (map.get store.keys source) stated first last h
-stays store caller (Generate a) mark first last h = decided_sound store _ (generated store caller a) h (generated_sound store caller a first last h)
-stays store caller (HashCompute alg input room) mark first last h = counted_sound store h
-stays store caller (HashCompare alg input hash) mark first last h = counted_sound store h
-stays store caller (MacCompute id alg input room) mark first last h = counted_sound store h
-stays store caller (MacVerify id alg input mac) mark first last h = counted_sound store h
-stays store caller (CipherEncrypt id alg input room) mark first last h =
+pub step-stays : (store : Store) (caller : ℕ) (call : Call) (mark : FaultMark) → 1 ≤ caller → caller ≤ 16 → IsSoundStore store → IsSoundStore (step store caller call mark).store
+step-stays store caller (Import a bytes) mark first last h = decided_sound store _ (created store caller a bytes) h (created_sound store caller a bytes first last h)
+step-stays store caller (Export id room) mark first last h = counted_sound store h
+step-stays store caller (GetAttributes id) mark first last h = counted_sound store h
+step-stays store caller (Destroy id) mark first last h = decided_sound store _ (destroyed store id) h (λ e. destroyed_sound store id h)
+step-stays store caller (Copy source stated) mark first last h = found_sound store caller (map.get store.keys source) stated first last h
+step-stays store caller (Generate a) mark first last h = decided_sound store _ (generated store caller a) h (generated_sound store caller a first last h)
+step-stays store caller (HashCompute alg input room) mark first last h = counted_sound store h
+step-stays store caller (HashCompare alg input hash) mark first last h = counted_sound store h
+step-stays store caller (MacCompute id alg input room) mark first last h = counted_sound store h
+step-stays store caller (MacVerify id alg input mac) mark first last h = counted_sound store h
+step-stays store caller (CipherEncrypt id alg input room) mark first last h =
     decided_sound store _ _ h (λ e. drawn_sound (counted store) caller (iv_length (mode_of alg)) (counted_sound store h))
-stays store caller (CipherDecrypt id alg input room) mark first last h = counted_sound store h
-stays store caller (AeadEncrypt id alg nonce ad input room) mark first last h = counted_sound store h
-stays store caller (AeadDecrypt id alg nonce ad input room) mark first last h = counted_sound store h
+step-stays store caller (CipherDecrypt id alg input room) mark first last h = counted_sound store h
+step-stays store caller (AeadEncrypt id alg nonce ad input room) mark first last h = counted_sound store h
+step-stays store caller (AeadDecrypt id alg nonce ad input room) mark first last h = counted_sound store h
 
 no_key_at : (id : ℕ) (key : Key) → map.get (map.empty {X = Key} {R = nat_cmp}) id ≡ Some key → ⊥
 no_key_at id key e = let none = sym (map.get-empty nat_cmp id) ∙ e in cc
@@ -269,8 +271,8 @@ none_made zero c = refl
 none_made (suc n) zero = refl
 none_made (suc n) (suc c) = none_made n c
 
-pub starts : StartsSound
-starts settings = record {
+pub store-starts : (settings : Settings) → IsSoundStore (start_of settings)
+store-starts settings = record {
   keys = λ id key e. absurd (no_key_at id key e);
   numbers = λ id other key same e f g. absurd (no_key_at id key e);
   made = λ c. let e = none_made 17 c in omega arith;

@@ -5,8 +5,10 @@ use Rattle.std.specs.Option.{option_map}
 use Rattle.std.specs.FinMap as map
 use Rattle.key_attributes.specs.declared.Policy.{Policy}
 use Rattle.policy_rules.specs.Policy.{IsWithin}
-use Rattle.store_model.specs.Store.{Key, Store, Settings, caller_count, start_of}
+use Rattle.store_model.specs.Store.{Key, Store, Settings, caller_count}
 use Rattle.store_model.specs.Call.{Call, Import, Export, GetAttributes, Destroy, Copy, Generate, HashCompute, HashCompare, MacCompute, MacVerify, CipherEncrypt, CipherDecrypt, AeadEncrypt, AeadDecrypt, Output, Nothing, Identifier, Description, Bytes, Number}
+use Rattle.store_model.specs.Handles.{Service, Served, service_start}
+use Rattle.store_model.specs.Requests.{Request, OnStore, OnHandle}
 use Rattle.store_model.specs.Replay.{Entry, outcome_of}
 
 -- a creation: its number, the policy that it recorded, and of a copy the source's number
@@ -32,6 +34,11 @@ source_of store (CipherDecrypt id alg input room) = None
 source_of store (AeadEncrypt id alg nonce ad input room) = None
 source_of store (AeadDecrypt id alg nonce ad input room) = None
 
+-- only a copy has a source: a key of derived bytes has none
+abbrev pub source_of_request : Store → Request → Option ℕ
+source_of_request store (OnStore call) = source_of store call
+source_of_request store (OnHandle handle call) = None
+
 -- what a call made, where it answers the identifier of a key
 abbrev pub made_key : Option ℕ → Option Key → List Made
 made_key source None = []
@@ -44,13 +51,13 @@ made_at source after (Description attributes) = []
 made_at source after (Bytes bytes) = []
 made_at source after (Number number) = []
 
-abbrev pub made_by : Store → Entry → List Made
-made_by store e = let outcome = outcome_of store e in made_at (source_of store e.call) outcome.store outcome.reply.output
+abbrev pub made_by : Service → Entry → List Made
+made_by service e = let served : Served = outcome_of service e in made_at (source_of_request service.store e.call) served.service.store served.reply.output
 
 -- what a history made, the newest first, on top of what was made before
-abbrev pub made_after : Store → List Entry → List Made → List Made
-made_after store [] made = made
-made_after store (e ∷ es) made = made_after (outcome_of store e).store es (made_by store e ++ made)
+abbrev pub made_after : Service → List Entry → List Made → List Made
+made_after service [] made = made
+made_after service (e ∷ es) made = made_after (outcome_of service e).service es (made_by service e ++ made)
 
 -- the creation of this number
 abbrev pub creation_at : List Made → ℕ → Option Made
@@ -79,4 +86,4 @@ IsCaller e = (1 ≤ e.caller) × (e.caller ≤ caller_count)
 abbrev pub CopiesGainNothing : Type 0
 CopiesGainNothing =
     (settings : Settings) (h : List Entry) → AllByRecursion IsCaller h → (number : ℕ) (m : Made) →
-    creation_at (made_after (start_of settings) h []) number ≡ Some m → HasOrigin (made_after (start_of settings) h []) m
+    creation_at (made_after (service_start settings) h []) number ≡ Some m → HasOrigin (made_after (service_start settings) h []) m

@@ -1,12 +1,16 @@
--- What holds of each store that calls lead to.
-use Rattle.std.specs.Prelude.{◌≡◌, ◌≤◌, ◌<◌, ℕ, ◌+◌, ◌^◌, length, Some, Ok}
+-- What holds of each service that requests lead to.
+use Rattle.std.specs.Prelude.{◌≡◌, ◌≤◌, ◌<◌, ◌↔◌, ℕ, ◌+◌, ◌^◌, true, false, length, Option, None, Some, is_some, Ok}
 use Rattle.std.specs.FinMap as map
 use Rattle.key_attributes.specs.Checks.{checked}
-use Rattle.store_model.specs.Store.{Key, Store, Settings, caller_count, caller_state, first_volatile, has_secure_element, live_volatile, start_of}
-use Rattle.store_model.specs.Call.{Call}
+use Rattle.store_model.specs.Store.{Key, Store, Settings, caller_count, caller_state, first_volatile, has_secure_element, live_volatile}
 use Rattle.store_model.specs.Faults.{FaultMark}
 use Rattle.store_model.specs.Creation.{identified}
-use Rattle.store_model.specs.Step.{step}
+use Rattle.store_model.specs.Operations.{Inactive, InError, Active}
+use Rattle.store_model.specs.DerivationOperations.{DerivationWork, full_capacity, is_hkdf}
+use Rattle.store_model.specs.Handles.{KeyCreation, Work, Hashing, Authenticating, Ciphering, Sealing, Deriving, Held, HandleOperation, Service, handle_count, service_start, handles_of, operation_of, key_of_operation, is_alive}
+use Rattle.store_model.specs.Requests.{Request, serve}
+
+-- THE STORE
 
 -- A key has its identifier and a creation number that was given out. Its attributes, with no identifier in the place of a
 -- volatile key's, pass the checks and come out of them as they are: they have the flags that others imply, and the bits of
@@ -19,7 +23,7 @@ pub record IsSoundKey (store : Store) (id : ℕ) (key : Key) : Type 0 where
   pub to_last : key.creator ≤ caller_count
   pub made : (n : ℕ) × (n < (caller_state store key.creator).made) × (id ≡ first_volatile key.creator + n)
 
-pub record IsSound (store : Store) : Type 0 where
+pub record IsSoundStore (store : Store) : Type 0 where
   pub keys : (id : ℕ) (key : Key) → map.get store.keys id ≡ Some key → IsSoundKey store id key
   -- no creation number stands twice
   pub numbers : (id other : ℕ) (key same : Key) → map.get store.keys id ≡ Some key → map.get store.keys other ≡ Some same → key.number ≡ same.number → id ≡ other
@@ -27,11 +31,65 @@ pub record IsSound (store : Store) : Type 0 where
   pub live : (caller : ℕ) → live_volatile store.keys caller ≤ 16
   pub callers : length store.callers ≡ caller_count + 1
 
--- each store is sound at its start, and each call keeps it so
+-- THE OPERATIONS
+
+-- the key that an operation was given: its creation number was given out, and no key with this number has another
+-- identifier
+pub record IsSoundCreation (store : Store) (creation : KeyCreation) : Type 0 where
+  pub given : creation.number < store.found + store.calls
+  pub identifier : (id : ℕ) (key : Key) → map.get store.keys id ≡ Some key → key.number ≡ creation.number → id ≡ creation.id
+
+abbrev pub IsSoundUse : Store → Option KeyCreation → Type 0
+IsSoundUse store None = Unit {0}
+IsSoundUse store (Some creation) = IsSoundCreation store creation
+
+-- what was taken and what can still be taken are within the full capacity; and PBKDF2 has its cost, which isn't 0,
+-- before a salt and a password
+pub record IsSoundDerivation (work : DerivationWork) : Type 0 where
+  pub capacity : work.taken + work.capacity ≤ full_capacity work.alg
+  pub cost : (n : ℕ) → work.cost ≡ Some n → 1 ≤ n
+  pub salted : is_hkdf work.alg ≡ false → is_some work.salt ≡ true → is_some work.cost ≡ true
+  pub keyed : is_hkdf work.alg ≡ false → is_some work.secret ≡ true → is_some work.cost ≡ true
+
+abbrev pub IsSoundWork : Work → Type 0
+IsSoundWork (Hashing work) = Unit {0}
+IsSoundWork (Authenticating work) = Unit {0}
+IsSoundWork (Ciphering work) = Unit {0}
+IsSoundWork (Sealing work) = Unit {0}
+IsSoundWork (Deriving work) = IsSoundDerivation work
+
+pub record IsSoundHeld (store : Store) (held : Held) : Type 0 where
+  pub key : IsSoundUse store held.key
+  pub work : IsSoundWork held.work
+
+abbrev pub IsSoundOperation : Store → HandleOperation → Type 0
+IsSoundOperation store Inactive = Unit {0}
+IsSoundOperation store InError = Unit {0}
+IsSoundOperation store (Active held) = IsSoundHeld store held
+
+-- THE SERVICE
+
+pub record IsSound (service : Service) : Type 0 where
+  pub store : IsSoundStore service.store
+  pub operations : (caller handle : ℕ) → IsSoundOperation service.store (operation_of service caller handle)
+  -- each caller has its handles
+  pub handles : (caller : ℕ) → caller ≤ caller_count → length (handles_of service caller) ≡ handle_count + 1
+
+-- each service is sound at its start, and each request keeps it so
 abbrev pub StartsSound : Type 0
-StartsSound = (settings : Settings) → IsSound (start_of settings)
+StartsSound = (settings : Settings) → IsSound (service_start settings)
 
 abbrev pub StaysSound : Type 0
 StaysSound =
-    (store : Store) (caller : ℕ) (call : Call) (mark : FaultMark) → 1 ≤ caller → caller ≤ caller_count → IsSound store →
-    IsSound (step store caller call mark).store
+    (service : Service) (caller : ℕ) (request : Request) (mark : FaultMark) → 1 ≤ caller → caller ≤ caller_count → IsSound service →
+    IsSound (serve service caller request mark).service
+
+-- some key has this creation number
+abbrev pub HasNumber : Store → ℕ → Type 0
+HasNumber store number = (id : ℕ) × (key : Key) × (map.get store.keys id ≡ Some key) × (key.number ≡ number)
+
+-- the key that an operation was given is still there exactly where some key has its creation number
+abbrev pub AliveByNumber : Type 0
+AliveByNumber =
+    (service : Service) → IsSound service → (caller handle : ℕ) (creation : KeyCreation) → key_of_operation (operation_of service caller handle) ≡ Some creation →
+    (is_alive service.store (Some creation) ≡ true) ↔ HasNumber service.store creation.number

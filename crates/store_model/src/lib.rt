@@ -1,29 +1,43 @@
 //! The one-thread key store, its calls and its replies: definitions, which stand in `specs/`, and laws of them.
 #![tactic(auto)]
 
-ghost use Rattle.store_model.specs.Laws.{DrawsFewWords, LeavesOtherCallers, RefusalsLeaveAll};
+ghost use Rattle.store_model.specs.Laws.{DrawsFewWords, LeavesOtherCallers, LeavesOtherHandles, RefusalsLeaveAll, RefusedSetupsLeaveAll, UnreadyHandlesStay};
 ghost use Rattle.store_model.specs.Origin.{CopiesGainNothing};
-ghost use Rattle.store_model.specs.Sound.{StartsSound, StaysSound};
+ghost use Rattle.store_model.specs.Sound.{AliveByNumber, StartsSound, StaysSound};
 
-/// A call of one caller leaves every other caller's state.
+/// A request of one caller leaves every other caller's state and operations.
 pub fn leaves_other_callers()
     ensures { LeavesOtherCallers }
 {}
 
-/// A call draws at most 256 random words.
+/// A request leaves the operation of each handle that it isn't on.
+pub fn leaves_other_handles()
+    ensures { LeavesOtherHandles }
+{}
+
+/// A request draws at most 256 random words.
 pub fn draws_few_words()
     ensures { DrawsFewWords }
 {}
 
-/// A call that doesn't succeed leaves all keys and each caller's state.
+/// A request that doesn't succeed leaves all keys, each caller's state and the operations of all other handles; and of
+/// its own handle's operation what it was, or an error, or a derivation with the same inputs. A call that isn't in
+/// order on its handle, and a refused setup, leave all.
 pub fn refusals_leave_all()
-    ensures { RefusalsLeaveAll }
+    ensures refusals { RefusalsLeaveAll }
+    ensures unready { UnreadyHandlesStay }
+    ensures setups { RefusedSetupsLeaveAll }
 {}
 
-/// A store is sound at its start, and each call keeps it sound.
+/// A service is sound at its start, and each request keeps it sound.
 pub fn stays_sound()
     ensures starts { StartsSound }
     ensures stays { StaysSound }
+{}
+
+/// The key that an operation was given is still there exactly where some key has its creation number.
+pub fn alive_by_number()
+    ensures { AliveByNumber }
 {}
 
 /// No chain of copies gains a usage flag or an algorithm, over every history.

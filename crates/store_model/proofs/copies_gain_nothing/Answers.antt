@@ -1,4 +1,4 @@
-use Rattle.store_model.proofs.Origin.{gain_nothing}
+use Rattle.store_model.proofs.GainNothing.{gain_nothing}
 use Rattle.store_model.proofs.copies_gain_nothing.Goals as goal
 
 pub returns : goal.returns

@@ -1,5 +1,5 @@
-use Rattle.store_model.proofs.Callers.{leaves}
+use Rattle.store_model.proofs.Others.{leaves_callers}
 use Rattle.store_model.proofs.leaves_other_callers.Goals as goal
 
 pub returns : goal.returns
-returns c = leaves
+returns c = leaves_callers

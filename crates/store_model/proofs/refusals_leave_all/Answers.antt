@@ -1,5 +1,11 @@
-use Rattle.store_model.proofs.Refusals.{leaves_all}
+use Rattle.store_model.proofs.LeftAll.{leaves_all, unready_stay, setups_stay}
 use Rattle.store_model.proofs.refusals_leave_all.Goals as goal
 
-pub returns : goal.returns
-returns c = leaves_all
+pub returns-clause-refusals : goal.returns-clause-refusals
+returns-clause-refusals c = leaves_all
+
+pub returns-clause-unready : goal.returns-clause-unready
+returns-clause-unready c = unready_stay
+
+pub returns-clause-setups : goal.returns-clause-setups
+returns-clause-setups c = setups_stay

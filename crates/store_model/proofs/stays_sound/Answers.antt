@@ -1,4 +1,4 @@
-use Rattle.store_model.proofs.Sound.{starts, stays}
+use Rattle.store_model.proofs.SoundService.{starts, stays}
 use Rattle.store_model.proofs.stays_sound.Goals as goal
 
 pub returns-clause-starts : goal.returns-clause-starts

@@ -3,7 +3,7 @@ use Rattle.std.proofs.lemmas.Result.{err_from_is_err_and}
 use Rattle.psa_status.proofs.Rows.{unless-err}
 use Rattle.store_model.specs.Ciphers.{iv_length, deciphered, plain_or_zeros}
 use Rattle.store_core.specs.Ciphered.{cipher_rows}
-use Rattle.store_core.specs.Modes.{model_mode}
+use Rattle.algorithm_facts.specs.Modes.{model_mode}
 use Rattle.store_core.proofs.Refused.{refused_or_spoilt}
 use Rattle.store_core.proofs.Ciphering.{decrypted_buffer}
 use Rattle.store_core.proofs.ciphers.decrypt.Goals as goal

@@ -8,7 +8,7 @@ use Rattle.store_model.specs.KeyUse.{bytes_of}
 use Rattle.store_model.specs.Algorithms.{tag_bytes}
 use Rattle.store_model.specs.Rules.{use_rows}
 use Rattle.store_model.specs.Aeads.{opened}
-use Rattle.store_core.specs.Answers.{AnswersOrSpoils}
+use Rattle.store_model.specs.Answers.{AnswersOrSpoils}
 use Rattle.store_core.specs.Replies.{opened_rows}
 use Rattle.store_core.specs.Uses.{IsUsable}
 use Rattle.store_core.proofs.Classes.{is_aead, is_hmac-aead}

@@ -8,7 +8,7 @@ use Rattle.store_model.specs.KeyUse.{bytes_of}
 use Rattle.store_model.specs.Outcome.{given}
 use Rattle.store_model.specs.Rules.{use_rows}
 use Rattle.store_model.specs.Aeads.{sealed}
-use Rattle.store_core.specs.Answers.{AnswersLength}
+use Rattle.store_model.specs.Answers.{AnswersLength}
 use Rattle.store_core.specs.Replies.{sealed_rows}
 use Rattle.store_core.specs.Uses.{IsUsable}
 use Rattle.store_core.proofs.Classes.{is_aead, is_hmac-aead}

@@ -6,9 +6,9 @@ use Rattle.store_model.specs.Call.{buffer_after}
 use Rattle.store_model.specs.KeyUse.{bytes_of}
 use Rattle.store_model.specs.Rules.{use_rows}
 use Rattle.store_model.specs.Ciphers.{mode_of, iv_length, ciphertext_length, deciphered, plain_or_zeros}
-use Rattle.store_core.specs.Answers.{AnswersOrSpoils}
+use Rattle.store_model.specs.Answers.{AnswersOrSpoils}
 use Rattle.store_core.specs.Ciphered.{cipher_rows}
-use Rattle.store_core.specs.Modes.{model_mode}
+use Rattle.algorithm_facts.specs.Modes.{model_mode}
 use Rattle.store_core.specs.Uses.{IsUsable}
 use Rattle.store_core.proofs.Classes.{is_hmac-cipher}
 use Rattle.store_core.proofs.Ciphering.{decrypted_is}

@@ -12,7 +12,7 @@ use Rattle.psa_status.proofs.Rows.{first_row-front}
 use Rattle.store_model.specs.Draws.{with_drawn, next_random}
 use Rattle.store_model.specs.Ciphers.{mode_of, iv_length, encrypt_rows, enciphered}
 use Rattle.store_core.specs.Ciphered.{plain_rows}
-use Rattle.store_core.specs.Modes.{model_mode}
+use Rattle.algorithm_facts.specs.Modes.{model_mode}
 use Rattle.store_core.specs.Uses.{IsUsable}
 use Rattle.store_core.proofs.Classes.{is_hmac-cipher}
 use Rattle.store_core.proofs.Ciphering.{encrypt_refused, encrypt_passed, refused_store, refused_answer, refused_out, passed_store, passed_answer, passed_out, vector_fits, sealed_is, sealed_buffer, part_length}

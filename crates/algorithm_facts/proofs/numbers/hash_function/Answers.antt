@@ -4,8 +4,8 @@ use Rattle.std.proofs.lemmas.Nat.{and_mask}
 use Rattle.hash_ops.specs.declared.Hash.TheVariants.{Sha512}
 use Rattle.hash_ops.specs.Hashes.{hash_of}
 use Rattle.store_model.specs.Algorithms.{digest}
-use Rattle.store_core.proofs.Hashing.{hash_of-named}
-use Rattle.store_core.proofs.algorithms.hash_function.Goals as goal
+use Rattle.algorithm_facts.proofs.Hashing.{hash_of-named}
+use Rattle.algorithm_facts.proofs.numbers.hash_function.Goals as goal
 
 pub returns-clause-digest : goal.returns-clause-digest
 returns-clause-digest c =

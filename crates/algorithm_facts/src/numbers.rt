@@ -42,3 +42,6 @@ pub fn hash_function(alg: Alg) -> Hash
 {
     Hash::from_low_byte((alg.number() & 0xff) as u8).unwrap_or(Hash::Sha512)
 }
+
+/// No input is longer than this.
+pub const TOTAL_LIMIT: usize = 0xffff_ffff;

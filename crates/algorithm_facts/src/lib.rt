@@ -1,0 +1,13 @@
+//! What algorithm numbers say to the code that computes with them: the mode of a cipher, the hash of a MAC, the
+//! length of a tag.
+#![tactic(auto)]
+
+mod keys;
+mod modes;
+mod numbers;
+
+pub use keys::{aes_key, check_class};
+pub use modes::{
+    Mode, enciphered_length, is_ciphertext_length, iv_length, mode_of, takes_whole_blocks,
+};
+pub use numbers::{TOTAL_LIMIT, hash_function, is_ccm, is_hmac, tag_bytes};

@@ -1,0 +1,70 @@
+// The modes of the cipher algorithms.
+ghost use Rattle.std.specs.Prelude.{◌≡◌, ◌≤◌, ◌<◌, ◌^◌};
+ghost use Rattle.store_model.specs.Ciphers.{enciphered_length, is_ciphertext_length, iv_length, mode_of, takes_whole_blocks};
+ghost use Rattle.algorithm_facts.specs.Modes.{model_mode};
+
+use alg_encoding::Alg;
+
+/// The modes of the cipher algorithms.
+#[derive(Clone, Copy, Drop)]
+pub enum Mode {
+    Ctr,
+    CbcNoPadding,
+    CbcPkcs7,
+    EcbNoPadding,
+}
+
+/// The mode of a cipher's number.
+pub fn mode_of(alg: Alg) -> Mode
+    ensures { model_mode result ≡ mode_of alg.0 }
+{
+    match alg.0 {
+        0x04c0_1000 => Mode::Ctr,
+        0x0440_4000 => Mode::CbcNoPadding,
+        0x0440_4100 => Mode::CbcPkcs7,
+        _ => Mode::EcbNoPadding,
+    }
+}
+
+/// The bytes of the initialisation vector, which stands before the ciphertext.
+pub fn iv_length(mode: Mode) -> usize
+    ensures value { result ≡ iv_length (model_mode mode) }
+    ensures bound { result ≤ 16 }
+{
+    match mode {
+        Mode::EcbNoPadding => 0,
+        Mode::Ctr | Mode::CbcNoPadding | Mode::CbcPkcs7 => 16,
+    }
+}
+
+/// Whether a text has to be whole blocks.
+pub fn takes_whole_blocks(mode: Mode) -> bool
+    ensures { result ≡ takes_whole_blocks (model_mode mode) }
+{
+    match mode {
+        Mode::CbcNoPadding | Mode::EcbNoPadding => true,
+        Mode::Ctr | Mode::CbcPkcs7 => false,
+    }
+}
+
+/// The bytes of the ciphertext of so many bytes.
+pub fn enciphered_length(mode: Mode, length: usize) -> usize
+    requires { length < 2 ^ 32 }
+    ensures { result ≡ enciphered_length (model_mode mode) length }
+{
+    match mode {
+        Mode::CbcPkcs7 => length + (16 - length % 16),
+        Mode::Ctr | Mode::CbcNoPadding | Mode::EcbNoPadding => length,
+    }
+}
+
+/// Whether a ciphertext may have so many bytes.
+pub fn is_ciphertext_length(mode: Mode, length: usize) -> bool
+    ensures { result ≡ is_ciphertext_length (model_mode mode) length }
+{
+    match mode {
+        Mode::Ctr => true,
+        Mode::CbcPkcs7 => length % 16 == 0 && length != 0,
+        Mode::CbcNoPadding | Mode::EcbNoPadding => length % 16 == 0,
+    }
+}

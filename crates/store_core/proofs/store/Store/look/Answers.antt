@@ -1,0 +1,12 @@
+use Rattle.std.proofs.Common.{rules, take}
+use Rattle.std.specs.FinMap as finite
+use Rattle.store_core.specs.Uses.{IsUsable}
+use Rattle.store_core.proofs.Looks.{looked_up}
+use Rattle.store_core.proofs.store.Store.look.Goals as goal
+
+pub returns : goal.returns
+returns c =
+    let e = c.in-Some.entry.now in
+    let found = finite.get c.args.self.now.keys c.args.key.0 in
+    let usable : IsUsable c.args.class c.args.usage.0 c.args.alg.0 found (take e.length e.buffer) = search rules in
+    looked_up c.args.class c.args.usage.0 c.args.alg.0 c.args.key.0 found e c.in-Some.ensures usable

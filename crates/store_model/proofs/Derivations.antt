@@ -1,0 +1,137 @@
+-- What a derivation's step makes of its operation.
+use Rattle.std.proofs.Common.{◌≡◌, ℕ, ◌≤◌, Bool, true, false, cond, List, length, refl, arith}
+use Rattle.std.specs.Prelude.{Option, None, Some, ◌==◌, ◌&&◌, ◌||◌, not, nat_lt, is_some, bytes_eq, ◌++◌}
+use Rattle.std.proofs.lemmas.Bool.Decides.{nat_tests}
+use Rattle.psa_status.specs.declared.Status.{Status}
+use Rattle.psa_status.specs.declared.Status.TheVariants.{InvalidArgument, InvalidSignature, InsufficientData}
+use Rattle.psa_status.specs.Rows.{first_row}
+use Rattle.store_model.specs.Store.{Key, Store}
+use Rattle.store_model.specs.Call.{Reply}
+use Rattle.store_model.specs.Outcome.{given, done, refusal}
+use Rattle.store_model.specs.Operations.{goes_on}
+use Rattle.store_model.specs.DerivationOperations.{DerivationWork, DerivationStep, GetCapacity, SetCapacity, InputBytes, InputInteger, OutputBytes, VerifyBytes, derivation_work, derivation_step, input_bytes_rows, input_integer_rows, is_hkdf, is_due, is_salt_due, is_info_due, is_secret_due, salt_step, info_step, with_key, without, exhausted, next_derived, compared, capacity_reply}
+use Rattle.store_model.specs.CipherOperations.{bytes_or_empty}
+use Rattle.store_model.specs.HandleCalls.{input_key_rows}
+use Rattle.store_model.specs.Handles.{KeyCreation, Deriving, held_after}
+use Rattle.store_model.specs.Refusals.{IsLeft, AsItWas, Exhausted, Compared}
+use Rattle.store_model.specs.Sound.{IsSoundDerivation}
+use Rattle.store_model.proofs.Drawn.{none_holds}
+use Rattle.store_model.proofs.Steps.{IsStep, begun, unless_step, goes_step}
+
+-- inputs
+
+pub flipped : (b : Bool) → not b ≡ false → b ≡ true
+flipped true h = refl
+flipped false h = cc
+
+costed : (secret hkdf salt cost : Bool) → (not secret && cond hkdf salt cost) ≡ true → hkdf ≡ false → cost ≡ true
+costed secret hkdf salt cost h e = grind arith
+
+salted : (secret hkdf salt : Bool) → (not secret && (hkdf || salt)) ≡ true → hkdf ≡ false → salt ≡ true
+salted secret hkdf salt h e = grind arith
+
+pub key_sound : (w : DerivationWork) (key : List ℕ) → is_secret_due w ≡ true → IsSoundDerivation w → IsSoundDerivation (with_key w key)
+key_sound w key due h = record {
+  capacity = h.capacity;
+  cost = h.cost;
+  salted = h.salted;
+  keyed = λ e some. h.salted e (salted (is_some w.secret) (is_hkdf w.alg) (is_some w.salt) due e);
+}
+
+bytes_sound : (w : DerivationWork) (bytes : List ℕ) (b c : Bool) → cond b (is_salt_due w) (cond c (is_info_due w) (is_secret_due w)) ≡ true → IsSoundDerivation w →
+    IsSoundDerivation (cond b (record w { salt = Some (bytes_or_empty w.salt ++ bytes) }) (cond c (record w { info = Some bytes }) (record w { secret = Some bytes })))
+bytes_sound w bytes true c due h = record {
+  capacity = h.capacity;
+  cost = h.cost;
+  salted = λ e some. costed (is_some w.secret) (is_hkdf w.alg) (not (is_some w.salt)) (is_some w.cost) due e;
+  keyed = h.keyed;
+}
+bytes_sound w bytes false true due h = record { capacity = h.capacity; cost = h.cost; salted = h.salted; keyed = h.keyed }
+bytes_sound w bytes false false due h = record {
+  capacity = h.capacity;
+  cost = h.cost;
+  salted = h.salted;
+  keyed = λ e some. h.salted e (salted (is_some w.secret) (is_hkdf w.alg) (is_some w.salt) due e);
+}
+
+not_zero : (value n : ℕ) → (value == 0) ≡ false → ◌≡◌ {A = Option ℕ} (Some value) (Some n) → 1 ≤ n
+not_zero value n h e = let same : value ≡ n = cc in grind (arith, nat_tests)
+
+cost_sound : (w : DerivationWork) (value : ℕ) → (value == 0) ≡ false → IsSoundDerivation w → IsSoundDerivation (record w { cost = Some value })
+cost_sound w value some h = record {
+  capacity = h.capacity;
+  cost = λ n e. not_zero value n some e;
+  salted = λ e salt. refl;
+  keyed = λ e secret. refl;
+}
+
+pub start_sound : (alg : ℕ) → IsSoundDerivation (derivation_work alg)
+start_sound alg = record {
+  capacity = omega arith;
+  cost = λ n e. cc;
+  salted = λ e salt. cc;
+  keyed = λ e secret. cc;
+}
+
+-- outputs
+
+exhausted_sound : (w : DerivationWork) → IsSoundDerivation w → IsSoundDerivation (record w { capacity = 0 })
+exhausted_sound w h = record { capacity = let c = h.capacity in omega arith; cost = h.cost; salted = h.salted; keyed = h.keyed }
+
+lowered_sound : (w : DerivationWork) (n : ℕ) → n ≤ w.capacity → IsSoundDerivation w → IsSoundDerivation (record w { capacity = n })
+lowered_sound w n less h = record { capacity = let c = h.capacity in omega arith; cost = h.cost; salted = h.salted; keyed = h.keyed }
+
+pub without_sound : (w : DerivationWork) (n : ℕ) → n ≤ w.capacity → IsSoundDerivation w → IsSoundDerivation (without w n)
+without_sound w n less h = record { capacity = let c = h.capacity in omega arith; cost = h.cost; salted = h.salted; keyed = h.keyed }
+
+pub not_below : (m n : ℕ) → nat_lt m n ≡ false → n ≤ m
+not_below m n h = grind (arith, nat_tests)
+
+module _ (store : Store) (key : Option KeyCreation) where
+  -- a refusal that leaves the derivation active
+  stays_step : (w next : DerivationWork) (status : Status) → IsLeft status (begun store key Deriving w) (begun store key Deriving next) → (IsSoundDerivation w → IsSoundDerivation next) →
+      IsStep store (begun store key Deriving w) (held_after key Deriving (goes_on next (refusal status)))
+  stays_step w next status left sound = record {
+    few = omega arith;
+    undrawn = λ no. refl;
+    left = λ no. left;
+    no_key = λ s a. refl;
+    sound = λ s h. record { key = h.key; work = sound h.work };
+  }
+
+  pub exhausted_step : (w : DerivationWork) → IsStep store (begun store key Deriving w) (held_after key Deriving (exhausted w))
+  exhausted_step w = stays_step w (record w { capacity = 0 }) InsufficientData (Exhausted key w refl refl refl) (exhausted_sound w)
+
+  taken_step : (w : DerivationWork) (n : ℕ) (reply : Reply) (b : Bool) → nat_lt w.capacity n ≡ b →
+      (n ≤ w.capacity → IsStep store (begun store key Deriving w) (held_after key Deriving (goes_on (without w n) reply))) →
+      IsStep store (begun store key Deriving w) (held_after key Deriving (cond b (exhausted w) (goes_on (without w n) reply)))
+  taken_step w n reply true e h = exhausted_step w
+  taken_step w n reply false e h = h (not_below w.capacity n e)
+
+  compared_step : (w : DerivationWork) (n : ℕ) (same : Bool) → n ≤ w.capacity → IsStep store (begun store key Deriving w) (held_after key Deriving (goes_on (without w n) (compared same)))
+  compared_step w n true less = goes_step store key Deriving w (without w n) done refl (λ s a. refl) (without_sound w n less)
+  compared_step w n false less = stays_step w (without w n) InvalidSignature (Compared key w n refl less refl refl) (without_sound w n less)
+
+  lowered_step : (w : DerivationWork) (n : ℕ) (b : Bool) → nat_lt w.capacity n ≡ b →
+      IsStep store (begun store key Deriving w) (held_after key Deriving (cond b (goes_on w (refusal InvalidArgument)) (goes_on (record w { capacity = n }) done)))
+  lowered_step w n true e = stays_step w w InvalidArgument (AsItWas refl) (λ h. h)
+  lowered_step w n false e = goes_step store key Deriving w (record w { capacity = n }) done refl (λ s a. refl) (lowered_sound w n (not_below w.capacity n e))
+
+  pub derivation_is_step : (w : DerivationWork) (step : DerivationStep) → IsStep store (begun store key Deriving w) (held_after key Deriving (derivation_step w step))
+  derivation_is_step w GetCapacity = goes_step store key Deriving w w (capacity_reply w.capacity) refl (λ s a. refl) (λ h. h)
+  derivation_is_step w (SetCapacity n) = lowered_step w n (nat_lt w.capacity n) refl
+  derivation_is_step w (InputBytes step bytes) =
+      unless_step store key Deriving _ _ _ (λ e. goes_step store key Deriving w _ done refl (λ s a. refl)
+      (bytes_sound w bytes (step == salt_step) (step == info_step) (flipped (is_due w step) (none_holds (input_bytes_rows w step bytes) 1 e))))
+  derivation_is_step w (InputInteger step value) =
+      unless_step store key Deriving _ _ _ (λ e. goes_step store key Deriving w _ done refl (λ s a. refl) (cost_sound w value (none_holds (input_integer_rows w step value) 2 e)))
+  derivation_is_step w (OutputBytes n) =
+      unless_step store key Deriving _ _ _ (λ e. taken_step w n (given (next_derived w n)) (nat_lt w.capacity n) refl
+      (λ less. goes_step store key Deriving w (without w n) (given (next_derived w n)) refl (λ s a. refl) (without_sound w n less)))
+  derivation_is_step w (VerifyBytes expected) =
+      unless_step store key Deriving _ _ _ (λ e. taken_step w (length expected) (compared (bytes_eq expected (next_derived w (length expected)))) (nat_lt w.capacity (length expected)) refl
+      (compared_step w (length expected) (bytes_eq expected (next_derived w (length expected)))))
+
+-- a key is due
+pub key_due : (w : DerivationWork) (found : Option Key) (step : ℕ) → first_row (input_key_rows w found step) ≡ None → is_secret_due w ≡ true
+key_due w found step e = flipped (is_secret_due w) (none_holds (input_key_rows w found step) 1 e)

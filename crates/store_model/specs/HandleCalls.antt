@@ -1,0 +1,145 @@
+-- Calls on a handle.
+use Rattle.std.specs.Prelude.{ℕ, Bool, true, not, nat_lt, ◌&&◌, ◌||◌, ◌==◌, List, [], ◌∷◌, ◌++◌, Option, Some, None, if◌then◌else◌}
+use Rattle.std.specs.FinMap as map
+use Rattle.psa_status.specs.declared.Status.{Status}
+use Rattle.psa_status.specs.declared.Status.TheVariants.{BadState, InvalidHandle, NotPermitted, InvalidArgument}
+use Rattle.psa_status.specs.Rows.{Rows, first_row}
+use Rattle.alg_encoding.specs.declared.table.Class.{Class}
+use Rattle.alg_encoding.specs.declared.table.Class.TheVariants as class
+use Rattle.key_attributes.specs.declared.Attributes.{Attributes}
+use Rattle.policy_rules.specs.Policy.{may_use}
+use Rattle.store_model.specs.Store.{Key}
+use Rattle.store_model.specs.Draws.{next_random}
+use Rattle.store_model.specs.Outcome.{Outcome, done}
+use Rattle.store_model.specs.Rules.{class_rows, use_rows}
+use Rattle.store_model.specs.KeyUse.{bytes_of}
+use Rattle.store_model.specs.Creation.{creation_rows, created}
+use Rattle.store_model.specs.Operations.{Operation, Inactive, InError, Active, set_up, fails, ends, goes_on, unless_failed, with_live_key}
+use Rattle.store_model.specs.HashOperations.{HashStep, hash_work, hash_step}
+use Rattle.store_model.specs.MacOperations.{MacStep, mac_work, mac_step}
+use Rattle.store_model.specs.CipherOperations.{CipherStep, cipher_work, cipher_step}
+use Rattle.store_model.specs.AeadOperations.{AeadStep, aead_work, aead_step}
+use Rattle.store_model.specs.DerivationOperations.{DerivationStep, DerivationWork, derivation_work, derivation_step, secret_step, key_step_rows, with_key, output_key_rows, exhausted, without, next_derived, stated_bytes}
+use Rattle.store_model.specs.Handles.{KeyCreation, Work, Hashing, Authenticating, Ciphering, Sealing, Deriving, Service, Served, operation_of, with_operation, applied, untouched, stepped, part_of, hash_part, mac_part, cipher_part, aead_part, derivation_part, key_of_operation, is_alive, held_after, held_with}
+
+pub data HandleCall : Type 0 where
+  HashSetup : (alg : ℕ) → HandleCall
+  MacSetup : (verifies : Bool) (id alg : ℕ) → HandleCall
+  CipherSetup : (encrypts : Bool) (id alg : ℕ) → HandleCall
+  AeadSetup : (encrypts : Bool) (id alg : ℕ) → HandleCall
+  DerivationSetup : (alg : ℕ) → HandleCall
+  OnHash : (step : HashStep) → HandleCall
+  OnMac : (step : MacStep) → HandleCall
+  OnCipher : (step : CipherStep) → HandleCall
+  OnAead : (step : AeadStep) → HandleCall
+  OnDerivation : (step : DerivationStep) → HandleCall
+  InputKey : (step id : ℕ) → HandleCall
+  OutputKey : (attributes : Attributes) → HandleCall
+  Abort : HandleCall
+
+-- SETUPS
+
+abbrev pub set_up_with : Service → (caller handle : ℕ) → Option Status → Option KeyCreation → Work → Served
+set_up_with service caller handle refused key work =
+    applied service caller handle (set_up (operation_of service caller handle) refused (record { key = key; work = work }))
+
+-- the creation of what the map has at an identifier
+abbrev pub creation_of : ℕ → Option Key → Option KeyCreation
+creation_of id (Some key) = Some (record { id = id; number = key.number })
+creation_of id None = None
+
+-- a setup with a key that may be used so with the algorithm
+abbrev pub set_up_keyed : Service → (caller handle : ℕ) → Class → (usage alg id : ℕ) → (List ℕ → Work) → Served
+set_up_keyed service caller handle class usage alg id work =
+    let found : Option Key = map.get service.store.keys id in
+    set_up_with service caller handle (first_row (use_rows class usage alg found)) (creation_of id found) (work (bytes_of found))
+
+-- SIGN_MESSAGE and VERIFY_MESSAGE, ENCRYPT and DECRYPT
+abbrev pub mac_usage : Bool → ℕ
+mac_usage verifies = if verifies then 0x800 else 0x400
+
+abbrev pub cipher_usage : Bool → ℕ
+cipher_usage encrypts = if encrypts then 0x100 else 0x200
+
+-- A KEY AS THE SECRET OF A DERIVATION: DERIVE, and a type that fits the step
+
+abbrev pub derive_usage : ℕ
+derive_usage = 0x4000
+
+abbrev pub fits_step : (step key_type : ℕ) → Bool
+fits_step step key_type = key_type == 0x1200 || (not (step == secret_step) && key_type == 0x1203)
+
+abbrev pub derivation_key_rows : Option Key → (step alg : ℕ) → Rows
+derivation_key_rows None step alg = (true, InvalidHandle) ∷ []
+derivation_key_rows (Some key) step alg =
+    (not (may_use key.attributes.policy derive_usage alg), NotPermitted)
+    ∷ (not (fits_step step key.attributes.key_type.0), InvalidArgument)
+    ∷ []
+
+abbrev pub input_key_rows : DerivationWork → Option Key → ℕ → Rows
+input_key_rows w found step = key_step_rows w step ++ derivation_key_rows found step w.alg
+
+-- the operation's own key, where it had one, is looked for first; it has the new one if it goes on
+abbrev pub input_key : Service → (caller handle : ℕ) → Operation DerivationWork → (step id : ℕ) → Served
+input_key service caller handle (Active w) step id =
+    let key : Option KeyCreation = key_of_operation (operation_of service caller handle) in
+    let found : Option Key = map.get service.store.keys id in
+    applied service caller handle (held_after (creation_of id found) Deriving (with_live_key (is_alive service.store key)
+    (unless_failed (first_row (input_key_rows w found step)) (goes_on (with_key w (bytes_of found)) done))))
+input_key service caller handle Inactive step id = untouched service BadState
+input_key service caller handle InError step id = untouched service BadState
+
+-- A KEY OF DERIVED BYTES
+
+-- the derivation gave its bytes: the key is created, or the derivation is in error
+abbrev pub created_from : Service → (caller handle : ℕ) → Option KeyCreation → DerivationWork → Attributes → Option Status → Served
+created_from service caller handle key w a (Some status) = applied service caller handle (fails status)
+created_from service caller handle key w a None =
+    let n : ℕ = stated_bytes a in
+    let made : Outcome = created service.store caller a (next_derived w n) in
+    record {
+      service = with_operation (record service { store = made.store }) caller handle (held_with key Deriving (Active (without w n)));
+      reply = made.reply;
+    }
+
+abbrev pub output_key_of : Service → (caller handle : ℕ) → Option KeyCreation → DerivationWork → Attributes → Option Status → Served
+output_key_of service caller handle key w a (Some status) = applied service caller handle (fails status)
+output_key_of service caller handle key w a None =
+    if nat_lt w.capacity (stated_bytes a) then applied service caller handle (held_after key Deriving (exhausted w))
+    else created_from service caller handle key w a (first_row (creation_rows service.store caller a (stated_bytes a)))
+
+abbrev pub output_key : Service → (caller handle : ℕ) → Operation DerivationWork → Attributes → Served
+output_key service caller handle (Active w) a =
+    let key : Option KeyCreation = key_of_operation (operation_of service caller handle) in
+    output_key_of service caller handle key w a (first_row ((not (is_alive service.store key), InvalidHandle) ∷ output_key_rows w a))
+output_key service caller handle Inactive a = untouched service BadState
+output_key service caller handle InError a = untouched service BadState
+
+-- ANY CALL
+
+abbrev pub random_of : Service → ℕ → List ℕ
+random_of service caller = next_random service.store caller 16
+
+abbrev pub handle_step : Service → (caller handle : ℕ) → HandleCall → Served
+handle_step service caller handle (HashSetup alg) = set_up_with service caller handle (first_row (class_rows class.Hash alg)) None (Hashing (hash_work alg))
+handle_step service caller handle (MacSetup verifies id alg) =
+    set_up_keyed service caller handle class.Mac (mac_usage verifies) alg id (λ key. Authenticating (mac_work verifies alg key))
+handle_step service caller handle (CipherSetup encrypts id alg) =
+    set_up_keyed service caller handle class.Cipher (cipher_usage encrypts) alg id (λ key. Ciphering (cipher_work encrypts alg key))
+handle_step service caller handle (AeadSetup encrypts id alg) =
+    set_up_keyed service caller handle class.Aead (cipher_usage encrypts) alg id (λ key. Sealing (aead_work encrypts alg key))
+handle_step service caller handle (DerivationSetup alg) =
+    set_up_with service caller handle (first_row (class_rows class.Derivation alg)) None (Deriving (derivation_work alg))
+handle_step service caller handle (OnHash step) =
+    stepped service caller handle Hashing (part_of hash_part (operation_of service caller handle)) (λ w. hash_step w step)
+handle_step service caller handle (OnMac step) =
+    stepped service caller handle Authenticating (part_of mac_part (operation_of service caller handle)) (λ w. mac_step w step)
+handle_step service caller handle (OnCipher step) =
+    stepped service caller handle Ciphering (part_of cipher_part (operation_of service caller handle)) (λ w. cipher_step (random_of service caller) w step)
+handle_step service caller handle (OnAead step) =
+    stepped service caller handle Sealing (part_of aead_part (operation_of service caller handle)) (λ w. aead_step (random_of service caller) w step)
+handle_step service caller handle (OnDerivation step) =
+    stepped service caller handle Deriving (part_of derivation_part (operation_of service caller handle)) (λ w. derivation_step w step)
+handle_step service caller handle (InputKey step id) = input_key service caller handle (part_of derivation_part (operation_of service caller handle)) step id
+handle_step service caller handle (OutputKey a) = output_key service caller handle (part_of derivation_part (operation_of service caller handle)) a
+handle_step service caller handle Abort = applied service caller handle (ends done)

@@ -1,0 +1,158 @@
+-- The service: the store, and the operations of the callers' handles.
+use Rattle.std.specs.Prelude.{ℕ, ◌+◌, Bool, true, false, ◌==◌, List, [], replicate, get_or, slice_set, Option, Some, None, if◌then◌else◌}
+use Rattle.std.specs.FinMap as map
+use Rattle.psa_status.specs.declared.Status.{Status}
+use Rattle.psa_status.specs.declared.Status.TheVariants.{BadState}
+use Rattle.store_model.specs.Store.{Key, Store, Settings, caller_count, start_of}
+use Rattle.store_model.specs.Call.{Reply}
+use Rattle.store_model.specs.Draws.{with_drawn}
+use Rattle.store_model.specs.Outcome.{counted, refusal}
+use Rattle.store_model.specs.Operations.{Operation, Inactive, InError, Active, After, with_live_key}
+use Rattle.store_model.specs.HashOperations.{HashWork}
+use Rattle.store_model.specs.MacOperations.{MacWork}
+use Rattle.store_model.specs.CipherOperations.{CipherWork}
+use Rattle.store_model.specs.AeadOperations.{AeadWork}
+use Rattle.store_model.specs.DerivationOperations.{DerivationWork}
+
+-- the work of an operation of any family
+pub data Work : Type 0 where
+  Hashing : (work : HashWork) → Work
+  Authenticating : (work : MacWork) → Work
+  Ciphering : (work : CipherWork) → Work
+  Sealing : (work : AeadWork) → Work
+  Deriving : (work : DerivationWork) → Work
+
+-- the creation of a key: its identifier then, and the number that no other creation has
+pub record KeyCreation : Type 0 where
+  pub id : ℕ
+  pub number : ℕ
+
+-- what an active handle holds: the key that its work was given, and the work
+pub record Held : Type 0 where
+  pub key : Option KeyCreation
+  pub work : Work
+
+abbrev pub HandleOperation : Type 0
+HandleOperation = Operation Held
+
+-- the store, and each caller's operations by the numbers of the caller and of the handle, from 1
+pub record Service : Type 0 where
+  pub store : Store
+  pub operations : List (List HandleOperation)
+
+-- how many handles a caller has
+abbrev pub handle_count : ℕ
+handle_count = 4
+
+-- every handle is inactive
+abbrev pub service_of : Store → Service
+service_of store = record { store = store; operations = replicate (caller_count + 1) (replicate (handle_count + 1) Inactive) }
+
+abbrev pub service_start : Settings → Service
+service_start settings = service_of (start_of settings)
+
+abbrev pub handles_of : Service → ℕ → List HandleOperation
+handles_of service caller = get_or service.operations caller []
+
+abbrev pub operation_of : Service → (caller handle : ℕ) → HandleOperation
+operation_of service caller handle = get_or (handles_of service caller) handle Inactive
+
+abbrev pub with_operation : Service → (caller handle : ℕ) → HandleOperation → Service
+with_operation service caller handle operation =
+    record service { operations = slice_set service.operations caller (slice_set (handles_of service caller) handle operation) }
+
+-- the service after a call, and the reply
+pub record Served : Type 0 where
+  pub service : Service
+  pub reply : Reply
+
+-- random bytes are drawn where there are any to draw
+abbrev pub drawn_by : Store → (caller n : ℕ) → Store
+drawn_by store caller n = if n == 0 then store else with_drawn store caller n
+
+-- one more call, of which this came
+abbrev pub applied : Service → (caller handle : ℕ) → After Held → Served
+applied service caller handle after = record {
+  service = with_operation (record service { store = drawn_by (counted service.store) caller after.drawn }) caller handle after.operation;
+  reply = after.reply;
+}
+
+-- a call that leaves all operations
+abbrev pub untouched : Service → Status → Served
+untouched service status = record { service = record service { store = counted service.store }; reply = refusal status }
+
+-- KEYS OF OPERATIONS
+
+-- whether the key of this creation is still there
+abbrev pub is_creation : KeyCreation → Option Key → Bool
+is_creation creation (Some key) = key.number == creation.number
+is_creation creation None = false
+
+abbrev pub is_alive : Store → Option KeyCreation → Bool
+is_alive store (Some creation) = is_creation creation (map.get store.keys creation.id)
+is_alive store None = true
+
+abbrev pub key_of_operation : HandleOperation → Option KeyCreation
+key_of_operation (Active held) = held.key
+key_of_operation Inactive = None
+key_of_operation InError = None
+
+-- ONE FAMILY'S PART: a handle that holds another family's work is as an inactive one to it
+
+abbrev pub part_of : {W : Type 0} → (Work → Operation W) → HandleOperation → Operation W
+part_of part (Active held) = part held.work
+part_of part Inactive = Inactive
+part_of part InError = InError
+
+abbrev pub hash_part : Work → Operation HashWork
+hash_part (Hashing work) = Active work
+hash_part (Authenticating work) = Inactive
+hash_part (Ciphering work) = Inactive
+hash_part (Sealing work) = Inactive
+hash_part (Deriving work) = Inactive
+
+abbrev pub mac_part : Work → Operation MacWork
+mac_part (Authenticating work) = Active work
+mac_part (Hashing work) = Inactive
+mac_part (Ciphering work) = Inactive
+mac_part (Sealing work) = Inactive
+mac_part (Deriving work) = Inactive
+
+abbrev pub cipher_part : Work → Operation CipherWork
+cipher_part (Ciphering work) = Active work
+cipher_part (Hashing work) = Inactive
+cipher_part (Authenticating work) = Inactive
+cipher_part (Sealing work) = Inactive
+cipher_part (Deriving work) = Inactive
+
+abbrev pub aead_part : Work → Operation AeadWork
+aead_part (Sealing work) = Active work
+aead_part (Hashing work) = Inactive
+aead_part (Authenticating work) = Inactive
+aead_part (Ciphering work) = Inactive
+aead_part (Deriving work) = Inactive
+
+abbrev pub derivation_part : Work → Operation DerivationWork
+derivation_part (Deriving work) = Active work
+derivation_part (Hashing work) = Inactive
+derivation_part (Authenticating work) = Inactive
+derivation_part (Ciphering work) = Inactive
+derivation_part (Sealing work) = Inactive
+
+-- a family's operation, held with its key
+abbrev pub held_with : {W : Type 0} → Option KeyCreation → (W → Work) → Operation W → HandleOperation
+held_with key embed (Active work) = Active (record { key = key; work = embed work })
+held_with key embed Inactive = Inactive
+held_with key embed InError = InError
+
+abbrev pub held_after : {W : Type 0} → Option KeyCreation → (W → Work) → After W → After Held
+held_after key embed after = record { operation = held_with key embed after.operation; reply = after.reply; drawn = after.drawn }
+
+-- A step or a finish of one family on a handle: BAD_STATE where the handle isn't active with this family, then
+-- INVALID_HANDLE where its key is gone, then what the family says.
+abbrev pub stepped : {W : Type 0} → Service → (caller handle : ℕ) → (W → Work) → Operation W → (W → After W) → Served
+stepped service caller handle embed (Active work) f =
+    let key : Option KeyCreation = key_of_operation (operation_of service caller handle) in
+    applied service caller handle (held_after key embed (with_live_key (is_alive service.store key) (f work)))
+stepped service caller handle embed Inactive f = untouched service BadState
+stepped service caller handle embed InError f = untouched service BadState

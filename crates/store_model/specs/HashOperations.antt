@@ -1,0 +1,36 @@
+-- A hash in several parts.
+use Rattle.std.specs.Prelude.{ℕ, ◌+◌, not, nat_lt, bytes_eq, List, [], ◌∷◌, ◌++◌, length}
+use Rattle.psa_status.specs.declared.Status.TheVariants.{InvalidArgument, InvalidSignature}
+use Rattle.psa_status.specs.Rows.{Rows, first_row}
+use Rattle.alg_encoding.specs.declared.table.Class.TheVariants.{Hash}
+use Rattle.store_model.specs.Algorithms.{hash_of, hash_length_of}
+use Rattle.store_model.specs.Rules.{class_rows, room_rows, total_limit}
+use Rattle.store_model.specs.Outcome.{given, done}
+use Rattle.store_model.specs.Operations.{Operation, After, goes_on, ends, unless_failed, set_up}
+
+-- the algorithm, and the message so far
+pub record HashWork : Type 0 where
+  pub alg : ℕ
+  pub message : List ℕ
+
+pub data HashStep : Type 0 where
+  HashUpdate : (input : List ℕ) → HashStep
+  HashFinish : (room : ℕ) → HashStep
+  HashVerify : (hash : List ℕ) → HashStep
+
+abbrev pub hash_work : ℕ → HashWork
+hash_work alg = record { alg = alg; message = [] }
+
+-- hash_setup
+abbrev pub hash_setup : Operation HashWork → ℕ → After HashWork
+hash_setup operation alg = set_up operation (first_row (class_rows Hash alg)) (hash_work alg)
+
+-- no message is longer than 2^32 - 1 bytes
+abbrev pub total_rows : (so_far more : ℕ) → Rows
+total_rows so_far more = (nat_lt total_limit (so_far + more), InvalidArgument) ∷ []
+
+abbrev pub hash_step : HashWork → HashStep → After HashWork
+hash_step w (HashUpdate input) =
+    unless_failed (first_row (total_rows (length w.message) (length input))) (goes_on (record w { message = w.message ++ input }) done)
+hash_step w (HashFinish room) = unless_failed (first_row (room_rows (hash_length_of w.alg) room)) (ends (given (hash_of w.alg w.message)))
+hash_step w (HashVerify hash) = unless_failed (first_row ((not (bytes_eq hash (hash_of w.alg w.message)), InvalidSignature) ∷ [])) (ends done)

@@ -1,0 +1,40 @@
+-- A MAC in several parts.
+use Rattle.std.specs.Prelude.{ℕ, Bool, not, bytes_eq, List, [], ◌∷◌, ◌++◌, length, None}
+use Rattle.psa_status.specs.declared.Status.TheVariants.{BadState, InvalidSignature}
+use Rattle.psa_status.specs.Rows.{Rows, first_row}
+use Rattle.store_model.specs.Algorithms.{mac_of, tag_bytes}
+use Rattle.store_model.specs.Rules.{room_rows}
+use Rattle.store_model.specs.Outcome.{given, done}
+use Rattle.store_model.specs.Operations.{Operation, After, goes_on, ends, unless_failed, set_up}
+use Rattle.store_model.specs.HashOperations.{total_rows}
+
+-- whether a MAC is verified, and not made; the algorithm, the key, and the message so far
+pub record MacWork : Type 0 where
+  pub verifies : Bool
+  pub alg : ℕ
+  pub key : List ℕ
+  pub message : List ℕ
+
+pub data MacStep : Type 0 where
+  MacUpdate : (input : List ℕ) → MacStep
+  MacSignFinish : (room : ℕ) → MacStep
+  MacVerifyFinish : (mac : List ℕ) → MacStep
+
+abbrev pub mac_work : Bool → ℕ → List ℕ → MacWork
+mac_work verifies alg key = record { verifies = verifies; alg = alg; key = key; message = [] }
+
+-- mac_sign_setup and mac_verify_setup, once the key is known to be for it
+abbrev pub mac_setup : Operation MacWork → Bool → ℕ → List ℕ → After MacWork
+mac_setup operation verifies alg key = set_up operation None (mac_work verifies alg key)
+
+abbrev pub sign_rows : MacWork → ℕ → Rows
+sign_rows w room = (w.verifies, BadState) ∷ room_rows (tag_bytes w.alg) room
+
+abbrev pub verify_rows : MacWork → List ℕ → Rows
+verify_rows w mac = (not w.verifies, BadState) ∷ (not (bytes_eq mac (mac_of w.alg w.key w.message)), InvalidSignature) ∷ []
+
+abbrev pub mac_step : MacWork → MacStep → After MacWork
+mac_step w (MacUpdate input) =
+    unless_failed (first_row (total_rows (length w.message) (length input))) (goes_on (record w { message = w.message ++ input }) done)
+mac_step w (MacSignFinish room) = unless_failed (first_row (sign_rows w room)) (ends (given (mac_of w.alg w.key w.message)))
+mac_step w (MacVerifyFinish mac) = unless_failed (first_row (verify_rows w mac)) (ends done)

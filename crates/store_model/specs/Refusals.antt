@@ -1,0 +1,57 @@
+-- What a refused call leaves of its handle's operation.
+use Rattle.std.specs.Prelude.{◌≡◌, ◌≤◌, ℕ, Bool, true, false, Option}
+use Rattle.psa_status.specs.declared.Status.{Status}
+use Rattle.psa_status.specs.declared.Status.TheVariants.{InsufficientData, InvalidSignature}
+use Rattle.store_model.specs.Operations.{Operation, Inactive, InError, Active, is_inactive}
+use Rattle.store_model.specs.DerivationOperations.{DerivationWork, without}
+use Rattle.store_model.specs.Handles.{KeyCreation, Deriving, HandleOperation, part_of, hash_part, mac_part, cipher_part, aead_part, derivation_part}
+use Rattle.store_model.specs.HandleCalls.{HandleCall, HashSetup, MacSetup, CipherSetup, AeadSetup, DerivationSetup, OnHash, OnMac, OnCipher, OnAead, OnDerivation, InputKey, OutputKey, Abort}
+
+-- an active derivation
+abbrev pub held_derivation : Option KeyCreation → DerivationWork → HandleOperation
+held_derivation key work = Active (record { key = key; work = Deriving work })
+
+-- The operation is as it was, or in error. A derivation may also go on with its inputs: with nothing left to give,
+-- since more was asked for than it could give; or without the bytes that were compared and weren't those expected.
+pub data IsLeft (status : Status) (before after : HandleOperation) : Type 0 where
+  AsItWas : (same : after ≡ before) → IsLeft status before after
+  Failed : (failed : after ≡ InError) → IsLeft status before after
+  Exhausted : (key : Option KeyCreation) (work : DerivationWork) (says : status ≡ InsufficientData) (was : before ≡ held_derivation key work) (is : after ≡ held_derivation key (record work { capacity = 0 })) → IsLeft status before after
+  Compared : (key : Option KeyCreation) (work : DerivationWork) (n : ℕ) (says : status ≡ InvalidSignature) (had : n ≤ work.capacity) (was : before ≡ held_derivation key work) (is : after ≡ held_derivation key (without work n)) → IsLeft status before after
+
+abbrev pub is_active : {W : Type 0} → Operation W → Bool
+is_active Inactive = false
+is_active InError = false
+is_active (Active work) = true
+
+abbrev pub is_setup : HandleCall → Bool
+is_setup (HashSetup alg) = true
+is_setup (MacSetup verifies id alg) = true
+is_setup (CipherSetup encrypts id alg) = true
+is_setup (AeadSetup encrypts id alg) = true
+is_setup (DerivationSetup alg) = true
+is_setup (OnHash step) = false
+is_setup (OnMac step) = false
+is_setup (OnCipher step) = false
+is_setup (OnAead step) = false
+is_setup (OnDerivation step) = false
+is_setup (InputKey step id) = false
+is_setup (OutputKey attributes) = false
+is_setup Abort = false
+
+-- whether the call is in order on the operation: a setup on an inactive one, a step or a finish on one that is
+-- active with the call's family, and an abort always
+abbrev pub is_ready : HandleCall → HandleOperation → Bool
+is_ready (HashSetup alg) operation = is_inactive operation
+is_ready (MacSetup verifies id alg) operation = is_inactive operation
+is_ready (CipherSetup encrypts id alg) operation = is_inactive operation
+is_ready (AeadSetup encrypts id alg) operation = is_inactive operation
+is_ready (DerivationSetup alg) operation = is_inactive operation
+is_ready (OnHash step) operation = is_active (part_of hash_part operation)
+is_ready (OnMac step) operation = is_active (part_of mac_part operation)
+is_ready (OnCipher step) operation = is_active (part_of cipher_part operation)
+is_ready (OnAead step) operation = is_active (part_of aead_part operation)
+is_ready (OnDerivation step) operation = is_active (part_of derivation_part operation)
+is_ready (InputKey step id) operation = is_active (part_of derivation_part operation)
+is_ready (OutputKey attributes) operation = is_active (part_of derivation_part operation)
+is_ready Abort operation = true
