@@ -1,0 +1,46 @@
+-- Blocks whose end is zeros.
+use Rattle.std.proofs.Common.{◌≡◌, ℕ, zero, suc, ◌+◌, ◌-◌, ◌≤◌, List, [], ◌∷◌, ◌++◌, length, take, drop, slice_index, refl, sym, ap, ◌∙◌, arith}
+use Rattle.std.specs.Prelude.{replicate}
+use Rattle.std.proofs.lemmas.List.{take-append-drop, drop_at, drop-drop, drop-replicate, length-append, length-take}
+use Rattle.crypto_specs.specs.Modes.{block_number}
+use Rattle.block_buffers.specs.Filled.{HasZerosPast}
+
+zeros_read : (n i : ℕ) → slice_index (replicate n 0) i ≡ 0
+zeros_read zero i = refl
+zeros_read (suc n) zero = refl
+zeros_read (suc n) (suc i) = zeros_read n i
+
+-- zeros after the end read as what is past the end
+filled_read : (piece : List ℕ) (n i : ℕ) → slice_index (piece ++ replicate n 0) i ≡ slice_index piece i
+filled_read [] n i = zeros_read n i
+filled_read (x ∷ xs) n zero = refl
+filled_read (x ∷ xs) n (suc i) = filled_read xs n i
+
+number_of_filled : (piece : List ℕ) (n : ℕ) → block_number (piece ++ replicate n 0) ≡ block_number piece
+unfolding block_number
+number_of_filled piece n =
+    let at : (i : ℕ) → slice_index (piece ++ replicate n 0) i ≡ slice_index piece i = filled_read piece n in
+    rw (at 0, at 1, at 2, at 3, at 4, at 5, at 6, at 7, at 8, at 9, at 10, at 11, at 12, at 13, at 14, at 15) refl
+
+-- the bytes in use have the number of the block
+pub number_of_used : (used : ℕ) (block : List ℕ) → HasZerosPast used block → block_number block ≡ block_number (take used block)
+number_of_used used block h =
+    let filled : block ≡ take used block ++ replicate (16 - used) 0 =
+    sym (take-append-drop used block) ∙ ap (λ (l : List ℕ). take used block ++ l) h.rest in
+    ap block_number filled ∙ number_of_filled (take used block) (16 - used)
+
+-- a piece that fits is put into the zeros
+pub put_in : (used n : ℕ) (block piece new : List ℕ) → used + n ≤ 16 → length piece ≡ n → length block ≡ 16
+    → new ≡ take used block ++ piece ++ drop (used + length piece) block → HasZerosPast used block → HasZerosPast (used + n) new
+put_in used n block piece new fits long whole e h =
+    let front : List ℕ = take used block ++ piece in
+    let count : length front ≡ used + n = omega (arith, length-append (take used block) piece, length-take used block) in
+    let back : List ℕ = drop (used + length piece) block in
+    let place : used + n ≡ used + length piece = omega arith in
+    record {
+      limit = fits;
+      rest =
+          ap (drop (used + n)) e ∙ drop_at front back (used + n) count
+          ∙ ap (λ (k : ℕ). drop k block) (sym place) ∙ sym (drop-drop n used block)
+          ∙ ap (drop n) h.rest ∙ drop-replicate n (16 - used) 0 ∙ ap (λ (k : ℕ). replicate k 0) (omega arith);
+    }

@@ -1,0 +1,60 @@
+-- The chain over a text in pieces.
+use Rattle.std.proofs.Common.{◌≡◌, ℕ, ◌-◌, ◌<◌, ◌≤◌, List, [], ◌∷◌, ◌++◌, length, take, drop, bit_xor, replicate, refl, sym, ap, ap₂, ◌∙◌, arith}
+use Rattle.std.proofs.lemmas.List.{length-append, length-replicate, take-append-drop, take_at, drop_at, take_all, drop_all, append-nil, append_assoc}
+use Rattle.std.specs.Int.Bits.{xor_zero_l}
+use Rattle.crypto_specs.specs.Bytes.{xor_bytes}
+use Rattle.crypto_specs.specs.Modes.{number_block}
+use Rattle.crypto_specs.specs.Cmac.{chained}
+use Rattle.crypto_specs.specs.Ccm.{filled_blocks}
+use Rattle.aes_core.proofs.BlockNumbers.{block_of_xor}
+use Rattle.aead_ccm.specs.Chaining.{filled_block, chained_from}
+use Rattle.aead_ccm.proofs.FilledBlocks.{filled_blocks-empty}
+use Rattle.aead_ccm.proofs.Chains.{front_chained}
+
+-- nothing more is taken in
+pub chained_from-nothing : (e : List ℕ → List ℕ) (y : List ℕ) → chained_from e y (filled_blocks []) ≡ y
+chained_from-nothing e y = ap (chained_from e y) (filled_blocks-empty [] refl)
+
+zero_block : number_block 0 ≡ replicate 16 0
+unfolding number_block
+zero_block = refl
+
+length-number_block : (n : ℕ) → length (number_block n) ≡ 16
+unfolding number_block
+length-number_block n = refl
+
+-- a block that waits is absorbed ahead of what follows it
+pub full_absorbed : (e : List ℕ → List ℕ) (v x w : ℕ) (waiting left rest : List ℕ) → length waiting ≡ 16 → number_block x ≡ filled_block waiting → number_block w ≡ e (number_block (bit_xor v x)) → left ≡ []
+    → chained_from e (number_block w) (filled_blocks (left ++ rest)) ≡ chained_from e (number_block v) (filled_blocks (waiting ++ rest))
+full_absorbed e v x w waiting left rest long ex ew el =
+    ap (λ (l : List ℕ). chained_from e (number_block w) (filled_blocks (l ++ rest))) el
+    ∙ front_chained e v x w (waiting ++ rest) rest (omega (arith, length-append waiting rest)) (ex ∙ ap filled_block (sym (take_at waiting rest 16 long))) (sym (drop_at waiting rest 16 long)) ew
+
+-- a part of a block that waits is absorbed with zeros behind it
+pub part_absorbed : (e : List ℕ → List ℕ) (v x w : ℕ) (waiting : List ℕ) → 0 < length waiting → number_block x ≡ filled_block waiting → number_block w ≡ e (number_block (bit_xor v x))
+    → number_block w ≡ chained_from e (number_block v) (filled_blocks (waiting ++ []))
+part_absorbed e v x w waiting some ex ew =
+    let zeros : List ℕ = replicate (16 - length waiting) 0 in
+    let limit : length waiting ≤ 16 = omega (arith, ap length ex, length-number_block x, length-append waiting zeros, length-replicate {A = ℕ} (16 - length waiting) 0) in
+    sym (chained_from-nothing e (number_block w))
+    ∙ front_chained e v x w waiting [] some (ex ∙ ap filled_block (sym (take_all 16 waiting limit))) (sym (drop_all 16 waiting limit)) ew
+    ∙ ap (λ (l : List ℕ). chained_from e (number_block v) (filled_blocks l)) (sym (append-nil waiting))
+
+pub none_waits : (e : List ℕ → List ℕ) (v : ℕ) (waiting : List ℕ) → waiting ≡ [] → number_block v ≡ chained_from e (number_block v) (filled_blocks (waiting ++ []))
+none_waits e v waiting h = sym (ap (λ (l : List ℕ). chained_from e (number_block v) (filled_blocks (l ++ []))) h ∙ chained_from-nothing e (number_block v))
+
+regrouped : (a t d r : List ℕ) → (a ++ t) ++ (d ++ r) ≡ a ++ ((t ++ d) ++ r)
+regrouped a t d r = simp append_assoc
+
+-- the front of a piece waits too
+pub put_waits : (e : List ℕ → List ℕ) (v : ℕ) (before waiting piece rest : List ℕ) (n : ℕ) → waiting ≡ before ++ take n piece
+    → chained_from e (number_block v) (filled_blocks (waiting ++ (drop n piece ++ rest))) ≡ chained_from e (number_block v) (filled_blocks (before ++ (piece ++ rest)))
+put_waits e v before waiting piece rest n h =
+    ap (λ (l : List ℕ). chained_from e (number_block v) (filled_blocks l))
+    (ap (λ (l : List ℕ). l ++ (drop n piece ++ rest)) h ∙ regrouped before (take n piece) (drop n piece) rest ∙ ap (λ (l : List ℕ). before ++ (l ++ rest)) (take-append-drop n piece))
+
+-- the chain's first block
+pub first_chained : (e : List ℕ → List ℕ) (control : ℕ) (first : List ℕ) → number_block control ≡ first → e (number_block control) ≡ chained e (first ∷ [])
+unfolding chained
+first_chained e control first h =
+    ap e (ap number_block (sym (xor_zero_l control)) ∙ block_of_xor 0 control ∙ ap₂ xor_bytes zero_block h)

@@ -1,0 +1,3 @@
+pub mod HashSteps
+pub mod TextHashing
+pub mod Texts

@@ -1,0 +1,2 @@
+pub mod TextHashes
+pub mod States

@@ -1,0 +1,5 @@
+pub mod StreamLaws
+pub mod StreamPlaces
+pub mod HighFirst
+pub mod ModeStreams
+pub mod CcmStreams

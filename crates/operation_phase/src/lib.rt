@@ -1,0 +1,55 @@
+//! The phases of an operation in several parts and how it gives bytes, which all families share.
+#![tactic(auto)]
+
+ghost use Rattle.std.specs.Prelude.{◌≡◌, if◌then◌else◌, IfOk, IfErr};
+ghost use Rattle.psa_status.specs.declared.Status.TheVariants.{BadState};
+ghost use Rattle.operation_phase.specs.declared.Phase.TheVariants as phase;
+
+pub use outputs::give;
+use psa_status::Status;
+
+mod outputs;
+
+/// How an operation stands: it waits for a setup, it has failed and waits for its abort, or it is active.
+#[derive(Clone, Copy, Debug, Drop, PartialEq, Eq)]
+pub enum Phase {
+    Inactive,
+    InError,
+    Active,
+}
+
+impl Phase {
+    /// The phase after a finish: inactive where it succeeded, and else in error.
+    pub fn after_finish(succeeded: bool) -> Phase
+        ensures phase { result ≡ (if succeeded then phase.Inactive else phase.InError) }
+        ensures ended { result ≡ phase.Active → ⊥ }
+    {
+        if succeeded {
+            Phase::Inactive
+        } else {
+            Phase::InError
+        }
+    }
+
+    /// `BadState` exactly where the operation isn't inactive, as a setup asks.
+    pub fn check_inactive(self) -> Result<(), Status>
+        ensures inactive { IfOk result (λ _. self ≡ phase.Inactive) }
+        ensures refused { IfErr result (λ status. (status ≡ BadState) × (self ≡ phase.Inactive → ⊥)) }
+    {
+        match self {
+            Phase::Inactive => Ok(()),
+            Phase::InError | Phase::Active => Err(Status::BadState),
+        }
+    }
+
+    /// `BadState` exactly where the operation isn't active, as a step and a finish ask.
+    pub fn check_active(self) -> Result<(), Status>
+        ensures active { IfOk result (λ _. self ≡ phase.Active) }
+        ensures refused { IfErr result (λ status. (status ≡ BadState) × (self ≡ phase.Active → ⊥)) }
+    {
+        match self {
+            Phase::Active => Ok(()),
+            Phase::Inactive | Phase::InError => Err(Status::BadState),
+        }
+    }
+}
