@@ -1,0 +1,70 @@
+-- More text only adds to the output that is due.
+use Rattle.std.proofs.Common.{◌≡◌, ℕ, zero, suc, ◌+◌, ◌-◌, ◌*◌, ◌≤◌, Bool, true, false, cond, List, [], ◌∷◌, ◌++◌, length, take, drop, bit_xor, refl, sym, ap, ap₂, ◌∙◌, arith}
+use Rattle.std.proofs.lemmas.List.{length-append, take_all, take-append-drop, take-append-le}
+use Rattle.crypto_specs.specs.Aes.{aes_encrypt}
+use Rattle.crypto_specs.specs.Bytes.{xor_bytes}
+use Rattle.crypto_specs.specs.Modes.{block_count, number_block}
+use Rattle.crypto_specs.specs.Ccm.{ccm_counter_block, ccm_stream, ccm_text}
+use Rattle.crypto_specs.specs.Gcm.{increased, first_block, gcm_stream, gcm_text}
+use Rattle.crypto_specs.proofs.XorBytes.{length-xor_bytes}
+use Rattle.key_streams.proofs.StreamPlaces.{length-aes_encrypt}
+use Rattle.store_model.specs.CipherOperations.{bytes_or_empty}
+use Rattle.store_model.specs.Aeads.{is_ccm}
+use Rattle.aead_states.specs.Laws.{DueGrows}
+
+-- a text that goes on, under a mask that goes on
+xor_begins : (text piece mask rest : List ℕ) → length text ≤ length mask → take (length text) (xor_bytes (text ++ piece) (mask ++ rest)) ≡ xor_bytes text mask
+xor_begins [] piece mask rest h = refl
+xor_begins (x ∷ xs) piece [] rest h = absurd (omega arith)
+xor_begins (x ∷ xs) piece (m ∷ ms) rest h = ap (λ (l : List ℕ). bit_xor x m ∷ l) (xor_begins xs piece ms rest (omega arith))
+
+-- a stream that grows by whole blocks
+module _ (stream block : ℕ → List ℕ) (none : stream 0 ≡ []) (more : (n : ℕ) → stream (suc n) ≡ stream n ++ block n) (long : (n : ℕ) → length (block n) ≡ 16) where
+  length-stream : (n : ℕ) → length (stream n) ≡ 16 * n
+  length-stream zero = ap length none
+  length-stream (suc n) = omega (arith, ap length (more n), length-append (stream n) (block n), length-stream n, long n)
+
+  stream_begins : (n k : ℕ) → take (16 * n) (stream (n + k)) ≡ stream n
+  stream_begins n zero =
+      let e : n + zero ≡ n = omega arith in
+      ap (λ (i : ℕ). take (16 * n) (stream i)) e ∙ take_all (16 * n) (stream n) (omega (arith, length-stream n))
+  stream_begins n (suc k) =
+      let e : n + suc k ≡ suc (n + k) = omega arith in
+      ap (λ (i : ℕ). take (16 * n) (stream i)) e ∙ ap (take (16 * n)) (more (n + k))
+      ∙ take-append-le (16 * n) (stream (n + k)) (block (n + k)) (omega (arith, length-stream (n + k))) ∙ stream_begins n k
+
+  text_grows : (text piece : List ℕ)
+      → take (length (xor_bytes text (stream (block_count (length text))))) (xor_bytes (text ++ piece) (stream (block_count (length (text ++ piece))))) ≡ xor_bytes text (stream (block_count (length text)))
+  text_grows text piece =
+      let n : ℕ = block_count (length text) in
+      let m : ℕ = block_count (length (text ++ piece)) in
+      let mask : List ℕ = stream n in
+      let rest : List ℕ = drop (16 * n) (stream m) in
+      let e : m ≡ n + (m - n) = omega (arith, length-append text piece) in
+      let front : take (16 * n) (stream m) ≡ mask = ap (λ (i : ℕ). take (16 * n) (stream i)) e ∙ stream_begins n (m - n) in
+      let split : stream m ≡ mask ++ rest = sym (take-append-drop (16 * n) (stream m)) ∙ ap (λ (l : List ℕ). l ++ rest) front in
+      let enough : length text ≤ length mask = omega (arith, length-stream n) in
+      let same : length (xor_bytes text mask) ≡ length text = omega (arith, length-xor_bytes text mask) in
+      ap₂ (λ (k : ℕ) (l : List ℕ). take k (xor_bytes (text ++ piece) l)) same split ∙ xor_begins text piece mask rest enough
+
+module _ (key nonce text piece : List ℕ) where
+  abbrev e : List ℕ → List ℕ
+  e = aes_encrypt key
+
+  ccm_grows : take (length (ccm_text e nonce text)) (ccm_text e nonce (text ++ piece)) ≡ ccm_text e nonce text
+  unfolding ccm_text ccm_stream
+  ccm_grows = text_grows (ccm_stream e nonce) (λ n. e (ccm_counter_block nonce (n + 1))) refl (λ n. refl) (λ n. length-aes_encrypt key (ccm_counter_block nonce (n + 1))) text piece
+
+  gcm_grows : take (length (gcm_text e nonce text)) (gcm_text e nonce (text ++ piece)) ≡ gcm_text e nonce text
+  unfolding gcm_text gcm_stream
+  gcm_grows =
+      let y : ℕ = first_block e nonce in
+      text_grows (gcm_stream e y) (λ n. e (number_block (increased y (n + 1)))) refl (λ n. refl) (λ n. length-aes_encrypt key (number_block (increased y (n + 1)))) text piece
+
+  either : (ccm : Bool) → take (length (cond ccm (ccm_text e nonce text) (gcm_text e nonce text))) (cond ccm (ccm_text e nonce (text ++ piece)) (gcm_text e nonce (text ++ piece)))
+      ≡ cond ccm (ccm_text e nonce text) (gcm_text e nonce text)
+  either true = ccm_grows
+  either false = gcm_grows
+
+pub due_grows : DueGrows
+due_grows w input = either w.key (bytes_or_empty w.nonce) w.text input (is_ccm w.alg)

@@ -1,0 +1,115 @@
+-- What runs, by the algorithm and the direction.
+use Rattle.std.proofs.Common.{◌≡◌, ℕ, ◌≤◌, Bool, true, false, List, [], length, refl, sym, ap, ◌∙◌, subst}
+use Rattle.std.specs.Prelude.{MatchBool}
+use Rattle.crypto_specs.specs.Aes.{aes_encrypt}
+use Rattle.crypto_specs.specs.Ccm.{ccm_tag, ccm_text}
+use Rattle.crypto_specs.specs.Gcm.{gcm_tag, gcm_text}
+use Rattle.key_streams.proofs.StreamLaws.{length-text_xor}
+use Rattle.key_streams.proofs.ModeStreams.{aes_keeps_length, gcm_is}
+use Rattle.gcm_states.specs.States.{HoldsGcmData, HoldsGcmText}
+use Rattle.ccm_states.specs.States.{HoldsCcmData, HoldsCcmText}
+use Rattle.ccm_states.proofs.Payloads.{length-ccm_text}
+use Rattle.store_model.specs.Aeads.{aead_tag, aead_text, is_ccm}
+use Rattle.store_model.specs.Algorithms.{tag_bytes}
+use Rattle.aead_states.specs.declared.parts.Parts.{Parts}
+use Rattle.aead_states.specs.Directions.{cipher_of, plain_of}
+use Rattle.aead_states.specs.Runs.{HoldsData, HoldsText}
+
+if_true : (b : Bool) (P Q : Type 0) → b ≡ true → MatchBool b P Q → P
+if_true true P Q e h = h
+if_true false P Q e h = cc
+
+if_false : (b : Bool) (P Q : Type 0) → b ≡ false → MatchBool b P Q → Q
+if_false false P Q e h = h
+if_false true P Q e h = cc
+
+by_true : (b : Bool) (P Q : Type 0) → b ≡ true → P → MatchBool b P Q
+by_true true P Q e h = h
+by_true false P Q e h = cc
+
+by_false : (b : Bool) (P Q : Type 0) → b ≡ false → Q → MatchBool b P Q
+by_false false P Q e h = h
+by_false true P Q e h = cc
+
+module _ (r : Parts) (alg : ℕ) (key nonce : List ℕ) (a p : ℕ) (ad : List ℕ) where
+  pub ccm_data : is_ccm alg ≡ true → HoldsData r alg key nonce a p ad → HoldsCcmData r.ccm key (tag_bytes alg) nonce a p ad
+  ccm_data e h = if_true (is_ccm alg) (HoldsCcmData r.ccm key (tag_bytes alg) nonce a p ad) (HoldsGcmData r.gcm key nonce ad) e h.part
+
+  pub gcm_data : is_ccm alg ≡ false → HoldsData r alg key nonce a p ad → HoldsGcmData r.gcm key nonce ad
+  gcm_data e h = if_false (is_ccm alg) (HoldsCcmData r.ccm key (tag_bytes alg) nonce a p ad) (HoldsGcmData r.gcm key nonce ad) e h.part
+
+  pub data_of_ccm : is_ccm alg ≡ true → HoldsCcmData r.ccm key (tag_bytes alg) nonce a p ad → HoldsData r alg key nonce a p ad
+  data_of_ccm e h = record { part = by_true (is_ccm alg) (HoldsCcmData r.ccm key (tag_bytes alg) nonce a p ad) (HoldsGcmData r.gcm key nonce ad) e h }
+
+module _ (r : Parts) (encrypts : Bool) (alg : ℕ) (key nonce : List ℕ) (p : ℕ) (ad text : List ℕ) where
+  abbrev ByCcm : List ℕ → Type 0
+  ByCcm plain = HoldsCcmText r.ccm key (tag_bytes alg) nonce p ad plain
+
+  abbrev ByGcm : List ℕ → Type 0
+  ByGcm cipher = HoldsGcmText r.gcm key nonce ad cipher
+
+  abbrev plain : List ℕ
+  plain = plain_of encrypts (ccm_text (aes_encrypt key) nonce) text
+
+  abbrev cipher : List ℕ
+  cipher = cipher_of encrypts (gcm_text (aes_encrypt key) nonce) text
+
+  pub text_by_ccm : (other : List ℕ) → is_ccm alg ≡ true → plain ≡ other → HoldsText r encrypts alg key nonce p ad text → ByCcm other
+  text_by_ccm other e q h = subst ByCcm q (if_true (is_ccm alg) (ByCcm plain) (ByGcm cipher) e h.part)
+
+  pub text_by_gcm : (other : List ℕ) → is_ccm alg ≡ false → cipher ≡ other → HoldsText r encrypts alg key nonce p ad text → ByGcm other
+  text_by_gcm other e q h = subst ByGcm q (if_false (is_ccm alg) (ByCcm plain) (ByGcm cipher) e h.part)
+
+  pub ccm_by_text : (other : List ℕ) → is_ccm alg ≡ true → plain ≡ other → ByCcm other → HoldsText r encrypts alg key nonce p ad text
+  ccm_by_text other e q h = record { part = by_true (is_ccm alg) (ByCcm plain) (ByGcm cipher) e (subst ByCcm (sym q) h) }
+
+  pub gcm_by_text : (other : List ℕ) → is_ccm alg ≡ false → cipher ≡ other → ByGcm other → HoldsText r encrypts alg key nonce p ad text
+  gcm_by_text other e q h = record { part = by_false (is_ccm alg) (ByCcm plain) (ByGcm cipher) e (subst ByGcm (sym q) h) }
+
+-- ---- the text of no bytes
+
+pub no_plain : (encrypts : Bool) (key nonce : List ℕ) → plain_of encrypts (ccm_text (aes_encrypt key) nonce) [] ≡ []
+unfolding ccm_text
+no_plain true key nonce = refl
+no_plain false key nonce = refl
+
+pub no_cipher : (encrypts : Bool) (key nonce : List ℕ) → cipher_of encrypts (gcm_text (aes_encrypt key) nonce) [] ≡ []
+unfolding gcm_text
+no_cipher true key nonce = refl
+no_cipher false key nonce = refl
+
+-- ---- text and tag of either algorithm
+
+pub text_is_ccm : (alg : ℕ) (key nonce text : List ℕ) → is_ccm alg ≡ true → aead_text alg key nonce text ≡ ccm_text (aes_encrypt key) nonce text
+text_is_ccm alg key nonce text e = rw e refl
+
+pub text_is_gcm : (alg : ℕ) (key nonce text : List ℕ) → is_ccm alg ≡ false → aead_text alg key nonce text ≡ gcm_text (aes_encrypt key) nonce text
+text_is_gcm alg key nonce text e = rw e refl
+
+pub tag_is_ccm : (encrypts : Bool) (alg : ℕ) (key nonce ad text other : List ℕ) → is_ccm alg ≡ true →
+    ccm_tag (aes_encrypt key) (tag_bytes alg) nonce ad (plain_of encrypts (ccm_text (aes_encrypt key) nonce) text) ≡ aead_tag alg key nonce ad (plain_of encrypts (aead_text alg key nonce) text) other
+tag_is_ccm encrypts alg key nonce ad text other e = rw e refl
+
+pub tag_is_gcm : (encrypts : Bool) (alg : ℕ) (key nonce ad text other : List ℕ) → is_ccm alg ≡ false →
+    gcm_tag (aes_encrypt key) (tag_bytes alg) nonce ad (cipher_of encrypts (gcm_text (aes_encrypt key) nonce) text) ≡ aead_tag alg key nonce ad other (cipher_of encrypts (aead_text alg key nonce) text)
+tag_is_gcm encrypts alg key nonce ad text other e = rw e refl
+
+length-gcm_text : (key nonce text : List ℕ) → length (gcm_text (aes_encrypt key) nonce text) ≡ length text
+length-gcm_text key nonce text = ap length (gcm_is (aes_encrypt key) (aes_keeps_length key) nonce text) ∙ length-text_xor _ _ _ 0 text
+
+pub length-cipher : (encrypts : Bool) (key nonce text : List ℕ) → length (cipher_of encrypts (gcm_text (aes_encrypt key) nonce) text) ≡ length text
+length-cipher true key nonce text = length-gcm_text key nonce text
+length-cipher false key nonce text = refl
+
+pub length-plain : (r : Parts) (encrypts : Bool) (alg : ℕ) (key nonce : List ℕ) (p : ℕ) (ad text : List ℕ) → length text ≤ p →
+    HoldsCcmText r.ccm key (tag_bytes alg) nonce p ad (plain_of encrypts (ccm_text (aes_encrypt key) nonce) text) → length (plain_of encrypts (ccm_text (aes_encrypt key) nonce) text) ≡ length text
+length-plain r true alg key nonce p ad text fits h = refl
+length-plain r false alg key nonce p ad text fits h = length-ccm_text key nonce text h.counts.start p h.counts.nonce_length h.counts.payload_length h.counts.next fits
+
+-- the algorithm's text has as many bytes as the text
+pub length-aead_text : (r : Parts) (encrypts : Bool) (alg : ℕ) (key nonce : List ℕ) (p : ℕ) (ad text : List ℕ) (ccm : Bool) → is_ccm alg ≡ ccm → (is_ccm alg ≡ true → length text ≤ p) →
+    HoldsText r encrypts alg key nonce p ad text → length (aead_text alg key nonce text) ≡ length text
+length-aead_text r encrypts alg key nonce p ad text true e fits h =
+    let s = text_by_ccm r encrypts alg key nonce p ad text (plain_of encrypts (ccm_text (aes_encrypt key) nonce) text) e refl h in
+    ap length (text_is_ccm alg key nonce text e) ∙ length-ccm_text key nonce text s.counts.start p s.counts.nonce_length s.counts.payload_length s.counts.next (fits e)
+length-aead_text r encrypts alg key nonce p ad text false e fits h = ap length (text_is_gcm alg key nonce text e) ∙ length-gcm_text key nonce text

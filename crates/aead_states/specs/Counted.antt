@@ -1,0 +1,18 @@
+-- The first rows of an update, and the start of the text.
+use Rattle.std.specs.Prelude.{ℕ, ◌+◌, not, nat_lt, ◌||◌, true, [], ◌∷◌, length, is_some}
+use Rattle.psa_status.specs.declared.Status.TheVariants.{BadState, InvalidArgument}
+use Rattle.psa_status.specs.Rows.{Rows}
+use Rattle.store_model.specs.Rules.{total_limit}
+use Rattle.store_model.specs.AeadOperations.{AeadWork, is_past_payload, is_whole_ad}
+
+-- the rows of aead_update before that of the room
+abbrev pub aead_text_rows : AeadWork → ℕ → Rows
+aead_text_rows w more =
+    let n : ℕ = length w.text + more in
+    (not (is_some w.nonce), BadState)
+    ∷ (not (is_whole_ad w.lengths (length w.ad)) || is_past_payload w.lengths n || nat_lt total_limit n, InvalidArgument)
+    ∷ []
+
+-- the text is begun, with no bytes more
+abbrev pub with_begun_text : AeadWork → AeadWork
+with_begun_text w = record w { has_text = true }

@@ -1,0 +1,54 @@
+-- What the state of an AEAD operation stands for.
+use Rattle.std.specs.Prelude.{◌≡◌, true, false, [], length, is_some, MatchBool}
+use Rattle.store_model.specs.Aeads.{is_ccm}
+use Rattle.store_model.specs.Operations.{Operation}
+use Rattle.store_model.specs.CipherOperations.{bytes_or_empty}
+use Rattle.store_model.specs.AeadOperations.{AeadWork, declared_payload}
+use Rattle.operation_phase.specs.Phases.{StandsFor}
+use Rattle.aead_states.specs.declared.running.RunningAead.{RunningAead}
+use Rattle.aead_states.specs.declared.state.AeadState.{AeadState}
+use Rattle.aead_states.specs.DeclaredLengths.{declared_ad, lengths_of}
+use Rattle.aead_states.specs.Runs.{HoldsData, HoldsText, IsClear}
+
+-- no key, and nothing that runs
+pub record IsClearRunning (s : RunningAead) : Type 0 where
+  pub key : s.key ≡ []
+  pub parts : IsClear s.parts
+
+abbrev pub IsClearAead : AeadState → Type 0
+IsClearAead s = IsClearRunning s.work
+
+-- before the nonce is there nothing was given
+pub record IsUnbegun (w : AeadWork) : Type 0 where
+  pub ad : w.ad ≡ []
+  pub text : w.text ≡ []
+  pub has_text : w.has_text ≡ false
+
+-- the associated data is taken in, and no text
+pub record IsInData (s : RunningAead) (w : AeadWork) : Type 0 where
+  pub none : w.text ≡ []
+  pub taken : HoldsData s.parts w.alg w.key (bytes_or_empty w.nonce) (declared_ad w.lengths) (declared_payload w.lengths) w.ad
+
+-- the nonce is there, and with CCM so are the lengths
+pub record IsBegun (s : RunningAead) (w : AeadWork) : Type 0 where
+  pub lengths : is_ccm w.alg ≡ true → is_some w.lengths ≡ true
+  pub part : MatchBool s.has_text
+      (HoldsText s.parts w.encrypts w.alg w.key (bytes_or_empty w.nonce) (declared_payload w.lengths) w.ad w.text)
+      (IsInData s w)
+
+-- what was said and given, and what runs over it
+pub record HoldsAead (s : RunningAead) (w : AeadWork) : Type 0 where
+  pub encrypts : s.encrypts ≡ w.encrypts
+  pub alg : s.alg.0 ≡ w.alg
+  pub key : s.key ≡ w.key
+  pub has_key : s.has_key ≡ true
+  pub lengths : lengths_of s.lengths ≡ w.lengths
+  pub has_nonce : s.has_nonce ≡ is_some w.nonce
+  pub has_text : s.has_text ≡ w.has_text
+  pub ad : s.ad ≡ length w.ad
+  pub text : s.text ≡ length w.text
+  pub stage : MatchBool s.has_nonce (IsBegun s w) (IsUnbegun w)
+
+-- the state stands for this operation
+abbrev pub IsAeadOperation : AeadState → Operation AeadWork → Type 0
+IsAeadOperation s op = StandsFor s.phase (IsClearAead s) (HoldsAead s.work) op

@@ -1,0 +1,7 @@
+pub mod Ready
+pub mod Directions
+pub mod DeclaredLengths
+pub mod Counted
+pub mod Runs
+pub mod Holding
+pub mod Laws

@@ -1,0 +1,28 @@
+-- What runs over the associated data and the text.
+use Rattle.std.specs.Prelude.{ℕ, Bool, List, MatchBool}
+use Rattle.crypto_specs.specs.Aes.{aes_encrypt}
+use Rattle.crypto_specs.specs.Ccm.{ccm_text}
+use Rattle.crypto_specs.specs.Gcm.{gcm_text}
+use Rattle.gcm_states.specs.States.{HoldsGcmData, HoldsGcmText, IsClearGcm}
+use Rattle.ccm_states.specs.States.{HoldsCcmData, HoldsCcmText, IsClearCcm}
+use Rattle.store_model.specs.Aeads.{is_ccm}
+use Rattle.store_model.specs.Algorithms.{tag_bytes}
+use Rattle.aead_states.specs.declared.parts.Parts.{Parts}
+use Rattle.aead_states.specs.Directions.{cipher_of, plain_of}
+
+-- all buffers are zeros
+pub record IsClear (r : Parts) : Type 0 where
+  pub gcm : IsClearGcm r.gcm
+  pub ccm : IsClearCcm r.ccm
+
+-- of a bytes of associated data and p of payload that CCM asks for, this associated data is taken in
+pub record HoldsData (r : Parts) (alg : ℕ) (key nonce : List ℕ) (a p : ℕ) (ad : List ℕ) : Type 0 where
+  pub part : MatchBool (is_ccm alg)
+      (HoldsCcmData r.ccm key (tag_bytes alg) nonce a p ad)
+      (HoldsGcmData r.gcm key nonce ad)
+
+-- the associated data is taken in, and so much of the text: CCM's tag covers the plain text, GCM's the cipher text
+pub record HoldsText (r : Parts) (encrypts : Bool) (alg : ℕ) (key nonce : List ℕ) (p : ℕ) (ad text : List ℕ) : Type 0 where
+  pub part : MatchBool (is_ccm alg)
+      (HoldsCcmText r.ccm key (tag_bytes alg) nonce p ad (plain_of encrypts (ccm_text (aes_encrypt key) nonce) text))
+      (HoldsGcmText r.gcm key nonce ad (cipher_of encrypts (gcm_text (aes_encrypt key) nonce) text))

@@ -1,0 +1,110 @@
+// Nonces.
+ghost use Rattle.std.specs.Prelude.{◌≡◌, ◌≤◌, true, ◌&&◌, IfOk, OnOk, IsTrue, length, take};
+ghost use Rattle.std.specs.Result.{result_err};
+ghost use Rattle.psa_status.specs.Rows.{first_row};
+ghost use Rattle.store_model.specs.Call.{buffer_after};
+ghost use Rattle.store_model.specs.Outcome.{given, reply_unless};
+ghost use Rattle.store_model.specs.Aeads.{permits_nonce, permits_payload};
+ghost use Rattle.store_model.specs.Rules.{total_limit};
+ghost use Rattle.store_model.specs.AeadOperations.{AeadWork, declared_payload, generate_nonce_rows, nonce_length, set_nonce_rows, takes_nonce, with_nonce};
+ghost use Rattle.aead_states.specs.DeclaredLengths.{lengths_of};
+ghost use Rattle.aead_states.specs.Holding.{HoldsAead};
+
+use crate::declared::{declared_ad, declared_payload};
+use crate::running::RunningAead;
+use alg_encoding::Alg;
+use algorithm_facts::is_ccm;
+use operation_phase::give;
+use psa_status::Status;
+
+// Whether the algorithm takes a nonce of so many bytes before a payload of so many.
+fn permits_nonce(alg: Alg, nonce: usize, payload: u64) -> bool
+    requires { payload ≤ total_limit }
+    ensures { result ≡ (permits_nonce alg.0 nonce && permits_payload alg.0 nonce payload) }
+{
+    if is_ccm(alg) {
+        7 <= nonce && nonce <= 13 && aead_ccm::permits_payload(nonce, payload as usize)
+    } else {
+        1 <= nonce && nonce <= 256
+    }
+}
+
+// The bytes of a nonce that is generated: with CCM the most that leave room for the payload's length.
+fn nonce_length(alg: Alg, payload: u64) -> usize
+    requires { payload ≤ total_limit }
+    ensures bound { result ≤ 16 }
+    ensures permitted { IsTrue (permits_nonce alg.0 result && permits_payload alg.0 result payload) }
+    ensures value { (w : AeadWork) → alg.0 ≡ w.alg → payload ≡ declared_payload w.lengths → result ≡ nonce_length w }
+{
+    if !is_ccm(alg) || 1 << 16 <= payload && payload < 1 << 24 {
+        12
+    } else if payload < 1 << 16 {
+        13
+    } else {
+        11
+    }
+}
+
+impl RunningAead {
+    // Whether the nonce may come: it comes once, and with CCM after the lengths.
+    fn takes_nonce(&self) -> bool
+        ensures key { result ≡ true → self.now.has_key ≡ true }
+        ensures value { (w : AeadWork) → HoldsAead self.now w → result ≡ takes_nonce w }
+    {
+        self.has_key && !self.has_nonce && (!is_ccm(self.alg) || self.lengths.is_some())
+    }
+
+    // Begins with a nonce that the algorithm takes.
+    fn begin(&mut self, nonce: &[u8])
+        requires key { self.old.has_key ≡ true }
+        requires nonce { IsTrue (permits_nonce self.old.alg.0 (length nonce.now)
+            && permits_payload self.old.alg.0 (length nonce.now) (declared_payload (lengths_of self.old.lengths))) }
+        ensures { (w : AeadWork) → HoldsAead self.old w → takes_nonce w ≡ true →
+            HoldsAead self.new (with_nonce w nonce.now) }
+    {
+        let (ad, payload) = (declared_ad(self.lengths), declared_payload(self.lengths));
+        self.parts.start(self.alg, &self.key, nonce, ad, payload);
+        self.has_nonce = true;
+    }
+
+    // Takes a nonce.
+    pub(crate) fn set_nonce(&mut self, nonce: &[u8]) -> Result<(), Status>
+        ensures refusal { (w : AeadWork) → HoldsAead self.old w →
+            result_err result ≡ first_row (set_nonce_rows w nonce.now) }
+        ensures holds { (w : AeadWork) → HoldsAead self.old w →
+            OnOk result (HoldsAead self.new (with_nonce w nonce.now)) }
+    {
+        if !self.takes_nonce() {
+            return Err(Status::BadState);
+        }
+        if !permits_nonce(self.alg, nonce.len(), declared_payload(self.lengths)) {
+            return Err(Status::InvalidArgument);
+        }
+        self.begin(nonce);
+        Ok(())
+    }
+
+    // Takes the first random bytes as the nonce, writes it to the front of a buffer, and answers its length.
+    pub(crate) fn generate_nonce(
+        &mut self,
+        random: &[u8; 16],
+        out: &mut [u8],
+    ) -> Result<usize, Status>
+        ensures refusal { (w : AeadWork) → HoldsAead self.old w →
+            result_err result ≡ first_row (generate_nonce_rows w (length out.old)) }
+        ensures length { (w : AeadWork) → HoldsAead self.old w →
+            IfOk result (λ n. n ≡ length (take (nonce_length w) random.now)) }
+        ensures buffer { (w : AeadWork) → HoldsAead self.old w → out.new ≡
+            buffer_after out.old (reply_unless (first_row (generate_nonce_rows w (length out.old))) (given (take (nonce_length w) random.now))) }
+        ensures holds { (w : AeadWork) → HoldsAead self.old w →
+            OnOk result (HoldsAead self.new (with_nonce w (take (nonce_length w) random.now))) }
+    {
+        if !(self.encrypts && self.takes_nonce()) {
+            return Err(Status::BadState);
+        }
+        let nonce = &random[..nonce_length(self.alg, declared_payload(self.lengths))];
+        let length = give(nonce, out)?;
+        self.begin(nonce);
+        Ok(length)
+    }
+}

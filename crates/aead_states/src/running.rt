@@ -1,0 +1,83 @@
+// An operation that is active, or a wiped one.
+ghost use Rattle.std.specs.Prelude.{◌≡◌, ◌≤◌, Bool, true, IsTrue};
+ghost use Rattle.crypto_specs.specs.Aes.{IsKey};
+ghost use Rattle.store_model.specs.Rules.{total_limit};
+ghost use Rattle.algorithm_facts.specs.TagLengths.{IsAead};
+ghost use Rattle.aead_states.specs.Ready.{is_ready};
+
+use crate::lengths::Lengths;
+use crate::parts::Parts;
+use aes_core::AesKey;
+use alg_encoding::Alg;
+use algorithm_facts::aes_key;
+
+// What was said and given to an operation: its algorithm and key, the declared lengths, whether the nonce is there,
+// how many bytes of associated data and of text there are, and whether any text was given.
+#[derive(Drop)]
+pub(crate) struct RunningAead {
+    pub(crate) encrypts: bool,
+    pub(crate) alg: Alg,
+    pub(crate) key: AesKey,
+    pub(crate) has_key: bool,
+    pub(crate) lengths: Option<Lengths>,
+    pub(crate) has_nonce: bool,
+    pub(crate) ad: u64,
+    pub(crate) text: u64,
+    pub(crate) has_text: bool,
+    pub(crate) parts: Parts,
+    ghost ready: { has_key ≡ true → IsTrue (is_ready alg.0 key) },
+    ghost keyed: { has_nonce ≡ true → has_key ≡ true },
+    ghost ad_limit: { ad ≤ total_limit },
+    ghost text_limit: { text ≤ total_limit },
+}
+
+impl RunningAead {
+    ghost use Rattle.store_model.specs.AeadOperations.{aead_work};
+    ghost use Rattle.aead_states.specs.Holding.{HoldsAead, IsClearRunning};
+
+    pub(crate) fn new() -> RunningAead
+        ensures { IsClearRunning result }
+    {
+        let mut key = aes_key(&[0; 16]);
+        key.wipe();
+        RunningAead {
+            encrypts: false,
+            alg: Alg(0),
+            key,
+            has_key: false,
+            lengths: None,
+            has_nonce: false,
+            ad: 0,
+            text: 0,
+            has_text: false,
+            parts: Parts::new(),
+        }
+    }
+
+    // Forgets key and text.
+    pub(crate) fn wipe(&mut self)
+        ensures { IsClearRunning self.new }
+    {
+        self.has_key = false;
+        self.has_nonce = false;
+        self.key.wipe();
+        self.parts.wipe();
+    }
+
+    // Begins with a key, and nothing else yet.
+    pub(crate) fn start(&mut self, encrypts: bool, key: &[u8], alg: Alg)
+        requires key { IsKey key.now }
+        requires aead { IsAead alg.0 }
+        ensures { HoldsAead self.new (aead_work encrypts alg.0 key.now) }
+    {
+        self.encrypts = encrypts;
+        self.alg = alg;
+        self.key = aes_key(key);
+        self.has_key = true;
+        self.lengths = None;
+        self.has_nonce = false;
+        self.ad = 0;
+        self.text = 0;
+        self.has_text = false;
+    }
+}

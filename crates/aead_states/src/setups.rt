@@ -1,0 +1,53 @@
+// Setups.
+ghost use Rattle.std.specs.Prelude.{◌≡◌, true, false};
+ghost use Rattle.crypto_specs.specs.Aes.{IsKey};
+ghost use Rattle.store_model.specs.Answers.{plain_reply};
+ghost use Rattle.store_model.specs.Operations.{Operation};
+ghost use Rattle.store_model.specs.AeadOperations.{AeadWork, aead_setup};
+ghost use Rattle.algorithm_facts.specs.TagLengths.{IsAead};
+ghost use Rattle.aead_states.specs.Holding.{IsAeadOperation};
+
+use crate::AeadState;
+use alg_encoding::Alg;
+use operation_phase::Phase;
+use psa_status::Status;
+
+impl AeadState {
+    fn setup(&mut self, encrypts: bool, key: &[u8], alg: Alg) -> Result<(), Status>
+        requires key { IsKey key.now }
+        requires aead { IsAead alg.0 }
+        ensures state { (op : Operation AeadWork) → IsAeadOperation self.old op →
+            IsAeadOperation self.new (aead_setup op encrypts alg.0 key.now).operation }
+        ensures reply { (op : Operation AeadWork) → IsAeadOperation self.old op →
+            plain_reply result ≡ (aead_setup op encrypts alg.0 key.now).reply }
+    {
+        self.phase.check_inactive()?;
+        self.work.start(encrypts, key, alg);
+        self.phase = Phase::Active;
+        Ok(())
+    }
+
+    /// Sets an inactive operation up to encrypt a text under a key. `BadState` where it isn't inactive.
+    pub fn aead_encrypt_setup(&mut self, key: &[u8], alg: Alg) -> Result<(), Status>
+        requires key { IsKey key.now }
+        requires aead { IsAead alg.0 }
+        ensures state { (op : Operation AeadWork) → IsAeadOperation self.old op →
+            IsAeadOperation self.new (aead_setup op true alg.0 key.now).operation }
+        ensures reply { (op : Operation AeadWork) → IsAeadOperation self.old op →
+            plain_reply result ≡ (aead_setup op true alg.0 key.now).reply }
+    {
+        self.setup(true, key, alg)
+    }
+
+    /// Sets an inactive operation up to decrypt a text under a key. `BadState` where it isn't inactive.
+    pub fn aead_decrypt_setup(&mut self, key: &[u8], alg: Alg) -> Result<(), Status>
+        requires key { IsKey key.now }
+        requires aead { IsAead alg.0 }
+        ensures state { (op : Operation AeadWork) → IsAeadOperation self.old op →
+            IsAeadOperation self.new (aead_setup op false alg.0 key.now).operation }
+        ensures reply { (op : Operation AeadWork) → IsAeadOperation self.old op →
+            plain_reply result ≡ (aead_setup op false alg.0 key.now).reply }
+    {
+        self.setup(false, key, alg)
+    }
+}

@@ -1,0 +1,63 @@
+-- A text that begins.
+use Rattle.std.proofs.Common.{◌≡◌, ℕ, Bool, true, false, not, List, [], length, refl, sym, subst, inl, inr}
+use Rattle.std.specs.Prelude.{◌&&◌, ◌||◌, ◌==◌}
+use Rattle.crypto_specs.specs.Aes.{aes_encrypt}
+use Rattle.crypto_specs.specs.Modes.{block_number}
+use Rattle.key_streams.specs.declared.width.CounterWidth.TheVariants.{Whole}
+use Rattle.key_streams.specs.Streams.{IsAt}
+use Rattle.store_model.specs.Ciphers.{Mode, Ctr, CbcNoPadding, CbcPkcs7, EcbNoPadding, iv_length, mode_of}
+use Rattle.store_model.specs.CipherOperations.{CipherWork, bytes_or_empty}
+use Rattle.cipher_states.specs.declared.running.RunningCipher.{RunningCipher}
+use Rattle.cipher_states.specs.Modes.{is_stream, keeps_last}
+use Rattle.cipher_states.specs.Ways.{way_of, chains}
+use Rattle.cipher_states.specs.Texts.{RunsBlocks}
+use Rattle.cipher_states.specs.States.{RunsMode}
+use Rattle.cipher_states.proofs.RunningTexts.{by_stream, by_blocks}
+use Rattle.cipher_states.proofs.Dues.{either}
+
+-- from the initialisation vector, where the mode has one
+pub begun : (m : Mode) (s : RunningCipher) (w : CipherWork) (iv : List ℕ) → w.text ≡ [] → (is_stream m ≡ true → iv ≡ bytes_or_empty w.iv)
+    → (chains (way_of m w.encrypts) ≡ true → iv ≡ bytes_or_empty w.iv) → ((e : List ℕ → List ℕ) → IsAt s.stream e Whole (block_number iv) 0)
+    → ((key given : List ℕ) → (chains (way_of m w.encrypts) ≡ true → iv ≡ given) → RunsBlocks s.blocks (way_of m w.encrypts) (keeps_last m w.encrypts) key given []) → RunsMode m s w
+begun m s w iv empty stream_iv chain_iv stream blocks = elim (either m) [
+  | inl e ↦
+      let P : List ℕ → Type 0 = λ (v : List ℕ). IsAt s.stream (aes_encrypt w.key) Whole (block_number v) 0 in
+      let Q : List ℕ → Type 0 = λ (t : List ℕ). IsAt s.stream (aes_encrypt w.key) Whole (block_number (bytes_or_empty w.iv)) (length t) in
+      by_stream m s w e (subst Q (sym empty) (subst P (stream_iv e) (stream (aes_encrypt w.key))))
+  | inr e ↦
+      let Q : List ℕ → Type 0 = λ (t : List ℕ). RunsBlocks s.blocks (way_of m w.encrypts) (keeps_last m w.encrypts) w.key (bytes_or_empty w.iv) t in
+      by_blocks m s w e (subst Q (sym empty) (blocks w.key (bytes_or_empty w.iv) chain_iv))
+]
+
+-- a mode without an initialisation vector
+pub no_stream : (m : Mode) → (iv_length m == 0) ≡ true → is_stream m ≡ true → ⊥
+no_stream Ctr e f = cc
+no_stream CbcNoPadding e f = cc
+no_stream CbcPkcs7 e f = cc
+no_stream EcbNoPadding e f = cc
+
+pub no_chain : (m : Mode) (encrypts : Bool) → (iv_length m == 0) ≡ true → chains (way_of m encrypts) ≡ true → ⊥
+no_chain Ctr encrypts e f = cc
+no_chain CbcNoPadding encrypts e f = cc
+no_chain CbcPkcs7 encrypts e f = cc
+no_chain EcbNoPadding true e f = cc
+no_chain EcbNoPadding false e f = cc
+
+-- while the vector is missing no text may come
+pub not_ready : (none given : Bool) → (not none && not given) ≡ true → (given || none) ≡ false
+not_ready true given e = cc
+not_ready false true e = cc
+not_ready false false e = refl
+
+-- what a BlockText of a mode stands for from an initialisation vector on
+abbrev pub BlocksFrom : Mode → Bool → RunningCipher → List ℕ → Type 0
+BlocksFrom m encrypts s iv =
+    (key given : List ℕ) → (chains (way_of m encrypts) ≡ true → iv ≡ given) → RunsBlocks s.blocks (way_of m encrypts) (keeps_last m encrypts) key given []
+
+pub begun_work : (m : Mode) (encrypts : Bool) (s : RunningCipher) (w : CipherWork) (iv : List ℕ) → m ≡ mode_of w.alg → encrypts ≡ w.encrypts → w.text ≡ []
+    → (is_stream (mode_of w.alg) ≡ true → iv ≡ bytes_or_empty w.iv) → (chains (way_of (mode_of w.alg) w.encrypts) ≡ true → iv ≡ bytes_or_empty w.iv)
+    → ((e : List ℕ → List ℕ) → IsAt s.stream e Whole (block_number iv) 0) → BlocksFrom m encrypts s iv → RunsMode (mode_of w.alg) s w
+begun_work m encrypts s w iv em ee empty stream_iv chain_iv stream blocks =
+    let P : Mode → Type 0 = λ (n : Mode). BlocksFrom n encrypts s iv in
+    let Q : Bool → Type 0 = λ (b : Bool). BlocksFrom (mode_of w.alg) b s iv in
+    begun (mode_of w.alg) s w iv empty stream_iv chain_iv stream (subst Q ee (subst P em blocks))

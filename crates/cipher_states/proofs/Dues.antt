@@ -1,0 +1,107 @@
+-- The output that is due, by the mode and the direction.
+use Rattle.std.proofs.Common.{◌≡◌, ℕ, ◌%◌, ◌≤◌, Bool, true, false, cond, ◌⊎◌, inl, inr, List, ◌++◌, length, take, drop, refl, sym, ap, ap₂, subst, ◌∙◌}
+use Rattle.std.proofs.lemmas.List.{length-append, take_at, drop_at, take-append-drop, take-append-le, take-take, length-take-le}
+use Rattle.crypto_specs.specs.Aes.{aes_encrypt}
+use Rattle.crypto_specs.specs.Modes.{ctr_xor, block_number}
+use Rattle.key_streams.specs.declared.width.CounterWidth.TheVariants.{Whole}
+use Rattle.key_streams.specs.Counters.{text_xor}
+use Rattle.key_streams.proofs.StreamLaws.{text_xor-append, length-text_xor}
+use Rattle.key_streams.proofs.ModeStreams.{aes_keeps_length, ctr_is, ctr_further}
+use Rattle.store_model.specs.Ciphers.{Mode, Ctr, CbcNoPadding, CbcPkcs7, EcbNoPadding, mode_of}
+use Rattle.store_model.specs.CipherOperations.{bytes_or_empty, due_enciphered, due_deciphered}
+use Rattle.cipher_states.specs.Modes.{due_bytes, is_stream, keeps_last}
+use Rattle.cipher_states.specs.declared.ways.Way.{Way}
+use Rattle.cipher_states.specs.Ways.{way_of, processed, chains, next_chain}
+use Rattle.cipher_states.specs.Laws.{DueGrows}
+use Rattle.cipher_states.proofs.TextPlaces.{due-whole, due-within, due-more}
+use Rattle.cipher_states.proofs.WayLaws.{processed_grows, processed_parts}
+
+-- what is due, by the mode
+abbrev pub due_under : Mode → Bool → (key iv text : List ℕ) → List ℕ
+due_under mode encrypts key iv text = cond encrypts (due_enciphered mode key iv text) (due_deciphered mode key iv text)
+
+pub stream_due : (mode : Mode) (encrypts : Bool) (key iv text : List ℕ) → is_stream mode ≡ true → due_under mode encrypts key iv text ≡ ctr_xor (aes_encrypt key) iv text
+stream_due Ctr true key iv text e = refl
+stream_due Ctr false key iv text e = refl
+stream_due CbcNoPadding encrypts key iv text e = cc
+stream_due CbcPkcs7 encrypts key iv text e = cc
+stream_due EcbNoPadding encrypts key iv text e = cc
+
+pub blocks_due : (mode : Mode) (encrypts : Bool) (key iv text : List ℕ) → is_stream mode ≡ false
+    → due_under mode encrypts key iv text ≡ processed (way_of mode encrypts) key iv (take (due_bytes (keeps_last mode encrypts) (length text)) text)
+blocks_due Ctr encrypts key iv text e = cc
+blocks_due CbcNoPadding true key iv text e = refl
+blocks_due CbcNoPadding false key iv text e = refl
+blocks_due CbcPkcs7 true key iv text e = refl
+blocks_due CbcPkcs7 false key iv text e = refl
+blocks_due EcbNoPadding true key iv text e = refl
+blocks_due EcbNoPadding false key iv text e = refl
+
+-- ---- what a further piece makes due
+
+length-ctr : (key iv text : List ℕ) → length (ctr_xor (aes_encrypt key) iv text) ≡ length text
+length-ctr key iv text = ap length (ctr_is (aes_encrypt key) (aes_keeps_length key) iv text) ∙ length-text_xor (aes_encrypt key) Whole (block_number iv) 0 text
+
+pub stream_fresh : (mode : Mode) (encrypts : Bool) (key iv text piece : List ℕ) → is_stream mode ≡ true
+    → drop (length (due_under mode encrypts key iv text)) (due_under mode encrypts key iv (text ++ piece)) ≡ text_xor (aes_encrypt key) Whole (block_number iv) (length text) piece
+stream_fresh mode encrypts key iv text piece e =
+    ap₂ (λ (n : ℕ) (l : List ℕ). drop n l) (ap length (stream_due mode encrypts key iv text e) ∙ length-ctr key iv text) (stream_due mode encrypts key iv (text ++ piece) e)
+    ∙ ctr_further (aes_encrypt key) (aes_keeps_length key) iv text piece
+
+-- by a way and a place that are known to be the mode's
+module _ (mode : Mode) (encrypts : Bool) (way : Way) (keeps : Bool) (other : is_stream mode ≡ false) (ew : way ≡ way_of mode encrypts) (ek : keeps ≡ keeps_last mode encrypts) (key iv : List ℕ) where
+  due_by : (text : List ℕ) → due_under mode encrypts key iv text ≡ processed way key iv (take (due_bytes keeps (length text)) text)
+  due_by text =
+      blocks_due mode encrypts key iv text other
+      ∙ ap₂ (λ (w : Way) (k : Bool). processed w key iv (take (due_bytes k (length text)) text)) (sym ew) (sym ek)
+
+  pub blocks_fresh : (chain text piece out : List ℕ) → take (due_bytes keeps (length (text ++ piece))) (text ++ piece) ≡ take (due_bytes keeps (length text)) text ++ out
+      → (chains way ≡ true → length iv ≡ 16) → (chains way ≡ true → chain ≡ next_chain way key iv (take (due_bytes keeps (length text)) text))
+      → drop (length (due_under mode encrypts key iv text)) (due_under mode encrypts key iv (text ++ piece)) ≡ processed way key chain out
+  blocks_fresh chain text piece out front v c =
+      let d : ℕ = due_bytes keeps (length text) in
+      let multiple : length (take d text) % 16 ≡ 0 = ap (λ (n : ℕ). n % 16) (length-take-le d text (due-within keeps (length text))) ∙ due-whole keeps (length text) in
+      ap₂ (λ (l m : List ℕ). drop (length l) m) (due_by text)
+      (due_by (text ++ piece) ∙ ap (processed way key iv) front ∙ processed_parts way key iv chain (take d text) out multiple v c)
+      ∙ drop_at (processed way key iv (take d text)) (processed way key chain out) _ refl
+
+-- ---- more text only adds to what is due
+
+stream_grows : (mode : Mode) (encrypts : Bool) (key iv text piece : List ℕ) → is_stream mode ≡ true
+    → take (length (due_under mode encrypts key iv text)) (due_under mode encrypts key iv (text ++ piece)) ≡ due_under mode encrypts key iv text
+stream_grows mode encrypts key iv text piece e =
+    let x : List ℕ = text_xor (aes_encrypt key) Whole (block_number iv) 0 text in
+    let is : due_under mode encrypts key iv text ≡ x = stream_due mode encrypts key iv text e ∙ ctr_is (aes_encrypt key) (aes_keeps_length key) iv text in
+    ap₂ (λ (l m : List ℕ). take (length l) m) is
+    (stream_due mode encrypts key iv (text ++ piece) e ∙ ctr_is (aes_encrypt key) (aes_keeps_length key) iv (text ++ piece) ∙ text_xor-append (aes_encrypt key) Whole (block_number iv) text piece 0)
+    ∙ take_at x _ _ refl ∙ sym is
+
+blocks_grow : (mode : Mode) (encrypts : Bool) (key iv text piece : List ℕ) → is_stream mode ≡ false
+    → take (length (due_under mode encrypts key iv text)) (due_under mode encrypts key iv (text ++ piece)) ≡ due_under mode encrypts key iv text
+blocks_grow mode encrypts key iv text piece e =
+    let way : Way = way_of mode encrypts in
+    let keeps : Bool = keeps_last mode encrypts in
+    let d : ℕ = due_bytes keeps (length text) in
+    let f : ℕ = due_bytes keeps (length (text ++ piece)) in
+    let within : d ≤ length text = due-within keeps (length text) in
+    let more : d ≤ f = subst (λ (n : ℕ). d ≤ due_bytes keeps n) (sym (length-append text piece)) (due-more keeps (length text) (length piece)) in
+    let all : List ℕ = take f (text ++ piece) in
+    let front : take d all ≡ take d text = take-take d f (text ++ piece) more ∙ take-append-le d text piece within in
+    let split : all ≡ take d text ++ drop d all = sym (take-append-drop d all) ∙ ap (λ (l : List ℕ). l ++ drop d all) front in
+    let multiple : length (take d text) % 16 ≡ 0 = ap (λ (n : ℕ). n % 16) (length-take-le d text within) ∙ due-whole keeps (length text) in
+    let is : due_under mode encrypts key iv text ≡ processed way key iv (take d text) = blocks_due mode encrypts key iv text e in
+    ap₂ (λ (l m : List ℕ). take (length l) m) is
+    (blocks_due mode encrypts key iv (text ++ piece) e ∙ ap (processed way key iv) split ∙ processed_grows way key iv (take d text) (drop d all) multiple)
+    ∙ take_at (processed way key iv (take d text)) _ _ refl ∙ sym is
+
+pub either : (mode : Mode) → (is_stream mode ≡ true) ⊎ (is_stream mode ≡ false)
+either Ctr = inl refl
+either CbcNoPadding = inr refl
+either CbcPkcs7 = inr refl
+either EcbNoPadding = inr refl
+
+pub due_grows : DueGrows
+due_grows w input = elim (either (mode_of w.alg)) [
+  | inl e ↦ stream_grows (mode_of w.alg) w.encrypts w.key (bytes_or_empty w.iv) w.text input e
+  | inr e ↦ blocks_grow (mode_of w.alg) w.encrypts w.key (bytes_or_empty w.iv) w.text input e
+]

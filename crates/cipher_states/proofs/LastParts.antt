@@ -1,0 +1,114 @@
+-- What a finish gives.
+use Rattle.std.proofs.Common.{◌≡◌, ℕ, ◌*◌, ◌/◌, ◌%◌, ◌<◌, Bool, true, false, cond, not, List, [], ◌++◌, length, take, drop, refl, sym, ap, ap₂, ◌∙◌, arith}
+use Rattle.std.specs.Prelude.{Option, Some, None, is_some, ◌||◌, ◌==◌}
+use Rattle.std.specs.Option.{option_map}
+use Rattle.std.proofs.lemmas.Bool.Decides.{nat_tests}
+use Rattle.std.proofs.lemmas.List.{take_all, drop_all, drop_at, take-append-drop, length-take-le}
+use Rattle.psa_status.specs.declared.Status.TheVariants.{Success, InvalidPadding}
+use Rattle.crypto_specs.specs.Modes.{pkcs7_padded, pkcs7_unpadded, cbc_encrypt, cbc_decrypt, ecb_encrypt, ecb_decrypt}
+use Rattle.crypto_specs.specs.Aes.{aes_encrypt}
+use Rattle.crypto_specs.specs.AesInverse.{aes_decrypt}
+use Rattle.store_model.specs.Call.{Bytes}
+use Rattle.store_model.specs.Outcome.{given, spoiled}
+use Rattle.store_model.specs.Operations.{After, Inactive, InError, ends}
+use Rattle.store_model.specs.Ciphers.{Mode, Ctr, CbcNoPadding, CbcPkcs7, EcbNoPadding, mode_of, enciphered, deciphered, takes_whole_blocks, is_ciphertext_length, plain_or_zeros}
+use Rattle.store_model.specs.CipherOperations.{CipherWork, bytes_or_empty, last_length, last_part, whole_text}
+use Rattle.cipher_states.specs.declared.ways.Way.TheVariants.{CbcEncrypt, CbcDecrypt}
+use Rattle.cipher_states.specs.Modes.{due_bytes}
+use Rattle.cipher_states.specs.Ways.{processed, next_chain}
+use Rattle.cipher_states.proofs.WayLaws.{processed_parts, length-processed}
+use Rattle.cipher_states.proofs.TextPlaces.{due-whole, due-within}
+use Rattle.cipher_states.proofs.Dues.{due_under}
+use Rattle.cipher_states.proofs.Paddings.{padded_behind, unpadded_behind}
+
+-- ---- by mode, direction, key, initialisation vector and text
+
+abbrev part_at : Mode → List ℕ → Option (List ℕ) → After CipherWork
+part_at m due (Some text) = ends (record (given (drop (length due) text)) { needed = last_length m })
+part_at m due None = record { operation = InError; reply = spoiled InvalidPadding (last_length m); drawn = 0 }
+
+abbrev whole_at : Mode → Bool → (key iv text : List ℕ) → Option (List ℕ)
+whole_at m encrypts key iv text = cond encrypts (Some (enciphered m key iv text)) (deciphered m key iv text)
+
+abbrev pub end_at : Mode → Bool → (key iv text : List ℕ) → After CipherWork
+end_at m encrypts key iv text = part_at m (due_under m encrypts key iv text) (whole_at m encrypts key iv text)
+
+abbrev pub is_whole_at : Mode → Bool → ℕ → Bool
+is_whole_at m encrypts n = cond encrypts (not (takes_whole_blocks m) || n % 16 == 0) (is_ciphertext_length m n)
+
+part_is : (w : CipherWork) (o : Option (List ℕ)) → last_part w o ≡ part_at (mode_of w.alg) (due_under (mode_of w.alg) w.encrypts w.key (bytes_or_empty w.iv) w.text) o
+part_is w (Some text) = refl
+part_is w None = refl
+
+pub end_is : (w : CipherWork) → last_part w (whole_text w) ≡ end_at (mode_of w.alg) w.encrypts w.key (bytes_or_empty w.iv) w.text
+end_is w = part_is w (whole_text w)
+
+-- ---- without padding nothing is left
+
+all_blocks : (text : List ℕ) → length text % 16 ≡ 0 → take (16 * (length text / 16)) text ≡ text
+all_blocks text whole = take_all (16 * (length text / 16)) text (omega arith)
+
+multiple : (n : ℕ) → (n % 16 == 0) ≡ true → n % 16 ≡ 0
+multiple n e = grind (arith, nat_tests)
+
+all_due : (m : Mode) (encrypts : Bool) (key iv text : List ℕ) → last_length m ≡ 0 → is_whole_at m encrypts (length text) ≡ true → whole_at m encrypts key iv text ≡ Some (due_under m encrypts key iv text)
+all_due Ctr true key iv text e h = refl
+all_due Ctr false key iv text e h = refl
+all_due CbcNoPadding true key iv text e h = ap (λ (l : List ℕ). Some (cbc_encrypt (aes_encrypt key) iv l)) (sym (all_blocks text (multiple (length text) h)))
+all_due CbcNoPadding false key iv text e h = ap (λ (l : List ℕ). Some (cbc_decrypt (aes_decrypt key) iv l)) (sym (all_blocks text (multiple (length text) h)))
+all_due CbcPkcs7 encrypts key iv text e h = absurd (omega arith)
+all_due EcbNoPadding true key iv text e h = ap (λ (l : List ℕ). Some (ecb_encrypt (aes_encrypt key) l)) (sym (all_blocks text (multiple (length text) h)))
+all_due EcbNoPadding false key iv text e h = ap (λ (l : List ℕ). Some (ecb_decrypt (aes_decrypt key) l)) (sym (all_blocks text (multiple (length text) h)))
+
+pub nothing_left : (m : Mode) (encrypts : Bool) (key iv text : List ℕ) → last_length m ≡ 0 → is_whole_at m encrypts (length text) ≡ true
+    → end_at m encrypts key iv text ≡ ends (record { status = Success; output = Bytes []; needed = 0 })
+nothing_left m encrypts key iv text e h =
+    let due : List ℕ = due_under m encrypts key iv text in
+    ap (part_at m due) (all_due m encrypts key iv text e h)
+    ∙ ap₂ (λ (l : List ℕ) (n : ℕ). ends {W = CipherWork} (record { status = Success; output = Bytes l; needed = n })) (drop_all (length due) due (omega arith)) e
+
+-- ---- the last block, with its padding
+
+pub pkcs7_mode : (m : Mode) → 0 < last_length m → m ≡ CbcPkcs7
+pkcs7_mode Ctr h = absurd (omega arith)
+pkcs7_mode CbcNoPadding h = absurd (omega arith)
+pkcs7_mode CbcPkcs7 h = refl
+pkcs7_mode EcbNoPadding h = absurd (omega arith)
+
+pub padded_end : (key iv chain text last : List ℕ) → length iv ≡ 16 → last ≡ drop (due_bytes false (length text)) text → chain ≡ next_chain CbcEncrypt key iv (take (due_bytes false (length text)) text)
+    → end_at CbcPkcs7 true key iv text ≡ ends (record (given (processed CbcEncrypt key chain (pkcs7_padded last))) { needed = 16 })
+padded_end key iv chain text last v el ec =
+    let d : ℕ = due_bytes false (length text) in
+    let front : List ℕ = take d text in
+    let whole : length front % 16 ≡ 0 = ap (λ (n : ℕ). n % 16) (length-take-le d text (due-within false (length text))) ∙ due-whole false (length text) in
+    let parts : pkcs7_padded text ≡ front ++ pkcs7_padded last =
+    ap pkcs7_padded (sym (take-append-drop d text)) ∙ padded_behind front (drop d text) whole ∙ ap (λ (l : List ℕ). front ++ pkcs7_padded l) (sym el) in
+    let due : List ℕ = processed CbcEncrypt key iv front in
+    let rest : List ℕ = processed CbcEncrypt key chain (pkcs7_padded last) in
+    let all : processed CbcEncrypt key iv (pkcs7_padded text) ≡ due ++ rest =
+    ap (processed CbcEncrypt key iv) parts ∙ processed_parts CbcEncrypt key iv chain front (pkcs7_padded last) whole (λ _. v) (λ _. ec) in
+    ap (λ (l : List ℕ). ends {W = CipherWork} (record (given (drop (length due) l)) { needed = 16 })) all
+    ∙ ap (λ (l : List ℕ). ends {W = CipherWork} (record (given l) { needed = 16 })) (drop_at due rest (length due) refl)
+
+-- ---- and without it
+
+-- a text, or none where no padding ends it
+abbrev pub unpadded_end : Option (List ℕ) → After CipherWork
+unpadded_end o = record { operation = cond (is_some o) Inactive InError; reply = plain_or_zeros 16 o; drawn = 0 }
+
+behind_due : (due : List ℕ) (o : Option (List ℕ)) → part_at CbcPkcs7 due (option_map (λ m. due ++ m) o) ≡ unpadded_end o
+behind_due due (Some text) = ap (λ (l : List ℕ). ends {W = CipherWork} (record (given l) { needed = 16 })) (drop_at due text (length due) refl)
+behind_due due None = refl
+
+pub unpadded_is : (key iv chain text last : List ℕ) → length iv ≡ 16 → length last ≡ 16 → last ≡ drop (due_bytes true (length text)) text → chain ≡ next_chain CbcDecrypt key iv (take (due_bytes true (length text)) text)
+    → length chain ≡ 16 → end_at CbcPkcs7 false key iv text ≡ unpadded_end (pkcs7_unpadded (processed CbcDecrypt key chain last))
+unpadded_is key iv chain text last v long el ec chain_long =
+    let d : ℕ = due_bytes true (length text) in
+    let front : List ℕ = take d text in
+    let whole : length front % 16 ≡ 0 = ap (λ (n : ℕ). n % 16) (length-take-le d text (due-within true (length text))) ∙ due-whole true (length text) in
+    let due : List ℕ = processed CbcDecrypt key iv front in
+    let block : List ℕ = processed CbcDecrypt key chain last in
+    let block_long : length block ≡ 16 = length-processed CbcDecrypt key chain last (λ _. chain_long) (ap (λ (n : ℕ). n % 16) long) ∙ long in
+    let all : processed CbcDecrypt key iv text ≡ due ++ block =
+    ap (processed CbcDecrypt key iv) (sym (take-append-drop d text) ∙ ap (λ (l : List ℕ). front ++ l) (sym el)) ∙ processed_parts CbcDecrypt key iv chain front last whole (λ _. v) (λ _. ec) in
+    ap (part_at CbcPkcs7 due) (ap pkcs7_unpadded all ∙ unpadded_behind due block block_long) ∙ behind_due due (pkcs7_unpadded block)

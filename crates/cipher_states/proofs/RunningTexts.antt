@@ -1,0 +1,124 @@
+-- What a RunningCipher stands for.
+use Rattle.std.proofs.Common.{◌≡◌, ℕ, ◌+◌, ◌%◌, ◌<◌, ◌≤◌, Bool, true, false, cond, List, ◌++◌, length, take, drop, refl, sym, ap, subst, ◌∙◌, arith}
+use Rattle.std.specs.Prelude.{Some, None, nat_lt}
+use Rattle.std.proofs.lemmas.Bool.{lt-ltb, le-ltb}
+use Rattle.std.proofs.lemmas.List.{length-append, length-take, length-drop, take-append-drop}
+use Rattle.psa_status.specs.declared.Status.TheVariants.{BufferTooSmall}
+use Rattle.psa_status.specs.Rows.{first_row}
+use Rattle.crypto_specs.specs.Aes.{aes_encrypt}
+use Rattle.crypto_specs.specs.Modes.{block_number}
+use Rattle.key_streams.specs.declared.width.CounterWidth.TheVariants.{Whole}
+use Rattle.key_streams.specs.Counters.{text_xor}
+use Rattle.key_streams.specs.Streams.{IsAt}
+use Rattle.key_streams.proofs.StreamLaws.{length-text_xor}
+use Rattle.store_model.specs.Rules.{room_rows, total_limit}
+use Rattle.store_model.specs.Ciphers.{Mode, Ctr, CbcNoPadding, CbcPkcs7, EcbNoPadding, mode_of}
+use Rattle.store_model.specs.CipherOperations.{CipherWork, cipher_fresh, cipher_update_rows, with_text, bytes_or_empty, takes_text}
+use Rattle.algorithm_facts.specs.Modes.{model_mode}
+use Rattle.cipher_states.specs.declared.running.RunningCipher.{RunningCipher}
+use Rattle.cipher_states.specs.Modes.{due_bytes, is_stream, keeps_last}
+use Rattle.cipher_states.specs.Ways.{way_of, processed, chains}
+use Rattle.cipher_states.specs.Texts.{RunsBlocks}
+use Rattle.cipher_states.specs.States.{HoldsCipher, RunsMode, due_now}
+use Rattle.cipher_states.proofs.WayLaws.{length-processed, length-next_chain}
+use Rattle.cipher_states.proofs.TextPlaces.{due-whole, due-within, further_front}
+use Rattle.cipher_states.proofs.Dues.{stream_fresh, blocks_fresh}
+
+-- ---- by the mode
+
+stream_mode : (m : Mode) (s : RunningCipher) (w : CipherWork) → is_stream m ≡ true → RunsMode m s w → IsAt s.stream (aes_encrypt w.key) Whole (block_number (bytes_or_empty w.iv)) (length w.text)
+stream_mode Ctr s w e h = h
+stream_mode CbcNoPadding s w e h = cc
+stream_mode CbcPkcs7 s w e h = cc
+stream_mode EcbNoPadding s w e h = cc
+
+block_mode : (m : Mode) (s : RunningCipher) (w : CipherWork) → is_stream m ≡ false → RunsMode m s w
+    → RunsBlocks s.blocks (way_of m w.encrypts) (keeps_last m w.encrypts) w.key (bytes_or_empty w.iv) w.text
+block_mode Ctr s w e h = cc
+block_mode CbcNoPadding s w e h = h
+block_mode CbcPkcs7 s w e h = h
+block_mode EcbNoPadding s w e h = h
+
+pub by_stream : (m : Mode) (s : RunningCipher) (w : CipherWork) → is_stream m ≡ true → IsAt s.stream (aes_encrypt w.key) Whole (block_number (bytes_or_empty w.iv)) (length w.text) → RunsMode m s w
+by_stream Ctr s w e h = h
+by_stream CbcNoPadding s w e h = cc
+by_stream CbcPkcs7 s w e h = cc
+by_stream EcbNoPadding s w e h = cc
+
+pub by_blocks : (m : Mode) (s : RunningCipher) (w : CipherWork) → is_stream m ≡ false
+    → RunsBlocks s.blocks (way_of m w.encrypts) (keeps_last m w.encrypts) w.key (bytes_or_empty w.iv) w.text → RunsMode m s w
+by_blocks Ctr s w e h = cc
+by_blocks CbcNoPadding s w e h = h
+by_blocks CbcPkcs7 s w e h = h
+by_blocks EcbNoPadding s w e h = h
+
+-- ---- what a further piece makes due, under the key that the state has
+
+module _ (s : RunningCipher) (w : CipherWork) (h : HoldsCipher s w) (ready : takes_text w ≡ true) where
+  pub runs_stream : is_stream (model_mode s.mode) ≡ true → IsAt s.stream (aes_encrypt s.key) Whole (block_number (bytes_or_empty w.iv)) (length w.text)
+  runs_stream e = subst (λ (k : List ℕ). IsAt s.stream (aes_encrypt k) Whole (block_number (bytes_or_empty w.iv)) (length w.text)) (sym h.key)
+      (stream_mode (mode_of w.alg) s w (ap is_stream (sym h.mode) ∙ e) (h.text ready))
+
+  pub runs_blocks : is_stream (model_mode s.mode) ≡ false → RunsBlocks s.blocks (way_of (mode_of w.alg) w.encrypts) (keeps_last (mode_of w.alg) w.encrypts) s.key (bytes_or_empty w.iv) w.text
+  runs_blocks e = subst (λ (k : List ℕ). RunsBlocks s.blocks (way_of (mode_of w.alg) w.encrypts) (keeps_last (mode_of w.alg) w.encrypts) k (bytes_or_empty w.iv) w.text) (sym h.key)
+      (block_mode (mode_of w.alg) s w (ap is_stream (sym h.mode) ∙ e) (h.text ready))
+
+  pub fresh_stream : is_stream (model_mode s.mode) ≡ true → (input : List ℕ) → cipher_fresh w (with_text w input) ≡ text_xor (aes_encrypt s.key) Whole (block_number (bytes_or_empty w.iv)) (length w.text) input
+  fresh_stream e input =
+      stream_fresh (mode_of w.alg) w.encrypts w.key (bytes_or_empty w.iv) w.text input (ap is_stream (sym h.mode) ∙ e)
+      ∙ ap (λ (k : List ℕ). text_xor (aes_encrypt k) Whole (block_number (bytes_or_empty w.iv)) (length w.text) input) (sym h.key)
+
+  -- the bytes that are kept, and the piece
+  pub waiting-length : is_stream (model_mode s.mode) ≡ false → (input : List ℕ) → length (take s.blocks.used s.blocks.kept ++ input) ≡ s.blocks.used + length input
+  waiting-length e input =
+      let t = (runs_blocks e).holds in
+      let d : ℕ = due_bytes s.blocks.keeps_last (length w.text) in
+      omega (arith, t.used, ap length t.kept, length-drop d w.text, length-append (take s.blocks.used s.blocks.kept) input)
+
+  pub fresh_blocks : is_stream (model_mode s.mode) ≡ false → (input : List ℕ)
+      → cipher_fresh w (with_text w input) ≡ processed s.blocks.way s.key s.blocks.chain (take (due_bytes s.blocks.keeps_last (s.blocks.used + length input)) (take s.blocks.used s.blocks.kept ++ input))
+  fresh_blocks e input =
+      let r = runs_blocks e in
+      let iv : List ℕ = bytes_or_empty w.iv in
+      let n : ℕ = due_bytes s.blocks.keeps_last (s.blocks.used + length input) in
+      let waiting : List ℕ = take s.blocks.used s.blocks.kept ++ input in
+      let size : length (take n waiting) ≡ n = omega (arith, length-take n waiting, waiting-length e input, due-within s.blocks.keeps_last (s.blocks.used + length input)) in
+      ap (λ (k : List ℕ). cipher_fresh (record w { key = k }) (record w { key = k; text = w.text ++ input })) (sym h.key)
+      ∙ blocks_fresh (mode_of w.alg) w.encrypts s.blocks.way s.blocks.keeps_last (ap is_stream (sym h.mode) ∙ e) r.way r.keeps_last s.key iv s.blocks.chain w.text input (take n waiting)
+      (further_front s.blocks s.key iv w.text input r.holds (take n waiting) (drop n waiting) size (take-append-drop n waiting)) r.holds.vector r.holds.chain
+
+  due_stream : (more : ℕ) → is_stream (model_mode s.mode) ≡ true → due_now s more ≡ more
+  due_stream more e = ap (λ (b : Bool). cond b more (due_bytes s.blocks.keeps_last (s.blocks.used + more))) e
+
+  pub due_blocks : (more : ℕ) → is_stream (model_mode s.mode) ≡ false → due_now s more ≡ due_bytes s.blocks.keeps_last (s.blocks.used + more)
+  due_blocks more e = ap (λ (b : Bool). cond b more (due_bytes s.blocks.keeps_last (s.blocks.used + more))) e
+
+  fresh_length : (b : Bool) → is_stream (model_mode s.mode) ≡ b → (input : List ℕ) → length (cipher_fresh w (with_text w input)) ≡ due_now s (length input)
+  fresh_length true e input =
+      ap length (fresh_stream e input) ∙ length-text_xor (aes_encrypt s.key) Whole (block_number (bytes_or_empty w.iv)) (length w.text) input ∙ sym (due_stream (length input) e)
+  fresh_length false e input =
+      let r = runs_blocks e in
+      let n : ℕ = due_bytes s.blocks.keeps_last (s.blocks.used + length input) in
+      let waiting : List ℕ = take s.blocks.used s.blocks.kept ++ input in
+      let size : length (take n waiting) ≡ n = omega (arith, length-take n waiting, waiting-length e input, due-within s.blocks.keeps_last (s.blocks.used + length input)) in
+      let chained = λ (c : chains s.blocks.way ≡ true). ap length (r.holds.chain c) ∙ length-next_chain s.blocks.way s.key (bytes_or_empty w.iv) (take (due_bytes s.blocks.keeps_last (length w.text)) w.text) ∙ r.holds.vector c in
+      ap length (fresh_blocks e input)
+      ∙ length-processed s.blocks.way s.key s.blocks.chain (take n waiting) chained (ap (λ (m : ℕ). m % 16) size ∙ due-whole s.blocks.keeps_last (s.blocks.used + length input))
+      ∙ size ∙ sym (due_blocks (length input) e)
+
+  pub length-fresh : (input : List ℕ) → length (cipher_fresh w (with_text w input)) ≡ due_now s (length input)
+  length-fresh input = fresh_length (is_stream (model_mode s.mode)) refl input
+
+-- ---- the refusals of a piece
+
+pub update_rows : (w : CipherWork) (input : List ℕ) (room n : ℕ) → takes_text w ≡ true → length w.text + length input ≤ total_limit → length (cipher_fresh w (with_text w input)) ≡ n
+    → first_row (cipher_update_rows w input room) ≡ first_row (room_rows n room)
+update_rows w input room n ready fits size =
+    let within : nat_lt total_limit (length w.text + length input) ≡ false = le-ltb total_limit (length w.text + length input) fits in
+    rw (ready, within, size) refl
+
+pub no_room : (n room : ℕ) → room < n → first_row (room_rows n room) ≡ Some BufferTooSmall
+no_room n room h = rw (lt-ltb room n h) refl
+
+pub has_room : (n room : ℕ) → n ≤ room → first_row (room_rows n room) ≡ None
+has_room n room h = rw (le-ltb room n h) refl

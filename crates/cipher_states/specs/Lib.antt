@@ -1,0 +1,6 @@
+pub mod Keyed
+pub mod Modes
+pub mod Ways
+pub mod Texts
+pub mod States
+pub mod Laws

@@ -1,0 +1,53 @@
+-- What a cipher in several parts stands for.
+use Rattle.std.specs.Prelude.{◌≡◌, ℕ, ◌+◌, true, false, [], length, is_some, if◌then◌else◌}
+use Rattle.crypto_specs.specs.Aes.{aes_encrypt}
+use Rattle.crypto_specs.specs.Modes.{block_number}
+use Rattle.key_streams.specs.declared.width.CounterWidth.TheVariants.{Whole}
+use Rattle.key_streams.specs.Streams.{IsAt, IsClearStream}
+use Rattle.store_model.specs.Ciphers.{Mode, Ctr, CbcNoPadding, CbcPkcs7, EcbNoPadding, mode_of}
+use Rattle.store_model.specs.CipherOperations.{CipherWork, bytes_or_empty, takes_text}
+use Rattle.store_model.specs.Operations.{Operation}
+use Rattle.algorithm_facts.specs.Modes.{model_mode}
+use Rattle.operation_phase.specs.Phases.{StandsFor}
+use Rattle.cipher_states.specs.declared.running.RunningCipher.{RunningCipher}
+use Rattle.cipher_states.specs.declared.state.CipherState.{CipherState}
+use Rattle.cipher_states.specs.Modes.{due_bytes, is_stream, keeps_last}
+use Rattle.cipher_states.specs.Ways.{way_of}
+use Rattle.cipher_states.specs.Texts.{RunsBlocks, IsClearText}
+
+-- the text so far has run under a mode
+abbrev pub RunsMode : Mode → RunningCipher → CipherWork → Type 0
+RunsMode Ctr s w = IsAt s.stream (aes_encrypt w.key) Whole (block_number (bytes_or_empty w.iv)) (length w.text)
+RunsMode CbcNoPadding s w =
+    RunsBlocks s.blocks (way_of CbcNoPadding w.encrypts) (keeps_last CbcNoPadding w.encrypts) w.key (bytes_or_empty w.iv) w.text
+RunsMode CbcPkcs7 s w =
+    RunsBlocks s.blocks (way_of CbcPkcs7 w.encrypts) (keeps_last CbcPkcs7 w.encrypts) w.key (bytes_or_empty w.iv) w.text
+RunsMode EcbNoPadding s w =
+    RunsBlocks s.blocks (way_of EcbNoPadding w.encrypts) (keeps_last EcbNoPadding w.encrypts) w.key (bytes_or_empty w.iv) w.text
+
+pub record HoldsCipher (s : RunningCipher) (w : CipherWork) : Type 0 where
+  pub encrypts : s.encrypts ≡ w.encrypts
+  pub mode : model_mode s.mode ≡ mode_of w.alg
+  pub key : s.key ≡ w.key
+  pub vector : s.has_iv ≡ is_some w.iv
+  pub total : s.total ≡ length w.text
+  pub before : takes_text w ≡ false → w.text ≡ []
+  pub text : takes_text w ≡ true → RunsMode (mode_of w.alg) s w
+
+-- nothing of a key and a text is left
+pub record IsClearRunning (s : RunningCipher) : Type 0 where
+  pub key : s.key ≡ []
+  pub total : s.total ≡ 0
+  pub stream : IsClearStream s.stream
+  pub blocks : IsClearText s.blocks
+
+abbrev pub IsClearCipher : CipherState → Type 0
+IsClearCipher s = IsClearRunning s.work
+
+-- the state stands for this operation
+abbrev pub IsCipherOperation : CipherState → Operation CipherWork → Type 0
+IsCipherOperation s op = StandsFor s.phase (IsClearCipher s) (HoldsCipher s.work) op
+
+-- how many bytes of output so many bytes of input give
+abbrev pub due_now : RunningCipher → ℕ → ℕ
+due_now s more = if is_stream (model_mode s.mode) then more else due_bytes s.blocks.keeps_last (s.blocks.used + more)

@@ -1,0 +1,157 @@
+// The start of a text: its key, and its initialisation vector.
+ghost use Rattle.std.specs.Prelude.{◌≡◌, ◌≤◌, ℕ, List, [], IfOk, OnOk, length, true};
+ghost use Rattle.std.specs.Result.{result_err};
+ghost use Rattle.psa_status.specs.Rows.{first_row};
+ghost use Rattle.crypto_specs.specs.Aes.{IsKey};
+ghost use Rattle.crypto_specs.specs.Modes.{block_number};
+ghost use Rattle.key_streams.specs.declared.width.CounterWidth.TheVariants.{Whole};
+ghost use Rattle.key_streams.specs.Streams.{IsAt};
+ghost use Rattle.store_model.specs.Call.{buffer_after};
+ghost use Rattle.store_model.specs.Outcome.{given, reply_unless};
+ghost use Rattle.store_model.specs.CipherOperations.{CipherWork, cipher_work, generate_iv_rows, set_iv_rows, takes_iv, with_iv};
+ghost use Rattle.algorithm_facts.specs.Modes.{model_mode};
+ghost use Rattle.cipher_states.specs.States.{HoldsCipher, IsClearRunning};
+ghost use Rattle.cipher_states.specs.Modes.{keeps_last};
+ghost use Rattle.cipher_states.specs.Texts.{RunsBlocks};
+ghost use Rattle.cipher_states.specs.Ways.{chains, way_of};
+
+use crate::block_text::BlockText;
+use crate::running::RunningCipher;
+use crate::ways::Way;
+use aes_core::AesKey;
+use alg_encoding::Alg;
+use algorithm_facts::{Mode, aes_key, mode_of};
+use key_streams::{CounterWidth, KeyStream};
+use psa_status::Status;
+
+// A key that is wiped.
+fn no_key() -> AesKey
+    ensures { result ≡ [] }
+{
+    let mut key = aes_key(&[0; 16]);
+    key.wipe();
+    key
+}
+
+// Whether the last block is kept back: it may hold the padding.
+fn keeps_last(mode: Mode, encrypts: bool) -> bool
+    ensures { result ≡ keeps_last (model_mode mode) encrypts }
+{
+    match mode {
+        Mode::CbcPkcs7 => !encrypts,
+        Mode::Ctr | Mode::CbcNoPadding | Mode::EcbNoPadding => false,
+    }
+}
+
+impl RunningCipher {
+    /// One without key and text.
+    pub(crate) fn clear() -> RunningCipher
+        ensures { IsClearRunning result }
+    {
+        RunningCipher {
+            encrypts: false,
+            mode: Mode::Ctr,
+            key: no_key(),
+            has_iv: false,
+            total: 0,
+            stream: KeyStream::clear(),
+            blocks: BlockText::clear(),
+        }
+    }
+
+    /// Forgets key and text.
+    pub(crate) fn wipe(&mut self)
+        ensures { IsClearRunning self.new }
+    {
+        self.key.wipe();
+        self.total = 0;
+        self.stream.wipe();
+        self.blocks.wipe();
+    }
+
+    // Begins the text from an initialisation vector.
+    fn begin_text(&mut self, iv: &[u8; 16])
+        ensures encrypts { self.new.encrypts ≡ self.old.encrypts }
+        ensures mode { self.new.mode ≡ self.old.mode }
+        ensures key { self.new.key ≡ self.old.key }
+        ensures has_iv { self.new.has_iv ≡ self.old.has_iv }
+        ensures total { self.new.total ≡ self.old.total }
+        ensures stream { (e : List ℕ → List ℕ) → IsAt self.new.stream e Whole (block_number iv.now) 0 }
+        ensures blocks { (key given : List ℕ) →
+            (chains (way_of (model_mode self.old.mode) self.old.encrypts) ≡ true → iv.now ≡ given) →
+            RunsBlocks self.new.blocks (way_of (model_mode self.old.mode) self.old.encrypts)
+            (keeps_last (model_mode self.old.mode) self.old.encrypts) key given [] }
+    {
+        let way = Way::of(self.mode, self.encrypts);
+        self.stream = KeyStream::new(CounterWidth::Whole, u128::from_be_bytes(*iv));
+        self.blocks = BlockText::new(way, keeps_last(self.mode, self.encrypts), iv);
+    }
+
+    /// Begins with the empty text under this key. Where the mode has an initialisation vector, that comes next.
+    pub(crate) fn start(&mut self, encrypts: bool, alg: Alg, key: &[u8])
+        requires { IsKey key.now }
+        ensures key { IsKey self.new.key }
+        ensures holds { HoldsCipher self.new (cipher_work encrypts alg.0 key.now) }
+    {
+        self.encrypts = encrypts;
+        self.mode = mode_of(alg);
+        self.key = aes_key(key);
+        self.has_iv = false;
+        self.total = 0;
+        self.begin_text(&[0; 16]);
+    }
+
+    // Takes the initialisation vector.
+    fn take_iv(&mut self, iv: &[u8; 16])
+        ensures key { self.new.key ≡ self.old.key }
+        ensures holds { (w : CipherWork) → HoldsCipher self.old w → takes_iv w ≡ true →
+            HoldsCipher self.new (with_iv w iv.now) }
+    {
+        self.begin_text(iv);
+        self.has_iv = true;
+    }
+
+    /// Sets the initialisation vector. `BadState` where it is there, or the mode has none; `InvalidArgument` where it
+    /// hasn't 16 bytes.
+    pub(crate) fn set_iv(&mut self, iv: &[u8]) -> Result<(), Status>
+        ensures key { self.new.key ≡ self.old.key }
+        ensures refusal { (w : CipherWork) → HoldsCipher self.old w →
+            result_err result ≡ first_row (set_iv_rows w iv.now) }
+        ensures holds { (w : CipherWork) → HoldsCipher self.old w →
+            OnOk result (HoldsCipher self.new (with_iv w iv.now)) }
+    {
+        if !self.takes_iv() {
+            return Err(Status::BadState);
+        }
+        let Ok(block) = <[u8; 16]>::try_from(iv) else {
+            return Err(Status::InvalidArgument);
+        };
+        self.take_iv(&block);
+        Ok(())
+    }
+
+    /// Takes these random bytes as the initialisation vector, writes them to the front of a buffer, and answers their
+    /// number. `BadState` in decryption, where the vector is there, or where the mode has none; `BufferTooSmall` where
+    /// they have no room.
+    pub(crate) fn generate_iv(&mut self, random: &[u8; 16], out: &mut [u8]) -> Result<usize, Status>
+        ensures key { self.new.key ≡ self.old.key }
+        ensures refusal { (w : CipherWork) → HoldsCipher self.old w →
+            result_err result ≡ first_row (generate_iv_rows w (length out.old)) }
+        ensures length { IfOk result (λ n. n ≡ length random.now) }
+        ensures within { IfOk result (λ n. n ≤ length out.old) }
+        ensures holds { (w : CipherWork) → HoldsCipher self.old w →
+            OnOk result (HoldsCipher self.new (with_iv w random.now)) }
+        ensures buffer { (w : CipherWork) → HoldsCipher self.old w →
+            out.new ≡ buffer_after out.old (reply_unless (first_row (generate_iv_rows w (length out.old))) (given random.now)) }
+    {
+        if !(self.encrypts && self.takes_iv()) {
+            return Err(Status::BadState);
+        }
+        if out.len() < 16 {
+            return Err(Status::BufferTooSmall);
+        }
+        out[..16].copy_from_slice(random);
+        self.take_iv(random);
+        Ok(16)
+    }
+}

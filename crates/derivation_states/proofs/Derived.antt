@@ -1,0 +1,105 @@
+-- The bytes of a derivation, block by block.
+use Rattle.std.proofs.Common.{◌≡◌, ℕ, zero, suc, ◌+◌, ◌-◌, ◌*◌, ◌/◌, ◌≤◌, ◌<◌, List, [], ◌∷◌, ◌++◌, length, take, drop, get_or, refl, sym, ap, ap₂, ◌∙◌, inl, inr, add-one, arith}
+use Rattle.std.proofs.Math.Nat.{mul-suc, div-mul-le_self}
+use Rattle.std.proofs.lemmas.Bool.{cases_Bool}
+use Rattle.std.proofs.lemmas.Nat.{le-div}
+use Rattle.std.proofs.lemmas.List.{length-take, length-drop, take-take, drop-append-le, take-append-drop}
+use Rattle.crypto_specs.specs.Hkdf.{hash_length, extract, expand_block, expand_blocks, expand}
+use Rattle.crypto_specs.specs.Pbkdf2.{pbkdf2_block, pbkdf2_blocks, pbkdf2}
+use Rattle.store_model.specs.CipherOperations.{bytes_or_empty}
+use Rattle.store_model.specs.DerivationOperations.{DerivationWork, is_hkdf, number_or_zero, derived, next_derived, without}
+use Rattle.derivation_states.specs.Streams.{work_hash, work_block_length, block_at}
+use Rattle.derivation_states.specs.Laws.{DueGrows}
+use Rattle.derivation_states.proofs.Joined.{joined, joined_same, front_begins, length-joined, front, one_byte}
+use Rattle.derivation_states.proofs.Blocks.{at_true, at_false, block_of_hkdf, block_of_pbkdf2}
+use Rattle.derivation_states.proofs.Lengths.{HasBlocks, length-block_at}
+
+expand_blocks_joined : (hash : List ℕ → List ℕ) (b : ℕ) (prk info : List ℕ) (m : ℕ) → expand_blocks hash b prk info m ≡ joined (expand_block hash b prk info) m
+unfolding expand_blocks
+expand_blocks_joined hash b prk info zero = refl
+expand_blocks_joined hash b prk info (suc i) =
+    ap₂ (λ (xs ys : List ℕ). xs ++ ys) (expand_blocks_joined hash b prk info i) (ap (expand_block hash b prk info) (add-one i))
+
+pbkdf2_blocks_joined : (hash : List ℕ → List ℕ) (b : ℕ) (password salt : List ℕ) (c m : ℕ) → pbkdf2_blocks hash b password salt c m ≡ joined (pbkdf2_block hash b password salt c) m
+unfolding pbkdf2_blocks
+pbkdf2_blocks_joined hash b password salt c zero = refl
+pbkdf2_blocks_joined hash b password salt c (suc i) =
+    ap₂ (λ (xs ys : List ℕ). xs ++ ys) (pbkdf2_blocks_joined hash b password salt c i) (ap (pbkdf2_block hash b password salt c) (add-one i))
+
+-- the least number of blocks that have n bytes
+abbrev block_count : ℕ → ℕ → ℕ
+block_count h n = (n + h - 1) / h
+
+derived_blocks : (w : DerivationWork) (n : ℕ) → derived w n ≡ take n (joined (block_at w) (block_count (hash_length (work_hash w)) n))
+unfolding expand pbkdf2
+derived_blocks w n =
+    let count : ℕ = block_count (hash_length (work_hash w)) n in
+    elim (cases_Bool (is_hkdf w.alg)) [
+      | inl e ↦
+          let f : ℕ → List ℕ = expand_block (work_hash w) (work_block_length w) (extract (work_hash w) (work_block_length w) (bytes_or_empty w.salt) (bytes_or_empty w.secret)) (bytes_or_empty w.info) in
+          at_true (is_hkdf w.alg) _ _ e
+          ∙ ap (take n) (expand_blocks_joined _ _ _ _ _ ∙ joined_same f (block_at w) (λ i. sym (block_of_hkdf w e (suc i))) count)
+      | inr e ↦
+          let f : ℕ → List ℕ = pbkdf2_block (work_hash w) (work_block_length w) (bytes_or_empty w.secret) (bytes_or_empty w.salt) (number_or_zero w.cost) in
+          at_false (is_hkdf w.alg) _ _ e
+          ∙ ap (take n) (pbkdf2_blocks_joined _ _ _ _ _ _ ∙ joined_same f (block_at w) (λ i. sym (block_of_pbkdf2 w e i)) count)
+    ]
+
+derived_joined : (w : DerivationWork) (h : ℕ) → HasBlocks w h → (n : ℕ) → derived w n ≡ take n (joined (block_at w) (block_count h n))
+derived_joined w h blocks n = derived_blocks w n ∙ ap (λ (k : ℕ). take n (joined (block_at w) (block_count k n))) (blocks.digest [])
+
+-- more bytes have no fewer blocks
+more_blocks : (h n m : ℕ) → block_count h n ≤ block_count h (n + m)
+more_blocks zero n m = omega arith
+more_blocks (suc h) n m =
+    le-div (block_count (suc h) n) (n + m + suc h - 1) (suc h) (omega arith) (omega (arith, div-mul-le_self (n + suc h - 1) (suc h)))
+
+-- more bytes begin with fewer ones, be the blocks of any length
+pub due_grows : DueGrows
+due_grows w n m =
+    let h : ℕ = hash_length (work_hash w) in
+    let i : ℕ = block_count h n in
+    let j : ℕ = block_count h (n + m) in
+    let fewer : i ≤ j = more_blocks h n m in
+    let e : j ≡ i + (j - i) = omega arith in
+    ap₂ (λ (xs ys : List ℕ). take (length xs) ys) (derived_blocks w n)
+    (derived_blocks w (n + m) ∙ ap (λ (k : ℕ). take (n + m) (joined (block_at w) k)) e)
+    ∙ front_begins (block_at w) n m i (j - i) ∙ sym (derived_blocks w n)
+
+module _ (w : DerivationWork) (h : ℕ) (blocks : HasBlocks w h) where
+  enough : (n : ℕ) → n ≤ h * block_count h n
+  enough n = let some : 1 ≤ h = blocks.some in omega arith
+
+  -- it is the front of any number of blocks that have so many bytes
+  derived_front : (n m : ℕ) → n ≤ h * m → derived w n ≡ take n (joined (block_at w) m)
+  derived_front n m l = derived_joined w h blocks n ∙ front (block_at w) h (length-block_at w h blocks) n (block_count h n) m (enough n) l
+
+  length-derived : (n : ℕ) → length (derived w n) ≡ n
+  length-derived n =
+      omega (arith, ap length (derived_joined w h blocks n), length-take n (joined (block_at w) (block_count h n)), length-joined (block_at w) h (length-block_at w h blocks) (block_count h n), enough n)
+
+  -- fewer bytes are the front of more
+  derived_less : (n m : ℕ) → n ≤ m → take n (derived w m) ≡ derived w n
+  derived_less n m l =
+      let k : ℕ = block_count h m in
+      ap (take n) (derived_joined w h blocks m) ∙ take-take n m (joined (block_at w) k) l ∙ sym (derived_front n k (omega (arith, enough m)))
+
+  pub length-next_derived : (n : ℕ) → length (next_derived w n) ≡ n
+  length-next_derived n = omega (arith, length-drop w.taken (derived w (w.taken + n)), length-derived (w.taken + n))
+
+  -- some bytes, and then some more
+  pub next_derived_add : (n k : ℕ) → next_derived w (n + k) ≡ next_derived w n ++ next_derived (without w n) k
+  next_derived_add n k =
+      let t : ℕ = w.taken in
+      let place : t + (n + k) ≡ t + n + k = omega arith in
+      let all : List ℕ = derived w (t + n + k) in
+      let parts : all ≡ derived w (t + n) ++ drop (t + n) all =
+      sym (take-append-drop (t + n) all) ∙ ap (λ (l : List ℕ). l ++ drop (t + n) all) (derived_less (t + n) (t + n + k) (omega arith)) in
+      ap (λ (j : ℕ). drop t (derived w j)) place ∙ ap (drop t) parts
+      ∙ drop-append-le t (derived w (t + n)) (drop (t + n) all) (omega (arith, length-derived (t + n)))
+
+  -- the next byte is of the current block
+  pub next_byte : (i used : ℕ) → w.taken ≡ h * i + used → used < h → next_derived w 1 ≡ get_or (block_at w (suc i)) used 0 ∷ []
+  next_byte i used place l =
+      let t : ℕ = w.taken in
+      ap (drop t) (derived_front (t + 1) (suc i) (omega (arith, mul-suc h i))) ∙ one_byte (block_at w) h (length-block_at w h blocks) t i used place l

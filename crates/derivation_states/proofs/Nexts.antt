@@ -1,0 +1,60 @@
+-- The block after the current one, by the inputs.
+use Rattle.std.proofs.Common.{◌≡◌, ℕ, ◌+◌, ◌-◌, ◌≤◌, Bool, true, false, cond, List, Option, Some, None, refl, sym, ap, ◌∙◌, add-one, arith}
+use Rattle.std.specs.Prelude.{is_some, unwrap_or}
+use Rattle.std.specs.Option.{option_map}
+use Rattle.crypto_specs.specs.Hkdf.{extract, expand_block}
+use Rattle.crypto_specs.specs.Pbkdf2.{pbkdf2_block}
+use Rattle.hash_ops.specs.Hashes.{hash_of, block_length}
+use Rattle.store_model.specs.CipherOperations.{bytes_or_empty}
+use Rattle.store_model.specs.DerivationOperations.{DerivationWork, is_hkdf, number_or_zero}
+use Rattle.derivation_states.specs.Inputs.{HoldsInputs, given_bytes}
+use Rattle.derivation_states.specs.Kdfs.{IsKdf}
+use Rattle.derivation_states.specs.Streams.{work_hash, work_block_length, hmac_key, block_at}
+use Rattle.derivation_states.specs.declared.inputs.Inputs.{Inputs}
+use Rattle.derivation_states.specs.declared.kdf.Kdf.{Kdf}
+use Rattle.derivation_states.proofs.Blocks.{block_of_hkdf, block_of_pbkdf2}
+
+mapped : (f : List ℕ → List ℕ) (o : Option (List ℕ)) → is_some o ≡ true → bytes_or_empty (option_map f o) ≡ f (bytes_or_empty o)
+mapped f (Some bytes) e = refl
+mapped f None e = cc
+
+counted : (o : Option ℕ) → is_some o ≡ true → unwrap_or o 1 ≡ number_or_zero o
+counted (Some n) e = refl
+counted None e = cc
+
+module _ (k : Kdf) (i : Inputs) (w : DerivationWork) (kdf : IsKdf k w.alg) (holds : HoldsInputs i w) (secret : is_some w.secret ≡ true) where
+  key_is : (key : List ℕ) → key ≡ bytes_or_empty (given_bytes i.key) → key ≡ hmac_key w (bytes_or_empty w.secret)
+  key_is key e = e ∙ ap bytes_or_empty holds.key ∙ mapped (hmac_key w) w.secret secret
+
+  pub hkdf_next : (n : ℕ) (key info previous out : List ℕ) → is_hkdf w.alg ≡ true → key ≡ bytes_or_empty (given_bytes i.key) → info ≡ bytes_or_empty (given_bytes i.info) → previous ≡ block_at w n
+      → (1 ≤ n + 1 → previous ≡ expand_block (hash_of k.hash) (block_length k.hash) key info (n + 1 - 1) → out ≡ expand_block (hash_of k.hash) (block_length k.hash) key info (n + 1))
+      → out ≡ block_at w (n + 1)
+  hkdf_next n key info previous out e is_key is_info is_previous made =
+      let prk : key ≡ extract (work_hash w) (work_block_length w) (bytes_or_empty w.salt) (bytes_or_empty w.secret) =
+      key_is key is_key ∙ ap (λ (b : Bool). cond b (extract (work_hash w) (work_block_length w) (bytes_or_empty w.salt) (bytes_or_empty w.secret)) (bytes_or_empty w.secret)) e in
+      let same : (m : ℕ) → expand_block (hash_of k.hash) (block_length k.hash) key info m ≡ block_at w m = λ m.
+      ap (λ (f : List ℕ → List ℕ). expand_block f (block_length k.hash) key info m) kdf.digest
+      ∙ ap (λ (b : ℕ). expand_block (work_hash w) b key info m) kdf.block
+      ∙ ap (λ (p : List ℕ). expand_block (work_hash w) (work_block_length w) p info m) prk
+      ∙ ap (λ (l : List ℕ). expand_block (work_hash w) (work_block_length w) (extract (work_hash w) (work_block_length w) (bytes_or_empty w.salt) (bytes_or_empty w.secret)) l m) (is_info ∙ ap bytes_or_empty holds.info)
+      ∙ sym (block_of_hkdf w e m) in
+      let before : n ≡ n + 1 - 1 = omega arith in
+      made (omega arith) (is_previous ∙ ap (block_at w) before ∙ sym (same (n + 1 - 1))) ∙ same (n + 1)
+
+  pub pbkdf2_next : (n turns : ℕ) (key salt out : List ℕ) → is_hkdf w.alg ≡ false → key ≡ bytes_or_empty (given_bytes i.key) → salt ≡ bytes_or_empty (given_bytes i.salt) → turns ≡ unwrap_or i.cost 1
+      → out ≡ pbkdf2_block (hash_of k.hash) (block_length k.hash) key salt turns (n + 1)
+      → out ≡ block_at w (n + 1)
+  pbkdf2_next n turns key salt out e is_key is_salt is_turns made =
+      let password : key ≡ bytes_or_empty w.secret =
+      key_is key is_key ∙ ap (λ (b : Bool). cond b (extract (work_hash w) (work_block_length w) (bytes_or_empty w.salt) (bytes_or_empty w.secret)) (bytes_or_empty w.secret)) e in
+      let salted : salt ≡ bytes_or_empty w.salt = is_salt ∙ ap bytes_or_empty holds.salt in
+      let cost : turns ≡ number_or_zero w.cost = is_turns ∙ ap (λ (o : Option ℕ). unwrap_or o 1) holds.cost ∙ counted w.cost (holds.costed e secret) in
+      made
+      ∙ ap (λ (f : List ℕ → List ℕ). pbkdf2_block f (block_length k.hash) key salt turns (n + 1)) kdf.digest
+      ∙ ap (λ (b : ℕ). pbkdf2_block (work_hash w) b key salt turns (n + 1)) kdf.block
+      ∙ ap (λ (l : List ℕ). pbkdf2_block (work_hash w) (work_block_length w) l salt turns (n + 1)) password
+      ∙ ap (λ (l : List ℕ). pbkdf2_block (work_hash w) (work_block_length w) (bytes_or_empty w.secret) l turns (n + 1)) salted
+      ∙ ap (λ (t : ℕ). pbkdf2_block (work_hash w) (work_block_length w) (bytes_or_empty w.secret) (bytes_or_empty w.salt) t (n + 1)) cost
+      ∙ ap (pbkdf2_block (work_hash w) (work_block_length w) (bytes_or_empty w.secret) (bytes_or_empty w.salt) (number_or_zero w.cost)) (add-one n)
+      ∙ sym (block_of_pbkdf2 w e n)
+      ∙ ap (block_at w) (sym (add-one n))

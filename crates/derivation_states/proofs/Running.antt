@@ -1,0 +1,78 @@
+-- The current block's next byte.
+use Rattle.std.proofs.Common.{◌≡◌, ℕ, zero, suc, ◌+◌, ◌-◌, ◌*◌, ◌<◌, ◌≤◌, true, List, [], ◌∷◌, ◌++◌, Option, Some, None, length, take, get_or, refl, sym, ap, ap₂, ◌∙◌, arith}
+use Rattle.std.specs.Prelude.{is_some, slice_index_or}
+use Rattle.std.specs.Option.{ForSome}
+use Rattle.std.proofs.Math.Nat.{mul-suc}
+use Rattle.std.proofs.lemmas.List.{get_or-take}
+use Rattle.hash_ops.specs.Hashes.{digest_length}
+use Rattle.hash_ops.specs.declared.Hash.{Hash}
+use Rattle.hash_ops.specs.declared.Hash.TheVariants.{Sha224, Sha256, Sha384, Sha512}
+use Rattle.hash_ops.proofs.Digests.{length-hash_of}
+use Rattle.store_model.specs.DerivationOperations.{DerivationWork, number_or_zero, next_derived, without}
+use Rattle.derivation_states.specs.Inputs.{HoldsInputs}
+use Rattle.derivation_states.specs.Kdfs.{IsKdf}
+use Rattle.derivation_states.specs.Outputs.{IsRunning}
+use Rattle.derivation_states.specs.Streams.{block_at}
+use Rattle.derivation_states.specs.declared.inputs.Inputs.{Inputs}
+use Rattle.derivation_states.specs.declared.output.Output.{Output}
+use Rattle.derivation_states.specs.declared.kdf.Kdf.{Kdf}
+use Rattle.derivation_states.proofs.Lengths.{HasBlocks}
+use Rattle.derivation_states.proofs.Derived.{next_byte, next_derived_add, length-next_derived}
+
+empty : (l : List ℕ) → length l ≡ 0 → l ≡ []
+empty [] e = refl
+empty (x ∷ xs) e = absurd (omega arith)
+
+pub some_digest : (which : Hash) → 1 ≤ digest_length which
+some_digest Sha224 = omega arith
+some_digest Sha256 = omega arith
+some_digest Sha384 = omega arith
+some_digest Sha512 = omega arith
+
+some_turns : (cost given : Option ℕ) → cost ≡ given → is_some given ≡ true → ForSome cost (λ turns. 1 ≤ turns) → 1 ≤ number_or_zero given
+some_turns cost (Some n) e s h = h n e
+some_turns cost None e s h = cc
+
+pub has_blocks : (k : Kdf) (i : Inputs) (w : DerivationWork) → IsKdf k w.alg → HoldsInputs i w → is_some w.secret ≡ true → HasBlocks w (digest_length k.hash)
+has_blocks k i w kdf inputs secret = record {
+  some = some_digest k.hash;
+  digest = λ m. ap (λ (f : List ℕ → List ℕ). length (f m)) (sym kdf.digest) ∙ length-hash_of k.hash m;
+  turns = λ e. some_turns i.cost w.cost inputs.cost (inputs.costed e secret) i.some_turns;
+}
+
+-- a block that has bytes left isn't block 0, and its next one is the next of all
+placed : (h : ℕ) (o : Output) (w : DerivationWork) → digest_length o.kdf.hash ≡ h → HasBlocks w h → IsRunning o w → o.used < o.length → (n : ℕ) → o.number ≡ n → next_derived w 1 ≡ slice_index_or o.block o.used 0 ∷ []
+placed h o w eh blocks running left zero e = absurd (omega (arith, running.none e))
+placed h o w eh blocks running left (suc i) e =
+    let whole : o.length ≡ h = running.whole (omega arith) ∙ eh in
+    let before : digest_length o.kdf.hash * o.number ≡ h * i + h = ap₂ (λ (a b : ℕ). a * b) eh e ∙ mul-suc h i in
+    let block : take o.length o.block ≡ block_at w (suc i) = running.block ∙ ap (block_at w) e in
+    next_byte w h blocks i o.used (omega (arith, running.place)) (omega arith)
+    ∙ ap (λ (b : ℕ). b ∷ []) (sym (ap (λ (l : List ℕ). get_or l o.used 0) block) ∙ get_or-take o.length o.block o.used 0 left)
+
+pub byte_taken : (i : Inputs) (o : Output) (w : DerivationWork) → HoldsInputs i w → IsRunning o w → is_some w.secret ≡ true → o.used < o.length → next_derived w 1 ≡ slice_index_or o.block o.used 0 ∷ []
+byte_taken i o w inputs running secret left = placed (digest_length o.kdf.hash) o w refl (has_blocks o.kdf i w running.kdf inputs secret) running left o.number refl
+
+-- so many bytes, and then one more
+pub one_more : (i : Inputs) (o : Output) (w : DerivationWork) → HoldsInputs i w → IsRunning o w → is_some w.secret ≡ true → (n byte : ℕ) (front : List ℕ)
+    → front ≡ next_derived w n → next_derived (without w n) 1 ≡ byte ∷ [] → front ++ byte ∷ [] ≡ next_derived w (n + 1)
+one_more i o w inputs running secret n byte front before next =
+    ap₂ (λ (xs ys : List ℕ). xs ++ ys) before (sym next) ∙ sym (next_derived_add w (digest_length o.kdf.hash) (has_blocks o.kdf i w running.kdf inputs secret) n 1)
+
+pub none_taken : (w : DerivationWork) (h : ℕ) → HasBlocks w h → next_derived w 0 ≡ []
+none_taken w h blocks = empty (next_derived w 0) (length-next_derived w h blocks 0)
+
+pub inputs_without : (i : Inputs) (w : DerivationWork) (n : ℕ) → HoldsInputs i w → HoldsInputs i (without w n)
+inputs_without i w n h = record { cost = h.cost; salt = h.salt; key = h.key; info = h.info; by_key = h.by_key; salted = h.salted; costed = h.costed }
+
+pub without_twice : (w : DerivationWork) (n k : ℕ) → without (without w n) k ≡ without w (n + k)
+without_twice w n k =
+    let taken : w.taken + n + k ≡ w.taken + (n + k) = omega arith in
+    let capacity : w.capacity - n - k ≡ w.capacity - (n + k) = omega arith in
+    ap₂ (λ (t c : ℕ). let v : DerivationWork = record w { taken = t; capacity = c } in v) taken capacity
+
+pub without_none : (w : DerivationWork) → w ≡ without w 0
+without_none w =
+    let taken : w.taken ≡ w.taken + 0 = omega arith in
+    let capacity : w.capacity ≡ w.capacity - 0 = omega arith in
+    ap₂ (λ (t c : ℕ). let v : DerivationWork = record w { taken = t; capacity = c } in v) taken capacity

@@ -1,0 +1,13 @@
+use Rattle.std.proofs.Common.{◌≡◌, ◌+◌, true, take}
+use Rattle.std.specs.Prelude.{is_some, bytes_eq}
+use Rattle.store_model.specs.DerivationOperations.{DerivationWork, next_derived, without}
+use Rattle.derivation_states.specs.Inputs.{HoldsInputs}
+use Rattle.derivation_states.specs.Outputs.{HoldsOutput}
+use Rattle.derivation_states.proofs.output.Output.gives.Given as goal
+
+abbrev pub invariant-bytes : goal.invariant-bytes
+invariant-bytes l = record {
+  capacity : l.self.capacity + l.i ≡ l.fn.self.capacity;
+  holds : (w : DerivationWork) → HoldsInputs l.inputs w → HoldsOutput l.fn.self w → is_some w.secret ≡ true → HoldsOutput l.self (without w l.i);
+  same : (w : DerivationWork) → HoldsInputs l.inputs w → HoldsOutput l.fn.self w → is_some w.secret ≡ true → l.same ≡ bytes_eq (take l.i l.expected) (next_derived w l.i);
+}

@@ -1,0 +1,7 @@
+pub mod Streams
+pub mod Kdfs
+pub mod Inputs
+pub mod Outputs
+pub mod States
+pub mod Replies
+pub mod Laws

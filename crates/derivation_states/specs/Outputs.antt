@@ -1,0 +1,29 @@
+-- What the output of a derivation stands for: the bytes that follow those that were taken.
+use Rattle.std.specs.Prelude.{◌≡◌, ◌+◌, ◌*◌, ◌≤◌, false, is_some, take, replicate}
+use Rattle.hash_ops.specs.Hashes.{digest_length}
+use Rattle.store_model.specs.DerivationOperations.{DerivationWork}
+use Rattle.derivation_states.specs.Streams.{block_at}
+use Rattle.derivation_states.specs.Kdfs.{IsKdf}
+use Rattle.derivation_states.specs.declared.output.Output.{Output}
+
+pub record IsClearOutput (o : Output) : Type 0 where
+  pub capacity : o.capacity ≡ 0
+  pub number : o.number ≡ 0
+  pub used : o.used ≡ 0
+  pub length : o.length ≡ 0
+  pub block : o.block ≡ replicate 64 0
+
+-- the current block, which is whole, and how many of its bytes were taken; block 0 has none
+pub record IsRunning (o : Output) (w : DerivationWork) : Type 0 where
+  pub kdf : IsKdf o.kdf w.alg
+  pub capacity : o.capacity ≡ w.capacity
+  pub place : w.taken + o.length ≡ digest_length o.kdf.hash * o.number + o.used
+  pub block : take o.length o.block ≡ block_at w o.number
+  pub none : o.number ≡ 0 → o.length ≡ 0
+  pub whole : 1 ≤ o.number → o.length ≡ digest_length o.kdf.hash
+
+-- there is no current block before the first byte is taken, and none is taken before the secret is there
+pub record HoldsOutput (o : Output) (w : DerivationWork) : Type 0 where
+  pub running : IsRunning o w
+  pub fresh : w.taken ≡ 0 → o.number ≡ 0
+  pub begun : is_some w.secret ≡ false → w.taken ≡ 0

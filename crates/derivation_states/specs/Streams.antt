@@ -1,0 +1,26 @@
+-- What a derivation computes, block by block.
+use Rattle.std.specs.Prelude.{ℕ, zero, suc, List, [], if◌then◌else◌}
+use Rattle.crypto_specs.specs.Hkdf.{extract, expand_block}
+use Rattle.crypto_specs.specs.Pbkdf2.{pbkdf2_block}
+use Rattle.store_model.specs.Algorithms.{digest, hash_block_length, low_byte}
+use Rattle.store_model.specs.CipherOperations.{bytes_or_empty}
+use Rattle.store_model.specs.DerivationOperations.{DerivationWork, is_hkdf, number_or_zero}
+
+abbrev pub work_hash : DerivationWork → List ℕ → List ℕ
+work_hash w = digest (low_byte w.alg)
+
+abbrev pub work_block_length : DerivationWork → ℕ
+work_block_length w = hash_block_length (low_byte w.alg)
+
+-- the key of the HMAC that makes the blocks: HKDF's pseudorandom key of the secret, and PBKDF2's password itself
+abbrev pub hmac_key : DerivationWork → List ℕ → List ℕ
+hmac_key w secret =
+    if is_hkdf w.alg then extract (work_hash w) (work_block_length w) (bytes_or_empty w.salt) secret else secret
+
+-- block i, from 1; block 0 has no bytes
+abbrev pub block_at : DerivationWork → ℕ → List ℕ
+block_at w zero = []
+block_at w (suc i) =
+    if is_hkdf w.alg then
+    expand_block (work_hash w) (work_block_length w) (extract (work_hash w) (work_block_length w) (bytes_or_empty w.salt) (bytes_or_empty w.secret)) (bytes_or_empty w.info) (suc i)
+    else pbkdf2_block (work_hash w) (work_block_length w) (bytes_or_empty w.secret) (bytes_or_empty w.salt) (number_or_zero w.cost) (suc i)

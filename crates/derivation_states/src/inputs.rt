@@ -1,0 +1,240 @@
+// The inputs of a derivation.
+
+ghost use Rattle.std.specs.Prelude.{◌≡◌, ◌≤◌, ◌+◌, ◌==◌, ℕ, not, IfOk, OnOk, true, false, is_some, length};
+ghost use Rattle.std.specs.Option.{ForSome};
+ghost use Rattle.psa_status.specs.Rows.{first_row, unless};
+ghost use Rattle.store_model.specs.DerivationOperations.{DerivationWork, input_bytes_rows, input_integer_rows, is_due, is_salt_due, is_secret_due, key_step, key_step_rows, takes_bytes, with_bytes, with_key};
+ghost use Rattle.derivation_states.specs.Kdfs.{IsKdf};
+
+use crate::input::Input;
+use crate::kdf::{Kdf, Scheme};
+use kdf_core::hkdf_extract;
+use psa_status::{Memory, Status};
+use std::alloc::Global;
+
+const SECRET: u16 = 0x101;
+
+const PASSWORD: u16 = 0x102;
+
+const SALT: u16 = 0x202;
+
+const INFO: u16 = 0x203;
+
+const COST: u16 = 0x205;
+
+// The most bytes of an input.
+const LONGEST_INPUT: usize = 1024;
+
+// The most turns of a block of PBKDF2.
+const HIGHEST_COST: u64 = 100_000;
+
+/// What was given to a derivation: the cost, the salt, the key of the HMAC that makes the blocks, and the info. The key
+/// is HKDF's pseudorandom key of the secret, or PBKDF2's password.
+#[derive(Drop)]
+pub struct Inputs {
+    pub cost: Option<u32>,
+    pub salt: Input,
+    pub key: Input,
+    pub info: Input,
+    pub by_key: bool,
+    ghost some_turns: { ForSome cost (λ turns. 1 ≤ turns) },
+}
+
+impl Inputs {
+    ghost use Rattle.derivation_states.specs.Inputs.{HoldsInputs, IsClearInputs, stands_at};
+
+    /// No inputs; `Memory` where there is no room for their buffers.
+    pub fn new(alloc: Global) -> Result<Inputs, Memory>
+        ensures { IfOk result (λ inputs. IsClearInputs inputs) }
+    {
+        let salt = Input::new(alloc)?;
+        let key = Input::new(alloc)?;
+        let info = Input::new(alloc)?;
+        Ok(Inputs {
+            cost: None,
+            salt,
+            key,
+            info,
+            by_key: false,
+        })
+    }
+
+    /// Forgets all inputs, and makes their buffers zeros.
+    pub fn wipe(&mut self)
+        ensures { IsClearInputs self.new }
+    {
+        self.cost = None;
+        self.salt.wipe();
+        self.key.wipe();
+        self.info.wipe();
+        self.by_key = false;
+    }
+
+    // Whether a salt may come.
+    fn is_salt_due(&self, kdf: Kdf) -> bool
+        ensures { (w : DerivationWork) → IsKdf kdf w.alg → HoldsInputs self.now w → result ≡ is_salt_due w }
+    {
+        let may_come = if kdf.is_hkdf() {
+            !self.salt.is_given()
+        } else {
+            self.cost.is_some()
+        };
+        !self.key.is_given() && may_come
+    }
+
+    // Whether a secret or a password may come.
+    fn is_secret_due(&self, kdf: Kdf) -> bool
+        ensures { (w : DerivationWork) → IsKdf kdf w.alg → HoldsInputs self.now w → result ≡ is_secret_due w }
+    {
+        !self.key.is_given() && (kdf.is_hkdf() || self.salt.is_given())
+    }
+
+    // The length of what stands at a step already, to which more is added.
+    fn length_at(&self, step: u16) -> usize
+        ensures value { result ≡ length (stands_at self.now step) }
+        ensures bound { result ≤ 1024 }
+    {
+        if step == SALT {
+            self.salt.as_slice().len()
+        } else {
+            0
+        }
+    }
+
+    // Whether bytes may come at a step that takes bytes.
+    fn is_due(&self, kdf: Kdf, has_begun: bool, step: u16) -> bool
+        ensures { (w : DerivationWork) → IsKdf kdf w.alg → HoldsInputs self.now w → has_begun ≡ not (w.taken == 0)
+            → result ≡ is_due w step }
+    {
+        match step {
+            SALT => self.is_salt_due(kdf),
+            INFO => !self.info.is_given() && !has_begun,
+            _ => self.is_secret_due(kdf),
+        }
+    }
+
+    /// The refusal of bytes at a step, where `has_begun` says whether output was taken.
+    pub fn check_bytes(
+        &self,
+        kdf: Kdf,
+        has_begun: bool,
+        step: u16,
+        bytes: &[u8],
+    ) -> Result<(), Status>
+        ensures rows { (w : DerivationWork) → IsKdf kdf w.alg → HoldsInputs self.now w → has_begun ≡ not (w.taken == 0)
+            → result ≡ unless (first_row (input_bytes_rows w step bytes.now)) tt }
+        ensures room { OnOk result (length (stands_at self.now step) + length bytes.now ≤ 1024) }
+    {
+        if !takes_bytes(kdf, step) {
+            return Err(Status::InvalidArgument);
+        }
+        if !self.is_due(kdf, has_begun, step) {
+            return Err(Status::BadState);
+        }
+        if self.length_at(step) + bytes.len() > LONGEST_INPUT {
+            return Err(Status::NotSupported);
+        }
+        Ok(())
+    }
+
+    // Takes a secret or a password.
+    fn put_secret(&mut self, kdf: Kdf, secret: &[u8])
+        requires { length secret.now ≤ 1024 }
+        ensures { (w : DerivationWork) → IsKdf kdf w.alg → HoldsInputs self.old w → is_secret_due w ≡ true
+            → HoldsInputs self.new (record w { secret = Some secret.now }) }
+    {
+        match kdf.scheme {
+            Scheme::Hkdf => {
+                let mut prk = [0; 64];
+                let length = hkdf_extract(kdf.hash, self.salt.as_slice(), secret, &mut prk);
+                self.key.give(&prk[..length]);
+                prk.fill(0);
+            }
+            Scheme::Pbkdf2 => self.key.give(secret),
+        }
+    }
+
+    /// Takes bytes at a step that takes them and is due.
+    pub fn put_bytes(&mut self, kdf: Kdf, step: u16, bytes: &[u8])
+        requires { length (stands_at self.old step) + length bytes.now ≤ 1024 }
+        ensures { (w : DerivationWork) → IsKdf kdf w.alg → HoldsInputs self.old w → is_due w step ≡ true
+            → HoldsInputs self.new (with_bytes w step bytes.now) }
+    {
+        match step {
+            SALT => self.salt.append(bytes),
+            INFO => self.info.give(bytes),
+            _ => self.put_secret(kdf, bytes),
+        }
+    }
+
+    /// The refusal of a key at a step, whatever the key is.
+    pub fn check_key_step(&self, kdf: Kdf, step: u16) -> Result<(), Status>
+        ensures { (w : DerivationWork) → IsKdf kdf w.alg → HoldsInputs self.now w
+            → result ≡ unless (first_row (key_step_rows w step)) tt }
+    {
+        if step != key_step(kdf) {
+            return Err(Status::InvalidArgument);
+        }
+        if !self.is_secret_due(kdf) {
+            return Err(Status::BadState);
+        }
+        Ok(())
+    }
+
+    /// Takes a key's bytes as the secret or the password, where it is due.
+    pub fn put_key(&mut self, kdf: Kdf, key: &[u8])
+        requires { length key.now ≤ 1024 }
+        ensures { (w : DerivationWork) → IsKdf kdf w.alg → HoldsInputs self.old w → is_secret_due w ≡ true
+            → HoldsInputs self.new (with_key w key.now) }
+    {
+        self.put_secret(kdf, key);
+        self.by_key = true;
+    }
+
+    /// The number at a step as a cost, or its refusal.
+    pub fn check_integer(&self, kdf: Kdf, step: u16, value: u64) -> Result<u32, Status>
+        ensures rows { (w : DerivationWork) → IsKdf kdf w.alg → HoldsInputs self.now w
+            → result ≡ unless (first_row (input_integer_rows w step value)) value }
+        ensures some_turns { IfOk result (λ turns. 1 ≤ turns) }
+    {
+        if kdf.is_hkdf() || step != COST {
+            return Err(Status::InvalidArgument);
+        }
+        if self.cost.is_some() {
+            return Err(Status::BadState);
+        }
+        if value == 0 {
+            return Err(Status::InvalidArgument);
+        }
+        if value > HIGHEST_COST {
+            return Err(Status::NotSupported);
+        }
+        Ok(value as u32)
+    }
+
+    /// Takes a cost.
+    pub fn put_cost(&mut self, turns: u32)
+        requires { 1 ≤ turns }
+        ensures { (w : DerivationWork) → HoldsInputs self.old w → is_some w.cost ≡ false
+            → HoldsInputs self.new (record w { cost = Some turns }) }
+    {
+        self.cost = Some(turns);
+    }
+}
+
+// The step that a secret or a password has.
+fn key_step(kdf: Kdf) -> u16
+    ensures { (alg : ℕ) → IsKdf kdf alg → result ≡ key_step alg }
+{
+    match kdf.scheme {
+        Scheme::Hkdf => SECRET,
+        Scheme::Pbkdf2 => PASSWORD,
+    }
+}
+
+// Whether a step takes bytes.
+fn takes_bytes(kdf: Kdf, step: u16) -> bool
+    ensures { (alg : ℕ) → IsKdf kdf alg → result ≡ takes_bytes alg step }
+{
+    step == key_step(kdf) || step == SALT || (kdf.is_hkdf() && step == INFO)
+}

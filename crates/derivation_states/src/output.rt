@@ -1,0 +1,217 @@
+// The output of a derivation: one list of bytes, whose front is taken piece by piece.
+
+ghost use Rattle.std.specs.Prelude.{◌≡◌, ◌+◌, ◌*◌, ◌≤◌, ◌<◌, ◌==◌, [], ◌∷◌, ℕ, not, IfOk, IfErr, true, is_some, length, take, drop, min, bytes_eq};
+ghost use Rattle.psa_status.specs.declared.Status.TheVariants.{InsufficientData};
+ghost use Rattle.hash_ops.specs.Hashes.{digest_length};
+ghost use Rattle.store_model.specs.DerivationOperations.{DerivationWork, derivation_work, next_derived, without};
+ghost use Rattle.derivation_states.specs.Inputs.{HoldsInputs};
+ghost use Rattle.derivation_states.specs.Kdfs.{IsKdf, block_limit};
+ghost use Rattle.derivation_states.specs.Streams.{block_at};
+
+use crate::inputs::Inputs;
+use crate::kdf::{Kdf, Scheme};
+use hash_ops::Hash;
+use kdf_core::{hkdf_block, pbkdf2_block};
+use psa_status::Status;
+
+/// The bytes that can still be had, `capacity` of them. The current block is the one that the last byte was taken
+/// from: the first `length` bytes of `block`, of which `used` are taken. Its number is 0, and its length too, before
+/// the first byte.
+#[derive(Drop)]
+pub struct Output {
+    pub kdf: Kdf,
+    pub capacity: u64,
+    number: u32,
+    used: usize,
+    length: usize,
+    block: [u8; 64],
+    ghost in_block: { used ≤ length },
+    ghost in_buffer: { length ≤ 64 },
+    ghost in_blocks: { capacity + digest_length kdf.hash * number + used ≤ digest_length kdf.hash * block_limit kdf.scheme + length },
+}
+
+impl Output {
+    ghost use Rattle.derivation_states.specs.Outputs.{HoldsOutput, IsClearOutput, IsRunning};
+
+    /// No bytes.
+    pub fn new() -> Output
+        ensures { IsClearOutput result }
+    {
+        Output {
+            kdf: Kdf {
+                scheme: Scheme::Hkdf,
+                hash: Hash::Sha256,
+            },
+            capacity: 0,
+            number: 0,
+            used: 0,
+            length: 0,
+            block: [0; 64],
+        }
+    }
+
+    /// Makes it no bytes, and the buffer zeros.
+    pub fn wipe(&mut self)
+        ensures { IsClearOutput self.new }
+    {
+        self.capacity = 0;
+        self.number = 0;
+        self.used = 0;
+        self.length = 0;
+        self.block = [0; 64];
+    }
+
+    /// Makes it all bytes that a derivation can give.
+    pub fn start(&mut self, kdf: Kdf)
+        ensures { (alg : ℕ) → IsKdf kdf alg → HoldsOutput self.new (derivation_work alg) }
+    {
+        self.wipe();
+        self.kdf = kdf;
+        self.capacity = kdf.hash.length() as u64 * u64::from(kdf.block_limit());
+    }
+
+    /// Whether a byte was taken.
+    pub fn has_begun(&self) -> bool
+        ensures { (w : DerivationWork) → HoldsOutput self.now w → result ≡ not (w.taken == 0) }
+    {
+        self.number != 0
+    }
+
+    /// `InsufficientData` where fewer than `count` bytes are left; then none is left.
+    pub fn check_capacity(&mut self, count: usize) -> Result<(), Status>
+        ensures enough { IfOk result (λ _. (count ≤ self.old.capacity) × (self.new ≡ self.old)) }
+        ensures exhausted { IfErr result (λ status. (status ≡ InsufficientData) × (self.old.capacity < count)) }
+        ensures holds { (w : DerivationWork) → HoldsOutput self.old w
+            → IfErr result (λ _. HoldsOutput self.new (record w { capacity = 0 })) }
+    {
+        if count as u64 > self.capacity {
+            self.capacity = 0;
+            return Err(Status::InsufficientData);
+        }
+        Ok(())
+    }
+
+    // Writes the block that follows the current one to the front of `out`, and answers its length.
+    fn write_next(&self, inputs: &Inputs, out: &mut [u8; 64]) -> usize
+        requires { self.now.number < block_limit self.now.kdf.scheme }
+        ensures length { result ≡ digest_length self.now.kdf.hash }
+        ensures block { (w : DerivationWork) → HoldsInputs inputs.now w → IsRunning self.now w → is_some w.secret ≡ true
+            → take result out.new ≡ block_at w (self.now.number + 1) }
+    {
+        let hash = self.kdf.hash;
+        let key = inputs.key.as_slice();
+        let number = self.number + 1;
+        match self.kdf.scheme {
+            Scheme::Hkdf => {
+                let previous = &self.block[..self.length];
+                hkdf_block(
+                    hash,
+                    key,
+                    previous,
+                    inputs.info.as_slice(),
+                    number as u8,
+                    out,
+                )
+            }
+            Scheme::Pbkdf2 => {
+                let turns = inputs.cost.unwrap_or(1);
+                pbkdf2_block(hash, key, inputs.salt.as_slice(), turns, number, out)
+            }
+        }
+    }
+
+    // Makes the next block the current one where all bytes of the current one are taken.
+    fn make_ready(&mut self, inputs: &Inputs)
+        requires { 0 < self.old.capacity }
+        ensures some { self.new.used < self.new.length }
+        ensures capacity { self.new.capacity ≡ self.old.capacity }
+        ensures running { (w : DerivationWork) → HoldsInputs inputs.now w → IsRunning self.old w
+            → is_some w.secret ≡ true → IsRunning self.new w }
+    {
+        if self.used == self.length {
+            let mut next = [0; 64];
+            self.length = self.write_next(inputs, &mut next);
+            self.number += 1;
+            self.used = 0;
+            self.block = next;
+            next.fill(0);
+        }
+    }
+
+    // Takes the next byte.
+    fn take_byte(&mut self, inputs: &Inputs) -> u8
+        requires { 0 < self.old.capacity }
+        ensures capacity { self.new.capacity + 1 ≡ self.old.capacity }
+        ensures holds { (w : DerivationWork) → HoldsInputs inputs.now w → IsRunning self.old w
+            → is_some w.secret ≡ true → HoldsOutput self.new (without w 1) }
+        ensures byte { (w : DerivationWork) → HoldsInputs inputs.now w → IsRunning self.old w
+            → is_some w.secret ≡ true → next_derived w 1 ≡ result ∷ [] }
+    {
+        self.make_ready(inputs);
+        let byte = self.block[self.used];
+        self.used += 1;
+        self.capacity -= 1;
+        byte
+    }
+
+    /// Takes as many bytes as `out` has, into it.
+    pub fn fill(&mut self, inputs: &Inputs, out: &mut [u8])
+        requires { length out.old ≤ self.old.capacity }
+        ensures capacity { self.new.capacity + length out.old ≡ self.old.capacity }
+        ensures holds { (w : DerivationWork) → HoldsInputs inputs.now w → HoldsOutput self.old w → is_some w.secret ≡ true
+            → HoldsOutput self.new (without w (length out.old)) }
+        ensures bytes { (w : DerivationWork) → HoldsInputs inputs.now w → HoldsOutput self.old w → is_some w.secret ≡ true
+            → out.new ≡ next_derived w (length out.old) }
+    {
+        'bytes: for i in 0..out.len() {
+            out[i] = self.take_byte(inputs);
+        }
+    }
+
+    // Takes bytes that nobody sees.
+    fn skip(&mut self, inputs: &Inputs, count: usize)
+        requires { count ≤ self.old.capacity }
+        ensures { (w : DerivationWork) → HoldsInputs inputs.now w → HoldsOutput self.old w → is_some w.secret ≡ true
+            → HoldsOutput self.new (without w count) }
+    {
+        'bytes: for _ in 0..count {
+            self.take_byte(inputs);
+        }
+    }
+
+    /// Takes `count` bytes, of which the first ones are written to the front of `out` as far as it has room, and answers
+    /// how many these are.
+    pub fn fill_front(&mut self, inputs: &Inputs, count: usize, out: &mut [u8; 1025]) -> usize
+        requires { count ≤ self.old.capacity }
+        ensures written { result ≡ min count 1025 }
+        ensures holds { (w : DerivationWork) → HoldsInputs inputs.now w → HoldsOutput self.old w → is_some w.secret ≡ true
+            → HoldsOutput self.new (without w count) }
+        ensures length { (w : DerivationWork) → HoldsInputs inputs.now w → HoldsOutput self.old w
+            → is_some w.secret ≡ true
+            → length (next_derived w count) ≡ count }
+        ensures front { (w : DerivationWork) → HoldsInputs inputs.now w → HoldsOutput self.old w → is_some w.secret ≡ true
+            → take result out.new ≡ take result (next_derived w count) }
+        ensures rest { drop result out.new ≡ drop result out.old }
+    {
+        let written = count.min(1025);
+        self.fill(inputs, &mut out[..written]);
+        self.skip(inputs, count - written);
+        written
+    }
+
+    /// Takes as many bytes as were expected, and answers whether they are those.
+    pub fn gives(&mut self, inputs: &Inputs, expected: &[u8]) -> bool
+        requires { length expected.now ≤ self.old.capacity }
+        ensures holds { (w : DerivationWork) → HoldsInputs inputs.now w → HoldsOutput self.old w → is_some w.secret ≡ true
+            → HoldsOutput self.new (without w (length expected.now)) }
+        ensures same { (w : DerivationWork) → HoldsInputs inputs.now w → HoldsOutput self.old w → is_some w.secret ≡ true
+            → result ≡ bytes_eq expected.now (next_derived w (length expected.now)) }
+    {
+        let mut same = true;
+        'bytes: for i in 0..expected.len() {
+            let byte = self.take_byte(inputs);
+            same &= expected[i] == byte;
+        }
+        same
+    }
+}

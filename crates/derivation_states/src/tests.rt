@@ -1,0 +1,327 @@
+// Vectors of RFC 5869 and RFC 7914, output cut in every way, the capacity, and the order of the inputs.
+
+use crate::DerivationState;
+use alg_encoding::Alg;
+use key_attributes::{Attributes, KeyId, KeyType, Lifetime, Policy, Usage};
+use psa_status::Status;
+use std::test::Fail;
+
+const HKDF_SHA256: Alg = Alg(0x0800_0109);
+
+const PBKDF2_SHA256: Alg = Alg(0x0880_0109);
+
+const SECRET: u16 = 0x101;
+
+const PASSWORD: u16 = 0x102;
+
+const SALT: u16 = 0x202;
+
+const INFO: u16 = 0x203;
+
+const COST: u16 = 0x205;
+
+struct HkdfCase {
+    salt: &'static [u8],
+    secret: &'static [u8],
+    info: &'static [u8],
+    okm: &'static [u8],
+}
+
+// Test cases 1 to 3 of RFC 5869, appendix A.
+const HKDF_CASES: [HkdfCase; 3] = [
+    HkdfCase {
+        salt: &[
+            0x00, 0x01, 0x02, 0x03, 0x04, 0x05, 0x06, 0x07, 0x08, 0x09, 0x0a, 0x0b, 0x0c,
+        ],
+        secret: &[0x0b; 22],
+        info: &[0xf0, 0xf1, 0xf2, 0xf3, 0xf4, 0xf5, 0xf6, 0xf7, 0xf8, 0xf9],
+        okm: &[
+            0x3c, 0xb2, 0x5f, 0x25, 0xfa, 0xac, 0xd5, 0x7a, 0x90, 0x43, 0x4f, 0x64, 0xd0, 0x36,
+            0x2f, 0x2a, 0x2d, 0x2d, 0x0a, 0x90, 0xcf, 0x1a, 0x5a, 0x4c, 0x5d, 0xb0, 0x2d, 0x56,
+            0xec, 0xc4, 0xc5, 0xbf, 0x34, 0x00, 0x72, 0x08, 0xd5, 0xb8, 0x87, 0x18, 0x58, 0x65,
+        ],
+    },
+    HkdfCase {
+        salt: &[
+            0x60, 0x61, 0x62, 0x63, 0x64, 0x65, 0x66, 0x67, 0x68, 0x69, 0x6a, 0x6b, 0x6c, 0x6d,
+            0x6e, 0x6f, 0x70, 0x71, 0x72, 0x73, 0x74, 0x75, 0x76, 0x77, 0x78, 0x79, 0x7a, 0x7b,
+            0x7c, 0x7d, 0x7e, 0x7f, 0x80, 0x81, 0x82, 0x83, 0x84, 0x85, 0x86, 0x87, 0x88, 0x89,
+            0x8a, 0x8b, 0x8c, 0x8d, 0x8e, 0x8f, 0x90, 0x91, 0x92, 0x93, 0x94, 0x95, 0x96, 0x97,
+            0x98, 0x99, 0x9a, 0x9b, 0x9c, 0x9d, 0x9e, 0x9f, 0xa0, 0xa1, 0xa2, 0xa3, 0xa4, 0xa5,
+            0xa6, 0xa7, 0xa8, 0xa9, 0xaa, 0xab, 0xac, 0xad, 0xae, 0xaf,
+        ],
+        secret: &[
+            0x00, 0x01, 0x02, 0x03, 0x04, 0x05, 0x06, 0x07, 0x08, 0x09, 0x0a, 0x0b, 0x0c, 0x0d,
+            0x0e, 0x0f, 0x10, 0x11, 0x12, 0x13, 0x14, 0x15, 0x16, 0x17, 0x18, 0x19, 0x1a, 0x1b,
+            0x1c, 0x1d, 0x1e, 0x1f, 0x20, 0x21, 0x22, 0x23, 0x24, 0x25, 0x26, 0x27, 0x28, 0x29,
+            0x2a, 0x2b, 0x2c, 0x2d, 0x2e, 0x2f, 0x30, 0x31, 0x32, 0x33, 0x34, 0x35, 0x36, 0x37,
+            0x38, 0x39, 0x3a, 0x3b, 0x3c, 0x3d, 0x3e, 0x3f, 0x40, 0x41, 0x42, 0x43, 0x44, 0x45,
+            0x46, 0x47, 0x48, 0x49, 0x4a, 0x4b, 0x4c, 0x4d, 0x4e, 0x4f,
+        ],
+        info: &[
+            0xb0, 0xb1, 0xb2, 0xb3, 0xb4, 0xb5, 0xb6, 0xb7, 0xb8, 0xb9, 0xba, 0xbb, 0xbc, 0xbd,
+            0xbe, 0xbf, 0xc0, 0xc1, 0xc2, 0xc3, 0xc4, 0xc5, 0xc6, 0xc7, 0xc8, 0xc9, 0xca, 0xcb,
+            0xcc, 0xcd, 0xce, 0xcf, 0xd0, 0xd1, 0xd2, 0xd3, 0xd4, 0xd5, 0xd6, 0xd7, 0xd8, 0xd9,
+            0xda, 0xdb, 0xdc, 0xdd, 0xde, 0xdf, 0xe0, 0xe1, 0xe2, 0xe3, 0xe4, 0xe5, 0xe6, 0xe7,
+            0xe8, 0xe9, 0xea, 0xeb, 0xec, 0xed, 0xee, 0xef, 0xf0, 0xf1, 0xf2, 0xf3, 0xf4, 0xf5,
+            0xf6, 0xf7, 0xf8, 0xf9, 0xfa, 0xfb, 0xfc, 0xfd, 0xfe, 0xff,
+        ],
+        okm: &[
+            0xb1, 0x1e, 0x39, 0x8d, 0xc8, 0x03, 0x27, 0xa1, 0xc8, 0xe7, 0xf7, 0x8c, 0x59, 0x6a,
+            0x49, 0x34, 0x4f, 0x01, 0x2e, 0xda, 0x2d, 0x4e, 0xfa, 0xd8, 0xa0, 0x50, 0xcc, 0x4c,
+            0x19, 0xaf, 0xa9, 0x7c, 0x59, 0x04, 0x5a, 0x99, 0xca, 0xc7, 0x82, 0x72, 0x71, 0xcb,
+            0x41, 0xc6, 0x5e, 0x59, 0x0e, 0x09, 0xda, 0x32, 0x75, 0x60, 0x0c, 0x2f, 0x09, 0xb8,
+            0x36, 0x77, 0x93, 0xa9, 0xac, 0xa3, 0xdb, 0x71, 0xcc, 0x30, 0xc5, 0x81, 0x79, 0xec,
+            0x3e, 0x87, 0xc1, 0x4c, 0x01, 0xd5, 0xc1, 0xf3, 0x43, 0x4f, 0x1d, 0x87,
+        ],
+    },
+    HkdfCase {
+        salt: &[],
+        secret: &[0x0b; 22],
+        info: &[],
+        okm: &[
+            0x8d, 0xa4, 0xe7, 0x75, 0xa5, 0x63, 0xc1, 0x8f, 0x71, 0x5f, 0x80, 0x2a, 0x06, 0x3c,
+            0x5a, 0x31, 0xb8, 0xa1, 0x1f, 0x5c, 0x5e, 0xe1, 0x87, 0x9e, 0xc3, 0x45, 0x4e, 0x5f,
+            0x3c, 0x73, 0x8d, 0x2d, 0x9d, 0x20, 0x13, 0x95, 0xfa, 0xa4, 0xb6, 0x1a, 0x96, 0xc8,
+        ],
+    },
+];
+
+// The last of the 255 blocks of RFC 5869's case 3, as Python's hmac gives it.
+const LAST_BLOCK: [u8; 32] = [
+    0xc0, 0x81, 0x47, 0x6d, 0x20, 0x12, 0x26, 0xdb, 0xc6, 0xc1, 0xcc, 0x80, 0xde, 0x7d, 0x39, 0x09,
+    0xde, 0x02, 0x63, 0x41, 0x26, 0xd2, 0xe5, 0x7f, 0x47, 0xaa, 0xe9, 0xcd, 0x77, 0x99, 0x3e, 0xa6,
+];
+
+struct Pbkdf2Case {
+    password: &'static [u8],
+    cost: u64,
+    key: &'static [u8],
+}
+
+// With the salt "salt": the first vector of RFC 7914, section 11, and two keys that Python's hashlib.pbkdf2_hmac gives.
+const PBKDF2_CASES: [Pbkdf2Case; 3] = [
+    Pbkdf2Case {
+        password: b"passwd",
+        cost: 1,
+        key: &[
+            0x55, 0xac, 0x04, 0x6e, 0x56, 0xe3, 0x08, 0x9f, 0xec, 0x16, 0x91, 0xc2, 0x25, 0x44,
+            0xb6, 0x05, 0xf9, 0x41, 0x85, 0x21, 0x6d, 0xde, 0x04, 0x65, 0xe6, 0x8b, 0x9d, 0x57,
+            0xc2, 0x0d, 0xac, 0xbc, 0x49, 0xca, 0x9c, 0xcc, 0xf1, 0x79, 0xb6, 0x45, 0x99, 0x16,
+            0x64, 0xb3, 0x9d, 0x77, 0xef, 0x31, 0x7c, 0x71, 0xb8, 0x45, 0xb1, 0xe3, 0x0b, 0xd5,
+            0x09, 0x11, 0x20, 0x41, 0xd3, 0xa1, 0x97, 0x83,
+        ],
+    },
+    Pbkdf2Case {
+        password: b"password",
+        cost: 1,
+        key: &[
+            0x12, 0x0f, 0xb6, 0xcf, 0xfc, 0xf8, 0xb3, 0x2c, 0x43, 0xe7, 0x22, 0x52, 0x56, 0xc4,
+            0xf8, 0x37, 0xa8, 0x65, 0x48, 0xc9, 0x2c, 0xcc, 0x35, 0x48, 0x08, 0x05, 0x98, 0x7c,
+            0xb7, 0x0b, 0xe1, 0x7b,
+        ],
+    },
+    Pbkdf2Case {
+        password: b"password",
+        cost: 2,
+        key: &[
+            0xae, 0x4d, 0x0c, 0x95, 0xaf, 0x6b, 0x46, 0xd3, 0x2d, 0x0a, 0xdf, 0xf9, 0x28, 0xf0,
+            0x6d, 0xd0, 0x2a, 0x30, 0x3f, 0x8e, 0xf3, 0xc2, 0x51, 0xdf, 0xd6, 0xe2, 0xd8, 0x5a,
+            0x95, 0x47, 0x4c, 0x43, 0x83, 0x06, 0x51, 0xaf, 0xcb, 0x5c, 0x86, 0x2f,
+        ],
+    },
+];
+
+fn begin_hkdf(state: &mut DerivationState, case: &HkdfCase) -> Result<(), Status> {
+    state.wipe();
+    state.key_derivation_setup(HKDF_SHA256)?;
+    state.key_derivation_input_bytes(SALT, case.salt)?;
+    state.key_derivation_input_bytes(SECRET, case.secret)?;
+    state.key_derivation_input_bytes(INFO, case.info)
+}
+
+// A key of so many bits, for derivation.
+fn derive_key(bits: u16) -> Attributes {
+    Attributes {
+        lifetime: Lifetime(0),
+        id: KeyId(0),
+        key_type: KeyType(0x1200),
+        bits,
+        policy: Policy {
+            usage: Usage(0),
+            alg: 0,
+        },
+    }
+}
+
+#[test]
+fn hkdf_in_pieces(rt: HostRuntime) -> Result<(), Fail> {
+    let mut state = DerivationState::new(rt.alloc()).map_err(|_| "memory")?;
+    for case in HKDF_CASES.iter() {
+        for n in 1..41usize {
+            begin_hkdf(&mut state, case).map_err(|_| "refused")?;
+            for wanted in case.okm.chunks(n) {
+                let mut piece = [0; 40];
+                let out = piece.get_mut(..wanted.len()).ok_or("length")?;
+                assert_eq!(rt; state.key_derivation_output_bytes(out), Ok(wanted.len()));
+                assert!(rt; *out == *wanted);
+            }
+        }
+    }
+    Ok(())
+}
+
+#[test]
+fn pbkdf2_with_a_salt_in_two(rt: HostRuntime) -> Result<(), Fail> {
+    let mut state = DerivationState::new(rt.alloc()).map_err(|_| "memory")?;
+    for case in PBKDF2_CASES.iter() {
+        state.wipe();
+        assert_eq!(rt; state.key_derivation_setup(PBKDF2_SHA256), Ok(()));
+        assert_eq!(rt; state.key_derivation_input_integer(COST, case.cost), Ok(()));
+        assert_eq!(rt; state.key_derivation_input_bytes(SALT, b"sa"), Ok(()));
+        assert_eq!(rt; state.key_derivation_input_bytes(SALT, b"lt"), Ok(()));
+        assert_eq!(rt;
+            state.key_derivation_input_bytes(PASSWORD, case.password),
+            Ok(())
+        );
+        for wanted in case.key.chunks(24) {
+            let mut piece = [0; 24];
+            let out = piece.get_mut(..wanted.len()).ok_or("length")?;
+            assert_eq!(rt; state.key_derivation_output_bytes(out), Ok(wanted.len()));
+            assert!(rt; *out == *wanted);
+        }
+    }
+    Ok(())
+}
+
+#[test]
+fn capacity_is_255_blocks(rt: HostRuntime) -> Result<(), Fail> {
+    let mut state = DerivationState::new(rt.alloc()).map_err(|_| "memory")?;
+    begin_hkdf(&mut state, &HKDF_CASES[2]).map_err(|_| "refused")?;
+    assert_eq!(rt; state.key_derivation_get_capacity(), Ok(8160));
+    assert_eq!(rt;
+        state.key_derivation_set_capacity(8161),
+        Err(Status::InvalidArgument)
+    );
+    let mut out = [0; 8160];
+    assert_eq!(rt; state.key_derivation_output_bytes(&mut out), Ok(8160));
+    assert_eq!(rt; &out[8128..], &LAST_BLOCK[..]);
+    assert_eq!(rt; state.key_derivation_get_capacity(), Ok(0));
+    assert_eq!(rt;
+        state.key_derivation_verify_bytes(&[0]),
+        Err(Status::InsufficientData)
+    );
+
+    begin_hkdf(&mut state, &HKDF_CASES[2]).map_err(|_| "refused")?;
+    assert_eq!(rt; state.key_derivation_set_capacity(10), Ok(()));
+    let mut more = [0; 11];
+    assert_eq!(rt;
+        state.key_derivation_output_bytes(&mut more),
+        Err(Status::InsufficientData)
+    );
+    assert_eq!(rt; state.key_derivation_get_capacity(), Ok(0));
+    Ok(())
+}
+
+#[test]
+fn a_key_comes_from_a_key_alone(rt: HostRuntime) -> Result<(), Fail> {
+    let mut state = DerivationState::new(rt.alloc()).map_err(|_| "memory")?;
+    let mut out = [0; 1025];
+    begin_hkdf(&mut state, &HKDF_CASES[2]).map_err(|_| "refused")?;
+    assert_eq!(rt;
+        state.key_derivation_output_key(&derive_key(336), &mut out),
+        Err(Status::NotPermitted)
+    );
+
+    state.wipe();
+    assert_eq!(rt; state.key_derivation_setup(HKDF_SHA256), Ok(()));
+    assert_eq!(rt;
+        state.key_derivation_input_key(SECRET, HKDF_CASES[2].secret),
+        Ok(())
+    );
+    assert_eq!(rt;
+        state.key_derivation_output_key(&derive_key(336), &mut out),
+        Ok(42)
+    );
+    let front = out.get(..42).ok_or("length")?;
+    assert_eq!(rt; front, HKDF_CASES[2].okm);
+    assert_eq!(rt;
+        state.key_derivation_output_key(&derive_key(64944), &mut out),
+        Ok(1025)
+    );
+    assert_eq!(rt; state.key_derivation_get_capacity(), Ok(0));
+    Ok(())
+}
+
+#[test]
+fn a_refused_verify_takes_its_bytes(rt: HostRuntime) -> Result<(), Fail> {
+    let mut state = DerivationState::new(rt.alloc()).map_err(|_| "memory")?;
+    let okm = HKDF_CASES[2].okm;
+    begin_hkdf(&mut state, &HKDF_CASES[2]).map_err(|_| "refused")?;
+    let first = okm.get(..10).ok_or("length")?;
+    assert_eq!(rt; state.key_derivation_verify_bytes(first), Ok(()));
+    assert_eq!(rt;
+        state.key_derivation_verify_bytes(first),
+        Err(Status::InvalidSignature)
+    );
+    let mut out = [0; 22];
+    assert_eq!(rt; state.key_derivation_output_bytes(&mut out), Ok(22));
+    let rest = okm.get(20..).ok_or("length")?;
+    assert_eq!(rt; &out[..], rest);
+    Ok(())
+}
+
+#[test]
+fn inputs_come_in_order(rt: HostRuntime) -> Result<(), Fail> {
+    let mut state = DerivationState::new(rt.alloc()).map_err(|_| "memory")?;
+    assert_eq!(rt; state.key_derivation_setup(HKDF_SHA256), Ok(()));
+    assert_eq!(rt;
+        state.key_derivation_setup(HKDF_SHA256),
+        Err(Status::BadState)
+    );
+    assert_eq!(rt; state.key_derivation_input_bytes(SECRET, &[]), Ok(()));
+    assert_eq!(rt;
+        state.key_derivation_input_bytes(SALT, &[]),
+        Err(Status::BadState)
+    );
+
+    state.wipe();
+    assert_eq!(rt; state.key_derivation_setup(HKDF_SHA256), Ok(()));
+    assert_eq!(rt; state.key_derivation_input_bytes(SECRET, &[]), Ok(()));
+    assert_eq!(rt;
+        state.key_derivation_verify_bytes(&[0]),
+        Err(Status::InvalidSignature)
+    );
+    assert_eq!(rt;
+        state.key_derivation_input_bytes(INFO, &[]),
+        Err(Status::BadState)
+    );
+    assert_eq!(rt; state.key_derivation_get_capacity(), Err(Status::BadState));
+    Ok(())
+}
+
+#[test]
+fn a_password_follows_cost_and_salt(rt: HostRuntime) -> Result<(), Fail> {
+    let mut state = DerivationState::new(rt.alloc()).map_err(|_| "memory")?;
+    for (cost, refusal) in [
+        (0, Status::InvalidArgument),
+        (100_001, Status::NotSupported),
+    ]
+    .iter()
+    {
+        state.wipe();
+        assert_eq!(rt; state.key_derivation_setup(PBKDF2_SHA256), Ok(()));
+        assert_eq!(rt;
+            state.key_derivation_input_integer(COST, *cost),
+            Err(*refusal)
+        );
+    }
+    state.wipe();
+    assert_eq!(rt; state.key_derivation_setup(PBKDF2_SHA256), Ok(()));
+    assert_eq!(rt; state.key_derivation_input_integer(COST, 100_000), Ok(()));
+    assert_eq!(rt;
+        state.key_derivation_input_bytes(PASSWORD, b"password"),
+        Err(Status::BadState)
+    );
+    Ok(())
+}

@@ -1,0 +1,60 @@
+-- Which MAC runs.
+use Rattle.std.proofs.Common.{◌≡◌, ℕ, Bool, true, false, cond, List, refl, sym, ap, ◌∙◌, arith}
+use Rattle.std.specs.Prelude.{◌==◌, MatchBool}
+use Rattle.std.proofs.lemmas.Bool.Decides.{nat_tests}
+use Rattle.crypto_specs.specs.Aes.{aes_encrypt}
+use Rattle.crypto_specs.specs.Cmac.{cmac}
+use Rattle.crypto_specs.specs.Hmac.{hmac}
+use Rattle.alg_encoding.specs.Encoding.{base_of}
+use Rattle.hash_ops.specs.declared.Hash.{Hash}
+use Rattle.hash_ops.specs.Hashes as hashes
+use Rattle.store_model.specs.Algorithms.{cmac_base, digest, hash_block_length, low_byte, whole_mac}
+use Rattle.store_model.specs.MacOperations.{MacWork}
+use Rattle.mac_states.specs.declared.running_mac.RunningMac.{RunningMac}
+use Rattle.mac_states.specs.MacStates.{HoldsMac, IsCmac, IsHmac}
+
+-- a fact by cases, taken apart and put together
+if_true : (b : Bool) (P Q : Type 0) → b ≡ true → MatchBool b P Q → P
+if_true true P Q e h = h
+if_true false P Q e h = cc
+
+if_false : (b : Bool) (P Q : Type 0) → b ≡ false → MatchBool b P Q → Q
+if_false false P Q e h = h
+if_false true P Q e h = cc
+
+by_true : (b : Bool) (P Q : Type 0) → b ≡ true → P → MatchBool b P Q
+by_true true P Q e h = h
+by_true false P Q e h = cc
+
+by_false : (b : Bool) (P Q : Type 0) → b ≡ false → Q → MatchBool b P Q
+by_false false P Q e h = h
+by_false true P Q e h = cc
+
+-- what a part holds, by whether CMAC runs
+pub is_cmac : (s : RunningMac) (w : MacWork) → s.cmac.runs ≡ true → HoldsMac s w → IsCmac s w
+is_cmac s w e h = if_true s.cmac.runs (IsCmac s w) (IsHmac s w) e h.message
+
+pub is_hmac : (s : RunningMac) (w : MacWork) → s.cmac.runs ≡ false → HoldsMac s w → IsHmac s w
+is_hmac s w e h = if_false s.cmac.runs (IsCmac s w) (IsHmac s w) e h.message
+
+pub runs_cmac : (s : RunningMac) (w : MacWork) → s.cmac.runs ≡ true → IsCmac s w →
+    MatchBool s.cmac.runs (IsCmac s w) (IsHmac s w)
+runs_cmac s w e h = by_true s.cmac.runs (IsCmac s w) (IsHmac s w) e h
+
+pub runs_hmac : (s : RunningMac) (w : MacWork) → s.cmac.runs ≡ false → IsHmac s w →
+    MatchBool s.cmac.runs (IsCmac s w) (IsHmac s w)
+runs_hmac s w e h = by_false s.cmac.runs (IsCmac s w) (IsHmac s w) e h
+
+other_base : (x : ℕ) (b : Bool) → (x == cmac_base) ≡ b → (x ≡ cmac_base → ⊥) → (x == cmac_base) ≡ false
+other_base x false e h = e
+other_base x true e h = let same : x ≡ cmac_base = grind (arith, nat_tests) in absurd (h same)
+
+-- the whole MAC of an algorithm that isn't CMAC
+pub whole_hmac : (alg : ℕ) (which : Hash) (key m : List ℕ) → (base_of alg ≡ cmac_base → ⊥) →
+    hashes.hash_of which ≡ digest (low_byte alg) → hashes.block_length which ≡ hash_block_length (low_byte alg) →
+    hmac (hashes.hash_of which) (hashes.block_length which) key m ≡ whole_mac alg key m
+whole_hmac alg which key m other d b =
+    ap (λ (f : List ℕ → List ℕ). hmac f (hashes.block_length which) key m) d
+    ∙ ap (λ (n : ℕ). hmac (digest (low_byte alg)) n key m) b
+    ∙ ap (λ t. cond t (cmac (aes_encrypt key) m) (hmac (digest (low_byte alg)) (hash_block_length (low_byte alg)) key m))
+    (sym (other_base (base_of alg) (base_of alg == cmac_base) refl other))

@@ -1,0 +1,33 @@
+use Rattle.std.proofs.Common.{◌≡◌, ℕ, ◌+◌, List, ◌++◌, length, length-append, ap, sym, ◌∙◌}
+use Rattle.mac_states.proofs.Running.{is_cmac, is_hmac, runs_cmac, runs_hmac}
+use Rattle.mac_states.proofs.running_mac.RunningMac.update.Goals as goal
+
+-- the total of a longer message
+longer : (m piece : List ℕ) (old new : ℕ) → old ≡ length m → new ≡ old + length piece → new ≡ length (m ++ piece)
+longer m piece old new e f = f ∙ ap (λ n. n + length piece) e ∙ sym (length-append m piece)
+
+pub returns-then-self-clause-holds : goal.returns-then-self-clause-holds
+returns-then-self-clause-holds c = λ w h.
+    let one = is_cmac c.args.self.now w c.if-self.true h in
+    let r = c.update.ensures w.key w.message one.message in
+    record {
+      alg = h.alg;
+      verifies = h.verifies;
+      total = longer w.message c.args.input.now _ _ h.total c.in_ok-add.ensures.sum;
+      message = runs_cmac _ _ r.runs (record { base = one.base; message = r });
+    }
+
+pub returns-else-self-clause-holds : goal.returns-else-self-clause-holds
+returns-else-self-clause-holds c = λ w h.
+    let one = is_hmac c.args.self.now w c.if-self.false h in
+    let m = one.message in
+    let r = c.update-else-self.ensures m.which w.key w.message m.state in
+    record {
+      alg = h.alg;
+      verifies = h.verifies;
+      total = longer w.message c.args.input.now _ _ h.total c.in_ok-add.ensures.sum;
+      message = runs_hmac _ _ c.if-self.false (record {
+        base = one.base;
+        message = record { which = m.which; digest = m.digest; block = m.block; state = r };
+      });
+    }

@@ -1,0 +1,62 @@
+-- What a MAC in several parts stands for.
+use Rattle.std.specs.Prelude.{◌≡◌, ℕ, true, false, List, length, MatchBool}
+use Rattle.hash_ops.specs.declared.Hash.{Hash}
+use Rattle.hash_ops.specs.Hashes as hashes
+use Rattle.hmac_ops.specs.declared.state.HmacState.{HmacState}
+use Rattle.hmac_ops.specs.States.{HoldsHmac, IsWipedHmac}
+use Rattle.cmac_ops.specs.States.{HoldsCmac, IsWipedCmac}
+use Rattle.alg_encoding.specs.Encoding.{base_of}
+use Rattle.store_model.specs.Algorithms.{cmac_base, digest, hash_block_length, low_byte}
+use Rattle.store_model.specs.Operations.{Operation}
+use Rattle.store_model.specs.MacOperations.{MacWork}
+use Rattle.operation_phase.specs.Phases.{StandsFor}
+use Rattle.mac_states.specs.declared.cmac_part.CmacPart.{CmacPart}
+use Rattle.mac_states.specs.declared.running_mac.RunningMac.{RunningMac}
+use Rattle.mac_states.specs.declared.mac_state.MacState.{MacState}
+
+-- a CMAC runs under this key, and has taken in the message
+pub record RunsCmac (s : CmacPart) (key message : List ℕ) : Type 0 where
+  pub runs : s.runs ≡ true
+  pub state : HoldsCmac s.state key message
+
+-- no CMAC runs: key and buffers are zeros
+pub record IsClearCmac (s : CmacPart) : Type 0 where
+  pub runs : s.runs ≡ false
+  pub state : IsWipedCmac s.state
+
+-- an HMAC runs over the algorithm's hash function under this key, and has taken in the message
+pub record RunsHmac (s : HmacState) (alg : ℕ) (key message : List ℕ) : Type 0 where
+  pub which : Hash
+  pub digest : hashes.hash_of which ≡ digest (low_byte alg)
+  pub block : hashes.block_length which ≡ hash_block_length (low_byte alg)
+  pub state : HoldsHmac s which key message
+
+-- the algorithm is CMAC, and that runs
+pub record IsCmac (s : RunningMac) (work : MacWork) : Type 0 where
+  pub base : base_of work.alg ≡ cmac_base
+  pub message : RunsCmac s.cmac work.key work.message
+
+-- the algorithm is HMAC, and that runs
+pub record IsHmac (s : RunningMac) (work : MacWork) : Type 0 where
+  pub base : base_of work.alg ≡ cmac_base → ⊥
+  pub message : RunsHmac s.hmac work.alg work.key work.message
+
+-- the MAC of the algorithm runs, and has taken in the message
+pub record HoldsMac (s : RunningMac) (work : MacWork) : Type 0 where
+  pub alg : s.alg.0 ≡ work.alg
+  pub verifies : s.verifies ≡ work.verifies
+  pub total : s.total.bytes ≡ length work.message
+  pub message : MatchBool s.cmac.runs (IsCmac s work) (IsHmac s work)
+
+-- nothing of a key and a message is left: the hashers are those of the empty message, and CMAC's key and buffers zeros
+pub record IsClearRunningMac (s : RunningMac) : Type 0 where
+  pub total : s.total.bytes ≡ 0
+  pub hmac : IsWipedHmac s.hmac
+  pub cmac : IsClearCmac s.cmac
+
+abbrev pub IsClearMac : MacState → Type 0
+IsClearMac s = IsClearRunningMac s.work
+
+-- the state stands for this operation
+abbrev pub IsMacOperation : MacState → Operation MacWork → Type 0
+IsMacOperation s op = StandsFor s.phase (IsClearMac s) (HoldsMac s.work) op

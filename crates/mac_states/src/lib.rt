@@ -1,0 +1,16 @@
+//! Hashes and MACs in several parts, as states that callers' handles keep.
+#![tactic(auto)]
+
+mod cmac_part;
+mod hash_state;
+mod mac_state;
+mod outputs;
+mod running_hash;
+mod running_mac;
+mod total;
+
+pub use hash_state::HashOpState;
+pub use mac_state::MacState;
+
+#[cfg(test)]
+mod tests;

@@ -1,0 +1,158 @@
+// A MAC in several parts.
+ghost use Rattle.std.specs.Prelude.{◌≡◌, Bool, true, false, length};
+ghost use Rattle.crypto_specs.specs.Aes.{IsKey};
+ghost use Rattle.alg_encoding.specs.Encoding.{base_of};
+ghost use Rattle.store_model.specs.Algorithms.{cmac_base};
+ghost use Rattle.store_model.specs.Call.{buffer_after};
+ghost use Rattle.store_model.specs.Answers.{AnswersLength, plain_reply};
+ghost use Rattle.store_model.specs.Outcome.{refusal};
+ghost use Rattle.store_model.specs.Operations.{Operation, Inactive, is_inactive, loses_key, on_active};
+ghost use Rattle.store_model.specs.MacOperations.{MacSignFinish, MacUpdate, MacVerifyFinish, MacWork, mac_setup, mac_step};
+ghost use Rattle.mac_states.specs.MacStates.{IsClearMac, IsMacOperation};
+
+use crate::running_mac::RunningMac;
+use alg_encoding::Alg;
+use operation_phase::Phase;
+use psa_status::Status;
+
+/// A MAC in several parts: a setup with a key, any number of updates, and a finish that makes the MAC or verifies one.
+#[derive(Drop)]
+pub struct MacState {
+    phase: Phase,
+    work: RunningMac,
+}
+
+impl MacState {
+    /// An inactive operation.
+    pub fn new() -> MacState
+        ensures { IsMacOperation result Inactive }
+    {
+        MacState {
+            phase: Phase::Inactive,
+            work: RunningMac::new(),
+        }
+    }
+
+    /// Whether the operation is inactive.
+    pub fn is_inactive(&self) -> bool
+        ensures { (op : Operation MacWork) → IsMacOperation self.now op → result ≡ is_inactive op }
+    {
+        self.phase == Phase::Inactive
+    }
+
+    // Forgets key and message, and leaves the operation in this phase.
+    fn end(&mut self, phase: Phase)
+        ensures phase { self.new.phase ≡ phase }
+        ensures clear { IsClearMac self.new }
+    {
+        self.work.wipe();
+        self.phase = phase;
+    }
+
+    /// Forgets everything: the operation is inactive.
+    pub fn wipe(&mut self)
+        ensures clear { IsClearMac self.new }
+        ensures inactive { IsMacOperation self.new Inactive }
+    {
+        self.end(Phase::Inactive);
+    }
+
+    /// The key of the operation is gone, and an active one fails: it is in error, and this is `InvalidHandle`.
+    /// `BadState` where it isn't active.
+    pub fn lose_key(&mut self) -> Status
+        ensures state { (op : Operation MacWork) → IsMacOperation self.old op →
+            IsMacOperation self.new (loses_key op).operation }
+        ensures reply { (op : Operation MacWork) → IsMacOperation self.old op → refusal result ≡ (loses_key op).reply }
+    {
+        match self.phase.check_active() {
+            Ok(()) => {
+                self.end(Phase::InError);
+                Status::InvalidHandle
+            }
+            Err(status) => status,
+        }
+    }
+
+    fn setup(&mut self, verifies: bool, key: &[u8], alg: Alg) -> Result<(), Status>
+        requires aes { base_of alg.0 ≡ cmac_base → IsKey key.now }
+        ensures state { (op : Operation MacWork) → IsMacOperation self.old op →
+            IsMacOperation self.new (mac_setup op verifies alg.0 key.now).operation }
+        ensures reply { (op : Operation MacWork) → IsMacOperation self.old op →
+            plain_reply result ≡ (mac_setup op verifies alg.0 key.now).reply }
+    {
+        self.phase.check_inactive()?;
+        self.work.start(verifies, alg, key);
+        self.phase = Phase::Active;
+        Ok(())
+    }
+
+    /// Sets an inactive operation up to make the MAC of a message under a key. `BadState` where it isn't inactive.
+    pub fn mac_sign_setup(&mut self, key: &[u8], alg: Alg) -> Result<(), Status>
+        requires aes { base_of alg.0 ≡ cmac_base → IsKey key.now }
+        ensures state { (op : Operation MacWork) → IsMacOperation self.old op →
+            IsMacOperation self.new (mac_setup op false alg.0 key.now).operation }
+        ensures reply { (op : Operation MacWork) → IsMacOperation self.old op →
+            plain_reply result ≡ (mac_setup op false alg.0 key.now).reply }
+    {
+        self.setup(false, key, alg)
+    }
+
+    /// Sets an inactive operation up to verify the MAC of a message under a key. `BadState` where it isn't inactive.
+    pub fn mac_verify_setup(&mut self, key: &[u8], alg: Alg) -> Result<(), Status>
+        requires aes { base_of alg.0 ≡ cmac_base → IsKey key.now }
+        ensures state { (op : Operation MacWork) → IsMacOperation self.old op →
+            IsMacOperation self.new (mac_setup op true alg.0 key.now).operation }
+        ensures reply { (op : Operation MacWork) → IsMacOperation self.old op →
+            plain_reply result ≡ (mac_setup op true alg.0 key.now).reply }
+    {
+        self.setup(true, key, alg)
+    }
+
+    /// Adds a piece to the message. `BadState` where the operation isn't active; `InvalidArgument`, and the operation
+    /// is in error, where the message would be longer than it may be.
+    pub fn mac_update(&mut self, input: &[u8]) -> Result<(), Status>
+        ensures state { (op : Operation MacWork) → IsMacOperation self.old op →
+            IsMacOperation self.new (on_active op (λ w. mac_step w (MacUpdate input.now))).operation }
+        ensures reply { (op : Operation MacWork) → IsMacOperation self.old op →
+            plain_reply result ≡ (on_active op (λ w. mac_step w (MacUpdate input.now))).reply }
+    {
+        self.phase.check_active()?;
+        let result = self.work.update(input);
+        if result.is_err() {
+            self.end(Phase::InError);
+        }
+        result
+    }
+
+    /// Writes the MAC to the front of a buffer and answers its length; the operation is then inactive. `BadState` where
+    /// it isn't active, and also, with the operation in error, where it verifies; `BufferTooSmall`, and the operation
+    /// is in error, where the buffer has no room.
+    pub fn mac_sign_finish(&mut self, out: &mut [u8]) -> Result<usize, Status>
+        ensures state { (op : Operation MacWork) → IsMacOperation self.old op →
+            IsMacOperation self.new (on_active op (λ w. mac_step w (MacSignFinish (length out.old)))).operation }
+        ensures reply { (op : Operation MacWork) → IsMacOperation self.old op →
+            AnswersLength result (on_active op (λ w. mac_step w (MacSignFinish (length out.old)))).reply }
+        ensures buffer { (op : Operation MacWork) → IsMacOperation self.old op →
+            out.new ≡ buffer_after out.old (on_active op (λ w. mac_step w (MacSignFinish (length out.old)))).reply }
+    {
+        self.phase.check_active()?;
+        let result = self.work.sign(out);
+        self.end(Phase::after_finish(result.is_ok()));
+        result
+    }
+
+    /// Compares the MAC, whole; the operation is then inactive. `BadState` where it isn't active, and also, with the
+    /// operation in error, where it makes a MAC; `InvalidSignature`, and the operation is in error, where a byte or the
+    /// length differs.
+    pub fn mac_verify_finish(&mut self, expected: &[u8]) -> Result<(), Status>
+        ensures state { (op : Operation MacWork) → IsMacOperation self.old op →
+            IsMacOperation self.new (on_active op (λ w. mac_step w (MacVerifyFinish expected.now))).operation }
+        ensures reply { (op : Operation MacWork) → IsMacOperation self.old op →
+            plain_reply result ≡ (on_active op (λ w. mac_step w (MacVerifyFinish expected.now))).reply }
+    {
+        self.phase.check_active()?;
+        let result = self.work.verify(expected);
+        self.end(Phase::after_finish(result.is_ok()));
+        result
+    }
+}

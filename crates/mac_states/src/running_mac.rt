@@ -1,0 +1,153 @@
+// The MAC of a message that comes piece by piece.
+ghost use Rattle.std.specs.Prelude.{◌≡◌, ◌≤◌, ◌++◌, Bool, IfOk, OnOk, length, take};
+ghost use Rattle.std.specs.Result.{result_err};
+ghost use Rattle.psa_status.specs.Rows.{first_row};
+ghost use Rattle.crypto_specs.specs.Aes.{IsKey};
+ghost use Rattle.alg_encoding.specs.Encoding.{base_of};
+ghost use Rattle.store_model.specs.Algorithms.{cmac_base, mac_of, tag_bytes, whole_mac};
+ghost use Rattle.store_model.specs.HashOperations.{total_rows};
+ghost use Rattle.store_model.specs.MacOperations.{MacWork, mac_work, sign_rows, verify_rows};
+ghost use Rattle.store_model.specs.Call.{buffer_after};
+ghost use Rattle.store_model.specs.Outcome.{given, reply_unless};
+ghost use Rattle.mac_states.specs.MacStates.{HoldsMac, IsClearRunningMac};
+
+use crate::cmac_part::CmacPart;
+use crate::total::Total;
+use alg_encoding::Alg;
+use algorithm_facts::{hash_function, tag_bytes};
+use hash_ops::Hash;
+use hmac_ops::HmacState;
+use operation_phase::give;
+use psa_status::Status;
+
+const CMAC: u32 = 0x03c0_0200;
+
+/// A message that is authenticated piece by piece: it stands for its pieces, one after another. Its MAC is made, or
+/// verified.
+#[derive(Drop)]
+pub struct RunningMac {
+    alg: Alg,
+    verifies: bool,
+    total: Total,
+    hmac: HmacState,
+    cmac: CmacPart,
+}
+
+impl RunningMac {
+    /// One that is wiped.
+    pub fn new() -> RunningMac
+        ensures { IsClearRunningMac result }
+    {
+        let mut hmac = HmacState::new(Hash::Sha256, &[]);
+        hmac.wipe();
+        RunningMac {
+            alg: Alg(CMAC),
+            verifies: false,
+            total: Total::none(),
+            hmac,
+            cmac: CmacPart::new(),
+        }
+    }
+
+    /// Begins with the empty message under this key.
+    pub fn start(&mut self, verifies: bool, alg: Alg, key: &[u8])
+        requires { base_of alg.0 ≡ cmac_base → IsKey key.now }
+        ensures { HoldsMac self.new (mac_work verifies alg.0 key.now) }
+    {
+        self.wipe();
+        self.alg = alg;
+        self.verifies = verifies;
+        if alg.base() == CMAC {
+            self.cmac.start(key);
+        } else {
+            self.hmac = HmacState::new(hash_function(alg), key);
+        }
+    }
+
+    /// Adds a piece to the message; `InvalidArgument` where it would be longer than it may be.
+    pub fn update(&mut self, input: &[u8]) -> Result<(), Status>
+        ensures refusal { (w : MacWork) → HoldsMac self.old w →
+            result_err result ≡ first_row (total_rows (length w.message) (length input.now)) }
+        ensures holds { (w : MacWork) → HoldsMac self.old w →
+            OnOk result (HoldsMac self.new (record w { message = w.message ++ input.now })) }
+    {
+        self.total.add(input.len())?;
+        if self.cmac.runs {
+            self.cmac.update(input);
+        } else {
+            self.hmac.update(input);
+        }
+        Ok(())
+    }
+
+    // Writes the whole MAC of the message to the front of `out`, and answers its length.
+    fn put_whole_mac(&mut self, out: &mut [u8; 64]) -> usize
+        ensures bound { result ≤ 64 }
+        ensures mac { (w : MacWork) → HoldsMac self.old w → take result out.new ≡ whole_mac w.alg w.key w.message }
+    {
+        if self.cmac.runs {
+            self.cmac.finish(out)
+        } else {
+            self.hmac.finish(out)
+        }
+    }
+
+    // Writes the MAC of the message, which is the front of the whole one, to the front of `out`, and answers its
+    // length.
+    fn put_mac(&mut self, out: &mut [u8; 64]) -> usize
+        ensures bound { result ≤ 64 }
+        ensures tag { (w : MacWork) → HoldsMac self.old w → result ≤ tag_bytes w.alg }
+        ensures mac { (w : MacWork) → HoldsMac self.old w → take result out.new ≡ mac_of w.alg w.key w.message }
+    {
+        let length = tag_bytes(self.alg);
+        self.put_whole_mac(out).min(length)
+    }
+
+    /// Writes the MAC of the message to the front of a buffer that has room for it, and answers its length.
+    /// `BadState` where a MAC is verified.
+    pub fn sign(&mut self, out: &mut [u8]) -> Result<usize, Status>
+        ensures refusal { (w : MacWork) → HoldsMac self.old w →
+            result_err result ≡ first_row (sign_rows w (length out.old)) }
+        ensures length { (w : MacWork) → HoldsMac self.old w →
+            IfOk result (λ n. n ≡ length (mac_of w.alg w.key w.message)) }
+        ensures buffer { (w : MacWork) → HoldsMac self.old w →
+            out.new ≡ buffer_after out.old
+            (reply_unless (first_row (sign_rows w (length out.old))) (given (mac_of w.alg w.key w.message))) }
+    {
+        if self.verifies {
+            return Err(Status::BadState);
+        }
+        if out.len() < tag_bytes(self.alg) {
+            return Err(Status::BufferTooSmall);
+        }
+        let mut mac = [0; 64];
+        let length = self.put_mac(&mut mac);
+        give(&mac[..length], out)
+    }
+
+    /// Compares the MAC of the message. `BadState` where it is made; `InvalidSignature` where a byte or the length
+    /// differs.
+    pub fn verify(&mut self, expected: &[u8]) -> Result<(), Status>
+        ensures { (w : MacWork) → HoldsMac self.old w → result_err result ≡ first_row (verify_rows w expected.now) }
+    {
+        if !self.verifies {
+            return Err(Status::BadState);
+        }
+        let mut mac = [0; 64];
+        let length = self.put_mac(&mut mac);
+        if expected == &mac[..length] {
+            Ok(())
+        } else {
+            Err(Status::InvalidSignature)
+        }
+    }
+
+    /// Forgets key and message.
+    pub fn wipe(&mut self)
+        ensures { IsClearRunningMac self.new }
+    {
+        self.total = Total::none();
+        self.hmac.wipe();
+        self.cmac.wipe();
+    }
+}
