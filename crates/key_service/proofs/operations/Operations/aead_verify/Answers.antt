@@ -1,0 +1,27 @@
+use Rattle.std.proofs.Common.{◌≡◌, true, false, refl, sym, ◌∙◌}
+use Rattle.store_model.specs.Outcome.{refusal}
+use Rattle.store_model.specs.Answers.{plain_reply}
+use Rattle.store_model.specs.HandleCalls.{random_of}
+use Rattle.store_model.specs.AeadOperations.{AeadVerify}
+use Rattle.key_service.proofs.Sealing.{aead_stands, aead_reply}
+use Rattle.key_service.proofs.operations.Operations.aead_verify.Goals as goal
+
+pub returns-then-not-has_key-clause-stands : goal.returns-then-not-has_key-clause-stands
+returns-then-not-has_key-clause-stands c = λ service h.
+    aead_stands c.args.store.now c.count.new.self c.args.self.now _ service c.args.caller c.args.op c.place.result c.index_mut-cell.result.now c.lose_key.new.self (AeadVerify c.args.tag.now) false h
+    (c.place.ensures.value, c.index_mut-cell.ensures.value) refl c.count.ensures (sym c.if-not-has_key.true ∙ c.has_key.ensures) c.lose_key.ensures.state tt
+
+pub returns-then-not-has_key-clause-reply : goal.returns-then-not-has_key-clause-reply
+returns-then-not-has_key-clause-reply c = λ service h.
+    aead_reply c.args.store.now c.count.new.self c.args.self.now service c.args.caller c.args.op c.place.result c.index_mut-cell.result.now c.lose_key.new.self (AeadVerify c.args.tag.now) false (λ r. refusal c.lose_key.result ≡ r) h
+    (c.place.ensures.value, c.index_mut-cell.ensures.value) c.count.ensures (sym c.if-not-has_key.true ∙ c.has_key.ensures) c.lose_key.ensures.state c.lose_key.ensures.reply
+
+pub returns-clause-stands : goal.returns-clause-stands
+returns-clause-stands c = λ service h.
+    aead_stands c.args.store.now c.count.new.self c.args.self.now _ service c.args.caller c.args.op c.place.result c.index_mut-cell.result.now c.aead_verify.new.self (AeadVerify c.args.tag.now) true h
+    (c.place.ensures.value, c.index_mut-cell.ensures.value) refl c.count.ensures (sym c.if-not-has_key.false ∙ c.has_key.ensures) (λ own is. c.aead_verify.ensures.state own (random_of service c.args.caller) is) tt
+
+pub returns-clause-reply : goal.returns-clause-reply
+returns-clause-reply c = λ service h.
+    aead_reply c.args.store.now c.count.new.self c.args.self.now service c.args.caller c.args.op c.place.result c.index_mut-cell.result.now c.aead_verify.new.self (AeadVerify c.args.tag.now) true (λ r. plain_reply c.aead_verify.result ≡ r) h
+    (c.place.ensures.value, c.index_mut-cell.ensures.value) c.count.ensures (sym c.if-not-has_key.false ∙ c.has_key.ensures) (λ own is. c.aead_verify.ensures.state own (random_of service c.args.caller) is) (λ own is. c.aead_verify.ensures.reply own (random_of service c.args.caller) is)

@@ -1,0 +1,27 @@
+use Rattle.std.proofs.Common.{◌≡◌, true, false, refl, sym, ◌∙◌}
+use Rattle.store_model.specs.Outcome.{refusal}
+use Rattle.store_model.specs.Answers.{plain_reply}
+use Rattle.store_model.specs.HandleCalls.{random_of}
+use Rattle.store_model.specs.CipherOperations.{CipherSetIv}
+use Rattle.key_service.proofs.Ciphering.{cipher_stands, cipher_reply}
+use Rattle.key_service.proofs.operations.Operations.cipher_set_iv.Goals as goal
+
+pub returns-then-not-has_key-clause-stands : goal.returns-then-not-has_key-clause-stands
+returns-then-not-has_key-clause-stands c = λ service h.
+    cipher_stands c.args.store.now c.count.new.self c.args.self.now _ service c.args.caller c.args.op c.place.result c.index_mut-cell.result.now c.lose_key.new.self (CipherSetIv c.args.iv.now) false h
+    (c.place.ensures.value, c.index_mut-cell.ensures.value) refl c.count.ensures (sym c.if-not-has_key.true ∙ c.has_key.ensures) c.lose_key.ensures.state tt
+
+pub returns-then-not-has_key-clause-reply : goal.returns-then-not-has_key-clause-reply
+returns-then-not-has_key-clause-reply c = λ service h.
+    cipher_reply c.args.store.now c.count.new.self c.args.self.now service c.args.caller c.args.op c.place.result c.index_mut-cell.result.now c.lose_key.new.self (CipherSetIv c.args.iv.now) false (λ r. refusal c.lose_key.result ≡ r) h
+    (c.place.ensures.value, c.index_mut-cell.ensures.value) c.count.ensures (sym c.if-not-has_key.true ∙ c.has_key.ensures) c.lose_key.ensures.state c.lose_key.ensures.reply
+
+pub returns-clause-stands : goal.returns-clause-stands
+returns-clause-stands c = λ service h.
+    cipher_stands c.args.store.now c.count.new.self c.args.self.now _ service c.args.caller c.args.op c.place.result c.index_mut-cell.result.now c.cipher_set_iv.new.self (CipherSetIv c.args.iv.now) true h
+    (c.place.ensures.value, c.index_mut-cell.ensures.value) refl c.count.ensures (sym c.if-not-has_key.false ∙ c.has_key.ensures) (λ own is. c.cipher_set_iv.ensures.state (random_of service c.args.caller) own is) tt
+
+pub returns-clause-reply : goal.returns-clause-reply
+returns-clause-reply c = λ service h.
+    cipher_reply c.args.store.now c.count.new.self c.args.self.now service c.args.caller c.args.op c.place.result c.index_mut-cell.result.now c.cipher_set_iv.new.self (CipherSetIv c.args.iv.now) true (λ r. plain_reply c.cipher_set_iv.result ≡ r) h
+    (c.place.ensures.value, c.index_mut-cell.ensures.value) c.count.ensures (sym c.if-not-has_key.false ∙ c.has_key.ensures) (λ own is. c.cipher_set_iv.ensures.state (random_of service c.args.caller) own is) (λ own is. c.cipher_set_iv.ensures.reply (random_of service c.args.caller) own is)

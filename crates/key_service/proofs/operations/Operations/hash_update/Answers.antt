@@ -1,0 +1,15 @@
+use Rattle.std.proofs.Common.{◌≡◌, refl}
+use Rattle.store_model.specs.Answers.{plain_reply}
+use Rattle.store_model.specs.HashOperations.{HashUpdate}
+use Rattle.key_service.proofs.Hashing.{hash_stands, hash_reply}
+use Rattle.key_service.proofs.operations.Operations.hash_update.Goals as goal
+
+pub returns-clause-stands : goal.returns-clause-stands
+returns-clause-stands c = λ service h.
+    hash_stands c.args.store.now c.count.new.self c.args.self.now _ service c.args.caller c.args.op c.place.result c.index_mut-cell.result.now c.hash_update.new.self (HashUpdate c.args.input.now) h
+    (c.place.ensures.value, c.index_mut-cell.ensures.value) refl c.count.ensures c.hash_update.ensures.state
+
+pub returns-clause-reply : goal.returns-clause-reply
+returns-clause-reply c = λ service h.
+    hash_reply c.args.store.now c.count.new.self c.args.self.now service c.args.caller c.args.op c.place.result c.index_mut-cell.result.now c.hash_update.new.self (HashUpdate c.args.input.now) (λ r. plain_reply c.hash_update.result ≡ r) h
+    (c.place.ensures.value, c.index_mut-cell.ensures.value) c.count.ensures c.hash_update.ensures.state c.hash_update.ensures.reply

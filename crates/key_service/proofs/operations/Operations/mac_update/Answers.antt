@@ -1,0 +1,26 @@
+use Rattle.std.proofs.Common.{◌≡◌, true, false, refl, sym, ◌∙◌}
+use Rattle.store_model.specs.Outcome.{refusal}
+use Rattle.store_model.specs.Answers.{plain_reply}
+use Rattle.store_model.specs.MacOperations.{MacUpdate}
+use Rattle.key_service.proofs.Authenticating.{mac_stands, mac_reply}
+use Rattle.key_service.proofs.operations.Operations.mac_update.Goals as goal
+
+pub returns-then-not-has_key-clause-stands : goal.returns-then-not-has_key-clause-stands
+returns-then-not-has_key-clause-stands c = λ service h.
+    mac_stands c.args.store.now c.count.new.self c.args.self.now _ service c.args.caller c.args.op c.place.result c.index_mut-cell.result.now c.lose_key.new.self (MacUpdate c.args.input.now) false h
+    (c.place.ensures.value, c.index_mut-cell.ensures.value) refl c.count.ensures (sym c.if-not-has_key.true ∙ c.has_key.ensures) c.lose_key.ensures.state
+
+pub returns-then-not-has_key-clause-reply : goal.returns-then-not-has_key-clause-reply
+returns-then-not-has_key-clause-reply c = λ service h.
+    mac_reply c.args.store.now c.count.new.self c.args.self.now service c.args.caller c.args.op c.place.result c.index_mut-cell.result.now c.lose_key.new.self (MacUpdate c.args.input.now) false (λ r. refusal c.lose_key.result ≡ r) h
+    (c.place.ensures.value, c.index_mut-cell.ensures.value) c.count.ensures (sym c.if-not-has_key.true ∙ c.has_key.ensures) c.lose_key.ensures.state c.lose_key.ensures.reply
+
+pub returns-clause-stands : goal.returns-clause-stands
+returns-clause-stands c = λ service h.
+    mac_stands c.args.store.now c.count.new.self c.args.self.now _ service c.args.caller c.args.op c.place.result c.index_mut-cell.result.now c.mac_update.new.self (MacUpdate c.args.input.now) true h
+    (c.place.ensures.value, c.index_mut-cell.ensures.value) refl c.count.ensures (sym c.if-not-has_key.false ∙ c.has_key.ensures) c.mac_update.ensures.state
+
+pub returns-clause-reply : goal.returns-clause-reply
+returns-clause-reply c = λ service h.
+    mac_reply c.args.store.now c.count.new.self c.args.self.now service c.args.caller c.args.op c.place.result c.index_mut-cell.result.now c.mac_update.new.self (MacUpdate c.args.input.now) true (λ r. plain_reply c.mac_update.result ≡ r) h
+    (c.place.ensures.value, c.index_mut-cell.ensures.value) c.count.ensures (sym c.if-not-has_key.false ∙ c.has_key.ensures) c.mac_update.ensures.state c.mac_update.ensures.reply

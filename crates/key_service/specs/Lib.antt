@@ -1,0 +1,4 @@
+pub mod Cells
+pub mod Derivations
+pub mod Places
+pub mod Services

@@ -1,0 +1,296 @@
+// Derivations.
+ghost use Rattle.std.specs.Prelude.{◌≡◌, ◌≤◌, ◌<◌, ◌^◌, length, replicate, take};
+ghost use Rattle.store_model.specs.Answers.{AnswersLength, id_reply, plain_reply};
+ghost use Rattle.store_model.specs.Call.{Import, buffer_after};
+ghost use Rattle.store_model.specs.Step.{step};
+ghost use Rattle.store_model.specs.Faults.{Plain};
+ghost use Rattle.store_model.specs.DerivationOperations.{GetCapacity, InputBytes, InputInteger, OutputBytes, SetCapacity, VerifyBytes};
+ghost use Rattle.store_model.specs.Handles.{Service};
+ghost use Rattle.store_model.specs.HandleCalls.{DerivationSetup, InputKey, OnDerivation, OutputKey};
+ghost use Rattle.store_model.specs.Requests.{OnHandle, serve};
+ghost use Rattle.derivation_states.specs.Replies.{number_reply};
+ghost use Rattle.key_service.specs.Services.{StandsFor};
+
+use crate::cells::KeyCreation;
+use crate::op::Op;
+use crate::operations::{Operations, place};
+use alg_encoding::Alg;
+use key_attributes::{Attributes, KeyId};
+use psa_status::Status;
+use store_core::Store;
+
+// Creates a key of the front of a buffer, which is then wiped.
+fn create(
+    store: &mut Store,
+    caller: u8,
+    attributes: &Attributes,
+    bytes: &mut [u8; 1025],
+    length: usize,
+) -> Result<KeyId, Status>
+    requires first { 1 ≤ caller }
+    requires last { caller ≤ 16 }
+    requires turns { store.old.calls < 2 ^ 62 }
+    requires front { length ≤ 1025 }
+    ensures store { store.new ≡ (step store.old caller (Import attributes.now (take length bytes.old)) Plain).store }
+    ensures reply { id_reply result ≡ (step store.old caller (Import attributes.now (take length bytes.old)) Plain).reply }
+    ensures wiped { bytes.new ≡ replicate 1025 0 }
+{
+    let created = store.import_key(caller, attributes, &bytes[..length]);
+    *bytes = [0; 1025];
+    created
+}
+
+impl Operations {
+    /// Sets an inactive operation up to derive bytes and keys.
+    pub fn key_derivation_setup(
+        &mut self,
+        store: &mut Store,
+        caller: u8,
+        op: Op,
+        alg: Alg,
+    ) -> Result<(), Status>
+        requires first { 1 ≤ caller }
+        requires last { caller ≤ 16 }
+        requires turns { store.old.calls < 2 ^ 62 }
+        ensures stands { (service : Service) → StandsFor store.old self.old service →
+            StandsFor store.new self.new (serve service caller (OnHandle op (DerivationSetup alg.0)) Plain).service }
+        ensures reply { (service : Service) → StandsFor store.old self.old service →
+            plain_reply result ≡ (serve service caller (OnHandle op (DerivationSetup alg.0)) Plain).reply }
+    {
+        store.count();
+        let cell = &mut self.cells[place(caller, op)];
+        if !cell.is_inactive() {
+            return Err(Status::BadState);
+        }
+        cell.alg = alg;
+        cell.key = None;
+        cell.derivation.key_derivation_setup(alg)
+    }
+
+    /// How many bytes can still be had.
+    pub fn key_derivation_get_capacity(
+        &mut self,
+        store: &mut Store,
+        caller: u8,
+        op: Op,
+    ) -> Result<u64, Status>
+        requires first { 1 ≤ caller }
+        requires last { caller ≤ 16 }
+        requires turns { store.old.calls < 2 ^ 62 }
+        ensures stands { (service : Service) → StandsFor store.old self.old service →
+            StandsFor store.new self.new (serve service caller (OnHandle op (OnDerivation GetCapacity)) Plain).service }
+        ensures reply { (service : Service) → StandsFor store.old self.old service →
+            number_reply result ≡ (serve service caller (OnHandle op (OnDerivation GetCapacity)) Plain).reply }
+    {
+        store.count();
+        let cell = &mut self.cells[place(caller, op)];
+        if !cell.has_key(store) {
+            return Err(cell.derivation.lose_key());
+        }
+        cell.derivation.key_derivation_get_capacity()
+    }
+
+    /// Lowers how many bytes can be had.
+    pub fn key_derivation_set_capacity(
+        &mut self,
+        store: &mut Store,
+        caller: u8,
+        op: Op,
+        capacity: u64,
+    ) -> Result<(), Status>
+        requires first { 1 ≤ caller }
+        requires last { caller ≤ 16 }
+        requires turns { store.old.calls < 2 ^ 62 }
+        ensures stands { (service : Service) → StandsFor store.old self.old service →
+            StandsFor store.new self.new (serve service caller (OnHandle op (OnDerivation (SetCapacity capacity))) Plain).service }
+        ensures reply { (service : Service) → StandsFor store.old self.old service →
+            plain_reply result ≡ (serve service caller (OnHandle op (OnDerivation (SetCapacity capacity))) Plain).reply }
+    {
+        store.count();
+        let cell = &mut self.cells[place(caller, op)];
+        if !cell.has_key(store) {
+            return Err(cell.derivation.lose_key());
+        }
+        cell.derivation.key_derivation_set_capacity(capacity)
+    }
+
+    /// Gives bytes at a step of the derivation.
+    pub fn key_derivation_input_bytes(
+        &mut self,
+        store: &mut Store,
+        caller: u8,
+        op: Op,
+        step: u16,
+        input: &[u8],
+    ) -> Result<(), Status>
+        requires first { 1 ≤ caller }
+        requires last { caller ≤ 16 }
+        requires turns { store.old.calls < 2 ^ 62 }
+        ensures stands { (service : Service) → StandsFor store.old self.old service →
+            StandsFor store.new self.new (serve service caller (OnHandle op (OnDerivation (InputBytes step input.now))) Plain).service }
+        ensures reply { (service : Service) → StandsFor store.old self.old service →
+            plain_reply result ≡ (serve service caller (OnHandle op (OnDerivation (InputBytes step input.now))) Plain).reply }
+    {
+        store.count();
+        let cell = &mut self.cells[place(caller, op)];
+        if !cell.has_key(store) {
+            return Err(cell.derivation.lose_key());
+        }
+        cell.derivation.key_derivation_input_bytes(step, input)
+    }
+
+    /// Gives a number at a step of the derivation.
+    pub fn key_derivation_input_integer(
+        &mut self,
+        store: &mut Store,
+        caller: u8,
+        op: Op,
+        step: u16,
+        value: u64,
+    ) -> Result<(), Status>
+        requires first { 1 ≤ caller }
+        requires last { caller ≤ 16 }
+        requires turns { store.old.calls < 2 ^ 62 }
+        ensures stands { (service : Service) → StandsFor store.old self.old service →
+            StandsFor store.new self.new (serve service caller (OnHandle op (OnDerivation (InputInteger step value))) Plain).service }
+        ensures reply { (service : Service) → StandsFor store.old self.old service →
+            plain_reply result ≡ (serve service caller (OnHandle op (OnDerivation (InputInteger step value))) Plain).reply }
+    {
+        store.count();
+        let cell = &mut self.cells[place(caller, op)];
+        if !cell.has_key(store) {
+            return Err(cell.derivation.lose_key());
+        }
+        cell.derivation.key_derivation_input_integer(step, value)
+    }
+
+    /// Gives a key as the secret or the password, which the operation has from then on.
+    pub fn key_derivation_input_key(
+        &mut self,
+        store: &mut Store,
+        caller: u8,
+        op: Op,
+        step: u16,
+        key: KeyId,
+    ) -> Result<(), Status>
+        requires first { 1 ≤ caller }
+        requires last { caller ≤ 16 }
+        requires turns { store.old.calls < 2 ^ 62 }
+        ensures stands { (service : Service) → StandsFor store.old self.old service →
+            StandsFor store.new self.new (serve service caller (OnHandle op (InputKey step key.0)) Plain).service }
+        ensures reply { (service : Service) → StandsFor store.old self.old service →
+            plain_reply result ≡ (serve service caller (OnHandle op (InputKey step key.0)) Plain).reply }
+    {
+        store.count();
+        let cell = &mut self.cells[place(caller, op)];
+        if !cell.has_key(store) {
+            return Err(cell.derivation.lose_key());
+        }
+        if cell.derivation.key_step_refusal(step).is_some() {
+            return cell.derivation.key_derivation_input_key(step, &[]);
+        }
+        let found = match store.derivation_key(step, cell.alg, key) {
+            Ok(found) => found,
+            Err(status) => {
+                cell.derivation.fail();
+                return Err(status);
+            }
+        };
+        cell.key = Some(KeyCreation {
+            id: key,
+            number: found.number,
+        });
+        cell.derivation.key_derivation_input_key(step, found.bytes)
+    }
+
+    /// Fills a buffer with the next bytes, and answers their number.
+    pub fn key_derivation_output_bytes(
+        &mut self,
+        store: &mut Store,
+        caller: u8,
+        op: Op,
+        out: &mut [u8],
+    ) -> Result<usize, Status>
+        requires first { 1 ≤ caller }
+        requires last { caller ≤ 16 }
+        requires turns { store.old.calls < 2 ^ 62 }
+        ensures stands { (service : Service) → StandsFor store.old self.old service →
+            StandsFor store.new self.new (serve service caller (OnHandle op (OnDerivation (OutputBytes (length out.old)))) Plain).service }
+        ensures reply { (service : Service) → StandsFor store.old self.old service →
+            AnswersLength result (serve service caller (OnHandle op (OnDerivation (OutputBytes (length out.old)))) Plain).reply }
+        ensures buffer { (service : Service) → StandsFor store.old self.old service →
+            out.new ≡ buffer_after out.old (serve service caller (OnHandle op (OnDerivation (OutputBytes (length out.old)))) Plain).reply }
+    {
+        store.count();
+        let cell = &mut self.cells[place(caller, op)];
+        if !cell.has_key(store) {
+            return Err(cell.derivation.lose_key());
+        }
+        cell.derivation.key_derivation_output_bytes(out)
+    }
+
+    /// Creates a key of the next bytes, as many as the stated bits say, and answers its identifier.
+    pub fn key_derivation_output_key(
+        &mut self,
+        store: &mut Store,
+        caller: u8,
+        op: Op,
+        attributes: &Attributes,
+    ) -> Result<KeyId, Status>
+        requires first { 1 ≤ caller }
+        requires last { caller ≤ 16 }
+        requires turns { store.old.calls < 2 ^ 62 }
+        ensures stands { (service : Service) → StandsFor store.old self.old service →
+            StandsFor store.new self.new (serve service caller (OnHandle op (OutputKey attributes.now)) Plain).service }
+        ensures reply { (service : Service) → StandsFor store.old self.old service →
+            id_reply result ≡ (serve service caller (OnHandle op (OutputKey attributes.now)) Plain).reply }
+    {
+        let cell = &mut self.cells[place(caller, op)];
+        if !cell.has_key(store) {
+            store.count();
+            return Err(cell.derivation.lose_key());
+        }
+        let mut bytes = [0; 1025];
+        let length = match cell
+            .derivation
+            .key_derivation_output_key(attributes, &mut bytes)
+        {
+            Ok(length) => length,
+            Err(status) => {
+                store.count();
+                return Err(status);
+            }
+        };
+        match create(store, caller, attributes, &mut bytes, length) {
+            Ok(id) => Ok(id),
+            Err(status) => {
+                cell.derivation.fail();
+                Err(status)
+            }
+        }
+    }
+
+    /// Takes as many bytes as were expected, and compares them.
+    pub fn key_derivation_verify_bytes(
+        &mut self,
+        store: &mut Store,
+        caller: u8,
+        op: Op,
+        expected: &[u8],
+    ) -> Result<(), Status>
+        requires first { 1 ≤ caller }
+        requires last { caller ≤ 16 }
+        requires turns { store.old.calls < 2 ^ 62 }
+        ensures stands { (service : Service) → StandsFor store.old self.old service →
+            StandsFor store.new self.new (serve service caller (OnHandle op (OnDerivation (VerifyBytes expected.now))) Plain).service }
+        ensures reply { (service : Service) → StandsFor store.old self.old service →
+            plain_reply result ≡ (serve service caller (OnHandle op (OnDerivation (VerifyBytes expected.now))) Plain).reply }
+    {
+        store.count();
+        let cell = &mut self.cells[place(caller, op)];
+        if !cell.has_key(store) {
+            return Err(cell.derivation.lose_key());
+        }
+        cell.derivation.key_derivation_verify_bytes(expected)
+    }
+}
