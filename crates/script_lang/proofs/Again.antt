@@ -8,13 +8,25 @@ use Rattle.script_lang.specs.Table.{Shape, shape_of, command_named}
 use Rattle.script_lang.specs.Fields.{Fields, field_name, field_named, is_allowed, has_field, read_field, read_fields}
 use Rattle.script_lang.specs.Lines.{Places, Read, no_words, with_word, read_fixed, parts_at, words_at, is_comment, line_at}
 use Rattle.script_lang.specs.Grammar.{IsField, AreFields, IsFixed, AreFixed, IsLine, IsStep, IsStepBy}
-use Rattle.script_lang.proofs.Texts.{name_again, key_again, value_again, session_again}
+use Rattle.script_lang.proofs.Texts.{name_again, key_again, handle_again, value_again, session_again}
 use Rattle.script_lang.specs.declared.fields.Field.{Field}
 use Rattle.script_lang.specs.declared.fields.Field.TheVariants as field
 use Rattle.script_lang.specs.declared.fields.FieldValue.{FieldValue}
 use Rattle.script_lang.specs.declared.fixed.Fixed.{Fixed}
-use Rattle.script_lang.specs.declared.table.Command.{Command}
-use Rattle.script_lang.specs.declared.table.Command.TheVariants as command
+use Rattle.script_lang.specs.declared.commands.Command.{Command}
+use Rattle.script_lang.specs.declared.commands.Command.TheVariants as command
+use Rattle.script_lang.specs.declared.commands.HandleCommand.TheVariants as on_handle
+use Rattle.script_lang.specs.declared.commands.CreationCommand.TheVariants as creation
+use Rattle.script_lang.specs.declared.commands.KeyCommand.TheVariants as key
+use Rattle.script_lang.specs.declared.commands.HashCommand.TheVariants as hash
+use Rattle.script_lang.specs.declared.commands.MacCommand.TheVariants as mac
+use Rattle.script_lang.specs.declared.commands.CipherCommand.TheVariants as cipher
+use Rattle.script_lang.specs.declared.commands.AeadCommand.TheVariants as aead
+use Rattle.script_lang.specs.declared.commands.HashStepCommand.TheVariants as hash_step
+use Rattle.script_lang.specs.declared.commands.MacStepCommand.TheVariants as mac_step
+use Rattle.script_lang.specs.declared.commands.CipherStepCommand.TheVariants as cipher_step
+use Rattle.script_lang.specs.declared.commands.AeadStepCommand.TheVariants as aead_step
+use Rattle.script_lang.specs.declared.commands.DerivationStepCommand.TheVariants as derivation_step
 use Rattle.script_lang.specs.declared.table.Kind.{Kind}
 use Rattle.script_lang.specs.declared.table.Kind.TheVariants as kind
 
@@ -32,6 +44,14 @@ cut_name field.Hash text = refl
 cut_name field.Mac text = refl
 cut_name field.Nonce text = refl
 cut_name field.Ad text = refl
+cut_name field.Iv text = refl
+cut_name field.Tag text = refl
+cut_name field.AdLength text = refl
+cut_name field.PlainLength text = refl
+cut_name field.Capacity text = refl
+cut_name field.Value text = refl
+cut_name field.Length text = refl
+cut_name field.Step text = refl
 
 pub field_again : (f : Field) → field_named (field_name f) ≡ Some f
 field_again field.Type = refl
@@ -46,23 +66,65 @@ field_again field.Hash = refl
 field_again field.Mac = refl
 field_again field.Nonce = refl
 field_again field.Ad = refl
+field_again field.Iv = refl
+field_again field.Tag = refl
+field_again field.AdLength = refl
+field_again field.PlainLength = refl
+field_again field.Capacity = refl
+field_again field.Value = refl
+field_again field.Length = refl
+field_again field.Step = refl
 
 -- a command's word names that command alone
 pub command_again : (c : Command) → command_named (shape_of c).word ≡ Some c
-command_again command.Import = refl
-command_again command.Copy = refl
-command_again command.Destroy = refl
-command_again command.Attributes = refl
-command_again command.Export = refl
-command_again command.Generate = refl
-command_again command.HashCompute = refl
-command_again command.HashCompare = refl
-command_again command.MacCompute = refl
-command_again command.MacVerify = refl
-command_again command.CipherEncrypt = refl
-command_again command.CipherDecrypt = refl
-command_again command.AeadEncrypt = refl
-command_again command.AeadDecrypt = refl
+command_again (command.Create creation.Import) = refl
+command_again (command.Create creation.Copy) = refl
+command_again (command.Create creation.Generate) = refl
+command_again (command.Key key.Destroy) = refl
+command_again (command.Key key.Attributes) = refl
+command_again (command.Key key.Export) = refl
+command_again (command.Hash hash.Compute) = refl
+command_again (command.Hash hash.Compare) = refl
+command_again (command.Mac mac.Compute) = refl
+command_again (command.Mac mac.Verify) = refl
+command_again (command.Cipher cipher.Encrypt) = refl
+command_again (command.Cipher cipher.Decrypt) = refl
+command_again (command.Aead aead.Encrypt) = refl
+command_again (command.Aead aead.Decrypt) = refl
+command_again (command.OnHandle (on_handle.Hash hash_step.Setup)) = refl
+command_again (command.OnHandle (on_handle.Hash hash_step.Update)) = refl
+command_again (command.OnHandle (on_handle.Hash hash_step.Finish)) = refl
+command_again (command.OnHandle (on_handle.Hash hash_step.Verify)) = refl
+command_again (command.OnHandle (on_handle.Mac mac_step.SignSetup)) = refl
+command_again (command.OnHandle (on_handle.Mac mac_step.VerifySetup)) = refl
+command_again (command.OnHandle (on_handle.Mac mac_step.Update)) = refl
+command_again (command.OnHandle (on_handle.Mac mac_step.SignFinish)) = refl
+command_again (command.OnHandle (on_handle.Mac mac_step.VerifyFinish)) = refl
+command_again (command.OnHandle (on_handle.Cipher cipher_step.EncryptSetup)) = refl
+command_again (command.OnHandle (on_handle.Cipher cipher_step.DecryptSetup)) = refl
+command_again (command.OnHandle (on_handle.Cipher cipher_step.GenerateIv)) = refl
+command_again (command.OnHandle (on_handle.Cipher cipher_step.SetIv)) = refl
+command_again (command.OnHandle (on_handle.Cipher cipher_step.Update)) = refl
+command_again (command.OnHandle (on_handle.Cipher cipher_step.Finish)) = refl
+command_again (command.OnHandle (on_handle.Aead aead_step.EncryptSetup)) = refl
+command_again (command.OnHandle (on_handle.Aead aead_step.DecryptSetup)) = refl
+command_again (command.OnHandle (on_handle.Aead aead_step.GenerateNonce)) = refl
+command_again (command.OnHandle (on_handle.Aead aead_step.SetNonce)) = refl
+command_again (command.OnHandle (on_handle.Aead aead_step.SetLengths)) = refl
+command_again (command.OnHandle (on_handle.Aead aead_step.UpdateAd)) = refl
+command_again (command.OnHandle (on_handle.Aead aead_step.Update)) = refl
+command_again (command.OnHandle (on_handle.Aead aead_step.Finish)) = refl
+command_again (command.OnHandle (on_handle.Aead aead_step.Verify)) = refl
+command_again (command.OnHandle (on_handle.Derivation derivation_step.Setup)) = refl
+command_again (command.OnHandle (on_handle.Derivation derivation_step.GetCapacity)) = refl
+command_again (command.OnHandle (on_handle.Derivation derivation_step.SetCapacity)) = refl
+command_again (command.OnHandle (on_handle.Derivation derivation_step.InputBytes)) = refl
+command_again (command.OnHandle (on_handle.Derivation derivation_step.InputInteger)) = refl
+command_again (command.OnHandle (on_handle.Derivation derivation_step.InputKey)) = refl
+command_again (command.OnHandle (on_handle.Derivation derivation_step.OutputBytes)) = refl
+command_again (command.OnHandle (on_handle.Derivation derivation_step.OutputKey)) = refl
+command_again (command.OnHandle (on_handle.Derivation derivation_step.VerifyBytes)) = refl
+command_again (command.OnHandle on_handle.Abort) = refl
 
 pub one_again : (row : Shape) (done : Fields) (w : List ℕ) (f : Field × FieldValue) → IsField w f → is_allowed row f.0 ≡ true → has_field done f.0 ≡ false → read_field row done w ≡ Ok f
 unfolding read_field
@@ -80,6 +142,7 @@ pub word_again : (places : Places) (k : Kind) (fixed : Fixed) (w : List ℕ) (ne
 unfolding with_word
 word_again places kind.Name fixed w next h = rw (name_again w h.0) (ap Ok h.1)
 word_again places kind.Key fixed w next h = rw (key_again places w h.0 h.1) (ap Ok h.2)
+word_again places kind.Handle fixed w next h = rw (handle_again w h.0 h.1) (ap Ok h.2)
 
 pub fixed_again : (places : Places) (ks : List Kind) (fixed : Fixed) (front rest : List (List ℕ)) (last : Fixed) → AreFixed places ks fixed front last →
     read_fixed places ks fixed (front ++ rest) ≡ Ok (last, rest)

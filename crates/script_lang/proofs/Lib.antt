@@ -11,3 +11,4 @@ mod TextLines
 mod Texts
 mod Whole
 mod WholeMeans
+mod Within

@@ -6,19 +6,20 @@ use Rattle.std.proofs.lemmas.Bool.Decides.{nat_tests}
 use Rattle.std.proofs.lemmas.Slice.Eq.{bytes_eq-Decides}
 use Rattle.script_lang.specs.Pieces.{cut_of, onto_front, words}
 use Rattle.script_lang.specs.Steps.{◌>>=◌, demand, some_or}
-use Rattle.script_lang.specs.Table.{Shape, shape_of, has_word, commands, command_named}
+use Rattle.script_lang.specs.Commands.{commands}
+use Rattle.script_lang.specs.Table.{Shape, shape_of, has_word, command_named}
 use Rattle.script_lang.specs.Calls.{call_of}
 use Rattle.script_lang.specs.Fields.{Fields, all_fields, has_name, field_name, field_named, field_value, is_allowed, has_field, has_required, read_field, read_fields}
-use Rattle.script_lang.specs.Lines.{Places, Read, is_name, key_at, session_of, no_words, with_word, read_fixed, with_call, parts_at, words_at, is_comment, line_at}
+use Rattle.script_lang.specs.Lines.{Places, Read, is_name, key_at, handle_at, session_of, no_words, with_word, read_fixed, with_call, parts_at, words_at, is_comment, line_at}
 use Rattle.script_lang.specs.Grammar.{IsField, AreFields, IsFixed, AreFixed, IsLine, IsStep, IsStepBy}
-use Rattle.script_lang.proofs.Texts.{some_is, fine, fine_is, some_or_ok, name_means, key_means, value_means, session_means}
+use Rattle.script_lang.proofs.Texts.{some_is, fine, fine_is, some_or_ok, name_means, key_means, handle_means, value_means, session_means}
 use Rattle.script_lang.specs.declared.faults.Reason.{Reason}
 use Rattle.script_lang.specs.declared.faults.Reason.TheVariants.{BadSession, UnknownCommand, BadName, MissingField, UnknownField, RepeatedField}
 use Rattle.script_lang.specs.declared.fields.Field.{Field}
 use Rattle.script_lang.specs.declared.fields.FieldValue.{FieldValue}
 use Rattle.script_lang.specs.declared.fixed.Fixed.{Fixed}
 use Rattle.script_lang.specs.declared.script.ScriptCall.{ScriptCall}
-use Rattle.script_lang.specs.declared.table.Command.{Command}
+use Rattle.script_lang.specs.declared.commands.Command.{Command}
 use Rattle.script_lang.specs.declared.table.Kind.{Kind}
 use Rattle.script_lang.specs.declared.table.Kind.TheVariants as kind
 
@@ -107,6 +108,9 @@ word_read places kind.Name fixed w next e =
 word_read places kind.Key fixed w next e =
     let a = bind_ok (key_at places w) (λ key. Ok (record fixed { key = key })) next e in
     (a.0, key_means places w a.0 a.1, fine_is (record fixed { key = a.0 }) next a.2)
+word_read places kind.Handle fixed w next e =
+    let a = bind_ok (handle_at w) (λ handle. Ok (record fixed { handle = handle })) next e in
+    (a.0, handle_means w a.0 a.1, fine_is (record fixed { handle = a.0 }) next a.2)
 
 pub fixed_read : (places : Places) (ks : List Kind) (fixed : Fixed) (ws : List (List ℕ)) (p : Fixed × List (List ℕ)) →
     read_fixed places ks fixed ws ≡ Ok p → (front : List (List ℕ)) × (ws ≡ front ++ p.1) × AreFixed places ks fixed front p.0
@@ -156,6 +160,12 @@ parts_read places command ws parts e =
 pub named_read : (name : List ℕ) (c : Command) → command_named name ≡ Some c → (shape_of c).word ≡ name
 named_read name c e = (bytes_eq-Decides (shape_of c).word name).0 (find_test (has_word name) commands c e)
 
+line_joined : (w word name : List ℕ) (ws front back : List (List ℕ)) → word ≡ name → ws ≡ front ++ back → w ∷ name ∷ ws ≡ w ∷ word ∷ front ++ back
+line_joined w word name ws front back e h = ap (λ (n : List ℕ). w ∷ n ∷ ws) (sym e) ∙ ap (λ (xs : List (List ℕ)). w ∷ word ∷ xs) h
+
+with_said : (read next : Read) (s : ℕ) (parts said : Option (List ℕ) × ScriptCall) → fine (with_call read s parts.0 parts.1) ≡ Ok next → said ≡ parts → next ≡ with_call read s said.0 said.1
+with_said read next s parts said e h = sym (fine_is (with_call read s parts.0 parts.1) next e) ∙ ap (λ (q : Option (List ℕ) × ScriptCall). with_call read s q.0 q.1) (sym h)
+
 line_read : (read next : Read) (w : List ℕ) (ws : List (List ℕ)) → words_at read (w ∷ ws) ≡ Ok next → IsLine read (w ∷ ws) next
 unfolding words_at
 line_read read next w [] e =
@@ -178,11 +188,11 @@ line_read read next w (name ∷ ws) e =
       fixed_words = r.fixed_words;
       field_words = r.field_words;
       is_session = session_means w a.0 (some_or_ok BadSession (session_of w) a.0 a.1);
-      line = ap (λ (n : List ℕ). w ∷ n ∷ ws) (sym (named_read name c.0 (some_or_ok UnknownCommand (command_named name) c.0 c.1))) ∙ ap (λ (xs : List (List ℕ)). w ∷ (shape_of c.0).word ∷ xs) r.joined;
+      line = line_joined w (shape_of c.0).word name ws r.fixed_words r.field_words (named_read name c.0 (some_or_ok UnknownCommand (command_named name) c.0 c.1)) r.joined;
       are_fixed = r.are_fixed;
       are_fields = r.are_fields;
       all = r.all;
-      after = sym (fine_is (with_call read a.0 p.0.0 p.0.1) next p.2) ∙ ap (λ (q : Option (List ℕ) × ScriptCall). with_call read a.0 q.0 q.1) (sym r.said);
+      after = with_said read next a.0 p.0 (said_by c.0 r.fixed r.fields) p.2 r.said;
     }
 
 step_read : (read next : Read) (ws : List (List ℕ)) (b : Bool) → cond b (Ok read) (words_at read ws) ≡ Ok next → IsStepBy b read ws next

@@ -7,16 +7,16 @@ use Rattle.script_lang.specs.Pieces.{cut_of, words, text_lines}
 use Rattle.script_lang.specs.Steps.{◌>>=◌, demand, some_or}
 use Rattle.script_lang.specs.Table.{Shape, shape_of, command_named}
 use Rattle.script_lang.specs.Fields.{Fields, field_name, field_named, field_value, is_allowed, has_field, has_required, read_field, read_fields}
-use Rattle.script_lang.specs.Lines.{Places, Read, nothing_read, no_words, is_name, key_at, with_word, read_fixed, session_of, parts_at, words_at, line_at, goes_on, lines_at, script_of, with_call}
-use Rattle.script_lang.specs.Grammar.{IsValue, AreSteps}
+use Rattle.script_lang.specs.Lines.{Places, Read, nothing_read, no_words, is_name, key_at, handle_at, with_word, read_fixed, session_of, parts_at, words_at, line_at, goes_on, lines_at, script_of, with_call}
+use Rattle.script_lang.specs.Grammar.{IsValue, IsHandle, AreSteps}
 use Rattle.script_lang.specs.Outside.{IsBadFixed, AreBadFixed, IsBadValue, IsBadField, AreBadFields, AreBadAfter, IsBadCommand, AreBadWords, IsBadLine, IsFault}
-use Rattle.script_lang.proofs.Texts.{given, number_means, name_means, name_again, value_means, session_means, session_again, and_true}
+use Rattle.script_lang.proofs.Texts.{given, number_means, name_means, name_again, handle_means, value_means, session_means, session_again, and_true}
 use Rattle.script_lang.proofs.Means.{made, cut_joined, field_named_is, named_read, said_by}
 use Rattle.script_lang.proofs.Again.{cut_name, field_again, command_again, one_again, word_again, fixed_again, line_again}
-use Rattle.script_lang.proofs.OutsideMeans.{value_err, after_name, after_session}
+use Rattle.script_lang.proofs.OutsideMeans.{handle_err, value_err, after_name, after_session}
 use Rattle.script_lang.proofs.WholeMeans.{not_more}
 use Rattle.script_lang.specs.declared.faults.Reason.{Reason}
-use Rattle.script_lang.specs.declared.faults.Reason.TheVariants.{BadSession, UnknownCommand, BadName, BadKey, UnknownName, UnknownField, RepeatedField, BadValue, MissingField}
+use Rattle.script_lang.specs.declared.faults.Reason.TheVariants.{BadSession, UnknownCommand, BadHandle, BadName, BadKey, UnknownName, UnknownField, RepeatedField, BadValue, MissingField}
 use Rattle.script_lang.specs.declared.faults.ScriptFault.{ScriptFault}
 use Rattle.script_lang.specs.declared.faults.ScriptFault.TheVariants as faults
 use Rattle.script_lang.specs.declared.faults.ScriptFault.TheVariants.{TooLong, TooManyLines, BadLine}
@@ -24,7 +24,7 @@ use Rattle.script_lang.specs.declared.fields.Field.{Field}
 use Rattle.script_lang.specs.declared.fields.FieldValue.{FieldValue}
 use Rattle.script_lang.specs.declared.fixed.Fixed.{Fixed}
 use Rattle.script_lang.specs.declared.script.KeyWord.TheVariants.{Line}
-use Rattle.script_lang.specs.declared.table.Command.{Command}
+use Rattle.script_lang.specs.declared.commands.Command.{Command}
 use Rattle.script_lang.specs.declared.table.Kind.{Kind}
 use Rattle.script_lang.specs.declared.table.Kind.TheVariants as kind
 
@@ -72,11 +72,16 @@ key_unread places [] r (inr h) = absurd h.1
 key_unread places (c ∷ cs) r (inl h) = neither_turn places c cs r (c == 35) (c == 36 && is_name cs) refl refl (inl h) h.0
 key_unread places (c ∷ cs) r (inr h) = rw (h.1.0, name_again cs h.1.1, h.1.2) (ap Err (sym h.0))
 
+handle_unread : (word : List ℕ) (r : Reason) → r ≡ BadHandle → ((h : ℕ) → IsHandle word h → ⊥) → handle_at word ≡ Err r
+handle_unread word r is never =
+    let h = only_err (handle_at word) (λ v e. never v (handle_means word v e)) in h.1 ∙ ap Err (handle_err word h.0 h.1 ∙ sym is)
+
 word_unread : (places : Places) (k : Kind) (fixed : Fixed) (w : List ℕ) (r : Reason) → IsBadFixed places k w r → with_word places k fixed w ≡ Err r
 unfolding with_word
 word_unread places kind.Name fixed w r h =
     ap (λ b. demand b BadName >>= λ _. Ok (record fixed { name = Some w })) (not_yes (is_name w) (λ t. h.1 (name_means w t))) ∙ ap Err (sym h.0)
 word_unread places kind.Key fixed w r h = ap (λ x. x >>= λ key. Ok (record fixed { key = key })) (key_unread places w r h)
+word_unread places kind.Handle fixed w r h = ap (λ x. x >>= λ handle. Ok (record fixed { handle = handle })) (handle_unread w r h.0 h.1)
 
 fixed_unread : (places : Places) (ks : List Kind) (fixed : Fixed) (ws : List (List ℕ)) (r : Reason) → AreBadFixed places ks fixed ws r → read_fixed places ks fixed ws ≡ Err r
 unfolding read_fixed

@@ -1,30 +1,30 @@
 -- A text that isn't read is outside the grammar, at the line and for the reason that is answered.
-use Rattle.std.proofs.Common.{◌≡◌, ℕ, suc, ◌+◌, ◌<◌, ◌≤◌, Bool, true, false, cond, not, List, [], ◌∷◌, ◌++◌, length, refl, sym, ap, subst, ◌∙◌, arith, inl, inr, ◌⊎◌}
-use Rattle.std.specs.Prelude.{◌^◌, Option, Some, None, Result, Ok, Err, nat_lt, ◌==◌, ◌&&◌, option_map}
+use Rattle.std.proofs.Common.{◌≡◌, ℕ, suc, ◌+◌, ◌-◌, ◌<◌, ◌≤◌, Bool, true, false, cond, not, List, [], ◌∷◌, ◌++◌, length, refl, sym, ap, subst, ◌∙◌, arith, inl, inr, ◌⊎◌}
+use Rattle.std.specs.Prelude.{◌^◌, Option, Some, None, Result, Ok, Err, nat_lt, nat_le, ◌==◌, ◌&&◌, option_map}
 use Rattle.std.proofs.lemmas.Bool.Decides.{nat_tests}
 use Rattle.script_lang.specs.Numbers.{number}
 use Rattle.script_lang.specs.Pieces.{cut_of, words, text_lines}
 use Rattle.hex.specs.Hex.{decode_of}
 use Rattle.script_lang.specs.Steps.{◌>>=◌, demand, some_or, first_or, rest_of}
 use Rattle.script_lang.specs.Table.{Shape, shape_of, command_named}
-use Rattle.script_lang.specs.Fields.{Form, ShortForm, WordForm, BytesForm, form_of, form_value, bytes_or_none, bytes_value, Fields, field_name, field_named, field_value, is_allowed, has_field, has_required, read_field, read_fields}
-use Rattle.script_lang.specs.Lines.{Places, Read, nothing_read, no_words, is_name, key_at, with_word, read_fixed, session_of, parts_at, words_at, is_comment, line_at, goes_on, lines_at, script_of, with_call}
-use Rattle.script_lang.specs.Grammar.{AreSteps}
+use Rattle.script_lang.specs.Fields.{Form, ShortForm, WordForm, LongForm, BytesForm, form_of, form_value, from_least, bytes_or_none, bytes_value, Fields, field_name, field_named, field_value, is_allowed, has_field, has_required, read_field, read_fields}
+use Rattle.script_lang.specs.Lines.{Places, Read, nothing_read, no_words, is_name, key_at, handle_at, with_word, read_fixed, session_of, parts_at, words_at, is_comment, line_at, goes_on, lines_at, script_of, with_call}
+use Rattle.script_lang.specs.Grammar.{IsHandle, AreSteps}
 use Rattle.script_lang.specs.Outside.{IsBadFixed, AreBadFixed, IsBadValue, IsBadField, AreBadFields, AreBadAfter, IsBadCommand, AreBadWords, IsBadLine, IsFault}
-use Rattle.script_lang.proofs.Texts.{some_is, fine_is, number_again, name_means, name_again, value_again, session_means, session_again, some_or_ok, and_true, given}
+use Rattle.script_lang.proofs.Texts.{some_is, fine_is, number_again, name_means, name_again, handle_again, value_again, session_means, session_again, some_or_ok, and_true, given}
 use Rattle.script_lang.proofs.Means.{made, bind_ok, demand_ok, cut_joined, field_read, field_named_is, word_read, fixed_read, named_read, said_by, line_means}
 use Rattle.script_lang.proofs.Again.{cut_name, field_again, command_again}
 use Rattle.script_lang.specs.declared.faults.Reason.{Reason}
-use Rattle.script_lang.specs.declared.faults.Reason.TheVariants.{BadSession, UnknownCommand, MissingWord, BadName, BadKey, UnknownName, UnknownField, RepeatedField, BadValue, MissingField}
+use Rattle.script_lang.specs.declared.faults.Reason.TheVariants.{BadSession, UnknownCommand, MissingWord, BadHandle, BadName, BadKey, UnknownName, UnknownField, RepeatedField, BadValue, MissingField}
 use Rattle.script_lang.specs.declared.faults.ScriptFault.{ScriptFault}
 use Rattle.script_lang.specs.declared.faults.ScriptFault.TheVariants.{TooLong, TooManyLines, BadLine}
 use Rattle.script_lang.specs.declared.fields.Field.{Field}
 use Rattle.script_lang.specs.declared.fields.FieldValue.{FieldValue}
-use Rattle.script_lang.specs.declared.fields.FieldValue.TheVariants.{Short, Word, Bytes}
+use Rattle.script_lang.specs.declared.fields.FieldValue.TheVariants.{Short, Word, Long, Bytes}
 use Rattle.script_lang.specs.declared.fixed.Fixed.{Fixed}
 use Rattle.script_lang.specs.declared.script.KeyWord.TheVariants.{Line}
 use Rattle.script_lang.specs.declared.script.ScriptLine.{ScriptLine}
-use Rattle.script_lang.specs.declared.table.Command.{Command}
+use Rattle.script_lang.specs.declared.commands.Command.{Command}
 use Rattle.script_lang.specs.declared.table.Kind.{Kind}
 use Rattle.script_lang.specs.declared.table.Kind.TheVariants as kind
 
@@ -103,6 +103,22 @@ unfolding key_at
 key_bad places [] r e = inl (sym (wrong_is (Err BadKey) BadKey r refl e), λ h. h)
 key_bad places (c ∷ cs) r e = key_turn places c cs r (c == 35) (c == 36 && is_name cs) refl refl e
 
+-- handles
+
+digit_err : (c : ℕ) (r : Reason) (b : Bool) → cond b (Ok (c - 48)) (Err BadHandle) ≡ Err r → r ≡ BadHandle
+digit_err c r true e = absurd (not_both (Ok (c - 48)) (c - 48) r refl e)
+digit_err c r false e = sym (wrong_is (Err BadHandle) BadHandle r refl e)
+
+pub handle_err : (word : List ℕ) (r : Reason) → handle_at word ≡ Err r → r ≡ BadHandle
+handle_err [] r e = sym (wrong_is (Err BadHandle) BadHandle r refl e)
+handle_err (c ∷ []) r e = digit_err c r (nat_le 49 c && nat_le c 52) e
+handle_err (c ∷ d ∷ cs) r e = sym (wrong_is (Err BadHandle) BadHandle r refl e)
+
+handle_bad : (word : List ℕ) (r : Reason) → handle_at word ≡ Err r → (r ≡ BadHandle) × ((h : ℕ) → IsHandle word h → ⊥)
+handle_bad word r e = (handle_err word r e, λ h is. not_both (handle_at word) h r (handle_again word h is) e)
+
+-- fixed words
+
 word_bad : (places : Places) (k : Kind) (fixed : Fixed) (w : List ℕ) (r : Reason) → with_word places k fixed w ≡ Err r → IsBadFixed places k w r
 unfolding with_word
 word_bad places kind.Name fixed w r e =
@@ -114,6 +130,11 @@ word_bad places kind.Key fixed w r e =
     elim (bind_err (key_at places w) (λ key. Ok (record fixed { key = key })) r e) [
       | inl h ↦ key_bad places w r h
       | inr h ↦ absurd (not_both (Ok (record fixed { key = h.0 })) (record fixed { key = h.0 }) r refl h.2)
+    ]
+word_bad places kind.Handle fixed w r e =
+    elim (bind_err (handle_at w) (λ handle. Ok (record fixed { handle = handle })) r e) [
+      | inl h ↦ handle_bad w r h
+      | inr h ↦ absurd (not_both (Ok (record fixed { handle = h.0 })) (record fixed { handle = h.0 }) r refl h.2)
     ]
 
 fixed_bad : (places : Places) (ks : List Kind) (fixed : Fixed) (ws : List (List ℕ)) (r : Reason) → read_fixed places ks fixed ws ≡ Err r → AreBadFixed places ks fixed ws r
@@ -138,8 +159,9 @@ long_err text r false e = bytes_err (decode_of text) r e
 
 form_err : (form : Form) (text : List ℕ) (r : Reason) → form_value form text ≡ Err r → r ≡ BadValue
 unfolding bytes_value
-form_err (ShortForm base most limit) text r e = (some_or_err BadValue r (option_map Short (number base most limit text)) e).1
+form_err (ShortForm base most least limit) text r e = (some_or_err BadValue r (option_map Short (from_least least (number base most limit text))) e).1
 form_err WordForm text r e = (some_or_err BadValue r (option_map Word (number 16 8 (2 ^ 32) text)) e).1
+form_err LongForm text r e = (some_or_err BadValue r (option_map Long (number 10 20 (2 ^ 64) text)) e).1
 form_err BytesForm text r e = long_err text r (nat_lt 32768 (length text)) e
 
 pub value_err : (f : Field) (text : List ℕ) (r : Reason) → field_value f text ≡ Err r → r ≡ BadValue

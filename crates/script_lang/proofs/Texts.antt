@@ -1,5 +1,5 @@
 -- Numbers, sessions, names, keys and values: what is read of a text is what the grammar says of it.
-use Rattle.std.proofs.Common.{◌≡◌, ℕ, ◌+◌, ◌*◌, ◌^◌, ◌<◌, ◌≤◌, Bool, true, false, cond, List, [], ◌∷◌, length, get_or, refl, sym, ap, subst, ◌∙◌, arith}
+use Rattle.std.proofs.Common.{◌≡◌, ℕ, ◌+◌, ◌-◌, ◌*◌, ◌^◌, ◌<◌, ◌≤◌, Bool, true, false, cond, List, [], ◌∷◌, length, get_or, refl, sym, ap, subst, ◌∙◌, arith}
 use Rattle.std.specs.Prelude.{Option, Some, None, Result, Ok, Err, nat_lt, nat_le, ◌||◌, ◌&&◌, ◌==◌, option_and_then, option_map}
 use Rattle.std.specs.List.{list_all}
 use Rattle.std.specs.Char.{digit_value}
@@ -8,19 +8,19 @@ use Rattle.std.specs.Str.Parse.{AllDigits, digits_value, digits_value_after}
 use Rattle.hex.specs.Hex.{decode_of}
 use Rattle.std.proofs.lemmas.Bool.Decides.{nat_tests}
 use Rattle.std.proofs.lemmas.List.Sums.{AllPass-from_list_all, list_all-from_AllPass}
-use Rattle.std.proofs.lemmas.Fmt.{decimal_is_IsNumeral, length-decimal-le, first_decimal, decimal-digits_value}
+use Rattle.std.proofs.lemmas.Fmt.{decimal_is_IsNumeral, length-decimal-le, first_decimal, decimal-digits_value, decimal_digit}
 use Rattle.std.proofs.lemmas.Str.Parse.{IsNumeralModel}
 use Rattle.script_lang.proofs.Digits.{if_below, number_is, found}
 use Rattle.script_lang.specs.Numbers.{number_from, number}
 use Rattle.script_lang.specs.Steps.{some_or}
-use Rattle.script_lang.specs.Fields.{Form, ShortForm, WordForm, BytesForm, form_of, form_value, field_value, bytes_value, bytes_or_none}
-use Rattle.script_lang.specs.Lines.{Places, is_letter, is_name_byte, is_name, key_at, starts_with_zero, session_of}
-use Rattle.script_lang.specs.Grammar.{IsNumber, IsShort, IsWord, AreBytes, IsForm, IsValue, IsLetter, IsNameByte, IsName, IsKey, IsSession}
+use Rattle.script_lang.specs.Fields.{Form, ShortForm, WordForm, LongForm, BytesForm, form_of, from_least, form_value, field_value, bytes_value, bytes_or_none}
+use Rattle.script_lang.specs.Lines.{Places, is_letter, is_name_byte, is_name, handle_at, key_at, starts_with_zero, session_of}
+use Rattle.script_lang.specs.Grammar.{IsNumber, IsShort, IsWord, IsLong, AreBytes, IsForm, IsValue, IsLetter, IsNameByte, IsName, IsKey, IsHandle, IsSession}
 use Rattle.script_lang.specs.declared.faults.Reason.{Reason}
-use Rattle.script_lang.specs.declared.faults.Reason.TheVariants.{BadValue, BadKey, UnknownName}
+use Rattle.script_lang.specs.declared.faults.Reason.TheVariants.{BadValue, BadHandle, BadKey, UnknownName}
 use Rattle.script_lang.specs.declared.fields.Field.{Field}
 use Rattle.script_lang.specs.declared.fields.FieldValue.{FieldValue}
-use Rattle.script_lang.specs.declared.fields.FieldValue.TheVariants.{Short, Word, Bytes}
+use Rattle.script_lang.specs.declared.fields.FieldValue.TheVariants.{Short, Word, Long, Bytes}
 use Rattle.script_lang.specs.declared.script.KeyWord.{KeyWord}
 use Rattle.script_lang.specs.declared.script.KeyWord.TheVariants.{Given, Line}
 
@@ -224,7 +224,46 @@ key_again places [] key h = absurd h
 key_again places (c ∷ cs) (Given id) h = rw (h.0, number_again 16 8 (2 ^ 32) cs id.0 h.1) refl
 key_again places (c ∷ cs) (Line place) h = rw (h.0, name_again cs h.1, h.2) refl
 
+-- handles
+
+handle_turn : (c h : ℕ) (b : Bool) → (nat_le 49 c && nat_le c 52) ≡ b → cond b (fine (c - 48)) (Err BadHandle) ≡ Ok h → IsHandle (c ∷ []) h
+handle_turn c h true t e =
+    let is : c - 48 ≡ h = fine_is (c - 48) h e in
+    let within = in_range c t in
+    let digit : 48 + h ≡ c = omega (arith, is, within.0) in
+    let small : h < 10 = omega (arith, is, within.1) in
+    (sym (decimal_digit h small ∙ ap (λ d. d ∷ []) digit), omega (arith, is, within.0), omega (arith, is, within.1))
+  where
+    in_range : (c : ℕ) → (nat_le 49 c && nat_le c 52) ≡ true → (49 ≤ c) × (c ≤ 52)
+    in_range c t = grind (arith, nat_tests)
+handle_turn c h false t e = absurd cc
+
+pub handle_means : (word : List ℕ) (h : ℕ) → handle_at word ≡ Ok h → IsHandle word h
+handle_means [] h e = absurd cc
+handle_means (c ∷ []) h e = handle_turn c h (nat_le 49 c && nat_le c 52) refl e
+handle_means (c ∷ d ∷ cs) h e = absurd cc
+
+pub handle_again : (word : List ℕ) (h : ℕ) → IsHandle word h → handle_at word ≡ Ok h
+handle_again word h is =
+    let small : h < 10 = omega (arith, is.2) in
+    let same : 48 + h - 48 ≡ h = omega arith in
+    ap handle_at (is.0 ∙ decimal_digit h small) ∙ ap (λ b. cond b (fine (48 + h - 48)) (Err BadHandle)) (in_range h is.1 is.2) ∙ ap fine same
+  where
+    in_range : (h : ℕ) → 1 ≤ h → h ≤ 4 → (nat_le 49 (48 + h) && nat_le (48 + h) 52) ≡ true
+    in_range h a b = grind (arith, nat_tests)
+
 -- values
+
+least_turn : (least m n : ℕ) (b : Bool) → nat_le least m ≡ b → cond b (Some m) None ≡ Some n → (m ≡ n) × (least ≤ n)
+least_turn least m n true t e = let same : m ≡ n = some_is m n e in (same, subst (λ k. least ≤ k) same (grind (arith, nat_tests)))
+least_turn least m n false t e = absurd cc
+
+from_least_ok : (least n : ℕ) (o : Option ℕ) → from_least least o ≡ Some n → (o ≡ Some n) × (least ≤ n)
+from_least_ok least n None e = absurd cc
+from_least_ok least n (Some m) e = let h = least_turn least m n (nat_le least m) refl e in (ap some h.0, h.1)
+
+from_least_again : (least n : ℕ) → least ≤ n → from_least least (Some n) ≡ Some n
+from_least_again least n h = let t : nat_le least n ≡ true = grind (arith, nat_tests) in ap (λ b. cond b (Some n) None) t
 
 bytes_ok : {E : Type 0} (r : Result (List ℕ) E) (v : FieldValue) → bytes_or_none r ≡ Ok v → (bytes : List ℕ) × (r ≡ Ok bytes) × (Bytes bytes ≡ v)
 bytes_ok (Ok bytes) v e = (bytes, refl, fine_is (Bytes bytes) v e)
@@ -241,24 +280,37 @@ bytes_turn text v false t e =
 
 form_means : (form : Form) (text : List ℕ) (v : FieldValue) → form_value form text ≡ Ok v → IsForm form text v
 unfolding bytes_value
-form_means (ShortForm base most limit) text v e =
-    let m = mapped Short (number base most limit text) v (some_or_ok BadValue (option_map Short (number base most limit text)) v e) in
-    subst (IsShort base most limit text) m.2 (number_means base most limit text m.0 m.1)
+form_means (ShortForm base most least limit) text v e =
+    let m = mapped Short (from_least least (number base most limit text)) v (some_or_ok BadValue (option_map Short (from_least least (number base most limit text))) v e) in
+    let l = from_least_ok least m.0 (number base most limit text) m.1 in
+    subst (IsShort base most least limit text) m.2 (number_means base most limit text m.0 l.0, l.1)
 form_means WordForm text v e =
     let m = mapped Word (number 16 8 (2 ^ 32) text) v (some_or_ok BadValue (option_map Word (number 16 8 (2 ^ 32) text)) v e) in
     subst (IsWord text) m.2 (number_means 16 8 (2 ^ 32) text m.0 m.1)
+form_means LongForm text v e =
+    let m = mapped Long (number 10 20 (2 ^ 64) text) v (some_or_ok BadValue (option_map Long (number 10 20 (2 ^ 64) text)) v e) in
+    subst (IsLong text) m.2 (number_means 10 20 (2 ^ 64) text m.0 m.1)
 form_means BytesForm text v e = bytes_turn text v (nat_lt 32768 (length text)) refl e
 
 form_again : (form : Form) (text : List ℕ) (v : FieldValue) → IsForm form text v → form_value form text ≡ Ok v
 unfolding bytes_value
-form_again (ShortForm base most limit) text (Short n) h = ap (λ o. some_or BadValue (option_map Short o)) (number_again base most limit text n h)
-form_again (ShortForm base most limit) text (Word n) h = absurd h
-form_again (ShortForm base most limit) text (Bytes b) h = absurd h
+form_again (ShortForm base most least limit) text (Short n) h =
+    ap (λ o. some_or BadValue (option_map Short (from_least least o))) (number_again base most limit text n h.0)
+    ∙ ap (λ o. some_or BadValue (option_map Short o)) (from_least_again least n h.1)
+form_again (ShortForm base most least limit) text (Word n) h = absurd h
+form_again (ShortForm base most least limit) text (Long n) h = absurd h
+form_again (ShortForm base most least limit) text (Bytes b) h = absurd h
 form_again WordForm text (Short n) h = absurd h
 form_again WordForm text (Word n) h = ap (λ o. some_or BadValue (option_map Word o)) (number_again 16 8 (2 ^ 32) text n h)
+form_again WordForm text (Long n) h = absurd h
 form_again WordForm text (Bytes b) h = absurd h
+form_again LongForm text (Short n) h = absurd h
+form_again LongForm text (Word n) h = absurd h
+form_again LongForm text (Long n) h = ap (λ o. some_or BadValue (option_map Long o)) (number_again 10 20 (2 ^ 64) text n h)
+form_again LongForm text (Bytes b) h = absurd h
 form_again BytesForm text (Short n) h = absurd h
 form_again BytesForm text (Word n) h = absurd h
+form_again BytesForm text (Long n) h = absurd h
 form_again BytesForm text (Bytes b) h = rw (at_most (length text) h.0, h.1) refl
   where
     at_most : (n : ℕ) → n ≤ 32768 → nat_lt 32768 n ≡ false

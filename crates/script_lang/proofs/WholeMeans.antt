@@ -23,7 +23,7 @@ goes_ok : (r : Result Read Reason) (n : ℕ) (f : Read → Result (List ScriptLi
 goes_ok (Ok next) n f calls e = (next, refl, e)
 goes_ok (Err r) n f calls e = absurd cc
 
-lines_mean : (n : ℕ) (read : Read) (texts : List (List ℕ)) (calls : List ScriptLine) → lines_at n read texts ≡ told calls →
+pub lines_mean : (n : ℕ) (read : Read) (texts : List (List ℕ)) (calls : List ScriptLine) → lines_at n read texts ≡ told calls →
     (last : Read) × AreSteps read texts last × (last.lines ≡ calls)
 unfolding lines_at
 lines_mean n read [] calls e = (read, refl, told_is read.lines calls e)

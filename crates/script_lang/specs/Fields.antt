@@ -1,5 +1,5 @@
 -- The fields of a line.
-use Rattle.std.specs.Prelude.{ℕ, ◌^◌, Bool, not, nat_lt, ◌==◌, List, [], ◌∷◌, ◌++◌, length, if◌then◌else◌, ◌||◌, Option, Some, option_map, find, Result, Ok, Err, codes}
+use Rattle.std.specs.Prelude.{ℕ, ◌^◌, Bool, not, nat_lt, nat_le, ◌==◌, List, [], ◌∷◌, ◌++◌, length, if◌then◌else◌, ◌||◌, Option, Some, None, option_map, find, Result, Ok, Err, codes}
 use Rattle.std.specs.List.{list_any, list_all}
 use Rattle.std.specs.Str.{bytes_eq}
 use Rattle.hex.specs.Hex.{decode_of}
@@ -12,7 +12,7 @@ use Rattle.script_lang.specs.declared.faults.Reason.TheVariants.{UnknownField, R
 use Rattle.script_lang.specs.declared.fields.Field.{Field}
 use Rattle.script_lang.specs.declared.fields.Field.TheVariants as field
 use Rattle.script_lang.specs.declared.fields.FieldValue.{FieldValue}
-use Rattle.script_lang.specs.declared.fields.FieldValue.TheVariants.{Short, Word, Bytes}
+use Rattle.script_lang.specs.declared.fields.FieldValue.TheVariants.{Short, Word, Long, Bytes}
 
 -- fields are told apart by a number each
 abbrev pub field_number : Field → ℕ
@@ -28,6 +28,14 @@ field_number field.Hash = 8
 field_number field.Mac = 9
 field_number field.Nonce = 10
 field_number field.Ad = 11
+field_number field.Iv = 12
+field_number field.Tag = 13
+field_number field.AdLength = 14
+field_number field.PlainLength = 15
+field_number field.Capacity = 16
+field_number field.Value = 17
+field_number field.Length = 18
+field_number field.Step = 19
 
 abbrev pub field_name : Field → List ℕ
 field_name field.Type = codes "type"
@@ -42,6 +50,14 @@ field_name field.Hash = codes "hash"
 field_name field.Mac = codes "mac"
 field_name field.Nonce = codes "nonce"
 field_name field.Ad = codes "ad"
+field_name field.Iv = codes "iv"
+field_name field.Tag = codes "tag"
+field_name field.AdLength = codes "ad_len"
+field_name field.PlainLength = codes "plain_len"
+field_name field.Capacity = codes "capacity"
+field_name field.Value = codes "value"
+field_name field.Length = codes "len"
+field_name field.Step = codes "step"
 
 abbrev pub all_fields : List Field
 all_fields =
@@ -57,6 +73,14 @@ all_fields =
     ∷ field.Mac
     ∷ field.Nonce
     ∷ field.Ad
+    ∷ field.Iv
+    ∷ field.Tag
+    ∷ field.AdLength
+    ∷ field.PlainLength
+    ∷ field.Capacity
+    ∷ field.Value
+    ∷ field.Length
+    ∷ field.Step
     ∷ []
 
 abbrev pub has_name : List ℕ → Field → Bool
@@ -80,32 +104,48 @@ has_field done f = list_any (λ g. field_number g.0 == field_number f) done
 abbrev pub has_required : Shape → Fields → Bool
 has_required row done = list_all (has_field done) row.required
 
--- What the text of a field is: a number of at most so many digits of a base and below a limit (of 16 bits, or
--- of 32 bits in hex), or bytes.
+-- What the text of a field is: a number of at most so many digits of a base, from the least and below a limit
+-- (of 16 bits; of 32 bits in hex; of 64 bits in decimal), or bytes.
 pub data Form : Type 0 where
-  ShortForm : (base most limit : ℕ) → Form
+  ShortForm : (base most least limit : ℕ) → Form
   WordForm : Form
+  LongForm : Form
   BytesForm : Form
 
 abbrev pub form_of : Field → Form
-form_of field.Type = ShortForm 16 4 (2 ^ 16)
+form_of field.Type = ShortForm 16 4 0 (2 ^ 16)
 form_of field.Usage = WordForm
 form_of field.Alg = WordForm
 form_of field.Data = BytesForm
 form_of field.Life = WordForm
 form_of field.Id = WordForm
-form_of field.Bits = ShortForm 10 20 (2 ^ 16)
-form_of field.Room = ShortForm 10 20 16449
+form_of field.Bits = ShortForm 10 20 0 (2 ^ 16)
+form_of field.Room = ShortForm 10 20 0 16449
 form_of field.Hash = BytesForm
 form_of field.Mac = BytesForm
 form_of field.Nonce = BytesForm
 form_of field.Ad = BytesForm
+form_of field.Iv = BytesForm
+form_of field.Tag = BytesForm
+form_of field.AdLength = LongForm
+form_of field.PlainLength = LongForm
+form_of field.Capacity = LongForm
+form_of field.Value = LongForm
+form_of field.Length = ShortForm 10 20 1 16385
+form_of field.Step = ShortForm 16 4 0 (2 ^ 16)
 
-abbrev pub short_value : ℕ → ℕ → ℕ → List ℕ → Result FieldValue Reason
-short_value base most limit text = some_or BadValue (option_map Short (number base most limit text))
+abbrev pub from_least : ℕ → Option ℕ → Option ℕ
+from_least least None = None
+from_least least (Some n) = if nat_le least n then Some n else None
+
+abbrev pub short_value : (base most least limit : ℕ) → List ℕ → Result FieldValue Reason
+short_value base most least limit text = some_or BadValue (option_map Short (from_least least (number base most limit text)))
 
 abbrev pub word_value : List ℕ → Result FieldValue Reason
 word_value text = some_or BadValue (option_map Word (number 16 8 (2 ^ 32) text))
+
+abbrev pub long_value : List ℕ → Result FieldValue Reason
+long_value text = some_or BadValue (option_map Long (number 10 20 (2 ^ 64) text))
 
 abbrev pub bytes_or_none : {E : Type 0} → Result (List ℕ) E → Result FieldValue Reason
 bytes_or_none (Ok bytes) = Ok (Bytes bytes)
@@ -116,8 +156,9 @@ unfoldable pub bytes_value : List ℕ → Result FieldValue Reason
 bytes_value text = if nat_lt 32768 (length text) then Err BadValue else bytes_or_none (decode_of text)
 
 abbrev pub form_value : Form → List ℕ → Result FieldValue Reason
-form_value (ShortForm base most limit) text = short_value base most limit text
+form_value (ShortForm base most least limit) text = short_value base most least limit text
 form_value WordForm text = word_value text
+form_value LongForm text = long_value text
 form_value BytesForm text = bytes_value text
 
 unfoldable pub field_value : Field → List ℕ → Result FieldValue Reason
@@ -151,6 +192,10 @@ abbrev pub word_of : Option (Field × FieldValue) → ℕ
 word_of (Some (f, Word n)) = n
 word_of _ = 0
 
+abbrev pub long_of : Option (Field × FieldValue) → ℕ
+long_of (Some (f, Long n)) = n
+long_of _ = 0
+
 abbrev pub bytes_of : Option (Field × FieldValue) → List ℕ
 bytes_of (Some (f, Bytes b)) = b
 bytes_of _ = []
@@ -160,6 +205,13 @@ short_at default f fs = short_of default (find (is_field f) fs)
 
 abbrev pub word_at : Field → Fields → ℕ
 word_at f fs = word_of (find (is_field f) fs)
+
+abbrev pub long_at : Field → Fields → ℕ
+long_at f fs = long_of (find (is_field f) fs)
+
+-- the length of the output buffer
+abbrev pub room_at : Fields → ℕ
+room_at fs = short_at 16448 field.Room fs
 
 abbrev pub bytes_at : Field → Fields → List ℕ
 bytes_at f fs = bytes_of (find (is_field f) fs)

@@ -7,16 +7,16 @@ use Rattle.hex.specs.Hex.{decode_of}
 use Rattle.script_lang.specs.Pieces.{words, text_lines}
 use Rattle.script_lang.specs.Table.{Shape, shape_of}
 use Rattle.script_lang.specs.Calls.{call_of}
-use Rattle.script_lang.specs.Fields.{Form, ShortForm, WordForm, BytesForm, form_of, Fields, field_name, is_allowed, has_field, has_required}
+use Rattle.script_lang.specs.Fields.{Form, ShortForm, WordForm, LongForm, BytesForm, form_of, Fields, field_name, is_allowed, has_field, has_required}
 use Rattle.script_lang.specs.Lines.{Places, Read, nothing_read, no_words, with_call, is_comment}
 use Rattle.script_lang.specs.declared.fields.Field.{Field}
 use Rattle.script_lang.specs.declared.fields.FieldValue.{FieldValue}
-use Rattle.script_lang.specs.declared.fields.FieldValue.TheVariants.{Short, Word, Bytes}
+use Rattle.script_lang.specs.declared.fields.FieldValue.TheVariants.{Short, Word, Long, Bytes}
 use Rattle.script_lang.specs.declared.fixed.Fixed.{Fixed}
 use Rattle.script_lang.specs.declared.script.KeyWord.{KeyWord}
 use Rattle.script_lang.specs.declared.script.KeyWord.TheVariants.{Given, Line}
 use Rattle.script_lang.specs.declared.script.ScriptLine.{ScriptLine}
-use Rattle.script_lang.specs.declared.table.Command.{Command}
+use Rattle.script_lang.specs.declared.commands.Command.{Command}
 use Rattle.script_lang.specs.declared.table.Kind.{Kind}
 use Rattle.script_lang.specs.declared.table.Kind.TheVariants as kind
 
@@ -24,13 +24,17 @@ use Rattle.script_lang.specs.declared.table.Kind.TheVariants as kind
 abbrev pub IsNumber : (base most limit : ℕ) → List ℕ → ℕ → Type 0
 IsNumber base most limit text n = IsNumeral base text × (length text ≤ most) × (digits_value base text ≡ n) × (n < limit)
 
-abbrev pub IsShort : (base most limit : ℕ) → List ℕ → FieldValue → Type 0
-IsShort base most limit text (Short n) = IsNumber base most limit text n
-IsShort base most limit text _ = ⊥
+abbrev pub IsShort : (base most least limit : ℕ) → List ℕ → FieldValue → Type 0
+IsShort base most least limit text (Short n) = IsNumber base most limit text n × (least ≤ n)
+IsShort base most least limit text _ = ⊥
 
 abbrev pub IsWord : List ℕ → FieldValue → Type 0
 IsWord text (Word n) = IsNumber 16 8 (2 ^ 32) text n
 IsWord text _ = ⊥
+
+abbrev pub IsLong : List ℕ → FieldValue → Type 0
+IsLong text (Long n) = IsNumber 10 20 (2 ^ 64) text n
+IsLong text _ = ⊥
 
 -- hex digits in pairs, of either case, which write at most 16,384 bytes
 abbrev pub AreBytes : List ℕ → FieldValue → Type 0
@@ -38,8 +42,9 @@ AreBytes text (Bytes bytes) = (length text ≤ 32768) × (decode_of text ≡ Ok 
 AreBytes text _ = ⊥
 
 abbrev pub IsForm : Form → List ℕ → FieldValue → Type 0
-IsForm (ShortForm base most limit) text v = IsShort base most limit text v
+IsForm (ShortForm base most least limit) text v = IsShort base most least limit text v
 IsForm WordForm text v = IsWord text v
+IsForm LongForm text v = IsLong text v
 IsForm BytesForm text v = AreBytes text v
 
 -- what the text after a field's `=` says
@@ -74,10 +79,15 @@ IsKey places [] key = ⊥
 IsKey places (c ∷ cs) (Given id) = (c ≡ 35) × IsNumber 16 8 (2 ^ 32) cs id.0
 IsKey places (c ∷ cs) (Line place) = (c ≡ 36) × IsName cs × (places cs ≡ Some place)
 
+-- one of the numbers 1 to 4
+abbrev pub IsHandle : List ℕ → ℕ → Type 0
+IsHandle word handle = (word ≡ decimal handle) × (1 ≤ handle) × (handle ≤ 4)
+
 -- a fixed word of a kind, and the fixed words with it
 abbrev pub IsFixed : Places → Kind → Fixed → List ℕ → Fixed → Type 0
 IsFixed places kind.Name fixed word next = IsName word × (record fixed { name = Some word } ≡ next)
 IsFixed places kind.Key fixed word next = (key : KeyWord) × IsKey places word key × (record fixed { key = key } ≡ next)
+IsFixed places kind.Handle fixed word next = (handle : ℕ) × IsHandle word handle × (record fixed { handle = handle } ≡ next)
 
 abbrev pub AreFixed : Places → List Kind → Fixed → List (List ℕ) → Fixed → Type 0
 AreFixed places [] fixed [] last = fixed ≡ last

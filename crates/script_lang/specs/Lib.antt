@@ -1,9 +1,11 @@
 pub mod Numbers
 pub mod Pieces
 pub mod Steps
+pub mod Commands
 pub mod Table
 pub mod Fields
 pub mod Calls
+pub mod Limits
 pub mod Lines
 pub mod Sessions
 pub mod Grammar

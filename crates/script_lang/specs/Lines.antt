@@ -1,5 +1,5 @@
 -- The lines of a script, read from left to right.
-use Rattle.std.specs.Prelude.{◌≡◌, ◌≤◌, ℕ, ◌+◌, ◌^◌, Bool, false, ◌||◌, ◌&&◌, nat_lt, nat_le, ◌==◌, List, [], ◌∷◌, ◌++◌, length, filter, if◌then◌else◌, Option, Some, None, option_map, option_and_then, Result, Ok, Err}
+use Rattle.std.specs.Prelude.{◌≡◌, ◌≤◌, ℕ, ◌+◌, ◌-◌, ◌^◌, Bool, false, ◌||◌, ◌&&◌, nat_lt, nat_le, ◌==◌, List, [], ◌∷◌, ◌++◌, length, filter, if◌then◌else◌, Option, Some, None, option_map, option_and_then, Result, Ok, Err}
 use Rattle.std.specs.List.{list_all}
 use Rattle.std.specs.Str.{bytes_eq}
 use Rattle.script_lang.specs.Numbers.{number}
@@ -11,7 +11,7 @@ use Rattle.script_lang.specs.Steps.{◌>>=◌, demand, some_or, first_or, rest_o
 use Rattle.script_lang.specs.declared.faults.LineError.{LineError}
 use Rattle.script_lang.specs.declared.faults.LineError.TheVariants as errors
 use Rattle.script_lang.specs.declared.faults.Reason.{Reason}
-use Rattle.script_lang.specs.declared.faults.Reason.TheVariants.{BadSession, UnknownCommand, MissingWord, BadName, BadKey, UnknownName, MissingField}
+use Rattle.script_lang.specs.declared.faults.Reason.TheVariants.{BadSession, UnknownCommand, MissingWord, BadHandle, BadName, BadKey, UnknownName, MissingField}
 use Rattle.script_lang.specs.declared.faults.ScriptFault.{ScriptFault}
 use Rattle.script_lang.specs.declared.faults.ScriptFault.TheVariants.{TooLong, TooManyLines, BadLine}
 use Rattle.script_lang.specs.declared.faults.ScriptFault.TheVariants as faults
@@ -20,7 +20,7 @@ use Rattle.script_lang.specs.declared.script.KeyWord.TheVariants.{Given, Line}
 use Rattle.script_lang.specs.declared.script.ScriptCall.{ScriptCall}
 use Rattle.script_lang.specs.declared.script.ScriptLine.{ScriptLine}
 use Rattle.script_lang.specs.declared.fixed.Fixed.{Fixed}
-use Rattle.script_lang.specs.declared.table.Command.{Command}
+use Rattle.script_lang.specs.declared.commands.Command.{Command}
 use Rattle.script_lang.specs.declared.table.Kind.{Kind}
 use Rattle.script_lang.specs.declared.table.Kind.TheVariants as kind
 
@@ -47,9 +47,14 @@ key_at places (c ∷ cs) =
     else if c == 36 && is_name cs then some_or UnknownName (option_map Line (places cs))
     else Err BadKey
 
+-- a handle: one of the digits 1 to 4
+abbrev pub handle_at : List ℕ → Result ℕ Reason
+handle_at (c ∷ []) = if nat_le 49 c && nat_le c 52 then Ok (c - 48) else Err BadHandle
+handle_at _ = Err BadHandle
+
 -- no fixed word yet
 abbrev pub no_words : Fixed
-no_words = record { key = Given (record { 0 = 0 }); name = None }
+no_words = record { key = Given (record { 0 = 0 }); name = None; handle = 0 }
 
 -- one more fixed word
 unfoldable pub with_word : Places → Kind → Fixed → List ℕ → Result Fixed Reason
@@ -59,6 +64,9 @@ with_word places kind.Name fixed word = do
 with_word places kind.Key fixed word = do
   key ← key_at places word
   Ok (record fixed { key = key })
+with_word places kind.Handle fixed word = do
+  handle ← handle_at word
+  Ok (record fixed { handle = handle })
 
 -- the fixed words of a line, and the words after them
 unfoldable pub read_fixed : Places → List Kind → Fixed → List (List ℕ) → Result (Fixed × List (List ℕ)) Reason

@@ -5,15 +5,15 @@ use Rattle.script_lang.specs.Pieces.{words, text_lines}
 use Rattle.script_lang.specs.Table.{Shape, shape_of}
 use Rattle.script_lang.specs.Fields.{Fields, field_name, is_allowed, has_field, has_required}
 use Rattle.script_lang.specs.Lines.{Places, Read, nothing_read, no_words, is_comment}
-use Rattle.script_lang.specs.Grammar.{IsNumber, IsName, IsValue, IsField, IsFixed, AreFixed, IsSession, AreSteps}
+use Rattle.script_lang.specs.Grammar.{IsNumber, IsName, IsHandle, IsValue, IsField, IsFixed, AreFixed, IsSession, AreSteps}
 use Rattle.script_lang.specs.declared.faults.Reason.{Reason}
-use Rattle.script_lang.specs.declared.faults.Reason.TheVariants.{BadSession, UnknownCommand, MissingWord, BadName, BadKey, UnknownName, UnknownField, RepeatedField, BadValue, MissingField}
+use Rattle.script_lang.specs.declared.faults.Reason.TheVariants.{BadSession, UnknownCommand, MissingWord, BadHandle, BadName, BadKey, UnknownName, UnknownField, RepeatedField, BadValue, MissingField}
 use Rattle.script_lang.specs.declared.faults.ScriptFault.{ScriptFault}
 use Rattle.script_lang.specs.declared.faults.ScriptFault.TheVariants as faults
 use Rattle.script_lang.specs.declared.fields.Field.{Field}
 use Rattle.script_lang.specs.declared.fields.FieldValue.{FieldValue}
 use Rattle.script_lang.specs.declared.fixed.Fixed.{Fixed}
-use Rattle.script_lang.specs.declared.table.Command.{Command}
+use Rattle.script_lang.specs.declared.commands.Command.{Command}
 use Rattle.script_lang.specs.declared.table.Kind.{Kind}
 use Rattle.script_lang.specs.declared.table.Kind.TheVariants as kind
 
@@ -30,6 +30,7 @@ IsUnknownName places (c ∷ cs) = (c ≡ 36) × IsName cs × (places cs ≡ None
 abbrev pub IsBadFixed : Places → Kind → List ℕ → Reason → Type 0
 IsBadFixed places kind.Name word r = (r ≡ BadName) × (IsName word → ⊥)
 IsBadFixed places kind.Key word r = ((r ≡ BadKey) × (IsKeyForm word → ⊥)) ⊎ ((r ≡ UnknownName) × IsUnknownName places word)
+IsBadFixed places kind.Handle word r = (r ≡ BadHandle) × ((handle : ℕ) → IsHandle word handle → ⊥)
 
 -- words of which the first should be fixed words of these kinds, after some
 abbrev pub AreBadFixed : Places → List Kind → Fixed → List (List ℕ) → Reason → Type 0

@@ -1,10 +1,18 @@
 -- What a script's calls answer, and what is printed of it.
-use Rattle.std.specs.Prelude.{ℕ, zero, suc, ◌≡◌, ◌+◌, ◌==◌, List, [], ◌∷◌, ◌++◌, slice_index, filter, flat_map, Ok, All}
+use Rattle.std.specs.Prelude.{ℕ, zero, suc, ◌≡◌, ◌+◌, ◌==◌, List, [], ◌∷◌, ◌++◌, true, false, slice_index, filter, flat_map, Ok, All}
 use Rattle.key_attributes.specs.declared.Attributes.{Attributes}
-use Rattle.store_model.specs.Store.{Store, start_of, plain_settings}
+use Rattle.store_model.specs.Store.{plain_settings}
 use Rattle.store_model.specs.Call as model
 use Rattle.store_model.specs.Call.{Call, Output, Reply, output_bytes}
 use Rattle.store_model.specs.Faults.{Plain}
+use Rattle.store_model.specs.HashOperations.{HashUpdate, HashFinish, HashVerify}
+use Rattle.store_model.specs.MacOperations.{MacUpdate, MacSignFinish, MacVerifyFinish}
+use Rattle.store_model.specs.CipherOperations.{CipherGenerateIv, CipherSetIv, CipherUpdate, CipherFinish}
+use Rattle.store_model.specs.AeadOperations.{AeadGenerateNonce, AeadSetNonce, AeadSetLengths, AeadUpdateAd, AeadUpdate, AeadFinish, AeadVerify}
+use Rattle.store_model.specs.DerivationOperations.{GetCapacity, SetCapacity, InputBytes, InputInteger, OutputBytes, VerifyBytes}
+use Rattle.store_model.specs.Handles.{Service, service_start}
+use Rattle.store_model.specs.HandleCalls as on_handle
+use Rattle.store_model.specs.Requests.{Request, OnStore, OnHandle}
 use Rattle.store_model.specs.Replay.{Entry, outcome_of}
 use Rattle.script_lang.specs.declared.families.Creation.{Creation}
 use Rattle.script_lang.specs.declared.families.Creation.TheVariants as creations
@@ -18,6 +26,18 @@ use Rattle.script_lang.specs.declared.families.CipherCall.{CipherCall}
 use Rattle.script_lang.specs.declared.families.CipherCall.TheVariants as ciphers
 use Rattle.script_lang.specs.declared.families.AeadCall.{AeadCall}
 use Rattle.script_lang.specs.declared.families.AeadCall.TheVariants as aeads
+use Rattle.script_lang.specs.declared.handle_calls.HashStep.{HashStep}
+use Rattle.script_lang.specs.declared.handle_calls.HashStep.TheVariants as hash_steps
+use Rattle.script_lang.specs.declared.handle_calls.MacStep.{MacStep}
+use Rattle.script_lang.specs.declared.handle_calls.MacStep.TheVariants as mac_steps
+use Rattle.script_lang.specs.declared.handle_calls.CipherStep.{CipherStep}
+use Rattle.script_lang.specs.declared.handle_calls.CipherStep.TheVariants as cipher_steps
+use Rattle.script_lang.specs.declared.handle_calls.AeadStep.{AeadStep}
+use Rattle.script_lang.specs.declared.handle_calls.AeadStep.TheVariants as aead_steps
+use Rattle.script_lang.specs.declared.handle_calls.DerivationStep.{DerivationStep}
+use Rattle.script_lang.specs.declared.handle_calls.DerivationStep.TheVariants as derivation_steps
+use Rattle.script_lang.specs.declared.handle_calls.HandleCall.{HandleCall}
+use Rattle.script_lang.specs.declared.handle_calls.HandleCall.TheVariants as handles
 use Rattle.script_lang.specs.declared.script.KeyWord.{KeyWord}
 use Rattle.script_lang.specs.declared.script.KeyWord.TheVariants.{Given, Line}
 use Rattle.script_lang.specs.declared.script.ScriptCall.{ScriptCall}
@@ -77,13 +97,67 @@ abbrev pub aead_call : List ℕ → AeadCall → Call
 aead_call ids (aeads.Encrypt key alg nonce ad input room) = model.AeadEncrypt (key_of ids key) alg nonce ad input room
 aead_call ids (aeads.Decrypt key alg nonce ad input room) = model.AeadDecrypt (key_of ids key) alg nonce ad input room
 
-abbrev pub call_of : List ℕ → ScriptCall → Call
-call_of ids (calls.Create call) = creation ids call
-call_of ids (calls.Key call) = key_call ids call
-call_of ids (calls.Hash call) = hash_call call
-call_of ids (calls.Mac call) = mac_call ids call
-call_of ids (calls.Cipher call) = cipher_call ids call
-call_of ids (calls.Aead call) = aead_call ids call
+-- the service's call on a handle that a line makes, by families
+
+abbrev pub hash_step_call : HashStep → on_handle.HandleCall
+hash_step_call (hash_steps.Setup alg) = on_handle.HashSetup alg
+hash_step_call (hash_steps.Update input) = on_handle.OnHash (HashUpdate input)
+hash_step_call (hash_steps.Finish room) = on_handle.OnHash (HashFinish room)
+hash_step_call (hash_steps.Verify hash) = on_handle.OnHash (HashVerify hash)
+
+abbrev pub mac_step_call : List ℕ → MacStep → on_handle.HandleCall
+mac_step_call ids (mac_steps.SignSetup key alg) = on_handle.MacSetup false (key_of ids key) alg
+mac_step_call ids (mac_steps.VerifySetup key alg) = on_handle.MacSetup true (key_of ids key) alg
+mac_step_call ids (mac_steps.Update input) = on_handle.OnMac (MacUpdate input)
+mac_step_call ids (mac_steps.SignFinish room) = on_handle.OnMac (MacSignFinish room)
+mac_step_call ids (mac_steps.VerifyFinish mac) = on_handle.OnMac (MacVerifyFinish mac)
+
+abbrev pub cipher_step_call : List ℕ → CipherStep → on_handle.HandleCall
+cipher_step_call ids (cipher_steps.EncryptSetup key alg) = on_handle.CipherSetup true (key_of ids key) alg
+cipher_step_call ids (cipher_steps.DecryptSetup key alg) = on_handle.CipherSetup false (key_of ids key) alg
+cipher_step_call ids (cipher_steps.GenerateIv room) = on_handle.OnCipher (CipherGenerateIv room)
+cipher_step_call ids (cipher_steps.SetIv iv) = on_handle.OnCipher (CipherSetIv iv)
+cipher_step_call ids (cipher_steps.Update input room) = on_handle.OnCipher (CipherUpdate input room)
+cipher_step_call ids (cipher_steps.Finish room) = on_handle.OnCipher (CipherFinish room)
+
+abbrev pub aead_step_call : List ℕ → AeadStep → on_handle.HandleCall
+aead_step_call ids (aead_steps.EncryptSetup key alg) = on_handle.AeadSetup true (key_of ids key) alg
+aead_step_call ids (aead_steps.DecryptSetup key alg) = on_handle.AeadSetup false (key_of ids key) alg
+aead_step_call ids (aead_steps.GenerateNonce room) = on_handle.OnAead (AeadGenerateNonce room)
+aead_step_call ids (aead_steps.SetNonce nonce) = on_handle.OnAead (AeadSetNonce nonce)
+aead_step_call ids (aead_steps.SetLengths ad_length plain_length) = on_handle.OnAead (AeadSetLengths ad_length plain_length)
+aead_step_call ids (aead_steps.UpdateAd input) = on_handle.OnAead (AeadUpdateAd input)
+aead_step_call ids (aead_steps.Update input room) = on_handle.OnAead (AeadUpdate input room)
+aead_step_call ids (aead_steps.Finish room) = on_handle.OnAead (AeadFinish room)
+aead_step_call ids (aead_steps.Verify tag) = on_handle.OnAead (AeadVerify tag)
+
+abbrev pub derivation_step_call : List ℕ → DerivationStep → on_handle.HandleCall
+derivation_step_call ids (derivation_steps.Setup alg) = on_handle.DerivationSetup alg
+derivation_step_call ids derivation_steps.GetCapacity = on_handle.OnDerivation GetCapacity
+derivation_step_call ids (derivation_steps.SetCapacity capacity) = on_handle.OnDerivation (SetCapacity capacity)
+derivation_step_call ids (derivation_steps.InputBytes step input) = on_handle.OnDerivation (InputBytes step input)
+derivation_step_call ids (derivation_steps.InputInteger step value) = on_handle.OnDerivation (InputInteger step value)
+derivation_step_call ids (derivation_steps.InputKey step key) = on_handle.InputKey step (key_of ids key)
+derivation_step_call ids (derivation_steps.OutputBytes length) = on_handle.OnDerivation (OutputBytes length)
+derivation_step_call ids (derivation_steps.OutputKey key_type bits usage alg life id) = on_handle.OutputKey (attributes_of key_type usage alg life id bits)
+derivation_step_call ids (derivation_steps.VerifyBytes expected) = on_handle.OnDerivation (VerifyBytes expected)
+
+abbrev pub handle_call : List ℕ → HandleCall → on_handle.HandleCall
+handle_call ids (handles.Hash step) = hash_step_call step
+handle_call ids (handles.Mac step) = mac_step_call ids step
+handle_call ids (handles.Cipher step) = cipher_step_call ids step
+handle_call ids (handles.Aead step) = aead_step_call ids step
+handle_call ids (handles.Derivation step) = derivation_step_call ids step
+handle_call ids handles.Abort = on_handle.Abort
+
+abbrev pub call_of : List ℕ → ScriptCall → Request
+call_of ids (calls.Create call) = OnStore (creation ids call)
+call_of ids (calls.Key call) = OnStore (key_call ids call)
+call_of ids (calls.Hash call) = OnStore (hash_call call)
+call_of ids (calls.Mac call) = OnStore (mac_call ids call)
+call_of ids (calls.Cipher call) = OnStore (cipher_call ids call)
+call_of ids (calls.Aead call) = OnStore (aead_call ids call)
+call_of ids (calls.OnHandle handle call) = OnHandle handle (handle_call ids call)
 
 -- a call as it stands in a history: its rank, and its reply when the history is replayed
 pub record Turn : Type 0 where
@@ -92,15 +166,15 @@ pub record Turn : Type 0 where
   pub reply : Reply
 
 -- the turns of a history, from a rank on
-abbrev pub turns : ℕ → Store → List Entry → List Turn
-turns rank store [] = []
-turns rank store (e ∷ es) =
-    let after = outcome_of store e in
-    record { entry = e; rank = rank; reply = after.reply } ∷ turns (rank + 1) after.store es
+abbrev pub turns : ℕ → Service → List Entry → List Turn
+turns rank service [] = []
+turns rank service (e ∷ es) =
+    let after = outcome_of service e in
+    record { entry = e; rank = rank; reply = after.reply } ∷ turns (rank + 1) after.service es
 
--- the turns of a history on the store as it starts
+-- the turns of a history on the service as it starts
 abbrev pub turns_from_start : List Entry → List Turn
-turns_from_start history = turns 0 (start_of plain_settings) history
+turns_from_start history = turns 0 (service_start plain_settings) history
 
 abbrev pub turns_of : ℕ → List Turn → List Turn
 turns_of session ts = filter (λ t. t.entry.caller == session) ts
@@ -140,7 +214,7 @@ abbrev pub text_of : List ReplyLine → List ℕ
 text_of replies = flat_map reply_text replies
 
 -- The bytes written are the replies of one common order of the script's calls, replayed on the one-thread
--- store. The order is a history in which each session's calls are those of its lines, in their order.
+-- service. The order is a history in which each session's calls are those of its lines, in their order.
 pub record IsAnswer (script out : List ℕ) : Type 0 where
   pub lines : List ScriptLine
   pub history : List Entry

@@ -14,6 +14,8 @@ pub enum Reason {
     UnknownCommand,
     #[error("missing word")]
     MissingWord,
+    #[error("bad handle")]
+    BadHandle,
     #[error("bad name")]
     BadName,
     #[error("bad key")]

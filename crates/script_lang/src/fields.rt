@@ -1,10 +1,10 @@
 // The fields of a line.
-ghost use Rattle.std.specs.Prelude.{◌≡◌, ◌≤◌, ◌<◌, ◌+◌, ◌^◌, [], find};
+ghost use Rattle.std.specs.Prelude.{◌≡◌, ◌≤◌, ◌<◌, ◌+◌, ◌^◌, [], Ok, find};
 ghost use Rattle.std.specs.Option.{option_copied};
 ghost use Rattle.std.specs.Str.{bytes_eq};
 ghost use Rattle.script_lang.specs.Table.{shape};
 ghost use Rattle.script_lang.specs.Steps.{Gives};
-ghost use Rattle.script_lang.specs.Fields.{field_number, field_named, field_name, all_fields, field_value, has_field, is_among, has_required, short_value, word_value, bytes_value, is_field, short_at, word_at, bytes_at, read_field, read_fields};
+ghost use Rattle.script_lang.specs.Fields.{field_number, field_named, field_name, all_fields, field_value, has_field, is_among, has_required, short_value, word_value, long_value, bytes_value, is_field, short_at, word_at, long_at, room_at, bytes_at, read_field, read_fields};
 
 use crate::faults::{LineError, Reason};
 use crate::numbers::number_of;
@@ -28,6 +28,14 @@ pub(crate) enum Field {
     Mac,
     Nonce,
     Ad,
+    Iv,
+    Tag,
+    AdLength,
+    PlainLength,
+    Capacity,
+    Value,
+    Length,
+    Step,
 }
 
 /// What a field says.
@@ -35,8 +43,12 @@ pub(crate) enum Field {
 pub(crate) enum FieldValue {
     Short(u16),
     Word(u32),
+    Long(u64),
     Bytes(ByteList),
 }
+
+/// The length of an output buffer whose line states none.
+const ROOM: u16 = 16448;
 
 const FIELDS: &[Field] = &[
     Field::Type,
@@ -51,6 +63,14 @@ const FIELDS: &[Field] = &[
     Field::Mac,
     Field::Nonce,
     Field::Ad,
+    Field::Iv,
+    Field::Tag,
+    Field::AdLength,
+    Field::PlainLength,
+    Field::Capacity,
+    Field::Value,
+    Field::Length,
+    Field::Step,
 ];
 
 /// All fields.
@@ -78,6 +98,14 @@ impl Field {
             Field::Mac => 9,
             Field::Nonce => 10,
             Field::Ad => 11,
+            Field::Iv => 12,
+            Field::Tag => 13,
+            Field::AdLength => 14,
+            Field::PlainLength => 15,
+            Field::Capacity => 16,
+            Field::Value => 17,
+            Field::Length => 18,
+            Field::Step => 19,
         }
     }
 
@@ -105,6 +133,14 @@ impl Field {
             Field::Mac => b"mac",
             Field::Nonce => b"nonce",
             Field::Ad => b"ad",
+            Field::Iv => b"iv",
+            Field::Tag => b"tag",
+            Field::AdLength => b"ad_len",
+            Field::PlainLength => b"plain_len",
+            Field::Capacity => b"capacity",
+            Field::Value => b"value",
+            Field::Length => b"len",
+            Field::Step => b"step",
         }
     }
 }
@@ -137,15 +173,21 @@ fn has(done: &[(Field, FieldValue)], field: Field) -> bool
     done.iter().any(|f| f.0.number() == field.number())
 }
 
-fn short(base: u8, most: usize, greatest: u64, text: &[u8]) -> Result<FieldValue, LineError>
+fn short(
+    base: u8,
+    most: usize,
+    least: u64,
+    greatest: u64,
+    text: &[u8],
+) -> Result<FieldValue, LineError>
     requires first { 2 ≤ base }
     requires last { base ≤ 16 }
     requires fits { greatest < 2 ^ 16 }
-    ensures { Gives (λ v. v) result (short_value base most (greatest + 1) text.now) }
+    ensures { Gives (λ v. v) result (short_value base most least (greatest + 1) text.now) }
 {
     match number_of(base, most, greatest, text) {
-        Some(number) => Ok(FieldValue::Short(number as u16)),
-        None => Err(LineError::Bad(Reason::BadValue)),
+        Some(number) if least <= number => Ok(FieldValue::Short(number as u16)),
+        _ => Err(LineError::Bad(Reason::BadValue)),
     }
 }
 
@@ -154,6 +196,15 @@ fn word(text: &[u8]) -> Result<FieldValue, LineError>
 {
     match number_of(16, 8, 0xffffffff, text) {
         Some(number) => Ok(FieldValue::Word(number as u32)),
+        None => Err(LineError::Bad(Reason::BadValue)),
+    }
+}
+
+fn long(text: &[u8]) -> Result<FieldValue, LineError>
+    ensures { Gives (λ v. v) result (long_value text.now) }
+{
+    match number_of(10, 20, u64::MAX, text) {
+        Some(number) => Ok(FieldValue::Long(number)),
         None => Err(LineError::Bad(Reason::BadValue)),
     }
 }
@@ -178,18 +229,26 @@ fn value_of(alloc: Global, field: Field, text: &[u8]) -> Result<FieldValue, Line
     ensures { Gives (λ v. v) result (field_value field text.now) }
 {
     match field {
-        Field::Type => short(16, 4, 0xffff, text),
+        Field::Type => short(16, 4, 0, 0xffff, text),
         Field::Usage => word(text),
         Field::Alg => word(text),
         Field::Data => decoded(alloc, text),
         Field::Life => word(text),
         Field::Id => word(text),
-        Field::Bits => short(10, 20, 0xffff, text),
-        Field::Room => short(10, 20, 16448, text),
+        Field::Bits => short(10, 20, 0, 0xffff, text),
+        Field::Room => short(10, 20, 0, 16448, text),
         Field::Hash => decoded(alloc, text),
         Field::Mac => decoded(alloc, text),
         Field::Nonce => decoded(alloc, text),
         Field::Ad => decoded(alloc, text),
+        Field::Iv => decoded(alloc, text),
+        Field::Tag => decoded(alloc, text),
+        Field::AdLength => long(text),
+        Field::PlainLength => long(text),
+        Field::Capacity => long(text),
+        Field::Value => long(text),
+        Field::Length => short(10, 20, 1, 16384, text),
+        Field::Step => short(16, 4, 0, 0xffff, text),
     }
 }
 
@@ -220,14 +279,42 @@ pub(crate) fn word_in(done: &[(Field, FieldValue)], field: Field) -> u32
     }
 }
 
+/// The number of a field, and 0 where it is missing.
+pub(crate) fn long_in(done: &[(Field, FieldValue)], field: Field) -> u64
+    ensures { result ≡ long_at field done.now }
+{
+    match find_field(done, field) {
+        Some((_, FieldValue::Long(n))) => *n,
+        _ => 0,
+    }
+}
+
+/// The length of the output buffer.
+pub(crate) fn room_in(done: &[(Field, FieldValue)]) -> u16
+    ensures { result ≡ room_at done.now }
+{
+    short_in(done, Field::Room, ROOM)
+}
+
 /// The bytes of a field, and none where it is missing.
-pub(crate) fn bytes_in(done: &[(Field, FieldValue)], field: Field) -> &[u8]
+fn bytes_in(done: &[(Field, FieldValue)], field: Field) -> &[u8]
     ensures { result.now ≡ bytes_at field done.now }
 {
     match find_field(done, field) {
         Some((_, FieldValue::Bytes(bytes))) => bytes.as_slice(),
         _ => &[],
     }
+}
+
+/// A copy of the bytes of a field, and none where it is missing.
+pub(crate) fn bytes_for(
+    alloc: Global,
+    done: &[(Field, FieldValue)],
+    field: Field,
+) -> Result<ByteList, LineError>
+    ensures { Gives (λ b. b) result (Ok (bytes_at field done.now)) }
+{
+    Ok(ByteList::of(bytes_in(done, field).to_vec(alloc)?))
 }
 
 /// A further word of a line, after the fields that stand already.

@@ -2,7 +2,7 @@
 ghost use Rattle.std.specs.Prelude.{◌≡◌, OnOk, IfErr, Ok};
 ghost use Rattle.std.specs.List.{list_all};
 ghost use Rattle.script_lang.specs.Steps.{Gives, Fails};
-ghost use Rattle.script_lang.specs.Lines.{is_name, is_name_byte, key_at, no_words, with_word, read_fixed};
+ghost use Rattle.script_lang.specs.Lines.{handle_at, is_name, is_name_byte, key_at, no_words, with_word, read_fixed};
 ghost use Rattle.script_lang.specs.Sessions.{places_of};
 
 use crate::faults::{LineError, Reason};
@@ -19,6 +19,7 @@ use std::alloc::Global;
 pub(crate) struct Fixed {
     pub key: KeyWord,
     pub name: Option<ByteList>,
+    pub handle: u8,
 }
 
 impl Fixed {
@@ -28,6 +29,7 @@ impl Fixed {
         Fixed {
             key: KeyWord::Given(KeyId(0)),
             name: None,
+            handle: 0,
         }
     }
 }
@@ -73,6 +75,16 @@ fn key_of(session: &Session, word: &[u8]) -> Result<KeyWord, LineError>
     }
 }
 
+/// A handle, 1 to 4.
+fn handle_of(word: &[u8]) -> Result<u8, LineError>
+    ensures { Gives (λ h. h) result (handle_at word.now) }
+{
+    match word {
+        [digit] if b'1' <= *digit && *digit <= b'4' => Ok(*digit - b'0'),
+        _ => Err(LineError::Bad(Reason::BadHandle)),
+    }
+}
+
 /// Takes one more fixed word.
 #[tactic(auto, unfolding(crate::specs::Lines::with_word))]
 fn take_word(
@@ -94,6 +106,9 @@ fn take_word(
         }
         Kind::Key => {
             fixed.key = key_of(session, word)?;
+        }
+        Kind::Handle => {
+            fixed.handle = handle_of(word)?;
         }
     }
     Ok(())

@@ -2,11 +2,14 @@
 #![tactic(auto)]
 
 mod calls;
+mod commands;
 mod families;
 mod faults;
 mod fields;
 mod fixed;
 mod grammar;
+mod handle_calls;
+mod handle_steps;
 mod numbers;
 mod pieces;
 mod reading;
@@ -18,6 +21,7 @@ mod table;
 pub use families::{AeadCall, CipherCall, Creation, HashCall, KeyCall, MacCall};
 pub use faults::{Reason, ScriptFault};
 pub use grammar::script_grammar;
+pub use handle_calls::{AeadStep, CipherStep, DerivationStep, HandleCall, HashStep, MacStep};
 pub use reading::read_script;
 pub use replies::{ReplyLine, write_reply};
 pub use script::{ByteList, KeyWord, Script, ScriptCall, ScriptLine};

@@ -4,9 +4,11 @@ ghost use Rattle.script_lang.specs.declared.faults.LineError.TheVariants.{Memory
 ghost use Rattle.script_lang.specs.Steps.{Fails, Gives};
 ghost use Rattle.script_lang.specs.Pieces.{words, text_lines};
 ghost use Rattle.script_lang.specs.Lines.{session_of, with_call, parts_at, words_at, line_at, lines_at, nothing_read, fault_at, script_of, ScriptGives, IsOfSession};
+ghost use Rattle.script_lang.specs.Limits.{IsWellFormed};
 ghost use Rattle.script_lang.specs.Sessions.{places_of, read_of, AreCounted, IsNew};
 
 use crate::calls::call_of;
+use crate::commands::Command;
 use crate::faults::{LineError, Reason, ScriptFault};
 use crate::fields::{fields_of, has_required};
 use crate::fixed::{Fixed, take_words};
@@ -14,7 +16,6 @@ use crate::numbers::number_of;
 use crate::pieces::{Lines, Words};
 use crate::script::{ByteList, Script, ScriptCall, ScriptLine};
 use crate::sessions::Session;
-use crate::table::Command;
 use std::alloc::Global;
 
 /// A session, 1 to 16.
@@ -173,6 +174,7 @@ fn read_lines(alloc: Global, text: &[u8]) -> Result<Vec<ScriptLine>, ScriptFault
     ensures value { ScriptGives (λ v. v.items) result (lines_at 1 nothing_read (text_lines text.now)) }
     ensures few { IfOk result (λ v. length v.items ≤ 20000) }
     ensures sessions { IfOk result (λ v. All IsOfSession v.items) }
+    ensures calls { IfOk result (λ v. All IsWellFormed v.items) }
 {
     let mut reading = match Reading::new(alloc) {
         Ok(reading) => reading,
@@ -213,6 +215,7 @@ pub fn read_script(alloc: Global, text: &[u8]) -> Result<Script, ScriptFault>
     ensures value { ScriptGives (λ script. script) result (script_of text.now) }
     ensures few { IfOk result (λ script. length script ≤ 20000) }
     ensures sessions { IfOk result (λ script. All IsOfSession script) }
+    ensures calls { IfOk result (λ script. All IsWellFormed script) }
 {
     if text.len() > 4194304 {
         return Err(ScriptFault::TooLong);

@@ -2,6 +2,7 @@
 ghost use Rattle.std.specs.Prelude.{◌≡◌, ◌<◌, IfOk, slice_get, length, Some};
 
 use crate::families::{AeadCall, CipherCall, Creation, HashCall, KeyCall, MacCall};
+use crate::handle_calls::HandleCall;
 use key_attributes::KeyId;
 use psa_status::Memory;
 use std::alloc::Global;
@@ -36,7 +37,7 @@ impl ByteList {
     pub fn of(items: Vec<u8>) -> ByteList
         ensures { result ≡ items.items }
     {
-        ByteList { items }
+        Self { items }
     }
 
     /// The bytes as a vector.
@@ -70,6 +71,8 @@ pub enum ScriptCall {
     Mac(MacCall),
     Cipher(CipherCall),
     Aead(AeadCall),
+    /// A call on one of the session's operations, by its handle, 1 to 4.
+    OnHandle { handle: u8, call: HandleCall },
 }
 
 /// A line of a script that is a call, and the session that makes it, 1 to 16.
@@ -121,6 +124,6 @@ impl Script {
     pub fn lines(&self) -> &[ScriptLine]
         ensures { result.now ≡ self.now }
     {
-        &self.lines
+        self.lines.as_slice()
     }
 }
