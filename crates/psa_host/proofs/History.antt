@@ -4,39 +4,41 @@ use Rattle.std.specs.Prelude.{Bool, ◌==◌, filter}
 use Rattle.std.proofs.lemmas.Bool.{eqb-true}
 use Rattle.std.proofs.lemmas.List.{append-nil}
 use Rattle.std.proofs.lemmas.List.Elements.{filter-append}
-use Rattle.store_model.specs.Store.{Store, caller_state}
+use Rattle.store_model.specs.Store.{caller_state}
+use Rattle.store_model.specs.Handles.{Service}
 use Rattle.store_model.specs.Replay.{Entry, outcome_of, replay}
-use Rattle.store_model.proofs.Counted.{step-calls}
-use Rattle.store_model.proofs.Drawn.{draws}
+use Rattle.store_model.proofs.FewWords.{draws}
 use Rattle.script_lang.specs.declared.script.ScriptLine.{ScriptLine}
+use Rattle.store_model.proofs.CountedRequests.{serve-calls}
 use Rattle.script_lang.specs.PrintedOrder.{Turn, turns, turns_of, lines_of, AreCalls, call_of, id_given, numbered, printed}
 
-pub replay_calls : (store : Store) (es : List Entry) → (replay store es).calls ≡ store.calls + length es
-replay_calls store [] = omega arith
-replay_calls store (e ∷ es) = omega (arith, replay_calls (outcome_of store e).store es, step-calls store e.caller e.call e.mark)
+pub replay_calls : (service : Service) (es : List Entry) → (replay service es).store.calls ≡ service.store.calls + length es
+replay_calls service [] = omega arith
+replay_calls service (e ∷ es) = omega (arith, replay_calls (outcome_of service e).service es, serve-calls service e.caller e.call e.mark)
 
-pub replay_draws : (store : Store) (es : List Entry) (session : ℕ) →
-    (caller_state (replay store es) session).drawn ≤ (caller_state store session).drawn + 256 * length es
-replay_draws store [] session = omega arith
-replay_draws store (e ∷ es) session = omega (arith, replay_draws (outcome_of store e).store es session, draws store e.caller session e.call e.mark)
+pub replay_draws : (service : Service) (es : List Entry) (session : ℕ) →
+    (caller_state (replay service es).store session).drawn ≤ (caller_state service.store session).drawn + 256 * length es
+replay_draws service [] session = omega arith
+replay_draws service (e ∷ es) session = omega (arith, replay_draws (outcome_of service e).service es session, draws service e.caller session e.call e.mark)
 
--- the store and the turns after one more call
+-- the service and the turns after one more call
 
-pub replay_more : (store : Store) (es : List Entry) (e : Entry) → replay store (es ++ e ∷ []) ≡ (outcome_of (replay store es) e).store
-replay_more store [] e = refl
-replay_more store (x ∷ es) e = replay_more (outcome_of store x).store es e
+pub replay_more : (service : Service) (es : List Entry) (e : Entry) → replay service (es ++ e ∷ []) ≡ (outcome_of (replay service es) e).service
+replay_more service [] e = refl
+replay_more service (x ∷ es) e = replay_more (outcome_of service x).service es e
 
-last_turn : ℕ → Store → Entry → Turn
-last_turn rank store e = record { entry = e; rank = rank; reply = (outcome_of store e).reply }
+last_turn : ℕ → Service → Entry → Turn
+last_turn rank service e = record { entry = e; rank = rank; reply = (outcome_of service e).reply }
 
-pub turns_more : (n : ℕ) (store : Store) (es : List Entry) (e : Entry) →
-    turns n store (es ++ e ∷ []) ≡ turns n store es ++ record { entry = e; rank = n + length es; reply = (outcome_of (replay store es) e).reply } ∷ []
+pub turns_more : (n : ℕ) (service : Service) (es : List Entry) (e : Entry) →
+    turns n service (es ++ e ∷ []) ≡ turns n service es ++ record { entry = e; rank = n + length es; reply = (outcome_of (replay service es) e).reply } ∷ []
 unfolding last_turn
-turns_more n store [] e = let m : n ≡ n + 0 = omega arith in ap (λ r. last_turn r store e ∷ []) m
-turns_more n store (x ∷ es) e =
+turns_more n service [] e = let m : n ≡ n + 0 = omega arith in ap (λ r. last_turn r service e ∷ []) m
+turns_more n service (x ∷ es) e =
     let m : n + 1 + length es ≡ n + length (x ∷ es) = omega arith in
-    ap (λ ts. record { entry = x; rank = n; reply = (outcome_of store x).reply } ∷ ts)
-    (turns_more (n + 1) (outcome_of store x).store es e ∙ ap (λ r. turns (n + 1) (outcome_of store x).store es ++ last_turn r (replay (outcome_of store x).store es) e ∷ []) m)
+    let next : Service = (outcome_of service x).service in
+    ap (λ ts. record { entry = x; rank = n; reply = (outcome_of service x).reply } ∷ ts)
+    (turns_more (n + 1) next es e ∙ ap (λ r. turns (n + 1) next es ++ last_turn r (replay next es) e ∷ []) m)
 
 -- one more call of a session, and one of another
 

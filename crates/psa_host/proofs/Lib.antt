@@ -3,3 +3,4 @@ pub mod LineOrder
 pub mod Ends
 pub mod Images
 pub mod Outputs
+pub mod HandleOutputs

@@ -5,29 +5,34 @@ use Rattle.std.proofs.lemmas.Bool.Decides.{eqb_tells}
 use Rattle.std.proofs.lemmas.List.{append-nil, take_more, get_or-replicate, map-append, get_or-set_same, get_or-set_other}
 use Rattle.std.proofs.lemmas.List.Elements.{All-append, All-cons, All-nil}
 use Rattle.std.proofs.lemmas.List.Sums.{length-filter, count_by-le-length}
-use Rattle.store_model.specs.Store.{Store, caller_state, new_caller, start_of, plain_settings}
+use Rattle.store_model.specs.Store.{caller_state, new_caller, plain_settings}
 use Rattle.store_model.specs.Faults.{Plain}
+use Rattle.store_model.specs.Handles as model
+use Rattle.store_model.specs.Handles.{service_start}
 use Rattle.store_model.specs.Replay.{Entry, outcome_of, replay}
 use Rattle.script_lang.specs.declared.script.ScriptLine.{ScriptLine}
 use Rattle.script_lang.specs.declared.replies.ReplyLine.{ReplyLine}
+use Rattle.script_lang.specs.Limits.{IsWellFormed}
 use Rattle.script_lang.specs.Lines.{script_of, IsOfSession}
 use Rattle.script_lang.specs.PrintedOrder.{Turn, turns, turns_from_start, turns_of, lines_of, AreCalls, call_of, id_given, numbered, printed, replies_to, text_of, IsAnswer}
+use Rattle.psa_host.specs.declared.service.Service.{Service}
 use Rattle.psa_host.specs.declared.sessions.SessionReplies.{SessionReplies}
-use Rattle.psa_host.specs.LineOrder.{line_entry, line_store, line_turn, IsFresh, AreReplies, AreAnswered, HasAnswered, all_replies}
+use Rattle.psa_host.specs.Services.{Stands}
+use Rattle.psa_host.specs.LineOrder.{line_entry, line_served, line_turn, IsFresh, AreReplies, AreAnswered, HasAnswered, all_replies}
 use Rattle.psa_host.proofs.History.{replay_calls, replay_draws, replay_more, turns_more, calls_more, kept_own, left_out, numbered_length, numbered_more}
 
 -- the turn of one more line is the last of the history
 
-turn_of : ℕ → Store → List ℕ → ScriptLine → Turn
-turn_of rank store ids line = record { entry = line_entry ids line; rank = rank; reply = (outcome_of store (line_entry ids line)).reply }
+turn_of : ℕ → model.Service → List ℕ → ScriptLine → Turn
+turn_of rank service ids line = record { entry = line_entry ids line; rank = rank; reply = (line_served service ids line).reply }
 
-pub one_turn : (store : Store) (history : List Entry) (ids : List ℕ) (line : ScriptLine) → store ≡ replay (start_of plain_settings) history →
-    turns_from_start (history ++ line_entry ids line ∷ []) ≡ turns_from_start history ++ line_turn store ids line ∷ []
+pub one_turn : (history : List Entry) (ids : List ℕ) (line : ScriptLine) →
+    turns_from_start (history ++ line_entry ids line ∷ []) ≡ turns_from_start history ++ line_turn (replay (service_start plain_settings) history) ids line ∷ []
 unfolding turn_of
-one_turn store history ids line e =
-    turns_more 0 (start_of plain_settings) history (line_entry ids line)
-    ∙ ap (λ s. turns_from_start history ++ turn_of (0 + length history) s ids line ∷ []) (sym e)
-    ∙ ap (λ n. turns_from_start history ++ turn_of n store ids line ∷ []) (sym (ap (λ s. s.calls) e ∙ replay_calls (start_of plain_settings) history))
+one_turn history ids line =
+    let start : model.Service = service_start plain_settings in
+    turns_more 0 start history (line_entry ids line)
+    ∙ ap (λ n. turns_from_start history ++ turn_of n (replay start history) ids line ∷ []) (sym (replay_calls start history))
 
 -- the replies of the session of the line, and of another
 
@@ -83,17 +88,19 @@ plain_more es e h p = All-append (λ e. e.mark ≡ Plain) es (e ∷ []) h (All-c
 
 -- one more line
 
-pub one_more : (lines : List ScriptLine) (sessions : List SessionReplies) (store next : Store) (line : ScriptLine) (i : ℕ) (own new : SessionReplies) → HasAnswered lines sessions store →
-    i + 1 ≡ line.session → i < 16 → own ≡ get_or sessions i own → next ≡ line_store store own.given.items line →
-    new.replies.items ≡ own.replies.items ++ printed (length own.replies.items + 1) (line_turn store own.given.items line) ∷ [] →
-    new.given.items ≡ own.given.items ++ id_given (line_turn store own.given.items line).reply ∷ [] →
+pub one_more : (lines : List ScriptLine) (sessions : List SessionReplies) (service next : Service) (line : ScriptLine) (i : ℕ) (own new : SessionReplies) → HasAnswered lines sessions service →
+    i + 1 ≡ line.session → i < 16 → own ≡ get_or sessions i own →
+    ((it : model.Service) → Stands service it → Stands next (line_served it own.given.items line).service) →
+    ((it : model.Service) → Stands service it → new.replies.items ≡ own.replies.items ++ printed (length own.replies.items + 1) (line_turn it own.given.items line) ∷ []) →
+    ((it : model.Service) → Stands service it → new.given.items ≡ own.given.items ++ id_given (line_turn it own.given.items line).reply ∷ []) →
     HasAnswered (lines ++ line ∷ []) (set sessions i new) next
-one_more lines sessions store next line i own new h place within at n r g =
+one_more lines sessions service next line i own new h place within at n r g =
     let old : AreAnswered lines sessions = h.answered in
+    let it : model.Service = replay (service_start plain_settings) old.history in
     let entry : Entry = line_entry own.given.items line in
-    let t : Turn = line_turn store own.given.items line in
+    let t : Turn = line_turn it own.given.items line in
     let told : AreReplies (i + 1) old.history own = old.told i own within at in
-    let after : turns_from_start (old.history ++ entry ∷ []) ≡ turns_from_start old.history ++ t ∷ [] = one_turn store old.history own.given.items line h.store_is in
+    let after : turns_from_start (old.history ++ entry ∷ []) ≡ turns_from_start old.history ++ t ∷ [] = one_turn old.history own.given.items line in
     record {
       answered = record {
         history = old.history ++ entry ∷ [];
@@ -103,9 +110,9 @@ one_more lines sessions store next line i own new h place within at n r g =
             (calls_more session lines (turns_from_start old.history) line t (old.own session) refl
             (λ e. ap (λ is. call_of is line.call) (told.given ∙ ap (λ s. map (λ t. id_given t.reply) (turns_of s (turns_from_start old.history))) (place ∙ e))));
         sixteen = length-set sessions i new ∙ old.sixteen;
-        told = λ j s below is. each_session sessions old.history (old.history ++ entry ∷ []) t i j own new s (omega (arith, old.sixteen)) old.told below is within at after (sym place) r g;
+        told = λ j s below is. each_session sessions old.history (old.history ++ entry ∷ []) t i j own new s (omega (arith, old.sixteen)) old.told below is within at after (sym place) (r it h.stands) (g it h.stands);
       };
-      store_is = n ∙ ap (λ s. line_store s own.given.items line) h.store_is ∙ sym (replay_more (start_of plain_settings) old.history entry);
+      stands = subst (Stands next) (sym (replay_more (service_start plain_settings) old.history entry)) (n it h.stands);
     }
 
 -- before the first line
@@ -116,8 +123,8 @@ no_calls session = tt
 fresh_at : (sessions : List SessionReplies) → length sessions ≡ 16 → All IsFresh sessions → (i : ℕ) (s : SessionReplies) → i < 16 → s ≡ get_or sessions i s → IsFresh s
 fresh_at sessions n fresh i s below at = subst IsFresh (sym at) (fresh i s (omega (arith, n)))
 
-pub no_line : (sessions : List SessionReplies) (store : Store) → length sessions ≡ 16 → All IsFresh sessions → store ≡ start_of plain_settings → HasAnswered [] sessions store
-no_line sessions store n fresh e = record {
+pub no_line : (sessions : List SessionReplies) (service : Service) → length sessions ≡ 16 → All IsFresh sessions → Stands service (service_start plain_settings) → HasAnswered [] sessions service
+no_line sessions service n fresh stands = record {
   answered = record {
     history = [];
     plain = All-nil _;
@@ -126,7 +133,7 @@ no_line sessions store n fresh e = record {
     sixteen = n;
     told = λ i s below at. (let f = fresh_at sessions n fresh i s below at in record { replies = f.replies; given = f.given });
   };
-  store_is = e;
+  stands = stands;
 }
 
 -- the replies of all sessions
@@ -176,32 +183,33 @@ answers_script lines sessions out h e text is_script = record {
 
 -- how many calls there are
 
-turns_length : (n : ℕ) (store : Store) (es : List Entry) → length (turns n store es) ≡ length es
-turns_length n store [] = refl
-turns_length n store (e ∷ es) = ap suc (turns_length (n + 1) (outcome_of store e).store es)
+turns_length : (n : ℕ) (service : model.Service) (es : List Entry) → length (turns n service es) ≡ length es
+turns_length n service [] = refl
+turns_length n service (e ∷ es) = ap suc (turns_length (n + 1) (outcome_of service e).service es)
 
-pub calls_are : (lines : List ScriptLine) (sessions : List SessionReplies) (store : Store) → HasAnswered lines sessions store → store.calls ≡ length lines
-calls_are lines sessions store h =
-    let from : store.calls ≡ (replay (start_of plain_settings) h.answered.history).calls = ap (λ s. s.calls) h.store_is in
-    omega (arith, from, replay_calls (start_of plain_settings) h.answered.history, h.answered.as_many)
+pub calls_are : (lines : List ScriptLine) (sessions : List SessionReplies) (service : Service) → HasAnswered lines sessions service → service.store.calls ≡ length lines
+calls_are lines sessions service h =
+    let start : model.Service = service_start plain_settings in
+    let from : service.store.calls ≡ (replay start h.answered.history).store.calls = ap (λ s. s.calls) h.stands.store_is in
+    omega (arith, from, replay_calls start h.answered.history, h.answered.as_many)
 
 pub few_replies : (lines : List ScriptLine) (sessions : List SessionReplies) (i : ℕ) (own : SessionReplies) → AreAnswered lines sessions → i < 16 → own ≡ get_or sessions i own →
     length own.replies.items ≤ length lines
 few_replies lines sessions i own h within at =
     let ts : List Turn = turns_from_start h.history in
     let few : length (turns_of (i + 1) ts) ≤ length ts = omega (arith, length-filter (λ t. t.entry.caller == i + 1) ts, count_by-le-length (λ t. t.entry.caller == i + 1) ts) in
-    omega (arith, ap length (h.told i own within at).replies, numbered_length 1 (turns_of (i + 1) ts), turns_length 0 (start_of plain_settings) h.history, h.as_many)
+    omega (arith, ap length (h.told i own within at).replies, numbered_length 1 (turns_of (i + 1) ts), turns_length 0 (service_start plain_settings) h.history, h.as_many)
 
 -- how many random words were drawn
 
-start_draws : (session : ℕ) → session ≤ 16 → (caller_state (start_of plain_settings) session).drawn ≡ 0
+start_draws : (session : ℕ) → session ≤ 16 → (caller_state (service_start plain_settings).store session).drawn ≡ 0
 start_draws session within = ap (λ s. s.drawn) (get_or-replicate 17 session new_caller new_caller (omega (arith, within)))
 
-few_drawn : (lines : List ScriptLine) (sessions : List SessionReplies) (store : Store) (session : ℕ) → session ≤ 16 → HasAnswered lines sessions store →
-    (caller_state store session).drawn ≤ 256 * length lines
-few_drawn lines sessions store session within h =
-    let start : Store = start_of plain_settings in
-    let from : (caller_state store session).drawn ≡ (caller_state (replay start h.answered.history) session).drawn = ap (λ s. (caller_state s session).drawn) h.store_is in
+few_drawn : (lines : List ScriptLine) (sessions : List SessionReplies) (service : Service) (session : ℕ) → session ≤ 16 → HasAnswered lines sessions service →
+    (caller_state service.store session).drawn ≤ 256 * length lines
+few_drawn lines sessions service session within h =
+    let start : model.Service = service_start plain_settings in
+    let from : (caller_state service.store session).drawn ≡ (caller_state (replay start h.answered.history).store session).drawn = ap (λ s. (caller_state s session).drawn) h.stands.store_is in
     omega (arith, from, replay_draws start h.answered.history session, start_draws session within, h.answered.as_many)
 
 -- the next line of a script
@@ -209,24 +217,29 @@ few_drawn lines sessions store session within h =
 pub session_at : (lines : List ScriptLine) (i : ℕ) (line : ScriptLine) → All IsOfSession lines → i < length lines → line ≡ get_or lines i line → IsOfSession line
 session_at lines i line h within at = subst IsOfSession (sym at) (h i line within)
 
-pub next_line : (lines : List ScriptLine) (i : ℕ) (sessions : List SessionReplies) (store next : Store) (line : ScriptLine) (own new : SessionReplies) → i < length lines → line ≡ get_or lines i line →
-    IsOfSession line → HasAnswered (take i lines) sessions store → own ≡ get_or sessions (line.session - 1) own → next ≡ line_store store own.given.items line →
-    new.replies.items ≡ own.replies.items ++ printed (length own.replies.items + 1) (line_turn store own.given.items line) ∷ [] →
-    new.given.items ≡ own.given.items ++ id_given (line_turn store own.given.items line).reply ∷ [] →
+pub well_formed_at : (lines : List ScriptLine) (i : ℕ) (line : ScriptLine) → All IsWellFormed lines → i < length lines → line ≡ get_or lines i line → IsWellFormed line
+well_formed_at lines i line h within at = subst IsWellFormed (sym at) (h i line within)
+
+pub next_line : (lines : List ScriptLine) (i : ℕ) (sessions : List SessionReplies) (service next : Service) (line : ScriptLine) (own new : SessionReplies) → i < length lines → line ≡ get_or lines i line →
+    IsOfSession line → HasAnswered (take i lines) sessions service → own ≡ get_or sessions (line.session - 1) own →
+    ((it : model.Service) → Stands service it → Stands next (line_served it own.given.items line).service) →
+    ((it : model.Service) → Stands service it → new.replies.items ≡ own.replies.items ++ printed (length own.replies.items + 1) (line_turn it own.given.items line) ∷ []) →
+    ((it : model.Service) → Stands service it → new.given.items ≡ own.given.items ++ id_given (line_turn it own.given.items line).reply ∷ []) →
     HasAnswered (take (i + 1) lines) (set sessions (line.session - 1) new) next
-next_line lines i sessions store next line own new within at own_session h first n r g =
+next_line lines i sessions service next line own new within at own_session h first n r g =
     subst (λ ls. HasAnswered ls (set sessions (line.session - 1) new) next) (sym (take_more lines i line within ∙ ap (λ l. take i lines ++ l ∷ []) (sym at)))
-    (one_more (take i lines) sessions store next line (line.session - 1) own new h (omega (arith, own_session.0, own_session.1)) (omega (arith, own_session.0, own_session.1)) first n r g)
+    (one_more (take i lines) sessions service next line (line.session - 1) own new h (omega (arith, own_session.0, own_session.1)) (omega (arith, own_session.0, own_session.1)) first n r g)
 
-pub few_calls : (lines : List ScriptLine) (i : ℕ) (sessions : List SessionReplies) (store : Store) → length lines ≤ 20000 → i < length lines → HasAnswered (take i lines) sessions store → store.calls < 2 ^ 62
-few_calls lines i sessions store few within h = omega (arith, calls_are (take i lines) sessions store h, length-take-le i lines (omega arith))
+pub few_calls : (lines : List ScriptLine) (i : ℕ) (sessions : List SessionReplies) (service : Service) → length lines ≤ 20000 → i < length lines → HasAnswered (take i lines) sessions service →
+    service.store.calls < 2 ^ 62
+few_calls lines i sessions service few within h = omega (arith, calls_are (take i lines) sessions service h, length-take-le i lines (omega arith))
 
-pub few_words : (lines : List ScriptLine) (i : ℕ) (sessions : List SessionReplies) (store : Store) (line : ScriptLine) → length lines ≤ 20000 → i < length lines → IsOfSession line →
-    HasAnswered (take i lines) sessions store → (caller_state store line.session).drawn + 256 ≤ 2 ^ 60
-few_words lines i sessions store line few within own_session h =
-    omega (arith, few_drawn (take i lines) sessions store line.session own_session.1 h, length-take-le i lines (omega arith))
+pub few_words : (lines : List ScriptLine) (i : ℕ) (sessions : List SessionReplies) (service : Service) (line : ScriptLine) → length lines ≤ 20000 → i < length lines → IsOfSession line →
+    HasAnswered (take i lines) sessions service → (caller_state service.store line.session).drawn + 256 ≤ 2 ^ 60
+few_words lines i sessions service line few within own_session h =
+    omega (arith, few_drawn (take i lines) sessions service line.session own_session.1 h, length-take-le i lines (omega arith))
 
-pub few_own : (lines : List ScriptLine) (i : ℕ) (sessions : List SessionReplies) (store : Store) (line : ScriptLine) (own : SessionReplies) → length lines ≤ 20000 → i < length lines → IsOfSession line →
-    HasAnswered (take i lines) sessions store → own ≡ get_or sessions (line.session - 1) own → length own.replies.items < 2 ^ 31
-few_own lines i sessions store line own few within own_session h at =
+pub few_own : (lines : List ScriptLine) (i : ℕ) (sessions : List SessionReplies) (service : Service) (line : ScriptLine) (own : SessionReplies) → length lines ≤ 20000 → i < length lines → IsOfSession line →
+    HasAnswered (take i lines) sessions service → own ≡ get_or sessions (line.session - 1) own → length own.replies.items < 2 ^ 31
+few_own lines i sessions service line own few within own_session h at =
     omega (arith, few_replies (take i lines) sessions (line.session - 1) own h.answered (omega (arith, own_session.0, own_session.1)) at, length-take-le i lines (omega arith))

@@ -20,11 +20,10 @@ use Rattle.store_model.specs.Ciphers.{mode_of, iv_length, enciphered, deciphered
 use Rattle.store_model.specs.Aeads as aeads
 use Rattle.store_model.specs.Aeads.{sealed, opened, aead_tag, aead_text}
 use Rattle.store_model.specs.Step.{step}
-use Rattle.store_core.specs.Answers.{AnswersLength, AnswersOrSpoils}
+use Rattle.store_model.specs.Answers.{AnswersLength, AnswersOrSpoils}
 use Rattle.script_lang.specs.PrintedOrder.{id_given}
 use Rattle.psa_host.specs.declared.answers.Answer.{Answer}
 use Rattle.psa_host.specs.LineOrder.{Answers, Fills}
-use Rattle.psa_host.proofs.Ends.{if_ok_weaker}
 
 pub as_spoils : (answer : Result ℕ Status) (reply : Reply) → AnswersLength answer reply → AnswersOrSpoils answer reply
 as_spoils (Ok n) reply h = h
@@ -96,11 +95,10 @@ no_id store caller (MacVerify id alg input mac) h = absurd h
 -- a call is answered by what it left in its buffer
 pub is_answered : (store : Store) (caller : ℕ) (call called : Call) (made : Result Answer Memory) (answer : Result ℕ Status) (before out : List ℕ) → HasRoom called →
     called ≡ call → AnswersOrSpoils answer (step store caller called Plain).reply → out ≡ buffer_after before (step store caller called Plain).reply →
-    IfOk made (λ a. (reply : Reply) → Fills answer out reply → Answers a reply) → IfOk made (λ a. Answers a (step store caller call Plain).reply)
+    ((reply : Reply) → Fills answer out reply → IfOk made (λ a. Answers a reply)) → IfOk made (λ a. Answers a (step store caller call Plain).reply)
 is_answered store caller call called made answer before out h e spoils after filled =
     subst (λ call. IfOk made (λ a. Answers a (step store caller call Plain).reply)) e
-    (if_ok_weaker made (λ a. (reply : Reply) → Fills answer out reply → Answers a reply) (λ a. Answers a (step store caller called Plain).reply)
-    (λ a all. all (step store caller called Plain).reply (record { answers = spoils; before = before; after = after; no_id = no_id store caller called h })) filled)
+    (filled (step store caller called Plain).reply (record { answers = spoils; before = before; after = after; no_id = no_id store caller called h }))
 
 -- two calls with equal arguments, on a message, and on a message with a nonce and associated data
 

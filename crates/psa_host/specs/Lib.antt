@@ -1,3 +1,4 @@
+pub mod Services
 pub mod LineOrder
 pub mod Ends
 pub mod Program

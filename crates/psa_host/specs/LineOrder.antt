@@ -1,16 +1,20 @@
 -- What a run in line order knows of the calls that are made.
 use Rattle.std.specs.Prelude.{ℕ, ◌≡◌, ◌<◌, ◌+◌, Result, List, [], length, map, flat_map, get_or, All}
 use Rattle.psa_status.specs.declared.Status.{Status}
-use Rattle.store_model.specs.Store.{Store, start_of, plain_settings}
+use Rattle.store_model.specs.Store.{plain_settings}
 use Rattle.store_model.specs.Call.{Reply, output_bytes, buffer_after}
 use Rattle.store_model.specs.Faults.{Plain}
+use Rattle.store_model.specs.Handles as model
+use Rattle.store_model.specs.Handles.{Served, service_start}
 use Rattle.store_model.specs.Replay.{Entry, outcome_of, replay}
-use Rattle.store_core.specs.Answers.{AnswersOrSpoils}
+use Rattle.store_model.specs.Answers.{AnswersOrSpoils}
 use Rattle.script_lang.specs.declared.script.ScriptLine.{ScriptLine}
 use Rattle.script_lang.specs.declared.replies.ReplyLine.{ReplyLine}
 use Rattle.script_lang.specs.PrintedOrder.{Turn, turns_from_start, turns_of, lines_of, AreCalls, call_of, id_given, numbered}
 use Rattle.psa_host.specs.declared.answers.Answer.{Answer}
+use Rattle.psa_host.specs.declared.service.Service.{Service}
 use Rattle.psa_host.specs.declared.sessions.SessionReplies.{SessionReplies}
+use Rattle.psa_host.specs.Services.{Stands}
 
 -- what is known of a call's answer
 pub record Answers (a : Answer) (reply : Reply) : Type 0 where
@@ -29,11 +33,13 @@ pub record Fills (answer : Result ℕ Status) (out : List ℕ) (reply : Reply) :
 abbrev pub line_entry : List ℕ → ScriptLine → Entry
 line_entry ids line = record { caller = line.session; call = call_of ids line.call; mark = Plain; done = 0; faults = 0; hard = 0 }
 
-abbrev pub line_store : Store → List ℕ → ScriptLine → Store
-line_store store ids line = (outcome_of store (line_entry ids line)).store
+-- the service and the reply after a line's call
+abbrev pub line_served : model.Service → List ℕ → ScriptLine → Served
+line_served service ids line = outcome_of service (line_entry ids line)
 
-abbrev pub line_turn : Store → List ℕ → ScriptLine → Turn
-line_turn store ids line = record { entry = line_entry ids line; rank = store.calls; reply = (outcome_of store (line_entry ids line)).reply }
+-- a line's call as it stands in a history
+abbrev pub line_turn : model.Service → List ℕ → ScriptLine → Turn
+line_turn service ids line = record { entry = line_entry ids line; rank = service.store.calls; reply = (line_served service ids line).reply }
 
 -- no call was made for a session
 pub record IsFresh (s : SessionReplies) : Type 0 where
@@ -54,10 +60,10 @@ pub record AreAnswered (lines : List ScriptLine) (sessions : List SessionReplies
   pub sixteen : length sessions ≡ 16
   pub told : (i : ℕ) (s : SessionReplies) → i < 16 → s ≡ get_or sessions i s → AreReplies (i + 1) history s
 
--- the same with the store that these calls left
-pub record HasAnswered (lines : List ScriptLine) (sessions : List SessionReplies) (store : Store) : Type 0 where
+-- the same, and what the service stands for after these calls
+pub record HasAnswered (lines : List ScriptLine) (sessions : List SessionReplies) (service : Service) : Type 0 where
   pub answered : AreAnswered lines sessions
-  pub store_is : store ≡ replay (start_of plain_settings) answered.history
+  pub stands : Stands service (replay (service_start plain_settings) answered.history)
 
 -- the replies of all sessions, in their order
 abbrev pub all_replies : List SessionReplies → List ReplyLine

@@ -3,7 +3,8 @@ ghost use Rattle.std.specs.Prelude.{◌≡◌, ◌≤◌, ◌++◌, Ok, IfOk, On
 ghost use Rattle.psa_status.specs.declared.Status.TheVariants.{Success};
 ghost use Rattle.store_model.specs.Call.{Reply, attribute_bytes, output_bytes};
 ghost use Rattle.store_model.specs.Outcome.{refusal};
-ghost use Rattle.store_core.specs.Answers.{id_reply, attributes_answer, plain_reply, AnswersLength};
+ghost use Rattle.store_model.specs.Answers.{id_reply, attributes_answer, plain_reply, AnswersLength};
+ghost use Rattle.derivation_states.specs.Replies.{number_reply};
 ghost use Rattle.psa_host.specs.LineOrder.{Answers, Fills};
 
 use key_attributes::{Attributes, KeyId};
@@ -93,14 +94,30 @@ pub fn described(alloc: Global, answer: Result<Attributes, Status>) -> Result<An
     }
 }
 
-/// What a call answered that fills an output buffer, which then holds `out`.
+/// What a call answered that asks for a number.
+pub fn measured(alloc: Global, answer: Result<u64, Status>) -> Result<Answer, Memory>
+    ensures { IfOk result (λ a. Answers a (number_reply answer)) }
+{
+    match answer {
+        Ok(number) => {
+            let bytes = ByteList::from_slice(alloc, &number.to_be_bytes())?;
+            Ok(Answer {
+                status: Status::Success,
+                bytes,
+                id: 0,
+            })
+        }
+        Err(status) => refused(alloc, status),
+    }
+}
+
+/// What a call answered that fills an output buffer, which then holds `out`. No more than `out` has is printed.
 pub fn filled(alloc: Global, answer: Result<usize, Status>, out: &[u8]) -> Result<Answer, Memory>
-    requires { IfOk answer (λ n. n ≤ length out.now) }
-    ensures { IfOk result (λ a. (reply : Reply) → Fills answer out.now reply → Answers a reply) }
+    ensures { (reply : Reply) → Fills answer out.now reply → IfOk result (λ a. Answers a reply) }
 {
     match answer {
         Ok(length) => {
-            let bytes = ByteList::from_slice(alloc, &out[..length])?;
+            let bytes = ByteList::from_slice(alloc, &out[..length.min(out.len())])?;
             Ok(Answer {
                 status: Status::Success,
                 bytes,

@@ -5,6 +5,7 @@ ghost use Rattle.psa_status.specs.Causes.{Rose};
 ghost use Rattle.outside_io.specs.Causes.{TellsAsBefore};
 ghost use Rattle.script_lang.specs.declared.faults.ScriptFault.{ScriptFault};
 ghost use Rattle.script_lang.specs.declared.faults.ScriptFault.TheVariants as faults;
+ghost use Rattle.script_lang.specs.Limits.{IsWellFormed};
 ghost use Rattle.script_lang.specs.Lines.{script_of, IsOfSession};
 ghost use Rattle.script_lang.specs.PrintedOrder.{IsAnswer};
 ghost use Rattle.psa_host.specs.Ends.{AreWords, Answered, PartlyAnswered, IsReadToEnd, IsQuiet, status_of};
@@ -63,6 +64,7 @@ fn are_words(words: &[&str]) -> bool
 /// The text that answers a script.
 fn answer_text(alloc: Global, lines: &[ScriptLine]) -> Result<Vec<u8>, Memory>
     requires sessions { All IsOfSession lines.now }
+    requires limits { All IsWellFormed lines.now }
     requires few { length lines.now ≤ 20000 }
     ensures { IfOk result (λ out. (text : List ℕ) → script_of text ≡ Ok lines.now → IsAnswer text out.items) }
 {
@@ -70,8 +72,8 @@ fn answer_text(alloc: Global, lines: &[ScriptLine]) -> Result<Vec<u8>, Memory>
     text_of_sessions(alloc, &sessions)
 }
 
-/// Takes the calls of a script from the source, makes them in line order on a store without a key, and
-/// writes one reply line a call to the sink. The disk is handed back as it was given.
+/// Takes the calls of a script from the source, makes them in line order on a store without a key and on
+/// inactive operations, and writes one reply line a call to the sink. The disk is handed back as it was given.
 pub fn run_command<S: Source, K: Sink, D: Disk + Send>(
     alloc: Global,
     words: &[&str],
@@ -79,7 +81,7 @@ pub fn run_command<S: Source, K: Sink, D: Disk + Send>(
     sink: &mut K,
     disk: D,
 ) -> Ended<D>
-    // The bytes written are the replies of one order of the script's calls, replayed on the one-thread store.
+    // The bytes written are the replies of one order of the script's calls, replayed on the one-thread service.
     ensures done { result.exit ≡ Exit.Done → IfSome (S.left source.old) (λ text. Answered text (K.taken sink.old) (K.taken sink.new)) }
     ensures partly { result.exit ≡ Exit.WriteFault → IfSome (S.left source.old) (λ text. PartlyAnswered text (K.taken sink.old) (K.taken sink.new)) }
     ensures quiet { IsQuiet result.exit → sink.new ≡ sink.old }

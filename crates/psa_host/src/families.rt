@@ -1,44 +1,19 @@
-// The calls of each family. `given` has the identifiers that the session's calls before gave.
-ghost use Rattle.std.specs.Prelude.{◌≡◌, ◌≤◌, ◌<◌, ◌^◌, ◌+◌, IfOk, OnOk, length};
+// The calls on the store, by families. `given` has the identifiers that the session's calls before gave.
+ghost use Rattle.std.specs.Prelude.{◌≡◌, ◌≤◌, ◌<◌, ◌^◌, ◌+◌, IfOk, length};
 ghost use Rattle.store_model.specs.Store.{caller_state};
 ghost use Rattle.store_model.specs.Faults.{Plain};
 ghost use Rattle.store_model.specs.Step.{step};
-ghost use Rattle.script_lang.specs.PrintedOrder.{key_of, attributes_of, creation, key_call, hash_call, mac_call, cipher_call, aead_call};
+ghost use Rattle.script_lang.specs.Limits.{IsAeadCall, IsCipherCall, IsHashCall, IsKeyCall, IsMacCall};
+ghost use Rattle.script_lang.specs.PrintedOrder.{creation, key_call, hash_call, mac_call, cipher_call, aead_call};
 ghost use Rattle.psa_host.specs.LineOrder.{Answers};
 
 use crate::answers::{Answer, created, described, filled, finished};
+use crate::words::{attributes_of, key_of};
 use alg_encoding::Alg;
-use key_attributes::{Attributes, KeyId, KeyType, Lifetime, Policy, Usage};
 use psa_status::Memory;
-use script_lang::{AeadCall, CipherCall, Creation, HashCall, KeyCall, KeyWord, MacCall};
+use script_lang::{AeadCall, CipherCall, Creation, HashCall, KeyCall, MacCall};
 use std::alloc::Global;
 use store_core::Store;
-
-/// The identifier of a key word.
-fn key_of(given: &[u32], key: KeyWord) -> KeyId
-    ensures { result.0 ≡ key_of given.now key }
-{
-    match key {
-        KeyWord::Given(id) => id,
-        KeyWord::Line(place) => KeyId(given.get(place as usize).copied().unwrap_or(0)),
-    }
-}
-
-/// The attributes that a line states.
-fn attributes_of(key_type: u16, usage: u32, alg: u32, life: u32, id: u32, bits: u16) -> Attributes
-    ensures { result ≡ attributes_of key_type usage alg life id bits }
-{
-    Attributes {
-        lifetime: Lifetime(life),
-        id: KeyId(id),
-        key_type: KeyType(key_type),
-        bits,
-        policy: Policy {
-            usage: Usage(usage),
-            alg,
-        },
-    }
-}
 
 /// Creates a key.
 pub fn create(
@@ -52,7 +27,7 @@ pub fn create(
     requires last { caller ≤ 16 }
     requires turns { store.old.calls < 2 ^ 62 }
     requires words { (caller_state store.old caller).drawn + 256 ≤ 2 ^ 60 }
-    ensures store { OnOk result (store.new ≡ (step store.old caller (creation given.now call.now) Plain).store) }
+    ensures store { store.new ≡ (step store.old caller (creation given.now call.now) Plain).store }
     ensures reply { IfOk result (λ a. Answers a (step store.old caller (creation given.now call.now) Plain).reply) }
 {
     match call {
@@ -109,8 +84,9 @@ pub fn on_key(
     requires first { 1 ≤ caller }
     requires last { caller ≤ 16 }
     requires turns { store.old.calls < 2 ^ 62 }
-    requires room { 65535 ≤ length buffer.old }
-    ensures store { OnOk result (store.new ≡ (step store.old caller (key_call given.now call.now) Plain).store) }
+    requires room { 16448 ≤ length buffer.old }
+    requires limits { IsKeyCall call.now }
+    ensures store { store.new ≡ (step store.old caller (key_call given.now call.now) Plain).store }
     ensures reply { IfOk result (λ a. Answers a (step store.old caller (key_call given.now call.now) Plain).reply) }
 {
     match call {
@@ -139,8 +115,9 @@ pub fn hash(
     requires first { 1 ≤ caller }
     requires last { caller ≤ 16 }
     requires turns { store.old.calls < 2 ^ 62 }
-    requires room { 65535 ≤ length buffer.old }
-    ensures store { OnOk result (store.new ≡ (step store.old caller (hash_call call.now) Plain).store) }
+    requires room { 16448 ≤ length buffer.old }
+    requires limits { IsHashCall call.now }
+    ensures store { store.new ≡ (step store.old caller (hash_call call.now) Plain).store }
     ensures reply { IfOk result (λ a. Answers a (step store.old caller (hash_call call.now) Plain).reply) }
 {
     match call {
@@ -168,8 +145,9 @@ pub fn mac(
     requires first { 1 ≤ caller }
     requires last { caller ≤ 16 }
     requires turns { store.old.calls < 2 ^ 62 }
-    requires room { 65535 ≤ length buffer.old }
-    ensures store { OnOk result (store.new ≡ (step store.old caller (mac_call given.now call.now) Plain).store) }
+    requires room { 16448 ≤ length buffer.old }
+    requires limits { IsMacCall call.now }
+    ensures store { store.new ≡ (step store.old caller (mac_call given.now call.now) Plain).store }
     ensures reply { IfOk result (λ a. Answers a (step store.old caller (mac_call given.now call.now) Plain).reply) }
 {
     match call {
@@ -212,8 +190,9 @@ pub fn cipher(
     requires last { caller ≤ 16 }
     requires turns { store.old.calls < 2 ^ 62 }
     requires words { (caller_state store.old caller).drawn + 256 ≤ 2 ^ 60 }
-    requires room { 65535 ≤ length buffer.old }
-    ensures store { OnOk result (store.new ≡ (step store.old caller (cipher_call given.now call.now) Plain).store) }
+    requires room { 16448 ≤ length buffer.old }
+    requires limits { IsCipherCall call.now }
+    ensures store { store.new ≡ (step store.old caller (cipher_call given.now call.now) Plain).store }
     ensures reply { IfOk result (λ a. Answers a (step store.old caller (cipher_call given.now call.now) Plain).reply) }
 {
     match call {
@@ -254,8 +233,9 @@ pub fn aead(
     requires first { 1 ≤ caller }
     requires last { caller ≤ 16 }
     requires turns { store.old.calls < 2 ^ 62 }
-    requires room { 65535 ≤ length buffer.old }
-    ensures store { OnOk result (store.new ≡ (step store.old caller (aead_call given.now call.now) Plain).store) }
+    requires room { 16448 ≤ length buffer.old }
+    requires limits { IsAeadCall call.now }
+    ensures store { store.new ≡ (step store.old caller (aead_call given.now call.now) Plain).store }
     ensures reply { IfOk result (λ a. Answers a (step store.old caller (aead_call given.now call.now) Plain).reply) }
 {
     match call {

@@ -5,14 +5,30 @@ ghost use Rattle.std.specs.Prelude.{◌≡◌};
 ghost use Rattle.psa_host.specs.Program.{end_status};
 
 mod adapters;
+mod aead_steps;
+#[cfg(test)]
+mod aead_tests;
 mod answers;
 mod calls;
+mod cipher_steps;
+#[cfg(test)]
+mod cipher_tests;
 mod command;
+mod derivation_steps;
+#[cfg(test)]
+mod derivation_tests;
 mod families;
+mod handles;
+mod hash_steps;
+mod mac_steps;
+#[cfg(test)]
+mod operation_tests;
+mod service;
 mod sessions;
 #[cfg(test)]
 mod tests;
 mod texts;
+mod words;
 
 use adapters::{FileDisk, Reading, Writing};
 use command::{Ended, Exit, run_command};

@@ -179,7 +179,7 @@ const RUNS: [(&[u8], u8, &[u8]); 17] = [
 ];
 
 /// The status of a run of a script, or 255 where the disk was used; and what was written.
-fn status_of(alloc: Global, words: &[&str], script: Vec<u8>) -> (u8, MemorySink) {
+pub fn status_of(alloc: Global, words: &[&str], script: Vec<u8>) -> (u8, MemorySink) {
     let mut source = MemorySource::new(script, Vec::new(alloc));
     let mut sink = MemorySink::new(alloc, Vec::new(alloc));
     let disk = BrokenDisk { faults: 0 };

@@ -1,5 +1,6 @@
-use Rattle.std.proofs.Common.{◌≡◌, ◌≤◌, ◌∙◌, sym, ap, take, length, length-take-le, arith}
+use Rattle.std.proofs.Common.{◌≡◌, ◌≤◌, ◌∙◌, sym, ap, subst, take, length, length-take-le, arith}
 use Rattle.store_model.specs.Call.{AeadEncrypt, AeadDecrypt}
+use Rattle.script_lang.specs.Limits.{IsAeadCall}
 use Rattle.script_lang.specs.PrintedOrder.{aead_call}
 use Rattle.psa_host.proofs.Outputs.{is_answered, as_spoils, same_sealing}
 use Rattle.psa_host.proofs.families.aead.Goals as goal
@@ -7,7 +8,8 @@ use Rattle.psa_host.proofs.families.aead.Goals as goal
 pub returns-in-Encrypt-clause-reply : goal.returns-in-Encrypt-clause-reply
 returns-in-Encrypt-clause-reply c =
     let before = take c.in-Encrypt.room c.args.buffer.now in
-    let fits : c.in-Encrypt.room ≤ length c.args.buffer.now = omega (arith, c.requires.room) in
+    let limit : c.in-Encrypt.room ≤ 16448 = subst IsAeadCall c.in-Encrypt.is c.requires.limits in
+    let fits : c.in-Encrypt.room ≤ length c.args.buffer.now = omega (arith, limit, c.requires.room) in
     let whole : length before ≡ c.in-Encrypt.room = length-take-le c.in-Encrypt.room c.args.buffer.now fits in
     is_answered c.args.store.now c.args.caller (aead_call c.args.given.now c.args.call.now)
     (AeadEncrypt c.key_of-key.result.0 c.in-Encrypt.alg c.as_slice.result.now c.as_slice-in-Encrypt.result.now c.as_slice-in-Encrypt-2.result.now (length before)) c.filled.result
@@ -18,7 +20,8 @@ returns-in-Encrypt-clause-reply c =
 pub returns-in-Decrypt-clause-reply : goal.returns-in-Decrypt-clause-reply
 returns-in-Decrypt-clause-reply c =
     let before = take c.in-Decrypt.room c.args.buffer.now in
-    let fits : c.in-Decrypt.room ≤ length c.args.buffer.now = omega (arith, c.requires.room) in
+    let limit : c.in-Decrypt.room ≤ 16448 = subst IsAeadCall c.in-Decrypt.is c.requires.limits in
+    let fits : c.in-Decrypt.room ≤ length c.args.buffer.now = omega (arith, limit, c.requires.room) in
     let whole : length before ≡ c.in-Decrypt.room = length-take-le c.in-Decrypt.room c.args.buffer.now fits in
     is_answered c.args.store.now c.args.caller (aead_call c.args.given.now c.args.call.now)
     (AeadDecrypt c.key_of-key-in-Decrypt.result.0 c.in-Decrypt.alg c.as_slice-in-Decrypt.result.now c.as_slice-in-Decrypt-2.result.now c.as_slice-in-Decrypt-3.result.now (length before)) c.filled-in-Decrypt.result
