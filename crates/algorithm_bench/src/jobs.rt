@@ -14,33 +14,62 @@ pub enum Algorithm {
     Ctr,
     Gcm,
     Ccm,
+    /// A block of PBKDF2-HMAC-SHA-256 of 10,000 turns, with the text as its salt.
+    Pbkdf2,
 }
 
-impl Algorithm {
-    /// The algorithm of a name; `None` exactly where it is the name of none.
-    pub fn named(name: &str) -> Option<Algorithm>
+/// What has updates: an algorithm of an operation in several parts.
+#[derive(Clone, Copy, Drop)]
+pub enum Family {
+    Sha256,
+    Hmac,
+    Cmac,
+    Ctr,
+    Cbc,
+    Gcm,
+    Ccm,
+}
+
+/// What runs: an algorithm over a whole text, or the update of an operation with one.
+#[derive(Clone, Copy, Drop)]
+pub enum Work {
+    Whole(Algorithm),
+    Update(Family),
+}
+
+impl Work {
+    /// The work of a name; `None` exactly where it is the name of none.
+    pub fn named(name: &str) -> Option<Work>
         ensures { MatchOption result
-            ((a : Algorithm) → name.now ≡ name_of a → ⊥) (λ a. name.now ≡ name_of a) }
+            ((w : Work) → name.now ≡ name_of w → ⊥) (λ w. name.now ≡ name_of w) }
     {
         match name {
-            "sha2" => Some(Algorithm::Sha2),
-            "sha256" => Some(Algorithm::Sha256),
-            "hmac" => Some(Algorithm::Hmac),
-            "cmac" => Some(Algorithm::Cmac),
-            "ecb" => Some(Algorithm::Ecb),
-            "cbc" => Some(Algorithm::Cbc),
-            "ctr" => Some(Algorithm::Ctr),
-            "gcm" => Some(Algorithm::Gcm),
-            "ccm" => Some(Algorithm::Ccm),
+            "sha2" => Some(Work::Whole(Algorithm::Sha2)),
+            "sha256" => Some(Work::Whole(Algorithm::Sha256)),
+            "hmac" => Some(Work::Whole(Algorithm::Hmac)),
+            "cmac" => Some(Work::Whole(Algorithm::Cmac)),
+            "ecb" => Some(Work::Whole(Algorithm::Ecb)),
+            "cbc" => Some(Work::Whole(Algorithm::Cbc)),
+            "ctr" => Some(Work::Whole(Algorithm::Ctr)),
+            "gcm" => Some(Work::Whole(Algorithm::Gcm)),
+            "ccm" => Some(Work::Whole(Algorithm::Ccm)),
+            "pbkdf2" => Some(Work::Whole(Algorithm::Pbkdf2)),
+            "sha256_update" => Some(Work::Update(Family::Sha256)),
+            "hmac_update" => Some(Work::Update(Family::Hmac)),
+            "cmac_update" => Some(Work::Update(Family::Cmac)),
+            "ctr_update" => Some(Work::Update(Family::Ctr)),
+            "cbc_update" => Some(Work::Update(Family::Cbc)),
+            "gcm_update" => Some(Work::Update(Family::Gcm)),
+            "ccm_update" => Some(Work::Update(Family::Ccm)),
             _ => None,
         }
     }
 }
 
-/// An algorithm, the number of bytes of its text, and how often it runs.
+/// What runs, the number of bytes of its text, and how often.
 #[derive(Clone, Copy, Drop)]
 pub struct Job {
-    pub algorithm: Algorithm,
+    pub work: Work,
     pub bytes: usize,
     pub turns: usize,
 }
@@ -64,17 +93,13 @@ impl Job {
             ((job : Job) → AreOfJob name.now bytes.now turns.now job → ⊥)
             (λ job. AreOfJob name.now bytes.now turns.now job) }
     {
-        let algorithm = Algorithm::named(name)?;
+        let work = Work::named(name)?;
         let bytes = number(bytes)?;
         let turns = number(turns)?;
         if bytes < 16 || bytes > 65536 || bytes % 16 != 0 {
             return None;
         }
-        Some(Job {
-            algorithm,
-            bytes,
-            turns,
-        })
+        Some(Job { work, bytes, turns })
     }
 }
 

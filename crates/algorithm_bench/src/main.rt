@@ -1,18 +1,21 @@
 //! Runs an algorithm over a text again and again, so that its time can be taken from outside:
-//! `algorithm_bench NAME BYTES TURNS`. It prints the first bytes of the last output.
+//! `algorithm_bench NAME BYTES TURNS`. It prints the front of the last output, or what became of updates.
 #![tactic(auto)]
 
 ghost use Rattle.algorithm_bench.specs.Jobs.{IsJob};
 
 mod jobs;
 mod turns;
+mod updates;
 
-use jobs::Job;
+use jobs::{Algorithm, Family, Job, Work};
 use std::process::ExitCode;
 use std::{env, io};
+use updates::{Failure, Handle};
 
 const USAGE: &str = "usage: algorithm_bench NAME BYTES TURNS
-NAME is sha2, sha256, hmac, cmac, ecb, cbc, ctr, gcm or ccm.
+NAME is sha2, sha256, hmac, cmac, ecb, cbc, ctr, gcm, ccm or pbkdf2, or the update of an operation:
+sha256_update, hmac_update, cmac_update, ctr_update, cbc_update, gcm_update or ccm_update.
 BYTES is a multiple of 16, from 16 to 65536.";
 
 // The words after the program's name.
@@ -24,13 +27,28 @@ fn arguments(rt: &HostRuntime) -> io::Result<Vec<String>> {
     Ok(arguments)
 }
 
-// Does a job over a text of zeros.
-fn do_job(rt: &HostRuntime, job: Job) -> io::Result<()>
+// Runs an algorithm over a text of zeros.
+fn run_whole(rt: &HostRuntime, algorithm: Algorithm, job: Job) -> io::Result<()>
     requires { IsJob job }
 {
     let mut text = vec![in rt.alloc(); 0u8; job.bytes]?;
-    let front = turns::run(job.algorithm, &mut text, job.turns);
+    let front = turns::run(algorithm, &mut text, job.turns);
     println!(rt; "{front:016x}")
+}
+
+// Updates an operation with a text of zeros.
+fn run_updates(rt: &HostRuntime, family: Family, job: Job) -> io::Result<()> {
+    let text = vec![in rt.alloc(); 0u8; job.bytes]?;
+    let mut out = vec![in rt.alloc(); 0u8; 65536]?;
+    let made = match Handle::open(rt.alloc(), family) {
+        Ok(mut handle) => handle.run(&text, &mut out, job.turns),
+        Err(failure) => Err(failure),
+    };
+    match made {
+        Ok(()) => println!(rt; "updated"),
+        Err(Failure::Memory) => println!(rt; "out of memory"),
+        Err(Failure::Refused) => println!(rt; "refused"),
+    }
 }
 
 fn main(rt: HostRuntime) -> io::Result<ExitCode> {
@@ -43,6 +61,9 @@ fn main(rt: HostRuntime) -> io::Result<ExitCode> {
         eprintln!(rt; "{USAGE}")?;
         return Ok(ExitCode::FAILURE);
     };
-    do_job(&rt, job)?;
+    match job.work {
+        Work::Whole(algorithm) => run_whole(&rt, algorithm, job)?,
+        Work::Update(family) => run_updates(&rt, family, job)?,
+    }
     Ok(ExitCode::SUCCESS)
 }

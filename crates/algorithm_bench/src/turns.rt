@@ -9,6 +9,7 @@ use cmac_ops::cmac;
 use hash_ops::Hash;
 use hash_ops::one_shot::hash;
 use hmac_ops::hmac;
+use kdf_core::pbkdf2_block;
 use sha2::{Digest, Sha256};
 
 const KEY: [u8; 16] = [0; 16];
@@ -38,6 +39,9 @@ fn turn(algorithm: Algorithm, key: &AesKey, text: &mut [u8], out: &mut [u8; 64])
         Algorithm::Ctr => ctr_xor(key, &IV, text),
         Algorithm::Gcm => aead_gcm::seal(key, &NONCE, &[], text, &mut out[..16]),
         Algorithm::Ccm => aead_ccm::seal(key, &NONCE, &[], text, &mut out[..16]),
+        Algorithm::Pbkdf2 => {
+            pbkdf2_block(Hash::Sha256, &KEY, text, 10_000, 1, out);
+        }
     }
 }
 
