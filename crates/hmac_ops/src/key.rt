@@ -1,6 +1,8 @@
 // A key whose pads are hashed once, for any number of messages.
 
-ghost use Rattle.std.specs.Prelude.{ℕ, List, []};
+ghost use Rattle.std.specs.Prelude.{◌≡◌, ◌≤◌, ℕ, List, [], drop, take};
+ghost use Rattle.crypto_specs.specs.Hmac.{hmac};
+ghost use Rattle.hash_ops.specs.Hashes.{block_length, digest_length, hash_of};
 ghost use Rattle.hmac_ops.specs.States.{HoldsHmac, IsHmacKey, IsWipedHmacKey};
 
 use crate::pads::{key_block, xored_with};
@@ -37,6 +39,19 @@ impl HmacKey {
             inner: self.inner.duplicate(),
             outer: self.outer.duplicate(),
         }
+    }
+
+    /// Writes the authentication code of the first `length` bytes of a block over its front, whose rest stays, and
+    /// answers the code's length.
+    pub fn code_in_place(&self, block: &mut [u8; 64], length: usize) -> usize
+        requires { length ≤ 64 }
+        ensures bound { result ≤ 64 }
+        ensures length { (which : Hash) (key : List ℕ) → IsHmacKey self.now which key → result ≡ digest_length which }
+        ensures code { (which : Hash) (key : List ℕ) → IsHmacKey self.now which key →
+            take result block.new ≡ hmac (hash_of which) (block_length which) key (take length block.old) }
+        ensures rest { drop result block.new ≡ drop result block.old }
+    {
+        self.outer.nested_digest(&self.inner, block, length)
     }
 
     /// Forgets the key: the hashes are then those of the empty message.

@@ -217,7 +217,7 @@ fn standard_cases(rt: HostRuntime) -> Result<(), Fail> {
     Ok(())
 }
 
-// Two messages under one key made ready, the second after the first one's state is forgotten.
+// Messages under one key made ready, whole and in pieces, the last after another one's state is forgotten.
 #[test]
 fn a_key_made_ready(rt: HostRuntime) -> Result<(), Fail> {
     let (bytes, message, codes) = CASES[1];
@@ -225,12 +225,16 @@ fn a_key_made_ready(rt: HostRuntime) -> Result<(), Fail> {
     let mut other = key.start();
     other.update(b"another message");
     other.wipe();
+    let mut out = [0u8; 64];
+    out[..message.len()].copy_from_slice(message);
+    let length = key.code_in_place(&mut out, message.len());
+    let written = out.get(..length).ok_or("length")?;
+    assert_eq!(rt; written, codes[1]);
     let mut state = key.start();
     key.wipe();
     for byte in message {
         state.update(&[*byte]);
     }
-    let mut out = [0u8; 64];
     let length = state.finish(&mut out);
     let written = out.get(..length).ok_or("length")?;
     assert_eq!(rt; written, codes[1]);

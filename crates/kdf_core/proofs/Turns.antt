@@ -1,11 +1,12 @@
 -- PBKDF2: the sum of the turns that are left.
-use Rattle.std.proofs.Common.{◌≡◌, ℕ, zero, suc, ◌+◌, ◌-◌, ◌<◌, ◌≤◌, List, ◌++◌, length, take, drop, sym, ap, ◌∙◌, arith}
+use Rattle.std.proofs.Common.{◌≡◌, ℕ, zero, suc, ◌+◌, ◌-◌, ◌<◌, ◌≤◌, List, [], ◌∷◌, ◌++◌, length, length-append, take, drop, replicate, refl, sym, ap, ap₂, ◌∙◌, arith}
+use Rattle.std.specs.Int.Bits.{xor_zero_r}
 use Rattle.std.specs.List.{fold}
-use Rattle.std.proofs.lemmas.List.{take_at, drop_at, length-take}
+use Rattle.std.proofs.lemmas.List.{take_at, drop_at, take-append-drop, length-take, length-drop}
 use Rattle.crypto_specs.specs.Bytes.{xor_bytes}
 use Rattle.crypto_specs.specs.Hmac.{hmac}
 use Rattle.crypto_specs.specs.Pbkdf2.{chain, xor_all}
-use Rattle.crypto_specs.proofs.XorBytes.{length-xor_bytes}
+use Rattle.crypto_specs.proofs.XorBytes.{length-xor_bytes, xor_bytes-append}
 
 -- a sum, and c more turns after the turn u
 unfoldable pub summed : (List ℕ → List ℕ) → ℕ → List ℕ → List ℕ → List ℕ → ℕ → List ℕ
@@ -30,11 +31,29 @@ pub summed-last : (hash : List ℕ → List ℕ) (n : ℕ) (password u sum : Lis
 unfolding chain summed
 summed-last hash n password u sum c e = ap (summed hash n password u sum) e
 
--- bytes that were xored into a front
-pub xored_front : (sum now bytes : List ℕ) (k : ℕ) → length bytes ≡ k → k ≤ length sum → now ≡ xor_bytes (take (length bytes) sum) bytes ++ drop (length bytes) sum
-    → (take k now ≡ xor_bytes (take k sum) bytes) × (drop k now ≡ drop k sum)
-xored_front sum now bytes k l h e =
-    let front : List ℕ = xor_bytes (take k sum) bytes in
-    let long : length front ≡ k = omega (arith, length-xor_bytes (take k sum) bytes, length-take k sum) in
-    let parts : now ≡ front ++ drop k sum = e ∙ ap (λ (j : ℕ). xor_bytes (take j sum) bytes ++ drop j sum) l in
+pub xor_zeros : (xs : List ℕ) → xor_bytes xs (replicate (length xs) 0) ≡ xs
+xor_zeros [] = refl
+xor_zeros (x ∷ xs) = ap₂ (λ (y : ℕ) (ys : List ℕ). y ∷ ys) (xor_zero_r x) (xor_zeros xs)
+
+-- bytes, and zeros after them, that were xored into as many
+pub xored_front : (sum turn : List ℕ) (k n : ℕ) → k ≤ n → length sum ≡ n → length turn ≡ n → drop k turn ≡ replicate (n - k) 0
+    → (take k (xor_bytes sum turn) ≡ xor_bytes (take k sum) (take k turn)) × (drop k (xor_bytes sum turn) ≡ drop k sum)
+xored_front sum turn k n h ls lt z =
+    let front : List ℕ = xor_bytes (take k sum) (take k turn) in
+    let taken = length-take k sum in
+    let beside = length-take k turn in
+    let left : n - k ≡ length (drop k sum) = omega (arith, length-drop k sum) in
+    let zeros : drop k turn ≡ replicate (length (drop k sum)) 0 = z ∙ ap (λ (m : ℕ). replicate m 0) left in
+    let back : xor_bytes (drop k sum) (drop k turn) ≡ drop k sum = ap (xor_bytes (drop k sum)) zeros ∙ xor_zeros (drop k sum) in
+    let parts : xor_bytes sum turn ≡ front ++ drop k sum =
+    sym (ap₂ xor_bytes (take-append-drop k sum) (take-append-drop k turn))
+    ∙ xor_bytes-append (take k sum) (drop k sum) (take k turn) (drop k turn) (omega arith)
+    ∙ ap (λ (l : List ℕ). front ++ l) back in
+    let long : length front ≡ k = omega (arith, length-xor_bytes (take k sum) (take k turn)) in
     (ap (take k) parts ∙ take_at front (drop k sum) k long, ap (drop k) parts ∙ drop_at front (drop k sum) k long)
+
+-- the front of as many bytes written over
+pub front_copied : (front old : List ℕ) (k n : ℕ) → length front ≡ k → k ≤ n → length old ≡ n
+    → let now : List ℕ = front ++ drop k old in (take k now ≡ front) × (drop k now ≡ drop k old) × (length now ≡ n)
+front_copied front old k n lf h lo =
+    (take_at front (drop k old) k lf, drop_at front (drop k old) k lf, omega (arith, length-append front (drop k old), length-drop k old))

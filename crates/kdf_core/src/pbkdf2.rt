@@ -11,25 +11,13 @@ ghost use Rattle.hmac_ops.specs.States.{IsHmacKey};
 use hash_ops::Hash;
 use hmac_ops::HmacKey;
 
-// Xors the bytes into the front of `sum`, whose rest stays.
-fn xor_into(sum: &mut [u8; 64], bytes: &[u8])
-    requires { length bytes.now ≤ 64 }
-    ensures { sum.new ≡ xor_bytes (take (length bytes.now) sum.old) bytes.now ++ drop (length bytes.now) sum.old }
+// Xors the bytes of `turn` into those of `sum`.
+fn xor_into(sum: &mut [u8; 64], turn: &[u8; 64])
+    ensures { sum.new ≡ xor_bytes sum.old turn.now }
 {
-    'bytes: for i in 0..bytes.len() {
-        sum[i] ^= bytes[i];
+    'bytes: for i in 0..64 {
+        sum[i] ^= turn[i];
     }
-}
-
-// Makes the code of the first `length` bytes of `turn` its front.
-fn next_turn(key: &HmacKey, turn: &mut [u8; 64], length: usize)
-    requires { length ≤ 64 }
-    ensures { (which : Hash) (k : List ℕ) → IsHmacKey key.now which k → length ≡ digest_length which
-        → take length turn.new ≡ hmac (hash_of which) (block_length which) k (take length turn.old) }
-{
-    let mut state = key.start();
-    state.update(&turn[..length]);
-    state.finish(turn);
 }
 
 // Writes the first turn of block `n` to the front of `turn`, whose rest stays, and answers its length.
@@ -63,11 +51,13 @@ pub fn pbkdf2_block(
     ensures rest { drop result out.new ≡ drop result out.old }
 {
     let mut key = HmacKey::new(which, password);
-    let length = first_turn(&key, salt, n, out);
-    let mut turn = *out;
+    // Past the turn are zeros, which leave what they are xored into.
+    let mut turn = [0; 64];
+    let length = first_turn(&key, salt, n, &mut turn);
+    out[..length].copy_from_slice(&turn[..length]);
     'turns: for i in 1..cost {
-        next_turn(&key, &mut turn, length);
-        xor_into(out, &turn[..length]);
+        key.code_in_place(&mut turn, length);
+        xor_into(out, &turn);
     }
     key.wipe();
     turn.fill(0);

@@ -1,4 +1,4 @@
-use Rattle.std.proofs.Common.{◌≡◌, ◌-◌, length, take, drop}
+use Rattle.std.proofs.Common.{◌≡◌, ◌-◌, length, take, drop, replicate}
 use Rattle.crypto_specs.specs.Pbkdf2.{pbkdf2_block}
 use Rattle.hash_ops.specs.Hashes.{block_length, hash_of}
 use Rattle.kdf_core.proofs.Turns.{summed}
@@ -8,5 +8,6 @@ abbrev pub invariant-turns : goal.invariant-turns
 invariant-turns l = record {
   sum : summed (hash_of l.fn.which) (block_length l.fn.which) l.password (take l.length l.turn) (take l.length l.out) (l.cost - l.i) ≡ pbkdf2_block (hash_of l.fn.which) (block_length l.fn.which) l.password l.salt l.cost l.n;
   rest : drop l.length l.out ≡ drop l.length l.fn.out;
+  zeros : drop l.length l.turn ≡ replicate (64 - l.length) 0;
   long : length l.out ≡ 64;
 }

@@ -3,4 +3,4 @@ use Rattle.crypto_specs.specs.Bytes.{xor_bytes}
 use Rattle.kdf_core.proofs.pbkdf2.xor_into.Given as goal
 
 abbrev pub invariant-bytes : goal.invariant-bytes
-invariant-bytes l = l.sum ≡ xor_bytes (take l.i l.fn.sum) l.bytes ++ drop l.i l.fn.sum
+invariant-bytes l = l.sum ≡ xor_bytes (take l.i l.fn.sum) l.turn ++ drop l.i l.fn.sum
