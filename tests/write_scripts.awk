@@ -23,6 +23,7 @@
 BEGIN {
   most_lines = 20000
   most_bytes = 4194304
+  most_digits = 32768 # of the bytes of one call
   # cuttings; all others are the place of the one cut
   byte_by_byte = -1
   whole = -2
@@ -35,7 +36,13 @@ BEGIN {
 
 /^#/ { next }
 
-{ for (i = 1; i <= NF; i++) if ($i == "-") $i = "" }
+# `-` stands for no bytes, and HEX*N for N times the same ones.
+{
+  for (i = 1; i <= NF; i++) {
+    if ($i == "-") $i = ""
+    if (split($i, run, "*") == 2) for ($i = ""; run[2] > 0; run[2]--) $i = $i run[1]
+  }
+}
 
 # --- the families: for each vector, all that is done with it, in all cuttings
 
@@ -61,10 +68,12 @@ family == "hmac" {
 
 family == "cmac" {
   vectors++
+  tag = length($4) / 2
+  alg = sprintf("03%02x0200", 192 + (tag < 16 ? tag : 0))
   for (cut = byte_by_byte; cut <= last_cut($3, 16); cut++) {
-    mac($1, "sign", "2400", "03c00200", $2, $3, $4, cut)
-    mac($1, "verify", "2400", "03c00200", $2, $3, $4, cut)
-    mac($1, "refuse", "2400", "03c00200", $2, $3, $4, cut)
+    mac($1, "sign", "2400", alg, $2, $3, $4, cut)
+    mac($1, "verify", "2400", alg, $2, $3, $4, cut)
+    mac($1, "refuse", "2400", alg, $2, $3, $4, cut)
   }
 }
 
@@ -120,7 +129,10 @@ family == "unpadded" && NF == 2 {
 family == "gcm" || family == "ccm" {
   vectors++
   alg = sprintf("05%02x0%s00", 64 + length($7) / 2, family == "ccm" ? "1" : "2")
-  aeads(byte_by_byte, byte_by_byte)
+  if (length($4) <= most_digits) {
+    aead_calls()
+    aeads(byte_by_byte, byte_by_byte)
+  } else aeads(whole, byte_by_byte)
   for (cut = 0; cut <= last_cut($5, 16); cut++) aeads(whole, cut)
   for (cut = 0; cut <= last_cut($4, 16); cut++) aeads(cut, whole)
 }
@@ -207,6 +219,17 @@ function aeads(ad_cut, text_cut) {
   aead("encrypt", ad_cut, text_cut)
   aead("decrypt", ad_cut, text_cut)
   aead("refuse", ad_cut, text_cut)
+}
+
+# The vector in one call each way, and in one that is refused.
+function aead_calls() {
+  begin($1 ", in one call")
+  call("import k@ type=2400 usage=300 alg=" alg " data=" $2, "key")
+  call("aead_encrypt $k@ alg=" alg " nonce=" $3 " ad=" $4 " data=" $5, "is " $6 $7)
+  call("aead_decrypt $k@ alg=" alg " nonce=" $3 " ad=" $4 " data=" $6 $7, $5 == "" ? "none" : "is " $5)
+  call("aead_decrypt $k@ alg=" alg " nonce=" $3 " ad=" $4 " data=" turned($6 $7), "none", "INVALID_SIGNATURE")
+  call("destroy $k@")
+  end()
 }
 
 # CCM needs the lengths; for GCM every other case leaves them out.
@@ -336,10 +359,16 @@ function call(words, due, status,   command) {
   size += length(words) + 4
 }
 
-# A call for each piece of a text.
-function give(words, text, cut, due,   i) {
+# A call for each piece of a text, or several where it is longer than a call may be.
+function give(words, text, cut, due,   i, from) {
   cut_up(text, cut)
-  for (i = 1; i <= pieces; i++) call(words piece[i], due)
+  for (i = 1; i <= pieces; i++) {
+    from = 1
+    do {
+      call(words substr(piece[i], from, most_digits), due)
+      from += most_digits
+    } while (from <= length(piece[i]))
+  }
 }
 
 function end(   slot, i) {
