@@ -1,5 +1,5 @@
 -- Key streams that others computed, as the definition gives them.
-use Rattle.std.proofs.Common.{◌≡◌, [], ◌∷◌, replicate, refl}
+use Rattle.std.proofs.Common.{◌≡◌, ◌+◌, ◌*◌, ◌^◌, [], ◌∷◌, replicate, refl}
 use Rattle.rand_core.specs.Steps.{u32_at}
 use Rattle.rand_chacha.specs.Block.{quarter_round, column_round, diagonal_round, double_rounds, block_word}
 use Rattle.random_streams.specs.RandomWords.{random_word, random_bytes, bytes_of_words}
@@ -13,3 +13,8 @@ first_bytes = refl
 second_block : random_word (0 ∷ 1 ∷ 2 ∷ 3 ∷ 4 ∷ 5 ∷ 6 ∷ 7 ∷ 8 ∷ 9 ∷ 10 ∷ 11 ∷ 12 ∷ 13 ∷ 14 ∷ 15 ∷ 16 ∷ 17 ∷ 18 ∷ 19 ∷ 20 ∷ 21 ∷ 22 ∷ 23 ∷ 24 ∷ 25 ∷ 26 ∷ 27 ∷ 28 ∷ 29 ∷ 30 ∷ 31 ∷ []) 3 16 ≡ 0x7a747357
 unfolding u32_at quarter_round column_round diagonal_round double_rounds block_word
 second_block = refl
+
+-- RFC 8439, 2.3.2: its nonce's first word is here the upper half of a 64-bit counter
+upper_counter : random_word (0 ∷ 1 ∷ 2 ∷ 3 ∷ 4 ∷ 5 ∷ 6 ∷ 7 ∷ 8 ∷ 9 ∷ 10 ∷ 11 ∷ 12 ∷ 13 ∷ 14 ∷ 15 ∷ 16 ∷ 17 ∷ 18 ∷ 19 ∷ 20 ∷ 21 ∷ 22 ∷ 23 ∷ 24 ∷ 25 ∷ 26 ∷ 27 ∷ 28 ∷ 29 ∷ 30 ∷ 31 ∷ []) 0x4a000000 (16 * (1 + 0x09000000 * 2 ^ 32)) ≡ 0xe4e7f110
+unfolding u32_at quarter_round column_round diagonal_round double_rounds block_word
+upper_counter = refl
