@@ -6,7 +6,7 @@ use Rattle.std.proofs.lemmas.List.{length-append, length-replicate, length-drop,
 use Rattle.crypto_specs.specs.Bytes.{zero_filled}
 use Rattle.crypto_specs.specs.Modes.{blocks, block_count, block_number, number_block}
 use Rattle.crypto_specs.specs.Ccm.{filled_blocks}
-use Rattle.aes_core.proofs.BlockNumbers.{AreBytes, block_of_number}
+use Rattle.aes_core.proofs.BlockNumbers.{AreBytes, bytes-append, block_of_number}
 use Rattle.aead_ccm.specs.Chaining.{filled_block}
 
 -- ---- one block
@@ -24,11 +24,6 @@ zeros-bytes zero i = omega arith
 zeros-bytes (suc n) zero = omega arith
 zeros-bytes (suc n) (suc i) = zeros-bytes n i
 
-append-bytes : (xs ys : List ℕ) → AreBytes xs → AreBytes ys → AreBytes (xs ++ ys)
-append-bytes [] ys h k i = k i
-append-bytes (x ∷ xs) ys h k zero = h 0
-append-bytes (x ∷ xs) ys h k (suc i) = append-bytes xs ys (λ j. h (suc j)) k i
-
 -- a part that is written over the front of zeros
 pub written_in_zeros : (piece block : List ℕ) → block ≡ piece ++ drop (length piece) (replicate 16 0) → block ≡ filled_block piece
 written_in_zeros piece block e = e ∙ ap (λ (l : List ℕ). piece ++ l) (drop-replicate (length piece) 16 0)
@@ -36,7 +31,7 @@ written_in_zeros piece block e = e ∙ ap (λ (l : List ℕ). piece ++ l) (drop-
 -- a filled block comes back from its number
 pub number_of_filled : (piece : List ℕ) → length piece ≤ 16 → AreBytes piece → number_block (block_number (filled_block piece)) ≡ filled_block piece
 number_of_filled piece h all =
-    block_of_number (filled_block piece) (length-filled_block piece h) (append-bytes piece (replicate (16 - length piece) 0) all (zeros-bytes (16 - length piece)))
+    block_of_number (filled_block piece) (length-filled_block piece h) (bytes-append piece (replicate (16 - length piece) 0) all (zeros-bytes (16 - length piece)))
 
 -- ---- the blocks of a text
 

@@ -1,15 +1,11 @@
 -- The formatted blocks, as they are written.
-use Rattle.std.proofs.Common.{◌≡◌, ℕ, ◌+◌, ◌-◌, ◌<◌, ◌≤◌, false, eqb, List, [], ◌∷◌, ◌++◌, length, take, drop, slice_set, refl, sym, ap, ◌∙◌, inl, inr, arith}
+use Rattle.std.proofs.Common.{◌≡◌, ℕ, ◌+◌, ◌-◌, ◌<◌, ◌≤◌, List, [], ◌∷◌, ◌++◌, length, take, drop, slice_set, refl, sym, ap, ◌∙◌, arith}
 use Rattle.std.specs.Prelude.{replicate, min}
 use Rattle.std.specs.Int.{w16, w32, w64, w128, byte_at, to_be_bytes}
-use Rattle.std.proofs.lemmas.Bool.{eq-eqb, lt-ltb, le-ltb}
-use Rattle.std.proofs.lemmas.Bool.Decides.{eqb_tells}
+use Rattle.std.proofs.lemmas.Bool.{eq-eqb, ne_eqb, lt-ltb, le-ltb}
 use Rattle.std.proofs.lemmas.List.{drop-drop, drop_min, drop-replicate, length-append}
 use Rattle.crypto_specs.specs.Ccm.{in_bytes, encoded_length, encoded_data}
 use Rattle.aead_ccm.specs.Chaining.{filled_block}
-
-ne-eqb : (a b : ℕ) → (a ≡ b → ⊥) → eqb a b ≡ false
-ne-eqb a b n = elim (eqb_tells a b) [ inl p ↦ absurd (n p.1) | inr p ↦ p.0 ]
 
 -- ---- a number in its bytes
 
@@ -38,7 +34,7 @@ pub some_data : (ad : List ℕ) → 0 < length ad → encoded_data ad ≡ encode
 unfolding encoded_data
 some_data ad h =
     let some : length ad ≡ 0 → ⊥ = λ e. omega arith in
-    rw (ne-eqb (length ad) 0 some) refl
+    rw (ne_eqb (length ad) 0 some) refl
 
 pub data_is_some : (ad : List ℕ) → 0 < length ad → 0 < length (encoded_data ad)
 data_is_some ad h = omega (arith, ap length (some_data ad h), length-append (encoded_length (length ad)) ad)

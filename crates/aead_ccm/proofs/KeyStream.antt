@@ -3,10 +3,7 @@ use Rattle.std.proofs.Common.{◌≡◌, ℕ, zero, suc, ◌+◌, ◌*◌, List,
 use Rattle.std.proofs.lemmas.List.{length-append}
 use Rattle.crypto_specs.specs.Aes.{aes_encrypt}
 use Rattle.crypto_specs.specs.Ccm.{ccm_counter_block, ccm_stream}
-
-length-aes_encrypt : (key block : List ℕ) → length (aes_encrypt key block) ≡ 16
-unfolding aes_encrypt
-length-aes_encrypt key block = refl
+use Rattle.crypto_specs.proofs.Blocks.{length-aes_encrypt}
 
 pub length-ccm_stream : (key nonce : List ℕ) (n : ℕ) → length (ccm_stream (aes_encrypt key) nonce n) ≡ 16 * n
 unfolding ccm_stream

@@ -1,14 +1,11 @@
 -- Counter blocks, and the key stream.
-use Rattle.std.proofs.Common.{◌≡◌, ℕ, zero, suc, ◌+◌, ◌*◌, ◌/◌, ◌%◌, ◌^◌, false, eqb, List, [], ◌++◌, length, refl, ap, ◌∙◌, inl, inr, add-one, arith}
-use Rattle.std.proofs.lemmas.Bool.{eq-eqb}
-use Rattle.std.proofs.lemmas.Bool.Decides.{eqb_tells}
+use Rattle.std.proofs.Common.{◌≡◌, ℕ, zero, suc, ◌+◌, ◌*◌, ◌/◌, ◌%◌, ◌^◌, List, [], ◌++◌, length, refl, ap, ◌∙◌, add-one, arith}
+use Rattle.std.proofs.lemmas.Bool.{eq-eqb, ne_eqb}
 use Rattle.std.proofs.lemmas.List.{length-append}
 use Rattle.crypto_specs.specs.Aes.{aes_encrypt}
 use Rattle.crypto_specs.specs.Modes.{block_number, number_block}
-use Rattle.crypto_specs.specs.Gcm.{gcm_stream, increased, ghash_of, first_block, hash_key}
-
-ne-eqb : (a b : ℕ) → (a ≡ b → ⊥) → eqb a b ≡ false
-ne-eqb a b n = elim (eqb_tells a b) [ inl p ↦ absurd (n p.1) | inr p ↦ p.0 ]
+use Rattle.crypto_specs.specs.Gcm.{gcm_stream, increased, ghash_of, initial_counter_block, hash_subkey}
+use Rattle.crypto_specs.proofs.Blocks.{length-aes_encrypt}
 
 pub one_more : (b : ℕ) → b / 2 ^ 32 * 2 ^ 32 + (b % 2 ^ 32 + 1) % 2 ^ 32 ≡ increased b 1
 unfolding increased
@@ -22,10 +19,6 @@ pub increased_by_0 : (y : ℕ) → y ≡ increased y 0
 unfolding increased
 increased_by_0 y = omega arith
 
-length-aes_encrypt : (key block : List ℕ) → length (aes_encrypt key block) ≡ 16
-unfolding aes_encrypt
-length-aes_encrypt key block = refl
-
 pub length-gcm_stream : (key : List ℕ) (y n : ℕ) → length (gcm_stream (aes_encrypt key) y n) ≡ 16 * n
 unfolding gcm_stream
 length-gcm_stream key y zero = refl
@@ -37,10 +30,10 @@ pub gcm_stream_next : (e : List ℕ → List ℕ) (y n : ℕ) → gcm_stream e y
 unfolding gcm_stream
 gcm_stream_next e y n = ap (gcm_stream e y) (add-one n)
 
-pub of_12_bytes : (e : List ℕ → List ℕ) (nonce : List ℕ) (v b : ℕ) → length nonce ≡ 12 → v ≡ block_number nonce → b ≡ increased v 1 → b ≡ first_block e nonce
-unfolding first_block
+pub of_12_bytes : (e : List ℕ → List ℕ) (nonce : List ℕ) (v b : ℕ) → length nonce ≡ 12 → v ≡ block_number nonce → b ≡ increased v 1 → b ≡ initial_counter_block e nonce
+unfolding initial_counter_block
 of_12_bytes e nonce v b h ev eb = rw (eq-eqb (length nonce) 12 h) (eb ∙ ap (λ (v : ℕ). increased v 1) ev)
 
-pub of_other_lengths : (e : List ℕ → List ℕ) (nonce : List ℕ) (h b : ℕ) → (length nonce ≡ 12 → ⊥) → b ≡ ghash_of h [] nonce → h ≡ hash_key e → b ≡ first_block e nonce
-unfolding first_block
-of_other_lengths e nonce h b other eb eh = rw (ne-eqb (length nonce) 12 other) (eb ∙ ap (λ (k : ℕ). ghash_of k [] nonce) eh)
+pub of_other_lengths : (e : List ℕ → List ℕ) (nonce : List ℕ) (h b : ℕ) → (length nonce ≡ 12 → ⊥) → b ≡ ghash_of h [] nonce → h ≡ hash_subkey e → b ≡ initial_counter_block e nonce
+unfolding initial_counter_block
+of_other_lengths e nonce h b other eb eh = rw (ne_eqb (length nonce) 12 other) (eb ∙ ap (λ (k : ℕ). ghash_of k [] nonce) eh)

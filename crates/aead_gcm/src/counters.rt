@@ -4,7 +4,7 @@ ghost use Rattle.std.specs.Prelude.{◌≡◌, ℕ, ◌+◌, ◌*◌, ◌/◌, �
 ghost use Rattle.crypto_specs.specs.Aes.{aes_encrypt, IsKey};
 ghost use Rattle.crypto_specs.specs.Bytes.{xor_bytes};
 ghost use Rattle.crypto_specs.specs.Modes.{block_count};
-ghost use Rattle.crypto_specs.specs.Gcm.{first_block, gcm_stream, hash_key, increased};
+ghost use Rattle.crypto_specs.specs.Gcm.{gcm_stream, hash_subkey, increased, initial_counter_block};
 
 use crate::blocks::{number_of, xor_into};
 use crate::hashing::ghash_of;
@@ -14,7 +14,7 @@ use aes_core::AesKey;
 /// 7.1, step 2).
 pub fn initial_counter_block(subkey: u128, nonce: &[u8]) -> u128
     requires { length nonce.now < 2 ^ 61 }
-    ensures { (e : List ℕ → List ℕ) → subkey ≡ hash_key e → result ≡ first_block e nonce.now }
+    ensures { (e : List ℕ → List ℕ) → subkey ≡ hash_subkey e → result ≡ initial_counter_block e nonce.now }
 {
     if nonce.len() == 12 {
         increment(number_of(nonce))

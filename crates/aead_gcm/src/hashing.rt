@@ -3,7 +3,7 @@
 ghost use Rattle.std.specs.Prelude.{◌≡◌, ℕ, ◌+◌, ◌*◌, ◌^◌, ◌<◌, length};
 ghost use Rattle.crypto_specs.specs.Aes.{aes_encrypt, IsKey};
 ghost use Rattle.crypto_specs.specs.Ghash.{ghash_from};
-ghost use Rattle.crypto_specs.specs.Gcm.{ghash_of, hash_key, length_block, numbers_of};
+ghost use Rattle.crypto_specs.specs.Gcm.{ghash_of, hash_subkey, length_block, numbers_of};
 
 use crate::blocks::number_of;
 use aes_core::AesKey;
@@ -12,7 +12,7 @@ use ghash::Ghash;
 /// The hash subkey H of a key: the zero block enciphered (SP 800-38D, section 7.1, step 1).
 pub fn hash_subkey(key: &AesKey) -> u128
     requires { IsKey key.now }
-    ensures { result ≡ hash_key (aes_encrypt key.now) }
+    ensures { result ≡ hash_subkey (aes_encrypt key.now) }
 {
     key.encrypt_number(0)
 }

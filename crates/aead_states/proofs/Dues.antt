@@ -5,9 +5,9 @@ use Rattle.crypto_specs.specs.Aes.{aes_encrypt}
 use Rattle.crypto_specs.specs.Bytes.{xor_bytes}
 use Rattle.crypto_specs.specs.Modes.{block_count, number_block}
 use Rattle.crypto_specs.specs.Ccm.{ccm_counter_block, ccm_stream, ccm_text}
-use Rattle.crypto_specs.specs.Gcm.{increased, first_block, gcm_stream, gcm_text}
+use Rattle.crypto_specs.specs.Gcm.{increased, initial_counter_block, gcm_stream, gcm_text}
+use Rattle.crypto_specs.proofs.Blocks.{length-aes_encrypt}
 use Rattle.crypto_specs.proofs.XorBytes.{length-xor_bytes}
-use Rattle.key_streams.proofs.StreamPlaces.{length-aes_encrypt}
 use Rattle.store_model.specs.CipherOperations.{bytes_or_empty}
 use Rattle.store_model.specs.Aeads.{is_ccm}
 use Rattle.aead_states.specs.Laws.{DueGrows}
@@ -58,7 +58,7 @@ module _ (key nonce text piece : List ℕ) where
   gcm_grows : take (length (gcm_text e nonce text)) (gcm_text e nonce (text ++ piece)) ≡ gcm_text e nonce text
   unfolding gcm_text gcm_stream
   gcm_grows =
-      let y : ℕ = first_block e nonce in
+      let y : ℕ = initial_counter_block e nonce in
       text_grows (gcm_stream e y) (λ n. e (number_block (increased y (n + 1)))) refl (λ n. refl) (λ n. length-aes_encrypt key (number_block (increased y (n + 1)))) text piece
 
   either : (ccm : Bool) → take (length (cond ccm (ccm_text e nonce text) (gcm_text e nonce text))) (cond ccm (ccm_text e nonce (text ++ piece)) (gcm_text e nonce (text ++ piece)))

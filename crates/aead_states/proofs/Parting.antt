@@ -1,27 +1,19 @@
 -- What runs, by the algorithm and the direction.
 use Rattle.std.proofs.Common.{◌≡◌, ℕ, ◌≤◌, Bool, true, false, List, [], length, refl, sym, ap, ◌∙◌, subst}
 use Rattle.std.specs.Prelude.{MatchBool}
+use Rattle.std.proofs.lemmas.Bool.{MatchBool-at_true, MatchBool-at_false}
 use Rattle.crypto_specs.specs.Aes.{aes_encrypt}
 use Rattle.crypto_specs.specs.Ccm.{ccm_tag, ccm_text}
 use Rattle.crypto_specs.specs.Gcm.{gcm_tag, gcm_text}
-use Rattle.key_streams.proofs.StreamLaws.{length-text_xor}
-use Rattle.key_streams.proofs.ModeStreams.{aes_keeps_length, gcm_is}
 use Rattle.gcm_states.specs.States.{HoldsGcmData, HoldsGcmText}
 use Rattle.ccm_states.specs.States.{HoldsCcmData, HoldsCcmText}
+use Rattle.gcm_states.proofs.Texts.{length-gcm_text}
 use Rattle.ccm_states.proofs.Payloads.{length-ccm_text}
 use Rattle.store_model.specs.Aeads.{aead_tag, aead_text, is_ccm}
 use Rattle.store_model.specs.Algorithms.{tag_bytes}
 use Rattle.aead_states.specs.declared.parts.Parts.{Parts}
 use Rattle.aead_states.specs.Directions.{cipher_of, plain_of}
 use Rattle.aead_states.specs.Runs.{HoldsData, HoldsText}
-
-if_true : (b : Bool) (P Q : Type 0) → b ≡ true → MatchBool b P Q → P
-if_true true P Q e h = h
-if_true false P Q e h = cc
-
-if_false : (b : Bool) (P Q : Type 0) → b ≡ false → MatchBool b P Q → Q
-if_false false P Q e h = h
-if_false true P Q e h = cc
 
 by_true : (b : Bool) (P Q : Type 0) → b ≡ true → P → MatchBool b P Q
 by_true true P Q e h = h
@@ -33,10 +25,10 @@ by_false true P Q e h = cc
 
 module _ (r : Parts) (alg : ℕ) (key nonce : List ℕ) (a p : ℕ) (ad : List ℕ) where
   pub ccm_data : is_ccm alg ≡ true → HoldsData r alg key nonce a p ad → HoldsCcmData r.ccm key (tag_bytes alg) nonce a p ad
-  ccm_data e h = if_true (is_ccm alg) (HoldsCcmData r.ccm key (tag_bytes alg) nonce a p ad) (HoldsGcmData r.gcm key nonce ad) e h.part
+  ccm_data e h = MatchBool-at_true (HoldsCcmData r.ccm key (tag_bytes alg) nonce a p ad) (HoldsGcmData r.gcm key nonce ad) e h.part
 
   pub gcm_data : is_ccm alg ≡ false → HoldsData r alg key nonce a p ad → HoldsGcmData r.gcm key nonce ad
-  gcm_data e h = if_false (is_ccm alg) (HoldsCcmData r.ccm key (tag_bytes alg) nonce a p ad) (HoldsGcmData r.gcm key nonce ad) e h.part
+  gcm_data e h = MatchBool-at_false (HoldsCcmData r.ccm key (tag_bytes alg) nonce a p ad) (HoldsGcmData r.gcm key nonce ad) e h.part
 
   pub data_of_ccm : is_ccm alg ≡ true → HoldsCcmData r.ccm key (tag_bytes alg) nonce a p ad → HoldsData r alg key nonce a p ad
   data_of_ccm e h = record { part = by_true (is_ccm alg) (HoldsCcmData r.ccm key (tag_bytes alg) nonce a p ad) (HoldsGcmData r.gcm key nonce ad) e h }
@@ -55,10 +47,10 @@ module _ (r : Parts) (encrypts : Bool) (alg : ℕ) (key nonce : List ℕ) (p : �
   cipher = cipher_of encrypts (gcm_text (aes_encrypt key) nonce) text
 
   pub text_by_ccm : (other : List ℕ) → is_ccm alg ≡ true → plain ≡ other → HoldsText r encrypts alg key nonce p ad text → ByCcm other
-  text_by_ccm other e q h = subst ByCcm q (if_true (is_ccm alg) (ByCcm plain) (ByGcm cipher) e h.part)
+  text_by_ccm other e q h = subst ByCcm q (MatchBool-at_true (ByCcm plain) (ByGcm cipher) e h.part)
 
   pub text_by_gcm : (other : List ℕ) → is_ccm alg ≡ false → cipher ≡ other → HoldsText r encrypts alg key nonce p ad text → ByGcm other
-  text_by_gcm other e q h = subst ByGcm q (if_false (is_ccm alg) (ByCcm plain) (ByGcm cipher) e h.part)
+  text_by_gcm other e q h = subst ByGcm q (MatchBool-at_false (ByCcm plain) (ByGcm cipher) e h.part)
 
   pub ccm_by_text : (other : List ℕ) → is_ccm alg ≡ true → plain ≡ other → ByCcm other → HoldsText r encrypts alg key nonce p ad text
   ccm_by_text other e q h = record { part = by_true (is_ccm alg) (ByCcm plain) (ByGcm cipher) e (subst ByCcm (sym q) h) }
@@ -93,9 +85,6 @@ tag_is_ccm encrypts alg key nonce ad text other e = rw e refl
 pub tag_is_gcm : (encrypts : Bool) (alg : ℕ) (key nonce ad text other : List ℕ) → is_ccm alg ≡ false →
     gcm_tag (aes_encrypt key) (tag_bytes alg) nonce ad (cipher_of encrypts (gcm_text (aes_encrypt key) nonce) text) ≡ aead_tag alg key nonce ad other (cipher_of encrypts (aead_text alg key nonce) text)
 tag_is_gcm encrypts alg key nonce ad text other e = rw e refl
-
-length-gcm_text : (key nonce text : List ℕ) → length (gcm_text (aes_encrypt key) nonce text) ≡ length text
-length-gcm_text key nonce text = ap length (gcm_is (aes_encrypt key) (aes_keeps_length key) nonce text) ∙ length-text_xor _ _ _ 0 text
 
 pub length-cipher : (encrypts : Bool) (key nonce text : List ℕ) → length (cipher_of encrypts (gcm_text (aes_encrypt key) nonce) text) ≡ length text
 length-cipher true key nonce text = length-gcm_text key nonce text

@@ -1,5 +1,5 @@
 -- A block as a number and back, and sums of blocks.
-use Rattle.std.proofs.Common.{◌≡◌, ℕ, zero, suc, ◌+◌, ◌*◌, ◌/◌, ◌%◌, ◌^◌, ◌<◌, List, [], ◌∷◌, length, slice_index, bit_xor, refl, sym, ap, ap₂, ◌∙◌, arith}
+use Rattle.std.proofs.Common.{◌≡◌, ℕ, zero, suc, ◌+◌, ◌*◌, ◌/◌, ◌%◌, ◌^◌, ◌<◌, List, [], ◌∷◌, ◌++◌, length, slice_index, bit_xor, refl, sym, ap, ap₂, ◌∙◌, arith}
 use Rattle.std.specs.Int.{byte_at, bytes_high_first}
 use Rattle.std.proofs.Math.Nat.{pow-suc, mul_comm, mod-eq_of_lt}
 use Rattle.std.proofs.Math.Arith.{mod-mul}
@@ -15,13 +15,18 @@ value (b ∷ bs) = b * 256 ^ length bs + value bs
 abbrev pub AreBytes : List ℕ → Type 0
 AreBytes bs = (i : ℕ) → slice_index bs i < 256
 
+pub bytes-append : (xs ys : List ℕ) → AreBytes xs → AreBytes ys → AreBytes (xs ++ ys)
+bytes-append [] ys h k i = k i
+bytes-append (x ∷ xs) ys h k zero = h 0
+bytes-append (x ∷ xs) ys h k (suc i) = bytes-append xs ys (λ j. h (suc j)) k i
+
 value_below : (bs : List ℕ) → AreBytes bs → value bs < 256 ^ length bs
 unfolding value
 value_below [] all = omega arith
 value_below (b ∷ bs) all =
     rw (pow-suc 256 (length bs)) (mul-add-lt b (256 ^ length bs) (value bs) 256 (all 0) (value_below bs (λ i. all (suc i))))
 
-byte_at_is : (k n : ℕ) → byte_at k n ≡ n / 256 ^ k % 256
+pub byte_at_is : (k n : ℕ) → byte_at k n ≡ n / 256 ^ k % 256
 byte_at_is zero n = omega arith
 byte_at_is (suc k) n = refl
 
@@ -67,11 +72,11 @@ block_of_number b long all =
     let none : value b ≡ 0 * 256 ^ length b + value b = omega arith in
     ap number_block (block_value b long) ∙ ap₂ bytes_high_first (sym long) none ∙ written b 0 all
 
-length-bytes_high_first : (k n : ℕ) → length (bytes_high_first k n) ≡ k
+pub length-bytes_high_first : (k n : ℕ) → length (bytes_high_first k n) ≡ k
 length-bytes_high_first zero n = refl
 length-bytes_high_first (suc k) n = ap suc (length-bytes_high_first k n)
 
-power_positive : (k : ℕ) → 0 < 256 ^ k
+pub power_positive : (k : ℕ) → 0 < 256 ^ k
 power_positive zero = omega arith
 power_positive (suc k) = rw (pow-suc 256 k) (omega (arith, power_positive k))
 
@@ -89,7 +94,7 @@ pub number_of_block : (n : ℕ) → n < 2 ^ 128 → block_number (number_block n
 unfolding number_block
 number_of_block n h = block_value (number_block n) refl ∙ value_written 16 n ∙ mod-eq_of_lt h
 
-power_of_256 : (k : ℕ) → 256 ^ k ≡ 2 ^ (8 * k)
+pub power_of_256 : (k : ℕ) → 256 ^ k ≡ 2 ^ (8 * k)
 power_of_256 zero = refl
 power_of_256 (suc k) =
     let more : 8 * suc k ≡ 8 * k + 8 = omega arith in
@@ -110,7 +115,3 @@ xor_bytes_high_first (suc k) a b = ap₂ (λ (x : ℕ) (xs : List ℕ). x ∷ xs
 pub block_of_xor : (a b : ℕ) → number_block (bit_xor a b) ≡ xor_bytes (number_block a) (number_block b)
 unfolding number_block
 block_of_xor a b = xor_bytes_high_first 16 a b
-
-pub length-number_block : (n : ℕ) → length (number_block n) ≡ 16
-unfolding number_block
-length-number_block n = refl

@@ -1,26 +1,10 @@
 -- Blocks whose end is zeros.
-use Rattle.std.proofs.Common.{◌≡◌, ℕ, zero, suc, ◌+◌, ◌-◌, ◌≤◌, List, [], ◌∷◌, ◌++◌, length, take, drop, slice_index, refl, sym, ap, ◌∙◌, arith}
+use Rattle.std.proofs.Common.{◌≡◌, ℕ, ◌+◌, ◌-◌, ◌≤◌, List, ◌++◌, length, take, drop, sym, ap, ◌∙◌, arith}
 use Rattle.std.specs.Prelude.{replicate}
 use Rattle.std.proofs.lemmas.List.{take-append-drop, drop_at, drop-drop, drop-replicate, length-append, length-take}
 use Rattle.crypto_specs.specs.Modes.{block_number}
+use Rattle.crypto_specs.proofs.Blocks.{number_of_filled}
 use Rattle.block_buffers.specs.Filled.{HasZerosPast}
-
-zeros_read : (n i : ℕ) → slice_index (replicate n 0) i ≡ 0
-zeros_read zero i = refl
-zeros_read (suc n) zero = refl
-zeros_read (suc n) (suc i) = zeros_read n i
-
--- zeros after the end read as what is past the end
-filled_read : (piece : List ℕ) (n i : ℕ) → slice_index (piece ++ replicate n 0) i ≡ slice_index piece i
-filled_read [] n i = zeros_read n i
-filled_read (x ∷ xs) n zero = refl
-filled_read (x ∷ xs) n (suc i) = filled_read xs n i
-
-number_of_filled : (piece : List ℕ) (n : ℕ) → block_number (piece ++ replicate n 0) ≡ block_number piece
-unfolding block_number
-number_of_filled piece n =
-    let at : (i : ℕ) → slice_index (piece ++ replicate n 0) i ≡ slice_index piece i = filled_read piece n in
-    rw (at 0, at 1, at 2, at 3, at 4, at 5, at 6, at 7, at 8, at 9, at 10, at 11, at 12, at 13, at 14, at 15) refl
 
 -- the bytes in use have the number of the block
 pub number_of_used : (used : ℕ) (block : List ℕ) → HasZerosPast used block → block_number block ≡ block_number (take used block)

@@ -6,6 +6,7 @@ use Rattle.crypto_specs.specs.Bytes.{xor_bytes}
 use Rattle.crypto_specs.specs.Modes.{number_block}
 use Rattle.crypto_specs.specs.Cmac.{chained}
 use Rattle.crypto_specs.specs.Ccm.{filled_blocks}
+use Rattle.crypto_specs.proofs.Blocks.{length-number_block}
 use Rattle.aes_core.proofs.BlockNumbers.{block_of_xor}
 use Rattle.aead_ccm.specs.Chaining.{filled_block, chained_from}
 use Rattle.aead_ccm.proofs.FilledBlocks.{filled_blocks-empty}
@@ -18,10 +19,6 @@ chained_from-nothing e y = ap (chained_from e y) (filled_blocks-empty [] refl)
 zero_block : number_block 0 ≡ replicate 16 0
 unfolding number_block
 zero_block = refl
-
-length-number_block : (n : ℕ) → length (number_block n) ≡ 16
-unfolding number_block
-length-number_block n = refl
 
 -- a block that waits is absorbed ahead of what follows it
 pub full_absorbed : (e : List ℕ → List ℕ) (v x w : ℕ) (waiting left rest : List ℕ) → length waiting ≡ 16 → number_block x ≡ filled_block waiting → number_block w ≡ e (number_block (bit_xor v x)) → left ≡ []

@@ -1,11 +1,6 @@
 -- The counter of CTR, and its key stream block by block.
-use Rattle.std.proofs.Common.{◌≡◌, ℕ, ◌+◌, ◌%◌, ◌^◌, ◌<◌, List, ◌++◌, length, ap, add-one, refl, arith}
-use Rattle.crypto_specs.specs.Aes.{aes_encrypt}
+use Rattle.std.proofs.Common.{◌≡◌, ℕ, ◌+◌, ◌%◌, ◌^◌, ◌<◌, List, ◌++◌, ap, add-one, refl, arith}
 use Rattle.crypto_specs.specs.Modes.{key_stream, counter_block, block_number, number_block}
-
-pub length-aes_encrypt : (k b : List ℕ) → length (aes_encrypt k b) ≡ 16
-unfolding aes_encrypt
-length-aes_encrypt k b = refl
 
 pub key_stream_next : (e : List ℕ → List ℕ) (iv : List ℕ) (n : ℕ) → key_stream e iv (n + 1) ≡ key_stream e iv n ++ e (counter_block iv n)
 unfolding key_stream

@@ -1,19 +1,10 @@
--- The first blocks of a message that grows.
-use Rattle.std.proofs.Common.{◌≡◌, ℕ, zero, suc, ◌+◌, ◌*◌, ◌≤◌, List, [], ◌∷◌, ◌++◌, length, take, drop, refl, ap, ap₂, ◌∙◌, arith}
-use Rattle.std.proofs.lemmas.List.{take-append-le, drop-append-le, length-drop, drop-drop}
+-- One more block of a message.
+use Rattle.std.proofs.Common.{◌≡◌, ℕ, zero, suc, ◌+◌, ◌*◌, List, [], ◌∷◌, ◌++◌, take, drop, refl, ap, ◌∙◌, arith}
+use Rattle.std.proofs.lemmas.List.{drop-drop}
 use Rattle.std.proofs.lemmas.List.Sums.{fold-append}
 use Rattle.crypto_specs.specs.Bytes.{xor_bytes}
 use Rattle.crypto_specs.specs.Cmac.{chain_step, chained}
 use Rattle.crypto_specs.specs.Modes.{blocks}
-
--- what comes later changes no earlier block
-pub blocks-append : (n : ℕ) (xs ys : List ℕ) → 16 * n ≤ length xs → blocks n (xs ++ ys) ≡ blocks n xs
-unfolding blocks
-blocks-append zero xs ys h = refl
-blocks-append (suc n) xs ys h =
-    let front : take 16 (xs ++ ys) ≡ take 16 xs = take-append-le 16 xs ys (omega arith) in
-    let back : drop 16 (xs ++ ys) ≡ drop 16 xs ++ ys = drop-append-le 16 xs ys (omega arith) in
-    ap₂ (λ (b : List ℕ) (bs : List (List ℕ)). b ∷ bs) front (ap (blocks n) back ∙ blocks-append n (drop 16 xs) ys (omega (arith, length-drop 16 xs)))
 
 -- one more block
 pub blocks-add-one : (n : ℕ) (xs : List ℕ) → blocks (n + 1) xs ≡ blocks n xs ++ take 16 (drop (16 * n) xs) ∷ []

@@ -9,8 +9,10 @@ use Rattle.crypto_specs.specs.Cmac.{chained, cmac, doubled, front_count, last_bl
 use Rattle.crypto_specs.specs.Modes.{blocks, number_block}
 use Rattle.cmac_ops.specs.Chains.{Holds, IsChained}
 use Rattle.cmac_ops.specs.declared.chain.Chain.{Chain}
-use Rattle.cmac_ops.proofs.Blocks.{blocks-append, blocks-add-one, chained_push}
-use Rattle.cmac_ops.proofs.Numbers.{length-block, number_block-bit_xor, number_from}
+use Rattle.crypto_specs.proofs.Blocks.{blocks-append}
+use Rattle.aes_core.proofs.BlockNumbers.{block_of_xor}
+use Rattle.cmac_ops.proofs.Blocks.{blocks-add-one, chained_push}
+use Rattle.cmac_ops.proofs.Numbers.{length-block, number_from}
 
 -- the full block is enciphered
 pub enciphered : (c d : Chain) (key m : List ℕ) (n : ℕ) → c.used ≡ 16 → number_block n ≡ c.block → number_block d.value ≡ aes_encrypt key (number_block (bit_xor c.value n)) → d.used ≡ 0 → IsChained c key m → IsChained d key m
@@ -21,7 +23,7 @@ enciphered c d key m n full number value empty h =
     let block : c.block ≡ left = sym whole ∙ ap (λ (k : ℕ). take k c.block) (sym full) ∙ h.left in
     let last : take 16 left ≡ left = take_all 16 left (omega (arith, length-drop (16 * h.count) m, h.place)) in
     let sum : number_block (bit_xor c.value n) ≡ xor_bytes (chained e (blocks h.count m)) (take 16 left) =
-    number_block-bit_xor c.value n ∙ ap₂ xor_bytes h.value (number ∙ block ∙ sym last) in
+    block_of_xor c.value n ∙ ap₂ xor_bytes h.value (number ∙ block ∙ sym last) in
     record {
       count = h.count + 1;
       value = value ∙ ap e sum ∙ sym (ap (chained e) (blocks-add-one h.count m) ∙ chained_push e (blocks h.count m) (take 16 left));
@@ -82,13 +84,13 @@ module _ (e : List ℕ → List ℕ) (l subkey : ℕ) (l_fits : l < 2 ^ 128) (is
   pub whole_last : (left : List ℕ) (n : ℕ) → length left ≡ 16 → number_block n ≡ left → number_block (bit_xor n subkey) ≡ last_block e left
   unfolding last_block
   whole_last left n long number =
-      number_block-bit_xor n subkey ∙ ap₂ xor_bytes number first_subkey
+      block_of_xor n subkey ∙ ap₂ xor_bytes number first_subkey
       ∙ sym (ap (λ (t : Bool). cond t (xor_bytes left (subkey1 e)) (xor_bytes (left ++ 0x80 ∷ replicate (15 - length left) 0) (subkey2 e))) (eq-eqb (length left) 16 long))
 
   pub filled_last : (left : List ℕ) (n double : ℕ) → subkey < 2 ^ 128 → length left < 16 → number_block n ≡ left ++ 0x80 ∷ replicate (15 - length left) 0 → double ≡ doubled subkey → number_block (bit_xor n double) ≡ last_block e left
   unfolding last_block
   filled_last left n double fits short number is_double =
-      number_block-bit_xor n double ∙ ap₂ xor_bytes number (ap number_block is_double ∙ second_subkey fits)
+      block_of_xor n double ∙ ap₂ xor_bytes number (ap number_block is_double ∙ second_subkey fits)
       ∙ sym (ap (λ (t : Bool). cond t (xor_bytes left (subkey1 e)) (xor_bytes (left ++ 0x80 ∷ replicate (15 - length left) 0) (subkey2 e))) (ne_eqb (length left) 16 (λ whole. absurd (omega arith))))
 
 -- the last block under its subkey makes the tag
@@ -99,6 +101,6 @@ tag_of c key m tag last within is_last is_tag h =
     let n : ℕ = h.chained.count in
     let end : List ℕ = last_block e (drop (16 * n) m) in
     let sum : number_block (bit_xor c.value last) ≡ xor_bytes (chained e (blocks n m)) end =
-    number_block-bit_xor c.value last ∙ ap₂ xor_bytes h.chained.value (is_last ∙ ap (last_block e) h.chained.left) in
+    block_of_xor c.value last ∙ ap₂ xor_bytes h.chained.value (is_last ∙ ap (last_block e) h.chained.left) in
     is_tag ∙ ap e sum ∙ sym (chained_push e (blocks n m) end)
     ∙ ap (λ (k : ℕ). chained e (blocks k m ++ last_block e (drop (16 * k) m) ∷ [])) (count_is c key m within h)

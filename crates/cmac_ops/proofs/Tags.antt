@@ -1,12 +1,9 @@
 -- The length of a tag.
-use Rattle.std.proofs.Common.{◌≡◌, ◌∙◌, ℕ, List, length, refl, ap}
+use Rattle.std.proofs.Common.{◌≡◌, ◌∙◌, ℕ, List, length, ap}
 use Rattle.crypto_specs.specs.Aes.{aes_encrypt}
 use Rattle.crypto_specs.specs.Cmac.{cmac}
+use Rattle.crypto_specs.proofs.Blocks.{length-aes_encrypt}
 use Rattle.cmac_ops.proofs.Blocks.{chained_push}
-
-length-aes_encrypt : (key block : List ℕ) → length (aes_encrypt key block) ≡ 16
-unfolding aes_encrypt
-length-aes_encrypt key block = refl
 
 -- a whole tag has 16 bytes
 pub length-cmac : (key m : List ℕ) → length (cmac (aes_encrypt key) m) ≡ 16

@@ -1,14 +1,10 @@
 -- Byte by byte is block by block, and any cutting gives the same.
-use Rattle.std.proofs.Common.{◌≡◌, ◌≢◌, ℕ, zero, suc, ◌+◌, ◌-◌, ◌*◌, ◌<◌, ◌≤◌, false, eqb, List, [], ◌∷◌, ◌++◌, length, take, drop, refl, sym, ap, ◌∙◌, append_assoc, inl, inr, arith}
+use Rattle.std.proofs.Common.{◌≡◌, ◌≢◌, ℕ, zero, suc, ◌+◌, ◌-◌, ◌*◌, ◌<◌, ◌≤◌, List, [], ◌∷◌, ◌++◌, length, take, drop, refl, sym, ap, ◌∙◌, append_assoc, inl, inr, arith}
 use Rattle.std.specs.List.{fold}
-use Rattle.std.proofs.lemmas.Bool.{eq-eqb, cases_eq}
-use Rattle.std.proofs.lemmas.Bool.Decides.{eqb_tells}
+use Rattle.std.proofs.lemmas.Bool.{eq-eqb, ne_eqb, cases_eq}
 use Rattle.std.proofs.lemmas.List.{length_push, length-take, length-drop, append-nil, take-append-drop, drop-drop}
 use Rattle.crypto_specs.specs.Modes.{blocks}
 use Rattle.crypto_specs.specs.Absorb.{absorb, Absorbed}
-
-ne-eqb : (a b : ℕ) → a ≢ b → eqb a b ≡ false
-ne-eqb a b n = elim (eqb_tells a b) [ inl p ↦ absurd (n p.1) | inr p ↦ p.0 ]
 
 module _ {Y : Type 0} (f : Y → List ℕ → Y) where
   absorb_full : (y : Y) (p bs : List ℕ) (b : ℕ) → length p ≡ 15 → absorb f y p (b ∷ bs) ≡ absorb f (f y (p ++ b ∷ [])) [] bs
@@ -17,7 +13,7 @@ module _ {Y : Type 0} (f : Y → List ℕ → Y) where
 
   absorb_more : (y : Y) (p bs : List ℕ) (b : ℕ) → length p ≢ 15 → absorb f y p (b ∷ bs) ≡ absorb f y (p ++ b ∷ []) bs
   unfolding absorb
-  absorb_more y p bs b h = rw (absorb, ne-eqb (length p) 15 h) refl
+  absorb_more y p bs b h = rw (absorb, ne_eqb (length p) 15 h) refl
 
   -- any cutting
   pub absorb-append : (y : Y) (p xs ys : List ℕ) → absorb f y p (xs ++ ys) ≡ absorb f (absorb f y p xs).folded (absorb f y p xs).left ys

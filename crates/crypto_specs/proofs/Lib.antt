@@ -1,4 +1,7 @@
 pub mod XorBytes
+pub mod Blocks
+pub mod Tags
+pub mod CodeLengths
 pub mod Tables
 pub mod KeyStream
 pub mod Absorbing

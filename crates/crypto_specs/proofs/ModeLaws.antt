@@ -1,14 +1,15 @@
 -- ECB and CBC: decryption undoes encryption. CTR and the texts of CCM and GCM: xoring twice.
-use Rattle.std.proofs.Common.{◌≡◌, ℕ, zero, suc, ◌+◌, ◌-◌, ◌*◌, ◌/◌, ◌%◌, ◌<◌, ◌≤◌, map, List, [], ◌∷◌, ◌++◌, length, take, drop, refl, sym, ap, ap₂, ◌∙◌, arith}
+use Rattle.std.proofs.Common.{◌≡◌, ℕ, zero, suc, ◌+◌, ◌-◌, ◌*◌, ◌/◌, ◌%◌, ◌<◌, ◌≤◌, map, List, [], ◌∷◌, ◌++◌, length, drop, refl, sym, ap, ap₂, ◌∙◌, arith}
 use Rattle.std.specs.Int.{w64, to_be_bytes}
-use Rattle.std.proofs.lemmas.List.{length-take, length-drop, length-append, take-append-drop, take_at, drop_at}
+use Rattle.std.proofs.lemmas.List.{length-take, length-drop, length-append, take_at, drop_at}
 use Rattle.std.proofs.lemmas.List.Elements.{All-take, All-drop}
 use Rattle.crypto_specs.specs.Bytes.{xor_bytes}
 use Rattle.crypto_specs.specs.Modes.{block_count, blocks, joined, number_block, ecb_encrypt, ecb_decrypt, cbc_blocks, cbc_plain_blocks, cbc_encrypt, cbc_decrypt, counter_block, key_stream, ctr_xor, xor_stream, ctr_pieces}
 use Rattle.crypto_specs.specs.Ccm.{ccm_counter_block, ccm_stream, ccm_text}
-use Rattle.crypto_specs.specs.Gcm.{first_block, increased, gcm_stream, gcm_text}
+use Rattle.crypto_specs.specs.Gcm.{initial_counter_block, increased, gcm_stream, gcm_text}
 use Rattle.crypto_specs.specs.Laws.{AreBytes, IsBlock, IsUndoneBy, KeepsLength, EcbDecryptionUndoesEncryption, CbcDecryptionUndoesEncryption, CtrUndoesItself, AnyCuttingIsTheSame, CcmTextUndoesItself, GcmTextUndoesItself}
 use Rattle.crypto_specs.proofs.CipherInverseLists.{bytes_of_all, all_of_bytes, xored_bytes}
+use Rattle.crypto_specs.proofs.Blocks.{length-number_block, blocks_joined}
 use Rattle.crypto_specs.proofs.XorBytes.{length-xor_bytes, xor_bytes_twice}
 use Rattle.crypto_specs.proofs.KeyStream.{xor_stream_of_parts, length-blocks_of_stream, ctr_by_blocks}
 
@@ -28,17 +29,6 @@ blocks-each (suc n) text h e = (
   record { long = omega (arith, length-take 16 text); bytes = All-take (λ b. b < 256) 16 text h },
   blocks-each n (drop 16 text) (All-drop (λ b. b < 256) 16 text h) (omega (arith, length-drop 16 text)),
 )
-
-blocks_joined : (n : ℕ) (text : List ℕ) → length text ≡ 16 * n → joined (blocks n text) ≡ text
-unfolding blocks
-blocks_joined zero [] e = refl
-blocks_joined zero (x ∷ xs) e = absurd (omega arith)
-blocks_joined (suc n) text e = ap (λ (l : List ℕ). take 16 text ++ l) (blocks_joined n (drop 16 text) (omega (arith, length-drop 16 text))) ∙ take-append-drop 16 text
-
-length-blocks : (n : ℕ) (text : List ℕ) → length (blocks n text) ≡ n
-unfolding blocks
-length-blocks zero text = refl
-length-blocks (suc n) text = ap suc (length-blocks n (drop 16 text))
 
 length-joined : (bs : List (List ℕ)) → EachBlock bs → length (joined bs) ≡ 16 * length bs
 length-joined [] h = refl
@@ -126,10 +116,6 @@ xored_twice stream text long =
     let same : length once ≡ length text = omega (arith, length-xor_bytes text (stream n), long n) in
     ap (λ (m : ℕ). xor_bytes once (stream (block_count m))) same ∙ xor_bytes_twice text (stream n) (omega (arith, long n))
 
-length-number_block : (n : ℕ) → length (number_block n) ≡ 16
-unfolding number_block
-length-number_block n = refl
-
 length-counter_block : (iv : List ℕ) (n : ℕ) → length (counter_block iv n) ≡ 16
 unfolding counter_block number_block
 length-counter_block iv n = refl
@@ -180,4 +166,4 @@ length-gcm_stream e keeps y (suc n) =
 
 pub gcm_text_undoes_itself : GcmTextUndoesItself
 unfolding gcm_text
-gcm_text_undoes_itself e keeps nonce text = xored_twice (gcm_stream e (first_block e nonce)) text (length-gcm_stream e keeps (first_block e nonce))
+gcm_text_undoes_itself e keeps nonce text = xored_twice (gcm_stream e (initial_counter_block e nonce)) text (length-gcm_stream e keeps (initial_counter_block e nonce))

@@ -9,8 +9,8 @@ unfoldable pub numbers_of : List ℕ → List ℕ
 numbers_of bytes = map block_number (blocks (block_count (length bytes)) bytes)
 
 -- the hash subkey H (step 1): the zero block enciphered
-unfoldable pub hash_key : (List ℕ → List ℕ) → ℕ
-hash_key e = block_number (e (number_block 0))
+unfoldable pub hash_subkey : (List ℕ → List ℕ) → ℕ
+hash_subkey e = block_number (e (number_block 0))
 
 -- two counts of bytes as counts of bits, in 8 bytes each
 abbrev pub length_block : ℕ → ℕ → ℕ
@@ -26,8 +26,8 @@ increased y n = y / 2 ^ 32 * 2 ^ 32 + (y % 2 ^ 32 + n) % 2 ^ 32
 
 -- the pre-counter block J_0 (step 2): a nonce of 12 bytes and the number 1 in 4; of any other nonce,
 -- its GHASH with its length
-unfoldable pub first_block : (List ℕ → List ℕ) → List ℕ → ℕ
-first_block e nonce = cond (eqb (length nonce) 12) (increased (block_number nonce) 1) (ghash_of (hash_key e) [] nonce)
+unfoldable pub initial_counter_block : (List ℕ → List ℕ) → List ℕ → ℕ
+initial_counter_block e nonce = cond (eqb (length nonce) 12) (increased (block_number nonce) 1) (ghash_of (hash_subkey e) [] nonce)
 
 -- the first n blocks of the key stream from the block after y on (6.5)
 unfoldable pub gcm_stream : (List ℕ → List ℕ) → ℕ → ℕ → List ℕ
@@ -36,9 +36,9 @@ gcm_stream e y (suc n) = gcm_stream e y n ++ e (number_block (increased y (n + 1
 
 -- the text enciphered, or deciphered (step 3)
 unfoldable pub gcm_text : (List ℕ → List ℕ) → List ℕ → List ℕ → List ℕ
-gcm_text e nonce text = xor_bytes text (gcm_stream e (first_block e nonce) (block_count (length text)))
+gcm_text e nonce text = xor_bytes text (gcm_stream e (initial_counter_block e nonce) (block_count (length text)))
 
 -- the tag of t bytes, over the cipher text (steps 4 to 6)
 unfoldable pub gcm_tag : (List ℕ → List ℕ) → ℕ → List ℕ → List ℕ → List ℕ → List ℕ
 gcm_tag e t nonce ad text =
-    take t (xor_bytes (e (number_block (first_block e nonce))) (number_block (ghash_of (hash_key e) ad text)))
+    take t (xor_bytes (e (number_block (initial_counter_block e nonce))) (number_block (ghash_of (hash_subkey e) ad text)))

@@ -1,19 +1,11 @@
 -- GHASH of the blocks of a text, part by part.
-use Rattle.std.proofs.Common.{◌≡◌, ℕ, zero, suc, ◌+◌, ◌*◌, ◌≤◌, List, [], ◌∷◌, ◌++◌, length, take, drop, bit_xor, refl, ap, ap₂, ◌∙◌, arith}
+use Rattle.std.proofs.Common.{◌≡◌, ℕ, zero, suc, ◌+◌, ◌*◌, ◌≤◌, List, [], ◌++◌, length, take, drop, bit_xor, refl, ap, ◌∙◌, arith}
 use Rattle.std.specs.Prelude.{map}
-use Rattle.std.proofs.lemmas.List.{take-append-le, drop-append-le, length-drop, drop-drop}
+use Rattle.std.proofs.lemmas.List.{drop-drop}
 use Rattle.crypto_specs.specs.Ghash.{ghash_from, block_product}
 use Rattle.crypto_specs.specs.Modes.{blocks, block_number}
+use Rattle.crypto_specs.proofs.Blocks.{blocks-append}
 use Rattle.aead_gcm.proofs.GhashSteps.{rest_from}
-
--- what comes later changes no earlier block
-blocks-append : (n : ℕ) (xs ys : List ℕ) → 16 * n ≤ length xs → blocks n (xs ++ ys) ≡ blocks n xs
-unfolding blocks
-blocks-append zero xs ys h = refl
-blocks-append (suc n) xs ys h =
-    let front : take 16 (xs ++ ys) ≡ take 16 xs = take-append-le 16 xs ys (omega arith) in
-    let back : drop 16 (xs ++ ys) ≡ drop 16 xs ++ ys = drop-append-le 16 xs ys (omega arith) in
-    ap₂ (λ (b : List ℕ) (bs : List (List ℕ)). b ∷ bs) front (ap (blocks n) back ∙ blocks-append n (drop 16 xs) ys (omega (arith, length-drop 16 xs)))
 
 pub rest-append : (n h y : ℕ) (xs ys : List ℕ) → 16 * n ≤ length xs → rest_from h y n (xs ++ ys) ≡ rest_from h y n xs
 rest-append n h y xs ys fits = ap (λ (bs : List (List ℕ)). ghash_from h y (map block_number bs)) (blocks-append n xs ys fits)

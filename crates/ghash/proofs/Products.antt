@@ -1,13 +1,9 @@
 -- The product of blocks, bit by bit.
-use Rattle.std.proofs.Common.{◌≡◌, ℕ, suc, ◌+◌, ◌-◌, ◌/◌, ◌%◌, ◌<◌, false, cond, eqb, bit_xor, refl, sym, ap, ◌∙◌, inl, inr, arith}
+use Rattle.std.proofs.Common.{◌≡◌, ℕ, suc, ◌+◌, ◌-◌, ◌/◌, ◌%◌, ◌<◌, cond, eqb, bit_xor, refl, sym, ap, ◌∙◌, arith}
 use Rattle.std.specs.Int.{bit_at}
 use Rattle.std.specs.Int.Bits.{xor_zero_r, xor_assoc}
-use Rattle.std.proofs.lemmas.Bool.{eq-eqb}
-use Rattle.std.proofs.lemmas.Bool.Decides.{eqb_tells}
+use Rattle.std.proofs.lemmas.Bool.{eq-eqb, ne_eqb}
 use Rattle.crypto_specs.specs.Ghash.{times_x, sum_of_shifts, reduction}
-
-ne-eqb : (a b : ℕ) → (a ≡ b → ⊥) → eqb a b ≡ false
-ne-eqb a b n = elim (eqb_tells a b) [ inl p ↦ absurd (n p.1) | inr p ↦ p.0 ]
 
 pub times_x_odd : (v : ℕ) → v % 2 ≡ 1 → bit_xor (v / 2) reduction ≡ times_x v
 unfolding times_x
@@ -15,7 +11,7 @@ times_x_odd v h = rw (eq-eqb (v % 2) 1 h) refl
 
 pub times_x_even : (v : ℕ) → (v % 2 ≡ 1 → ⊥) → v / 2 ≡ times_x v
 unfolding times_x
-times_x_even v h = rw (ne-eqb (v % 2) 1 h) (sym (xor_zero_r (v / 2)))
+times_x_even v h = rw (ne_eqb (v % 2) 1 h) (sym (xor_zero_r (v / 2)))
 
 -- the term of bit n in the product
 abbrev pub term : ℕ → ℕ → ℕ → ℕ
@@ -25,7 +21,7 @@ pub term_set : (a n v z : ℕ) → bit_at a n ≡ 1 → bit_xor z v ≡ bit_xor 
 term_set a n v z h = rw (eq-eqb (bit_at a n) 1 h) refl
 
 pub term_clear : (a n v z : ℕ) → (bit_at a n ≡ 1 → ⊥) → z ≡ bit_xor z (term a n v)
-term_clear a n v z h = rw (ne-eqb (bit_at a n) 1 h) (sym (xor_zero_r z))
+term_clear a n v z h = rw (ne_eqb (bit_at a n) 1 h) (sym (xor_zero_r z))
 
 sum_next : (a n v : ℕ) → sum_of_shifts (suc n) a v ≡ bit_xor (term a n v) (sum_of_shifts n a (times_x v))
 unfolding sum_of_shifts

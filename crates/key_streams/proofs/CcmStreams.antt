@@ -1,5 +1,5 @@
 -- The stream of CCM is a key stream, as far as its counters go.
-use Rattle.std.proofs.Common.{◌≡◌, ℕ, zero, suc, ◌+◌, ◌-◌, ◌*◌, ◌/◌, ◌%◌, ◌^◌, ◌<◌, ◌≤◌, List, [], ◌∷◌, ◌++◌, length, take, drop, refl, sym, ap, ap₂, subst, ◌∙◌, arith}
+use Rattle.std.proofs.Common.{◌≡◌, ℕ, zero, suc, ◌+◌, ◌-◌, ◌*◌, ◌/◌, ◌%◌, ◌^◌, ◌<◌, ◌≤◌, List, ◌∷◌, ◌++◌, length, take, drop, refl, sym, ap, ap₂, subst, ◌∙◌, arith}
 use Rattle.std.specs.Int.{bytes_high_first}
 use Rattle.std.proofs.lemmas.List.{take_at, drop_at, length-append}
 use Rattle.std.proofs.lemmas.Nat.{div-mul-add, mod-mul-add, div-add-mod'}
@@ -7,11 +7,11 @@ use Rattle.std.proofs.Math.Nat.{pow-le-pow_right, mod-eq_of_lt}
 use Rattle.crypto_specs.specs.Modes.{block_count, block_number, number_block}
 use Rattle.crypto_specs.specs.Ccm.{in_bytes, ccm_counter_block, ccm_stream, ccm_text}
 use Rattle.crypto_specs.specs.Laws.{KeepsLength}
-use Rattle.aes_core.proofs.BlockNumbers.{AreBytes, block_of_number}
+use Rattle.aes_core.proofs.BlockNumbers.{AreBytes, bytes-append, block_of_number, byte_at_is, length-bytes_high_first, power_of_256}
 use Rattle.key_streams.specs.declared.width.CounterWidth.TheVariants.{Whole}
 use Rattle.key_streams.specs.Counters.{stream_block, text_xor}
 use Rattle.key_streams.proofs.StreamLaws.{further_piece}
-use Rattle.key_streams.proofs.HighFirst.{byte_at_is, length-bytes_high_first, high_and_low, same_bytes, same_remainder, power_of_256}
+use Rattle.key_streams.proofs.HighFirst.{high_and_low, same_bytes, same_remainder}
 use Rattle.key_streams.proofs.ModeStreams.{text_is}
 
 -- a number in q bytes, which are at most 8
@@ -67,11 +67,6 @@ blocks_fit n q h lt =
 bytes-cons : (x : ℕ) (xs : List ℕ) → x < 256 → AreBytes xs → AreBytes (x ∷ xs)
 bytes-cons x xs h all zero = h
 bytes-cons x xs h all (suc i) = all i
-
-bytes-append : (xs ys : List ℕ) → AreBytes xs → AreBytes ys → AreBytes (xs ++ ys)
-bytes-append [] ys hx hy i = hy i
-bytes-append (x ∷ xs) ys hx hy zero = hx 0
-bytes-append (x ∷ xs) ys hx hy (suc i) = bytes-append xs ys (λ j. hx (suc j)) hy i
 
 bytes-high_first : (k n : ℕ) → AreBytes (bytes_high_first k n)
 bytes-high_first zero n i = omega arith

@@ -1,21 +1,10 @@
 -- Numbers in bytes, first byte highest.
-use Rattle.std.proofs.Common.{◌≡◌, ℕ, zero, suc, ◌+◌, ◌*◌, ◌/◌, ◌%◌, ◌^◌, ◌<◌, List, ◌∷◌, ◌++◌, length, refl, sym, ap, ap₂, ◌∙◌, arith}
+use Rattle.std.proofs.Common.{◌≡◌, ℕ, zero, suc, ◌+◌, ◌*◌, ◌/◌, ◌%◌, ◌^◌, ◌<◌, List, ◌∷◌, ◌++◌, refl, sym, ap, ap₂, ◌∙◌, arith}
 use Rattle.std.specs.Int.{byte_at, bytes_high_first}
 use Rattle.std.proofs.Math.Nat.{pow-suc, mul_comm, div-div-eq-div-mul}
 use Rattle.std.proofs.Math.Arith.{mod-mul}
 use Rattle.std.proofs.lemmas.Nat.{pow-add, same_from_place, mod_below}
-
-pub power_positive : (k : ℕ) → 0 < 256 ^ k
-power_positive zero = omega arith
-power_positive (suc k) = rw (pow-suc 256 k) (omega (arith, power_positive k))
-
-pub byte_at_is : (k n : ℕ) → byte_at k n ≡ n / 256 ^ k % 256
-byte_at_is zero n = omega arith
-byte_at_is (suc k) n = refl
-
-pub length-bytes_high_first : (k n : ℕ) → length (bytes_high_first k n) ≡ k
-length-bytes_high_first zero n = refl
-length-bytes_high_first (suc k) n = ap suc (length-bytes_high_first k n)
+use Rattle.aes_core.proofs.BlockNumbers.{byte_at_is, power_positive}
 
 -- the high bytes are those of the quotient
 pub high_and_low : (h k n : ℕ) → bytes_high_first (h + k) n ≡ bytes_high_first h (n / 256 ^ k) ++ bytes_high_first k n
@@ -50,9 +39,3 @@ same_remainder (suc k) n m e =
     let first : byte_at k n ≡ byte_at k m = cc in
     let rest : bytes_high_first k n ≡ bytes_high_first k m = cc in
     split n ∙ ap₂ (λ (b r : ℕ). b * p + r) (sym (byte_at_is k n) ∙ first ∙ byte_at_is k m) (same_remainder k n m rest) ∙ sym (split m)
-
-pub power_of_256 : (k : ℕ) → 256 ^ k ≡ 2 ^ (8 * k)
-power_of_256 zero = refl
-power_of_256 (suc k) =
-    let more : 8 * suc k ≡ 8 * k + 8 = omega arith in
-    rw (pow-suc 256 k, power_of_256 k, more, pow-add 2 (8 * k) 8) refl

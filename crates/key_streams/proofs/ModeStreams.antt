@@ -4,21 +4,17 @@ use Rattle.std.proofs.lemmas.Bool.{cases_lt}
 use Rattle.std.proofs.lemmas.List.{length-append, get_or_append_left, get_or-append_right}
 use Rattle.crypto_specs.specs.Bytes.{xor_bytes}
 use Rattle.crypto_specs.specs.Modes.{block_count, block_number, number_block, counter_block, key_stream, ctr_xor}
-use Rattle.crypto_specs.specs.Gcm.{increased, first_block, gcm_stream, gcm_text}
+use Rattle.crypto_specs.specs.Gcm.{increased, initial_counter_block, gcm_stream, gcm_text}
 use Rattle.crypto_specs.specs.Laws.{KeepsLength}
 use Rattle.crypto_specs.specs.Aes.{aes_encrypt}
+use Rattle.crypto_specs.proofs.Blocks.{length-number_block, length-aes_encrypt}
 use Rattle.key_streams.specs.declared.width.CounterWidth.{CounterWidth}
 use Rattle.key_streams.specs.declared.width.CounterWidth.TheVariants.{Whole, Low32}
 use Rattle.key_streams.specs.Counters.{counted, stream_block, byte_of_stream, text_xor}
 use Rattle.key_streams.proofs.StreamLaws.{by_byte, further_piece}
 
 pub aes_keeps_length : (key : List ℕ) → KeepsLength (aes_encrypt key)
-unfolding aes_encrypt
-aes_keeps_length key b long = refl
-
-length-number_block : (n : ℕ) → length (number_block n) ≡ 16
-unfolding number_block
-length-number_block n = refl
+aes_keeps_length key b long = length-aes_encrypt key b
 
 -- a stream that grows by the blocks of a key stream, up to a limit
 module _ (e : List ℕ → List ℕ) (keeps : KeepsLength e) (width : CounterWidth) (start limit : ℕ) (stream : ℕ → List ℕ) (none : stream 0 ≡ [])
@@ -70,11 +66,11 @@ module _ (e : List ℕ → List ℕ) (keeps : KeepsLength e) where
       text_is e keeps Low32 (increased y 1) (block_count (length text)) (gcm_stream e y) refl
       (λ n h. ap (λ (k : ℕ). gcm_stream e y n ++ e (number_block k)) (increased_twice y n)) text (omega arith)
 
-  pub gcm_is : (nonce text : List ℕ) → gcm_text e nonce text ≡ text_xor e Low32 (increased (first_block e nonce) 1) 0 text
+  pub gcm_is : (nonce text : List ℕ) → gcm_text e nonce text ≡ text_xor e Low32 (increased (initial_counter_block e nonce) 1) 0 text
   unfolding gcm_text
-  gcm_is nonce text = gcm_is_from (first_block e nonce) text
+  gcm_is nonce text = gcm_is_from (initial_counter_block e nonce) text
 
-  pub gcm_further : (nonce before piece : List ℕ) → drop (length before) (gcm_text e nonce (before ++ piece)) ≡ text_xor e Low32 (increased (first_block e nonce) 1) (length before) piece
+  pub gcm_further : (nonce before piece : List ℕ) → drop (length before) (gcm_text e nonce (before ++ piece)) ≡ text_xor e Low32 (increased (initial_counter_block e nonce) 1) (length before) piece
   gcm_further nonce before piece =
-      let start : ℕ = increased (first_block e nonce) 1 in
+      let start : ℕ = increased (initial_counter_block e nonce) 1 in
       ap (drop (length before)) (gcm_is nonce (before ++ piece)) ∙ further_piece e Low32 start before piece 0 ∙ ap (λ (n : ℕ). text_xor e Low32 start n piece) (omega arith)

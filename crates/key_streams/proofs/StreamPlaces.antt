@@ -1,8 +1,7 @@
 -- A key stream's place, one block and one piece on.
-use Rattle.std.proofs.Common.{◌≡◌, ℕ, ◌+◌, ◌-◌, ◌/◌, ◌%◌, ◌^◌, ◌<◌, ◌≤◌, List, ◌++◌, length, take, drop, slice_index, refl, sym, ap, ap₂, ◌∙◌, append_assoc, arith}
+use Rattle.std.proofs.Common.{◌≡◌, ℕ, ◌+◌, ◌-◌, ◌/◌, ◌%◌, ◌^◌, ◌<◌, ◌≤◌, List, ◌++◌, length, take, drop, slice_index, sym, ap, ap₂, ◌∙◌, append_assoc, arith}
 use Rattle.std.proofs.Math.Seq.{take-add}
 use Rattle.std.proofs.lemmas.List.{get_or-drop, length-drop, length-take, take_at, drop_at, drop-drop}
-use Rattle.crypto_specs.specs.Aes.{aes_encrypt}
 use Rattle.crypto_specs.specs.Bytes.{xor_bytes}
 use Rattle.crypto_specs.specs.Modes.{number_block}
 use Rattle.crypto_specs.specs.Gcm.{increased}
@@ -44,10 +43,6 @@ refilled s t e width start n u h ew eu ec eb = record {
   used = omega arith;
   block = λ lt. eb ∙ ap (λ (c : ℕ). e (number_block c)) (h.counter ∙ ap (counted width start) (omega arith));
 }
-
-pub length-aes_encrypt : (key block : List ℕ) → length (aes_encrypt key block) ≡ 16
-unfolding aes_encrypt
-length-aes_encrypt key block = refl
 
 -- what is left of the block is the stream from the place on
 pub piece_is : (s : KeyStream) (e : List ℕ → List ℕ) (width : CounterWidth) (start n : ℕ) (piece : List ℕ) → ((b : List ℕ) → length (e b) ≡ 16) → s.used < 16 → s.used + length piece ≤ 16 → IsAt s e width start n

@@ -1,6 +1,6 @@
 mod Permitted
 mod Meets
-mod Usages
+pub mod Usages
 pub mod Copies
 pub mod Rules
 mod Examples

@@ -1,19 +1,16 @@
 -- A derivation gives as many bytes as are asked for.
-use Rattle.std.proofs.Common.{◌≡◌, ℕ, zero, suc, ◌+◌, ◌-◌, ◌*◌, ◌/◌, ◌≤◌, Bool, true, false, cond, List, [], ◌∷◌, ◌++◌, length, refl, ap, ◌∙◌, arith, length-append}
+use Rattle.std.proofs.Common.{◌≡◌, ℕ, zero, suc, ◌+◌, ◌-◌, ◌*◌, ◌/◌, ◌≤◌, Bool, true, false, cond, List, [], length, refl, ap, ◌∙◌, arith, length-append}
 use Rattle.std.specs.Prelude.{Option, None, Some, ◌==◌, is_some}
-use Rattle.std.specs.Int.{w32, to_be_bytes}
-use Rattle.std.specs.List.{fold}
 use Rattle.std.proofs.lemmas.List.{length-take-le, length-drop}
 use Rattle.sha2.specs.Sha256.{sha224, sha256}
 use Rattle.sha2.specs.Sha512.{sha384, sha512}
 use Rattle.sha2.proofs.Facts256.{length-sha224, length-sha256}
 use Rattle.sha2.proofs.Facts512.{length-sha384, length-sha512}
-use Rattle.crypto_specs.specs.Bytes.{xor_bytes}
-use Rattle.crypto_specs.specs.Hmac.{hmac}
+use Rattle.alg_encoding.specs.Table as table
 use Rattle.crypto_specs.specs.Hkdf.{hash_length, extract, expand_block, expand_blocks, expand}
-use Rattle.crypto_specs.specs.Pbkdf2.{chain, xor_all, pbkdf2_block, pbkdf2_blocks, pbkdf2}
-use Rattle.crypto_specs.proofs.XorBytes.{length-xor_bytes}
-use Rattle.store_model.specs.Algorithms.{digest, digest_length, hash_block_length, low_byte}
+use Rattle.crypto_specs.specs.Pbkdf2.{pbkdf2_block, pbkdf2_blocks, pbkdf2}
+use Rattle.crypto_specs.proofs.CodeLengths.{length-expand_block, length-pbkdf2_block}
+use Rattle.store_model.specs.Algorithms.{digest, hash_block_length, low_byte}
 use Rattle.store_model.specs.CipherOperations.{bytes_or_empty}
 use Rattle.store_model.specs.DerivationOperations.{DerivationWork, is_hkdf, number_or_zero, derived, next_derived}
 use Rattle.store_model.specs.Sound.{IsSoundDerivation}
@@ -23,21 +20,13 @@ enough l h first = omega arith
 
 -- over any hash function of h bytes, with blocks of n
 module _ (hash : List ℕ → List ℕ) (h n : ℕ) (long : (m : List ℕ) → length (hash m) ≡ h) where
-  length-hmac : (key message : List ℕ) → length (hmac hash n key message) ≡ h
-  unfolding hmac
-  length-hmac key message = long _
-
-  length-expand_block : (prk info : List ℕ) (i : ℕ) → length (expand_block hash n prk info (suc i)) ≡ h
-  unfolding expand_block
-  length-expand_block prk info i = length-hmac prk (expand_block hash n prk info i ++ info ++ (i + 1) ∷ [])
-
   length-expand_blocks : (prk info : List ℕ) (i : ℕ) → length (expand_blocks hash n prk info i) ≡ h * i
   unfolding expand_blocks
   length-expand_blocks prk info zero = omega arith
   length-expand_blocks prk info (suc i) =
       let before = length-expand_blocks prk info i in
       let number : i + 1 ≡ suc i = omega arith in
-      let block : length (expand_block hash n prk info (i + 1)) ≡ h = ap (λ (j : ℕ). length (expand_block hash n prk info j)) number ∙ length-expand_block prk info i in
+      let block : length (expand_block hash n prk info (i + 1)) ≡ h = ap (λ (j : ℕ). length (expand_block hash n prk info j)) number ∙ length-expand_block hash h n long prk info i in
       let both = length-append (expand_blocks hash n prk info i) (expand_block hash n prk info (i + 1)) in
       omega arith
 
@@ -52,24 +41,12 @@ module _ (hash : List ℕ → List ℕ) (h n : ℕ) (long : (m : List ℕ) → l
       let whole : k * ((l + k - 1) / k) ≡ h * ((l + k - 1) / k) = ap (λ (j : ℕ). j * ((l + k - 1) / k)) same in
       length-take-le l (expand_blocks hash n prk info ((l + k - 1) / k)) (omega arith)
 
-  length-sum : (password sum u : List ℕ) (c : ℕ) → length sum ≡ h → length u ≡ h → length (fold xor_bytes sum (chain hash n password u c)) ≡ h
-  unfolding chain
-  length-sum password sum u zero e f = e
-  length-sum password sum u (suc c) e f =
-      length-sum password (xor_bytes sum u) (hmac hash n password u) c (let both = length-xor_bytes sum u in omega arith) (length-hmac password u)
-
-  length-turns : (password u : List ℕ) (c : ℕ) → 1 ≤ c → length u ≡ h → length (xor_all (chain hash n password u c)) ≡ h
-  unfolding xor_all chain
-  length-turns password u zero first e = absurd (omega arith)
-  length-turns password u (suc c) first e = length-sum password u (hmac hash n password u) c e (length-hmac password u)
-
   length-pbkdf2_blocks : (password salt : List ℕ) (c : ℕ) → 1 ≤ c → (i : ℕ) → length (pbkdf2_blocks hash n password salt c i) ≡ h * i
-  unfolding pbkdf2_blocks pbkdf2_block
+  unfolding pbkdf2_blocks
   length-pbkdf2_blocks password salt c first zero = omega arith
   length-pbkdf2_blocks password salt c first (suc i) =
       let before = length-pbkdf2_blocks password salt c first i in
-      let block : length (pbkdf2_block hash n password salt c (i + 1)) ≡ h =
-      length-turns password (hmac hash n password (salt ++ to_be_bytes w32 (i + 1))) c first (length-hmac password (salt ++ to_be_bytes w32 (i + 1))) in
+      let block = length-pbkdf2_block hash h n long password salt c (i + 1) first in
       let both = length-append (pbkdf2_blocks hash n password salt c i) (pbkdf2_block hash n password salt c (i + 1)) in
       omega arith
 
@@ -92,7 +69,7 @@ digest_of false true d m = length-sha256 m
 digest_of false false true m = length-sha384 m
 digest_of false false false m = length-sha512 m
 
-length-digest : (byte : ℕ) (m : List ℕ) → length (digest byte m) ≡ digest_length byte
+length-digest : (byte : ℕ) (m : List ℕ) → length (digest byte m) ≡ table.hash_length byte
 length-digest byte m = digest_of (byte == 8) (byte == 9) (byte == 10) m
 
 some_bytes : (b c d : Bool) → 1 ≤ cond b 28 (cond c 32 (cond d 48 64))
@@ -108,10 +85,10 @@ length_by_scheme : (w : DerivationWork) (n : ℕ) (hkdf : Bool) → (hkdf ≡ fa
     (pbkdf2 hash block (bytes_or_empty w.secret) (bytes_or_empty w.salt) (number_or_zero w.cost) n)) ≡ n
 length_by_scheme w n true cost =
     let byte : ℕ = low_byte w.alg in
-    length-expand (digest byte) (digest_length byte) (hash_block_length byte) (length-digest byte) (some_bytes (byte == 8) (byte == 9) (byte == 10)) _ _ n
+    length-expand (digest byte) (table.hash_length byte) (hash_block_length byte) (length-digest byte) (some_bytes (byte == 8) (byte == 9) (byte == 10)) _ _ n
 length_by_scheme w n false cost =
     let byte : ℕ = low_byte w.alg in
-    length-pbkdf2 (digest byte) (digest_length byte) (hash_block_length byte) (length-digest byte) (some_bytes (byte == 8) (byte == 9) (byte == 10)) _ _ (number_or_zero w.cost) (cost refl) n
+    length-pbkdf2 (digest byte) (table.hash_length byte) (hash_block_length byte) (length-digest byte) (some_bytes (byte == 8) (byte == 9) (byte == 10)) _ _ (number_or_zero w.cost) (cost refl) n
 
 some_cost : (cost : Option ℕ) → is_some cost ≡ true → ((n : ℕ) → cost ≡ Some n → 1 ≤ n) → 1 ≤ number_or_zero cost
 some_cost None e h = cc

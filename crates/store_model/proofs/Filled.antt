@@ -1,8 +1,7 @@
 -- What a creation records passes the checks, and comes out of them as it is.
-use Rattle.std.proofs.Common.{◌≡◌, ℕ, ◌+◌, ◌*◌, Bool, true, false, not, refl, sym, ap, ◌∙◌, arith}
+use Rattle.std.proofs.Common.{◌≡◌, ℕ, ◌*◌, Bool, true, false, not, refl, sym, ap, ◌∙◌, arith}
 use Rattle.std.specs.Prelude.{Option, None, Some, Ok, ◌==◌, ◌&&◌, [], ◌∷◌, ◌++◌, bit_and}
-use Rattle.std.proofs.lemmas.Nat.{and_or_apart, and_or_self}
-use Rattle.std.specs.Int.Bits.{or_add_and}
+use Rattle.std.proofs.lemmas.Nat.{and_or_apart}
 use Rattle.std.specs.Int.RustNames.{bit_or}
 use Rattle.std.proofs.lemmas.Bool.Decides.{nat_tests}
 use Rattle.psa_status.specs.declared.Status.{Status}
@@ -11,6 +10,7 @@ use Rattle.psa_status.specs.Rows.{Rows, first_row, unless}
 use Rattle.psa_status.proofs.Rows.{first_row-front, first_row-back}
 use Rattle.key_attributes.specs.declared.Attributes.{Attributes}
 use Rattle.key_attributes.specs.Checks.{attribute_rows, filled, checked, implied_usage, is_lifetime, is_key_type, permits_size}
+use Rattle.policy_rules.proofs.Usages.{with_flags, signs, verifies, implied-flags, implied-implied}
 use Rattle.store_model.specs.Creation.{identified}
 
 -- no row of a table holds: none of its first part, and none of the rest
@@ -34,67 +34,6 @@ six false false false false true g h x y i j = cc
 six false false false false false g h true y i j = cc
 six false false false false false g h false true i j = cc
 six false false false false false g h false false i j = refl
-
--- the flags that others imply, by whether those are there
-abbrev with_flags : Bool → Bool → ℕ → ℕ
-with_flags true true usage = bit_or (bit_or usage 0x400) 0x800
-with_flags true false usage = bit_or usage 0x400
-with_flags false true usage = bit_or usage 0x800
-with_flags false false usage = usage
-
-abbrev signs : ℕ → Bool
-signs usage = not (bit_and usage 0x1000 == 0)
-
-abbrev verifies : ℕ → Bool
-verifies usage = not (bit_and usage 0x2000 == 0)
-
-implied : (s v : Bool) (usage : ℕ) → s ≡ signs usage → v ≡ verifies usage → implied_usage usage ≡ with_flags s v usage
-implied true true usage es ev = rw (← es, ← ev)
-implied true false usage es ev = rw (← es, ← ev)
-implied false true usage es ev = rw (← es, ← ev)
-implied false false usage es ev = rw (← es, ← ev)
-
-implied-flags : (usage : ℕ) → implied_usage usage ≡ with_flags (signs usage) (verifies usage) usage
-implied-flags usage = implied (signs usage) (verifies usage) usage refl refl
-
--- a flag that isn't implied stays as it was
-apart_1 : (s v : Bool) (usage : ℕ) → bit_and (with_flags s v usage) 0x1000 ≡ bit_and usage 0x1000
-apart_1 true true usage = and_or_apart 0x1000 (bit_or usage 0x400) 0x800 refl ∙ and_or_apart 0x1000 usage 0x400 refl
-apart_1 true false usage = and_or_apart 0x1000 usage 0x400 refl
-apart_1 false true usage = and_or_apart 0x1000 usage 0x800 refl
-apart_1 false false usage = refl
-
-apart_2 : (s v : Bool) (usage : ℕ) → bit_and (with_flags s v usage) 0x2000 ≡ bit_and usage 0x2000
-apart_2 true true usage = and_or_apart 0x2000 (bit_or usage 0x400) 0x800 refl ∙ and_or_apart 0x2000 usage 0x400 refl
-apart_2 true false usage = and_or_apart 0x2000 usage 0x400 refl
-apart_2 false true usage = and_or_apart 0x2000 usage 0x800 refl
-apart_2 false false usage = refl
-
-or_included : (a b : ℕ) → bit_and a b ≡ b → bit_or a b ≡ a
-or_included a b h = let e : bit_or a b + bit_and a b ≡ a + b = or_add_and a b in omega arith
-
-or_twice : (a b : ℕ) → bit_or (bit_or a b) b ≡ bit_or a b
-or_twice a b = or_included (bit_or a b) b (and_or_self b a)
-
-with_400 : (a : ℕ) → bit_and (bit_or (bit_or a 0x400) 0x800) 0x400 ≡ 0x400
-with_400 a = and_or_apart 0x400 (bit_or a 0x400) 0x800 refl ∙ and_or_self 0x400 a
-
-twice : (s v : Bool) (usage : ℕ) → with_flags s v (with_flags s v usage) ≡ with_flags s v usage
-twice true true usage =
-    ap (λ x. bit_or x 0x800) (or_included (bit_or (bit_or usage 0x400) 0x800) 0x400 (with_400 usage)) ∙ or_twice (bit_or usage 0x400) 0x800
-twice true false usage = or_twice usage 0x400
-twice false true usage = or_twice usage 0x800
-twice false false usage = refl
-
--- what is filled in once is filled in
-implied-implied : (usage : ℕ) → implied_usage (implied_usage usage) ≡ implied_usage usage
-implied-implied usage =
-    let s = signs usage in
-    let v = verifies usage in
-    let once : implied_usage usage ≡ with_flags s v usage = implied-flags usage in
-    let same_s : s ≡ signs (with_flags s v usage) = ap (λ x. not (x == 0)) (sym (apart_1 s v usage)) in
-    let same_v : v ≡ verifies (with_flags s v usage) = ap (λ x. not (x == 0)) (sym (apart_2 s v usage)) in
-    ap implied_usage once ∙ implied s v (with_flags s v usage) same_s same_v ∙ twice s v usage ∙ sym once
 
 -- implied flags are within the flags that there are
 mask_flags : (s v : Bool) (usage : ℕ) → bit_and (with_flags s v usage) 0xffff00f8 ≡ bit_and usage 0xffff00f8

@@ -1,7 +1,8 @@
 use Rattle.std.proofs.Common.{◌∙◌, length, true, false, ap}
 use Rattle.crypto_specs.specs.Aes.{aes_encrypt}
 use Rattle.crypto_specs.specs.Ccm.{ccm_tag}
-use Rattle.aead_ccm.proofs.Tags.{tag_is, tag_decided}
+use Rattle.crypto_specs.proofs.Tags.{tag_decided}
+use Rattle.aead_ccm.proofs.Tags.{tag_is}
 use Rattle.aead_ccm.proofs.open.Goals as goal
 
 pub returns-then-eq-clause-tag : goal.returns-then-eq-clause-tag

@@ -1,6 +1,7 @@
 use Rattle.std.proofs.Common.{length, true, false}
 use Rattle.crypto_specs.specs.Aes.{aes_encrypt}
-use Rattle.aead_gcm.proofs.Tags.{tag_is, text_is, tag_decided}
+use Rattle.crypto_specs.proofs.Tags.{tag_decided}
+use Rattle.aead_gcm.proofs.Tags.{tag_is, text_is}
 use Rattle.aead_gcm.proofs.open.Goals as goal
 
 pub returns-then-eq-clause-text : goal.returns-then-eq-clause-text

@@ -1,9 +1,9 @@
 use Rattle.std.proofs.Common.{◌∙◌, sym, ap}
-use Rattle.crypto_specs.specs.Gcm.{hash_key}
+use Rattle.crypto_specs.specs.Gcm.{hash_subkey}
 use Rattle.crypto_specs.specs.Modes.{block_number}
 use Rattle.aes_core.proofs.BlockNumbers.{number_of_block}
 use Rattle.aead_gcm.proofs.hashing.hash_subkey.Goals as goal
 
 pub returns : goal.returns
-unfolding hash_key
+unfolding hash_subkey
 returns c = sym (number_of_block c.encrypt_number.result c.encrypt_number.type_inv) ∙ ap block_number c.encrypt_number.ensures

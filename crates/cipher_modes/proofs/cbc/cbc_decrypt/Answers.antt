@@ -2,7 +2,8 @@ use Rattle.std.proofs.Common.{◌∙◌, List, ℕ, ◌∷◌, length, sym, ap, 
 use Rattle.crypto_specs.specs.Bytes.{xor_bytes}
 use Rattle.crypto_specs.specs.AesInverse.{aes_decrypt}
 use Rattle.crypto_specs.specs.Modes.{cbc_plain_blocks, number_block, cbc_decrypt}
-use Rattle.aes_core.proofs.BlockNumbers.{length-number_block, block_of_xor}
+use Rattle.crypto_specs.proofs.Blocks.{length-number_block}
+use Rattle.aes_core.proofs.BlockNumbers.{block_of_xor}
 use Rattle.cipher_modes.proofs.Chaining.{cbc_plain_block}
 use Rattle.cipher_modes.proofs.InPlace.{mode_from, block_done, all_done, none_done}
 use Rattle.cipher_modes.proofs.cbc.cbc_decrypt.Goals as goal

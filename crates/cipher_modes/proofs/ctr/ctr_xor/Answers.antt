@@ -4,7 +4,8 @@ use Rattle.crypto_specs.specs.Aes.{aes_encrypt}
 use Rattle.crypto_specs.specs.Modes.{key_stream, block_number, number_block, ctr_xor}
 use Rattle.crypto_specs.proofs.KeyStream.{length-key_stream}
 use Rattle.crypto_specs.proofs.XorBytes.{next_block_xored, blocks_xored}
-use Rattle.cipher_modes.proofs.CounterBlocks.{length-aes_encrypt, key_stream_next, counter_block_is, counter_next, counter_start}
+use Rattle.crypto_specs.proofs.Blocks.{length-aes_encrypt}
+use Rattle.cipher_modes.proofs.CounterBlocks.{key_stream_next, counter_block_is, counter_next, counter_start}
 use Rattle.cipher_modes.proofs.ctr.ctr_xor.Goals as goal
 
 pub turns-init : goal.turns-init

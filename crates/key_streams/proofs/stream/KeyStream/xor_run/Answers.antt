@@ -1,7 +1,8 @@
 use Rattle.std.proofs.Common.{List, ℕ, ◌++◌, ◌∙◌, take, drop, refl, ap, arith}
 use Rattle.std.proofs.lemmas.List.{length-take}
 use Rattle.crypto_specs.specs.Aes.{aes_encrypt}
-use Rattle.key_streams.proofs.StreamPlaces.{length-aes_encrypt, piece_is, moved}
+use Rattle.crypto_specs.proofs.Blocks.{length-aes_encrypt}
+use Rattle.key_streams.proofs.StreamPlaces.{piece_is, moved}
 use Rattle.key_streams.proofs.stream.KeyStream.xor_run.Goals as goal
 
 pub returns-clause-text : goal.returns-clause-text
