@@ -16,8 +16,8 @@ drawn_calls store caller n false = refl
 
 pub serve-calls : (service : Service) (caller : ℕ) (request : Request) (mark : FaultMark) → (serve service caller request mark).service.store.calls ≡ service.store.calls + 1
 serve-calls service caller (OnStore call) mark = step-calls service.store caller call mark
-serve-calls service caller (OnHandle handle call) mark = shape service caller handle (λ served. served.service.store.calls ≡ service.store.calls + 1) (record {
-  untouched_too = λ status. refl;
+serve-calls service caller (OnHandle handle call) mark = shape service caller handle call (λ served. served.service.store.calls ≡ service.store.calls + 1) (record {
+  untouched_too = λ status may. refl;
   applied_too = λ after step. drawn_calls (counted service.store) caller after.drawn (after.drawn == 0);
   created_too = λ key w a made. refl;
-}) call
+})

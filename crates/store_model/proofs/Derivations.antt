@@ -11,9 +11,9 @@ use Rattle.store_model.specs.Outcome.{given, done, refusal}
 use Rattle.store_model.specs.Operations.{goes_on}
 use Rattle.store_model.specs.DerivationOperations.{DerivationWork, DerivationStep, GetCapacity, SetCapacity, InputBytes, InputInteger, OutputBytes, VerifyBytes, derivation_work, derivation_step, input_bytes_rows, input_integer_rows, is_hkdf, is_due, is_salt_due, is_info_due, is_secret_due, salt_step, info_step, with_key, without, exhausted, next_derived, compared, capacity_reply}
 use Rattle.store_model.specs.CipherOperations.{bytes_or_empty}
-use Rattle.store_model.specs.HandleCalls.{input_key_rows}
+use Rattle.store_model.specs.HandleCalls.{OnDerivation, input_key_rows}
 use Rattle.store_model.specs.Handles.{KeyCreation, Deriving, held_after}
-use Rattle.store_model.specs.Refusals.{IsLeft, AsItWas, Exhausted, Compared}
+use Rattle.store_model.specs.Refusals.{IsLeft, AsItWas, Exhausted, Compared, lowers_capacity}
 use Rattle.store_model.specs.Sound.{IsSoundDerivation}
 use Rattle.store_model.proofs.Drawn.{none_holds}
 use Rattle.store_model.proofs.Steps.{IsStep, begun, unless_step, goes_step}
@@ -87,10 +87,10 @@ without_sound w n less h = record { capacity = let c = h.capacity in omega arith
 pub not_below : (m n : ℕ) → nat_lt m n ≡ false → n ≤ m
 not_below m n h = grind (arith, nat_tests)
 
-module _ (store : Store) (key : Option KeyCreation) where
+module _ {may : Bool} (store : Store) (key : Option KeyCreation) where
   -- a refusal that leaves the derivation active
-  stays_step : (w next : DerivationWork) (status : Status) → IsLeft status (begun store key Deriving w) (begun store key Deriving next) → (IsSoundDerivation w → IsSoundDerivation next) →
-      IsStep store (begun store key Deriving w) (held_after key Deriving (goes_on next (refusal status)))
+  stays_step : (w next : DerivationWork) (status : Status) → IsLeft may status (begun key Deriving w) (begun key Deriving next) → (IsSoundDerivation w → IsSoundDerivation next) →
+      IsStep may store (begun key Deriving w) (held_after key Deriving (goes_on next (refusal status)))
   stays_step w next status left sound = record {
     few = omega arith;
     undrawn = λ no. refl;
@@ -99,36 +99,36 @@ module _ (store : Store) (key : Option KeyCreation) where
     sound = λ s h. record { key = h.key; work = sound h.work };
   }
 
-  pub exhausted_step : (w : DerivationWork) → IsStep store (begun store key Deriving w) (held_after key Deriving (exhausted w))
+  pub exhausted_step : (w : DerivationWork) → IsStep may store (begun key Deriving w) (held_after key Deriving (exhausted w))
   exhausted_step w = stays_step w (record w { capacity = 0 }) InsufficientData (Exhausted key w refl refl refl) (exhausted_sound w)
 
   taken_step : (w : DerivationWork) (n : ℕ) (reply : Reply) (b : Bool) → nat_lt w.capacity n ≡ b →
-      (n ≤ w.capacity → IsStep store (begun store key Deriving w) (held_after key Deriving (goes_on (without w n) reply))) →
-      IsStep store (begun store key Deriving w) (held_after key Deriving (cond b (exhausted w) (goes_on (without w n) reply)))
+      (n ≤ w.capacity → IsStep may store (begun key Deriving w) (held_after key Deriving (goes_on (without w n) reply))) →
+      IsStep may store (begun key Deriving w) (held_after key Deriving (cond b (exhausted w) (goes_on (without w n) reply)))
   taken_step w n reply true e h = exhausted_step w
   taken_step w n reply false e h = h (not_below w.capacity n e)
 
-  compared_step : (w : DerivationWork) (n : ℕ) (same : Bool) → n ≤ w.capacity → IsStep store (begun store key Deriving w) (held_after key Deriving (goes_on (without w n) (compared same)))
+  compared_step : (w : DerivationWork) (n : ℕ) (same : Bool) → n ≤ w.capacity → IsStep may store (begun key Deriving w) (held_after key Deriving (goes_on (without w n) (compared same)))
   compared_step w n true less = goes_step store key Deriving w (without w n) done refl (λ s a. refl) (without_sound w n less)
   compared_step w n false less = stays_step w (without w n) InvalidSignature (Compared key w n refl less refl refl) (without_sound w n less)
 
-  lowered_step : (w : DerivationWork) (n : ℕ) (b : Bool) → nat_lt w.capacity n ≡ b →
-      IsStep store (begun store key Deriving w) (held_after key Deriving (cond b (goes_on w (refusal InvalidArgument)) (goes_on (record w { capacity = n }) done)))
-  lowered_step w n true e = stays_step w w InvalidArgument (AsItWas refl) (λ h. h)
-  lowered_step w n false e = goes_step store key Deriving w (record w { capacity = n }) done refl (λ s a. refl) (lowered_sound w n (not_below w.capacity n e))
+  lowered_step : may ≡ true → (w : DerivationWork) (n : ℕ) (b : Bool) → nat_lt w.capacity n ≡ b →
+      IsStep may store (begun key Deriving w) (held_after key Deriving (cond b (goes_on w (refusal InvalidArgument)) (goes_on (record w { capacity = n }) done)))
+  lowered_step stays w n true e = stays_step w w InvalidArgument (AsItWas stays refl) (λ h. h)
+  lowered_step stays w n false e = goes_step store key Deriving w (record w { capacity = n }) done refl (λ s a. refl) (lowered_sound w n (not_below w.capacity n e))
 
-  pub derivation_is_step : (w : DerivationWork) (step : DerivationStep) → IsStep store (begun store key Deriving w) (held_after key Deriving (derivation_step w step))
-  derivation_is_step w GetCapacity = goes_step store key Deriving w w (capacity_reply w.capacity) refl (λ s a. refl) (λ h. h)
-  derivation_is_step w (SetCapacity n) = lowered_step w n (nat_lt w.capacity n) refl
-  derivation_is_step w (InputBytes step bytes) =
+  pub derivation_is_step : (w : DerivationWork) (step : DerivationStep) → (lowers_capacity (OnDerivation step) ≡ true → may ≡ true) → IsStep may store (begun key Deriving w) (held_after key Deriving (derivation_step w step))
+  derivation_is_step w GetCapacity lowers = goes_step store key Deriving w w (capacity_reply w.capacity) refl (λ s a. refl) (λ h. h)
+  derivation_is_step w (SetCapacity n) lowers = lowered_step (lowers refl) w n (nat_lt w.capacity n) refl
+  derivation_is_step w (InputBytes step bytes) lowers =
       unless_step store key Deriving _ _ _ (λ e. goes_step store key Deriving w _ done refl (λ s a. refl)
       (bytes_sound w bytes (step == salt_step) (step == info_step) (flipped (is_due w step) (none_holds (input_bytes_rows w step bytes) 1 e))))
-  derivation_is_step w (InputInteger step value) =
+  derivation_is_step w (InputInteger step value) lowers =
       unless_step store key Deriving _ _ _ (λ e. goes_step store key Deriving w _ done refl (λ s a. refl) (cost_sound w value (none_holds (input_integer_rows w step value) 2 e)))
-  derivation_is_step w (OutputBytes n) =
+  derivation_is_step w (OutputBytes n) lowers =
       unless_step store key Deriving _ _ _ (λ e. taken_step w n (given (next_derived w n)) (nat_lt w.capacity n) refl
       (λ less. goes_step store key Deriving w (without w n) (given (next_derived w n)) refl (λ s a. refl) (without_sound w n less)))
-  derivation_is_step w (VerifyBytes expected) =
+  derivation_is_step w (VerifyBytes expected) lowers =
       unless_step store key Deriving _ _ _ (λ e. taken_step w (length expected) (compared (bytes_eq expected (next_derived w (length expected)))) (nat_lt w.capacity (length expected)) refl
       (compared_step w (length expected) (bytes_eq expected (next_derived w (length expected)))))
 

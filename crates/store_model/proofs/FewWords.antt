@@ -19,8 +19,8 @@ drawn_by_draws store caller other n false h =
 
 pub draws : DrawsFewWords
 draws service caller other (OnStore call) mark = step-draws service.store caller other call mark
-draws service caller other (OnHandle handle call) mark = shape service caller handle (λ served. DrawsFew service.store served.service.store other) (record {
-  untouched_too = λ status. draws_none service.store other;
+draws service caller other (OnHandle handle call) mark = shape service caller handle call (λ served. DrawsFew service.store served.service.store other) (record {
+  untouched_too = λ status may. draws_none service.store other;
   applied_too = λ after step. drawn_by_draws service.store caller other after.drawn (after.drawn == 0) step.few;
   created_too = λ key w a made. made_draws service.store caller other a (next_derived w (stated_bytes a));
-}) call
+})

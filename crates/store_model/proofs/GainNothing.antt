@@ -11,9 +11,9 @@ use Rattle.store_model.specs.Draws.{with_drawn}
 use Rattle.store_model.specs.DerivationOperations.{stated_bytes, next_derived}
 use Rattle.store_model.specs.Handles.{Service, Served, service_start, drawn_by}
 use Rattle.store_model.specs.Requests.{Request, OnStore, OnHandle, serve}
-use Rattle.store_model.specs.Replay.{Entry, outcome_of}
+use Rattle.store_model.specs.Replay.{Entry, outcome_of, replay}
 use Rattle.store_model.specs.Sound.{IsSound}
-use Rattle.store_model.specs.Origin.{Made, source_of_request, made_at, made_by, made_after, creation_at, HasOrigin, IsCaller, CopiesGainNothing}
+use Rattle.store_model.specs.Origin.{Made, source_of_request, made_at, made_by, made_after, IsCaller, CopiesGainNothing}
 use Rattle.store_model.proofs.Origin.{Tracks, counted_tracks, created_tracks, drawn_tracks, step_tracks}
 use Rattle.store_model.proofs.Shape.{shape}
 use Rattle.store_model.proofs.SoundService.{starts, stays}
@@ -29,18 +29,17 @@ TracksServed made source served = Tracks served.service.store (made_at source se
 request_tracks : (service : Service) (caller : ℕ) (request : Request) (mark : FaultMark) (made : List Made) → IsSound service → Tracks service.store made →
     TracksServed made (source_of_request service.store request) (serve service caller request mark)
 request_tracks service caller (OnStore call) mark made sound t = step_tracks service.store caller call mark made sound.store t
-request_tracks service caller (OnHandle handle call) mark made sound t = shape service caller handle (TracksServed made None) (record {
-  untouched_too = λ status. counted_tracks service.store made t;
+request_tracks service caller (OnHandle handle call) mark made sound t = shape service caller handle call (TracksServed made None) (record {
+  untouched_too = λ status may. counted_tracks service.store made t;
   applied_too = λ after step.
       let store : Store = drawn_by (counted service.store) caller after.drawn in
       subst (λ (l : List Made). Tracks store (l ++ made)) (sym (step.no_key None store))
       (drawn_by_tracks (counted service.store) caller after.drawn made (after.drawn == 0) (counted_tracks service.store made t));
   created_too = λ key w a creates. created_tracks service.store caller a (next_derived w (stated_bytes a)) None made sound.store t tt;
-}) call
+})
 
-over : (h : List Entry) (service : Service) (made : List Made) → AllByRecursion IsCaller h → IsSound service → Tracks service.store made →
-    (n : ℕ) (m : Made) → creation_at (made_after service h made) n ≡ Some m → HasOrigin (made_after service h made) m
-over [] service made c sound t = t.origin
+over : (h : List Entry) (service : Service) (made : List Made) → AllByRecursion IsCaller h → IsSound service → Tracks service.store made → Tracks (replay service h).store (made_after service h made)
+over [] service made c sound t = t
 over (e ∷ es) service made c sound t =
     over es (outcome_of service e).service (made_by service e ++ made) c.1 (stays service e.caller e.call e.mark c.0.0 c.0.1 sound) (request_tracks service e.caller e.call e.mark made sound t)
 
@@ -52,5 +51,10 @@ none_made m e = cc
 
 pub gain_nothing : CopiesGainNothing
 gain_nothing settings h callers =
-    over h (service_start settings) [] callers (starts settings)
-    (record { alive = λ id key e. absurd (no_key_at id key e); below = λ n m e. absurd (none_made m e); origin = λ n m e. absurd (none_made m e) })
+    let none : Tracks (service_start settings).store [] =
+    record { alive = λ id key e. absurd (no_key_at id key e); below = λ n m e. absurd (none_made m e); origin = λ n m e. absurd (none_made m e) } in
+    let after = over h (service_start settings) [] callers (starts settings) none in
+    record {
+      creations = after.origin;
+      keys = λ id key e. let made = after.alive id key e in record { creation = made.0; found = made.1.0; policy = made.1.1 };
+    }

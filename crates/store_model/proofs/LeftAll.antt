@@ -10,7 +10,7 @@ use Rattle.store_model.specs.Operations.{Operation, Inactive, InError, Active, A
 use Rattle.store_model.specs.Handles.{Work, Held, HandleOperation, Service, Served, operation_of, drawn_by, applied, untouched, stepped}
 use Rattle.store_model.specs.HandleCalls.{HandleCall, HashSetup, MacSetup, CipherSetup, AeadSetup, DerivationSetup, OnHash, OnMac, OnCipher, OnAead, OnDerivation, InputKey, OutputKey, Abort, input_key, output_key}
 use Rattle.store_model.specs.Requests.{Request, OnStore, OnHandle, serve}
-use Rattle.store_model.specs.Refusals.{IsLeft, AsItWas, is_active}
+use Rattle.store_model.specs.Refusals.{IsLeft, AsItWas, is_active, lowers_capacity, may_stay}
 use Rattle.store_model.specs.Laws.{handle_of, RefusalsLeaveAll, UnreadyHandlesStay, RefusedSetupsLeaveAll}
 use Rattle.store_model.specs.DerivationOperations.{DerivationWork}
 use Rattle.key_attributes.specs.declared.Attributes.{Attributes}
@@ -18,7 +18,7 @@ use Rattle.store_model.specs.Operations.{is_inactive}
 use Rattle.store_model.proofs.Refusals.{step-leaves_all}
 use Rattle.store_model.proofs.Operations.{own_operation, same_operation}
 use Rattle.store_model.proofs.Others.{leaves_callers, leaves_handles}
-use Rattle.store_model.proofs.Shape.{shape}
+use Rattle.store_model.proofs.Shape.{shape, other_or}
 
 -- THE OTHER HANDLES
 
@@ -34,40 +34,70 @@ others_left service caller request mark other handle h false e =
 
 -- ITS OWN
 
-record LeavesOwn (service : Service) (caller handle : ℕ) (served : Served) : Type 0 where
+record LeavesOwn (service : Service) (caller handle : ℕ) (call : HandleCall) (served : Served) : Type 0 where
   store : served.service.store ≡ counted service.store
-  own : IsLeft served.reply.status (operation_of service caller handle) (operation_of served.service caller handle)
+  own : IsLeft (may_stay call (operation_of service caller handle)) served.reply.status (operation_of service caller handle) (operation_of served.service caller handle)
 
-set_left : (status : Status) (before next now : HandleOperation) → IsLeft status before next → (now ≡ next) ⊎ (now ≡ before) → IsLeft status before now
-set_left status before next now h (inl e) = subst (IsLeft status before) (sym e) h
-set_left status before next now h (inr e) = AsItWas e
+-- of an inactive operation: any call but an abort may leave it
+inactive_stays : (call : HandleCall) → (may_stay call Inactive ≡ true) ⊎ (call ≡ Abort)
+inactive_stays (HashSetup alg) = inl refl
+inactive_stays (MacSetup verifies id alg) = inl refl
+inactive_stays (CipherSetup encrypts id alg) = inl refl
+inactive_stays (AeadSetup encrypts id alg) = inl refl
+inactive_stays (DerivationSetup alg) = inl refl
+inactive_stays (OnHash step) = inl refl
+inactive_stays (OnMac step) = inl refl
+inactive_stays (OnCipher step) = inl refl
+inactive_stays (OnAead step) = inl refl
+inactive_stays (OnDerivation step) = inl (other_or (lowers_capacity (OnDerivation step)) true refl)
+inactive_stays (InputKey step id) = inl refl
+inactive_stays (OutputKey a) = inl refl
+inactive_stays Abort = inr refl
+
+set_left : (call : HandleCall) → (call ≡ Abort → ⊥) → (status : Status) (before next now : HandleOperation) → IsLeft (may_stay call before) status before next →
+    (now ≡ next) ⊎ ((now ≡ Inactive) × (before ≡ Inactive)) → IsLeft (may_stay call before) status before now
+set_left call other status before next now h (inl e) = subst (IsLeft (may_stay call before) status before) (sym e) h
+set_left call other status before next now h (inr e) = elim (inactive_stays call) [
+  | inl may ↦ AsItWas (ap (may_stay call) e.1 ∙ may) (e.0 ∙ sym e.1)
+  | inr abort ↦ absurd (other abort)
+]
+
+-- an abort succeeds
+abort_succeeds : (service : Service) (caller handle : ℕ) (call : HandleCall) (mark : FaultMark) → call ≡ Abort → (serve service caller (OnHandle handle call) mark).reply.status ≡ Success
+abort_succeeds service caller handle call mark e = ap (λ c. (serve service caller (OnHandle handle c) mark).reply.status) e
 
 own_left : (service : Service) (caller handle : ℕ) (call : HandleCall) (mark : FaultMark) → ((serve service caller (OnHandle handle call) mark).reply.status ≡ Success → ⊥) →
-    LeavesOwn service caller handle (serve service caller (OnHandle handle call) mark)
-own_left service caller handle call mark = shape service caller handle (λ served. (served.reply.status ≡ Success → ⊥) → LeavesOwn service caller handle served) (record {
-  untouched_too = λ status failed. record { store = refl; own = AsItWas refl };
-  applied_too = λ after step failed. record {
-    store = ap (drawn_by (counted service.store) caller) (step.undrawn failed);
-    own = set_left after.reply.status (operation_of service caller handle) after.operation _ (step.left failed) (own_operation service caller handle after.operation);
-  };
-  created_too = λ key w a made failed. absurd (failed refl);
-}) call
+    LeavesOwn service caller handle call (serve service caller (OnHandle handle call) mark)
+own_left service caller handle call mark refused =
+    let other : call ≡ Abort → ⊥ = λ e. refused (abort_succeeds service caller handle call mark e) in
+    shape service caller handle call (λ served. (served.reply.status ≡ Success → ⊥) → LeavesOwn service caller handle call served) (record {
+      untouched_too = λ status may failed. record { store = refl; own = AsItWas may refl };
+      applied_too = λ after step failed. record {
+        store = ap (drawn_by (counted service.store) caller) (step.undrawn failed);
+        own = set_left call other after.reply.status (operation_of service caller handle) after.operation _ (step.left failed) (own_operation service caller handle after.operation);
+      };
+      created_too = λ key w a made failed. absurd (failed refl);
+    }) refused
+
+same_call : {handle one : ℕ} {call other : HandleCall} → OnHandle handle call ≡ OnHandle one other → (handle ≡ one) × (call ≡ other)
+same_call e = (cc, cc)
 
 pub leaves_all : RefusalsLeaveAll
 leaves_all service caller (OnStore call) mark failed = record {
   store = step-leaves_all service.store caller call mark failed;
   others = λ other handle h. refl;
-  own = λ handle e. cc;
+  own = λ handle call e. cc;
 }
-leaves_all service caller (OnHandle handle call) mark failed =
-    let left = own_left service caller handle call mark failed in
-    record {
-      store = left.store;
-      others = λ other one h. others_left service caller (OnHandle handle call) mark other one h (other == caller) refl;
-      own = λ one e. let same : handle ≡ one = cc in
-          subst (λ (n : ℕ). IsLeft (serve service caller (OnHandle handle call) mark).reply.status (operation_of service caller n)
-          (operation_of (serve service caller (OnHandle handle call) mark).service caller n)) same left.own;
-    }
+leaves_all service caller (OnHandle handle call) mark failed = record {
+  store = (own_left service caller handle call mark failed).store;
+  others = λ other one h. others_left service caller (OnHandle handle call) mark other one h (other == caller) refl;
+  own = λ one other e.
+      let same : (handle ≡ one) × (call ≡ other) = same_call e in
+      let served : Served = serve service caller (OnHandle handle call) mark in
+      subst (λ (c : HandleCall). IsLeft (may_stay c (operation_of service caller one)) served.reply.status (operation_of service caller one) (operation_of served.service caller one)) same.1
+      (subst (λ (n : ℕ). IsLeft (may_stay call (operation_of service caller n)) served.reply.status (operation_of service caller n) (operation_of served.service caller n)) same.0
+      (own_left service caller handle call mark failed).own);
+}
 
 -- A CALL THAT ISN'T IN ORDER
 

@@ -1,14 +1,14 @@
 -- What becomes of each operation where one is set.
-use Rattle.std.proofs.Common.{◌≡◌, ℕ, ◌⊎◌, zero, suc, List, [], ◌∷◌, refl, ap, ◌∙◌, inl, inr, slice_index_or, slice_set, replicate, length, ◌≤◌, arith}
+use Rattle.std.proofs.Common.{◌≡◌, ℕ, ◌⊎◌, zero, suc, List, [], ◌∷◌, refl, sym, ap, ◌∙◌, inl, inr, slice_index_or, slice_set, replicate, length, ◌≤◌, arith}
 use Rattle.std.proofs.lemmas.List.{get_or-set_other, set-get_or, get_or-replicate}
 use Rattle.std.proofs.Math.ListN.{length-set}
 use Rattle.store_model.specs.Store.{Store}
 use Rattle.store_model.specs.Operations.{Inactive}
 use Rattle.store_model.specs.Handles.{HandleOperation, Service, handles_of, operation_of, with_operation, service_of}
 
--- what is set is there, or nothing changed
-set_or_not : {A : Type 0} (l : List A) (i : ℕ) (a d : A) → (slice_index_or (slice_set l i a) i d ≡ a) ⊎ (slice_index_or (slice_set l i a) i d ≡ slice_index_or l i d)
-set_or_not [] i a d = inr refl
+-- what is set is there, or the list has no such place, before and after
+set_or_not : {A : Type 0} (l : List A) (i : ℕ) (a d : A) → (slice_index_or (slice_set l i a) i d ≡ a) ⊎ ((slice_index_or (slice_set l i a) i d ≡ d) × (slice_index_or l i d ≡ d))
+set_or_not [] i a d = inr (refl, refl)
 set_or_not (x ∷ l) zero a d = inl refl
 set_or_not (x ∷ l) (suc i) a d = set_or_not l i a d
 
@@ -16,37 +16,37 @@ pub other_caller : (service : Service) (caller other handle : ℕ) (operation : 
     handles_of (with_operation service caller handle operation) other ≡ handles_of service other
 other_caller service caller other handle operation h = get_or-set_other service.operations caller other (slice_set (handles_of service caller) handle operation) [] h
 
--- the handles of the caller
-own_handles : (service : Service) (caller handle : ℕ) (operation : HandleOperation) →
+-- the caller's handles after an operation is set, or there are none
+abbrev HandlesAfter : (service : Service) (caller handle : ℕ) → HandleOperation → Type 0
+HandlesAfter service caller handle operation =
     (handles_of (with_operation service caller handle operation) caller ≡ slice_set (handles_of service caller) handle operation)
-    ⊎ (handles_of (with_operation service caller handle operation) caller ≡ handles_of service caller)
+    ⊎ ((handles_of (with_operation service caller handle operation) caller ≡ []) × (handles_of service caller ≡ []))
+
+own_handles : (service : Service) (caller handle : ℕ) (operation : HandleOperation) → HandlesAfter service caller handle operation
 own_handles service caller handle operation = set_or_not service.operations caller (slice_set (handles_of service caller) handle operation) []
 
 pub other_handle : (service : Service) (caller handle other : ℕ) (operation : HandleOperation) → (other ≡ handle → ⊥) →
     operation_of (with_operation service caller handle operation) caller other ≡ operation_of service caller other
 other_handle service caller handle other operation h = of (own_handles service caller handle operation)
   where
-    of : (handles_of (with_operation service caller handle operation) caller ≡ slice_set (handles_of service caller) handle operation)
-        ⊎ (handles_of (with_operation service caller handle operation) caller ≡ handles_of service caller) →
-        operation_of (with_operation service caller handle operation) caller other ≡ operation_of service caller other
+    of : HandlesAfter service caller handle operation → operation_of (with_operation service caller handle operation) caller other ≡ operation_of service caller other
     of (inl e) = ap (λ (l : List HandleOperation). slice_index_or l other Inactive) e ∙ get_or-set_other (handles_of service caller) handle other operation Inactive h
-    of (inr e) = ap (λ (l : List HandleOperation). slice_index_or l other Inactive) e
+    of (inr e) = ap (λ (l : List HandleOperation). slice_index_or l other Inactive) (e.0 ∙ sym e.1)
 
--- the operation that is set, or, where there is no such handle, what was there
+-- the operation that is set, or, where there is no such handle, an inactive one before and after
 pub own_operation : (service : Service) (caller handle : ℕ) (operation : HandleOperation) →
     (operation_of (with_operation service caller handle operation) caller handle ≡ operation)
-    ⊎ (operation_of (with_operation service caller handle operation) caller handle ≡ operation_of service caller handle)
+    ⊎ ((operation_of (with_operation service caller handle operation) caller handle ≡ Inactive) × (operation_of service caller handle ≡ Inactive))
 own_operation service caller handle operation = of (own_handles service caller handle operation) (set_or_not (handles_of service caller) handle operation Inactive)
   where
-    of : (handles_of (with_operation service caller handle operation) caller ≡ slice_set (handles_of service caller) handle operation)
-        ⊎ (handles_of (with_operation service caller handle operation) caller ≡ handles_of service caller) →
+    of : HandlesAfter service caller handle operation →
         (slice_index_or (slice_set (handles_of service caller) handle operation) handle Inactive ≡ operation)
-        ⊎ (slice_index_or (slice_set (handles_of service caller) handle operation) handle Inactive ≡ operation_of service caller handle) →
+        ⊎ ((slice_index_or (slice_set (handles_of service caller) handle operation) handle Inactive ≡ Inactive) × (operation_of service caller handle ≡ Inactive)) →
         (operation_of (with_operation service caller handle operation) caller handle ≡ operation)
-        ⊎ (operation_of (with_operation service caller handle operation) caller handle ≡ operation_of service caller handle)
+        ⊎ ((operation_of (with_operation service caller handle operation) caller handle ≡ Inactive) × (operation_of service caller handle ≡ Inactive))
     of (inl e) (inl f) = inl (ap (λ (l : List HandleOperation). slice_index_or l handle Inactive) e ∙ f)
-    of (inl e) (inr f) = inr (ap (λ (l : List HandleOperation). slice_index_or l handle Inactive) e ∙ f)
-    of (inr e) f = inr (ap (λ (l : List HandleOperation). slice_index_or l handle Inactive) e)
+    of (inl e) (inr f) = inr (ap (λ (l : List HandleOperation). slice_index_or l handle Inactive) e ∙ f.0, f.1)
+    of (inr e) f = inr (ap (λ (l : List HandleOperation). slice_index_or l handle Inactive) e.0, ap (λ (l : List HandleOperation). slice_index_or l handle Inactive) e.1)
 
 -- an operation that is set again changes nothing
 pub same_operation : (service : Service) (caller handle : ℕ) → with_operation service caller handle (operation_of service caller handle) ≡ service

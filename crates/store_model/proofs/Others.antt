@@ -22,16 +22,16 @@ LeavesCaller service other served = (caller_state served.service.store other ≡
 
 pub leaves_callers : LeavesOtherCallers
 leaves_callers service caller other (OnStore call) mark h = (step-leaves service.store caller other call mark h, refl)
-leaves_callers service caller other (OnHandle handle call) mark h = shape service caller handle (LeavesCaller service other) (record {
-  untouched_too = λ status. (refl, refl);
+leaves_callers service caller other (OnHandle handle call) mark h = shape service caller handle call (LeavesCaller service other) (record {
+  untouched_too = λ status may. (refl, refl);
   applied_too = λ after step. (drawn_by_leaves (counted service.store) caller other after.drawn (after.drawn == 0) h, other_caller service caller other handle after.operation h);
   created_too = λ key w a made. (created_leaves service.store caller other a (next_derived w (stated_bytes a)) h, other_caller service caller other handle _ h);
-}) call
+})
 
 pub leaves_handles : LeavesOtherHandles
 leaves_handles service caller other (OnStore call) mark h = refl
-leaves_handles service caller other (OnHandle handle call) mark h = shape service caller handle (λ served. operation_of served.service caller other ≡ operation_of service caller other) (record {
-  untouched_too = λ status. refl;
+leaves_handles service caller other (OnHandle handle call) mark h = shape service caller handle call (λ served. operation_of served.service caller other ≡ operation_of service caller other) (record {
+  untouched_too = λ status may. refl;
   applied_too = λ after step. other_handle service caller handle other after.operation (λ e. h (ap Some (sym e)));
   created_too = λ key w a made. other_handle service caller handle other _ (λ e. h (ap Some (sym e)));
-}) call
+})

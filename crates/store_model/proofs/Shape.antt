@@ -1,6 +1,6 @@
 -- The shape of any call on a handle: it leaves all operations, or makes a step of its own, or creates a key.
 use Rattle.std.proofs.Common.{◌≡◌, ℕ, ◌≤◌, Bool, true, false, cond, List, refl, sym, ap, subst, arith}
-use Rattle.std.specs.Prelude.{Option, None, Some, not, nat_lt, is_some, ◌∷◌}
+use Rattle.std.specs.Prelude.{Option, None, Some, not, ◌||◌, nat_lt, is_some, ◌∷◌}
 use Rattle.std.specs.FinMap as map
 use Rattle.psa_status.specs.declared.Status.{Status}
 use Rattle.psa_status.specs.declared.Status.TheVariants.{BadState, InvalidHandle}
@@ -21,7 +21,7 @@ use Rattle.store_model.specs.AeadOperations.{AeadWork, aead_work, aead_step}
 use Rattle.store_model.specs.DerivationOperations.{DerivationWork, derivation_work, derivation_step, output_key_rows, stated_bytes, exhausted, with_key}
 use Rattle.store_model.specs.Handles.{KeyCreation, Work, Hashing, Authenticating, Ciphering, Sealing, Deriving, Held, HandleOperation, Service, Served, operation_of, applied, untouched, stepped, part_of, hash_part, mac_part, cipher_part, aead_part, derivation_part, key_of_operation, is_alive, held_after}
 use Rattle.store_model.specs.HandleCalls.{HandleCall, HashSetup, MacSetup, CipherSetup, AeadSetup, DerivationSetup, OnHash, OnMac, OnCipher, OnAead, OnDerivation, InputKey, OutputKey, Abort, creation_of, mac_usage, cipher_usage, input_key, input_key_rows, output_key, output_key_of, created_from, random_of, handle_step}
-use Rattle.store_model.specs.Refusals.{AsItWas, held_derivation}
+use Rattle.store_model.specs.Refusals.{AsItWas, held_derivation, is_active, lowers_capacity, may_stay}
 use Rattle.store_model.specs.Sound.{IsSoundStore, IsSoundUse, IsSoundWork, IsSoundHeld}
 use Rattle.store_model.proofs.Drawn.{none_holds}
 use Rattle.store_model.proofs.Steps.{IsStep, begun, fails_step, unless_step, alive_step, ends_step, hash_is_step, mac_is_step, cipher_is_step, aead_is_step}
@@ -34,10 +34,10 @@ pub record Creates (service : Service) (caller handle : ℕ) (key : Option KeyCr
   pub enough : stated_bytes a ≤ w.capacity
   pub rows : first_row (creation_rows service.store caller a (stated_bytes a)) ≡ None
 
--- what is to be shown of each kind of outcome
-pub record Cases (service : Service) (caller handle : ℕ) (P : Served → Type 0) : Type 0 where
-  pub untouched_too : (status : Status) → P (untouched service status)
-  pub applied_too : (after : After Held) → IsStep service.store (operation_of service caller handle) after → P (applied service caller handle after)
+-- what is to be shown of each kind of outcome, of a call which, refused, may leave the operation or not
+pub record Cases (service : Service) (caller handle : ℕ) (may : Bool) (P : Served → Type 0) : Type 0 where
+  pub untouched_too : (status : Status) → may ≡ true → P (untouched service status)
+  pub applied_too : (after : After Held) → IsStep may service.store (operation_of service caller handle) after → P (applied service caller handle after)
   pub created_too : (key : Option KeyCreation) (w : DerivationWork) (a : Attributes) → Creates service caller handle key w a → P (created_from service caller handle key w a None)
 
 -- SETUPS
@@ -49,18 +49,18 @@ creation_sound store id (Some key) e sound = record {
   identifier = λ other same f n. sound.numbers other id same key f e n;
 }
 
-set_up_step : (store : Store) (before : HandleOperation) (refused : Option Status) (held : Held) → (IsSoundStore store → IsSoundHeld store held) → IsStep store before (set_up before refused held)
-set_up_step store Inactive None held sound = record { few = omega arith; undrawn = λ no. refl; left = λ no. absurd (no refl); no_key = λ s a. refl; sound = λ s h. sound s }
-set_up_step store Inactive (Some status) held sound = record { few = omega arith; undrawn = λ no. refl; left = λ no. AsItWas refl; no_key = λ s a. refl; sound = λ s h. h }
-set_up_step store InError refused held sound = record { few = omega arith; undrawn = λ no. refl; left = λ no. AsItWas refl; no_key = λ s a. refl; sound = λ s h. h }
-set_up_step store (Active other) refused held sound = record { few = omega arith; undrawn = λ no. refl; left = λ no. AsItWas refl; no_key = λ s a. refl; sound = λ s h. h }
+set_up_step : {may : Bool} → may ≡ true → (store : Store) (before : HandleOperation) (refused : Option Status) (held : Held) → (IsSoundStore store → IsSoundHeld store held) → IsStep may store before (set_up before refused held)
+set_up_step stays store Inactive None held sound = record { few = omega arith; undrawn = λ no. refl; left = λ no. absurd (no refl); no_key = λ s a. refl; sound = λ s h. sound s }
+set_up_step stays store Inactive (Some status) held sound = record { few = omega arith; undrawn = λ no. refl; left = λ no. AsItWas stays refl; no_key = λ s a. refl; sound = λ s h. h }
+set_up_step stays store InError refused held sound = record { few = omega arith; undrawn = λ no. refl; left = λ no. AsItWas stays refl; no_key = λ s a. refl; sound = λ s h. h }
+set_up_step stays store (Active other) refused held sound = record { few = omega arith; undrawn = λ no. refl; left = λ no. AsItWas stays refl; no_key = λ s a. refl; sound = λ s h. h }
 
-keyed_step : (store : Store) (before : HandleOperation) (class : Class) (usage alg id : ℕ) (work : List ℕ → Work) → ((key : List ℕ) → IsSoundWork (work key)) →
+keyed_step : {may : Bool} → may ≡ true → (store : Store) (before : HandleOperation) (class : Class) (usage alg id : ℕ) (work : List ℕ → Work) → ((key : List ℕ) → IsSoundWork (work key)) →
     let found : Option Key = map.get store.keys id in
-    IsStep store before (set_up before (first_row (use_rows class usage alg found)) (record { key = creation_of id found; work = work (bytes_of found) }))
-keyed_step store before class usage alg id work sound =
+    IsStep may store before (set_up before (first_row (use_rows class usage alg found)) (record { key = creation_of id found; work = work (bytes_of found) }))
+keyed_step stays store before class usage alg id work sound =
     let found : Option Key = map.get store.keys id in
-    set_up_step store before (first_row (use_rows class usage alg found)) (record { key = creation_of id found; work = work (bytes_of found) })
+    set_up_step stays store before (first_row (use_rows class usage alg found)) (record { key = creation_of id found; work = work (bytes_of found) })
     (λ s. record { key = creation_sound store id found refl s; work = sound (bytes_of found) })
 
 -- STEPS
@@ -106,7 +106,7 @@ own_derivation (Ciphering v) w e = cc
 own_derivation (Sealing v) w e = cc
 own_derivation (Deriving v) w e = cc
 
-module _ (service : Service) (caller handle : ℕ) (P : Served → Type 0) (cases : Cases service caller handle P) where
+module _ (service : Service) (caller handle : ℕ) (may : Bool) (P : Served → Type 0) (cases : Cases service caller handle may P) where
   abbrev before : HandleOperation
   before = operation_of service caller handle
 
@@ -114,22 +114,22 @@ module _ (service : Service) (caller handle : ℕ) (P : Served → Type 0) (case
   own_key = key_of_operation before
 
   stepped_shape : {W : Type 0} (part : Work → Operation W) (embed : W → Work) → ((work : Work) (w : W) → part work ≡ Active w → work ≡ embed w) → (f : W → After W) →
-      ((w : W) → IsStep service.store (begun service.store own_key embed w) (held_after own_key embed (f w))) →
-      (now : Operation W) → part_of part before ≡ now → P (stepped service caller handle embed now f)
-  stepped_shape part embed own f steps (Active w) e =
+      ((w : W) → IsStep may service.store (begun own_key embed w) (held_after own_key embed (f w))) →
+      (is_active (part_of part before) ≡ false → may ≡ true) → (now : Operation W) → part_of part before ≡ now → P (stepped service caller handle embed now f)
+  stepped_shape part embed own f steps idle (Active w) e =
       cases.applied_too _ (alive_step service.store own_key embed before (is_alive service.store own_key) (f w)
-      (subst (λ o. IsStep service.store o (held_after own_key embed (f w))) (sym (held_as part embed own before w e)) (steps w)))
-  stepped_shape part embed own f steps Inactive e = cases.untouched_too BadState
-  stepped_shape part embed own f steps InError e = cases.untouched_too BadState
+      (subst (λ o. IsStep may service.store o (held_after own_key embed (f w))) (sym (held_as part embed own before w e)) (steps w)))
+  stepped_shape part embed own f steps idle Inactive e = cases.untouched_too BadState (idle (ap is_active e))
+  stepped_shape part embed own f steps idle InError e = cases.untouched_too BadState (idle (ap is_active e))
 
   -- A KEY AS THE SECRET
 
   given_step : (w : DerivationWork) (id step : ℕ) → before ≡ held_derivation own_key w →
       let found : Option Key = map.get service.store.keys id in
-      first_row (input_key_rows w found step) ≡ None → IsStep service.store before (held_after (creation_of id found) Deriving (goes_on (with_key w (bytes_of found)) done))
+      first_row (input_key_rows w found step) ≡ None → IsStep may service.store before (held_after (creation_of id found) Deriving (goes_on (with_key w (bytes_of found)) done))
   given_step w id step was e =
       let found : Option Key = map.get service.store.keys id in
-      subst (λ o. IsStep service.store o (held_after (creation_of id found) Deriving (goes_on (with_key w (bytes_of found)) done))) (sym was) (record {
+      subst (λ o. IsStep may service.store o (held_after (creation_of id found) Deriving (goes_on (with_key w (bytes_of found)) done))) (sym was) (record {
         few = omega arith;
         undrawn = λ no. refl;
         left = λ no. absurd (no refl);
@@ -137,13 +137,13 @@ module _ (service : Service) (caller handle : ℕ) (P : Served → Type 0) (case
         sound = λ s h. record { key = creation_sound service.store id found refl s; work = key_sound w (bytes_of found) (key_due w found step e) h.work };
       })
 
-  input_key_shape : (now : Operation DerivationWork) (step id : ℕ) → part_of derivation_part before ≡ now → P (input_key service caller handle now step id)
-  input_key_shape (Active w) step id e =
+  input_key_shape : (is_active (part_of derivation_part before) ≡ false → may ≡ true) → (now : Operation DerivationWork) (step id : ℕ) → part_of derivation_part before ≡ now → P (input_key service caller handle now step id)
+  input_key_shape idle (Active w) step id e =
       let key : Option KeyCreation = creation_of id (map.get service.store.keys id) in
       cases.applied_too _ (alive_step service.store key Deriving before (is_alive service.store own_key) _
       (unless_step service.store key Deriving before _ _ (given_step w id step (held_as derivation_part Deriving own_derivation before w e))))
-  input_key_shape Inactive step id e = cases.untouched_too BadState
-  input_key_shape InError step id e = cases.untouched_too BadState
+  input_key_shape idle Inactive step id e = cases.untouched_too BadState (idle (ap is_active e))
+  input_key_shape idle InError step id e = cases.untouched_too BadState (idle (ap is_active e))
 
   -- A KEY OF DERIVED BYTES
 
@@ -156,7 +156,7 @@ module _ (service : Service) (caller handle : ℕ) (P : Served → Type 0) (case
       P (cond b (applied service caller handle (held_after own_key Deriving (exhausted w)))
       (created_from service caller handle own_key w a (first_row (creation_rows service.store caller a (stated_bytes a)))))
   within_shape w a was secret true e =
-      cases.applied_too _ (subst (λ o. IsStep service.store o (held_after own_key Deriving (exhausted w))) (sym was) (exhausted_step service.store own_key w))
+      cases.applied_too _ (subst (λ o. IsStep may service.store o (held_after own_key Deriving (exhausted w))) (sym was) (exhausted_step service.store own_key w))
   within_shape w a was secret false e = created_shape w a was secret (not_below w.capacity (stated_bytes a) e) _ refl
 
   output_shape : (w : DerivationWork) (a : Attributes) → before ≡ held_derivation own_key w → (o : Option Status) → (o ≡ None → is_some w.secret ≡ true) →
@@ -164,32 +164,55 @@ module _ (service : Service) (caller handle : ℕ) (P : Served → Type 0) (case
   output_shape w a was (Some status) secret = cases.applied_too _ (fails_step service.store own_key Deriving before status)
   output_shape w a was None secret = within_shape w a was (secret refl) (nat_lt w.capacity (stated_bytes a)) refl
 
-  output_key_shape : (now : Operation DerivationWork) (a : Attributes) → part_of derivation_part before ≡ now → P (output_key service caller handle now a)
-  output_key_shape (Active w) a e =
+  output_key_shape : (is_active (part_of derivation_part before) ≡ false → may ≡ true) → (now : Operation DerivationWork) (a : Attributes) → part_of derivation_part before ≡ now → P (output_key service caller handle now a)
+  output_key_shape idle (Active w) a e =
       output_shape w a (held_as derivation_part Deriving own_derivation before w e) _
       (λ none. flipped (is_some w.secret) (none_holds ((not (is_alive service.store own_key), InvalidHandle) ∷ output_key_rows w a) 1 none))
-  output_key_shape Inactive a e = cases.untouched_too BadState
-  output_key_shape InError a e = cases.untouched_too BadState
+  output_key_shape idle Inactive a e = cases.untouched_too BadState (idle (ap is_active e))
+  output_key_shape idle InError a e = cases.untouched_too BadState (idle (ap is_active e))
 
-  -- ANY CALL
+-- ANY CALL
 
-  pub shape : (call : HandleCall) → P (handle_step service caller handle call)
-  shape (HashSetup alg) = cases.applied_too _ (set_up_step service.store before (first_row (class_rows class.Hash alg)) (record { key = None; work = Hashing (hash_work alg) }) (λ s. record { key = tt; work = tt }))
-  shape (MacSetup verifies id alg) = cases.applied_too _ (keyed_step service.store before class.Mac (mac_usage verifies) alg id (λ key. Authenticating (mac_work verifies alg key)) (λ key. tt))
-  shape (CipherSetup encrypts id alg) = cases.applied_too _ (keyed_step service.store before class.Cipher (cipher_usage encrypts) alg id (λ key. Ciphering (cipher_work encrypts alg key)) (λ key. tt))
-  shape (AeadSetup encrypts id alg) = cases.applied_too _ (keyed_step service.store before class.Aead (cipher_usage encrypts) alg id (λ key. Sealing (aead_work encrypts alg key)) (λ key. tt))
-  shape (DerivationSetup alg) =
-      cases.applied_too _ (set_up_step service.store before (first_row (class_rows class.Derivation alg)) (record { key = None; work = Deriving (derivation_work alg) })
-      (λ s. record { key = tt; work = start_sound alg }))
-  shape (OnHash step) = stepped_shape hash_part Hashing own_hash (λ w. hash_step w step) (λ w. hash_is_step service.store own_key w step) _ refl
-  shape (OnMac step) = stepped_shape mac_part Authenticating own_mac (λ w. mac_step w step) (λ w. mac_is_step service.store own_key w step) _ refl
-  shape (OnCipher step) =
-      let random : List ℕ = random_of service caller in
-      stepped_shape cipher_part Ciphering own_cipher (λ w. cipher_step random w step) (λ w. cipher_is_step service.store own_key random w step) _ refl
-  shape (OnAead step) =
-      let random : List ℕ = random_of service caller in
-      stepped_shape aead_part Sealing own_aead (λ w. aead_step random w step) (λ w. aead_is_step service.store own_key random w step) _ refl
-  shape (OnDerivation step) = stepped_shape derivation_part Deriving own_derivation (λ w. derivation_step w step) (λ w. derivation_is_step service.store own_key w step) _ refl
-  shape (InputKey step id) = input_key_shape _ step id refl
-  shape (OutputKey a) = output_key_shape _ a refl
-  shape Abort = cases.applied_too (ends done) (ends_step service.store own_key Deriving before done refl (λ s a. refl))
+not_false : (b : Bool) → b ≡ false → not b ≡ true
+not_false b e = ap not e
+
+one_or : (a b : Bool) → a ≡ true → (a || b) ≡ true
+one_or a b e = ap (λ c. c || b) e
+
+pub other_or : (a b : Bool) → b ≡ true → (a || b) ≡ true
+other_or true b e = refl
+other_or false b e = e
+
+-- what is to be shown of each kind of outcome of a call
+abbrev pub CallCases : (service : Service) (caller handle : ℕ) → HandleCall → (Served → Type 0) → Type 0
+CallCases service caller handle call P = Cases service caller handle (may_stay call (operation_of service caller handle)) P
+
+pub shape : (service : Service) (caller handle : ℕ) (call : HandleCall) (P : Served → Type 0) → CallCases service caller handle call P → P (handle_step service caller handle call)
+shape service caller handle (HashSetup alg) P cases =
+    cases.applied_too _ (set_up_step refl service.store _ (first_row (class_rows class.Hash alg)) (record { key = None; work = Hashing (hash_work alg) }) (λ s. record { key = tt; work = tt }))
+shape service caller handle (MacSetup verifies id alg) P cases =
+    cases.applied_too _ (keyed_step refl service.store _ class.Mac (mac_usage verifies) alg id (λ key. Authenticating (mac_work verifies alg key)) (λ key. tt))
+shape service caller handle (CipherSetup encrypts id alg) P cases =
+    cases.applied_too _ (keyed_step refl service.store _ class.Cipher (cipher_usage encrypts) alg id (λ key. Ciphering (cipher_work encrypts alg key)) (λ key. tt))
+shape service caller handle (AeadSetup encrypts id alg) P cases =
+    cases.applied_too _ (keyed_step refl service.store _ class.Aead (cipher_usage encrypts) alg id (λ key. Sealing (aead_work encrypts alg key)) (λ key. tt))
+shape service caller handle (DerivationSetup alg) P cases =
+    cases.applied_too _ (set_up_step refl service.store _ (first_row (class_rows class.Derivation alg)) (record { key = None; work = Deriving (derivation_work alg) })
+    (λ s. record { key = tt; work = start_sound alg }))
+shape service caller handle (OnHash step) P cases =
+    stepped_shape service caller handle _ P cases hash_part Hashing own_hash (λ w. hash_step w step) (λ w. hash_is_step service.store _ w step) (not_false _) _ refl
+shape service caller handle (OnMac step) P cases =
+    stepped_shape service caller handle _ P cases mac_part Authenticating own_mac (λ w. mac_step w step) (λ w. mac_is_step service.store _ w step) (not_false _) _ refl
+shape service caller handle (OnCipher step) P cases =
+    let random : List ℕ = random_of service caller in
+    stepped_shape service caller handle _ P cases cipher_part Ciphering own_cipher (λ w. cipher_step random w step) (λ w. cipher_is_step service.store _ random w step) (not_false _) _ refl
+shape service caller handle (OnAead step) P cases =
+    let random : List ℕ = random_of service caller in
+    stepped_shape service caller handle _ P cases aead_part Sealing own_aead (λ w. aead_step random w step) (λ w. aead_is_step service.store _ random w step) (not_false _) _ refl
+shape service caller handle (OnDerivation step) P cases =
+    let lowers : Bool = lowers_capacity (OnDerivation step) in
+    stepped_shape service caller handle _ P cases derivation_part Deriving own_derivation (λ w. derivation_step w step)
+    (λ w. derivation_is_step service.store _ w step (one_or lowers _)) (λ idle. other_or lowers _ (not_false _ idle)) _ refl
+shape service caller handle (InputKey step id) P cases = input_key_shape service caller handle _ P cases (not_false _) _ step id refl
+shape service caller handle (OutputKey a) P cases = output_key_shape service caller handle _ P cases (not_false _) _ a refl
+shape service caller handle Abort P cases = cases.applied_too (ends done) (ends_step service.store None Deriving _ done refl (λ s a. refl))

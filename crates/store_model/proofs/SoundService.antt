@@ -63,14 +63,14 @@ derived_sound service caller handle key w a first last h made =
 pub stays : StaysSound
 stays service caller (OnStore call) mark first last h =
     kept_sound service _ (step-follows service.store caller call mark) (step-stays service.store caller call mark first last h.store) h
-stays service caller (OnHandle handle call) mark first last h = shape service caller handle (λ served. IsSound served.service) (record {
-  untouched_too = λ status. kept_sound service (counted service.store) (counted_follows service.store) (counted_sound service.store h.store) h;
+stays service caller (OnHandle handle call) mark first last h = shape service caller handle call (λ served. IsSound served.service) (record {
+  untouched_too = λ status may. kept_sound service (counted service.store) (counted_follows service.store) (counted_sound service.store h.store) h;
   applied_too = λ after step. set_sound service (drawn_by (counted service.store) caller after.drawn) caller handle after.operation last
       (drawn_by_follows service.store caller after.drawn (after.drawn == 0))
       (drawn_by_sound (counted service.store) caller after.drawn (after.drawn == 0) (counted_sound service.store h.store)) h
       (step.sound h.store (h.operations caller handle));
   created_too = λ key w a made. derived_sound service caller handle key w a first last h made;
-}) call
+})
 
 pub starts : StartsSound
 starts settings = record {

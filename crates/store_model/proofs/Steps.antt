@@ -16,11 +16,11 @@ use Rattle.store_model.specs.Refusals.{IsLeft, Failed}
 use Rattle.store_model.specs.Sound.{IsSoundStore, IsSoundWork, IsSoundOperation}
 use Rattle.store_model.specs.Origin.{made_at}
 
--- what a call on a handle makes of its operation, where it creates no key
-pub record IsStep (store : Store) (before : HandleOperation) (after : After Held) : Type 0 where
+-- what a call on a handle makes of its operation, where it creates no key; and whether, refused, it may leave it
+pub record IsStep (may_stay : Bool) (store : Store) (before : HandleOperation) (after : After Held) : Type 0 where
   pub few : after.drawn ≤ 16
   pub undrawn : (after.reply.status ≡ Success → ⊥) → after.drawn ≡ 0
-  pub left : (after.reply.status ≡ Success → ⊥) → IsLeft after.reply.status before after.operation
+  pub left : (after.reply.status ≡ Success → ⊥) → IsLeft may_stay after.reply.status before after.operation
   pub no_key : (source : Option ℕ) (after_it : Store) → made_at source after_it after.reply.output ≡ []
   pub sound : IsSoundStore store → IsSoundOperation store before → IsSoundOperation store after.operation
 
@@ -28,12 +28,12 @@ pub record IsStep (store : Store) (before : HandleOperation) (after : After Held
 abbrev pub MakesNone : Reply → Type 0
 MakesNone reply = (source : Option ℕ) (after : Store) → made_at source after reply.output ≡ []
 
-module _ {W : Type 0} (store : Store) (key : Option KeyCreation) (embed : W → Work) where
-  -- an operation of the family
-  abbrev pub begun : W → HandleOperation
-  begun work = Active (record { key = key; work = embed work })
+-- an operation of a family
+abbrev pub begun : {W : Type 0} → Option KeyCreation → (W → Work) → W → HandleOperation
+begun key embed work = Active (record { key = key; work = embed work })
 
-  pub fails_step : (before : HandleOperation) (status : Status) → IsStep store before (held_after key embed (fails status))
+module _ {W : Type 0} {may : Bool} (store : Store) (key : Option KeyCreation) (embed : W → Work) where
+  pub fails_step : (before : HandleOperation) (status : Status) → IsStep may store before (held_after key embed (fails status))
   fails_step before status = record {
     few = omega arith;
     undrawn = λ no. refl;
@@ -42,19 +42,19 @@ module _ {W : Type 0} (store : Store) (key : Option KeyCreation) (embed : W → 
     sound = λ s h. tt;
   }
 
-  pub unless_step : (before : HandleOperation) (o : Option Status) (after : After W) → (o ≡ None → IsStep store before (held_after key embed after)) →
-      IsStep store before (held_after key embed (unless_failed o after))
+  pub unless_step : (before : HandleOperation) (o : Option Status) (after : After W) → (o ≡ None → IsStep may store before (held_after key embed after)) →
+      IsStep may store before (held_after key embed (unless_failed o after))
   unless_step before None after h = h refl
   unless_step before (Some status) after h = fails_step before status
 
-  pub alive_step : (before : HandleOperation) (b : Bool) (after : After W) → IsStep store before (held_after key embed after) →
-      IsStep store before (held_after key embed (with_live_key b after))
+  pub alive_step : (before : HandleOperation) (b : Bool) (after : After W) → IsStep may store before (held_after key embed after) →
+      IsStep may store before (held_after key embed (with_live_key b after))
   alive_step before true after h = h
   alive_step before false after h = fails_step before InvalidHandle
 
   -- a success with which the operation goes on
   pub draws_step : (w next : W) (reply : Reply) (n : ℕ) → n ≤ 16 → reply.status ≡ Success → MakesNone reply → (IsSoundWork (embed w) → IsSoundWork (embed next)) →
-      IsStep store (begun w) (held_after key embed (record { operation = Active next; reply = reply; drawn = n }))
+      IsStep may store (begun key embed w) (held_after key embed (record { operation = Active next; reply = reply; drawn = n }))
   draws_step w next reply n few success none sound = record {
     few = few;
     undrawn = λ no. absurd (no success);
@@ -64,11 +64,11 @@ module _ {W : Type 0} (store : Store) (key : Option KeyCreation) (embed : W → 
   }
 
   pub goes_step : (w next : W) (reply : Reply) → reply.status ≡ Success → MakesNone reply → (IsSoundWork (embed w) → IsSoundWork (embed next)) →
-      IsStep store (begun w) (held_after key embed (goes_on next reply))
+      IsStep may store (begun key embed w) (held_after key embed (goes_on next reply))
   goes_step w next reply success none sound = draws_step w next reply 0 (omega arith) success none sound
 
   -- a success with which it ends
-  pub ends_step : (before : HandleOperation) (reply : Reply) → reply.status ≡ Success → MakesNone reply → IsStep store before (held_after key embed (ends reply))
+  pub ends_step : (before : HandleOperation) (reply : Reply) → reply.status ≡ Success → MakesNone reply → IsStep may store before (held_after key embed (ends reply))
   ends_step before reply success none = record {
     few = omega arith;
     undrawn = λ no. absurd (no success);
@@ -77,18 +77,24 @@ module _ {W : Type 0} (store : Store) (key : Option KeyCreation) (embed : W → 
     sound = λ s h. tt;
   }
 
-module _ (store : Store) (key : Option KeyCreation) where
-  pub hash_is_step : (w : HashWork) (step : HashStep) → IsStep store (begun store key Hashing w) (held_after key Hashing (hash_step w step))
+short_nonce : (a b c : Bool) → cond a 12 (cond b 13 (cond c 12 11)) ≤ 16
+short_nonce true b c = omega arith
+short_nonce false true c = omega arith
+short_nonce false false true = omega arith
+short_nonce false false false = omega arith
+
+module _ {may : Bool} (store : Store) (key : Option KeyCreation) where
+  pub hash_is_step : (w : HashWork) (step : HashStep) → IsStep may store (begun key Hashing w) (held_after key Hashing (hash_step w step))
   hash_is_step w (HashUpdate input) = unless_step store key Hashing _ _ _ (λ e. goes_step store key Hashing w _ done refl (λ s a. refl) (λ h. tt))
   hash_is_step w (HashFinish room) = unless_step store key Hashing _ _ _ (λ e. ends_step store key Hashing _ (given _) refl (λ s a. refl))
   hash_is_step w (HashVerify hash) = unless_step store key Hashing _ _ _ (λ e. ends_step store key Hashing _ done refl (λ s a. refl))
 
-  pub mac_is_step : (w : MacWork) (step : MacStep) → IsStep store (begun store key Authenticating w) (held_after key Authenticating (mac_step w step))
+  pub mac_is_step : (w : MacWork) (step : MacStep) → IsStep may store (begun key Authenticating w) (held_after key Authenticating (mac_step w step))
   mac_is_step w (MacUpdate input) = unless_step store key Authenticating _ _ _ (λ e. goes_step store key Authenticating w _ done refl (λ s a. refl) (λ h. tt))
   mac_is_step w (MacSignFinish room) = unless_step store key Authenticating _ _ _ (λ e. ends_step store key Authenticating _ (given _) refl (λ s a. refl))
   mac_is_step w (MacVerifyFinish mac) = unless_step store key Authenticating _ _ _ (λ e. ends_step store key Authenticating _ done refl (λ s a. refl))
 
-  last_is_step : (w : CipherWork) (o : Option (List ℕ)) → IsStep store (begun store key Ciphering w) (held_after key Ciphering (last_part w o))
+  last_is_step : (w : CipherWork) (o : Option (List ℕ)) → IsStep may store (begun key Ciphering w) (held_after key Ciphering (last_part w o))
   last_is_step w (Some text) = ends_step store key Ciphering _ _ refl (λ s a. refl)
   last_is_step w None = record {
     few = omega arith;
@@ -98,20 +104,14 @@ module _ (store : Store) (key : Option KeyCreation) where
     sound = λ s h. tt;
   }
 
-  pub cipher_is_step : (random : List ℕ) (w : CipherWork) (step : CipherStep) → IsStep store (begun store key Ciphering w) (held_after key Ciphering (cipher_step random w step))
+  pub cipher_is_step : (random : List ℕ) (w : CipherWork) (step : CipherStep) → IsStep may store (begun key Ciphering w) (held_after key Ciphering (cipher_step random w step))
   cipher_is_step random w (CipherGenerateIv room) =
       unless_step store key Ciphering _ _ _ (λ e. draws_step store key Ciphering w _ (given random) 16 (omega arith) refl (λ s a. refl) (λ h. tt))
   cipher_is_step random w (CipherSetIv iv) = unless_step store key Ciphering _ _ _ (λ e. goes_step store key Ciphering w _ done refl (λ s a. refl) (λ h. tt))
   cipher_is_step random w (CipherUpdate input room) = unless_step store key Ciphering _ _ _ (λ e. goes_step store key Ciphering w _ (given _) refl (λ s a. refl) (λ h. tt))
   cipher_is_step random w (CipherFinish room) = unless_step store key Ciphering _ _ _ (λ e. last_is_step w (whole_text w))
 
-  short_nonce : (a b c : Bool) → cond a 12 (cond b 13 (cond c 12 11)) ≤ 16
-  short_nonce true b c = omega arith
-  short_nonce false true c = omega arith
-  short_nonce false false true = omega arith
-  short_nonce false false false = omega arith
-
-  pub aead_is_step : (random : List ℕ) (w : AeadWork) (step : AeadStep) → IsStep store (begun store key Sealing w) (held_after key Sealing (aead_step random w step))
+  pub aead_is_step : (random : List ℕ) (w : AeadWork) (step : AeadStep) → IsStep may store (begun key Sealing w) (held_after key Sealing (aead_step random w step))
   aead_is_step random w (AeadGenerateNonce room) =
       unless_step store key Sealing _ _ _ (λ e. draws_step store key Sealing w _ (given _) (nonce_length w) (short_nonce _ _ _) refl (λ s a. refl) (λ h. tt))
   aead_is_step random w (AeadSetNonce nonce) = unless_step store key Sealing _ _ _ (λ e. goes_step store key Sealing w _ done refl (λ s a. refl) (λ h. tt))

@@ -3,6 +3,7 @@ use Rattle.std.specs.Prelude.{ℕ, ◌%◌, ◌/◌, ◌^◌, Bool, ◌==◌, Li
 use Rattle.sha2.specs.Sha256.{sha224, sha256}
 use Rattle.sha2.specs.Sha512.{sha384, sha512}
 use Rattle.alg_encoding.specs.Encoding.{base_of, tag_length_of}
+use Rattle.alg_encoding.specs.Table.{hash_length}
 use Rattle.crypto_specs.specs.Aes.{aes_encrypt}
 use Rattle.crypto_specs.specs.Cmac.{cmac}
 use Rattle.crypto_specs.specs.Hmac.{hmac}
@@ -15,10 +16,7 @@ digest byte message =
     else if byte == 10 then sha384 message
     else sha512 message
 
--- the bytes of a digest, and of a block
-abbrev pub digest_length : ℕ → ℕ
-digest_length byte = if byte == 8 then 28 else if byte == 9 then 32 else if byte == 10 then 48 else 64
-
+-- the bytes of a hash function's block
 abbrev pub hash_block_length : ℕ → ℕ
 hash_block_length byte = if byte == 8 then 64 else if byte == 9 then 64 else 128
 
@@ -30,7 +28,7 @@ abbrev pub hash_of : ℕ → List ℕ → List ℕ
 hash_of alg message = digest (low_byte alg) message
 
 abbrev pub hash_length_of : ℕ → ℕ
-hash_length_of alg = digest_length (low_byte alg)
+hash_length_of alg = hash_length (low_byte alg)
 
 abbrev pub cmac_base : ℕ
 cmac_base = 0x03c00200

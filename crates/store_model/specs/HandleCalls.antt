@@ -66,8 +66,14 @@ cipher_usage encrypts = if encrypts then 0x100 else 0x200
 abbrev pub derive_usage : ℕ
 derive_usage = 0x4000
 
+abbrev pub derivation_type : ℕ
+derivation_type = 0x1200
+
+abbrev pub password_type : ℕ
+password_type = 0x1203
+
 abbrev pub fits_step : (step key_type : ℕ) → Bool
-fits_step step key_type = key_type == 0x1200 || (not (step == secret_step) && key_type == 0x1203)
+fits_step step key_type = key_type == derivation_type || (not (step == secret_step) && key_type == password_type)
 
 abbrev pub derivation_key_rows : Option Key → (step alg : ℕ) → Rows
 derivation_key_rows None step alg = (true, InvalidHandle) ∷ []

@@ -106,38 +106,23 @@ part_of part InError = InError
 
 abbrev pub hash_part : Work → Operation HashWork
 hash_part (Hashing work) = Active work
-hash_part (Authenticating work) = Inactive
-hash_part (Ciphering work) = Inactive
-hash_part (Sealing work) = Inactive
-hash_part (Deriving work) = Inactive
+hash_part _ = Inactive
 
 abbrev pub mac_part : Work → Operation MacWork
 mac_part (Authenticating work) = Active work
-mac_part (Hashing work) = Inactive
-mac_part (Ciphering work) = Inactive
-mac_part (Sealing work) = Inactive
-mac_part (Deriving work) = Inactive
+mac_part _ = Inactive
 
 abbrev pub cipher_part : Work → Operation CipherWork
 cipher_part (Ciphering work) = Active work
-cipher_part (Hashing work) = Inactive
-cipher_part (Authenticating work) = Inactive
-cipher_part (Sealing work) = Inactive
-cipher_part (Deriving work) = Inactive
+cipher_part _ = Inactive
 
 abbrev pub aead_part : Work → Operation AeadWork
 aead_part (Sealing work) = Active work
-aead_part (Hashing work) = Inactive
-aead_part (Authenticating work) = Inactive
-aead_part (Ciphering work) = Inactive
-aead_part (Deriving work) = Inactive
+aead_part _ = Inactive
 
 abbrev pub derivation_part : Work → Operation DerivationWork
 derivation_part (Deriving work) = Active work
-derivation_part (Hashing work) = Inactive
-derivation_part (Authenticating work) = Inactive
-derivation_part (Ciphering work) = Inactive
-derivation_part (Sealing work) = Inactive
+derivation_part _ = Inactive
 
 -- a family's operation, held with its key
 abbrev pub held_with : {W : Type 0} → Option KeyCreation → (W → Work) → Operation W → HandleOperation

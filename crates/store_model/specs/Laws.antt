@@ -4,10 +4,10 @@ use Rattle.psa_status.specs.declared.Status.TheVariants.{Success, BadState}
 use Rattle.store_model.specs.Store.{caller_state}
 use Rattle.store_model.specs.Faults.{FaultMark}
 use Rattle.store_model.specs.Outcome.{counted}
-use Rattle.store_model.specs.Handles.{Service, Served, handles_of, operation_of, untouched}
+use Rattle.store_model.specs.Handles.{HandleOperation, Service, Served, handles_of, operation_of, untouched}
 use Rattle.store_model.specs.HandleCalls.{HandleCall}
 use Rattle.store_model.specs.Requests.{Request, OnStore, OnHandle, serve}
-use Rattle.store_model.specs.Refusals.{IsLeft, is_setup, is_ready}
+use Rattle.store_model.specs.Refusals.{IsLeft, is_setup, is_ready, may_stay}
 
 -- the handle that a request is on
 abbrev pub handle_of : Request → Option ℕ
@@ -38,7 +38,8 @@ DrawsFewWords =
 pub record IsLeftAll (before : Service) (caller : ℕ) (request : Request) (served : Served) : Type 0 where
   pub store : served.service.store ≡ counted before.store
   pub others : (other handle : ℕ) → (other ≡ caller → handle_of request ≡ Some handle → ⊥) → operation_of served.service other handle ≡ operation_of before other handle
-  pub own : (handle : ℕ) → handle_of request ≡ Some handle → IsLeft served.reply.status (operation_of before caller handle) (operation_of served.service caller handle)
+  pub own : (handle : ℕ) (call : HandleCall) → request ≡ OnHandle handle call →
+      let was : HandleOperation = operation_of before caller handle in IsLeft (may_stay call was) served.reply.status was (operation_of served.service caller handle)
 
 abbrev pub RefusalsLeaveAll : Type 0
 RefusalsLeaveAll =

@@ -9,7 +9,7 @@ use Rattle.store_model.specs.Store.{Key, Store, Settings, caller_count}
 use Rattle.store_model.specs.Call.{Call, Import, Export, GetAttributes, Destroy, Copy, Generate, HashCompute, HashCompare, MacCompute, MacVerify, CipherEncrypt, CipherDecrypt, AeadEncrypt, AeadDecrypt, Output, Nothing, Identifier, Description, Bytes, Number}
 use Rattle.store_model.specs.Handles.{Service, Served, service_start}
 use Rattle.store_model.specs.Requests.{Request, OnStore, OnHandle}
-use Rattle.store_model.specs.Replay.{Entry, outcome_of}
+use Rattle.store_model.specs.Replay.{Entry, outcome_of, replay}
 
 -- a creation: its number, the policy that it recorded, and of a copy the source's number
 pub record Made : Type 0 where
@@ -82,8 +82,17 @@ pub record HasOrigin (made : List Made) (m : Made) : Type 0 where
 abbrev pub IsCaller : Entry → Type 0
 IsCaller e = (1 ≤ e.caller) × (e.caller ≤ caller_count)
 
--- no chain of copies gains a flag or an algorithm, over every history
+-- a key's creation, which recorded the policy that the key has
+pub record HasCreation (made : List Made) (key : Key) : Type 0 where
+  pub creation : Made
+  pub found : creation_at made key.number ≡ Some creation
+  pub policy : creation.policy ≡ key.attributes.policy
+
+-- Over every history: no chain of copies gains a flag or an algorithm, and each key has the policy that its creation
+-- recorded.
+pub record GainsNothing (settings : Settings) (h : List Entry) : Type 0 where
+  pub creations : (number : ℕ) (m : Made) → creation_at (made_after (service_start settings) h []) number ≡ Some m → HasOrigin (made_after (service_start settings) h []) m
+  pub keys : (id : ℕ) (key : Key) → map.get (replay (service_start settings) h).store.keys id ≡ Some key → HasCreation (made_after (service_start settings) h []) key
+
 abbrev pub CopiesGainNothing : Type 0
-CopiesGainNothing =
-    (settings : Settings) (h : List Entry) → AllByRecursion IsCaller h → (number : ℕ) (m : Made) →
-    creation_at (made_after (service_start settings) h []) number ≡ Some m → HasOrigin (made_after (service_start settings) h []) m
+CopiesGainNothing = (settings : Settings) (h : List Entry) → AllByRecursion IsCaller h → GainsNothing settings h

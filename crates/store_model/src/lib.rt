@@ -21,8 +21,9 @@ pub fn draws_few_words()
 {}
 
 /// A request that doesn't succeed leaves all keys, each caller's state and the operations of all other handles; and of
-/// its own handle's operation what it was, or an error, or a derivation with the same inputs. A call that isn't in
-/// order on its handle, and a refused setup, leave all.
+/// its own handle's operation an error, or a derivation with the same inputs, or what it was: this last of a setup, of a
+/// capacity that isn't lower, and of a call that isn't in order on its handle alone. A call that isn't in order, and a
+/// refused setup, leave all.
 pub fn refusals_leave_all()
     ensures refusals { RefusalsLeaveAll }
     ensures unready { UnreadyHandlesStay }
@@ -40,7 +41,8 @@ pub fn alive_by_number()
     ensures { AliveByNumber }
 {}
 
-/// No chain of copies gains a usage flag or an algorithm, over every history.
+/// No chain of copies gains a usage flag or an algorithm, over every history, and each key has the policy that its
+/// creation recorded.
 pub fn copies_gain_nothing()
     ensures { CopiesGainNothing }
 {}
