@@ -1,7 +1,11 @@
 -- The words of a seed give its bytes back.
-use Rattle.std.proofs.Common.{◌≡◌, ℕ, zero, suc, ◌+◌, ◌*◌, ◌<◌, List, [], ◌∷◌, ◌++◌, length, get_or, slice_index, refl, sym, ap, ap₂, ◌∙◌, arith}
+use Rattle.std.proofs.Common.{◌≡◌, ℕ, zero, suc, ◌+◌, ◌*◌, ◌<◌, List, [], ◌∷◌, ◌++◌, length, get_or, slice_index, refl, sym, ap₂, ◌∙◌, arith}
+use Rattle.std.specs.Prelude.{map}
+use Rattle.std.specs.List.{range_with_len}
 use Rattle.std.specs.Int.{w32, to_le_bytes}
 use Rattle.std.proofs.lemmas.Nat.{le_bytes_4}
+use Rattle.std.proofs.lemmas.List.{ext_get_or}
+use Rattle.std.proofs.lemmas.List.FromFn.{length-map-range_with_len, get_or-map-range_with_len}
 use Rattle.rand_core.specs.Steps.{u32_at}
 use Rattle.rand_chacha.specs.ChaCha.{key_of, seed_of}
 
@@ -22,18 +26,12 @@ word_back seed i all =
     le_bytes_4 (slice_index seed (4 * i) ∷ slice_index seed (4 * i + 1) ∷ slice_index seed (4 * i + 2) ∷ slice_index seed (4 * i + 3) ∷ []) _ refl
     (four_bytes _ _ _ _ (all (4 * i)) (all (4 * i + 1)) (all (4 * i + 2)) (all (4 * i + 3))) (omega arith)
 
--- the n elements from place i on
-abbrev elements : List ℕ → ℕ → ℕ → List ℕ
-elements b i zero = []
-elements b i (suc n) = slice_index b i ∷ elements b (suc i) n
-
-elements_after : (x : ℕ) (xs : List ℕ) (i n : ℕ) → elements (x ∷ xs) (suc i) n ≡ elements xs i n
-elements_after x xs i zero = refl
-elements_after x xs i (suc n) = ap (λ (l : List ℕ). slice_index xs i ∷ l) (elements_after x xs (suc i) n)
-
-elements_all : (b : List ℕ) → elements b 0 (length b) ≡ b
-elements_all [] = refl
-elements_all (x ∷ xs) = ap (λ (l : List ℕ). x ∷ l) (elements_after x xs 0 (length xs) ∙ elements_all xs)
+-- a list's elements, one by one
+all_read : (b : List ℕ) (n : ℕ) → length b ≡ n → map (slice_index b) (range_with_len 0 n) ≡ b
+all_read b n long =
+    let read : List ℕ = map (slice_index b) (range_with_len 0 n) in
+    let same : length read ≡ n = length-map-range_with_len (slice_index b) 0 n in
+    ext_get_or 0 read b (same ∙ sym long) (λ i h. get_or-map-range_with_len (slice_index b) 0 n i i 0 (omega arith) (omega arith))
 
 and_then : {a b c d : List ℕ} → a ≡ c → b ≡ d → a ++ b ≡ c ++ d
 and_then e f = ap₂ (λ (p q : List ℕ). p ++ q) e f
@@ -42,4 +40,4 @@ pub seed_of-key_of : (seed : List ℕ) → length seed ≡ 32 → AreBytes seed 
 seed_of-key_of seed long all =
     let word = λ (i : ℕ). word_back seed i all in
     and_then (word 0) (and_then (word 1) (and_then (word 2) (and_then (word 3) (and_then (word 4) (and_then (word 5) (and_then (word 6) (word 7)))))))
-    ∙ ap (elements seed 0) (sym long) ∙ elements_all seed
+    ∙ all_read seed 32 long
