@@ -1,5 +1,5 @@
--- The grammar of scripts: which calls a text says, and why a text says none. It is stated by the texts of
--- numbers (std's) and of bytes (hex's), and not by the functions that read them.
+-- The grammar of scripts: which calls a text says, and why a text says none. Numbers are stated by their digits'
+-- values (std's) or their texts, and bytes by what hex decodes; what this crate's readers do isn't in it.
 use Rattle.std.specs.Prelude.{ℕ, ◌≡◌, ◌≤◌, ◌<◌, ◌^◌, ◌⊎◌, Bool, true, false, List, [], ◌∷◌, ◌++◌, length, All, Some, Ok}
 use Rattle.std.specs.Fmt.{decimal}
 use Rattle.std.specs.Str.Parse.{IsNumeral, digits_value}

@@ -47,8 +47,14 @@ pub(crate) enum FieldValue {
     Bytes(ByteList),
 }
 
-/// The length of an output buffer whose line states none.
+/// The length of an output buffer whose line states none, and the greatest that a line may state.
 const ROOM: u16 = 16448;
+
+/// The greatest number of bytes that a line may ask a derivation for.
+const LENGTH_LIMIT: u64 = 16384;
+
+/// The greatest number of hex digits in a field: those of 16,384 bytes.
+const DIGIT_LIMIT: usize = 32768;
 
 const FIELDS: &[Field] = &[
     Field::Type,
@@ -213,7 +219,7 @@ fn long(text: &[u8]) -> Result<FieldValue, LineError>
 fn decoded(alloc: Global, text: &[u8]) -> Result<FieldValue, LineError>
     ensures { Gives (λ v. v) result (bytes_value text.now) }
 {
-    if text.len() > 32768 {
+    if text.len() > DIGIT_LIMIT {
         return Err(LineError::Bad(Reason::BadValue));
     }
     match hex::decode(alloc, text) {
@@ -236,7 +242,7 @@ fn value_of(alloc: Global, field: Field, text: &[u8]) -> Result<FieldValue, Line
         Field::Life => word(text),
         Field::Id => word(text),
         Field::Bits => short(10, 20, 0, 0xffff, text),
-        Field::Room => short(10, 20, 0, 16448, text),
+        Field::Room => short(10, 20, 0, ROOM as u64, text),
         Field::Hash => decoded(alloc, text),
         Field::Mac => decoded(alloc, text),
         Field::Nonce => decoded(alloc, text),
@@ -247,7 +253,7 @@ fn value_of(alloc: Global, field: Field, text: &[u8]) -> Result<FieldValue, Line
         Field::PlainLength => long(text),
         Field::Capacity => long(text),
         Field::Value => long(text),
-        Field::Length => short(10, 20, 1, 16384, text),
+        Field::Length => short(10, 20, 1, LENGTH_LIMIT, text),
         Field::Step => short(16, 4, 0, 0xffff, text),
     }
 }

@@ -18,6 +18,12 @@ use crate::script::{ByteList, Script, ScriptCall, ScriptLine};
 use crate::sessions::Session;
 use std::alloc::Global;
 
+/// The greatest number of bytes in a script: 4 MiB.
+const TEXT_LIMIT: usize = 4194304;
+
+/// The greatest number of lines in a script.
+const LINE_LIMIT: u32 = 20000;
+
 /// A session, 1 to 16.
 #[tactic(auto, unfolding(crate::specs::Lines::session_of))]
 fn session_of(word: &[u8]) -> Option<u8>
@@ -197,7 +203,7 @@ fn has_many_lines(text: &[u8]) -> bool
     ensures { result ≡ nat_lt 20000 (length (text_lines text.now)) }
 {
     let mut lines = Lines::new(text);
-    let mut left: u32 = 20000;
+    let mut left = LINE_LIMIT;
     while let Some(_line) = lines.next() {
         if left == 0 {
             return true;
@@ -217,7 +223,7 @@ pub fn read_script(alloc: Global, text: &[u8]) -> Result<Script, ScriptFault>
     ensures sessions { IfOk result (λ script. All IsOfSession script) }
     ensures calls { IfOk result (λ script. All IsWellFormed script) }
 {
-    if text.len() > 4194304 {
+    if text.len() > TEXT_LIMIT {
         return Err(ScriptFault::TooLong);
     }
     if has_many_lines(text) {
