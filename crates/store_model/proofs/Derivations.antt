@@ -117,20 +117,21 @@ module _ {may : Bool} (store : Store) (key : Option KeyCreation) where
   lowered_step stays w n true e = stays_step w w InvalidArgument (AsItWas stays refl) (λ h. h)
   lowered_step stays w n false e = goes_step store key Deriving w (record w { capacity = n }) done refl (λ s a. refl) (lowered_sound w n (not_below w.capacity n e))
 
-  pub derivation_is_step : (w : DerivationWork) (step : DerivationStep) → (lowers_capacity (OnDerivation step) ≡ true → may ≡ true) → IsStep may store (begun key Deriving w) (held_after key Deriving (derivation_step w step))
-  derivation_is_step w GetCapacity lowers = goes_step store key Deriving w w (capacity_reply w.capacity) refl (λ s a. refl) (λ h. h)
-  derivation_is_step w (SetCapacity n) lowers = lowered_step (lowers refl) w n (nat_lt w.capacity n) refl
-  derivation_is_step w (InputBytes step bytes) lowers =
+module _ (store : Store) (key : Option KeyCreation) where
+  pub derivation_is_step : (w : DerivationWork) (step : DerivationStep) → IsStep (lowers_capacity (OnDerivation step)) store (begun key Deriving w) (held_after key Deriving (derivation_step w step))
+  derivation_is_step w GetCapacity = goes_step store key Deriving w w (capacity_reply w.capacity) refl (λ s a. refl) (λ h. h)
+  derivation_is_step w (SetCapacity n) = lowered_step store key refl w n (nat_lt w.capacity n) refl
+  derivation_is_step w (InputBytes step bytes) =
       unless_step store key Deriving _ _ _ (λ e. goes_step store key Deriving w _ done refl (λ s a. refl)
       (bytes_sound w bytes (step == salt_step) (step == info_step) (flipped (is_due w step) (none_holds (input_bytes_rows w step bytes) 1 e))))
-  derivation_is_step w (InputInteger step value) lowers =
+  derivation_is_step w (InputInteger step value) =
       unless_step store key Deriving _ _ _ (λ e. goes_step store key Deriving w _ done refl (λ s a. refl) (cost_sound w value (none_holds (input_integer_rows w step value) 2 e)))
-  derivation_is_step w (OutputBytes n) lowers =
-      unless_step store key Deriving _ _ _ (λ e. taken_step w n (given (next_derived w n)) (nat_lt w.capacity n) refl
+  derivation_is_step w (OutputBytes n) =
+      unless_step store key Deriving _ _ _ (λ e. taken_step store key w n (given (next_derived w n)) (nat_lt w.capacity n) refl
       (λ less. goes_step store key Deriving w (without w n) (given (next_derived w n)) refl (λ s a. refl) (without_sound w n less)))
-  derivation_is_step w (VerifyBytes expected) lowers =
-      unless_step store key Deriving _ _ _ (λ e. taken_step w (length expected) (compared (bytes_eq expected (next_derived w (length expected)))) (nat_lt w.capacity (length expected)) refl
-      (compared_step w (length expected) (bytes_eq expected (next_derived w (length expected)))))
+  derivation_is_step w (VerifyBytes expected) =
+      unless_step store key Deriving _ _ _ (λ e. taken_step store key w (length expected) (compared (bytes_eq expected (next_derived w (length expected)))) (nat_lt w.capacity (length expected)) refl
+      (compared_step store key w (length expected) (bytes_eq expected (next_derived w (length expected)))))
 
 -- a key is due
 pub key_due : (w : DerivationWork) (found : Option Key) (step : ℕ) → first_row (input_key_rows w found step) ≡ None → is_secret_due w ≡ true

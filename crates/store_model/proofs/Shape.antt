@@ -24,7 +24,7 @@ use Rattle.store_model.specs.HandleCalls.{HandleCall, HashSetup, MacSetup, Ciphe
 use Rattle.store_model.specs.Refusals.{AsItWas, held_derivation, is_active, lowers_capacity, may_stay}
 use Rattle.store_model.specs.Sound.{IsSoundStore, IsSoundUse, IsSoundWork, IsSoundHeld}
 use Rattle.store_model.proofs.Drawn.{none_holds}
-use Rattle.store_model.proofs.Steps.{IsStep, begun, fails_step, unless_step, alive_step, ends_step, hash_is_step, mac_is_step, cipher_is_step, aead_is_step}
+use Rattle.store_model.proofs.Steps.{IsStep, step_wider, begun, fails_step, unless_step, alive_step, ends_step, hash_is_step, mac_is_step, cipher_is_step, aead_is_step}
 use Rattle.store_model.proofs.Derivations.{derivation_is_step, exhausted_step, key_sound, key_due, start_sound, not_below, flipped}
 
 -- an active derivation has its secret, its bytes and the creation's leave
@@ -176,6 +176,9 @@ module _ (service : Service) (caller handle : ℕ) (may : Bool) (P : Served → 
 not_false : (b : Bool) → b ≡ false → not b ≡ true
 not_false b e = ap not e
 
+no_wider : {b : Bool} → false ≡ true → b ≡ true
+no_wider e = cc
+
 one_or : (a b : Bool) → a ≡ true → (a || b) ≡ true
 one_or a b e = ap (λ c. c || b) e
 
@@ -200,19 +203,19 @@ shape service caller handle (DerivationSetup alg) P cases =
     cases.applied_too _ (set_up_step refl service.store _ (first_row (class_rows class.Derivation alg)) (record { key = None; work = Deriving (derivation_work alg) })
     (λ s. record { key = tt; work = start_sound alg }))
 shape service caller handle (OnHash step) P cases =
-    stepped_shape service caller handle _ P cases hash_part Hashing own_hash (λ w. hash_step w step) (λ w. hash_is_step service.store _ w step) (not_false _) _ refl
+    stepped_shape service caller handle _ P cases hash_part Hashing own_hash (λ w. hash_step w step) (λ w. step_wider no_wider (hash_is_step service.store _ w step)) (not_false _) _ refl
 shape service caller handle (OnMac step) P cases =
-    stepped_shape service caller handle _ P cases mac_part Authenticating own_mac (λ w. mac_step w step) (λ w. mac_is_step service.store _ w step) (not_false _) _ refl
+    stepped_shape service caller handle _ P cases mac_part Authenticating own_mac (λ w. mac_step w step) (λ w. step_wider no_wider (mac_is_step service.store _ w step)) (not_false _) _ refl
 shape service caller handle (OnCipher step) P cases =
     let random : List ℕ = random_of service caller in
-    stepped_shape service caller handle _ P cases cipher_part Ciphering own_cipher (λ w. cipher_step random w step) (λ w. cipher_is_step service.store _ random w step) (not_false _) _ refl
+    stepped_shape service caller handle _ P cases cipher_part Ciphering own_cipher (λ w. cipher_step random w step) (λ w. step_wider no_wider (cipher_is_step service.store _ random w step)) (not_false _) _ refl
 shape service caller handle (OnAead step) P cases =
     let random : List ℕ = random_of service caller in
-    stepped_shape service caller handle _ P cases aead_part Sealing own_aead (λ w. aead_step random w step) (λ w. aead_is_step service.store _ random w step) (not_false _) _ refl
+    stepped_shape service caller handle _ P cases aead_part Sealing own_aead (λ w. aead_step random w step) (λ w. step_wider no_wider (aead_is_step service.store _ random w step)) (not_false _) _ refl
 shape service caller handle (OnDerivation step) P cases =
     let lowers : Bool = lowers_capacity (OnDerivation step) in
     stepped_shape service caller handle _ P cases derivation_part Deriving own_derivation (λ w. derivation_step w step)
-    (λ w. derivation_is_step service.store _ w step (one_or lowers _)) (λ idle. other_or lowers _ (not_false _ idle)) _ refl
+    (λ w. step_wider (one_or lowers _) (derivation_is_step service.store _ w step)) (λ idle. other_or lowers _ (not_false _ idle)) _ refl
 shape service caller handle (InputKey step id) P cases = input_key_shape service caller handle _ P cases (not_false _) _ step id refl
 shape service caller handle (OutputKey a) P cases = output_key_shape service caller handle _ P cases (not_false _) _ a refl
 shape service caller handle Abort P cases = cases.applied_too (ends done) (ends_step service.store None Deriving _ done refl (λ s a. refl))

@@ -12,7 +12,7 @@ use Rattle.store_model.specs.MacOperations.{MacWork, MacStep, MacUpdate, MacSign
 use Rattle.store_model.specs.CipherOperations.{CipherWork, CipherStep, CipherGenerateIv, CipherSetIv, CipherUpdate, CipherFinish, cipher_step, last_part, whole_text}
 use Rattle.store_model.specs.AeadOperations.{AeadWork, AeadStep, AeadGenerateNonce, AeadSetNonce, AeadSetLengths, AeadUpdateAd, AeadUpdate, AeadFinish, AeadVerify, aead_step, nonce_length}
 use Rattle.store_model.specs.Handles.{KeyCreation, Work, Hashing, Authenticating, Ciphering, Sealing, Held, HandleOperation, held_after}
-use Rattle.store_model.specs.Refusals.{IsLeft, Failed}
+use Rattle.store_model.specs.Refusals.{IsLeft, AsItWas, Failed, Exhausted, Compared}
 use Rattle.store_model.specs.Sound.{IsSoundStore, IsSoundWork, IsSoundOperation}
 use Rattle.store_model.specs.Origin.{made_at}
 
@@ -27,6 +27,22 @@ pub record IsStep (may_stay : Bool) (store : Store) (before : HandleOperation) (
 -- a reply that answers no identifier
 abbrev pub MakesNone : Reply → Type 0
 MakesNone reply = (source : Option ℕ) (after : Store) → made_at source after reply.output ≡ []
+
+left_wider : {a b : Bool} {status : Status} {before after : HandleOperation} → (a ≡ true → b ≡ true) → IsLeft a status before after → IsLeft b status before after
+left_wider wider (AsItWas may same) = AsItWas (wider may) same
+left_wider wider (Failed failed) = Failed failed
+left_wider wider (Exhausted key work says was now) = Exhausted key work says was now
+left_wider wider (Compared key work n says had was now) = Compared key work n says had was now
+
+-- a step of a call is one of a call that may leave the operation more often
+pub step_wider : {a b : Bool} {store : Store} {before : HandleOperation} {after : After Held} → (a ≡ true → b ≡ true) → IsStep a store before after → IsStep b store before after
+step_wider wider step = record {
+  few = step.few;
+  undrawn = step.undrawn;
+  left = λ no. left_wider wider (step.left no);
+  no_key = step.no_key;
+  sound = step.sound;
+}
 
 -- an operation of a family
 abbrev pub begun : {W : Type 0} → Option KeyCreation → (W → Work) → W → HandleOperation
@@ -83,18 +99,18 @@ short_nonce false true c = omega arith
 short_nonce false false true = omega arith
 short_nonce false false false = omega arith
 
-module _ {may : Bool} (store : Store) (key : Option KeyCreation) where
-  pub hash_is_step : (w : HashWork) (step : HashStep) → IsStep may store (begun key Hashing w) (held_after key Hashing (hash_step w step))
+module _ (store : Store) (key : Option KeyCreation) where
+  pub hash_is_step : (w : HashWork) (step : HashStep) → IsStep false store (begun key Hashing w) (held_after key Hashing (hash_step w step))
   hash_is_step w (HashUpdate input) = unless_step store key Hashing _ _ _ (λ e. goes_step store key Hashing w _ done refl (λ s a. refl) (λ h. tt))
   hash_is_step w (HashFinish room) = unless_step store key Hashing _ _ _ (λ e. ends_step store key Hashing _ (given _) refl (λ s a. refl))
   hash_is_step w (HashVerify hash) = unless_step store key Hashing _ _ _ (λ e. ends_step store key Hashing _ done refl (λ s a. refl))
 
-  pub mac_is_step : (w : MacWork) (step : MacStep) → IsStep may store (begun key Authenticating w) (held_after key Authenticating (mac_step w step))
+  pub mac_is_step : (w : MacWork) (step : MacStep) → IsStep false store (begun key Authenticating w) (held_after key Authenticating (mac_step w step))
   mac_is_step w (MacUpdate input) = unless_step store key Authenticating _ _ _ (λ e. goes_step store key Authenticating w _ done refl (λ s a. refl) (λ h. tt))
   mac_is_step w (MacSignFinish room) = unless_step store key Authenticating _ _ _ (λ e. ends_step store key Authenticating _ (given _) refl (λ s a. refl))
   mac_is_step w (MacVerifyFinish mac) = unless_step store key Authenticating _ _ _ (λ e. ends_step store key Authenticating _ done refl (λ s a. refl))
 
-  last_is_step : (w : CipherWork) (o : Option (List ℕ)) → IsStep may store (begun key Ciphering w) (held_after key Ciphering (last_part w o))
+  last_is_step : (w : CipherWork) (o : Option (List ℕ)) → IsStep false store (begun key Ciphering w) (held_after key Ciphering (last_part w o))
   last_is_step w (Some text) = ends_step store key Ciphering _ _ refl (λ s a. refl)
   last_is_step w None = record {
     few = omega arith;
@@ -104,14 +120,14 @@ module _ {may : Bool} (store : Store) (key : Option KeyCreation) where
     sound = λ s h. tt;
   }
 
-  pub cipher_is_step : (random : List ℕ) (w : CipherWork) (step : CipherStep) → IsStep may store (begun key Ciphering w) (held_after key Ciphering (cipher_step random w step))
+  pub cipher_is_step : (random : List ℕ) (w : CipherWork) (step : CipherStep) → IsStep false store (begun key Ciphering w) (held_after key Ciphering (cipher_step random w step))
   cipher_is_step random w (CipherGenerateIv room) =
       unless_step store key Ciphering _ _ _ (λ e. draws_step store key Ciphering w _ (given random) 16 (omega arith) refl (λ s a. refl) (λ h. tt))
   cipher_is_step random w (CipherSetIv iv) = unless_step store key Ciphering _ _ _ (λ e. goes_step store key Ciphering w _ done refl (λ s a. refl) (λ h. tt))
   cipher_is_step random w (CipherUpdate input room) = unless_step store key Ciphering _ _ _ (λ e. goes_step store key Ciphering w _ (given _) refl (λ s a. refl) (λ h. tt))
   cipher_is_step random w (CipherFinish room) = unless_step store key Ciphering _ _ _ (λ e. last_is_step w (whole_text w))
 
-  pub aead_is_step : (random : List ℕ) (w : AeadWork) (step : AeadStep) → IsStep may store (begun key Sealing w) (held_after key Sealing (aead_step random w step))
+  pub aead_is_step : (random : List ℕ) (w : AeadWork) (step : AeadStep) → IsStep false store (begun key Sealing w) (held_after key Sealing (aead_step random w step))
   aead_is_step random w (AeadGenerateNonce room) =
       unless_step store key Sealing _ _ _ (λ e. draws_step store key Sealing w _ (given _) (nonce_length w) (short_nonce _ _ _) refl (λ s a. refl) (λ h. tt))
   aead_is_step random w (AeadSetNonce nonce) = unless_step store key Sealing _ _ _ (λ e. goes_step store key Sealing w _ done refl (λ s a. refl) (λ h. tt))
