@@ -2,3 +2,4 @@ pub mod InPlace
 pub mod Chaining
 pub mod CounterBlocks
 pub mod PaddingRules
+pub mod PaddedTexts

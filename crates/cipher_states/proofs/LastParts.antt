@@ -19,7 +19,8 @@ use Rattle.cipher_states.specs.Ways.{processed, next_chain}
 use Rattle.cipher_states.proofs.WayLaws.{processed_parts, length-processed}
 use Rattle.cipher_states.proofs.TextPlaces.{due-whole, due-within}
 use Rattle.cipher_states.proofs.Dues.{due_under}
-use Rattle.cipher_states.proofs.Paddings.{padded_behind, unpadded_behind}
+use Rattle.cipher_modes.proofs.PaddedTexts.{unpadded_behind}
+use Rattle.cipher_states.proofs.Paddings.{padded_behind}
 
 -- ---- by mode, direction, key, initialisation vector and text
 

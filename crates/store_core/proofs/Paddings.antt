@@ -1,52 +1,15 @@
 -- PKCS#7 padding of a text of several blocks.
-use Rattle.std.proofs.Common.{◌≡◌, ℕ, ◌+◌, ◌-◌, ◌%◌, ◌≤◌, Bool, true, false, cond, List, ◌++◌, length, take, drop, replicate, slice_index, refl, sym, ap, ap₂, ◌∙◌, arith}
-use Rattle.std.specs.Prelude.{bytes_eq, nat_le, ◌&&◌, Option, Some, None}
+use Rattle.std.proofs.Common.{◌≡◌, ℕ, ◌+◌, ◌-◌, ◌%◌, List, ◌++◌, length, take, replicate, sym, ap, ap₂, ◌∙◌}
+use Rattle.std.specs.Prelude.{Some, None}
 use Rattle.std.specs.Option.{option_map}
-use Rattle.std.proofs.Math.Seq.{drop-append-add, take-append-add}
-use Rattle.std.proofs.lemmas.Bool.{leb-true}
-use Rattle.std.proofs.lemmas.List.{length-append, get_or-append-add}
+use Rattle.std.proofs.Math.Seq.{take-append-add}
 use Rattle.crypto_specs.specs.Modes.{pkcs7_padded, pkcs7_unpadded}
+use Rattle.cipher_modes.proofs.PaddedTexts.{unpadded_behind}
 
 -- the text and its padding, filled in one after the other
 pub padded_parts : (text front filled : List ℕ) (n : ℕ) → front ≡ text → n ≡ 16 - length text % 16 → filled ≡ replicate n (16 - length text % 16) → front ++ filled ≡ pkcs7_padded text
 unfolding pkcs7_padded
 padded_parts text front filled n e size f = ap₂ (λ (l m : List ℕ). l ++ m) e (f ∙ ap (λ k. replicate k (16 - length text % 16)) size)
-
--- without the padding, by the last byte
-unpadded_at : List ℕ → ℕ → Option (List ℕ)
-unpadded_at text p = cond (nat_le 1 p && nat_le p 16 && bytes_eq (drop (length text - p) text) (replicate p p)) (Some (take (length text - p) text)) None
-
-by_last : (text : List ℕ) → pkcs7_unpadded text ≡ unpadded_at text (slice_index text (length text - 1))
-unfolding pkcs7_unpadded unpadded_at
-by_last text = refl
-
-none_past : (a b c : Bool) (x : List ℕ) → b ≡ false → cond (a && b && c) (Some x) None ≡ None
-none_past true true c x h = cc
-none_past true false c x h = refl
-none_past false b c x h = refl
-
-mapped : (b : Bool) (front x : List ℕ) → cond b (Some (front ++ x)) None ≡ option_map (λ m. front ++ m) (cond b (Some x) None)
-mapped true front x = refl
-mapped false front x = refl
-
-behind_at : (front last : List ℕ) (p : ℕ) → length last ≡ 16 → (b : Bool) → nat_le p 16 ≡ b → unpadded_at (front ++ last) p ≡ option_map (λ m. front ++ m) (unpadded_at last p)
-unfolding unpadded_at
-behind_at front last p long true t =
-    let small : p ≤ 16 = leb-true p 16 t in
-    let place : length (front ++ last) - p ≡ length front + (length last - p) = omega (arith, length-append front last) in
-    let end = ap (λ n. drop n (front ++ last)) place ∙ drop-append-add front last (length last - p) in
-    let kept = ap (λ n. take n (front ++ last)) place ∙ take-append-add front last (length last - p) in
-    (λ i. cond (nat_le 1 p && nat_le p 16 && bytes_eq (end i) (replicate p p)) (Some (kept i)) None) ∙ mapped _ front (take (length last - p) last)
-behind_at front last p long false t =
-    none_past (nat_le 1 p) (nat_le p 16) _ _ t ∙ ap (option_map (λ m. front ++ m)) (sym (none_past (nat_le 1 p) (nat_le p 16) _ _ t))
-
--- the padding stands in the last block
-pub unpadded_behind : (front last : List ℕ) → length last ≡ 16 → pkcs7_unpadded (front ++ last) ≡ option_map (λ m. front ++ m) (pkcs7_unpadded last)
-unpadded_behind front last long =
-    let place : length (front ++ last) - 1 ≡ length front + (length last - 1) = omega (arith, length-append front last) in
-    let byte = ap (slice_index (front ++ last)) place ∙ get_or-append-add front last (length last - 1) 0 in
-    by_last (front ++ last) ∙ ap (unpadded_at (front ++ last)) byte ∙ behind_at front last (slice_index last (length last - 1)) long _ refl
-    ∙ ap (option_map (λ m. front ++ m)) (sym (by_last last))
 
 -- a text in two parts
 pub none_in_text : (text front last : List ℕ) → front ++ last ≡ text → length last ≡ 16 → pkcs7_unpadded last ≡ None → pkcs7_unpadded text ≡ None
