@@ -72,7 +72,8 @@ fn meet_algorithm(a: Alg, b: Alg) -> Option<Alg>
 }
 
 /// The policy of a copy, by its source's policy and the stated one: the flags of both, and the algorithm that permits what
-/// both permit. `None` exactly where no algorithm number does. Where both state the same algorithm, the source's number stays.
+/// both permit. `None` where the algorithms have no meet; then no concrete algorithm is permitted by both. Where both
+/// state the same algorithm, the source's number stays.
 pub fn meet(a: &Policy, b: &Policy) -> Option<Policy>
     ensures value { result ≡ meet_of a.now b.now }
     ensures both { MayUseBoth a.now b.now result }
