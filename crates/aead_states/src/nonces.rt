@@ -13,21 +13,9 @@ ghost use Rattle.aead_states.specs.Holding.{HoldsAead};
 use crate::declared::{declared_ad, declared_payload};
 use crate::running::RunningAead;
 use alg_encoding::Alg;
-use algorithm_facts::is_ccm;
+use algorithm_facts::{is_ccm, permits_nonce};
 use operation_phase::give;
 use psa_status::Status;
-
-// Whether the algorithm takes a nonce of so many bytes before a payload of so many.
-fn permits_nonce(alg: Alg, nonce: usize, payload: u64) -> bool
-    requires { payload ≤ total_limit }
-    ensures { result ≡ (permits_nonce alg.0 nonce && permits_payload alg.0 nonce payload) }
-{
-    if is_ccm(alg) {
-        7 <= nonce && nonce <= 13 && aead_ccm::permits_payload(nonce, payload as usize)
-    } else {
-        1 <= nonce && nonce <= 256
-    }
-}
 
 // The bytes of a nonce that is generated: with CCM the most that leave room for the payload's length.
 fn nonce_length(alg: Alg, payload: u64) -> usize
@@ -77,7 +65,8 @@ impl RunningAead {
         if !self.takes_nonce() {
             return Err(Status::BadState);
         }
-        if !permits_nonce(self.alg, nonce.len(), declared_payload(self.lengths)) {
+        let payload = declared_payload(self.lengths) as usize;
+        if !permits_nonce(self.alg, nonce.len(), payload) {
             return Err(Status::InvalidArgument);
         }
         self.begin(nonce);

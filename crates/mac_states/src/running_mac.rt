@@ -14,13 +14,11 @@ ghost use Rattle.mac_states.specs.MacStates.{HoldsMac, IsClearRunningMac};
 use crate::cmac_part::CmacPart;
 use crate::total::Total;
 use alg_encoding::Alg;
-use algorithm_facts::{hash_function, tag_bytes};
+use algorithm_facts::{hash_function, is_cmac, tag_bytes};
 use hash_ops::Hash;
 use hmac_ops::HmacState;
 use operation_phase::give;
 use psa_status::Status;
-
-const CMAC: u32 = 0x03c0_0200;
 
 /// A message that is authenticated piece by piece: it stands for its pieces, one after another. Its MAC is made, or
 /// verified.
@@ -41,7 +39,7 @@ impl RunningMac {
         let mut hmac = HmacState::new(Hash::Sha256, &[]);
         hmac.wipe();
         RunningMac {
-            alg: Alg(CMAC),
+            alg: Alg(0),
             verifies: false,
             total: Total::none(),
             hmac,
@@ -57,7 +55,7 @@ impl RunningMac {
         self.wipe();
         self.alg = alg;
         self.verifies = verifies;
-        if alg.base() == CMAC {
+        if is_cmac(alg) {
             self.cmac.start(key);
         } else {
             self.hmac = HmacState::new(hash_function(alg), key);

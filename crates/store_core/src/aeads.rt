@@ -12,10 +12,9 @@ ghost use Rattle.algorithm_facts.specs.TagLengths.{IsAead};
 
 use crate::Store;
 use crate::uses::{DECRYPT, ENCRYPT};
-use aead_ccm::permits_payload;
 use aes_core::AesKey;
 use alg_encoding::{Alg, Class};
-use algorithm_facts::{TOTAL_LIMIT, aes_key, is_ccm, tag_bytes};
+use algorithm_facts::{TOTAL_LIMIT, aes_key, is_ccm, permits_nonce, tag_bytes};
 use key_attributes::KeyId;
 use psa_status::Status;
 
@@ -23,14 +22,7 @@ use psa_status::Status;
 fn permits_lengths(alg: Alg, nonce: usize, ad: usize, payload: usize) -> bool
     ensures { result ≡ permits_lengths alg.0 nonce ad payload }
 {
-    if ad > TOTAL_LIMIT || payload > TOTAL_LIMIT {
-        return false;
-    }
-    if is_ccm(alg) {
-        7 <= nonce && nonce <= 13 && permits_payload(nonce, payload)
-    } else {
-        1 <= nonce && nonce <= 256
-    }
+    ad <= TOTAL_LIMIT && permits_nonce(alg, nonce, payload)
 }
 
 // Enciphers a text in place, and writes its tag.

@@ -14,13 +14,11 @@ use crate::Store;
 use crate::outputs::give;
 use crate::uses::{SIGN_MESSAGE, VERIFY_MESSAGE};
 use alg_encoding::{Alg, Class};
-use algorithm_facts::{TOTAL_LIMIT, aes_key, hash_function, tag_bytes};
+use algorithm_facts::{TOTAL_LIMIT, aes_key, hash_function, is_cmac, tag_bytes};
 use cmac_ops::cmac;
 use hmac_ops::hmac;
 use key_attributes::KeyId;
 use psa_status::Status;
-
-const CMAC: u32 = 0x03c0_0200;
 
 // Writes bytes to the front of `out`, and answers how many they are.
 fn put(bytes: &[u8], out: &mut [u8; 64]) -> usize
@@ -50,7 +48,7 @@ fn put_whole_mac(alg: Alg, key: &[u8], message: &[u8], out: &mut [u8; 64]) -> us
     ensures bound { result ≤ 64 }
     ensures mac { take result out.new ≡ whole_mac alg.0 key.now message.now }
 {
-    if alg.base() == CMAC {
+    if is_cmac(alg) {
         put_cmac(key, message, out)
     } else {
         hmac(hash_function(alg), key, message, out)
