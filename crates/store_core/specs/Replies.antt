@@ -8,10 +8,6 @@ use Rattle.store_model.specs.Algorithms.{mac_of, tag_bytes}
 use Rattle.store_model.specs.Rules.{room_rows, total_limit}
 use Rattle.store_model.specs.Outcome.{reply_unless, done, given}
 
--- bytes that fit the output buffer
-abbrev pub fitted : List ℕ → ℕ → Reply
-fitted bytes room = reply_unless (first_row (room_rows (length bytes) room)) (given bytes)
-
 -- mac_compute, once the key is known to be for it
 abbrev pub mac_rows : (alg bytes room : ℕ) → Rows
 mac_rows alg bytes room = (nat_lt total_limit bytes, InvalidArgument) ∷ room_rows (tag_bytes alg) room

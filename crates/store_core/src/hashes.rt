@@ -10,10 +10,10 @@ ghost use Rattle.store_model.specs.Step.{step};
 ghost use Rattle.store_model.specs.Answers.{AnswersLength, plain_reply};
 
 use crate::Store;
-use crate::outputs::give;
 use alg_encoding::{Alg, Class};
 use algorithm_facts::{check_class, hash_function};
 use hash_ops::one_shot::hash;
+use operation_phase::give;
 use psa_status::Status;
 
 // Writes the hash of a message to the front of `out`, and answers its length.

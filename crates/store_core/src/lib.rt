@@ -9,7 +9,6 @@ mod generation;
 mod hashes;
 mod macs;
 mod modes;
-mod outputs;
 mod ranks;
 mod store;
 mod streams;

@@ -11,13 +11,13 @@ ghost use Rattle.store_model.specs.Answers.{AnswersLength, plain_reply};
 ghost use Rattle.store_core.specs.Replies.{mac_reply, verified_reply};
 
 use crate::Store;
-use crate::outputs::give;
 use crate::uses::{SIGN_MESSAGE, VERIFY_MESSAGE};
 use alg_encoding::{Alg, Class};
 use algorithm_facts::{TOTAL_LIMIT, aes_key, hash_function, is_cmac, tag_bytes};
 use cmac_ops::cmac;
 use hmac_ops::hmac;
 use key_attributes::KeyId;
+use operation_phase::give;
 use psa_status::Status;
 
 // Writes bytes to the front of `out`, and answers how many they are.
