@@ -1,6 +1,7 @@
 -- What the look-up of a key gives, and of one that a call uses with an algorithm.
 use Rattle.std.specs.Prelude.{ℕ, ◌≡◌, ◌≤◌, false, not, List, [], ◌∷◌, ◌++◌, length, IsTrue, Option, Some, None}
-use Rattle.psa_status.specs.declared.Status.TheVariants.{NotPermitted, InvalidArgument}
+use Rattle.psa_status.specs.declared.Status.{Status}
+use Rattle.psa_status.specs.declared.Status.TheVariants.{NotPermitted, InvalidArgument, InvalidHandle}
 use Rattle.psa_status.specs.Rows.{Rows, first_row}
 use Rattle.alg_encoding.specs.declared.table.Class.{Class}
 use Rattle.alg_encoding.specs.declared.table.Class.TheVariants.{Cipher, Aead}
@@ -60,6 +61,11 @@ derivation_permission_rows step alg a =
     (not (may_use a.policy derive_usage alg), NotPermitted)
     ∷ (not (fits_step step a.key_type.0), InvalidArgument)
     ∷ []
+
+-- no policy permits a number that isn't concrete, so that a key that is there isn't permitted
+abbrev pub pattern_refusal : Option Key → Status
+pattern_refusal None = InvalidHandle
+pattern_refusal (Some key) = NotPermitted
 
 -- the key may be a derivation's secret
 pub record IsDerivationKey (step alg id : ℕ) (found : Option Key) (bytes : List ℕ) (number : ℕ) : Type 0 where

@@ -1,12 +1,14 @@
 // Calls that use a key with an algorithm.
-ghost use Rattle.std.specs.Prelude.{◌≡◌, ◌≤◌, IfOk, MatchResult, Some, length};
+ghost use Rattle.std.specs.Prelude.{◌≡◌, ◌≤◌, IfOk, MatchResult, Some, Err, length};
+ghost use Rattle.std.specs.Result.{result_err};
 ghost use Rattle.std.specs.FinMap as finite;
+ghost use Rattle.psa_status.specs.declared.Status.TheVariants.{NotPermitted};
 ghost use Rattle.psa_status.specs.Rows.{first_row, unless};
 ghost use Rattle.alg_encoding.specs.Encoding.{IsConcrete};
 ghost use Rattle.store_model.specs.Handles.{is_alive};
 ghost use Rattle.store_model.specs.HandleCalls.{derivation_key_rows, fits_step};
 ghost use Rattle.store_model.specs.Rules.{class_number, class_rows, fits_type, use_rows};
-ghost use Rattle.store_core.specs.Uses.{IsUsable, IsLookedUp, IsDerivationKey, derivation_permission_rows, permission_rows};
+ghost use Rattle.store_core.specs.Uses.{IsUsable, IsLookedUp, IsDerivationKey, derivation_permission_rows, pattern_refusal, permission_rows};
 
 use crate::Store;
 use alg_encoding::{Alg, Class};
@@ -73,7 +75,8 @@ fn fits_step(step: u16, key_type: KeyType) -> bool
 // The refusal of a key that has these attributes as the secret of a derivation. A number that isn't concrete is
 // permitted by no policy.
 fn check_derivation(step: u16, alg: Alg, attributes: &Attributes) -> Result<(), Status>
-    ensures { IsConcrete alg.0 → result ≡ unless (first_row (derivation_permission_rows step alg.0 attributes.now)) tt }
+    ensures concrete { IsConcrete alg.0 → result ≡ unless (first_row (derivation_permission_rows step alg.0 attributes.now)) tt }
+    ensures pattern { (IsConcrete alg.0 → ⊥) → result ≡ Err NotPermitted }
 {
     if !alg.is_concrete() || !permits(&attributes.policy, DERIVE, alg) {
         return Err(Status::NotPermitted);
@@ -113,6 +116,7 @@ impl Store {
         ensures key { IsConcrete alg.0 → MatchResult result
             (λ found. IsDerivationKey step alg.0 key.0 (finite.get self.now.keys key.0) found.bytes.now found.number)
             (λ status. first_row (derivation_key_rows (finite.get self.now.keys key.0) step alg.0) ≡ Some status) }
+        ensures pattern { (IsConcrete alg.0 → ⊥) → result_err result ≡ Some (pattern_refusal (finite.get self.now.keys key.0)) }
     {
         let Some(entry) = self.entry(key) else {
             return Err(Status::InvalidHandle);
