@@ -2,7 +2,7 @@
 ghost use Rattle.std.specs.Prelude.{◌≡◌};
 ghost use Rattle.policy_rules.specs.Narrow.{KeepsWithin, narrowed, only_usage};
 
-use key_attributes::{Attributes, Policy, Usage};
+use key_attributes::{Attributes, KeyType, Policy, Usage};
 
 /// What an admission rule does with a new key.
 #[derive(Clone, Copy, Debug, PartialEq, Eq, Drop)]
@@ -24,13 +24,7 @@ pub enum Verdict {
     Refuse,
 }
 
-const EXPORT: u32 = 0x1;
-
-const COPY: u32 = 0x2;
-
 const ECB_NO_PADDING: u32 = 0x0440_4400;
-
-const AES: u16 = 0x2400;
 
 fn with_usage(attributes: &Attributes, flags: u32) -> Attributes
     ensures { result ≡ only_usage attributes.now flags }
@@ -51,8 +45,8 @@ pub fn narrow(label: Label, attributes: &Attributes) -> Verdict
     ensures within { KeepsWithin attributes.now result }
 {
     match label {
-        Label::NoExport => Verdict::Keep(with_usage(attributes, !EXPORT)),
-        Label::NoCopy => Verdict::Keep(with_usage(attributes, !COPY)),
+        Label::NoExport => Verdict::Keep(with_usage(attributes, !Usage::EXPORT.0)),
+        Label::NoCopy => Verdict::Keep(with_usage(attributes, !Usage::COPY.0)),
         Label::NoEcb => {
             if attributes.policy.alg == ECB_NO_PADDING {
                 Verdict::Refuse
@@ -61,7 +55,7 @@ pub fn narrow(label: Label, attributes: &Attributes) -> Verdict
             }
         }
         Label::Aes256 => {
-            if attributes.key_type.0 == AES && attributes.bits != 256 {
+            if attributes.key_type == KeyType::AES && attributes.bits != 256 {
                 Verdict::Refuse
             } else {
                 Verdict::Keep(*attributes)

@@ -11,11 +11,10 @@ ghost use Rattle.store_core.specs.Replies.{opened_reply, sealed_reply};
 ghost use Rattle.algorithm_facts.specs.TagLengths.{IsAead};
 
 use crate::Store;
-use crate::uses::{DECRYPT, ENCRYPT};
 use aes_core::AesKey;
 use alg_encoding::{Alg, Class};
 use algorithm_facts::{TOTAL_LIMIT, aes_key, is_ccm, permits_nonce, tag_bytes};
-use key_attributes::KeyId;
+use key_attributes::{KeyId, Usage};
 use psa_status::Status;
 
 // Whether the algorithm takes so many bytes of a nonce, of associated data, and of a payload.
@@ -181,7 +180,7 @@ impl Store {
             buffer_after out.old (step self.old caller (AeadEncrypt key.0 alg.0 nonce.now ad.now input.now (length out.old)) Plain).reply }
     {
         self.count();
-        let bytes = self.usable(Class::Aead, ENCRYPT, alg, key)?;
+        let bytes = self.usable(Class::Aead, Usage::ENCRYPT, alg, key)?;
         encrypt(alg, bytes, nonce, ad, input, out)
     }
 
@@ -206,7 +205,7 @@ impl Store {
             buffer_after out.old (step self.old caller (AeadDecrypt key.0 alg.0 nonce.now ad.now input.now (length out.old)) Plain).reply }
     {
         self.count();
-        let bytes = self.usable(Class::Aead, DECRYPT, alg, key)?;
+        let bytes = self.usable(Class::Aead, Usage::DECRYPT, alg, key)?;
         decrypt(alg, bytes, nonce, ad, input, out)
     }
 }

@@ -13,13 +13,12 @@ ghost use Rattle.algorithm_facts.specs.Modes.{model_mode};
 
 use crate::Store;
 use crate::modes::{decipher, encipher_behind};
-use crate::uses::{DECRYPT, ENCRYPT};
 use alg_encoding::{Alg, Class};
 use algorithm_facts::{
     Mode, TOTAL_LIMIT, aes_key, enciphered_length, is_ciphertext_length, iv_length, mode_of,
     takes_whole_blocks,
 };
-use key_attributes::KeyId;
+use key_attributes::{KeyId, Usage};
 use psa_status::Status;
 
 // How many bytes the initialisation vector and the ciphertext of so many bytes need, or the refusal of that number or
@@ -94,7 +93,7 @@ impl Store {
         ensures buffer { out.new ≡ buffer_after out.old (step self.old caller (CipherEncrypt key.0 alg.0 input.now (length out.old)) Plain).reply }
     {
         self.count();
-        let bytes = self.usable(Class::Cipher, ENCRYPT, alg, key)?;
+        let bytes = self.usable(Class::Cipher, Usage::ENCRYPT, alg, key)?;
         let mode = mode_of(alg);
         let needed = check_plain(mode, input.len(), out.len())?;
         let mut aes = aes_key(bytes);
@@ -123,7 +122,7 @@ impl Store {
         ensures buffer { out.new ≡ buffer_after out.old (step self.old caller (CipherDecrypt key.0 alg.0 input.now (length out.old)) Plain).reply }
     {
         self.count();
-        let bytes = self.usable(Class::Cipher, DECRYPT, alg, key)?;
+        let bytes = self.usable(Class::Cipher, Usage::DECRYPT, alg, key)?;
         decrypt(mode_of(alg), bytes, input, out)
     }
 }

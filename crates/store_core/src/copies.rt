@@ -4,7 +4,7 @@ ghost use Rattle.key_attributes.specs.Checks.{location};
 ghost use Rattle.store_model.specs.Copies.{differs};
 ghost use Rattle.store_core.specs.Copied.{copy_checked};
 
-use key_attributes::{Attributes, check_attributes};
+use key_attributes::{Attributes, Usage, check_attributes};
 use policy_rules::meet;
 use psa_status::Status;
 
@@ -24,7 +24,7 @@ pub fn check_copy(
     ensures value { result ≡ copy_checked source.now stated.now bytes false }
     ensures short { OnOk result (bytes ≤ 1024) }
 {
-    if source.policy.usage.0 & 2 == 0 {
+    if source.policy.usage.0 & Usage::COPY.0 == 0 {
         return Err(Status::NotPermitted);
     }
     if differs(stated.key_type.0, source.key_type.0) || differs(stated.bits, source.bits) {

@@ -7,9 +7,24 @@ ghost use Rattle.store_model.specs.KeyUse.{export_reply};
 ghost use Rattle.store_model.specs.Answers.{AnswersLength};
 ghost use Rattle.store_core.specs.Entries.{key_of, IsFree};
 
-use key_attributes::{Attributes, KeyId, KeyType, Lifetime, Policy, Usage};
+use key_attributes::{Attributes, KeyId, KeyType, LONGEST_KEY, Lifetime, Policy, Usage};
 use psa_status::{Memory, Status};
 use std::alloc::Global;
+
+/// A caller has no more live volatile keys than this.
+pub const LIVE_LIMIT: usize = 16;
+
+// A volatile key's identifier ends with so many bits, which count the caller's creations. The caller's number stands
+// before them.
+const MADE_BITS: u32 = 20;
+
+/// A caller makes no more volatile keys than this.
+pub const MADE_LIMIT: u32 = 1 << MADE_BITS;
+
+/// The identifiers of volatile keys begin here.
+pub const FIRST_VOLATILE: u32 = 0x4000_0000;
+
+const VOLATILE_FRONT: u32 = FIRST_VOLATILE >> MADE_BITS;
 
 /// The place of a key. It is free where the attributes have the identifier 0.
 #[derive(Clone, Copy, Drop)]
@@ -18,7 +33,7 @@ pub struct Entry {
     pub number: u64,
     pub creator: u8,
     pub length: usize,
-    pub buffer: [u8; 1024],
+    pub buffer: [u8; LONGEST_KEY],
 }
 
 /// A place without a key.
@@ -39,7 +54,7 @@ pub fn free_entry() -> Entry
         number: 0,
         creator: 0,
         length: 0,
-        buffer: [0; 1024],
+        buffer: [0; LONGEST_KEY],
     }
 }
 
@@ -68,7 +83,7 @@ pub fn live(ids: &[u32], caller: u8) -> usize
     ensures { result ≡ count_by (λ id. is_volatile_of caller id) ids.now }
 {
     ids.iter()
-        .filter(|id| **id >> 20 == 1024 + caller as u32)
+        .filter(|id| **id >> MADE_BITS == VOLATILE_FRONT + caller as u32)
         .count()
 }
 
@@ -98,11 +113,11 @@ pub fn free_place(ids: &[u32]) -> usize
 }
 
 /// A buffer that begins with these bytes.
-pub fn buffered(bytes: &[u8]) -> [u8; 1024]
+pub fn buffered(bytes: &[u8]) -> [u8; LONGEST_KEY]
     requires { length bytes.now ≤ 1024 }
     ensures { take (length bytes.now) result ≡ bytes.now }
 {
-    let mut buffer = [0; 1024];
+    let mut buffer = [0; LONGEST_KEY];
     buffer[..bytes.len()].copy_from_slice(bytes);
     buffer
 }
@@ -113,7 +128,7 @@ pub fn copy_out(entry: &Entry, out: &mut [u8]) -> Result<usize, Status>
     ensures reply { AnswersLength result (export_reply (Some (key_of entry.now)) (length out.old)) }
     ensures buffer { out.new ≡ buffer_after out.old (export_reply (Some (key_of entry.now)) (length out.old)) }
 {
-    if entry.attributes.policy.usage.0 & 1 == 0 {
+    if entry.attributes.policy.usage.0 & Usage::EXPORT.0 == 0 {
         return Err(Status::NotPermitted);
     }
     if out.len() < entry.length {

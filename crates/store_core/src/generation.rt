@@ -14,7 +14,7 @@ ghost use Rattle.store_model.specs.Answers.{id_reply};
 ghost use Rattle.store_core.specs.Generated.{generation_checked};
 
 use crate::Store;
-use key_attributes::{Attributes, KeyId, check_attributes};
+use key_attributes::{Attributes, KeyId, LONGEST_KEY, check_attributes};
 use psa_status::Status;
 
 /// The attributes that a generation records, or the first refusal that the stated ones decide.
@@ -29,10 +29,10 @@ fn check_generation(attributes: &Attributes) -> Result<Attributes, Status>
 }
 
 /// Clears a buffer.
-fn wipe(buffer: &mut [u8; 1024])
+fn wipe(buffer: &mut [u8; LONGEST_KEY])
     ensures { buffer.new ≡ replicate 1024 0 }
 {
-    *buffer = [0; 1024];
+    *buffer = [0; LONGEST_KEY];
 }
 
 impl Store {
@@ -73,7 +73,7 @@ impl Store {
             self.new ≡ (created (with_drawn self.old caller count) caller a (next_random self.old caller count)).store }
         ensures id { result.0 ≡ model.next_volatile (with_drawn self.old caller count) caller }
     {
-        let mut buffer = [0; 1024];
+        let mut buffer = [0; LONGEST_KEY];
         self.draw(caller, &mut buffer[..count]);
         let id = self.add(caller, recorded, &buffer[..count]);
         wipe(&mut buffer);

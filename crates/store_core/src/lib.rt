@@ -1,4 +1,5 @@
-//! The one-thread store as a plain list of keys. Each method is one turn, whose contract is a step of the model.
+//! The one-thread store as a plain list of keys. The contract of each call is a step of the model. The other methods look
+//! a key up, or are the parts of a step: they count a call, or draw random words.
 #![tactic(auto)]
 
 mod aeads;
@@ -14,8 +15,19 @@ mod store;
 mod streams;
 mod uses;
 
+use key_attributes::Usage;
 pub use store::Store;
-pub use uses::{DECRYPT, DERIVE, ENCRYPT, Found, SIGN_MESSAGE, VERIFY_MESSAGE};
+pub use uses::Found;
+
+// What the calls of each class ask of a key's policy.
+
+pub const ENCRYPT: Usage = Usage::ENCRYPT;
+
+pub const DECRYPT: Usage = Usage::DECRYPT;
+
+pub const SIGN_MESSAGE: Usage = Usage::SIGN_MESSAGE;
+
+pub const VERIFY_MESSAGE: Usage = Usage::VERIFY_MESSAGE;
 
 #[cfg(test)]
 mod tests;

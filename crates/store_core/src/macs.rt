@@ -11,12 +11,11 @@ ghost use Rattle.store_model.specs.Answers.{AnswersLength, plain_reply};
 ghost use Rattle.store_core.specs.Replies.{mac_reply, verified_reply};
 
 use crate::Store;
-use crate::uses::{SIGN_MESSAGE, VERIFY_MESSAGE};
 use alg_encoding::{Alg, Class};
 use algorithm_facts::{TOTAL_LIMIT, aes_key, hash_function, is_cmac, tag_bytes};
 use cmac_ops::cmac;
 use hmac_ops::hmac;
-use key_attributes::KeyId;
+use key_attributes::{KeyId, Usage};
 use operation_phase::give;
 use psa_status::Status;
 
@@ -116,7 +115,7 @@ impl Store {
         ensures buffer { out.new ≡ buffer_after out.old (step self.old caller (MacCompute key.0 alg.0 input.now (length out.old)) Plain).reply }
     {
         self.count();
-        let bytes = self.usable(Class::Mac, SIGN_MESSAGE, alg, key)?;
+        let bytes = self.usable(Class::Mac, Usage::SIGN_MESSAGE, alg, key)?;
         compute(alg, bytes, input, out)
     }
 
@@ -136,7 +135,7 @@ impl Store {
         ensures reply { plain_reply result ≡ (step self.old caller (MacVerify key.0 alg.0 input.now mac.now) Plain).reply }
     {
         self.count();
-        let bytes = self.usable(Class::Mac, VERIFY_MESSAGE, alg, key)?;
+        let bytes = self.usable(Class::Mac, Usage::VERIFY_MESSAGE, alg, key)?;
         verify(alg, bytes, input, mac)
     }
 }

@@ -18,7 +18,8 @@ ghost use Rattle.store_core.specs.Uses.{IsFound};
 
 use crate::copies::check_copy;
 use crate::entries::{
-    Entry, buffered, copy_out, free_entry, free_place, key_place, live, new_ids, new_keys,
+    Entry, FIRST_VOLATILE, LIVE_LIMIT, MADE_LIMIT, buffered, copy_out, free_entry, free_place,
+    key_place, live, new_ids, new_keys,
 };
 use crate::streams::new_streams;
 use key_attributes::{Attributes, KeyId, check_attributes};
@@ -155,7 +156,7 @@ impl Store {
         requires { caller ≤ 16 }
         ensures { first_row (limit_rows self.now caller) ≡ (if result then Some KeyLimit else None) }
     {
-        live(&self.ids, caller) >= 16 || self.made[caller as usize] >= 0x100000
+        live(&self.ids, caller) >= LIVE_LIMIT || self.made[caller as usize] >= MADE_LIMIT
     }
 
     // Adds a key with these recorded attributes. Its caller is at no limit.
@@ -173,7 +174,7 @@ impl Store {
         let number = self.calls;
         self.calls += 1;
         let made = self.made[caller as usize];
-        let id = KeyId(0x40000000 + caller as u32 * 0x100000 + made);
+        let id = KeyId(FIRST_VOLATILE + caller as u32 * MADE_LIMIT + made);
         let place = free_place(&self.ids);
         self.keys[place] = Entry {
             attributes: Attributes {

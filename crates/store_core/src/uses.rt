@@ -17,24 +17,6 @@ use key_attributes::{Attributes, KeyId, KeyType, Usage};
 use policy_rules::permits;
 use psa_status::Status;
 
-pub const ENCRYPT: Usage = Usage(0x100);
-
-pub const DECRYPT: Usage = Usage(0x200);
-
-pub const SIGN_MESSAGE: Usage = Usage(0x400);
-
-pub const VERIFY_MESSAGE: Usage = Usage(0x800);
-
-pub const DERIVE: Usage = Usage(0x4000);
-
-const HMAC: u16 = 0x1100;
-
-const AES: u16 = 0x2400;
-
-const DERIVATION: u16 = 0x1200;
-
-const PASSWORD: u16 = 0x1203;
-
 const SECRET_STEP: u16 = 0x101;
 
 /// What a look-up gives of a key: its bytes, and its creation number, which no other key has.
@@ -48,7 +30,12 @@ pub struct Found<'a> {
 fn fits_type(alg: Alg, key_type: KeyType) -> bool
     ensures { result ≡ fits_type alg.0 key_type.0 }
 {
-    key_type.0 == if is_hmac(alg) { HMAC } else { AES }
+    let wanted = if is_hmac(alg) {
+        KeyType::HMAC
+    } else {
+        KeyType::AES
+    };
+    key_type == wanted
 }
 
 // The refusal of a use of a key that has these attributes.
@@ -69,7 +56,7 @@ fn check_use(class: Class, usage: Usage, alg: Alg, attributes: &Attributes) -> R
 fn fits_step(step: u16, key_type: KeyType) -> bool
     ensures { result ≡ fits_step step key_type.0 }
 {
-    key_type.0 == DERIVATION || (step != SECRET_STEP && key_type.0 == PASSWORD)
+    key_type == KeyType::DERIVE || (step != SECRET_STEP && key_type == KeyType::PASSWORD)
 }
 
 // The refusal of a key that has these attributes as the secret of a derivation. A number that isn't concrete is
@@ -78,7 +65,7 @@ fn check_derivation(step: u16, alg: Alg, attributes: &Attributes) -> Result<(), 
     ensures concrete { IsConcrete alg.0 → result ≡ unless (first_row (derivation_permission_rows step alg.0 attributes.now)) tt }
     ensures pattern { (IsConcrete alg.0 → ⊥) → result ≡ Err NotPermitted }
 {
-    if !alg.is_concrete() || !permits(&attributes.policy, DERIVE, alg) {
+    if !alg.is_concrete() || !permits(&attributes.policy, Usage::DERIVE, alg) {
         return Err(Status::NotPermitted);
     }
     if !fits_step(step, attributes.key_type) {

@@ -12,12 +12,12 @@ by_first live made n e h = grind (arith, nat_tests)
 by_second : (live made n : ℕ) → n ≡ live → n < 16 → cond (nat_le 16 live || nat_le (2 ^ 20) made) (Some KeyLimit) None ≡ cond (nat_le (2 ^ 20) made) (Some KeyLimit) None
 by_second live made n e h = grind (arith, nat_tests)
 
-pub returns-then-live-ge16 : goal.returns-then-live-ge16
-returns-then-live-ge16 c =
+pub returns-then-live-ge-LIVE_LIMIT : goal.returns-then-live-ge-LIVE_LIMIT
+returns-then-live-ge-LIVE_LIMIT c =
     let live = c.live.ensures ∙ ap (λ (ids : List ℕ). count_by (λ id. is_volatile_of c.args.caller id) ids) c.deref.ensures.value in
-    limits c.self.inside c.args.self.now c.args.caller c.self.view_is c.self.invariant c.requires ∙ by_first _ _ c.live.result live c.if-live-ge16.true
+    limits c.self.inside c.args.self.now c.args.caller c.self.view_is c.self.invariant c.requires ∙ by_first _ _ c.live.result live c.if-live-ge-LIVE_LIMIT.true
 
-pub returns-else-live-ge16 : goal.returns-else-live-ge16
-returns-else-live-ge16 c =
+pub returns-else-live-ge-LIVE_LIMIT : goal.returns-else-live-ge-LIVE_LIMIT
+returns-else-live-ge-LIVE_LIMIT c =
     let live = c.live.ensures ∙ ap (λ (ids : List ℕ). count_by (λ id. is_volatile_of c.args.caller id) ids) c.deref.ensures.value in
-    limits c.self.inside c.args.self.now c.args.caller c.self.view_is c.self.invariant c.requires ∙ by_second _ _ c.live.result live c.if-live-ge16.false
+    limits c.self.inside c.args.self.now c.args.caller c.self.view_is c.self.invariant c.requires ∙ by_second _ _ c.live.result live c.if-live-ge-LIVE_LIMIT.false
