@@ -1,5 +1,5 @@
-//! The one-thread store as a plain list of keys. The contract of each call is a step of the model. The other methods look
-//! a key up, or are the parts of a step: they count a call, or draw random words.
+//! The one-thread store as a plain list of keys. A method for a call of the API is one turn, whose contract is a step of
+//! the model. The others are no turns: with them calls on handles look a key up, draw random words and count.
 #![tactic(auto)]
 
 mod aeads;

@@ -128,10 +128,12 @@ fn a_text_of_gcm(rt: HostRuntime) {
         Ok(16)
     );
     assert_eq!(rt; text, [0, 0, 0, 0, 0, 0, 0, 0, 0, 0, 0, 0, 0, 0, 0, 0, 7]);
+    text = [7; 17];
     assert_eq!(rt;
         store.aead_decrypt(3, key, gcm, &nonce, b"a", &sealed, &mut text),
         Err(Status::InvalidSignature)
     );
+    assert_eq!(rt; text, [0, 0, 0, 0, 0, 0, 0, 0, 0, 0, 0, 0, 0, 0, 0, 0, 7]);
 }
 
 // ChaCha20 under a key of zeros, as OpenSSL computes it: stream 1 begins with this key and this initialisation vector.
