@@ -36,7 +36,7 @@ pub record AreInactive (c : Cell) : Type 0 where
   pub aead : IsAeadOperation c.aead Inactive
   pub derivation : IsDerivation c.alg.0 c.derivation Inactive
 
-inactive : {W : Type 0} (operation : Operation W) → is_inactive operation ≡ true → operation ≡ Inactive
+pub inactive : {W : Type 0} (operation : Operation W) → is_inactive operation ≡ true → operation ≡ Inactive
 inactive Inactive e = refl
 inactive InError e = cc
 inactive (Active w) e = cc
@@ -56,8 +56,8 @@ all_of Ciphers c operation h e = record { hash = h.0; mac = h.1; cipher = held_i
 all_of Aeads c operation h e = record { hash = h.0; mac = h.1; cipher = h.2; aead = held_inactive (IsAeadOperation c.aead) (key_in c.key) Sealing operation h.3 e; derivation = h.4 }
 all_of Derivations c operation h e = record { hash = h.0; mac = h.1; cipher = h.2; aead = h.3; derivation = held_inactive (IsDerivation c.alg.0 c.derivation) (key_in c.key) Deriving operation h.4 e }
 
-pub all_inactive : (c : Cell) (operation : HandleOperation) → IsOperation c operation → is_inactive operation ≡ true → (operation ≡ Inactive) × AreInactive c
-all_inactive c operation h e = (inactive operation e, all_of h.family c operation h.stands (inactive operation e))
+pub all_inactive : (c : Cell) (operation : HandleOperation) → IsOperation c operation → operation ≡ Inactive → AreInactive c
+all_inactive c operation h e = all_of h.family c operation h.stands e
 
 -- one family's state is another, with a key
 

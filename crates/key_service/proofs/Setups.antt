@@ -3,33 +3,68 @@ use Rattle.std.proofs.Common.{◌≡◌, ℕ, Bool, true, false, List, set, refl
 use Rattle.std.specs.Prelude.{Option, Some, None}
 use Rattle.std.specs.FinMap as finite
 use Rattle.psa_status.specs.declared.Status.{Status}
+use Rattle.psa_status.specs.declared.Status.TheVariants.{BadState}
 use Rattle.psa_status.specs.Rows.{first_row}
 use Rattle.alg_encoding.specs.declared.table.Class.{Class}
-use Rattle.psa_status.specs.declared.Status.TheVariants.{BadState}
+use Rattle.key_attributes.specs.declared.KeyId.{KeyId}
 use Rattle.store_model.specs.Store.{Store}
 use Rattle.store_model.specs.Call.{Reply}
 use Rattle.store_model.specs.Outcome.{counted, refusal, done}
 use Rattle.store_model.specs.Rules.{use_rows}
 use Rattle.store_model.specs.KeyUse.{bytes_of}
 use Rattle.store_model.specs.Operations.{Operation, After, Inactive, InError, Active, stays, set_up, is_inactive}
-use Rattle.store_model.specs.Handles.{Work, Held, KeyCreation, HandleOperation, Service, Served, operation_of, applied, drawn_by, held_with, held_after}
+use Rattle.store_model.specs.Handles as model
+use Rattle.store_model.specs.Handles.{Work, Held, HandleOperation, Service, Served, operation_of, applied, drawn_by, held_with, held_after}
 use Rattle.store_model.specs.HandleCalls.{set_up_with, set_up_keyed, creation_of}
 use Rattle.store_core.specs.Uses.{IsLookedUp}
-use Rattle.key_service.specs.Cells.{IsOperation}
+use Rattle.key_service.specs.Cells.{IsOperation, key_in}
 use Rattle.key_service.specs.Services.{StandsFor}
+use Rattle.key_service.specs.Setups.{Begins, IsFree, Refuses}
 use Rattle.key_service.specs.declared.cells.Cell.{Cell}
+use Rattle.key_service.specs.declared.cells.KeyCreation.{KeyCreation}
 use Rattle.key_service.specs.declared.operations.Operations.{Operations}
-use Rattle.key_service.proofs.Fresh.{AreInactive, all_inactive}
+use Rattle.key_service.proofs.Fresh.{AreInactive, all_inactive, inactive}
 use Rattle.key_service.proofs.Served.{IsAt, cell_stands, applied_stands}
 
--- a setup of a handle that isn't inactive
-pub busy : {W : Type 0} (operation : Operation W) (refused : Option Status) (work : W) → is_inactive operation ≡ false → set_up operation refused work ≡ stays operation BadState
+-- THE START OF A SETUP
+
+busy : {W : Type 0} (operation : Operation W) (refused : Option Status) (work : W) → is_inactive operation ≡ false → set_up operation refused work ≡ stays operation BadState
 busy Inactive refused work e = cc
 busy InError refused work e = refl
 busy (Active w) refused work e = refl
 
--- a setup of an inactive handle, from that of the family's state
-pub held_set_up : {W : Type 0} (key : Option KeyCreation) (embed : W → Work) (refused : Option Status) (work : W) →
+refusing : {W : Type 0} (operation : Operation W) (refused : Option Status) (work : W) (status : Status) → operation ≡ Inactive → refused ≡ Some status → set_up operation refused work ≡ stays operation status
+refusing operation refused work status e r = (λ i. set_up (e i) (r i) work) ∙ ap (λ o. stays o status) (sym e)
+
+-- by whether the code found the operation inactive
+
+pub is_free : (c : Cell) (found : Bool) → found ≡ true → ((o : HandleOperation) → IsOperation c o → found ≡ is_inactive o) → IsFree c
+is_free c found free tells = λ o is. inactive o (sym (tells o is) ∙ free)
+
+pub is_busy : (c : Cell) (found : Bool) → found ≡ false → ((o : HandleOperation) → IsOperation c o → found ≡ is_inactive o) → (refused : Option Status) → Refuses c refused BadState
+is_busy c found active tells refused = λ o held is. busy o refused held (sym (tells o is) ∙ active)
+
+pub is_refused : (c : Cell) (refused : Option Status) (status : Status) → IsFree c → refused ≡ Some status → Refuses c refused status
+is_refused c refused status free is = λ o held stands. refusing o refused held status (free o stands) is
+
+-- A SETUP THAT IS REFUSED
+
+pub refused_stands : (store after : Store) (operations next : Operations) (service : Service) (caller handle place : ℕ) (cell new : Cell) (refused : Option Status) (key : Option model.KeyCreation) (work : Work) (status : Status) →
+    StandsFor store operations service → IsAt operations caller handle place cell → next.cells.items ≡ set operations.cells.items place new → after ≡ counted store → new ≡ cell → Refuses cell refused status →
+    StandsFor after next (set_up_with service caller handle refused key work).service
+refused_stands store after operations next service caller handle place cell new refused key work status h at cells counts kept refuses =
+    let stands = cell_stands store operations service caller handle place cell h at in
+    applied_stands store after operations next service caller handle place cell cell _ (stays (operation_of service caller handle) status) h at
+    (cells ∙ ap (set operations.cells.items place) kept) (ap (applied service caller handle) (refuses (operation_of service caller handle) (record { key = key; work = work }) stands)) stands counts
+
+pub refused_reply : (store : Store) (operations : Operations) (service : Service) (caller handle place : ℕ) (cell : Cell) (refused : Option Status) (key : Option model.KeyCreation) (work : Work) (status : Status) →
+    StandsFor store operations service → IsAt operations caller handle place cell → Refuses cell refused status → refusal status ≡ (set_up_with service caller handle refused key work).reply
+refused_reply store operations service caller handle place cell refused key work status h at refuses =
+    ap (λ (a : After Held). a.reply) (sym (refuses (operation_of service caller handle) (record { key = key; work = work }) (cell_stands store operations service caller handle place cell h at)))
+
+-- A SETUP OF AN INACTIVE HANDLE
+
+held_set_up : {W : Type 0} (key : Option model.KeyCreation) (embed : W → Work) (refused : Option Status) (work : W) →
     set_up Inactive refused (record { key = key; work = embed work }) ≡ held_after key embed (set_up Inactive refused work)
 held_set_up key embed None work = refl
 held_set_up key embed (Some status) work = refl
@@ -40,93 +75,54 @@ set_up-drawn Inactive (Some status) work = refl
 set_up-drawn InError refused work = refl
 set_up-drawn (Active w) refused work = refl
 
--- the operation stays
-kept : (store after : Store) (operations next : Operations) (service : Service) (caller handle place : ℕ) (cell : Cell) (served : Served) (status : Status) → StandsFor store operations service →
-    IsAt operations caller handle place cell → next.cells.items ≡ set operations.cells.items place cell → after ≡ counted store →
-    served ≡ applied service caller handle (stays (operation_of service caller handle) status) → StandsFor after next served.service
-kept store after operations next service caller handle place cell served status h at cells counts is =
-    applied_stands store after operations next service caller handle place cell cell served (stays (operation_of service caller handle) status) h at cells is
-    (cell_stands store operations service caller handle place cell h at) counts
-
--- a setup of a handle that isn't inactive, by what the code found
-pub busy_stands : (store after : Store) (operations next : Operations) (service : Service) (caller handle place : ℕ) (cell : Cell) (refused : Option Status) (key : Option KeyCreation) (work : Work) (found : Bool) →
-    StandsFor store operations service → IsAt operations caller handle place cell → next.cells.items ≡ set operations.cells.items place cell → after ≡ counted store → found ≡ false →
-    ((o : HandleOperation) → IsOperation cell o → found ≡ is_inactive o) → StandsFor after next (set_up_with service caller handle refused key work).service
-busy_stands store after operations next service caller handle place cell refused key work found h at cells counts active tells =
-    let op : HandleOperation = operation_of service caller handle in
-    let is = sym (tells op (cell_stands store operations service caller handle place cell h at)) ∙ active in
-    kept store after operations next service caller handle place cell _ BadState h at cells counts (ap (applied service caller handle) (busy op refused (record { key = key; work = work }) is))
-
-pub busy_reply : (store : Store) (operations : Operations) (service : Service) (caller handle place : ℕ) (cell : Cell) (refused : Option Status) (key : Option KeyCreation) (work : Work) (found : Bool) →
-    StandsFor store operations service → IsAt operations caller handle place cell → found ≡ false → ((o : HandleOperation) → IsOperation cell o → found ≡ is_inactive o) →
-    refusal BadState ≡ (set_up_with service caller handle refused key work).reply
-busy_reply store operations service caller handle place cell refused key work found h at active tells =
-    let op : HandleOperation = operation_of service caller handle in
-    let is = sym (tells op (cell_stands store operations service caller handle place cell h at)) ∙ active in
-    ap (λ (a : After Held). a.reply) (sym (busy op refused (record { key = key; work = work }) is))
-
--- a setup of an inactive handle
-
-pub set_up_is : {W : Type 0} (store : Store) (operations : Operations) (service : Service) (caller handle place : ℕ) (cell : Cell) (refused : Option Status) (key : Option KeyCreation) (embed : W → Work) (work : W) (found : Bool) →
-    StandsFor store operations service → IsAt operations caller handle place cell → found ≡ true → ((o : HandleOperation) → IsOperation cell o → found ≡ is_inactive o) →
+set_up_is : {W : Type 0} (store : Store) (operations : Operations) (service : Service) (caller handle place : ℕ) (cell : Cell) (refused : Option Status) (key : Option model.KeyCreation) (embed : W → Work) (work : W) →
+    StandsFor store operations service → IsAt operations caller handle place cell → IsFree cell →
     (set_up_with service caller handle refused key (embed work) ≡ applied service caller handle (held_after key embed (set_up Inactive refused work))) × AreInactive cell
-set_up_is store operations service caller handle place cell refused key embed work found h at free tells =
-    let op : HandleOperation = operation_of service caller handle in
+set_up_is store operations service caller handle place cell refused key embed work h at free =
     let stands = cell_stands store operations service caller handle place cell h at in
-    let all = all_inactive cell op stands (sym (tells op stands) ∙ free) in (
-      ap (λ (o : HandleOperation). applied service caller handle (set_up o refused (record { key = key; work = embed work }))) all.0
+    let is = free (operation_of service caller handle) stands in (
+      ap (λ (o : HandleOperation). applied service caller handle (set_up o refused (record { key = key; work = embed work }))) is
           ∙ ap (applied service caller handle) (held_set_up key embed refused work),
-      all.1,
+      all_inactive cell (operation_of service caller handle) stands is,
     )
 
-pub set_up_stands : {W : Type 0} (store after : Store) (operations next : Operations) (service : Service) (caller handle place : ℕ) (cell new : Cell) (refused : Option Status) (key : Option KeyCreation) (embed : W → Work)
-    (work : W) (found : Bool) → StandsFor store operations service → IsAt operations caller handle place cell → next.cells.items ≡ set operations.cells.items place new → after ≡ counted store → found ≡ true →
-    ((o : HandleOperation) → IsOperation cell o → found ≡ is_inactive o) → (AreInactive cell → IsOperation new (held_with key embed (set_up Inactive refused work).operation)) →
-    StandsFor after next (set_up_with service caller handle refused key (embed work)).service
-set_up_stands store after operations next service caller handle place cell new refused key embed work found h at cells counts free tells put =
-    let is = set_up_is store operations service caller handle place cell refused key embed work found h at free tells in
+pub set_up_stands : {W : Type 0} (store after : Store) (operations next : Operations) (service : Service) (caller handle place : ℕ) (cell new : Cell) (refused : Option Status) (key : Option model.KeyCreation) (embed : W → Work)
+    (work : W) → StandsFor store operations service → IsAt operations caller handle place cell → next.cells.items ≡ set operations.cells.items place new → after ≡ counted store → IsFree cell →
+    (AreInactive cell → IsOperation new (held_with key embed (set_up Inactive refused work).operation)) → StandsFor after next (set_up_with service caller handle refused key (embed work)).service
+set_up_stands store after operations next service caller handle place cell new refused key embed work h at cells counts free put =
+    let is = set_up_is store operations service caller handle place cell refused key embed work h at free in
     applied_stands store after operations next service caller handle place cell new _ (held_after key embed (set_up Inactive refused work)) h at cells is.0 (put is.1)
     (counts ∙ ap (drawn_by (counted store) caller) (sym (set_up-drawn Inactive refused work)))
 
-pub set_up_reply : {W : Type 0} (store : Store) (operations : Operations) (service : Service) (caller handle place : ℕ) (cell : Cell) (refused : Option Status) (key : Option KeyCreation) (embed : W → Work) (work : W) (found : Bool)
-    (P : Reply → Type 0) → StandsFor store operations service → IsAt operations caller handle place cell → found ≡ true → ((o : HandleOperation) → IsOperation cell o → found ≡ is_inactive o) →
-    (AreInactive cell → P (set_up Inactive refused work).reply) → P (set_up_with service caller handle refused key (embed work)).reply
-set_up_reply store operations service caller handle place cell refused key embed work found P h at free tells code =
-    let is = set_up_is store operations service caller handle place cell refused key embed work found h at free tells in
+pub set_up_reply : {W : Type 0} (store : Store) (operations : Operations) (service : Service) (caller handle place : ℕ) (cell : Cell) (refused : Option Status) (key : Option model.KeyCreation) (embed : W → Work) (work : W)
+    (P : Reply → Type 0) → StandsFor store operations service → IsAt operations caller handle place cell → IsFree cell → (AreInactive cell → P (set_up Inactive refused work).reply) →
+    P (set_up_with service caller handle refused key (embed work)).reply
+set_up_reply store operations service caller handle place cell refused key embed work P h at free code =
+    let is = set_up_is store operations service caller handle place cell refused key embed work h at free in
     subst P (ap (λ (s : Served). s.reply) (sym is.0)) (code is.1)
 
--- setups with a key, which the code looked for after it counted the call
+-- SETUPS WITH A KEY, which the code looked for after it counted the call
 
 pub same_found : (store after : Store) (service : Service) (id : ℕ) → store ≡ service.store → after ≡ counted store → finite.get after.keys id ≡ finite.get service.store.keys id
 same_found store after service id is counts = ap (λ s. finite.get s.keys id) (counts ∙ ap counted is)
 
-refused_is : (operation : HandleOperation) (refused : Option Status) (held : Held) (status : Status) → operation ≡ Inactive → refused ≡ Some status → set_up operation refused held ≡ stays operation status
-refused_is operation refused held status e r = (λ i. set_up (e i) (r i) held) ∙ ap (λ o. stays o status) (sym e)
+refuses_there : (store after : Store) (operations : Operations) (service : Service) (cell : Cell) (class : Class) (usage alg id : ℕ) (status : Status) → StandsFor store operations service → after ≡ counted store →
+    Refuses cell (first_row (use_rows class usage alg (finite.get after.keys id))) status → Refuses cell (first_row (use_rows class usage alg (finite.get service.store.keys id))) status
+refuses_there store after operations service cell class usage alg id status h counts refuses =
+    subst (λ found. Refuses cell (first_row (use_rows class usage alg found)) status) (same_found store after service id h.store_is counts) refuses
 
-no_key : (store after : Store) (operations : Operations) (service : Service) (caller handle place : ℕ) (cell : Cell) (class : Class) (usage alg id : ℕ) (work : List ℕ → Work) (found : Bool) (status : Status) →
-    StandsFor store operations service → IsAt operations caller handle place cell → after ≡ counted store → found ≡ true → ((o : HandleOperation) → IsOperation cell o → found ≡ is_inactive o) →
-    first_row (use_rows class usage alg (finite.get after.keys id)) ≡ Some status →
-    set_up_keyed service caller handle class usage alg id work ≡ applied service caller handle (stays (operation_of service caller handle) status)
-no_key store after operations service caller handle place cell class usage alg id work found status h at counts free tells refused =
-    let op : HandleOperation = operation_of service caller handle in
-    let stands = cell_stands store operations service caller handle place cell h at in
-    let all = all_inactive cell op stands (sym (tells op stands) ∙ free) in
-    ap (applied service caller handle)
-    (refused_is op _ _ status all.0 (ap (λ o. first_row (use_rows class usage alg o)) (sym (same_found store after service id h.store_is counts)) ∙ refused))
+pub not_keyed_stands : (store after : Store) (operations next : Operations) (service : Service) (caller handle place : ℕ) (cell new : Cell) (class : Class) (usage alg id : ℕ) (work : List ℕ → Work) (status : Status) →
+    StandsFor store operations service → IsAt operations caller handle place cell → next.cells.items ≡ set operations.cells.items place new → after ≡ counted store → new ≡ cell →
+    Refuses cell (first_row (use_rows class usage alg (finite.get after.keys id))) status → StandsFor after next (set_up_keyed service caller handle class usage alg id work).service
+not_keyed_stands store after operations next service caller handle place cell new class usage alg id work status h at cells counts kept refuses =
+    refused_stands store after operations next service caller handle place cell new _ _ _ status h at cells counts kept
+    (refuses_there store after operations service cell class usage alg id status h counts refuses)
 
-pub refused_stands : (store after : Store) (operations next : Operations) (service : Service) (caller handle place : ℕ) (cell : Cell) (class : Class) (usage alg id : ℕ) (work : List ℕ → Work) (found : Bool) (status : Status) →
-    StandsFor store operations service → IsAt operations caller handle place cell → next.cells.items ≡ set operations.cells.items place cell → after ≡ counted store → found ≡ true →
-    ((o : HandleOperation) → IsOperation cell o → found ≡ is_inactive o) → first_row (use_rows class usage alg (finite.get after.keys id)) ≡ Some status →
-    StandsFor after next (set_up_keyed service caller handle class usage alg id work).service
-refused_stands store after operations next service caller handle place cell class usage alg id work found status h at cells counts free tells refused =
-    kept store after operations next service caller handle place cell _ status h at cells counts
-    (no_key store after operations service caller handle place cell class usage alg id work found status h at counts free tells refused)
-
-pub refused_reply : (store after : Store) (operations : Operations) (service : Service) (caller handle place : ℕ) (cell : Cell) (class : Class) (usage alg id : ℕ) (work : List ℕ → Work) (found : Bool) (status : Status) →
-    StandsFor store operations service → IsAt operations caller handle place cell → after ≡ counted store → found ≡ true → ((o : HandleOperation) → IsOperation cell o → found ≡ is_inactive o) →
-    first_row (use_rows class usage alg (finite.get after.keys id)) ≡ Some status → refusal status ≡ (set_up_keyed service caller handle class usage alg id work).reply
-refused_reply store after operations service caller handle place cell class usage alg id work found status h at counts free tells refused =
-    ap (λ (s : Served). s.reply) (sym (no_key store after operations service caller handle place cell class usage alg id work found status h at counts free tells refused))
+pub not_keyed_reply : (store after : Store) (operations : Operations) (service : Service) (caller handle place : ℕ) (cell : Cell) (class : Class) (usage alg id : ℕ) (work : List ℕ → Work) (status : Status) →
+    StandsFor store operations service → IsAt operations caller handle place cell → after ≡ counted store → Refuses cell (first_row (use_rows class usage alg (finite.get after.keys id))) status →
+    refusal status ≡ (set_up_keyed service caller handle class usage alg id work).reply
+not_keyed_reply store after operations service caller handle place cell class usage alg id work status h at counts refuses =
+    refused_reply store operations service caller handle place cell _ _ _ status h at (refuses_there store after operations service cell class usage alg id status h counts refuses)
 
 -- the key may be used so
 keyed_is : (store after : Store) (operations : Operations) (service : Service) (caller handle : ℕ) (class : Class) (usage alg id : ℕ) (work : List ℕ → Work) (bytes : List ℕ) (number : ℕ) →
@@ -139,19 +135,24 @@ keyed_is store after operations service caller handle class usage alg id work by
     let there = sym look.key.there ∙ ap bytes_of same in
     λ i. set_up_with service caller handle (rows i) (key i) (work (there i))
 
-pub keyed_stands : {W : Type 0} (store after : Store) (operations next : Operations) (service : Service) (caller handle place : ℕ) (cell new : Cell) (class : Class) (usage alg id : ℕ) (embed : W → Work) (work : List ℕ → W)
-    (bytes : List ℕ) (number : ℕ) (found : Bool) → StandsFor store operations service → IsAt operations caller handle place cell → next.cells.items ≡ set operations.cells.items place new → after ≡ counted store →
-    found ≡ true → ((o : HandleOperation) → IsOperation cell o → found ≡ is_inactive o) → IsLookedUp class usage alg id (finite.get after.keys id) bytes number →
-    (AreInactive cell → IsOperation new (Active (record { key = Some (record { id = id; number = number }); work = embed (work bytes) }))) →
-    StandsFor after next (set_up_keyed service caller handle class usage alg id (λ key. embed (work key))).service
-keyed_stands store after operations next service caller handle place cell new class usage alg id embed work bytes number found h at cells counts free tells look put =
-    subst (λ (s : Served). StandsFor after next s.service) (keyed_is store after operations service caller handle class usage alg id (λ key. embed (work key)) bytes number h counts look)
-    (set_up_stands store after operations next service caller handle place cell new None (Some (record { id = id; number = number })) embed (work bytes) found h at cells counts free tells put)
+still_inactive : (before after : Cell) (key : Option KeyCreation) → after ≡ record before { key = key } → AreInactive before → AreInactive after
+still_inactive before after key is all = subst AreInactive (sym is) (record { hash = all.hash; mac = all.mac; cipher = all.cipher; aead = all.aead; derivation = all.derivation })
 
-pub keyed_reply : {W : Type 0} (store after : Store) (operations : Operations) (service : Service) (caller handle place : ℕ) (cell : Cell) (class : Class) (usage alg id : ℕ) (embed : W → Work) (work : List ℕ → W)
-    (bytes : List ℕ) (number : ℕ) (found : Bool) (P : Reply → Type 0) → StandsFor store operations service → IsAt operations caller handle place cell → after ≡ counted store → found ≡ true →
-    ((o : HandleOperation) → IsOperation cell o → found ≡ is_inactive o) → IsLookedUp class usage alg id (finite.get after.keys id) bytes number →
-    (AreInactive cell → P done) → P (set_up_keyed service caller handle class usage alg id (λ key. embed (work key))).reply
-keyed_reply store after operations service caller handle place cell class usage alg id embed work bytes number found P h at counts free tells look code =
-    subst (λ (s : Served). P s.reply) (keyed_is store after operations service caller handle class usage alg id (λ key. embed (work key)) bytes number h counts look)
-    (set_up_reply store operations service caller handle place cell None (Some (record { id = id; number = number })) embed (work bytes) found P h at free tells code)
+pub keyed_stands : {W : Type 0} (store after : Store) (operations next : Operations) (service : Service) (caller handle place : ℕ) (cell begun new : Cell) (class : Class) (usage alg : ℕ) (id : KeyId) (embed : W → Work)
+    (work : List ℕ → W) (bytes : List ℕ) → StandsFor store operations service → IsAt operations caller handle place cell → next.cells.items ≡ set operations.cells.items place new → after ≡ counted store →
+    (b : Begins class usage alg id (finite.get after.keys id.0) bytes cell begun) → (AreInactive begun → IsOperation new (held_with (key_in begun.key) embed (Active (work bytes)))) →
+    StandsFor after next (set_up_keyed service caller handle class usage alg id.0 (λ key. embed (work key))).service
+keyed_stands store after operations next service caller handle place cell begun new class usage alg id embed work bytes h at cells counts b put =
+    let key : Option KeyCreation = Some (record { id = id; number = b.number }) in
+    subst (λ (s : Served). StandsFor after next s.service) (keyed_is store after operations service caller handle class usage alg id.0 (λ key. embed (work key)) bytes b.number h counts b.key)
+    (set_up_stands store after operations next service caller handle place cell new None (key_in key) embed (work bytes) h at cells counts b.free
+    (λ all. subst (λ k. IsOperation new (held_with (key_in k) embed (Active (work bytes)))) (ap (λ (c : Cell). c.key) b.cell) (put (still_inactive cell begun key b.cell all))))
+
+pub keyed_reply : {W : Type 0} (store after : Store) (operations : Operations) (service : Service) (caller handle place : ℕ) (cell begun : Cell) (class : Class) (usage alg : ℕ) (id : KeyId) (embed : W → Work) (work : List ℕ → W)
+    (bytes : List ℕ) (P : Reply → Type 0) → StandsFor store operations service → IsAt operations caller handle place cell → after ≡ counted store →
+    (b : Begins class usage alg id (finite.get after.keys id.0) bytes cell begun) → (AreInactive begun → P done) →
+    P (set_up_keyed service caller handle class usage alg id.0 (λ key. embed (work key))).reply
+keyed_reply store after operations service caller handle place cell begun class usage alg id embed work bytes P h at counts b code =
+    let key : Option KeyCreation = Some (record { id = id; number = b.number }) in
+    subst (λ (s : Served). P s.reply) (keyed_is store after operations service caller handle class usage alg id.0 (λ key. embed (work key)) bytes b.number h counts b.key)
+    (set_up_reply store operations service caller handle place cell None (key_in key) embed (work bytes) P h at b.free (λ all. code (still_inactive cell begun key b.cell all)))

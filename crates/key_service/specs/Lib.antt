@@ -2,3 +2,4 @@ pub mod Cells
 pub mod Derivations
 pub mod Places
 pub mod Services
+pub mod Setups

@@ -10,7 +10,6 @@ ghost use Rattle.store_model.specs.HandleCalls.{AeadSetup, OnAead};
 ghost use Rattle.store_model.specs.Requests.{OnHandle, serve};
 ghost use Rattle.key_service.specs.Services.{StandsFor};
 
-use crate::cells::KeyCreation;
 use crate::op::Op;
 use crate::operations::{Operations, place};
 use alg_encoding::{Alg, Class};
@@ -38,18 +37,8 @@ impl Operations {
     {
         store.count();
         let cell = &mut self.cells[place(caller, op)];
-        if !cell.is_inactive() {
-            return Err(Status::BadState);
-        }
-        let found = match store.look(Class::Aead, ENCRYPT, alg, key) {
-            Ok(found) => found,
-            Err(status) => return Err(status),
-        };
-        cell.key = Some(KeyCreation {
-            id: key,
-            number: found.number,
-        });
-        cell.aead.aead_encrypt_setup(found.bytes, alg)
+        let bytes = cell.begin(store, Class::Aead, ENCRYPT, alg, key)?;
+        cell.aead.aead_encrypt_setup(bytes, alg)
     }
 
     /// Sets an inactive operation up to decrypt a text under a key.
@@ -71,18 +60,8 @@ impl Operations {
     {
         store.count();
         let cell = &mut self.cells[place(caller, op)];
-        if !cell.is_inactive() {
-            return Err(Status::BadState);
-        }
-        let found = match store.look(Class::Aead, DECRYPT, alg, key) {
-            Ok(found) => found,
-            Err(status) => return Err(status),
-        };
-        cell.key = Some(KeyCreation {
-            id: key,
-            number: found.number,
-        });
-        cell.aead.aead_decrypt_setup(found.bytes, alg)
+        let bytes = cell.begin(store, Class::Aead, DECRYPT, alg, key)?;
+        cell.aead.aead_decrypt_setup(bytes, alg)
     }
 
     /// Takes the caller's next random bytes as the nonce, writes it to the front of a buffer that has room for it, and

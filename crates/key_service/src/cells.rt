@@ -1,16 +1,21 @@
 // What stands at one handle.
-ghost use Rattle.std.specs.Prelude.{◌≡◌, IfOk};
+ghost use Rattle.std.specs.Prelude.{◌≡◌, Option, IfOk, IfErr};
+ghost use Rattle.std.specs.FinMap as finite;
+ghost use Rattle.psa_status.specs.declared.Status.{Status};
+ghost use Rattle.psa_status.specs.Rows.{first_row};
 ghost use Rattle.store_model.specs.Operations.{Inactive, is_inactive};
 ghost use Rattle.store_model.specs.Handles.{HandleOperation, is_alive};
+ghost use Rattle.store_model.specs.Rules.{use_rows};
 ghost use Rattle.key_service.specs.Cells.{IsOperation, key_in};
+ghost use Rattle.key_service.specs.Setups.{Begins, IsFree, Refuses};
 
 use aead_states::AeadState;
-use alg_encoding::Alg;
+use alg_encoding::{Alg, Class};
 use cipher_states::CipherState;
 use derivation_states::DerivationState;
-use key_attributes::KeyId;
+use key_attributes::{KeyId, Usage};
 use mac_states::{HashOpState, MacState};
-use psa_status::Memory;
+use psa_status::{Memory, Status};
 use std::alloc::Global;
 use store_core::Store;
 
@@ -52,8 +57,8 @@ impl Cell {
         })
     }
 
-    /// Whether the operation is inactive.
-    pub fn is_inactive(&self) -> bool
+    // Whether the operation is inactive.
+    fn is_inactive(&self) -> bool
         ensures { (operation : HandleOperation) → IsOperation self.now operation → result ≡ is_inactive operation }
     {
         self.hash.is_inactive()
@@ -61,6 +66,43 @@ impl Cell {
             && self.cipher.is_inactive()
             && self.aead.is_inactive()
             && self.derivation.is_inactive()
+    }
+
+    /// `BadState` exactly where the operation isn't inactive, as a setup asks.
+    pub fn check_inactive(&self) -> Result<(), Status>
+        ensures free { IfOk result (λ _. IsFree self.now) }
+        ensures refused { IfErr result (λ status. (refused : Option Status) → Refuses self.now refused status) }
+    {
+        if self.is_inactive() {
+            Ok(())
+        } else {
+            Err(Status::BadState)
+        }
+    }
+
+    /// Begins a setup with a key, and answers its bytes: the operation then has the key. `BadState` where the operation
+    /// isn't inactive, and else the first refusal of the key for this use.
+    pub fn begin<'a>(
+        &mut self,
+        store: &'a Store,
+        class: Class,
+        usage: Usage,
+        alg: Alg,
+        key: KeyId,
+    ) -> Result<&'a [u8], Status>
+        ensures begun { IfOk result (λ bytes.
+            Begins class usage.0 alg.0 key (finite.get store.now.keys key.0) bytes.now self.old self.new) }
+        ensures refused { IfErr result (λ status.
+            Refuses self.old (first_row (use_rows class usage.0 alg.0 (finite.get store.now.keys key.0))) status) }
+        ensures kept { IfErr result (λ _. self.new ≡ self.old) }
+    {
+        self.check_inactive()?;
+        let found = store.look(class, usage, alg, key)?;
+        self.key = Some(KeyCreation {
+            id: key,
+            number: found.number,
+        });
+        Ok(found.bytes)
     }
 
     /// Whether the key that the operation was given, if any, is still there.

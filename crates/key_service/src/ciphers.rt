@@ -10,7 +10,6 @@ ghost use Rattle.store_model.specs.HandleCalls.{CipherSetup, OnCipher};
 ghost use Rattle.store_model.specs.Requests.{OnHandle, serve};
 ghost use Rattle.key_service.specs.Services.{StandsFor};
 
-use crate::cells::KeyCreation;
 use crate::op::Op;
 use crate::operations::{Operations, place};
 use alg_encoding::{Alg, Class};
@@ -38,18 +37,8 @@ impl Operations {
     {
         store.count();
         let cell = &mut self.cells[place(caller, op)];
-        if !cell.is_inactive() {
-            return Err(Status::BadState);
-        }
-        let found = match store.look(Class::Cipher, ENCRYPT, alg, key) {
-            Ok(found) => found,
-            Err(status) => return Err(status),
-        };
-        cell.key = Some(KeyCreation {
-            id: key,
-            number: found.number,
-        });
-        cell.cipher.cipher_encrypt_setup(found.bytes, alg)
+        let bytes = cell.begin(store, Class::Cipher, ENCRYPT, alg, key)?;
+        cell.cipher.cipher_encrypt_setup(bytes, alg)
     }
 
     /// Sets an inactive operation up to decrypt a text under a key.
@@ -71,18 +60,8 @@ impl Operations {
     {
         store.count();
         let cell = &mut self.cells[place(caller, op)];
-        if !cell.is_inactive() {
-            return Err(Status::BadState);
-        }
-        let found = match store.look(Class::Cipher, DECRYPT, alg, key) {
-            Ok(found) => found,
-            Err(status) => return Err(status),
-        };
-        cell.key = Some(KeyCreation {
-            id: key,
-            number: found.number,
-        });
-        cell.cipher.cipher_decrypt_setup(found.bytes, alg)
+        let bytes = cell.begin(store, Class::Cipher, DECRYPT, alg, key)?;
+        cell.cipher.cipher_decrypt_setup(bytes, alg)
     }
 
     /// Takes the caller's next random bytes as the initialisation vector, writes it to the front of a buffer that has room

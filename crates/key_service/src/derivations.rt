@@ -59,9 +59,7 @@ impl Operations {
     {
         store.count();
         let cell = &mut self.cells[place(caller, op)];
-        if !cell.is_inactive() {
-            return Err(Status::BadState);
-        }
+        cell.check_inactive()?;
         cell.alg = alg;
         cell.key = None;
         cell.derivation.key_derivation_setup(alg)

@@ -34,9 +34,7 @@ impl Operations {
     {
         store.count();
         let cell = &mut self.cells[place(caller, op)];
-        if !cell.is_inactive() {
-            return Err(Status::BadState);
-        }
+        cell.check_inactive()?;
         cell.hash.hash_setup(alg)
     }
 

@@ -9,7 +9,6 @@ ghost use Rattle.store_model.specs.HandleCalls.{MacSetup, OnMac};
 ghost use Rattle.store_model.specs.Requests.{OnHandle, serve};
 ghost use Rattle.key_service.specs.Services.{StandsFor};
 
-use crate::cells::KeyCreation;
 use crate::op::Op;
 use crate::operations::{Operations, place};
 use alg_encoding::{Alg, Class};
@@ -37,18 +36,8 @@ impl Operations {
     {
         store.count();
         let cell = &mut self.cells[place(caller, op)];
-        if !cell.is_inactive() {
-            return Err(Status::BadState);
-        }
-        let found = match store.look(Class::Mac, SIGN_MESSAGE, alg, key) {
-            Ok(found) => found,
-            Err(status) => return Err(status),
-        };
-        cell.key = Some(KeyCreation {
-            id: key,
-            number: found.number,
-        });
-        cell.mac.mac_sign_setup(found.bytes, alg)
+        let bytes = cell.begin(store, Class::Mac, SIGN_MESSAGE, alg, key)?;
+        cell.mac.mac_sign_setup(bytes, alg)
     }
 
     /// Sets an inactive operation up to verify the MAC of a message under a key.
@@ -70,18 +59,8 @@ impl Operations {
     {
         store.count();
         let cell = &mut self.cells[place(caller, op)];
-        if !cell.is_inactive() {
-            return Err(Status::BadState);
-        }
-        let found = match store.look(Class::Mac, VERIFY_MESSAGE, alg, key) {
-            Ok(found) => found,
-            Err(status) => return Err(status),
-        };
-        cell.key = Some(KeyCreation {
-            id: key,
-            number: found.number,
-        });
-        cell.mac.mac_verify_setup(found.bytes, alg)
+        let bytes = cell.begin(store, Class::Mac, VERIFY_MESSAGE, alg, key)?;
+        cell.mac.mac_verify_setup(bytes, alg)
     }
 
     /// Adds a piece to the message.

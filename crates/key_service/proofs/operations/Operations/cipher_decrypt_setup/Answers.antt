@@ -1,46 +1,30 @@
 use Rattle.std.proofs.Common.{◌≡◌, false, refl}
 use Rattle.alg_encoding.specs.declared.table.Class.TheVariants.{Cipher}
 use Rattle.store_model.specs.Answers.{plain_reply}
-use Rattle.store_model.specs.Operations.{Inactive}
+use Rattle.store_model.specs.Operations.{Inactive, Active}
 use Rattle.store_model.specs.Handles.{Ciphering}
 use Rattle.store_model.specs.CipherOperations.{cipher_work}
 use Rattle.key_service.proofs.Fresh.{put_cipher}
-use Rattle.key_service.proofs.Setups.{busy_stands, busy_reply, refused_stands, refused_reply, keyed_stands, keyed_reply}
+use Rattle.key_service.proofs.Setups.{not_keyed_stands, keyed_stands, keyed_reply}
 use Rattle.key_service.proofs.operations.Operations.cipher_decrypt_setup.Goals as goal
 
-pub returns-then-not-is_inactive-clause-stands : goal.returns-then-not-is_inactive-clause-stands
-returns-then-not-is_inactive-clause-stands c = λ service h.
-    busy_stands c.args.store.now c.count.new.self c.args.self.now _ service c.args.caller c.args.op c.place.result c.index_mut-cell.result.now _ _ _ c.is_inactive.result h
-    (c.place.ensures.value, c.index_mut-cell.ensures.value) refl c.count.ensures c.if-not-is_inactive.true c.is_inactive.ensures
-
-pub returns-then-not-is_inactive-clause-reply : goal.returns-then-not-is_inactive-clause-reply
-returns-then-not-is_inactive-clause-reply c = λ service h.
-    busy_reply c.args.store.now c.args.self.now service c.args.caller c.args.op c.place.result c.index_mut-cell.result.now _ _ _ c.is_inactive.result h
-    (c.place.ensures.value, c.index_mut-cell.ensures.value) c.if-not-is_inactive.true c.is_inactive.ensures
-
-pub returns-in-Err-clause-stands : goal.returns-in-Err-clause-stands
-returns-in-Err-clause-stands c = λ service h.
-    refused_stands c.args.store.now c.count.new.self c.args.self.now _ service c.args.caller c.args.op c.place.result c.index_mut-cell.result.now Cipher 0x200 c.args.alg.0 c.args.key.0 (λ key. Ciphering (cipher_work false c.args.alg.0 key)) c.is_inactive.result c.in-Err.status h
-    (c.place.ensures.value, c.index_mut-cell.ensures.value) refl c.count.ensures c.if-not-is_inactive.false c.is_inactive.ensures c.in-Err.ensures
-
-pub returns-in-Err-clause-reply : goal.returns-in-Err-clause-reply
-returns-in-Err-clause-reply c = λ service h.
-    refused_reply c.args.store.now c.count.new.self c.args.self.now service c.args.caller c.args.op c.place.result c.index_mut-cell.result.now Cipher 0x200 c.args.alg.0 c.args.key.0 (λ key. Ciphering (cipher_work false c.args.alg.0 key)) c.is_inactive.result c.in-Err.status h
-    (c.place.ensures.value, c.index_mut-cell.ensures.value) c.count.ensures c.if-not-is_inactive.false c.is_inactive.ensures c.in-Err.ensures
+pub returns-in_err-bytes-clause-stands : goal.returns-in_err-bytes-clause-stands
+returns-in_err-bytes-clause-stands c = λ service h.
+    not_keyed_stands c.args.store.now c.count.new.self c.args.self.now _ service c.args.caller c.args.op c.place.result c.index_mut-cell.result.now c.begin.new.self Cipher 0x200 c.args.alg.0 c.args.key.0 (λ key. Ciphering (cipher_work false c.args.alg.0 key)) c.in_err-bytes.field-0.0 h
+    (c.place.ensures.value, c.index_mut-cell.ensures.value) refl c.count.ensures c.in_err-bytes.ensures.kept c.in_err-bytes.ensures.refused
 
 pub cipher_decrypt_setup-requires : goal.cipher_decrypt_setup-requires
 cipher_decrypt_setup-requires c =
-    let look = c.in-Ok.ensures in
-    look.cipher refl
+    let begun = c.in_ok-bytes.ensures in
+    begun.begun.key.cipher refl
 
 pub returns-clause-stands : goal.returns-clause-stands
 returns-clause-stands c = λ service h.
-    keyed_stands c.args.store.now c.count.new.self c.args.self.now _ service c.args.caller c.args.op c.place.result c.index_mut-cell.result.now _ Cipher 0x200 c.args.alg.0 c.args.key.0 Ciphering (cipher_work false c.args.alg.0) _ _ c.is_inactive.result h
-    (c.place.ensures.value, c.index_mut-cell.ensures.value) refl c.count.ensures c.if-not-is_inactive.false c.is_inactive.ensures c.in-Ok.ensures
-    (λ all. put_cipher c.index_mut-cell.result.now c.cipher_decrypt_setup.new.self _ _ all (c.cipher_decrypt_setup.ensures.state Inactive all.cipher))
+    keyed_stands c.args.store.now c.count.new.self c.args.self.now _ service c.args.caller c.args.op c.place.result c.index_mut-cell.result.now c.begin.new.self _ Cipher 0x200 c.args.alg.0 c.args.key Ciphering (cipher_work false c.args.alg.0) _ h
+    (c.place.ensures.value, c.index_mut-cell.ensures.value) refl c.count.ensures c.in_ok-bytes.ensures.begun
+    (λ all. put_cipher c.begin.new.self c.cipher_decrypt_setup.new.self c.begin.new.self.key (Active (cipher_work false c.args.alg.0 c.in_ok-bytes.bytes.now)) all (c.cipher_decrypt_setup.ensures.state Inactive all.cipher))
 
 pub returns-clause-reply : goal.returns-clause-reply
 returns-clause-reply c = λ service h.
-    keyed_reply c.args.store.now c.count.new.self c.args.self.now service c.args.caller c.args.op c.place.result c.index_mut-cell.result.now Cipher 0x200 c.args.alg.0 c.args.key.0 Ciphering (cipher_work false c.args.alg.0) _ _ c.is_inactive.result (λ r. plain_reply c.cipher_decrypt_setup.result ≡ r) h
-    (c.place.ensures.value, c.index_mut-cell.ensures.value) c.count.ensures c.if-not-is_inactive.false c.is_inactive.ensures c.in-Ok.ensures
-    (λ all. c.cipher_decrypt_setup.ensures.reply Inactive all.cipher)
+    keyed_reply c.args.store.now c.count.new.self c.args.self.now service c.args.caller c.args.op c.place.result c.index_mut-cell.result.now c.begin.new.self Cipher 0x200 c.args.alg.0 c.args.key Ciphering (cipher_work false c.args.alg.0) _ (λ r. plain_reply c.cipher_decrypt_setup.result ≡ r) h
+    (c.place.ensures.value, c.index_mut-cell.ensures.value) c.count.ensures c.in_ok-bytes.ensures.begun (λ all. c.cipher_decrypt_setup.ensures.reply Inactive all.cipher)
