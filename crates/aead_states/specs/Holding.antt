@@ -4,7 +4,7 @@ use Rattle.store_model.specs.Aeads.{is_ccm}
 use Rattle.store_model.specs.Operations.{Operation}
 use Rattle.store_model.specs.CipherOperations.{bytes_or_empty}
 use Rattle.store_model.specs.AeadOperations.{AeadWork, declared_payload}
-use Rattle.operation_phase.specs.Phases.{StandsFor}
+use Rattle.operation_phase.specs.States.{IsOperation}
 use Rattle.aead_states.specs.declared.running.RunningAead.{RunningAead}
 use Rattle.aead_states.specs.declared.state.AeadState.{AeadState}
 use Rattle.aead_states.specs.DeclaredLengths.{declared_ad, lengths_of}
@@ -16,7 +16,7 @@ pub record IsClearRunning (s : RunningAead) : Type 0 where
   pub parts : IsClear s.parts
 
 abbrev pub IsClearAead : AeadState → Type 0
-IsClearAead s = IsClearRunning s.work
+IsClearAead s = IsClearRunning s.state.work
 
 -- before the nonce is there nothing was given
 pub record IsUnbegun (w : AeadWork) : Type 0 where
@@ -51,4 +51,4 @@ pub record HoldsAead (s : RunningAead) (w : AeadWork) : Type 0 where
 
 -- the state stands for this operation
 abbrev pub IsAeadOperation : AeadState → Operation AeadWork → Type 0
-IsAeadOperation s op = StandsFor s.phase (IsClearAead s) (HoldsAead s.work) op
+IsAeadOperation s op = IsOperation IsClearRunning HoldsAead s.state op

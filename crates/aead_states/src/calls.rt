@@ -27,11 +27,9 @@ impl AeadState {
         ensures buffer { (op : Operation AeadWork) → IsAeadOperation self.old op →
             out.new ≡ buffer_after out.old (on_active op (λ w. aead_step random.now w (AeadGenerateNonce (length out.old)))).reply }
     {
-        self.phase.check_active()?;
-        let result = self.work.generate_nonce(random, out);
-        if result.is_err() {
-            self.end(Phase::InError);
-        }
+        self.state.phase.check_active()?;
+        let result = self.state.work.generate_nonce(random, out);
+        self.state.settle(Phase::after_step(result.is_ok()));
         result
     }
 
@@ -43,11 +41,9 @@ impl AeadState {
         ensures reply { (op : Operation AeadWork) (random : List ℕ) → IsAeadOperation self.old op →
             plain_reply result ≡ (on_active op (λ w. aead_step random w (AeadSetNonce value.now))).reply }
     {
-        self.phase.check_active()?;
-        let result = self.work.set_nonce(value);
-        if result.is_err() {
-            self.end(Phase::InError);
-        }
+        self.state.phase.check_active()?;
+        let result = self.state.work.set_nonce(value);
+        self.state.settle(Phase::after_step(result.is_ok()));
         result
     }
 
@@ -59,11 +55,9 @@ impl AeadState {
         ensures reply { (op : Operation AeadWork) (random : List ℕ) → IsAeadOperation self.old op →
             plain_reply result ≡ (on_active op (λ w. aead_step random w (AeadSetLengths ad payload))).reply }
     {
-        self.phase.check_active()?;
-        let result = self.work.set_lengths(ad, payload);
-        if result.is_err() {
-            self.end(Phase::InError);
-        }
+        self.state.phase.check_active()?;
+        let result = self.state.work.set_lengths(ad, payload);
+        self.state.settle(Phase::after_step(result.is_ok()));
         result
     }
 
@@ -75,11 +69,9 @@ impl AeadState {
         ensures reply { (op : Operation AeadWork) (random : List ℕ) → IsAeadOperation self.old op →
             plain_reply result ≡ (on_active op (λ w. aead_step random w (AeadUpdateAd input.now))).reply }
     {
-        self.phase.check_active()?;
-        let result = self.work.update_ad(input);
-        if result.is_err() {
-            self.end(Phase::InError);
-        }
+        self.state.phase.check_active()?;
+        let result = self.state.work.update_ad(input);
+        self.state.settle(Phase::after_step(result.is_ok()));
         result
     }
 
@@ -94,11 +86,9 @@ impl AeadState {
         ensures buffer { (op : Operation AeadWork) (random : List ℕ) → IsAeadOperation self.old op →
             out.new ≡ buffer_after out.old (on_active op (λ w. aead_step random w (AeadUpdate input.now (length out.old)))).reply }
     {
-        self.phase.check_active()?;
-        let result = self.work.update(input, out);
-        if result.is_err() {
-            self.end(Phase::InError);
-        }
+        self.state.phase.check_active()?;
+        let result = self.state.work.update(input, out);
+        self.state.settle(Phase::after_step(result.is_ok()));
         result
     }
 
@@ -112,9 +102,9 @@ impl AeadState {
         ensures buffer { (op : Operation AeadWork) (random : List ℕ) → IsAeadOperation self.old op →
             tag.new ≡ buffer_after tag.old (on_active op (λ w. aead_step random w (AeadFinish (length tag.old)))).reply }
     {
-        self.phase.check_active()?;
-        let result = self.work.finish(tag);
-        self.end(Phase::after_finish(result.is_ok()));
+        self.state.phase.check_active()?;
+        let result = self.state.work.finish(tag);
+        self.state.settle(Phase::after_finish(result.is_ok()));
         result
     }
 
@@ -126,9 +116,9 @@ impl AeadState {
         ensures reply { (op : Operation AeadWork) (random : List ℕ) → IsAeadOperation self.old op →
             plain_reply result ≡ (on_active op (λ w. aead_step random w (AeadVerify tag.now))).reply }
     {
-        self.phase.check_active()?;
-        let result = self.work.verify(tag);
-        self.end(Phase::after_finish(result.is_ok()));
+        self.state.phase.check_active()?;
+        let result = self.state.work.verify(tag);
+        self.state.settle(Phase::after_finish(result.is_ok()));
         result
     }
 }

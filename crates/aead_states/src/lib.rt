@@ -16,6 +16,7 @@ mod state;
 #[cfg(test)]
 mod tests;
 mod updates;
+mod work;
 
 pub use state::AeadState;
 

@@ -21,9 +21,9 @@ impl AeadState {
         ensures reply { (op : Operation AeadWork) → IsAeadOperation self.old op →
             plain_reply result ≡ (aead_setup op encrypts alg.0 key.now).reply }
     {
-        self.phase.check_inactive()?;
-        self.work.start(encrypts, key, alg);
-        self.phase = Phase::Active;
+        self.state.phase.check_inactive()?;
+        self.state.work.start(encrypts, key, alg);
+        self.state.phase = Phase::Active;
         Ok(())
     }
 

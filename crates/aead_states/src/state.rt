@@ -6,15 +6,14 @@ ghost use Rattle.store_model.specs.AeadOperations.{AeadWork};
 ghost use Rattle.aead_states.specs.Holding.{IsAeadOperation, IsClearAead};
 
 use crate::running::RunningAead;
-use operation_phase::Phase;
+use operation_phase::OperationState;
 use psa_status::Status;
 
 /// An AEAD in several parts: a setup with a key, the lengths and the nonce, associated data, text, and a finish, which
 /// makes the tag or compares it.
 #[derive(Drop)]
 pub struct AeadState {
-    pub(crate) phase: Phase,
-    pub(crate) work: RunningAead,
+    pub(crate) state: OperationState<RunningAead>,
 }
 
 impl AeadState {
@@ -23,8 +22,7 @@ impl AeadState {
         ensures { IsAeadOperation result Inactive }
     {
         AeadState {
-            phase: Phase::Inactive,
-            work: RunningAead::new(),
+            state: OperationState::new(RunningAead::new()),
         }
     }
 
@@ -32,16 +30,7 @@ impl AeadState {
     pub fn is_inactive(&self) -> bool
         ensures { (op : Operation AeadWork) → IsAeadOperation self.now op → result ≡ is_inactive op }
     {
-        self.phase == Phase::Inactive
-    }
-
-    // Forgets key and text, and leaves the operation in this phase.
-    pub(crate) fn end(&mut self, phase: Phase)
-        ensures phase { self.new.phase ≡ phase }
-        ensures clear { IsClearAead self.new }
-    {
-        self.work.wipe();
-        self.phase = phase;
+        self.state.is_inactive()
     }
 
     /// Forgets everything: the operation is inactive.
@@ -49,7 +38,7 @@ impl AeadState {
         ensures clear { IsClearAead self.new }
         ensures inactive { IsAeadOperation self.new Inactive }
     {
-        self.end(Phase::Inactive);
+        self.state.wipe();
     }
 
     /// The key of the operation is gone, and an active one fails: it is in error, and this is `InvalidHandle`.
@@ -60,12 +49,6 @@ impl AeadState {
         ensures reply { (op : Operation AeadWork) → IsAeadOperation self.old op →
             refusal result ≡ (loses_key op).reply }
     {
-        match self.phase.check_active() {
-            Ok(()) => {
-                self.end(Phase::InError);
-                Status::InvalidHandle
-            }
-            Err(status) => status,
-        }
+        self.state.lose_key()
     }
 }

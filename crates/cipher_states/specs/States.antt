@@ -8,7 +8,7 @@ use Rattle.store_model.specs.Ciphers.{Mode, Ctr, CbcNoPadding, CbcPkcs7, EcbNoPa
 use Rattle.store_model.specs.CipherOperations.{CipherWork, bytes_or_empty, takes_text}
 use Rattle.store_model.specs.Operations.{Operation}
 use Rattle.algorithm_facts.specs.Modes.{model_mode}
-use Rattle.operation_phase.specs.Phases.{StandsFor}
+use Rattle.operation_phase.specs.States.{IsOperation}
 use Rattle.cipher_states.specs.declared.running.RunningCipher.{RunningCipher}
 use Rattle.cipher_states.specs.declared.state.CipherState.{CipherState}
 use Rattle.cipher_states.specs.Modes.{due_bytes, is_stream, keeps_last}
@@ -42,11 +42,11 @@ pub record IsClearRunning (s : RunningCipher) : Type 0 where
   pub blocks : IsClearText s.blocks
 
 abbrev pub IsClearCipher : CipherState → Type 0
-IsClearCipher s = IsClearRunning s.work
+IsClearCipher s = IsClearRunning s.state.work
 
 -- the state stands for this operation
 abbrev pub IsCipherOperation : CipherState → Operation CipherWork → Type 0
-IsCipherOperation s op = StandsFor s.phase (IsClearCipher s) (HoldsCipher s.work) op
+IsCipherOperation s op = IsOperation IsClearRunning HoldsCipher s.state op
 
 -- how many bytes of output so many bytes of input give
 abbrev pub due_now : RunningCipher → ℕ → ℕ

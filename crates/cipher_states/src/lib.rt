@@ -14,6 +14,7 @@ mod state;
 mod tests;
 mod updates;
 mod ways;
+mod work;
 
 /// More text only adds to the output that is due.
 pub fn due_grows()

@@ -11,16 +11,15 @@ ghost use Rattle.cipher_states.specs.Keyed.{is_key};
 
 use crate::running::RunningCipher;
 use alg_encoding::Alg;
-use operation_phase::Phase;
+use operation_phase::{OperationState, Phase};
 use psa_status::Status;
 
 /// A cipher in several parts: a setup with a key, the initialisation vector where the mode has one, any number of
 /// updates, and a finish.
 #[derive(Drop)]
 pub struct CipherState {
-    phase: Phase,
-    work: RunningCipher,
-    ghost keyed: { phase ≡ phases.Active → IsTrue (is_key work.key) },
+    state: OperationState<RunningCipher>,
+    ghost keyed: { state.phase ≡ phases.Active → IsTrue (is_key state.work.key) },
 }
 
 impl CipherState {
@@ -31,8 +30,7 @@ impl CipherState {
         ensures { IsCipherOperation result Inactive }
     {
         CipherState {
-            phase: Phase::Inactive,
-            work: RunningCipher::clear(),
+            state: OperationState::new(RunningCipher::clear()),
         }
     }
 
@@ -40,17 +38,7 @@ impl CipherState {
     pub fn is_inactive(&self) -> bool
         ensures { (op : Operation CipherWork) → IsCipherOperation self.now op → result ≡ is_inactive op }
     {
-        self.phase == Phase::Inactive
-    }
-
-    // Forgets key and text, and leaves the operation in this phase.
-    fn end(&mut self, phase: Phase)
-        requires { phase ≡ phases.Active → ⊥ }
-        ensures phase { self.new.phase ≡ phase }
-        ensures clear { IsClearCipher self.new }
-    {
-        self.work.wipe();
-        self.phase = phase;
+        self.state.is_inactive()
     }
 
     /// Forgets everything: the operation is inactive.
@@ -58,7 +46,7 @@ impl CipherState {
         ensures clear { IsClearCipher self.new }
         ensures inactive { IsCipherOperation self.new Inactive }
     {
-        self.end(Phase::Inactive);
+        self.state.wipe();
     }
 
     /// The key of the operation is gone, and an active one fails: it is in error, and this is `InvalidHandle`.
@@ -69,13 +57,7 @@ impl CipherState {
         ensures reply { (op : Operation CipherWork) → IsCipherOperation self.old op →
             refusal result ≡ (loses_key op).reply }
     {
-        match self.phase.check_active() {
-            Ok(()) => {
-                self.end(Phase::InError);
-                Status::InvalidHandle
-            }
-            Err(status) => status,
-        }
+        self.state.lose_key()
     }
 
     fn setup(&mut self, encrypts: bool, key: &[u8], alg: Alg) -> Result<(), Status>
@@ -85,9 +67,9 @@ impl CipherState {
         ensures reply { (op : Operation CipherWork) → IsCipherOperation self.old op →
             plain_reply result ≡ (cipher_setup op encrypts alg.0 key.now).reply }
     {
-        self.phase.check_inactive()?;
-        self.work.start(encrypts, alg, key);
-        self.phase = Phase::Active;
+        self.state.phase.check_inactive()?;
+        self.state.work.start(encrypts, alg, key);
+        self.state.phase = Phase::Active;
         Ok(())
     }
 
@@ -126,11 +108,9 @@ impl CipherState {
         ensures buffer { (op : Operation CipherWork) → IsCipherOperation self.old op →
             out.new ≡ buffer_after out.old (on_active op (λ w. cipher_step random.now w (CipherGenerateIv (length out.old)))).reply }
     {
-        self.phase.check_active()?;
-        let result = self.work.generate_iv(random, out);
-        if result.is_err() {
-            self.end(Phase::InError);
-        }
+        self.state.phase.check_active()?;
+        let result = self.state.work.generate_iv(random, out);
+        self.state.settle(Phase::after_step(result.is_ok()));
         result
     }
 
@@ -142,11 +122,9 @@ impl CipherState {
         ensures reply { (random : List ℕ) (op : Operation CipherWork) → IsCipherOperation self.old op →
             plain_reply result ≡ (on_active op (λ w. cipher_step random w (CipherSetIv value.now))).reply }
     {
-        self.phase.check_active()?;
-        let result = self.work.set_iv(value);
-        if result.is_err() {
-            self.end(Phase::InError);
-        }
+        self.state.phase.check_active()?;
+        let result = self.state.work.set_iv(value);
+        self.state.settle(Phase::after_step(result.is_ok()));
         result
     }
 
@@ -163,11 +141,9 @@ impl CipherState {
         ensures buffer { (random : List ℕ) (op : Operation CipherWork) → IsCipherOperation self.old op →
             out.new ≡ buffer_after out.old (on_active op (λ w. cipher_step random w (CipherUpdate input.now (length out.old)))).reply }
     {
-        self.phase.check_active()?;
-        let result = self.work.update(input, out);
-        if result.is_err() {
-            self.end(Phase::InError);
-        }
+        self.state.phase.check_active()?;
+        let result = self.state.work.update(input, out);
+        self.state.settle(Phase::after_step(result.is_ok()));
         result
     }
 
@@ -185,9 +161,9 @@ impl CipherState {
         ensures buffer { (random : List ℕ) (op : Operation CipherWork) → IsCipherOperation self.old op →
             out.new ≡ buffer_after out.old (on_active op (λ w. cipher_step random w (CipherFinish (length out.old)))).reply }
     {
-        self.phase.check_active()?;
-        let result = self.work.finish(out);
-        self.end(Phase::after_finish(result.is_ok()));
+        self.state.phase.check_active()?;
+        let result = self.state.work.finish(out);
+        self.state.settle(Phase::after_finish(result.is_ok()));
         result
     }
 }

@@ -186,6 +186,7 @@ fn errors_last_until_a_wipe(rt: HostRuntime) -> Result<(), Fail> {
     );
     out = [9; 16];
     assert_eq!(rt; state.cipher_finish(&mut out), Err(Status::InvalidPadding));
+    assert_eq!(rt; out, [0; 16]);
     assert!(rt; is_in_error(&mut state));
     // the key is gone
     let mut state = started(true, CTR, Some(COUNTER))?;

@@ -2,9 +2,8 @@
 #![tactic(auto)]
 
 ghost use Rattle.std.specs.Prelude.{◌≡◌, ◌≤◌, ◌/◌, min, IfOk, OnOk, OnErr, length};
-ghost use Rattle.psa_status.specs.Rows.{first_row, unless};
 ghost use Rattle.store_model.specs.Operations.{Operation, Inactive, InError, Active, is_inactive, loses_key, on_active};
-ghost use Rattle.store_model.specs.DerivationOperations.{DerivationWork, derivation_setup, derivation_step, derived_key, key_given, key_step_refusal, output_key_rows, output_rows, GetCapacity, SetCapacity, InputBytes, InputInteger, OutputBytes, VerifyBytes};
+ghost use Rattle.store_model.specs.DerivationOperations.{DerivationWork, derivation_setup, derivation_step, derived_key, key_given, key_step_refusal, GetCapacity, SetCapacity, InputBytes, InputInteger, OutputBytes, VerifyBytes};
 ghost use Rattle.store_model.specs.Answers.{AnswersLength, plain_reply};
 ghost use Rattle.store_model.specs.Call.{buffer_after};
 ghost use Rattle.store_model.specs.Outcome.{refusal};
@@ -13,41 +12,38 @@ ghost use Rattle.derivation_states.specs.Replies.{AnswersFront, number_reply};
 
 use alg_encoding::{Alg, Class};
 use algorithm_facts::check_class;
-use inputs::Inputs;
+use derivation::RunningDerivation;
 use kdf::Kdf;
 use key_attributes::Attributes;
-use operation_phase::Phase;
-use output::Output;
+use operation_phase::{OperationState, Phase};
 use psa_status::{Memory, Status};
 use std::alloc::Global;
 
+mod derivation;
 mod input;
 mod inputs;
 mod kdf;
 mod output;
 #[cfg(test)]
 mod tests;
+mod work;
 
 /// A derivation of bytes and keys, with all its buffers.
 #[derive(Drop)]
 pub struct DerivationState {
-    phase: Phase,
-    inputs: Inputs,
-    output: Output,
+    state: OperationState<RunningDerivation>,
 }
 
 impl DerivationState {
-    ghost use Rattle.derivation_states.specs.States.{HoldsDerivation, IsClearDerivation, IsDerivationOperation};
+    ghost use Rattle.derivation_states.specs.States.{IsClearDerivation, IsDerivationOperation};
 
     /// An inactive derivation; `Memory` where there is no room for its buffers.
     pub fn new(alloc: Global) -> Result<DerivationState, Memory>
         ensures { IfOk result (λ s. IsDerivationOperation s Inactive) }
     {
-        let inputs = Inputs::new(alloc)?;
+        let work = RunningDerivation::new(alloc)?;
         Ok(DerivationState {
-            phase: Phase::Inactive,
-            inputs,
-            output: Output::new(),
+            state: OperationState::new(work),
         })
     }
 
@@ -55,10 +51,7 @@ impl DerivationState {
     pub fn is_inactive(&self) -> bool
         ensures { (op : Operation DerivationWork) → IsDerivationOperation self.now op → result ≡ is_inactive op }
     {
-        match self.phase {
-            Phase::Inactive => true,
-            Phase::InError | Phase::Active => false,
-        }
+        self.state.is_inactive()
     }
 
     /// Forgets the derivation: it is inactive, and all buffers are zeros.
@@ -66,16 +59,14 @@ impl DerivationState {
         ensures clear { IsClearDerivation self.new }
         ensures inactive { IsDerivationOperation self.new Inactive }
     {
-        self.clear();
-        self.phase = Phase::Inactive;
+        self.state.wipe();
     }
 
     /// Forgets the derivation: it waits for its abort, and all buffers are zeros.
     pub fn fail(&mut self)
         ensures { IsDerivationOperation self.new InError }
     {
-        self.clear();
-        self.phase = Phase::InError;
+        self.state.settle(Phase::InError);
     }
 
     /// What a step answers where the key that was given is gone: `InvalidHandle`, and the operation is in error.
@@ -85,13 +76,7 @@ impl DerivationState {
         ensures reply { (op : Operation DerivationWork) → IsDerivationOperation self.old op
             → refusal result ≡ (loses_key op).reply }
     {
-        match self.phase {
-            Phase::Active => {
-                self.fail();
-                Status::InvalidHandle
-            }
-            Phase::Inactive | Phase::InError => Status::BadState,
-        }
+        self.state.lose_key()
     }
 
     /// Begins a derivation. `BadState` unless it is inactive, and the refusals of a number that is none of a derivation.
@@ -101,10 +86,10 @@ impl DerivationState {
         ensures reply { (op : Operation DerivationWork) → IsDerivationOperation self.old op
             → plain_reply result ≡ (derivation_setup op alg.0).reply }
     {
-        self.phase.check_inactive()?;
+        self.state.phase.check_inactive()?;
         check_class(Class::Derivation, alg)?;
-        self.output.start(Kdf::of(alg));
-        self.phase = Phase::Active;
+        self.state.work.output.start(Kdf::of(alg));
+        self.state.phase = Phase::Active;
         Ok(())
     }
 
@@ -115,8 +100,8 @@ impl DerivationState {
         ensures reply { (op : Operation DerivationWork) → IsDerivationOperation self.old op
             → number_reply result ≡ (on_active op (λ w. derivation_step w GetCapacity)).reply }
     {
-        self.phase.check_active()?;
-        Ok(self.output.capacity)
+        self.state.phase.check_active()?;
+        Ok(self.state.work.output.capacity)
     }
 
     /// Lowers how many bytes can be had. `InvalidArgument` where fewer can be had already; the derivation goes on.
@@ -126,11 +111,12 @@ impl DerivationState {
         ensures reply { (op : Operation DerivationWork) → IsDerivationOperation self.old op
             → plain_reply result ≡ (on_active op (λ w. derivation_step w (SetCapacity capacity))).reply }
     {
-        self.phase.check_active()?;
-        if capacity > self.output.capacity {
+        self.state.phase.check_active()?;
+        let output = &mut self.state.work.output;
+        if capacity > output.capacity {
             return Err(Status::InvalidArgument);
         }
-        self.output.capacity = capacity;
+        output.capacity = capacity;
         Ok(())
     }
 
@@ -142,13 +128,11 @@ impl DerivationState {
         ensures reply { (op : Operation DerivationWork) → IsDerivationOperation self.old op
             → plain_reply result ≡ (on_active op (λ w. derivation_step w (InputBytes step bytes.now))).reply }
     {
-        self.phase.check_active()?;
-        let kdf = self.output.kdf;
-        let checked = self
-            .inputs
-            .check_bytes(kdf, self.output.has_begun(), step, bytes);
+        self.state.phase.check_active()?;
+        let checked = self.state.work.check_bytes(step, bytes);
         self.settle(checked)?;
-        self.inputs.put_bytes(kdf, step, bytes);
+        let work = &mut self.state.work;
+        work.inputs.put_bytes(work.output.kdf, step, bytes);
         Ok(())
     }
 
@@ -160,17 +144,10 @@ impl DerivationState {
         ensures reply { (op : Operation DerivationWork) → IsDerivationOperation self.old op
             → plain_reply result ≡ (on_active op (λ w. derivation_step w (InputInteger step value))).reply }
     {
-        self.phase.check_active()?;
-        match self.inputs.check_integer(self.output.kdf, step, value) {
-            Ok(turns) => {
-                self.inputs.put_cost(turns);
-                Ok(())
-            }
-            Err(status) => {
-                self.fail();
-                Err(status)
-            }
-        }
+        self.state.phase.check_active()?;
+        let result = self.state.work.input_integer(step, value);
+        self.state.settle(Phase::after_step(result.is_ok()));
+        result
     }
 
     /// What `key_derivation_input_key` would refuse whatever the key is.
@@ -178,9 +155,9 @@ impl DerivationState {
         ensures { (op : Operation DerivationWork) → IsDerivationOperation self.now op
             → result ≡ key_step_refusal op step }
     {
-        match self.phase {
-            Phase::Active => self.inputs.check_key_step(self.output.kdf, step).err(),
-            Phase::Inactive | Phase::InError => Some(Status::BadState),
+        match self.state.phase.check_active() {
+            Ok(()) => self.state.work.check_key_step(step).err(),
+            Err(status) => Some(status),
         }
     }
 
@@ -192,12 +169,10 @@ impl DerivationState {
         ensures reply { (op : Operation DerivationWork) → IsDerivationOperation self.old op
             → plain_reply result ≡ (on_active op (λ w. key_given w step key.now)).reply }
     {
-        self.phase.check_active()?;
-        let kdf = self.output.kdf;
-        let checked = self.inputs.check_key_step(kdf, step);
-        self.settle(checked)?;
-        self.inputs.put_key(kdf, key);
-        Ok(())
+        self.state.phase.check_active()?;
+        let result = self.state.work.input_key(step, key);
+        self.state.settle(Phase::after_step(result.is_ok()));
+        result
     }
 
     /// Fills `out` with the next bytes, and answers their number. `BadState` before the secret; `InsufficientData` where
@@ -210,11 +185,12 @@ impl DerivationState {
         ensures buffer { (op : Operation DerivationWork) → IsDerivationOperation self.old op
             → out.new ≡ buffer_after out.old (on_active op (λ w. derivation_step w (OutputBytes (length out.old)))).reply }
     {
-        self.phase.check_active()?;
-        let checked = self.check_secret();
+        self.state.phase.check_active()?;
+        let checked = self.state.work.check_secret();
         self.settle(checked)?;
-        self.output.check_capacity(out.len())?;
-        self.output.fill(&self.inputs, out);
+        let work = &mut self.state.work;
+        work.output.check_capacity(out.len())?;
+        work.output.fill(&work.inputs, out);
         Ok(out.len())
     }
 
@@ -231,12 +207,13 @@ impl DerivationState {
             → AnswersFront 1025 result out.old out.new (on_active op (λ w. derived_key w attributes.now)).reply }
         ensures length { IfOk result (λ n. n ≡ min (attributes.now.bits / 8) 1025) }
     {
-        self.phase.check_active()?;
-        let checked = self.check_key_output(attributes);
+        self.state.phase.check_active()?;
+        let checked = self.state.work.check_key_output(attributes);
         self.settle(checked)?;
         let count = usize::from(attributes.bits / 8);
-        self.output.check_capacity(count)?;
-        Ok(self.output.fill_front(&self.inputs, count, out))
+        let work = &mut self.state.work;
+        work.output.check_capacity(count)?;
+        Ok(work.output.fill_front(&work.inputs, count, out))
     }
 
     /// Takes as many bytes as were expected. `InvalidSignature` where they are others; the derivation goes on after them.
@@ -246,24 +223,16 @@ impl DerivationState {
         ensures reply { (op : Operation DerivationWork) → IsDerivationOperation self.old op
             → plain_reply result ≡ (on_active op (λ w. derivation_step w (VerifyBytes expected.now))).reply }
     {
-        self.phase.check_active()?;
-        let checked = self.check_secret();
+        self.state.phase.check_active()?;
+        let checked = self.state.work.check_secret();
         self.settle(checked)?;
-        self.output.check_capacity(expected.len())?;
-        if self.output.gives(&self.inputs, expected) {
+        let work = &mut self.state.work;
+        work.output.check_capacity(expected.len())?;
+        if work.output.gives(&work.inputs, expected) {
             Ok(())
         } else {
             Err(Status::InvalidSignature)
         }
-    }
-
-    // Forgets all inputs and the output.
-    fn clear(&mut self)
-        ensures phase { self.new.phase ≡ self.old.phase }
-        ensures clear { IsClearDerivation self.new }
-    {
-        self.inputs.wipe();
-        self.output.wipe();
     }
 
     // Puts the derivation in error where a check refused.
@@ -276,35 +245,6 @@ impl DerivationState {
             self.fail();
         }
         checked
-    }
-
-    // The refusal of output before the secret.
-    fn check_secret(&self) -> Result<(), Status>
-        ensures { (w : DerivationWork) → HoldsDerivation self.now w → result ≡ unless (first_row (output_rows w)) tt }
-    {
-        if self.inputs.key.is_given() {
-            Ok(())
-        } else {
-            Err(Status::BadState)
-        }
-    }
-
-    // The refusal of a key with these attributes, before the capacity is looked at.
-    fn check_key_output(&self, attributes: &Attributes) -> Result<(), Status>
-        ensures { (w : DerivationWork) → HoldsDerivation self.now w
-            → result ≡ unless (first_row (output_key_rows w attributes.now)) tt }
-    {
-        self.check_secret()?;
-        if attributes.bits == 0 || attributes.bits % 8 != 0 {
-            return Err(Status::InvalidArgument);
-        }
-        if attributes.lifetime.0 >> 8 != 0 {
-            return Err(Status::NotSupported);
-        }
-        if !self.inputs.by_key {
-            return Err(Status::NotPermitted);
-        }
-        Ok(())
     }
 }
 

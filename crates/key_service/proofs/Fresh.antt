@@ -4,7 +4,7 @@ use Rattle.std.specs.Prelude.{Option, None}
 use Rattle.operation_phase.specs.declared.Phase.{Phase}
 use Rattle.operation_phase.specs.declared.Phase.TheVariants as phase
 use Rattle.operation_phase.specs.Phases as Phases
-use Rattle.derivation_states.specs.States.{IsClearDerivation, HoldsDerivation}
+use Rattle.derivation_states.specs.States.{IsClearRunning, HoldsRunning}
 use Rattle.store_model.specs.Operations.{Operation, Inactive, InError, Active, is_inactive}
 use Rattle.store_model.specs.HashOperations.{HashWork}
 use Rattle.store_model.specs.MacOperations.{MacWork}
@@ -84,7 +84,7 @@ clash phase.Inactive clear holds w h k = k
 clash phase.InError clear holds w h k = h
 
 not_both : (alg : ℕ) (s : DerivationState) (w : DerivationWork) → IsDerivation alg s Inactive → IsDerivation alg s (Active w) → ⊥
-not_both alg s w h k = clash s.phase (IsClearDerivation s) (HoldsDerivation s) w h.state k.state
+not_both alg s w h k = clash s.state.phase (IsClearRunning s.state.work) (HoldsRunning s.state.work) w h.state k.state
 
 rekeyed_of : (family : Family) (c : Cell) (operation : HandleOperation) (w : DerivationWork) (state : DerivationState) (key : Option KeyCreation) (next : Operation DerivationWork) → IsOperationOf family c operation →
     IsDerivation c.alg.0 c.derivation (Active w) → IsDerivation c.alg.0 state next → IsOperation (record c { derivation = state; key = key }) (held_with (key_in key) Deriving next)

@@ -6,7 +6,7 @@ use Rattle.hash_ops.specs.States.{Holds, IsEmpty}
 use Rattle.store_model.specs.Algorithms.{digest, hash_length_of, low_byte}
 use Rattle.store_model.specs.Operations.{Operation}
 use Rattle.store_model.specs.HashOperations.{HashWork}
-use Rattle.operation_phase.specs.Phases.{StandsFor}
+use Rattle.operation_phase.specs.States.{IsOperation}
 use Rattle.mac_states.specs.declared.running_hash.RunningHash.{RunningHash}
 use Rattle.mac_states.specs.declared.hash_state.HashOpState.{HashOpState}
 
@@ -25,8 +25,8 @@ pub record IsClearRunningHash (s : RunningHash) : Type 0 where
   pub hasher : IsEmpty s.hasher
 
 abbrev pub IsClearHash : HashOpState → Type 0
-IsClearHash s = IsClearRunningHash s.work
+IsClearHash s = IsClearRunningHash s.state.work
 
 -- the state stands for this operation
 abbrev pub IsHashOperation : HashOpState → Operation HashWork → Type 0
-IsHashOperation s op = StandsFor s.phase (IsClearHash s) (HoldsHash s.work) op
+IsHashOperation s op = IsOperation IsClearRunningHash HoldsHash s.state op

@@ -9,7 +9,7 @@ use Rattle.alg_encoding.specs.Encoding.{base_of}
 use Rattle.store_model.specs.Algorithms.{cmac_base, digest, hash_block_length, low_byte}
 use Rattle.store_model.specs.Operations.{Operation}
 use Rattle.store_model.specs.MacOperations.{MacWork}
-use Rattle.operation_phase.specs.Phases.{StandsFor}
+use Rattle.operation_phase.specs.States.{IsOperation}
 use Rattle.mac_states.specs.declared.cmac_part.CmacPart.{CmacPart}
 use Rattle.mac_states.specs.declared.running_mac.RunningMac.{RunningMac}
 use Rattle.mac_states.specs.declared.mac_state.MacState.{MacState}
@@ -55,8 +55,8 @@ pub record IsClearRunningMac (s : RunningMac) : Type 0 where
   pub cmac : IsClearCmac s.cmac
 
 abbrev pub IsClearMac : MacState → Type 0
-IsClearMac s = IsClearRunningMac s.work
+IsClearMac s = IsClearRunningMac s.state.work
 
 -- the state stands for this operation
 abbrev pub IsMacOperation : MacState → Operation MacWork → Type 0
-IsMacOperation s op = StandsFor s.phase (IsClearMac s) (HoldsMac s.work) op
+IsMacOperation s op = IsOperation IsClearRunningMac HoldsMac s.state op

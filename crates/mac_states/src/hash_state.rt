@@ -10,7 +10,7 @@ ghost use Rattle.mac_states.specs.HashStates.{IsClearHash, IsHashOperation};
 use crate::running_hash::RunningHash;
 use alg_encoding::{Alg, Class};
 use algorithm_facts::check_class;
-use operation_phase::Phase;
+use operation_phase::{OperationState, Phase};
 use psa_status::Status;
 
 // What stands for the algorithm until a setup names one.
@@ -19,8 +19,7 @@ const NO_ALGORITHM: Alg = Alg(0);
 /// A hash in several parts: a setup, any number of updates, and a finish or a verify.
 #[derive(Drop)]
 pub struct HashOpState {
-    phase: Phase,
-    work: RunningHash,
+    state: OperationState<RunningHash>,
 }
 
 impl HashOpState {
@@ -29,8 +28,7 @@ impl HashOpState {
         ensures { IsHashOperation result Inactive }
     {
         HashOpState {
-            phase: Phase::Inactive,
-            work: RunningHash::new(NO_ALGORITHM),
+            state: OperationState::new(RunningHash::new(NO_ALGORITHM)),
         }
     }
 
@@ -38,16 +36,7 @@ impl HashOpState {
     pub fn is_inactive(&self) -> bool
         ensures { (op : Operation HashWork) → IsHashOperation self.now op → result ≡ is_inactive op }
     {
-        self.phase == Phase::Inactive
-    }
-
-    // Forgets the message, and leaves the operation in this phase.
-    fn end(&mut self, phase: Phase)
-        ensures phase { self.new.phase ≡ phase }
-        ensures clear { IsClearHash self.new }
-    {
-        self.work.wipe();
-        self.phase = phase;
+        self.state.is_inactive()
     }
 
     /// Forgets everything: the operation is inactive.
@@ -55,7 +44,7 @@ impl HashOpState {
         ensures clear { IsClearHash self.new }
         ensures inactive { IsHashOperation self.new Inactive }
     {
-        self.end(Phase::Inactive);
+        self.state.wipe();
     }
 
     /// Sets an inactive operation up to hash a message. `BadState` where it isn't inactive, and else the refusal of a
@@ -66,10 +55,10 @@ impl HashOpState {
         ensures reply { (op : Operation HashWork) → IsHashOperation self.old op →
             plain_reply result ≡ (hash_setup op alg.0).reply }
     {
-        self.phase.check_inactive()?;
+        self.state.phase.check_inactive()?;
         check_class(Class::Hash, alg)?;
-        self.work = RunningHash::new(alg);
-        self.phase = Phase::Active;
+        self.state.work = RunningHash::new(alg);
+        self.state.phase = Phase::Active;
         Ok(())
     }
 
@@ -81,11 +70,9 @@ impl HashOpState {
         ensures reply { (op : Operation HashWork) → IsHashOperation self.old op →
             plain_reply result ≡ (on_active op (λ w. hash_step w (HashUpdate input.now))).reply }
     {
-        self.phase.check_active()?;
-        let result = self.work.update(input);
-        if result.is_err() {
-            self.end(Phase::InError);
-        }
+        self.state.phase.check_active()?;
+        let result = self.state.work.update(input);
+        self.state.settle(Phase::after_step(result.is_ok()));
         result
     }
 
@@ -99,9 +86,9 @@ impl HashOpState {
         ensures buffer { (op : Operation HashWork) → IsHashOperation self.old op →
             out.new ≡ buffer_after out.old (on_active op (λ w. hash_step w (HashFinish (length out.old)))).reply }
     {
-        self.phase.check_active()?;
-        let result = self.work.finish(out);
-        self.end(Phase::after_finish(result.is_ok()));
+        self.state.phase.check_active()?;
+        let result = self.state.work.finish(out);
+        self.state.settle(Phase::after_finish(result.is_ok()));
         result
     }
 
@@ -113,9 +100,9 @@ impl HashOpState {
         ensures reply { (op : Operation HashWork) → IsHashOperation self.old op →
             plain_reply result ≡ (on_active op (λ w. hash_step w (HashVerify expected.now))).reply }
     {
-        self.phase.check_active()?;
-        let result = self.work.verify(expected);
-        self.end(Phase::after_finish(result.is_ok()));
+        self.state.phase.check_active()?;
+        let result = self.state.work.verify(expected);
+        self.state.settle(Phase::after_finish(result.is_ok()));
         result
     }
 }

@@ -8,6 +8,7 @@ mod outputs;
 mod running_hash;
 mod running_mac;
 mod total;
+mod work;
 
 pub use hash_state::HashOpState;
 pub use mac_state::MacState;

@@ -12,14 +12,13 @@ ghost use Rattle.mac_states.specs.MacStates.{IsClearMac, IsMacOperation};
 
 use crate::running_mac::RunningMac;
 use alg_encoding::Alg;
-use operation_phase::Phase;
+use operation_phase::{OperationState, Phase};
 use psa_status::Status;
 
 /// A MAC in several parts: a setup with a key, any number of updates, and a finish that makes the MAC or verifies one.
 #[derive(Drop)]
 pub struct MacState {
-    phase: Phase,
-    work: RunningMac,
+    state: OperationState<RunningMac>,
 }
 
 impl MacState {
@@ -28,8 +27,7 @@ impl MacState {
         ensures { IsMacOperation result Inactive }
     {
         MacState {
-            phase: Phase::Inactive,
-            work: RunningMac::new(),
+            state: OperationState::new(RunningMac::new()),
         }
     }
 
@@ -37,16 +35,7 @@ impl MacState {
     pub fn is_inactive(&self) -> bool
         ensures { (op : Operation MacWork) → IsMacOperation self.now op → result ≡ is_inactive op }
     {
-        self.phase == Phase::Inactive
-    }
-
-    // Forgets key and message, and leaves the operation in this phase.
-    fn end(&mut self, phase: Phase)
-        ensures phase { self.new.phase ≡ phase }
-        ensures clear { IsClearMac self.new }
-    {
-        self.work.wipe();
-        self.phase = phase;
+        self.state.is_inactive()
     }
 
     /// Forgets everything: the operation is inactive.
@@ -54,7 +43,7 @@ impl MacState {
         ensures clear { IsClearMac self.new }
         ensures inactive { IsMacOperation self.new Inactive }
     {
-        self.end(Phase::Inactive);
+        self.state.wipe();
     }
 
     /// The key of the operation is gone, and an active one fails: it is in error, and this is `InvalidHandle`.
@@ -64,13 +53,7 @@ impl MacState {
             IsMacOperation self.new (loses_key op).operation }
         ensures reply { (op : Operation MacWork) → IsMacOperation self.old op → refusal result ≡ (loses_key op).reply }
     {
-        match self.phase.check_active() {
-            Ok(()) => {
-                self.end(Phase::InError);
-                Status::InvalidHandle
-            }
-            Err(status) => status,
-        }
+        self.state.lose_key()
     }
 
     fn setup(&mut self, verifies: bool, key: &[u8], alg: Alg) -> Result<(), Status>
@@ -80,9 +63,9 @@ impl MacState {
         ensures reply { (op : Operation MacWork) → IsMacOperation self.old op →
             plain_reply result ≡ (mac_setup op verifies alg.0 key.now).reply }
     {
-        self.phase.check_inactive()?;
-        self.work.start(verifies, alg, key);
-        self.phase = Phase::Active;
+        self.state.phase.check_inactive()?;
+        self.state.work.start(verifies, alg, key);
+        self.state.phase = Phase::Active;
         Ok(())
     }
 
@@ -116,11 +99,9 @@ impl MacState {
         ensures reply { (op : Operation MacWork) → IsMacOperation self.old op →
             plain_reply result ≡ (on_active op (λ w. mac_step w (MacUpdate input.now))).reply }
     {
-        self.phase.check_active()?;
-        let result = self.work.update(input);
-        if result.is_err() {
-            self.end(Phase::InError);
-        }
+        self.state.phase.check_active()?;
+        let result = self.state.work.update(input);
+        self.state.settle(Phase::after_step(result.is_ok()));
         result
     }
 
@@ -135,9 +116,9 @@ impl MacState {
         ensures buffer { (op : Operation MacWork) → IsMacOperation self.old op →
             out.new ≡ buffer_after out.old (on_active op (λ w. mac_step w (MacSignFinish (length out.old)))).reply }
     {
-        self.phase.check_active()?;
-        let result = self.work.sign(out);
-        self.end(Phase::after_finish(result.is_ok()));
+        self.state.phase.check_active()?;
+        let result = self.state.work.sign(out);
+        self.state.settle(Phase::after_finish(result.is_ok()));
         result
     }
 
@@ -150,9 +131,9 @@ impl MacState {
         ensures reply { (op : Operation MacWork) → IsMacOperation self.old op →
             plain_reply result ≡ (on_active op (λ w. mac_step w (MacVerifyFinish expected.now))).reply }
     {
-        self.phase.check_active()?;
-        let result = self.work.verify(expected);
-        self.end(Phase::after_finish(result.is_ok()));
+        self.state.phase.check_active()?;
+        let result = self.state.work.verify(expected);
+        self.state.settle(Phase::after_finish(result.is_ok()));
         result
     }
 }

@@ -7,8 +7,10 @@ ghost use Rattle.operation_phase.specs.declared.Phase.TheVariants as phase;
 
 pub use outputs::give;
 use psa_status::Status;
+pub use state::{OperationState, Work};
 
 mod outputs;
+mod state;
 
 /// How an operation stands: it waits for a setup, it has failed and waits for its abort, or it is active.
 #[derive(Clone, Copy, Debug, Drop, PartialEq, Eq)]
@@ -19,16 +21,26 @@ pub enum Phase {
 }
 
 impl Phase {
+    // This phase where a call succeeded, and else in error.
+    fn unless_failed(self, succeeded: bool) -> Phase
+        ensures { result ≡ (if succeeded then self else phase.InError) }
+    {
+        if succeeded { self } else { Phase::InError }
+    }
+
+    /// The phase after a step: active where it succeeded, and else in error.
+    pub fn after_step(succeeded: bool) -> Phase
+        ensures { result ≡ (if succeeded then phase.Active else phase.InError) }
+    {
+        Phase::Active.unless_failed(succeeded)
+    }
+
     /// The phase after a finish: inactive where it succeeded, and else in error.
     pub fn after_finish(succeeded: bool) -> Phase
         ensures phase { result ≡ (if succeeded then phase.Inactive else phase.InError) }
         ensures ended { result ≡ phase.Active → ⊥ }
     {
-        if succeeded {
-            Phase::Inactive
-        } else {
-            Phase::InError
-        }
+        Phase::Inactive.unless_failed(succeeded)
     }
 
     /// `BadState` exactly where the operation isn't inactive, as a setup asks.

@@ -1,0 +1,18 @@
+// What the operations run, as their state knows it.
+use crate::derivation::RunningDerivation;
+use operation_phase::Work;
+
+impl Work for RunningDerivation {
+    ghost use Rattle.store_model.specs.DerivationOperations.{DerivationWork};
+    ghost use Rattle.derivation_states.specs.States.{HoldsRunning, IsClearRunning};
+
+    ghost Said = { DerivationWork };
+
+    ghost is_clear = { IsClearRunning };
+
+    ghost holds = { HoldsRunning };
+
+    fn forget(&mut self) {
+        self.wipe();
+    }
+}
