@@ -28,6 +28,9 @@ mod output;
 mod tests;
 mod work;
 
+/// The most bytes of a derived key that are written: one more than a key may have, so that a longer one is seen.
+pub const KEY_ROOM: usize = 1025;
+
 /// A derivation of bytes and keys, with all its buffers.
 #[derive(Drop)]
 pub struct DerivationState {
@@ -199,7 +202,7 @@ impl DerivationState {
     pub fn key_derivation_output_key(
         &mut self,
         attributes: &Attributes,
-        out: &mut [u8; 1025],
+        out: &mut [u8; KEY_ROOM],
     ) -> Result<usize, Status>
         ensures state { (op : Operation DerivationWork) → IsDerivationOperation self.old op
             → IsDerivationOperation self.new (on_active op (λ w. derived_key w attributes.now)).operation }

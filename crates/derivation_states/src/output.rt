@@ -8,6 +8,7 @@ ghost use Rattle.derivation_states.specs.Inputs.{HoldsInputs};
 ghost use Rattle.derivation_states.specs.Kdfs.{IsKdf, block_limit};
 ghost use Rattle.derivation_states.specs.Streams.{block_at};
 
+use crate::KEY_ROOM;
 use crate::inputs::Inputs;
 use crate::kdf::{Kdf, Scheme};
 use hash_ops::Hash;
@@ -181,7 +182,7 @@ impl Output {
 
     /// Takes `count` bytes, of which the first ones are written to the front of `out` as far as it has room, and answers
     /// how many these are.
-    pub fn fill_front(&mut self, inputs: &Inputs, count: usize, out: &mut [u8; 1025]) -> usize
+    pub fn fill_front(&mut self, inputs: &Inputs, count: usize, out: &mut [u8; KEY_ROOM]) -> usize
         requires { count ≤ self.old.capacity }
         ensures written { result ≡ min count 1025 }
         ensures holds { (w : DerivationWork) → HoldsInputs inputs.now w → HoldsOutput self.old w → is_some w.secret ≡ true
@@ -193,7 +194,7 @@ impl Output {
             → take result out.new ≡ take result (next_derived w count) }
         ensures rest { drop result out.new ≡ drop result out.old }
     {
-        let written = count.min(1025);
+        let written = count.min(KEY_ROOM);
         self.fill(inputs, &mut out[..written]);
         self.skip(inputs, count - written);
         written

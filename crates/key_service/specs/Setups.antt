@@ -9,7 +9,6 @@ use Rattle.store_model.specs.Handles.{Held, HandleOperation}
 use Rattle.store_core.specs.Uses.{IsLookedUp}
 use Rattle.key_service.specs.Cells.{IsOperation}
 use Rattle.key_service.specs.declared.cells.Cell.{Cell}
-use Rattle.key_service.specs.declared.cells.KeyCreation.{KeyCreation}
 
 -- the cell's operation is inactive
 abbrev pub IsFree : Cell → Type 0

@@ -15,6 +15,7 @@ use crate::cells::KeyCreation;
 use crate::op::Op;
 use crate::operations::{Operations, place};
 use alg_encoding::Alg;
+use derivation_states::KEY_ROOM;
 use key_attributes::{Attributes, KeyId};
 use psa_status::Status;
 use store_core::Store;
@@ -24,7 +25,7 @@ fn create(
     store: &mut Store,
     caller: u8,
     attributes: &Attributes,
-    bytes: &mut [u8; 1025],
+    bytes: &mut [u8; KEY_ROOM],
     length: usize,
 ) -> Result<KeyId, Status>
     requires first { 1 ≤ caller }
@@ -36,7 +37,7 @@ fn create(
     ensures wiped { bytes.new ≡ replicate 1025 0 }
 {
     let created = store.import_key(caller, attributes, &bytes[..length]);
-    *bytes = [0; 1025];
+    *bytes = [0; KEY_ROOM];
     created
 }
 
@@ -248,7 +249,7 @@ impl Operations {
             store.count();
             return Err(cell.derivation.lose_key());
         }
-        let mut bytes = [0; 1025];
+        let mut bytes = [0; KEY_ROOM];
         let length = match cell
             .derivation
             .key_derivation_output_key(attributes, &mut bytes)

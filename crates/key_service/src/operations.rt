@@ -14,6 +14,12 @@ use psa_status::{Memory, Status};
 use std::alloc::Global;
 use store_core::Store;
 
+// How many callers there are.
+const CALLERS: usize = 16;
+
+// How many handles a caller has.
+const HANDLES: usize = 4;
+
 /// The operations of 16 callers' four handles each.
 #[derive(Drop)]
 pub struct Operations {
@@ -28,7 +34,7 @@ pub(crate) fn place(caller: u8, op: Op) -> usize
     ensures value { IsPlace result caller op }
     ensures bound { result < 64 }
 {
-    4 * (usize::from(caller) - 1) + (usize::from(op.number()) - 1)
+    HANDLES * (usize::from(caller) - 1) + (usize::from(op.number()) - 1)
 }
 
 impl Operations {
@@ -39,7 +45,7 @@ impl Operations {
         ensures { IfOk result (λ operations. (store : model.Store) → StandsFor store operations (service_of store)) }
     {
         let mut cells = Vec::new(alloc);
-        for _ in 0..64u8 {
+        for _ in 0..CALLERS * HANDLES {
             let cell = Cell::new(alloc)?;
             if cells.push(cell).is_err() {
                 return Err(Memory);
