@@ -1,12 +1,14 @@
 -- Why a run ends as it does.
-use Rattle.std.proofs.Common.{◌≡◌, ◌<◌, ℕ, List, length, arith, ap, ◌∙◌, true, refl, length-append, inl, ◌⊎◌}
+use Rattle.std.proofs.Common.{◌≡◌, ◌<◌, ◌≤◌, ◌+◌, ℕ, Bool, List, [], ◌∷◌, length, arith, ap, ◌∙◌, true, false, cond, refl, sym, subst, length-append, inl, ◌⊎◌}
 use Rattle.std.specs.Prelude.{Option, None, Some, Result, Ok, Err, IfSome, IfOk, IsOk, nat_lt}
 use Rattle.std.proofs.lemmas.Bool.Decides.{nat_tests}
 use Rattle.std.specs.Io.KnownBytes.{Consumes}
 use Rattle.script_lang.specs.declared.script.ScriptLine.{ScriptLine}
+use Rattle.script_lang.specs.declared.faults.Reason.{Reason}
 use Rattle.script_lang.specs.declared.faults.ScriptFault.{ScriptFault}
 use Rattle.script_lang.specs.declared.faults.ScriptFault.TheVariants as faults
-use Rattle.script_lang.specs.Lines.{script_of}
+use Rattle.script_lang.specs.Pieces.{text_lines}
+use Rattle.script_lang.specs.Lines.{Read, nothing_read, line_at, lines_at, goes_on, script_of, ScriptFails}
 use Rattle.psa_host.specs.declared.command.Exit.{Exit}
 use Rattle.psa_host.specs.declared.command.Exit.TheVariants.{Script, Memory}
 
@@ -28,10 +30,40 @@ long_source None new h = tt
 long_source (Some text) None h = absurd h.2
 long_source (Some text) (Some rest) h = too_long text (omega (arith, h.1, ap length h.2, length-append h.0 rest))
 
+-- a text within 4 MiB isn't refused as too long
+
+abbrev too_long_read : Result (List ScriptLine) ScriptFault
+too_long_read = Err faults.TooLong
+
+goes_not : (r : Result Read Reason) (n : ℕ) (f : Read → Result (List ScriptLine) ScriptFault) → ((next : Read) → f next ≡ too_long_read → ⊥) → goes_on r n f ≡ too_long_read → ⊥
+goes_not (Ok next) n f h e = h next e
+goes_not (Err r) n f h e = cc
+
+no_line_is : (n : ℕ) (read : Read) (texts : List (List ℕ)) → lines_at n read texts ≡ too_long_read → ⊥
+unfolding lines_at
+no_line_is n read [] e = cc
+no_line_is n read (text ∷ texts) e = goes_not (line_at read text) n (λ next. lines_at (n + 1) next texts) (λ next. no_line_is (n + 1) next texts) e
+
+short_turn : (text : List ℕ) (b d : Bool) → nat_lt 4194304 (length text) ≡ b → length text ≤ 4194304 →
+    cond b (Err faults.TooLong) (cond d (Err faults.TooManyLines) (lines_at 1 nothing_read (text_lines text))) ≡ too_long_read → ⊥
+short_turn text true d t short e = grind (arith, nat_tests)
+short_turn text false true t short e = cc
+short_turn text false false t short e = no_line_is 1 nothing_read (text_lines text) e
+
+pub short_enough : (text : List ℕ) → length text ≤ 4194304 → script_of text ≡ Err faults.TooLong → ⊥
+unfolding script_of
+short_enough text short e = short_turn text (nat_lt 4194304 (length text)) (nat_lt 20000 (length (text_lines text))) refl short e
+
 -- the source's text isn't a script
 
 same_fault : (f g : ScriptFault) → Script f ≡ Script g → f ≡ g
 same_fault f g e = cc
+
+pub not_too_long : (text read : List ℕ) (fault : ScriptFault) (exit : Exit) → length text ≤ 4194304 → read ≡ text → ScriptFails fault (script_of read) → exit ≡ Script fault →
+    exit ≡ Script faults.TooLong → ⊥
+not_too_long text read fault exit short same fails is e =
+    short_enough read (subst (λ t. length t ≤ 4194304) (sym same) short)
+    (subst (λ f. ScriptFails f (script_of read)) (same_fault fault faults.TooLong (sym is ∙ e)) fails)
 
 pub fault_told : (old : Option (List ℕ)) (f g : ScriptFault) → IfSome old (λ text. script_of text ≡ Err f) → Script f ≡ Script g → IfSome old (λ text. script_of text ≡ Err g)
 fault_told old f g h e = if_some_weaker old _ _ (λ text k. k ∙ ap Err (same_fault f g e)) h

@@ -1,8 +1,8 @@
 // The top call.
-ghost use Rattle.std.specs.Prelude.{◌≡◌, ◌≤◌, ◌↔◌, ◌⊎◌, List, ℕ, IfSome, IfOk, IsTrue, Ok, Err, IsOk, All, length};
-ghost use Rattle.std.specs.Io.KnownBytes.{IsAtEnd};
+ghost use Rattle.std.specs.Prelude.{◌≡◌, ◌≤◌, ◌+◌, ◌↔◌, ◌⊎◌, List, ℕ, IfSome, IfOk, IsTrue, Ok, Err, IsOk, All, length};
+ghost use Rattle.std.specs.Io.KnownBytes.{IsAtEnd, Consumes};
 ghost use Rattle.psa_status.specs.Causes.{Rose};
-ghost use Rattle.outside_io.specs.Causes.{TellsAsBefore};
+ghost use Rattle.outside_io.specs.Causes.{text_limit, TellsAsBefore};
 ghost use Rattle.script_lang.specs.declared.faults.ScriptFault.{ScriptFault};
 ghost use Rattle.script_lang.specs.declared.faults.ScriptFault.TheVariants as faults;
 ghost use Rattle.script_lang.specs.Limits.{IsWellFormed};
@@ -51,6 +51,15 @@ pub struct Ended<D> {
     pub disk: D,
 }
 
+impl<D> Ended<D> {
+    fn of(exit: Exit, disk: D) -> Ended<D>
+        ensures exit { result.exit ≡ exit }
+        ensures disk { result.disk ≡ disk }
+    {
+        Ended { exit, disk }
+    }
+}
+
 /// Whether the words are those of a command.
 fn are_words(words: &[&str]) -> bool
     ensures { IsTrue result ↔ AreWords words.now }
@@ -86,6 +95,7 @@ pub fn run_command<S: Source, K: Sink, D: Disk + Send>(
     ensures partly { result.exit ≡ Exit.WriteFault → IfSome (S.left source.old) (λ text. PartlyAnswered text (K.taken sink.old) (K.taken sink.new)) }
     ensures quiet { IsQuiet result.exit → sink.new ≡ sink.old }
     ensures end { IsReadToEnd result.exit → IsAtEnd (S.left source.new) }
+    ensures long { result.exit ≡ Exit.Script faults.TooLong → (bytes : List ℕ) × (length bytes ≡ text_limit + 1) × Consumes (S.left source.old) (S.left source.new) bytes }
     ensures usage { (result.exit ≡ Exit.Usage) ↔ (AreWords words.now → ⊥) }
     ensures untouched { result.exit ≡ Exit.Usage → source.new ≡ source.old }
     ensures script { (f : ScriptFault) → result.exit ≡ Exit.Script f → IfSome (S.left source.old) (λ text. script_of text ≡ Err f) }
@@ -103,47 +113,28 @@ pub fn run_command<S: Source, K: Sink, D: Disk + Send>(
     ensures disk { result.disk ≡ disk }
 {
     if !are_words(words) {
-        let exit = Exit::Usage;
-        return Ended { exit, disk };
+        return Ended::of(Exit::Usage, disk);
     }
     let text = match read_text(alloc, source) {
         Ok(text) => text,
-        Err(ReadError::TooLong) => {
-            let exit = Exit::Script(ScriptFault::TooLong);
-            return Ended { exit, disk };
-        }
-        Err(ReadError::Fault) => {
-            let exit = Exit::ReadFault;
-            return Ended { exit, disk };
-        }
-        Err(ReadError::Memory) => {
-            let exit = Exit::Memory;
-            return Ended { exit, disk };
-        }
+        Err(ReadError::TooLong) => return Ended::of(Exit::Script(ScriptFault::TooLong), disk),
+        Err(ReadError::Fault) => return Ended::of(Exit::ReadFault, disk),
+        Err(ReadError::Memory) => return Ended::of(Exit::Memory, disk),
     };
     let script = match read_script(alloc, &text) {
         Ok(script) => script,
         Err(fault) => match fault {
-            ScriptFault::Memory => {
-                let exit = Exit::Memory;
-                return Ended { exit, disk };
-            }
-            _ => {
-                let exit = Exit::Script(fault);
-                return Ended { exit, disk };
-            }
+            ScriptFault::Memory => return Ended::of(Exit::Memory, disk),
+            _ => return Ended::of(Exit::Script(fault), disk),
         },
     };
     let out = match answer_text(alloc, script.lines()) {
         Ok(out) => out,
-        Err(Memory) => {
-            let exit = Exit::Memory;
-            return Ended { exit, disk };
-        }
+        Err(Memory) => return Ended::of(Exit::Memory, disk),
     };
     let exit = match write_all(sink, &out) {
         Ok(()) => Exit::Done,
         Err(Failed) => Exit::WriteFault,
     };
-    Ended { exit, disk }
+    Ended::of(exit, disk)
 }
