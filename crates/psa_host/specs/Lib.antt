@@ -1,4 +1,5 @@
 pub mod Services
+pub mod Steps
 pub mod LineOrder
 pub mod Ends
 pub mod Program

@@ -8,6 +8,7 @@ ghost use Rattle.store_model.specs.Requests.{OnHandle, serve};
 ghost use Rattle.script_lang.specs.Limits.{IsDerivationStep};
 ghost use Rattle.script_lang.specs.PrintedOrder.{derivation_step_call};
 ghost use Rattle.psa_host.specs.Services.{Stands};
+ghost use Rattle.psa_host.specs.Steps.{IsInput};
 ghost use Rattle.psa_host.specs.LineOrder.{Answers};
 
 use crate::answers::{Answer, created, filled, finished, measured};
@@ -64,6 +65,42 @@ fn output_key(
     )
 }
 
+/// Gives a key derivation an input. `given` has the identifiers that the session's calls before gave.
+fn input(
+    alloc: Global,
+    service: &mut Service,
+    caller: u8,
+    given: &[u32],
+    op: Op,
+    call: &DerivationStep,
+) -> Result<Answer, Memory>
+    requires first { 1 ≤ caller }
+    requires last { caller ≤ 16 }
+    requires turns { service.old.store.calls < 2 ^ 62 }
+    requires input { IsInput call.now }
+    ensures stands { (it : model.Service) → Stands service.old it →
+        Stands service.new (serve it caller (OnHandle op (derivation_step_call given.now call.now)) Plain).service }
+    ensures reply { (it : model.Service) → Stands service.old it →
+        IfOk result (λ a. Answers a (serve it caller (OnHandle op (derivation_step_call given.now call.now)) Plain).reply) }
+{
+    let Service { store, operations } = service;
+    match call {
+        DerivationStep::InputBytes { step, input } => finished(
+            alloc,
+            operations.key_derivation_input_bytes(store, caller, op, *step, input.as_slice()),
+        ),
+        DerivationStep::InputInteger { step, value } => finished(
+            alloc,
+            operations.key_derivation_input_integer(store, caller, op, *step, *value),
+        ),
+        DerivationStep::InputKey { step, key } => finished(
+            alloc,
+            operations.key_derivation_input_key(store, caller, op, *step, key_of(given, *key)),
+        ),
+        _ => unreachable!(),
+    }
+}
+
 /// Makes a call on a key derivation. `given` has the identifiers that the session's calls before gave.
 pub fn on_derivation(
     alloc: Global,
@@ -98,18 +135,9 @@ pub fn on_derivation(
             alloc,
             operations.key_derivation_set_capacity(store, caller, op, *capacity),
         ),
-        DerivationStep::InputBytes { step, input } => finished(
-            alloc,
-            operations.key_derivation_input_bytes(store, caller, op, *step, input.as_slice()),
-        ),
-        DerivationStep::InputInteger { step, value } => finished(
-            alloc,
-            operations.key_derivation_input_integer(store, caller, op, *step, *value),
-        ),
-        DerivationStep::InputKey { step, key } => finished(
-            alloc,
-            operations.key_derivation_input_key(store, caller, op, *step, key_of(given, *key)),
-        ),
+        DerivationStep::InputBytes { .. }
+        | DerivationStep::InputInteger { .. }
+        | DerivationStep::InputKey { .. } => input(alloc, service, caller, given, op, call),
         DerivationStep::OutputBytes { length } => {
             output_bytes(alloc, service, caller, op, &mut buffer[..*length as usize])
         }

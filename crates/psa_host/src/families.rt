@@ -249,15 +249,8 @@ pub fn aead(
         } => {
             let key = key_of(given, *key);
             let out = &mut buffer[..*room as usize];
-            let answer = store.aead_encrypt(
-                caller,
-                key,
-                Alg(*alg),
-                nonce.as_slice(),
-                ad.as_slice(),
-                input.as_slice(),
-                out,
-            );
+            let (nonce, ad, input) = (nonce.as_slice(), ad.as_slice(), input.as_slice());
+            let answer = store.aead_encrypt(caller, key, Alg(*alg), nonce, ad, input, out);
             filled(alloc, answer, out)
         }
         AeadCall::Decrypt {
@@ -270,15 +263,8 @@ pub fn aead(
         } => {
             let key = key_of(given, *key);
             let out = &mut buffer[..*room as usize];
-            let answer = store.aead_decrypt(
-                caller,
-                key,
-                Alg(*alg),
-                nonce.as_slice(),
-                ad.as_slice(),
-                input.as_slice(),
-                out,
-            );
+            let (nonce, ad, input) = (nonce.as_slice(), ad.as_slice(), input.as_slice());
+            let answer = store.aead_decrypt(caller, key, Alg(*alg), nonce, ad, input, out);
             filled(alloc, answer, out)
         }
     }
