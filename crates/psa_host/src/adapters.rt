@@ -159,6 +159,14 @@ fn write_at(file: &mut File, place: u64, bytes: &[u8]) -> io::Result<()> {
     file.write_all(bytes)
 }
 
+/// Fails where this would shorten the file, which may be longer than is known.
+fn lengthen(file: &mut File, length: u64) -> io::Result<()> {
+    if file.seek(SeekFrom::End(0))? > length {
+        return Err(io::Error::from(ErrorKind::InvalidInput));
+    }
+    file.set_len(length)
+}
+
 impl Disk for FileDisk {
     ghost contents = { λ _. None };
 
@@ -187,7 +195,7 @@ impl Disk for FileDisk {
     }
 
     fn extend(&mut self, length: u64) -> Result<(), Failed> {
-        counted(&mut self.faults, self.file.set_len(length))?;
+        counted(&mut self.faults, lengthen(&mut self.file, length))?;
         self.length = length;
         Ok(())
     }
