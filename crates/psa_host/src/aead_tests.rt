@@ -3,7 +3,8 @@ use crate::operation_tests::first_other_answer;
 use std::test::Fail;
 
 // Calls of one session, in their order, and what each of them answers. The values are those of SP 800-38C, example 1,
-// and of the GCM specification, test case 2.
+// and of the GCM specification, test cases 1 and 2. The random bytes are those of ChaCha20 under the zero key, stream
+// 1; the tag under a nonce of them was computed with OpenSSL.
 const CCM: [(&[u8], &[u8]); 68] = [
     (
         b"import k type=2400 usage=300 alg=05440100 data=404142434445464748494a4b4c4d4e4f",
@@ -90,7 +91,7 @@ const CCM: [(&[u8], &[u8]); 68] = [
     (b"abort 1", b"SUCCESS"),
 ];
 
-const GCM: [(&[u8], &[u8]); 81] = [
+const GCM: [(&[u8], &[u8]); 82] = [
     (
         b"import k type=2400 usage=300 alg=05500200 data=00000000000000000000000000000000",
         b"SUCCESS 40100000",
@@ -106,6 +107,7 @@ const GCM: [(&[u8], &[u8]); 81] = [
     (b"aead_finish 1", b"BAD_STATE"),
     (b"aead_verify 1 tag=00", b"BAD_STATE"),
     (b"aead_encrypt_setup 1 #2 alg=05500200", b"INVALID_HANDLE"),
+    (b"aead_encrypt_setup 1 $k alg=01000000", b"NOT_SUPPORTED"),
     (b"aead_encrypt_setup 1 $k alg=05440100", b"NOT_PERMITTED"),
     (b"aead_encrypt_setup 1 $k alg=02000009", b"INVALID_ARGUMENT"),
     (b"aead_encrypt_setup 1 $k alg=05500200", b"SUCCESS"),
@@ -246,6 +248,51 @@ const GCM: [(&[u8], &[u8]); 81] = [
     (b"aead_finish 1", b"BAD_STATE"),
 ];
 
+// Operations that have no nonce.
+const WITHOUT_NONCE: [(&[u8], &[u8]); 23] = [
+    (
+        b"import k type=2400 usage=300 alg=05500200 data=00000000000000000000000000000000",
+        b"SUCCESS 40100000",
+    ),
+    (b"aead_encrypt_setup 1 $k alg=05500200", b"SUCCESS"),
+    (b"aead_update 1 data=", b"BAD_STATE"),
+    (
+        b"aead_set_nonce 1 nonce=000000000000000000000000",
+        b"BAD_STATE",
+    ),
+    (b"aead_update 1 data=", b"BAD_STATE"),
+    (b"aead_encrypt_setup 1 $k alg=05500200", b"BAD_STATE"),
+    (b"abort 1", b"SUCCESS"),
+    (b"aead_encrypt_setup 1 $k alg=05500200", b"SUCCESS"),
+    (b"aead_finish 1", b"BAD_STATE"),
+    (b"aead_generate_nonce 1", b"BAD_STATE"),
+    (b"aead_update 1 data=", b"BAD_STATE"),
+    (b"aead_encrypt_setup 1 $k alg=05500200", b"BAD_STATE"),
+    (b"abort 1", b"SUCCESS"),
+    (b"aead_decrypt_setup 1 $k alg=05500200", b"SUCCESS"),
+    (
+        b"aead_verify 1 tag=58e2fccefa7e3061367f1d57a4e7455a",
+        b"BAD_STATE",
+    ),
+    (
+        b"aead_set_nonce 1 nonce=000000000000000000000000",
+        b"BAD_STATE",
+    ),
+    (b"aead_update_ad 1 data=", b"BAD_STATE"),
+    (b"aead_update 1 data=", b"BAD_STATE"),
+    (b"aead_decrypt_setup 1 $k alg=05500200", b"BAD_STATE"),
+    (b"abort 1", b"SUCCESS"),
+    (b"aead_decrypt_setup 1 $k alg=05500200", b"SUCCESS"),
+    (
+        b"aead_set_nonce 1 nonce=000000000000000000000000",
+        b"SUCCESS",
+    ),
+    (
+        b"aead_verify 1 tag=58e2fccefa7e3061367f1d57a4e7455a",
+        b"SUCCESS",
+    ),
+];
+
 #[test]
 fn ccm_is_made_in_pieces(rt: HostRuntime) -> Result<(), Fail> {
     assert_eq!(rt; first_other_answer(rt.alloc(), &CCM)?, CCM.len());
@@ -255,5 +302,14 @@ fn ccm_is_made_in_pieces(rt: HostRuntime) -> Result<(), Fail> {
 #[test]
 fn gcm_is_made_in_pieces(rt: HostRuntime) -> Result<(), Fail> {
     assert_eq!(rt; first_other_answer(rt.alloc(), &GCM)?, GCM.len());
+    Ok(())
+}
+
+#[test]
+fn a_nonce_has_to_be_set(rt: HostRuntime) -> Result<(), Fail> {
+    assert_eq!(rt;
+        first_other_answer(rt.alloc(), &WITHOUT_NONCE)?,
+        WITHOUT_NONCE.len()
+    );
     Ok(())
 }

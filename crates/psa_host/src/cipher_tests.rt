@@ -42,10 +42,15 @@ const CIPHERS: [(&[u8], &[u8]); 14] = [
     (b"abort 1", b"SUCCESS"),
 ];
 
-const CIPHER_ORDERS: [(&[u8], &[u8]); 75] = [
+// The random bytes are those of ChaCha20 under the zero key, stream 1. The padded texts were computed with OpenSSL.
+const CIPHER_ORDERS: [(&[u8], &[u8]); 88] = [
     (
         b"import k type=2400 usage=300 alg=04404100 data=2b7e151628aed2a6abf7158809cf4f3c",
         b"SUCCESS 40100000",
+    ),
+    (
+        b"import h type=1100 usage=300 alg=04404100 data=2b7e151628aed2a6abf7158809cf4f3c",
+        b"SUCCESS 40100001",
     ),
     (b"cipher_generate_iv 1", b"BAD_STATE"),
     (
@@ -56,8 +61,13 @@ const CIPHER_ORDERS: [(&[u8], &[u8]); 75] = [
     (b"cipher_finish 1", b"BAD_STATE"),
     (b"cipher_encrypt_setup 1 #2 alg=04404100", b"INVALID_HANDLE"),
     (b"cipher_encrypt_setup 1 $k alg=04c01000", b"NOT_PERMITTED"),
+    (b"cipher_encrypt_setup 1 $k alg=01000000", b"NOT_SUPPORTED"),
     (
         b"cipher_decrypt_setup 1 $k alg=02000009",
+        b"INVALID_ARGUMENT",
+    ),
+    (
+        b"cipher_encrypt_setup 1 $h alg=04404100",
         b"INVALID_ARGUMENT",
     ),
     (b"cipher_encrypt_setup 1 $k alg=04404100", b"SUCCESS"),
@@ -76,7 +86,13 @@ const CIPHER_ORDERS: [(&[u8], &[u8]); 75] = [
         b"cipher_finish 1",
         b"SUCCESS 9be1e579d107a136c031b645a88da750",
     ),
+    (b"cipher_generate_iv 1", b"BAD_STATE"),
+    (
+        b"cipher_set_iv 1 iv=00000000000000000000000000000000",
+        b"BAD_STATE",
+    ),
     (b"cipher_update 1 data=00", b"BAD_STATE"),
+    (b"cipher_finish 1", b"BAD_STATE"),
     (b"cipher_decrypt_setup 1 $k alg=04404100", b"SUCCESS"),
     (
         b"cipher_set_iv 1 iv=000102030405060708090a0b0c0d0e0f",
@@ -92,10 +108,14 @@ const CIPHER_ORDERS: [(&[u8], &[u8]); 75] = [
     ),
     (b"cipher_encrypt_setup 1 $k alg=04404100", b"SUCCESS"),
     (b"cipher_update 1 data=00", b"BAD_STATE"),
+    (b"cipher_generate_iv 1", b"BAD_STATE"),
     (
         b"cipher_set_iv 1 iv=00000000000000000000000000000000",
         b"BAD_STATE",
     ),
+    (b"cipher_update 1 data=00", b"BAD_STATE"),
+    (b"cipher_finish 1", b"BAD_STATE"),
+    (b"cipher_decrypt_setup 1 $k alg=04404100", b"BAD_STATE"),
     (b"abort 1", b"SUCCESS"),
     (b"cipher_encrypt_setup 1 $k alg=04404100", b"SUCCESS"),
     (b"cipher_finish 1", b"BAD_STATE"),
@@ -183,7 +203,13 @@ const CIPHER_ORDERS: [(&[u8], &[u8]); 75] = [
     (b"cipher_finish 1", b"INVALID_PADDING"),
     (b"cipher_finish 1", b"BAD_STATE"),
     (b"abort 1", b"SUCCESS"),
+    (b"cipher_generate_iv 1", b"BAD_STATE"),
+    (
+        b"cipher_set_iv 1 iv=00000000000000000000000000000000",
+        b"BAD_STATE",
+    ),
     (b"cipher_update 1 data=00", b"BAD_STATE"),
+    (b"cipher_finish 1", b"BAD_STATE"),
 ];
 
 #[test]

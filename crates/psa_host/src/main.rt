@@ -4,6 +4,8 @@
 ghost use Rattle.std.specs.Prelude.{◌≡◌};
 ghost use Rattle.psa_host.specs.Program.{end_status};
 
+#[cfg(test)]
+mod adapter_tests;
 mod adapters;
 mod aead_steps;
 #[cfg(test)]
@@ -14,9 +16,13 @@ mod cipher_steps;
 #[cfg(test)]
 mod cipher_tests;
 mod command;
+#[cfg(test)]
+mod creation_tests;
 mod derivation_steps;
 #[cfg(test)]
 mod derivation_tests;
+#[cfg(test)]
+mod derived_key_tests;
 mod families;
 mod handles;
 mod hash_steps;

@@ -1,15 +1,12 @@
 ghost use Rattle.std.specs.Prelude.{None, ⊤};
 
 use crate::End;
-use crate::adapters::{FileDisk, Reading, Writing};
 use crate::command::{Ended, Exit, run_command};
 use disk_face::Disk;
-use outside_io::{MemorySink, MemorySource, Sink, Source};
+use outside_io::{MemorySink, MemorySource, Sink};
 use psa_status::Failed;
 use std::alloc::{AllocError, Global};
-use std::fs::{self, OpenOptions};
 use std::test::Fail;
-use std::time::{SystemTime, UNIX_EPOCH};
 
 /// A disk of length 0 that fails each call.
 #[derive(Drop)]
@@ -315,41 +312,5 @@ fn faults_are_told(rt: HostRuntime) -> Result<(), Fail> {
     assert_eq!(rt; sink.taken, 10);
     assert_eq!(rt; disk.faults, 0);
     assert_eq!(rt; End::DiskFault.status(), 6);
-    Ok(())
-}
-
-#[test]
-fn streams_are_adapted(rt: HostRuntime) -> Result<(), Fail> {
-    let mut source = Reading::new(b"abc".as_slice());
-    let mut buffer = [0; 8];
-    assert_eq!(rt; source.read(&mut buffer), Ok(3));
-    assert_eq!(rt; &buffer[..3], b"abc".as_slice());
-    assert_eq!(rt; source.read(&mut buffer), Ok(0));
-    let mut room = [0; 2];
-    let mut sink = Writing::new(room.as_mut_slice());
-    assert_eq!(rt; sink.write(b"abc"), Ok(2));
-    assert_eq!(rt; sink.write(b"c"), Err(Failed));
-    Ok(())
-}
-
-#[test]
-fn a_file_is_adapted(rt: HostRuntime) -> Result<(), Fail> {
-    let now = SystemTime::now(&rt)?.duration_since(UNIX_EPOCH)?;
-    let path = format!(in rt.alloc(); "disk_of_a_test.{}", now.as_nanos())?;
-    let file = OpenOptions::new()
-        .read(true)
-        .write(true)
-        .create_new(true)
-        .open(&rt, path.as_str())?;
-    fs::remove_file(&rt, path.as_str())?;
-    let mut disk = FileDisk::new(file);
-    assert_eq!(rt; disk.len(), Ok(0));
-    assert_eq!(rt; disk.extend(4), Ok(()));
-    assert_eq!(rt; disk.write_at(1, b"ab"), Ok(()));
-    assert_eq!(rt; disk.sync(), Ok(()));
-    let mut bytes = [9; 4];
-    assert_eq!(rt; disk.read_at(0, &mut bytes), Ok(()));
-    assert_eq!(rt; bytes, [0, b'a', b'b', 0]);
-    assert_eq!(rt; disk.len(), Ok(4));
     Ok(())
 }
