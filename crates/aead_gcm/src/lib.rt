@@ -63,7 +63,7 @@ pub fn open(key: &AesKey, nonce: &[u8], ad: &[u8], text: &mut [u8], tag: &[u8]) 
     }
 }
 
-// The tag of a cipher text, whole: `first` is the initial counter block (SP 800-38D, section 7.1,
+// The tag of a ciphertext, whole: `first` is the initial counter block (SP 800-38D, section 7.1,
 // steps 4 to 6).
 fn whole_tag(key: &AesKey, subkey: u128, first: u128, ad: &[u8], text: &[u8]) -> [u8; 16]
     requires key { IsKey key.now }

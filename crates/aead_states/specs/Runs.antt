@@ -21,7 +21,7 @@ pub record HoldsData (r : Parts) (alg : ℕ) (key nonce : List ℕ) (a p : ℕ) 
       (HoldsCcmData r.ccm key (tag_bytes alg) nonce a p ad)
       (HoldsGcmData r.gcm key nonce ad)
 
--- the associated data is taken in, and so much of the text: CCM's tag covers the plain text, GCM's the cipher text
+-- the associated data is taken in, and so much of the text: CCM's tag covers the plaintext, GCM's the ciphertext
 pub record HoldsText (r : Parts) (encrypts : Bool) (alg : ℕ) (key nonce : List ℕ) (p : ℕ) (ad text : List ℕ) : Type 0 where
   pub part : MatchBool (is_ccm alg)
       (HoldsCcmText r.ccm key (tag_bytes alg) nonce p ad (plain_of encrypts (ccm_text (aes_encrypt key) nonce) text))

@@ -33,7 +33,7 @@ processed EcbDecrypt key chain text = ecb_decrypt (aes_decrypt key) text
 processed CbcEncrypt key chain text = cbc_encrypt (aes_encrypt key) chain text
 processed CbcDecrypt key chain text = cbc_decrypt (aes_decrypt key) chain text
 
--- the last block of a cipher text, and a block of 16 bytes where it is empty
+-- the last block of a ciphertext, and a block of 16 bytes where it is empty
 abbrev pub last_block : (chain text : List ℕ) → List ℕ
 last_block chain text = drop (length text) (chain ++ text)
 

@@ -72,7 +72,7 @@ impl Way {
     }
 }
 
-// Makes the chain the last block of a cipher text of whole blocks, where it has one.
+// Makes the chain the last block of a ciphertext of whole blocks, where it has one.
 fn keep_last(chain: &mut [u8; 16], text: &[u8])
     requires { length text.now % 16 ≡ 0 }
     ensures { chain.new ≡ drop (length text.now) (chain.old ++ text.now) }

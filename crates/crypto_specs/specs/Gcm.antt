@@ -38,7 +38,7 @@ gcm_stream e y (suc n) = gcm_stream e y n ++ e (number_block (increased y (n + 1
 unfoldable pub gcm_text : (List ℕ → List ℕ) → List ℕ → List ℕ → List ℕ
 gcm_text e nonce text = xor_bytes text (gcm_stream e (initial_counter_block e nonce) (block_count (length text)))
 
--- the tag of t bytes, over the cipher text (steps 4 to 6)
+-- the tag of t bytes, over the ciphertext (steps 4 to 6)
 unfoldable pub gcm_tag : (List ℕ → List ℕ) → ℕ → List ℕ → List ℕ → List ℕ → List ℕ
 gcm_tag e t nonce ad text =
     take t (xor_bytes (e (number_block (initial_counter_block e nonce))) (number_block (ghash_of (hash_subkey e) ad text)))

@@ -18,7 +18,7 @@ pub record HoldsGcmData (s : GcmState) (key nonce ad : List ℕ) : Type 0 where
   pub stream : IsAtByte s key nonce 0
   pub first : s.first ≡ initial_counter_block (aes_encrypt key) nonce
 
--- it has taken in all of the associated data, filled with zeros, and after it this cipher text
+-- it has taken in all of the associated data, filled with zeros, and after it this ciphertext
 pub record HoldsGcmText (s : GcmState) (key nonce ad cipher : List ℕ) : Type 0 where
   pub hash : HasTaken s.hash (hash_subkey (aes_encrypt key)) (ghash_from (hash_subkey (aes_encrypt key)) 0 (numbers_of ad)) cipher
   pub stream : IsAtByte s key nonce (length cipher)

@@ -84,7 +84,7 @@ impl GcmState {
         ensures holds { (nonce ad cipher : List ℕ) → HoldsGcmText self.old key.now nonce ad cipher
             → HoldsGcmText self.new key.now nonce ad (cipher ++ piece.old) }
     {
-        self.hash.update(piece); // first, since the tag covers the cipher text
+        self.hash.update(piece); // first, since the tag covers the ciphertext
         self.stream.xor(key, piece);
     }
 

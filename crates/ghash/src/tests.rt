@@ -9,7 +9,7 @@ const CIPHER_TEXT: u128 = 0x0388dace60b6a392f328c2b971b2fe78;
 
 const LENGTHS: u128 = 0x80;
 
-// The values after the cipher text and after the lengths.
+// The values after the ciphertext and after the lengths.
 const FIRST: u128 = 0x5e2ec746917062882c85b0685353deb7;
 
 const SECOND: u128 = 0xf38cbb1ad69223dcc3457ae5b6b0f885;

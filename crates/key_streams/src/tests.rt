@@ -61,7 +61,7 @@ fn second_block(key: &AesKey, width: CounterWidth, counter: u128) -> [u8; 16]
     second
 }
 
-// After all ones comes the zero block, whose cipher text under the key of zeros is known.
+// After all ones comes the zero block, whose ciphertext under the key of zeros is known.
 #[test]
 fn counters_wrap(rt: HostRuntime) -> Result<(), Fail> {
     let key = AesKey::new(&[0; 16]).ok_or("key")?;
