@@ -13,9 +13,9 @@ ghost use Rattle.key_service.specs.Services.{StandsFor};
 use crate::op::Op;
 use crate::operations::{Operations, place};
 use alg_encoding::{Alg, Class};
-use key_attributes::KeyId;
+use key_attributes::{KeyId, Usage};
 use psa_status::Status;
-use store_core::{DECRYPT, ENCRYPT, Store};
+use store_core::Store;
 
 impl Operations {
     /// Sets an inactive operation up to encrypt a text under a key.
@@ -37,7 +37,7 @@ impl Operations {
     {
         store.count();
         let cell = &mut self.cells[place(caller, op)];
-        let bytes = cell.begin(store, Class::Cipher, ENCRYPT, alg, key)?;
+        let bytes = cell.begin(store, Class::Cipher, Usage::ENCRYPT, alg, key)?;
         cell.cipher.cipher_encrypt_setup(bytes, alg)
     }
 
@@ -60,7 +60,7 @@ impl Operations {
     {
         store.count();
         let cell = &mut self.cells[place(caller, op)];
-        let bytes = cell.begin(store, Class::Cipher, DECRYPT, alg, key)?;
+        let bytes = cell.begin(store, Class::Cipher, Usage::DECRYPT, alg, key)?;
         cell.cipher.cipher_decrypt_setup(bytes, alg)
     }
 

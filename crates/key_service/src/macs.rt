@@ -12,9 +12,9 @@ ghost use Rattle.key_service.specs.Services.{StandsFor};
 use crate::op::Op;
 use crate::operations::{Operations, place};
 use alg_encoding::{Alg, Class};
-use key_attributes::KeyId;
+use key_attributes::{KeyId, Usage};
 use psa_status::Status;
-use store_core::{SIGN_MESSAGE, Store, VERIFY_MESSAGE};
+use store_core::Store;
 
 impl Operations {
     /// Sets an inactive operation up to make the MAC of a message under a key.
@@ -36,7 +36,7 @@ impl Operations {
     {
         store.count();
         let cell = &mut self.cells[place(caller, op)];
-        let bytes = cell.begin(store, Class::Mac, SIGN_MESSAGE, alg, key)?;
+        let bytes = cell.begin(store, Class::Mac, Usage::SIGN_MESSAGE, alg, key)?;
         cell.mac.mac_sign_setup(bytes, alg)
     }
 
@@ -59,7 +59,7 @@ impl Operations {
     {
         store.count();
         let cell = &mut self.cells[place(caller, op)];
-        let bytes = cell.begin(store, Class::Mac, VERIFY_MESSAGE, alg, key)?;
+        let bytes = cell.begin(store, Class::Mac, Usage::VERIFY_MESSAGE, alg, key)?;
         cell.mac.mac_verify_setup(bytes, alg)
     }
 

@@ -15,19 +15,8 @@ mod store;
 mod streams;
 mod uses;
 
-use key_attributes::Usage;
 pub use store::Store;
 pub use uses::Found;
-
-// What the calls of each class ask of a key's policy.
-
-pub const ENCRYPT: Usage = Usage::ENCRYPT;
-
-pub const DECRYPT: Usage = Usage::DECRYPT;
-
-pub const SIGN_MESSAGE: Usage = Usage::SIGN_MESSAGE;
-
-pub const VERIFY_MESSAGE: Usage = Usage::VERIFY_MESSAGE;
 
 #[cfg(test)]
 mod tests;
