@@ -1,3 +1,4 @@
 pub mod Choices
+pub mod Rotations
 pub mod ScheduleWords
 pub mod TwoBlocks

@@ -20,30 +20,32 @@ pub fn maj(x: u32, y: u32, z: u32) -> u32
     y ^ ((x ^ y) & (y ^ z))
 }
 
+// The four functions below take rotations inside one another: each is then of a word that is no longer
+// needed, so that none is copied for it.
 #[inline(always)]
 pub fn big_sigma0(x: u32) -> u32
     ensures { result ≡ big_sigma0 x }
 {
-    x.rotate_right(2) ^ x.rotate_right(13) ^ x.rotate_right(22)
+    (x ^ (x ^ x.rotate_right(9)).rotate_right(11)).rotate_right(2)
 }
 
 #[inline(always)]
 pub fn big_sigma1(x: u32) -> u32
     ensures { result ≡ big_sigma1 x }
 {
-    x.rotate_right(6) ^ x.rotate_right(11) ^ x.rotate_right(25)
+    (x ^ (x ^ x.rotate_right(14)).rotate_right(5)).rotate_right(6)
 }
 
 #[inline(always)]
 pub fn small_sigma0(x: u32) -> u32
     ensures { result ≡ small_sigma0 x }
 {
-    x.rotate_right(7) ^ x.rotate_right(18) ^ (x >> 3)
+    (x ^ x.rotate_right(11)).rotate_right(7) ^ (x >> 3)
 }
 
 #[inline(always)]
 pub fn small_sigma1(x: u32) -> u32
     ensures { result ≡ small_sigma1 x }
 {
-    x.rotate_right(17) ^ x.rotate_right(19) ^ (x >> 10)
+    (x ^ x.rotate_right(2)).rotate_right(17) ^ (x >> 10)
 }
