@@ -144,7 +144,8 @@ fn added(hash_value: &[u32; 8], variables: &[u32; 8]) -> [u32; 8]
 pub fn compress(hash_value: &[u32; 8], block: &[u8; 64]) -> [u32; 8]
     ensures { result ≡ compress hash_value.now block.now }
 {
-    let words = message_schedule(block);
+    let mut words = [0; 64];
+    message_schedule(&mut words, block);
     let mut variables = *hash_value;
     'turns: for turn in 0..8 {
         let next = eight_rounds(variables, &words, 8 * turn);

@@ -1,7 +1,7 @@
 // The message schedule of a block (FIPS 180-4, section 6.2.2, step 1).
 
-ghost use Rattle.std.specs.Prelude.{◌≡◌, ◌+◌, ◌<◌, ◌≤◌, take};
-ghost use Rattle.sha2.specs.Sha256.{first_words, next_word, schedule, word_at};
+ghost use Rattle.std.specs.Prelude.{◌≡◌, ◌+◌, ◌-◌, ◌<◌, ◌≤◌, ℕ, List, take};
+ghost use Rattle.sha2.specs.Sha256.{first_words, schedule, word_at};
 
 use crate::words::{small_sigma0, small_sigma1};
 
@@ -14,40 +14,54 @@ fn word_at(block: &[u8; 64], i: usize) -> u32
     u32::from_be_bytes([block[i], block[i + 1], block[i + 2], block[i + 3]])
 }
 
-// The sixteen words of a block, and room for those after them.
+// Writes the sixteen words of a block, which begin its schedule.
 #[inline(always)]
-fn block_words(block: &[u8; 64]) -> [u32; 64]
-    ensures { take 16 result ≡ first_words block.now 16 }
+fn put_block_words(words: &mut [u32; 64], block: &[u8; 64])
+    ensures { take 16 words.new ≡ first_words block.now 16 }
 {
-    let mut words = [0; 64];
     'words: for t in 0..16 {
         words[t] = word_at(block, 4 * t);
     }
-    words
 }
 
-// Word `t` of the schedule, from those before it.
+// Writes word `t`, which follows from those before it.
 #[inline(always)]
-fn next_word(words: &[u32; 64], t: usize) -> u32
+fn put_next_word(words: &mut [u32; 64], t: usize)
     requires low { 16 ≤ t }
     requires high { t < 64 }
-    ensures { result ≡ next_word words.now t }
+    ensures { (b : List ℕ) → take t words.old ≡ schedule b (t - 16) → take (t + 1) words.new ≡ schedule b (t + 1 - 16) }
 {
-    small_sigma1(words[t - 2])
+    let word = small_sigma1(words[t - 2])
         .wrapping_add(words[t - 7])
         .wrapping_add(small_sigma0(words[t - 15]))
-        .wrapping_add(words[t - 16])
+        .wrapping_add(words[t - 16]);
+    words[t] = word;
 }
 
-// W_0, .., W_63.
+// Writes eight words from word `t` on.
 #[inline(always)]
-pub fn message_schedule(block: &[u8; 64]) -> [u32; 64]
-    ensures { result ≡ schedule block.now 48 }
+fn put_eight_words(words: &mut [u32; 64], t: usize)
+    requires low { 16 ≤ t }
+    requires high { t + 8 ≤ 64 }
+    ensures { (b : List ℕ) → take t words.old ≡ schedule b (t - 16) → take (t + 8) words.new ≡ schedule b (t + 8 - 16) }
 {
-    let mut words = block_words(block);
-    'words: for t in 16..64 {
-        let word = next_word(&words, t);
-        words[t] = word;
+    put_next_word(words, t);
+    put_next_word(words, t + 1);
+    put_next_word(words, t + 2);
+    put_next_word(words, t + 3);
+    put_next_word(words, t + 4);
+    put_next_word(words, t + 5);
+    put_next_word(words, t + 6);
+    put_next_word(words, t + 7);
+}
+
+// Writes W_0, .., W_63.
+#[inline(always)]
+pub fn message_schedule(words: &mut [u32; 64], block: &[u8; 64])
+    ensures { words.new ≡ schedule block.now 48 }
+{
+    put_block_words(words, block);
+    'turns: for turn in 2..8 {
+        put_eight_words(words, 8 * turn);
     }
-    words
 }

@@ -11,4 +11,4 @@ unfolding compress
 returns c =
     let h = c.args.hash_value.now in
     let done : 8 * c.turns.turn ≡ 64 = omega arith in
-    c.added.ensures ∙ ap (add_state h) (c.turns.invariant ∙ ap₂ (rounds h) c.message_schedule-words.ensures done)
+    c.added.ensures ∙ ap (add_state h) (c.turns.invariant ∙ ap₂ (rounds h) c.message_schedule.ensures done)

@@ -1,7 +1,7 @@
 use Rattle.std.proofs.Common.{rules, arith}
 use Rattle.sha2.specs.Sha256.{first_words}
 use Rattle.sha256_blocks.proofs.ScheduleWords.{first_words-more}
-use Rattle.sha256_blocks.proofs.schedule.block_words.Goals as goal
+use Rattle.sha256_blocks.proofs.schedule.put_block_words.Goals as goal
 
 pub words-init : goal.words-init
 unfolding first_words
