@@ -1,9 +1,9 @@
 -- The key's block and its pads.
-use Rattle.std.proofs.Common.{◌≡◌, ℕ, ◌+◌, ◌-◌, ◌<◌, ◌≤◌, Bool, true, false, cond, List, ◌++◌, length, take, bit_xor, sym, ap, ◌∙◌, arith}
+use Rattle.std.proofs.Common.{◌≡◌, ℕ, ◌+◌, ◌-◌, ◌<◌, ◌≤◌, Bool, true, false, cond, List, ◌++◌, length, length-append, take, bit_xor, inl, inr, sym, ap, ◌∙◌, arith}
 use Rattle.std.specs.Prelude.{replicate, nat_lt}
 use Rattle.std.proofs.Math.Seq.{take-append-add}
-use Rattle.std.proofs.lemmas.Bool.{le-ltb, lt-ltb}
-use Rattle.std.proofs.lemmas.List.{take-replicate, take-map}
+use Rattle.std.proofs.lemmas.Bool.{cases_lt, le-ltb, lt-ltb}
+use Rattle.std.proofs.lemmas.List.{length-map, length-replicate, take-replicate, take-map}
 use Rattle.crypto_specs.specs.Hmac.{filled, key_block, xored_with}
 
 -- the front of a filled list
@@ -24,6 +24,20 @@ unfolding key_block
 key_block_long hash n key digest b l e d =
     let test : nat_lt n (length key) ≡ true = lt-ltb n (length key) l in
     fill_taken digest n 128 d b ∙ ap (filled n) e ∙ ap (λ (t : Bool). filled n (cond t (hash key) key)) (sym test)
+
+-- a pad is a block
+length-filled : (n : ℕ) (k : List ℕ) → length k ≤ n → length (filled n k) ≡ n
+length-filled n k h = omega (arith, length-append k (replicate (n - length k) 0), length-replicate {A = ℕ} (n - length k) 0)
+
+length-key_block : (hash : List ℕ → List ℕ) (n : ℕ) (key : List ℕ) → ((m : List ℕ) → length (hash m) ≤ n) → length (key_block hash n key) ≡ n
+unfolding key_block
+length-key_block hash n key fits = elim (cases_lt n (length key)) [
+  | inl long ↦ ap (λ (t : Bool). length (filled n (cond t (hash key) key))) (lt-ltb n (length key) long) ∙ length-filled n (hash key) (fits key)
+  | inr short ↦ ap (λ (t : Bool). length (filled n (cond t (hash key) key))) (le-ltb n (length key) short) ∙ length-filled n key short
+]
+
+pub length-pad : (hash : List ℕ → List ℕ) (n : ℕ) (key : List ℕ) (c : ℕ) → ((m : List ℕ) → length (hash m) ≤ n) → length (xored_with c (key_block hash n key)) ≡ n
+length-pad hash n key c fits = length-map (key_block hash n key) (λ (b : ℕ). bit_xor b c) ∙ length-key_block hash n key fits
 
 -- the front of a block, xored
 pub pad_of : (n : ℕ) (front block pad : List ℕ) (c : ℕ) → take n block ≡ front → pad ≡ xored_with c block → take n pad ≡ xored_with c front

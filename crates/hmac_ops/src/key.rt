@@ -41,19 +41,6 @@ impl HmacKey {
         }
     }
 
-    /// Writes the authentication code of the first `length` bytes of a block over its front, whose rest stays, and
-    /// answers the code's length.
-    pub fn code_in_place(&self, block: &mut [u8; 64], length: usize) -> usize
-        requires { length ≤ 64 }
-        ensures bound { result ≤ 64 }
-        ensures length { (which : Hash) (key : List ℕ) → IsHmacKey self.now which key → result ≡ digest_length which }
-        ensures code { (which : Hash) (key : List ℕ) → IsHmacKey self.now which key →
-            take result block.new ≡ hmac (hash_of which) (block_length which) key (take length block.old) }
-        ensures rest { drop result block.new ≡ drop result block.old }
-    {
-        self.outer.nested_digest(&self.inner, block, length)
-    }
-
     /// Forgets the key: the hashes are then those of the empty message.
     pub fn wipe(&mut self)
         ensures { IsWipedHmacKey self.new }

@@ -7,10 +7,12 @@ ghost use Rattle.hash_ops.specs.Hashes.{block_length, digest_length, hash_of};
 
 use hash_ops::Hash;
 pub use key::HmacKey;
+pub use short_message_key::ShortMessageKey;
 pub use state::HmacState;
 
 mod key;
 mod pads;
+mod short_message_key;
 mod state;
 #[cfg(test)]
 mod tests;

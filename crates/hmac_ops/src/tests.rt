@@ -1,6 +1,6 @@
 // The test cases of RFC 4231, section 4.
 
-use crate::{HmacKey, hmac};
+use crate::{HmacKey, ShortMessageKey, hmac};
 use hash_ops::Hash;
 use std::test::Fail;
 
@@ -226,10 +226,6 @@ fn a_key_made_ready(rt: HostRuntime) -> Result<(), Fail> {
     other.update(b"another message");
     other.wipe();
     let mut out = [0u8; 64];
-    out[..message.len()].copy_from_slice(message);
-    let length = key.code_in_place(&mut out, message.len());
-    let written = out.get(..length).ok_or("length")?;
-    assert_eq!(rt; written, codes[1]);
     let mut state = key.start();
     key.wipe();
     for byte in message {
@@ -238,5 +234,36 @@ fn a_key_made_ready(rt: HostRuntime) -> Result<(), Fail> {
     let length = state.finish(&mut out);
     let written = out.get(..length).ok_or("length")?;
     assert_eq!(rt; written, codes[1]);
+    Ok(())
+}
+
+// Keys, and their codes of 32 bytes 0xdd, as Python's hmac gives them.
+const SHORT_CASES: [(&[u8], [u8; 32]); 2] = [
+    (
+        b"Jefe",
+        [
+            0x4e, 0x10, 0x4c, 0xf9, 0xb0, 0xbc, 0x16, 0x0f, 0xd0, 0xd2, 0xd2, 0x39, 0xc0, 0x3d,
+            0x49, 0x49, 0xbd, 0xc6, 0x9f, 0x49, 0x1f, 0x45, 0x6d, 0x44, 0x10, 0xb8, 0x7a, 0xc5,
+            0x0d, 0xd0, 0xfa, 0x79,
+        ],
+    ),
+    (
+        &[0xaa; 131],
+        [
+            0x9b, 0x15, 0x79, 0xbc, 0x07, 0x0d, 0x51, 0x0d, 0x7e, 0xbf, 0xae, 0x33, 0x1f, 0xae,
+            0x79, 0xe3, 0x76, 0xf9, 0x9d, 0x6b, 0x44, 0x46, 0xb2, 0x68, 0xc9, 0xec, 0x91, 0x01,
+            0xac, 0x5b, 0xd3, 0xc5,
+        ],
+    ),
+];
+
+#[test]
+fn keys_for_short_messages(rt: HostRuntime) -> Result<(), Fail> {
+    for (bytes, code) in SHORT_CASES.iter() {
+        let mut key = ShortMessageKey::new(*bytes);
+        assert_eq!(rt; key.code(&[0xdd; 32]), *code);
+        key.wipe();
+        assert!(rt; key.code(&[0xdd; 32]) != *code);
+    }
     Ok(())
 }

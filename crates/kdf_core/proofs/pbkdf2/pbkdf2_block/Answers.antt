@@ -17,7 +17,7 @@ turns-init c =
     let turn : List ℕ = take k c.first_turn-length.new.turn in
     let written : length c.copy_from_slice.new.self ≡ k = omega (arith, c.copy_from_slice.ensures.len, length-take k c.args.out.now) in
     let copied = front_copied c.copy_from_slice.new.self c.args.out.now k 64 written (omega arith) (omega arith) in
-    let first = c.first_turn-length.ensures.code c.args.which password c.new-key.ensures in
+    let first = c.first_turn-length.ensures.code c.args.which password c.new-first_key.ensures in
     record {
       sum = ap (λ (s : List ℕ). summed hash b password turn s (c.args.cost - 1)) (copied.0 ∙ c.copy_from_slice.ensures.after)
           ∙ ap (λ (u : List ℕ). summed hash b password u u (c.args.cost - 1)) first ∙ summed-first hash b password (hmac hash b password (c.args.salt.now ++ to_be_bytes w32 c.args.n)) c.args.cost c.requires.cost;
@@ -33,12 +33,12 @@ turns-preserved c =
     let b : ℕ = block_length which in
     let password = c.args.password.now in
     let k : ℕ = c.first_turn-length.result in
-    let now : List ℕ = c.code_in_place.new.block in
+    let now : List ℕ = c.next.new.block in
     let next : List ℕ = take k now in
-    let length_is = c.first_turn-length.ensures.length which password c.new-key.ensures in
-    let same : c.code_in_place.result ≡ k = c.code_in_place.ensures.length which password c.new-key.ensures ∙ sym length_is in
-    let is_next = ap (λ (n : ℕ). take n now) (sym same) ∙ c.code_in_place.ensures.code which password c.new-key.ensures in
-    let zeros = ap (λ (n : ℕ). drop n now) (sym same) ∙ c.code_in_place.ensures.rest ∙ ap (λ (n : ℕ). drop n c.turns.turn) same ∙ c.turns.invariant.zeros in
+    let length_is = c.first_turn-length.ensures.length which password c.new-first_key.ensures in
+    let same : c.next.result ≡ k = c.next.ensures.length which password c.new-key.ensures ∙ sym length_is in
+    let is_next = ap (λ (n : ℕ). take n now) (sym same) ∙ c.next.ensures.code which password c.new-key.ensures length_is in
+    let zeros = ap (λ (n : ℕ). drop n now) (sym same) ∙ c.next.ensures.rest ∙ ap (λ (n : ℕ). drop n c.turns.turn) same ∙ c.turns.invariant.zeros in
     let xored = xored_front c.turns.out now k 64 (omega arith) c.turns.invariant.long (omega arith) zeros in
     record {
       sum = ap (λ (s : List ℕ). summed hash b password next s (c.args.cost - (c.turns.i + 1))) (ap (take k) c.xor_into.ensures ∙ xored.0)

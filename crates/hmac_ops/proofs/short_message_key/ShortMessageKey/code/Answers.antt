@@ -1,0 +1,16 @@
+use Rattle.std.proofs.Common.{◌≡◌, ◌≤◌, ◌∙◌, ◌++◌, List, ℕ, length, ap, arith}
+use Rattle.crypto_specs.specs.Hmac.{hmac, inner_pad, outer_pad}
+use Rattle.hash_ops.specs.Hashes.{hash_of}
+use Rattle.hash_ops.specs.declared.Hash.TheVariants.{Sha256}
+use Rattle.hash_ops.proofs.Digests.{length-hash_of}
+use Rattle.hmac_ops.proofs.Padding.{length-pad}
+use Rattle.hmac_ops.proofs.short_message_key.ShortMessageKey.code.Goals as goal
+
+pub returns : goal.returns
+unfolding hmac
+returns c = λ key held.
+    let hash : List ℕ → List ℕ = hash_of Sha256 in
+    let fits : (m : List ℕ) → length (hash m) ≤ 64 = λ m. omega (arith, length-hash_of Sha256 m) in
+    let inner = c.digest_with-digest.ensures (inner_pad hash 64 key) (length-pad hash 64 key 0x36 fits) held.inner in
+    let outer = c.digest_with.ensures (outer_pad hash 64 key) (length-pad hash 64 key 0x5c fits) held.outer in
+    outer ∙ ap (λ (d : List ℕ). hash (outer_pad hash 64 key ++ d)) inner

@@ -1,0 +1,12 @@
+use Rattle.std.proofs.Common.{List, ℕ, ◌∙◌, ap}
+use Rattle.sha2.specs.Sha256.{compress, initial_hash_256}
+use Rattle.hmac_ops.proofs.Padding.{pad_of}
+use Rattle.hmac_ops.proofs.short_message_key.ShortMessageKey.new.Goals as goal
+
+pub returns : goal.returns
+returns c =
+    let after = compress initial_hash_256 in
+    record {
+      inner = record { hash_value = c.new.ensures.hash_value ∙ ap after (c.front-inner_pad.ensures ∙ pad_of 64 _ _ _ 0x36 c.key_block-block.ensures c.xored_with.ensures) };
+      outer = record { hash_value = c.new-2.ensures.hash_value ∙ ap after (c.front-outer_pad.ensures ∙ pad_of 64 _ _ _ 0x5c c.key_block-block.ensures c.xored_with-2.ensures) };
+    }
