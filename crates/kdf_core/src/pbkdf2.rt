@@ -37,7 +37,7 @@ fn first_turn(key: &HmacKey, salt: &[u8], n: u32, turn: &mut [u8; 64]) -> usize
     state.finish(turn)
 }
 
-// Writes the next turn by HMAC-SHA-256 over the front of `turn`, whose rest stays, and answers its length.
+// Writes the next turn under HMAC-SHA-256 over the front of `turn`, whose rest stays, and answers its length.
 fn short_turn(key: &ShortMessageKey, turn: &mut [u8; 64]) -> usize
     ensures length { result ≡ 32 }
     ensures code { (k : List ℕ) → IsShortMessageKey key.now k
@@ -99,7 +99,7 @@ impl TurnKey {
         }
     }
 
-    // Forgets the password.
+    // Forgets the key.
     fn wipe(&mut self)
         ensures { IsWipedTurnKey self.new }
     {
