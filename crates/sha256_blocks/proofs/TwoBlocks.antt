@@ -1,7 +1,7 @@
 -- A message of 96 bytes is two blocks.
-use Rattle.std.proofs.Common.{◌≡◌, ℕ, ◌+◌, ◌*◌, ◌/◌, List, ◌++◌, length, length-append, take, drop, sym, ap, ap₂, ◌∙◌, append_assoc, arith}
+use Rattle.std.proofs.Common.{◌≡◌, ℕ, ◌+◌, ◌/◌, List, ◌++◌, length, length-append, take, drop, sym, ap, ap₂, ◌∙◌, append_assoc, arith}
 use Rattle.std.proofs.lemmas.List.{take_at, drop_at, take_all}
-use Rattle.sha2.specs.Sha256.{compress, digest_bytes, final_hash, hash_after, initial_hash_256, padded_message, padding, sha256}
+use Rattle.sha2.specs.Sha256.{compress, digest_bytes, hash_after, initial_hash_256, padded_message, padding, sha256}
 
 pub hash_after-two : (h x y : List ℕ) → length x ≡ 64 → length y ≡ 64 → hash_after h (x ++ y) 2 ≡ compress (compress h x) y
 unfolding hash_after

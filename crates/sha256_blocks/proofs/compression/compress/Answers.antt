@@ -1,4 +1,4 @@
-use Rattle.std.proofs.Common.{◌≡◌, ◌∙◌, ◌*◌, List, ℕ, refl, ap, ap₂, arith}
+use Rattle.std.proofs.Common.{◌≡◌, ◌∙◌, ◌*◌, refl, ap, ap₂, arith}
 use Rattle.sha2.specs.Sha256.{add_state, compress, rounds}
 use Rattle.sha256_blocks.proofs.compression.compress.Goals as goal
 

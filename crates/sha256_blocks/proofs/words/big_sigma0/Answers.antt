@@ -1,4 +1,4 @@
-use Rattle.std.proofs.Common.{◌∙◌, arith}
+use Rattle.std.proofs.Common.{arith}
 use Rattle.sha256_blocks.proofs.Rotations.{rotated-three}
 use Rattle.sha256_blocks.proofs.words.big_sigma0.Goals as goal
 
