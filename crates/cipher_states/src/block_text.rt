@@ -119,25 +119,27 @@ impl BlockText {
     }
 
     /// The last block of the text with its padding (PKCS#7), enciphered.
-    pub fn padded(&mut self, key: &AesKey) -> [u8; 16]
+    pub fn padded(&self, key: &AesKey) -> [u8; 16]
         requires { IsKey key.now }
-        ensures { self.old.used < 16 →
-            result ≡ processed self.old.way key.now self.old.chain (pkcs7_padded (take self.old.used self.old.kept)) }
+        ensures { self.now.used < 16 →
+            result ≡ processed self.now.way key.now self.now.chain (pkcs7_padded (take self.now.used self.now.kept)) }
     {
         let mut block = self.kept;
         pad(self.used % 16, &mut block);
-        self.way.process(key, &mut self.chain, &mut block);
+        let mut chain = self.chain;
+        self.way.process(key, &mut chain, &mut block);
         block
     }
 
     /// The whole block that is kept, deciphered.
-    pub fn last(&mut self, key: &AesKey) -> [u8; 16]
+    pub fn last(&self, key: &AesKey) -> [u8; 16]
         requires { IsKey key.now }
-        ensures { self.old.used ≡ 16 →
-            result ≡ processed self.old.way key.now self.old.chain (take self.old.used self.old.kept) }
+        ensures { self.now.used ≡ 16 →
+            result ≡ processed self.now.way key.now self.now.chain (take self.now.used self.now.kept) }
     {
         let mut block = self.kept;
-        self.way.process(key, &mut self.chain, &mut block);
+        let mut chain = self.chain;
+        self.way.process(key, &mut chain, &mut block);
         block
     }
 }

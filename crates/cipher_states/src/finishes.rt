@@ -18,16 +18,15 @@ use psa_status::Status;
 impl RunningCipher {
     // Fills a buffer with the last block of a text that ends in padding, and answers its length; without the padding,
     // and with zeros in its place, in decryption. Where there is no padding nothing is left to be written.
-    fn last_part(&mut self, out: &mut [u8]) -> Result<usize, Status>
-        requires key { IsKey self.old.key }
-        requires room { length out.old ≡ last_length (model_mode self.old.mode) }
-        ensures key { self.new.key ≡ self.old.key }
+    fn last_part(&self, out: &mut [u8]) -> Result<usize, Status>
+        requires key { IsKey self.now.key }
+        requires room { length out.old ≡ last_length (model_mode self.now.mode) }
         ensures within { IfOk result (λ n. n ≤ length out.old) }
-        ensures reply { (w : CipherWork) → HoldsCipher self.old w → takes_text w ≡ true → is_whole_text w ≡ true →
+        ensures reply { (w : CipherWork) → HoldsCipher self.now w → takes_text w ≡ true → is_whole_text w ≡ true →
             AnswersOrSpoils result (last_part w (whole_text w)).reply }
-        ensures buffer { (w : CipherWork) → HoldsCipher self.old w → takes_text w ≡ true → is_whole_text w ≡ true →
+        ensures buffer { (w : CipherWork) → HoldsCipher self.now w → takes_text w ≡ true → is_whole_text w ≡ true →
             out.new ≡ buffer_after out.old (last_part w (whole_text w)).reply }
-        ensures operation { (w : CipherWork) → HoldsCipher self.old w → takes_text w ≡ true → is_whole_text w ≡ true →
+        ensures operation { (w : CipherWork) → HoldsCipher self.now w → takes_text w ≡ true → is_whole_text w ≡ true →
             (last_part w (whole_text w)).operation ≡ (if is_ok result then Inactive else InError) }
     {
         if out.is_empty() {
@@ -45,15 +44,14 @@ impl RunningCipher {
     /// the initialisation vector is missing; `InvalidArgument` where a text of this length may not end;
     /// `BufferTooSmall` where the last block has no room; `InvalidPadding` where no padding ends the text and one
     /// should, and the buffer then has zeros in the last block's place.
-    pub(crate) fn finish(&mut self, out: &mut [u8]) -> Result<usize, Status>
-        requires { IsKey self.old.key }
-        ensures key { self.new.key ≡ self.old.key }
+    pub(crate) fn finish(&self, out: &mut [u8]) -> Result<usize, Status>
+        requires { IsKey self.now.key }
         ensures within { IfOk result (λ n. n ≤ length out.old) }
-        ensures reply { (w : CipherWork) → HoldsCipher self.old w →
+        ensures reply { (w : CipherWork) → HoldsCipher self.now w →
             AnswersOrSpoils result (cipher_step [] w (CipherFinish (length out.old))).reply }
-        ensures buffer { (w : CipherWork) → HoldsCipher self.old w →
+        ensures buffer { (w : CipherWork) → HoldsCipher self.now w →
             out.new ≡ buffer_after out.old (cipher_step [] w (CipherFinish (length out.old))).reply }
-        ensures operation { (w : CipherWork) → HoldsCipher self.old w →
+        ensures operation { (w : CipherWork) → HoldsCipher self.now w →
             (cipher_step [] w (CipherFinish (length out.old))).operation ≡ (if is_ok result then Inactive else InError) }
     {
         let needed = self.check_finish(out.len())?;
