@@ -1,0 +1,239 @@
+"""The one-thread store and its operations, from the documents of the store, for comparison alone."""
+
+from dataclasses import dataclass
+
+import algorithms as alg
+import primitives
+from operations import FAMILIES, Refused, require
+
+TYPES = {0x1001, 0x1100, 0x1200, 0x1203, 0x2400}
+HMAC_KEY, DERIVE_KEY, AES_KEY = 0x1100, 0x1200, 0x2400
+EXPORT, COPY, ENCRYPT, DECRYPT, SIGN, VERIFY, DERIVE = 1, 2, 0x100, 0x200, 0x400, 0x800, 0x4000
+SIGN_HASH, VERIFY_HASH, USAGES = 0x1000, 0x2000, 0xFF07
+FIRST_VOLATILE, LIVE_LIMIT = 0x40000000, 16
+
+
+@dataclass
+class Key:
+    identifier: int
+    creator: int
+    key_type: int
+    bits: int
+    usage: int
+    algorithm: int
+    data: bytes
+
+
+class Service:
+    def __init__(self):
+        self.keys = {}
+        self.made = {}
+        self.drawn = {}
+        self.operations = {}
+
+    def call(self, session, command, fields):
+        """Makes a call, and gives the bytes that it answers; Refused has its status."""
+        method = getattr(self, command, None)
+        if method:
+            return method(session, fields)
+        for family in FAMILIES:
+            if command in family.setups:
+                return self.set_up(session, command, fields, family)
+        return self.step(session, command, fields)
+
+    def draw(self, session, count):
+        place = self.drawn.get(session, 0)
+        self.drawn[session] = place + (count + 3) // 4
+        return primitives.random_bytes(session, place, count)
+
+    # Creations
+
+    def create(self, session, fields, key_type, usage, bits, algorithm, count, data):
+        """Adds a key of so many bytes, which `data` gives once nothing refuses the creation."""
+        require(fields.get("life", 0) == 0, "NOT_SUPPORTED")
+        require(fields.get("id", 0) == 0, "INVALID_ARGUMENT")
+        require(not usage & ~USAGES, "INVALID_ARGUMENT")
+        require(key_type in TYPES, "NOT_SUPPORTED")
+        require(count in (16, 24, 32) if key_type == AES_KEY else 1 <= count <= 1024, "INVALID_ARGUMENT")
+        require(bits in (0, 8 * count), "INVALID_ARGUMENT")
+        require(sum(key.creator == session for key in self.keys.values()) < LIVE_LIMIT, "KEY_LIMIT")
+        number = self.made.get(session, 0)
+        self.made[session] = number + 1
+        identifier = FIRST_VOLATILE + (session << 20) + number
+        implied = (SIGN if usage & SIGN_HASH else 0) | (VERIFY if usage & VERIFY_HASH else 0)
+        self.keys[identifier] = Key(identifier, session, key_type, 8 * count, usage | implied, algorithm, data())
+        return identifier.to_bytes(4, "big")
+
+    def import_(self, session, fields):
+        data = fields["data"]
+        return self.create(
+            session, fields, fields["type"], fields["usage"], fields.get("bits", 0), fields["alg"], len(data), lambda: data
+        )
+
+    def generate(self, session, fields):
+        bits = fields["bits"]
+        require(bits and bits % 8 == 0, "INVALID_ARGUMENT")
+        drawn = lambda: self.draw(session, bits // 8)
+        return self.create(
+            session, fields, fields["type"], fields["usage"], bits, fields["alg"], bits // 8, drawn
+        )
+
+    def copy(self, session, fields):
+        source = self.key(fields)
+        require(source.usage & COPY, "NOT_PERMITTED")
+        require(fields.get("type", 0) in (0, source.key_type), "INVALID_ARGUMENT")
+        require(fields.get("bits", 0) in (0, source.bits), "INVALID_ARGUMENT")
+        require(fields.get("life", 0) >> 8 == 0, "NOT_SUPPORTED")
+        met = alg.meet(source.algorithm, fields["alg"])
+        require(met is not None, "INVALID_ARGUMENT")
+        usage = fields["usage"] & source.usage
+        return self.create(
+            session, fields, source.key_type, usage, source.bits, met, len(source.data), lambda: source.data
+        )
+
+    # Calls on keys, and of whole messages
+
+    def key(self, fields):
+        require(fields["key"] in self.keys, "INVALID_HANDLE")
+        return self.keys[fields["key"]]
+
+    def check_class(self, number, kind):
+        require(alg.class_of(number), "NOT_SUPPORTED")
+        require(alg.class_of(number) == kind and alg.is_concrete(number), "INVALID_ARGUMENT")
+
+    def usable_key(self, fields, kind, usage):
+        number, key = fields["alg"], self.key(fields)
+        self.check_class(number, kind)
+        require(key.usage & usage and alg.permits(key.algorithm, number), "NOT_PERMITTED")
+        require(key.key_type == (HMAC_KEY if alg.base(number) in alg.HMACS else AES_KEY), "INVALID_ARGUMENT")
+        return key
+
+    def derivation_key(self, fields, number):
+        key = self.key(fields)
+        require(key.usage & DERIVE and alg.permits(key.algorithm, number), "NOT_PERMITTED")
+        return key
+
+    def destroy(self, session, fields):
+        if fields["key"]:
+            del self.keys[self.key(fields).identifier]
+        return b""
+
+    def attributes(self, session, fields):
+        key = self.key(fields)
+        parts = ((0, 4), (key.identifier, 4), (key.key_type, 2), (key.bits, 2), (key.usage, 4), (key.algorithm, 4))
+        return b"".join(value.to_bytes(width, "big") for value, width in parts)
+
+    def export(self, session, fields):
+        key = self.key(fields)
+        require(key.usage & EXPORT, "NOT_PERMITTED")
+        require(len(key.data) <= fields["room"], "BUFFER_TOO_SMALL")
+        return key.data
+
+    def hash_compute(self, session, fields):
+        self.check_class(fields["alg"], "hash")
+        require(alg.digest_length(fields["alg"]) <= fields["room"], "BUFFER_TOO_SMALL")
+        return primitives.hashed(alg.hash_name(fields["alg"]), fields["data"])
+
+    def hash_compare(self, session, fields):
+        self.check_class(fields["alg"], "hash")
+        digest = primitives.hashed(alg.hash_name(fields["alg"]), fields["data"])
+        require(digest == fields["hash"], "INVALID_SIGNATURE")
+        return b""
+
+    def whole(self, session, fields, kind, usage, steps):
+        """A call of a whole message as an operation of its family, once its key may be used."""
+        family = next(it for it in FAMILIES if it.kind == kind)
+        operation = family(fields["alg"], self.usable_key(fields, kind, usage), usage in (ENCRYPT, SIGN))
+        return steps(operation)
+
+    def mac_compute(self, session, fields):
+        def steps(operation):
+            require(alg.tag_length(fields["alg"]) <= fields["room"], "BUFFER_TOO_SMALL")
+            return operation.code(fields["data"])
+
+        return self.whole(session, fields, "mac", SIGN, steps)
+
+    def mac_verify(self, session, fields):
+        def steps(operation):
+            require(operation.code(fields["data"]) == fields["mac"], "INVALID_SIGNATURE")
+            return b""
+
+        return self.whole(session, fields, "mac", VERIFY, steps)
+
+    def cipher_encrypt(self, session, fields):
+        def steps(operation):
+            text = fields["data"]
+            require(operation.is_whole(text), "INVALID_ARGUMENT")
+            text = primitives.padded(text) if operation.alg == alg.CBC_PKCS7 else text
+            vector_length = 0 if operation.alg == alg.ECB else 16
+            require(vector_length + len(text) <= fields["room"], "BUFFER_TOO_SMALL")
+            vector = self.draw(session, vector_length)
+            return vector + operation.turned(vector, text)
+
+        return self.whole(session, fields, "cipher", ENCRYPT, steps)
+
+    def cipher_decrypt(self, session, fields):
+        def steps(operation):
+            at = 0 if operation.alg == alg.ECB else 16
+            vector, text = fields["data"][:at], fields["data"][at:]
+            require(len(vector) == at and operation.is_whole(text), "INVALID_ARGUMENT")
+            require(len(text) <= fields["room"], "BUFFER_TOO_SMALL")
+            text = operation.turned(vector, text)
+            text = primitives.unpadded(text) if operation.alg == alg.CBC_PKCS7 else text
+            require(text is not None, "INVALID_PADDING")
+            return text
+
+        return self.whole(session, fields, "cipher", DECRYPT, steps)
+
+    def aead_encrypt(self, session, fields):
+        def steps(operation):
+            text = fields["data"]
+            require(operation.permits_nonce(fields["nonce"], len(text)), "INVALID_ARGUMENT")
+            require(len(text) + operation.tag_length <= fields["room"], "BUFFER_TOO_SMALL")
+            return b"".join(operation.turned(fields["nonce"], fields["ad"], text))
+
+        return self.whole(session, fields, "aead", ENCRYPT, steps)
+
+    def aead_decrypt(self, session, fields):
+        def steps(operation):
+            at = len(fields["data"]) - operation.tag_length
+            require(at >= 0 and operation.permits_nonce(fields["nonce"], at), "INVALID_ARGUMENT")
+            require(at <= fields["room"], "BUFFER_TOO_SMALL")
+            text, tag = operation.turned(fields["nonce"], fields["ad"], fields["data"][:at])
+            require(tag == fields["data"][at:], "INVALID_SIGNATURE")
+            return text
+
+        return self.whole(session, fields, "aead", DECRYPT, steps)
+
+    # Calls on handles
+
+    def set_up(self, session, command, fields, family):
+        handle = (session, fields["handle"])
+        require(handle not in self.operations, "BAD_STATE")
+        usage = family.setups[command]
+        if usage is None:
+            self.check_class(fields["alg"], family.kind)
+            key = None
+        else:
+            key = self.usable_key(fields, family.kind, usage)
+        self.operations[handle] = family(fields["alg"], key, usage in (ENCRYPT, SIGN))
+        return b""
+
+    def step(self, session, command, fields):
+        handle = (session, fields["handle"])
+        operation = self.operations.get(handle)
+        require(operation and not operation.in_error and command in operation.steps, "BAD_STATE")
+        try:
+            key = operation.key
+            require(key is None or self.keys.get(key.identifier) is key, "INVALID_HANDLE")
+            answer = getattr(operation, command)(fields, self, session)
+        except Refused as refusal:
+            operation.in_error = not operation.stays_active(command, refusal.status)
+            raise
+        if operation.has_ended:
+            del self.operations[handle]
+        return answer
+
+    def abort(self, session, fields):
+        self.operations.pop((session, fields["handle"]), None)
+        return b""
