@@ -1,5 +1,5 @@
 -- GHASH block by block.
-use Rattle.std.proofs.Common.{◌≡◌, ℕ, suc, ◌+◌, ◌-◌, ◌*◌, ◌%◌, ◌^◌, ◌<◌, List, [], ◌∷◌, ◌++◌, length, take, drop, bit_xor, refl, sym, ap, ap₂, ◌∙◌, arith}
+use Rattle.std.proofs.Common.{◌≡◌, ℕ, suc, ◌+◌, ◌-◌, ◌*◌, ◌<◌, List, [], ◌∷◌, ◌++◌, length, take, drop, bit_xor, refl, sym, ap, ap₂, ◌∙◌, arith}
 use Rattle.std.specs.Prelude.{map, min}
 use Rattle.std.proofs.lemmas.List.{drop-drop, take_min, length-drop}
 use Rattle.crypto_specs.specs.Ghash.{ghash_from, block_product}
@@ -48,6 +48,3 @@ in_turn h c l start one two three ad text es e1 e2 e3 el ec =
     ec ∙ ap (λ (p : ℕ × ℕ). p.1) e3 ∙ ap (λ (k : ℕ). block_product (bit_xor two.1 l) k) key2
     ∙ ap₂ (λ (y x : ℕ). block_product (bit_xor y x) h) both el
     ∙ sym (ghash_from-append h 0 (numbers_of ad ++ numbers_of text) (length_block (length ad) (length text) ∷ []))
-
-pub lengths_fit : (a b : ℕ) → a < 2 ^ 61 → b < 2 ^ 61 → 8 * a * 2 ^ 64 % 2 ^ 128 + 8 * b ≡ length_block a b
-lengths_fit a b h k = omega arith

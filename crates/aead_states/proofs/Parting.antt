@@ -1,5 +1,5 @@
 -- What runs, by the algorithm and the direction.
-use Rattle.std.proofs.Common.{◌≡◌, ℕ, ◌≤◌, Bool, true, false, List, [], length, refl, sym, ap, ◌∙◌, subst}
+use Rattle.std.proofs.Common.{◌≡◌, ℕ, ◌≤◌, Bool, true, false, List, [], length, refl, sym, subst}
 use Rattle.std.specs.Prelude.{MatchBool}
 use Rattle.std.proofs.lemmas.Bool.{MatchBool-at_true, MatchBool-at_false}
 use Rattle.crypto_specs.specs.Aes.{aes_encrypt}
@@ -94,11 +94,3 @@ pub length-plain : (r : Parts) (encrypts : Bool) (alg : ℕ) (key nonce : List �
     HoldsCcmText r.ccm key (tag_bytes alg) nonce p ad (plain_of encrypts (ccm_text (aes_encrypt key) nonce) text) → length (plain_of encrypts (ccm_text (aes_encrypt key) nonce) text) ≡ length text
 length-plain r true alg key nonce p ad text fits h = refl
 length-plain r false alg key nonce p ad text fits h = length-ccm_text key nonce text h.counts.start p h.counts.nonce_length h.counts.payload_length h.counts.next fits
-
--- the algorithm's text has as many bytes as the text
-pub length-aead_text : (r : Parts) (encrypts : Bool) (alg : ℕ) (key nonce : List ℕ) (p : ℕ) (ad text : List ℕ) (ccm : Bool) → is_ccm alg ≡ ccm → (is_ccm alg ≡ true → length text ≤ p) →
-    HoldsText r encrypts alg key nonce p ad text → length (aead_text alg key nonce text) ≡ length text
-length-aead_text r encrypts alg key nonce p ad text true e fits h =
-    let s = text_by_ccm r encrypts alg key nonce p ad text (plain_of encrypts (ccm_text (aes_encrypt key) nonce) text) e refl h in
-    ap length (text_is_ccm alg key nonce text e) ∙ length-ccm_text key nonce text s.counts.start p s.counts.nonce_length s.counts.payload_length s.counts.next (fits e)
-length-aead_text r encrypts alg key nonce p ad text false e fits h = ap length (text_is_gcm alg key nonce text e) ∙ length-gcm_text key nonce text

@@ -97,9 +97,6 @@ lost_stands store after operations next service caller handle place cell state s
 
 -- the step is refused, whatever the key is: the code gives it no bytes
 
-step_row : (own : Operation DerivationWork) (step : ℕ) (status : Status) (w : DerivationWork) → own ≡ Active w → key_step_refusal own step ≡ Some status → first_row (key_step_rows w step) ≡ Some status
-step_row own step status w e h = sym (ap (λ o. key_step_refusal o step) e) ∙ h
-
 some_of : (o : Option Status) → is_some o ≡ true → (status : Status) × (o ≡ Some status)
 some_of (Some status) e = (status, refl)
 some_of None e = cc
@@ -127,11 +124,6 @@ untimely_stands store after operations next service caller handle place cell sta
     (λ own own_is. subst (λ (a : After DerivationWork). IsDerivationOperation state a.operation) (given_fails own step key status (sym (tells own own_is) ∙ is)) (code own own_is))
 
 -- the key is refused
-
-no_refusal : (own : Operation DerivationWork) (step : ℕ) → key_step_refusal own step ≡ None → (w : DerivationWork) × (own ≡ Active w) × (first_row (key_step_rows w step) ≡ None)
-no_refusal (Active w) step h = (w, refl, h)
-no_refusal Inactive step h = cc
-no_refusal InError step h = cc
 
 failed : (own : Operation DerivationWork) (step : ℕ) (status : Status) (old new : DerivationState) → key_step_refusal own step ≡ None → IsDerivationOperation old own →
     ((w : DerivationWork) → IsDerivationOperation old (Active w) → IsDerivationOperation new InError) → IsDerivationOperation new (on_active own (λ w. fails status)).operation

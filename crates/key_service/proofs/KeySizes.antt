@@ -17,10 +17,6 @@ many_cases false n h = grind (arith, nat_tests)
 too_many : (key_type n : ℕ) → 1024 < n → permits_size key_type n ≡ false
 too_many key_type n h = many_cases (key_type == 0x2400) n h
 
--- after the row of a size that isn't permitted nothing is looked at
-same_first : (x y z k : Bool × Status) (status : Status) (more other : Rows) → first_row (x ∷ y ∷ z ∷ k ∷ (true, status) ∷ more) ≡ first_row (x ∷ y ∷ z ∷ k ∷ (true, status) ∷ other)
-same_first x y z k status more other = refl
-
 not_none : (a b c d : Bool) (s t u v w : Status) (more : Rows) → first_row ((a, s) ∷ (b, t) ∷ (c, u) ∷ (d, v) ∷ (true, w) ∷ more) ≡ None → ⊥
 not_none true b c d s t u v w more e = cc
 not_none false true c d s t u v w more e = cc

@@ -9,12 +9,12 @@ use Rattle.alg_encoding.specs.declared.table.Class.{Class}
 use Rattle.key_attributes.specs.declared.KeyId.{KeyId}
 use Rattle.store_model.specs.Store.{Store}
 use Rattle.store_model.specs.Call.{Reply}
-use Rattle.store_model.specs.Outcome.{counted, refusal, done}
+use Rattle.store_model.specs.Outcome.{counted, done}
 use Rattle.store_model.specs.Rules.{use_rows}
 use Rattle.store_model.specs.KeyUse.{bytes_of}
-use Rattle.store_model.specs.Operations.{Operation, After, Inactive, InError, Active, stays, set_up, is_inactive}
+use Rattle.store_model.specs.Operations.{Operation, Inactive, InError, Active, stays, set_up, is_inactive}
 use Rattle.store_model.specs.Handles as model
-use Rattle.store_model.specs.Handles.{Work, Held, HandleOperation, Service, Served, operation_of, applied, drawn_by, held_with, held_after}
+use Rattle.store_model.specs.Handles.{Work, HandleOperation, Service, Served, operation_of, applied, drawn_by, held_with, held_after}
 use Rattle.store_model.specs.HandleCalls.{set_up_with, set_up_keyed, creation_of}
 use Rattle.store_core.specs.Uses.{IsLookedUp}
 use Rattle.key_service.specs.Cells.{IsOperation, key_in}
@@ -56,11 +56,6 @@ refused_stands store after operations next service caller handle place cell new 
     let stands = cell_stands store operations service caller handle place cell h at in
     applied_stands store after operations next service caller handle place cell cell _ (stays (operation_of service caller handle) status) h at
     (cells ∙ ap (set operations.cells.items place) kept) (ap (applied service caller handle) (refuses (operation_of service caller handle) (record { key = key; work = work }) stands)) stands counts
-
-pub refused_reply : (store : Store) (operations : Operations) (service : Service) (caller handle place : ℕ) (cell : Cell) (refused : Option Status) (key : Option model.KeyCreation) (work : Work) (status : Status) →
-    StandsFor store operations service → IsAt operations caller handle place cell → Refuses cell refused status → refusal status ≡ (set_up_with service caller handle refused key work).reply
-refused_reply store operations service caller handle place cell refused key work status h at refuses =
-    ap (λ (a : After Held). a.reply) (sym (refuses (operation_of service caller handle) (record { key = key; work = work }) (cell_stands store operations service caller handle place cell h at)))
 
 -- A SETUP OF AN INACTIVE HANDLE
 
@@ -117,12 +112,6 @@ pub not_keyed_stands : (store after : Store) (operations next : Operations) (ser
 not_keyed_stands store after operations next service caller handle place cell new class usage alg id work status h at cells counts kept refuses =
     refused_stands store after operations next service caller handle place cell new _ _ _ status h at cells counts kept
     (refuses_there store after operations service cell class usage alg id status h counts refuses)
-
-pub not_keyed_reply : (store after : Store) (operations : Operations) (service : Service) (caller handle place : ℕ) (cell : Cell) (class : Class) (usage alg id : ℕ) (work : List ℕ → Work) (status : Status) →
-    StandsFor store operations service → IsAt operations caller handle place cell → after ≡ counted store → Refuses cell (first_row (use_rows class usage alg (finite.get after.keys id))) status →
-    refusal status ≡ (set_up_keyed service caller handle class usage alg id work).reply
-not_keyed_reply store after operations service caller handle place cell class usage alg id work status h at counts refuses =
-    refused_reply store operations service caller handle place cell _ _ _ status h at (refuses_there store after operations service cell class usage alg id status h counts refuses)
 
 -- the key may be used so
 keyed_is : (store after : Store) (operations : Operations) (service : Service) (caller handle : ℕ) (class : Class) (usage alg id : ℕ) (work : List ℕ → Work) (bytes : List ℕ) (number : ℕ) →

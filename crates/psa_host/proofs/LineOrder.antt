@@ -12,7 +12,6 @@ use Rattle.store_model.specs.Handles.{service_start}
 use Rattle.store_model.specs.Replay.{Entry, outcome_of, replay}
 use Rattle.script_lang.specs.declared.script.ScriptLine.{ScriptLine}
 use Rattle.script_lang.specs.declared.replies.ReplyLine.{ReplyLine}
-use Rattle.script_lang.specs.Limits.{IsWellFormed}
 use Rattle.script_lang.specs.Lines.{script_of, IsOfSession}
 use Rattle.script_lang.specs.PrintedOrder.{Turn, turns, turns_from_start, turns_of, lines_of, AreCalls, call_of, id_given, numbered, printed, replies_to, text_of, IsAnswer}
 use Rattle.psa_host.specs.declared.service.Service.{Service}
@@ -216,9 +215,6 @@ few_drawn lines sessions service session within h =
 
 pub session_at : (lines : List ScriptLine) (i : ℕ) (line : ScriptLine) → All IsOfSession lines → i < length lines → line ≡ get_or lines i line → IsOfSession line
 session_at lines i line h within at = subst IsOfSession (sym at) (h i line within)
-
-pub well_formed_at : (lines : List ScriptLine) (i : ℕ) (line : ScriptLine) → All IsWellFormed lines → i < length lines → line ≡ get_or lines i line → IsWellFormed line
-well_formed_at lines i line h within at = subst IsWellFormed (sym at) (h i line within)
 
 pub next_line : (lines : List ScriptLine) (i : ℕ) (sessions : List SessionReplies) (service next : Service) (line : ScriptLine) (own new : SessionReplies) → i < length lines → line ≡ get_or lines i line →
     IsOfSession line → HasAnswered (take i lines) sessions service → own ≡ get_or sessions (line.session - 1) own →
