@@ -1,4 +1,4 @@
-"""Algorithm numbers and what a policy's number permits, from the documents of the store, for comparison alone."""
+"""Algorithm numbers and what a policy's number permits, for comparison alone."""
 
 HASHES = {8: "sha224", 9: "sha256", 10: "sha384", 11: "sha512"}
 DIGEST_LENGTHS = {8: 28, 9: 32, 10: 48, 11: 64}

@@ -1,4 +1,4 @@
-"""Operations in several parts, each kept whole, from the documents of the store, for comparison alone."""
+"""Operations in several parts, each kept whole, for comparison alone."""
 
 import algorithms as alg
 import primitives

@@ -1,4 +1,4 @@
-"""The one-thread store and its operations, from the documents of the store, for comparison alone."""
+"""The one-thread store and its operations, for comparison alone."""
 
 from dataclasses import dataclass
 
