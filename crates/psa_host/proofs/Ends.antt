@@ -1,6 +1,6 @@
 -- Why a run ends as it does.
 use Rattle.std.proofs.Common.{◌≡◌, ◌<◌, ◌≤◌, ◌+◌, ℕ, Bool, List, [], ◌∷◌, length, arith, ap, ◌∙◌, true, false, cond, refl, sym, subst, length-append, inl, ◌⊎◌}
-use Rattle.std.specs.Prelude.{Option, None, Some, Result, Ok, Err, IfSome, IfOk, IsOk, nat_lt}
+use Rattle.std.specs.Prelude.{Option, None, Some, Result, Ok, Err, IfSome, IsOk, nat_lt}
 use Rattle.std.proofs.lemmas.Bool.Decides.{nat_tests}
 use Rattle.std.specs.Io.KnownBytes.{Consumes}
 use Rattle.script_lang.specs.declared.script.ScriptLine.{ScriptLine}
@@ -11,10 +11,6 @@ use Rattle.script_lang.specs.Pieces.{text_lines}
 use Rattle.script_lang.specs.Lines.{Read, nothing_read, line_at, lines_at, goes_on, script_of, ScriptFails}
 use Rattle.psa_host.specs.declared.command.Exit.{Exit}
 use Rattle.psa_host.specs.declared.command.Exit.TheVariants.{Script, Memory}
-
-pub if_ok_weaker : {X E : Type 0} (r : Result X E) (P Q : X → Type 0) → ((x : X) → P x → Q x) → IfOk r P → IfOk r Q
-if_ok_weaker (Ok x) P Q f h = f x h
-if_ok_weaker (Err e) P Q f h = tt
 
 pub if_some_weaker : {X : Type 0} (o : Option X) (P Q : X → Type 0) → ((x : X) → P x → Q x) → IfSome o P → IfSome o Q
 if_some_weaker None P Q f h = tt

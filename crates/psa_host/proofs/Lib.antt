@@ -1,6 +1,2 @@
-pub mod History
-pub mod LineOrder
 pub mod Ends
 pub mod Images
-pub mod Outputs
-pub mod HandleOutputs

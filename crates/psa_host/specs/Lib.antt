@@ -1,5 +1,2 @@
-pub mod Services
-pub mod Steps
-pub mod LineOrder
 pub mod Ends
 pub mod Program

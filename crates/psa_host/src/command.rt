@@ -1,21 +1,18 @@
 // The top call.
-ghost use Rattle.std.specs.Prelude.{◌≡◌, ◌≤◌, ◌+◌, ◌↔◌, ◌⊎◌, List, ℕ, IfSome, IfOk, IsTrue, Ok, Err, IsOk, All, length};
+ghost use Rattle.std.specs.Prelude.{◌≡◌, ◌≤◌, ◌+◌, ◌↔◌, ◌⊎◌, List, ℕ, IfSome, IsTrue, Ok, Err, IsOk, length};
 ghost use Rattle.std.specs.Io.KnownBytes.{IsAtEnd, Consumes};
 ghost use Rattle.psa_status.specs.Causes.{Rose};
 ghost use Rattle.outside_io.specs.Causes.{text_limit, TellsAsBefore};
 ghost use Rattle.script_lang.specs.declared.faults.ScriptFault.{ScriptFault};
 ghost use Rattle.script_lang.specs.declared.faults.ScriptFault.TheVariants as faults;
-ghost use Rattle.script_lang.specs.Limits.{IsWellFormed};
-ghost use Rattle.script_lang.specs.Lines.{script_of, IsOfSession};
-ghost use Rattle.script_lang.specs.PrintedOrder.{IsAnswer};
+ghost use Rattle.script_lang.specs.Lines.{script_of};
 ghost use Rattle.psa_host.specs.Ends.{AreWords, Answered, PartlyAnswered, IsReadToEnd, IsQuiet, status_of};
 
-use crate::sessions::answer_lines;
-use crate::texts::text_of_sessions;
 use disk_face::Disk;
 use outside_io::{ReadError, Sink, Source, read_text, write_all};
 use psa_status::{Failed, Memory};
-use script_lang::{ScriptFault, ScriptLine, read_script};
+use script_lang::{ScriptFault, read_script};
+use session_host::answer_text;
 use std::alloc::Global;
 
 /// How a run ended.
@@ -68,17 +65,6 @@ fn are_words(words: &[&str]) -> bool
         [word] => *word == "run",
         _ => false,
     }
-}
-
-/// The text that answers a script.
-fn answer_text(alloc: Global, lines: &[ScriptLine]) -> Result<Vec<u8>, Memory>
-    requires sessions { All IsOfSession lines.now }
-    requires limits { All IsWellFormed lines.now }
-    requires few { length lines.now ≤ 20000 }
-    ensures { IfOk result (λ out. (text : List ℕ) → script_of text ≡ Ok lines.now → IsAnswer text out.items) }
-{
-    let sessions = answer_lines(alloc, lines)?;
-    text_of_sessions(alloc, &sessions)
 }
 
 /// Takes the calls of a script from the source, makes them in line order on a store without a key and on

@@ -7,34 +7,21 @@ ghost use Rattle.psa_host.specs.Program.{end_status};
 #[cfg(test)]
 mod adapter_tests;
 mod adapters;
-mod aead_steps;
 #[cfg(test)]
 mod aead_tests;
-mod answers;
-mod calls;
-mod cipher_steps;
 #[cfg(test)]
 mod cipher_tests;
 mod command;
 #[cfg(test)]
 mod creation_tests;
-mod derivation_steps;
 #[cfg(test)]
 mod derivation_tests;
 #[cfg(test)]
 mod derived_key_tests;
-mod families;
-mod handles;
-mod hash_steps;
-mod mac_steps;
 #[cfg(test)]
 mod operation_tests;
-mod service;
-mod sessions;
 #[cfg(test)]
 mod tests;
-mod texts;
-mod words;
 
 use adapters::{FileDisk, Reading, Writing};
 use command::{Ended, Exit, run_command};

@@ -5,7 +5,7 @@ use Rattle.psa_status.specs.declared.Status.TheVariants.{Success}
 use Rattle.key_attributes.specs.declared.KeyId.{KeyId}
 use Rattle.key_attributes.specs.declared.Attributes.{Attributes}
 use Rattle.store_model.specs.Call.{Reply, Nothing, Identifier, Description, output_bytes}
-use Rattle.store_model.specs.Outcome.{refusal}
+use Rattle.store_model.specs.Outcome.{refusal, done}
 
 -- a creation answers the identifier
 abbrev pub id_reply : Result KeyId Status → Reply
@@ -24,7 +24,7 @@ attributes_answer (Err status) = refusal status
 
 -- a call that answers nothing but its status
 abbrev pub plain_reply : Result (Unit {0}) Status → Reply
-plain_reply (Ok done) = record { status = Success; output = Nothing; needed = 0 }
+plain_reply (Ok unit) = done
 plain_reply (Err status) = refusal status
 
 -- a call whose refusal may leave zeros in its output buffer; what the buffer holds is said beside it

@@ -21,9 +21,10 @@ pub data Call : Type 0 where
   AeadEncrypt : (id alg : ℕ) (nonce ad input : List ℕ) (room : ℕ) → Call
   AeadDecrypt : (id alg : ℕ) (nonce ad input : List ℕ) (room : ℕ) → Call
 
--- what a call that succeeds gives back
+-- what a call gives back: nothing where it is refused, and where it succeeds without a result that it is done
 pub data Output : Type 0 where
   Nothing : Output
+  Done : Output
   Identifier : (id : ℕ) → Output
   Description : (attributes : Attributes) → Output
   Bytes : (bytes : List ℕ) → Output
@@ -44,6 +45,7 @@ attribute_bytes a =
 -- what is given back, as bytes
 abbrev pub output_bytes : Output → List ℕ
 output_bytes Nothing = []
+output_bytes Done = []
 output_bytes (Identifier id) = to_be_bytes w32 id
 output_bytes (Description attributes) = attribute_bytes attributes
 output_bytes (Bytes bytes) = bytes

@@ -4,8 +4,8 @@ use Rattle.std.specs.FinMap as map
 use Rattle.psa_status.specs.declared.Status.TheVariants.{Success, NotPermitted, InvalidHandle, BufferTooSmall}
 use Rattle.psa_status.specs.Rows.{Rows, first_row}
 use Rattle.store_model.specs.Store.{Key, Store}
-use Rattle.store_model.specs.Call.{Reply, Nothing, Bytes, Description}
-use Rattle.store_model.specs.Outcome.{Outcome, counted, decided, refusal, reply_unless}
+use Rattle.store_model.specs.Call.{Reply, Bytes, Description}
+use Rattle.store_model.specs.Outcome.{Outcome, counted, decided, refusal, reply_unless, done}
 
 -- whether a flag is in a key's usage
 abbrev pub has_usage : Key → ℕ → Bool
@@ -50,7 +50,7 @@ abbrev pub destroy_rows : Option Key → ℕ → Rows
 destroy_rows found id = (not (id == 0) && not (is_some found), InvalidHandle) ∷ []
 
 abbrev pub destroyed : Store → ℕ → Outcome
-destroyed store id = record { store = record (counted store) { keys = map.remove store.keys id }; reply = record { status = Success; output = Nothing; needed = 0 } }
+destroyed store id = record { store = record (counted store) { keys = map.remove store.keys id }; reply = done }
 
 abbrev pub step_destroy : Store → ℕ → Outcome
 step_destroy store id = decided store (first_row (destroy_rows (map.get store.keys id) id)) (destroyed store id)

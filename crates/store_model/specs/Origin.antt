@@ -6,7 +6,7 @@ use Rattle.std.specs.FinMap as map
 use Rattle.key_attributes.specs.declared.Policy.{Policy}
 use Rattle.policy_rules.specs.Policy.{IsWithin}
 use Rattle.store_model.specs.Store.{Key, Store, Settings, caller_count}
-use Rattle.store_model.specs.Call.{Call, Import, Export, GetAttributes, Destroy, Copy, Generate, HashCompute, HashCompare, MacCompute, MacVerify, CipherEncrypt, CipherDecrypt, AeadEncrypt, AeadDecrypt, Output, Nothing, Identifier, Description, Bytes, Number}
+use Rattle.store_model.specs.Call.{Call, Import, Export, GetAttributes, Destroy, Copy, Generate, HashCompute, HashCompare, MacCompute, MacVerify, CipherEncrypt, CipherDecrypt, AeadEncrypt, AeadDecrypt, Output, Nothing, Done, Identifier, Description, Bytes, Number}
 use Rattle.store_model.specs.Handles.{Service, Served, service_start}
 use Rattle.store_model.specs.Requests.{Request, OnStore, OnHandle}
 use Rattle.store_model.specs.Replay.{Entry, outcome_of, replay}
@@ -47,6 +47,7 @@ made_key source (Some key) = record { number = key.number; policy = key.attribut
 abbrev pub made_at : Option ℕ → Store → Output → List Made
 made_at source after (Identifier id) = made_key source (map.get after.keys id)
 made_at source after Nothing = []
+made_at source after Done = []
 made_at source after (Description attributes) = []
 made_at source after (Bytes bytes) = []
 made_at source after (Number number) = []

@@ -3,7 +3,7 @@ use Rattle.std.specs.Prelude.{ℕ, ◌+◌, List, length, Option, Some, None}
 use Rattle.psa_status.specs.declared.Status.{Status}
 use Rattle.psa_status.specs.declared.Status.TheVariants.{Success}
 use Rattle.store_model.specs.Store.{Store}
-use Rattle.store_model.specs.Call.{Reply, Nothing, Bytes}
+use Rattle.store_model.specs.Call.{Reply, Nothing, Done, Bytes}
 
 -- the store after a call, and the reply
 pub record Outcome : Type 0 where
@@ -36,7 +36,7 @@ answered store status reply = record { store = counted store; reply = reply_unle
 
 -- success, without a result, and with bytes
 abbrev pub done : Reply
-done = record { status = Success; output = Nothing; needed = 0 }
+done = record { status = Success; output = Done; needed = 0 }
 
 abbrev pub given : List ℕ → Reply
 given bytes = record { status = Success; output = Bytes bytes; needed = length bytes }

@@ -1,0 +1,4 @@
+pub mod HandleOutputs
+pub mod History
+pub mod LineOrder
+pub mod Outputs
