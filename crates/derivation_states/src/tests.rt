@@ -1,4 +1,5 @@
 // Vectors of RFC 5869 and RFC 7914, output cut in every way, the capacity, and the order of the inputs.
+ghost use Rattle.std.specs.Prelude.{◌<◌};
 
 use crate::DerivationState;
 use alg_encoding::Alg;
@@ -132,17 +133,47 @@ const PBKDF2_CASES: [Pbkdf2Case; 3] = [
     },
 ];
 
-fn begin_hkdf(state: &mut DerivationState, case: &HkdfCase) -> Result<(), Status> {
-    state.wipe();
-    state.key_derivation_setup(HKDF_SHA256)?;
-    state.key_derivation_input_bytes(SALT, case.salt)?;
-    state.key_derivation_input_bytes(SECRET, case.secret)?;
-    state.key_derivation_input_bytes(INFO, case.info)
+// A call on an operation.
+#[derive(Drop)]
+enum Call {
+    Wipe,
+    Setup(Alg),
+    Cost(u64),
+    Bytes(u16, &'static [u8]),
+    SecretKey(&'static [u8; 22]),
+    Capacity,
+    SetCapacity(u64),
+    Verify(&'static [u8]),
+    Output(usize),
+    OutputKey(u16),
 }
 
-// A key of so many bits, for derivation.
-fn derive_key(bits: u16) -> Attributes {
-    Attributes {
+// What comes out of operations: the bytes at the front.
+type Out = [u8; 8160];
+
+// Makes a call, and answers a capacity, how many bytes came out, or 0.
+fn make(state: &mut DerivationState, call: &Call, out: &mut Out) -> Result<u64, Status> {
+    match call {
+        Call::Wipe => state.wipe(),
+        Call::Setup(alg) => state.key_derivation_setup(*alg)?,
+        Call::Cost(cost) => state.key_derivation_input_integer(COST, *cost)?,
+        Call::Bytes(step, bytes) => state.key_derivation_input_bytes(*step, bytes)?,
+        Call::SecretKey(key) => state.key_derivation_input_key(SECRET, &key[..])?,
+        Call::Capacity => return state.key_derivation_get_capacity(),
+        Call::SetCapacity(capacity) => state.key_derivation_set_capacity(*capacity)?,
+        Call::Verify(expected) => state.key_derivation_verify_bytes(expected)?,
+        Call::Output(count) => {
+            let room = out.get_mut(..*count).ok_or(Status::DataInvalid)?;
+            return Ok(state.key_derivation_output_bytes(room)? as u64);
+        }
+        Call::OutputKey(bits) => return make_key(state, *bits, out),
+    }
+    Ok(0)
+}
+
+// Takes the bytes of a key of so many bits, for derivation.
+fn make_key(state: &mut DerivationState, bits: u16, out: &mut Out) -> Result<u64, Status> {
+    let attributes = Attributes {
         lifetime: Lifetime(0),
         id: KeyId(0),
         key_type: KeyType(0x1200),
@@ -151,21 +182,76 @@ fn derive_key(bits: u16) -> Attributes {
             usage: Usage(0),
             alg: 0,
         },
+    };
+    let mut key = [0; 1025];
+    let count = state.key_derivation_output_key(&attributes, &mut key)?;
+    out[..1025].copy_from_slice(&key);
+    Ok(count as u64)
+}
+
+// Makes calls that all succeed.
+fn make_all(state: &mut DerivationState, calls: &[Call], out: &mut Out) -> Result<(), Status> {
+    for call in calls {
+        make(state, call, out)?;
     }
+    Ok(())
+}
+
+// The place of the first call that answers something else than what stands beside it.
+fn first_other_answer(
+    state: &mut DerivationState,
+    rows: &[(Call, Result<u64, Status>)],
+    out: &mut Out,
+) -> Option<usize> {
+    for (place, (call, answer)) in rows.iter().enumerate() {
+        if make(state, call, out) != *answer {
+            return Some(place);
+        }
+    }
+    None
+}
+
+// Whether a derivation that has its inputs gives this text in pieces of so many bytes.
+fn gives_in_pieces(
+    state: &mut DerivationState,
+    text: &[u8],
+    size: usize,
+    out: &mut Out,
+) -> Result<bool, Status>
+    requires { 0 < size }
+{
+    for wanted in text.chunks(size) {
+        let count = make(state, &Call::Output(wanted.len()), out)?;
+        if out.get(..count as usize) != Some(wanted) {
+            return Ok(false);
+        }
+    }
+    Ok(true)
+}
+
+// Begins with a case's inputs.
+fn begin_hkdf(state: &mut DerivationState, case: &HkdfCase, out: &mut Out) -> Result<(), Status> {
+    let calls = [
+        Call::Wipe,
+        Call::Setup(HKDF_SHA256),
+        Call::Bytes(SALT, case.salt),
+        Call::Bytes(SECRET, case.secret),
+        Call::Bytes(INFO, case.info),
+    ];
+    make_all(state, &calls, out)
 }
 
 #[test]
 fn hkdf_in_pieces(rt: HostRuntime) -> Result<(), Fail> {
     let mut state = DerivationState::new(rt.alloc()).map_err(|_| "memory")?;
+    let mut out = [0; 8160];
     for case in HKDF_CASES.iter() {
-        for n in 1..41usize {
-            begin_hkdf(&mut state, case).map_err(|_| "refused")?;
-            for wanted in case.okm.chunks(n) {
-                let mut piece = [0; 40];
-                let out = piece.get_mut(..wanted.len()).ok_or("length")?;
-                assert_eq!(rt; state.key_derivation_output_bytes(out), Ok(wanted.len()));
-                assert!(rt; *out == *wanted);
-            }
+        for size in 1..41usize {
+            begin_hkdf(&mut state, case, &mut out).map_err(|_| "refused")?;
+            assert_eq!(rt;
+                gives_in_pieces(&mut state, case.okm, size, &mut out),
+                Ok(true)
+            );
         }
     }
     Ok(())
@@ -174,154 +260,161 @@ fn hkdf_in_pieces(rt: HostRuntime) -> Result<(), Fail> {
 #[test]
 fn pbkdf2_with_a_salt_in_two(rt: HostRuntime) -> Result<(), Fail> {
     let mut state = DerivationState::new(rt.alloc()).map_err(|_| "memory")?;
+    let mut out = [0; 8160];
     for case in PBKDF2_CASES.iter() {
-        state.wipe();
-        assert_eq!(rt; state.key_derivation_setup(PBKDF2_SHA256), Ok(()));
-        assert_eq!(rt; state.key_derivation_input_integer(COST, case.cost), Ok(()));
-        assert_eq!(rt; state.key_derivation_input_bytes(SALT, b"sa"), Ok(()));
-        assert_eq!(rt; state.key_derivation_input_bytes(SALT, b"lt"), Ok(()));
+        let calls = [
+            Call::Wipe,
+            Call::Setup(PBKDF2_SHA256),
+            Call::Cost(case.cost),
+            Call::Bytes(SALT, b"sa"),
+            Call::Bytes(SALT, b"lt"),
+            Call::Bytes(PASSWORD, case.password),
+        ];
+        make_all(&mut state, &calls, &mut out).map_err(|_| "refused")?;
         assert_eq!(rt;
-            state.key_derivation_input_bytes(PASSWORD, case.password),
-            Ok(())
+            gives_in_pieces(&mut state, case.key, 24, &mut out),
+            Ok(true)
         );
-        for wanted in case.key.chunks(24) {
-            let mut piece = [0; 24];
-            let out = piece.get_mut(..wanted.len()).ok_or("length")?;
-            assert_eq!(rt; state.key_derivation_output_bytes(out), Ok(wanted.len()));
-            assert!(rt; *out == *wanted);
-        }
     }
     Ok(())
 }
+
+const TO_THE_LAST_BYTE: [(Call, Result<u64, Status>); 3] = [
+    (Call::Capacity, Ok(8160)),
+    (Call::SetCapacity(8161), Err(Status::InvalidArgument)),
+    (Call::Output(8160), Ok(8160)),
+];
+
+const PAST_THE_LAST_BYTE: [(Call, Result<u64, Status>); 2] = [
+    (Call::Capacity, Ok(0)),
+    (Call::Verify(&[0]), Err(Status::InsufficientData)),
+];
+
+const PAST_A_LOWER_CAPACITY: [(Call, Result<u64, Status>); 3] = [
+    (Call::SetCapacity(10), Ok(0)),
+    (Call::Output(11), Err(Status::InsufficientData)),
+    (Call::Capacity, Ok(0)),
+];
 
 #[test]
 fn capacity_is_255_blocks(rt: HostRuntime) -> Result<(), Fail> {
     let mut state = DerivationState::new(rt.alloc()).map_err(|_| "memory")?;
-    begin_hkdf(&mut state, &HKDF_CASES[2]).map_err(|_| "refused")?;
-    assert_eq!(rt; state.key_derivation_get_capacity(), Ok(8160));
-    assert_eq!(rt;
-        state.key_derivation_set_capacity(8161),
-        Err(Status::InvalidArgument)
-    );
     let mut out = [0; 8160];
-    assert_eq!(rt; state.key_derivation_output_bytes(&mut out), Ok(8160));
-    assert_eq!(rt; &out[8128..], &LAST_BLOCK[..]);
-    assert_eq!(rt; state.key_derivation_get_capacity(), Ok(0));
+    begin_hkdf(&mut state, &HKDF_CASES[2], &mut out).map_err(|_| "refused")?;
     assert_eq!(rt;
-        state.key_derivation_verify_bytes(&[0]),
-        Err(Status::InsufficientData)
+        first_other_answer(&mut state, &TO_THE_LAST_BYTE, &mut out),
+        None
+    );
+    assert_eq!(rt; &out[8128..], &LAST_BLOCK[..]);
+    assert_eq!(rt;
+        first_other_answer(&mut state, &PAST_THE_LAST_BYTE, &mut out),
+        None
     );
 
-    begin_hkdf(&mut state, &HKDF_CASES[2]).map_err(|_| "refused")?;
-    assert_eq!(rt; state.key_derivation_set_capacity(10), Ok(()));
-    let mut more = [0; 11];
+    begin_hkdf(&mut state, &HKDF_CASES[2], &mut out).map_err(|_| "refused")?;
     assert_eq!(rt;
-        state.key_derivation_output_bytes(&mut more),
-        Err(Status::InsufficientData)
+        first_other_answer(&mut state, &PAST_A_LOWER_CAPACITY, &mut out),
+        None
     );
-    assert_eq!(rt; state.key_derivation_get_capacity(), Ok(0));
     Ok(())
 }
+
+// The inputs of the third case, with the secret as a key.
+const KEYS_OF_42_BYTES: [(Call, Result<u64, Status>); 4] = [
+    (Call::Wipe, Ok(0)),
+    (Call::Setup(HKDF_SHA256), Ok(0)),
+    (Call::SecretKey(&[0x0b; 22]), Ok(0)),
+    (Call::OutputKey(336), Ok(42)),
+];
+
+// A key of all that is left, of which the first 1,025 bytes are given.
+const A_KEY_OF_THE_REST: [(Call, Result<u64, Status>); 2] = [
+    (Call::OutputKey(64944), Ok(1025)),
+    (Call::Capacity, Ok(0)),
+];
 
 #[test]
 fn a_key_comes_from_a_key_alone(rt: HostRuntime) -> Result<(), Fail> {
     let mut state = DerivationState::new(rt.alloc()).map_err(|_| "memory")?;
-    let mut out = [0; 1025];
-    begin_hkdf(&mut state, &HKDF_CASES[2]).map_err(|_| "refused")?;
+    let mut out = [0; 8160];
+    begin_hkdf(&mut state, &HKDF_CASES[2], &mut out).map_err(|_| "refused")?;
     assert_eq!(rt;
-        state.key_derivation_output_key(&derive_key(336), &mut out),
+        make(&mut state, &Call::OutputKey(336), &mut out),
         Err(Status::NotPermitted)
     );
 
-    state.wipe();
-    assert_eq!(rt; state.key_derivation_setup(HKDF_SHA256), Ok(()));
     assert_eq!(rt;
-        state.key_derivation_input_key(SECRET, HKDF_CASES[2].secret),
-        Ok(())
+        first_other_answer(&mut state, &KEYS_OF_42_BYTES, &mut out),
+        None
     );
+    assert_eq!(rt; out.get(..42), Some(HKDF_CASES[2].okm));
     assert_eq!(rt;
-        state.key_derivation_output_key(&derive_key(336), &mut out),
-        Ok(42)
+        first_other_answer(&mut state, &A_KEY_OF_THE_REST, &mut out),
+        None
     );
-    let front = out.get(..42).ok_or("length")?;
-    assert_eq!(rt; front, HKDF_CASES[2].okm);
-    assert_eq!(rt;
-        state.key_derivation_output_key(&derive_key(64944), &mut out),
-        Ok(1025)
-    );
-    assert_eq!(rt; state.key_derivation_get_capacity(), Ok(0));
     Ok(())
 }
+
+// The first 10 bytes of the third case's output, twice, and the last 22.
+const VERIFIED_TWICE: [(Call, Result<u64, Status>); 3] = [
+    (Call::Verify(FIRST_BYTES), Ok(0)),
+    (Call::Verify(FIRST_BYTES), Err(Status::InvalidSignature)),
+    (Call::Output(22), Ok(22)),
+];
+
+const FIRST_BYTES: &[u8] = &[0x8d, 0xa4, 0xe7, 0x75, 0xa5, 0x63, 0xc1, 0x8f, 0x71, 0x5f];
 
 #[test]
 fn a_refused_verify_takes_its_bytes(rt: HostRuntime) -> Result<(), Fail> {
     let mut state = DerivationState::new(rt.alloc()).map_err(|_| "memory")?;
-    let okm = HKDF_CASES[2].okm;
-    begin_hkdf(&mut state, &HKDF_CASES[2]).map_err(|_| "refused")?;
-    let first = okm.get(..10).ok_or("length")?;
-    assert_eq!(rt; state.key_derivation_verify_bytes(first), Ok(()));
+    let mut out = [0; 8160];
+    begin_hkdf(&mut state, &HKDF_CASES[2], &mut out).map_err(|_| "refused")?;
     assert_eq!(rt;
-        state.key_derivation_verify_bytes(first),
-        Err(Status::InvalidSignature)
+        first_other_answer(&mut state, &VERIFIED_TWICE, &mut out),
+        None
     );
-    let mut out = [0; 22];
-    assert_eq!(rt; state.key_derivation_output_bytes(&mut out), Ok(22));
-    let rest = okm.get(20..).ok_or("length")?;
-    assert_eq!(rt; &out[..], rest);
+    assert_eq!(rt; out.get(..22), HKDF_CASES[2].okm.get(20..));
     Ok(())
 }
+
+const OUT_OF_ORDER: [(Call, Result<u64, Status>); 10] = [
+    (Call::Setup(HKDF_SHA256), Ok(0)),
+    (Call::Setup(HKDF_SHA256), Err(Status::BadState)),
+    (Call::Bytes(SECRET, &[]), Ok(0)),
+    (Call::Bytes(SALT, &[]), Err(Status::BadState)),
+    (Call::Wipe, Ok(0)),
+    (Call::Setup(HKDF_SHA256), Ok(0)),
+    (Call::Bytes(SECRET, &[]), Ok(0)),
+    (Call::Verify(&[0]), Err(Status::InvalidSignature)),
+    (Call::Bytes(INFO, &[]), Err(Status::BadState)),
+    (Call::Capacity, Err(Status::BadState)),
+];
+
+// Costs that are refused, and a password before the salt.
+const COSTS_AND_A_PASSWORD: [(Call, Result<u64, Status>); 9] = [
+    (Call::Setup(PBKDF2_SHA256), Ok(0)),
+    (Call::Cost(0), Err(Status::InvalidArgument)),
+    (Call::Wipe, Ok(0)),
+    (Call::Setup(PBKDF2_SHA256), Ok(0)),
+    (Call::Cost(100_001), Err(Status::NotSupported)),
+    (Call::Wipe, Ok(0)),
+    (Call::Setup(PBKDF2_SHA256), Ok(0)),
+    (Call::Cost(100_000), Ok(0)),
+    (Call::Bytes(PASSWORD, b"password"), Err(Status::BadState)),
+];
 
 #[test]
 fn inputs_come_in_order(rt: HostRuntime) -> Result<(), Fail> {
+    let mut out = [0; 8160];
     let mut state = DerivationState::new(rt.alloc()).map_err(|_| "memory")?;
-    assert_eq!(rt; state.key_derivation_setup(HKDF_SHA256), Ok(()));
     assert_eq!(rt;
-        state.key_derivation_setup(HKDF_SHA256),
-        Err(Status::BadState)
+        first_other_answer(&mut state, &OUT_OF_ORDER, &mut out),
+        None
     );
-    assert_eq!(rt; state.key_derivation_input_bytes(SECRET, &[]), Ok(()));
-    assert_eq!(rt;
-        state.key_derivation_input_bytes(SALT, &[]),
-        Err(Status::BadState)
-    );
-
-    state.wipe();
-    assert_eq!(rt; state.key_derivation_setup(HKDF_SHA256), Ok(()));
-    assert_eq!(rt; state.key_derivation_input_bytes(SECRET, &[]), Ok(()));
-    assert_eq!(rt;
-        state.key_derivation_verify_bytes(&[0]),
-        Err(Status::InvalidSignature)
-    );
-    assert_eq!(rt;
-        state.key_derivation_input_bytes(INFO, &[]),
-        Err(Status::BadState)
-    );
-    assert_eq!(rt; state.key_derivation_get_capacity(), Err(Status::BadState));
-    Ok(())
-}
-
-#[test]
-fn a_password_follows_cost_and_salt(rt: HostRuntime) -> Result<(), Fail> {
     let mut state = DerivationState::new(rt.alloc()).map_err(|_| "memory")?;
-    for (cost, refusal) in [
-        (0, Status::InvalidArgument),
-        (100_001, Status::NotSupported),
-    ]
-    .iter()
-    {
-        state.wipe();
-        assert_eq!(rt; state.key_derivation_setup(PBKDF2_SHA256), Ok(()));
-        assert_eq!(rt;
-            state.key_derivation_input_integer(COST, *cost),
-            Err(*refusal)
-        );
-    }
-    state.wipe();
-    assert_eq!(rt; state.key_derivation_setup(PBKDF2_SHA256), Ok(()));
-    assert_eq!(rt; state.key_derivation_input_integer(COST, 100_000), Ok(()));
     assert_eq!(rt;
-        state.key_derivation_input_bytes(PASSWORD, b"password"),
-        Err(Status::BadState)
+        first_other_answer(&mut state, &COSTS_AND_A_PASSWORD, &mut out),
+        None
     );
     Ok(())
 }

@@ -1,5 +1,5 @@
 -- Why a run ends as it does.
-use Rattle.std.proofs.Common.{◌≡◌, ◌<◌, ◌≤◌, ◌+◌, ℕ, Bool, List, [], ◌∷◌, length, arith, ap, ◌∙◌, true, false, cond, refl, sym, subst, length-append, inl, ◌⊎◌}
+use Rattle.std.proofs.Common.{◌≡◌, ◌<◌, ◌≤◌, ◌+◌, ℕ, Bool, List, [], ◌∷◌, length, arith, ap, ◌∙◌, true, false, cond, refl, sym, subst, length-append, inl, inr, ◌⊎◌}
 use Rattle.std.specs.Prelude.{Option, None, Some, Result, Ok, Err, IfSome, IsOk, nat_lt}
 use Rattle.std.proofs.lemmas.Bool.Decides.{nat_tests}
 use Rattle.std.specs.Io.KnownBytes.{Consumes}
@@ -9,10 +9,12 @@ use Rattle.script_lang.specs.declared.faults.ScriptFault.{ScriptFault}
 use Rattle.script_lang.specs.declared.faults.ScriptFault.TheVariants as faults
 use Rattle.script_lang.specs.Pieces.{text_lines}
 use Rattle.script_lang.specs.Lines.{Read, nothing_read, line_at, lines_at, goes_on, script_of, ScriptFails}
+use Rattle.script_lang.specs.PrintedOrder.{IsAnswer}
+use Rattle.psa_host.specs.Ends.{Answered, PartlyAnswered}
 use Rattle.psa_host.specs.declared.command.Exit.{Exit}
-use Rattle.psa_host.specs.declared.command.Exit.TheVariants.{Script, Memory}
+use Rattle.psa_host.specs.declared.command.Exit.TheVariants.{Done, Usage, Script, ReadFault, WriteFault, Memory}
 
-pub if_some_weaker : {X : Type 0} (o : Option X) (P Q : X → Type 0) → ((x : X) → P x → Q x) → IfSome o P → IfSome o Q
+if_some_weaker : {X : Type 0} (o : Option X) (P Q : X → Type 0) → ((x : X) → P x → Q x) → IfSome o P → IfSome o Q
 if_some_weaker None P Q f h = tt
 if_some_weaker (Some x) P Q f h = f x h
 
@@ -55,11 +57,13 @@ short_enough text short e = short_turn text (nat_lt 4194304 (length text)) (nat_
 same_fault : (f g : ScriptFault) → Script f ≡ Script g → f ≡ g
 same_fault f g e = cc
 
-pub not_too_long : (text read : List ℕ) (fault : ScriptFault) (exit : Exit) → length text ≤ 4194304 → read ≡ text → ScriptFails fault (script_of read) → exit ≡ Script fault →
-    exit ≡ Script faults.TooLong → ⊥
-not_too_long text read fault exit short same fails is e =
-    short_enough read (subst (λ t. length t ≤ 4194304) (sym same) short)
-    (subst (λ f. ScriptFails f (script_of read)) (same_fault fault faults.TooLong (sym is ∙ e)) fails)
+-- of two failed readings that are the same the ends are the same
+pub same_end : {T : Type 0} {e f : Exit} → ◌≡◌ {A = Result T Exit} (Err e) (Err f) → e ≡ f
+same_end h = cc
+
+pub not_too_long : (text read : List ℕ) (fault : ScriptFault) → length text ≤ 4194304 → read ≡ text → ScriptFails fault (script_of read) → Script fault ≡ Script faults.TooLong → ⊥
+not_too_long text read fault short same fails e =
+    short_enough read (subst (λ t. length t ≤ 4194304) (sym same) short) (subst (λ f. ScriptFails f (script_of read)) (same_fault fault faults.TooLong e) fails)
 
 pub fault_told : (old : Option (List ℕ)) (f g : ScriptFault) → IfSome old (λ text. script_of text ≡ Err f) → Script f ≡ Script g → IfSome old (λ text. script_of text ≡ Err g)
 fault_told old f g h e = if_some_weaker old _ _ (λ text k. k ∙ ap Err (same_fault f g e)) h
@@ -68,12 +72,45 @@ not_ok : (read : Result (List ScriptLine) ScriptFault) (f : ScriptFault) → rea
 not_ok (Ok lines) f e h = cc
 not_ok (Err g) f e h = cc
 
-pub no_script : (old : Option (List ℕ)) (f : ScriptFault) (P : Type 0) → IfSome old (λ text. script_of text ≡ Err f) → IfSome old (λ text. IsOk (script_of text) → P)
-no_script old f P h = if_some_weaker old _ _ (λ text k ok. absurd (not_ok (script_of text) f k ok)) h
-
 one_fault : (read : Result (List ScriptLine) ScriptFault) (f g : ScriptFault) → read ≡ Err f → read ≡ Err g → Script f ≡ Script g
 one_fault read f g e k = cc
 
-pub fault_only : (old : Option (List ℕ)) (f : ScriptFault) (exit : Exit) → exit ≡ Script f → IfSome old (λ text. script_of text ≡ Err f) →
-    IfSome old (λ text. (g : ScriptFault) → script_of text ≡ Err g → (exit ≡ Script g) ⊎ (exit ≡ Memory))
-fault_only old f exit is h = if_some_weaker old _ _ (λ text k g e. inl (is ∙ one_fault (script_of text) f g k e)) h
+-- WHAT ELSE FOLLOWS FROM HOW A RUN ENDED
+
+-- what is known of the end of a run that had a command, where the source had `left`, the sink had taken `old` and then
+-- `new`, and the two types say that the source's and the sink's faults rose
+pub record IsKnown (exit : Exit) (left old new : Option (List ℕ)) (read_fault write_fault : Type 0) : Type 0 where
+  pub done : exit ≡ Done → IfSome left (λ text. Answered text old new)
+  pub partly : exit ≡ WriteFault → IfSome left (λ text. PartlyAnswered text old new)
+  pub usage : exit ≡ Usage → ⊥
+  pub script : (f : ScriptFault) → exit ≡ Script f → IfSome left (λ text. script_of text ≡ Err f)
+  pub read : exit ≡ ReadFault → read_fault
+  pub write : exit ≡ WriteFault → write_fault
+
+pub known_as : {exit other : Exit} {left old new : Option (List ℕ)} {read write : Type 0} → exit ≡ other → IsKnown other left old new read write → IsKnown exit left old new read write
+known_as {left} {old} {new} {read} {write} is known = subst (λ e. IsKnown e left old new read write) (sym is) known
+
+no_answer : (text out : List ℕ) (f : ScriptFault) → IsAnswer text out → script_of text ≡ Err f → ⊥
+no_answer text out f answer e = let is = sym answer.is_script ∙ e in cc
+
+-- a script is answered, but for a fault of the source or the sink, and want of memory
+pub complete : (exit : Exit) (left old new : Option (List ℕ)) (read write : Type 0) → IsKnown exit left old new read write → (read → ⊥) → (write → ⊥) →
+    IfSome left (λ text. IsOk (script_of text) → (exit ≡ Done) ⊎ (exit ≡ Memory))
+complete exit None old new read write known r w = tt
+complete Done (Some text) old new read write known r w = λ ok. inl refl
+complete Usage (Some text) old new read write known r w = absurd (known.usage refl)
+complete (Script f) (Some text) old new read write known r w = λ ok. absurd (not_ok (script_of text) f (known.script f refl) ok)
+complete ReadFault (Some text) old new read write known r w = absurd (r (known.read refl))
+complete WriteFault (Some text) old new read write known r w = absurd (w (known.write refl))
+complete Memory (Some text) old new read write known r w = λ ok. inr refl
+
+-- a text that is no script is refused by its first fault, but for a fault of the source, and want of memory
+pub refused : (exit : Exit) (left old new : Option (List ℕ)) (read write : Type 0) → IsKnown exit left old new read write → (read → ⊥) →
+    IfSome left (λ text. (f : ScriptFault) → script_of text ≡ Err f → (exit ≡ Script f) ⊎ (exit ≡ Memory))
+refused exit None old new read write known r = tt
+refused Done (Some text) old new read write known r = λ f e. let answered = known.done refl in absurd (no_answer text answered.0 f answered.1 e)
+refused Usage (Some text) old new read write known r = absurd (known.usage refl)
+refused (Script g) (Some text) old new read write known r = λ f e. inl (one_fault (script_of text) g f (known.script g refl) e)
+refused ReadFault (Some text) old new read write known r = absurd (r (known.read refl))
+refused WriteFault (Some text) old new read write known r = λ f e. let answered = known.partly refl in absurd (no_answer text answered.0 f answered.1 e)
+refused Memory (Some text) old new read write known r = λ f e. inr refl

@@ -28,6 +28,13 @@ IsReadToEnd (Script faults.TooManyLines) = Unit {0}
 IsReadToEnd (Script (faults.BadLine line reason)) = Unit {0}
 IsReadToEnd _ = ⊥
 
+-- ends without a call
+abbrev pub IsBeforeWriting : Exit → Type 0
+IsBeforeWriting (Script fault) = Unit {0}
+IsBeforeWriting ReadFault = Unit {0}
+IsBeforeWriting Memory = Unit {0}
+IsBeforeWriting _ = ⊥
+
 -- ends before which nothing was written
 abbrev pub IsQuiet : Exit → Type 0
 IsQuiet Done = ⊥

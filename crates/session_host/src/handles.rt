@@ -2,6 +2,7 @@
 ghost use Rattle.std.specs.Prelude.{◌≡◌, ◌≤◌, ◌<◌, ◌^◌, ◌+◌, IfOk, length};
 ghost use Rattle.store_model.specs.Store.{caller_state};
 ghost use Rattle.store_model.specs.Faults.{Plain};
+ghost use Rattle.store_model.specs.HandleCalls.{Abort};
 ghost use Rattle.store_model.specs.Handles as model;
 ghost use Rattle.store_model.specs.Requests.{OnHandle, serve};
 ghost use Rattle.script_lang.specs.Limits.{IsHandleCall, IsOneOfFour};
@@ -20,6 +21,20 @@ use key_service::Op;
 use psa_status::Memory;
 use script_lang::HandleCall;
 use std::alloc::Global;
+
+/// Makes an operation inactive.
+fn abort(alloc: Global, service: &mut Service, caller: u8, op: Op) -> Result<Answer, Memory>
+    requires first { 1 ≤ caller }
+    requires last { caller ≤ 16 }
+    requires turns { service.old.store.calls < 2 ^ 62 }
+    ensures stands { (it : model.Service) → Stands service.old it →
+        Stands service.new (serve it caller (OnHandle op Abort) Plain).service }
+    ensures reply { (it : model.Service) → Stands service.old it →
+        IfOk result (λ a. Answers a (serve it caller (OnHandle op Abort) Plain).reply) }
+{
+    let Service { store, operations } = service;
+    finished(alloc, operations.abort(store, caller, op))
+}
 
 /// Makes a call on the operation of a handle. `given` has the identifiers that the session's calls before gave.
 pub fn on_handle(
@@ -54,9 +69,6 @@ pub fn on_handle(
         HandleCall::Derivation(call) => on_derivation(
             alloc, service, caller, given, op, buffer, call,
         ),
-        HandleCall::Abort => {
-            let Service { store, operations } = service;
-            finished(alloc, operations.abort(store, caller, op))
-        }
+        HandleCall::Abort => abort(alloc, service, caller, op),
     }
 }
