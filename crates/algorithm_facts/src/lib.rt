@@ -10,4 +10,6 @@ pub use keys::{aes_key, check_class};
 pub use modes::{
     Mode, enciphered_length, is_ciphertext_length, iv_length, mode_of, takes_whole_blocks,
 };
-pub use numbers::{TOTAL_LIMIT, hash_function, is_ccm, is_cmac, is_hmac, permits_nonce, tag_bytes};
+pub use numbers::{
+    SECRET_STEP, TOTAL_LIMIT, hash_function, is_ccm, is_cmac, is_hmac, permits_nonce, tag_bytes,
+};

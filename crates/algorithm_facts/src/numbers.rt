@@ -70,3 +70,6 @@ pub fn hash_function(alg: Alg) -> Hash
 
 /// No input is longer than this.
 pub const TOTAL_LIMIT: usize = 0xffff_ffff;
+
+/// The number of the step of a key derivation that takes HKDF's secret.
+pub const SECRET_STEP: u16 = 0x101;

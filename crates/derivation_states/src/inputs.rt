@@ -8,11 +8,10 @@ ghost use Rattle.derivation_states.specs.Kdfs.{IsKdf};
 
 use crate::input::Input;
 use crate::kdf::{Kdf, Scheme};
+use algorithm_facts::SECRET_STEP;
 use kdf_core::hkdf_extract;
 use psa_status::{Memory, Status};
 use std::alloc::Global;
-
-const SECRET: u16 = 0x101;
 
 const PASSWORD: u16 = 0x102;
 
@@ -227,7 +226,7 @@ fn key_step(kdf: Kdf) -> u16
     ensures { (alg : ℕ) → IsKdf kdf alg → result ≡ key_step alg }
 {
     match kdf.scheme {
-        Scheme::Hkdf => SECRET,
+        Scheme::Hkdf => SECRET_STEP,
         Scheme::Pbkdf2 => PASSWORD,
     }
 }

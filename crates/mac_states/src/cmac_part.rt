@@ -4,9 +4,9 @@ ghost use Rattle.crypto_specs.specs.Aes.{IsKey, aes_encrypt};
 ghost use Rattle.crypto_specs.specs.Cmac.{cmac};
 ghost use Rattle.mac_states.specs.Keyed.{has_key};
 
-use crate::outputs::put;
 use algorithm_facts::aes_key;
 use cmac_ops::CmacState;
+use operation_phase::put_front;
 
 /// A CMAC that runs, or a wiped one.
 #[derive(Drop)]
@@ -55,7 +55,7 @@ impl CmacPart {
             return 0;
         }
         self.runs = false;
-        put(&self.state.finish(), out)
+        put_front(&self.state.finish(), out)
     }
 
     /// Forgets key and message.

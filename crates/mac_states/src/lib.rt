@@ -4,7 +4,6 @@
 mod cmac_part;
 mod hash_state;
 mod mac_state;
-mod outputs;
 mod running_hash;
 mod running_mac;
 mod total;

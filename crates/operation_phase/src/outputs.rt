@@ -1,5 +1,5 @@
 // Bytes at the front of a buffer.
-ghost use Rattle.std.specs.Prelude.{◌≡◌, IfOk, length};
+ghost use Rattle.std.specs.Prelude.{◌≡◌, ◌≤◌, IfOk, length, take};
 ghost use Rattle.std.specs.Result.{result_err};
 ghost use Rattle.psa_status.specs.Rows.{first_row};
 ghost use Rattle.store_model.specs.Call.{buffer_after};
@@ -21,4 +21,14 @@ pub fn give(bytes: &[u8], out: &mut [u8]) -> Result<usize, Status>
     }
     out[..bytes.len()].copy_from_slice(bytes);
     Ok(bytes.len())
+}
+
+/// Writes bytes to the front of a buffer for any MAC, and answers how many they are.
+pub fn put_front(bytes: &[u8], out: &mut [u8; 64]) -> usize
+    requires { length bytes.now ≤ 64 }
+    ensures length { result ≡ length bytes.now }
+    ensures front { take result out.new ≡ bytes.now }
+{
+    out[..bytes.len()].copy_from_slice(bytes);
+    bytes.len()
 }

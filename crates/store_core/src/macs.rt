@@ -16,18 +16,8 @@ use algorithm_facts::{TOTAL_LIMIT, aes_key, hash_function, is_cmac, tag_bytes};
 use cmac_ops::cmac;
 use hmac_ops::hmac;
 use key_attributes::{KeyId, Usage};
-use operation_phase::give;
+use operation_phase::{give, put_front};
 use psa_status::Status;
-
-// Writes bytes to the front of `out`, and answers how many they are.
-fn put(bytes: &[u8], out: &mut [u8; 64]) -> usize
-    requires { length bytes.now ≤ 64 }
-    ensures length { result ≡ length bytes.now }
-    ensures front { take result out.new ≡ bytes.now }
-{
-    out[..bytes.len()].copy_from_slice(bytes);
-    bytes.len()
-}
 
 // Writes CMAC's whole MAC of a message to the front of `out`, and answers its length.
 fn put_cmac(key: &[u8], message: &[u8], out: &mut [u8; 64]) -> usize
@@ -38,7 +28,7 @@ fn put_cmac(key: &[u8], message: &[u8], out: &mut [u8; 64]) -> usize
     let mut aes = aes_key(key);
     let tag = cmac(&aes, message);
     aes.wipe();
-    put(&tag, out)
+    put_front(&tag, out)
 }
 
 // Writes the whole MAC of a message to the front of `out`, and answers its length.

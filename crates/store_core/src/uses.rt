@@ -12,12 +12,10 @@ ghost use Rattle.store_core.specs.Uses.{IsUsable, IsLookedUp, IsDerivationKey, d
 
 use crate::Store;
 use alg_encoding::{Alg, Class};
-use algorithm_facts::{check_class, is_hmac};
+use algorithm_facts::{SECRET_STEP, check_class, is_hmac};
 use key_attributes::{Attributes, KeyId, KeyType, Usage};
 use policy_rules::permits;
 use psa_status::Status;
-
-const SECRET_STEP: u16 = 0x101;
 
 /// What a look-up gives of a key: its bytes, and its creation number, which no other key has.
 #[derive(Clone, Copy, Drop)]
