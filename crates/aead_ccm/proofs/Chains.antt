@@ -8,7 +8,7 @@ use Rattle.crypto_specs.specs.Bytes.{xor_bytes}
 use Rattle.crypto_specs.specs.Modes.{block_count, number_block}
 use Rattle.crypto_specs.specs.Cmac.{chain_step, chained}
 use Rattle.crypto_specs.specs.Ccm.{filled_blocks}
-use Rattle.aes_core.proofs.BlockNumbers.{block_of_xor}
+use Rattle.cipher_blocks.proofs.BlockNumbers.{block_of_xor}
 use Rattle.aead_ccm.specs.Chaining.{filled_block, chained_from}
 use Rattle.aead_ccm.proofs.FilledBlocks.{filled_blocks-next, filled_blocks-empty}
 

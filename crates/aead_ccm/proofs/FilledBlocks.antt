@@ -1,39 +1,17 @@
 -- The blocks of a text whose end is filled with zeros.
-use Rattle.std.proofs.Common.{◌≡◌, ℕ, zero, suc, ◌-◌, ◌%◌, ◌<◌, ◌≤◌, List, [], ◌∷◌, ◌++◌, length, take, drop, sym, ap, ap₂, ◌∙◌, inl, inr, arith}
+use Rattle.std.proofs.Common.{◌≡◌, ℕ, suc, ◌-◌, ◌%◌, ◌<◌, List, [], ◌∷◌, ◌++◌, length, take, drop, sym, ap, ap₂, ◌∙◌, inl, inr, arith}
 use Rattle.std.specs.Prelude.{replicate}
 use Rattle.std.proofs.lemmas.Bool.{cases_lt}
-use Rattle.std.proofs.lemmas.List.{length-append, length-replicate, length-drop, length-take, take_all, take-append-le, drop-append-le, append-nil, drop-replicate}
+use Rattle.std.proofs.lemmas.List.{length-append, length-replicate, length-drop, length-take, take_all, take-append-le, drop-append-le, append-nil}
 use Rattle.crypto_specs.specs.Bytes.{zero_filled}
-use Rattle.crypto_specs.specs.Modes.{blocks, block_count, block_number, number_block}
+use Rattle.crypto_specs.specs.Modes.{blocks, block_count}
 use Rattle.crypto_specs.specs.Ccm.{filled_blocks}
-use Rattle.aes_core.proofs.BlockNumbers.{AreBytes, bytes-append, block_of_number}
 use Rattle.aead_ccm.specs.Chaining.{filled_block}
 
--- ---- one block
-
-length-filled_block : (piece : List ℕ) → length piece ≤ 16 → length (filled_block piece) ≡ 16
-length-filled_block piece h = omega (arith, length-append piece (replicate (16 - length piece) 0), length-replicate {A = ℕ} (16 - length piece) 0)
-
-pub filled_block-whole : (block : List ℕ) → length block ≡ 16 → filled_block block ≡ block
+filled_block-whole : (block : List ℕ) → length block ≡ 16 → filled_block block ≡ block
 filled_block-whole block h =
     let none : 16 - length block ≡ 0 = omega arith in
     ap (λ (n : ℕ). block ++ replicate n 0) none ∙ append-nil block
-
-zeros-bytes : (n : ℕ) → AreBytes (replicate n 0)
-zeros-bytes zero i = omega arith
-zeros-bytes (suc n) zero = omega arith
-zeros-bytes (suc n) (suc i) = zeros-bytes n i
-
--- a part that is written over the front of zeros
-pub written_in_zeros : (piece block : List ℕ) → block ≡ piece ++ drop (length piece) (replicate 16 0) → block ≡ filled_block piece
-written_in_zeros piece block e = e ∙ ap (λ (l : List ℕ). piece ++ l) (drop-replicate (length piece) 16 0)
-
--- a filled block comes back from its number
-pub number_of_filled : (piece : List ℕ) → length piece ≤ 16 → AreBytes piece → number_block (block_number (filled_block piece)) ≡ filled_block piece
-number_of_filled piece h all =
-    block_of_number (filled_block piece) (length-filled_block piece h) (bytes-append piece (replicate (16 - length piece) 0) all (zeros-bytes (16 - length piece)))
-
--- ---- the blocks of a text
 
 pub filled_blocks-empty : (text : List ℕ) → length text ≡ 0 → filled_blocks text ≡ []
 unfolding blocks

@@ -8,9 +8,9 @@ ghost use Rattle.crypto_specs.specs.Ccm.{encoded_data, filled_blocks, formatted_
 ghost use Rattle.aead_ccm.specs.Chaining.{chained_from};
 ghost use Rattle.aead_ccm.specs.Lengths.{IsNonceLength, IsTagLength};
 
-use crate::blocks::number_of;
 use crate::formatting::{control_block, data_front};
 use aes_core::AesKey;
+use cipher_blocks::filled_number;
 
 // The chain's value Y_r, of which the tag's bytes are taken.
 pub(crate) fn mac(key: &AesKey, tag: usize, nonce: &[u8], ad: &[u8], payload: &[u8]) -> u128
@@ -49,7 +49,7 @@ fn chain_text(key: &AesKey, start: u128, text: &[u8]) -> u128
     let mut value = start;
     'turns: for n in 0..text.len().div_ceil(16) {
         let end = text.len().min(16 * n + 16);
-        value = key.encrypt_number(value ^ number_of(&text[16 * n..end]));
+        value = key.encrypt_number(value ^ filled_number(&text[16 * n..end]));
     }
     value
 }

@@ -5,9 +5,9 @@ ghost use Rattle.crypto_specs.specs.Aes.{aes_encrypt, IsKey};
 ghost use Rattle.crypto_specs.specs.Ccm.{ccm_text};
 ghost use Rattle.aead_ccm.specs.Lengths.{IsNonceLength};
 
-use crate::blocks::xor_into;
 use crate::formatting::counter_block;
 use aes_core::AesKey;
+use cipher_blocks::xor_into;
 
 // Xors the key stream into a payload.
 pub(crate) fn xor_stream(key: &AesKey, nonce: &[u8], text: &mut [u8])

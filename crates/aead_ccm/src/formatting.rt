@@ -6,7 +6,7 @@ ghost use Rattle.crypto_specs.specs.Ccm.{ccm_counter_block, control_block, encod
 ghost use Rattle.aead_ccm.specs.Chaining.{filled_block};
 ghost use Rattle.aead_ccm.specs.Lengths.{IsNonceLength, IsPayloadLength, IsTagLength};
 
-use crate::blocks::{number_of, put};
+use cipher_blocks::{number_of, put_at};
 
 /// Whether a payload's length, in bytes, fits into the bytes that a nonce of this length leaves for
 /// it.
@@ -53,7 +53,7 @@ fn nonce_block(first: u8, nonce: &[u8], number: u64) -> u128
 {
     let mut block = u128::from(number).to_be_bytes();
     block[0] = first;
-    put(&mut block, 1, nonce);
+    put_at(&mut block, 1, nonce);
     number_of(&block)
 }
 
@@ -69,13 +69,13 @@ pub(crate) fn data_front(ad: &[u8]) -> (u128, usize)
     let mut block = [0; 16];
     if ad.len() < 0xff00 {
         let count = ad.len().min(14);
-        put(&mut block, 0, &(ad.len() as u16).to_be_bytes());
-        put(&mut block, 2, &ad[..count]);
+        put_at(&mut block, 0, &(ad.len() as u16).to_be_bytes());
+        put_at(&mut block, 2, &ad[..count]);
         (number_of(&block), count)
     } else {
-        put(&mut block, 0, &[0xff, 0xfe]);
-        put(&mut block, 2, &(ad.len() as u32).to_be_bytes());
-        put(&mut block, 6, &ad[..10]);
+        put_at(&mut block, 0, &[0xff, 0xfe]);
+        put_at(&mut block, 2, &(ad.len() as u32).to_be_bytes());
+        put_at(&mut block, 6, &ad[..10]);
         (number_of(&block), 10)
     }
 }

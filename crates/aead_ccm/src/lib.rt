@@ -11,7 +11,6 @@ ghost use Rattle.aead_ccm.specs.Lengths.{IsNonceLength, IsPayloadLength, IsTagLe
 use aes_core::AesKey;
 pub use formatting::{control_block, counter_block, permits_payload};
 
-mod blocks;
 mod chaining;
 mod counting;
 mod formatting;

@@ -1,4 +1,3 @@
-pub mod FilledBlocks
 pub mod GhashSteps
 pub mod CounterBlocks
 pub mod Tags

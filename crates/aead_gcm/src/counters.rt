@@ -6,9 +6,9 @@ ghost use Rattle.crypto_specs.specs.Bytes.{xor_bytes};
 ghost use Rattle.crypto_specs.specs.Modes.{block_count};
 ghost use Rattle.crypto_specs.specs.Gcm.{gcm_stream, hash_subkey, increased, initial_counter_block};
 
-use crate::blocks::{number_of, xor_into};
 use crate::hashing::ghash_of;
 use aes_core::AesKey;
+use cipher_blocks::{filled_number, xor_into};
 
 /// The pre-counter block J_0 of a nonce, under the hash subkey of a cipher `e` (SP 800-38D, section
 /// 7.1, step 2).
@@ -17,7 +17,7 @@ pub fn initial_counter_block(subkey: u128, nonce: &[u8]) -> u128
     ensures { (e : List ℕ → List ℕ) → subkey ≡ hash_subkey e → result ≡ initial_counter_block e nonce.now }
 {
     if nonce.len() == 12 {
-        increment(number_of(nonce))
+        increment(filled_number(nonce))
     } else {
         ghash_of(subkey, &[], nonce)
     }

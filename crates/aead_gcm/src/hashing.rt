@@ -5,8 +5,8 @@ ghost use Rattle.crypto_specs.specs.Aes.{aes_encrypt, IsKey};
 ghost use Rattle.crypto_specs.specs.Ghash.{ghash_from};
 ghost use Rattle.crypto_specs.specs.Gcm.{ghash_of, hash_subkey, length_block, numbers_of};
 
-use crate::blocks::number_of;
 use aes_core::AesKey;
+use cipher_blocks::filled_number;
 use ghash::Ghash;
 
 /// The hash subkey H of a key: the zero block enciphered (SP 800-38D, section 7.1, step 1).
@@ -24,7 +24,7 @@ pub fn absorb(running: &mut Ghash, text: &[u8])
 {
     'turns: for n in 0..text.len().div_ceil(16) {
         let end = text.len().min(16 * n + 16);
-        running.block(number_of(&text[16 * n..end]));
+        running.block(filled_number(&text[16 * n..end]));
     }
 }
 

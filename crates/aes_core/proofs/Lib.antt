@@ -3,4 +3,3 @@ pub mod Doublings
 pub mod Expansion
 pub mod RoundKeys
 pub mod KeyRules
-pub mod BlockNumbers

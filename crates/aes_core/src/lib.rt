@@ -6,6 +6,7 @@ ghost use Rattle.crypto_specs.specs.Aes.{aes_encrypt, IsKey};
 ghost use Rattle.crypto_specs.specs.AesInverse.{aes_decrypt};
 ghost use Rattle.crypto_specs.specs.Modes.{number_block};
 
+use cipher_blocks::number_of;
 use rounds::{cipher, inv_cipher};
 use schedule::key_expansion;
 use std::marker::Model;
@@ -92,13 +93,6 @@ impl AesKey {
         self.rounds = 0;
         self.schedule = [0; 240];
     }
-}
-
-// The number of a block, first byte highest.
-fn number_of(block: &[u8; 16]) -> u128
-    ensures { number_block result ≡ block.now }
-{
-    u128::from_be_bytes(*block)
 }
 
 #[cfg(test)]

@@ -1,7 +1,7 @@
 -- Blocks whose end is zeros.
 use Rattle.std.proofs.Common.{◌≡◌, ℕ, ◌+◌, ◌-◌, ◌≤◌, List, ◌++◌, length, take, drop, sym, ap, ◌∙◌, arith}
 use Rattle.std.specs.Prelude.{replicate}
-use Rattle.std.proofs.lemmas.List.{take-append-drop, drop_at, drop-drop, drop-replicate, length-append, length-take}
+use Rattle.std.proofs.lemmas.List.{take-append-drop, drop_at, drop-replicate, length-append, length-take}
 use Rattle.crypto_specs.specs.Modes.{block_number}
 use Rattle.crypto_specs.proofs.Blocks.{number_of_filled}
 use Rattle.block_buffers.specs.Filled.{HasZerosPast}
@@ -15,16 +15,14 @@ number_of_used used block h =
 
 -- a piece that fits is put into the zeros
 pub put_in : (used n : ℕ) (block piece new : List ℕ) → used + n ≤ 16 → length piece ≡ n → length block ≡ 16
-    → new ≡ take used block ++ piece ++ drop (used + length piece) block → HasZerosPast used block → HasZerosPast (used + n) new
+    → new ≡ take used block ++ piece ++ drop (length piece) (drop used block) → HasZerosPast used block → HasZerosPast (used + n) new
 put_in used n block piece new fits long whole e h =
     let front : List ℕ = take used block ++ piece in
     let count : length front ≡ used + n = omega (arith, length-append (take used block) piece, length-take used block) in
-    let back : List ℕ = drop (used + length piece) block in
-    let place : used + n ≡ used + length piece = omega arith in
+    let back : List ℕ = drop (length piece) (drop used block) in
     record {
       limit = fits;
       rest =
           ap (drop (used + n)) e ∙ drop_at front back (used + n) count
-          ∙ ap (λ (k : ℕ). drop k block) (sym place) ∙ sym (drop-drop n used block)
-          ∙ ap (drop n) h.rest ∙ drop-replicate n (16 - used) 0 ∙ ap (λ (k : ℕ). replicate k 0) (omega arith);
+          ∙ ap (λ (k : ℕ). drop k (drop used block)) long ∙ ap (drop n) h.rest ∙ drop-replicate n (16 - used) 0 ∙ ap (λ (k : ℕ). replicate k 0) (omega arith);
     }

@@ -1,9 +1,10 @@
 //! The bytes of a text that don't fill a block of 16 bytes yet.
 #![tactic(auto)]
 
-ghost use Rattle.std.specs.Prelude.{◌≡◌, ℕ, ◌+◌, ◌-◌, ◌≤◌, ◌↔◌, IsTrue, [], ◌++◌, length, take, drop, min, replicate};
+ghost use Rattle.std.specs.Prelude.{◌≡◌, ℕ, ◌-◌, ◌≤◌, ◌↔◌, IsTrue, [], ◌++◌, length, take, min, replicate};
 ghost use Rattle.crypto_specs.specs.Modes.{block_number, number_block};
 
+use cipher_blocks::{number_of, put_at};
 use std::marker::Model;
 
 #[cfg(test)]
@@ -86,20 +87,4 @@ impl BlockBuffer {
         self.block = [0; 16];
         self.used = 0;
     }
-}
-
-// Overwrites the bytes of a block from byte `at` on.
-fn put_at(block: &mut [u8; 16], at: usize, piece: &[u8])
-    requires { at + length piece.now ≤ 16 }
-    ensures { block.new ≡ take at block.old ++ piece.now ++ drop (at + length piece.now) block.old }
-{
-    block[at..at + piece.len()].copy_from_slice(piece);
-}
-
-// The number of a block, first byte highest.
-fn number_of(block: &[u8; 16]) -> u128
-    ensures number { result ≡ block_number block.now }
-    ensures block { number_block result ≡ block.now }
-{
-    u128::from_be_bytes(*block)
 }

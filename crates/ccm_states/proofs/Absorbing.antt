@@ -7,7 +7,7 @@ use Rattle.crypto_specs.specs.Modes.{number_block}
 use Rattle.crypto_specs.specs.Cmac.{chained}
 use Rattle.crypto_specs.specs.Ccm.{filled_blocks}
 use Rattle.crypto_specs.proofs.Blocks.{length-number_block}
-use Rattle.aes_core.proofs.BlockNumbers.{block_of_xor}
+use Rattle.cipher_blocks.proofs.BlockNumbers.{block_of_xor}
 use Rattle.aead_ccm.specs.Chaining.{filled_block, chained_from}
 use Rattle.aead_ccm.proofs.FilledBlocks.{filled_blocks-empty}
 use Rattle.aead_ccm.proofs.Chains.{front_chained}

@@ -7,7 +7,7 @@ use Rattle.crypto_specs.specs.Bytes.{xor_bytes}
 use Rattle.crypto_specs.specs.Modes.{number_block}
 use Rattle.crypto_specs.specs.Cmac.{chain_step, chained}
 use Rattle.crypto_specs.specs.Ccm.{ccm_counter_block, ccm_tag, control_block, encoded_data, encoded_length, filled_blocks, formatted_blocks}
-use Rattle.aes_core.proofs.BlockNumbers.{block_of_xor}
+use Rattle.cipher_blocks.proofs.BlockNumbers.{block_of_xor}
 use Rattle.aead_ccm.specs.Chaining.{chained_from}
 use Rattle.aead_ccm.proofs.Formats.{no_data, some_data}
 use Rattle.ccm_states.specs.Chains.{data_front}

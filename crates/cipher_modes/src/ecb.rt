@@ -3,8 +3,8 @@ ghost use Rattle.crypto_specs.specs.Aes.{aes_encrypt, IsKey};
 ghost use Rattle.crypto_specs.specs.AesInverse.{aes_decrypt};
 ghost use Rattle.crypto_specs.specs.Modes.{ecb_encrypt, ecb_decrypt};
 
-use crate::pieces::{number_of, set_number};
 use aes_core::AesKey;
+use cipher_blocks::{number_of, set_number};
 
 /// Enciphers a text of whole blocks in ECB mode (SP 800-38A section 6.1).
 pub fn ecb_encrypt(key: &AesKey, text: &mut [u8])

@@ -10,6 +10,5 @@ mod cbc;
 mod ctr;
 mod ecb;
 mod padding;
-mod pieces;
 #[cfg(test)]
 mod tests;

@@ -10,7 +10,7 @@ use Rattle.crypto_specs.specs.Modes.{blocks, number_block}
 use Rattle.cmac_ops.specs.Chains.{Holds, IsChained}
 use Rattle.cmac_ops.specs.declared.chain.Chain.{Chain}
 use Rattle.crypto_specs.proofs.Blocks.{blocks-append}
-use Rattle.aes_core.proofs.BlockNumbers.{block_of_xor}
+use Rattle.cipher_blocks.proofs.BlockNumbers.{block_of_xor}
 use Rattle.cmac_ops.proofs.Blocks.{blocks-add-one, chained_push}
 use Rattle.cmac_ops.proofs.Numbers.{length-block, number_from}
 

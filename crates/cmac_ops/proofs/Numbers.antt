@@ -1,7 +1,7 @@
 -- Blocks as numbers.
 use Rattle.std.proofs.Common.{◌≡◌, ℕ, ◌^◌, ◌<◌, List, length, sym, ap, ◌∙◌}
 use Rattle.crypto_specs.specs.Modes.{block_number, number_block}
-use Rattle.aes_core.proofs.BlockNumbers.{number_of_block}
+use Rattle.cipher_blocks.proofs.BlockNumbers.{number_of_block}
 
 -- a block has 16 bytes
 pub length-block : (n : ℕ) (b : List ℕ) → number_block n ≡ b → length b ≡ 16

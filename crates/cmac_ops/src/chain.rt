@@ -6,6 +6,7 @@ ghost use Rattle.crypto_specs.specs.Cmac.{cmac, doubled, last_block};
 ghost use Rattle.crypto_specs.specs.Modes.{number_block};
 
 use aes_core::AesKey;
+use cipher_blocks::number_of;
 
 /// A message of which every block before the last one is chained into `value`. The last one is kept
 /// back, since a subkey is added to it: it is the first `used` bytes of `block`.
@@ -123,13 +124,6 @@ impl Chain {
         self.block = [0; 16];
         self.used = 0;
     }
-}
-
-// The number of a block, first byte highest.
-fn number_of(block: &[u8; 16]) -> u128
-    ensures { number_block result ≡ block.now }
-{
-    u128::from_be_bytes(*block)
 }
 
 // A block shifted left by one bit, modulo x^128 + x^7 + x^2 + x + 1 (SP 800-38B, section 6.1).

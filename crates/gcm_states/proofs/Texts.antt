@@ -5,7 +5,7 @@ use Rattle.crypto_specs.specs.Bytes.{xor_bytes}
 use Rattle.crypto_specs.specs.Ghash.{ghash_from, block_product}
 use Rattle.crypto_specs.specs.Modes.{number_block}
 use Rattle.crypto_specs.specs.Gcm.{initial_counter_block, gcm_tag, gcm_text, ghash_of, hash_subkey, increased, length_block, numbers_of}
-use Rattle.aes_core.proofs.BlockNumbers.{block_of_xor}
+use Rattle.cipher_blocks.proofs.BlockNumbers.{block_of_xor}
 use Rattle.aead_gcm.proofs.GhashSteps.{in_turn}
 use Rattle.aead_gcm.proofs.Tags.{tag_is}
 use Rattle.key_streams.specs.declared.width.CounterWidth.TheVariants.{Low32}

@@ -7,7 +7,7 @@ use Rattle.std.proofs.Math.Nat.{pow-le-pow_right, mod-eq_of_lt}
 use Rattle.crypto_specs.specs.Modes.{block_count, block_number, number_block}
 use Rattle.crypto_specs.specs.Ccm.{in_bytes, ccm_counter_block, ccm_stream, ccm_text}
 use Rattle.crypto_specs.specs.Laws.{KeepsLength}
-use Rattle.aes_core.proofs.BlockNumbers.{AreBytes, bytes-append, block_of_number, byte_at_is, length-bytes_high_first, power_of_256}
+use Rattle.cipher_blocks.proofs.BlockNumbers.{AreBytes, bytes-append, block_of_number, byte_at_is, length-bytes_high_first, power_of_256}
 use Rattle.key_streams.specs.declared.width.CounterWidth.TheVariants.{Whole}
 use Rattle.key_streams.specs.Counters.{stream_block, text_xor}
 use Rattle.key_streams.proofs.StreamLaws.{further_piece}

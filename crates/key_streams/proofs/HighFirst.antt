@@ -4,7 +4,7 @@ use Rattle.std.specs.Int.{byte_at, bytes_high_first}
 use Rattle.std.proofs.Math.Nat.{pow-suc, mul_comm, div-div-eq-div-mul}
 use Rattle.std.proofs.Math.Arith.{mod-mul}
 use Rattle.std.proofs.lemmas.Nat.{pow-add, same_from_place, mod_below}
-use Rattle.aes_core.proofs.BlockNumbers.{byte_at_is, power_positive}
+use Rattle.cipher_blocks.proofs.BlockNumbers.{byte_at_is, power_positive}
 
 -- the high bytes are those of the quotient
 pub high_and_low : (h k n : ℕ) → bytes_high_first (h + k) n ≡ bytes_high_first h (n / 256 ^ k) ++ bytes_high_first k n

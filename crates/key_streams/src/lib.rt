@@ -4,7 +4,6 @@
 pub use stream::KeyStream;
 pub use width::CounterWidth;
 
-mod pieces;
 mod stream;
 #[cfg(test)]
 mod tests;

@@ -3,9 +3,9 @@ ghost use Rattle.crypto_specs.specs.Aes.{aes_encrypt, IsKey};
 ghost use Rattle.key_streams.specs.Counters.{text_xor};
 ghost use Rattle.key_streams.specs.Streams.{IsAt, IsClearStream};
 
-use crate::pieces::xor_into;
 use crate::width::CounterWidth;
 use aes_core::AesKey;
+use cipher_blocks::xor_bytes_into;
 
 /// A place in the key stream that a cipher makes of the blocks from a first counter block on. The key
 /// stands apart: each call takes it, and it has to be the same one.
@@ -76,7 +76,7 @@ impl KeyStream {
     {
         self.fill(key);
         let count = piece.len().min(16 - self.used);
-        xor_into(&mut piece[..count], &self.block, self.used);
+        xor_bytes_into(&mut piece[..count], &self.block, self.used);
         self.used += count;
         count
     }

@@ -2,7 +2,7 @@ use Rattle.std.proofs.Common.{◌∙◌, ap, ap₂}
 use Rattle.crypto_specs.specs.Aes.{aes_encrypt}
 use Rattle.crypto_specs.specs.Bytes.{xor_bytes}
 use Rattle.crypto_specs.specs.Modes.{number_block}
-use Rattle.aes_core.proofs.BlockNumbers.{block_of_xor}
+use Rattle.cipher_blocks.proofs.BlockNumbers.{block_of_xor}
 use Rattle.aead_ccm.proofs.whole_tag.Goals as goal
 
 pub returns : goal.returns

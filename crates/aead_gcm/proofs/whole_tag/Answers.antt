@@ -1,7 +1,7 @@
 use Rattle.std.proofs.Common.{◌∙◌, ap₂, ap}
 use Rattle.crypto_specs.specs.Bytes.{xor_bytes}
 use Rattle.crypto_specs.specs.Modes.{number_block}
-use Rattle.aes_core.proofs.BlockNumbers.{block_of_xor}
+use Rattle.cipher_blocks.proofs.BlockNumbers.{block_of_xor}
 use Rattle.aead_gcm.proofs.whole_tag.Goals as goal
 
 pub returns : goal.returns

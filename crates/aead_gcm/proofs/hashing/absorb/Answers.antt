@@ -8,12 +8,12 @@ pub turns-preserved : goal.turns-preserved
 turns-preserved c =
     let h = c.args.running.now.0 in
     let y = c.turns.running.1 in
-    let x = c.number_of.result in
+    let x = c.filled_number.result in
     let key = ap (λ (p : ℕ × ℕ). p.0) c.block.ensures in
     let value = ap (λ (p : ℕ × ℕ). p.1) c.block.ensures ∙ ap (λ (k : ℕ). block_product (bit_xor y x) k) c.turns.invariant.key in
     record {
       key = key ∙ c.turns.invariant.key;
-      rest = rw value (block_taken h y x _ c.turns.n c.min-end.result c.args.text.now (omega arith) c.min-end.ensures c.number_of.ensures.number c.turns.invariant.rest);
+      rest = rw value (block_taken h y x _ c.turns.n c.min-end.result c.args.text.now (omega arith) c.min-end.ensures c.filled_number.ensures.number c.turns.invariant.rest);
     }
 
 pub returns : goal.returns

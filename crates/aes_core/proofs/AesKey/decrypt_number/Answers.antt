@@ -8,4 +8,4 @@ pub returns : goal.returns
 unfolding number_block
 returns c =
     let s = c.self.inside in
-    c.number_of.ensures ∙ c.inv_cipher.ensures ∙ ap (λ (b : List ℕ). inv_cipher s.schedule s.rounds b) c.to_be_bytes.ensures ∙ inv_cipher_of c.args.self.now s.schedule (number_block c.args.block) s.rounds (ready c.args.self.now s.schedule s.rounds c.self.invariant c.self.view_is c.requires)
+    c.number_of.ensures.block ∙ c.inv_cipher.ensures ∙ ap (λ (b : List ℕ). inv_cipher s.schedule s.rounds b) c.to_be_bytes.ensures ∙ inv_cipher_of c.args.self.now s.schedule (number_block c.args.block) s.rounds (ready c.args.self.now s.schedule s.rounds c.self.invariant c.self.view_is c.requires)

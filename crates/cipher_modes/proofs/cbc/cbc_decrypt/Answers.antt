@@ -3,7 +3,7 @@ use Rattle.crypto_specs.specs.Bytes.{xor_bytes}
 use Rattle.crypto_specs.specs.AesInverse.{aes_decrypt}
 use Rattle.crypto_specs.specs.Modes.{cbc_plain_blocks, number_block, cbc_decrypt}
 use Rattle.crypto_specs.proofs.Blocks.{length-number_block}
-use Rattle.aes_core.proofs.BlockNumbers.{block_of_xor}
+use Rattle.cipher_blocks.proofs.BlockNumbers.{block_of_xor}
 use Rattle.cipher_modes.proofs.Chaining.{cbc_plain_block}
 use Rattle.cipher_modes.proofs.InPlace.{mode_from, block_done, all_done, none_done}
 use Rattle.cipher_modes.proofs.cbc.cbc_decrypt.Goals as goal
@@ -12,7 +12,7 @@ pub turns-init : goal.turns-init
 unfolding cbc_decrypt
 turns-init c =
     let d = aes_decrypt c.args.key.now in
-    ap (λ (iv : List ℕ). mode_from (cbc_plain_blocks d iv) 0 c.args.text.now) c.number_of-chain.ensures ∙ none_done (cbc_plain_blocks d c.args.iv.now) c.args.text.now
+    ap (λ (iv : List ℕ). mode_from (cbc_plain_blocks d iv) 0 c.args.text.now) c.number_of-chain.ensures.block ∙ none_done (cbc_plain_blocks d c.args.iv.now) c.args.text.now
 
 pub turns-preserved : goal.turns-preserved
 turns-preserved c =
@@ -20,9 +20,9 @@ turns-preserved c =
     let chain = number_block c.turns.chain in
     let next = number_block c.number_of-block.result in
     let plain = c.set_number.ensures ∙ block_of_xor c.decrypt_number.result c.turns.chain ∙ ap (λ (b : List ℕ). xor_bytes b chain) c.decrypt_number.ensures in
-    block_done (cbc_plain_blocks d chain) (cbc_plain_blocks d next) c.turns.text c.set_number.new.piece c.turns.n _ (omega arith) (omega arith)
+    block_done (cbc_plain_blocks d chain) (cbc_plain_blocks d next) c.turns.text c.set_number.new.block c.turns.n _ (omega arith) (omega arith)
     (ap length c.set_number.ensures ∙ length-number_block _)
-    (λ rest. ap (λ (b : List ℕ). cbc_plain_blocks d chain (b ∷ rest)) (sym c.number_of-block.ensures) ∙ cbc_plain_block d chain next c.set_number.new.piece plain rest)
+    (λ rest. ap (λ (b : List ℕ). cbc_plain_blocks d chain (b ∷ rest)) (sym c.number_of-block.ensures.block) ∙ cbc_plain_block d chain next c.set_number.new.block plain rest)
     ∙ c.turns.invariant
 
 pub returns : goal.returns

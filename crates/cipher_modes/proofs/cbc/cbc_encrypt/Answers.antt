@@ -3,7 +3,7 @@ use Rattle.crypto_specs.specs.Bytes.{xor_bytes}
 use Rattle.crypto_specs.specs.Aes.{aes_encrypt}
 use Rattle.crypto_specs.specs.Modes.{cbc_blocks, number_block, cbc_encrypt}
 use Rattle.crypto_specs.proofs.Blocks.{length-number_block}
-use Rattle.aes_core.proofs.BlockNumbers.{block_of_xor}
+use Rattle.cipher_blocks.proofs.BlockNumbers.{block_of_xor}
 use Rattle.cipher_modes.proofs.Chaining.{cbc_block}
 use Rattle.cipher_modes.proofs.InPlace.{mode_from, block_done, all_done, none_done}
 use Rattle.cipher_modes.proofs.cbc.cbc_encrypt.Goals as goal
@@ -12,16 +12,16 @@ pub turns-init : goal.turns-init
 unfolding cbc_encrypt
 turns-init c =
     let e = aes_encrypt c.args.key.now in
-    ap (λ (iv : List ℕ). mode_from (cbc_blocks e iv) 0 c.args.text.now) c.number_of-chain.ensures ∙ none_done (cbc_blocks e c.args.iv.now) c.args.text.now
+    ap (λ (iv : List ℕ). mode_from (cbc_blocks e iv) 0 c.args.text.now) c.number_of-chain.ensures.block ∙ none_done (cbc_blocks e c.args.iv.now) c.args.text.now
 
 pub turns-preserved : goal.turns-preserved
 turns-preserved c =
     let e = aes_encrypt c.args.key.now in
     let chain = number_block c.turns.chain in
     let next = number_block c.encrypt_number-chain.result in
-    let xored = block_of_xor c.number_of.result c.turns.chain ∙ ap (λ (b : List ℕ). xor_bytes b chain) c.number_of.ensures in
+    let xored = block_of_xor c.number_of.result c.turns.chain ∙ ap (λ (b : List ℕ). xor_bytes b chain) c.number_of.ensures.block in
     let out = c.encrypt_number-chain.ensures ∙ ap e xored in
-    block_done (cbc_blocks e chain) (cbc_blocks e next) c.turns.text c.set_number.new.piece c.turns.n _ (omega arith) (omega arith)
+    block_done (cbc_blocks e chain) (cbc_blocks e next) c.turns.text c.set_number.new.block c.turns.n _ (omega arith) (omega arith)
     (ap length c.set_number.ensures ∙ length-number_block _)
     (λ rest. cbc_block e chain _ next out rest ∙ ap (λ (b : List ℕ). b ∷ cbc_blocks e next rest) (sym c.set_number.ensures))
     ∙ c.turns.invariant

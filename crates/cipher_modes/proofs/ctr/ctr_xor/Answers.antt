@@ -9,8 +9,7 @@ use Rattle.cipher_modes.proofs.CounterBlocks.{key_stream_next, counter_block_is,
 use Rattle.cipher_modes.proofs.ctr.ctr_xor.Goals as goal
 
 pub turns-init : goal.turns-init
-unfolding block_number
-turns-init c = record { counter = counter_start c.args.iv.now c.from_be_bytes-counter.result c.from_be_bytes-counter.ensures c.from_be_bytes-counter.type_inv; text = refl }
+turns-init c = record { counter = counter_start c.args.iv.now c.number_of-counter.result c.number_of-counter.ensures.number c.number_of-counter.type_inv; text = refl }
 
 pub turns-preserved : goal.turns-preserved
 turns-preserved c =

@@ -12,8 +12,8 @@ turns-init c = none_done (ecb_blocks (aes_encrypt c.args.key.now)) c.args.text.n
 pub turns-preserved : goal.turns-preserved
 turns-preserved c =
     let e = aes_encrypt c.args.key.now in
-    let out = c.set_number.ensures ∙ c.encrypt_number.ensures ∙ ap e c.number_of.ensures in
-    block_done (ecb_blocks e) (ecb_blocks e) c.turns.text c.set_number.new.piece c.turns.n _ (omega arith) (omega arith)
+    let out = c.set_number.ensures ∙ c.encrypt_number.ensures ∙ ap e c.number_of.ensures.block in
+    block_done (ecb_blocks e) (ecb_blocks e) c.turns.text c.set_number.new.block c.turns.n _ (omega arith) (omega arith)
     (ap length c.set_number.ensures ∙ length-number_block _)
     (λ rest. ap (λ (b : List ℕ). b ∷ map e rest) (sym out))
     ∙ c.turns.invariant

@@ -10,7 +10,7 @@ returns-clause-text c = λ width start n h.
     let count = c.min-count.result in
     let whole = c.args.piece.now in
     ap (λ (l : List ℕ). l ++ drop count whole)
-    (c.xor_into.ensures ∙ piece_is c.fill.new.self (aes_encrypt c.args.key.now) width start n (take count whole) (length-aes_encrypt c.args.key.now) c.fill.ensures.used (omega (arith, length-take count whole)) (c.fill.ensures.at width start n h))
+    (c.xor_bytes_into.ensures ∙ piece_is c.fill.new.self (aes_encrypt c.args.key.now) width start n (take count whole) (length-aes_encrypt c.args.key.now) c.fill.ensures.used (omega (arith, length-take count whole)) (c.fill.ensures.at width start n h))
 
 pub returns-clause-at : goal.returns-clause-at
 returns-clause-at c = λ width start n h.

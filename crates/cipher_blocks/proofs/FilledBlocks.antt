@@ -1,0 +1,29 @@
+-- Blocks whose end is filled with zeros.
+use Rattle.std.proofs.Common.{◌≡◌, ℕ, zero, suc, ◌-◌, ◌≤◌, List, ◌++◌, length, drop, ap, ◌∙◌, arith}
+use Rattle.std.specs.Prelude.{replicate}
+use Rattle.std.proofs.lemmas.List.{length-append, length-replicate, drop-replicate}
+use Rattle.crypto_specs.specs.Modes.{block_number, number_block}
+use Rattle.crypto_specs.proofs.Blocks.{number_of_filled}
+use Rattle.cipher_blocks.proofs.BlockNumbers.{AreBytes, bytes-append, block_of_number}
+
+zeros-bytes : (n : ℕ) → AreBytes (replicate n 0)
+zeros-bytes zero i = omega arith
+zeros-bytes (suc n) zero = omega arith
+zeros-bytes (suc n) (suc i) = zeros-bytes n i
+
+-- a piece that is written over the front of zeros
+written_in_zeros : (piece block : List ℕ) → block ≡ piece ++ drop (length piece) (replicate 16 0) → block ≡ piece ++ replicate (16 - length piece) 0
+written_in_zeros piece block e = e ∙ ap (λ (l : List ℕ). piece ++ l) (drop-replicate (length piece) 16 0)
+
+-- has the number of the piece
+pub written_number : (piece block : List ℕ) → block ≡ piece ++ drop (length piece) (replicate 16 0) → block_number block ≡ block_number piece
+written_number piece block e = ap block_number (written_in_zeros piece block e) ∙ number_of_filled piece (16 - length piece)
+
+-- and comes back from its number
+pub written_block : (piece block : List ℕ) → length piece ≤ 16 → AreBytes piece → block ≡ piece ++ drop (length piece) (replicate 16 0)
+    → number_block (block_number block) ≡ piece ++ replicate (16 - length piece) 0
+written_block piece block h all e =
+    let zeros : List ℕ = replicate (16 - length piece) 0 in
+    let long : length (piece ++ zeros) ≡ 16 = omega (arith, length-append piece zeros, length-replicate {A = ℕ} (16 - length piece) 0) in
+    ap (λ (b : List ℕ). number_block (block_number b)) (written_in_zeros piece block e)
+    ∙ block_of_number (piece ++ zeros) long (bytes-append piece zeros all (zeros-bytes (16 - length piece)))

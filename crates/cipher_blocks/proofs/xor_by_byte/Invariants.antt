@@ -1,0 +1,6 @@
+use Rattle.std.proofs.Common.{◌≡◌, ◌++◌, take, drop}
+use Rattle.crypto_specs.specs.Bytes.{xor_bytes}
+use Rattle.cipher_blocks.proofs.xor_by_byte.Given as goal
+
+abbrev pub invariant-bytes : goal.invariant-bytes
+invariant-bytes l = l.piece ≡ xor_bytes (take l.i l.fn.piece) (drop l.from l.block) ++ drop l.i l.fn.piece

@@ -1,0 +1,75 @@
+//! Blocks of 16 bytes, as numbers whose highest byte is the first one, and pieces of a text that are no
+//! longer than a block.
+#![tactic(auto)]
+
+ghost use Rattle.std.specs.Prelude.{◌≡◌, ◌+◌, ◌-◌, ◌≤◌, ◌++◌, length, take, drop, replicate};
+ghost use Rattle.crypto_specs.specs.Bytes.{xor_bytes};
+ghost use Rattle.crypto_specs.specs.Modes.{block_number, number_block};
+
+/// The number of a block.
+pub fn number_of(block: &[u8]) -> u128
+    requires { length block.now ≡ 16 }
+    ensures number { result ≡ block_number block.now }
+    ensures block { number_block result ≡ block.now }
+{
+    let mut bytes = [0; 16];
+    bytes.copy_from_slice(block);
+    u128::from_be_bytes(bytes)
+}
+
+/// The number of a block, or of a part of one that zeros fill at its end.
+pub fn filled_number(piece: &[u8]) -> u128
+    requires { length piece.now ≤ 16 }
+    ensures number { result ≡ block_number piece.now }
+    ensures block { number_block result ≡ piece.now ++ replicate (16 - length piece.now) 0 }
+{
+    let mut block = [0; 16];
+    put_at(&mut block, 0, piece);
+    u128::from_be_bytes(block)
+}
+
+/// Overwrites a block by the one of this number.
+pub fn set_number(block: &mut [u8], number: u128)
+    requires { length block.old ≡ 16 }
+    ensures { block.new ≡ number_block number }
+{
+    block.copy_from_slice(&number.to_be_bytes());
+}
+
+/// Overwrites the bytes of a block from byte `at` on.
+pub fn put_at(block: &mut [u8; 16], at: usize, piece: &[u8])
+    requires { at + length piece.now ≤ 16 }
+    ensures { block.new ≡ take at block.old ++ piece.now ++ drop (length piece.now) (drop at block.old) }
+{
+    block[at..at + piece.len()].copy_from_slice(piece);
+}
+
+/// Xors the front of the block of this number into a piece.
+pub fn xor_into(piece: &mut [u8], block: u128)
+    requires { length piece.old ≤ 16 }
+    ensures { piece.new ≡ xor_bytes piece.old (number_block block) }
+{
+    xor_bytes_into(piece, &block.to_be_bytes(), 0);
+}
+
+/// Xors the bytes of a block from byte `from` on into a piece.
+pub fn xor_bytes_into(piece: &mut [u8], block: &[u8; 16], from: usize)
+    requires { from + length piece.old ≤ 16 }
+    ensures { piece.new ≡ xor_bytes piece.old (drop from block.now) }
+{
+    if piece.len() == 16 {
+        set_number(piece, number_of(piece) ^ number_of(block));
+    } else {
+        xor_by_byte(piece, block, from);
+    }
+}
+
+// The same, a byte at a time.
+fn xor_by_byte(piece: &mut [u8], block: &[u8; 16], from: usize)
+    requires { from + length piece.old ≤ 16 }
+    ensures { piece.new ≡ xor_bytes piece.old (drop from block.now) }
+{
+    'bytes: for i in 0..piece.len() {
+        piece[i] ^= block[from + i];
+    }
+}

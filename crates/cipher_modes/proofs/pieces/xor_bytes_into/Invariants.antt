@@ -1,6 +1,0 @@
-use Rattle.std.proofs.Common.{◌≡◌, ◌++◌, take, drop}
-use Rattle.crypto_specs.specs.Bytes.{xor_bytes}
-use Rattle.cipher_modes.proofs.pieces.xor_bytes_into.Given as goal
-
-abbrev pub invariant-bytes : goal.invariant-bytes
-invariant-bytes l = l.piece ≡ xor_bytes (take l.i l.fn.piece) l.mask ++ drop l.i l.fn.piece
