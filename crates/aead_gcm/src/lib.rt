@@ -9,7 +9,6 @@ ghost use Rattle.crypto_specs.specs.Gcm.{gcm_tag, gcm_text, ghash_of};
 ghost use Rattle.aead_gcm.specs.Lengths.{IsNonceLength, IsTagLength};
 
 use aes_core::AesKey;
-pub use cipher_blocks::filled_number as number_of;
 pub use counters::{increment, initial_counter_block};
 pub use hashing::{absorb, hash_subkey, length_block};
 

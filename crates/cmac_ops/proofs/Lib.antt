@@ -1,4 +1,3 @@
 pub mod Blocks
 pub mod Chaining
 pub mod Numbers
-pub mod Tags

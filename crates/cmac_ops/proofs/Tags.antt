@@ -1,1 +1,0 @@
--- The length of a tag.
