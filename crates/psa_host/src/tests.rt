@@ -243,13 +243,10 @@ fn add_cipher_line(
     alg: &[u8],
     digits: &[u8],
 ) -> Result<(), AllocError> {
-    script.extend_from_slice(b"1 ")?;
-    script.extend_from_slice(command)?;
-    script.extend_from_slice(b" $k alg=")?;
-    script.extend_from_slice(alg)?;
-    script.extend_from_slice(b" data=")?;
-    script.extend_from_slice(digits)?;
-    script.push(b'\n')?;
+    let parts: [&[u8]; 7] = [b"1 ", command, b" $k alg=", alg, b" data=", digits, b"\n"];
+    for part in parts {
+        script.extend_from_slice(part)?;
+    }
     Ok(())
 }
 
