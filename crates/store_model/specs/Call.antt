@@ -21,7 +21,7 @@ pub data Call : Type 0 where
   AeadEncrypt : (id alg : ℕ) (nonce ad input : List ℕ) (room : ℕ) → Call
   AeadDecrypt : (id alg : ℕ) (nonce ad input : List ℕ) (room : ℕ) → Call
 
--- what a call gives back: nothing where it is refused, and where it succeeds without a result that it is done
+-- what a call gives back: `Nothing` is a refusal's, `Done` that of a success without a result
 pub data Output : Type 0 where
   Nothing : Output
   Done : Output
