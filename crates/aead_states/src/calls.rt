@@ -1,5 +1,5 @@
 // The steps of an operation, and its end.
-ghost use Rattle.std.specs.Prelude.{◌≡◌, ℕ, List, length};
+ghost use Rattle.std.specs.Prelude.{◌≡◌, ◌≤◌, ℕ, List, length};
 ghost use Rattle.store_model.specs.Answers.{AnswersLength, plain_reply};
 ghost use Rattle.store_model.specs.Call.{buffer_after};
 ghost use Rattle.store_model.specs.Operations.{Operation, on_active};
@@ -31,6 +31,19 @@ impl AeadState {
         let result = self.state.work.generate_nonce(random, out);
         self.state.settle(Phase::after_step(result.is_ok()));
         result
+    }
+
+    /// How many random bytes `aead_generate_nonce` takes with an output buffer of so many bytes, decided before it is
+    /// called.
+    pub(crate) fn nonce_draws(&self, room: usize) -> usize
+        ensures bound { result ≤ 16 }
+        ensures drawn { (random : List ℕ) (op : Operation AeadWork) → IsAeadOperation self.now op →
+            result ≡ (on_active op (λ w. aead_step random w (AeadGenerateNonce room))).drawn }
+    {
+        match self.state.phase {
+            Phase::Active => self.state.work.nonce_draws(room),
+            Phase::Inactive | Phase::InError => 0,
+        }
     }
 
     /// Takes the nonce. `BadState` where it is there, or where CCM lacks the lengths; `InvalidArgument` where the

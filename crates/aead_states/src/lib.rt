@@ -6,6 +6,7 @@ ghost use Rattle.aead_states.specs.Laws.{DueGrows};
 mod calls;
 mod declarations;
 mod declared;
+mod family;
 mod finishes;
 mod lengths;
 mod nonces;

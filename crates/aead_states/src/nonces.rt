@@ -1,12 +1,12 @@
 // Nonces.
-ghost use Rattle.std.specs.Prelude.{◌≡◌, ◌≤◌, true, ◌&&◌, IfOk, OnOk, IsTrue, length, take};
+ghost use Rattle.std.specs.Prelude.{◌≡◌, ◌≤◌, ℕ, List, true, ◌&&◌, IfOk, OnOk, IsTrue, length, take};
 ghost use Rattle.std.specs.Result.{result_err};
 ghost use Rattle.psa_status.specs.Rows.{first_row};
 ghost use Rattle.store_model.specs.Call.{buffer_after};
 ghost use Rattle.store_model.specs.Outcome.{given, reply_unless};
 ghost use Rattle.store_model.specs.Aeads.{permits_nonce, permits_payload};
 ghost use Rattle.store_model.specs.Rules.{total_limit};
-ghost use Rattle.store_model.specs.AeadOperations.{AeadWork, declared_payload, generate_nonce_rows, nonce_length, set_nonce_rows, takes_nonce, with_nonce};
+ghost use Rattle.store_model.specs.AeadOperations.{AeadGenerateNonce, AeadWork, aead_step, declared_payload, generate_nonce_rows, nonce_length, set_nonce_rows, takes_nonce, with_nonce};
 ghost use Rattle.aead_states.specs.DeclaredLengths.{lengths_of};
 ghost use Rattle.aead_states.specs.Holding.{HoldsAead};
 
@@ -71,6 +71,19 @@ impl RunningAead {
         }
         self.begin(nonce);
         Ok(())
+    }
+
+    // How many random bytes `generate_nonce` takes with an output buffer of so many bytes, decided before it is called.
+    pub(crate) fn nonce_draws(&self, room: usize) -> usize
+        ensures bound { result ≤ 16 }
+        ensures drawn { (random : List ℕ) (w : AeadWork) → HoldsAead self.now w →
+            result ≡ (aead_step random w (AeadGenerateNonce room)).drawn }
+    {
+        if !(self.encrypts && self.takes_nonce()) {
+            return 0;
+        }
+        let length = nonce_length(self.alg, declared_payload(self.lengths));
+        if room < length { 0 } else { length }
     }
 
     // Takes the first random bytes as the nonce, writes it to the front of a buffer, and answers its length.

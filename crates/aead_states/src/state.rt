@@ -1,7 +1,6 @@
 // The state of an operation, and how its phase changes.
 ghost use Rattle.std.specs.Prelude.{◌≡◌};
-ghost use Rattle.store_model.specs.Operations.{Inactive, Operation, is_inactive, loses_key};
-ghost use Rattle.store_model.specs.Outcome.{refusal};
+ghost use Rattle.store_model.specs.Operations.{Inactive, Operation, is_inactive};
 ghost use Rattle.store_model.specs.AeadOperations.{AeadWork};
 ghost use Rattle.aead_states.specs.Holding.{IsAeadOperation, IsClearAead};
 
@@ -39,16 +38,5 @@ impl AeadState {
         ensures inactive { IsAeadOperation self.new Inactive }
     {
         self.state.wipe();
-    }
-
-    /// The key of the operation is gone, and an active one fails: it is in error, and this is `InvalidHandle`.
-    /// `BadState` where it isn't active.
-    pub fn lose_key(&mut self) -> Status
-        ensures state { (op : Operation AeadWork) → IsAeadOperation self.old op →
-            IsAeadOperation self.new (loses_key op).operation }
-        ensures reply { (op : Operation AeadWork) → IsAeadOperation self.old op →
-            refusal result ≡ (loses_key op).reply }
-    {
-        self.state.lose_key()
     }
 }

@@ -1,13 +1,16 @@
 // Operations in several parts, whose updates run again and again through a handle of a service.
-ghost use Rattle.std.specs.Prelude.{◌≡◌, ◌<◌, ◌^◌, IfOk};
+ghost use Rattle.std.specs.Prelude.{◌≡◌, ◌≤◌, ◌<◌, ◌+◌, ◌^◌, IfOk};
+ghost use Rattle.store_model.specs.Store.{caller_state};
 
 use crate::jobs::Family;
 use alg_encoding::Alg;
 use key_attributes::{Attributes, KeyId, KeyType, Lifetime, Policy, Usage};
-use key_service::{Op, Operations};
+use key_service::Service;
 use psa_status::{Memory, Status};
+use service_calls::{
+    AeadStep, Call, CipherStep, HandleCall, HashStep, MacStep, Op, Output, Setup, Step, StoreCall,
+};
 use std::alloc::Global;
-use store_core::Store;
 
 /// So many updates are made of one operation, which takes at most 2^32 - 1 bytes.
 const UPDATES: usize = 4096;
@@ -74,11 +77,28 @@ impl Family {
 /// A handle of a service that has one key.
 #[derive(Drop)]
 pub struct Handle {
-    store: Store,
-    operations: Operations,
+    service: Service,
     op: Op,
     key: KeyId,
     family: Family,
+}
+
+// Whether the service counts one more call, and the caller can draw for it.
+fn check_turn(service: &Service) -> Result<(), Failure>
+    ensures turns { IfOk result (λ _. service.now.store.calls < 2 ^ 62) }
+    ensures words { IfOk result (λ _. (caller_state service.now.store 1).drawn + 256 ≤ 2 ^ 60) }
+{
+    if service.store.ranked() < 1 << 62 && service.store.drawn(CALLER) <= (1 << 60) - 256 {
+        Ok(())
+    } else {
+        Err(Failure::Refused)
+    }
+}
+
+// Makes one call, whose bytes go to the front of `out`.
+fn call(service: &mut Service, call: &Call<'_>, out: &mut [u8]) -> Result<Output, Failure> {
+    check_turn(service)?;
+    Ok(service.serve(CALLER, call, out)?)
 }
 
 impl Handle {
@@ -86,55 +106,44 @@ impl Handle {
     pub fn open(alloc: Global, family: Family) -> Result<Handle, Failure>
         ensures { IfOk result (λ handle. handle.family ≡ family) }
     {
-        let mut store = Store::open(alloc)?;
-        let operations = Operations::open(alloc)?;
+        let mut service = Service::open(alloc)?;
         let op = Op::new(1).ok_or(Failure::Refused)?;
-        if store.ranked() != 0 {
-            return Err(Failure::Refused);
-        }
-        let key = store.import_key(CALLER, &family.attributes(), &KEY)?;
-        Ok(Handle {
-            store,
-            operations,
-            op,
-            key,
-            family,
-        })
-    }
-
-    // Whether the store counts one more call.
-    fn check_turn(&self) -> Result<(), Failure>
-        ensures { IfOk result (λ _. self.now.store.calls < 2 ^ 62) }
-    {
-        if self.store.ranked() < 1 << 62 {
-            Ok(())
-        } else {
-            Err(Failure::Refused)
+        let import = Call::OnStore(StoreCall::Import {
+            attributes: family.attributes(),
+            bytes: &KEY,
+        });
+        match call(&mut service, &import, &mut [])? {
+            Output::Identifier(key) => Ok(Handle {
+                service,
+                op,
+                key,
+                family,
+            }),
+            _ => Err(Failure::Refused),
         }
     }
 
-    // Ends what the handle did, and sets it up anew.
-    fn set_up(&mut self) -> Result<(), Failure>
+    // Makes a call on the handle, whose bytes go to the front of `out`.
+    fn on_handle(&mut self, made: HandleCall<'_>, out: &mut [u8]) -> Result<(), Failure>
         ensures { self.new.family ≡ self.old.family }
     {
-        self.check_turn()?;
-        self.operations.abort(&mut self.store, CALLER, self.op)?;
-        self.check_turn()?;
-        let (calls, store, op) = (&mut self.operations, &mut self.store, self.op);
-        let alg = self.family.algorithm();
-        match self.family {
-            Family::Sha256 => calls.hash_setup(store, CALLER, op, alg)?,
-            Family::Hmac | Family::Cmac => {
-                calls.mac_sign_setup(store, CALLER, op, self.key, alg)?
-            }
-            Family::Ctr | Family::Cbc => {
-                calls.cipher_encrypt_setup(store, CALLER, op, self.key, alg)?
-            }
-            Family::Gcm | Family::Ccm => {
-                calls.aead_encrypt_setup(store, CALLER, op, self.key, alg)?
-            }
-        }
+        let made = Call::OnHandle {
+            op: self.op,
+            call: made,
+        };
+        call(&mut self.service, &made, out)?;
         Ok(())
+    }
+
+    // What sets the handle up.
+    fn setup(&self) -> Setup {
+        let (key, alg) = (self.key, self.family.algorithm());
+        match self.family {
+            Family::Sha256 => Setup::Hash(alg),
+            Family::Hmac | Family::Cmac => Setup::MacSign { key, alg },
+            Family::Ctr | Family::Cbc => Setup::CipherEncrypt { key, alg },
+            Family::Gcm | Family::Ccm => Setup::AeadEncrypt { key, alg },
+        }
     }
 
     // Gives the handle what comes before the text: the lengths of CCM, and a vector or a nonce.
@@ -142,39 +151,30 @@ impl Handle {
         ensures { self.new.family ≡ self.old.family }
     {
         if let Family::Ccm = self.family {
-            self.check_turn()?;
-            self.operations
-                .aead_set_lengths(&mut self.store, CALLER, self.op, 0, payload)?;
+            let lengths = AeadStep::SetLengths { ad: 0, payload };
+            self.on_handle(HandleCall::Step(Step::Aead(lengths)), &mut [])?;
         }
-        self.check_turn()?;
-        let (calls, store, op) = (&mut self.operations, &mut self.store, self.op);
-        match self.family {
-            Family::Ctr | Family::Cbc => calls.cipher_set_iv(store, CALLER, op, &IV)?,
-            Family::Gcm => calls.aead_set_nonce(store, CALLER, op, &NONCE)?,
+        let step = match self.family {
+            Family::Ctr | Family::Cbc => Step::Cipher(CipherStep::SetIv(&IV)),
+            Family::Gcm => Step::Aead(AeadStep::SetNonce(&NONCE)),
             // 11 bytes leave room for the longest payload.
-            Family::Ccm => calls.aead_set_nonce(store, CALLER, op, &NONCE[..11])?,
-            Family::Sha256 | Family::Hmac | Family::Cmac => {}
-        }
-        Ok(())
+            Family::Ccm => Step::Aead(AeadStep::SetNonce(&NONCE[..11])),
+            Family::Sha256 | Family::Hmac | Family::Cmac => return Ok(()),
+        };
+        self.on_handle(HandleCall::Step(step), &mut [])
     }
 
     // One update, whose output goes to the front of `out`.
     fn update(&mut self, text: &[u8], out: &mut [u8]) -> Result<(), Failure>
         ensures { self.new.family ≡ self.old.family }
     {
-        self.check_turn()?;
-        let (calls, store, op) = (&mut self.operations, &mut self.store, self.op);
-        match self.family {
-            Family::Sha256 => calls.hash_update(store, CALLER, op, text)?,
-            Family::Hmac | Family::Cmac => calls.mac_update(store, CALLER, op, text)?,
-            Family::Ctr | Family::Cbc => {
-                calls.cipher_update(store, CALLER, op, text, out)?;
-            }
-            Family::Gcm | Family::Ccm => {
-                calls.aead_update(store, CALLER, op, text, out)?;
-            }
-        }
-        Ok(())
+        let step = match self.family {
+            Family::Sha256 => Step::Hash(HashStep::Update(text)),
+            Family::Hmac | Family::Cmac => Step::Mac(MacStep::Update(text)),
+            Family::Ctr | Family::Cbc => Step::Cipher(CipherStep::Update(text)),
+            Family::Gcm | Family::Ccm => Step::Aead(AeadStep::Update(text)),
+        };
+        self.on_handle(HandleCall::Step(step), out)
     }
 
     /// Makes so many updates with a text, whose output goes to the front of `out`.
@@ -183,7 +183,8 @@ impl Handle {
     {
         'turns: for i in 0..turns {
             if i % UPDATES == 0 {
-                self.set_up()?;
+                self.on_handle(HandleCall::Abort, &mut [])?;
+                self.on_handle(HandleCall::Setup(self.setup()), &mut [])?;
                 self.prepare(0xffff_ffff)?;
             }
             self.update(text, out)?;

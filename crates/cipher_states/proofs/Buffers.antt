@@ -2,13 +2,13 @@
 use Rattle.std.proofs.Common.{◌≡◌, ℕ, ◌-◌, ◌≤◌, List, [], ◌++◌, length, take, drop, replicate, refl, sym, ap, ◌∙◌, arith}
 use Rattle.std.specs.Prelude.{Option, Some, None}
 use Rattle.std.proofs.lemmas.List.{append-nil, length-take, drop_all}
-use Rattle.store_model.specs.Call.{Reply, buffer_after, output_bytes}
+use Rattle.store_model.specs.Call.{Reply, buffer_after, buffer_bytes}
 use Rattle.store_model.specs.Ciphers.{mode_of}
 use Rattle.store_model.specs.CipherOperations.{CipherWork, last_length, last_part}
 
 pub front_written : (old : List ℕ) (n : ℕ) (reply : Reply) → reply.needed ≡ n → n ≤ length old → buffer_after (take n old) reply ++ drop n old ≡ buffer_after old reply
 front_written old n reply e h =
-    let written : List ℕ = output_bytes reply.output in
+    let written : List ℕ = buffer_bytes reply.output in
     let zeros : List ℕ = replicate (reply.needed - length written) 0 in
     let past : drop reply.needed (take n old) ≡ [] = drop_all reply.needed (take n old) (omega (arith, length-take n old)) in
     ap (λ (l : List ℕ). written ++ zeros ++ l ++ drop n old) past ∙ ap (λ (l : List ℕ). l ++ drop n old) (append-nil (written ++ zeros))

@@ -6,6 +6,7 @@ ghost use Rattle.cipher_states.specs.Laws.{DueGrows};
 pub use state::CipherState;
 
 mod block_text;
+mod family;
 mod finishes;
 mod running;
 mod starts;

@@ -8,7 +8,7 @@ ghost use Rattle.key_streams.specs.declared.width.CounterWidth.TheVariants.{Whol
 ghost use Rattle.key_streams.specs.Streams.{IsAt};
 ghost use Rattle.store_model.specs.Call.{buffer_after};
 ghost use Rattle.store_model.specs.Outcome.{given, reply_unless};
-ghost use Rattle.store_model.specs.CipherOperations.{CipherWork, cipher_work, generate_iv_rows, set_iv_rows, takes_iv, with_iv};
+ghost use Rattle.store_model.specs.CipherOperations.{CipherGenerateIv, CipherWork, cipher_step, cipher_work, generate_iv_rows, set_iv_rows, takes_iv, with_iv};
 ghost use Rattle.algorithm_facts.specs.Modes.{model_mode};
 ghost use Rattle.cipher_states.specs.States.{HoldsCipher, IsClearRunning};
 ghost use Rattle.cipher_states.specs.Modes.{keeps_last};
@@ -128,6 +128,19 @@ impl RunningCipher {
         };
         self.take_iv(&block);
         Ok(())
+    }
+
+    /// How many random bytes `generate_iv` takes with an output buffer of so many bytes, decided before it is called.
+    pub(crate) fn iv_draws(&self, room: usize) -> usize
+        ensures bound { result ≤ 16 }
+        ensures drawn { (random : List ℕ) (w : CipherWork) → HoldsCipher self.now w →
+            result ≡ (cipher_step random w (CipherGenerateIv room)).drawn }
+    {
+        if self.encrypts && self.takes_iv() && 16 <= room {
+            16
+        } else {
+            0
+        }
     }
 
     /// Takes these random bytes as the initialisation vector, writes them to the front of a buffer, and answers their

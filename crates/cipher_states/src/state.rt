@@ -3,8 +3,7 @@ ghost use Rattle.std.specs.Prelude.{◌≡◌, ◌≤◌, ℕ, List, [], IfOk, I
 ghost use Rattle.crypto_specs.specs.Aes.{IsKey};
 ghost use Rattle.store_model.specs.Call.{buffer_after};
 ghost use Rattle.store_model.specs.Answers.{AnswersLength, AnswersOrSpoils, plain_reply};
-ghost use Rattle.store_model.specs.Outcome.{refusal};
-ghost use Rattle.store_model.specs.Operations.{Operation, Inactive, is_inactive, loses_key, on_active};
+ghost use Rattle.store_model.specs.Operations.{Operation, Inactive, is_inactive, on_active};
 ghost use Rattle.store_model.specs.CipherOperations.{CipherFinish, CipherGenerateIv, CipherSetIv, CipherUpdate, CipherWork, cipher_setup, cipher_step};
 ghost use Rattle.operation_phase.specs.declared.Phase.TheVariants as phases;
 ghost use Rattle.cipher_states.specs.Keyed.{is_key};
@@ -18,7 +17,7 @@ use psa_status::Status;
 /// updates, and a finish.
 #[derive(Drop)]
 pub struct CipherState {
-    state: OperationState<RunningCipher>,
+    pub(crate) state: OperationState<RunningCipher>,
     ghost keyed: { state.phase ≡ phases.Active → IsTrue (is_key state.work.key) },
 }
 
@@ -47,17 +46,6 @@ impl CipherState {
         ensures inactive { IsCipherOperation self.new Inactive }
     {
         self.state.wipe();
-    }
-
-    /// The key of the operation is gone, and an active one fails: it is in error, and this is `InvalidHandle`.
-    /// `BadState` where it isn't active.
-    pub fn lose_key(&mut self) -> Status
-        ensures state { (op : Operation CipherWork) → IsCipherOperation self.old op →
-            IsCipherOperation self.new (loses_key op).operation }
-        ensures reply { (op : Operation CipherWork) → IsCipherOperation self.old op →
-            refusal result ≡ (loses_key op).reply }
-    {
-        self.state.lose_key()
     }
 
     fn setup(&mut self, encrypts: bool, key: &[u8], alg: Alg) -> Result<(), Status>
@@ -93,6 +81,19 @@ impl CipherState {
             plain_reply result ≡ (cipher_setup op false alg.0 key.now).reply }
     {
         self.setup(false, key, alg)
+    }
+
+    /// How many random bytes `cipher_generate_iv` takes with an output buffer of so many bytes, decided before it is
+    /// called.
+    pub(crate) fn iv_draws(&self, room: usize) -> usize
+        ensures bound { result ≤ 16 }
+        ensures drawn { (random : List ℕ) (op : Operation CipherWork) → IsCipherOperation self.now op →
+            result ≡ (on_active op (λ w. cipher_step random w (CipherGenerateIv room))).drawn }
+    {
+        match self.state.phase {
+            Phase::Active => self.state.work.iv_draws(room),
+            Phase::Inactive | Phase::InError => 0,
+        }
     }
 
     /// Takes random bytes as the initialisation vector of an encryption, writes them to the front of a buffer, and

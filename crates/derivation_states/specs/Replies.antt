@@ -4,12 +4,6 @@ use Rattle.psa_status.specs.declared.Status.{Status}
 use Rattle.psa_status.specs.declared.Status.TheVariants.{Success}
 use Rattle.store_model.specs.Call.{Reply, output_bytes}
 use Rattle.store_model.specs.Outcome.{refusal}
-use Rattle.store_model.specs.DerivationOperations.{capacity_reply}
-
--- a call that answers a number
-abbrev pub number_reply : Result ℕ Status → Reply
-number_reply (Ok n) = capacity_reply n
-number_reply (Err status) = refusal status
 
 -- a call that gives the bytes of a key, of which so many at most are written to the front of the buffer; a refusal
 -- leaves the buffer

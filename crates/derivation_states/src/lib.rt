@@ -6,9 +6,10 @@ ghost use Rattle.store_model.specs.Operations.{Operation, Inactive, InError, Act
 ghost use Rattle.store_model.specs.DerivationOperations.{DerivationWork, derivation_setup, derivation_step, derived_key, key_given, key_step_refusal, GetCapacity, SetCapacity, InputBytes, InputInteger, OutputBytes, VerifyBytes};
 ghost use Rattle.store_model.specs.Answers.{AnswersLength, plain_reply};
 ghost use Rattle.store_model.specs.Call.{buffer_after};
-ghost use Rattle.store_model.specs.Outcome.{refusal};
 ghost use Rattle.derivation_states.specs.Laws.{DueGrows};
-ghost use Rattle.derivation_states.specs.Replies.{AnswersFront, number_reply};
+ghost use Rattle.store_model.specs.Outcome.{refusal};
+ghost use Rattle.service_calls.specs.Answered.{number_reply};
+ghost use Rattle.derivation_states.specs.Replies.{AnswersFront};
 
 use alg_encoding::{Alg, Class};
 use algorithm_facts::check_class;
@@ -20,6 +21,7 @@ use psa_status::{Memory, Status};
 use std::alloc::Global;
 
 mod derivation;
+mod family;
 mod input;
 mod inputs;
 mod kdf;
@@ -72,7 +74,7 @@ impl DerivationState {
         self.state.settle(Phase::InError);
     }
 
-    /// What a step answers where the key that was given is gone: `InvalidHandle`, and the operation is in error.
+    /// What a call answers where the key that was given is gone: `InvalidHandle`, and the operation is in error.
     pub fn lose_key(&mut self) -> Status
         ensures state { (op : Operation DerivationWork) → IsDerivationOperation self.old op
             → IsDerivationOperation self.new (loses_key op).operation }

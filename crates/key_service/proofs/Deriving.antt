@@ -23,8 +23,10 @@ use Rattle.key_service.specs.Services.{StandsFor}
 use Rattle.key_service.specs.declared.cells.Cell.{Cell}
 use Rattle.key_service.specs.declared.operations.Operations.{Operations}
 use Rattle.key_service.proofs.Families.{derivation_view, PutDerivation}
-use Rattle.key_service.proofs.Served.{IsAt, cell_stands, alive_is, plain_stands, step_reply}
-use Rattle.key_service.proofs.Steps.{IsStep, by_key, no_draw, step_is}
+use Rattle.key_service.proofs.Served.{IsAt, cell_stands, alive_is}
+use Rattle.operation_phase.specs.Turns.{by_key}
+use Rattle.operation_phase.proofs.Stepping.{no_draw}
+use Rattle.key_service.proofs.Steps.{IsStep, step_is}
 
 -- A DERIVATION KEEPS ITS ALGORITHM
 
@@ -81,26 +83,6 @@ set_up_has class alg = has (first_row (class_rows class alg)) refl
     has None e = (refl, concrete_row (is_some (class_of alg)) (is_of_class class alg) (is_concrete alg) _ _ e)
     has (Some status) e = tt
 
--- STEPS
-
-taken_draws : (b : Bool) (w : DerivationWork) (n : ℕ) (reply : Reply) → (cond b (exhausted w) (goes_on (without w n) reply)).drawn ≡ 0
-taken_draws true w n reply = refl
-taken_draws false w n reply = refl
-
-capacity_draws : (b : Bool) (x y : DerivationWork) (reply other : Reply) → (cond b (goes_on x reply) (goes_on y other)).drawn ≡ 0
-capacity_draws true x y reply other = refl
-capacity_draws false x y reply other = refl
-
-derivation_draws : (w : DerivationWork) (step : DerivationStep) → (derivation_step w step).drawn ≡ 0
-derivation_draws w GetCapacity = refl
-derivation_draws w (SetCapacity n) = capacity_draws (nat_lt w.capacity n) w (record w { capacity = n }) (refusal InvalidArgument) done
-derivation_draws w (InputBytes step bytes) = no_draw _ _ refl
-derivation_draws w (InputInteger step value) = no_draw _ _ refl
-derivation_draws w (OutputBytes n) = no_draw (first_row (output_rows w)) (taken_from w n (given (next_derived w n))) (taken_draws (nat_lt w.capacity n) w n (given (next_derived w n)))
-derivation_draws w (VerifyBytes expected) =
-    let reply = compared (bytes_eq expected (next_derived w (length expected))) in
-    no_draw (first_row (output_rows w)) (taken_from w (length expected) reply) (taken_draws (nat_lt w.capacity (length expected)) w (length expected) reply)
-
 -- a step of any kind that keeps the algorithm
 pub work_served : (store after : Store) (operations : Operations) (service : Service) (caller handle place : ℕ) (cell : Cell) (state : DerivationState) (f : DerivationWork → After DerivationWork) (alive : Bool) →
     StandsFor store operations service → IsAt operations caller handle place cell → after ≡ counted store → alive ≡ is_alive after (key_in cell.key) →
@@ -114,24 +96,12 @@ work_served store after operations service caller handle place cell state f aliv
     (alive_is store after service (key_in cell.key) alive h.store_is counts live)
     (λ own is. record { state = code own is.state; algorithm = by_key-keeps cell.alg.0 alive own f keeps is.algorithm })
 
-pub derivation_stands : (store after : Store) (operations next : Operations) (service : Service) (caller handle place : ℕ) (cell : Cell) (state : DerivationState) (step : DerivationStep) (alive : Bool) →
-    StandsFor store operations service → IsAt operations caller handle place cell → next.cells.items ≡ set operations.cells.items place (record cell { derivation = state }) → after ≡ counted store →
-    alive ≡ is_alive after (key_in cell.key) →
-    ((own : Operation DerivationWork) → IsDerivationOperation cell.derivation own → IsDerivationOperation state (by_key alive own (λ w. derivation_step w step)).operation) →
-    StandsFor after next (stepped service caller handle Deriving (part_of derivation_part (operation_of service caller handle)) (λ w. derivation_step w step)).service
-derivation_stands store after operations next service caller handle place cell state step alive h at cells counts live code =
-    plain_stands (IsDerivation cell.alg.0) (PutDerivation cell) cell.derivation state alive (λ w. derivation_step w step) store after operations next service caller handle place cell (record cell { derivation = state }) _
-    (work_served store after operations service caller handle place cell state (λ w. derivation_step w step) alive h at counts live code (λ w. step_keeps cell.alg.0 w step)) h at cells (λ o put. put) counts
-    (λ w. derivation_draws w step)
-
-pub derivation_reply : (store after : Store) (operations : Operations) (service : Service) (caller handle place : ℕ) (cell : Cell) (state : DerivationState) (step : DerivationStep) (alive : Bool) (P : Reply → Type 0) →
-    StandsFor store operations service → IsAt operations caller handle place cell → after ≡ counted store → alive ≡ is_alive after (key_in cell.key) →
-    ((own : Operation DerivationWork) → IsDerivationOperation cell.derivation own → IsDerivationOperation state (by_key alive own (λ w. derivation_step w step)).operation) →
-    ((own : Operation DerivationWork) → IsDerivationOperation cell.derivation own → P (by_key alive own (λ w. derivation_step w step)).reply) →
-    P (stepped service caller handle Deriving (part_of derivation_part (operation_of service caller handle)) (λ w. derivation_step w step)).reply
-derivation_reply store after operations service caller handle place cell state step alive P h at counts live code reply =
-    step_reply (IsDerivation cell.alg.0) (PutDerivation cell) cell.derivation state alive (λ w. derivation_step w step) service caller handle _ P
-    (work_served store after operations service caller handle place cell state (λ w. derivation_step w step) alive h at counts live code (λ w. step_keeps cell.alg.0 w step)) (λ own is. reply own is.state)
+-- a step keeps the algorithm
+pub with_algorithm : (alg : ℕ) (alive : Bool) (before after : DerivationState) (step : DerivationStep) →
+    ((own : Operation DerivationWork) → IsDerivationOperation before own → IsDerivationOperation after (by_key alive own (λ w. derivation_step w step)).operation) →
+    (own : Operation DerivationWork) → IsDerivation alg before own → IsDerivation alg after (by_key alive own (λ w. derivation_step w step)).operation
+with_algorithm alg alive before after step code own is =
+    record { state = code own is.state; algorithm = by_key-keeps alg alive own (λ w. derivation_step w step) (λ w. step_keeps alg w step) is.algorithm }
 
 -- the step that gives the bytes of a key
 
@@ -139,6 +109,10 @@ pub derived_keeps : (alg : ℕ) (w : DerivationWork) (a : Attributes) → HasAlg
 derived_keeps alg w a h =
     let n : ℕ = stated_bytes a in
     unless_keeps alg (first_row (output_key_rows w a)) (taken_from w n (given (next_derived w n))) (taken_keeps alg w n (given (next_derived w n)) h)
+
+taken_draws : (b : Bool) (w : DerivationWork) (n : ℕ) (reply : Reply) → (cond b (exhausted w) (goes_on (without w n) reply)).drawn ≡ 0
+taken_draws true w n reply = refl
+taken_draws false w n reply = refl
 
 pub derived_draws : (w : DerivationWork) (a : Attributes) → (derived_key w a).drawn ≡ 0
 derived_draws w a =

@@ -28,7 +28,8 @@ use Rattle.key_service.proofs.Families.{derivation_view, PutDerivation}
 use Rattle.key_service.proofs.Fresh.{rekeyed}
 use Rattle.key_service.proofs.Served.{IsAt, cell_stands, alive_is, plain_stands, applied_stands}
 use Rattle.key_service.proofs.Setups.{same_found}
-use Rattle.key_service.proofs.Steps.{View, Busy, Idle, by_key, is_active, seen}
+use Rattle.operation_phase.specs.Turns.{by_key}
+use Rattle.key_service.proofs.Steps.{View, Busy, Idle, is_active, seen}
 
 -- the derivation that the handle has
 abbrev pub seen_of : Service → (caller handle : ℕ) → Operation DerivationWork

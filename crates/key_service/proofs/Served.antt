@@ -12,7 +12,8 @@ use Rattle.key_service.specs.Services.{AreOperations, StandsFor}
 use Rattle.key_service.specs.declared.cells.Cell.{Cell}
 use Rattle.key_service.specs.declared.operations.Operations.{Operations}
 use Rattle.key_service.proofs.Places.{operations_put}
-use Rattle.key_service.proofs.Steps.{IsStep, by_key, by_key-drawn}
+use Rattle.operation_phase.specs.Turns.{by_key}
+use Rattle.key_service.proofs.Steps.{IsStep, by_key-drawn}
 
 -- a caller's handle has this cell
 abbrev pub IsAt : (operations : Operations) (caller handle place : ℕ) (cell : Cell) → Type 0

@@ -5,6 +5,8 @@ use Rattle.psa_status.specs.declared.Status.{Status}
 use Rattle.psa_status.specs.declared.Status.TheVariants.{BadState, InvalidHandle}
 use Rattle.store_model.specs.Operations.{Operation, Inactive, InError, Active, After, stays, on_active, with_live_key, loses_key, unless_failed, fails}
 use Rattle.store_model.specs.Handles.{Work, KeyCreation, Held, HandleOperation, Service, Served, operation_of, applied, is_alive, key_of_operation, part_of, held_with, held_after, stepped}
+use Rattle.operation_phase.specs.Turns.{by_key}
+use Rattle.operation_phase.proofs.Stepping.{on_active-drawn}
 use Rattle.key_service.proofs.Places.{untouched_is}
 
 abbrev pub is_active : {W : Type 0} → Operation W → Bool
@@ -21,11 +23,6 @@ pub data View {S W : Type 0} (Is : S → Operation W → Type 0) (key : Option K
       ((t : S) (next : Operation W) → Is t next → Put t (held_with key embed next)) → View Is key embed part Put s operation
   Idle : (own : Operation W) → Is s own → is_active own ≡ false → is_active (part_of part operation) ≡ false →
       ((t : S) → Is t own → Put t operation) → View Is key embed part Put s operation
-
--- what a step makes of the family's own operation, by whether its key is still there
-abbrev pub by_key : {W : Type 0} → Bool → Operation W → (W → After W) → After W
-by_key true own f = on_active own f
-by_key false own f = loses_key own
 
 -- the service's step is this one on the handle, which the cell then stands for
 pub record IsStep {S W : Type 0} (Is : S → Operation W → Type 0) (Put : S → HandleOperation → Type 0) (s t : S) (service : Service) (caller handle : ℕ) (alive : Bool) (f : W → After W) (served : Served) : Type 0 where
@@ -88,15 +85,6 @@ step_is {W = W} Is key embed part Put s t service caller handle alive f (Idle ow
     }
 
 -- steps that draw nothing
-
-pub no_draw : {W : Type 0} (refused : Option Status) (after : After W) → after.drawn ≡ 0 → (unless_failed refused after).drawn ≡ 0
-no_draw None after e = e
-no_draw (Some status) after e = refl
-
-pub on_active-drawn : {W : Type 0} (own : Operation W) (f : W → After W) → ((w : W) → (f w).drawn ≡ 0) → (on_active own f).drawn ≡ 0
-on_active-drawn (Active w) f e = e w
-on_active-drawn Inactive f e = refl
-on_active-drawn InError f e = refl
 
 pub by_key-drawn : {W : Type 0} (alive : Bool) (own : Operation W) (f : W → After W) → ((w : W) → (f w).drawn ≡ 0) → (by_key alive own f).drawn ≡ 0
 by_key-drawn true own f e = on_active-drawn own f e

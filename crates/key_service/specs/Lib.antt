@@ -3,3 +3,4 @@ pub mod Derivations
 pub mod Places
 pub mod Services
 pub mod Setups
+pub mod Whole

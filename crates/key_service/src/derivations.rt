@@ -1,18 +1,16 @@
 // Derivations.
 ghost use Rattle.std.specs.Prelude.{◌≡◌, ◌≤◌, ◌<◌, ◌^◌, length, replicate, take};
-ghost use Rattle.store_model.specs.Answers.{AnswersLength, id_reply, plain_reply};
-ghost use Rattle.store_model.specs.Call.{Import, buffer_after};
+ghost use Rattle.store_model.specs.Answers.{id_reply, plain_reply};
+ghost use Rattle.store_model.specs.Call.{Import};
 ghost use Rattle.store_model.specs.Step.{step};
 ghost use Rattle.store_model.specs.Faults.{Plain};
-ghost use Rattle.store_model.specs.DerivationOperations.{GetCapacity, InputBytes, InputInteger, OutputBytes, SetCapacity, VerifyBytes};
 ghost use Rattle.store_model.specs.Handles.{Service};
-ghost use Rattle.store_model.specs.HandleCalls.{DerivationSetup, InputKey, OnDerivation, OutputKey};
+ghost use Rattle.store_model.specs.HandleCalls.{DerivationSetup, InputKey, OutputKey};
 ghost use Rattle.store_model.specs.Requests.{OnHandle, serve};
-ghost use Rattle.derivation_states.specs.Replies.{number_reply};
 ghost use Rattle.key_service.specs.Services.{StandsFor};
 
 use crate::cells::KeyCreation;
-use crate::op::Op;
+use service_calls::Op;
 use crate::operations::{Operations, place};
 use alg_encoding::Alg;
 use derivation_states::KEY_ROOM;
@@ -66,103 +64,6 @@ impl Operations {
         cell.derivation.key_derivation_setup(alg)
     }
 
-    /// How many bytes can still be had.
-    pub fn key_derivation_get_capacity(
-        &mut self,
-        store: &mut Store,
-        caller: u8,
-        op: Op,
-    ) -> Result<u64, Status>
-        requires first { 1 ≤ caller }
-        requires last { caller ≤ 16 }
-        requires turns { store.old.calls < 2 ^ 62 }
-        ensures stands { (service : Service) → StandsFor store.old self.old service →
-            StandsFor store.new self.new (serve service caller (OnHandle op (OnDerivation GetCapacity)) Plain).service }
-        ensures reply { (service : Service) → StandsFor store.old self.old service →
-            number_reply result ≡ (serve service caller (OnHandle op (OnDerivation GetCapacity)) Plain).reply }
-    {
-        store.count();
-        let cell = &mut self.cells[place(caller, op)];
-        if !cell.has_key(store) {
-            return Err(cell.derivation.lose_key());
-        }
-        cell.derivation.key_derivation_get_capacity()
-    }
-
-    /// Lowers how many bytes can be had.
-    pub fn key_derivation_set_capacity(
-        &mut self,
-        store: &mut Store,
-        caller: u8,
-        op: Op,
-        capacity: u64,
-    ) -> Result<(), Status>
-        requires first { 1 ≤ caller }
-        requires last { caller ≤ 16 }
-        requires turns { store.old.calls < 2 ^ 62 }
-        ensures stands { (service : Service) → StandsFor store.old self.old service →
-            StandsFor store.new self.new (serve service caller (OnHandle op (OnDerivation (SetCapacity capacity))) Plain).service }
-        ensures reply { (service : Service) → StandsFor store.old self.old service →
-            plain_reply result ≡ (serve service caller (OnHandle op (OnDerivation (SetCapacity capacity))) Plain).reply }
-    {
-        store.count();
-        let cell = &mut self.cells[place(caller, op)];
-        if !cell.has_key(store) {
-            return Err(cell.derivation.lose_key());
-        }
-        cell.derivation.key_derivation_set_capacity(capacity)
-    }
-
-    /// Gives bytes at a step of the derivation.
-    pub fn key_derivation_input_bytes(
-        &mut self,
-        store: &mut Store,
-        caller: u8,
-        op: Op,
-        step: u16,
-        input: &[u8],
-    ) -> Result<(), Status>
-        requires first { 1 ≤ caller }
-        requires last { caller ≤ 16 }
-        requires turns { store.old.calls < 2 ^ 62 }
-        ensures stands { (service : Service) → StandsFor store.old self.old service →
-            StandsFor store.new self.new (serve service caller (OnHandle op (OnDerivation (InputBytes step input.now))) Plain).service }
-        ensures reply { (service : Service) → StandsFor store.old self.old service →
-            plain_reply result ≡ (serve service caller (OnHandle op (OnDerivation (InputBytes step input.now))) Plain).reply }
-    {
-        store.count();
-        let cell = &mut self.cells[place(caller, op)];
-        if !cell.has_key(store) {
-            return Err(cell.derivation.lose_key());
-        }
-        cell.derivation.key_derivation_input_bytes(step, input)
-    }
-
-    /// Gives a number at a step of the derivation.
-    pub fn key_derivation_input_integer(
-        &mut self,
-        store: &mut Store,
-        caller: u8,
-        op: Op,
-        step: u16,
-        value: u64,
-    ) -> Result<(), Status>
-        requires first { 1 ≤ caller }
-        requires last { caller ≤ 16 }
-        requires turns { store.old.calls < 2 ^ 62 }
-        ensures stands { (service : Service) → StandsFor store.old self.old service →
-            StandsFor store.new self.new (serve service caller (OnHandle op (OnDerivation (InputInteger step value))) Plain).service }
-        ensures reply { (service : Service) → StandsFor store.old self.old service →
-            plain_reply result ≡ (serve service caller (OnHandle op (OnDerivation (InputInteger step value))) Plain).reply }
-    {
-        store.count();
-        let cell = &mut self.cells[place(caller, op)];
-        if !cell.has_key(store) {
-            return Err(cell.derivation.lose_key());
-        }
-        cell.derivation.key_derivation_input_integer(step, value)
-    }
-
     /// Gives a key as the secret or the password, which the operation has from then on.
     pub fn key_derivation_input_key(
         &mut self,
@@ -200,32 +101,6 @@ impl Operations {
             number: found.number,
         });
         cell.derivation.key_derivation_input_key(step, found.bytes)
-    }
-
-    /// Fills a buffer with the next bytes, and answers their number.
-    pub fn key_derivation_output_bytes(
-        &mut self,
-        store: &mut Store,
-        caller: u8,
-        op: Op,
-        out: &mut [u8],
-    ) -> Result<usize, Status>
-        requires first { 1 ≤ caller }
-        requires last { caller ≤ 16 }
-        requires turns { store.old.calls < 2 ^ 62 }
-        ensures stands { (service : Service) → StandsFor store.old self.old service →
-            StandsFor store.new self.new (serve service caller (OnHandle op (OnDerivation (OutputBytes (length out.old)))) Plain).service }
-        ensures reply { (service : Service) → StandsFor store.old self.old service →
-            AnswersLength result (serve service caller (OnHandle op (OnDerivation (OutputBytes (length out.old)))) Plain).reply }
-        ensures buffer { (service : Service) → StandsFor store.old self.old service →
-            out.new ≡ buffer_after out.old (serve service caller (OnHandle op (OnDerivation (OutputBytes (length out.old)))) Plain).reply }
-    {
-        store.count();
-        let cell = &mut self.cells[place(caller, op)];
-        if !cell.has_key(store) {
-            return Err(cell.derivation.lose_key());
-        }
-        cell.derivation.key_derivation_output_bytes(out)
     }
 
     /// Creates a key of the next bytes, as many as the stated bits say, and answers its identifier.
@@ -267,29 +142,5 @@ impl Operations {
                 Err(status)
             }
         }
-    }
-
-    /// Takes as many bytes as were expected, and compares them.
-    pub fn key_derivation_verify_bytes(
-        &mut self,
-        store: &mut Store,
-        caller: u8,
-        op: Op,
-        expected: &[u8],
-    ) -> Result<(), Status>
-        requires first { 1 ≤ caller }
-        requires last { caller ≤ 16 }
-        requires turns { store.old.calls < 2 ^ 62 }
-        ensures stands { (service : Service) → StandsFor store.old self.old service →
-            StandsFor store.new self.new (serve service caller (OnHandle op (OnDerivation (VerifyBytes expected.now))) Plain).service }
-        ensures reply { (service : Service) → StandsFor store.old self.old service →
-            plain_reply result ≡ (serve service caller (OnHandle op (OnDerivation (VerifyBytes expected.now))) Plain).reply }
-    {
-        store.count();
-        let cell = &mut self.cells[place(caller, op)];
-        if !cell.has_key(store) {
-            return Err(cell.derivation.lose_key());
-        }
-        cell.derivation.key_derivation_verify_bytes(expected)
     }
 }

@@ -8,8 +8,11 @@ mod ciphers;
 mod derivations;
 mod hashes;
 mod macs;
-mod op;
 mod operations;
+mod service;
+mod serving;
+mod store_calls;
+mod turns;
 
-pub use op::Op;
 pub use operations::Operations;
+pub use service::Service;

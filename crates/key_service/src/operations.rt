@@ -9,7 +9,7 @@ ghost use Rattle.store_model.specs.Requests.{OnHandle, serve};
 ghost use Rattle.key_service.specs.Places.{IsPlace};
 
 use crate::cells::Cell;
-use crate::op::Op;
+use service_calls::Op;
 use psa_status::{Memory, Status};
 use std::alloc::Global;
 use store_core::Store;

@@ -19,7 +19,7 @@ const NO_ALGORITHM: Alg = Alg(0);
 /// A hash in several parts: a setup, any number of updates, and a finish or a verify.
 #[derive(Drop)]
 pub struct HashOpState {
-    state: OperationState<RunningHash>,
+    pub(crate) state: OperationState<RunningHash>,
 }
 
 impl HashOpState {

@@ -5,8 +5,7 @@ ghost use Rattle.alg_encoding.specs.Encoding.{base_of};
 ghost use Rattle.store_model.specs.Algorithms.{cmac_base};
 ghost use Rattle.store_model.specs.Call.{buffer_after};
 ghost use Rattle.store_model.specs.Answers.{AnswersLength, plain_reply};
-ghost use Rattle.store_model.specs.Outcome.{refusal};
-ghost use Rattle.store_model.specs.Operations.{Operation, Inactive, is_inactive, loses_key, on_active};
+ghost use Rattle.store_model.specs.Operations.{Operation, Inactive, is_inactive, on_active};
 ghost use Rattle.store_model.specs.MacOperations.{MacSignFinish, MacUpdate, MacVerifyFinish, MacWork, mac_setup, mac_step};
 ghost use Rattle.mac_states.specs.MacStates.{IsClearMac, IsMacOperation};
 
@@ -18,7 +17,7 @@ use psa_status::Status;
 /// A MAC in several parts: a setup with a key, any number of updates, and a finish that makes the MAC or verifies one.
 #[derive(Drop)]
 pub struct MacState {
-    state: OperationState<RunningMac>,
+    pub(crate) state: OperationState<RunningMac>,
 }
 
 impl MacState {
@@ -44,16 +43,6 @@ impl MacState {
         ensures inactive { IsMacOperation self.new Inactive }
     {
         self.state.wipe();
-    }
-
-    /// The key of the operation is gone, and an active one fails: it is in error, and this is `InvalidHandle`.
-    /// `BadState` where it isn't active.
-    pub fn lose_key(&mut self) -> Status
-        ensures state { (op : Operation MacWork) → IsMacOperation self.old op →
-            IsMacOperation self.new (loses_key op).operation }
-        ensures reply { (op : Operation MacWork) → IsMacOperation self.old op → refusal result ≡ (loses_key op).reply }
-    {
-        self.state.lose_key()
     }
 
     fn setup(&mut self, verifies: bool, key: &[u8], alg: Alg) -> Result<(), Status>

@@ -1,4 +1,2 @@
-pub mod HandleOutputs
 pub mod History
 pub mod LineOrder
-pub mod Outputs

@@ -14,9 +14,9 @@ use Rattle.script_lang.specs.declared.script.ScriptLine.{ScriptLine}
 use Rattle.script_lang.specs.declared.replies.ReplyLine.{ReplyLine}
 use Rattle.script_lang.specs.Lines.{script_of, IsOfSession}
 use Rattle.script_lang.specs.PrintedOrder.{Turn, turns, turns_from_start, turns_of, lines_of, AreCalls, call_of, id_given, numbered, printed, replies_to, text_of, IsAnswer}
-use Rattle.session_host.specs.declared.service.Service.{Service}
+use Rattle.key_service.specs.declared.service.Service.{Service}
 use Rattle.session_host.specs.declared.sessions.SessionReplies.{SessionReplies}
-use Rattle.session_host.specs.Services.{Stands}
+use Rattle.key_service.specs.Whole.{Stands}
 use Rattle.session_host.specs.LineOrder.{line_entry, line_served, line_turn, IsFresh, AreReplies, AreAnswered, HasAnswered, all_replies}
 use Rattle.session_host.proofs.History.{replay_calls, replay_draws, replay_more, turns_more, calls_more, kept_own, left_out, numbered_length, numbered_more}
 

@@ -7,14 +7,15 @@ use Rattle.store_model.specs.Faults.{Plain}
 use Rattle.store_model.specs.Handles as model
 use Rattle.store_model.specs.Handles.{Served, service_start}
 use Rattle.store_model.specs.Replay.{Entry, outcome_of, replay}
-use Rattle.store_model.specs.Answers.{AnswersOrSpoils}
+use Rattle.service_calls.specs.declared.output.Output.{Output}
+use Rattle.service_calls.specs.Answered.{IsAnswer}
+use Rattle.key_service.specs.Whole.{Stands}
+use Rattle.key_service.specs.declared.service.Service.{Service}
 use Rattle.script_lang.specs.declared.script.ScriptLine.{ScriptLine}
 use Rattle.script_lang.specs.declared.replies.ReplyLine.{ReplyLine}
 use Rattle.script_lang.specs.PrintedOrder.{Turn, turns_from_start, turns_of, lines_of, AreCalls, call_of, id_given, numbered}
 use Rattle.session_host.specs.declared.answers.Answer.{Answer}
-use Rattle.session_host.specs.declared.service.Service.{Service}
 use Rattle.session_host.specs.declared.sessions.SessionReplies.{SessionReplies}
-use Rattle.session_host.specs.Services.{Stands}
 
 -- what is known of a call's answer
 pub record Answers (a : Answer) (reply : Reply) : Type 0 where
@@ -22,12 +23,11 @@ pub record Answers (a : Answer) (reply : Reply) : Type 0 where
   pub bytes : a.bytes ≡ output_bytes reply.output
   pub id : a.id ≡ id_given reply
 
--- what is known of a call that fills an output buffer: its answer, the buffer after it, and that it gives no identifier
-pub record Fills (answer : Result ℕ Status) (out : List ℕ) (reply : Reply) : Type 0 where
-  pub answers : AnswersOrSpoils answer reply
+-- what is known of a call that was made with an output buffer: its answer, and the buffer after it
+pub record Fills (answer : Result Output Status) (out : List ℕ) (reply : Reply) : Type 0 where
+  pub answers : IsAnswer answer reply
   pub before : List ℕ
   pub after : out ≡ buffer_after before reply
-  pub no_id : id_given reply ≡ 0
 
 -- the entry of a line's call, by the identifiers that its session's calls before gave
 abbrev pub line_entry : List ℕ → ScriptLine → Entry

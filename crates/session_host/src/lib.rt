@@ -1,19 +1,13 @@
-//! The calls of a script's lines, made in line order on the store and the callers' operations, and the text that
-//! answers them.
+//! The calls of a script's lines, made in line order on the service, and the text that answers them.
 #![tactic(auto)]
 
-mod aead_steps;
 mod answers;
 mod calls;
-mod cipher_steps;
-mod derivation_steps;
-mod families;
-mod handles;
-mod hash_steps;
-mod mac_steps;
-mod service;
+mod handle_values;
 mod sessions;
+mod store_values;
 mod texts;
+mod values;
 mod words;
 
 pub use texts::answer_text;

@@ -5,11 +5,11 @@ ghost use Rattle.store_model.specs.Handles as model;
 ghost use Rattle.script_lang.specs.Limits.{IsWellFormed};
 ghost use Rattle.script_lang.specs.Lines.{IsOfSession};
 ghost use Rattle.script_lang.specs.PrintedOrder.{printed, id_given};
-ghost use Rattle.session_host.specs.Services.{Stands};
+ghost use Rattle.key_service.specs.Whole.{Stands};
 ghost use Rattle.session_host.specs.LineOrder.{line_turn, line_served, AreAnswered, IsFresh};
 
 use crate::calls::answered;
-use crate::service::Service;
+use key_service::Service;
 use psa_status::Memory;
 use script_lang::{ReplyLine, ScriptLine};
 use std::alloc::Global;

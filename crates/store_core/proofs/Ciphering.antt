@@ -9,7 +9,7 @@ use Rattle.psa_status.specs.Rows.{Rows, first_row, unless}
 use Rattle.psa_status.proofs.Rows.{first_row-back, unless-ok, unless-err}
 use Rattle.alg_encoding.specs.declared.table.Class.TheVariants.{Cipher}
 use Rattle.store_model.specs.Store.{Key, Store}
-use Rattle.store_model.specs.Call.{Reply, buffer_after, output_bytes}
+use Rattle.store_model.specs.Call.{Reply, buffer_after, buffer_bytes}
 use Rattle.store_model.specs.KeyUse.{bytes_of}
 use Rattle.store_model.specs.Rules.{use_rows}
 use Rattle.store_model.specs.Outcome.{Outcome, decided, refused, reply_unless, given}
@@ -58,7 +58,7 @@ refused_out rows store done old s h = ap (λ o. buffer_after old (decided store 
 
 pub front_written : (old : List ℕ) (n : ℕ) (reply : Reply) → reply.needed ≡ n → n ≤ length old → buffer_after (take n old) reply ++ drop n old ≡ buffer_after old reply
 front_written old n reply e h =
-    let written : List ℕ = output_bytes reply.output in
+    let written : List ℕ = buffer_bytes reply.output in
     let zeros : List ℕ = replicate (reply.needed - length written) 0 in
     let past : drop reply.needed (take n old) ≡ [] = drop_all reply.needed (take n old) (omega (arith, length-take n old)) in
     ap (λ (l : List ℕ). written ++ zeros ++ l ++ drop n old) past ∙ ap (λ (l : List ℕ). l ++ drop n old) (append-nil (written ++ zeros))

@@ -204,6 +204,14 @@ impl Store {
         self.streams[caller as usize].fill(out);
     }
 
+    /// How many random words a caller has drawn.
+    pub fn drawn(&self, caller: u8) -> u64
+        requires last { caller ≤ 16 }
+        ensures { result ≡ (model.caller_state self.now caller).drawn }
+    {
+        self.streams[caller as usize].place()
+    }
+
     /// The caller's next random bytes, which are not drawn.
     pub fn peek(&mut self, caller: u8, out: &mut [u8; 16])
         requires last { caller ≤ 16 }

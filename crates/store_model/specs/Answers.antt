@@ -4,7 +4,7 @@ use Rattle.psa_status.specs.declared.Status.{Status}
 use Rattle.psa_status.specs.declared.Status.TheVariants.{Success}
 use Rattle.key_attributes.specs.declared.KeyId.{KeyId}
 use Rattle.key_attributes.specs.declared.Attributes.{Attributes}
-use Rattle.store_model.specs.Call.{Reply, Nothing, Identifier, Description, output_bytes}
+use Rattle.store_model.specs.Call.{Reply, Nothing, Identifier, Description, Bytes, buffer_bytes}
 use Rattle.store_model.specs.Outcome.{refusal, done}
 
 -- a creation answers the identifier
@@ -12,9 +12,13 @@ abbrev pub id_reply : Result KeyId Status → Reply
 id_reply (Ok id) = record { status = Success; output = Identifier id.0; needed = 0 }
 id_reply (Err status) = refusal status
 
+-- success, with so many bytes
+abbrev pub GivesBytes : ℕ → Reply → Type 0
+GivesBytes n reply = (reply.status ≡ Success) × (n ≡ length (buffer_bytes reply.output)) × (reply.output ≡ Bytes (buffer_bytes reply.output))
+
 -- a call with an output buffer answers how many bytes its output has
 abbrev pub AnswersLength : Result ℕ Status → Reply → Type 0
-AnswersLength (Ok n) reply = (reply.status ≡ Success) × (n ≡ length (output_bytes reply.output))
+AnswersLength (Ok n) reply = GivesBytes n reply
 AnswersLength (Err status) reply = reply ≡ refusal status
 
 -- a call that answers attributes
@@ -29,5 +33,5 @@ plain_reply (Err status) = refusal status
 
 -- a call whose refusal may leave zeros in its output buffer; what the buffer holds is said beside it
 abbrev pub AnswersOrSpoils : Result ℕ Status → Reply → Type 0
-AnswersOrSpoils (Ok n) reply = (reply.status ≡ Success) × (n ≡ length (output_bytes reply.output))
+AnswersOrSpoils (Ok n) reply = GivesBytes n reply
 AnswersOrSpoils (Err status) reply = (reply.status ≡ status) × (reply.output ≡ Nothing)

@@ -51,8 +51,13 @@ output_bytes (Description attributes) = attribute_bytes attributes
 output_bytes (Bytes bytes) = bytes
 output_bytes (Number number) = to_be_bytes w64 number
 
--- the output buffer after a call: what is given back, zeros up to the needed length, and then what was there
+-- what is given through an output buffer
+abbrev pub buffer_bytes : Output → List ℕ
+buffer_bytes (Bytes bytes) = bytes
+buffer_bytes _ = []
+
+-- the output buffer after a call: the bytes that are given, zeros up to the needed length, and then what was there
 abbrev pub buffer_after : List ℕ → Reply → List ℕ
 buffer_after old reply =
-    let written = output_bytes reply.output in
+    let written = buffer_bytes reply.output in
     written ++ replicate (reply.needed - length written) 0 ++ drop reply.needed old

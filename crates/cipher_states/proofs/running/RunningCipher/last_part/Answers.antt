@@ -1,8 +1,8 @@
-use Rattle.std.proofs.Common.{◌≡◌, ℕ, ◌<◌, Bool, cond, List, length, sym, ap, subst, ◌∙◌}
+use Rattle.std.proofs.Common.{◌≡◌, ℕ, ◌<◌, Bool, cond, List, length, refl, sym, ap, subst, ◌∙◌}
 use Rattle.std.proofs.lemmas.Bool.{eqb-true}
 use Rattle.crypto_specs.specs.Modes.{pkcs7_unpadded}
-use Rattle.store_model.specs.Call.{buffer_after, output_bytes}
-use Rattle.store_model.specs.Answers.{AnswersOrSpoils}
+use Rattle.store_model.specs.Call.{buffer_after}
+use Rattle.store_model.specs.Answers.{AnswersOrSpoils, GivesBytes}
 use Rattle.store_model.specs.Operations.{After, InError, Inactive}
 use Rattle.store_model.specs.CipherOperations.{CipherWork, last_length}
 use Rattle.algorithm_facts.specs.Modes.{model_mode}
@@ -20,10 +20,8 @@ returns-then-self-clause-reply c = λ w h ready whole.
     let s = c.args.self.now in
     let padded = subst (λ (n : ℕ). 0 < n) c.requires.room (not_none (length c.args.out.now) (sym c.is_empty.ensures ∙ c.if-is_empty.false)) in
     let same = c.copy_from_slice.ensures.after ∙ c.padded.ensures (part_kept s w h ready padded c.if-self.true) in
-    let end = ends_padded s w h ready padded c.if-self.true in (
-      ap (λ (a : After CipherWork). a.reply.status) end,
-      sym (ap (λ (a : After CipherWork). length (output_bytes a.reply.output)) end ∙ ap length (sym same) ∙ c.copy_from_slice.ensures.len ∙ c.requires.room ∙ room_is s w h ready padded),
-    )
+    let end = ends_padded s w h ready padded c.if-self.true in
+    subst (λ (a : After CipherWork). GivesBytes 16 a.reply) (sym end) (refl, sym (ap length (sym same) ∙ c.copy_from_slice.ensures.len ∙ c.requires.room ∙ room_is s w h ready padded), refl)
 
 pub returns-then-self-clause-buffer : goal.returns-then-self-clause-buffer
 returns-then-self-clause-buffer c = λ w h ready whole.

@@ -111,7 +111,7 @@ returns-clause-store c =
 pub returns-clause-reply : goal.returns-clause-reply
 returns-clause-reply c =
     passed_answer (encrypt_rows (finite.get c.args.self.now.keys c.args.key.0) c.args.alg.0 (length c.args.input.now) (length c.args.out.now)) c.args.self.now _ (Ok c.in_ok-needed.needed) (passed c)
-    (refl, sym (sealed_size c) ∙ ap length (sealed c))
+    (refl, sym (sealed_size c) ∙ ap length (sealed c), refl)
 
 pub returns-clause-buffer : goal.returns-clause-buffer
 returns-clause-buffer c =

@@ -1,0 +1,53 @@
+// Ciphers among the families of operations.
+ghost use Rattle.std.specs.Prelude.{◌≡◌};
+ghost use Rattle.store_model.specs.Outcome.{refusal};
+ghost use Rattle.store_model.specs.Operations.{Operation, loses_key};
+ghost use Rattle.store_model.specs.CipherOperations.{CipherWork, cipher_step};
+ghost use Rattle.service_calls.specs.Meanings.{cipher_step_of};
+ghost use Rattle.cipher_states.specs.States.{IsCipherOperation};
+ghost use Rattle.cipher_states.specs.Random.{takes_random};
+
+use crate::state::CipherState;
+use operation_phase::Family;
+use psa_status::Status;
+use service_calls::{CipherStep, Output, bytes, plain};
+
+impl<'a> Family<CipherStep<'a>> for CipherState {
+    ghost Work = { CipherWork };
+
+    ghost stands = { IsCipherOperation };
+
+    ghost meaning = { λ random w step room. cipher_step random w (cipher_step_of step room) };
+
+    ghost takes = { takes_random };
+
+    fn lose_key(&mut self) -> Status
+        ensures state { (own : Operation CipherWork) → IsCipherOperation self.old own → IsCipherOperation self.new (loses_key own).operation }
+        ensures reply { (own : Operation CipherWork) → IsCipherOperation self.old own → refusal result ≡ (loses_key own).reply }
+    {
+        self.state.lose_key()
+    }
+
+    fn takes_random(step: &CipherStep<'a>) -> bool {
+        match step {
+            CipherStep::GenerateIv => true,
+            CipherStep::SetIv(_) | CipherStep::Update(_) | CipherStep::Finish => false,
+        }
+    }
+
+    fn draws(&self, step: &CipherStep<'a>, room: usize) -> usize {
+        match step {
+            CipherStep::GenerateIv => self.iv_draws(room),
+            CipherStep::SetIv(_) | CipherStep::Update(_) | CipherStep::Finish => 0,
+        }
+    }
+
+    fn step(&mut self, step: CipherStep<'a>, random: &[u8; 16], out: &mut [u8]) -> Result<Output, Status> {
+        match step {
+            CipherStep::GenerateIv => bytes(self.cipher_generate_iv(random, out)),
+            CipherStep::SetIv(iv) => plain(self.cipher_set_iv(iv)),
+            CipherStep::Update(input) => bytes(self.cipher_update(input, out)),
+            CipherStep::Finish => bytes(self.cipher_finish(out)),
+        }
+    }
+}

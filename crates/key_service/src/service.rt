@@ -1,0 +1,62 @@
+// The store and the callers' operations, side by side.
+ghost use Rattle.std.specs.Prelude.{◌≡◌, ◌≤◌, ◌<◌, ◌^◌, ◌+◌, IfOk, length};
+ghost use Rattle.store_model.specs.Store.{caller_state, plain_settings};
+ghost use Rattle.store_model.specs.Call.{buffer_after};
+ghost use Rattle.store_model.specs.Faults.{Plain};
+ghost use Rattle.store_model.specs.Handles as model;
+ghost use Rattle.store_model.specs.Requests.{serve};
+ghost use Rattle.service_calls.specs.Answered.{IsAnswer};
+ghost use Rattle.service_calls.specs.Meanings.{request_of};
+ghost use Rattle.key_service.specs.Whole.{Stands};
+
+use crate::operations::Operations;
+use crate::store_calls::on_store;
+use psa_status::{Memory, Status};
+use service_calls::{Call, Output};
+use std::alloc::Global;
+use store_core::Store;
+
+/// What callers make their calls on.
+#[derive(Drop)]
+pub struct Service {
+    pub store: Store,
+    pub operations: Operations,
+}
+
+impl Service {
+    /// A store without a key, and all operations inactive; `Memory` where there is no room for them.
+    pub fn open(alloc: Global) -> Result<Service, Memory>
+        ensures { IfOk result (λ service. Stands service (model.service_start plain_settings)) }
+    {
+        let store = Store::open(alloc)?;
+        let operations = Operations::open(alloc)?;
+        Ok(Service { store, operations })
+    }
+
+    /// Makes a caller's call. Bytes that it gives are written to the front of the buffer.
+    pub fn serve(
+        &mut self,
+        caller: u8,
+        call: &Call<'_>,
+        out: &mut [u8],
+    ) -> Result<Output, Status>
+        requires first { 1 ≤ caller }
+        requires last { caller ≤ 16 }
+        requires turns { self.old.store.calls < 2 ^ 62 }
+        requires words { (caller_state self.old.store caller).drawn + 256 ≤ 2 ^ 60 }
+        ensures stands { (it : model.Service) → Stands self.old it →
+            Stands self.new (serve it caller (request_of call.now (length out.old)) Plain).service }
+        ensures reply { (it : model.Service) → Stands self.old it →
+            IsAnswer result (serve it caller (request_of call.now (length out.old)) Plain).reply }
+        ensures buffer { (it : model.Service) → Stands self.old it →
+            out.new ≡ buffer_after out.old (serve it caller (request_of call.now (length out.old)) Plain).reply }
+    {
+        match call {
+            Call::OnStore(call) => on_store(&mut self.store, caller, *call, out),
+            Call::OnHandle { op, call } => {
+                self.operations
+                    .serve(&mut self.store, caller, *op, *call, out)
+            }
+        }
+    }
+}

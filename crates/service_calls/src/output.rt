@@ -1,0 +1,73 @@
+// What calls answer.
+ghost use Rattle.std.specs.Prelude.{◌≡◌, ℕ, List};
+ghost use Rattle.store_model.specs.Answers.{AnswersLength, AnswersOrSpoils, attributes_answer, id_reply, plain_reply};
+ghost use Rattle.store_model.specs.Call.{Reply, buffer_after};
+ghost use Rattle.service_calls.specs.Answered.{IsAnswer, number_reply};
+
+use key_attributes::{Attributes, KeyId};
+use psa_status::Status;
+
+/// What a successful call gives. Of bytes, which stand at the front of the output buffer, it is how many they are.
+#[derive(Clone, Copy, Drop)]
+pub enum Output {
+    Done,
+    Identifier(KeyId),
+    Description(Attributes),
+    Bytes(usize),
+    Number(u64),
+}
+
+/// The answer of a call without a result.
+pub fn plain(answer: Result<(), Status>) -> Result<Output, Status>
+    ensures answer { (reply : Reply) → plain_reply answer ≡ reply → IsAnswer result reply }
+    ensures unwritten { (reply : Reply) (old : List ℕ) → plain_reply answer ≡ reply → old ≡ buffer_after old reply }
+{
+    match answer {
+        Ok(()) => Ok(Output::Done),
+        Err(status) => Err(status),
+    }
+}
+
+/// The answer of a call that writes bytes to an output buffer.
+pub fn bytes(answer: Result<usize, Status>) -> Result<Output, Status>
+    ensures spoils { (reply : Reply) → AnswersOrSpoils answer reply → IsAnswer result reply }
+    ensures length { (reply : Reply) → AnswersLength answer reply → IsAnswer result reply }
+{
+    match answer {
+        Ok(length) => Ok(Output::Bytes(length)),
+        Err(status) => Err(status),
+    }
+}
+
+/// The answer of a call that creates a key.
+pub fn identifier(answer: Result<KeyId, Status>) -> Result<Output, Status>
+    ensures answer { (reply : Reply) → id_reply answer ≡ reply → IsAnswer result reply }
+    ensures unwritten { (reply : Reply) (old : List ℕ) → id_reply answer ≡ reply → old ≡ buffer_after old reply }
+{
+    match answer {
+        Ok(id) => Ok(Output::Identifier(id)),
+        Err(status) => Err(status),
+    }
+}
+
+/// The answer of a call that asks for attributes.
+pub fn description(answer: Result<Attributes, Status>) -> Result<Output, Status>
+    ensures answer { (reply : Reply) → attributes_answer answer ≡ reply → IsAnswer result reply }
+    ensures unwritten { (reply : Reply) (old : List ℕ) → attributes_answer answer ≡ reply → old ≡ buffer_after old reply }
+{
+    match answer {
+        Ok(attributes) => Ok(Output::Description(attributes)),
+        Err(status) => Err(status),
+    }
+}
+
+/// The answer of a call that gives a number.
+pub fn number(answer: Result<u64, Status>) -> Result<Output, Status>
+    ensures answer { (reply : Reply) → number_reply answer ≡ reply → IsAnswer result reply }
+    ensures unwritten { (reply : Reply) (old : List ℕ) → number_reply answer ≡ reply → old ≡ buffer_after old reply }
+{
+    match answer {
+        Ok(number) => Ok(Output::Number(number)),
+        Err(status) => Err(status),
+    }
+}
