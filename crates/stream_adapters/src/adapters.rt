@@ -18,6 +18,7 @@ pub struct Reading<R> {
 }
 
 impl<R> Reading<R> {
+    /// A source that has not failed yet.
     pub fn new(inner: R) -> Reading<R>
         ensures { result.faults ≡ 0 }
     {
@@ -66,6 +67,7 @@ pub struct Writing<W> {
 }
 
 impl<W> Writing<W> {
+    /// A sink that has not failed yet.
     pub fn new(inner: W) -> Writing<W>
         ensures { result.faults ≡ 0 }
     {

@@ -1,5 +1,5 @@
-use Rattle.psa_host.proofs.Ends.{known_as, complete, refused}
-use Rattle.psa_host.proofs.command.run_command.Goals as goal
+use Rattle.psa_command.proofs.Ends.{known_as, complete, refused}
+use Rattle.psa_command.proofs.command.run_command.Goals as goal
 
 pub returns-clause-complete : goal.returns-clause-complete
 returns-clause-complete g c = λ words source sink.

@@ -1,8 +1,8 @@
 use Rattle.std.proofs.Common.{ap}
 use Rattle.std.specs.Prelude.{Err}
 use Rattle.script_lang.specs.declared.faults.ScriptFault.TheVariants.{TooLong}
-use Rattle.psa_host.proofs.Ends.{long_source, same_end, not_too_long, fault_told}
-use Rattle.psa_host.proofs.command.read_calls.Goals as goal
+use Rattle.psa_command.proofs.Ends.{long_source, same_end, not_too_long, fault_told}
+use Rattle.psa_command.proofs.command.read_calls.Goals as goal
 
 pub returns-in-Err-TooLong-clause-script : goal.returns-in-Err-TooLong-clause-script
 returns-in-Err-TooLong-clause-script g c = λ f e.

@@ -7,7 +7,7 @@ ghost use Rattle.script_lang.specs.declared.faults.ScriptFault.{ScriptFault};
 ghost use Rattle.script_lang.specs.declared.faults.ScriptFault.TheVariants as faults;
 ghost use Rattle.script_lang.specs.Limits.{IsWellFormed};
 ghost use Rattle.script_lang.specs.Lines.{script_of, IsOfSession};
-ghost use Rattle.psa_host.specs.Ends.{AreWords, Answered, PartlyAnswered, IsBeforeWriting, IsReadToEnd, IsQuiet, status_of};
+ghost use Rattle.psa_command.specs.Ends.{AreWords, Answered, PartlyAnswered, IsBeforeWriting, IsReadToEnd, IsQuiet, status_of};
 
 use disk_face::Disk;
 use outside_io::{ReadError, Sink, Source, read_text, write_all};

@@ -5,8 +5,8 @@ use Rattle.std.specs.Borrow.{Bor}
 use Rattle.std.specs.Io.KnownBytes.{Appends}
 use Rattle.script_lang.specs.declared.faults.ScriptFault.TheVariants as faults
 use Rattle.script_lang.specs.PrintedOrder.{IsAnswer}
-use Rattle.psa_host.specs.declared.command.Exit.{Exit}
-use Rattle.psa_host.specs.declared.command.Exit.TheVariants.{Done, Usage, Script, ReadFault, WriteFault, Memory}
+use Rattle.psa_command.specs.declared.command.Exit.{Exit}
+use Rattle.psa_command.specs.declared.command.Exit.TheVariants.{Done, Usage, Script, ReadFault, WriteFault, Memory}
 
 -- the words of a command: the one word run
 abbrev pub AreWords : List (Bor (List ℕ)) → Type 0

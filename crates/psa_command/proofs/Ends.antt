@@ -10,9 +10,9 @@ use Rattle.script_lang.specs.declared.faults.ScriptFault.TheVariants as faults
 use Rattle.script_lang.specs.Pieces.{text_lines}
 use Rattle.script_lang.specs.Lines.{Read, nothing_read, line_at, lines_at, goes_on, script_of, ScriptFails}
 use Rattle.script_lang.specs.PrintedOrder.{IsAnswer}
-use Rattle.psa_host.specs.Ends.{Answered, PartlyAnswered}
-use Rattle.psa_host.specs.declared.command.Exit.{Exit}
-use Rattle.psa_host.specs.declared.command.Exit.TheVariants.{Done, Usage, Script, ReadFault, WriteFault, Memory}
+use Rattle.psa_command.specs.Ends.{Answered, PartlyAnswered}
+use Rattle.psa_command.specs.declared.command.Exit.{Exit}
+use Rattle.psa_command.specs.declared.command.Exit.TheVariants.{Done, Usage, Script, ReadFault, WriteFault, Memory}
 
 if_some_weaker : {X : Type 0} (o : Option X) (P Q : X → Type 0) → ((x : X) → P x → Q x) → IfSome o P → IfSome o Q
 if_some_weaker None P Q f h = tt

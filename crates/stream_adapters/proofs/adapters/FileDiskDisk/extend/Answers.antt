@@ -1,5 +1,5 @@
-use Rattle.psa_host.proofs.Images.{grown}
-use Rattle.psa_host.proofs.adapters.FileDiskDisk.extend.Goals as goal
+use Rattle.stream_adapters.proofs.Images.{grown}
+use Rattle.stream_adapters.proofs.adapters.FileDiskDisk.extend.Goals as goal
 
 pub returns-in_err-counted-clause-crash : goal.returns-in_err-counted-clause-crash
 returns-in_err-counted-clause-crash c = grown c.args.length
