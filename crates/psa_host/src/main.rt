@@ -4,11 +4,6 @@
 ghost use Rattle.std.specs.Prelude.{◌≡◌};
 ghost use Rattle.psa_host.specs.Program.{end_status};
 
-#[cfg(test)]
-mod derivation_tests;
-#[cfg(test)]
-mod tests;
-
 use psa_command::{Ended, Exit, run_command};
 use std::env;
 use std::fs::{self, File, OpenOptions};

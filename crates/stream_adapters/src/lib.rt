@@ -2,8 +2,6 @@
 //! its bytes; each counts its faults.
 #![tactic(auto)]
 
-#[cfg(test)]
-mod adapter_tests;
 mod adapters;
 
 pub use adapters::{FileDisk, Reading, Writing};

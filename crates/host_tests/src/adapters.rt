@@ -1,11 +1,11 @@
 // Streams and files, as the program runs over them.
-use crate::adapters::{FileDisk, Reading, Writing};
 use disk_face::Disk;
 use outside_io::{Sink, Source};
 use psa_status::Failed;
 use std::fs::{self, File, OpenOptions};
 use std::test::Fail;
 use std::time::{SystemTime, UNIX_EPOCH};
+use stream_adapters::{FileDisk, Reading, Writing};
 
 #[test]
 fn streams_are_adapted(rt: HostRuntime) -> Result<(), Fail> {
