@@ -1,5 +1,7 @@
-use crate::{hkdf_block, hkdf_extract, pbkdf2_block};
+// HKDF and PBKDF2.
+
 use hash_ops::Hash;
+use kdf_core::{hkdf_block, hkdf_extract, pbkdf2_block};
 use std::test::Fail;
 
 // A derivation by HKDF.

@@ -1,7 +1,7 @@
 // The examples of SP 800-38B, appendix D.
 
-use crate::{CmacState, cmac};
 use aes_core::AesKey;
+use cmac_ops::{CmacState, cmac};
 use std::test::Fail;
 
 const MESSAGE: [u8; 64] = [

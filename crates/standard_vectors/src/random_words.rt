@@ -1,7 +1,7 @@
 // Key streams of ChaCha20 with a block counter and a nonce of 64 bits, as other implementations
 // compute them. The first is test vector 1 of RFC 8439, appendix A.1.
 
-use crate::Stream;
+use random_streams::Stream;
 
 const SEED: [u8; 32] = [
     0, 1, 2, 3, 4, 5, 6, 7, 8, 9, 10, 11, 12, 13, 14, 15, 16, 17, 18, 19, 20, 21, 22, 23, 24, 25,

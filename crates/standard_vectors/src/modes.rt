@@ -1,7 +1,10 @@
-// The examples of SP 800-38A, appendix F.1, F.2 and F.5, and what they leave out.
+// The examples of SP 800-38A, appendix F.1, F.2 and F.5, whole and in pieces, and what they leave out.
 
-use crate::{cbc_decrypt, cbc_encrypt, ctr_xor, ecb_decrypt, ecb_encrypt, pad, unpad};
+ghost use Rattle.crypto_specs.specs.Aes.{IsKey};
+
 use aes_core::AesKey;
+use cipher_modes::{cbc_decrypt, cbc_encrypt, ctr_xor, ecb_decrypt, ecb_encrypt, pad, unpad};
+use key_streams::{CounterWidth, KeyStream};
 use std::test::Fail;
 
 const PLAIN: [u128; 4] = [
@@ -12,6 +15,9 @@ const PLAIN: [u128; 4] = [
 ];
 
 const IV: u128 = 0x000102030405060708090a0b0c0d0e0f;
+
+// AES of a block of zeros under the key of 16 zeros.
+const ZEROS_ENCIPHERED: u128 = 0x66e94bd4ef8a2c3b884cfa59ca342b2e;
 
 const COUNTER: u128 = 0xf0f1f2f3f4f5f6f7f8f9fafbfcfdfeff;
 
@@ -161,10 +167,7 @@ fn counters(rt: HostRuntime) -> Result<(), Fail> {
     let key = AesKey::new(&[0; 16]).ok_or("key")?;
     let mut stream = [0; 32];
     ctr_xor(&key, &[0xff; 16], &mut stream);
-    assert_eq!(rt;
-        stream[16..],
-        0x66e94bd4ef8a2c3b884cfa59ca342b2eu128.to_be_bytes()[..]
-    );
+    assert_eq!(rt; stream[16..], ZEROS_ENCIPHERED.to_be_bytes()[..]);
     Ok(())
 }
 
@@ -180,4 +183,50 @@ fn padding(rt: HostRuntime) {
     assert_eq!(rt; unpad(b"sixteen of by\x02\x03\x03"), None);
     assert_eq!(rt; unpad(&[0; 16]), None);
     assert_eq!(rt; unpad(&[17; 16]), None);
+}
+
+// The text in two pieces, of which the first has `cut` bytes.
+fn in_two(key: &AesKey, mut text: [u8; 64], cut: usize) -> Option<[u8; 64]>
+    requires { IsKey key.now }
+{
+    let mut stream = KeyStream::new(CounterWidth::Whole, COUNTER);
+    stream.xor(key, text.get_mut(..cut)?);
+    stream.xor(key, text.get_mut(cut..)?);
+    Some(text)
+}
+
+#[test]
+fn any_cut_of_a_counter_text(rt: HostRuntime) -> Result<(), Fail> {
+    for example in EXAMPLES.iter() {
+        let bytes = key_bytes(example.key);
+        let key = AesKey::new(bytes.get(..example.length).ok_or("length")?).ok_or("key")?;
+        'cuts: for cut in 0..65 {
+            assert_eq!(rt;
+                in_two(&key, text_of(PLAIN), cut),
+                Some(text_of(example.ctr))
+            );
+        }
+    }
+    Ok(())
+}
+
+// The second block of the stream from this counter.
+fn second_block(key: &AesKey, width: CounterWidth, counter: u128) -> [u8; 16]
+    requires { IsKey key.now }
+{
+    let mut blocks = [0; 32];
+    KeyStream::new(width, counter).xor(key, &mut blocks);
+    let mut second = [0; 16];
+    second.copy_from_slice(&blocks[16..]);
+    second
+}
+
+// After all ones comes the zero block, whose ciphertext under the key of zeros is known.
+#[test]
+fn counters_wrap(rt: HostRuntime) -> Result<(), Fail> {
+    let key = AesKey::new(&[0; 16]).ok_or("key")?;
+    let zero = ZEROS_ENCIPHERED.to_be_bytes();
+    assert_eq!(rt; second_block(&key, CounterWidth::Whole, u128::MAX), zero);
+    assert_eq!(rt; second_block(&key, CounterWidth::Low32, 0xffff_ffff), zero);
+    Ok(())
 }

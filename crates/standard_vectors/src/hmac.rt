@@ -1,7 +1,7 @@
 // The test cases of RFC 4231, section 4.
 
-use crate::{HmacKey, ShortMessageKey, hmac};
 use hash_ops::Hash;
+use hmac_ops::{HmacKey, ShortMessageKey, hmac};
 use std::test::Fail;
 
 const FUNCTIONS: [Hash; 4] = [Hash::Sha224, Hash::Sha256, Hash::Sha384, Hash::Sha512];

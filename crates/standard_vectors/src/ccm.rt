@@ -1,11 +1,13 @@
-// The examples of SP 800-38C, appendix C, packet vectors of RFC 3610, section 8, and lengths that both
-// leave out.
+// The examples of SP 800-38C, appendix C, whole and in pieces, packet vectors of RFC 3610, section 8, and lengths that
+// both leave out.
 
 ghost use Rattle.std.specs.Prelude.{length};
 ghost use Rattle.aead_ccm.specs.Lengths.{IsTagLength};
+ghost use Rattle.crypto_specs.specs.Aes.{IsKey};
 
-use crate::{open, permits_payload, seal};
+use aead_ccm::{open, permits_payload, seal};
 use aes_core::AesKey;
+use ccm_states::CcmState;
 use std::test::Fail;
 
 struct Example {
@@ -253,12 +255,18 @@ fn agrees_by_length(example: &Example, bytes: &[u8; 65536]) -> Option<bool> {
     }
 }
 
-#[test]
-fn examples(rt: HostRuntime) -> Result<(), Fail> {
+// The associated data's bytes 00 01 02 .., round and round.
+fn rising() -> [u8; 65536] {
     let mut bytes = [0; 65536];
     for i in 0..65536 {
         bytes[i] = (i % 256) as u8;
     }
+    bytes
+}
+
+#[test]
+fn examples(rt: HostRuntime) -> Result<(), Fail> {
+    let bytes = rising();
     for example in EXAMPLES.iter() {
         assert_eq!(rt; agrees_by_length(example, &bytes), Some(true));
     }
@@ -271,5 +279,93 @@ fn examples(rt: HostRuntime) -> Result<(), Fail> {
     // a nonce of 13 bytes leaves 2 for the length
     assert!(rt; permits_payload(13, 65535));
     assert!(rt; !permits_payload(13, 65536));
+    Ok(())
+}
+
+// Begins a call with the example's lengths.
+fn start(state: &mut CcmState, key: &AesKey, example: &Example) -> Option<()>
+    requires { IsKey key.now }
+{
+    let nonce = example.nonce;
+    let (ad, length) = (example.ad, example.length);
+    if nonce.len() < 7 || nonce.len() > 13 || ad > 65536 || length > 32 {
+        return None;
+    }
+    if !permits_payload(nonce.len(), length) {
+        return None;
+    }
+    match example.tag_length {
+        4 => state.start(key, 4, nonce, ad as u64, length as u64),
+        6 => state.start(key, 6, nonce, ad as u64, length as u64),
+        8 => state.start(key, 8, nonce, ad as u64, length as u64),
+        16 => state.start(key, 16, nonce, ad as u64, length as u64),
+        _ => return None,
+    }
+    Some(())
+}
+
+// Takes in associated data and a text in two pieces each, and answers the whole tag. The text is enciphered or
+// deciphered in place.
+fn run(
+    key: &AesKey,
+    example: &Example,
+    ad: &[u8],
+    text: &mut [u8],
+    encrypts: bool,
+    cut: usize,
+) -> Option<[u8; 16]>
+    requires { IsKey key.now }
+{
+    let mut state = CcmState::new();
+    start(&mut state, key, example)?;
+    let (front, back) = ad.split_at(cut.min(ad.len()));
+    state.update_ad(key, front);
+    state.update_ad(key, back);
+    state.begin_text(key);
+    let (front, back) = text.split_at_mut(cut.min(text.len()));
+    if encrypts {
+        state.encrypt(key, front);
+        state.encrypt(key, back);
+    } else {
+        state.decrypt(key, front);
+        state.decrypt(key, back);
+    }
+    let tag = state.tag(key);
+    state.wipe();
+    Some(tag)
+}
+
+// Whether an example, cut at this place, has its text and its tag in both directions.
+fn agrees_in_pieces(example: &Example, bytes: &[u8; 65536], cut: usize) -> Option<bool> {
+    let key = AesKey::new(&example.key.to_be_bytes())?;
+    let ad = bytes.get(..example.ad)?;
+    let (plain, cipher) = (payload_of(example.first), bytes_of(example.text));
+    let (mut sealed, mut opened) = (plain, cipher);
+    let text = sealed.get_mut(..example.length)?;
+    let tag = run(&key, example, ad, text, true, cut)?;
+    let front = tag.get(..example.tag_length)?;
+    let expected = example.tag.to_be_bytes();
+    if *text != *cipher.get(..example.length)? || front != &expected[16 - front.len()..] {
+        return Some(false);
+    }
+    let text = opened.get_mut(..example.length)?;
+    let again = run(&key, example, ad, text, false, cut)?;
+    Some(*text == *plain.get(..example.length)? && again == tag)
+}
+
+#[test]
+fn any_cutting(rt: HostRuntime) -> Result<(), Fail> {
+    let bytes = rising();
+    let [first, second, third, _] = &EXAMPLES;
+    for example in [first, second, third] {
+        for cut in 0..25 {
+            assert_eq!(rt; agrees_in_pieces(example, &bytes, cut), Some(true));
+        }
+    }
+    let [last_short, first_long, _] = &OTHERS;
+    for example in [last_short, first_long] {
+        assert_eq!(rt; agrees_in_pieces(example, &bytes, 9), Some(true));
+        assert_eq!(rt; agrees_in_pieces(example, &bytes, 65271), Some(true));
+    }
     Ok(())
 }

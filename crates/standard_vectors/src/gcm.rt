@@ -1,10 +1,13 @@
-// The test cases of the GCM specification (McGrew and Viega, appendix B), and nonces of other lengths.
+// The test cases of the GCM specification (McGrew and Viega, appendix B), whole and in pieces, the steps of one, and
+// nonces of other lengths.
 
 ghost use Rattle.std.specs.Prelude.{IfSome};
 ghost use Rattle.crypto_specs.specs.Aes.{IsKey};
 
-use crate::{open, seal};
+use aead_gcm::{open, seal};
 use aes_core::AesKey;
+use gcm_states::GcmState;
+use ghash::{Ghash, multiply};
 use std::test::Fail;
 
 struct Input {
@@ -335,4 +338,91 @@ fn other_lengths(rt: HostRuntime) -> Result<(), Fail> {
     assert!(rt; open(&key, NONCE, &AD, &mut text, &tag));
     assert_eq!(rt; text, *b"text");
     Ok(())
+}
+
+// The first 60 bytes of a text, and zeros.
+fn front_of(blocks: [u128; 4]) -> [u8; 64] {
+    let mut bytes = bytes_of(blocks);
+    bytes[60..].fill(0);
+    bytes
+}
+
+// Takes in associated data and a text in pieces of `size` bytes after a first one of `cut`, and answers
+// the text and the tag.
+fn run(
+    key: &AesKey,
+    nonce: &[u8],
+    text: [u8; 64],
+    encrypts: bool,
+    cut: usize,
+    size: usize,
+) -> ([u8; 64], u128)
+    requires { IsKey key.now }
+{
+    let mut text = text;
+    if cut > 60 || size == 0 || nonce.is_empty() || nonce.len() > 256 {
+        return (text, 0);
+    }
+    let mut state = GcmState::new();
+    state.start(key, nonce);
+    state.update_ad(&AD[..cut.min(20)]);
+    state.update_ad(&AD[cut.min(20)..]);
+    state.begin_text();
+    let mut done = 0;
+    let mut end = cut;
+    'pieces: for _ in 0..61 {
+        if encrypts {
+            state.encrypt(key, &mut text[done..end]);
+        } else {
+            state.decrypt(key, &mut text[done..end]);
+        }
+        done = end;
+        end = (end + size.min(60)).min(60);
+    }
+    let tag = state.tag(key, 20, 60);
+    (text, u128::from_be_bytes(tag))
+}
+
+#[test]
+fn any_cutting(rt: HostRuntime) -> Result<(), Fail> {
+    let plain = front_of(PLAIN);
+    let [_, _, _, fourth, fifth, sixth] = &INPUTS;
+    let (_, [_, _, _, fourth_sealed, fifth_sealed, sixth_sealed]) = &SEALED[0];
+    let key = key_of(KEY, 16).ok_or("key")?;
+    for (input, sealed) in [
+        (fourth, fourth_sealed),
+        (fifth, fifth_sealed),
+        (sixth, sixth_sealed),
+    ] {
+        let text = bytes_of(sealed.text);
+        for cut in 0..49 {
+            assert!(rt; run(&key, input.nonce, plain, true, cut, 60) == (text, sealed.tag));
+            assert!(rt; run(&key, input.nonce, text, false, cut, 60) == (plain, sealed.tag));
+        }
+        assert!(rt; run(&key, input.nonce, plain, true, 0, 1) == (text, sealed.tag));
+        assert!(rt; run(&key, input.nonce, text, false, 1, 15) == (plain, sealed.tag));
+    }
+    Ok(())
+}
+
+// The hash subkey of test case 2, its ciphertext, and its lengths.
+const SUBKEY: u128 = 0x66e94bd4ef8a2c3b884cfa59ca342b2e;
+
+const CIPHER_TEXT: u128 = 0x0388dace60b6a392f328c2b971b2fe78;
+
+const LENGTHS: u128 = 0x80;
+
+// The values after the ciphertext and after the lengths.
+const FIRST: u128 = 0x5e2ec746917062882c85b0685353deb7;
+
+const SECOND: u128 = 0xf38cbb1ad69223dcc3457ae5b6b0f885;
+
+#[test]
+fn steps_of_the_second_case(rt: HostRuntime) {
+    assert_eq!(rt; multiply(CIPHER_TEXT, SUBKEY), FIRST);
+    let mut running = Ghash::new(SUBKEY);
+    running.block(CIPHER_TEXT);
+    assert_eq!(rt; running.value(), FIRST);
+    running.block(LENGTHS);
+    assert_eq!(rt; running.value(), SECOND);
 }
