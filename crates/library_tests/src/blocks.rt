@@ -1,6 +1,6 @@
 // A text cut between blocks.
 
-use crate::BlockBuffer;
+use block_buffers::BlockBuffer;
 use std::test::Fail;
 
 const TEXT: [u8; 20] = [

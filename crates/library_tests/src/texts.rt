@@ -1,4 +1,5 @@
-use crate::{MemorySink, MemorySource, ReadError, read_text, write_all};
+// Whole texts over sources and sinks in memory.
+use outside_io::{MemorySink, MemorySource, ReadError, read_text, write_all};
 use psa_status::Failed;
 
 #[test]

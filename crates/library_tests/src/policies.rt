@@ -1,9 +1,9 @@
 // Policies by hand from the rules.
 ghost use Rattle.std.specs.Prelude.{◌≡◌};
 
-use crate::{Label, Verdict, meet, narrow, permits};
 use alg_encoding::Alg;
 use key_attributes::{Attributes, KeyId, KeyType, Lifetime, Policy, Usage};
+use policy_rules::{Label, Verdict, meet, narrow, permits};
 
 const SIGN_AND_VERIFY: u32 = 0xc00;
 

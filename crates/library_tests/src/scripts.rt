@@ -1,8 +1,9 @@
-use crate::{
+// Scripts: their first faults, their calls and names, and reply lines.
+use psa_status::{Memory, Status};
+use script_lang::{
     ByteList, Creation, HandleCall, KeyCall, KeyWord, MacCall, MacStep, ReplyLine, ScriptCall,
     ScriptLine, read_script, write_reply,
 };
-use psa_status::{Memory, Status};
 use std::alloc::{AllocError, Global};
 
 /// What comes of a text: its calls, or the line that is printed of its fault.
