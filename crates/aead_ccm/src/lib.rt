@@ -14,8 +14,6 @@ pub use formatting::{control_block, counter_block, permits_payload};
 mod chaining;
 mod counting;
 mod formatting;
-#[cfg(test)]
-mod tests;
 
 /// Enciphers a payload in place and writes its tag, which covers the associated data `ad` too (SP
 /// 800-38C, section 6.1).

@@ -14,8 +14,6 @@ pub use hashing::{absorb, hash_subkey, length_block};
 
 mod counters;
 mod hashing;
-#[cfg(test)]
-mod tests;
 
 /// Enciphers a text in place and writes its tag, which covers the associated data `ad` too (SP
 /// 800-38D, section 7.1).

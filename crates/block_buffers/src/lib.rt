@@ -7,9 +7,6 @@ ghost use Rattle.crypto_specs.specs.Modes.{block_number, number_block};
 use cipher_blocks::{number_of, put_at};
 use std::marker::Model;
 
-#[cfg(test)]
-mod tests;
-
 /// A block that fills up: its first `used` bytes are in use, and the others are zeros. A contract sees
 /// the bytes in use, at most 16; where there are none, all of the block is zeros.
 #[derive(Drop)]

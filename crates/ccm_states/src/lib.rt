@@ -4,7 +4,5 @@
 mod chain;
 mod start;
 mod state;
-#[cfg(test)]
-mod tests;
 
 pub use state::CcmState;

@@ -10,5 +10,3 @@ mod cbc;
 mod ctr;
 mod ecb;
 mod padding;
-#[cfg(test)]
-mod tests;

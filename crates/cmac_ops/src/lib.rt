@@ -11,8 +11,6 @@ pub use state::CmacState;
 
 mod chain;
 mod state;
-#[cfg(test)]
-mod tests;
 
 /// The tag of a message, of 16 bytes; a shorter tag is its front (SP 800-38B, section 6.2).
 pub fn cmac(key: &AesKey, message: &[u8]) -> [u8; 16]

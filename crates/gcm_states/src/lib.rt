@@ -4,6 +4,4 @@
 pub use state::GcmState;
 
 mod state;
-#[cfg(test)]
-mod tests;
 mod text_hash;

@@ -7,9 +7,6 @@ ghost use Rattle.crypto_specs.specs.Ghash.{block_product, times_x};
 
 use std::marker::Model;
 
-#[cfg(test)]
-mod tests;
-
 // x^128 = x^7 + x^2 + x + 1.
 const REDUCTION: u128 = 0xe1 << 120;
 

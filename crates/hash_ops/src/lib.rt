@@ -8,8 +8,6 @@ pub use state::HashState;
 
 pub mod one_shot;
 mod state;
-#[cfg(test)]
-mod tests;
 
 /// A hash function.
 #[derive(Clone, Copy, Debug, PartialEq, Eq)]

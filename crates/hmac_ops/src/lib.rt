@@ -14,8 +14,6 @@ mod key;
 mod pads;
 mod short_message_key;
 mod state;
-#[cfg(test)]
-mod tests;
 
 /// Writes the authentication code of a message to the front of `out`, whose rest stays, and answers
 /// its length.

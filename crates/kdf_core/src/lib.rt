@@ -6,5 +6,3 @@ pub use pbkdf2::pbkdf2_block;
 
 mod hkdf;
 mod pbkdf2;
-#[cfg(test)]
-mod tests;

@@ -5,6 +5,4 @@ pub use stream::KeyStream;
 pub use width::CounterWidth;
 
 mod stream;
-#[cfg(test)]
-mod tests;
 mod width;

@@ -8,6 +8,3 @@ mod whole;
 pub use memory::{MemorySink, MemorySource};
 pub use traits::{Sink, Source};
 pub use whole::{ReadError, read_text, write_all};
-
-#[cfg(test)]
-mod tests;

@@ -4,8 +4,6 @@
 mod laws;
 mod narrowing;
 mod policy;
-#[cfg(test)]
-mod tests;
 
 pub use laws::{copies_gain_nothing, meet_permits_both};
 pub use narrowing::{Label, Verdict, narrow};

@@ -1,6 +1,6 @@
 -- The status of the program.
 use Rattle.std.specs.Prelude.{ℕ}
-use Rattle.psa_host.specs.Ends.{status_of}
+use Rattle.psa_command.specs.Ends.{status_of}
 use Rattle.psa_host.specs.declared.End.{End}
 use Rattle.psa_host.specs.declared.End.TheVariants.{Run, DiskFault}
 

@@ -4,32 +4,13 @@
 ghost use Rattle.std.specs.Prelude.{◌≡◌};
 ghost use Rattle.psa_host.specs.Program.{end_status};
 
-#[cfg(test)]
-mod adapter_tests;
-mod adapters;
-#[cfg(test)]
-mod aead_tests;
-#[cfg(test)]
-mod cipher_tests;
-mod command;
-#[cfg(test)]
-mod creation_tests;
-#[cfg(test)]
-mod derivation_tests;
-#[cfg(test)]
-mod derived_key_tests;
-#[cfg(test)]
-mod operation_tests;
-#[cfg(test)]
-mod tests;
-
-use adapters::{FileDisk, Reading, Writing};
-use command::{Ended, Exit, run_command};
+use psa_command::{Ended, Exit, run_command};
 use std::env;
 use std::fs::{self, File, OpenOptions};
 use std::io::{self, ErrorKind};
 use std::os::fd::{AsRawFd, IntoRawFd};
 use std::process::ExitCode;
+use stream_adapters::{FileDisk, Reading, Writing};
 
 const USAGE: &str =
     "usage: psa_host STORE (run [--workers N] [--seed HEX64] [--rules LABELS] | generate N)";

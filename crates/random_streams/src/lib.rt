@@ -64,6 +64,3 @@ impl Stream {
         self.generator.set_word_pos(u128::from(place));
     }
 }
-
-#[cfg(test)]
-mod tests;

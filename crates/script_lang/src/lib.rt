@@ -25,6 +25,3 @@ pub use handle_calls::{AeadStep, CipherStep, DerivationStep, HandleCall, HashSte
 pub use reading::read_script;
 pub use replies::{ReplyLine, write_reply};
 pub use script::{ByteList, KeyWord, Script, ScriptCall, ScriptLine};
-
-#[cfg(test)]
-mod tests;

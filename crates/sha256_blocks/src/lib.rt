@@ -10,8 +10,6 @@ use compression::compress;
 
 mod compression;
 mod schedule;
-#[cfg(test)]
-mod tests;
 mod words;
 
 // H(0) (section 5.3.3).

@@ -5,6 +5,8 @@ pub mod Copying
 pub mod Counts
 pub mod Destroying
 pub mod Drawing
+pub mod Generating
+pub mod Importing
 pub mod Looks
 pub mod Maps
 pub mod Paddings

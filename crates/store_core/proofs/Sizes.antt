@@ -26,7 +26,7 @@ fifth false false false true e s t u v w rest h = cc
 fifth false false false false true s t u v w rest h = refl
 fifth false false false false false s t u v w rest h = cc
 
-permitted : (a : Attributes) (bytes : ℕ) (driver : Bool) → first_row (attribute_rows a bytes driver) ≡ None → IsTrue (permits_size a.key_type.0 bytes)
+pub permitted : (a : Attributes) (bytes : ℕ) (driver : Bool) → first_row (attribute_rows a bytes driver) ≡ None → IsTrue (permits_size a.key_type.0 bytes)
 permitted a bytes driver h =
     fifth (not (is_lifetime a.lifetime.0 driver)) (not (a.id.0 == 0)) (not (bit_and a.policy.usage.0 0xffff00f8 == 0)) (not (is_key_type a.key_type.0)) (permits_size a.key_type.0 bytes)
     NotSupported InvalidArgument InvalidArgument NotSupported InvalidArgument (first_row ((not (a.bits == 0) && not (a.bits == 8 * bytes), InvalidArgument) ∷ [])) h

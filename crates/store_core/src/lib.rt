@@ -17,6 +17,3 @@ mod uses;
 
 pub use store::Store;
 pub use uses::Found;
-
-#[cfg(test)]
-mod tests;

@@ -94,10 +94,11 @@ impl Store {
         ensures store { self.new ≡ (step self.old caller (Import attributes.now bytes.now) Plain).store }
         ensures reply { id_reply result ≡ (step self.old caller (Import attributes.now bytes.now) Plain).reply }
     {
+        let turn = self.calls + 1;
         match check_attributes(attributes, bytes.len(), false) {
             Ok(recorded) => self.create(caller, &recorded, bytes),
             Err(status) => {
-                self.calls += 1;
+                self.calls = turn;
                 Err(status)
             }
         }

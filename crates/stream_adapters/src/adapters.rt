@@ -1,0 +1,218 @@
+// What the program runs over: a reader, a writer and a file. They tell no contents.
+ghost use Rattle.std.specs.Prelude.{◌≡◌, None, ⊤, IfOk, OnErr, IsErr, Ok};
+ghost use Rattle.std.specs.Io.{ReadsAtMost, WritesAtMost};
+ghost use Rattle.psa_status.specs.Causes.{HasCause};
+ghost use Rattle.outside_io.specs.Causes.{Progresses};
+
+use disk_face::Disk;
+use outside_io::{Sink, Source};
+use psa_status::Failed;
+use std::fs::File;
+use std::io::{self, ErrorKind, Read, Seek, SeekFrom, Write};
+
+/// A source over a reader.
+#[derive(Drop)]
+pub struct Reading<R> {
+    inner: R,
+    faults: u64,
+}
+
+impl<R> Reading<R> {
+    /// A source that has not failed yet.
+    pub fn new(inner: R) -> Reading<R>
+        ensures { result.faults ≡ 0 }
+    {
+        Reading { inner, faults: 0 }
+    }
+}
+
+/// One read, made again where a signal interrupts it.
+fn read_some<R: Read>(reader: &mut R, buffer: &mut [u8]) -> io::Result<usize>
+    ensures { ReadsAtMost result buffer.new }
+{
+    for _ in 0..u64::MAX {
+        match reader.read(buffer) {
+            Ok(count) => return Ok(count),
+            Err(error) => {
+                if error.kind() != ErrorKind::Interrupted {
+                    return Err(error);
+                }
+            }
+        }
+    }
+    Err(io::Error::from(ErrorKind::Interrupted))
+}
+
+impl<R: Read> Source for Reading<R> {
+    ghost left = { λ _. None };
+
+    ghost faults = { λ s. s.faults };
+
+    fn read(&mut self, buffer: &mut [u8]) -> Result<usize, Failed> {
+        match read_some(&mut self.inner, buffer) {
+            Ok(count) => Ok(count),
+            Err(_) => {
+                self.faults = self.faults.saturating_add(1);
+                Err(Failed)
+            }
+        }
+    }
+}
+
+/// A sink over a writer.
+#[derive(Drop)]
+pub struct Writing<W> {
+    inner: W,
+    faults: u64,
+}
+
+impl<W> Writing<W> {
+    /// A sink that has not failed yet.
+    pub fn new(inner: W) -> Writing<W>
+        ensures { result.faults ≡ 0 }
+    {
+        Writing { inner, faults: 0 }
+    }
+}
+
+/// One write, made again where a signal interrupts it. A write of nothing is an error.
+fn write_some<W: Write>(writer: &mut W, piece: &[u8]) -> io::Result<usize>
+    ensures bound { WritesAtMost result piece.now }
+    ensures progress { Progresses result piece.now }
+{
+    for _ in 0..u64::MAX {
+        match writer.write(piece) {
+            Ok(count) => {
+                if count == 0 && !piece.is_empty() {
+                    return Err(io::Error::from(ErrorKind::WriteZero));
+                }
+                return Ok(count);
+            }
+            Err(error) => {
+                if error.kind() != ErrorKind::Interrupted {
+                    return Err(error);
+                }
+            }
+        }
+    }
+    Err(io::Error::from(ErrorKind::Interrupted))
+}
+
+impl<W: Write> Sink for Writing<W> {
+    ghost taken = { λ _. None };
+
+    ghost faults = { λ s. s.faults };
+
+    fn write(&mut self, piece: &[u8]) -> Result<usize, Failed> {
+        match write_some(&mut self.inner, piece) {
+            Ok(count) => Ok(count),
+            Err(_) => {
+                self.faults = self.faults.saturating_add(1);
+                Err(Failed)
+            }
+        }
+    }
+}
+
+/// A disk over a file. What a crash may leave of it is not known.
+#[derive(Drop)]
+pub struct FileDisk {
+    file: File,
+    length: u64,
+    faults: u64,
+}
+
+impl FileDisk {
+    /// A disk of length 0 as far as is known, until it is asked.
+    pub fn new(file: File) -> FileDisk
+        ensures length { result.length ≡ 0 }
+        ensures faults { result.faults ≡ 0 }
+    {
+        FileDisk {
+            file,
+            length: 0,
+            faults: 0,
+        }
+    }
+}
+
+/// What a call on a file answered. A fault is counted where it failed.
+fn counted<T>(faults: &mut u64, answer: io::Result<T>) -> Result<T, Failed>
+    ensures value { IfOk answer (λ v. result ≡ Ok v) }
+    ensures fault { OnErr answer (IsErr result) }
+    ensures cause { HasCause faults.old faults.new result }
+{
+    match answer {
+        Ok(value) => Ok(value),
+        Err(_) => {
+            *faults = faults.saturating_add(1);
+            Err(Failed)
+        }
+    }
+}
+
+fn read_at(file: &mut File, place: u64, out: &mut [u8]) -> io::Result<()> {
+    file.seek(SeekFrom::Start(place))?;
+    file.read_exact(out)
+}
+
+fn write_at(file: &mut File, place: u64, bytes: &[u8]) -> io::Result<()> {
+    file.seek(SeekFrom::Start(place))?;
+    file.write_all(bytes)
+}
+
+/// Fails where this would shorten the file, which may be longer than is known.
+fn lengthen(file: &mut File, length: u64) -> io::Result<()> {
+    if file.seek(SeekFrom::End(0))? > length {
+        return Err(io::Error::from(ErrorKind::InvalidInput));
+    }
+    file.set_len(length)
+}
+
+impl Disk for FileDisk {
+    ghost contents = { λ _. None };
+
+    ghost size = { λ disk. disk.length };
+
+    ghost may_leave = { λ _ _. ⊤ };
+
+    ghost moment = { λ _. 0 };
+
+    ghost left_since = { λ _ _ _. ⊤ };
+
+    ghost faults = { λ disk. disk.faults };
+
+    fn len(&mut self) -> Result<u64, Failed> {
+        let length = counted(&mut self.faults, self.file.seek(SeekFrom::End(0)))?;
+        self.length = length;
+        Ok(length)
+    }
+
+    fn read_at(&mut self, place: u64, out: &mut [u8]) -> Result<(), Failed> {
+        counted(&mut self.faults, read_at(&mut self.file, place, out))
+    }
+
+    fn write_at(&mut self, place: u64, bytes: &[u8]) -> Result<(), Failed> {
+        counted(&mut self.faults, write_at(&mut self.file, place, bytes))
+    }
+
+    fn extend(&mut self, length: u64) -> Result<(), Failed> {
+        counted(&mut self.faults, lengthen(&mut self.file, length))?;
+        self.length = length;
+        Ok(())
+    }
+
+    fn sync(&mut self) -> Result<(), Failed> {
+        counted(&mut self.faults, self.file.sync_all())
+    }
+
+    ghost measured = { λ _. tt };
+
+    ghost read_is_image = { λ _. tt };
+
+    ghost counts_now = { λ _ _ _ _ _. tt };
+
+    ghost only_now = { λ _ _ _. tt };
+
+    ghost shrinks = { λ _ _ _ _ _ _. tt };
+}
