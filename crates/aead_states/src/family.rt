@@ -52,7 +52,12 @@ impl<'a> Family<AeadStep<'a>> for AeadState {
         }
     }
 
-    fn step(&mut self, step: AeadStep<'a>, random: &[u8; 16], out: &mut [u8]) -> Result<Output, Status> {
+    fn step(
+        &mut self,
+        step: AeadStep<'a>,
+        random: &[u8; 16],
+        out: &mut [u8],
+    ) -> Result<Output, Status> {
         match step {
             AeadStep::GenerateNonce => bytes(self.aead_generate_nonce(random, out)),
             AeadStep::SetNonce(nonce) => plain(self.aead_set_nonce(nonce)),

@@ -14,8 +14,6 @@ mod parts;
 mod running;
 mod setups;
 mod state;
-#[cfg(test)]
-mod tests;
 mod updates;
 mod work;
 

@@ -8,7 +8,7 @@ use key_attributes::{Attributes, KeyId, KeyType, Lifetime, Policy, Usage};
 use key_service::Service;
 use psa_status::{Memory, Status};
 use service_calls::{
-    AeadStep, Call, CipherStep, HandleCall, HashStep, MacStep, Op, Output, Setup, Step, StoreCall,
+    AeadStep, CipherStep, HandleCall, HashStep, MacStep, Op, Output, Setup, Step, StoreCall,
 };
 use std::alloc::Global;
 
@@ -95,12 +95,6 @@ fn check_turn(service: &Service) -> Result<(), Failure>
     }
 }
 
-// Makes one call, whose bytes go to the front of `out`.
-fn call(service: &mut Service, call: &Call<'_>, out: &mut [u8]) -> Result<Output, Failure> {
-    check_turn(service)?;
-    Ok(service.serve(CALLER, call, out)?)
-}
-
 impl Handle {
     /// An inactive handle, and a key for the family.
     pub fn open(alloc: Global, family: Family) -> Result<Handle, Failure>
@@ -108,11 +102,12 @@ impl Handle {
     {
         let mut service = Service::open(alloc)?;
         let op = Op::new(1).ok_or(Failure::Refused)?;
-        let import = Call::OnStore(StoreCall::Import {
+        let import = StoreCall::Import {
             attributes: family.attributes(),
             bytes: &KEY,
-        });
-        match call(&mut service, &import, &mut [])? {
+        };
+        check_turn(&service)?;
+        match service.on_store(CALLER, import, &mut [])? {
             Output::Identifier(key) => Ok(Handle {
                 service,
                 op,
@@ -127,11 +122,8 @@ impl Handle {
     fn on_handle(&mut self, made: HandleCall<'_>, out: &mut [u8]) -> Result<(), Failure>
         ensures { self.new.family ≡ self.old.family }
     {
-        let made = Call::OnHandle {
-            op: self.op,
-            call: made,
-        };
-        call(&mut self.service, &made, out)?;
+        check_turn(&self.service)?;
+        self.service.on_handle(CALLER, self.op, made, out)?;
         Ok(())
     }
 

@@ -42,7 +42,12 @@ impl<'a> Family<CipherStep<'a>> for CipherState {
         }
     }
 
-    fn step(&mut self, step: CipherStep<'a>, random: &[u8; 16], out: &mut [u8]) -> Result<Output, Status> {
+    fn step(
+        &mut self,
+        step: CipherStep<'a>,
+        random: &[u8; 16],
+        out: &mut [u8],
+    ) -> Result<Output, Status> {
         match step {
             CipherStep::GenerateIv => bytes(self.cipher_generate_iv(random, out)),
             CipherStep::SetIv(iv) => plain(self.cipher_set_iv(iv)),

@@ -11,8 +11,6 @@ mod finishes;
 mod running;
 mod starts;
 mod state;
-#[cfg(test)]
-mod tests;
 mod updates;
 mod ways;
 mod work;

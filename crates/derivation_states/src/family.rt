@@ -35,14 +35,27 @@ impl<'a> Family<DerivationStep<'a>> for DerivationState {
         0
     }
 
-    fn step(&mut self, step: DerivationStep<'a>, _random: &[u8; 16], out: &mut [u8]) -> Result<Output, Status> {
+    fn step(
+        &mut self,
+        step: DerivationStep<'a>,
+        _random: &[u8; 16],
+        out: &mut [u8],
+    ) -> Result<Output, Status> {
         match step {
             DerivationStep::GetCapacity => number(self.key_derivation_get_capacity()),
-            DerivationStep::SetCapacity(capacity) => plain(self.key_derivation_set_capacity(capacity)),
-            DerivationStep::InputBytes { step, bytes } => plain(self.key_derivation_input_bytes(step, bytes)),
-            DerivationStep::InputInteger { step, value } => plain(self.key_derivation_input_integer(step, value)),
+            DerivationStep::SetCapacity(capacity) => plain(self.key_derivation_set_capacity(
+                capacity,
+            )),
+            DerivationStep::InputBytes { step, bytes } => plain(self.key_derivation_input_bytes(
+                step, bytes,
+            )),
+            DerivationStep::InputInteger { step, value } => plain(self.key_derivation_input_integer(
+                step, value,
+            )),
             DerivationStep::OutputBytes => bytes(self.key_derivation_output_bytes(out)),
-            DerivationStep::VerifyBytes(expected) => plain(self.key_derivation_verify_bytes(expected)),
+            DerivationStep::VerifyBytes(expected) => plain(self.key_derivation_verify_bytes(
+                expected,
+            )),
         }
     }
 }

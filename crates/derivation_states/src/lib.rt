@@ -26,8 +26,6 @@ mod input;
 mod inputs;
 mod kdf;
 mod output;
-#[cfg(test)]
-mod tests;
 mod work;
 
 /// The most bytes of a derived key that are written: one more than a key may have, so that a longer one is seen.

@@ -5,17 +5,16 @@ ghost use Rattle.store_model.specs.Call.{Import};
 ghost use Rattle.store_model.specs.Step.{step};
 ghost use Rattle.store_model.specs.Faults.{Plain};
 ghost use Rattle.store_model.specs.Handles.{Service};
-ghost use Rattle.store_model.specs.HandleCalls.{DerivationSetup, InputKey, OutputKey};
+ghost use Rattle.store_model.specs.HandleCalls.{InputKey, OutputKey};
 ghost use Rattle.store_model.specs.Requests.{OnHandle, serve};
 ghost use Rattle.key_service.specs.Services.{StandsFor};
 
 use crate::cells::KeyCreation;
-use service_calls::Op;
 use crate::operations::{Operations, place};
-use alg_encoding::Alg;
 use derivation_states::KEY_ROOM;
 use key_attributes::{Attributes, KeyId};
 use psa_status::Status;
+use service_calls::Op;
 use store_core::Store;
 
 // Creates a key of the front of a buffer, which is then wiped.
@@ -40,32 +39,8 @@ fn create(
 }
 
 impl Operations {
-    /// Sets an inactive operation up to derive bytes and keys.
-    pub fn key_derivation_setup(
-        &mut self,
-        store: &mut Store,
-        caller: u8,
-        op: Op,
-        alg: Alg,
-    ) -> Result<(), Status>
-        requires first { 1 ≤ caller }
-        requires last { caller ≤ 16 }
-        requires turns { store.old.calls < 2 ^ 62 }
-        ensures stands { (service : Service) → StandsFor store.old self.old service →
-            StandsFor store.new self.new (serve service caller (OnHandle op (DerivationSetup alg.0)) Plain).service }
-        ensures reply { (service : Service) → StandsFor store.old self.old service →
-            plain_reply result ≡ (serve service caller (OnHandle op (DerivationSetup alg.0)) Plain).reply }
-    {
-        store.count();
-        let cell = &mut self.cells[place(caller, op)];
-        cell.check_inactive()?;
-        cell.alg = alg;
-        cell.key = None;
-        cell.derivation.key_derivation_setup(alg)
-    }
-
     /// Gives a key as the secret or the password, which the operation has from then on.
-    pub fn key_derivation_input_key(
+    pub(crate) fn key_derivation_input_key(
         &mut self,
         store: &mut Store,
         caller: u8,
@@ -104,7 +79,7 @@ impl Operations {
     }
 
     /// Creates a key of the next bytes, as many as the stated bits say, and answers its identifier.
-    pub fn key_derivation_output_key(
+    pub(crate) fn key_derivation_output_key(
         &mut self,
         store: &mut Store,
         caller: u8,

@@ -2,15 +2,12 @@
 //! service.
 #![tactic(auto)]
 
-mod aeads;
 mod cells;
-mod ciphers;
 mod derivations;
-mod hashes;
-mod macs;
 mod operations;
 mod service;
 mod serving;
+mod setting_up;
 mod store_calls;
 mod turns;
 

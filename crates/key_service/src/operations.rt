@@ -9,8 +9,8 @@ ghost use Rattle.store_model.specs.Requests.{OnHandle, serve};
 ghost use Rattle.key_service.specs.Places.{IsPlace};
 
 use crate::cells::Cell;
-use service_calls::Op;
 use psa_status::{Memory, Status};
+use service_calls::Op;
 use std::alloc::Global;
 use store_core::Store;
 
@@ -41,7 +41,7 @@ impl Operations {
     ghost use Rattle.key_service.specs.Services.{StandsFor};
 
     /// All operations, inactive; `Memory` where there is no room for them.
-    pub fn open(alloc: Global) -> Result<Operations, Memory>
+    pub(crate) fn open(alloc: Global) -> Result<Operations, Memory>
         ensures { IfOk result (λ operations. (store : model.Store) → StandsFor store operations (service_of store)) }
     {
         let mut cells = Vec::new(alloc);
@@ -55,7 +55,7 @@ impl Operations {
     }
 
     /// Forgets what an operation was, and makes it inactive.
-    pub fn abort(&mut self, store: &mut Store, caller: u8, op: Op) -> Result<(), Status>
+    pub(crate) fn abort(&mut self, store: &mut Store, caller: u8, op: Op) -> Result<(), Status>
         requires first { 1 ≤ caller }
         requires last { caller ≤ 16 }
         requires turns { store.old.calls < 2 ^ 62 }

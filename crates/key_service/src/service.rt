@@ -4,15 +4,15 @@ ghost use Rattle.store_model.specs.Store.{caller_state, plain_settings};
 ghost use Rattle.store_model.specs.Call.{buffer_after};
 ghost use Rattle.store_model.specs.Faults.{Plain};
 ghost use Rattle.store_model.specs.Handles as model;
-ghost use Rattle.store_model.specs.Requests.{serve};
+ghost use Rattle.store_model.specs.Requests.{OnHandle, OnStore, serve};
 ghost use Rattle.service_calls.specs.Answered.{IsAnswer};
-ghost use Rattle.service_calls.specs.Meanings.{request_of};
+ghost use Rattle.service_calls.specs.Meanings.{handle_call_of, store_call_of};
 ghost use Rattle.key_service.specs.Whole.{Stands};
 
 use crate::operations::Operations;
 use crate::store_calls::on_store;
 use psa_status::{Memory, Status};
-use service_calls::{Call, Output};
+use service_calls::{HandleCall, Op, Output, StoreCall};
 use std::alloc::Global;
 use store_core::Store;
 
@@ -33,11 +33,11 @@ impl Service {
         Ok(Service { store, operations })
     }
 
-    /// Makes a caller's call. Bytes that it gives are written to the front of the buffer.
-    pub fn serve(
+    /// Makes a caller's call on the store. Bytes that it gives are written to the front of the buffer.
+    pub fn on_store(
         &mut self,
         caller: u8,
-        call: &Call<'_>,
+        call: StoreCall<'_>,
         out: &mut [u8],
     ) -> Result<Output, Status>
         requires first { 1 ≤ caller }
@@ -45,18 +45,35 @@ impl Service {
         requires turns { self.old.store.calls < 2 ^ 62 }
         requires words { (caller_state self.old.store caller).drawn + 256 ≤ 2 ^ 60 }
         ensures stands { (it : model.Service) → Stands self.old it →
-            Stands self.new (serve it caller (request_of call.now (length out.old)) Plain).service }
+            Stands self.new (serve it caller (OnStore (store_call_of call.entry (length out.old))) Plain).service }
         ensures reply { (it : model.Service) → Stands self.old it →
-            IsAnswer result (serve it caller (request_of call.now (length out.old)) Plain).reply }
+            IsAnswer result (serve it caller (OnStore (store_call_of call.entry (length out.old))) Plain).reply }
         ensures buffer { (it : model.Service) → Stands self.old it →
-            out.new ≡ buffer_after out.old (serve it caller (request_of call.now (length out.old)) Plain).reply }
+            out.new ≡ buffer_after out.old (serve it caller (OnStore (store_call_of call.entry (length out.old))) Plain).reply }
     {
-        match call {
-            Call::OnStore(call) => on_store(&mut self.store, caller, *call, out),
-            Call::OnHandle { op, call } => {
-                self.operations
-                    .serve(&mut self.store, caller, *op, *call, out)
-            }
-        }
+        on_store(&mut self.store, caller, call, out)
+    }
+
+    /// Makes a caller's call on a handle. Bytes that it gives are written to the front of the buffer.
+    pub fn on_handle(
+        &mut self,
+        caller: u8,
+        op: Op,
+        call: HandleCall<'_>,
+        out: &mut [u8],
+    ) -> Result<Output, Status>
+        requires first { 1 ≤ caller }
+        requires last { caller ≤ 16 }
+        requires turns { self.old.store.calls < 2 ^ 62 }
+        requires words { (caller_state self.old.store caller).drawn + 256 ≤ 2 ^ 60 }
+        ensures stands { (it : model.Service) → Stands self.old it →
+            Stands self.new (serve it caller (OnHandle op (handle_call_of call.entry (length out.old))) Plain).service }
+        ensures reply { (it : model.Service) → Stands self.old it →
+            IsAnswer result (serve it caller (OnHandle op (handle_call_of call.entry (length out.old))) Plain).reply }
+        ensures buffer { (it : model.Service) → Stands self.old it →
+            out.new ≡ buffer_after out.old (serve it caller (OnHandle op (handle_call_of call.entry (length out.old))) Plain).reply }
+    {
+        self.operations
+            .serve(&mut self.store, caller, op, call, out)
     }
 }

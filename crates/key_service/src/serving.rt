@@ -1,50 +1,21 @@
 // Any call on a handle.
 ghost use Rattle.std.specs.Prelude.{◌≡◌, ◌≤◌, ◌<◌, ◌^◌, ◌+◌, length};
 ghost use Rattle.store_model.specs.Store.{caller_state};
-ghost use Rattle.store_model.specs.Answers.{id_reply, plain_reply};
-ghost use Rattle.store_model.specs.Call.{Reply, buffer_after};
+ghost use Rattle.store_model.specs.Call.{buffer_after};
 ghost use Rattle.store_model.specs.Faults.{Plain};
 ghost use Rattle.store_model.specs.Handles.{Service};
 ghost use Rattle.store_model.specs.Requests.{OnHandle, serve};
 ghost use Rattle.service_calls.specs.Answered.{IsAnswer};
-ghost use Rattle.service_calls.specs.Meanings.{handle_call_of, setup_of, step_of};
+ghost use Rattle.service_calls.specs.Meanings.{handle_call_of, step_of};
 ghost use Rattle.key_service.specs.Services.{StandsFor};
 
 use crate::operations::{Operations, place};
 use crate::turns::turn;
 use psa_status::Status;
-use service_calls::{HandleCall, Op, Output, Setup, Step, identifier, plain};
+use service_calls::{HandleCall, Op, Output, Step, identifier, plain};
 use store_core::Store;
 
 impl Operations {
-    // Sets an inactive operation up.
-    fn set_up(
-        &mut self,
-        store: &mut Store,
-        caller: u8,
-        op: Op,
-        setup: Setup,
-    ) -> Result<(), Status>
-        requires first { 1 ≤ caller }
-        requires last { caller ≤ 16 }
-        requires turns { store.old.calls < 2 ^ 62 }
-        ensures stands { (service : Service) → StandsFor store.old self.old service →
-            StandsFor store.new self.new (serve service caller (OnHandle op (setup_of setup)) Plain).service }
-        ensures reply { (service : Service) → StandsFor store.old self.old service →
-            plain_reply result ≡ (serve service caller (OnHandle op (setup_of setup)) Plain).reply }
-    {
-        match setup {
-            Setup::Hash(alg) => self.hash_setup(store, caller, op, alg),
-            Setup::MacSign { key, alg } => self.mac_sign_setup(store, caller, op, key, alg),
-            Setup::MacVerify { key, alg } => self.mac_verify_setup(store, caller, op, key, alg),
-            Setup::CipherEncrypt { key, alg } => self.cipher_encrypt_setup(store, caller, op, key, alg),
-            Setup::CipherDecrypt { key, alg } => self.cipher_decrypt_setup(store, caller, op, key, alg),
-            Setup::AeadEncrypt { key, alg } => self.aead_encrypt_setup(store, caller, op, key, alg),
-            Setup::AeadDecrypt { key, alg } => self.aead_decrypt_setup(store, caller, op, key, alg),
-            Setup::Derivation(alg) => self.key_derivation_setup(store, caller, op, alg),
-        }
-    }
-
     // Takes one step of a handle's operation.
     fn step(
         &mut self,
@@ -78,7 +49,7 @@ impl Operations {
     }
 
     /// Makes a call on a handle. Bytes that it gives are written to the front of the buffer.
-    pub fn serve(
+    pub(crate) fn serve(
         &mut self,
         store: &mut Store,
         caller: u8,

@@ -27,29 +27,39 @@ pub fn on_store(
     ensures buffer { out.new ≡ buffer_after out.old (step store.old caller (store_call_of call.entry (length out.old)) Plain).reply }
 {
     match call {
-        StoreCall::Import {
-            attributes,
+        StoreCall::Import { attributes, bytes } => identifier(store.import_key(
+            caller,
+            &attributes,
             bytes,
-        } => identifier(store.import_key(caller, &attributes, bytes)),
+        )),
         StoreCall::Generate(attributes) => identifier(store.generate_key(caller, &attributes)),
-        StoreCall::Copy {
+        StoreCall::Copy { source, attributes } => identifier(store.copy(
+            caller,
             source,
-            attributes,
-        } => identifier(store.copy(caller, source, &attributes)),
+            &attributes,
+        )),
         StoreCall::Destroy(key) => plain(store.destroy(caller, key)),
         StoreCall::GetAttributes(key) => description(store.attributes(caller, key)),
         StoreCall::Export(key) => bytes(store.export_key(caller, key, out)),
         StoreCall::HashCompute { alg, input } => bytes(store.hash_compute(caller, alg, input, out)),
-        StoreCall::HashCompare { alg, input, hash } => plain(store.hash_compare(caller, alg, input, hash)),
-        StoreCall::MacCompute { key, alg, input } => bytes(store.mac_compute(caller, key, alg, input, out)),
+        StoreCall::HashCompare { alg, input, hash } => plain(store.hash_compare(
+            caller, alg, input, hash,
+        )),
+        StoreCall::MacCompute { key, alg, input } => bytes(store.mac_compute(
+            caller, key, alg, input, out,
+        )),
         StoreCall::MacVerify {
             key,
             alg,
             input,
             mac,
         } => plain(store.mac_verify(caller, key, alg, input, mac)),
-        StoreCall::CipherEncrypt { key, alg, input } => bytes(store.cipher_encrypt(caller, key, alg, input, out)),
-        StoreCall::CipherDecrypt { key, alg, input } => bytes(store.cipher_decrypt(caller, key, alg, input, out)),
+        StoreCall::CipherEncrypt { key, alg, input } => bytes(store.cipher_encrypt(
+            caller, key, alg, input, out,
+        )),
+        StoreCall::CipherDecrypt { key, alg, input } => bytes(store.cipher_decrypt(
+            caller, key, alg, input, out,
+        )),
         StoreCall::AeadEncrypt {
             key,
             alg,

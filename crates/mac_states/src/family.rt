@@ -38,7 +38,12 @@ impl<'a> Family<HashStep<'a>> for HashOpState {
         0
     }
 
-    fn step(&mut self, step: HashStep<'a>, _random: &[u8; 16], out: &mut [u8]) -> Result<Output, Status> {
+    fn step(
+        &mut self,
+        step: HashStep<'a>,
+        _random: &[u8; 16],
+        out: &mut [u8],
+    ) -> Result<Output, Status> {
         match step {
             HashStep::Update(input) => plain(self.hash_update(input)),
             HashStep::Finish => bytes(self.hash_finish(out)),
@@ -71,7 +76,12 @@ impl<'a> Family<MacStep<'a>> for MacState {
         0
     }
 
-    fn step(&mut self, step: MacStep<'a>, _random: &[u8; 16], out: &mut [u8]) -> Result<Output, Status> {
+    fn step(
+        &mut self,
+        step: MacStep<'a>,
+        _random: &[u8; 16],
+        out: &mut [u8],
+    ) -> Result<Output, Status> {
         match step {
             MacStep::Update(input) => plain(self.mac_update(input)),
             MacStep::SignFinish => bytes(self.mac_sign_finish(out)),

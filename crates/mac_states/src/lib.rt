@@ -13,5 +13,3 @@ mod work;
 pub use hash_state::HashOpState;
 pub use mac_state::MacState;
 
-#[cfg(test)]
-mod tests;

@@ -9,7 +9,7 @@ use Rattle.script_lang.specs.declared.faults.ScriptFault.{ScriptFault}
 use Rattle.script_lang.specs.declared.faults.ScriptFault.TheVariants as faults
 use Rattle.script_lang.specs.Pieces.{text_lines}
 use Rattle.script_lang.specs.Lines.{Read, nothing_read, line_at, lines_at, goes_on, script_of, ScriptFails}
-use Rattle.script_lang.specs.PrintedOrder.{IsAnswer}
+use Rattle.script_lang.specs.PrintedOrder.{AnswersLines, IsAnswer}
 use Rattle.psa_command.specs.Ends.{Answered, PartlyAnswered}
 use Rattle.psa_command.specs.declared.command.Exit.{Exit}
 use Rattle.psa_command.specs.declared.command.Exit.TheVariants.{Done, Usage, Script, ReadFault, WriteFault, Memory}
@@ -74,6 +74,10 @@ not_ok (Err g) f e h = cc
 
 one_fault : (read : Result (List ScriptLine) ScriptFault) (f g : ScriptFault) → read ≡ Err f → read ≡ Err g → Script f ≡ Script g
 one_fault read f g e k = cc
+
+-- an answer to the lines that a text reads as is one to the text
+pub as_answer : (text out : List ℕ) (lines : List ScriptLine) → script_of text ≡ Ok lines → AnswersLines lines out → IsAnswer text out
+as_answer text out lines reads answers = record { lines = lines; is_script = reads; answers = answers }
 
 -- WHAT ELSE FOLLOWS FROM HOW A RUN ENDED
 

@@ -116,6 +116,7 @@ fn write_answer<K: Sink>(sink: &mut K, out: &[u8]) -> Exit
 }
 
 /// Answers the script that a source has, and says how the run ends.
+#[tactic(auto, using(crate::proofs::Ends::as_answer))]
 fn answer_source<S: Source, K: Sink>(alloc: Global, source: &mut S, sink: &mut K) -> Exit
     ensures done { result ≡ Exit.Done → IfSome (S.left source.old) (λ text. Answered text (K.taken sink.old) (K.taken sink.new)) }
     ensures partly { result ≡ Exit.WriteFault → IfSome (S.left source.old) (λ text. PartlyAnswered text (K.taken sink.old) (K.taken sink.new)) }

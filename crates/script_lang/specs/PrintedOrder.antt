@@ -1,5 +1,5 @@
 -- What a script's calls answer, and what is printed of it.
-use Rattle.std.specs.Prelude.{ℕ, zero, suc, ◌≡◌, ◌+◌, ◌==◌, List, [], ◌∷◌, ◌++◌, true, false, slice_index, filter, flat_map, Ok, All}
+use Rattle.std.specs.Prelude.{ℕ, zero, suc, ◌≡◌, ◌+◌, ◌==◌, List, [], ◌∷◌, ◌++◌, true, false, slice_index, filter, flat_map, map, Ok, All}
 use Rattle.key_attributes.specs.declared.Attributes.{Attributes}
 use Rattle.store_model.specs.Store.{plain_settings}
 use Rattle.store_model.specs.Call as model
@@ -213,12 +213,22 @@ replies_to (suc n) ts = replies_to n ts ++ numbered 1 (turns_of (suc n) ts)
 abbrev pub text_of : List ReplyLine → List ℕ
 text_of replies = flat_map reply_text replies
 
--- The bytes written are the replies of one common order of the script's calls, replayed on the one-thread
--- service. The order is a history in which each session's calls are those of its lines, in their order.
-pub record IsAnswer (script out : List ℕ) : Type 0 where
-  pub lines : List ScriptLine
-  pub history : List Entry
-  pub is_script : script_of script ≡ Ok lines
+-- The calls of these lines were made in one common order, this history, and these bytes are its replies: each
+-- session's calls are those of its lines, in their order, replayed on the one-thread service.
+pub record IsOrder (lines : List ScriptLine) (history : List Entry) (out : List ℕ) : Type 0 where
   pub own : (session : ℕ) → AreCalls [] (lines_of session lines) (turns_of session (turns_from_start history))
   pub plain : All (λ e. e.mark ≡ Plain) history
+  -- one worker makes them in the order of the lines
+  pub line_order : map (λ e. e.caller) history ≡ map (λ line. line.session) lines
   pub is_out : out ≡ text_of (replies_to 16 (turns_from_start history))
+
+-- these bytes answer these lines
+pub record AnswersLines (lines : List ScriptLine) (out : List ℕ) : Type 0 where
+  pub history : List Entry
+  pub order : IsOrder lines history out
+
+-- The text reads as lines, and the bytes written answer these.
+pub record IsAnswer (script out : List ℕ) : Type 0 where
+  pub lines : List ScriptLine
+  pub is_script : script_of script ≡ Ok lines
+  pub answers : AnswersLines lines out

@@ -7,7 +7,6 @@ use Rattle.store_model.specs.AeadOperations as aeads
 use Rattle.store_model.specs.DerivationOperations as derivations
 use Rattle.store_model.specs.HandleCalls as model
 use Rattle.store_model.specs.Call as on_store
-use Rattle.store_model.specs.Requests.{Request, OnStore, OnHandle}
 use Rattle.service_calls.specs.declared.steps.HashStep.{HashStep}
 use Rattle.service_calls.specs.declared.steps.HashStep.TheVariants as hash
 use Rattle.service_calls.specs.declared.steps.MacStep.{MacStep}
@@ -26,8 +25,6 @@ use Rattle.service_calls.specs.declared.handle_calls.HandleCall.{HandleCall}
 use Rattle.service_calls.specs.declared.handle_calls.HandleCall.TheVariants as call
 use Rattle.service_calls.specs.declared.store_calls.StoreCall.{StoreCall}
 use Rattle.service_calls.specs.declared.store_calls.StoreCall.TheVariants as store
-use Rattle.service_calls.specs.declared.calls.Call.{Call}
-use Rattle.service_calls.specs.declared.calls.Call.TheVariants as calls
 
 abbrev pub hash_step_of : HashStep → (room : ℕ) → hashes.HashStep
 hash_step_of (hash.Update input) room = hashes.HashUpdate input.now
@@ -101,7 +98,3 @@ store_call_of (store.CipherEncrypt key alg input) room = on_store.CipherEncrypt 
 store_call_of (store.CipherDecrypt key alg input) room = on_store.CipherDecrypt key.0 alg.0 input.now room
 store_call_of (store.AeadEncrypt key alg nonce ad input) room = on_store.AeadEncrypt key.0 alg.0 nonce.now ad.now input.now room
 store_call_of (store.AeadDecrypt key alg nonce ad input) room = on_store.AeadDecrypt key.0 alg.0 nonce.now ad.now input.now room
-
-abbrev pub request_of : Call → (room : ℕ) → Request
-request_of (calls.OnStore c) room = OnStore (store_call_of c room)
-request_of (calls.OnHandle op c) room = OnHandle op (handle_call_of c room)

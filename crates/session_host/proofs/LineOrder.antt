@@ -1,8 +1,8 @@
 -- A run in line order, one line at a time.
-use Rattle.std.proofs.Common.{◌≡◌, ◌<◌, ◌≤◌, ℕ, ◌+◌, ◌-◌, ◌*◌, ◌^◌, List, [], ◌∷◌, ◌++◌, length, length-take-le, take, get_or, refl, sym, ap, ◌∙◌, subst, arith, true, false, map, append_assoc, set, length-set, eq-eqb, ne_eqb, suc, length-append, inl, inr}
-use Rattle.std.specs.Prelude.{Ok, ◌==◌, All, flat_map}
+use Rattle.std.proofs.Common.{◌≡◌, ◌<◌, ◌≤◌, ℕ, ◌+◌, ◌-◌, ◌*◌, ◌^◌, List, [], ◌∷◌, ◌++◌, length, length-take-le, take, get_or, refl, sym, ap, ◌∙◌, subst, arith, true, false, map, append_assoc, set, length-set, eq-eqb, ne_eqb, suc, inl, inr}
+use Rattle.std.specs.Prelude.{◌==◌, All, flat_map}
 use Rattle.std.proofs.lemmas.Bool.Decides.{eqb_tells}
-use Rattle.std.proofs.lemmas.List.{append-nil, take_more, get_or-replicate, map-append, get_or-set_same, get_or-set_other}
+use Rattle.std.proofs.lemmas.List.{append-nil, take_more, get_or-replicate, length-map, map-append, get_or-set_same, get_or-set_other}
 use Rattle.std.proofs.lemmas.List.Elements.{All-append, All-cons, All-nil}
 use Rattle.std.proofs.lemmas.List.Sums.{length-filter, count_by-le-length}
 use Rattle.store_model.specs.Store.{caller_state, new_caller, plain_settings}
@@ -12,8 +12,8 @@ use Rattle.store_model.specs.Handles.{service_start}
 use Rattle.store_model.specs.Replay.{Entry, outcome_of, replay}
 use Rattle.script_lang.specs.declared.script.ScriptLine.{ScriptLine}
 use Rattle.script_lang.specs.declared.replies.ReplyLine.{ReplyLine}
-use Rattle.script_lang.specs.Lines.{script_of, IsOfSession}
-use Rattle.script_lang.specs.PrintedOrder.{Turn, turns, turns_from_start, turns_of, lines_of, AreCalls, call_of, id_given, numbered, printed, replies_to, text_of, IsAnswer}
+use Rattle.script_lang.specs.Lines.{IsOfSession}
+use Rattle.script_lang.specs.PrintedOrder.{Turn, turns, turns_from_start, turns_of, lines_of, AreCalls, call_of, id_given, numbered, printed, replies_to, text_of, AnswersLines}
 use Rattle.key_service.specs.declared.service.Service.{Service}
 use Rattle.session_host.specs.declared.sessions.SessionReplies.{SessionReplies}
 use Rattle.key_service.specs.Whole.{Stands}
@@ -104,7 +104,7 @@ one_more lines sessions service next line i own new h place within at n r g =
       answered = record {
         history = old.history ++ entry ∷ [];
         plain = plain_more old.history entry old.plain refl;
-        as_many = length-append old.history (entry ∷ []) ∙ ap (λ n. n + 1) old.as_many ∙ sym (length-append lines (line ∷ []));
+        line_order = map-append (λ e. e.caller) old.history (entry ∷ []) ∙ ap (λ l. l ++ line.session ∷ []) old.line_order ∙ sym (map-append (λ l. l.session) lines (line ∷ []));
         own = λ session. subst (λ us. AreCalls [] (lines_of session (lines ++ line ∷ [])) (turns_of session us)) (sym after)
             (calls_more session lines (turns_from_start old.history) line t (old.own session) refl
             (λ e. ap (λ is. call_of is line.call) (told.given ∙ ap (λ s. map (λ t. id_given t.reply) (turns_of s (turns_from_start old.history))) (place ∙ e))));
@@ -127,7 +127,7 @@ no_line sessions service n fresh stands = record {
   answered = record {
     history = [];
     plain = All-nil _;
-    as_many = refl;
+    line_order = refl;
     own = no_calls;
     sixteen = n;
     told = λ i s below at. (let f = fresh_at sessions n fresh i s below at in record { replies = f.replies; given = f.given });
@@ -169,18 +169,21 @@ all_sixteen lines sessions h =
     in_all (λ s. s.replies.items) 0 ts sessions (λ i s below at. sixteen_own ts i s ((h.told i s (omega (arith, below, h.sixteen)) at).replies))
     ∙ ap (λ k. replies_to k ts) all
 
-pub answers_script : (lines : List ScriptLine) (sessions : List SessionReplies) (out : List ℕ) → AreAnswered lines sessions → out ≡ text_of (all_replies sessions) →
-    (text : List ℕ) → script_of text ≡ Ok lines → IsAnswer text out
-answers_script lines sessions out h e text is_script = record {
-  lines = lines;
+pub answers_lines : (lines : List ScriptLine) (sessions : List SessionReplies) (out : List ℕ) → AreAnswered lines sessions → out ≡ text_of (all_replies sessions) → AnswersLines lines out
+answers_lines lines sessions out h e = record {
   history = h.history;
-  is_script = is_script;
-  own = h.own;
-  plain = h.plain;
-  is_out = e ∙ ap text_of (all_sixteen lines sessions h);
+  order = record {
+    own = h.own;
+    plain = h.plain;
+    line_order = h.line_order;
+    is_out = e ∙ ap text_of (all_sixteen lines sessions h);
+  };
 }
 
 -- how many calls there are
+
+as_many : (lines : List ScriptLine) (sessions : List SessionReplies) (h : AreAnswered lines sessions) → length h.history ≡ length lines
+as_many lines sessions h = sym (length-map h.history (λ e. e.caller)) ∙ ap length h.line_order ∙ length-map lines (λ line. line.session)
 
 turns_length : (n : ℕ) (service : model.Service) (es : List Entry) → length (turns n service es) ≡ length es
 turns_length n service [] = refl
@@ -190,14 +193,14 @@ pub calls_are : (lines : List ScriptLine) (sessions : List SessionReplies) (serv
 calls_are lines sessions service h =
     let start : model.Service = service_start plain_settings in
     let from : service.store.calls ≡ (replay start h.answered.history).store.calls = ap (λ s. s.calls) h.stands.store_is in
-    omega (arith, from, replay_calls start h.answered.history, h.answered.as_many)
+    omega (arith, from, replay_calls start h.answered.history, as_many lines sessions h.answered)
 
 pub few_replies : (lines : List ScriptLine) (sessions : List SessionReplies) (i : ℕ) (own : SessionReplies) → AreAnswered lines sessions → i < 16 → own ≡ get_or sessions i own →
     length own.replies.items ≤ length lines
 few_replies lines sessions i own h within at =
     let ts : List Turn = turns_from_start h.history in
     let few : length (turns_of (i + 1) ts) ≤ length ts = omega (arith, length-filter (λ t. t.entry.caller == i + 1) ts, count_by-le-length (λ t. t.entry.caller == i + 1) ts) in
-    omega (arith, ap length (h.told i own within at).replies, numbered_length 1 (turns_of (i + 1) ts), turns_length 0 (service_start plain_settings) h.history, h.as_many)
+    omega (arith, ap length (h.told i own within at).replies, numbered_length 1 (turns_of (i + 1) ts), turns_length 0 (service_start plain_settings) h.history, as_many lines sessions h)
 
 -- how many random words were drawn
 
@@ -209,7 +212,7 @@ few_drawn : (lines : List ScriptLine) (sessions : List SessionReplies) (service 
 few_drawn lines sessions service session within h =
     let start : model.Service = service_start plain_settings in
     let from : (caller_state service.store session).drawn ≡ (caller_state (replay start h.answered.history).store session).drawn = ap (λ s. (caller_state s session).drawn) h.stands.store_is in
-    omega (arith, from, replay_draws start h.answered.history session, start_draws session within, h.answered.as_many)
+    omega (arith, from, replay_draws start h.answered.history session, start_draws session within, as_many lines sessions h.answered)
 
 -- the next line of a script
 

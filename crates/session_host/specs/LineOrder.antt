@@ -55,7 +55,7 @@ pub record AreReplies (session : ℕ) (history : List Entry) (s : SessionReplies
 pub record AreAnswered (lines : List ScriptLine) (sessions : List SessionReplies) : Type 0 where
   pub history : List Entry
   pub plain : All (λ e. e.mark ≡ Plain) history
-  pub as_many : length history ≡ length lines
+  pub line_order : map (λ e. e.caller) history ≡ map (λ line. line.session) lines
   pub own : (session : ℕ) → AreCalls [] (lines_of session lines) (turns_of session (turns_from_start history))
   pub sixteen : length sessions ≡ 16
   pub told : (i : ℕ) (s : SessionReplies) → i < 16 → s ≡ get_or sessions i s → AreReplies (i + 1) history s

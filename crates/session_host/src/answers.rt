@@ -58,11 +58,7 @@ fn described(alloc: Global, attributes: &Attributes) -> Result<Answer, Memory>
 }
 
 /// The answer to a call whose output buffer then holds `out`. No more than `out` has is printed.
-pub fn answer(
-    alloc: Global,
-    answer: Result<Output, Status>,
-    out: &[u8],
-) -> Result<Answer, Memory>
+pub fn printed(alloc: Global, answer: Result<Output, Status>, out: &[u8]) -> Result<Answer, Memory>
     ensures { (reply : Reply) → Fills answer out.now reply → IfOk result (λ a. Answers a reply) }
 {
     match answer {

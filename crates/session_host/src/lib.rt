@@ -7,7 +7,6 @@ mod handle_values;
 mod sessions;
 mod store_values;
 mod texts;
-mod values;
 mod words;
 
 pub use texts::answer_text;

@@ -1,8 +1,8 @@
 // The text of the replies, by session.
-ghost use Rattle.std.specs.Prelude.{◌≡◌, ◌≤◌, ◌++◌, List, ℕ, Ok, IfOk, OnOk, All, length};
+ghost use Rattle.std.specs.Prelude.{◌≡◌, ◌≤◌, ◌++◌, IfOk, OnOk, All, length};
 ghost use Rattle.script_lang.specs.Limits.{IsWellFormed};
-ghost use Rattle.script_lang.specs.Lines.{script_of, IsOfSession};
-ghost use Rattle.script_lang.specs.PrintedOrder.{IsAnswer, text_of};
+ghost use Rattle.script_lang.specs.Lines.{IsOfSession};
+ghost use Rattle.script_lang.specs.PrintedOrder.{AnswersLines, text_of};
 ghost use Rattle.session_host.specs.LineOrder.{all_replies};
 
 use crate::sessions::{SessionReplies, answer_lines};
@@ -31,13 +31,13 @@ fn text_of_sessions(alloc: Global, sessions: &[SessionReplies]) -> Result<Vec<u8
     Ok(out)
 }
 
-/// The text that answers a script of these lines: their calls are made in line order, on a store without a key and
-/// on inactive operations, and each has one reply line. Fails where memory runs out.
+/// The text that answers these lines: their calls are made in line order, on a store without a key and on inactive
+/// operations, and each has one reply line. Fails where memory runs out.
 pub fn answer_text(alloc: Global, lines: &[ScriptLine]) -> Result<Vec<u8>, Memory>
     requires sessions { All IsOfSession lines.now }
     requires limits { All IsWellFormed lines.now }
     requires few { length lines.now ≤ 20000 }
-    ensures { IfOk result (λ out. (text : List ℕ) → script_of text ≡ Ok lines.now → IsAnswer text out.items) }
+    ensures { IfOk result (λ out. AnswersLines lines.now out.items) }
 {
     let sessions = answer_lines(alloc, lines)?;
     text_of_sessions(alloc, &sessions)

@@ -1,8 +1,8 @@
 // Vectors of RFC 5869 and RFC 7914, output cut in every way, the capacity, and the order of the inputs.
 ghost use Rattle.std.specs.Prelude.{◌<◌};
 
-use crate::DerivationState;
 use alg_encoding::Alg;
+use derivation_states::DerivationState;
 use key_attributes::{Attributes, KeyId, KeyType, Lifetime, Policy, Usage};
 use psa_status::Status;
 use std::test::Fail;

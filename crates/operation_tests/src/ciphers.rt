@@ -1,7 +1,7 @@
 // The examples of SP 800-38A (appendix F.1.1, F.2.1 and F.5.1), whole and in pieces; padding; and calls out of order.
 
-use crate::CipherState;
 use alg_encoding::Alg;
+use cipher_states::CipherState;
 use psa_status::Status;
 use std::test::Fail;
 

@@ -1,6 +1,6 @@
 // Test case 4 of the GCM specification (McGrew and Viega, appendix B) and example 2 of SP 800-38C, appendix C, cut at every
 // place; and calls in an order that is refused.
-use crate::AeadState;
+use aead_states::AeadState;
 use alg_encoding::Alg;
 use psa_status::Status;
 use std::test::Fail;

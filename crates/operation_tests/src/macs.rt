@@ -1,7 +1,7 @@
 // The examples of FIPS 180-4 (24 and 448 bits), RFC 4231 (section 4.3) and SP 800-38B (appendix D.1), in pieces.
 
-use crate::{HashOpState, MacState};
 use alg_encoding::Alg;
+use mac_states::{HashOpState, MacState};
 use psa_status::Status;
 use std::test::Fail;
 

@@ -2,7 +2,7 @@ use Rattle.std.proofs.Common.{refl}
 use Rattle.alg_encoding.specs.Encoding.{base_of, entry_of, tag_length_of}
 use Rattle.alg_encoding.specs.Table.{base_at}
 use Rattle.algorithm_facts.specs.TagLengths.{IsAead}
-use Rattle.aead_states.proofs.tests.setup.Goals as goal
+use Rattle.operation_tests.proofs.aeads.setup.Goals as goal
 
 ccm_6 : IsAead 0x05460100
 unfolding base_of entry_of tag_length_of base_at
