@@ -1,5 +1,5 @@
 -- A step of a derivation's state is a step on the handle.
-use Rattle.std.proofs.Common.{◌≡◌, ℕ, Bool, true, false, not, ◌&&◌, cond, set, refl, sym, ◌∙◌}
+use Rattle.std.proofs.Common.{◌≡◌, ℕ, Bool, true, false, not, ◌&&◌, cond, refl, sym, ◌∙◌}
 use Rattle.std.specs.Prelude.{List, Option, Some, None, nat_lt, ◌==◌, bytes_eq, length, is_some, [], ◌∷◌, ◌++◌}
 use Rattle.psa_status.specs.declared.Status.{Status}
 use Rattle.psa_status.specs.declared.Status.TheVariants.{InvalidArgument}

@@ -1,9 +1,8 @@
 -- A step of one family's state is a step of the service.
 use Rattle.std.proofs.Common.{◌≡◌, ℕ, Bool, true, false, refl, sym, ap, ◌∙◌, subst}
-use Rattle.std.specs.Prelude.{Option, Some, None}
-use Rattle.psa_status.specs.declared.Status.{Status}
+use Rattle.std.specs.Prelude.{Option}
 use Rattle.psa_status.specs.declared.Status.TheVariants.{BadState, InvalidHandle}
-use Rattle.store_model.specs.Operations.{Operation, Inactive, InError, Active, After, stays, on_active, with_live_key, loses_key, unless_failed, fails}
+use Rattle.store_model.specs.Operations.{Operation, Inactive, InError, Active, After, stays, with_live_key, fails}
 use Rattle.store_model.specs.Handles.{Work, KeyCreation, Held, HandleOperation, Service, Served, operation_of, applied, is_alive, key_of_operation, part_of, held_with, held_after, stepped}
 use Rattle.operation_phase.specs.Turns.{by_key}
 use Rattle.operation_phase.proofs.Stepping.{on_active-drawn}
