@@ -2,7 +2,6 @@
 use alg_encoding::Alg;
 use key_attributes::{Attributes, KeyId, KeyType, Lifetime, Policy, Usage};
 use psa_status::Status;
-use std::test::Fail;
 use store_core::Store;
 
 // Attributes of a key of this type for an algorithm, to export it, to compute and verify, or to encipher and decipher.
@@ -20,54 +19,71 @@ fn used_with(key_type: u16, alg: u32) -> Attributes {
 }
 
 #[test]
-fn bytes_past_the_result_stay(rt: HostRuntime) -> Result<(), Fail> {
-    let mut store = Store::open(rt.alloc()).map_err(|_| "memory")?;
-    let data = store
+fn bytes_past_an_export_stay(rt: HostRuntime) {
+    let mut store = Store::open(rt.alloc()).expect(&rt, "memory");
+    let key = store
         .import_key(1, &used_with(0x1001, 0), b"abc")
-        .map_err(|_| "a key")?;
+        .expect(&rt, "a key");
     let mut out = [7u8; 4];
-    assert_eq!(rt; store.export_key(2, data, &mut out), Ok(3));
+    assert_eq!(rt; store.export_key(2, key, &mut out), Ok(3));
     assert_eq!(rt; out, [b'a', b'b', b'c', 7]);
     assert_eq!(rt; store.ranked(), 2);
+}
+
+#[test]
+fn bytes_past_a_mac_stay(rt: HostRuntime) {
+    let mut store = Store::open(rt.alloc()).expect(&rt, "memory");
     let key = store
         .import_key(1, &used_with(0x1100, 0x03848009), b"Jefe")
-        .map_err(|_| "a key")?;
+        .expect(&rt, "a key");
     let mut mac = [7u8; 33];
-    let message = b"what do ya want for nothing?";
     assert_eq!(rt;
-        store.mac_compute(1, key, Alg::of(0x03800009), message, &mut mac),
+        store.mac_compute(
+            1,
+            key,
+            Alg::of(0x03800009),
+            b"what do ya want for nothing?",
+            &mut mac
+        ),
         Ok(32)
     );
     assert_eq!(rt; mac[32], 7);
-    Ok(())
 }
 
-// A text of GCM (McGrew and Viega, case 2) under other associated data, and a text of CBC with padding that is wrong:
-// OpenSSL's ciphertext of 14 bytes.
+// The specification of GCM (McGrew and Viega), case 2, under other associated data.
 #[test]
-fn refused_texts_are_zeros(rt: HostRuntime) -> Result<(), Fail> {
-    let mut store = Store::open(rt.alloc()).map_err(|_| "memory")?;
+fn a_text_with_a_wrong_tag_is_zeros(rt: HostRuntime) {
+    let mut store = Store::open(rt.alloc()).expect(&rt, "memory");
     let gcm = Alg::of(0x05500200);
     let key = store
-        .import_key(1, &used_with(0x2400, 0x05500200), &[0; 16])
-        .map_err(|_| "a key")?;
-    let sealed = 0x0388dace60b6a392f328c2b971b2fe78u128.to_be_bytes();
-    let tag = 0xab6e47d42cec13bdf53a67b21257bddfu128.to_be_bytes();
-    let mut input = [0; 32];
-    input[..16].copy_from_slice(&sealed);
-    input[16..].copy_from_slice(&tag);
+        .import_key(3, &used_with(0x2400, 0x05500200), &[0; 16])
+        .expect(&rt, "a key");
+    let sealed = [
+        0x03, 0x88, 0xda, 0xce, 0x60, 0xb6, 0xa3, 0x92, 0xf3, 0x28, 0xc2, 0xb9, 0x71, 0xb2, 0xfe,
+        0x78, 0xab, 0x6e, 0x47, 0xd4, 0x2c, 0xec, 0x13, 0xbd, 0xf5, 0x3a, 0x67, 0xb2, 0x12, 0x57,
+        0xbd, 0xdf,
+    ];
     let mut text = [7u8; 17];
     assert_eq!(rt;
-        store.aead_decrypt(1, key, gcm, &[0; 12], b"a", &input, &mut text),
+        store.aead_decrypt(3, key, gcm, &[0; 12], b"a", &sealed, &mut text),
         Err(Status::InvalidSignature)
     );
     assert_eq!(rt; text, *b"\0\0\0\0\0\0\0\0\0\0\0\0\0\0\0\0\x07");
+}
+
+// OpenSSL's ciphertext of a text of 14 bytes.
+#[test]
+fn padding_becomes_zeros(rt: HostRuntime) {
+    let mut store = Store::open(rt.alloc()).expect(&rt, "memory");
     let cbc = Alg::of(0x04404100);
     let key = store
         .import_key(1, &used_with(0x2400, 0x04404100), b"an AES key of 16")
-        .map_err(|_| "a key")?;
-    let mut input =
-        *b"an IV is a block\x67\x54\xf7\x54\xf2\x92\xd8\x5b\xbd\x0d\x9b\x4a\xab\x99\x89\x3b";
+        .expect(&rt, "a key");
+    let mut input = [
+        0x61, 0x6e, 0x20, 0x49, 0x56, 0x20, 0x69, 0x73, 0x20, 0x61, 0x20, 0x62, 0x6c, 0x6f, 0x63,
+        0x6b, 0x67, 0x54, 0xf7, 0x54, 0xf2, 0x92, 0xd8, 0x5b, 0xbd, 0x0d, 0x9b, 0x4a, 0xab, 0x99,
+        0x89, 0x3b,
+    ];
     let mut out = [7u8; 17];
     assert_eq!(rt; store.cipher_decrypt(1, key, cbc, &input, &mut out), Ok(14));
     assert_eq!(rt; out, *b"Fourteen bytes\0\0\x07");
@@ -77,5 +93,4 @@ fn refused_texts_are_zeros(rt: HostRuntime) -> Result<(), Fail> {
         Err(Status::InvalidPadding)
     );
     assert_eq!(rt; out, *b"\0\0\0\0\0\0\0\0\0\0\0\0\0\0\0\0\x07");
-    Ok(())
 }

@@ -1,5 +1,5 @@
 -- How a generation is decided.
-use Rattle.std.proofs.Common.{◌≡◌, ◌∙◌, ℕ, ◌%◌, not, List, [], ◌∷◌, length, ap, sym, subst, refl}
+use Rattle.std.proofs.Common.{◌≡◌, ◌∙◌, ℕ, ◌%◌, not, [], ◌∷◌, ap, sym, subst, refl}
 use Rattle.std.specs.Prelude.{◌||◌, Ok, Err, None, Some, IsTrue, false, ◌==◌}
 use Rattle.psa_status.specs.declared.Status.{Status}
 use Rattle.psa_status.specs.declared.Status.TheVariants.{InvalidArgument, KeyLimit}
