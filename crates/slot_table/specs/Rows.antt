@@ -1,11 +1,11 @@
 -- The two rows in which a table keeps its slots.
-use Rattle.std.specs.Prelude.{◌≡◌, ℕ, List, [], ◌∷◌, length, slice_index_or}
+use Rattle.std.specs.Prelude.{◌≡◌, ℕ, ◌==◌, Bool, ◌&&◌, List, [], ◌∷◌, length, slice_index_or}
 use Rattle.key_attributes.specs.declared.KeyId.{KeyId}
 use Rattle.slot_states.specs.declared.SlotState.TheVariants.{Empty}
 use Rattle.secret_bytes.specs.Buffer.{buffer_of}
-use Rattle.slot_table.specs.declared.rows.Head.{Head}
-use Rattle.slot_table.specs.declared.rows.Stored.{Stored}
-use Rattle.slot_table.specs.Slots.{Slot, no_attributes}
+use Rattle.slot_table.specs.declared.place.Head.{Head}
+use Rattle.slot_table.specs.declared.place.Stored.{Stored}
+use Rattle.slot_table.specs.Slots.{Slot, no_attributes, is_full}
 
 abbrev pub empty_head : Head
 empty_head = record { state = Empty; readers = 0; id = record { 0 = 0 } }
@@ -18,6 +18,10 @@ head_at heads i = slice_index_or heads i empty_head
 
 abbrev pub key_at : List Stored → ℕ → Stored
 key_at keys i = slice_index_or keys i no_key
+
+-- whether a head is that of a slot with the key of this identifier, which can be used
+abbrev pub has_key : ℕ → Head → Bool
+has_key id head = is_full head.state && (head.id.0 == id)
 
 abbrev pub slot_of : Head → Stored → Slot
 slot_of head key = record { state = head.state; readers = head.readers; creation = key.creation; attributes = key.attributes; buffer = key.buffer }

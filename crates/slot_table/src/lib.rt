@@ -2,6 +2,7 @@
 #![tactic(auto)]
 
 mod lent;
+mod place;
 mod recency;
 mod rows;
 mod table;
