@@ -1,7 +1,7 @@
 -- Two rows as the slots of a table.
 use Rattle.key_attributes.specs.declared.KeyId.{KeyId}
 use Rattle.std.proofs.Common.{◌&&◌, ◌==◌, ◌≡◌, ◌≤◌, ◌<◌, ℕ, ◌+◌, zero, suc, List, [], ◌∷◌, length, get_or, slice_set, slice_index_or, set, replicate, refl, sym, ap, ◌∙◌, subst, arith, rules}
-use Rattle.std.proofs.lemmas.List.{length-set, set-get_or, get_or-set_same, get_or-set_other}
+use Rattle.std.proofs.lemmas.List.{length-replicate, length-set, set-get_or, get_or-set_same, get_or-set_other}
 use Rattle.std.proofs.lemmas.Bool.{cases_eq}
 use Rattle.slot_table.specs.declared.place.Head.{Head}
 use Rattle.slot_table.specs.declared.place.Stored.{Stored}
@@ -69,3 +69,15 @@ changed_head heads keys slots i head s view is =
 pub changed_both : (heads : List Head) (keys : List Stored) (slots : List Slot) (i : ℕ) (head : Head) (key : Stored) (s : Slot) → slots_of heads keys ≡ slots → s ≡ slot_of head key → slots_of (set heads i head) (set keys i key) ≡ set slots i s
 changed_both heads keys slots i head key s view is =
     slots_of-set heads keys i head key ∙ ap (λ ss. set ss i (slot_of head key)) view ∙ ap (set slots i) (sym is)
+
+get_or-replicate_same : {A : Type 0} (n i : ℕ) (x : A) → get_or (replicate n x) i x ≡ x
+get_or-replicate_same zero i x = refl
+get_or-replicate_same (suc n) zero x = refl
+get_or-replicate_same (suc n) (suc i) x = get_or-replicate_same n i x
+
+pub AreRows-replicate : AreRows (replicate 384 empty_head) (replicate 384 no_key)
+AreRows-replicate = record {
+  heads_sized = length-replicate 384 empty_head;
+  keys_sized = length-replicate 384 no_key;
+  named = λ i. ap (λ (h : Head). h.id) (get_or-replicate_same 384 i empty_head) ∙ sym (ap (λ (k : Stored). k.attributes.id) (get_or-replicate_same 384 i no_key));
+}
