@@ -1,7 +1,8 @@
 -- How often a number stands in a row.
-use Rattle.std.proofs.Common.{◌≡◌, ◌≢◌, ◌≤◌, ◌<◌, ℕ, ◌+◌, ◌-◌, zero, suc, Bool, true, false, cond, eqb, not, List, [], ◌∷◌, ◌++◌, length, get_or, take, drop, filter, refl, sym, ap, ◌∙◌, arith, rules, zero-add, add_assoc}
+use Rattle.std.proofs.Common.{◌≡◌, ◌≢◌, ◌≤◌, ◌<◌, ℕ, ◌+◌, ◌-◌, zero, suc, Bool, true, false, cond, eqb, not, List, [], ◌∷◌, ◌++◌, length, get_or, take, drop, filter, refl, sym, ap, ◌∙◌, arith, rules, zero-add, add_assoc, ⊎_elim}
 use Rattle.std.proofs.lemmas.Bool.Decides.{nat_tests}
 use Rattle.std.specs.List.{remove}
+use Rattle.std.proofs.lemmas.Bool.{cases_eq}
 use Rattle.slot_table.specs.Slots.{times}
 use Rattle.slot_table.specs.Changes.{without}
 
@@ -61,3 +62,21 @@ without_place i (x ∷ xs) (suc place) within is once =
       true ↦ λ h. absurd (omega arith)
     | false ↦ λ h. ap (λ zs. x ∷ zs) (without_place i xs place (omega arith) is (omega arith))
     ] once
+
+-- a row of numbers below a bound, each at most once, isn't longer than the bound
+pub length_distinct : (n : ℕ) (xs : List ℕ) → ((i : ℕ) → times i xs ≤ 1) → ((i : ℕ) → n ≤ i → times i xs ≡ 0) → length xs ≤ n
+length_distinct zero [] once none = omega arith
+length_distinct zero (x ∷ xs) once none =
+    let here : times x (x ∷ xs) ≡ 0 = none x (omega arith) in
+    let least : 1 ≤ times x (x ∷ xs) = times-at x (x ∷ xs) 0 (omega arith) refl in
+    absurd (omega (arith, here, least))
+length_distinct (suc n) xs once none =
+    let rest : length (without n xs) ≤ n = length_distinct n (without n xs) fewer absent in
+    let one : times n xs ≤ 1 = once n in
+    omega (arith, rest, one, length-without n xs) where
+  fewer : (i : ℕ) → times i (without n xs) ≤ 1
+  fewer i =
+      ⊎_elim (λ (same : i ≡ n). rw (same, times-same n xs) (omega arith)) (λ (other : i ≢ n). rw (times-other i n xs other) (once i)) (cases_eq i n)
+  absent : (i : ℕ) → n ≤ i → times i (without n xs) ≡ 0
+  absent i past =
+      ⊎_elim (λ (same : i ≡ n). rw (same, times-same n xs) refl) (λ (other : i ≢ n). times-other i n xs other ∙ none i (omega arith)) (cases_eq i n)

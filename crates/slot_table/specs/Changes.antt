@@ -1,10 +1,9 @@
 -- What the calls of a table make of a slot and of recency.
 use Rattle.std.specs.Prelude.{ℕ, ◌+◌, ◌-◌, ◌==◌, not, if◌then◌else◌, List, filter}
-use Rattle.slot_states.specs.declared.SlotState.{SlotState}
 use Rattle.slot_states.specs.declared.SlotState.TheVariants.{Full, Pending}
 use Rattle.key_attributes.specs.declared.Attributes.{Attributes}
 use Rattle.secret_bytes.specs.Buffer.{buffer_of}
-use Rattle.slot_table.specs.Slots.{Slot, empty_slot}
+use Rattle.slot_table.specs.Slots.{Slot, empty_slot, is_last}
 
 -- a slot with a new key, which nobody reads
 abbrev pub full_slot : ℕ → Attributes → List ℕ → Slot
@@ -15,12 +14,8 @@ abbrev pub registered : Slot → Slot
 registered s = record s { readers = s.readers + 1 }
 
 -- one reader less; the last one empties a pending slot
-abbrev pub left_in : SlotState → Slot → Slot
-left_in Pending s = if s.readers == 1 then empty_slot else record s { readers = s.readers - 1 }
-left_in _ s = record s { readers = s.readers - 1 }
-
 abbrev pub left : Slot → Slot
-left s = left_in s.state s
+left s = if is_last s then empty_slot else record s { readers = s.readers - 1 }
 
 -- its key is destroyed: it is pending where it is read, and empty where it isn't
 abbrev pub destroyed : Slot → Slot

@@ -47,6 +47,10 @@ abbrev pub is_full : SlotState → Bool
 is_full Full = true
 is_full _ = false
 
+abbrev pub is_pending : SlotState → Bool
+is_pending Pending = true
+is_pending _ = false
+
 -- whether it has the key of this identifier, which can be used
 abbrev pub is_key : ℕ → Slot → Bool
 is_key id s = is_full s.state && (s.attributes.id.0 == id)
@@ -54,6 +58,10 @@ is_key id s = is_full s.state && (s.attributes.id.0 == id)
 -- whether it has a persistent key that nobody reads: such a slot may be purged or evicted
 abbrev pub is_idle : Slot → Bool
 is_idle s = is_full s.state && persistence s.attributes.lifetime.0 == 1 && s.readers == 0
+
+-- whether its key is destroyed and just one still reads it
+abbrev pub is_last : Slot → Bool
+is_last s = is_pending s.state && s.readers == 1
 
 -- no slot has the key of this identifier
 abbrev pub NoKey : ℕ → List Slot → Type 0

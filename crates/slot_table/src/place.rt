@@ -1,9 +1,9 @@
 //! One slot, in two parts: what a look for a key reads, and the key.
-ghost use Rattle.std.specs.Prelude.{◌≡◌, ◌<◌, ◌≤◌, ◌-◌, ◌+◌, ◌^◌, length, true, IfOk};
+ghost use Rattle.std.specs.Prelude.{◌≡◌, ◌<◌, ◌≤◌, ◌-◌, ◌+◌, ◌^◌, ◌&&◌, ◌==◌, length, true, IfOk};
 ghost use Rattle.secret_bytes.specs.Buffer.{buffer_of};
 ghost use Rattle.slot_states.specs.Changes.{may_change};
 ghost use Rattle.slot_states.specs.declared.SlotState.TheVariants.{Empty};
-ghost use Rattle.slot_table.specs.Slots.{is_empty, is_full, is_idle};
+ghost use Rattle.slot_table.specs.Slots.{is_empty, is_full, is_pending, is_idle};
 ghost use Rattle.slot_table.specs.Rows.{empty_head, no_key, has_key, slot_of};
 
 use key_attributes::{Attributes, KeyId, KeyType, Lifetime, Policy, Usage};
@@ -62,6 +62,13 @@ impl Head {
         ensures { result ≡ has_key id.0 self.now }
     {
         self.is_full() && self.id.0 == id.0
+    }
+
+    /// Whether the slot's key is destroyed and just one still reads it.
+    pub fn is_last(&self) -> bool
+        ensures { result ≡ is_pending self.now.state && self.now.readers == 1 }
+    {
+        matches!(self.state, SlotState::Pending) && self.readers == 1
     }
 
     /// Goes on in another state, as it may.

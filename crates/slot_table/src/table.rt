@@ -258,8 +258,7 @@ impl SlotTable {
         ensures recency { self.new.recency ≡ self.old.recency }
         ensures lawful { IsLawful self.new }
     {
-        let head = self.rows.head(slot);
-        if head.readers == 1 && matches!(head.state, SlotState::Pending) {
+        if self.rows.head(slot).is_last() {
             self.rows.wipe(slot);
         } else {
             self.rows.unregister(slot);
