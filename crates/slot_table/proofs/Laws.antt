@@ -1,5 +1,5 @@
 -- What keeps the law of a table.
-use Rattle.std.proofs.Common.{◌≡◌, ◌≢◌, ◌≤◌, ◌<◌, ℕ, ◌+◌, ◌-◌, ◌==◌, Bool, true, false, cond, ◌&&◌, List, [], ◌∷◌, ◌++◌, length, get_or, set, take, replicate, refl, sym, ap, ◌∙◌, subst, ⊎_elim, arith, rules, add-zero, zero, suc, find, Option, Some, None, is_some, MatchOption, inl, inr, eqb-true}
+use Rattle.std.proofs.Common.{◌≡◌, ◌≢◌, ◌≤◌, ◌<◌, ℕ, ◌+◌, ◌-◌, ◌==◌, Bool, true, false, cond, ◌&&◌, List, [], ◌∷◌, ◌++◌, length, set, replicate, refl, sym, ap, ◌∙◌, ⊎_elim, arith, rules, add-zero, zero, suc, find, Option, Some, None, is_some, MatchOption, inl, inr, eqb-true}
 use Rattle.std.proofs.lemmas.List.{length-replicate, length-set, get_or-set_same, get_or-set_other, get_or_past, take_at}
 use Rattle.std.proofs.lemmas.Bool.{cases_eq, cases_lt, false≢true}
 use Rattle.std.proofs.lemmas.Bool.Decides.{nat_tests}
@@ -7,7 +7,7 @@ use Rattle.key_attributes.specs.Checks.{persistence}
 use Rattle.slot_states.specs.declared.SlotState.{SlotState}
 use Rattle.slot_states.specs.declared.SlotState.TheVariants.{Empty, Filling, Full, Pending}
 use Rattle.key_attributes.specs.declared.Attributes.{Attributes}
-use Rattle.secret_bytes.specs.Buffer.{Buffer, bytes_of, buffer_of}
+use Rattle.secret_bytes.specs.Buffer.{bytes_of, buffer_of}
 use Rattle.slot_table.specs.Slots.{Slot, Table, slot_at, empty_slot, filling_slot, is_empty, is_full, is_pending, is_idle, is_last, is_key, times, NoKey, NoneEmpty, IsEmptyAt, CanReserve, IsLawfulSlot, IsLawful}
 use Rattle.slot_table.specs.Changes.{full_slot, without}
 use Rattle.slot_table.proofs.Times.{times-append, times-same, times-other, without_none, length_distinct}
@@ -34,9 +34,9 @@ keeps_law t i s recency law c = record {
   each = at_each (λ k x. IsLawfulSlot x) t.slots i s c.within c.lawful (λ k other. law.each k);
   recent = at_each (λ k x. times k recency ≡ cond (is_full x.state) 1 0) t.slots i s c.within c.here (λ k other. c.others k other ∙ law.recent k);
   one = λ id a b. at_each (λ k x. is_key id x ≡ true → is_key id (slot_at (set t.slots i s) b) ≡ true → k ≡ b) t.slots i s c.within
-    (λ has. at_each (λ k x. is_key id x ≡ true → i ≡ k) t.slots i s c.within (λ has'. refl) (λ k other has'. sym (c.one id has k has')) b)
-    (λ k other has. at_each (λ j x. is_key id x ≡ true → k ≡ j) t.slots i s c.within (λ has'. c.one id has' k has) (λ j other' has'. law.one id k j has has') b)
-    a;
+      (λ has. at_each (λ k x. is_key id x ≡ true → i ≡ k) t.slots i s c.within (λ has'. refl) (λ k other has'. sym (c.one id has k has')) b)
+      (λ k other has. at_each (λ j x. is_key id x ≡ true → k ≡ j) t.slots i s c.within (λ has'. c.one id has' k has) (λ j other' has'. law.one id k j has has') b)
+      a;
 }
 
 -- a read of a list that is in use gives the list
@@ -138,6 +138,7 @@ becomes_last t i s law within before after same lawful = keeps_law t i s (withou
 }) where
   once : 0 + times i (i ∷ []) ≡ 1
   once = search rules
+
   same_key : (id : ℕ) → is_key id s ≡ true → is_key id (slot_at t.slots i) ≡ true
   same_key id has = ap (λ x. is_full x && ((slot_at t.slots i).attributes.id.0 == id)) (before ∙ sym after) ∙ ap (λ (a : Attributes). is_full s.state && (a.id.0 == id)) (sym same) ∙ has
 
@@ -162,6 +163,7 @@ gets_key t i s law within before after unknown lawful = keeps_law t i s (t.recen
 }) where
   once : 0 + times i (i ∷ []) ≡ 1
   once = search rules
+
   same_id : (id : ℕ) → is_key id s ≡ true → s.attributes.id.0 ≡ id
   same_id id has = search rules
 
@@ -170,11 +172,14 @@ pub loses_reader : (t : Table) (i : ℕ) → IsLawful t → 0 < (slot_at t.slots
 loses_reader t i law read more = by_state (slot_at t.slots i).state refl where
   old : Slot
   old = slot_at t.slots i
+
   unread : old.readers ≡ 0 → IsLawful (record { slots = set t.slots i (record old { readers = old.readers - 1 }); recency = t.recency })
   unread none = absurd (omega (arith, none, read))
+
   many : old.state ≡ Pending → 0 < old.readers - 1
   many pending =
       ⊎_elim (λ (one : old.readers ≡ 1). absurd (false≢true (sym more ∙ ap (λ x. is_pending x && (old.readers == 1)) pending ∙ ap (λ n. n == 1) one))) (λ (other : old.readers ≢ 1). omega (arith, read, other)) (cases_eq old.readers 1)
+
   by_state : (state : SlotState) → old.state ≡ state → IsLawful (record { slots = set t.slots i (record old { readers = old.readers - 1 }); recency = t.recency })
   by_state Empty is = unread (ap (λ (s : Slot). s.readers) ((law.each i).empty is))
   by_state Filling is = unread (ap (λ (s : Slot). s.readers) ((law.each i).filling is))
@@ -207,24 +212,26 @@ pub recency_has_room : (t : Table) (i : ℕ) → IsLawful t → i < length t.slo
 recency_has_room t i law within unused =
     let long : length (i ∷ t.recency) ≤ 384 = length_distinct 384 (i ∷ t.recency) once none in
     omega (arith, long) where
-  none : (k : ℕ) → 384 ≤ k → times k (i ∷ t.recency) ≡ 0
-  none k past =
-      let other : i ≢ k = omega (arith, within, law.sized) in
-      let at : times k t.recency ≡ 0 = law.recent k ∙ ap (λ (s : Slot). cond (is_full s.state) 1 0) (get_or_past t.slots k empty_slot (omega (arith, law.sized))) in
-      grind (arith, nat_tests)
-  few : (b : Bool) → cond b 1 0 ≤ 1
-  few true = omega arith
-  few false = omega arith
-  once : (k : ℕ) → times k (i ∷ t.recency) ≤ 1
-  once k =
-      ⊎_elim
-      (λ (same : k ≡ i).
+      none : (k : ℕ) → 384 ≤ k → times k (i ∷ t.recency) ≡ 0
+      none k past =
+          let other : i ≢ k = omega (arith, within, law.sized) in
+          let at : times k t.recency ≡ 0 = law.recent k ∙ ap (λ (s : Slot). cond (is_full s.state) 1 0) (get_or_past t.slots k empty_slot (omega (arith, law.sized))) in
+          grind (arith, nat_tests)
+
+      few : (b : Bool) → cond b 1 0 ≤ 1
+      few true = omega arith
+      few false = omega arith
+
+      once : (k : ℕ) → times k (i ∷ t.recency) ≤ 1
+      once k =
+          ⊎_elim
+          (λ (same : k ≡ i).
           let at : times i t.recency ≡ 0 = law.recent i ∙ ap (λ b. cond b 1 0) unused in
           rw same (grind (arith, nat_tests)))
-      (λ (other : k ≢ i).
+          (λ (other : k ≢ i).
           let at : times k t.recency ≤ 1 = rw (law.recent k) (few (is_full (slot_at t.slots k).state)) in
           grind (arith, nat_tests))
-      (cases_eq k i)
+          (cases_eq k i)
 
 -- an idle slot is full and unread
 pub idle_is_full : (s : Slot) → is_idle s ≡ true → s.state ≡ Full
@@ -246,20 +253,20 @@ pub find_passes : (p : ℕ → Bool) (xs : List ℕ) (x : ℕ) → find p xs ≡
 find_passes p [] x found = absurd (cc)
 find_passes p (y ∷ ys) x found =
     elim (p y) as (λ b. p y ≡ b → cond b (Some y) (find p ys) ≡ Some x → p x ≡ true) [
-      true ↦ λ t h. let same : y ≡ x = cc in ap p (sym same) ∙ t
-    | false ↦ λ t h. find_passes p ys x h
+      | true ↦ λ t h. let same : y ≡ x = cc in ap p (sym same) ∙ t
+      | false ↦ λ t h. find_passes p ys x h
     ] refl found
 
 pub find_misses : (p : ℕ → Bool) (xs : List ℕ) (x : ℕ) → find p xs ≡ None → p x ≡ true → times x xs ≡ 0
 find_misses p [] x none passes = refl
 find_misses p (y ∷ ys) x none passes =
     elim (p y) as (λ b. p y ≡ b → cond b (Some y) (find p ys) ≡ None → cond (y == x) 1 0 + times x ys ≡ 0) [
-      true ↦ λ t h. absurd (cc)
-    | false ↦ λ t h.
-        ⊎_elim
-        (λ (same : y ≡ x). absurd (false≢true (sym t ∙ ap p same ∙ passes)))
-        (λ (other : y ≢ x). let rest : times x ys ≡ 0 = find_misses p ys x h passes in grind (arith, nat_tests))
-        (cases_eq y x)
+      | true ↦ λ t h. absurd (cc)
+      | false ↦ λ t h.
+          ⊎_elim
+          (λ (same : y ≡ x). absurd (false≢true (sym t ∙ ap p same ∙ passes)))
+          (λ (other : y ≢ x). let rest : times x ys ≡ 0 = find_misses p ys x h passes in grind (arith, nat_tests))
+          (cases_eq y x)
     ] refl none
 
 -- where a slot can be reserved and none is empty, one of recency is idle
@@ -268,9 +275,9 @@ some_is_idle t law can full none =
     ⊎_elim
     (λ (free : (can.0 < length t.slots) × (is_empty (slot_at t.slots can.0).state ≡ true)). false≢true (sym (full can.0 free.0) ∙ free.1))
     (λ (idle : is_idle (slot_at t.slots can.0) ≡ true).
-        let absent : times can.0 t.recency ≡ 0 = find_misses (λ i. is_idle (slot_at t.slots i)) t.recency can.0 none idle in
-        let present : times can.0 t.recency ≡ 1 = law.recent can.0 ∙ ap (λ x. cond (is_full x) 1 0) (idle_is_full (slot_at t.slots can.0) idle) in
-        omega (arith, absent, present))
+    let absent : times can.0 t.recency ≡ 0 = find_misses (λ i. is_idle (slot_at t.slots i)) t.recency can.0 none idle in
+    let present : times can.0 t.recency ≡ 1 = law.recent can.0 ∙ ap (λ x. cond (is_full x) 1 0) (idle_is_full (slot_at t.slots can.0) idle) in
+    omega (arith, absent, present))
     can.1
 
 -- an empty slot isn't in recency

@@ -1,5 +1,5 @@
 -- How often a number stands in a row.
-use Rattle.std.proofs.Common.{◌≡◌, ◌≢◌, ◌≤◌, ◌<◌, ℕ, ◌+◌, ◌-◌, zero, suc, Bool, true, false, cond, eqb, not, List, [], ◌∷◌, ◌++◌, length, get_or, take, drop, filter, refl, sym, ap, ◌∙◌, arith, rules, zero-add, add_assoc, ⊎_elim}
+use Rattle.std.proofs.Common.{◌≡◌, ◌≢◌, ◌≤◌, ◌<◌, ℕ, ◌+◌, zero, suc, true, false, cond, eqb, not, List, [], ◌∷◌, ◌++◌, length, get_or, refl, sym, ap, ◌∙◌, arith, zero-add, add_assoc, ⊎_elim}
 use Rattle.std.proofs.lemmas.Bool.Decides.{nat_tests}
 use Rattle.std.specs.List.{remove}
 use Rattle.std.proofs.lemmas.Bool.{cases_eq}
@@ -16,16 +16,16 @@ pub without_none : (i : ℕ) (xs : List ℕ) → times i xs ≡ 0 → without i 
 without_none i [] none = refl
 without_none i (x ∷ xs) none =
     elim (eqb x i) as (λ b. cond b 1 0 + times i xs ≡ 0 → cond (not b) (x ∷ without i xs) (without i xs) ≡ x ∷ xs) [
-      true ↦ λ h. absurd (omega arith)
-    | false ↦ λ h. ap (λ zs. x ∷ zs) (without_none i xs (omega arith))
+      | true ↦ λ h. absurd (omega arith)
+      | false ↦ λ h. ap (λ zs. x ∷ zs) (without_none i xs (omega arith))
     ] none
 
 pub length-without : (i : ℕ) (xs : List ℕ) → length (without i xs) + times i xs ≡ length xs
 length-without i [] = refl
 length-without i (x ∷ xs) =
     elim (eqb x i) as (λ b. length (cond (not b) (x ∷ without i xs) (without i xs)) + (cond b 1 0 + times i xs) ≡ suc (length xs)) [
-      true ↦ omega (arith, length-without i xs)
-    | false ↦ omega (arith, length-without i xs)
+      | true ↦ omega (arith, length-without i xs)
+      | false ↦ omega (arith, length-without i xs)
     ]
 
 pub times-same : (i : ℕ) (xs : List ℕ) → times i (without i xs) ≡ 0
@@ -53,14 +53,14 @@ pub without_place : (i : ℕ) (xs : List ℕ) (place : ℕ) → place < length x
 without_place i [] place within is once = absurd (omega arith)
 without_place i (x ∷ xs) zero within is once =
     elim (eqb x i) as (λ b. eqb x i ≡ b → cond b 1 0 + times i xs ≡ 1 → xs ≡ cond (not b) (x ∷ without i xs) (without i xs)) [
-      true ↦ λ t h. sym (without_none i xs (omega arith))
-    | false ↦ λ t h. absurd (grind (arith, nat_tests))
+      | true ↦ λ t h. sym (without_none i xs (omega arith))
+      | false ↦ λ t h. absurd (grind (arith, nat_tests))
     ] refl once
 without_place i (x ∷ xs) (suc place) within is once =
     let more : 1 ≤ times i xs = times-at i xs place (omega arith) is in
     elim (eqb x i) as (λ b. cond b 1 0 + times i xs ≡ 1 → x ∷ remove xs place ≡ cond (not b) (x ∷ without i xs) (without i xs)) [
-      true ↦ λ h. absurd (omega arith)
-    | false ↦ λ h. ap (λ zs. x ∷ zs) (without_place i xs place (omega arith) is (omega arith))
+      | true ↦ λ h. absurd (omega arith)
+      | false ↦ λ h. ap (λ zs. x ∷ zs) (without_place i xs place (omega arith) is (omega arith))
     ] once
 
 -- a row of numbers below a bound, each at most once, isn't longer than the bound
@@ -74,9 +74,10 @@ length_distinct (suc n) xs once none =
     let rest : length (without n xs) ≤ n = length_distinct n (without n xs) fewer absent in
     let one : times n xs ≤ 1 = once n in
     omega (arith, rest, one, length-without n xs) where
-  fewer : (i : ℕ) → times i (without n xs) ≤ 1
-  fewer i =
-      ⊎_elim (λ (same : i ≡ n). rw (same, times-same n xs) (omega arith)) (λ (other : i ≢ n). rw (times-other i n xs other) (once i)) (cases_eq i n)
-  absent : (i : ℕ) → n ≤ i → times i (without n xs) ≡ 0
-  absent i past =
-      ⊎_elim (λ (same : i ≡ n). rw (same, times-same n xs) refl) (λ (other : i ≢ n). times-other i n xs other ∙ none i (omega arith)) (cases_eq i n)
+      fewer : (i : ℕ) → times i (without n xs) ≤ 1
+      fewer i =
+          ⊎_elim (λ (same : i ≡ n). rw (same, times-same n xs) (omega arith)) (λ (other : i ≢ n). rw (times-other i n xs other) (once i)) (cases_eq i n)
+
+      absent : (i : ℕ) → n ≤ i → times i (without n xs) ≡ 0
+      absent i past =
+          ⊎_elim (λ (same : i ≡ n). rw (same, times-same n xs) refl) (λ (other : i ≢ n). times-other i n xs other ∙ none i (omega arith)) (cases_eq i n)

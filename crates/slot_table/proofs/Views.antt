@@ -1,8 +1,7 @@
 -- Two rows as the slots of a table.
 use Rattle.key_attributes.specs.declared.KeyId.{KeyId}
-use Rattle.std.proofs.Common.{◌&&◌, ◌==◌, ◌≡◌, ◌≤◌, ◌<◌, ℕ, ◌+◌, zero, suc, List, [], ◌∷◌, length, get_or, slice_set, slice_index_or, set, replicate, refl, sym, ap, ◌∙◌, subst, arith, rules}
-use Rattle.std.proofs.lemmas.List.{length-replicate, length-set, set-get_or, get_or-set_same, get_or-set_other}
-use Rattle.std.proofs.lemmas.Bool.{cases_eq}
+use Rattle.std.proofs.Common.{◌&&◌, ◌==◌, ◌≡◌, ◌<◌, ℕ, zero, suc, List, [], ◌∷◌, length, get_or, set, replicate, refl, sym, ap, ◌∙◌, arith}
+use Rattle.std.proofs.lemmas.List.{length-replicate, set-get_or}
 use Rattle.slot_table.specs.declared.place.Head.{Head}
 use Rattle.slot_table.specs.declared.place.Stored.{Stored}
 use Rattle.slot_table.specs.Slots.{Slot, slot_at, empty_slot, is_key, is_full}

@@ -1,6 +1,5 @@
 -- The two rows in which a table keeps its slots.
 use Rattle.std.specs.Prelude.{◌≡◌, ℕ, ◌==◌, Bool, ◌&&◌, List, [], ◌∷◌, length, slice_index_or}
-use Rattle.key_attributes.specs.declared.KeyId.{KeyId}
 use Rattle.slot_states.specs.declared.SlotState.TheVariants.{Empty}
 use Rattle.secret_bytes.specs.Buffer.{buffer_of}
 use Rattle.slot_table.specs.declared.place.Head.{Head}

@@ -91,7 +91,6 @@ pub record IsLawfulSlot (s : Slot) : Type 0 where
   pub empty : s.state ≡ Empty → s ≡ empty_slot
   pub filling : s.state ≡ Filling → s ≡ filling_slot
   pub pending : s.state ≡ Pending → 0 < s.readers
-
   -- what stands past the key's bytes is zeros
   pub short : length (bytes_of s.buffer) ≤ 1024
   pub rest : s.buffer ≡ buffer_of (bytes_of s.buffer)
@@ -100,9 +99,7 @@ pub record IsLawfulSlot (s : Slot) : Type 0 where
 pub record IsLawful (t : Table) : Type 0 where
   pub sized : length t.slots ≡ 384
   pub each : (i : ℕ) → IsLawfulSlot (slot_at t.slots i)
-
   -- recency has each full slot once, and no other
   pub recent : (i : ℕ) → times i t.recency ≡ (if is_full (slot_at t.slots i).state then 1 else 0)
-
   -- no two slots have the key of one identifier
   pub one : (id i j : ℕ) → is_key id (slot_at t.slots i) ≡ true → is_key id (slot_at t.slots j) ≡ true → i ≡ j

@@ -3,11 +3,10 @@ ghost use Rattle.std.specs.Prelude.{◌≡◌, ◌<◌, ◌≤◌, [], ◌∷◌
 ghost use Rattle.slot_table.specs.Slots.{times};
 ghost use Rattle.slot_table.specs.Changes.{without};
 
+use crate::rows::SLOTS;
 use psa_status::Memory;
 use std::alloc::Global;
 use std::marker::Model;
-
-use crate::rows::SLOTS;
 
 /// The numbers of the full slots, the least recently registered or filled first.
 #[derive(Drop)]

@@ -8,6 +8,7 @@ ghost use Rattle.slot_table.specs.Changes.{full_slot, registered, left, destroye
 
 use crate::lent::{Filling, Lease};
 use crate::recency::Recency;
+pub use crate::rows::SLOTS;
 use crate::rows::SlotRows;
 use key_attributes::{Attributes, KeyId};
 use psa_status::Memory;
@@ -15,8 +16,6 @@ use secret_bytes::Secret;
 use slot_states::SlotState;
 use std::alloc::Global;
 use std::marker::Model;
-
-pub use crate::rows::SLOTS;
 
 /// The slots of the key store, by number, with the order in which the full ones were registered or filled.
 #[derive(Drop)]
@@ -86,7 +85,13 @@ impl SlotTable {
     }
 
     /// Puts a new key into the slot that waits for it, and answers the slot. No slot has a key of its identifier.
-    pub fn finish(&mut self, filling: Filling, creation: u64, attributes: &Attributes, bytes: &[u8]) -> u32
+    pub fn finish(
+        &mut self,
+        filling: Filling,
+        creation: u64,
+        attributes: &Attributes,
+        bytes: &[u8],
+    ) -> u32
         requires filling { (slot_at self.old.slots filling.slot).state ≡ SlotState.Filling }
         requires short { length bytes.now ≤ 1024 }
         requires unknown { NoKey attributes.now.id.0 self.old.slots }

@@ -1,7 +1,6 @@
-use Rattle.std.proofs.Common.{◌≡◌, ◌∙◌, sym, ap, arith, refl}
+use Rattle.std.proofs.Common.{◌≡◌, arith, refl}
 use Rattle.std.proofs.lemmas.List.{get_or_read}
 use Rattle.slot_table.proofs.Views.{stands_at, changed_both}
-use Rattle.slot_table.specs.Slots.{Slot}
 use Rattle.slot_table.specs.Rows.{empty_head}
 use Rattle.slot_table.proofs.rows.SlotRows.fill.Goals as goal
 

@@ -1,7 +1,7 @@
 use Rattle.std.proofs.Common.{◌<◌, length, ◌∙◌, sym, ap, arith, below_more, ⊎_elim}
 use Rattle.std.proofs.lemmas.List.{get_or_read, get_or_past}
 use Rattle.std.proofs.lemmas.Bool.{cases_lt}
-use Rattle.slot_table.specs.Rows.{has_key, empty_head, head_at}
+use Rattle.slot_table.specs.Rows.{has_key, empty_head}
 use Rattle.slot_table.proofs.Views.{is_key-head}
 use Rattle.slot_table.proofs.rows.SlotRows.find.Goals as goal
 

@@ -9,12 +9,13 @@ use Rattle.slot_table.proofs.rows.SlotRows.find_empty.Goals as goal
 pub returns-then-is_empty : goal.returns-then-is_empty
 returns-then-is_empty c =
     let heads = c.self.inside.heads in
-    let within : c.loop-i.i < length heads.items = omega (arith, heads.ok.0) in
-    (omega (arith, heads.ok.0, c.self.invariant.heads_sized, length_is _ _ _ c.self.invariant c.self.view_is),
-    ap (λ (s : Slot). is_empty s.state) (slot_is _ _ _ c.self.invariant c.self.view_is _)
-    ∙ ap (λ (h : Head). is_empty h.state) (sym (get_or_read heads.items _ _ within c.index.ensures empty_head))
-    ∙ sym c.is_empty.ensures
-    ∙ c.if-is_empty.true)
+    let within : c.loop-i.i < length heads.items = omega (arith, heads.ok.0) in (
+      omega (arith, heads.ok.0, c.self.invariant.heads_sized, length_is _ _ _ c.self.invariant c.self.view_is),
+      ap (λ (s : Slot). is_empty s.state) (slot_is _ _ _ c.self.invariant c.self.view_is _)
+          ∙ ap (λ (h : Head). is_empty h.state) (sym (get_or_read heads.items _ _ within c.index.ensures empty_head))
+          ∙ sym c.is_empty.ensures
+          ∙ c.if-is_empty.true,
+    )
 
 pub loop-i-preserved : goal.loop-i-preserved
 loop-i-preserved c =

@@ -1,7 +1,7 @@
-use Rattle.std.proofs.Common.{◌<◌, length, ◌∙◌, sym, ap, arith}
+use Rattle.std.proofs.Common.{◌<◌, length, sym, ap, arith}
 use Rattle.std.proofs.lemmas.List.{get_or_read, get_or_past}
-use Rattle.slot_table.specs.Slots.{Slot, is_idle, empty_slot}
-use Rattle.slot_table.specs.Rows.{empty_head, no_key, slot_of}
+use Rattle.slot_table.specs.Slots.{is_idle, empty_slot}
+use Rattle.slot_table.specs.Rows.{empty_head, no_key}
 use Rattle.slot_table.proofs.Views.{slot_is, length_is}
 use Rattle.slot_table.proofs.rows.SlotRows.is_idle.Goals as goal
 

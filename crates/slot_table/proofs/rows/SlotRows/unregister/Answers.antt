@@ -1,4 +1,4 @@
-use Rattle.std.proofs.Common.{◌<◌, arith, refl}
+use Rattle.std.proofs.Common.{arith, refl}
 use Rattle.std.proofs.lemmas.List.{get_or_read}
 use Rattle.slot_table.proofs.Views.{stands_at, changed_head}
 use Rattle.slot_table.specs.Rows.{empty_head}

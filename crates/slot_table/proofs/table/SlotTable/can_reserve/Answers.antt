@@ -1,4 +1,4 @@
-use Rattle.std.proofs.Common.{◌≡◌, ◌∙◌, sym, ap, subst, List, true, false}
+use Rattle.std.proofs.Common.{◌∙◌, sym, ap, subst, List}
 use Rattle.slot_table.specs.Slots.{Slot, Table, NoneEmpty, CanReserve}
 use Rattle.slot_table.proofs.Laws.{reserves_empty, reserves_idle, finds_none}
 use Rattle.slot_table.proofs.table.SlotTable.can_reserve.Goals as goal
