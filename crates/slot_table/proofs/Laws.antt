@@ -10,15 +10,8 @@ use Rattle.key_attributes.specs.declared.Attributes.{Attributes}
 use Rattle.secret_bytes.specs.Buffer.{bytes_of, buffer_of}
 use Rattle.slot_table.specs.Slots.{Slot, Table, slot_at, empty_slot, filling_slot, is_empty, is_full, is_pending, is_idle, is_last, is_key, times, NoKey, NoneEmpty, IsEmptyAt, CanReserve, IsLawfulSlot, IsLawful}
 use Rattle.slot_table.specs.Changes.{full_slot, without}
+use Rattle.slot_table.proofs.AtSlots.{at_each, full_test, full_within, filling_within, read_within, key_is_full, idle_is_full, idle_is_unread, bytes-buffer_of}
 use Rattle.slot_table.proofs.Times.{times-append, times-same, times-other, without_none, length_distinct}
-
--- what holds of the new slot and of each other one holds of each slot after the change
-at_each : (P : ℕ → Slot → Type 0) (slots : List Slot) (i : ℕ) (s : Slot) → i < length slots → P i s → ((k : ℕ) → k ≢ i → P k (slot_at slots k)) → (k : ℕ) → P k (slot_at (set slots i s) k)
-at_each P slots i s within here others k =
-    ⊎_elim
-    (λ (same : k ≡ i). rw (same, get_or-set_same slots i s empty_slot within) here)
-    (λ (other : k ≢ i). rw (get_or-set_other slots i k s empty_slot other) (others k other))
-    (cases_eq k i)
 
 -- one slot changes, and recency with it
 pub record Changes (t : Table) (i : ℕ) (s : Slot) (recency : List ℕ) : Type 0 where
@@ -38,10 +31,6 @@ keeps_law t i s recency law c = record {
       (λ k other has. at_each (λ j x. is_key id x ≡ true → k ≡ j) t.slots i s c.within (λ has'. c.one id has' k has) (λ j other' has'. law.one id k j has has') b)
       a;
 }
-
--- a read of a list that is in use gives the list
-pub bytes-buffer_of : (bytes : List ℕ) → bytes_of (buffer_of bytes) ≡ bytes
-bytes-buffer_of bytes = take_at bytes (replicate (1024 - length bytes) 0) (length bytes) refl
 
 pub lawful_empty : IsLawfulSlot empty_slot
 lawful_empty = record { empty = λ h. refl; filling = λ h. absurd (cc); pending = λ h. absurd (cc); short = omega arith; rest = refl }
@@ -76,31 +65,6 @@ lawful_pending s new law same pending read = record {
   short = rw same law.short;
   rest = rw same law.rest;
 }
-
--- a slot that isn't empty stands in the table
-pub within_table : (slots : List Slot) (i : ℕ) → (slot_at slots i ≡ empty_slot → ⊥) → i < length slots
-within_table slots i used =
-    ⊎_elim (λ within. within) (λ past. absurd (used (get_or_past slots i empty_slot past))) (cases_lt i (length slots))
-
-pub full_within : (slots : List Slot) (i : ℕ) → (slot_at slots i).state ≡ Full → i < length slots
-full_within slots i full = within_table slots i (λ same. let e : Full ≡ Empty = sym full ∙ ap (λ (s : Slot). s.state) same in cc)
-
-pub filling_within : (slots : List Slot) (i : ℕ) → (slot_at slots i).state ≡ Filling → i < length slots
-filling_within slots i filling = within_table slots i (λ same. let e : Filling ≡ Empty = sym filling ∙ ap (λ (s : Slot). s.state) same in cc)
-
-pub read_within : (slots : List Slot) (i : ℕ) → 0 < (slot_at slots i).readers → i < length slots
-read_within slots i read = within_table slots i (λ same. let e : (slot_at slots i).readers ≡ 0 = ap (λ (s : Slot). s.readers) same in omega arith)
-
-full_test : (state : SlotState) → state ≡ Full → is_full state ≡ true
-full_test state full = ap is_full full
-
-pub key_is_full : (id : ℕ) (s : Slot) → is_key id s ≡ true → s.state ≡ Full
-key_is_full id s has = only_full s.state (s.attributes.id.0 == id) has where
-  only_full : (state : SlotState) (same : Bool) → is_full state && same ≡ true → state ≡ Full
-  only_full Full same has = refl
-  only_full Empty same has = absurd (false≢true has)
-  only_full Filling same has = absurd (false≢true has)
-  only_full Pending same has = absurd (false≢true has)
 
 -- a slot without a usable key changes to another such
 pub stays_unused : (t : Table) (i : ℕ) (s : Slot) → IsLawful t → i < length t.slots → is_full (slot_at t.slots i).state ≡ false → is_full s.state ≡ false → IsLawfulSlot s → IsLawful (record { slots = set t.slots i s; recency = t.recency })
@@ -232,21 +196,6 @@ recency_has_room t i law within unused =
           let at : times k t.recency ≤ 1 = rw (law.recent k) (few (is_full (slot_at t.slots k).state)) in
           grind (arith, nat_tests))
           (cases_eq k i)
-
--- an idle slot is full and unread
-pub idle_is_full : (s : Slot) → is_idle s ≡ true → s.state ≡ Full
-idle_is_full s idle = by_state s.state (persistence s.attributes.lifetime.0 == 1) (s.readers == 0) idle where
-  by_state : (state : SlotState) (persistent unread : Bool) → is_full state && persistent && unread ≡ true → state ≡ Full
-  by_state Full persistent unread is = refl
-  by_state Empty persistent unread is = absurd (false≢true is)
-  by_state Filling persistent unread is = absurd (false≢true is)
-  by_state Pending persistent unread is = absurd (false≢true is)
-
-pub idle_is_unread : (s : Slot) → is_idle s ≡ true → s.readers ≡ 0
-idle_is_unread s idle = eqb-true _ _ (by_test (is_full s.state && persistence s.attributes.lifetime.0 == 1) (s.readers == 0) idle) where
-  by_test : (a b : Bool) → a && b ≡ true → b ≡ true
-  by_test true b is = is
-  by_test false b is = absurd (false≢true is)
 
 -- what a look along a row finds passes the test, and what it doesn't find isn't in the row
 pub find_passes : (p : ℕ → Bool) (xs : List ℕ) (x : ℕ) → find p xs ≡ Some x → p x ≡ true

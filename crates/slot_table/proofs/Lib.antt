@@ -1,3 +1,4 @@
+pub mod AtSlots
 mod Laws
 mod Times
 mod Views

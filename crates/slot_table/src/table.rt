@@ -75,6 +75,7 @@ impl SlotTable {
         ensures next { IsNext self.old result.slot }
         ensures slots { self.new.slots ≡ slice_set self.old.slots result.slot filling_slot }
         ensures recency { self.new.recency ≡ without result.slot self.old.recency }
+        ensures waiting { slot_at self.new.slots result.slot ≡ filling_slot }
         ensures lawful { IsLawful self.new }
     {
         if let Some(slot) = self.rows.find_empty() {
@@ -211,6 +212,7 @@ impl SlotTable {
         ensures slot { result.slot ≡ slot }
         ensures slots { self.new.slots ≡ slice_set self.old.slots slot filling_slot }
         ensures recency { self.new.recency ≡ self.old.recency }
+        ensures waiting { slot_at self.new.slots slot ≡ filling_slot }
         ensures lawful { IsLawful self.new }
     {
         self.rows.change(slot, SlotState::Filling);
@@ -225,11 +227,11 @@ impl SlotTable {
         ensures slots { self.new.slots ≡ slice_set self.old.slots result empty_slot }
         ensures recency { self.new.recency ≡ without result self.old.recency }
     {
-        let Some(slot) = self.oldest_idle() else {
+        let Some(oldest) = self.oldest_idle() else {
             unreachable!()
         };
-        self.discard(slot);
-        slot
+        self.discard(oldest);
+        oldest
     }
 
     // Empties a full slot that nobody reads.

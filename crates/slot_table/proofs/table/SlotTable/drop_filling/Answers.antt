@@ -2,7 +2,8 @@ use Rattle.std.proofs.Common.{◌≡◌, refl, ap}
 use Rattle.slot_states.specs.declared.SlotState.TheVariants.{Filling}
 use Rattle.slot_table.specs.Lent.{Reserved}
 use Rattle.slot_table.specs.Slots.{Table, slot_at, is_full}
-use Rattle.slot_table.proofs.Laws.{stays_unused, lawful_empty, filling_within}
+use Rattle.slot_table.proofs.AtSlots.{filling_within}
+use Rattle.slot_table.proofs.Laws.{stays_unused, lawful_empty}
 use Rattle.slot_table.proofs.table.SlotTable.drop_filling.Goals as goal
 
 pub invariant_of-self : goal.invariant_of-self

@@ -1,7 +1,8 @@
 use Rattle.std.proofs.Common.{◌≡◌, ◌<◌, ◌∙◌, ◌&&◌, ◌==◌, ℕ, sym, ap, true, false, refl}
 use Rattle.slot_states.specs.declared.SlotState.{SlotState}
 use Rattle.slot_table.specs.Slots.{Table, slot_at, is_last, is_pending}
-use Rattle.slot_table.proofs.Laws.{stays_unused, loses_reader, lawful_empty, read_within, pending_is_unused}
+use Rattle.slot_table.proofs.AtSlots.{read_within}
+use Rattle.slot_table.proofs.Laws.{stays_unused, loses_reader, lawful_empty, pending_is_unused}
 use Rattle.slot_table.proofs.table.SlotTable.release.Goals as goal
 
 pub invariant_of-self : goal.invariant_of-self

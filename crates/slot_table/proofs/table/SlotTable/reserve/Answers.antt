@@ -2,7 +2,8 @@ use Rattle.std.proofs.Common.{◌<◌, ◌∙◌, sym, ap, length}
 use Rattle.std.proofs.lemmas.List.{set-set, length-set, get_or-set_same}
 use Rattle.slot_table.specs.Slots.{Slot, Table, empty_slot, is_empty}
 use Rattle.slot_table.specs.Changes.{without}
-use Rattle.slot_table.proofs.Laws.{full_within, first_is_full, empty_is_not_recent}
+use Rattle.slot_table.proofs.AtSlots.{full_within}
+use Rattle.slot_table.proofs.Laws.{first_is_full, empty_is_not_recent}
 use Rattle.slot_table.proofs.table.SlotTable.reserve.Goals as goal
 
 pub returns-in-Some-clause-recency : goal.returns-in-Some-clause-recency
