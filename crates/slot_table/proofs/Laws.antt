@@ -1,16 +1,15 @@
 -- What keeps the law of a table.
-use Rattle.std.proofs.Common.{◌≡◌, ◌≢◌, ◌≤◌, ◌<◌, ℕ, ◌+◌, ◌-◌, ◌==◌, Bool, true, false, cond, ◌&&◌, List, [], ◌∷◌, ◌++◌, length, set, replicate, refl, sym, ap, ◌∙◌, ⊎_elim, arith, rules, add-zero, zero, suc, find, Option, Some, None, is_some, MatchOption, inl, inr, eqb-true}
-use Rattle.std.proofs.lemmas.List.{length-replicate, length-set, get_or-set_same, get_or-set_other, get_or_past, take_at}
-use Rattle.std.proofs.lemmas.Bool.{cases_eq, cases_lt, false≢true}
+use Rattle.std.proofs.Common.{◌≡◌, ◌≢◌, ◌≤◌, ◌<◌, ℕ, ◌+◌, ◌-◌, ◌==◌, Bool, true, false, cond, ◌&&◌, List, [], ◌∷◌, ◌++◌, length, set, replicate, refl, sym, ap, ◌∙◌, ⊎_elim, arith, rules, add-zero, zero, suc, find, Option, Some, None, is_some, MatchOption, inl, inr}
+use Rattle.std.proofs.lemmas.List.{length-replicate, length-set, get_or_past}
+use Rattle.std.proofs.lemmas.Bool.{cases_eq, false≢true}
 use Rattle.std.proofs.lemmas.Bool.Decides.{nat_tests}
-use Rattle.key_attributes.specs.Checks.{persistence}
 use Rattle.slot_states.specs.declared.SlotState.{SlotState}
 use Rattle.slot_states.specs.declared.SlotState.TheVariants.{Empty, Filling, Full, Pending}
 use Rattle.key_attributes.specs.declared.Attributes.{Attributes}
-use Rattle.secret_bytes.specs.Buffer.{bytes_of, buffer_of}
+use Rattle.secret_bytes.specs.Buffer.{buffer_of}
 use Rattle.slot_table.specs.Slots.{Slot, Table, slot_at, empty_slot, filling_slot, is_empty, is_full, is_pending, is_idle, is_last, is_key, times, NoKey, NoneEmpty, IsEmptyAt, CanReserve, IsLawfulSlot, IsLawful}
 use Rattle.slot_table.specs.Changes.{full_slot, without}
-use Rattle.slot_table.proofs.AtSlots.{at_each, full_test, full_within, filling_within, read_within, key_is_full, idle_is_full, idle_is_unread, bytes-buffer_of}
+use Rattle.slot_table.proofs.AtSlots.{at_each, full_test, read_within, key_is_full, idle_is_full, idle_is_unread, bytes-buffer_of}
 use Rattle.slot_table.proofs.Times.{times-append, times-same, times-other, without_none, length_distinct}
 
 -- one slot changes, and recency with it
