@@ -1,12 +1,12 @@
 -- What stands at the slots of a table, for this crate and those above it.
-use Rattle.std.proofs.Common.{◌≡◌, ◌≢◌, ◌<◌, ℕ, ◌-◌, ◌==◌, Bool, true, false, ◌&&◌, List, length, set, replicate, refl, sym, ap, ◌∙◌, ⊎_elim, arith, eqb-true}
+use Rattle.std.proofs.Common.{◌≡◌, ◌≢◌, ◌<◌, ℕ, ◌-◌, ◌==◌, Bool, true, false, ◌&&◌, List, length, set, replicate, refl, sym, ap, ◌∙◌, ⊎_elim, arith, eqb-true, cond, find, Some, [], ◌∷◌}
 use Rattle.std.proofs.lemmas.List.{get_or-set_same, get_or-set_other, get_or_past, take_at}
 use Rattle.std.proofs.lemmas.Bool.{cases_eq, cases_lt, false≢true}
 use Rattle.slot_states.specs.declared.SlotState.{SlotState}
 use Rattle.slot_states.specs.declared.SlotState.TheVariants.{Empty, Filling, Full, Pending}
 use Rattle.key_attributes.specs.Checks.{persistence}
 use Rattle.secret_bytes.specs.Buffer.{bytes_of, buffer_of}
-use Rattle.slot_table.specs.Slots.{Slot, slot_at, empty_slot, is_full, is_key, is_idle}
+use Rattle.slot_table.specs.Slots.{Slot, Table, slot_at, empty_slot, is_empty, is_full, is_key, is_idle, IsEmptyAt, NoneEmpty, IsNext, IsLawful}
 
 -- what holds of the new slot and of each other one holds of each slot after the change
 pub at_each : (P : ℕ → Slot → Type 0) (slots : List Slot) (i : ℕ) (s : Slot) → i < length slots → P i s → ((k : ℕ) → k ≢ i → P k (slot_at slots k)) → (k : ℕ) → P k (slot_at (set slots i s) k)
@@ -66,3 +66,34 @@ idle_is_unread s idle = eqb-true _ _ (by_test (is_full s.state && persistence s.
 -- a read of a list that is in use gives the list
 pub bytes-buffer_of : (bytes : List ℕ) → bytes_of (buffer_of bytes) ≡ bytes
 bytes-buffer_of bytes = take_at bytes (replicate (1024 - length bytes) 0) (length bytes) refl
+
+-- what a look along a row finds passes the test
+pub find_passes : (p : ℕ → Bool) (xs : List ℕ) (x : ℕ) → find p xs ≡ Some x → p x ≡ true
+find_passes p [] x found = absurd (cc)
+find_passes p (y ∷ ys) x found =
+    elim (p y) as (λ b. p y ≡ b → cond b (Some y) (find p ys) ≡ Some x → p x ≡ true) [
+      | true ↦ λ t h. let same : y ≡ x = cc in ap p (sym same) ∙ t
+      | false ↦ λ t h. find_passes p ys x h
+    ] refl found
+
+-- the slot that a reservation takes stands in the table, and nobody reads it
+pub next_within : (t : Table) (i : ℕ) → IsNext t i → i < length t.slots
+next_within t i next =
+    ⊎_elim
+    (λ (empty : IsEmptyAt t.slots i). empty.0)
+    (λ (idle : NoneEmpty t.slots × (find (λ k. is_idle (slot_at t.slots k)) t.recency ≡ Some i)).
+    full_within t.slots i (idle_is_full (slot_at t.slots i) (find_passes (λ k. is_idle (slot_at t.slots k)) t.recency i idle.1)))
+    next
+
+pub next_is_unread : (t : Table) (i : ℕ) → IsLawful t → IsNext t i → (slot_at t.slots i).readers ≡ 0
+next_is_unread t i law next =
+    ⊎_elim
+    (λ (empty : IsEmptyAt t.slots i). ap (λ (s : Slot). s.readers) ((law.each i).empty (only_empty (slot_at t.slots i).state empty.1)))
+    (λ (idle : NoneEmpty t.slots × (find (λ k. is_idle (slot_at t.slots k)) t.recency ≡ Some i)).
+    idle_is_unread (slot_at t.slots i) (find_passes (λ k. is_idle (slot_at t.slots k)) t.recency i idle.1))
+    next where
+      only_empty : (state : SlotState) → is_empty state ≡ true → state ≡ Empty
+      only_empty Empty is = refl
+      only_empty Full is = absurd (false≢true is)
+      only_empty Filling is = absurd (false≢true is)
+      only_empty Pending is = absurd (false≢true is)

@@ -9,7 +9,7 @@ use Rattle.key_attributes.specs.declared.Attributes.{Attributes}
 use Rattle.secret_bytes.specs.Buffer.{buffer_of}
 use Rattle.slot_table.specs.Slots.{Slot, Table, slot_at, empty_slot, filling_slot, is_empty, is_full, is_pending, is_idle, is_last, is_key, times, NoKey, NoneEmpty, IsEmptyAt, CanReserve, IsLawfulSlot, IsLawful}
 use Rattle.slot_table.specs.Changes.{full_slot, without}
-use Rattle.slot_table.proofs.AtSlots.{at_each, full_test, read_within, key_is_full, idle_is_full, idle_is_unread, bytes-buffer_of}
+use Rattle.slot_table.proofs.AtSlots.{at_each, full_test, read_within, key_is_full, idle_is_full, idle_is_unread, bytes-buffer_of, find_passes}
 use Rattle.slot_table.proofs.Times.{times-append, times-same, times-other, without_none, length_distinct}
 
 -- one slot changes, and recency with it
@@ -196,15 +196,7 @@ recency_has_room t i law within unused =
           grind (arith, nat_tests))
           (cases_eq k i)
 
--- what a look along a row finds passes the test, and what it doesn't find isn't in the row
-pub find_passes : (p : ℕ → Bool) (xs : List ℕ) (x : ℕ) → find p xs ≡ Some x → p x ≡ true
-find_passes p [] x found = absurd (cc)
-find_passes p (y ∷ ys) x found =
-    elim (p y) as (λ b. p y ≡ b → cond b (Some y) (find p ys) ≡ Some x → p x ≡ true) [
-      | true ↦ λ t h. let same : y ≡ x = cc in ap p (sym same) ∙ t
-      | false ↦ λ t h. find_passes p ys x h
-    ] refl found
-
+-- what a look along a row doesn't find isn't in the row
 pub find_misses : (p : ℕ → Bool) (xs : List ℕ) (x : ℕ) → find p xs ≡ None → p x ≡ true → times x xs ≡ 0
 find_misses p [] x none passes = refl
 find_misses p (y ∷ ys) x none passes =

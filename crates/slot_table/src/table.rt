@@ -63,7 +63,8 @@ impl SlotTable {
 
     /// Whether a slot is empty, or has a persistent key that nobody reads.
     pub fn can_reserve(&self) -> bool
-        ensures { IsTrue result ↔ CanReserve self.now.slots }
+        ensures room { IsTrue result ↔ CanReserve self.now.slots }
+        ensures lawful { IsLawful self.now }
     {
         self.rows.find_empty().is_some() || self.oldest_idle().is_some()
     }
