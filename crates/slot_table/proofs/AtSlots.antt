@@ -6,7 +6,7 @@ use Rattle.slot_states.specs.declared.SlotState.{SlotState}
 use Rattle.slot_states.specs.declared.SlotState.TheVariants.{Empty, Filling, Full, Pending}
 use Rattle.key_attributes.specs.Checks.{persistence}
 use Rattle.secret_bytes.specs.Buffer.{bytes_of, buffer_of}
-use Rattle.slot_table.specs.Slots.{Slot, Table, slot_at, empty_slot, is_empty, is_full, is_key, is_idle, IsEmptyAt, NoneEmpty, IsNext, IsLawful}
+use Rattle.slot_table.specs.Slots.{Slot, Table, slot_at, empty_slot, is_empty_state, is_full, holds_key, is_idle, IsEmptyAt, NoneEmpty, IsNext, IsLawful}
 
 -- what holds of the new slot and of each other one holds of each slot after the change
 pub at_each : (P : ℕ → Slot → Type 0) (slots : List Slot) (i : ℕ) (s : Slot) → i < length slots → P i s → ((k : ℕ) → k ≢ i → P k (slot_at slots k)) → (k : ℕ) → P k (slot_at (set slots i s) k)
@@ -40,7 +40,7 @@ read_within slots i read = within_table slots i (λ same. let e : (slot_at slots
 pub full_test : (state : SlotState) → state ≡ Full → is_full state ≡ true
 full_test state full = ap is_full full
 
-pub key_is_full : (id : ℕ) (s : Slot) → is_key id s ≡ true → s.state ≡ Full
+pub key_is_full : (id : ℕ) (s : Slot) → holds_key id s ≡ true → s.state ≡ Full
 key_is_full id s has = only_full s.state (s.attributes.id.0 == id) has where
   only_full : (state : SlotState) (same : Bool) → is_full state && same ≡ true → state ≡ Full
   only_full Full same has = refl
@@ -92,7 +92,7 @@ next_is_unread t i law next =
     (λ (idle : NoneEmpty t.slots × (find (λ k. is_idle (slot_at t.slots k)) t.recency ≡ Some i)).
     idle_is_unread (slot_at t.slots i) (find_passes (λ k. is_idle (slot_at t.slots k)) t.recency i idle.1))
     next where
-      only_empty : (state : SlotState) → is_empty state ≡ true → state ≡ Empty
+      only_empty : (state : SlotState) → is_empty_state state ≡ true → state ≡ Empty
       only_empty Empty is = refl
       only_empty Full is = absurd (false≢true is)
       only_empty Filling is = absurd (false≢true is)

@@ -7,8 +7,8 @@ use Rattle.slot_states.specs.declared.SlotState.{SlotState}
 use Rattle.slot_states.specs.declared.SlotState.TheVariants.{Empty, Filling, Full, Pending}
 use Rattle.key_attributes.specs.declared.Attributes.{Attributes}
 use Rattle.secret_bytes.specs.Buffer.{buffer_of}
-use Rattle.slot_table.specs.Slots.{Slot, Table, slot_at, empty_slot, filling_slot, is_empty, is_full, is_pending, is_idle, is_last, is_key, times, NoKey, NoneEmpty, IsEmptyAt, CanReserve, IsLawfulSlot, IsLawful}
-use Rattle.slot_table.specs.Changes.{full_slot, without}
+use Rattle.slot_table.specs.Slots.{Slot, Table, slot_at, empty_slot, filling_slot, is_empty_state, is_full, is_pending, is_idle, is_last, holds_key, times, NoKey, NoneEmpty, IsEmptyAt, CanReserve, IsLawfulSlot, IsLawful}
+use Rattle.slot_table.specs.Changes.{full_slot, recency_without}
 use Rattle.slot_table.proofs.AtSlots.{at_each, full_test, read_within, key_is_full, idle_is_full, idle_is_unread, bytes-buffer_of, find_passes}
 use Rattle.slot_table.proofs.Times.{times-append, times-same, times-other, without_none, length_distinct}
 
@@ -18,16 +18,16 @@ pub record Changes (t : Table) (i : ℕ) (s : Slot) (recency : List ℕ) : Type 
   pub lawful : IsLawfulSlot s
   pub here : times i recency ≡ cond (is_full s.state) 1 0
   pub others : (k : ℕ) → k ≢ i → times k recency ≡ times k t.recency
-  pub one : (id : ℕ) → is_key id s ≡ true → (j : ℕ) → is_key id (slot_at t.slots j) ≡ true → j ≡ i
+  pub one : (id : ℕ) → holds_key id s ≡ true → (j : ℕ) → holds_key id (slot_at t.slots j) ≡ true → j ≡ i
 
 pub keeps_law : (t : Table) (i : ℕ) (s : Slot) (recency : List ℕ) → IsLawful t → Changes t i s recency → IsLawful (record { slots = set t.slots i s; recency = recency })
 keeps_law t i s recency law c = record {
   sized = length-set t.slots i s ∙ law.sized;
   each = at_each (λ k x. IsLawfulSlot x) t.slots i s c.within c.lawful (λ k other. law.each k);
   recent = at_each (λ k x. times k recency ≡ cond (is_full x.state) 1 0) t.slots i s c.within c.here (λ k other. c.others k other ∙ law.recent k);
-  one = λ id a b. at_each (λ k x. is_key id x ≡ true → is_key id (slot_at (set t.slots i s) b) ≡ true → k ≡ b) t.slots i s c.within
-      (λ has. at_each (λ k x. is_key id x ≡ true → i ≡ k) t.slots i s c.within (λ has'. refl) (λ k other has'. sym (c.one id has k has')) b)
-      (λ k other has. at_each (λ j x. is_key id x ≡ true → k ≡ j) t.slots i s c.within (λ has'. c.one id has' k has) (λ j other' has'. law.one id k j has has') b)
+  one = λ id a b. at_each (λ k x. holds_key id x ≡ true → holds_key id (slot_at (set t.slots i s) b) ≡ true → k ≡ b) t.slots i s c.within
+      (λ has. at_each (λ k x. holds_key id x ≡ true → i ≡ k) t.slots i s c.within (λ has'. refl) (λ k other has'. sym (c.one id has k has')) b)
+      (λ k other has. at_each (λ j x. holds_key id x ≡ true → k ≡ j) t.slots i s c.within (λ has'. c.one id has' k has) (λ j other' has'. law.one id k j has has') b)
       a;
 }
 
@@ -84,30 +84,30 @@ stays_full t i s law within before after same lawful = keeps_law t i s t.recency
   others = λ k other. refl;
   one = λ id has j had. law.one id j i had (same_key id has);
 }) where
-  same_key : (id : ℕ) → is_key id s ≡ true → is_key id (slot_at t.slots i) ≡ true
+  same_key : (id : ℕ) → holds_key id s ≡ true → holds_key id (slot_at t.slots i) ≡ true
   same_key id has = ap (λ x. is_full x && ((slot_at t.slots i).attributes.id.0 == id)) (before ∙ sym after) ∙ ap (λ (a : Attributes). is_full s.state && (a.id.0 == id)) (sym same) ∙ has
 
 times-alone : (k i : ℕ) → k ≢ i → times k (i ∷ []) ≡ 0
 times-alone k i other = search rules
 
 -- and is registered
-pub becomes_last : (t : Table) (i : ℕ) (s : Slot) → IsLawful t → i < length t.slots → (slot_at t.slots i).state ≡ Full → s.state ≡ Full → s.attributes ≡ (slot_at t.slots i).attributes → IsLawfulSlot s → IsLawful (record { slots = set t.slots i s; recency = without i t.recency ++ i ∷ [] })
-becomes_last t i s law within before after same lawful = keeps_law t i s (without i t.recency ++ i ∷ []) law (record {
+pub becomes_last : (t : Table) (i : ℕ) (s : Slot) → IsLawful t → i < length t.slots → (slot_at t.slots i).state ≡ Full → s.state ≡ Full → s.attributes ≡ (slot_at t.slots i).attributes → IsLawfulSlot s → IsLawful (record { slots = set t.slots i s; recency = recency_without i t.recency ++ i ∷ [] })
+becomes_last t i s law within before after same lawful = keeps_law t i s (recency_without i t.recency ++ i ∷ []) law (record {
   within = within;
   lawful = lawful;
-  here = times-append i (without i t.recency) (i ∷ []) ∙ ap (λ n. n + times i (i ∷ [])) (times-same i t.recency) ∙ once ∙ sym (ap (λ x. cond (is_full x) 1 0) after);
-  others = λ k other. times-append k (without i t.recency) (i ∷ []) ∙ ap (λ n. n + times k (i ∷ [])) (times-other k i t.recency other) ∙ ap (λ n. times k t.recency + n) (times-alone k i other) ∙ add-zero (times k t.recency);
+  here = times-append i (recency_without i t.recency) (i ∷ []) ∙ ap (λ n. n + times i (i ∷ [])) (times-same i t.recency) ∙ once ∙ sym (ap (λ x. cond (is_full x) 1 0) after);
+  others = λ k other. times-append k (recency_without i t.recency) (i ∷ []) ∙ ap (λ n. n + times k (i ∷ [])) (times-other k i t.recency other) ∙ ap (λ n. times k t.recency + n) (times-alone k i other) ∙ add-zero (times k t.recency);
   one = λ id has j had. law.one id j i had (same_key id has);
 }) where
   once : 0 + times i (i ∷ []) ≡ 1
   once = search rules
 
-  same_key : (id : ℕ) → is_key id s ≡ true → is_key id (slot_at t.slots i) ≡ true
+  same_key : (id : ℕ) → holds_key id s ≡ true → holds_key id (slot_at t.slots i) ≡ true
   same_key id has = ap (λ x. is_full x && ((slot_at t.slots i).attributes.id.0 == id)) (before ∙ sym after) ∙ ap (λ (a : Attributes). is_full s.state && (a.id.0 == id)) (sym same) ∙ has
 
 -- a full slot loses its key
-pub loses_key : (t : Table) (i : ℕ) (s : Slot) → IsLawful t → i < length t.slots → is_full s.state ≡ false → IsLawfulSlot s → IsLawful (record { slots = set t.slots i s; recency = without i t.recency })
-loses_key t i s law within after lawful = keeps_law t i s (without i t.recency) law (record {
+pub loses_key : (t : Table) (i : ℕ) (s : Slot) → IsLawful t → i < length t.slots → is_full s.state ≡ false → IsLawfulSlot s → IsLawful (record { slots = set t.slots i s; recency = recency_without i t.recency })
+loses_key t i s law within after lawful = keeps_law t i s (recency_without i t.recency) law (record {
   within = within;
   lawful = lawful;
   here = times-same i t.recency ∙ ap (λ b. cond b 1 0) (sym after);
@@ -122,12 +122,12 @@ gets_key t i s law within before after unknown lawful = keeps_law t i s (t.recen
   lawful = lawful;
   here = times-append i t.recency (i ∷ []) ∙ ap (λ n. n + times i (i ∷ [])) (law.recent i ∙ ap (λ b. cond b 1 0) before) ∙ once ∙ sym (ap (λ x. cond (is_full x) 1 0) after);
   others = λ k other. times-append k t.recency (i ∷ []) ∙ ap (λ n. times k t.recency + n) (times-alone k i other) ∙ add-zero (times k t.recency);
-  one = λ id has j had. absurd (false≢true (sym (unknown j) ∙ ap (λ n. is_key n (slot_at t.slots j)) (same_id id has) ∙ had));
+  one = λ id has j had. absurd (false≢true (sym (unknown j) ∙ ap (λ n. holds_key n (slot_at t.slots j)) (same_id id has) ∙ had));
 }) where
   once : 0 + times i (i ∷ []) ≡ 1
   once = search rules
 
-  same_id : (id : ℕ) → is_key id s ≡ true → s.attributes.id.0 ≡ id
+  same_id : (id : ℕ) → holds_key id s ≡ true → s.attributes.id.0 ≡ id
   same_id id has = search rules
 
 -- a read slot loses a reader, and isn't the last of a pending one
@@ -163,7 +163,7 @@ lawful_start n is = record {
   sized = length-replicate n empty_slot ∙ is;
   each = λ i. rw (all_empty n i) lawful_empty;
   recent = λ i. ap (λ (s : Slot). cond (is_full s.state) 1 0) (sym (all_empty n i));
-  one = λ id i j has has'. absurd (false≢true (ap (is_key id) (sym (all_empty n i)) ∙ has));
+  one = λ id i j has has'. absurd (false≢true (ap (holds_key id) (sym (all_empty n i)) ∙ has));
 } where
   all_empty : (n i : ℕ) → slot_at (replicate n empty_slot) i ≡ empty_slot
   all_empty zero i = refl
@@ -213,7 +213,7 @@ find_misses p (y ∷ ys) x none passes =
 pub some_is_idle : (t : Table) → IsLawful t → CanReserve t.slots → NoneEmpty t.slots → find (λ i. is_idle (slot_at t.slots i)) t.recency ≡ None → ⊥
 some_is_idle t law can full none =
     ⊎_elim
-    (λ (free : (can.0 < length t.slots) × (is_empty (slot_at t.slots can.0).state ≡ true)). false≢true (sym (full can.0 free.0) ∙ free.1))
+    (λ (free : (can.0 < length t.slots) × (is_empty_state (slot_at t.slots can.0).state ≡ true)). false≢true (sym (full can.0 free.0) ∙ free.1))
     (λ (idle : is_idle (slot_at t.slots can.0) ≡ true).
     let absent : times can.0 t.recency ≡ 0 = find_misses (λ i. is_idle (slot_at t.slots i)) t.recency can.0 none idle in
     let present : times can.0 t.recency ≡ 1 = law.recent can.0 ∙ ap (λ x. cond (is_full x) 1 0) (idle_is_full (slot_at t.slots can.0) idle) in
@@ -221,9 +221,9 @@ some_is_idle t law can full none =
     can.1
 
 -- an empty slot isn't in recency
-pub empty_is_not_recent : (t : Table) (i : ℕ) → IsLawful t → is_empty (slot_at t.slots i).state ≡ true → t.recency ≡ without i t.recency
+pub empty_is_not_recent : (t : Table) (i : ℕ) → IsLawful t → is_empty_state (slot_at t.slots i).state ≡ true → t.recency ≡ recency_without i t.recency
 empty_is_not_recent t i law empty = sym (without_none i t.recency (law.recent i ∙ ap (λ b. cond b 1 0) (unused (slot_at t.slots i).state empty))) where
-  unused : (state : SlotState) → is_empty state ≡ true → is_full state ≡ false
+  unused : (state : SlotState) → is_empty_state state ≡ true → is_full state ≡ false
   unused Empty is = refl
   unused Full is = absurd (false≢true is)
   unused Filling is = refl

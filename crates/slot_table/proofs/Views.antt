@@ -4,8 +4,8 @@ use Rattle.std.proofs.Common.{◌&&◌, ◌==◌, ◌≡◌, ◌<◌, ℕ, zero,
 use Rattle.std.proofs.lemmas.List.{length-replicate, set-get_or}
 use Rattle.slot_table.specs.declared.place.Head.{Head}
 use Rattle.slot_table.specs.declared.place.Stored.{Stored}
-use Rattle.slot_table.specs.Slots.{Slot, slot_at, empty_slot, is_key, is_full}
-use Rattle.slot_table.specs.Rows.{AreRows, slots_of, slot_of, has_key, head_at, key_at, empty_head, no_key}
+use Rattle.slot_table.specs.Slots.{Slot, slot_at, empty_slot, holds_key, is_full}
+use Rattle.slot_table.specs.Rows.{AreRows, slots_of, slot_of, head_holds_key, head_at, stored_at, empty_head, no_key}
 
 length-slots_of : (heads : List Head) (keys : List Stored) → length heads ≡ length keys → length (slots_of heads keys) ≡ length heads
 length-slots_of [] [] same = refl
@@ -13,7 +13,7 @@ length-slots_of [] (key ∷ keys) same = absurd (omega arith)
 length-slots_of (head ∷ heads) [] same = absurd (omega arith)
 length-slots_of (head ∷ heads) (key ∷ keys) same = ap suc (length-slots_of heads keys (omega arith))
 
-slot_at-slots_of : (heads : List Head) (keys : List Stored) (i : ℕ) → length heads ≡ length keys → slot_at (slots_of heads keys) i ≡ slot_of (head_at heads i) (key_at keys i)
+slot_at-slots_of : (heads : List Head) (keys : List Stored) (i : ℕ) → length heads ≡ length keys → slot_at (slots_of heads keys) i ≡ slot_of (head_at heads i) (stored_at keys i)
 slot_at-slots_of [] [] i same = refl
 slot_at-slots_of [] (key ∷ keys) i same = absurd (omega arith)
 slot_at-slots_of (head ∷ heads) [] i same = absurd (omega arith)
@@ -32,7 +32,7 @@ slots_of-replicate zero = refl
 slots_of-replicate (suc n) = ap (λ ss. empty_slot ∷ ss) (slots_of-replicate n)
 
 -- what stands at a place of two rows that are a table's slots
-pub slot_is : (heads : List Head) (keys : List Stored) (slots : List Slot) → AreRows heads keys → slots_of heads keys ≡ slots → (i : ℕ) → slot_at slots i ≡ slot_of (head_at heads i) (key_at keys i)
+pub slot_is : (heads : List Head) (keys : List Stored) (slots : List Slot) → AreRows heads keys → slots_of heads keys ≡ slots → (i : ℕ) → slot_at slots i ≡ slot_of (head_at heads i) (stored_at keys i)
 slot_is heads keys slots rows view i =
     sym (ap (λ ss. slot_at ss i) view) ∙ slot_at-slots_of heads keys i (omega (arith, rows.heads_sized, rows.keys_sized))
 
@@ -41,14 +41,14 @@ length_is heads keys slots rows view =
     sym (ap length view) ∙ length-slots_of heads keys (omega (arith, rows.heads_sized, rows.keys_sized)) ∙ rows.heads_sized
 
 -- a head tells whether its slot has a key
-pub is_key-head : (heads : List Head) (keys : List Stored) (slots : List Slot) → AreRows heads keys → slots_of heads keys ≡ slots → (id i : ℕ) → is_key id (slot_at slots i) ≡ has_key id (head_at heads i)
-is_key-head heads keys slots rows view id i =
-    ap (is_key id) (slot_is heads keys slots rows view i) ∙ ap (λ (k : KeyId). is_full (head_at heads i).state && (k.0 == id)) (sym (rows.named i))
+pub holds_key-head : (heads : List Head) (keys : List Stored) (slots : List Slot) → AreRows heads keys → slots_of heads keys ≡ slots → (id i : ℕ) → holds_key id (slot_at slots i) ≡ head_holds_key id (head_at heads i)
+holds_key-head heads keys slots rows view id i =
+    ap (holds_key id) (slot_is heads keys slots rows view i) ∙ ap (λ (k : KeyId). is_full (head_at heads i).state && (k.0 == id)) (sym (rows.named i))
 
 pub record StandsAt (heads : List Head) (keys : List Stored) (slots : List Slot) (i : ℕ) : Type 0 where
   pub head : i < length heads
   pub key : i < length keys
-  pub slot : slot_at slots i ≡ slot_of (head_at heads i) (key_at keys i)
+  pub slot : slot_at slots i ≡ slot_of (head_at heads i) (stored_at keys i)
 
 pub stands_at : (heads : List Head) (keys : List Stored) (slots : List Slot) (i : ℕ) → AreRows heads keys → slots_of heads keys ≡ slots → i < length slots → StandsAt heads keys slots i
 stands_at heads keys slots i rows view within =
@@ -60,9 +60,9 @@ stands_at heads keys slots i rows view within =
     }
 
 -- a write of a head
-pub changed_head : (heads : List Head) (keys : List Stored) (slots : List Slot) (i : ℕ) (head : Head) (s : Slot) → slots_of heads keys ≡ slots → s ≡ slot_of head (key_at keys i) → slots_of (set heads i head) keys ≡ set slots i s
+pub changed_head : (heads : List Head) (keys : List Stored) (slots : List Slot) (i : ℕ) (head : Head) (s : Slot) → slots_of heads keys ≡ slots → s ≡ slot_of head (stored_at keys i) → slots_of (set heads i head) keys ≡ set slots i s
 changed_head heads keys slots i head s view is =
-    ap (slots_of (set heads i head)) (sym (set-get_or keys i no_key)) ∙ slots_of-set heads keys i head (key_at keys i) ∙ ap (λ ss. set ss i (slot_of head (key_at keys i))) view ∙ ap (set slots i) (sym is)
+    ap (slots_of (set heads i head)) (sym (set-get_or keys i no_key)) ∙ slots_of-set heads keys i head (stored_at keys i) ∙ ap (λ ss. set ss i (slot_of head (stored_at keys i))) view ∙ ap (set slots i) (sym is)
 
 -- a write of both
 pub changed_both : (heads : List Head) (keys : List Stored) (slots : List Slot) (i : ℕ) (head : Head) (key : Stored) (s : Slot) → slots_of heads keys ≡ slots → s ≡ slot_of head key → slots_of (set heads i head) (set keys i key) ≡ set slots i s

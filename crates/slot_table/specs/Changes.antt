@@ -18,9 +18,9 @@ abbrev pub left : Slot → Slot
 left s = if is_last s then empty_slot else record s { readers = s.readers - 1 }
 
 -- its key is destroyed: it is pending where it is read, and empty where it isn't
-abbrev pub destroyed : Slot → Slot
-destroyed s = if s.readers == 0 then empty_slot else record s { state = Pending }
+abbrev pub destroyed_slot : Slot → Slot
+destroyed_slot s = if s.readers == 0 then empty_slot else record s { state = Pending }
 
 -- recency without a slot
-abbrev pub without : ℕ → List ℕ → List ℕ
-without slot recency = filter (λ other. not (other == slot)) recency
+abbrev pub recency_without : ℕ → List ℕ → List ℕ
+recency_without slot recency = filter (λ other. not (other == slot)) recency

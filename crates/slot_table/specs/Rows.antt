@@ -15,12 +15,12 @@ no_key = record { creation = 0; attributes = no_attributes; buffer = buffer_of [
 abbrev pub head_at : List Head → ℕ → Head
 head_at heads i = slice_index_or heads i empty_head
 
-abbrev pub key_at : List Stored → ℕ → Stored
-key_at keys i = slice_index_or keys i no_key
+abbrev pub stored_at : List Stored → ℕ → Stored
+stored_at keys i = slice_index_or keys i no_key
 
 -- whether a head is that of a slot with the key of this identifier, which can be used
-abbrev pub has_key : ℕ → Head → Bool
-has_key id head = is_full head.state && (head.id.0 == id)
+abbrev pub head_holds_key : ℕ → Head → Bool
+head_holds_key id head = is_full head.state && (head.id.0 == id)
 
 abbrev pub slot_of : Head → Stored → Slot
 slot_of head key = record { state = head.state; readers = head.readers; creation = key.creation; attributes = key.attributes; buffer = key.buffer }
@@ -33,4 +33,4 @@ slots_of _ _ = []
 pub record AreRows (heads : List Head) (keys : List Stored) : Type 0 where
   pub heads_sized : length heads ≡ 384
   pub keys_sized : length keys ≡ 384
-  pub named : (i : ℕ) → (head_at heads i).id ≡ (key_at keys i).attributes.id
+  pub named : (i : ℕ) → (head_at heads i).id ≡ (stored_at keys i).attributes.id

@@ -39,9 +39,9 @@ filling_slot = record empty_slot { state = Filling }
 abbrev pub slot_at : List Slot → ℕ → Slot
 slot_at slots i = slice_index_or slots i empty_slot
 
-abbrev pub is_empty : SlotState → Bool
-is_empty Empty = true
-is_empty _ = false
+abbrev pub is_empty_state : SlotState → Bool
+is_empty_state Empty = true
+is_empty_state _ = false
 
 abbrev pub is_full : SlotState → Bool
 is_full Full = true
@@ -52,8 +52,8 @@ is_pending Pending = true
 is_pending _ = false
 
 -- whether it has the key of this identifier, which can be used
-abbrev pub is_key : ℕ → Slot → Bool
-is_key id s = is_full s.state && (s.attributes.id.0 == id)
+abbrev pub holds_key : ℕ → Slot → Bool
+holds_key id s = is_full s.state && (s.attributes.id.0 == id)
 
 -- whether it has a persistent key that nobody reads: such a slot may be purged or evicted
 abbrev pub is_idle : Slot → Bool
@@ -65,13 +65,13 @@ is_last s = is_pending s.state && s.readers == 1
 
 -- no slot has the key of this identifier
 abbrev pub NoKey : ℕ → List Slot → Type 0
-NoKey id slots = (i : ℕ) → is_key id (slot_at slots i) ≡ false
+NoKey id slots = (i : ℕ) → holds_key id (slot_at slots i) ≡ false
 
 abbrev pub IsEmptyAt : List Slot → ℕ → Type 0
-IsEmptyAt slots i = (i < length slots) × (is_empty (slot_at slots i).state ≡ true)
+IsEmptyAt slots i = (i < length slots) × (is_empty_state (slot_at slots i).state ≡ true)
 
 abbrev pub NoneEmpty : List Slot → Type 0
-NoneEmpty slots = (i : ℕ) → i < length slots → is_empty (slot_at slots i).state ≡ false
+NoneEmpty slots = (i : ℕ) → i < length slots → is_empty_state (slot_at slots i).state ≡ false
 
 -- a reservation finds a slot that is empty or idle
 abbrev pub CanReserve : List Slot → Type 0
@@ -102,4 +102,4 @@ pub record IsLawful (t : Table) : Type 0 where
   -- recency has each full slot once, and no other
   pub recent : (i : ℕ) → times i t.recency ≡ (if is_full (slot_at t.slots i).state then 1 else 0)
   -- no two slots have the key of one identifier
-  pub one : (id i j : ℕ) → is_key id (slot_at t.slots i) ≡ true → is_key id (slot_at t.slots j) ≡ true → i ≡ j
+  pub one : (id i j : ℕ) → holds_key id (slot_at t.slots i) ≡ true → holds_key id (slot_at t.slots j) ≡ true → i ≡ j

@@ -3,8 +3,8 @@ ghost use Rattle.std.specs.Prelude.{◌≡◌, ◌<◌, ◌≤◌, ◌-◌, ◌+
 ghost use Rattle.secret_bytes.specs.Buffer.{buffer_of};
 ghost use Rattle.slot_states.specs.Changes.{may_change};
 ghost use Rattle.slot_states.specs.declared.SlotState.TheVariants.{Empty};
-ghost use Rattle.slot_table.specs.Slots.{is_empty, is_full, is_pending, is_idle};
-ghost use Rattle.slot_table.specs.Rows.{empty_head, no_key, has_key, slot_of};
+ghost use Rattle.slot_table.specs.Slots.{is_empty_state, is_full, is_pending, is_idle};
+ghost use Rattle.slot_table.specs.Rows.{empty_head, no_key, head_holds_key, slot_of};
 
 use key_attributes::{Attributes, KeyId, KeyType, Lifetime, Policy, Usage};
 use psa_status::Memory;
@@ -45,7 +45,7 @@ impl Head {
 
     /// Whether the slot is empty.
     pub fn is_empty(&self) -> bool
-        ensures { result ≡ is_empty self.now.state }
+        ensures { result ≡ is_empty_state self.now.state }
     {
         matches!(self.state, SlotState::Empty)
     }
@@ -59,7 +59,7 @@ impl Head {
 
     /// Whether the slot has the key of this identifier, which can be used.
     pub fn is_key(&self, id: KeyId) -> bool
-        ensures { result ≡ has_key id.0 self.now }
+        ensures { result ≡ head_holds_key id.0 self.now }
     {
         self.is_full() && self.id.0 == id.0
     }

@@ -1,7 +1,7 @@
 //! The order in which the full slots of a table were used.
 ghost use Rattle.std.specs.Prelude.{◌≡◌, ◌<◌, ◌≤◌, [], ◌∷◌, ◌++◌, length, slice_index_or, IfOk, MatchOption, vec_capacity};
 ghost use Rattle.slot_table.specs.Slots.{times};
-ghost use Rattle.slot_table.specs.Changes.{without};
+ghost use Rattle.slot_table.specs.Changes.{recency_without};
 
 use crate::rows::SLOTS;
 use psa_status::Memory;
@@ -54,7 +54,7 @@ impl Recency {
     #[tactic(auto, using(crate::proofs::Times::without_place))]
     pub fn forget(&mut self, slot: u32)
         requires { times slot self.old ≡ 1 }
-        ensures row { self.new ≡ without slot self.old }
+        ensures row { self.new ≡ recency_without slot self.old }
         ensures room { length self.new < 384 }
     {
         if let Some(place) = last_place(&self.row, slot) {
@@ -65,7 +65,7 @@ impl Recency {
     /// Moves a slot that stands in the row once to its end.
     pub fn refresh(&mut self, slot: u32)
         requires { times slot self.old ≡ 1 }
-        ensures { self.new ≡ without slot self.old ++ slot ∷ [] }
+        ensures { self.new ≡ recency_without slot self.old ++ slot ∷ [] }
     {
         self.forget(slot);
         self.push(slot);

@@ -2,7 +2,7 @@
 ghost use Rattle.std.specs.Prelude.{◌≡◌, ◌<◌, ◌≤◌, ◌-◌, ◌+◌, ◌^◌, length, slice_set, replicate, true, IfOk, MatchOption};
 ghost use Rattle.slot_states.specs.Changes.{may_change};
 ghost use Rattle.slot_states.specs.declared.SlotState.TheVariants.{Empty, Full};
-ghost use Rattle.slot_table.specs.Slots.{empty_slot, slot_at, is_key, is_idle, NoKey, NoneEmpty, IsEmptyAt};
+ghost use Rattle.slot_table.specs.Slots.{empty_slot, slot_at, holds_key, is_idle, NoKey, NoneEmpty, IsEmptyAt};
 ghost use Rattle.slot_table.specs.Changes.{full_slot, registered};
 ghost use Rattle.slot_table.specs.Rows.{no_key};
 
@@ -49,7 +49,7 @@ impl SlotRows {
 
     /// The slot that has the key of this identifier.
     pub fn find(&self, id: KeyId) -> Option<u32>
-        ensures { MatchOption result (NoKey id.0 self.now) (λ i. is_key id.0 (slot_at self.now i) ≡ true) }
+        ensures { MatchOption result (NoKey id.0 self.now) (λ i. holds_key id.0 (slot_at self.now i) ≡ true) }
     {
         for i in 0..self.heads.len() {
             if self.heads[i].is_key(id) {

@@ -3,8 +3,8 @@ ghost use Rattle.std.specs.Prelude.{◌≡◌, ◌<◌, ◌≤◌, ◌-◌, ◌+
 ghost use Rattle.std.specs.Bool.{OnTrue, OnFalse};
 ghost use Rattle.secret_bytes.specs.Buffer.{IsClear};
 ghost use Rattle.slot_states.specs.declared.SlotState.TheVariants.{Full};
-ghost use Rattle.slot_table.specs.Slots.{empty_slot, filling_slot, slot_at, is_full, is_key, is_idle, NoKey, NoneEmpty, IsEmptyAt, CanReserve, IsNext, IsLawful};
-ghost use Rattle.slot_table.specs.Changes.{full_slot, registered, left, destroyed, without};
+ghost use Rattle.slot_table.specs.Slots.{empty_slot, filling_slot, slot_at, is_full, holds_key, is_idle, NoKey, NoneEmpty, IsEmptyAt, CanReserve, IsNext, IsLawful};
+ghost use Rattle.slot_table.specs.Changes.{full_slot, registered, left, destroyed_slot, recency_without};
 
 use crate::lent::{Filling, Lease};
 use crate::recency::Recency;
@@ -47,7 +47,7 @@ impl SlotTable {
 
     /// The slot that has the key of this identifier, if there is one.
     pub fn find(&self, id: KeyId) -> Option<u32>
-        ensures found { MatchOption result (NoKey id.0 self.now.slots) (λ i. is_key id.0 (slot_at self.now.slots i) ≡ true) }
+        ensures found { MatchOption result (NoKey id.0 self.now.slots) (λ i. holds_key id.0 (slot_at self.now.slots i) ≡ true) }
         ensures lawful { IsLawful self.now }
     {
         self.rows.find(id)
@@ -75,7 +75,7 @@ impl SlotTable {
         requires { CanReserve self.old.slots }
         ensures next { IsNext self.old result.slot }
         ensures slots { self.new.slots ≡ slice_set self.old.slots result.slot filling_slot }
-        ensures recency { self.new.recency ≡ without result.slot self.old.recency }
+        ensures recency { self.new.recency ≡ recency_without result.slot self.old.recency }
         ensures waiting { slot_at self.new.slots result.slot ≡ filling_slot }
         ensures lawful { IsLawful self.new }
     {
@@ -126,7 +126,7 @@ impl SlotTable {
         requires clear { IsClear spare }
         ensures lease { result ≡ record { slot = slot; creation = (slot_at self.old.slots slot).creation; buffer = (slot_at self.old.slots slot).buffer } }
         ensures slots { self.new.slots ≡ slice_set self.old.slots slot (registered (slot_at self.old.slots slot)) }
-        ensures recency { self.new.recency ≡ without slot self.old.recency ++ slot ∷ [] }
+        ensures recency { self.new.recency ≡ recency_without slot self.old.recency ++ slot ∷ [] }
         ensures lawful { IsLawful self.new }
     {
         let mut bytes = spare;
@@ -164,8 +164,8 @@ impl SlotTable {
     /// Destroys the key of a full slot: the slot is pending where it is read, and empty where it isn't.
     pub fn mark(&mut self, slot: u32)
         requires { (slot_at self.old.slots slot).state ≡ Full }
-        ensures slots { self.new.slots ≡ slice_set self.old.slots slot (destroyed (slot_at self.old.slots slot)) }
-        ensures recency { self.new.recency ≡ without slot self.old.recency }
+        ensures slots { self.new.slots ≡ slice_set self.old.slots slot (destroyed_slot (slot_at self.old.slots slot)) }
+        ensures recency { self.new.recency ≡ recency_without slot self.old.recency }
         ensures lawful { IsLawful self.new }
     {
         if self.rows.head(slot).readers == 0 {
@@ -179,7 +179,7 @@ impl SlotTable {
     pub fn purge(&mut self, slot: u32) -> bool
         ensures result { result ≡ is_idle (slot_at self.old.slots slot) }
         ensures slots { OnTrue result (self.new.slots ≡ slice_set self.old.slots slot empty_slot) }
-        ensures recency { OnTrue result (self.new.recency ≡ without slot self.old.recency) }
+        ensures recency { OnTrue result (self.new.recency ≡ recency_without slot self.old.recency) }
         ensures other { OnFalse result (self.new ≡ self.old) }
         ensures lawful { IsLawful self.new }
     {
@@ -226,7 +226,7 @@ impl SlotTable {
         requires full { NoneEmpty self.old.slots }
         ensures first { find (λ i. is_idle (slot_at self.old.slots i)) self.old.recency ≡ Some result }
         ensures slots { self.new.slots ≡ slice_set self.old.slots result empty_slot }
-        ensures recency { self.new.recency ≡ without result self.old.recency }
+        ensures recency { self.new.recency ≡ recency_without result self.old.recency }
     {
         let Some(oldest) = self.oldest_idle() else {
             unreachable!()
@@ -240,7 +240,7 @@ impl SlotTable {
         requires full { (slot_at self.old.slots slot).state ≡ Full }
         requires unread { (slot_at self.old.slots slot).readers ≡ 0 }
         ensures slots { self.new.slots ≡ slice_set self.old.slots slot empty_slot }
-        ensures recency { self.new.recency ≡ without slot self.old.recency }
+        ensures recency { self.new.recency ≡ recency_without slot self.old.recency }
         ensures lawful { IsLawful self.new }
     {
         self.recency.forget(slot);
@@ -251,8 +251,8 @@ impl SlotTable {
     fn hold(&mut self, slot: u32)
         requires full { (slot_at self.old.slots slot).state ≡ Full }
         requires read { 0 < (slot_at self.old.slots slot).readers }
-        ensures slots { self.new.slots ≡ slice_set self.old.slots slot (destroyed (slot_at self.old.slots slot)) }
-        ensures recency { self.new.recency ≡ without slot self.old.recency }
+        ensures slots { self.new.slots ≡ slice_set self.old.slots slot (destroyed_slot (slot_at self.old.slots slot)) }
+        ensures recency { self.new.recency ≡ recency_without slot self.old.recency }
         ensures lawful { IsLawful self.new }
     {
         self.recency.forget(slot);

@@ -3,7 +3,7 @@ ghost use Rattle.std.specs.Prelude.{◌≡◌, ◌<◌, ◌≤◌, length, IfSom
 ghost use Rattle.secret_bytes.specs.Buffer.{IsClear};
 ghost use Rattle.slot_states.specs.declared.SlotState.TheVariants.{Full};
 ghost use Rattle.slot_table.specs.Slots.{slot_at};
-ghost use Rattle.slot_table.specs.Changes.{full_slot, registered, left, destroyed};
+ghost use Rattle.slot_table.specs.Changes.{full_slot, registered, left, destroyed_slot};
 ghost use Rattle.slot_trials.specs.Readers.{AllUnread, ReadStay};
 
 use key_attributes::{Attributes, KeyId, KeyType, Lifetime, Policy, Usage};
@@ -77,7 +77,7 @@ pub fn give_back(table: &mut SlotTable, lease: Lease) -> Secret
 /// Destroys the key of a slot.
 pub fn destroy(table: &mut SlotTable, slot: u32)
     requires { (slot_at table.old.slots slot).state ≡ Full }
-    ensures { slot_at table.new.slots slot ≡ destroyed (slot_at table.old.slots slot) }
+    ensures { slot_at table.new.slots slot ≡ destroyed_slot (slot_at table.old.slots slot) }
 {
     table.mark(slot);
 }
