@@ -6,8 +6,8 @@ use Rattle.secret_bytes.specs.Buffer.{Buffer}
 pub record Reserved : Type 0 where
   pub slot : ℕ
 
--- a reading of a slot's key: the slot, the key's creation number, and a copy of its bytes
-pub record Read : Type 0 where
+-- a reading of a key: the slot, the key's creation number, and a copy of its bytes
+pub record Reading : Type 0 where
   pub slot : ℕ
   pub creation : ℕ
   pub buffer : Buffer

@@ -26,9 +26,9 @@ pub struct Lease {
 }
 
 impl Model for Lease {
-    ghost use Rattle.slot_table.specs.Lent.{Read};
+    ghost use Rattle.slot_table.specs.Lent.{Reading};
 
-    ghost Value = { Read };
+    ghost Value = { Reading };
 
     ghost view = { λ l. record { slot = l.slot; creation = l.creation; buffer = l.bytes } };
 }
