@@ -1,5 +1,5 @@
 // Keys in a slot table.
-ghost use Rattle.std.specs.Prelude.{◌≡◌, ◌<◌, ◌≤◌, length, IfSome};
+ghost use Rattle.std.specs.Prelude.{◌≡◌, ◌<◌, ◌≤◌, length, IfOk, IfSome};
 ghost use Rattle.secret_bytes.specs.Buffer.{IsClear};
 ghost use Rattle.slot_states.specs.declared.SlotState.TheVariants.{Full};
 ghost use Rattle.slot_table.specs.Slots.{slot_at};
@@ -7,15 +7,26 @@ ghost use Rattle.slot_table.specs.Changes.{full_slot, registered, left, destroye
 ghost use Rattle.slot_trials.specs.Readers.{AllUnread, ReadStay};
 
 use key_attributes::{Attributes, KeyId, KeyType, Lifetime, Policy, Usage};
+use psa_status::Memory;
 use secret_bytes::Secret;
 use slot_table::{Lease, SlotTable};
+use std::alloc::Global;
 
 pub const VOLATILE: Lifetime = Lifetime(0);
 
 pub const PERSISTENT: Lifetime = Lifetime(1);
 
+/// A table of empty slots.
+pub fn new_table(alloc: Global) -> Result<SlotTable, Memory>
+    ensures { IfOk result (λ table. AllUnread table.slots) }
+{
+    SlotTable::new(alloc)
+}
+
 /// The attributes of a key of raw data.
-pub fn attributes(id: u32, lifetime: Lifetime) -> Attributes {
+pub fn attributes(id: u32, lifetime: Lifetime) -> Attributes
+    ensures { (result.id.0 ≡ id) × (result.lifetime ≡ lifetime) }
+{
     Attributes {
         lifetime,
         id: KeyId(id),

@@ -9,7 +9,6 @@ mod turns;
 use keys::VOLATILE;
 use psa_status::Memory;
 use secret_bytes::Secret;
-use slot_table::SlotTable;
 use std::process::ExitCode;
 use std::{env, io};
 
@@ -21,46 +20,38 @@ fn word(answer: bool) -> &'static str {
 
 // Prints what becomes of keys in a table.
 fn try_all(rt: &HostRuntime) -> io::Result<bool> {
-    let Ok([filled, emptied, again]) = trials::filled_and_emptied(rt.alloc()) else {
+    let (Ok(counts), Ok(rooms)) = (
+        trials::filled_and_emptied(rt.alloc()),
+        trials::four_readers(rt.alloc()),
+    ) else {
         return Ok(false);
     };
+    let (Ok(found), Ok(Some(beside))) = (
+        trials::evicted(rt.alloc()),
+        trials::beside_a_pending_one(rt.alloc()),
+    ) else {
+        return Ok(false);
+    };
+    let (filled, emptied, again) = (counts[0], counts[1], counts[2]);
     println!(rt; "filled {filled}, emptied {emptied}, filled again {again}")?;
-    let Ok([none, one, two, three, four]) = trials::four_readers(rt.alloc()) else {
-        return Ok(false);
-    };
-    println!(rt;
-        "room after 0 to 4 of 4 readers left: {}, {}, {}, {}, {}",
-        word(none),
-        word(one),
-        word(two),
-        word(three),
-        word(four)
-    )?;
-    let Ok([first, second, third, fourth]) = trials::evicted(rt.alloc()) else {
-        return Ok(false);
-    };
-    println!(rt;
-        "keys 1 to 4 found after two evictions: {}, {}, {}, {}",
-        word(first),
-        word(second),
-        word(third),
-        word(fourth)
-    )?;
-    let Ok(Some(beside)) = trials::beside_a_pending_one(rt.alloc()) else {
-        return Ok(false);
-    };
-    println!(rt;
-        "destroyed key alive: {}, read as {}, new key in another slot: {}",
+    let (none, one, two) = (word(rooms[0]), word(rooms[1]), word(rooms[2]));
+    let (three, four) = (word(rooms[3]), word(rooms[4]));
+    println!(rt; "room after 0 to 4 of 4 readers left: {none}, {one}, {two}, {three}, {four}")?;
+    let (first, second) = (word(found[0]), word(found[1]));
+    let (third, fourth) = (word(found[2]), word(found[3]));
+    println!(rt; "keys 1 to 4 found after two evictions: {first}, {second}, {third}, {fourth}")?;
+    let (alive, byte, other) = (
         word(beside.is_alive),
         beside.byte,
-        word(beside.is_other_slot)
-    )?;
+        word(beside.is_other_slot),
+    );
+    println!(rt; "destroyed key alive: {alive}, read as {byte}, new key in another slot: {other}")?;
     Ok(true)
 }
 
 // Makes a call so often on a full table.
 fn run(rt: &HostRuntime, call: &str, turns: usize) -> Result<u32, Memory> {
-    let mut table = SlotTable::new(rt.alloc())?;
+    let mut table = keys::new_table(rt.alloc())?;
     let spare = Secret::new(rt.alloc())?;
     let filled = trials::fill(&mut table, 384, VOLATILE);
     match call {

@@ -2,7 +2,9 @@
 ghost use Rattle.std.specs.Prelude.{◌≡◌, ◌≤◌};
 ghost use Rattle.slot_trials.specs.Readers.{AllUnread};
 
-use crate::keys::{PERSISTENT, VOLATILE, attributes, destroy, give_back, import, lend, read_once};
+use crate::keys::{
+    PERSISTENT, VOLATILE, attributes, destroy, give_back, import, lend, new_table, read_once,
+};
 use key_attributes::{KeyId, Lifetime};
 use psa_status::Memory;
 use secret_bytes::Secret;
@@ -27,7 +29,7 @@ pub fn fill(table: &mut SlotTable, last: u32, lifetime: Lifetime) -> u32
 
 /// How many keys of 400 a table takes, and how many of them are found and destroyed, after which it takes as many again.
 pub fn filled_and_emptied(alloc: Global) -> Result<[u32; 3], Memory> {
-    let mut table = SlotTable::new(alloc)?;
+    let mut table = new_table(alloc)?;
     let filled = fill(&mut table, 400, VOLATILE);
     let mut emptied = 0;
     for id in 1..401u32 {
@@ -55,7 +57,7 @@ pub fn filled_and_emptied(alloc: Global) -> Result<[u32; 3], Memory> {
 /// Four read a key that is destroyed, in a table that is full otherwise: whether a slot can be reserved before and after each
 /// of them leaves.
 pub fn four_readers(alloc: Global) -> Result<[bool; 5], Memory> {
-    let mut table = SlotTable::new(alloc)?;
+    let mut table = new_table(alloc)?;
     let (first, second) = (Secret::new(alloc)?, Secret::new(alloc)?);
     let (third, fourth) = (Secret::new(alloc)?, Secret::new(alloc)?);
     let _filled = fill(&mut table, 383, VOLATILE);
@@ -81,7 +83,7 @@ pub fn four_readers(alloc: Global) -> Result<[bool; 5], Memory> {
 
 /// In a full table of persistent keys, the key 1 is read, and two new keys come: whether 1, 2, 3 and 4 are found then.
 pub fn evicted(alloc: Global) -> Result<[bool; 4], Memory> {
-    let mut table = SlotTable::new(alloc)?;
+    let mut table = new_table(alloc)?;
     let spare = Secret::new(alloc)?;
     let _filled = fill(&mut table, 384, PERSISTENT);
     if let Some(slot) = table.find(KeyId(1)) {
@@ -108,7 +110,7 @@ pub struct Beside {
 /// A key is read and destroyed, and a new key of its identifier comes: what the reader sees, and whether the new key is
 /// found in another slot.
 pub fn beside_a_pending_one(alloc: Global) -> Result<Option<Beside>, Memory> {
-    let mut table = SlotTable::new(alloc)?;
+    let mut table = new_table(alloc)?;
     let spare = Secret::new(alloc)?;
     let Some(slot) = import(&mut table, &attributes(7, VOLATILE), 0, &[1; 32]) else {
         return Ok(None);
