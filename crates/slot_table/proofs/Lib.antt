@@ -1,0 +1,4 @@
+pub mod AtSlots
+mod Laws
+mod Times
+mod Views

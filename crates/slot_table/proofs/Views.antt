@@ -1,0 +1,82 @@
+-- Two rows as the slots of a table.
+use Rattle.key_attributes.specs.declared.KeyId.{KeyId}
+use Rattle.std.proofs.Common.{◌&&◌, ◌==◌, ◌≡◌, ◌<◌, ℕ, zero, suc, List, [], ◌∷◌, length, get_or, set, replicate, refl, sym, ap, ◌∙◌, arith}
+use Rattle.std.proofs.lemmas.List.{length-replicate, set-get_or}
+use Rattle.slot_table.specs.declared.place.Head.{Head}
+use Rattle.slot_table.specs.declared.place.Stored.{Stored}
+use Rattle.slot_table.specs.Slots.{Slot, slot_at, empty_slot, holds_key, is_full}
+use Rattle.slot_table.specs.Rows.{AreRows, slots_of, slot_of, head_holds_key, head_at, stored_at, empty_head, no_key}
+
+length-slots_of : (heads : List Head) (keys : List Stored) → length heads ≡ length keys → length (slots_of heads keys) ≡ length heads
+length-slots_of [] [] same = refl
+length-slots_of [] (key ∷ keys) same = absurd (omega arith)
+length-slots_of (head ∷ heads) [] same = absurd (omega arith)
+length-slots_of (head ∷ heads) (key ∷ keys) same = ap suc (length-slots_of heads keys (omega arith))
+
+slot_at-slots_of : (heads : List Head) (keys : List Stored) (i : ℕ) → length heads ≡ length keys → slot_at (slots_of heads keys) i ≡ slot_of (head_at heads i) (stored_at keys i)
+slot_at-slots_of [] [] i same = refl
+slot_at-slots_of [] (key ∷ keys) i same = absurd (omega arith)
+slot_at-slots_of (head ∷ heads) [] i same = absurd (omega arith)
+slot_at-slots_of (head ∷ heads) (key ∷ keys) zero same = refl
+slot_at-slots_of (head ∷ heads) (key ∷ keys) (suc i) same = slot_at-slots_of heads keys i (omega arith)
+
+slots_of-set : (heads : List Head) (keys : List Stored) (i : ℕ) (head : Head) (key : Stored) → slots_of (set heads i head) (set keys i key) ≡ set (slots_of heads keys) i (slot_of head key)
+slots_of-set [] [] i head key = refl
+slots_of-set [] (k ∷ keys) i head key = elim (set (k ∷ keys) i key) as (λ ks. slots_of [] ks ≡ []) [ [] ↦ refl | x ∷ xs ↦ refl ]
+slots_of-set (h ∷ heads) [] i head key = elim (set (h ∷ heads) i head) as (λ hs. slots_of hs [] ≡ []) [ [] ↦ refl | x ∷ xs ↦ refl ]
+slots_of-set (h ∷ heads) (k ∷ keys) zero head key = refl
+slots_of-set (h ∷ heads) (k ∷ keys) (suc i) head key = ap (λ ss. slot_of h k ∷ ss) (slots_of-set heads keys i head key)
+
+pub slots_of-replicate : (n : ℕ) → slots_of (replicate n empty_head) (replicate n no_key) ≡ replicate n empty_slot
+slots_of-replicate zero = refl
+slots_of-replicate (suc n) = ap (λ ss. empty_slot ∷ ss) (slots_of-replicate n)
+
+-- what stands at a place of two rows that are a table's slots
+pub slot_is : (heads : List Head) (keys : List Stored) (slots : List Slot) → AreRows heads keys → slots_of heads keys ≡ slots → (i : ℕ) → slot_at slots i ≡ slot_of (head_at heads i) (stored_at keys i)
+slot_is heads keys slots rows view i =
+    sym (ap (λ ss. slot_at ss i) view) ∙ slot_at-slots_of heads keys i (omega (arith, rows.heads_sized, rows.keys_sized))
+
+pub length_is : (heads : List Head) (keys : List Stored) (slots : List Slot) → AreRows heads keys → slots_of heads keys ≡ slots → length slots ≡ 384
+length_is heads keys slots rows view =
+    sym (ap length view) ∙ length-slots_of heads keys (omega (arith, rows.heads_sized, rows.keys_sized)) ∙ rows.heads_sized
+
+-- a head tells whether its slot has a key
+pub holds_key-head : (heads : List Head) (keys : List Stored) (slots : List Slot) → AreRows heads keys → slots_of heads keys ≡ slots → (id i : ℕ) → holds_key id (slot_at slots i) ≡ head_holds_key id (head_at heads i)
+holds_key-head heads keys slots rows view id i =
+    ap (holds_key id) (slot_is heads keys slots rows view i) ∙ ap (λ (k : KeyId). is_full (head_at heads i).state && (k.0 == id)) (sym (rows.named i))
+
+pub record StandsAt (heads : List Head) (keys : List Stored) (slots : List Slot) (i : ℕ) : Type 0 where
+  pub head : i < length heads
+  pub key : i < length keys
+  pub slot : slot_at slots i ≡ slot_of (head_at heads i) (stored_at keys i)
+
+pub stands_at : (heads : List Head) (keys : List Stored) (slots : List Slot) (i : ℕ) → AreRows heads keys → slots_of heads keys ≡ slots → i < length slots → StandsAt heads keys slots i
+stands_at heads keys slots i rows view within =
+    let long : length slots ≡ 384 = length_is heads keys slots rows view in
+    record {
+      head = omega (arith, rows.heads_sized);
+      key = omega (arith, rows.keys_sized);
+      slot = slot_is heads keys slots rows view i;
+    }
+
+-- a write of a head
+pub changed_head : (heads : List Head) (keys : List Stored) (slots : List Slot) (i : ℕ) (head : Head) (s : Slot) → slots_of heads keys ≡ slots → s ≡ slot_of head (stored_at keys i) → slots_of (set heads i head) keys ≡ set slots i s
+changed_head heads keys slots i head s view is =
+    ap (slots_of (set heads i head)) (sym (set-get_or keys i no_key)) ∙ slots_of-set heads keys i head (stored_at keys i) ∙ ap (λ ss. set ss i (slot_of head (stored_at keys i))) view ∙ ap (set slots i) (sym is)
+
+-- a write of both
+pub changed_both : (heads : List Head) (keys : List Stored) (slots : List Slot) (i : ℕ) (head : Head) (key : Stored) (s : Slot) → slots_of heads keys ≡ slots → s ≡ slot_of head key → slots_of (set heads i head) (set keys i key) ≡ set slots i s
+changed_both heads keys slots i head key s view is =
+    slots_of-set heads keys i head key ∙ ap (λ ss. set ss i (slot_of head key)) view ∙ ap (set slots i) (sym is)
+
+get_or-replicate_same : {A : Type 0} (n i : ℕ) (x : A) → get_or (replicate n x) i x ≡ x
+get_or-replicate_same zero i x = refl
+get_or-replicate_same (suc n) zero x = refl
+get_or-replicate_same (suc n) (suc i) x = get_or-replicate_same n i x
+
+pub AreRows-replicate : AreRows (replicate 384 empty_head) (replicate 384 no_key)
+AreRows-replicate = record {
+  heads_sized = length-replicate 384 empty_head;
+  keys_sized = length-replicate 384 no_key;
+  named = λ i. ap (λ (h : Head). h.id) (get_or-replicate_same 384 i empty_head) ∙ sym (ap (λ (k : Stored). k.attributes.id) (get_or-replicate_same 384 i no_key));
+}

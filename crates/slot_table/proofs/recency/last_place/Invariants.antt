@@ -1,0 +1,6 @@
+use Rattle.std.proofs.Common.{◌≡◌, drop}
+use Rattle.slot_table.specs.Slots.{times}
+use Rattle.slot_table.proofs.recency.last_place.Given as goal
+
+abbrev pub invariant-loop-place : goal.invariant-loop-place
+invariant-loop-place l = times l.slot (drop l.place l.row) ≡ 0

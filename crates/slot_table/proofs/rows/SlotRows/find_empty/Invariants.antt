@@ -1,0 +1,7 @@
+use Rattle.std.proofs.Common.{◌≡◌, ◌<◌, ℕ, false}
+use Rattle.slot_table.specs.Slots.{is_empty_state}
+use Rattle.slot_table.specs.Rows.{head_at}
+use Rattle.slot_table.proofs.rows.SlotRows.find_empty.Given as goal
+
+abbrev pub invariant-loop-i : goal.invariant-loop-i
+invariant-loop-i l = (k : ℕ) → k < l.i → is_empty_state (head_at l.self-inside.heads.items k).state ≡ false

@@ -1,0 +1,19 @@
+use Rattle.std.proofs.Common.{◌<◌, length, sym, ap, arith}
+use Rattle.std.proofs.lemmas.List.{get_or_read, get_or_past}
+use Rattle.slot_table.specs.Slots.{is_idle, empty_slot}
+use Rattle.slot_table.specs.Rows.{empty_head, no_key}
+use Rattle.slot_table.proofs.Views.{slot_is, length_is}
+use Rattle.slot_table.proofs.rows.SlotRows.is_idle.Goals as goal
+
+pub returns-then-place-len : goal.returns-then-place-len
+returns-then-place-len c =
+    let long = length_is _ _ _ c.self.invariant c.self.view_is in
+    sym (ap is_idle (get_or_past c.args.self.now c.args.slot empty_slot (omega (arith, long, c.self.inside.heads.ok.0, c.self.invariant.heads_sized))))
+
+pub returns : goal.returns
+returns c =
+    let heads = c.self.inside.heads in
+    let keys = c.self.inside.keys in
+    let head : c.args.slot < length heads.items = omega (arith, heads.ok.0) in
+    let key : c.args.slot < length keys.items = omega (arith, heads.ok.0, c.self.invariant.heads_sized, c.self.invariant.keys_sized) in
+    rw (c.is_idle.ensures, slot_is _ _ _ c.self.invariant c.self.view_is c.args.slot, get_or_read heads.items _ _ head c.index.ensures empty_head, get_or_read keys.items _ _ key c.index-2.ensures no_key)

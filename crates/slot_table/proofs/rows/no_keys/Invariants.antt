@@ -1,0 +1,6 @@
+use Rattle.std.proofs.Common.{◌≡◌, replicate, vec_capacity}
+use Rattle.slot_table.specs.Rows.{no_key}
+use Rattle.slot_table.proofs.rows.no_keys.Given as goal
+
+abbrev pub invariant-loop : goal.invariant-loop
+invariant-loop l = (l.keys.items ≡ replicate l.counter no_key) × (vec_capacity l.keys ≡ 384)

@@ -1,0 +1,9 @@
+use Rattle.std.proofs.Common.{refl}
+use Rattle.slot_table.proofs.Laws.{lawful_start}
+use Rattle.slot_table.proofs.table.SlotTable.new.Goals as goal
+
+pub invariant_of-result : goal.invariant_of-result
+invariant_of-result c = rw (c.in_ok-rows.ensures, c.in_ok-recency.ensures) (lawful_start 384 refl)
+
+pub returns-clause-lawful : goal.returns-clause-lawful
+returns-clause-lawful c = invariant_of-result c

@@ -1,0 +1,22 @@
+use Rattle.std.proofs.Common.{◌<◌, ◌∙◌, sym, ap, length}
+use Rattle.std.proofs.lemmas.List.{set-set, length-set, get_or-set_same}
+use Rattle.slot_table.specs.Slots.{Slot, Table, empty_slot, is_empty_state}
+use Rattle.slot_table.specs.Changes.{recency_without}
+use Rattle.slot_table.proofs.AtSlots.{full_within}
+use Rattle.slot_table.proofs.Laws.{first_is_full, empty_is_not_recent}
+use Rattle.slot_table.proofs.table.SlotTable.reserve.Goals as goal
+
+pub returns-in-Some-clause-recency : goal.returns-in-Some-clause-recency
+returns-in-Some-clause-recency c =
+    let recency = ap (λ (t : Table). t.recency) c.self.view_is in
+    c.begin.ensures.recency ∙ sym recency ∙ empty_is_not_recent _ c.in-Some.slot c.self.invariant c.in-Some.ensures.1 ∙ ap (recency_without c.in-Some.slot) recency ∙ ap (λ i. recency_without i c.args.self.now.recency) (sym c.begin.ensures.slot)
+
+pub begin-requires-2 : goal.begin-requires-2
+begin-requires-2 c =
+    let slots = c.args.self.now.slots in
+    let slot = c.evict-slot.result in
+    let within : slot < length slots = full_within slots slot (first_is_full c.args.self.now slot c.evict-slot.ensures.first) in
+    rw c.evict-slot.ensures.slots (rw length-set within, ap (λ (s : Slot). is_empty_state s.state) (get_or-set_same slots slot empty_slot empty_slot within))
+
+pub returns-clause-slots : goal.returns-clause-slots
+returns-clause-slots c = rw (c.begin-2.ensures.slots, c.evict-slot.ensures.slots, c.begin-2.ensures.slot) (set-set _ _ _ _)

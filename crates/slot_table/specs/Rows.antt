@@ -1,0 +1,36 @@
+-- The two rows in which a table keeps its slots.
+use Rattle.std.specs.Prelude.{◌≡◌, ℕ, ◌==◌, Bool, ◌&&◌, List, [], ◌∷◌, length, slice_index_or}
+use Rattle.slot_states.specs.declared.SlotState.TheVariants.{Empty}
+use Rattle.secret_bytes.specs.Buffer.{buffer_of}
+use Rattle.slot_table.specs.declared.place.Head.{Head}
+use Rattle.slot_table.specs.declared.place.Stored.{Stored}
+use Rattle.slot_table.specs.Slots.{Slot, no_attributes, is_full}
+
+abbrev pub empty_head : Head
+empty_head = record { state = Empty; readers = 0; id = record { 0 = 0 } }
+
+abbrev pub no_key : Stored
+no_key = record { creation = 0; attributes = no_attributes; buffer = buffer_of [] }
+
+abbrev pub head_at : List Head → ℕ → Head
+head_at heads i = slice_index_or heads i empty_head
+
+abbrev pub stored_at : List Stored → ℕ → Stored
+stored_at keys i = slice_index_or keys i no_key
+
+-- whether a head is that of a slot with the key of this identifier, which can be used
+abbrev pub head_holds_key : ℕ → Head → Bool
+head_holds_key id head = is_full head.state && (head.id.0 == id)
+
+abbrev pub slot_of : Head → Stored → Slot
+slot_of head key = record { state = head.state; readers = head.readers; creation = key.creation; attributes = key.attributes; buffer = key.buffer }
+
+abbrev pub slots_of : List Head → List Stored → List Slot
+slots_of (head ∷ heads) (key ∷ keys) = slot_of head key ∷ slots_of heads keys
+slots_of _ _ = []
+
+-- there are 384 of each, and a head has its key's identifier
+pub record AreRows (heads : List Head) (keys : List Stored) : Type 0 where
+  pub heads_sized : length heads ≡ 384
+  pub keys_sized : length keys ≡ 384
+  pub named : (i : ℕ) → (head_at heads i).id ≡ (stored_at keys i).attributes.id

@@ -1,0 +1,11 @@
+//! The slots of the key store: where keys are in memory, who reads them, and when they are wiped.
+#![tactic(auto)]
+
+mod lent;
+mod place;
+mod recency;
+mod rows;
+mod table;
+
+pub use lent::{Filling, Lease};
+pub use table::{SLOTS, SlotTable};

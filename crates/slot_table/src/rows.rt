@@ -1,0 +1,169 @@
+//! The slots of a table, in two rows: what a look for a key reads, and the keys.
+ghost use Rattle.std.specs.Prelude.{◌≡◌, ◌<◌, ◌≤◌, ◌-◌, ◌+◌, ◌^◌, length, slice_set, replicate, true, IfOk, MatchOption};
+ghost use Rattle.slot_states.specs.Changes.{may_change};
+ghost use Rattle.slot_states.specs.declared.SlotState.TheVariants.{Empty, Full};
+ghost use Rattle.slot_table.specs.Slots.{empty_slot, slot_at, holds_key, is_idle, NoKey, NoneEmpty, IsEmptyAt};
+ghost use Rattle.slot_table.specs.Changes.{full_slot, registered};
+ghost use Rattle.slot_table.specs.Rows.{no_key};
+
+use crate::place::{Head, Stored, is_idle};
+use key_attributes::{Attributes, KeyId};
+use psa_status::Memory;
+use slot_states::SlotState;
+use std::alloc::Global;
+use std::marker::Model;
+
+/// How many slots a table has.
+pub const SLOTS: usize = 384;
+
+/// The slots.
+#[derive(Drop)]
+pub struct SlotRows {
+    heads: Vec<Head>,
+    keys: Vec<Stored>,
+}
+
+impl Model for SlotRows {
+    ghost use Rattle.std.specs.Prelude.{List};
+    ghost use Rattle.slot_table.specs.Slots.{Slot};
+    ghost use Rattle.slot_table.specs.Rows.{slots_of, AreRows};
+
+    ghost Value = { List Slot };
+
+    ghost view = { λ r. slots_of r.heads.items r.keys.items };
+
+    ghost invariant = { λ r. AreRows r.heads.items r.keys.items };
+}
+
+impl SlotRows {
+    /// Empty slots; `Memory` where there is no room for them.
+    pub fn new(alloc: Global) -> Result<SlotRows, Memory>
+        ensures { IfOk result (λ rows. rows ≡ replicate 384 empty_slot) }
+    {
+        let Ok(heads) = Vec::from_elem(alloc, Head::empty(), SLOTS) else {
+            return Err(Memory);
+        };
+        let keys = no_keys(alloc)?;
+        Ok(SlotRows { heads, keys })
+    }
+
+    /// The slot that has the key of this identifier.
+    pub fn find(&self, id: KeyId) -> Option<u32>
+        ensures { MatchOption result (NoKey id.0 self.now) (λ i. holds_key id.0 (slot_at self.now i) ≡ true) }
+    {
+        for i in 0..self.heads.len() {
+            if self.heads[i].is_key(id) {
+                return Some(i as u32);
+            }
+        }
+        None
+    }
+
+    /// An empty slot.
+    pub fn find_empty(&self) -> Option<u32>
+        ensures { MatchOption result (NoneEmpty self.now) (λ i. IsEmptyAt self.now i) }
+    {
+        for i in 0..self.heads.len() {
+            if self.heads[i].is_empty() {
+                return Some(i as u32);
+            }
+        }
+        None
+    }
+
+    /// Whether a slot has a persistent key that nobody reads.
+    pub fn is_idle(&self, slot: u32) -> bool
+        ensures { result ≡ is_idle (slot_at self.now slot) }
+    {
+        let place = slot as usize;
+        if place >= self.heads.len() {
+            return false;
+        }
+        is_idle(&self.heads[place], &self.keys[place])
+    }
+
+    /// What a look for a key reads of a slot.
+    pub fn head(&self, slot: u32) -> Head
+        requires { slot < length self.now }
+        ensures state { result.state ≡ (slot_at self.now slot).state }
+        ensures readers { result.readers ≡ (slot_at self.now slot).readers }
+    {
+        self.heads[slot as usize]
+    }
+
+    /// The key of a slot.
+    pub fn key(&self, slot: u32) -> &Stored
+        requires { slot < length self.now }
+        ensures creation { result.now.creation ≡ (slot_at self.now slot).creation }
+        ensures attributes { result.now.attributes ≡ (slot_at self.now slot).attributes }
+        ensures buffer { result.now.buffer ≡ (slot_at self.now slot).buffer }
+    {
+        &self.keys[slot as usize]
+    }
+
+    /// A slot goes on in another state, as it may.
+    pub fn change(&mut self, slot: u32, to: SlotState)
+        requires within { slot < length self.old }
+        requires allowed { may_change (slot_at self.old slot).state to (slot_at self.old slot).readers ≡ true }
+        ensures { self.new ≡ slice_set self.old slot (record (slot_at self.old slot) { state = to }) }
+    {
+        self.heads[slot as usize].change(to);
+    }
+
+    /// Puts a key into a slot, as it may.
+    pub fn fill(&mut self, slot: u32, creation: u64, attributes: &Attributes, bytes: &[u8])
+        requires within { slot < length self.old }
+        requires allowed { may_change (slot_at self.old slot).state Full (slot_at self.old slot).readers ≡ true }
+        requires unread { (slot_at self.old slot).readers ≡ 0 }
+        requires short { length bytes.now ≤ 1024 }
+        ensures { self.new ≡ slice_set self.old slot (full_slot creation attributes.now bytes.now) }
+    {
+        let head = &mut self.heads[slot as usize];
+        head.change(SlotState::Full);
+        head.id = attributes.id;
+        self.keys[slot as usize].fill(creation, attributes, bytes);
+    }
+
+    /// Makes a slot empty, as it may: all its bytes are zeros.
+    pub fn wipe(&mut self, slot: u32)
+        requires within { slot < length self.old }
+        requires allowed { may_change (slot_at self.old slot).state Empty (slot_at self.old slot).readers ≡ true }
+        ensures { self.new ≡ slice_set self.old slot empty_slot }
+    {
+        self.keys[slot as usize].wipe();
+        self.heads[slot as usize].wipe();
+    }
+
+    /// One reader more.
+    pub fn register(&mut self, slot: u32)
+        requires within { slot < length self.old }
+        requires few { (slot_at self.old slot).readers < 2 ^ 32 - 1 }
+        ensures { self.new ≡ slice_set self.old slot (registered (slot_at self.old slot)) }
+    {
+        let head = &mut self.heads[slot as usize];
+        head.readers += 1;
+    }
+
+    /// One reader less.
+    pub fn unregister(&mut self, slot: u32)
+        requires within { slot < length self.old }
+        requires read { 0 < (slot_at self.old slot).readers }
+        ensures { self.new ≡ slice_set self.old slot (record (slot_at self.old slot) { readers = (slot_at self.old slot).readers - 1 }) }
+    {
+        let head = &mut self.heads[slot as usize];
+        head.readers -= 1;
+    }
+}
+
+// A key's place for each slot.
+fn no_keys(alloc: Global) -> Result<Vec<Stored>, Memory>
+    ensures { IfOk result (λ keys. keys.items ≡ replicate 384 no_key) }
+{
+    let Ok(mut keys) = Vec::with_capacity(alloc, SLOTS) else {
+        return Err(Memory);
+    };
+    for _ in 0..SLOTS {
+        keys.push_reserved(Stored::empty(alloc)?);
+    }
+    Ok(keys)
+}
