@@ -6,3 +6,4 @@ pub mod Joining
 pub mod Ends
 pub mod Passes
 pub mod Orders
+pub mod Using

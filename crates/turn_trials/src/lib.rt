@@ -1,0 +1,15 @@
+//! A tally under the lock with its history, by which the lock is tried in threads.
+#![tactic(auto)]
+
+mod calls;
+mod leaving;
+mod meeting;
+mod running;
+mod tally;
+
+pub use meeting::meet;
+pub use running::{Ran, run};
+pub use tally::{Entry, Start, Tally};
+
+#[cfg(test)]
+mod tests;
