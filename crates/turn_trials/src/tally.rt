@@ -1,5 +1,5 @@
 //! A tally: the sum of what was added, and one thing that it lends.
-ghost use Rattle.std.specs.Prelude.{◌≡◌, ℕ, ◌<◌, ◌^◌, ◌++◌, ◌∷◌, [], List, true, replicate};
+ghost use Rattle.std.specs.Prelude.{◌≡◌, ℕ, ◌<◌, ◌^◌, ◌++◌, ◌∷◌, [], List, true, false, replicate};
 ghost use Rattle.turn_history.specs.Holdings.{Holding, own_of, with_own};
 ghost use Rattle.turn_trials.specs.Tallying.{StandsFor, Gains, entry};
 
