@@ -11,8 +11,8 @@ use crate::steps::{Come, Gather};
 
 /// A lock that ends, with the passes that were handed in so far.
 pub struct Ending<V: Historic> {
-    pub lock: HistoryLock<V>,
-    pub last: Pass<V>,
+    pub(crate) lock: HistoryLock<V>,
+    pub(crate) last: Pass<V>,
     ghost table: { last.table_id ≡ lock.table.shared.table_id },
     ghost watching: { (last.me.0.number ≡ 0) × (last.me.0.in_turn ≡ false) },
 }

@@ -10,6 +10,6 @@ use std::alloc::Global;
 /// A value under a lock.
 #[derive(Drop)]
 pub struct HistoryLock<V: Historic> {
-    pub table: Table<Option<V>, View<V::Entry, V::Base>, Opening<V>, Turns<V>, Global>,
+    pub(crate) table: Table<Option<V>, View<V::Entry, V::Base>, Opening<V>, Turns<V>, Global>,
     ghost sized: { (table.shared.table_id.words ≡ 2) × (table.shared.table_id.slots ≡ 1) },
 }

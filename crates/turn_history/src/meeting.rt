@@ -20,7 +20,8 @@ impl<V: Historic> HistoryLock<V> {
     }
 
     /// Takes in another pass. The pass has then seen the longer of both histories, and has the
-    /// turns of both.
+    /// turns of both. It keeps its number and its calls: nobody hands in those of the other any
+    /// more when the lock is closed.
     pub fn join(&self, pass: &mut Pass<V>, other: Pass<V>)
         requires own { pass.old.table_id ≡ self.now.table.shared.table_id }
         requires idle { IsIdle self.now.table.shared.table_id other }

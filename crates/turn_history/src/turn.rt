@@ -15,9 +15,9 @@ use std::sync::Wait;
 
 /// A turn, with the value. It must be spent by `leave`.
 pub struct Turn<V> {
-    pub value: V,
-    /// The length of the history as the turn began.
-    pub entries: u64,
+    pub(crate) value: V,
+    // The length of the history as the turn began.
+    pub(crate) entries: u64,
 }
 
 impl<V> Turn<V> {
