@@ -18,7 +18,8 @@ length_map : (rs : List (Runner Own)) → length (map (λ (r : Runner Own). r.pa
 length_map [] = refl
 length_map (r ∷ rs) = ap suc (length_map rs)
 
-new_is_at : (lock : TableId) (opened k : ℕ) (p : Own) → p.table_id ≡ lock → p.me ≡ (new_pass (start opened) (k + 1), []) → IsAt lock opened p []
+-- a new pass has made no call
+pub new_is_at : (lock : TableId) (opened k : ℕ) (p : Own) → p.table_id ≡ lock → p.me ≡ (new_pass (start opened) (k + 1), []) → IsAt lock opened p []
 new_is_at lock opened k p table me = record {
   table = table;
   outside = (ap (λ m. m.0.ticket) me, ap (λ m. m.0.in_turn) me, ap (λ m. m.1) me);

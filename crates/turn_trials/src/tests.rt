@@ -1,4 +1,4 @@
-use crate::{Ran, run};
+use crate::{Ran, run, run_alone};
 use std::process::Abort;
 use std::test::Fail;
 
@@ -36,5 +36,12 @@ fn two_passes_meet(rt: HostRuntime) -> Result<(), Fail> {
     let mut taken = Vec::from_elem(rt.alloc(), false, 20)?;
     check(&rt, &ran, &mut taken);
     assert!(&rt; ran.front >= 22 && ran.front <= 24);
+    Ok(())
+}
+
+#[test]
+fn a_pass_alone(rt: HostRuntime) -> Result<(), Fail> {
+    let tally = run_alone(&rt, rt.alloc(), 8).ok_or("memory")?;
+    assert!(&rt; tally.sum == 13 && tally.entries == 1);
     Ok(())
 }
