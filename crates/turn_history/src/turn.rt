@@ -47,7 +47,7 @@ impl<V: Historic> HistoryLock<V> {
     {
         let shared = &self.table.shared;
         let ticket = shared.fetch_add::<Draw>(pass, 1, 1);
-        let mut looks = 0;
+        let mut looks = 0u32;
         for _ in rt.forever() {
             let ended = shared.load::<Look>(pass, 0);
             if ended == ticket {
@@ -56,7 +56,7 @@ impl<V: Historic> HistoryLock<V> {
                 return Turn { value, entries };
             }
             waiting::pause(rt, shared, ended, looks);
-            looks = waiting::next(looks);
+            looks = looks.saturating_add(1);
         }
         unreachable!()
     }

@@ -36,11 +36,6 @@ pub(crate) fn pause<V: Historic, R: Wait>(rt: &R, board: &Board<V>, ended: u64, 
     }
 }
 
-/// The number of looks after one more. It stands still once the looks are no longer quick.
-pub(crate) fn next(looks: u32) -> u32 {
-    looks.saturating_add(1)
-}
-
 /// Wakes those that sleep, where a further ticket than that of the ended turn was drawn. Whoever
 /// draws one later finds that the turn has ended, and need not be woken.
 pub(crate) fn wake<V: Historic>(board: &Board<V>, ticket: u64)
