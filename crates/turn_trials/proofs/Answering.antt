@@ -10,8 +10,8 @@ use Rattle.turn_history.proofs.Keeping.{some_same}
 use Rattle.turn_history.proofs.Using.{placed, no_fewer}
 use Rattle.turn_trials.specs.declared.tally.Entry.{Entry}
 use Rattle.turn_trials.specs.declared.tally.Start.{Start}
-use Rattle.turn_trials.specs.Tallying.{entry, start, sum_after}
-use Rattle.turn_trials.specs.Calling.{Answered}
+use Rattle.turn_trials.specs.Tallying.{addition, start, sum_after}
+use Rattle.turn_trials.specs.Calling.{IsAddedAt}
 
 take_all : (es : List Entry) (e : Entry) → take (length es + 1) (es ++ e ∷ []) ≡ es ++ e ∷ []
 take_all [] e = refl
@@ -19,9 +19,9 @@ take_all (x ∷ xs) e = ap (λ n. take n (x ∷ (xs ++ e ∷ []))) (let z : suc 
 
 -- v before the call, w in its turn, u afterwards
 pub answered : (opened : ℕ) (v w u : View Entry Start) (amount sum : ℕ) (own : Holding) → w.number ≡ v.number → w.calls ≡ v.calls → StartsWith w.seen v.seen
-    → sum ≡ sum_after opened (entries_of w.seen ++ entry w.number amount ∷ []) → u ≡ after_turn w (Some (entry w.number amount)) own → Answered opened v u amount (length (entries_of w.seen)) sum
-answered opened v w u amount sum own number calls pre sums is = let e : Entry = entry w.number amount in let es : List Entry = entries_of w.seen in
-    let same : e ≡ entry v.number amount = ap (λ n. entry n amount) number in
+    → sum ≡ sum_after opened (entries_of w.seen ++ addition w.number amount ∷ []) → u ≡ after_turn w (Some (addition w.number amount)) own → IsAddedAt opened v u amount (length (entries_of w.seen)) sum
+answered opened v w u amount sum own number calls pre sums is = let e : Entry = addition w.number amount in let es : List Entry = entries_of w.seen in
+    let same : e ≡ addition v.number amount = ap (λ n. addition n amount) number in
     let seen : u.seen ≡ w.seen ++ Some e ∷ [] = ap (λ (x : View Entry Start). x.seen) is in
     let now : entries_of u.seen ≡ es ++ e ∷ [] = ap entries_of seen ∙ entries-append w.seen (Some e ∷ []) in record {
       after_seen = no_fewer w.seen v.seen pre;

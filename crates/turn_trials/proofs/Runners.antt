@@ -5,8 +5,8 @@ use Rattle.atomic_table.specs.Seated.{TableId}
 use Rattle.turn_history.specs.Views.{OwnCalls, new_pass}
 use Rattle.turn_history.specs.Passes.{AreNew}
 use Rattle.turn_trials.specs.declared.running.Runner.{Runner}
-use Rattle.turn_trials.specs.Tallying.{entry_by, start}
-use Rattle.turn_trials.specs.Calling.{IsAt}
+use Rattle.turn_trials.specs.Tallying.{signer, start}
+use Rattle.turn_trials.specs.Calling.{IsBetweenCalls}
 use Rattle.turn_trials.specs.Running.{IsReady, Own}
 
 get_map : (rs : List (Runner Own)) (k : ℕ) (d : Runner Own) → get_or (map (λ (r : Runner Own). r.pass) rs) k d.pass ≡ (get_or rs k d).pass
@@ -19,13 +19,13 @@ length_map [] = refl
 length_map (r ∷ rs) = ap suc (length_map rs)
 
 -- a new pass has made no call
-pub new_is_at : (lock : TableId) (opened k : ℕ) (p : Own) → p.table_id ≡ lock → p.me ≡ (new_pass (start opened) (k + 1), []) → IsAt lock opened p []
+pub new_is_at : (lock : TableId) (opened k : ℕ) (p : Own) → p.table_id ≡ lock → p.me ≡ (new_pass (start opened) (k + 1), []) → IsBetweenCalls lock opened p []
 new_is_at lock opened k p table me = record {
   table = table;
   outside = (ap (λ m. m.0.ticket) me, ap (λ m. m.0.in_turn) me, ap (λ m. m.1) me);
   based = ap (λ m. m.0.base) me;
   numbered = let n = ap (λ m. m.0.number) me in omega arith;
-  calls = subst (λ m. OwnCalls entry_by m.0) (sym me) (λ _. refl);
+  calls = subst (λ m. OwnCalls signer m.0) (sym me) (λ _. refl);
   has = ap (λ m. m.0.holding) me;
 }
 

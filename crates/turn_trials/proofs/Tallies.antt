@@ -2,7 +2,7 @@
 use Rattle.std.proofs.Common.{◌≡◌, ℕ, zero, suc, ◌+◌, ◌-◌, ◌%◌, ◌^◌, ◌<◌, ◌≤◌, Bool, List, [], ◌∷◌, ◌++◌, length, replicate, get_or, set, refl, sym, ap, ◌∙◌, arith, length-append}
 use Rattle.turn_history.specs.Holdings.{Holding, own_of, with_own}
 use Rattle.turn_trials.specs.declared.tally.Entry.{Entry}
-use Rattle.turn_trials.specs.Tallying.{StandsFor, Gains, entry, sum_after, out_of}
+use Rattle.turn_trials.specs.Tallying.{IsTallyOf, Gains, addition, sum_after, out_of}
 
 pub none_out : (n : ℕ) → out_of (replicate n []) ≡ 0
 none_out zero = refl
@@ -13,10 +13,10 @@ sum_snoc sum [] e = refl
 sum_snoc sum (x ∷ xs) e = sum_snoc ((sum + x.amount) % 2 ^ 64) xs e
 
 pub adds : (sum entries opened by amount sum' : ℕ) (lent : Bool) (es : List Entry) (holdings : List Holding) → sum' ≡ (sum + amount) % 2 ^ 64
-    → StandsFor sum entries lent opened es holdings → StandsFor sum' (entries + 1) lent opened (es ++ entry by amount ∷ []) holdings
+    → IsTallyOf sum entries lent opened es holdings → IsTallyOf sum' (entries + 1) lent opened (es ++ addition by amount ∷ []) holdings
 adds sum entries opened by amount sum' lent es holdings is s = record {
-  sum_is = is ∙ (ap (λ x. (x + amount) % 2 ^ 64) s.sum_is ∙ sym (sum_snoc opened es (entry by amount)));
-  entries_are = let r = s.entries_are in omega (arith, length-append es (entry by amount ∷ []));
+  sum_is = is ∙ (ap (λ x. (x + amount) % 2 ^ 64) s.sum_is ∙ sym (sum_snoc opened es (addition by amount)));
+  entries_are = let r = s.entries_are in omega (arith, length-append es (addition by amount ∷ []));
   lent_is = s.lent_is;
 }
 

@@ -4,11 +4,11 @@ use Rattle.turn_history.specs.Holdings.{Holding}
 use Rattle.turn_trials.specs.declared.tally.Entry.{Entry}
 use Rattle.turn_trials.specs.declared.tally.Start.{Start}
 
-abbrev pub entry : ℕ → ℕ → Entry
-entry by amount = record { by = by; amount = amount }
+abbrev pub addition : ℕ → ℕ → Entry
+addition by amount = record { by = by; amount = amount }
 
-abbrev pub entry_by : Entry → ℕ
-entry_by e = e.by
+abbrev pub signer : Entry → ℕ
+signer e = e.by
 
 abbrev pub start : ℕ → Start
 start sum = record { sum = sum }
@@ -27,7 +27,7 @@ out_of (own ∷ holdings) = length own + out_of holdings
 abbrev pub Gains : List Holding → List Holding → Type 0
 Gains more less = out_of more ≡ out_of less + 1
 
-pub record StandsFor (sum entries : ℕ) (lent : Bool) (opened : ℕ) (history : List Entry) (holdings : List Holding) : Type 0 where
+pub record IsTallyOf (sum entries : ℕ) (lent : Bool) (opened : ℕ) (history : List Entry) (holdings : List Holding) : Type 0 where
   pub sum_is : sum ≡ sum_after opened history
   pub entries_are : entries ≡ length history
   pub lent_is : out_of holdings ≡ cond lent 1 0

@@ -1,6 +1,6 @@
 //! A lock of one pass, which is closed after one call.
 ghost use Rattle.std.specs.Prelude.{◌≡◌, ◌<◌, ◌+◌, ◌%◌, ◌^◌, [], IfSome};
-ghost use Rattle.turn_trials.specs.Calling.{IsAt};
+ghost use Rattle.turn_trials.specs.Calling.{IsBetweenCalls};
 
 use crate::calls::add;
 use crate::tally::Tally;
@@ -15,7 +15,7 @@ fn add_and_close<R: Wait>(
     mut pass: Pass<Tally>,
     amount: u64,
 ) -> Tally
-    requires at { IsAt lock.table.shared.table_id lock.table.shared.key.value.value.opened.value pass [] }
+    requires at { IsBetweenCalls lock.table.shared.table_id lock.table.shared.key.value.value.opened.value pass [] }
     requires left { 0 < pass.me.0.turns_left }
     requires alone { (pass.me.0.number ≡ 1) × (pass.me.0.weight ≡ 1) × (lock.table.shared.key.passes ≡ 1) × (pass.me.0.calls ≡ []) }
     ensures { result.sum ≡ (lock.table.shared.key.value.value.opened.value + amount) % 2 ^ 64 }

@@ -1,6 +1,6 @@
 //! Calls of one turn.
 ghost use Rattle.std.specs.Prelude.{◌≡◌, ◌<◌, [], cond};
-ghost use Rattle.turn_trials.specs.Calling.{Answered, IsAt, IsOneTurnOn, thing};
+ghost use Rattle.turn_trials.specs.Calling.{IsAddedAt, IsBetweenCalls, IsOneTurnOn, thing};
 
 use crate::leaving::{leave_with_entry, leave_with_thing};
 use crate::tally::Tally;
@@ -15,11 +15,11 @@ pub(crate) fn add<R: Wait>(
     pass: &mut Pass<Tally>,
     amount: u64,
 ) -> (u64, u64)
-    requires at { IsAt lock.now.table.shared.table_id lock.now.table.shared.key.value.value.opened.value pass.old [] }
+    requires at { IsBetweenCalls lock.now.table.shared.table_id lock.now.table.shared.key.value.value.opened.value pass.old [] }
     requires left { 0 < pass.old.me.0.turns_left }
-    ensures at { IsAt lock.now.table.shared.table_id lock.now.table.shared.key.value.value.opened.value pass.new [] }
+    ensures at { IsBetweenCalls lock.now.table.shared.table_id lock.now.table.shared.key.value.value.opened.value pass.new [] }
     ensures on { IsOneTurnOn pass.old.me.0 pass.new.me.0 }
-    ensures answered { Answered lock.now.table.shared.key.value.value.opened.value pass.old.me.0 pass.new.me.0 amount result.0 result.1 }
+    ensures answered { IsAddedAt lock.now.table.shared.key.value.value.opened.value pass.old.me.0 pass.new.me.0 amount result.0 result.1 }
 {
     let mut turn = lock.enter(rt, pass);
     let sum = turn.value().add(amount);
@@ -33,9 +33,9 @@ pub(crate) fn borrow_thing<R: Wait>(
     lock: &HistoryLock<Tally>,
     pass: &mut Pass<Tally>,
 ) -> bool
-    requires at { IsAt lock.now.table.shared.table_id lock.now.table.shared.key.value.value.opened.value pass.old [] }
+    requires at { IsBetweenCalls lock.now.table.shared.table_id lock.now.table.shared.key.value.value.opened.value pass.old [] }
     requires left { 0 < pass.old.me.0.turns_left }
-    ensures at { IsAt lock.now.table.shared.table_id lock.now.table.shared.key.value.value.opened.value pass.new (cond result thing []) }
+    ensures at { IsBetweenCalls lock.now.table.shared.table_id lock.now.table.shared.key.value.value.opened.value pass.new (cond result thing []) }
     ensures on { IsOneTurnOn pass.old.me.0 pass.new.me.0 }
 {
     let mut turn = lock.enter(rt, pass);
@@ -46,9 +46,9 @@ pub(crate) fn borrow_thing<R: Wait>(
 
 /// Gives the thing back.
 pub(crate) fn give_back<R: Wait>(rt: &R, lock: &HistoryLock<Tally>, pass: &mut Pass<Tally>)
-    requires at { IsAt lock.now.table.shared.table_id lock.now.table.shared.key.value.value.opened.value pass.old thing }
+    requires at { IsBetweenCalls lock.now.table.shared.table_id lock.now.table.shared.key.value.value.opened.value pass.old thing }
     requires left { 0 < pass.old.me.0.turns_left }
-    ensures at { IsAt lock.now.table.shared.table_id lock.now.table.shared.key.value.value.opened.value pass.new [] }
+    ensures at { IsBetweenCalls lock.now.table.shared.table_id lock.now.table.shared.key.value.value.opened.value pass.new [] }
     ensures on { IsOneTurnOn pass.old.me.0 pass.new.me.0 }
 {
     let mut turn = lock.enter(rt, pass);

@@ -3,7 +3,7 @@ ghost use Rattle.std.specs.Prelude.{◌≡◌, ◌<◌, ◌≤◌, ◌+◌, ◌*
 ghost use Rattle.atomic_table.specs.Seated.{TableId};
 ghost use Rattle.turn_history.specs.Passes.{AreNew};
 ghost use Rattle.turn_trials.specs.Tallying.{start};
-ghost use Rattle.turn_trials.specs.Calling.{IsAt};
+ghost use Rattle.turn_trials.specs.Calling.{IsBetweenCalls};
 ghost use Rattle.turn_trials.specs.Running.{HasRun, IsReady};
 
 use crate::calls::{add, borrow_thing, give_back};
@@ -76,7 +76,8 @@ fn gather(
 ) -> Option<Pass<Tally>>
     requires ran { All (HasRun lock.now.table.shared.table_id lock.now.table.shared.key.value.value.opened.value) runners.items }
     requires room { (places.old.items ≡ []) × (vec_len runners ≤ vec_capacity places.old) }
-    ensures pass { IfSome result (λ pass. IsAt lock.now.table.shared.table_id lock.now.table.shared.key.value.value.opened.value pass [] × (pass.me.0.weight ≡ vec_len runners)) }
+    ensures places { IfSome result (λ _. vec_len places.new ≡ vec_len runners) }
+    ensures pass { IfSome result (λ pass. IsBetweenCalls lock.now.table.shared.table_id lock.now.table.shared.key.value.value.opened.value pass [] × (pass.me.0.weight ≡ vec_len runners)) }
 {
     let Runner {
         mut pass,
@@ -116,6 +117,7 @@ fn run_all<R: Threads + Wait + Sync>(
 pub fn run<R: Threads + Wait + Sync>(rt: &R, alloc: Global, passes: u8, calls: usize) -> Option<Ran>
     requires passes { (0 < passes) × (passes ≤ 16) }
     requires calls { calls < 2 ^ 32 }
+    ensures { IfSome result (λ ran. vec_len ran.places ≡ passes) }
 {
     let Ok((lock, made)) = HistoryLock::new(alloc, Tally::open(5), passes) else {
         return None;

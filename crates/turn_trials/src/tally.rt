@@ -1,7 +1,7 @@
 //! A tally: the sum of what was added, and one thing that it lends.
 ghost use Rattle.std.specs.Prelude.{◌≡◌, ℕ, ◌<◌, ◌^◌, ◌++◌, ◌∷◌, [], List, true, false, replicate};
 ghost use Rattle.turn_history.specs.Holdings.{Holding, own_of, with_own};
-ghost use Rattle.turn_trials.specs.Tallying.{StandsFor, Gains, entry};
+ghost use Rattle.turn_trials.specs.Tallying.{IsTallyOf, Gains, addition};
 
 use std::snapshot::Snapshot;
 use turn_history::Historic;
@@ -31,11 +31,11 @@ impl Historic for Tally {
 
     type Base = crate::tally::Start;
 
-    ghost use Rattle.turn_trials.specs.Tallying.{StandsFor, entry_by, start};
+    ghost use Rattle.turn_trials.specs.Tallying.{IsTallyOf, signer, start};
 
-    ghost by = { entry_by };
+    ghost by = { signer };
 
-    ghost stands = { λ tally. StandsFor tally.sum tally.entries tally.lent tally.opened.value };
+    ghost stands = { λ tally. IsTallyOf tally.sum tally.entries tally.lent tally.opened.value };
 
     ghost base = { λ tally. start tally.opened.value };
 
@@ -47,7 +47,7 @@ impl Historic for Tally {
 impl Tally {
     pub fn open(sum: u64) -> Tally
         ensures opened { result.opened.value ≡ sum }
-        ensures stands { (n : ℕ) → StandsFor result.sum result.entries result.lent result.opened.value [] (replicate n []) }
+        ensures stands { (n : ℕ) → IsTallyOf result.sum result.entries result.lent result.opened.value [] (replicate n []) }
     {
         Tally {
             sum,
@@ -61,8 +61,8 @@ impl Tally {
     pub fn add(&mut self, amount: u64) -> u64
         requires { self.old.entries < 2 ^ 62 }
         ensures opened { self.new.opened ≡ self.old.opened }
-        ensures next { (by : ℕ) (history : List Entry) (holdings : List Holding) → StandsFor self.old.sum self.old.entries self.old.lent self.old.opened.value history holdings
-            → StandsFor self.new.sum self.new.entries self.new.lent self.new.opened.value (history ++ entry by amount ∷ []) holdings }
+        ensures next { (by : ℕ) (history : List Entry) (holdings : List Holding) → IsTallyOf self.old.sum self.old.entries self.old.lent self.old.opened.value history holdings
+            → IsTallyOf self.new.sum self.new.entries self.new.lent self.new.opened.value (history ++ addition by amount ∷ []) holdings }
         ensures answer { result ≡ self.new.sum }
     {
         self.sum = self.sum.wrapping_add(amount);
@@ -74,8 +74,8 @@ impl Tally {
     pub fn lend(&mut self) -> bool
         ensures opened { self.new.opened ≡ self.old.opened }
         ensures kept { result ≡ false → self.new ≡ self.old }
-        ensures next { result ≡ true → (history : List Entry) (holdings more : List Holding) → Gains more holdings → StandsFor self.old.sum self.old.entries self.old.lent self.old.opened.value history holdings
-            → StandsFor self.new.sum self.new.entries self.new.lent self.new.opened.value history more }
+        ensures next { result ≡ true → (history : List Entry) (holdings more : List Holding) → Gains more holdings → IsTallyOf self.old.sum self.old.entries self.old.lent self.old.opened.value history holdings
+            → IsTallyOf self.new.sum self.new.entries self.new.lent self.new.opened.value history more }
     {
         if self.lent {
             return false;
@@ -87,8 +87,8 @@ impl Tally {
     /// Takes the thing back.
     pub fn take_back(&mut self)
         ensures opened { self.new.opened ≡ self.old.opened }
-        ensures next { (history : List Entry) (holdings less : List Holding) → Gains holdings less → StandsFor self.old.sum self.old.entries self.old.lent self.old.opened.value history holdings
-            → StandsFor self.new.sum self.new.entries self.new.lent self.new.opened.value history less }
+        ensures next { (history : List Entry) (holdings less : List Holding) → Gains holdings less → IsTallyOf self.old.sum self.old.entries self.old.lent self.old.opened.value history holdings
+            → IsTallyOf self.new.sum self.new.entries self.new.lent self.new.opened.value history less }
     {
         self.lent = false;
     }

@@ -1,4 +1,3 @@
-use Rattle.std.proofs.Common.{◌≡◌, ◌∙◌, ap, sym, subst, refl, arith}
 use Rattle.turn_trials.proofs.alone.run_alone.Goals as goal
 
 pub new-requires-clause-stands : goal.new-requires-clause-stands

@@ -25,3 +25,9 @@ close-requires-clause-whole g c = let lock = c.in-Ok.lock in let opened = lock.t
     let own = ap (λ m. m.0.weight) c.split-watcher.ensures.same.2 in let met = c.in-Some-gather.ensures.pass.1 in
     let all = ap weight_of (c.push_reserved.ensures.items ∙ ap (λ l. l ++ c.split-watcher.new.pass ∷ []) c.in-Ok-with_capacity-2.ensures.items) in
     let passes = c.in-Ok.ensures.lock.0 in omega arith
+
+pub returns : goal.returns
+returns g c = let lock = c.in-Ok.lock in let opened = lock.table.shared.key.value.value.opened.value in
+    let new = subst (λ b. AreNew lock.table.shared.table_id b c.args.passes c.in-Ok.made.items) (sym c.in-Ok.ensures.lock.1) c.in-Ok.ensures.passes in
+    let seated = (c.in-Some.ensures lock.table.shared.table_id opened c.args.passes new).0 in
+    c.in-Some-gather.ensures.places ∙ seated
