@@ -1,0 +1,140 @@
+-- The rule at the making and at the end of a lock.
+use Rattle.std.proofs.Common.{◌≡◌, ◌≢◌, ℕ, zero, suc, ◌-◌, ◌<◌, ◌≤◌, false, true≢false, List, [], ◌∷◌, replicate, length, get_or, sym, refl, ap, ◌∙◌, subst, ⊎_elim, inl, inr, arith, Option, Some}
+use mathlib.Core.Logic.{dite}
+use mathlib.Core.Option.{some, none, some-ne-none}
+use mathlib.Core.Option as maybe
+use native.Mathlib.Decide.{ℕ_discrete}
+use lib.ListN.{get_elem?, length-replicate}
+use Rattle.std.proofs.lemmas.List.Elements.{All-nil}
+use Rattle.atomic_table.specs.Table.{State, step, Enters, opening, Final, Seen}
+use Rattle.atomic_table.proofs.Lists.{at_set, at_longer}
+use Rattle.turn_history.specs.declared.pass.View.{View}
+use Rattle.turn_history.specs.History.{entries_of}
+use Rattle.turn_history.specs.Holdings.{Holding, own_of}
+use Rattle.turn_history.specs.Views.{first_view, Mine, spent}
+use Rattle.turn_history.specs.Rule.{Course, Knows, Home, Away, Kept}
+use Rattle.turn_history.specs.Steps.{came}
+use Rattle.turn_history.specs.Closing.{Closing}
+use Rattle.turn_history.proofs.Lists.{at_snoc_end, total_two, total_snoc}
+use Rattle.turn_history.proofs.Keeping.{Signed, some_same, some_is_not, same_at, none_recalled}
+
+module _ {V E B : Type 0} (by : E → ℕ) (stands : V → List E → List Holding → Type 0) (base : V → B) (key : V) (passes : ℕ) where
+  abbrev S : Type 0
+  S = View E B
+
+  abbrev St : Type 0
+  St = State (Option V) S
+
+  abbrev Rule : St → Type 0
+  Rule = Kept by stands base key passes
+
+  abbrev At_home : Course E B → St → Type 0
+  At_home = Home by stands base
+
+  abbrev Gone : St → Type 0
+  Gone = Away by stands base
+
+  pub opens : (x : V) → 0 < passes → passes ≤ 16 → stands x [] (replicate passes []) → base x ≡ base key → Rule (opening (0 ∷ 0 ∷ []) (Some x ∷ []) (first_view (base key) passes))
+  opens x some_passes few stood same = let r : Course E B = record { turns = []; holdings = replicate passes []; tickets = 0; made = 0; maker = 0; seat = λ _. 0; holder = λ _. 0; base = base key } in let first : S = first_view (base key) passes in record {
+    course = r;
+    words = refl;
+    order = omega arith;
+    fuel = omega arith;
+    weighs = omega arith;
+    sized = (length-replicate passes [], omega arith);
+    based = refl;
+    signed = All-nil (Signed by stands base key passes 0);
+    owned = λ n some_n. inl (all_empty passes (n - 1));
+    each = λ j u e. ⊎_elim (λ (x : (j ≡ 0) × (first ≡ u)). subst (λ (y : ℕ × S). Knows by r y.0 y.1) (λ i. (sym x.0 i, x.1 i)) record {
+      seen = ([], refl);
+      based = λ b e. sym (some_same (base key) b e);
+      numbered = λ z. absurd (omega arith);
+      called = λ z. absurd (omega arith);
+      has = λ z. absurd (omega arith);
+      waits = λ t z. absurd (some_is_not t z);
+      in_its_turn = λ z. absurd (true≢false (sym z));
+      makes = λ z. (refl, refl);
+      accounts = none_recalled by stands base key passes r 0 0;
+    })
+        (λ (x : (j ≢ 0) × (get_elem? (first ∷ []) j ≡ some u)). absurd (alone j u x.0 x.1)) (at_set (first ∷ []) 0 j first u e);
+    place = inl record { value = x; at_home = refl; stood = stood; same_base = same; nobody = λ j u e. ⊎_elim (λ (x : (j ≡ 0) × (first ≡ u)). ap (λ (y : S). y.in_turn) (sym x.1)) (λ (x : (j ≢ 0) × (get_elem? (first ∷ []) j ≡ some u)). absurd (alone j u x.0 x.1)) (at_set (first ∷ []) 0 j first u e) };
+  }
+    where
+      alone : (j : ℕ) (u : S) → j ≢ 0 → get_elem? (first_view (base key) passes ∷ []) j ≡ some u → ⊥
+      alone zero u other e = other refl
+      alone (suc j) u other e = some-ne-none u (sym e)
+
+      all_empty : (n i : ℕ) → get_or {A = Holding} (replicate n []) i [] ≡ []
+      all_empty zero i = refl
+      all_empty (suc n) zero = refl
+      all_empty (suc n) (suc i) = all_empty n i
+
+  -- the seat that gathers, at the end
+  pub sits : (slots : ℕ) (me : Mine V E B) → Enters Rule slots 0 (λ n w. came (step slots 0 0 0 none) me n (w, []))
+  sits slots me s k deep fits = let r = k.course in (
+    spent,
+    record {
+      course = r;
+      words = k.words;
+      order = k.order;
+      fuel = let b = total_snoc (λ (u : S). u.turns_left) s.views spent in let f = k.fuel in omega arith;
+      weighs = let b = total_snoc (λ (u : S). u.weight) s.views spent in let f = k.weighs in omega arith;
+      sized = k.sized;
+      based = k.based;
+      signed = k.signed;
+      owned = λ m some_m. ⊎_elim (λ e. inl e) (λ (x : (u : S) × (get_elem? s.views (r.seat m) ≡ some u) × (u.number ≡ m)). inr (x.0, at_longer s.views (spent ∷ []) (r.seat m) x.0 x.1, x.2)) (k.owned m some_m);
+      each = λ j u e. ⊎_elim (λ old. k.each j u old) (λ (x : (spent ≡ u) × (j ≡ length s.views)). subst (λ (y : S). Knows by r j y) x.0 (knows_nothing r j)) (at_snoc_end s.views spent u j e);
+      place = ⊎_elim
+          (λ (h : At_home r s). inl record {
+            value = h.value;
+            at_home = h.at_home;
+            stood = h.stood;
+            same_base = h.same_base;
+            nobody = λ j u e. ⊎_elim (λ old. h.nobody j u old) (λ (x : (spent ≡ u) × (j ≡ length s.views)). ap (λ (y : S). y.in_turn) (sym x.0)) (at_snoc_end s.views spent u j e);
+          })
+          (λ (h : Gone s). inr record { away = h.away; who = h.who; view = h.view; there = at_longer s.views (spent ∷ []) h.who h.view h.there; turns_now = h.turns_now }) k.place;
+    },
+    (refl, refl, refl, refl, refl, refl),
+  )
+    where
+      knows_nothing : (r : Course E B) (j : ℕ) → Knows by r j spent
+      knows_nothing r j = record {
+        seen = (r.turns, refl);
+        based = λ b e. absurd (some_is_not b e);
+        numbered = λ z. absurd (omega arith);
+        called = λ z. absurd (omega arith);
+        has = λ z. absurd (omega arith);
+        waits = λ t z. absurd (some_is_not t z);
+        in_its_turn = λ z. absurd (true≢false (sym z));
+        makes = λ z. absurd (omega arith);
+        accounts = none_recalled by stands base key passes r j 0;
+      }
+
+  empties : (all : List Holding) → ((n : ℕ) → 0 < n → own_of all n ≡ []) → all ≡ replicate (length all) []
+  empties [] none_out = refl
+  empties (x ∷ xs) none_out = λ i. none_out 1 (omega arith) i ∷ empties xs (λ n some_n. ap (λ (k : ℕ). get_or (x ∷ xs) k []) (back n some_n) ∙ none_out (suc n) (omega arith)) i
+    where
+      back : (n : ℕ) → 0 < n → suc (n - 1) ≡ suc n - 1
+      back n some_n = omega arith
+
+  pub closes : (slots id : ℕ) (v : S) (ws : List ℕ) (xs : List (Option V)) → v.number ≡ 0 → v.in_turn ≡ false → v.weight ≡ passes → Final (Seen Rule id v) ws xs
+      → (x : V) × (get_elem? xs 0 ≡ some (Some x)) × Closing by stands base key passes x v.accounts
+  closes slots id v ws xs watching out whole final = let s = final.0 in let k = final.1.0 in let at = final.1.1 in let r = k.course in let mine = k.each id v at in let size = k.sized in
+      let alone : (j : ℕ) (u : S) → get_elem? s.views j ≡ some u → 0 < u.number → ⊥ = λ j u there some_n. dite (ℕ_discrete j id)
+      (λ e. let same = ap (λ (y : S). y.number) (same_at by stands base key passes s.views id j v u at there e) in absurd (omega arith))
+      (λ ne. let heavy = ((k.each j u there).numbered some_n).2 in let two = total_two (λ (y : S). y.weight) s.views j id u v there at ne in let w = k.weighs in absurd (omega arith)) in
+      ⊎_elim
+      (λ (h : At_home r s). (
+        h.value,
+        final.4 0 (Some h.value) (ap (λ (l : List (maybe.Option (Option V))). get_elem? l 0) h.at_home),
+        record {
+          turns = r.turns;
+          stood = subst (λ (l : List Holding). stands h.value (entries_of r.turns) l) (empties r.holdings (λ n some_n. ⊎_elim (λ e. e) (λ (x : (u : S) × (get_elem? s.views (r.seat n) ≡ some u) × (u.number ≡ n)). absurd (alone (r.seat n) x.0 x.1 (let is = x.2 in omega arith))) (k.owned n some_n)) ∙ ap (λ (n : ℕ). replicate n []) size.0) h.stood;
+          same_base = h.same_base ∙ k.based;
+          signed = λ i d lt. let a = k.signed i d lt in let le = a.1 in let few = size.1 in (a.0, omega arith);
+          seen = λ i d lt. (mine.accounts i d lt).seen;
+          called = λ i d lt z. ((mine.accounts i d lt).called z).3;
+        },
+      ))
+      (λ (h : Gone s). let theirs = k.each h.who h.view h.there in absurd (alone h.who h.view h.there (theirs.waits (length r.turns) (theirs.in_its_turn h.turns_now).0).3))
+      k.place

@@ -1,0 +1,193 @@
+-- A join keeps the rule.
+use Rattle.std.proofs.Common.{◌≡◌, ◌≢◌, ◌⊎◌, ℕ, suc, ◌+◌, ◌<◌, true, false, true≢false, List, [], ◌∷◌, ◌++◌, All, cond, length, get_or, set, sym, refl, ap, ◌∙◌, subst, ⊎_elim, inl, inr, arith, Option, length-append}
+use mathlib.Core.Logic.{dite}
+use mathlib.Core.Option.{some, none}
+use native.Mathlib.Decide.{ℕ_discrete, dec_lt}
+use lib.ListN.{get_elem?}
+use Rattle.std.proofs.lemmas.Bool.{le-ltb, lt-ltb}
+use Rattle.std.proofs.lemmas.List.Elements.{All-append, All-cons}
+use Rattle.atomic_table.specs.Table.{State, step, keeps, Allows, Joins}
+use Rattle.atomic_table.proofs.Lists.{at_set, set_else}
+use Rattle.turn_history.specs.declared.pass.Account.{Account}
+use Rattle.turn_history.specs.declared.pass.View.{View}
+use Rattle.turn_history.specs.History.{entries_of, calls_by, StartsWith}
+use Rattle.turn_history.specs.Holdings.{Holding, own_of}
+use Rattle.turn_history.specs.Views.{Mine, spent, longer, account, merged, gathering}
+use Rattle.turn_history.specs.Rule.{Course, Remembers, Knows, Home, Away, Kept}
+use Rattle.turn_history.specs.Steps.{compared}
+use Rattle.turn_history.proofs.Lists.{put, put_here, put_else, two_beginnings, between, total_set}
+use Rattle.turn_history.proofs.Keeping.{loaded, quiet, later, place_stays, some_is_not, all_set, nobody_still, same_at, there_still, none_recalled}
+
+module _ {V E B : Type 0} (by : E → ℕ) (stands : V → List E → List Holding → Type 0) (base : V → B) (key : V) (passes : ℕ) where
+  abbrev S : Type 0
+  S = View E B
+
+  abbrev St : Type 0
+  St = State (Option V) S
+
+  abbrev Rule : St → Type 0
+  Rule = Kept by stands base key passes
+
+  abbrev At_home : Course E B → St → Type 0
+  At_home = Home by stands base
+
+  abbrev Gone : St → Type 0
+  Gone = Away by stands base
+
+  longer_whole : (whole a b : List (Option E)) → a ≡ whole → StartsWith whole b → longer a b ≡ whole
+  longer_whole whole a b is st = let n = length-append b st.0 in let w = ap (λ (l : List (Option E)). length l) st.1 in let la = ap (λ (l : List (Option E)). length l) is in
+      ap (λ c. cond c b a) (le-ltb (length a) (length b) (omega arith)) ∙ is
+
+  longer_one : (P : List (Option E) → Type 0) (a b : List (Option E)) → P a → (length a < length b → P b) → P (longer a b)
+  longer_one P a b pa pb = dite (dec_lt (length a) (length b)) (λ lt. subst (λ c. P (cond c b a)) (sym (lt-ltb (length a) (length b) lt)) (pb lt)) (λ ge. subst (λ c. P (cond c b a)) (sym (le-ltb (length a) (length b) (omega arith))) pa)
+
+  joins_kept : (s : St) (k : Rule s) (id other : ℕ) (v w both : S) (seat' : ℕ → ℕ) → get_elem? s.views id ≡ some v → other ≢ id → get_elem? s.views other ≡ some w
+      → both.number ≡ v.number → both.in_turn ≡ v.in_turn → both.turns_left ≡ v.turns_left + w.turns_left → both.weight ≡ v.weight + w.weight → w.in_turn ≡ false → w.holding ≡ []
+      → ((n : ℕ) → 0 < n → n ≢ w.number → seat' n ≡ k.course.seat n) → Knows by (record k.course { seat = seat' }) id both
+      → Rule record { words = s.words; homes = s.homes; views = set (set s.views id both) other spent }
+  joins_kept s k id other v w both seat' at apart there number turn left weight idle empty seats mine = let r = k.course in let r' : Course E B = record r { seat = seat' } in let vs : List S = set s.views id both in
+      let there' : get_elem? vs other ≡ some w = set_else s.views id other both apart ∙ there in let theirs_w = k.each other w there in
+      let foreign : (n j : ℕ) → 0 < n → r.seat n ≡ j → j ≢ other → n ≢ w.number = λ n j some_n is ne same. let nu = theirs_w.numbered (omega arith) in ne (sym is ∙ (ap r.seat same ∙ nu.0)) in record {
+        course = r';
+        words = k.words;
+        order = k.order;
+        fuel = let a = total_set (λ (u : S). u.turns_left) s.views id v both at in let b = total_set (λ (u : S). u.turns_left) vs other w spent there' in let f = k.fuel in omega arith;
+        weighs = let a = total_set (λ (u : S). u.weight) s.views id v both at in let b = total_set (λ (u : S). u.weight) vs other w spent there' in let f = k.weighs in omega arith;
+        sized = k.sized;
+        based = k.based;
+        signed = k.signed;
+        owned = λ m some_m. dite (ℕ_discrete m w.number)
+            (λ e. inl (ap (own_of r.holdings) e ∙ (theirs_w.has (omega arith) ∙ empty)))
+            (λ ne. ⊎_elim (λ e. inl e)
+            (λ (x : (u : S) × (get_elem? s.views (r.seat m) ≡ some u) × (u.number ≡ m)). let z = there_still by stands base key passes (λ (u : S). u.number ≡ m) s.views id (r.seat m) v both x.0 at (λ e. number ∙ e) x.1 x.2 in
+            let far : r.seat m ≢ other = λ e. ne (sym x.2 ∙ ap (λ (y : S). y.number) (same_at by stands base key passes s.views other (r.seat m) w x.0 there x.1 e)) in
+            inr (z.0, ap (get_elem? (set vs other spent)) (seats m some_m ne) ∙ (set_else vs other (r.seat m) spent far ∙ z.1), z.2)) (k.owned m some_m));
+        each = all_set by stands base key passes r' vs other spent
+            record {
+              seen = (r.turns, refl);
+              based = λ b e. absurd (some_is_not b e);
+              numbered = λ z. absurd (omega arith);
+              called = λ z. absurd (omega arith);
+              has = λ z. absurd (omega arith);
+              waits = λ t z. absurd (some_is_not t z);
+              in_its_turn = λ z. absurd (true≢false (sym z));
+              makes = λ z. absurd (omega arith);
+              accounts = none_recalled by stands base key passes r' other 0;
+            }
+            (λ j u far e. ⊎_elim
+            (λ (x : (j ≡ id) × (both ≡ u)). subst (λ (y : ℕ × S). Knows by r' y.0 y.1) (λ i. (sym x.0 i, x.1 i)) mine)
+            (λ (x : (j ≢ id) × (get_elem? s.views j ≡ some u)). let theirs = k.each j u x.1 in record {
+              seen = theirs.seen;
+              based = theirs.based;
+              numbered = λ z. let a = theirs.numbered z in (seats u.number z (foreign u.number j z a.0 far) ∙ a.0, a.1, a.2, a.3);
+              called = theirs.called;
+              has = theirs.has;
+              waits = theirs.waits;
+              in_its_turn = theirs.in_its_turn;
+              makes = theirs.makes;
+              accounts = λ q d lt. let a = theirs.accounts q d lt in let g = get_or u.accounts q d in record { seen = a.seen; called = λ z. let b = a.called z in (seats g.number z (foreign g.number j z b.0 far) ∙ b.0, b.1, b.2, b.3) };
+            }) (at_set s.views id j both u e));
+        place = ⊎_elim
+            (λ (h : At_home r s). inl record {
+              value = h.value;
+              at_home = h.at_home;
+              stood = h.stood;
+              same_base = h.same_base;
+              nobody = nobody_still by stands base key passes vs other spent refl (λ j u _ e. nobody_still by stands base key passes s.views id both (turn ∙ h.nobody id v at) (λ i x _ th. h.nobody i x th) j u e);
+            })
+            (λ (h : Gone s). let z = there_still by stands base key passes (λ (u : S). u.in_turn ≡ true) s.views id h.who v both h.view at (λ e. turn ∙ e) h.there h.turns_now in
+            let far : h.who ≢ other = λ e. true≢false (sym h.turns_now ∙ (ap (λ (y : S). y.in_turn) (same_at by stands base key passes s.views other h.who w h.view there h.there e) ∙ idle)) in inr record {
+              away = h.away;
+              who = h.who;
+              view = z.0;
+              there = set_else vs other h.who spent far ∙ z.1;
+              turns_now = z.2;
+            }) k.place;
+      }
+
+  was_there : (views : List S) (id other : ℕ) (both w : S) → ¬ (other ≡ id) → get_elem? (set views id both) other ≡ some w → get_elem? views other ≡ some w
+  was_there views id other both w apart e = sym (set_else views id other both apart) ∙ e
+
+  recalls_more : (r : Course E B) (j number : ℕ) (gs : List (Account E)) (g : Account E) → All (Remembers by r j number) gs → Remembers by r j number g → All (Remembers by r j number) (gs ++ g ∷ [])
+  recalls_more r j number gs g all one = All-append (Remembers by r j number) gs (g ∷ []) all (All-cons (Remembers by r j number) g [] one (none_recalled by stands base key passes r j number))
+
+  pub joins : (id other : ℕ) (v w : S) → w.in_turn ≡ false → w.holding ≡ [] → Joins Rule id v other w (merged v w) spent
+  joins id other v w idle empty s k at apart e = let there = was_there s.views id other (merged v w) w apart e in let r = k.course in let mine = k.each id v at in let theirs = k.each other w there in
+      joins_kept s k id other v w (merged v w) r.seat at apart there refl refl refl refl idle empty (λ n _ _. refl)
+      record {
+        seen = longer_one (StartsWith r.turns) v.seen w.seen mine.seen (λ _. theirs.seen);
+        based = mine.based;
+        numbered = λ z. let a = mine.numbered z in let w0 = a.2 in (a.0, a.1, omega arith, a.3);
+        called = λ z. let a = mine.called z in (
+          a.0,
+          longer_one (λ l. calls_by by v.number (entries_of l) ≡ v.calls) v.seen w.seen a.1
+              (λ lt. between by v.number r.turns v.seen w.seen theirs.seen (two_beginnings r.turns v.seen w.seen mine.seen theirs.seen (omega arith)) (a.1 ∙ sym a.0) ∙ a.1),
+        );
+        has = mine.has;
+        waits = mine.waits;
+        in_its_turn = λ z. let a = mine.in_its_turn z in (a.0, longer_whole r.turns v.seen w.seen a.1 theirs.seen, a.2);
+        makes = mine.makes;
+        accounts = All-append (Remembers by r id v.number) v.accounts (account 0 v.seen [] ∷ account 0 w.seen [] ∷ []) mine.accounts
+            (All-cons (Remembers by r id v.number) (account 0 v.seen []) (account 0 w.seen [] ∷ []) record { seen = mine.seen; called = λ z. absurd (omega arith) }
+            (All-cons (Remembers by r id v.number) (account 0 w.seen []) [] record { seen = theirs.seen; called = λ z. absurd (omega arith) } (none_recalled by stands base key passes r id v.number)));
+      }
+
+  pub gathers : (id other : ℕ) (v w : S) → v.number ≡ 0 → w.in_turn ≡ false → w.holding ≡ [] → Joins Rule id v other w (gathering v w) spent
+  gathers id other v w watching idle empty s k at apart e = let there = was_there s.views id other (gathering v w) w apart e in let r = k.course in let mine = k.each id v at in let theirs = k.each other w there in
+      let seat' : ℕ → ℕ = put r.seat w.number id in let r' : Course E B = record r { seat = seat' } in
+      joins_kept s k id other v w (gathering v w) seat' at apart there refl refl refl refl idle empty (λ n _ ne. put_else r.seat w.number id n ne)
+      record {
+        seen = mine.seen;
+        based = mine.based;
+        numbered = λ z. absurd (omega arith);
+        called = λ z. absurd (omega arith);
+        has = λ z. absurd (omega arith);
+        waits = mine.waits;
+        in_its_turn = mine.in_its_turn;
+        makes = mine.makes;
+        accounts = recalls_more r' id v.number v.accounts (account w.number w.seen w.calls)
+            (λ q d lt. let a = mine.accounts q d lt in let g = get_or v.accounts q d in record {
+              seen = a.seen;
+              called = λ z. let b = a.called z in
+                  (put_else r.seat w.number id g.number (λ same. let nu = theirs.numbered (omega arith) in apart (sym nu.0 ∙ (ap r.seat (sym same) ∙ b.0))) ∙ b.0, b.1, b.2, b.3);
+            })
+            record { seen = theirs.seen; called = λ z. (put_here r.seat w.number id, watching, (theirs.numbered z).1, (theirs.called z).0) };
+      }
+
+  -- a pass that forgets those that it took in
+  pub compares : (slots id : ℕ) (me : Mine V E B) → Allows Rule slots id me 0 (λ n. n) (compared by (step slots 0 0 0 none) me)
+  compares slots id me s k deep at fits = let r = k.course in let T : ℕ = r.tickets in let v = me.0 in let mine = k.each id v at in let ws = loaded by stands base key passes s k in let w : S = record v { accounts = [] } in (
+    w,
+    keeps,
+    tt,
+    subst (λ (x : List ℕ). Rule record { words = x; homes = s.homes; views = set s.views id w }) (sym ws)
+        (quiet by stands base key passes s k T r.holder s.homes id v w at (omega arith) (λ x lt. refl) refl refl refl
+        record {
+          seen = mine.seen;
+          based = mine.based;
+          numbered = mine.numbered;
+          called = mine.called;
+          has = mine.has;
+          waits = mine.waits;
+          in_its_turn = mine.in_its_turn;
+          makes = mine.makes;
+          accounts = none_recalled by stands base key passes (later by stands base key passes r T r.holder) id v.number;
+        }
+        (place_stays by stands base key passes s r (length r.turns ∷ T ∷ []) id v w at refl (later by stands base key passes r T r.holder) refl refl refl k.place)),
+    (refl, (r.turns, λ i d lt. (mine.accounts i d lt).seen), λ z. (mine.called z).1),
+  )
+
+  pub one_of_two : (m m1 m2 : Mine V E B) (w : S) (n slots : ℕ) → m1 ≡ (merged m.0 w, m.1) → compared by (step slots 0 0 0 none) m1 n m2 → StartsWith m.0.seen w.seen ⊎ StartsWith w.seen m.0.seen
+  one_of_two m m1 m2 w n slots is told = let turns = told.1.0 in let gs = m.0.accounts in let all : All (λ (g : Account E). StartsWith turns g.seen) (gs ++ account 0 m.0.seen [] ∷ account 0 w.seen [] ∷ []) = subst (λ (y : Mine V E B). All (λ (g : Account E). StartsWith turns g.seen) y.0.accounts) is told.1.1 in
+      let k = length gs in let d = account 0 m.0.seen [] in
+      let a : StartsWith turns m.0.seen = subst (λ (g : Account E). StartsWith turns g.seen) (next_at gs d (account 0 w.seen [] ∷ []) d) (all k d (omega (arith, length-append gs (account 0 m.0.seen [] ∷ account 0 w.seen [] ∷ [])))) in
+      let b : StartsWith turns w.seen = subst (λ (g : Account E). StartsWith turns g.seen) (last_at gs d (account 0 w.seen []) d) (all (suc k) d (omega (arith, length-append gs (account 0 m.0.seen [] ∷ account 0 w.seen [] ∷ [])))) in
+      dite (dec_lt (length m.0.seen) (length w.seen)) (λ lt. inr (two_beginnings turns m.0.seen w.seen a b (omega arith))) (λ ge. inl (two_beginnings turns w.seen m.0.seen b a (omega arith)))
+    where
+      next_at : (xs : List (Account E)) (y : Account E) (ys : List (Account E)) (d : Account E) → get_or (xs ++ y ∷ ys) (length xs) d ≡ y
+      next_at [] y ys d = refl
+      next_at (x ∷ xs) y ys d = next_at xs y ys d
+
+      last_at : (xs : List (Account E)) (y z d : Account E) → get_or (xs ++ y ∷ z ∷ []) (suc (length xs)) d ≡ z
+      last_at [] y z d = refl
+      last_at (x ∷ xs) y z d = last_at xs y z d

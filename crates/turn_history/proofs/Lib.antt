@@ -1,0 +1,9 @@
+pub mod Lists
+pub mod Keeping
+pub mod Turning
+pub mod Splitting
+pub mod Joining
+pub mod Ends
+pub mod Passes
+pub mod Orders
+pub mod Using

@@ -1,0 +1,250 @@
+-- Each step of a turn keeps the rule.
+use Rattle.std.proofs.Common.{◌≡◌, ◌≢◌, ℕ, ◌+◌, ◌-◌, ◌%◌, ◌^◌, ◌<◌, ◌≤◌, true, false, true≢false, List, [], ◌∷◌, ◌++◌, All, length, get_or, set, sym, refl, ap, ◌∙◌, subst, ⊎_elim, inl, inr, arith, Option, Some, None, length-append, length-set}
+use mathlib.Core.Logic.{dite}
+use mathlib.Core.Option.{some, none}
+use mathlib.Core.Option as maybe
+use native.Mathlib.Decide.{ℕ_discrete}
+use lib.ListN.{get_elem?}
+use lib.Seq.{set-get_or}
+use Rattle.std.proofs.lemmas.List.Elements.{All-append, All-cons, All-nil}
+use Rattle.atomic_table.specs.Table.{State, step, keeps, takes, gives, homes_after, rest, Allows}
+use Rattle.atomic_table.proofs.Lists.{set_again}
+use Rattle.turn_history.specs.declared.pass.View.{View}
+use Rattle.turn_history.specs.History.{entries_of, calls_by, StartsWith, option_list}
+use Rattle.turn_history.specs.Holdings.{Holding, with_own}
+use Rattle.turn_history.specs.Views.{CanEnter, with_ticket, in_its_turn_at, entered, after_turn, Mine}
+use Rattle.turn_history.specs.Rule.{Course, Home, Away, Kept}
+use Rattle.turn_history.specs.Steps.{drawn, Found, looked, ended, fronted}
+use Rattle.turn_history.proofs.Lists.{put, put_here, put_else, begins_itself, begins_longer, at_here, total_set, entries-append, entries_one, calls_snoc_own, calls_snoc_other, own_here, own_else}
+use Rattle.turn_history.proofs.Keeping.{Signed, some_same, some_is_not, not_true, first_carried, all_set, nobody_still, same_at, there_still, place_stays, later, quiet, loaded}
+
+module _ {V E B : Type 0} (by : E → ℕ) (stands : V → List E → List Holding → Type 0) (base : V → B) (key : V) (passes : ℕ) where
+  abbrev S : Type 0
+  S = View E B
+
+  abbrev St : Type 0
+  St = State (Option V) S
+
+  abbrev Rule : St → Type 0
+  Rule = Kept by stands base key passes
+
+  abbrev At_home : Course E B → St → Type 0
+  At_home = Home by stands base
+
+  abbrev Gone : St → Type 0
+  Gone = Away by stands base
+
+  pub draws : (slots id : ℕ) (me : Mine V E B) → CanEnter me → Allows Rule slots id me 1 (λ n. (n + 1) % 2 ^ 64) (drawn (step slots 1 1 0 none) me)
+  draws slots id me can s k deep at fits = let n : ℕ = get_or s.words 1 0 in let r = k.course in let T : ℕ = r.tickets in let free = can.0 in let v = me.0 in let w : S = with_ticket v T in
+      let found : n ≡ T = ap (λ (l : List ℕ). get_or l 1 0) k.words in let left = can.2 in
+      let e = total_set (λ (u : S). u.turns_left) s.views id v (record v { turns_left = 0 }) at in let f = k.fuel in let o = k.order in
+      let next : (n + 1) % 18446744073709551616 ≡ T + 1 = omega arith in
+      let ws : set s.words 1 ((n + 1) % 18446744073709551616) ≡ length r.turns ∷ (T + 1) ∷ [] = ap (λ (l : List ℕ). set l 1 ((n + 1) % 18446744073709551616)) k.words ∙ ap (λ (x : ℕ). length r.turns ∷ x ∷ []) next in
+      let h : ℕ → ℕ = put r.holder T id in let mine = k.each id v at in let r' : Course E B = later by stands base key passes r (T + 1) h in (
+        with_ticket v n,
+        keeps,
+        tt,
+        subst (λ (x : List ℕ × ℕ). Rule record { words = x.0; homes = s.homes; views = set s.views id (with_ticket v x.1) }) (λ i. (sym ws i, sym found i))
+            (quiet by stands base key passes s k (T + 1) h s.homes id v w at (omega arith) (λ x lt. put_else r.holder T id x (λ z. omega arith)) refl (omega arith) refl
+            record {
+              seen = mine.seen;
+              based = mine.based;
+              numbered = mine.numbered;
+              called = mine.called;
+              has = mine.has;
+              waits = λ t e. let same = some_same T t e in (omega arith, omega arith, subst (λ (x : ℕ). put r.holder T id x ≡ id) same (put_here r.holder T id), can.1);
+              in_its_turn = λ e. absurd (true≢false (sym e ∙ free.1));
+              makes = mine.makes;
+              accounts = λ i d lt. let a = mine.accounts i d lt in record { seen = a.seen; called = a.called };
+            }
+            (place_stays by stands base key passes s r (length r.turns ∷ (T + 1) ∷ []) id v w at refl r' refl refl refl k.place)),
+        refl,
+      )
+
+  pub looks : (slots id : ℕ) (me : Mine V E B) (t : ℕ) → me.0.ticket ≡ Some t → me.0.in_turn ≡ false → Allows Rule slots id me 0 (λ n. n) (looked by stands base (step slots 0 0 0 none) me)
+  looks slots id me t drew out s k deep at fits = let n : ℕ = get_or s.words 0 0 in let r = k.course in let T : ℕ = r.tickets in let v = me.0 in let mine = k.each id v at in let ws = loaded by stands base key passes s k in
+      let found : n ≡ length r.turns = ap (λ (l : List ℕ). get_or l 0 0) k.words in let ready = mine.waits t drew in
+      dite (ℕ_discrete n t)
+      (λ own. ⊎_elim
+      (λ (h : At_home r s). let w : S = in_its_turn_at v r.turns r.holdings in let room = k.sized in let nu = mine.numbered ready.3 in let within = nu.1 in let before = ready.1 in (
+        w,
+        takes 0 (Some h.value),
+        ap (λ (l : List (maybe.Option (Option V))). get_elem? l 0) h.at_home,
+        subst (λ (x : List ℕ × List (maybe.Option (Option V))). Rule record { words = x.0; homes = x.1; views = set s.views id w }) (λ i. (sym ws i, set (sym h.at_home i) 0 none))
+            (quiet by stands base key passes s k T r.holder (none ∷ []) id v w at (omega arith) (λ x lt. refl) refl refl refl
+            record {
+              seen = begins_itself r.turns;
+              based = mine.based;
+              numbered = mine.numbered;
+              called = λ z. ((mine.called z).0, (mine.called z).0);
+              has = mine.has;
+              waits = mine.waits;
+              in_its_turn = λ _. (drew ∙ ap (λ (x : ℕ). let y : Option ℕ = Some x in y) (sym own ∙ found), refl, refl);
+              makes = mine.makes;
+              accounts = λ i d lt. let a = mine.accounts i d lt in record { seen = a.seen; called = a.called };
+            }
+            (inr record { away = refl; who = id; view = w; there = at_here s.views id v w at; turns_now = refl })),
+        (
+          (λ _. (
+            h.value,
+            r.turns,
+            r.holdings,
+            refl,
+            refl,
+            record {
+              prefix = mine.seen;
+              own_calls = λ z. (mine.called z).0;
+              stood = h.stood;
+              own_holding = mine.has ready.3;
+              based = nu.3 ∙ ap (λ (b : B). let y : Option B = Some b in y) (sym h.same_base);
+              few = let f = k.fuel in omega arith;
+              inside = omega arith;
+            },
+          )),
+          λ ne. absurd (ne (drew ∙ ap (λ (x : ℕ). let y : Option ℕ = Some x in y) (sym own))),
+        ),
+      ))
+      (λ (h : Gone s). let theirs = k.each h.who h.view h.there in let due = theirs.in_its_turn h.turns_now in let their = theirs.waits (length r.turns) due.0 in
+      let same : h.who ≡ id = sym their.2 ∙ (ap r.holder (sym found ∙ own) ∙ ready.2) in absurd (true≢false (sym h.turns_now ∙ (ap (λ (y : S). y.in_turn) (same_at by stands base key passes s.views id h.who v h.view at h.there same) ∙ out))))
+      k.place)
+      (λ other. (
+        v,
+        keeps,
+        tt,
+        subst (λ (x : List ℕ × List S). Rule record { words = x.0; homes = s.homes; views = x.1 }) (λ i. (sym (set-get_or s.words 0 0) i, sym (set_again s.views id v at) i)) k,
+        ((λ e. absurd (other (some_same n t (sym e ∙ drew)))), λ _. refl),
+      ))
+
+  signed_one : (made n : ℕ) (o : Option E) → 0 < n → n ≤ made → ((z : E) → o ≡ Some z → by z ≡ n) → All (Signed by stands base key passes made) (option_list o)
+  signed_one made n None some_n within same = All-nil (Signed by stands base key passes made)
+  signed_one made n (Some z) some_n within same = let is = same z refl in All-cons (Signed by stands base key passes made) z [] (omega arith, omega arith) (All-nil (Signed by stands base key passes made))
+
+  signed_more : (made n : ℕ) (turns : List (Option E)) (e : Option E) → 0 < n → n ≤ made → ((z : E) → e ≡ Some z → by z ≡ n) → All (Signed by stands base key passes made) (entries_of turns) → All (Signed by stands base key passes made) (entries_of (turns ++ e ∷ []))
+  signed_more made n turns e some_n within own all = subst (All (Signed by stands base key passes made)) (sym (entries-append turns (e ∷ []) ∙ ap (λ l. entries_of turns ++ l) (entries_one e))) (All-append (Signed by stands base key passes made) (entries_of turns) (option_list e) all (signed_one made n e some_n within own))
+
+  pub ends : (slots id : ℕ) (me : Mine V E B) (x : V) (e : Option E) (own : Holding) → me.0.in_turn ≡ true → me.1 ≡ (0, Some x) ∷ [] → 0 < me.0.number → ((z : E) → e ≡ Some z → by z ≡ me.0.number)
+      → stands x (entries_of me.0.seen ++ option_list e) (with_own me.0.holdings me.0.number own) → Some (base x) ≡ me.0.base → Allows Rule slots id me 0 (λ n. (n + 1) % 2 ^ 64) (ended by e own (step slots 0 1 0 none) me)
+  ends slots id me x e own now carries some_n signs stood based s k deep at fits = let n : ℕ = get_or s.words 0 0 in let r = k.course in let T : ℕ = r.tickets in let v = me.0 in let mine = k.each id v at in
+      let L : ℕ = length r.turns in let found : n ≡ L = ap (λ (l : List ℕ). get_or l 0 0) k.words in let due = mine.in_its_turn now in let ready = mine.waits L due.0 in let before = ready.1 in
+      let f = k.fuel in let w : S = after_turn v e own in let m : ℕ = v.number in let nu = mine.numbered some_n in let size = k.sized in let within = nu.1 in
+      let inside : m ≤ length r.holdings = omega arith in
+      let turns' : List (Option E) = r.turns ++ e ∷ [] in let all' : List Holding = with_own r.holdings m own in let r' : Course E B = record r { turns = turns'; holdings = all' } in
+      let longer : length turns' ≡ L + 1 = length-append r.turns (e ∷ []) in
+      let next : (n + 1) % 18446744073709551616 ≡ length turns' = omega arith in
+      let ws : set s.words 0 ((n + 1) % 18446744073709551616) ≡ length turns' ∷ T ∷ [] = ap (λ (l : List ℕ). set l 0 ((n + 1) % 18446744073709551616)) k.words ∙ ap (λ (y : ℕ). y ∷ T ∷ []) next in
+      let new_calls : calls_by by m (entries_of turns') ≡ v.calls ++ option_list e = calls_snoc_own by m r.turns e signs ∙ ap (λ l. l ++ option_list e) (mine.called some_n).0 in
+      ⊎_elim
+      (λ (h : At_home r s). absurd (true≢false (sym now ∙ h.nobody id v at)))
+      (λ (h : Gone s). (
+        w,
+        gives,
+        tt,
+        subst (λ (y : List ℕ × List (maybe.Option (Option V))). Rule record { words = y.0; homes = y.1; views = set s.views id w }) (λ i. (sym ws i, put_home (s.homes) (me.1) x h.away carries i))
+            record {
+              course = r';
+              words = refl;
+              order = omega arith;
+              fuel = let t = total_set (λ (u : S). u.turns_left) s.views id v w at in omega arith;
+              weighs = let t = total_set (λ (u : S). u.weight) s.views id v w at in let g = k.weighs in omega arith;
+              sized = (length-set r.holdings (m - 1) own ∙ size.0, size.1);
+              based = k.based;
+              signed = signed_more r.made m r.turns e some_n nu.1 signs k.signed;
+              owned = λ i some_i. dite (ℕ_discrete i m)
+                  (λ same. inr (w, subst (λ (j : ℕ). get_elem? (set s.views id w) j ≡ some w) (sym nu.0 ∙ ap r.seat (sym same)) (at_here s.views id v w at), sym same))
+                  (λ other. ⊎_elim (λ none_out. inl (own_else r.holdings m i own some_n some_i other ∙ none_out))
+                  (λ (z : (u : S) × (get_elem? s.views (r.seat i) ≡ some u) × (u.number ≡ i)). inr (there_still by stands base key passes (λ (u : S). u.number ≡ i) s.views id (r.seat i) v w z.0 at (λ y. y) z.1 z.2)) (k.owned i some_i));
+              each = all_set by stands base key passes r' s.views id w
+                  record {
+                    seen = subst (λ (l : List (Option E)). StartsWith (r.turns ++ e ∷ []) (l ++ e ∷ [])) (sym due.1) (begins_itself (r.turns ++ e ∷ []));
+                    based = mine.based;
+                    numbered = mine.numbered;
+                    called = λ _. (new_calls, subst (λ (l : List (Option E)). calls_by by m (entries_of (l ++ e ∷ [])) ≡ v.calls ++ option_list e) (sym due.1) new_calls);
+                    has = λ _. own_here r.holdings m own some_n inside;
+                    waits = λ t z. absurd (some_is_not t z);
+                    in_its_turn = λ z. absurd (true≢false (sym z));
+                    makes = mine.makes;
+                    accounts = λ i d lt. let a = mine.accounts i d lt in record { seen = begins_longer r.turns (get_or v.accounts i d).seen (e ∷ []) a.seen; called = λ z. let b = (a.called z).1 in absurd (omega arith) };
+                  }
+                  (λ j u other at'. let theirs = k.each j u at' in record {
+                    seen = begins_longer r.turns u.seen (e ∷ []) theirs.seen;
+                    based = theirs.based;
+                    numbered = theirs.numbered;
+                    called = λ z. (calls_snoc_other by u.number r.turns e (λ y is same. other (sym (theirs.numbered z).0 ∙ (ap r.seat (sym same ∙ signs y is) ∙ nu.0))) ∙ (theirs.called z).0, (theirs.called z).1);
+                    has = λ z. own_else r.holdings m u.number own some_n z (λ same. other (sym (theirs.numbered z).0 ∙ (ap r.seat same ∙ nu.0))) ∙ theirs.has z;
+                    waits = λ t z. let a = theirs.waits t z in let le = a.0 in let apart : t ≢ L = λ same. other (sym a.2 ∙ (ap r.holder same ∙ ready.2)) in (omega arith, a.1, a.2, a.3);
+                    in_its_turn = λ z. absurd (other (sym (theirs.waits L (theirs.in_its_turn z).0).2 ∙ ready.2));
+                    makes = theirs.makes;
+                    accounts = λ i d lt. let a = theirs.accounts i d lt in let g = get_or u.accounts i d in record {
+                      seen = begins_longer r.turns g.seen (e ∷ []) a.seen;
+                      called = λ z. let b = a.called z in (b.0, b.1, b.2, calls_snoc_other by g.number r.turns e (λ y is same. other (sym b.0 ∙ (ap r.seat (sym same ∙ signs y is) ∙ nu.0))) ∙ b.3);
+                    };
+                  });
+              place = inl record {
+                value = x;
+                at_home = refl;
+                stood = subst (λ (l : List E). stands x l all') (sym (entries-append r.turns (e ∷ []) ∙ ap (λ l. entries_of r.turns ++ l) (entries_one e)))
+                    (subst (λ (y : List (Option E) × List Holding). stands x (entries_of y.0 ++ option_list e) (with_own y.1 m own)) (λ i. (due.1 i, due.2 i)) stood);
+                same_base = mine.based (base x) (sym based);
+                nobody = nobody_still by stands base key passes s.views id w refl (λ j u other at'. not_true u.in_turn (λ z. let theirs = k.each j u at' in other (sym (theirs.waits L (theirs.in_its_turn z).0).2 ∙ ready.2)));
+              };
+            },
+        (ap (λ (c : List (ℕ × Option V)). let y : Mine V E B = (w, rest c) in y) carries, λ _. subst (λ (l : List (Option E)). calls_by by m (entries_of (l ++ e ∷ [])) ≡ v.calls ++ option_list e) (sym due.1) new_calls),
+      )) k.place
+    where
+      put_home : (homes : List (maybe.Option (Option V))) (c : List (ℕ × Option V)) (y : V) → homes ≡ none ∷ [] → c ≡ (0, Some y) ∷ [] → some (Some y) ∷ [] ≡ homes_after homes c gives
+      put_home homes c y a b = sym (ap (λ (z : List (maybe.Option (Option V)) × List (ℕ × Option V)). homes_after z.0 z.1 gives) (λ i. (a i, b i)))
+
+  pub fronts : (slots id : ℕ) (me : Mine V E B) → Allows Rule slots id me 0 (λ n. n) (fronted by (step slots 0 0 0 none) me)
+  fronts slots id me s k deep at fits = let n : ℕ = get_or s.words 0 0 in let r = k.course in let T : ℕ = r.tickets in let v = me.0 in let mine = k.each id v at in let ws = loaded by stands base key passes s k in let w : S = record v { seen = r.turns } in
+      let found : n ≡ length r.turns = ap (λ (l : List ℕ). get_or l 0 0) k.words in (
+        w,
+        keeps,
+        tt,
+        subst (λ (x : List ℕ). Rule record { words = x; homes = s.homes; views = set s.views id w }) (sym ws)
+            (quiet by stands base key passes s k T r.holder s.homes id v w at (omega arith) (λ x lt. refl) refl refl refl
+            record {
+              seen = begins_itself r.turns;
+              based = mine.based;
+              numbered = mine.numbered;
+              called = λ z. ((mine.called z).0, (mine.called z).0);
+              has = mine.has;
+              waits = mine.waits;
+              in_its_turn = λ z. let a = mine.in_its_turn z in (a.0, refl, a.2);
+              makes = mine.makes;
+              accounts = λ i d lt. let a = mine.accounts i d lt in record { seen = a.seen; called = a.called };
+            }
+            (place_stays by stands base key passes s r (length r.turns ∷ T ∷ []) id v w at refl (later by stands base key passes r T r.holder) refl refl refl k.place)),
+        (refl, sym found, mine.seen, λ z. (mine.called z).0),
+      )
+
+  pub ends_at : (slots id : ℕ) (me was : Mine V E B) (x : V) (e : Option E) (own : Holding) → me ≡ (was.0, (0, Some x) ∷ rest was.1) → was.1 ≡ (0, None) ∷ [] → was.0.in_turn ≡ true → 0 < was.0.number → ((z : E) → e ≡ Some z → by z ≡ was.0.number)
+      → stands x (entries_of was.0.seen ++ option_list e) (with_own was.0.holdings was.0.number own) → Some (base x) ≡ was.0.base → Allows Rule slots id me 0 (λ n. (n + 1) % 2 ^ 64) (ended by e own (step slots 0 1 0 none) me)
+  ends_at slots id me was x e own is carries now some_n signs stood based = let is' : me ≡ (was.0, (0, Some x) ∷ []) = is ∙ ap (λ (c : List (ℕ × Option V)). let y : Mine V E B = (was.0, (0, Some x) ∷ rest c) in y) carries in
+      subst (λ (m : Mine V E B). Allows Rule slots id m 0 (λ n. (n + 1) % 2 ^ 64) (ended by e own (step slots 0 1 0 none) m)) (sym is') (ends slots id (was.0, (0, Some x) ∷ []) x e own now refl some_n signs stood based)
+
+  pub carried_rest : (c d : List (ℕ × Option V)) (y : ℕ × Option V) → c ≡ y ∷ d → c ≡ y ∷ rest c
+  carried_rest c d y is = is ∙ ap (λ (l : List (ℕ × Option V)). y ∷ l) (sym (ap rest is))
+
+  pub finds_value : (slots n t : ℕ) (m m' : Mine V E B) → looked by stands base (step slots 0 0 0 none) m n m' → m.0.ticket ≡ Some t → n ≡ t → (x : V) × (m'.1 ≡ (0, Some x) ∷ rest m'.1)
+  finds_value slots n t m m' told drew is = let a = told.0 (drew ∙ ap (λ (y : ℕ). let z : Option ℕ = Some y in z) (sym is)) in (a.0, carried_rest m'.1 m.1 (0, Some a.0) a.4)
+
+  pub record Entered (m : Mine V E B) (t : ℕ) (result : Option V) (m' : Mine V E B) : Type 0 where
+    pub value : V
+    pub is : result ≡ Some value
+    pub now : m' ≡ (entered m.0 m'.0, (0, None) ∷ [])
+    pub found : Found by stands base m.0 value m'.0
+
+  pub enters : (slots n t : ℕ) (m m1 m2 m3 m4 : Mine V E B) (result : Option V) → m.1 ≡ [] → m1 ≡ (with_ticket m.0 t, m.1) → m2 ≡ m1 → looked by stands base (step slots 0 0 0 none) m2 n m3 → n ≡ t → m3.1 ≡ (0, result) ∷ rest m3.1 → m4 ≡ (m3.0, (0, None) ∷ rest m3.1) → Entered m t result m4
+  enters slots n t m m1 m2 m3 m4 result bare drew same told is took gave = let m2_is = same ∙ drew in
+      let a = told.0 (ap (λ (y : Mine V E B). y.0.ticket) m2_is ∙ ap (λ (y : ℕ). let z : Option ℕ = Some y in z) (sym is)) in let x = a.0 in
+      let pairs : (0, result) ∷ rest m3.1 ≡ (0, Some x) ∷ m2.1 = sym took ∙ a.4 in
+      let none_else : rest m3.1 ≡ [] = ap rest a.4 ∙ (ap (λ (y : Mine V E B). y.1) m2_is ∙ bare) in
+      let view : m3.0 ≡ in_its_turn_at (with_ticket m.0 t) a.1 a.2 = a.3 ∙ ap (λ (y : Mine V E B). in_its_turn_at y.0 a.1 a.2) m2_is in
+      let f = a.5 in let v_is = ap (λ (y : Mine V E B). y.0) m2_is in let w_is : m3.0 ≡ m4.0 = sym (ap (λ (y : Mine V E B). y.0) gave) in
+      let f' : Found by stands base (with_ticket m.0 t) x m4.0 = subst (λ (y : S × S). Found by stands base y.0 x y.1) (λ i. (v_is i, w_is i)) f in
+      let now : m4 ≡ (in_its_turn_at (with_ticket m.0 t) a.1 a.2, (0, None) ∷ []) = gave ∙ (λ i. (view i, (0, None) ∷ none_else i)) in record {
+        value = x;
+        is = ap first_carried pairs;
+        now = now ∙ ap (λ (y : Mine V E B). let z : Mine V E B = (entered m.0 y.0, (0, None) ∷ []) in z) (sym now);
+        found = record { prefix = f'.prefix; own_calls = f'.own_calls; stood = f'.stood; own_holding = f'.own_holding; based = f'.based; few = f'.few; inside = f'.inside };
+      }

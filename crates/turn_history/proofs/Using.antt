@@ -1,0 +1,61 @@
+-- What a crate above needs of a turn and of passes that meet.
+use Rattle.std.proofs.Common.{◌≡◌, ◌≢◌, ◌⊎◌, ℕ, suc, ◌+◌, ◌-◌, ◌≤◌, eqb, Bool, true, false, cond, eqb-true, List, [], ◌∷◌, ◌++◌, length, sym, refl, ap, ◌∙◌, subst, ⊎_elim, arith, Option, Some, length-append}
+use mathlib.Core.Logic.{dite}
+use native.Mathlib.Decide.{dec_lt}
+use Rattle.std.specs.Prelude.{slice_get}
+use Rattle.std.proofs.lemmas.Bool.{le-ltb, lt-ltb}
+use lib.Seq.{set-get_or}
+use Rattle.turn_history.specs.History.{entries_of, choose, calls_by, StartsWith}
+use Rattle.turn_history.specs.Holdings.{Holding, own_of, with_own}
+use Rattle.turn_history.specs.Views.{longer}
+use Rattle.turn_history.proofs.Lists.{entries-append, calls-append, begins_itself, two_beginnings}
+
+-- nothing changes where a pass keeps what it has
+pub keeps_own : (holdings : List Holding) (n : ℕ) (own : Holding) → own_of holdings n ≡ own → with_own holdings n own ≡ holdings
+keeps_own holdings n own is = ap (λ o. with_own holdings n o) (sym is) ∙ set-get_or holdings (n - 1) []
+
+module _ {E : Type 0} where
+  last_at : (es : List E) (e : E) → slice_get (es ++ e ∷ []) (length es) ≡ Some e
+  last_at [] e = refl
+  last_at (x ∷ xs) e = last_at xs e
+
+  -- an entry stands at its place
+  pub placed : (seen : List (Option E)) (e : E) → slice_get (entries_of (seen ++ Some e ∷ [])) (length (entries_of seen)) ≡ Some e
+  placed seen e = ap (λ l. slice_get l (length (entries_of seen))) (entries-append seen (Some e ∷ [])) ∙ last_at (entries_of seen) e
+
+  -- a longer history has no fewer entries
+  pub no_fewer : (whole part : List (Option E)) → StartsWith whole part → length (entries_of part) ≤ length (entries_of whole)
+  no_fewer whole part s = let a = ap (λ l. length (entries_of l)) s.1 in let b = ap (λ (l : List E). length l) (entries-append part s.0) in omega (arith, length-append (entries_of part) (entries_of s.0))
+
+  -- the longer of two histories, one of which begins the other, begins with both
+  pub longer_left : (a b : List (Option E)) → StartsWith a b ⊎ StartsWith b a → StartsWith (longer a b) a
+  longer_left a b order = dite (dec_lt (length a) (length b))
+      (λ lt. subst (λ c. StartsWith (cond c b a) a) (sym (lt-ltb (length a) (length b) lt)) (⊎_elim (λ (s : StartsWith a b). let n = ap (λ (l : List (Option E)). length l) s.1 in absurd (omega (arith, length-append b s.0))) (λ s. s) order))
+      (λ ge. subst (λ c. StartsWith (cond c b a) a) (sym (le-ltb (length a) (length b) (omega arith))) (begins_itself a))
+
+  same_length : (whole part : List (Option E)) → StartsWith whole part → length whole ≤ length part → StartsWith part whole
+  same_length whole part s le = two_beginnings whole whole part (begins_itself whole) s le
+
+  pub longer_right : (a b : List (Option E)) → StartsWith a b ⊎ StartsWith b a → StartsWith (longer a b) b
+  longer_right a b order = dite (dec_lt (length a) (length b))
+      (λ lt. subst (λ c. StartsWith (cond c b a) b) (sym (lt-ltb (length a) (length b) lt)) (begins_itself b))
+      (λ ge. subst (λ c. StartsWith (cond c b a) b) (sym (le-ltb (length a) (length b) (omega arith))) (⊎_elim (λ s. s) (λ (s : StartsWith b a). same_length b a s (omega arith)) order))
+
+  module _ (by : E → ℕ) where
+    -- the calls of two passes are different entries
+    pub apart : (n m : ℕ) (es : List E) → n ≢ m → length (calls_by by n es) + length (calls_by by m es) ≤ length es
+    apart n m [] ne = omega arith
+    apart n m (e ∷ es) ne = let r = apart n m es ne in
+        chosen (eqb (by e) n) (eqb (by e) m) e (calls_by by n es) (calls_by by m es) (length es) (λ a b. ne (sym (eqb-true (by e) n a) ∙ eqb-true (by e) m b)) r
+      where
+        chosen : (a b : Bool) (e : E) (xs ys : List E) (l : ℕ) → (a ≡ true → b ≡ true → ⊥) → length xs + length ys ≤ l → length (choose a e xs) + length (choose b e ys) ≤ suc l
+        chosen true true e xs ys l not le = absurd (not refl refl)
+        chosen true false e xs ys l not le = omega arith
+        chosen false true e xs ys l not le = omega arith
+        chosen false false e xs ys l not le = omega arith
+
+    -- a longer history has no fewer calls of a pass
+    pub no_fewer_calls : (n : ℕ) (whole part : List (Option E)) → StartsWith whole part → length (calls_by by n (entries_of part)) ≤ length (calls_by by n (entries_of whole))
+    no_fewer_calls n whole part s = let C : List E → List E = calls_by by n in
+        let a = ap (λ l. length (C (entries_of l))) s.1 in let b = ap (λ (l : List E). length (C l)) (entries-append part s.0) in
+        let d = ap (λ (l : List E). length l) (calls-append by n (entries_of part) (entries_of s.0)) in omega (arith, length-append (C (entries_of part)) (C (entries_of s.0)))

@@ -1,0 +1,4 @@
+pub mod Tallies
+pub mod Answering
+pub mod Runners
+pub mod OnePass
