@@ -1,7 +1,7 @@
 -- What the calls on a driver ask and leave. A map is none where the driver doesn't tell it.
-use Rattle.std.specs.Prelude.{◌≡◌, ◌==◌, ℕ, Bool, List, ◌⊎◌, ⊤, Option, None, Some, Result, MatchResult}
+use Rattle.std.specs.Prelude.{◌≡◌, ◌==◌, ℕ, Bool, List, ◌⊎◌, ⊤, Option, None, Some, Result, MatchResult, find}
 use Rattle.std.specs.List.{list_any}
-use Rattle.std.specs.Option.{option_map}
+use Rattle.std.specs.Option.{option_map, option_map_or}
 use Rattle.psa_status.specs.Causes.{one_more}
 use Rattle.alg_encoding.specs.declared.table.Class.TheVariants as class
 use Rattle.alg_encoding.specs.Encoding.{class_of, IsConcrete}
@@ -41,3 +41,7 @@ pub record IsMac (alg tag : ℕ) : Type 0 where
 -- whether one of these locations is that of the primary secure element, 1
 abbrev pub has_element : List ℕ → Bool
 has_element locations = list_any (λ location. location == 1) locations
+
+-- what is known of the first of a list that is such, or another value where there is none
+abbrev pub of_first : {X A : Type 0} → (X → Bool) → (X → A) → A → List X → A
+of_first is_such known other xs = option_map_or known (find is_such xs) other
