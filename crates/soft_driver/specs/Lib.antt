@@ -1,0 +1,4 @@
+pub mod Sizes
+pub mod Room
+pub mod Form
+pub mod Tags

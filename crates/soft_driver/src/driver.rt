@@ -1,0 +1,172 @@
+// The driver in memory.
+ghost use Rattle.std.specs.Prelude.{◌≡◌, ◌↔◌, Some, Err, IsErr, IfOk, OnOk, true};
+ghost use Rattle.psa_status.specs.Causes.{HasCause, one_more};
+ghost use Rattle.psa_status.specs.declared.Failed.{Failed};
+ghost use Rattle.crypto_specs.specs.Aes.{aes_encrypt};
+ghost use Rattle.crypto_specs.specs.Modes.{ecb_encrypt};
+ghost use Rattle.store_model.specs.Algorithms.{mac_of};
+ghost use Rattle.driver_dispatch.specs.Held.{with_copy, with_key, without_key};
+ghost use Rattle.driver_dispatch.specs.Calls.{Changes, CountsServed, Holds};
+ghost use Rattle.soft_driver.specs.Form.{after_computing, after_copy, after_destroy, after_import, brings_no_key, counted, is_listed, new_form};
+
+use crate::macs::fill_mac;
+use crate::room::KeyRoom;
+use alg_encoding::Alg;
+use algorithm_facts::aes_key;
+use cipher_modes::ecb_encrypt;
+use driver_dispatch::Driver;
+use key_attributes::KeyType;
+use psa_status::{Failed, Memory};
+use std::alloc::Global;
+use std::marker::Model;
+
+/// A driver in memory, with room for 4,096 keys. It tells its map. Calls are numbered from 0.
+#[derive(Drop)]
+pub struct SoftDriver {
+    location: u32,
+    room: KeyRoom,
+    fails: Vec<u64>,
+    calls: u64,
+    faults: u64,
+    served: u64,
+}
+
+impl Model for SoftDriver {
+    ghost use Rattle.soft_driver.specs.Form.{SoftForm, form_code};
+
+    ghost Value = { SoftForm };
+
+    ghost coded = { form_code };
+
+    ghost view = { λ d. record { location = d.location; keys = d.room; fails = d.fails.items; calls = d.calls; faults = d.faults; served = d.served } };
+}
+
+impl SoftDriver {
+    /// A driver of a location without a key, whose calls with the listed numbers fail.
+    pub fn new(alloc: Global, location: u32, fails: Vec<u64>) -> Result<SoftDriver, Memory>
+        ensures { IfOk result (λ driver. driver ≡ new_form location fails.items) }
+    {
+        Ok(SoftDriver {
+            location,
+            room: KeyRoom::new(alloc)?,
+            fails,
+            calls: 0,
+            faults: 0,
+            served: 0,
+        })
+    }
+
+    // Counts a call, and says whether its number is listed.
+    fn is_listed(&mut self) -> bool
+        ensures listed { result ≡ is_listed self.old }
+        ensures counted { self.new ≡ counted self.old }
+    {
+        let number = self.calls;
+        self.calls = self.calls.saturating_add(1);
+        self.fails.contains(&number)
+    }
+
+    // A call that fails.
+    fn fail(&mut self) -> Result<(), Failed>
+        ensures fault { self.new ≡ record self.old { faults = one_more self.old.faults } }
+        ensures failed { result ≡ Err Failed }
+    {
+        self.faults = self.faults.saturating_add(1);
+        Err(Failed)
+    }
+}
+
+impl Driver for SoftDriver {
+    ghost keys = { λ d. Some d.keys };
+
+    ghost location_of = { λ d. d.location };
+
+    ghost faults = { λ d. d.faults };
+
+    ghost served = { λ d. d.served };
+
+    fn location(&self) -> u32 {
+        self.location
+    }
+
+    fn import_key(&mut self, handle: u64, key_type: KeyType, bytes: &[u8]) -> Result<(), Failed>
+        ensures after { self.new ≡ after_import self.old handle (record { key_type = key_type.0; bytes = bytes.now }) }
+        ensures fails { IsErr result ↔ (brings_no_key self.old ≡ true) }
+        ensures keys { Changes (with_key handle (record { key_type = key_type.0; bytes = bytes.now })) (Some self.old.keys) (Some self.new.keys) result }
+        ensures served { self.new.served ≡ self.old.served }
+        ensures location { self.new.location ≡ self.old.location }
+        ensures cause { HasCause self.old.faults self.new.faults result }
+    {
+        if self.is_listed() || self.room.is_full() {
+            return self.fail();
+        }
+        self.room.put(handle, key_type, bytes);
+        Ok(())
+    }
+
+    fn destroy_key(&mut self, handle: u64) -> Result<(), Failed>
+        ensures after { self.new ≡ after_destroy self.old handle }
+        ensures fails { IsErr result ↔ (is_listed self.old ≡ true) }
+        ensures keys { Changes (without_key handle) (Some self.old.keys) (Some self.new.keys) result }
+        ensures served { self.new.served ≡ self.old.served }
+        ensures location { self.new.location ≡ self.old.location }
+        ensures cause { HasCause self.old.faults self.new.faults result }
+    {
+        if self.is_listed() {
+            return self.fail();
+        }
+        self.room.remove(handle);
+        Ok(())
+    }
+
+    fn copy_key(&mut self, from: u64, to: u64) -> Result<(), Failed>
+        ensures after { self.new ≡ after_copy self.old from to }
+        ensures fails { IsErr result ↔ (brings_no_key self.old ≡ true) }
+        ensures keys { Changes (with_copy from to) (Some self.old.keys) (Some self.new.keys) result }
+        ensures served { self.new.served ≡ self.old.served }
+        ensures location { self.new.location ≡ self.old.location }
+        ensures cause { HasCause self.old.faults self.new.faults result }
+    {
+        if self.is_listed() || self.room.is_full() {
+            return self.fail();
+        }
+        self.room.copy(from, to);
+        Ok(())
+    }
+
+    fn encrypt_blocks(&mut self, handle: u64, blocks: &mut [u8]) -> Result<(), Failed>
+        ensures after { self.new ≡ after_computing self.old }
+        ensures fails { IsErr result ↔ (is_listed self.old ≡ true) }
+        ensures blocks { OnOk result (Holds (Some self.old.keys) handle (λ key. blocks.new ≡ ecb_encrypt (aes_encrypt key.bytes) blocks.old)) }
+        ensures same { Some self.new.keys ≡ Some self.old.keys }
+        ensures served { CountsServed self.old.served self.new.served result }
+        ensures location { self.new.location ≡ self.old.location }
+        ensures cause { HasCause self.old.faults self.new.faults result }
+    {
+        if self.is_listed() {
+            return self.fail();
+        }
+        let mut key = aes_key(self.room.key(handle));
+        ecb_encrypt(&key, blocks);
+        key.wipe();
+        self.served = self.served.saturating_add(1);
+        Ok(())
+    }
+
+    fn compute_mac(&mut self, handle: u64, alg: Alg, input: &[u8], tag: &mut [u8]) -> Result<(), Failed>
+        ensures after { self.new ≡ after_computing self.old }
+        ensures fails { IsErr result ↔ (is_listed self.old ≡ true) }
+        ensures tag { OnOk result (Holds (Some self.old.keys) handle (λ key. tag.new ≡ mac_of alg.0 key.bytes input.now)) }
+        ensures same { Some self.new.keys ≡ Some self.old.keys }
+        ensures served { CountsServed self.old.served self.new.served result }
+        ensures location { self.new.location ≡ self.old.location }
+        ensures cause { HasCause self.old.faults self.new.faults result }
+    {
+        if self.is_listed() {
+            return self.fail();
+        }
+        fill_mac(alg, self.room.key(handle), input, tag);
+        self.served = self.served.saturating_add(1);
+        Ok(())
+    }
+}
