@@ -69,7 +69,13 @@ pub trait Driver: Send + Drop {
         ensures cause { HasCause (faults self.old) (faults self.new) result };
 
     /// Fills a tag with the MAC of a message under a key of the MAC's type.
-    fn compute_mac(&mut self, handle: u64, alg: Alg, input: &[u8], tag: &mut [u8]) -> Result<(), Failed>
+    fn compute_mac(
+        &mut self,
+        handle: u64,
+        alg: Alg,
+        input: &[u8],
+        tag: &mut [u8],
+    ) -> Result<(), Failed>
         requires mac { IsMac alg.0 (length tag.old) }
         requires fits { Holds (keys self.old) handle (λ key. IsTrue (fits_type alg.0 key.key_type)) }
         ensures tag { OnOk result (Holds (keys self.old) handle (λ key. tag.new ≡ mac_of alg.0 key.bytes input.now)) }

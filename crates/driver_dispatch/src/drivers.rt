@@ -22,9 +22,11 @@ impl Drivers {
     pub fn find(&self, location: u32) -> Option<usize>
         ensures { result ≡ position (λ driver. location_of driver == location) self.now.list.items }
     {
-        self.list.iter().position(|driver| -> bool
-            ensures { result ≡ (location_of driver.now == location) }
-        { driver.location() == location })
+        self.list.iter().position(
+            |driver| -> bool
+                ensures { result ≡ (location_of driver.now == location) }
+            { driver.location() == location },
+        )
     }
 
     /// The driver at a place.

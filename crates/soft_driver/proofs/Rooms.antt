@@ -3,8 +3,7 @@ use Rattle.std.proofs.Common.{◌≡◌, ℕ, zero, suc, ◌+◌, ◌-◌, ◌<�
 use Rattle.std.specs.Prelude.{⊤, Option, Some, None, IfSome, find}
 use Rattle.std.specs.Option.{option_map}
 use Rattle.std.specs.List.{remove, position, position_or_len}
-use Rattle.std.specs.Ordering.{nat_cmp, eq_by_cmp}
-use Rattle.std.specs.Cmp.{unsigned_tied}
+use Rattle.std.specs.Ordering.{nat_cmp}
 use Rattle.std.proofs.lemmas.Cmp.{nat_cmp_total}
 use Rattle.std.proofs.lemmas.Bool.Decides.{nat_tests}
 use Rattle.std.proofs.lemmas.List.{map-append, length-append, take_at}
@@ -45,7 +44,7 @@ pub pushed : (held : List Held) (h : Held) → key_at (keys_of held) h.handle �
 pushed held h none =
     ap finite.from_entries (map-append (λ (x : Held). (x.handle, key_of x)) held (h ∷ []))
     ∙ finite.from_entries_push nat_cmp_total finite.nat_cmp-IsAntisymmetric (map (λ (x : Held). (x.handle, key_of x)) held) h.handle (key_of h)
-      (sym (finite.get-from_entries nat_cmp_total (map (λ (x : Held). (x.handle, key_of x)) held) h.handle) ∙ none)
+    (sym (finite.get-from_entries nat_cmp_total (map (λ (x : Held). (x.handle, key_of x)) held) h.handle) ∙ none)
 
 pub at_most : (held : List Held) → finite.len (keys_of held) ≤ length held
 at_most [] = omega (arith, finite.len-empty nat_cmp HeldKey)
@@ -69,7 +68,7 @@ in_map (h ∷ held) (suc i) d e within =
     let later = in_map held i d parts.1 (omega (arith, within)) in
     put (keys_of held) h.handle (key_of h) (get_or held i d).handle
     ∙ passed ((get_or held i d).handle == h.handle) _ _ (λ t. let same : (get_or held i d).handle ≡ h.handle = grind (arith, nat_tests) in
-      let gone : ◌≡◌ {A = Option HeldKey} (Some (key_of (get_or held i d))) None = sym later ∙ ap (key_at (keys_of held)) same ∙ parts.0 in cc)
+    let gone : ◌≡◌ {A = Option HeldKey} (Some (key_of (get_or held i d))) None = sym later ∙ ap (key_at (keys_of held)) same ∙ parts.0 in cc)
     ∙ later
   where
     passed : (b : Bool) (v : HeldKey) (o : Option HeldKey) → (b ≡ true → ⊥) → cond b (Some v) o ≡ o
@@ -86,7 +85,7 @@ removed (h ∷ held) (suc i) d e within =
     let later = in_map held i d parts.1 (omega (arith, within)) in
     ap (λ m. finite.insert m h.handle (key_of h)) (removed held i d parts.1 (omega (arith, within)))
     ∙ insert-remove (keys_of held) (get_or held i d).handle h.handle (key_of h) (λ same.
-      let gone : ◌≡◌ {A = Option HeldKey} (Some (key_of (get_or held i d))) None = sym later ∙ ap (key_at (keys_of held)) same ∙ parts.0 in cc)
+    let gone : ◌≡◌ {A = Option HeldKey} (Some (key_of (get_or held i d))) None = sym later ∙ ap (key_at (keys_of held)) same ∙ parts.0 in cc)
 
 -- sizes stay within bounds
 pub sized_with : (m : HeldKeys) (handle : ℕ) (key : HeldKey) → IsSized key → AreSized m → AreSized (with_key handle key m)
@@ -112,7 +111,7 @@ pub record IsPlace (held : List Held) (handle place : ℕ) (d : Held) : Type 0 w
 found_in : (held : List Held) (handle place : ℕ) (d : Held) → place ≡ position_or_len (λ h. h.handle == handle) held → place < length held → IsPlace held handle place d
 found_in held handle place d e within =
     let passes : ((get_or held place d).handle == handle) ≡ true =
-        subst (λ n. ((get_or held n d).handle == handle) ≡ true) (sym e) (passes_at_first (λ h. h.handle == handle) held d (subst (λ n. n < length held) e within)) in
+    subst (λ n. ((get_or held n d).handle == handle) ≡ true) (sym e) (passes_at_first (λ h. h.handle == handle) held d (subst (λ n. n < length held) e within)) in
     record {
       within = within;
       handle_there = grind (arith, nat_tests);
@@ -134,8 +133,8 @@ pub absent : (held : List Held) (handle : ℕ) → position (λ h. h.handle == h
 absent held handle e has =
     let past : ltb (position_or_len (λ h. h.handle == handle) held) (length held) ≡ false = none_past _ (position_or_len (λ h. h.handle == handle) held) e in
     let none : key_at (keys_of held) handle ≡ None =
-        at_scan held handle
-        ∙ ap (option_map key_of) (find_at (λ h. h.handle == handle) held ∙ slice_get_past held _ (ltb-false _ _ past)) in
+    at_scan held handle
+    ∙ ap (option_map key_of) (find_at (λ h. h.handle == handle) held ∙ slice_get_past held _ (ltb-false _ _ past)) in
     subst (λ o. HasKey o (λ key. ⊤)) none has
 
 pub filled : (bytes : List ℕ) → bytes_of (buffer_of bytes) ≡ bytes
@@ -169,7 +168,7 @@ pub room_without : (held held' : List Held) (spare spare' : List Buffer) (hc sc 
     held' ≡ remove held place → spare' ≡ spare ++ s ∷ [] → length held' + 1 ≡ length held → hc' ≡ hc → sc' ≡ sc → IsRoom held' spare' hc' sc'
 room_without held held' spare spare' hc sc hc' sc' handle place d s room there clear eh es count eq-h eq-s =
     let keys : keys_of held' ≡ without_key handle (keys_of held) =
-        ap keys_of eh ∙ removed held place d room.distinct there.within ∙ ap (λ k. without_key k (keys_of held)) there.handle_there in
+    ap keys_of eh ∙ removed held place d room.distinct there.within ∙ ap (λ k. without_key k (keys_of held)) there.handle_there in
     let longer : length spare' ≡ length spare + 1 = ap length es ∙ length-append spare (s ∷ []) in
     record {
       distinct = ap finite.len keys ∙ len_fewer (keys_of held) handle (key_of (get_or held place d)) there.key_there ∙ omega (arith, room.distinct, count);

@@ -1,5 +1,5 @@
 -- What holds of the keys that are held.
-use Rattle.std.specs.Prelude.{◌≡◌, ℕ, Bool, ◌==◌, IfSome, IsTrue, length}
+use Rattle.std.specs.Prelude.{ℕ, Bool, ◌==◌, IfSome, IsTrue, length}
 use Rattle.std.specs.FinMap as map
 use Rattle.key_attributes.specs.Checks.{permits_size}
 use Rattle.driver_dispatch.specs.Held.{HeldKey, HeldKeys, key_at}

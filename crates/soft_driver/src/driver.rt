@@ -1,19 +1,18 @@
 // The driver in memory.
-ghost use Rattle.std.specs.Prelude.{◌≡◌, ◌↔◌, Some, Err, IsErr, IfOk, OnOk, true};
+ghost use Rattle.std.specs.Prelude.{◌≡◌, ◌↔◌, ◌%◌, ⊤, Some, IsErr, IfOk, IsTrue, OnOk, true, length};
 ghost use Rattle.psa_status.specs.Causes.{HasCause, one_more};
-ghost use Rattle.psa_status.specs.declared.Failed.{Failed};
+ghost use Rattle.key_attributes.specs.Checks.{is_key_type, permits_size};
 ghost use Rattle.crypto_specs.specs.Aes.{aes_encrypt};
 ghost use Rattle.crypto_specs.specs.Modes.{ecb_encrypt};
 ghost use Rattle.store_model.specs.Algorithms.{mac_of};
+ghost use Rattle.store_model.specs.Rules.{fits_type};
 ghost use Rattle.driver_dispatch.specs.Held.{with_copy, with_key, without_key};
-ghost use Rattle.driver_dispatch.specs.Calls.{Changes, CountsServed, Holds};
+ghost use Rattle.driver_dispatch.specs.Calls.{Changes, CountsServed, Holds, IsMac, Lacks};
 ghost use Rattle.soft_driver.specs.Form.{after_computing, after_copy, after_destroy, after_import, brings_no_key, counted, is_listed, new_form};
 
-use crate::macs::fill_mac;
+use crate::computing::{encipher_blocks, fill_mac};
 use crate::room::KeyRoom;
 use alg_encoding::Alg;
-use algorithm_facts::aes_key;
-use cipher_modes::ecb_encrypt;
 use driver_dispatch::Driver;
 use key_attributes::KeyType;
 use psa_status::{Failed, Memory};
@@ -69,7 +68,8 @@ impl SoftDriver {
     // A call that fails.
     fn fail(&mut self) -> Result<(), Failed>
         ensures fault { self.new ≡ record self.old { faults = one_more self.old.faults } }
-        ensures failed { result ≡ Err Failed }
+        ensures failed { IsErr result }
+        ensures cause { HasCause self.old.faults self.new.faults result }
     {
         self.faults = self.faults.saturating_add(1);
         Err(Failed)
@@ -90,6 +90,9 @@ impl Driver for SoftDriver {
     }
 
     fn import_key(&mut self, handle: u64, key_type: KeyType, bytes: &[u8]) -> Result<(), Failed>
+        requires new { Lacks (Some self.old.keys) handle }
+        requires known { IsTrue (is_key_type key_type.0) }
+        requires size { IsTrue (permits_size key_type.0 (length bytes.now)) }
         ensures after { self.new ≡ after_import self.old handle (record { key_type = key_type.0; bytes = bytes.now }) }
         ensures fails { IsErr result ↔ (brings_no_key self.old ≡ true) }
         ensures keys { Changes (with_key handle (record { key_type = key_type.0; bytes = bytes.now })) (Some self.old.keys) (Some self.new.keys) result }
@@ -105,6 +108,7 @@ impl Driver for SoftDriver {
     }
 
     fn destroy_key(&mut self, handle: u64) -> Result<(), Failed>
+        requires { Holds (Some self.old.keys) handle (λ key. ⊤) }
         ensures after { self.new ≡ after_destroy self.old handle }
         ensures fails { IsErr result ↔ (is_listed self.old ≡ true) }
         ensures keys { Changes (without_key handle) (Some self.old.keys) (Some self.new.keys) result }
@@ -120,6 +124,8 @@ impl Driver for SoftDriver {
     }
 
     fn copy_key(&mut self, from: u64, to: u64) -> Result<(), Failed>
+        requires source { Holds (Some self.old.keys) from (λ key. ⊤) }
+        requires new { Lacks (Some self.old.keys) to }
         ensures after { self.new ≡ after_copy self.old from to }
         ensures fails { IsErr result ↔ (brings_no_key self.old ≡ true) }
         ensures keys { Changes (with_copy from to) (Some self.old.keys) (Some self.new.keys) result }
@@ -135,6 +141,8 @@ impl Driver for SoftDriver {
     }
 
     fn encrypt_blocks(&mut self, handle: u64, blocks: &mut [u8]) -> Result<(), Failed>
+        requires aes { Holds (Some self.old.keys) handle (λ key. key.key_type ≡ 0x2400) }
+        requires whole { length blocks.old % 16 ≡ 0 }
         ensures after { self.new ≡ after_computing self.old }
         ensures fails { IsErr result ↔ (is_listed self.old ≡ true) }
         ensures blocks { OnOk result (Holds (Some self.old.keys) handle (λ key. blocks.new ≡ ecb_encrypt (aes_encrypt key.bytes) blocks.old)) }
@@ -146,14 +154,20 @@ impl Driver for SoftDriver {
         if self.is_listed() {
             return self.fail();
         }
-        let mut key = aes_key(self.room.key(handle));
-        ecb_encrypt(&key, blocks);
-        key.wipe();
+        encipher_blocks(self.room.key(handle), blocks);
         self.served = self.served.saturating_add(1);
         Ok(())
     }
 
-    fn compute_mac(&mut self, handle: u64, alg: Alg, input: &[u8], tag: &mut [u8]) -> Result<(), Failed>
+    fn compute_mac(
+        &mut self,
+        handle: u64,
+        alg: Alg,
+        input: &[u8],
+        tag: &mut [u8],
+    ) -> Result<(), Failed>
+        requires mac { IsMac alg.0 (length tag.old) }
+        requires fits { Holds (Some self.old.keys) handle (λ key. IsTrue (fits_type alg.0 key.key_type)) }
         ensures after { self.new ≡ after_computing self.old }
         ensures fails { IsErr result ↔ (is_listed self.old ≡ true) }
         ensures tag { OnOk result (Holds (Some self.old.keys) handle (λ key. tag.new ≡ mac_of alg.0 key.bytes input.now)) }

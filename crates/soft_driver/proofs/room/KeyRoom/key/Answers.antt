@@ -1,6 +1,6 @@
-use Rattle.std.proofs.Common.{◌≡◌, ℕ, ap, sym, subst, ◌∙◌}
-use Rattle.std.specs.Prelude.{Option, Some, IfSome}
-use Rattle.driver_dispatch.specs.Held.{HeldKey, key_at}
+use Rattle.std.proofs.Common.{◌≡◌, ap, sym, subst, ◌∙◌}
+use Rattle.std.specs.Prelude.{Some, IfSome}
+use Rattle.driver_dispatch.specs.Held.{key_at}
 use Rattle.driver_dispatch.specs.Calls.{HasKey}
 use Rattle.soft_driver.specs.Sizes.{IsSized}
 use Rattle.soft_driver.specs.Room.{key_of}
@@ -11,6 +11,6 @@ pub returns : goal.returns
 returns c =
     let place = found c.self.inside.held.items c.deref.result.now c.args.handle c.held_place-place.result c.index.result.now c.deref.ensures.value c.held_place-place.ensures.first c.held_place-place.ensures.inside in
     let there : key_at c.args.self.now c.args.handle ≡ Some (key_of c.index.result.now) =
-        ap (λ m. key_at m c.args.handle) (sym c.self.view_is) ∙ place.key_there ∙ ap (λ h. Some (key_of h)) (sym c.index.ensures) in
+    ap (λ m. key_at m c.args.handle) (sym c.self.view_is) ∙ place.key_there ∙ ap (λ h. Some (key_of h)) (sym c.index.ensures) in
     subst (λ o. HasKey o (λ key. (c.as_slice.result.now ≡ key.bytes) × IsSized key)) (sym there)
     (c.as_slice.ensures.list, subst (λ o. IfSome o IsSized) (ap (λ m. key_at m c.args.handle) c.self.view_is ∙ there) (c.self.invariant.sized c.args.handle))
