@@ -1,5 +1,5 @@
 -- What rules leave, one after another.
-use Rattle.std.proofs.Common.{◌≡◌, ℕ, Bool, true, false, List, [], ◌∷◌, refl, ap, ◌∙◌, cond, ◌&&◌, not, eqb, subst}
+use Rattle.std.proofs.Common.{◌≡◌, Bool, true, false, List, [], ◌∷◌, refl, ap, ◌∙◌, cond, ◌&&◌, not, eqb}
 use Rattle.std.specs.Prelude.{Result, Ok, Err, IfOk}
 use Rattle.key_attributes.specs.declared.Attributes.{Attributes}
 use Rattle.psa_status.specs.declared.Status.{Status}

@@ -1,5 +1,5 @@
 -- The words of the labels.
-use Rattle.std.specs.Prelude.{◌≡◌, ℕ, List, [], ◌∷◌, Option, None, Some, ◌==◌, bytes_eq, codes, find}
+use Rattle.std.specs.Prelude.{ℕ, List, [], ◌∷◌, Option, Some, ◌==◌, bytes_eq, codes, find}
 use Rattle.std.specs.List.{slice_split}
 use Rattle.std.specs.Option.{option_map, option_and_then}
 use Rattle.policy_rules.specs.declared.narrowing.Label.{Label}

@@ -30,10 +30,12 @@ impl Rules {
         ensures { map (λ rule. rule.label) result.list.items ≡ picked labels.now (map (λ rule. rule.label) list.items) }
     {
         let mut list = list;
-        list.retain(|rule| -> bool
-            ensures named { result ≡ is_one_of labels.entry.now rule.now.label }
-            ensures same { labels.exit ≡ labels.entry }
-        { is_one_of(labels, rule.label()) });
+        list.retain(
+            |rule| -> bool
+                ensures named { result ≡ is_one_of labels.entry.now rule.now.label }
+                ensures same { labels.exit ≡ labels.entry }
+            { is_one_of(labels, rule.label()) },
+        );
         Rules { list }
     }
 }
