@@ -1,0 +1,8 @@
+//! Devices and rules as a program has them: a boxed driver in memory, and the four rules.
+#![tactic(auto)]
+
+mod four_rules;
+#[cfg(test)]
+mod tests;
+
+pub use four_rules::admitted;
