@@ -4,5 +4,7 @@
 mod four_rules;
 #[cfg(test)]
 mod tests;
+#[cfg(test)]
+mod trials;
 
 pub use four_rules::admitted;

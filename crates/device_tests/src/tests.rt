@@ -1,9 +1,8 @@
 // Outside vectors through a boxed driver, calls that fail by their number, a full driver, and each rule.
 
 use crate::admitted;
+use crate::trials::{cmac_by, enciphered, held_by, hmac_by, second_try};
 use admission::read_labels;
-use alg_encoding::Alg;
-use driver_dispatch::{Devices, Driver, Drivers};
 use key_attributes::{Attributes, KeyId, KeyType, Lifetime, Policy, Usage};
 use psa_status::Status;
 use soft_driver::SoftDriver;
@@ -33,111 +32,80 @@ const COUNTERS: [(u128, u128); 4] = [
     ),
 ];
 
+const NO_BYTES_CMAC: [u8; 16] = [
+    0xbb, 0x1d, 0x69, 0x29, 0xe9, 0x59, 0x37, 0x28, 0x7f, 0xa3, 0x7d, 0x12, 0x9b, 0x75, 0x67, 0x46,
+];
+
 // The empty message and the first block of SP 800-38B, section D.1, and their tags.
-const CMACS: [(&[u8], u128); 2] = [
-    (b"", 0xbb1d6929e95937287fa37d129b756746),
+const CMACS: [(&[u8], [u8; 16]); 2] = [
+    (b"", NO_BYTES_CMAC),
     (
         &[
             0x6b, 0xc1, 0xbe, 0xe2, 0x2e, 0x40, 0x9f, 0x96, 0xe9, 0x3d, 0x7e, 0x11, 0x73, 0x93,
             0x17, 0x2a,
         ],
-        0x070a16b46b4d4144f79bdd9dd04a287c,
+        [
+            0x07, 0x0a, 0x16, 0xb4, 0x6b, 0x4d, 0x41, 0x44, 0xf7, 0x9b, 0xdd, 0x9d, 0xd0, 0x4a,
+            0x28, 0x7c,
+        ],
     ),
 ];
 
 #[test]
-fn an_aes_key_in_a_boxed_driver(rt: HostRuntime) -> Result<(), Fail> {
+fn an_aes_key(rt: HostRuntime) -> Result<(), Fail> {
     let alloc = rt.alloc();
-    let driver = SoftDriver::new(alloc, 1, Vec::new(alloc)).map_err(|_| "memory")?;
-    let mut list: Vec<Box<dyn Driver>> = Vec::new(alloc);
-    list.push(Box::new(alloc, driver)?)?;
-    let mut devices = Drivers::new(list);
-    assert!(rt; devices.import_key(7, KeyType::AES, &AES_KEY).is_ok());
     for (counter, output) in COUNTERS {
+        let driver = SoftDriver::new(alloc, 1, Vec::new(alloc)).map_err(|_| "memory")?;
         let mut block = counter.to_be_bytes();
-        assert!(rt; devices.encrypt_blocks(7, &mut block).is_ok());
+        assert!(rt; enciphered(alloc, driver, &AES_KEY, &mut block)?.is_ok());
         assert!(rt; u128::from_be_bytes(block) == output);
     }
-    for (message, code) in CMACS {
-        let mut tag = [0; 16];
-        assert!(rt;
-            devices
-                .compute_mac(7, Alg::of(0x03c0_0200), message, &mut tag)
-                .is_ok()
-        );
-        assert!(rt; u128::from_be_bytes(tag) == code);
+    for (message, tag) in CMACS {
+        let mut driver = SoftDriver::new(alloc, 1, Vec::new(alloc)).map_err(|_| "memory")?;
+        assert!(rt; cmac_by(&mut driver, &AES_KEY, message) == Ok(tag));
     }
     Ok(())
 }
 
-// The HMACs of "Hi There" under twenty bytes 0b (RFC 4231, section 4.2), with SHA-256, and with SHA-512 cut to 16 bytes.
+// The HMAC of "Hi There" under twenty bytes 0b (RFC 4231, section 4.2).
+const HMAC: [u8; 32] = [
+    0xb0, 0x34, 0x4c, 0x61, 0xd8, 0xdb, 0x38, 0x53, 0x5c, 0xa8, 0xaf, 0xce, 0xaf, 0x0b, 0xf1, 0x2b,
+    0x88, 0x1d, 0xc2, 0x00, 0xc9, 0x83, 0x3d, 0xa7, 0x26, 0xe9, 0x37, 0x6c, 0x2e, 0x32, 0xcf, 0xf7,
+];
+
+// A call of each kind whose number is listed, and none that is.
+const LISTED: [(u64, bool); 6] = [
+    (0, false),
+    (1, false),
+    (2, false),
+    (3, false),
+    (4, true),
+    (u64::MAX, true),
+];
+
 #[test]
-fn hmacs_by_a_driver(rt: HostRuntime) -> Result<(), Fail> {
+fn an_hmac_key_and_listed_calls(rt: HostRuntime) -> Result<(), Fail> {
     let alloc = rt.alloc();
-    let mut driver = SoftDriver::new(alloc, 1, Vec::new(alloc)).map_err(|_| "memory")?;
-    assert!(rt; driver.import_key(1, KeyType::HMAC, &[0x0b; 20]).is_ok());
-    assert!(rt; driver.copy_key(1, 2).is_ok());
-    assert!(rt; driver.destroy_key(1).is_ok());
-    let mut tag = [0; 32];
-    assert!(rt;
-        driver
-            .compute_mac(2, Alg::of(0x0380_0009), b"Hi There", &mut tag)
-            .is_ok()
-    );
-    assert!(rt;
-        tag == [
-            0xb0, 0x34, 0x4c, 0x61, 0xd8, 0xdb, 0x38, 0x53, 0x5c, 0xa8, 0xaf, 0xce, 0xaf, 0x0b,
-            0xf1, 0x2b, 0x88, 0x1d, 0xc2, 0x00, 0xc9, 0x83, 0x3d, 0xa7, 0x26, 0xe9, 0x37, 0x6c,
-            0x2e, 0x32, 0xcf, 0xf7,
-        ]
-    );
-    let mut short = [0; 16];
-    assert!(rt;
-        driver
-            .compute_mac(2, Alg::of(0x0390_000b), b"Hi There", &mut short)
-            .is_ok()
-    );
-    assert!(rt; u128::from_be_bytes(short) == 0x87aa7cdea5ef619d4ff0b4241a1d6cb0);
+    for (number, succeeds) in LISTED {
+        let fails = vec![in alloc; number]?;
+        let mut driver = SoftDriver::new(alloc, 1, fails).map_err(|_| "memory")?;
+        let tag = hmac_by(&mut driver, &[0x0b; 20], b"Hi There");
+        assert!(rt; tag.is_ok() == succeeds);
+        if succeeds {
+            assert!(rt; tag == Ok(HMAC));
+        }
+    }
     Ok(())
 }
 
-// Calls 1, 3 and 4 fail; the next of each kind doesn't.
 #[test]
-fn listed_calls_fail(rt: HostRuntime) -> Result<(), Fail> {
+fn a_full_driver_and_a_second_try(rt: HostRuntime) -> Result<(), Fail> {
     let alloc = rt.alloc();
-    let fails = vec![in alloc; 1u64, 3, 4]?;
+    let mut driver = SoftDriver::new(alloc, 1, Vec::new(alloc)).map_err(|_| "memory")?;
+    assert!(rt; held_by(&mut driver) == 4096);
+    let fails = vec![in alloc; 1u64]?;
     let mut driver = SoftDriver::new(alloc, 1, fails).map_err(|_| "memory")?;
-    assert!(rt; driver.import_key(1, KeyType::AES, &AES_KEY).is_ok());
-    let mut tag = [0; 16];
-    assert!(rt;
-        driver
-            .compute_mac(1, Alg::of(0x03c0_0200), b"", &mut tag)
-            .is_err()
-    );
-    assert!(rt;
-        driver
-            .compute_mac(1, Alg::of(0x03c0_0200), b"", &mut tag)
-            .is_ok()
-    );
-    assert!(rt; u128::from_be_bytes(tag) == 0xbb1d6929e95937287fa37d129b756746);
-    assert!(rt; driver.copy_key(1, 2).is_err());
-    assert!(rt; driver.destroy_key(1).is_err());
-    assert!(rt; driver.copy_key(1, 2).is_ok());
-    assert!(rt; driver.destroy_key(1).is_ok());
-    Ok(())
-}
-
-#[test]
-fn a_driver_holds_4096_keys(rt: HostRuntime) -> Result<(), Fail> {
-    let alloc = rt.alloc();
-    let mut driver = SoftDriver::new(alloc, 1, Vec::new(alloc)).map_err(|_| "memory")?;
-    for handle in 0..4096u64 {
-        assert!(rt; driver.import_key(handle, KeyType::RAW_DATA, b"key").is_ok());
-    }
-    assert!(rt; driver.import_key(4096, KeyType::RAW_DATA, b"key").is_err());
-    assert!(rt; driver.copy_key(7, 4096).is_err());
-    assert!(rt; driver.destroy_key(7).is_ok());
-    assert!(rt; driver.copy_key(8, 4096).is_ok());
+    assert!(rt; second_try(&mut driver, &AES_KEY) == (true, Ok(NO_BYTES_CMAC)));
     Ok(())
 }
 
