@@ -50,6 +50,9 @@ pub others_there : (old new : HeldKeys) (handle other : ℕ) (key : HeldKey) (o 
 others_there old new handle other key o differ e was =
     ap (λ m. key_at m other) (same new _ e) ∙ put old handle key other ∙ ap (λ b. cond b (Some key) (key_at old other)) differ ∙ was
 
+pub kept_there : (old new : HeldKeys) (handle : ℕ) (o : Option HeldKey) → ◌≡◌ {A = Option HeldKeys} (Some new) (Some old) → key_at old handle ≡ o → key_at new handle ≡ o
+kept_there old new handle o e was = ap (λ m. key_at m handle) (same new old e) ∙ was
+
 -- a copy is a key that was taken
 pub copied : (old new : HeldKeys) (from to : ℕ) (key : HeldKey) → key_at old from ≡ Some key → ◌≡◌ {A = Option HeldKeys} (Some new) (Some (with_copy from to old)) →
     ◌≡◌ {A = Option HeldKeys} (Some new) (Some (with_key to key old))

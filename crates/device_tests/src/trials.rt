@@ -62,19 +62,19 @@ pub fn hmac_by(driver: &mut SoftDriver, key: &[u8], message: &[u8]) -> Result<[u
     Ok(tag)
 }
 
-/// Whether the first of two computing calls of a new driver fails, and what the second answers: the CMAC of no bytes.
-pub fn second_try(driver: &mut SoftDriver, key: &[u8; 16]) -> (bool, Result<[u8; 16], Failed>)
+/// The CMAC of no bytes under an AES key that a new driver takes, where the first computing call fails and the next
+/// doesn't.
+pub fn second_try(driver: &mut SoftDriver, key: &[u8; 16]) -> Result<[u8; 16], Failed>
     requires { driver.old.keys ≡ no_keys }
 {
-    let mut tag = [0; 16];
-    if driver.import_key(1, KeyType::AES, key).is_err() {
-        return (false, Err(Failed));
+    driver.import_key(1, KeyType::AES, key)?;
+    let mut first = [0; 16];
+    if driver.compute_mac(1, CMAC, b"", &mut first).is_ok() {
+        return Err(Failed);
     }
-    let failed = driver.compute_mac(1, CMAC, b"", &mut tag).is_err();
-    match driver.compute_mac(1, CMAC, b"", &mut tag) {
-        Ok(()) => (failed, Ok(tag)),
-        Err(error) => (failed, Err(error)),
-    }
+    let mut second = [0; 16];
+    driver.compute_mac(1, CMAC, b"", &mut second)?;
+    Ok(second)
 }
 
 /// How many of 4,097 keys a new driver takes.
