@@ -5,8 +5,8 @@ ghost use Rattle.admission.specs.Words.{all_labels};
 
 use admission::{Admission, Rule, Rules};
 use key_attributes::Attributes;
-use policy_rules::{Label, Verdict, narrow};
-use psa_status::{Memory, Status};
+use policy_rules::{Label, narrow};
+use psa_status::Status;
 use std::alloc::{AllocError, Global};
 
 /// What those of the four rules that are named make of a new key's attributes.
