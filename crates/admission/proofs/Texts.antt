@@ -17,16 +17,16 @@ behind labels more = option_map (λ others. labels ++ others) more
 abbrev pub first_of : Option Label → Option (List Label) → Option (List Label)
 first_of word more = option_and_then (λ label. option_map (λ labels. label ∷ labels) more) word
 
-pub first_word : (text word more : List ℕ) → position_or_len is_comma text < length text → word ≡ before_first is_comma text → more ≡ after_first is_comma text →
-    labels_in text ≡ first_of (label_named word) (labels_in more)
-first_word text word more within w m =
-    ap labels_named (slice_split_first is_comma text 0 within)
-    ∙ ap (λ t. first_of (label_named t) (labels_in (after_first is_comma text))) (sym w)
-    ∙ ap (λ t. first_of (label_named word) (labels_in t)) (sym m)
+pub first_word : (given : List Label) (text word more : List ℕ) → position_or_len is_comma text < length text → word ≡ before_first is_comma text → more ≡ after_first is_comma text →
+    labels_in given text ≡ first_of (label_named given word) (labels_in given more)
+first_word given text word more within w m =
+    ap (labels_named given) (slice_split_first is_comma text 0 within)
+    ∙ ap (λ t. first_of (label_named given t) (labels_in given (after_first is_comma text))) (sym w)
+    ∙ ap (λ t. first_of (label_named given word) (labels_in given t)) (sym m)
 
-pub last_word : (text : List ℕ) → position_or_len is_comma text ≡ length text → labels_in text ≡ first_of (label_named text) (Some [])
-last_word text e =
-    ap labels_named (slice_split_none is_comma text (λ k d h. fails_before_first is_comma text k d (subst (λ n. k < n) (sym e) h)))
+pub last_word : (given : List Label) (text : List ℕ) → position_or_len is_comma text ≡ length text → labels_in given text ≡ first_of (label_named given text) (Some [])
+last_word given text e =
+    ap (labels_named given) (slice_split_none is_comma text (λ k d h. fails_before_first is_comma text k d (subst (λ n. k < n) (sym e) h)))
 
 append_one : (done : List Label) (label : Label) (more : Option (List Label)) →
     behind done (option_map (λ labels. label ∷ labels) more) ≡ behind (done ++ label ∷ []) more

@@ -14,15 +14,15 @@ word_of Aes256 = codes "aes256"
 abbrev pub all_labels : List Label
 all_labels = NoExport ∷ NoCopy ∷ NoEcb ∷ Aes256 ∷ []
 
--- the label with a word
-abbrev pub label_named : List ℕ → Option Label
-label_named word = find (λ label. bytes_eq (word_of label) word) all_labels
+-- the given label with a word
+abbrev pub label_named : List Label → List ℕ → Option Label
+label_named given word = find (λ label. bytes_eq (word_of label) word) given
 
--- the labels with these words, where each is one
-abbrev pub labels_named : List (List ℕ) → Option (List Label)
-labels_named [] = Some []
-labels_named (word ∷ words) = option_and_then (λ label. option_map (λ labels. label ∷ labels) (labels_named words)) (label_named word)
+-- the given labels with these words, where each is the word of one
+abbrev pub labels_named : List Label → List (List ℕ) → Option (List Label)
+labels_named given [] = Some []
+labels_named given (word ∷ words) = option_and_then (λ label. option_map (λ labels. label ∷ labels) (labels_named given words)) (label_named given word)
 
--- the labels of a text of words with commas between them
-abbrev pub labels_in : List ℕ → Option (List Label)
-labels_in text = labels_named (slice_split (λ byte. byte == 44) text)
+-- the given labels that a text of words with commas between them names
+abbrev pub labels_in : List Label → List ℕ → Option (List Label)
+labels_in given text = labels_named given (slice_split (λ byte. byte == 44) text)

@@ -35,8 +35,8 @@ impl Rule {
         self.label
     }
 
-    /// What it makes of a new key's attributes.
-    pub fn verdict(&self, attributes: &Attributes) -> Verdict
+    // What it makes of a new key's attributes.
+    pub(crate) fn verdict(&self, attributes: &Attributes) -> Verdict
         ensures { result ≡ narrowed self.now.label attributes.now }
     {
         (self.test)(attributes)

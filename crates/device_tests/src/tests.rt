@@ -2,7 +2,6 @@
 
 use crate::admitted;
 use crate::trials::{cmac_by, enciphered, held_by, hmac_by, second_try};
-use admission::read_labels;
 use key_attributes::{Attributes, KeyId, KeyType, Lifetime, Policy, Usage};
 use psa_status::Status;
 use soft_driver::SoftDriver;
@@ -137,19 +136,16 @@ const RULES: [(&str, u32, u16, Option<u32>); 9] = [
 fn rules_by_their_words(rt: HostRuntime) -> Result<(), Fail> {
     let alloc = rt.alloc();
     for (words, alg, bits, usage) in RULES {
-        let labels = read_labels(alloc, words)
-            .map_err(|_| "memory")?
-            .ok_or("labels")?;
         let mut key = KEY;
         key.bits = bits;
         key.policy.alg = alg;
-        let answer = admitted(alloc, &labels, &key)?;
+        let answer = admitted(alloc, words, &key)?;
         match usage {
             Some(usage) => {
                 key.policy.usage = Usage(usage);
-                assert!(rt; answer == Ok(key), "{words}");
+                assert!(rt; answer == Some(Ok(key)), "{words}");
             }
-            None => assert!(rt; answer == Err(Status::NotPermitted), "{words}"),
+            None => assert!(rt; answer == Some(Err(Status::NotPermitted)), "{words}"),
         }
     }
     for words in [
@@ -160,8 +156,8 @@ fn rules_by_their_words(rt: HostRuntime) -> Result<(), Fail> {
         "none",
         "no-copy, no-ecb",
     ] {
-        let read = read_labels(alloc, words).map_err(|_| "memory")?;
-        assert!(rt; read.is_none(), "{words}");
+        let answer = admitted(alloc, words, &KEY)?;
+        assert!(rt; answer.is_none(), "{words}");
     }
     Ok(())
 }

@@ -19,7 +19,8 @@ use psa_status::{Failed, Memory};
 use std::alloc::Global;
 use std::marker::Model;
 
-/// A driver in memory, with room for 4,096 keys. It tells its map. Calls are numbered from 0.
+/// A driver in memory, with room for 4,096 keys. It tells its map. Calls are numbered from 0, but for `location`, which
+/// isn't counted.
 #[derive(Drop)]
 pub struct SoftDriver {
     location: u32,
