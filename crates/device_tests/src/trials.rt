@@ -16,7 +16,7 @@ const CMAC: Alg = Alg(0x03c0_0200);
 const HMAC_SHA_256: Alg = Alg(0x0380_0009);
 
 /// What a new driver of location 1 answers for a block under an AES key, asked as one of the machine's devices.
-pub fn enciphered(
+pub(crate) fn enciphered(
     alloc: Global,
     driver: SoftDriver,
     key: &[u8; 16],
@@ -40,7 +40,11 @@ fn asked<D: Devices>(devices: &mut D, key: &[u8; 16], block: &mut [u8; 16]) -> R
 }
 
 /// The CMAC of a message under an AES key that a new driver takes, where no call fails.
-pub fn cmac_by(driver: &mut SoftDriver, key: &[u8; 16], message: &[u8]) -> Result<[u8; 16], Failed>
+pub(crate) fn cmac_by(
+    driver: &mut SoftDriver,
+    key: &[u8; 16],
+    message: &[u8],
+) -> Result<[u8; 16], Failed>
     requires { driver.old.keys ≡ no_keys }
 {
     let mut tag = [0; 16];
@@ -50,7 +54,11 @@ pub fn cmac_by(driver: &mut SoftDriver, key: &[u8; 16], message: &[u8]) -> Resul
 }
 
 /// The HMAC with SHA-256 of a message under a copy of a key whose first handle is destroyed, where no call fails.
-pub fn hmac_by(driver: &mut SoftDriver, key: &[u8], message: &[u8]) -> Result<[u8; 32], Failed>
+pub(crate) fn hmac_by(
+    driver: &mut SoftDriver,
+    key: &[u8],
+    message: &[u8],
+) -> Result<[u8; 32], Failed>
     requires new { driver.old.keys ≡ no_keys }
     requires size { IsTrue (permits_size 0x1100 (length key.now)) }
 {
@@ -64,7 +72,7 @@ pub fn hmac_by(driver: &mut SoftDriver, key: &[u8], message: &[u8]) -> Result<[u
 
 /// The CMAC of no bytes under an AES key that a new driver takes, where the first computing call fails and the next
 /// doesn't.
-pub fn second_try(driver: &mut SoftDriver, key: &[u8; 16]) -> Result<[u8; 16], Failed>
+pub(crate) fn second_try(driver: &mut SoftDriver, key: &[u8; 16]) -> Result<[u8; 16], Failed>
     requires { driver.old.keys ≡ no_keys }
 {
     driver.import_key(1, KeyType::AES, key)?;
@@ -78,7 +86,7 @@ pub fn second_try(driver: &mut SoftDriver, key: &[u8; 16]) -> Result<[u8; 16], F
 }
 
 /// How many of 4,097 keys a new driver takes.
-pub fn held_by(driver: &mut SoftDriver) -> usize
+pub(crate) fn held_by(driver: &mut SoftDriver) -> usize
     requires { driver.old.keys ≡ no_keys }
 {
     let mut held = 0;
