@@ -1,0 +1,51 @@
+-- What rules leave, one after another.
+use Rattle.std.proofs.Common.{◌≡◌, Bool, true, false, List, [], ◌∷◌, refl, ap, ◌∙◌, cond, ◌&&◌, not, eqb}
+use Rattle.std.specs.Prelude.{Result, Ok, Err, IfOk}
+use Rattle.key_attributes.specs.declared.Attributes.{Attributes}
+use Rattle.psa_status.specs.declared.Status.{Status}
+use Rattle.policy_rules.specs.declared.narrowing.Label.{Label}
+use Rattle.policy_rules.specs.declared.narrowing.Label.TheVariants.{NoExport, NoCopy, NoEcb, Aes256}
+use Rattle.policy_rules.specs.declared.narrowing.Verdict.{Verdict}
+use Rattle.policy_rules.specs.declared.narrowing.Verdict.TheVariants.{Keep, Refuse}
+use Rattle.policy_rules.specs.Narrow.{narrowed, KeepsWithin}
+use Rattle.policy_rules.proofs.Rules.{narrowed-within}
+use Rattle.policy_rules.proofs.Copies.{IsWithin-refl, IsWithin-trans}
+use Rattle.admission.specs.Apply.{Narrows, after_verdict, applied}
+
+-- a verdict leaves all but the policy
+abbrev KeepsRest : Attributes → Verdict → Type 0
+KeepsRest a (Keep kept) = kept ≡ record a { policy = kept.policy }
+KeepsRest a Refuse = Unit {0}
+
+kept_or_refused : (b : Bool) (a : Attributes) → KeepsRest a (cond b Refuse (Keep a))
+kept_or_refused true a = tt
+kept_or_refused false a = refl
+
+narrowed-rest : (label : Label) (a : Attributes) → KeepsRest a (narrowed label a)
+narrowed-rest NoExport a = refl
+narrowed-rest NoCopy a = refl
+narrowed-rest NoEcb a = kept_or_refused (eqb a.policy.alg 0x04404400) a
+narrowed-rest Aes256 a = kept_or_refused (eqb a.key_type.0 0x2400 && not (eqb a.bits 256)) a
+
+narrows_none : (a : Attributes) → Narrows a a
+narrows_none a = record { policy = IsWithin-refl a.policy; rest = refl }
+
+then_narrows : (a b c : Attributes) → Narrows a b → Narrows b c → Narrows a c
+then_narrows a b c ab bc = record {
+  policy = IsWithin-trans a.policy b.policy c.policy bc.policy ab.policy;
+  rest = bc.rest ∙ ap (λ (x : Attributes). record x { policy = c.policy }) ab.rest;
+}
+
+later : (a kept : Attributes) (r : Result Attributes Status) → Narrows a kept → IfOk r (Narrows kept) → IfOk r (Narrows a)
+later a kept (Ok last) first h = then_narrows a kept last first h
+later a kept (Err status) first h = tt
+
+step : (a : Attributes) (v : Verdict) (next : Attributes → Result Attributes Status) → ((kept : Attributes) → IfOk (next kept) (Narrows kept)) →
+    KeepsWithin a v → KeepsRest a v → IfOk (after_verdict v next) (Narrows a)
+step a (Keep kept) next h within rest = later a kept (next kept) (record { policy = within; rest = rest }) (h kept)
+step a Refuse next h within rest = tt
+
+-- each rule narrows
+pub narrows : (labels : List Label) (a : Attributes) → IfOk (applied labels a) (Narrows a)
+narrows [] a = narrows_none a
+narrows (label ∷ labels) a = step a (narrowed label a) (applied labels) (narrows labels) (narrowed-within label a) (narrowed-rest label a)

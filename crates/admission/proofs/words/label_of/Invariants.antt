@@ -1,0 +1,6 @@
+use Rattle.std.proofs.Common.{◌≡◌, map, drop}
+use Rattle.admission.specs.Words.{label_named}
+use Rattle.admission.proofs.words.label_of.Given as goal
+
+abbrev pub invariant-loop-rule : goal.invariant-loop-rule
+invariant-loop-rule g l = label_named (map (λ rule. rule.label) l.rules) l.word ≡ label_named (map (λ rule. rule.label) (drop l.rule-index l.rules)) l.word

@@ -1,0 +1,41 @@
+-- What rules make of the attributes of a new key.
+use Rattle.std.specs.Prelude.{◌≡◌, ℕ, Bool, List, [], ◌∷◌, ◌==◌, Result, Ok, Err, filter}
+use Rattle.std.specs.List.{list_any}
+use Rattle.psa_status.specs.declared.Status.{Status}
+use Rattle.psa_status.specs.declared.Status.TheVariants.{NotPermitted}
+use Rattle.key_attributes.specs.declared.Attributes.{Attributes}
+use Rattle.policy_rules.specs.Narrow.{narrowed}
+use Rattle.policy_rules.specs.Policy.{IsWithin}
+use Rattle.policy_rules.specs.declared.narrowing.Label.{Label}
+use Rattle.policy_rules.specs.declared.narrowing.Label.TheVariants.{NoExport, NoCopy, NoEcb, Aes256}
+use Rattle.policy_rules.specs.declared.narrowing.Verdict.{Verdict}
+use Rattle.policy_rules.specs.declared.narrowing.Verdict.TheVariants.{Keep, Refuse}
+
+-- the labels are told apart by a number each
+abbrev pub label_number : Label → ℕ
+label_number NoExport = 0
+label_number NoCopy = 1
+label_number NoEcb = 2
+label_number Aes256 = 3
+
+-- whether a label is one of these
+abbrev pub is_one_of : List Label → Label → Bool
+is_one_of labels label = list_any (λ other. label_number other == label_number label) labels
+
+-- of the labels of a list those that are named, in the list's order
+abbrev pub picked : (named list : List Label) → List Label
+picked named list = filter (is_one_of named) list
+
+abbrev pub after_verdict : Verdict → (Attributes → Result Attributes Status) → Result Attributes Status
+after_verdict (Keep kept) next = next kept
+after_verdict Refuse next = Err NotPermitted
+
+-- each rule in turn narrows what the one before it kept, and the first that refuses ends it
+abbrev pub applied : List Label → Attributes → Result Attributes Status
+applied [] attributes = Ok attributes
+applied (label ∷ labels) attributes = after_verdict (narrowed label attributes) (applied labels)
+
+-- beside the policy all is as it was, and the policy has no flag and permits no algorithm that the one before doesn't
+pub record Narrows (before after : Attributes) : Type 0 where
+  pub policy : IsWithin after.policy before.policy
+  pub rest : after ≡ record before { policy = after.policy }

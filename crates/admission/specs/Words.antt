@@ -1,0 +1,28 @@
+-- The words of the labels.
+use Rattle.std.specs.Prelude.{ℕ, List, [], ◌∷◌, Option, Some, ◌==◌, bytes_eq, codes, find}
+use Rattle.std.specs.List.{slice_split}
+use Rattle.std.specs.Option.{option_map, option_and_then}
+use Rattle.policy_rules.specs.declared.narrowing.Label.{Label}
+use Rattle.policy_rules.specs.declared.narrowing.Label.TheVariants.{NoExport, NoCopy, NoEcb, Aes256}
+
+abbrev pub word_of : Label → List ℕ
+word_of NoExport = codes "no-export"
+word_of NoCopy = codes "no-copy"
+word_of NoEcb = codes "no-ecb"
+word_of Aes256 = codes "aes256"
+
+abbrev pub all_labels : List Label
+all_labels = NoExport ∷ NoCopy ∷ NoEcb ∷ Aes256 ∷ []
+
+-- the given label with a word
+abbrev pub label_named : List Label → List ℕ → Option Label
+label_named given word = find (λ label. bytes_eq (word_of label) word) given
+
+-- the given labels with these words, where each is the word of one
+abbrev pub labels_named : List Label → List (List ℕ) → Option (List Label)
+labels_named given [] = Some []
+labels_named given (word ∷ words) = option_and_then (λ label. option_map (λ labels. label ∷ labels) (labels_named given words)) (label_named given word)
+
+-- the given labels that a text of words with commas between them names
+abbrev pub labels_in : List Label → List ℕ → Option (List Label)
+labels_in given text = labels_named given (slice_split (λ byte. byte == 44) text)

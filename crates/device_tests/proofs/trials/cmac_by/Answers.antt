@@ -1,0 +1,14 @@
+use Rattle.driver_dispatch.specs.Held.{HeldKey}
+use Rattle.device_tests.proofs.Keys.{none_yet, has, taken_there, is_cmac, cmac_fits}
+use Rattle.device_tests.proofs.trials.cmac_by.Goals as goal
+
+pub import_key-requires-clause-new : goal.import_key-requires-clause-new
+import_key-requires-clause-new c = none_yet c.args.driver.now.keys 1 c.requires
+
+pub compute_mac-requires-clause-mac : goal.compute_mac-requires-clause-mac
+compute_mac-requires-clause-mac c = is_cmac
+
+pub compute_mac-requires-clause-fits : goal.compute_mac-requires-clause-fits
+compute_mac-requires-clause-fits c =
+    let key : HeldKey = record { key_type = 0x2400; bytes = c.args.key.now } in
+    has _ key _ (taken_there c.args.driver.now.keys c.import_key.new.self.keys 1 key c.in_ok-import_key.ensures.keys) cmac_fits

@@ -1,0 +1,16 @@
+use Rattle.std.proofs.Common.{◌≤◌, arith}
+use Rattle.device_tests.proofs.Keys.{none_yet, new_after}
+use Rattle.device_tests.proofs.trials.held_by.Goals as goal
+use Rattle.device_tests.proofs.trials.held_by.Goals.{then-is_ok, else-is_ok}
+
+pub loop-handle-init : goal.loop-handle-init
+loop-handle-init c = record { new = λ q le. none_yet c.args.driver.now.keys q c.requires; held = omega arith }
+
+pub loop-handle-preserved : goal.loop-handle-preserved
+loop-handle-preserved c = record {
+  new = new_after c.loop-handle.driver.keys c.import_key.new.self.keys c.loop-handle.handle _ c.import_key.result c.import_key.ensures.keys c.loop-handle.invariant.new;
+  held = elim c.if-is_ok.branch [
+    | then-is_ok w ↦ omega (arith, w.held-is, c.loop-handle.invariant.held)
+    | else-is_ok w ↦ omega (arith, w.held-is, c.loop-handle.invariant.held)
+  ];
+}

@@ -1,0 +1,47 @@
+-- What the calls on a driver ask and leave. A map is none where the driver doesn't tell it.
+use Rattle.std.specs.Prelude.{◌≡◌, ◌==◌, ℕ, Bool, List, ◌⊎◌, ⊤, Option, None, Some, Result, MatchResult, find}
+use Rattle.std.specs.List.{list_any}
+use Rattle.std.specs.Option.{option_map, option_map_or}
+use Rattle.psa_status.specs.Causes.{one_more}
+use Rattle.alg_encoding.specs.declared.table.Class.TheVariants as class
+use Rattle.alg_encoding.specs.Encoding.{class_of, IsConcrete}
+use Rattle.store_model.specs.Algorithms.{tag_bytes}
+use Rattle.driver_dispatch.specs.Held.{HeldKey, HeldKeys, key_at}
+
+abbrev pub HasKey : Option HeldKey → (HeldKey → Type 0) → Type 0
+HasKey None P = ⊥
+HasKey (Some key) P = P key
+
+-- the handle is in the map, and its key is such
+abbrev pub Holds : Option HeldKeys → ℕ → (HeldKey → Type 0) → Type 0
+Holds None handle P = ⊤
+Holds (Some held) handle P = HasKey (key_at held handle) P
+
+-- the handle isn't in the map
+abbrev pub Lacks : Option HeldKeys → ℕ → Type 0
+Lacks None handle = ⊤
+Lacks (Some held) handle = key_at held handle ≡ None
+
+-- A call that changes the map does so where it succeeds. Where it fails, it has done so or left the map as it was.
+abbrev pub Changes : {T E : Type 0} → (HeldKeys → HeldKeys) → (old new : Option HeldKeys) → Result T E → Type 0
+Changes change old new result = MatchResult result
+    (λ _. new ≡ option_map change old)
+    (λ _. (new ≡ old) ⊎ (new ≡ option_map change old))
+
+-- A call that computes is counted where it succeeds, and not where it fails.
+abbrev pub CountsServed : {T E : Type 0} → (old new : ℕ) → Result T E → Type 0
+CountsServed old new result = MatchResult result (λ _. new ≡ one_more old) (λ _. new ≡ old)
+
+-- an algorithm is one MAC, of a tag of so many bytes
+pub record IsMac (alg tag : ℕ) : Type 0 where
+  pub mac : class_of alg ≡ Some class.Mac
+  pub one : IsConcrete alg
+  pub length : tag ≡ tag_bytes alg
+
+-- whether one of these locations is that of the primary secure element, 1
+abbrev pub has_element : List ℕ → Bool
+has_element locations = list_any (λ location. location == 1) locations
+
+-- what is known of the first of a list that is such, or another value where there is none
+abbrev pub of_first : {X A : Type 0} → (X → Bool) → (X → A) → A → List X → A
+of_first is_such known other xs = option_map_or known (find is_such xs) other

@@ -1,0 +1,64 @@
+-- Maps of handles: what an insertion and a removal leave.
+use Rattle.std.proofs.Common.{◌≡◌, ℕ, ◌+◌, ◌-◌, ◌≤◌, Bool, true, false, ◌==◌, cond, refl, sym, ap, ◌∙◌, arith}
+use Rattle.std.specs.Prelude.{Option, Some, None, is_some}
+use Rattle.std.specs.Ordering.{nat_cmp}
+use Rattle.std.specs.Cmp.{unsigned_tied}
+use Rattle.std.proofs.lemmas.Cmp.{nat_cmp_total}
+use Rattle.std.proofs.lemmas.Bool.Decides.{nat_tests}
+use Rattle.std.specs.FinMap.{FinMap, get, insert, remove, len, get-insert, get-remove, len-insert, len-remove, same_map, nat_cmp-IsAntisymmetric}
+
+module _ {X : Type 0} where
+  pub put : (m : FinMap nat_cmp X) (k : ℕ) (v : X) (q : ℕ) → get (insert m k v) q ≡ cond (q == k) (Some v) (get m q)
+  put m k v q = get-insert nat_cmp_total m k v q ∙ ap (λ b. cond b (Some v) (get m q)) (unsigned_tied q k)
+
+  pub taken : (m : FinMap nat_cmp X) (k q : ℕ) → get (remove m k) q ≡ cond (q == k) None (get m q)
+  taken m k q = get-remove nat_cmp_total m k q ∙ ap (λ b. cond b None (get m q)) (unsigned_tied q k)
+
+  pub alike : (m n : FinMap nat_cmp X) → ((q : ℕ) → get m q ≡ get n q) → m ≡ n
+  alike = same_map nat_cmp_total nat_cmp-IsAntisymmetric
+
+  at_key : (b : Bool) (o : Option X) (v : X) → (b ≡ true → o ≡ None) → cond b None (cond b (Some v) o) ≡ o
+  at_key true o v h = sym (h refl)
+  at_key false o v h = refl
+
+  none_at : (m : FinMap nat_cmp X) (k q : ℕ) → get m k ≡ None → (q == k) ≡ true → get m q ≡ None
+  none_at m k q none t = let same : q ≡ k = grind (arith, nat_tests) in ap (get m) same ∙ none
+
+  -- a key that is brought and taken again
+  pub remove-insert : (m : FinMap nat_cmp X) (k : ℕ) (v : X) → get m k ≡ None → remove (insert m k v) k ≡ m
+  remove-insert m k v none =
+      alike _ _ (λ q. taken (insert m k v) k q ∙ ap (cond (q == k) None) (put m k v q) ∙ at_key (q == k) (get m q) v (none_at m k q none))
+
+  crossed : (b c : Bool) (o : Option X) (v : X) → (b ≡ true → c ≡ true → ⊥) → cond b (Some v) (cond c None o) ≡ cond c None (cond b (Some v) o)
+  crossed true true o v h = absurd (h refl refl)
+  crossed true false o v h = refl
+  crossed false c o v h = refl
+
+  -- two handles are changed in either order
+  pub insert-remove : (m : FinMap nat_cmp X) (j k : ℕ) (v : X) → (j ≡ k → ⊥) → insert (remove m j) k v ≡ remove (insert m k v) j
+  insert-remove m j k v other =
+      alike _ _ (λ q.
+      put (remove m j) k v q ∙ ap (cond (q == k) (Some v)) (taken m j q)
+      ∙ crossed (q == k) (q == j) (get m q) v (λ a b. other (let x : q ≡ k = grind (arith, nat_tests) in let y : q ≡ j = grind (arith, nat_tests) in sym y ∙ x))
+      ∙ sym (taken (insert m k v) j q ∙ ap (cond (q == j) None) (put m k v q)))
+
+  pub len_more : (m : FinMap nat_cmp X) (k : ℕ) (v : X) → get m k ≡ None → len (insert m k v) ≡ len m + 1
+  len_more m k v none = len-insert nat_cmp_total m k v ∙ ap (λ o. cond (is_some o) (len m) (len m + 1)) none
+
+  pub len_fewer : (m : FinMap nat_cmp X) (k : ℕ) (v : X) → get m k ≡ Some v → len (remove m k) ≡ len m - 1
+  len_fewer m k v some = len-remove nat_cmp_total m k ∙ ap (λ o. cond (is_some o) (len m - 1) (len m)) some
+
+  grown : (o : Option X) (n top : ℕ) → cond (is_some o) n (n + 1) ≡ top + 1 → n ≤ top → (o ≡ None) × (n ≡ top)
+  grown None n top e h = (refl, omega (arith, e))
+  grown (Some v) n top e h = absurd (omega (arith, e, h))
+
+  pub len_at_most : (m : FinMap nat_cmp X) (k : ℕ) (v : X) → len (insert m k v) ≤ len m + 1
+  len_at_most m k v = at_most (is_some (get m k)) (len m) (len-insert nat_cmp_total m k v)
+    where
+      at_most : (b : Bool) (n : ℕ) → len (insert m k v) ≡ cond b n (n + 1) → len (insert m k v) ≤ n + 1
+      at_most true n e = omega (arith, e)
+      at_most false n e = omega (arith, e)
+
+  -- an insertion that lengthens the map as far as can be brings a new key
+  pub was_new : (m : FinMap nat_cmp X) (k : ℕ) (v : X) (top : ℕ) → len (insert m k v) ≡ top + 1 → len m ≤ top → (get m k ≡ None) × (len m ≡ top)
+  was_new m k v top e h = grown (get m k) (len m) top (sym (len-insert nat_cmp_total m k v) ∙ e) h

@@ -1,0 +1,11 @@
+use Rattle.std.proofs.Common.{◌≡◌, ◌≤◌, length, All}
+use Rattle.std.specs.Vec.{vec_capacity}
+use Rattle.secret_bytes.specs.Buffer.{IsClear}
+use Rattle.soft_driver.proofs.held.clear_secrets.Given as goal
+
+abbrev pub invariant-secrets : goal.invariant-secrets
+invariant-secrets l = record {
+  clear : All IsClear l.spare.items;
+  count : length l.spare.items ≡ l.counter;
+  room : 4096 ≤ vec_capacity l.spare;
+}

@@ -1,0 +1,64 @@
+// What is computed with the bytes of a key.
+ghost use Rattle.std.specs.Prelude.{◌≡◌, ◌≤◌, ◌%◌, length, take};
+ghost use Rattle.alg_encoding.specs.Encoding.{base_of};
+ghost use Rattle.crypto_specs.specs.Aes.{IsKey, aes_encrypt};
+ghost use Rattle.crypto_specs.specs.Cmac.{cmac};
+ghost use Rattle.crypto_specs.specs.Hmac.{hmac};
+ghost use Rattle.crypto_specs.specs.Modes.{ecb_encrypt};
+ghost use Rattle.hash_ops.specs.Hashes.{block_length, digest_length, hash_of};
+ghost use Rattle.store_model.specs.Algorithms.{cmac_base, mac_of};
+ghost use Rattle.driver_dispatch.specs.Calls.{IsMac};
+
+use alg_encoding::Alg;
+use algorithm_facts::{aes_key, hash_function, is_cmac};
+use cipher_modes::ecb_encrypt;
+use cmac_ops::cmac;
+use hash_ops::Hash;
+use hmac_ops::hmac;
+
+/// Enciphers whole blocks in place, each by itself.
+pub fn encipher_blocks(key: &[u8], blocks: &mut [u8])
+    requires key { IsKey key.now }
+    requires whole { length blocks.old % 16 ≡ 0 }
+    ensures { blocks.new ≡ ecb_encrypt (aes_encrypt key.now) blocks.old }
+{
+    let mut aes = aes_key(key);
+    ecb_encrypt(&aes, blocks);
+    aes.wipe();
+}
+
+// Fills a tag with the front of a message's CMAC.
+fn fill_cmac(key: &[u8], message: &[u8], tag: &mut [u8])
+    requires key { IsKey key.now }
+    requires short { length tag.old ≤ 16 }
+    ensures { tag.new ≡ take (length tag.old) (cmac (aes_encrypt key.now) message.now) }
+{
+    let mut aes = aes_key(key);
+    let whole = cmac(&aes, message);
+    aes.wipe();
+    tag.copy_from_slice(&whole[..tag.len()]);
+}
+
+// Fills a tag with the front of a message's HMAC.
+fn fill_hmac(which: Hash, key: &[u8], message: &[u8], tag: &mut [u8])
+    requires { length tag.old ≤ digest_length which }
+    ensures { tag.new ≡ take (length tag.old) (hmac (hash_of which) (block_length which) key.now message.now) }
+{
+    let mut whole = [0; 64];
+    hmac(which, key, message, &mut whole);
+    tag.copy_from_slice(&whole[..tag.len()]);
+    whole.fill(0);
+}
+
+/// Fills a tag of the algorithm's length with the MAC of a message.
+pub fn fill_mac(alg: Alg, key: &[u8], message: &[u8], tag: &mut [u8])
+    requires key { base_of alg.0 ≡ cmac_base → IsKey key.now }
+    requires mac { IsMac alg.0 (length tag.old) }
+    ensures { tag.new ≡ mac_of alg.0 key.now message.now }
+{
+    if is_cmac(alg) {
+        fill_cmac(key, message, tag);
+    } else {
+        fill_hmac(hash_function(alg), key, message, tag);
+    }
+}

@@ -1,0 +1,187 @@
+// The driver in memory.
+ghost use Rattle.std.specs.Prelude.{◌≡◌, ◌↔◌, ◌%◌, ⊤, Some, IsErr, IfOk, IsTrue, OnOk, true, length};
+ghost use Rattle.psa_status.specs.Causes.{HasCause, one_more};
+ghost use Rattle.key_attributes.specs.Checks.{is_key_type, permits_size};
+ghost use Rattle.crypto_specs.specs.Aes.{aes_encrypt};
+ghost use Rattle.crypto_specs.specs.Modes.{ecb_encrypt};
+ghost use Rattle.store_model.specs.Algorithms.{mac_of};
+ghost use Rattle.store_model.specs.Rules.{fits_type};
+ghost use Rattle.driver_dispatch.specs.Held.{with_copy, with_key, without_key};
+ghost use Rattle.driver_dispatch.specs.Calls.{Changes, CountsServed, Holds, IsMac, Lacks};
+ghost use Rattle.soft_driver.specs.Form.{after_computing, after_copy, after_destroy, after_import, brings_no_key, counted, is_listed, new_form};
+
+use crate::computing::{encipher_blocks, fill_mac};
+use crate::room::KeyRoom;
+use alg_encoding::Alg;
+use driver_dispatch::Driver;
+use key_attributes::KeyType;
+use psa_status::{Failed, Memory};
+use std::alloc::Global;
+use std::marker::Model;
+
+/// A driver in memory, with room for 4,096 keys. It tells its map. Calls are numbered from 0, but for `location`, which
+/// isn't counted.
+#[derive(Drop)]
+pub struct SoftDriver {
+    location: u32,
+    room: KeyRoom,
+    fails: Vec<u64>,
+    calls: u64,
+    faults: u64,
+    served: u64,
+}
+
+impl Model for SoftDriver {
+    ghost use Rattle.soft_driver.specs.Form.{SoftForm, form_code};
+
+    ghost Value = { SoftForm };
+
+    ghost coded = { form_code };
+
+    ghost view = { λ d. record { location = d.location; keys = d.room; fails = d.fails.items; calls = d.calls; faults = d.faults; served = d.served } };
+}
+
+impl SoftDriver {
+    /// A driver of a location without a key, whose calls with the listed numbers fail.
+    pub fn new(alloc: Global, location: u32, fails: Vec<u64>) -> Result<SoftDriver, Memory>
+        ensures { IfOk result (λ driver. driver ≡ new_form location fails.items) }
+    {
+        Ok(SoftDriver {
+            location,
+            room: KeyRoom::new(alloc)?,
+            fails,
+            calls: 0,
+            faults: 0,
+            served: 0,
+        })
+    }
+
+    // Counts a call, and says whether its number is listed.
+    fn is_listed(&mut self) -> bool
+        ensures listed { result ≡ is_listed self.old }
+        ensures counted { self.new ≡ counted self.old }
+    {
+        let number = self.calls;
+        self.calls = self.calls.saturating_add(1);
+        self.fails.contains(&number)
+    }
+
+    // A call that fails.
+    fn fail(&mut self) -> Result<(), Failed>
+        ensures fault { self.new ≡ record self.old { faults = one_more self.old.faults } }
+        ensures failed { IsErr result }
+        ensures cause { HasCause self.old.faults self.new.faults result }
+    {
+        self.faults = self.faults.saturating_add(1);
+        Err(Failed)
+    }
+}
+
+impl Driver for SoftDriver {
+    ghost keys = { λ d. Some d.keys };
+
+    ghost location_of = { λ d. d.location };
+
+    ghost faults = { λ d. d.faults };
+
+    ghost served = { λ d. d.served };
+
+    fn location(&self) -> u32 {
+        self.location
+    }
+
+    fn import_key(&mut self, handle: u64, key_type: KeyType, bytes: &[u8]) -> Result<(), Failed>
+        requires new { Lacks (Some self.old.keys) handle }
+        requires known { IsTrue (is_key_type key_type.0) }
+        requires size { IsTrue (permits_size key_type.0 (length bytes.now)) }
+        ensures after { self.new ≡ after_import self.old handle (record { key_type = key_type.0; bytes = bytes.now }) }
+        ensures fails { IsErr result ↔ (brings_no_key self.old ≡ true) }
+        ensures keys { Changes (with_key handle (record { key_type = key_type.0; bytes = bytes.now })) (Some self.old.keys) (Some self.new.keys) result }
+        ensures served { self.new.served ≡ self.old.served }
+        ensures location { self.new.location ≡ self.old.location }
+        ensures cause { HasCause self.old.faults self.new.faults result }
+    {
+        if self.is_listed() || self.room.is_full() {
+            return self.fail();
+        }
+        self.room.put(handle, key_type, bytes);
+        Ok(())
+    }
+
+    fn destroy_key(&mut self, handle: u64) -> Result<(), Failed>
+        requires { Holds (Some self.old.keys) handle (λ key. ⊤) }
+        ensures after { self.new ≡ after_destroy self.old handle }
+        ensures fails { IsErr result ↔ (is_listed self.old ≡ true) }
+        ensures keys { Changes (without_key handle) (Some self.old.keys) (Some self.new.keys) result }
+        ensures served { self.new.served ≡ self.old.served }
+        ensures location { self.new.location ≡ self.old.location }
+        ensures cause { HasCause self.old.faults self.new.faults result }
+    {
+        if self.is_listed() {
+            return self.fail();
+        }
+        self.room.remove(handle);
+        Ok(())
+    }
+
+    fn copy_key(&mut self, from: u64, to: u64) -> Result<(), Failed>
+        requires source { Holds (Some self.old.keys) from (λ key. ⊤) }
+        requires new { Lacks (Some self.old.keys) to }
+        ensures after { self.new ≡ after_copy self.old from to }
+        ensures fails { IsErr result ↔ (brings_no_key self.old ≡ true) }
+        ensures keys { Changes (with_copy from to) (Some self.old.keys) (Some self.new.keys) result }
+        ensures served { self.new.served ≡ self.old.served }
+        ensures location { self.new.location ≡ self.old.location }
+        ensures cause { HasCause self.old.faults self.new.faults result }
+    {
+        if self.is_listed() || self.room.is_full() {
+            return self.fail();
+        }
+        self.room.copy(from, to);
+        Ok(())
+    }
+
+    fn encrypt_blocks(&mut self, handle: u64, blocks: &mut [u8]) -> Result<(), Failed>
+        requires aes { Holds (Some self.old.keys) handle (λ key. key.key_type ≡ 0x2400) }
+        requires whole { length blocks.old % 16 ≡ 0 }
+        ensures after { self.new ≡ after_computing self.old }
+        ensures fails { IsErr result ↔ (is_listed self.old ≡ true) }
+        ensures blocks { OnOk result (Holds (Some self.old.keys) handle (λ key. blocks.new ≡ ecb_encrypt (aes_encrypt key.bytes) blocks.old)) }
+        ensures same { Some self.new.keys ≡ Some self.old.keys }
+        ensures served { CountsServed self.old.served self.new.served result }
+        ensures location { self.new.location ≡ self.old.location }
+        ensures cause { HasCause self.old.faults self.new.faults result }
+    {
+        if self.is_listed() {
+            return self.fail();
+        }
+        encipher_blocks(self.room.key(handle), blocks);
+        self.served = self.served.saturating_add(1);
+        Ok(())
+    }
+
+    fn compute_mac(
+        &mut self,
+        handle: u64,
+        alg: Alg,
+        input: &[u8],
+        tag: &mut [u8],
+    ) -> Result<(), Failed>
+        requires mac { IsMac alg.0 (length tag.old) }
+        requires fits { Holds (Some self.old.keys) handle (λ key. IsTrue (fits_type alg.0 key.key_type)) }
+        ensures after { self.new ≡ after_computing self.old }
+        ensures fails { IsErr result ↔ (is_listed self.old ≡ true) }
+        ensures tag { OnOk result (Holds (Some self.old.keys) handle (λ key. tag.new ≡ mac_of alg.0 key.bytes input.now)) }
+        ensures same { Some self.new.keys ≡ Some self.old.keys }
+        ensures served { CountsServed self.old.served self.new.served result }
+        ensures location { self.new.location ≡ self.old.location }
+        ensures cause { HasCause self.old.faults self.new.faults result }
+    {
+        if self.is_listed() {
+            return self.fail();
+        }
+        fill_mac(alg, self.room.key(handle), input, tag);
+        self.served = self.served.saturating_add(1);
+        Ok(())
+    }
+}
