@@ -100,7 +100,7 @@ module _ {D : Type 0} (told : D → Option (List ℕ)) (may_leave : D → List �
         (λ image h store. ⊎_elim (λ none. inl (λ other left. calm.crash other (none other left))) (λ spared. inr spared) (h store)) r.left;
   }
 
-not_opened : (g b : List ℕ) → g ≢ opened → content_of g b ≡ Absent
+pub not_opened : (g b : List ℕ) → g ≢ opened → content_of g b ≡ Absent
 not_opened [] b differs = refl
 not_opened (x ∷ []) b differs = by (x == 0xa5) refl
   where
