@@ -9,10 +9,10 @@ use Rattle.key_cells.specs.declared.slot.Slot.TheVariants.{Free, Open, Shut, Uns
 use Rattle.key_cells.specs.declared.reading.OpenFault.TheVariants.{DamagedCell}
 use Rattle.key_cells.specs.Layout.{cells, place, part, gate, body, opened, closed, zeros}
 use Rattle.key_cells.specs.Contents.{slot_at, has_id, is_open, creation_at, HasNoKey}
-use Rattle.key_cells.specs.Body.{HoldsKey, HoldsId, HoldsNoKey}
+use Rattle.key_cells.specs.Body.{IsPersistent, HoldsKey, HoldsId, HoldsNoKey}
 use Rattle.key_cells.specs.Image.{IsStore, IsOpen, IsTwice, IsDamaged, IsFirstDamaged, id_in}
 use Rattle.key_cells.specs.Causes.{IsCaused}
-use Rattle.key_cells.specs.Opening.{Reads, ReadsCell, ReadsBelow, HasOneEach, IsNumbered, HasIdOf, IsBadCell, GivesPart}
+use Rattle.key_cells.specs.Opening.{Reads, ReadsCell, ReadsBelow, HasOneEach, IsNumbered, IsNamed, HasIdOf, IsBadCell, GivesPart}
 use Rattle.key_cells.proofs.Bodies.{parts_of}
 use Rattle.key_cells.proofs.CellsRead.{gate_read, body_read}
 
@@ -22,6 +22,7 @@ free_read (x ∷ xs) before found size first rest = record {
   reads = (ap (λ (y : ℕ). y ∷ []) first, rest);
   new = λ id has. cc;
   numbered = λ open_now. cc;
+  named = λ id has. cc;
 }
 
 -- one cell more is read
@@ -87,6 +88,13 @@ numbered_more count found slots slot lt numbered is new cell less open_now =
   where
     slot_is : slot_at (set slots count slot) count ≡ slot
     slot_is = get_or-set_same slots count slot Free lt
+
+pub named_more : (count : ℕ) (slots : List Slot) (slot : Slot) → count < length slots → IsNamed count slots → ((id : ℕ) → has_id id slot ≡ true → IsPersistent id) → IsNamed (count + 1) (set slots count slot)
+named_more count slots slot lt named new id cell less has =
+    ⊎_elim
+    (λ is. new id (ap (has_id id) (sym (get_or-set_same slots count slot Free lt)) ∙ subst (λ (k : ℕ). has_id id (slot_at (set slots count slot) k) ≡ true) is has))
+    (λ differs. named id cell (omega arith) (ap (has_id id) (sym (get_or-set_other slots count cell slot Free differs)) ∙ has))
+    (cases_eq cell count)
 
 -- the identifier of a body
 pub id_of : (id : ℕ) (body : List ℕ) → HoldsId id body → id_in body ≡ id

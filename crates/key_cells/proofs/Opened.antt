@@ -4,7 +4,7 @@ use Rattle.std.proofs.lemmas.Bool.{eqb-true}
 use Rattle.std.proofs.lemmas.List.{get_or-map, length-map, take-map, get_or-replicate, nil_from_length}
 use Rattle.std.proofs.lemmas.List.Sums.{sum_by-cons}
 use Rattle.psa_status.specs.Causes.{Rose}
-use Rattle.disk_face.specs.Disk.{NoNewImage, Elapses, LeavesWhatIsRead}
+use Rattle.disk_face.specs.Disk.{NoNewImage, Elapses, LeavesWhatIsRead, TellsAsBefore}
 use Rattle.disk_face.specs.Moments.{Within}
 use Rattle.disk_face.proofs.Moments.{within_none, within_one, within_both}
 use Rattle.key_cells.specs.declared.slot.Slot.{Slot}
@@ -15,7 +15,7 @@ use Rattle.key_cells.specs.Layout.{cells, gate, body, opened, closed}
 use Rattle.key_cells.specs.Contents.{Content, Absent, Present, Doubtful, SoundBy, StandsFor, slot_at, has_id, is_open, creation_at, settled_slot, settled_slots}
 use Rattle.key_cells.specs.Image.{IsStore, IsOpen, Opens, SparesOpen}
 use Rattle.key_cells.specs.Causes.{IsCaused, IsDisk, IsRefusal}
-use Rattle.key_cells.specs.Opening.{is_opened, content_of, contents_of, found_in, IsFound, IsDirectory, Finds, Reads, ReadsBelow, HasOneEach, IsNumbered, Spares, Clearing, WithinSpares}
+use Rattle.key_cells.specs.Opening.{is_opened, content_of, contents_of, found_in, IsFound, IsDirectory, Finds, Reads, ReadsBelow, HasOneEach, IsNumbered, IsNamed, Spares, Clearing, WithinSpares}
 use Rattle.key_cells.specs.Opened.{IsOpened, IsRefused}
 use Rattle.key_cells.proofs.CellsRead.{content_there, for_told, length-contents_of}
 use Rattle.key_cells.proofs.Finding.{not_damaged}
@@ -55,8 +55,12 @@ module _ {D : Type 0} (told : D → Option (List ℕ)) (may_leave : D → List �
       → IsRefused told may_leave moment left_since faults old new fault
   refused_calm old new fault calm caused rose durable = record {
     caused = caused;
+    tells = ap is_some calm.same;
+    later = calm.later;
     rose = rose;
     same = λ is. calm.same;
+    unwritten = λ is. calm.crash;
+    unwritten_within = λ is. calm.within;
     durable = durable;
     spares = always (told old) (λ image. IsStore image → WithinSpares (moment old) (moment new) (left_since old) (left_since new) (may_leave old) image) (λ image store. spares_calm old new calm image);
     left = always (told old) (λ image. IsStore image → NoNewImage (may_leave old) (may_leave new) ⊎ ((other : List ℕ) → may_leave new other → SparesOpen image other)) (λ image store. inl calm.crash);
@@ -84,6 +88,8 @@ module _ {D : Type 0} (told : D → Option (List ℕ)) (may_leave : D → List �
     sized = o.sized;
     one = o.one;
     numbered = o.numbered;
+    named = o.named;
+    tells = o.tells ∙ ap is_some calm.same;
     found = after (told a) (told b) (λ image. IsFound image slots) (λ image. IsFound image slots) calm.same (λ image h. h) o.found;
     stands = after (told a) (told b) (λ image. StandsFor told may_leave c slots (found_in image)) (λ image. StandsFor told may_leave c slots (found_in image)) calm.same (λ image h. h) o.stands;
     spares = after (told a) (told b) _ _ calm.same (λ image h. spares_after a b c calm image h) o.spares;
@@ -92,8 +98,12 @@ module _ {D : Type 0} (told : D → Option (List ℕ)) (may_leave : D → List �
   pub refused_after : (a b c : D) (fault : OpenFault) → Calm a b → IsRefused told may_leave moment left_since faults b c fault → IsRefused told may_leave moment left_since faults a c fault
   refused_after a b c fault calm r = record {
     caused = after (told a) (told b) (λ image. IsCaused fault image) (λ image. IsCaused fault image) calm.same (λ image h. h) r.caused;
+    tells = r.tells ∙ ap is_some calm.same;
+    later = omega (arith, calm.later, r.later);
     rose = λ is. omega (arith, calm.later, r.rose is);
     same = λ is. r.same is ∙ calm.same;
+    unwritten = λ is other left. calm.crash other (r.unwritten is other left);
+    unwritten_within = λ is. within_both (moment a) (moment b) (moment c) (left_since a) (left_since b) (left_since c) (may_leave a) (may_leave b) (may_leave a) calm.within (r.unwritten_within is) (λ other h. h) (λ other h. calm.crash other h);
     durable = λ is. subst (λ (o : Option (List ℕ)). LeavesWhatIsRead o (may_leave c)) calm.same (r.durable is);
     spares = after (told a) (told b) _ _ calm.same (λ image h. spares_after a b c calm image h) r.spares;
     left = after (told a) (told b) _ (λ image. IsStore image → NoNewImage (may_leave a) (may_leave c) ⊎ ((other : List ℕ) → may_leave c other → SparesOpen image other)) calm.same
@@ -176,6 +186,9 @@ module _ (slots slots' : List Slot) (count : length slots ≡ 512) (is : slots' 
       (sym (settled_has id (slot_at slots cell)) ∙ (ap (has_id id) (sym (at cell lt)) ∙ has))
       (sym (settled_has id (slot_at slots other)) ∙ (ap (has_id id) (sym (at other lt')) ∙ has'))
 
+  pub settled_named : IsNamed cells slots → IsNamed cells slots'
+  settled_named named id cell lt has = named id cell lt (sym (settled_has id (slot_at slots cell)) ∙ (ap (has_id id) (sym (at cell lt)) ∙ has))
+
   pub settled_numbered : IsNumbered cells slots → IsNumbered cells slots'
   settled_numbered numbered cell lt open_now =
       ap creation_at (at cell lt) ∙ (settled_creation (slot_at slots cell)
@@ -204,8 +217,12 @@ of_nothing None size P none measured h = tt
 of_nothing (Some image) size P none measured h = subst P (sym (nil_from_length image (measured ∙ none))) h
 
 pub refused_new : {D : Type 0} (told : D → Option (List ℕ)) (may_leave : D → List ℕ → Type 0) (moment : D → ℕ) (left_since : D → ℕ → List ℕ → Type 0) (faults : D → ℕ) (old new : D) (size : ℕ)
-    → size ≡ 0 → IfSome (told old) (λ image. length image ≡ size) → Rose (faults old) (faults new) → IsRefused told may_leave moment left_since faults old new Disk
-refused_new told may_leave moment left_since faults old new size none measured rose = record {
+    → size ≡ 0 → IfSome (told old) (λ image. length image ≡ size) → TellsAsBefore (told old) (told new) → faults old ≤ faults new → Rose (faults old) (faults new) → IsRefused told may_leave moment left_since faults old new Disk
+refused_new told may_leave moment left_since faults old new size none measured tells later rose = record {
+  tells = tells;
+  later = later;
+  unwritten = λ is. absurd is;
+  unwritten_within = λ is. absurd is;
   caused = of_nothing (told old) size (λ image. IsCaused Disk image) none measured tt;
   rose = λ is. rose;
   same = λ is. absurd is;
@@ -262,13 +279,15 @@ module _ {D : Type 0} (told : D → Option (List ℕ)) (may_leave : D → List �
       within_both (moment disk) (moment mid) (moment new) (left_since disk) (left_since mid) (left_since new) (may_leave disk) (SoundBy Spares slots (contents_of image)) (λ other. may_leave disk other ⊎ SparesOpen image other)
       calm.within (within (contents_of image) (read_begins image is)) (λ other h. inl h) (λ other h. inr (spares_open slots image other h)))
 
-  pub read_opened : (new : D) (slots' : List Slot) → length slots ≡ 512 → slots' ≡ settled_slots slots → HasOneEach cells slots → IsNumbered cells slots
+  pub read_opened : (new : D) (slots' : List Slot) → length slots ≡ 512 → slots' ≡ settled_slots slots → HasOneEach cells slots → IsNumbered cells slots → IsNamed cells slots → TellsAsBefore (told mid) (told new)
       → ((contents : List Content) → length contents ≡ 512 → Clearing told may_leave mid slots slots contents → StandsFor told may_leave new slots' contents) → ClearsWithin new
       → IsOpened told may_leave moment left_since disk new slots'
-  read_opened new slots' count is one numbered stands within = record {
+  read_opened new slots' count is one numbered named tells stands within = record {
     sized = ap length is ∙ (length-map slots settled_slot ∙ count);
     one = settled_one slots slots' count is one;
     numbered = settled_numbered slots slots' count is numbered;
+    named = settled_named slots slots' count is named;
+    tells = tells ∙ ap is_some calm.same;
     found = of_directory (told disk) slots' (for_told (told disk) _ (λ image told_is.
         let here : IsStore image = subst (λ (o : Option (List ℕ)). IfSome o (λ image. IsStore image)) told_is store in
         let read : ReadsBelow cells slots image = subst (λ (o : Option (List ℕ)). IfSome o (λ image. ReadsBelow cells slots image)) told_is reads in
@@ -279,10 +298,14 @@ module _ {D : Type 0} (told : D → Option (List ℕ)) (may_leave : D → List �
     spares = read_spares new within;
   }
 
-  pub read_refused : (new : D) → Rose (faults disk) (faults new)
+  pub read_refused : (new : D) → TellsAsBefore (told mid) (told new) → faults disk ≤ faults new → Rose (faults disk) (faults new)
       → ((contents : List Content) → Clearing told may_leave mid slots slots contents → (image : List ℕ) → may_leave new image → SoundBy Spares slots contents image) → ClearsWithin new
       → IsRefused told may_leave moment left_since faults disk new Disk
-  read_refused new rose left within = record {
+  read_refused new tells later rose left within = record {
+    tells = tells ∙ ap is_some calm.same;
+    later = later;
+    unwritten = λ is. absurd is;
+    unwritten_within = λ is. absurd is;
     caused = for_told (told disk) _ (λ image is. tt);
     rose = λ is. rose;
     same = λ is. absurd is;

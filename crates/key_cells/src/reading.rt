@@ -4,7 +4,7 @@ ghost use Rattle.psa_status.specs.Causes.{HasCause, Rose};
 ghost use Rattle.disk_face.specs.Disk.{NoNewImage, Elapses};
 ghost use Rattle.key_cells.specs.Contents.{is_open, HasNoKey, IsFirstWithKey};
 ghost use Rattle.key_cells.specs.Image.{IsStore};
-ghost use Rattle.key_cells.specs.Opening.{GivesPart, IsBadCell, ReadsCell, ReadsBelow, HasOneEach, IsNumbered};
+ghost use Rattle.key_cells.specs.Opening.{GivesPart, IsBadCell, ReadsCell, ReadsBelow, HasOneEach, IsNumbered, IsNamed};
 ghost use Rattle.key_cells.specs.Causes.{IsCaused, IsDisk};
 ghost use Rattle.disk_face.specs.Moments.{Within};
 ghost use Rattle.key_cells.specs.Layout.{opened, zeros, header};
@@ -140,6 +140,7 @@ pub fn read_store<D: Disk>(disk: &mut D, slots: &mut Vec<Slot>) -> Result<(), Op
     ensures read { OnOk result (IfSome (D.contents disk.old) (λ image. ReadsBelow 512 slots.new.items image)) }
     ensures one { OnOk result (HasOneEach 512 slots.new.items) }
     ensures numbered { OnOk result (IsNumbered 512 slots.new.items) }
+    ensures named { OnOk result (IsNamed 512 slots.new.items) }
     ensures slots { length slots.new.items ≡ 512 }
     ensures cause { IfErr result (λ fault. IfSome (D.contents disk.old) (λ image. IsCaused fault image)) }
     ensures same { D.contents disk.new ≡ D.contents disk.old }
@@ -167,6 +168,7 @@ fn read_slots<D: Disk>(disk: &mut D, slots: &mut Vec<Slot>) -> Result<(), OpenFa
     ensures read { OnOk result (IfSome (D.contents disk.old) (λ image. ReadsBelow 512 slots.new.items image)) }
     ensures one { OnOk result (HasOneEach 512 slots.new.items) }
     ensures numbered { OnOk result (IsNumbered 512 slots.new.items) }
+    ensures named { OnOk result (IsNamed 512 slots.new.items) }
     ensures slots { length slots.new.items ≡ 512 }
     ensures cause { IfErr result (λ fault. IfSome (D.contents disk.old) (λ image. IsCaused fault image)) }
     ensures same { D.contents disk.new ≡ D.contents disk.old }

@@ -41,6 +41,7 @@ loop-cell-init g c =
       same = refl;
       clears = λ contents s. s;
       within = λ contents s. within_none (d.moment self.disk) (d.left_since self.disk) (SoundBy Spares self.slots.items contents);
+      tells = refl;
       cause = omega arith;
     }
 
@@ -64,6 +65,7 @@ loop-cell-preserved g c =
           within_both (d.moment first.disk) (d.moment old.disk) (d.moment new.disk) (d.left_since first.disk) (d.left_since old.disk) (d.left_since new.disk)
           (SoundBy Spares first.slots.items contents) (SoundBy Spares first.slots.items contents) (SoundBy Spares first.slots.items contents)
           (i.within contents s) (e.within first.slots.items contents (i.clears contents s)) (λ image h. h) (λ image h. h);
+      tells = e.tells ∙ i.tells;
       cause = omega (arith, i.cause, e.cause.later);
     }
 

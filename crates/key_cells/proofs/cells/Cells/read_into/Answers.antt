@@ -2,7 +2,7 @@ use Rattle.std.proofs.Common.{ℕ, List, ◌-◌, take, drop, sym, subst, ap, �
 use Rattle.std.proofs.lemmas.List.{get_or_read}
 use Rattle.key_cells.specs.declared.slot.Slot.TheVariants.{Free}
 use Rattle.key_cells.specs.Contents.{has_id}
-use Rattle.key_cells.specs.Body.{HoldsKey}
+use Rattle.key_cells.specs.Body.{HoldsKey, IsKeyOf}
 use Rattle.key_cells.proofs.Loading.{read_keeps, read_gives, filled_with, of_no_key, of_other_key}
 use Rattle.key_cells.proofs.cells.Cells.read_into.Goals as goal
 
@@ -58,3 +58,9 @@ returns-clause-loaded g c = λ contents body present stands.
     let read = read_gives d.contents d.may_leave d.moment d.left_since self.disk c.read_cell.new.disk c.args.cell self.slots.items contents body c.in-Ok.bytes c.requires.within present stands (g.met.D.Disk.read_is_image self.disk) c.in-Ok.ensures.bytes in
     let key : List ℕ = take (c.in-Some.end - 52) (drop 52 c.in-Ok.bytes) in
     subst (λ (k : List ℕ). HoldsKey a k body) (sym (filled_with key c.fill_from.new.self c.fill_from.ensures)) (subst (λ (b : List ℕ). HoldsKey a key b) read c.in-Some.ensures.holds)
+
+pub returns-clause-key : goal.returns-clause-key
+returns-clause-key g c =
+    let a = c.in-Some.attributes in
+    let key : List ℕ = take (c.in-Some.end - 52) (drop 52 c.in-Ok.bytes) in
+    subst (λ (k : List ℕ). IsKeyOf a k) (sym (filled_with key c.fill_from.new.self c.fill_from.ensures)) c.in-Some.ensures.holds.is_key
