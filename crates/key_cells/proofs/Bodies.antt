@@ -187,8 +187,7 @@ of_one_key a b key other body h k =
     let q : Parts b other body = parts_of b other body k in
     let m : Numbers a (take 36 (drop 15 body)) = subst (λ (l : List ℕ). Numbers a l) (sym p.head) (numbers a key h.is_key.kept) in
     let n : Numbers b (take 36 (drop 15 body)) = subst (λ (l : List ℕ). Numbers b l) (sym q.head) (numbers b other k.is_key.kept) in
-    let size : length key ≡ length other = sym p.size ∙ q.size in
-    (
+    let size : length key ≡ length other = sym p.size ∙ q.size in (
       same_attributes a b (h.is_key.kept.lifetime ∙ sym k.is_key.kept.lifetime) (sym p.id ∙ q.id) (sym m.key_type ∙ n.key_type) (sym m.bits ∙ n.bits) (sym m.usage ∙ n.usage) (sym m.alg ∙ n.alg),
       sym p.key_is ∙ (ap (λ (j : ℕ). take j (drop 51 body)) size ∙ q.key_is),
     )

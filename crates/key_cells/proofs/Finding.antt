@@ -131,15 +131,18 @@ first_damaged (Some image) count slots bytes lt size store reads one gives bad =
     record {
       store = store;
       within = lt;
-      here = (sym gate_is ∙ bad.0, ⊎_elim
-          (λ none. inl (subst (λ (b : List ℕ). HoldsNoKey b) body_is none))
-          (λ twice.
-          let earlier : ℕ = twice.2.0 in
-          let less : earlier < count = omega (arith, twice.2.1, length-take count slots) in
-          let has : has_id twice.0 (slot_at slots earlier) ≡ true = ap (has_id twice.0) (sym (get_or-take count slots earlier Free less)) ∙ twice.2.2 in
-          let there = holder (slot_at slots earlier) twice.0 (gate earlier image) (body earlier image) (reads earlier less) has in
-          inr (earlier, less, there.0, id_of twice.0 (body earlier image) there.1 ∙ sym (id_of twice.0 (body count image) (subst (λ (b : List ℕ). HoldsId twice.0 b) body_is twice.1))))
-          bad.1);
+      here = (
+        sym gate_is ∙ bad.0,
+        ⊎_elim
+            (λ none. inl (subst (λ (b : List ℕ). HoldsNoKey b) body_is none))
+            (λ twice.
+            let earlier : ℕ = twice.2.0 in
+            let less : earlier < count = omega (arith, twice.2.1, length-take count slots) in
+            let has : has_id twice.0 (slot_at slots earlier) ≡ true = ap (has_id twice.0) (sym (get_or-take count slots earlier Free less)) ∙ twice.2.2 in
+            let there = holder (slot_at slots earlier) twice.0 (gate earlier image) (body earlier image) (reads earlier less) has in
+            inr (earlier, less, there.0, id_of twice.0 (body earlier image) there.1 ∙ sym (id_of twice.0 (body count image) (subst (λ (b : List ℕ). HoldsId twice.0 b) body_is twice.1))))
+            bad.1,
+      );
       before = λ other less damaged. not_damaged count slots image reads one other less damaged;
     }
   where
