@@ -1,0 +1,186 @@
+-- How cells are made zeros that are left over from a crash.
+use Rattle.std.proofs.Common.{◌≡◌, ◌⊎◌, inl, inr, ⊎_elim, ℕ, ◌+◌, ◌<◌, ◌≤◌, List, length, get_or, set, take, drop, replicate, Option, None, Some, IfSome, is_some, refl, sym, ◌∙◌, ap, subst, arith}
+use Rattle.std.proofs.lemmas.Bool.{cases_eq}
+use Rattle.std.proofs.lemmas.List.{get_or-set_same, get_or-set_other, get_or-map, length-map, ext_get_or}
+use Rattle.disk_face.specs.Disk.{Torn, Follows, Holds, HoldsAround, Elapses, LeavesWhatIsRead}
+use Rattle.disk_face.specs.Moments.{written, Within}
+use Rattle.disk_face.proofs.Images.{written_torn}
+use Rattle.disk_face.proofs.Moments.{within_one}
+use Rattle.key_cells.specs.declared.slot.Slot.{Slot}
+use Rattle.key_cells.specs.declared.slot.Slot.TheVariants.{Free, Open, Shut, Unsure}
+use Rattle.key_cells.specs.Layout.{cells, place, part, gate, body, closed, zeros}
+use Rattle.key_cells.specs.Contents.{Content, Absent, Present, Doubtful, Shows, Sound, SoundBy, StandsFor, slot_at, settled_slot, settled_slots}
+use Rattle.key_cells.specs.Opening.{Spares, Clearing, IsSettled}
+use Rattle.key_cells.proofs.Parts.{part_before, part_written}
+use Rattle.key_cells.proofs.Images.{sound_after, same_all, same_slots}
+use Rattle.key_cells.proofs.Steps.{zeros_are}
+use Rattle.key_cells.proofs.CellsRead.{gate_read, body_read}
+
+spares_shut : (content : Content) (g b b' : List ℕ) → Spares Shut content g b → Spares Shut content g b'
+spares_shut Absent g b b' s = s
+spares_shut (Present bytes) g b b' s = s
+spares_shut (Doubtful bytes) g b b' s = s
+
+spares_unsure : (content : Content) (g b g' b' : List ℕ) → Spares Unsure content g b → Spares Unsure content g' b'
+spares_unsure Absent g b g' b' s = s
+spares_unsure (Present bytes) g b g' b' s = s
+spares_unsure (Doubtful bytes) g b g' b' s = s
+
+shut_freed : (content : Content) (g b b' : List ℕ) → Spares Shut content g b → b' ≡ zeros → Spares Free content g b'
+shut_freed Absent g b b' s are = (s, are)
+shut_freed (Present bytes) g b b' s are = s
+shut_freed (Doubtful bytes) g b b' s are = s
+
+unsure_freed : (content : Content) (g b g' b' : List ℕ) → Spares Unsure content g b → g' ≡ closed → b' ≡ zeros → Spares Free content g' b'
+unsure_freed Absent g b g' b' s is are = (is, are)
+unsure_freed (Present bytes) g b g' b' s is are = s
+unsure_freed (Doubtful bytes) g b g' b' s is are = s
+
+module _ (cell : ℕ) (lt : cell < cells) (slots : List Slot) (contents : List Content) where
+  -- a torn write of the body of a shut cell, or of the whole of an unsure one
+  pub torn_shut : slot_at slots cell ≡ Shut → (before image : List ℕ) → Torn (place cell + 1) 1087 before image → SoundBy Spares slots contents before → SoundBy Spares slots contents image
+  torn_shut is before image torn s =
+      let same : gate cell image ≡ gate cell before = part_before (place cell + 1) 1087 (place cell) 1 before image torn (omega arith) in
+      let shown : Spares Shut (get_or contents cell Absent) (gate cell before) (body cell before) = subst (λ (x : Slot). Spares x (get_or contents cell Absent) (gate cell before) (body cell before)) is (s.each cell lt) in
+      sound_after Spares cell (place cell + 1) 1087 slots slots contents contents before image (omega arith) (omega arith) torn (same_all cell slots contents)
+      (rw (is, same) (spares_shut (get_or contents cell Absent) (gate cell before) (body cell before) (body cell image) shown)) s
+
+  pub torn_unsure : slot_at slots cell ≡ Unsure → (before image : List ℕ) → Torn (place cell) 1088 before image → SoundBy Spares slots contents before → SoundBy Spares slots contents image
+  torn_unsure is before image torn s =
+      let shown : Spares Unsure (get_or contents cell Absent) (gate cell before) (body cell before) = subst (λ (x : Slot). Spares x (get_or contents cell Absent) (gate cell before) (body cell before)) is (s.each cell lt) in
+      sound_after Spares cell (place cell) 1088 slots slots contents contents before image (omega arith) (omega arith) torn (same_all cell slots contents)
+      (rw is (spares_unsure (get_or contents cell Absent) (gate cell before) (body cell before) (gate cell image) (body cell image) shown)) s
+
+  pub shut_cleared : length slots ≡ 512 → slot_at slots cell ≡ Shut → (read : List ℕ) → SoundBy Spares slots contents read → SoundBy Spares (set slots cell Free) contents (written read (place cell + 1) (replicate 1087 0))
+  shut_cleared count is read s =
+      let bytes : List ℕ = replicate 1087 0 in
+      let fits : place cell + 1 + 1087 ≤ length read = omega (arith, s.size) in
+      let image : List ℕ = written read (place cell + 1) bytes in
+      let torn : Torn (place cell + 1) 1087 read image = written_torn read bytes (place cell + 1) fits in
+      let same : gate cell image ≡ gate cell read = part_before (place cell + 1) 1087 (place cell) 1 read image torn (omega arith) in
+      let are : body cell image ≡ zeros = part_written read bytes (place cell + 1) 1087 refl fits ∙ zeros_are in
+      let slot : get_or (set slots cell Free) cell Free ≡ Free = get_or-set_same slots cell Free Free (omega (arith, count)) in
+      let shown : Spares Shut (get_or contents cell Absent) (gate cell read) (body cell read) = subst (λ (x : Slot). Spares x (get_or contents cell Absent) (gate cell read) (body cell read)) is (s.each cell lt) in
+      sound_after Spares cell (place cell + 1) 1087 slots (set slots cell Free) contents contents read image (omega arith) (omega arith) torn (same_slots cell slots contents Free)
+      (rw (slot, same) (shut_freed (get_or contents cell Absent) (gate cell read) (body cell read) (body cell image) shown are)) s
+
+  pub unsure_cleared : length slots ≡ 512 → slot_at slots cell ≡ Unsure → (read : List ℕ) → SoundBy Spares slots contents read → SoundBy Spares (set slots cell Free) contents (written read (place cell) (replicate 1088 0))
+  unsure_cleared count is read s =
+      let bytes : List ℕ = replicate 1088 0 in
+      let fits : place cell + 1088 ≤ length read = omega (arith, s.size) in
+      let image : List ℕ = written read (place cell) bytes in
+      let torn : Torn (place cell) 1088 read image = written_torn read bytes (place cell) fits in
+      let whole : part (place cell) 1088 image ≡ bytes = part_written read bytes (place cell) 1088 refl fits in
+      let now : gate cell image ≡ closed = sym (gate_read cell image) ∙ ap (take 1) whole in
+      let are : body cell image ≡ zeros = sym (body_read cell image) ∙ (ap (drop 1) whole ∙ zeros_are) in
+      let slot : get_or (set slots cell Free) cell Free ≡ Free = get_or-set_same slots cell Free Free (omega (arith, count)) in
+      let shown : Spares Unsure (get_or contents cell Absent) (gate cell read) (body cell read) = subst (λ (x : Slot). Spares x (get_or contents cell Absent) (gate cell read) (body cell read)) is (s.each cell lt) in
+      sound_after Spares cell (place cell) 1088 slots (set slots cell Free) contents contents read image (omega arith) (omega arith) torn (same_slots cell slots contents Free)
+      (rw slot (unsure_freed (get_or contents cell Absent) (gate cell read) (body cell read) (gate cell image) (body cell image) shown now are)) s
+
+held : (told told' : Option (List ℕ)) (now bytes : List ℕ) (p : ℕ) → told ≡ Some now → Holds told p bytes told' → told' ≡ Some (written now p bytes)
+held None told' now bytes p is holds = cc
+held (Some old) told' now bytes p is holds = let same : old ≡ now = cc in holds ∙ ap (λ (l : List ℕ). Some (written l p bytes)) same
+
+held_around : (told told' : Option (List ℕ)) (now : List ℕ) (p n : ℕ) → told ≡ Some now → HoldsAround told p n told' → (now' : List ℕ) × (told' ≡ Some now') × Torn p n now now'
+held_around None told' now p n is holds = cc
+held_around (Some old) None now p n is holds = absurd holds
+held_around (Some old) (Some new) now p n is holds = let same : old ≡ now = cc in (new, refl, subst (λ (l : List ℕ). Torn p n l new) same holds)
+
+module _ {D : Type 0} (told : D → Option (List ℕ)) (may_leave : D → List ℕ → Type 0) (old new : D) (cell p n : ℕ) (first slots : List Slot) (contents : List Content) where
+  -- a write that was done
+  pub clearing_done : (bytes : List ℕ) → Clearing told may_leave old first slots contents → length slots ≡ 512 → cell < cells → Holds (told old) p bytes (told new) → Follows (Torn p n) (may_leave old) (may_leave new)
+      → ((before image : List ℕ) → Torn p n before image → SoundBy Spares first contents before → SoundBy Spares first contents image)
+      → ((read : List ℕ) → SoundBy Spares slots contents read → SoundBy Spares (set slots cell Free) contents (written read p bytes))
+      → Clearing told may_leave new first (set slots cell Free) contents
+  clearing_done bytes s count lt holds crash torn cleared = record {
+    now = written s.now p bytes;
+    is_told = held (told old) (told new) s.now bytes p s.is_told holds;
+    reads = cleared s.now s.reads;
+    each = λ image left. let from = crash image left in torn from.0 image from.2 (s.each from.0 from.1);
+    shut = λ other less is. s.shut other less (still other less Shut is (λ e. cc));
+    unsure = λ other less is. s.unsure other less (still other less Unsure is (λ e. cc));
+  }
+    where
+      still : (other : ℕ) → other < cells → (slot : Slot) → slot_at (set slots cell Free) other ≡ slot → (Free ≡ slot → ⊥) → slot_at slots other ≡ slot
+      still other less slot is not_free =
+          ⊎_elim
+          (λ same. absurd (not_free (sym (get_or-set_same slots cell Free Free (omega (arith, count))) ∙ subst (λ (k : ℕ). slot_at (set slots cell Free) k ≡ slot) same is)))
+          (λ differs. sym (get_or-set_other slots cell other Free Free differs) ∙ is)
+          (cases_eq other cell)
+
+  -- a write that failed
+  pub clearing_failed : Clearing told may_leave old first slots contents → HoldsAround (told old) p n (told new) → Follows (Torn p n) (may_leave old) (may_leave new)
+      → ((before image : List ℕ) → Torn p n before image → SoundBy Spares first contents before → SoundBy Spares first contents image)
+      → ((before image : List ℕ) → Torn p n before image → SoundBy Spares slots contents before → SoundBy Spares slots contents image)
+      → Clearing told may_leave new first slots contents
+  clearing_failed s holds crash torn torn_read =
+      let now = held_around (told old) (told new) s.now p n s.is_told holds in
+      record {
+        now = now.0;
+        is_told = now.1;
+        reads = torn_read s.now now.0 now.2 s.reads;
+        each = λ image left. let from = crash image left in torn from.0 image from.2 (s.each from.0 from.1);
+        shut = s.shut;
+        unsure = s.unsure;
+      }
+
+  pub clearing_within : (moment : D → ℕ) (left_since : D → ℕ → List ℕ → Type 0) → Clearing told may_leave old first slots contents → Follows (Torn p n) (may_leave old) (may_leave new)
+      → Elapses (moment old) (moment new) (left_since old) (left_since new) (may_leave new)
+      → ((before image : List ℕ) → Torn p n before image → SoundBy Spares first contents before → SoundBy Spares first contents image)
+      → Within (moment old) (moment new) (left_since old) (left_since new) (SoundBy Spares first contents)
+  clearing_within moment left_since s crash time torn =
+      within_one (moment old) (moment new) (left_since old) (left_since new) (SoundBy Spares first contents) (may_leave new) time
+      (λ image left. let from = crash image left in torn from.0 image from.2 (s.each from.0 from.1))
+
+-- once each cell was looked at, and that is made sure of, the directory stands
+is_sure : (slot : Slot) (content : Content) (g b : List ℕ) → slot ≡ settled_slot slot → Spares slot content g b → Shows slot content g b
+is_sure Free Absent g b same s = s
+is_sure Free (Present bytes) g b same s = s
+is_sure Free (Doubtful bytes) g b same s = absurd s
+is_sure (Open id creation) Absent g b same s = s
+is_sure (Open id creation) (Present bytes) g b same s = s
+is_sure (Open id creation) (Doubtful bytes) g b same s = s
+is_sure Shut content g b same s = cc
+is_sure Unsure content g b same s = cc
+
+pub sure_sound : (slots : List Slot) (contents : List Content) (image : List ℕ) → IsSettled cells slots → SoundBy Spares slots contents image → Sound slots contents image
+sure_sound slots contents image settled s = record {
+  size = s.size;
+  header = s.header;
+  each = λ cell lt. is_sure (slot_at slots cell) (get_or contents cell Absent) (gate cell image) (body cell image) (settled cell lt) (s.each cell lt);
+}
+
+pub settled_twice : (slot : Slot) → settled_slot slot ≡ settled_slot (settled_slot slot)
+settled_twice Free = refl
+settled_twice (Open id creation) = refl
+settled_twice Shut = refl
+settled_twice Unsure = refl
+
+pub settled_settled : (slots slots' : List Slot) → length slots ≡ 512 → slots' ≡ settled_slots slots → IsSettled cells slots'
+settled_settled slots slots' count is cell lt =
+    let at : slot_at slots' cell ≡ settled_slot (slot_at slots cell) = ap (λ (l : List Slot). slot_at l cell) is ∙ get_or-map settled_slot slots cell Free Free (omega (arith, count)) in
+    at ∙ (settled_twice (slot_at slots cell) ∙ ap settled_slot (sym at))
+
+pub all_settled : (slots : List Slot) → IsSettled (length slots) slots → slots ≡ settled_slots slots
+all_settled slots settled = ext_get_or Free slots (settled_slots slots) (sym (length-map slots settled_slot)) (λ i lt. settled i lt ∙ sym (get_or-map settled_slot slots i Free Free lt))
+
+module _ {D : Type 0} (told : D → Option (List ℕ)) (may_leave : D → List ℕ → Type 0) where
+  -- nothing was left over
+  pub clear_already : (disk : D) (slots : List Slot) (contents : List Content) → length contents ≡ 512 → IsSettled cells slots → Clearing told may_leave disk slots slots contents → StandsFor told may_leave disk slots contents
+  clear_already disk slots contents count settled s = record {
+    tells = ap is_some s.is_told;
+    count = count;
+    each = λ image left. sure_sound slots contents image settled (s.each image left);
+  }
+
+  -- all was made sure of
+  pub clear_sure : (old new : D) (first slots : List Slot) (contents : List Content) → length contents ≡ 512 → IsSettled cells slots → Clearing told may_leave old first slots contents
+      → told new ≡ told old → LeavesWhatIsRead (told old) (may_leave new) → StandsFor told may_leave new slots contents
+  clear_sure old new first slots contents count settled s same durable = record {
+    tells = ap is_some (same ∙ s.is_told);
+    count = count;
+    each = λ image left.
+        let only : LeavesWhatIsRead (Some s.now) (may_leave new) = subst (λ (o : Option (List ℕ)). LeavesWhatIsRead o (may_leave new)) s.is_told durable in
+        subst (λ (x : List ℕ). Sound slots contents x) (sym (only image left)) (sure_sound slots contents s.now settled s.reads);
+  }

@@ -1,0 +1,332 @@
+-- How the parts of an opening follow one another.
+use Rattle.std.proofs.Common.{◌≡◌, ◌≢◌, ◌⊎◌, inl, inr, ⊎_elim, ℕ, ◌+◌, ◌<◌, ◌≤◌, ◌==◌, is_some, Bool, true, false, cond, List, [], ◌∷◌, length, get_or, map, take, replicate, count_by, Option, None, Some, IfSome, refl, sym, ◌∙◌, ap, subst, arith}
+use Rattle.std.proofs.lemmas.Bool.{eqb-true}
+use Rattle.std.proofs.lemmas.List.{get_or-map, length-map, take-map, get_or-replicate, nil_from_length}
+use Rattle.std.proofs.lemmas.List.Sums.{sum_by-cons}
+use Rattle.psa_status.specs.Causes.{Rose}
+use Rattle.disk_face.specs.Disk.{NoNewImage, Elapses, LeavesWhatIsRead, TellsAsBefore}
+use Rattle.disk_face.specs.Moments.{Within}
+use Rattle.disk_face.proofs.Moments.{within_none, within_one, within_both}
+use Rattle.key_cells.specs.declared.slot.Slot.{Slot}
+use Rattle.key_cells.specs.declared.slot.Slot.TheVariants.{Free, Open, Shut, Unsure}
+use Rattle.key_cells.specs.declared.reading.OpenFault.{OpenFault}
+use Rattle.key_cells.specs.declared.reading.OpenFault.TheVariants.{NotAStore, DamagedCell, Disk, Memory}
+use Rattle.key_cells.specs.Layout.{cells, gate, body, opened, closed}
+use Rattle.key_cells.specs.Contents.{Content, Absent, Present, Doubtful, SoundBy, StandsFor, slot_at, has_id, is_open, creation_at, settled_slot, settled_slots}
+use Rattle.key_cells.specs.Image.{IsStore, IsOpen, Opens, SparesOpen}
+use Rattle.key_cells.specs.Causes.{IsCaused, IsDisk, IsRefusal}
+use Rattle.key_cells.specs.Opening.{is_opened, content_of, contents_of, found_in, IsFound, IsDirectory, Finds, Reads, ReadsBelow, HasOneEach, IsNumbered, IsNamed, Spares, Clearing, WithinSpares}
+use Rattle.key_cells.specs.Opened.{IsOpened, IsRefused}
+use Rattle.key_cells.proofs.CellsRead.{content_there, for_told, length-contents_of}
+use Rattle.key_cells.proofs.Finding.{not_damaged}
+
+module _ {D : Type 0} (told : D → Option (List ℕ)) (may_leave : D → List ℕ → Type 0) (moment : D → ℕ) (left_since : D → ℕ → List ℕ → Type 0) (faults : D → ℕ) where
+  -- steps that write nothing
+  pub record Calm (old new : D) : Type 0 where
+    pub same : told new ≡ told old
+    pub crash : NoNewImage (may_leave old) (may_leave new)
+    pub within : Within (moment old) (moment new) (left_since old) (left_since new) (may_leave old)
+    pub later : faults old ≤ faults new
+
+  pub calm_none : (disk : D) → Calm disk disk
+  calm_none disk = record { same = refl; crash = λ image left. left; within = within_none (moment disk) (left_since disk) (may_leave disk); later = omega arith }
+
+  pub calm_one : (old new : D) → told new ≡ told old → NoNewImage (may_leave old) (may_leave new) → Elapses (moment old) (moment new) (left_since old) (left_since new) (may_leave new) → faults old ≤ faults new → Calm old new
+  calm_one old new same crash time later = record {
+    same = same;
+    crash = crash;
+    within = within_one (moment old) (moment new) (left_since old) (left_since new) (may_leave old) (may_leave new) time crash;
+    later = later;
+  }
+
+  pub calm_both : (a b c : D) → Calm a b → Calm b c → Calm a c
+  calm_both a b c first second = record {
+    same = second.same ∙ first.same;
+    crash = λ image left. first.crash image (second.crash image left);
+    within = within_both (moment a) (moment b) (moment c) (left_since a) (left_since b) (left_since c) (may_leave a) (may_leave b) (may_leave a) first.within second.within (λ image h. h) (λ image h. first.crash image h);
+    later = omega (arith, first.later, second.later);
+  }
+
+  spares_calm : (old new : D) → Calm old new → (image : List ℕ) → WithinSpares (moment old) (moment new) (left_since old) (left_since new) (may_leave old) image
+  spares_calm old new calm image = record { later = calm.within.later; each = λ t other le left. ⊎_elim (λ past. inl past) (λ h. inr (inl h)) (calm.within.each t other le left) }
+
+  -- an opening that is refused before anything is written
+  pub refused_calm : (old new : D) (fault : OpenFault) → Calm old new → IfSome (told old) (λ image. IsCaused fault image) → (IsDisk fault → Rose (faults old) (faults new)) → (IsRefusal fault → LeavesWhatIsRead (told old) (may_leave new))
+      → IsRefused told may_leave moment left_since faults old new fault
+  refused_calm old new fault calm caused rose durable = record {
+    caused = caused;
+    tells = ap is_some calm.same;
+    later = calm.later;
+    rose = rose;
+    same = λ is. calm.same;
+    unwritten = λ is. calm.crash;
+    unwritten_within = λ is. calm.within;
+    durable = durable;
+    spares = always (told old) (λ image. IsStore image → WithinSpares (moment old) (moment new) (left_since old) (left_since new) (may_leave old) image) (λ image store. spares_calm old new calm image);
+    left = always (told old) (λ image. IsStore image → NoNewImage (may_leave old) (may_leave new) ⊎ ((other : List ℕ) → may_leave new other → SparesOpen image other)) (λ image store. inl calm.crash);
+  }
+    where
+      always : (o : Option (List ℕ)) (P : List ℕ → Type 0) → ((image : List ℕ) → P image) → IfSome o P
+      always None P f = tt
+      always (Some image) P f = f image
+
+  after : (o o' : Option (List ℕ)) (P Q : List ℕ → Type 0) → o' ≡ o → ((image : List ℕ) → P image → Q image) → IfSome o' P → IfSome o Q
+  after o o' P Q same f h = subst (λ (x : Option (List ℕ)). IfSome x Q) same (weaker o' h)
+    where
+      weaker : (x : Option (List ℕ)) → IfSome x P → IfSome x Q
+      weaker None h = tt
+      weaker (Some image) h = f image h
+
+  spares_after : (a b c : D) → Calm a b → (image : List ℕ) → (IsStore image → WithinSpares (moment b) (moment c) (left_since b) (left_since c) (may_leave b) image) → IsStore image → WithinSpares (moment a) (moment c) (left_since a) (left_since c) (may_leave a) image
+  spares_after a b c calm image later store =
+      within_both (moment a) (moment b) (moment c) (left_since a) (left_since b) (left_since c) (may_leave a) (λ other. may_leave b other ⊎ SparesOpen image other) (λ other. may_leave a other ⊎ SparesOpen image other)
+      calm.within (later store) (λ other h. inl h) (λ other h. ⊎_elim (λ left. inl (calm.crash other left)) (λ spared. inr spared) h)
+
+  -- what an opening gives after steps that wrote nothing
+  pub opened_after : (a b c : D) (slots : List Slot) → Calm a b → IsOpened told may_leave moment left_since b c slots → IsOpened told may_leave moment left_since a c slots
+  opened_after a b c slots calm o = record {
+    sized = o.sized;
+    one = o.one;
+    numbered = o.numbered;
+    named = o.named;
+    tells = o.tells ∙ ap is_some calm.same;
+    found = after (told a) (told b) (λ image. IsFound image slots) (λ image. IsFound image slots) calm.same (λ image h. h) o.found;
+    stands = after (told a) (told b) (λ image. StandsFor told may_leave c slots (found_in image)) (λ image. StandsFor told may_leave c slots (found_in image)) calm.same (λ image h. h) o.stands;
+    spares = after (told a) (told b) _ _ calm.same (λ image h. spares_after a b c calm image h) o.spares;
+  }
+
+  pub refused_after : (a b c : D) (fault : OpenFault) → Calm a b → IsRefused told may_leave moment left_since faults b c fault → IsRefused told may_leave moment left_since faults a c fault
+  refused_after a b c fault calm r = record {
+    caused = after (told a) (told b) (λ image. IsCaused fault image) (λ image. IsCaused fault image) calm.same (λ image h. h) r.caused;
+    tells = r.tells ∙ ap is_some calm.same;
+    later = omega (arith, calm.later, r.later);
+    rose = λ is. omega (arith, calm.later, r.rose is);
+    same = λ is. r.same is ∙ calm.same;
+    unwritten = λ is other left. calm.crash other (r.unwritten is other left);
+    unwritten_within = λ is. within_both (moment a) (moment b) (moment c) (left_since a) (left_since b) (left_since c) (may_leave a) (may_leave b) (may_leave a) calm.within (r.unwritten_within is) (λ other h. h) (λ other h. calm.crash other h);
+    durable = λ is. subst (λ (o : Option (List ℕ)). LeavesWhatIsRead o (may_leave c)) calm.same (r.durable is);
+    spares = after (told a) (told b) _ _ calm.same (λ image h. spares_after a b c calm image h) r.spares;
+    left = after (told a) (told b) _ (λ image. IsStore image → NoNewImage (may_leave a) (may_leave c) ⊎ ((other : List ℕ) → may_leave c other → SparesOpen image other)) calm.same
+        (λ image h store. ⊎_elim (λ none. inl (λ other left. calm.crash other (none other left))) (λ spared. inr spared) (h store)) r.left;
+  }
+
+pub not_opened : (g b : List ℕ) → g ≢ opened → content_of g b ≡ Absent
+not_opened [] b differs = refl
+not_opened (x ∷ []) b differs = by (x == 0xa5) refl
+  where
+    by : (t : Bool) → (x == 0xa5) ≡ t → cond t (Present b) Absent ≡ Absent
+    by true is = absurd (differs (ap (λ (y : ℕ). y ∷ []) (eqb-true x 0xa5 is)))
+    by false is = refl
+not_opened (x ∷ y ∷ rest) b differs = refl
+
+-- what is read of a cell is what is spared of it
+reads_spares : (slot : Slot) (gate body : List ℕ) → Reads slot gate body → Spares slot (content_of gate body) gate body
+reads_spares Free gate body r = subst (λ (g : List ℕ). Spares Free (content_of g body) g body) (sym r.0) (refl, r.1)
+reads_spares (Open id creation) gate body r = subst (λ (g : List ℕ). Spares (Open id creation) (content_of g body) g body) (sym r.0) (refl, refl)
+reads_spares Shut gate body r = subst (λ (g : List ℕ). Spares Shut (content_of g body) g body) (sym r) refl
+reads_spares Unsure gate body r = subst (λ (c : Content). Spares Unsure c gate body) (sym (not_opened gate body r)) tt
+
+pub reads_sound : (slots : List Slot) (image : List ℕ) → IsStore image → ReadsBelow cells slots image → SoundBy Spares slots (contents_of image) image
+reads_sound slots image store reads = record {
+  size = store.size;
+  header = store.header;
+  each = λ cell lt. rw (content_there cell image lt) (reads_spares (slot_at slots cell) (gate cell image) (body cell image) (reads cell lt));
+}
+
+-- what is spared is each open cell, byte for byte
+pub spares_open : (slots : List Slot) (image other : List ℕ) → SoundBy Spares slots (contents_of image) other → SparesOpen image other
+spares_open slots image other s cell lt is =
+    let there : get_or (contents_of image) cell Absent ≡ Present (body cell image) = content_there cell image lt ∙ ap (λ (g : List ℕ). content_of g (body cell image)) is in
+    by (slot_at slots cell) (gate cell other) (body cell other) (subst (λ (c : Content). Spares (slot_at slots cell) c (gate cell other) (body cell other)) there (s.each cell lt))
+  where
+    by : (slot : Slot) (g b : List ℕ) → Spares slot (Present (body cell image)) g b → (g ≡ opened) × (b ≡ body cell image)
+    by Free g b h = absurd h
+    by (Open id creation) g b h = h
+    by Shut g b h = absurd h
+    by Unsure g b h = absurd h
+
+-- the directory once no cell is left over
+settled_has : (id : ℕ) (slot : Slot) → has_id id (settled_slot slot) ≡ has_id id slot
+settled_has id Free = refl
+settled_has id (Open own creation) = refl
+settled_has id Shut = refl
+settled_has id Unsure = refl
+
+settled_is_open : (slot : Slot) → is_open (settled_slot slot) ≡ is_open slot
+settled_is_open Free = refl
+settled_is_open (Open own creation) = refl
+settled_is_open Shut = refl
+settled_is_open Unsure = refl
+
+settled_creation : (slot : Slot) → creation_at (settled_slot slot) ≡ creation_at slot
+settled_creation Free = refl
+settled_creation (Open own creation) = refl
+settled_creation Shut = refl
+settled_creation Unsure = refl
+
+key_of : Slot → ℕ
+key_of slot = cond (is_open slot) 1 0
+
+settled_count : (slots : List Slot) → count_by is_open (map settled_slot slots) ≡ count_by is_open slots
+unfolding key_of
+settled_count [] = refl
+settled_count (slot ∷ slots) =
+    sum_by-cons key_of (settled_slot slot) (map settled_slot slots)
+    ∙ (ap (λ (b : Bool). cond b 1 0 + count_by is_open (map settled_slot slots)) (settled_is_open slot)
+    ∙ (ap (λ (n : ℕ). key_of slot + n) (settled_count slots)
+    ∙ sym (sum_by-cons key_of slot slots)))
+
+module _ (slots slots' : List Slot) (count : length slots ≡ 512) (is : slots' ≡ settled_slots slots) where
+  at : (cell : ℕ) → cell < cells → slot_at slots' cell ≡ settled_slot (slot_at slots cell)
+  at cell lt = ap (λ (l : List Slot). slot_at l cell) is ∙ get_or-map settled_slot slots cell Free Free (omega (arith, count))
+
+  pub settled_one : HasOneEach cells slots → HasOneEach cells slots'
+  settled_one one id cell other lt lt' has has' =
+      one id cell other lt lt'
+      (sym (settled_has id (slot_at slots cell)) ∙ (ap (has_id id) (sym (at cell lt)) ∙ has))
+      (sym (settled_has id (slot_at slots other)) ∙ (ap (has_id id) (sym (at other lt')) ∙ has'))
+
+  pub settled_named : IsNamed cells slots → IsNamed cells slots'
+  settled_named named id cell lt has = named id cell lt (sym (settled_has id (slot_at slots cell)) ∙ (ap (has_id id) (sym (at cell lt)) ∙ has))
+
+  pub settled_numbered : IsNumbered cells slots → IsNumbered cells slots'
+  settled_numbered numbered cell lt open_now =
+      ap creation_at (at cell lt) ∙ (settled_creation (slot_at slots cell)
+      ∙ (numbered cell lt (sym (settled_is_open (slot_at slots cell)) ∙ (ap is_open (sym (at cell lt)) ∙ open_now))
+      ∙ (sym (settled_count (take cell slots)) ∙ ap (count_by is_open) (sym (ap (take cell) is ∙ take-map settled_slot cell slots)))))
+
+  finds : (slot : Slot) (g b : List ℕ) → Reads slot g b → Finds (settled_slot slot) g b
+  finds Free g b r = λ e. let clash : closed ≡ opened = sym r.0 ∙ e in cc
+  finds (Open id creation) g b r = r
+  finds Shut g b r = λ e. let clash : closed ≡ opened = sym r ∙ e in cc
+  finds Unsure g b r = r
+
+  pub settled_directory : (image : List ℕ) → IsStore image → ReadsBelow cells slots image → HasOneEach cells slots → IsDirectory slots' image
+  settled_directory image store reads one = record {
+    opens = record { store = store; sound = λ cell lt damaged. not_damaged cells slots image reads one cell lt damaged };
+    each = λ cell lt. subst (λ (s : Slot). Finds s (gate cell image) (body cell image)) (sym (at cell lt)) (finds (slot_at slots cell) (gate cell image) (body cell image) (reads cell lt));
+  }
+
+-- a new store, of an image of no bytes
+pub no_store : (told : Option (List ℕ)) (size : ℕ) (P : List ℕ → Type 0) → size ≡ 0 → IfSome told (λ image. length image ≡ size) → IfSome told (λ image. IsStore image → P image)
+no_store None size P none measured = tt
+no_store (Some image) size P none measured = λ store. absurd (omega (arith, store.size, measured))
+
+pub of_nothing : (told : Option (List ℕ)) (size : ℕ) (P : List ℕ → Type 0) → size ≡ 0 → IfSome told (λ image. length image ≡ size) → P [] → IfSome told P
+of_nothing None size P none measured h = tt
+of_nothing (Some image) size P none measured h = subst P (sym (nil_from_length image (measured ∙ none))) h
+
+pub refused_new : {D : Type 0} (told : D → Option (List ℕ)) (may_leave : D → List ℕ → Type 0) (moment : D → ℕ) (left_since : D → ℕ → List ℕ → Type 0) (faults : D → ℕ) (old new : D) (size : ℕ)
+    → size ≡ 0 → IfSome (told old) (λ image. length image ≡ size) → TellsAsBefore (told old) (told new) → faults old ≤ faults new → Rose (faults old) (faults new) → IsRefused told may_leave moment left_since faults old new Disk
+refused_new told may_leave moment left_since faults old new size none measured tells later rose = record {
+  tells = tells;
+  later = later;
+  unwritten = λ is. absurd is;
+  unwritten_within = λ is. absurd is;
+  caused = of_nothing (told old) size (λ image. IsCaused Disk image) none measured tt;
+  rose = λ is. rose;
+  same = λ is. absurd is;
+  durable = λ is. absurd is;
+  spares = no_store (told old) size _ none measured;
+  left = no_store (told old) size _ none measured;
+}
+
+-- a store that was read, of an image that isn't empty
+pub of_store : (told : Option (List ℕ)) (P : List ℕ → List Content → Type 0) → IfSome told (λ image. IsStore image × P image (contents_of image)) → IfSome told (λ image. P image (found_in image))
+of_store None P h = tt
+of_store (Some []) P h = absurd (omega (arith, h.0.size))
+of_store (Some (byte ∷ rest)) P h = h.1
+
+pub of_directory : (told : Option (List ℕ)) (slots : List Slot) → IfSome told (λ image. IsDirectory slots image) → IfSome told (λ image. IsFound image slots)
+of_directory None slots h = tt
+of_directory (Some []) slots h = absurd (omega (arith, h.opens.store.size))
+of_directory (Some (byte ∷ rest)) slots h = h
+
+-- no slot of a new store has a key
+pub none_has : (id cell : ℕ) (slots : List Slot) → slots ≡ replicate 512 Free → cell < cells → has_id id (slot_at slots cell) ≡ true → ⊥
+none_has id cell slots are lt has =
+    let free : slot_at slots cell ≡ Free = ap (λ (l : List Slot). slot_at l cell) are ∙ get_or-replicate 512 cell Free Free lt in
+    let clash : false ≡ true = sym (ap (has_id id) free) ∙ has in
+    cc
+
+pub none_open : (cell : ℕ) (slots : List Slot) → slots ≡ replicate 512 Free → cell < cells → is_open (slot_at slots cell) ≡ true → ⊥
+none_open cell slots are lt open_now =
+    let free : slot_at slots cell ≡ Free = ap (λ (l : List Slot). slot_at l cell) are ∙ get_or-replicate 512 cell Free Free lt in
+    let clash : false ≡ true = sym (ap is_open free) ∙ open_now in
+    cc
+
+module _ {D : Type 0} (told : D → Option (List ℕ)) (may_leave : D → List ℕ → Type 0) (moment : D → ℕ) (left_since : D → ℕ → List ℕ → Type 0) (faults : D → ℕ) (disk mid : D) (slots : List Slot) (calm : Calm told may_leave moment left_since faults disk mid) (durable : LeavesWhatIsRead (told disk) (may_leave disk)) (store : IfSome (told disk) (λ image. IsStore image)) (reads : IfSome (told disk) (λ image. ReadsBelow cells slots image)) where
+  -- what was read, before any cell that is left over is cleared
+  read_begins : (image : List ℕ) → told disk ≡ Some image → Clearing told may_leave mid slots slots (contents_of image)
+  read_begins image is =
+      let only : LeavesWhatIsRead (Some image) (may_leave disk) = subst (λ (o : Option (List ℕ)). LeavesWhatIsRead o (may_leave disk)) is durable in
+      let here : IsStore image = subst (λ (o : Option (List ℕ)). IfSome o (λ image. IsStore image)) is store in
+      let read : ReadsBelow cells slots image = subst (λ (o : Option (List ℕ)). IfSome o (λ image. ReadsBelow cells slots image)) is reads in
+      record {
+        now = image;
+        is_told = calm.same ∙ is;
+        reads = reads_sound slots image here read;
+        each = λ other left. subst (λ (x : List ℕ). SoundBy Spares slots (contents_of image) x) (sym (only other (calm.crash other left))) (reads_sound slots image here read);
+        shut = λ cell lt shut. shut;
+        unsure = λ cell lt unsure. unsure;
+      }
+
+  abbrev pub ClearsWithin : D → Type 0
+  ClearsWithin new = (contents : List Content) → Clearing told may_leave mid slots slots contents → Within (moment mid) (moment new) (left_since mid) (left_since new) (SoundBy Spares slots contents)
+
+  read_spares : (new : D) → ClearsWithin new → IfSome (told disk) (λ image. IsStore image → WithinSpares (moment disk) (moment new) (left_since disk) (left_since new) (may_leave disk) image)
+  read_spares new within = for_told (told disk) _ (λ image is here.
+      within_both (moment disk) (moment mid) (moment new) (left_since disk) (left_since mid) (left_since new) (may_leave disk) (SoundBy Spares slots (contents_of image)) (λ other. may_leave disk other ⊎ SparesOpen image other)
+      calm.within (within (contents_of image) (read_begins image is)) (λ other h. inl h) (λ other h. inr (spares_open slots image other h)))
+
+  pub read_opened : (new : D) (slots' : List Slot) → length slots ≡ 512 → slots' ≡ settled_slots slots → HasOneEach cells slots → IsNumbered cells slots → IsNamed cells slots → TellsAsBefore (told mid) (told new)
+      → ((contents : List Content) → length contents ≡ 512 → Clearing told may_leave mid slots slots contents → StandsFor told may_leave new slots' contents) → ClearsWithin new
+      → IsOpened told may_leave moment left_since disk new slots'
+  read_opened new slots' count is one numbered named tells stands within = record {
+    sized = ap length is ∙ (length-map slots settled_slot ∙ count);
+    one = settled_one slots slots' count is one;
+    numbered = settled_numbered slots slots' count is numbered;
+    named = settled_named slots slots' count is named;
+    tells = tells ∙ ap is_some calm.same;
+    found = of_directory (told disk) slots' (for_told (told disk) _ (λ image told_is.
+        let here : IsStore image = subst (λ (o : Option (List ℕ)). IfSome o (λ image. IsStore image)) told_is store in
+        let read : ReadsBelow cells slots image = subst (λ (o : Option (List ℕ)). IfSome o (λ image. ReadsBelow cells slots image)) told_is reads in
+        settled_directory slots slots' count is image here read one));
+    stands = of_store (told disk) (λ image contents. StandsFor told may_leave new slots' contents) (for_told (told disk) _ (λ image told_is.
+        let here : IsStore image = subst (λ (o : Option (List ℕ)). IfSome o (λ image. IsStore image)) told_is store in
+        (here, stands (contents_of image) (length-contents_of image) (read_begins image told_is))));
+    spares = read_spares new within;
+  }
+
+  pub read_refused : (new : D) → TellsAsBefore (told mid) (told new) → faults disk ≤ faults new → Rose (faults disk) (faults new)
+      → ((contents : List Content) → Clearing told may_leave mid slots slots contents → (image : List ℕ) → may_leave new image → SoundBy Spares slots contents image) → ClearsWithin new
+      → IsRefused told may_leave moment left_since faults disk new Disk
+  read_refused new tells later rose left within = record {
+    tells = tells ∙ ap is_some calm.same;
+    later = later;
+    unwritten = λ is. absurd is;
+    unwritten_within = λ is. absurd is;
+    caused = for_told (told disk) _ (λ image is. tt);
+    rose = λ is. rose;
+    same = λ is. absurd is;
+    durable = λ is. absurd is;
+    spares = read_spares new within;
+    left = for_told (told disk) _ (λ image is here. inr (λ other has. spares_open slots image other (left (contents_of image) (read_begins image is) other has)));
+  }
+
+-- nothing is pending still
+pub durable_still : {D : Type 0} (told : D → Option (List ℕ)) (may_leave : D → List ℕ → Type 0) (old new : D) → LeavesWhatIsRead (told old) (may_leave old) → NoNewImage (may_leave old) (may_leave new) → LeavesWhatIsRead (told old) (may_leave new)
+durable_still told may_leave old new durable crash = by (told old) durable
+  where
+    by : (o : Option (List ℕ)) → LeavesWhatIsRead o (may_leave old) → LeavesWhatIsRead o (may_leave new)
+    by None h = tt
+    by (Some bytes) h = λ image left. h image (crash image left)
+
+pub told_nothing : (o : Option (List ℕ)) → IfSome o (λ image. Unit {0})
+told_nothing None = tt
+told_nothing (Some image) = tt
+
+-- a length that is neither 0 nor a store's
+pub no_store_of : (o : Option (List ℕ)) (size : ℕ) → (size ≡ 0 → ⊥) → (size ≡ 557120 → ⊥) → IfSome o (λ image. length image ≡ size) → IfSome o (λ image. IsCaused NotAStore image)
+no_store_of None size some other measured = tt
+no_store_of (Some image) size some other measured = record { some = λ none. some (sym measured ∙ none); other = λ store. other (sym measured ∙ store.size) }

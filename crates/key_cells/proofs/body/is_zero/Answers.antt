@@ -1,0 +1,12 @@
+use Rattle.std.proofs.Common.{◌≡◌, ℕ, length, take, replicate, sym, ◌∙◌}
+use Rattle.std.proofs.lemmas.List.{take-replicate}
+use Rattle.std.proofs.lemmas.Slice.Eq.{slice_eq-Decides}
+use Rattle.std.proofs.lemmas.Bool.Decides.{Decides-eqb}
+use Rattle.key_cells.proofs.body.is_zero.Goals as goal
+
+pub returns : goal.returns
+returns c =
+    let bytes = c.args.bytes.now in
+    let zeros : take (length bytes) (replicate 1087 0) ≡ replicate {A = ℕ} (length bytes) 0 = take-replicate (length bytes) 1087 0 c.requires in
+    let decides = slice_eq-Decides Decides-eqb bytes (take (length bytes) (replicate 1087 0)) c.eq.result c.eq.ensures in
+    (λ same. decides.0 same ∙ zeros, λ are. decides.1 (are ∙ sym zeros))

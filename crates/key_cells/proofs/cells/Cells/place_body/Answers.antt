@@ -1,0 +1,72 @@
+use Rattle.disk_face.specs.Moments.{after_all}
+use Rattle.key_cells.specs.History.{Created, after}
+use Rattle.key_cells.proofs.Entries.{adds_entry}
+use Rattle.std.proofs.Common.{◌≡◌, ◌≢◌, ◌<◌, ℕ, List, inl, ⊎_elim, subst, set, length, ◌∙◌, sym, ap, arith, inr}
+use Rattle.std.proofs.lemmas.Bool.{cases_eq}
+use Rattle.std.proofs.lemmas.List.{get_or-map}
+use Rattle.key_cells.specs.declared.slot.Slot.{Slot}
+use Rattle.key_cells.specs.declared.slot.Slot.TheVariants.{Free}
+use Rattle.key_cells.specs.Contents.{Present, Doubtful, StaysFree, StaysFreeBut, IsFirstWithoutKey, slot_at, settled, settled_slot}
+use Rattle.key_cells.proofs.Moves.{moves_settled, moves_after_settled, free_absent, settled_free, on_err}
+use Rattle.key_cells.proofs.cells.Cells.place_body.Goals as goal
+
+pub returns-in_err-fill-clause-failed : goal.returns-in_err-fill-clause-failed
+returns-in_err-fill-clause-failed g c = on_err c.from_residual-in_err-fill.result (λ contents stands.
+    let d = g.D.Disk in
+    let self = c.args.self.now in
+    let cell = c.in-Some.cell in
+    let old = self.slots.items in
+    let mid = c.settle.new.self.slots.items in
+    let is = c.in_ok-settle.ensures.ok in
+    let first_cell = c.in-Some.ensures in
+    let within : cell < length old = omega (arith, ap length c.deref.ensures.value, first_cell.within) in
+    let here = ap (λ (l : List Slot). slot_at l cell) c.deref.ensures.value in
+    let free : slot_at mid cell ≡ Free =
+    ap (λ (l : List Slot). slot_at l cell) is ∙ (get_or-map settled_slot old cell Free Free within ∙ (ap settled_slot (sym here) ∙ settled_free (slot_at c.deref.result.now cell) first_cell.here)) in
+    let first = moves_settled d.contents d.may_leave d.moment d.left_since self.disk c.settle.new.self.disk old mid contents c.requires.slots is (c.settle.ensures.keeps contents stands) in
+    let absent = free_absent d.contents d.may_leave d.moment d.left_since cell c.settle.new.self.disk mid contents (omega (arith, within, c.requires.slots)) stands.count free first.stands (g.met.D.Disk.read_is_image c.settle.new.self.disk) in
+    let second = c.in_err-fill.ensures.failed (settled contents) absent first.stands in
+    inr (cell, subst (λ (l : List Slot). IsFirstWithoutKey l cell) c.deref.ensures.value first_cell, moves_after_settled d.contents d.may_leave d.moment d.left_since self.disk c.settle.new.self.disk c.fill.new.self.disk old mid c.fill.new.self.slots.items contents (set (settled contents) cell (Doubtful c.args.body.now)) stands.count c.settle.ensures.free first second))
+
+pub returns-clause-created : goal.returns-clause-created
+returns-clause-created g c = λ contents stands.
+    let d = g.D.Disk in
+    let self = c.args.self.now in
+    let cell = c.in-Some.cell in
+    let old = self.slots.items in
+    let mid = c.settle.new.self.slots.items in
+    let is = c.in_ok-settle.ensures.ok in
+    let first_cell = c.in-Some.ensures in
+    let within : cell < length old = omega (arith, ap length c.deref.ensures.value, first_cell.within) in
+    let here = ap (λ (l : List Slot). slot_at l cell) c.deref.ensures.value in
+    let free : slot_at mid cell ≡ Free =
+    ap (λ (l : List Slot). slot_at l cell) is ∙ (get_or-map settled_slot old cell Free Free within ∙ (ap settled_slot (sym here) ∙ settled_free (slot_at c.deref.result.now cell) first_cell.here)) in
+    let first = moves_settled d.contents d.may_leave d.moment d.left_since self.disk c.settle.new.self.disk old mid contents c.requires.slots is (c.settle.ensures.keeps contents stands) in
+    let absent = free_absent d.contents d.may_leave d.moment d.left_since cell c.settle.new.self.disk mid contents (omega (arith, within, c.requires.slots)) stands.count free first.stands (g.met.D.Disk.read_is_image c.settle.new.self.disk) in
+    let second = c.in_ok-fill.ensures.filled (settled contents) absent first.stands in
+    moves_after_settled d.contents d.may_leave d.moment d.left_since self.disk c.settle.new.self.disk c.fill.new.self.disk old mid c.fill.new.self.slots.items contents (set (settled contents) cell (Present c.args.body.now)) stands.count c.settle.ensures.free first second
+
+pub returns-clause-entry : goal.returns-clause-entry
+returns-clause-entry g c = λ opening first history h.
+    let d = g.D.Disk in
+    let self = c.args.self.now in
+    adds_entry d.contents d.may_leave d.moment d.left_since g.met.D.Disk.only_now self.disk c.fill.new.self.disk self.slots.items c.fill.new.self.slots.items (Created c.in-Some.cell c.args.body.now) opening first history h
+    (returns-clause-created g c (after_all after history first) h.stands)
+
+-- free cells stay free but for the one that is taken
+but_first : (old mid new : List Slot) (cell : ℕ) → StaysFree old mid → ((other : ℕ) → other ≢ cell → slot_at new other ≡ slot_at mid other) → IsFirstWithoutKey old cell → StaysFreeBut old new
+but_first old mid new cell stays others first other lt free =
+    ⊎_elim
+    (λ same. inr (subst (λ (k : ℕ). IsFirstWithoutKey old k) (sym same) first))
+    (λ differs. inl (others other differs ∙ stays other lt free))
+    (cases_eq other cell)
+
+pub returns-in_err-fill-clause-free : goal.returns-in_err-fill-clause-free
+returns-in_err-fill-clause-free g c =
+    but_first c.args.self.now.slots.items c.settle.new.self.slots.items c.fill.new.self.slots.items c.in-Some.cell c.settle.ensures.free c.fill.ensures.others
+    (subst (λ (l : List Slot). IsFirstWithoutKey l c.in-Some.cell) c.deref.ensures.value c.in-Some.ensures)
+
+pub returns-clause-free : goal.returns-clause-free
+returns-clause-free g c =
+    but_first c.args.self.now.slots.items c.settle.new.self.slots.items c.fill.new.self.slots.items c.in-Some.cell c.settle.ensures.free c.fill.ensures.others
+    (subst (λ (l : List Slot). IsFirstWithoutKey l c.in-Some.cell) c.deref.ensures.value c.in-Some.ensures)

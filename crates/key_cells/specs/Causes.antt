@@ -1,0 +1,25 @@
+-- What an opening is refused for.
+use Rattle.std.specs.Prelude.{ℕ, List, ⊤}
+use Rattle.key_cells.specs.declared.reading.OpenFault.{OpenFault}
+use Rattle.key_cells.specs.declared.reading.OpenFault.TheVariants.{NotAStore, DamagedCell, Disk, Memory}
+use Rattle.key_cells.specs.Image.{IsNoStore, IsFirstDamaged}
+
+-- what the image has then
+abbrev pub IsCaused : OpenFault → List ℕ → Type 0
+IsCaused NotAStore image = IsNoStore image
+IsCaused (DamagedCell cell) image = IsFirstDamaged image cell
+IsCaused Disk image = ⊤
+IsCaused Memory image = ⊤
+
+abbrev pub IsDisk : OpenFault → Type 0
+IsDisk NotAStore = ⊥
+IsDisk (DamagedCell cell) = ⊥
+IsDisk Disk = ⊤
+IsDisk Memory = ⊥
+
+-- a refusal for what the image has
+abbrev pub IsRefusal : OpenFault → Type 0
+IsRefusal NotAStore = ⊤
+IsRefusal (DamagedCell cell) = ⊤
+IsRefusal Disk = ⊥
+IsRefusal Memory = ⊥

@@ -1,0 +1,118 @@
+// The body of a cell that has a key.
+ghost use Rattle.std.specs.Prelude.{◌≡◌, ◌≤◌, ◌+◌, ◌-◌, ◌++◌, ◌↔◌, ℕ, List, length, take, drop, replicate, MatchOption, IsTrue};
+ghost use Rattle.std.specs.Int.{w32, from_le_bytes};
+ghost use Rattle.disk_face.specs.Moments.{written};
+ghost use Rattle.key_cells.specs.Body.{IsPersistent, IsKeyOf, front_of, body_of, HoldsNoKey, FoundKey, IsOfOneKey};
+
+use key_attributes::{Attributes, KeyId};
+use key_record::{read, total_length, write};
+
+/// The highest identifier that a persistent key may have.
+pub const LAST_ID: u32 = 0x3fff_ffff;
+
+/// How many bytes a cell has behind its first one.
+pub const BODY: usize = 1087;
+
+// Writes bytes over those from a place on.
+fn put(out: &mut [u8; 1087], place: usize, bytes: &[u8])
+    requires { place + length bytes.now ≤ 1087 }
+    ensures { out.new ≡ written out.old place bytes.now }
+{
+    out[place..place + bytes.len()].copy_from_slice(bytes);
+}
+
+// What stands before the record: the identifier between zeros.
+fn front(id: u32) -> [u8; 15]
+    ensures { result ≡ front_of id }
+{
+    let [a, b, c, d] = id.to_le_bytes();
+    [0, 0, 0, a, b, c, d, 0, 0, 0, 0, 0, 0, 0, 0]
+}
+
+/// The body of a key's cell.
+pub fn body_of(attributes: &Attributes, bytes: &[u8]) -> [u8; 1087]
+    requires { IsKeyOf attributes.now bytes.now }
+    ensures { result ≡ body_of attributes.now bytes.now }
+{
+    let mut record = [0; 1060];
+    let length = write(attributes, bytes, &mut record);
+    let mut body = [0; BODY];
+    put(&mut body, 0, &front(attributes.id.0));
+    put(&mut body, 15, &record[..length]);
+    body
+}
+
+// Whether bytes are all zeros.
+fn is_zero(bytes: &[u8]) -> bool
+    requires { length bytes.now ≤ 1087 }
+    ensures { IsTrue result ↔ (bytes.now ≡ replicate (length bytes.now) 0) }
+{
+    let zeros: &[u8] = &[0; BODY];
+    bytes == &zeros[..bytes.len()]
+}
+
+// The identifier of a cell.
+fn id_of(cell: &[u8; 1088]) -> u32
+    ensures { result ≡ from_le_bytes w32 (take 4 (drop 4 cell.now)) }
+{
+    u32::from_le_bytes([cell[4], cell[5], cell[6], cell[7]])
+}
+
+// Whether a persistent key may have this identifier.
+fn is_persistent(id: u32) -> bool
+    ensures { IsTrue result ↔ IsPersistent id }
+{
+    1 <= id && id <= LAST_ID
+}
+
+// The header of a cell's record.
+fn head_of(cell: &[u8; 1088]) -> [u8; 36]
+    ensures { result ≡ take 36 (drop 16 cell.now) }
+{
+    let mut head = [0; 36];
+    head.copy_from_slice(&cell[16..52]);
+    head
+}
+
+// Whether a cell's body begins with these bytes.
+fn begins_with(cell: &[u8; 1088], front: &[u8; 15]) -> bool
+    ensures { IsTrue result ↔ (take 15 (drop 1 cell.now) ≡ front.now) }
+{
+    let begin: &[u8] = &cell[1..16];
+    let front: &[u8] = front;
+    begin == front
+}
+
+/// The key of an open cell: its attributes, and where its bytes end, which begin at byte 52. None where the cell is
+/// the cell of no key.
+pub fn read_key(cell: &[u8; 1088]) -> Option<(Attributes, usize)>
+    ensures { MatchOption result (HoldsNoKey (drop 1 cell.now)) (λ found. FoundKey found.0 found.1 cell.now) }
+{
+    let id = id_of(cell);
+    if !is_persistent(id) {
+        return None;
+    }
+    if !begins_with(cell, &front(id)) {
+        return None;
+    }
+    let Some(length) = total_length(&head_of(cell)) else {
+        return None;
+    };
+    let end = 16 + length;
+    let Some((attributes, _start)) = read(&cell[16..end]) else {
+        return None;
+    };
+    if !is_zero(&cell[end..]) {
+        return None;
+    }
+    let named = Attributes {
+        id: KeyId(id),
+        ..attributes
+    };
+    Some((named, end))
+}
+
+/// A body is of one key.
+pub fn a_body_is_of_one_key()
+    ensures { IsOfOneKey }
+{}

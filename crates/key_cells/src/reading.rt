@@ -1,0 +1,194 @@
+// What an opening reads.
+ghost use Rattle.std.specs.Prelude.{◌≡◌, ◌≤◌, length, IsErrOf, ◌<◌, ◌+◌, ◌*◌, cond, take, IfOk, IfErr, IfSome, OnOk, IsTrue, MatchOption, ◌↔◌, ℕ};
+ghost use Rattle.psa_status.specs.Causes.{HasCause, Rose};
+ghost use Rattle.disk_face.specs.Disk.{NoNewImage, Elapses};
+ghost use Rattle.key_cells.specs.Contents.{is_open, HasNoKey, IsFirstWithKey};
+ghost use Rattle.key_cells.specs.Image.{IsStore};
+ghost use Rattle.key_cells.specs.Opening.{GivesPart, IsBadCell, ReadsCell, ReadsBelow, HasOneEach, IsNumbered, IsNamed};
+ghost use Rattle.key_cells.specs.Causes.{IsCaused, IsDisk};
+ghost use Rattle.disk_face.specs.Moments.{Within};
+ghost use Rattle.key_cells.specs.Layout.{opened, zeros, header};
+
+use crate::Slot;
+use crate::body::read_key;
+use crate::cells::{CELLS, CLOSED, OPENED, place};
+use disk_face::Disk;
+use psa_status::Failed;
+
+/// The bytes of a cell.
+pub fn read_cell<D: Disk>(disk: &mut D, cell: usize) -> Result<[u8; 1088], Failed>
+    requires size { D.size disk.old ≡ 557120 }
+    requires within { cell < 512 }
+    ensures bytes { IfOk result (λ bytes. GivesPart (D.contents disk.old) (64 + 1088 * cell) 1088 bytes) }
+    ensures same { D.contents disk.new ≡ D.contents disk.old }
+    ensures size { D.size disk.new ≡ D.size disk.old }
+    ensures crash { NoNewImage (D.may_leave disk.old) (D.may_leave disk.new) }
+    ensures time { Elapses (D.moment disk.old) (D.moment disk.new) (D.left_since disk.old) (D.left_since disk.new) (D.may_leave disk.new) }
+    ensures cause { HasCause (D.faults disk.old) (D.faults disk.new) result }
+{
+    let mut bytes = [0; 1088];
+    disk.read_at(place(cell), &mut bytes)?;
+    Ok(bytes)
+}
+
+/// The cell of a key, among these slots.
+#[tactic(auto, using(crate::proofs::Counts::has_id_open))]
+pub fn find_key(slots: &[Slot], id: u32) -> Option<usize>
+    ensures { MatchOption result (HasNoKey slots.now id) (λ cell. IsFirstWithKey slots.now id cell) }
+{
+    for (cell, slot) in slots.iter().enumerate() {
+        if slot.has(id) {
+            return Some(cell);
+        }
+    }
+    None
+}
+
+// The slot of an open cell with these bytes, as the next that was found; none where it is damaged.
+fn open_slot_of(bytes: &[u8; 1088], before: &[Slot], found: u64) -> Option<Slot>
+    requires { take 1 bytes.now ≡ opened }
+    ensures { MatchOption result (IsBadCell bytes.now before.now) (λ slot. ReadsCell slot bytes.now before.now found) }
+{
+    let Some((attributes, _end)) = read_key(bytes) else {
+        return None;
+    };
+    let id = attributes.id.0;
+    match find_key(before, id) {
+        Some(_cell) => None,
+        None => Some(Slot::Open {
+            id,
+            creation: found,
+        }),
+    }
+}
+
+// The slot of a cell with these bytes; none where it is damaged.
+fn slot_of(bytes: &[u8; 1088], before: &[Slot], found: u64) -> Option<Slot>
+    ensures { MatchOption result (IsBadCell bytes.now before.now) (λ slot. ReadsCell slot bytes.now before.now found) }
+{
+    if bytes[0] == OPENED {
+        return open_slot_of(bytes, before, found);
+    }
+    if bytes[0] != CLOSED {
+        return Some(Slot::Unsure);
+    }
+    if is_clear(&bytes[1..]) {
+        return Some(Slot::Free);
+    }
+    Some(Slot::Shut)
+}
+
+// How many keys were found, with this slot.
+fn counted(found: u64, slot: &Slot) -> u64
+    requires { found ≤ 512 }
+    ensures { result ≡ found + cond (is_open slot.now) 1 0 }
+{
+    if slot.has_key() { found + 1 } else { found }
+}
+
+// Whether a body is all zeros.
+fn is_clear(body: &[u8]) -> bool
+    ensures { IsTrue result → body.now ≡ zeros }
+{
+    let zeros: &[u8] = &[0; 1087];
+    body == zeros
+}
+
+// Whether these are the header's bytes.
+fn is_header(bytes: &[u8; 64]) -> bool
+    ensures { IsTrue result ↔ (bytes.now ≡ header) }
+{
+    *bytes == HEADER
+}
+
+/// The header of each store.
+pub const HEADER: [u8; 64] = [
+    b'P', b'S', b'A', b'S', b'T', b'O', b'R', b'E', 1, 0, 0, 0, 0, 0, 0, 0, 0, 0, 0, 0, 0, 0, 0, 0,
+    0, 0, 0, 0, 0, 0, 0, 0, 0, 0, 0, 0, 0, 0, 0, 0, 0, 0, 0, 0, 0, 0, 0, 0, 0, 0, 0, 0, 0, 0, 0, 0,
+    0, 0, 0, 0, 0, 0, 0, 0,
+];
+
+// Reads the header.
+fn read_header<D: Disk>(disk: &mut D) -> Result<[u8; 64], Failed>
+    requires { D.size disk.old ≡ 557120 }
+    ensures bytes { IfOk result (λ bytes. GivesPart (D.contents disk.old) 0 64 bytes) }
+    ensures same { D.contents disk.new ≡ D.contents disk.old }
+    ensures size { D.size disk.new ≡ D.size disk.old }
+    ensures crash { NoNewImage (D.may_leave disk.old) (D.may_leave disk.new) }
+    ensures time { Elapses (D.moment disk.old) (D.moment disk.new) (D.left_since disk.old) (D.left_since disk.new) (D.may_leave disk.new) }
+    ensures cause { HasCause (D.faults disk.old) (D.faults disk.new) result }
+{
+    let mut bytes = [0; 64];
+    disk.read_at(0, &mut bytes)?;
+    Ok(bytes)
+}
+
+/// Why a store wasn't opened.
+#[derive(Clone, Copy, Debug, PartialEq, Eq, Drop)]
+pub enum OpenFault {
+    NotAStore,
+    DamagedCell { cell: usize },
+    Disk,
+    Memory,
+}
+
+/// Reads the header and the cells, and writes nothing.
+pub fn read_store<D: Disk>(disk: &mut D, slots: &mut Vec<Slot>) -> Result<(), OpenFault>
+    requires size { D.size disk.old ≡ 557120 }
+    requires slots { length slots.old.items ≡ 512 }
+    ensures store { OnOk result (IfSome (D.contents disk.old) (λ image. IsStore image)) }
+    ensures read { OnOk result (IfSome (D.contents disk.old) (λ image. ReadsBelow 512 slots.new.items image)) }
+    ensures one { OnOk result (HasOneEach 512 slots.new.items) }
+    ensures numbered { OnOk result (IsNumbered 512 slots.new.items) }
+    ensures named { OnOk result (IsNamed 512 slots.new.items) }
+    ensures slots { length slots.new.items ≡ 512 }
+    ensures cause { IfErr result (λ fault. IfSome (D.contents disk.old) (λ image. IsCaused fault image)) }
+    ensures same { D.contents disk.new ≡ D.contents disk.old }
+    ensures size { D.size disk.new ≡ 557120 }
+    ensures crash { NoNewImage (D.may_leave disk.old) (D.may_leave disk.new) }
+    ensures within { Within (D.moment disk.old) (D.moment disk.new) (D.left_since disk.old) (D.left_since disk.new) (D.may_leave disk.old) }
+    ensures later { D.faults disk.old ≤ D.faults disk.new }
+    ensures disk { IfErr result (λ fault. IsDisk fault → Rose (D.faults disk.old) (D.faults disk.new)) }
+{
+    let bytes = match read_header(disk) {
+        Ok(bytes) => bytes,
+        Err(Failed) => return Err(OpenFault::Disk),
+    };
+    if !is_header(&bytes) {
+        return Err(OpenFault::NotAStore);
+    }
+    read_slots(disk, slots)
+}
+
+// Reads the cells of a store.
+fn read_slots<D: Disk>(disk: &mut D, slots: &mut Vec<Slot>) -> Result<(), OpenFault>
+    requires size { D.size disk.old ≡ 557120 }
+    requires slots { length slots.old.items ≡ 512 }
+    requires store { IfSome (D.contents disk.old) (λ image. IsStore image) }
+    ensures read { OnOk result (IfSome (D.contents disk.old) (λ image. ReadsBelow 512 slots.new.items image)) }
+    ensures one { OnOk result (HasOneEach 512 slots.new.items) }
+    ensures numbered { OnOk result (IsNumbered 512 slots.new.items) }
+    ensures named { OnOk result (IsNamed 512 slots.new.items) }
+    ensures slots { length slots.new.items ≡ 512 }
+    ensures cause { IfErr result (λ fault. IfSome (D.contents disk.old) (λ image. IsCaused fault image)) }
+    ensures same { D.contents disk.new ≡ D.contents disk.old }
+    ensures size { D.size disk.new ≡ 557120 }
+    ensures crash { NoNewImage (D.may_leave disk.old) (D.may_leave disk.new) }
+    ensures within { Within (D.moment disk.old) (D.moment disk.new) (D.left_since disk.old) (D.left_since disk.new) (D.may_leave disk.old) }
+    ensures later { D.faults disk.old ≤ D.faults disk.new }
+    ensures disk { IfErr result (λ fault. IsDisk fault → Rose (D.faults disk.old) (D.faults disk.new)) }
+{
+    let mut found = 0;
+    for cell in 0..CELLS {
+        let bytes = match read_cell(disk, cell) {
+            Ok(bytes) => bytes,
+            Err(Failed) => return Err(OpenFault::Disk),
+        };
+        let Some(slot) = slot_of(&bytes, &slots[..cell], found) else {
+            return Err(OpenFault::DamagedCell { cell });
+        };
+        found = counted(found, &slot);
+        slots[cell] = slot;
+    }
+    Ok(())
+}

@@ -1,0 +1,95 @@
+-- What a file stands for that was opened.
+use Rattle.std.proofs.Common.{◌≡◌, ◌≢◌, ⊎_elim, ℕ, ◌<◌, Bool, true, false, cond, ◌==◌, List, [], ◌∷◌, length, Option, None, Some, IfSome, replicate, refl, sym, ◌∙◌, ap, subst, arith}
+use Rattle.std.proofs.lemmas.Bool.{eqb-true, eq-eqb}
+use Rattle.std.proofs.lemmas.List.{get_or-replicate}
+use Rattle.key_attributes.specs.declared.Attributes.{Attributes}
+use Rattle.key_cells.specs.declared.slot.Slot.{Slot}
+use Rattle.key_cells.specs.declared.slot.Slot.TheVariants.{Free, Open, Shut, Unsure}
+use Rattle.key_cells.specs.Layout.{gate, body, opened}
+use Rattle.key_cells.specs.Contents as cells
+use Rattle.key_cells.specs.Contents.{Content, Absent, Present, Doubtful, slot_at, content_at, has_id, creation_at}
+use Rattle.key_cells.specs.Body.{HoldsKey, HoldsId}
+use Rattle.key_cells.specs.Opening.{content_of, contents_of, found_in, IsFound, Finds, HasOneEach}
+use Rattle.key_cells.specs.Opened.{IsOpened}
+use Rattle.key_cells.proofs.CellsRead.{content_there}
+use Rattle.key_cells.proofs.Opened.{not_opened}
+use Rattle.key_file.specs.Files.{Stored, stored, Keys, Doubt, TellsCell, IsOf, IsFiled, AreFound, StandsFor}
+use Rattle.key_file.proofs.Filing.{one_id}
+
+-- the content of a cell, as an opening found it
+pub FoundIn : Slot → Content → List ℕ → Type 0
+FoundIn Free Absent body = Unit {0}
+FoundIn Free (Present bytes) body = ⊥
+FoundIn Free (Doubtful bytes) body = ⊥
+FoundIn (Open id creation) Absent body = ⊥
+FoundIn (Open id creation) (Present bytes) body = (bytes ≡ body) × HoldsId id body
+FoundIn (Open id creation) (Doubtful bytes) body = ⊥
+FoundIn Shut content body = ⊥
+FoundIn Unsure content body = ⊥
+
+found_cell : (slot : Slot) (g b : List ℕ) → Finds slot g b → FoundIn slot (content_of g b) b
+unfolding FoundIn
+found_cell Free g b f = subst (λ (c : Content). FoundIn Free c b) (sym (not_opened g b f)) tt
+found_cell (Open id creation) g b f = subst (λ (x : List ℕ). FoundIn (Open id creation) (content_of x b) b) (sym f.0) (refl, f.1)
+found_cell Shut g b f = absurd f
+found_cell Unsure g b f = absurd f
+
+module _ (slots : List Slot) (contents : List Content) (image : List ℕ) (sized : length slots ≡ 512) (one_each : HasOneEach 512 slots) (found : (cell : ℕ) → cell < 512 → FoundIn (slot_at slots cell) (content_at contents cell) (body cell image)) (keys : Keys) (are : AreFound image slots keys) where
+  tells : (cell : ℕ) → cell < 512 → (slot : Slot) (content : Content) → slot_at slots cell ≡ slot → FoundIn slot content (body cell image) → TellsCell keys [] slot content
+  unfolding FoundIn
+  tells cell lt Free Absent is f = tt
+  tells cell lt Free (Present bytes) is f = f
+  tells cell lt Free (Doubtful bytes) is f = absurd f
+  tells cell lt (Open id creation) Absent is f = f
+  tells cell lt (Open id creation) (Present bytes) is f =
+      let has : has_id id (slot_at slots cell) ≡ true = ap (has_id id) is ∙ eq-eqb id id refl in
+      let k = are.all id cell lt has in
+      let t = are.there id k.0 k.1 in
+      let same : t.0 ≡ cell = one_each id t.0 cell t.1 lt t.2 has in
+      let holds : HoldsKey k.0.attributes k.0.bytes (body cell image) = subst (λ (j : ℕ). HoldsKey k.0.attributes k.0.bytes (body j image)) same t.3 in
+      let number : k.0.creation ≡ creation = t.4 ∙ (ap (λ (j : ℕ). creation_at (slot_at slots j)) same ∙ ap creation_at is) in
+      let id_is : k.0.attributes.id.0 ≡ id = one_id k.0.attributes.id.0 id (body cell image) (k.0.attributes, k.0.bytes, holds, refl) f.1 in
+      (k.0.attributes, k.0.bytes, subst (λ (b : List ℕ). HoldsKey k.0.attributes k.0.bytes b) (sym f.0) holds, id_is, k.1 ∙ ap (λ (n : ℕ). Some (stored n k.0.attributes k.0.bytes)) number)
+  tells cell lt (Open id creation) (Doubtful bytes) is f = f
+  tells cell lt Shut content is f = absurd f
+  tells cell lt Unsure content is f = absurd f
+
+  of_open : (id : ℕ) (slot : Slot) (content : Content) (b : List ℕ) → FoundIn slot content b → IsOf id content → has_id id slot ≡ true
+  unfolding FoundIn
+  of_open id Free Absent b f is = absurd is
+  of_open id Free (Present bytes) b f is = absurd f
+  of_open id Free (Doubtful bytes) b f is = absurd f
+  of_open id (Open own creation) Absent b f is = absurd f
+  of_open id (Open own creation) (Present bytes) b f is = eq-eqb own id (one_id own id b f.1 (subst (λ (x : List ℕ). HoldsId id x) f.0 is))
+  of_open id (Open own creation) (Doubtful bytes) b f is = absurd f
+  of_open id Shut content b f is = absurd f
+  of_open id Unsure content b f is = absurd f
+
+  found_filed : IsFiled keys [] slots contents
+  found_filed = record {
+    sized = sized;
+    each = λ cell lt. tells cell lt (slot_at slots cell) (content_at contents cell) refl (found cell lt);
+    found = λ id key is. let t = are.there id key is in (t.0, t.1, t.2);
+    apart = λ id cell other lt lt' is is'. one_each id cell other lt lt'
+        (of_open id (slot_at slots cell) (content_at contents cell) (body cell image) (found cell lt) is)
+        (of_open id (slot_at slots other) (content_at contents other) (body other image) (found other lt') is');
+  }
+
+found_each : (image : List ℕ) (slots : List Slot) → IsFound image slots → (cell : ℕ) → cell < 512 → FoundIn (slot_at slots cell) (content_at (found_in image) cell) (body cell image)
+unfolding FoundIn
+found_each [] slots is cell lt = rw (ap (λ (l : List Slot). slot_at l cell) is ∙ get_or-replicate 512 cell Free Free lt, get_or-replicate 512 cell Absent Absent lt) tt
+found_each (byte ∷ rest) slots is cell lt = rw (content_there cell (byte ∷ rest) lt) (found_cell (slot_at slots cell) (gate cell (byte ∷ rest)) (body cell (byte ∷ rest)) (is.each cell lt))
+
+module _ {D : Type 0} (told : D → Option (List ℕ)) (may_leave : D → List ℕ → Type 0) (moment : D → ℕ) (left_since : D → ℕ → List ℕ → Type 0) where
+  pub found_stands : (old new : D) (slots : List Slot) → IsOpened told may_leave moment left_since old new slots
+      → IfSome (told old) (λ image. (keys : Keys) → AreFound image slots keys → StandsFor told may_leave new slots keys [])
+  found_stands old new slots o = by (told old) o.found o.stands
+    where
+      by : (x : Option (List ℕ)) → IfSome x (λ image. IsFound image slots) → IfSome x (λ image. cells.StandsFor told may_leave new slots (found_in image))
+          → IfSome x (λ image. (keys : Keys) → AreFound image slots keys → StandsFor told may_leave new slots keys [])
+      by None found stands = tt
+      by (Some image) found stands = λ keys are. record {
+        contents = found_in image;
+        stands = stands;
+        filed = found_filed slots (found_in image) image o.sized o.one (found_each image slots found) keys are;
+      }

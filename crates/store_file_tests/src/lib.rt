@@ -1,0 +1,5 @@
+//! Tests of the store file over a disk in memory. They stand apart, since one test in a crate costs its whole proof again.
+#![tactic(auto)]
+
+#[cfg(test)]
+mod tests;
