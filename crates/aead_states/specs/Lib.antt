@@ -5,4 +5,3 @@ pub mod Counted
 pub mod Runs
 pub mod Holding
 pub mod Laws
-pub mod Random

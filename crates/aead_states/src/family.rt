@@ -3,9 +3,9 @@ ghost use Rattle.std.specs.Prelude.{◌≡◌};
 ghost use Rattle.store_model.specs.Outcome.{refusal};
 ghost use Rattle.store_model.specs.Operations.{Operation, loses_key};
 ghost use Rattle.store_model.specs.AeadOperations.{AeadWork, aead_step};
-ghost use Rattle.service_calls.specs.Meanings.{aead_step_of};
+ghost use Rattle.service_calls.specs.Meanings.{model_aead_step};
 ghost use Rattle.aead_states.specs.Holding.{IsAeadOperation};
-ghost use Rattle.aead_states.specs.Random.{takes_random};
+ghost use Rattle.service_calls.specs.Random.{takes_nonce_bytes};
 
 use crate::state::AeadState;
 use operation_phase::Family;
@@ -17,9 +17,9 @@ impl<'a> Family<AeadStep<'a>> for AeadState {
 
     ghost stands = { IsAeadOperation };
 
-    ghost meaning = { λ random w step room. aead_step random w (aead_step_of step room) };
+    ghost meaning = { λ random w step room. aead_step random w (model_aead_step step room) };
 
-    ghost takes = { takes_random };
+    ghost takes = { takes_nonce_bytes };
 
     fn lose_key(&mut self) -> Status
         ensures state { (own : Operation AeadWork) → IsAeadOperation self.old own → IsAeadOperation self.new (loses_key own).operation }

@@ -4,4 +4,3 @@ pub mod Ways
 pub mod Texts
 pub mod States
 pub mod Laws
-pub mod Random

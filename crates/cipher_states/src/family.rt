@@ -3,9 +3,9 @@ ghost use Rattle.std.specs.Prelude.{◌≡◌};
 ghost use Rattle.store_model.specs.Outcome.{refusal};
 ghost use Rattle.store_model.specs.Operations.{Operation, loses_key};
 ghost use Rattle.store_model.specs.CipherOperations.{CipherWork, cipher_step};
-ghost use Rattle.service_calls.specs.Meanings.{cipher_step_of};
+ghost use Rattle.service_calls.specs.Meanings.{model_cipher_step};
 ghost use Rattle.cipher_states.specs.States.{IsCipherOperation};
-ghost use Rattle.cipher_states.specs.Random.{takes_random};
+ghost use Rattle.service_calls.specs.Random.{takes_iv_bytes};
 
 use crate::state::CipherState;
 use operation_phase::Family;
@@ -17,9 +17,9 @@ impl<'a> Family<CipherStep<'a>> for CipherState {
 
     ghost stands = { IsCipherOperation };
 
-    ghost meaning = { λ random w step room. cipher_step random w (cipher_step_of step room) };
+    ghost meaning = { λ random w step room. cipher_step random w (model_cipher_step step room) };
 
-    ghost takes = { takes_random };
+    ghost takes = { takes_iv_bytes };
 
     fn lose_key(&mut self) -> Status
         ensures state { (own : Operation CipherWork) → IsCipherOperation self.old own → IsCipherOperation self.new (loses_key own).operation }

@@ -3,7 +3,7 @@ ghost use Rattle.std.specs.Prelude.{◌≡◌, false};
 ghost use Rattle.store_model.specs.Outcome.{refusal};
 ghost use Rattle.store_model.specs.Operations.{Operation, loses_key};
 ghost use Rattle.store_model.specs.DerivationOperations.{DerivationWork, derivation_step};
-ghost use Rattle.service_calls.specs.Meanings.{derivation_step_of};
+ghost use Rattle.service_calls.specs.Meanings.{model_derivation_step};
 ghost use Rattle.derivation_states.specs.States.{IsDerivationOperation};
 
 use crate::DerivationState;
@@ -16,7 +16,7 @@ impl<'a> Family<DerivationStep<'a>> for DerivationState {
 
     ghost stands = { IsDerivationOperation };
 
-    ghost meaning = { λ random w step room. derivation_step w (derivation_step_of step room) };
+    ghost meaning = { λ random w step room. derivation_step w (model_derivation_step step room) };
 
     ghost takes = { λ step. false };
 

@@ -5,8 +5,8 @@ ghost use Rattle.store_model.specs.Call.{buffer_after};
 ghost use Rattle.store_model.specs.Faults.{Plain};
 ghost use Rattle.store_model.specs.Handles as model;
 ghost use Rattle.store_model.specs.Requests.{OnHandle, OnStore, serve};
-ghost use Rattle.service_calls.specs.Answered.{IsAnswer};
-ghost use Rattle.service_calls.specs.Meanings.{handle_call_of, store_call_of};
+ghost use Rattle.service_calls.specs.Answered.{AnswersReply};
+ghost use Rattle.service_calls.specs.Meanings.{model_handle_call, model_store_call};
 ghost use Rattle.key_service.specs.Whole.{Stands};
 
 use crate::operations::Operations;
@@ -45,11 +45,11 @@ impl Service {
         requires turns { self.old.store.calls < 2 ^ 62 }
         requires words { (caller_state self.old.store caller).drawn + 256 ≤ 2 ^ 60 }
         ensures stands { (it : model.Service) → Stands self.old it →
-            Stands self.new (serve it caller (OnStore (store_call_of call.entry (length out.old))) Plain).service }
+            Stands self.new (serve it caller (OnStore (model_store_call call.entry (length out.old))) Plain).service }
         ensures reply { (it : model.Service) → Stands self.old it →
-            IsAnswer result (serve it caller (OnStore (store_call_of call.entry (length out.old))) Plain).reply }
+            AnswersReply result (serve it caller (OnStore (model_store_call call.entry (length out.old))) Plain).reply }
         ensures buffer { (it : model.Service) → Stands self.old it →
-            out.new ≡ buffer_after out.old (serve it caller (OnStore (store_call_of call.entry (length out.old))) Plain).reply }
+            out.new ≡ buffer_after out.old (serve it caller (OnStore (model_store_call call.entry (length out.old))) Plain).reply }
     {
         on_store(&mut self.store, caller, call, out)
     }
@@ -67,11 +67,11 @@ impl Service {
         requires turns { self.old.store.calls < 2 ^ 62 }
         requires words { (caller_state self.old.store caller).drawn + 256 ≤ 2 ^ 60 }
         ensures stands { (it : model.Service) → Stands self.old it →
-            Stands self.new (serve it caller (OnHandle op (handle_call_of call.entry (length out.old))) Plain).service }
+            Stands self.new (serve it caller (OnHandle op (model_handle_call call.entry (length out.old))) Plain).service }
         ensures reply { (it : model.Service) → Stands self.old it →
-            IsAnswer result (serve it caller (OnHandle op (handle_call_of call.entry (length out.old))) Plain).reply }
+            AnswersReply result (serve it caller (OnHandle op (model_handle_call call.entry (length out.old))) Plain).reply }
         ensures buffer { (it : model.Service) → Stands self.old it →
-            out.new ≡ buffer_after out.old (serve it caller (OnHandle op (handle_call_of call.entry (length out.old))) Plain).reply }
+            out.new ≡ buffer_after out.old (serve it caller (OnHandle op (model_handle_call call.entry (length out.old))) Plain).reply }
     {
         self.operations
             .serve(&mut self.store, caller, op, call, out)

@@ -5,8 +5,8 @@ ghost use Rattle.store_model.specs.Call.{buffer_after};
 ghost use Rattle.store_model.specs.Faults.{Plain};
 ghost use Rattle.store_model.specs.Handles.{Service};
 ghost use Rattle.store_model.specs.Requests.{OnHandle, serve};
-ghost use Rattle.service_calls.specs.Answered.{IsAnswer};
-ghost use Rattle.service_calls.specs.Meanings.{handle_call_of, step_of};
+ghost use Rattle.service_calls.specs.Answered.{AnswersReply};
+ghost use Rattle.service_calls.specs.Meanings.{model_handle_call, model_step};
 ghost use Rattle.key_service.specs.Services.{StandsFor};
 
 use crate::operations::{Operations, place};
@@ -30,11 +30,11 @@ impl Operations {
         requires turns { store.old.calls < 2 ^ 62 }
         requires words { (caller_state store.old caller).drawn + 256 ≤ 2 ^ 60 }
         ensures stands { (service : Service) → StandsFor store.old self.old service →
-            StandsFor store.new self.new (serve service caller (OnHandle op (step_of step.entry (length out.old))) Plain).service }
+            StandsFor store.new self.new (serve service caller (OnHandle op (model_step step.entry (length out.old))) Plain).service }
         ensures reply { (service : Service) → StandsFor store.old self.old service →
-            IsAnswer result (serve service caller (OnHandle op (step_of step.entry (length out.old))) Plain).reply }
+            AnswersReply result (serve service caller (OnHandle op (model_step step.entry (length out.old))) Plain).reply }
         ensures buffer { (service : Service) → StandsFor store.old self.old service →
-            out.new ≡ buffer_after out.old (serve service caller (OnHandle op (step_of step.entry (length out.old))) Plain).reply }
+            out.new ≡ buffer_after out.old (serve service caller (OnHandle op (model_step step.entry (length out.old))) Plain).reply }
     {
         store.count();
         let cell = &mut self.cells[place(caller, op)];
@@ -62,11 +62,11 @@ impl Operations {
         requires turns { store.old.calls < 2 ^ 62 }
         requires words { (caller_state store.old caller).drawn + 256 ≤ 2 ^ 60 }
         ensures stands { (service : Service) → StandsFor store.old self.old service →
-            StandsFor store.new self.new (serve service caller (OnHandle op (handle_call_of call.entry (length out.old))) Plain).service }
+            StandsFor store.new self.new (serve service caller (OnHandle op (model_handle_call call.entry (length out.old))) Plain).service }
         ensures reply { (service : Service) → StandsFor store.old self.old service →
-            IsAnswer result (serve service caller (OnHandle op (handle_call_of call.entry (length out.old))) Plain).reply }
+            AnswersReply result (serve service caller (OnHandle op (model_handle_call call.entry (length out.old))) Plain).reply }
         ensures buffer { (service : Service) → StandsFor store.old self.old service →
-            out.new ≡ buffer_after out.old (serve service caller (OnHandle op (handle_call_of call.entry (length out.old))) Plain).reply }
+            out.new ≡ buffer_after out.old (serve service caller (OnHandle op (model_handle_call call.entry (length out.old))) Plain).reply }
     {
         match call {
             HandleCall::Setup(setup) => plain(self.set_up(store, caller, op, setup)),

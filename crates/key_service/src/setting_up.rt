@@ -5,7 +5,7 @@ ghost use Rattle.store_model.specs.Faults.{Plain};
 ghost use Rattle.store_model.specs.Handles.{Service};
 ghost use Rattle.store_model.specs.HandleCalls.{AeadSetup, CipherSetup, DerivationSetup, HashSetup, MacSetup};
 ghost use Rattle.store_model.specs.Requests.{OnHandle, serve};
-ghost use Rattle.service_calls.specs.Meanings.{setup_of};
+ghost use Rattle.service_calls.specs.Meanings.{model_setup};
 ghost use Rattle.key_service.specs.Services.{StandsFor};
 
 use crate::operations::{Operations, place};
@@ -206,9 +206,9 @@ impl Operations {
         requires last { caller ≤ 16 }
         requires turns { store.old.calls < 2 ^ 62 }
         ensures stands { (service : Service) → StandsFor store.old self.old service →
-            StandsFor store.new self.new (serve service caller (OnHandle op (setup_of setup)) Plain).service }
+            StandsFor store.new self.new (serve service caller (OnHandle op (model_setup setup)) Plain).service }
         ensures reply { (service : Service) → StandsFor store.old self.old service →
-            plain_reply result ≡ (serve service caller (OnHandle op (setup_of setup)) Plain).reply }
+            plain_reply result ≡ (serve service caller (OnHandle op (model_setup setup)) Plain).reply }
     {
         match setup {
             Setup::Hash(alg) => self.hash_setup(store, caller, op, alg),

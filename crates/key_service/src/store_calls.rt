@@ -4,8 +4,8 @@ ghost use Rattle.store_model.specs.Store.{caller_state};
 ghost use Rattle.store_model.specs.Call.{buffer_after};
 ghost use Rattle.store_model.specs.Faults.{Plain};
 ghost use Rattle.store_model.specs.Step.{step};
-ghost use Rattle.service_calls.specs.Answered.{IsAnswer};
-ghost use Rattle.service_calls.specs.Meanings.{store_call_of};
+ghost use Rattle.service_calls.specs.Answered.{AnswersReply};
+ghost use Rattle.service_calls.specs.Meanings.{model_store_call};
 
 use psa_status::Status;
 use service_calls::{Output, StoreCall, bytes, description, identifier, plain};
@@ -22,9 +22,9 @@ pub fn on_store(
     requires last { caller ≤ 16 }
     requires turns { store.old.calls < 2 ^ 62 }
     requires words { (caller_state store.old caller).drawn + 256 ≤ 2 ^ 60 }
-    ensures store { store.new ≡ (step store.old caller (store_call_of call.entry (length out.old)) Plain).store }
-    ensures reply { IsAnswer result (step store.old caller (store_call_of call.entry (length out.old)) Plain).reply }
-    ensures buffer { out.new ≡ buffer_after out.old (step store.old caller (store_call_of call.entry (length out.old)) Plain).reply }
+    ensures store { store.new ≡ (step store.old caller (model_store_call call.entry (length out.old)) Plain).store }
+    ensures reply { AnswersReply result (step store.old caller (model_store_call call.entry (length out.old)) Plain).reply }
+    ensures buffer { out.new ≡ buffer_after out.old (step store.old caller (model_store_call call.entry (length out.old)) Plain).reply }
 {
     match call {
         StoreCall::Import { attributes, bytes } => identifier(store.import_key(

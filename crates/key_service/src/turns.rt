@@ -5,7 +5,7 @@ ghost use Rattle.store_model.specs.Call.{buffer_after};
 ghost use Rattle.store_model.specs.Draws.{next_random};
 ghost use Rattle.store_model.specs.Handles.{drawn_by};
 ghost use Rattle.store_model.specs.Operations.{Operation};
-ghost use Rattle.service_calls.specs.Answered.{IsAnswer};
+ghost use Rattle.service_calls.specs.Answered.{AnswersReply};
 ghost use Rattle.operation_phase.specs.Turns.{by_key};
 
 use operation_phase::{Family, compute, drawn};
@@ -63,7 +63,7 @@ pub fn turn<S: Copy + Drop, F: Family<S>>(
     ensures state { (own : Operation F.Work) → F.stands state.old own →
         F.stands state.new (by_key alive own (λ w. F.meaning (next_random store.old caller 16) w step (length out.old))).operation }
     ensures reply { (own : Operation F.Work) → F.stands state.old own →
-        IsAnswer result (by_key alive own (λ w. F.meaning (next_random store.old caller 16) w step (length out.old))).reply }
+        AnswersReply result (by_key alive own (λ w. F.meaning (next_random store.old caller 16) w step (length out.old))).reply }
     ensures buffer { (own : Operation F.Work) → F.stands state.old own →
         out.new ≡ buffer_after out.old (by_key alive own (λ w. F.meaning (next_random store.old caller 16) w step (length out.old))).reply }
     ensures store { (own : Operation F.Work) → F.stands state.old own →

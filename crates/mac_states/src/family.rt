@@ -4,7 +4,7 @@ ghost use Rattle.store_model.specs.Outcome.{refusal};
 ghost use Rattle.store_model.specs.Operations.{Operation, loses_key};
 ghost use Rattle.store_model.specs.HashOperations.{HashWork, hash_step};
 ghost use Rattle.store_model.specs.MacOperations.{MacWork, mac_step};
-ghost use Rattle.service_calls.specs.Meanings.{hash_step_of, mac_step_of};
+ghost use Rattle.service_calls.specs.Meanings.{model_hash_step, model_mac_step};
 ghost use Rattle.mac_states.specs.HashStates.{IsHashOperation};
 ghost use Rattle.mac_states.specs.MacStates.{IsMacOperation};
 
@@ -19,7 +19,7 @@ impl<'a> Family<HashStep<'a>> for HashOpState {
 
     ghost stands = { IsHashOperation };
 
-    ghost meaning = { λ random w step room. hash_step w (hash_step_of step room) };
+    ghost meaning = { λ random w step room. hash_step w (model_hash_step step room) };
 
     ghost takes = { λ step. false };
 
@@ -57,7 +57,7 @@ impl<'a> Family<MacStep<'a>> for MacState {
 
     ghost stands = { IsMacOperation };
 
-    ghost meaning = { λ random w step room. mac_step w (mac_step_of step room) };
+    ghost meaning = { λ random w step room. mac_step w (model_mac_step step room) };
 
     ghost takes = { λ step. false };
 

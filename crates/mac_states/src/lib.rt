@@ -12,4 +12,3 @@ mod work;
 
 pub use hash_state::HashOpState;
 pub use mac_state::MacState;
-

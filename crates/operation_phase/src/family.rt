@@ -3,7 +3,7 @@ ghost use Rattle.std.specs.Prelude.{◌≡◌, ◌≤◌, ℕ, Bool, List, true,
 ghost use Rattle.store_model.specs.Call.{buffer_after};
 ghost use Rattle.store_model.specs.Outcome.{refusal};
 ghost use Rattle.store_model.specs.Operations.{Operation, After, loses_key, on_active};
-ghost use Rattle.service_calls.specs.Answered.{IsAnswer};
+ghost use Rattle.service_calls.specs.Answered.{AnswersReply};
 ghost use Rattle.operation_phase.specs.Turns.{by_key};
 
 use psa_status::Status;
@@ -43,7 +43,7 @@ pub trait Family<S>: Drop {
         ensures state { (r : List ℕ) (own : Operation Work) → (takes step ≡ true → r ≡ random.now) → stands self.old own →
             stands self.new (on_active own (λ w. meaning r w step (length out.old))).operation }
         ensures reply { (r : List ℕ) (own : Operation Work) → (takes step ≡ true → r ≡ random.now) → stands self.old own →
-            IsAnswer result (on_active own (λ w. meaning r w step (length out.old))).reply }
+            AnswersReply result (on_active own (λ w. meaning r w step (length out.old))).reply }
         ensures buffer { (r : List ℕ) (own : Operation Work) → (takes step ≡ true → r ≡ random.now) → stands self.old own →
             out.new ≡ buffer_after out.old (on_active own (λ w. meaning r w step (length out.old))).reply };
 }
@@ -60,7 +60,7 @@ pub fn compute<S: Copy + Drop, F: Family<S>>(
     ensures state { (r : List ℕ) (own : Operation F.Work) → (F.takes step ≡ true → r ≡ random.now) → F.stands state.old own →
         F.stands state.new (by_key alive own (λ w. F.meaning r w step (length out.old))).operation }
     ensures reply { (r : List ℕ) (own : Operation F.Work) → (F.takes step ≡ true → r ≡ random.now) → F.stands state.old own →
-        IsAnswer result (by_key alive own (λ w. F.meaning r w step (length out.old))).reply }
+        AnswersReply result (by_key alive own (λ w. F.meaning r w step (length out.old))).reply }
     ensures buffer { (r : List ℕ) (own : Operation F.Work) → (F.takes step ≡ true → r ≡ random.now) → F.stands state.old own →
         out.new ≡ buffer_after out.old (by_key alive own (λ w. F.meaning r w step (length out.old))).reply }
 {

@@ -16,10 +16,10 @@ number_reply (Err status) = refusal status
 
 -- The answer is that of the reply. Of bytes it is their count, and of a refusal, which may leave zeros in an output
 -- buffer, its status; what the buffer holds is said beside it.
-abbrev pub IsAnswer : Result Output Status → Reply → Type 0
-IsAnswer (Ok output.Done) reply = reply ≡ done
-IsAnswer (Ok (output.Identifier id)) reply = reply ≡ record { status = Success; output = model.Identifier id.0; needed = 0 }
-IsAnswer (Ok (output.Description attributes)) reply = reply ≡ record { status = Success; output = model.Description attributes; needed = 0 }
-IsAnswer (Ok (output.Bytes n)) reply = GivesBytes n reply
-IsAnswer (Ok (output.Number n)) reply = reply ≡ record { status = Success; output = model.Number n; needed = 0 }
-IsAnswer (Err status) reply = (reply.status ≡ status) × (reply.output ≡ Nothing)
+abbrev pub AnswersReply : Result Output Status → Reply → Type 0
+AnswersReply (Ok output.Done) reply = reply ≡ done
+AnswersReply (Ok (output.Identifier id)) reply = reply ≡ record { status = Success; output = model.Identifier id.0; needed = 0 }
+AnswersReply (Ok (output.Description attributes)) reply = reply ≡ record { status = Success; output = model.Description attributes; needed = 0 }
+AnswersReply (Ok (output.Bytes n)) reply = GivesBytes n reply
+AnswersReply (Ok (output.Number n)) reply = reply ≡ record { status = Success; output = model.Number n; needed = 0 }
+AnswersReply (Err status) reply = (reply.status ≡ status) × (reply.output ≡ Nothing)

@@ -2,7 +2,7 @@
 ghost use Rattle.std.specs.Prelude.{◌≡◌, ℕ, List};
 ghost use Rattle.store_model.specs.Answers.{AnswersLength, AnswersOrSpoils, attributes_answer, id_reply, plain_reply};
 ghost use Rattle.store_model.specs.Call.{Reply, buffer_after};
-ghost use Rattle.service_calls.specs.Answered.{IsAnswer, number_reply};
+ghost use Rattle.service_calls.specs.Answered.{AnswersReply, number_reply};
 
 use key_attributes::{Attributes, KeyId};
 use psa_status::Status;
@@ -19,7 +19,7 @@ pub enum Output {
 
 /// The answer of a call without a result.
 pub fn plain(answer: Result<(), Status>) -> Result<Output, Status>
-    ensures answer { (reply : Reply) → plain_reply answer ≡ reply → IsAnswer result reply }
+    ensures answer { (reply : Reply) → plain_reply answer ≡ reply → AnswersReply result reply }
     ensures unwritten { (reply : Reply) (old : List ℕ) → plain_reply answer ≡ reply → old ≡ buffer_after old reply }
 {
     match answer {
@@ -30,8 +30,8 @@ pub fn plain(answer: Result<(), Status>) -> Result<Output, Status>
 
 /// The answer of a call that writes bytes to an output buffer.
 pub fn bytes(answer: Result<usize, Status>) -> Result<Output, Status>
-    ensures spoils { (reply : Reply) → AnswersOrSpoils answer reply → IsAnswer result reply }
-    ensures length { (reply : Reply) → AnswersLength answer reply → IsAnswer result reply }
+    ensures spoils { (reply : Reply) → AnswersOrSpoils answer reply → AnswersReply result reply }
+    ensures length { (reply : Reply) → AnswersLength answer reply → AnswersReply result reply }
 {
     match answer {
         Ok(length) => Ok(Output::Bytes(length)),
@@ -41,7 +41,7 @@ pub fn bytes(answer: Result<usize, Status>) -> Result<Output, Status>
 
 /// The answer of a call that creates a key.
 pub fn identifier(answer: Result<KeyId, Status>) -> Result<Output, Status>
-    ensures answer { (reply : Reply) → id_reply answer ≡ reply → IsAnswer result reply }
+    ensures answer { (reply : Reply) → id_reply answer ≡ reply → AnswersReply result reply }
     ensures unwritten { (reply : Reply) (old : List ℕ) → id_reply answer ≡ reply → old ≡ buffer_after old reply }
 {
     match answer {
@@ -52,7 +52,7 @@ pub fn identifier(answer: Result<KeyId, Status>) -> Result<Output, Status>
 
 /// The answer of a call that asks for attributes.
 pub fn description(answer: Result<Attributes, Status>) -> Result<Output, Status>
-    ensures answer { (reply : Reply) → attributes_answer answer ≡ reply → IsAnswer result reply }
+    ensures answer { (reply : Reply) → attributes_answer answer ≡ reply → AnswersReply result reply }
     ensures unwritten { (reply : Reply) (old : List ℕ) → attributes_answer answer ≡ reply → old ≡ buffer_after old reply }
 {
     match answer {
@@ -63,7 +63,7 @@ pub fn description(answer: Result<Attributes, Status>) -> Result<Output, Status>
 
 /// The answer of a call that gives a number.
 pub fn number(answer: Result<u64, Status>) -> Result<Output, Status>
-    ensures answer { (reply : Reply) → number_reply answer ≡ reply → IsAnswer result reply }
+    ensures answer { (reply : Reply) → number_reply answer ≡ reply → AnswersReply result reply }
     ensures unwritten { (reply : Reply) (old : List ℕ) → number_reply answer ≡ reply → old ≡ buffer_after old reply }
 {
     match answer {

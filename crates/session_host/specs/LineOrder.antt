@@ -8,7 +8,7 @@ use Rattle.store_model.specs.Handles as model
 use Rattle.store_model.specs.Handles.{Served, service_start}
 use Rattle.store_model.specs.Replay.{Entry, outcome_of, replay}
 use Rattle.service_calls.specs.declared.output.Output.{Output}
-use Rattle.service_calls.specs.Answered.{IsAnswer}
+use Rattle.service_calls.specs.Answered.{AnswersReply}
 use Rattle.key_service.specs.Whole.{Stands}
 use Rattle.key_service.specs.declared.service.Service.{Service}
 use Rattle.script_lang.specs.declared.script.ScriptLine.{ScriptLine}
@@ -25,7 +25,7 @@ pub record Answers (a : Answer) (reply : Reply) : Type 0 where
 
 -- what is known of a call that was made with an output buffer: its answer, and the buffer after it
 pub record Fills (answer : Result Output Status) (out : List ℕ) (reply : Reply) : Type 0 where
-  pub answers : IsAnswer answer reply
+  pub answers : AnswersReply answer reply
   pub before : List ℕ
   pub after : out ≡ buffer_after before reply
 

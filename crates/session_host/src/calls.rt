@@ -4,7 +4,7 @@ ghost use Rattle.store_model.specs.Store.{caller_state};
 ghost use Rattle.store_model.specs.Faults.{Plain};
 ghost use Rattle.store_model.specs.Handles as model;
 ghost use Rattle.store_model.specs.Requests.{OnHandle, OnStore, serve};
-ghost use Rattle.service_calls.specs.Meanings.{handle_call_of, store_call_of};
+ghost use Rattle.service_calls.specs.Meanings.{model_handle_call, model_store_call};
 ghost use Rattle.key_service.specs.Whole.{Stands};
 ghost use Rattle.script_lang.specs.Limits.{IsWellFormed};
 ghost use Rattle.session_host.specs.LineOrder.{Answers, line_served, line_turn};
@@ -33,9 +33,9 @@ fn make_on_store(
     requires turns { service.old.store.calls < 2 ^ 62 }
     requires words { (caller_state service.old.store caller).drawn + 256 ≤ 2 ^ 60 }
     requires room { value.room ≤ length buffer.old }
-    ensures stands { (it : model.Service) → Stands service.old it → Stands service.new (serve it caller (OnStore (store_call_of value.entry.call value.entry.room)) Plain).service }
+    ensures stands { (it : model.Service) → Stands service.old it → Stands service.new (serve it caller (OnStore (model_store_call value.entry.call value.entry.room)) Plain).service }
     ensures reply { (it : model.Service) → Stands service.old it →
-        IfOk result (λ a. Answers a (serve it caller (OnStore (store_call_of value.entry.call value.entry.room)) Plain).reply) }
+        IfOk result (λ a. Answers a (serve it caller (OnStore (model_store_call value.entry.call value.entry.room)) Plain).reply) }
 {
     let out = &mut buffer[..value.room];
     let answered = service.on_store(caller, value.call, out);
@@ -56,9 +56,9 @@ fn make_on_handle(
     requires turns { service.old.store.calls < 2 ^ 62 }
     requires words { (caller_state service.old.store caller).drawn + 256 ≤ 2 ^ 60 }
     requires room { value.room ≤ length buffer.old }
-    ensures stands { (it : model.Service) → Stands service.old it → Stands service.new (serve it caller (OnHandle op (handle_call_of value.entry.call value.entry.room)) Plain).service }
+    ensures stands { (it : model.Service) → Stands service.old it → Stands service.new (serve it caller (OnHandle op (model_handle_call value.entry.call value.entry.room)) Plain).service }
     ensures reply { (it : model.Service) → Stands service.old it →
-        IfOk result (λ a. Answers a (serve it caller (OnHandle op (handle_call_of value.entry.call value.entry.room)) Plain).reply) }
+        IfOk result (λ a. Answers a (serve it caller (OnHandle op (model_handle_call value.entry.call value.entry.room)) Plain).reply) }
 {
     let out = &mut buffer[..value.room];
     let answered = service.on_handle(caller, op, value.call, out);

@@ -1,7 +1,7 @@
 // The calls of lines on handles, as values. `given` has the identifiers that the session's calls before gave.
 ghost use Rattle.std.specs.Prelude.{◌≡◌, ◌≤◌};
 ghost use Rattle.store_model.specs.HandleCalls as model;
-ghost use Rattle.service_calls.specs.Meanings.{handle_call_of, setup_of, step_of};
+ghost use Rattle.service_calls.specs.Meanings.{model_handle_call, model_setup, model_step};
 ghost use Rattle.script_lang.specs.Limits.{IsAeadStep, IsCipherStep, IsDerivationStep, IsHandleCall, IsHashStep, IsMacStep};
 ghost use Rattle.script_lang.specs.PrintedOrder.{aead_step_call, cipher_step_call, derivation_step_call, handle_call, hash_step_call, mac_step_call};
 
@@ -21,7 +21,7 @@ pub struct HandleValue<'a> {
 
 // A call on a handle without an output buffer.
 fn bare<'a>(call: HandleCall<'a>) -> HandleValue<'a>
-    ensures call { (made : model.HandleCall) → handle_call_of call.entry 0 ≡ made → handle_call_of result.call result.room ≡ made }
+    ensures call { (made : model.HandleCall) → model_handle_call call.entry 0 ≡ made → model_handle_call result.call result.room ≡ made }
     ensures room { result.room ≡ 0 }
 {
     HandleValue { call, room: 0 }
@@ -29,7 +29,7 @@ fn bare<'a>(call: HandleCall<'a>) -> HandleValue<'a>
 
 // A setup of a handle.
 fn set_up<'a>(setup: Setup) -> HandleValue<'a>
-    ensures call { (made : model.HandleCall) → setup_of setup ≡ made → handle_call_of result.call result.room ≡ made }
+    ensures call { (made : model.HandleCall) → model_setup setup ≡ made → model_handle_call result.call result.room ≡ made }
     ensures room { result.room ≡ 0 }
 {
     bare(HandleCall::Setup(setup))
@@ -37,7 +37,7 @@ fn set_up<'a>(setup: Setup) -> HandleValue<'a>
 
 // A step on a handle.
 fn take_step<'a>(step: Step<'a>, room: usize) -> HandleValue<'a>
-    ensures call { (made : model.HandleCall) → step_of step.entry room ≡ made → handle_call_of result.call result.room ≡ made }
+    ensures call { (made : model.HandleCall) → model_step step.entry room ≡ made → model_handle_call result.call result.room ≡ made }
     ensures room { result.room ≡ room }
 {
     HandleValue {
@@ -48,7 +48,7 @@ fn take_step<'a>(step: Step<'a>, room: usize) -> HandleValue<'a>
 
 /// A line's call on a hash.
 fn hash_call_value(call: &lines::HashStep) -> HandleValue<'_>
-    ensures call { handle_call_of result.call result.room ≡ hash_step_call call.now }
+    ensures call { model_handle_call result.call result.room ≡ hash_step_call call.now }
     ensures room { IsHashStep call.now → result.room ≤ 16448 }
 {
     match call {
@@ -70,7 +70,7 @@ fn hash_call_value(call: &lines::HashStep) -> HandleValue<'_>
 
 /// A line's call on a MAC.
 fn mac_call_value<'a>(given: &[u32], call: &'a lines::MacStep) -> HandleValue<'a>
-    ensures call { handle_call_of result.call result.room ≡ mac_step_call given.now call.now }
+    ensures call { model_handle_call result.call result.room ≡ mac_step_call given.now call.now }
     ensures room { IsMacStep call.now → result.room ≤ 16448 }
 {
     match call {
@@ -99,7 +99,7 @@ fn mac_call_value<'a>(given: &[u32], call: &'a lines::MacStep) -> HandleValue<'a
 
 /// A line's call on a cipher.
 fn cipher_call_value<'a>(given: &[u32], call: &'a lines::CipherStep) -> HandleValue<'a>
-    ensures call { handle_call_of result.call result.room ≡ cipher_step_call given.now call.now }
+    ensures call { model_handle_call result.call result.room ≡ cipher_step_call given.now call.now }
     ensures room { IsCipherStep call.now → result.room ≤ 16448 }
 {
     match call {
@@ -132,7 +132,7 @@ fn cipher_call_value<'a>(given: &[u32], call: &'a lines::CipherStep) -> HandleVa
 
 /// A line's call on an AEAD.
 fn aead_call_value<'a>(given: &[u32], call: &'a lines::AeadStep) -> HandleValue<'a>
-    ensures call { handle_call_of result.call result.room ≡ aead_step_call given.now call.now }
+    ensures call { model_handle_call result.call result.room ≡ aead_step_call given.now call.now }
     ensures room { IsAeadStep call.now → result.room ≤ 16448 }
 {
     match call {
@@ -183,7 +183,7 @@ fn aead_call_value<'a>(given: &[u32], call: &'a lines::AeadStep) -> HandleValue<
 
 /// A line's call on a key derivation.
 fn derivation_call_value<'a>(given: &[u32], call: &'a lines::DerivationStep) -> HandleValue<'a>
-    ensures call { handle_call_of result.call result.room ≡ derivation_step_call given.now call.now }
+    ensures call { model_handle_call result.call result.room ≡ derivation_step_call given.now call.now }
     ensures room { IsDerivationStep call.now → result.room ≤ 16448 }
 {
     match call {
@@ -235,7 +235,7 @@ fn derivation_call_value<'a>(given: &[u32], call: &'a lines::DerivationStep) -> 
 
 /// A line's call on a handle.
 pub fn handle_value<'a>(given: &[u32], call: &'a lines::HandleCall) -> HandleValue<'a>
-    ensures call { handle_call_of result.call result.room ≡ handle_call given.now call.now }
+    ensures call { model_handle_call result.call result.room ≡ handle_call given.now call.now }
     ensures room { IsHandleCall call.now → result.room ≤ 16448 }
 {
     match call {

@@ -1,6 +1,6 @@
 // The calls of lines on the store, as values. `given` has the identifiers that the session's calls before gave.
 ghost use Rattle.std.specs.Prelude.{◌≡◌, ◌≤◌};
-ghost use Rattle.service_calls.specs.Meanings.{store_call_of};
+ghost use Rattle.service_calls.specs.Meanings.{model_store_call};
 ghost use Rattle.script_lang.specs.Limits.{IsAeadCall, IsCipherCall, IsHashCall, IsKeyCall, IsMacCall};
 ghost use Rattle.script_lang.specs.PrintedOrder.{aead_call, cipher_call, creation, hash_call, key_call, mac_call};
 
@@ -18,7 +18,7 @@ pub struct StoreValue<'a> {
 
 /// A line's creation of a key.
 pub fn creation_value<'a>(given: &[u32], call: &'a Creation) -> StoreValue<'a>
-    ensures call { store_call_of result.call result.room ≡ creation given.now call.now }
+    ensures call { model_store_call result.call result.room ≡ creation given.now call.now }
     ensures room { result.room ≤ 16448 }
 {
     match call {
@@ -68,7 +68,7 @@ pub fn creation_value<'a>(given: &[u32], call: &'a Creation) -> StoreValue<'a>
 
 /// A line's call on a key.
 pub fn key_value<'a>(given: &[u32], call: &'a KeyCall) -> StoreValue<'a>
-    ensures call { store_call_of result.call result.room ≡ key_call given.now call.now }
+    ensures call { model_store_call result.call result.room ≡ key_call given.now call.now }
     ensures room { IsKeyCall call.now → result.room ≤ 16448 }
 {
     match call {
@@ -89,7 +89,7 @@ pub fn key_value<'a>(given: &[u32], call: &'a KeyCall) -> StoreValue<'a>
 
 /// A line's hash of a whole message.
 pub fn hash_value(call: &HashCall) -> StoreValue<'_>
-    ensures call { store_call_of result.call result.room ≡ hash_call call.now }
+    ensures call { model_store_call result.call result.room ≡ hash_call call.now }
     ensures room { IsHashCall call.now → result.room ≤ 16448 }
 {
     match call {
@@ -113,7 +113,7 @@ pub fn hash_value(call: &HashCall) -> StoreValue<'_>
 
 /// A line's MAC of a whole message.
 pub fn mac_value<'a>(given: &[u32], call: &'a MacCall) -> StoreValue<'a>
-    ensures call { store_call_of result.call result.room ≡ mac_call given.now call.now }
+    ensures call { model_store_call result.call result.room ≡ mac_call given.now call.now }
     ensures room { IsMacCall call.now → result.room ≤ 16448 }
 {
     match call {
@@ -149,7 +149,7 @@ pub fn mac_value<'a>(given: &[u32], call: &'a MacCall) -> StoreValue<'a>
 
 /// A line's cipher of a whole message.
 pub fn cipher_value<'a>(given: &[u32], call: &'a CipherCall) -> StoreValue<'a>
-    ensures call { store_call_of result.call result.room ≡ cipher_call given.now call.now }
+    ensures call { model_store_call result.call result.room ≡ cipher_call given.now call.now }
     ensures room { IsCipherCall call.now → result.room ≤ 16448 }
 {
     match call {
@@ -184,7 +184,7 @@ pub fn cipher_value<'a>(given: &[u32], call: &'a CipherCall) -> StoreValue<'a>
 
 /// A line's AEAD of a whole message.
 pub fn aead_value<'a>(given: &[u32], call: &'a AeadCall) -> StoreValue<'a>
-    ensures call { store_call_of result.call result.room ≡ aead_call given.now call.now }
+    ensures call { model_store_call result.call result.room ≡ aead_call given.now call.now }
     ensures room { IsAeadCall call.now → result.room ≤ 16448 }
 {
     match call {

@@ -1,6 +1,6 @@
 use Rattle.std.proofs.Common.{◌≡◌, length, sym, subst}
 use Rattle.store_model.specs.Call.{buffer_after}
-use Rattle.service_calls.specs.Answered.{IsAnswer}
+use Rattle.service_calls.specs.Answered.{AnswersReply}
 use Rattle.operation_phase.specs.Turns.{by_key}
 use Rattle.operation_phase.proofs.family.compute.Goals as goal
 
@@ -11,7 +11,7 @@ returns-clause-state g c = λ r own same is.
 
 pub returns-clause-reply : goal.returns-clause-reply
 returns-clause-reply g c = λ r own same is.
-    subst (λ b. IsAnswer c.step.result (by_key b own (λ w. g.F.Family.meaning r w c.args.step (length c.args.out.now))).reply) (sym c.if-not-alive.false)
+    subst (λ b. AnswersReply c.step.result (by_key b own (λ w. g.F.Family.meaning r w c.args.step (length c.args.out.now))).reply) (sym c.if-not-alive.false)
     (c.step.ensures.reply r own same is)
 
 pub returns-clause-buffer : goal.returns-clause-buffer
