@@ -4,6 +4,7 @@ ghost use Rattle.key_cells.specs.Body.{IsKeyOf};
 use disk_face::{BrokenDisk, Disk, Fails, MemoryDisk};
 use key_attributes::{Attributes, KeyId, KeyType, Lifetime, Policy, Usage};
 use key_cells::{CellFault, Cells, OpenFault};
+use key_record::{read, write};
 use secret_bytes::Secret;
 use std::alloc::Global;
 use std::test::Fail;
@@ -122,7 +123,9 @@ fn a_fault_is_closed_by_the_next_write(rt: HostRuntime) -> Result<(), Fail> {
         assert_eq!(rt; cells.find(5), None);
         assert_eq!(rt; create(&mut cells, 5, 0xbb), Ok(0));
         assert_eq!(rt; create(&mut cells, 6, 0xcc), Ok(1));
-        assert_eq!(rt; cells.destroy(0), Ok(()));
+        if let Some(cell) = cells.find(5) {
+            assert_eq!(rt; cells.destroy(cell), Ok(()));
+        }
         assert_eq!(rt; create(&mut cells, 7, 0xdd), Ok(0));
         assert_eq!(rt; cells.count(), 2);
     }
@@ -146,7 +149,10 @@ fn fill<D: Disk>(cells: &mut Cells<D>, count: u32) -> Result<(), CellFault>
 #[test]
 fn a_store_has_512_keys_and_no_more(rt: HostRuntime) -> Result<(), Fail> {
     let alloc = rt.alloc();
-    let mut cells = open(alloc, Vec::new(alloc)).map_err(|_| "open")?;
+    let disk = MemoryDisk::new(alloc, Vec::new(alloc), Fails::From(u64::MAX)).map_err(
+        |_| "memory",
+    )?;
+    let mut cells = Cells::open(alloc, disk).map_err(|_| "open")?;
     assert_eq!(rt; fill(&mut cells, 512), Ok(()));
     assert_eq!(rt; create(&mut cells, 513, 0), Err(CellFault::Full));
     let bytes = cells.into_disk().bytes().to_vec(alloc)?;
@@ -169,7 +175,10 @@ fn refusal(alloc: Global, bytes: Vec<u8>) -> Option<OpenFault> {
 #[test]
 fn damage_is_found(rt: HostRuntime) -> Result<(), Fail> {
     let alloc = rt.alloc();
-    let mut cells = open(alloc, Vec::new(alloc)).map_err(|_| "open")?;
+    let disk = MemoryDisk::new(alloc, Vec::new(alloc), Fails::From(u64::MAX)).map_err(
+        |_| "memory",
+    )?;
+    let mut cells = Cells::open(alloc, disk).map_err(|_| "open")?;
     assert_eq!(rt; fill(&mut cells, 4), Ok(()));
     let store = cells.into_disk().bytes().to_vec(alloc)?;
     let other = Some(OpenFault::NotAStore);
@@ -234,4 +243,27 @@ fn an_opening_meets_faults(rt: HostRuntime) -> Result<(), Fail> {
         }
     }
     Ok(())
+}
+
+#[test]
+fn the_example_record_is_written_and_read(rt: HostRuntime) {
+    let example = [
+        0x50u8, 0x53, 0x41, 0, 0x4b, 0x45, 0x59, 0, 0, 0, 0, 0, 1, 0, 0, 0, 1, 0x10, 8, 0, 1, 0, 0,
+        0, 0, 0, 0, 0, 0, 0, 0, 0, 1, 0, 0, 0, 0xff,
+    ];
+    let mut out = [0; 1060];
+    let length = write(&one_byte_key(5), &[0xff], &mut out);
+    assert_eq!(rt; length, 37);
+    assert!(rt; out[..37] == example[..]);
+    let unnamed = Attributes {
+        id: KeyId(0),
+        ..one_byte_key(5)
+    };
+    assert_eq!(rt; read(&example), Some((unnamed, 36)));
+    let mut with_second_algorithm = example;
+    with_second_algorithm[29] = 0x44;
+    with_second_algorithm[30] = 0x40;
+    with_second_algorithm[31] = 4;
+    assert_eq!(rt; read(&with_second_algorithm), None);
+    assert_eq!(rt; read(&example[..36]), None);
 }
