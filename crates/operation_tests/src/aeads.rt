@@ -1,8 +1,10 @@
 // Test case 4 of the GCM specification (McGrew and Viega, appendix B) and example 2 of SP 800-38C, appendix C, cut at every
 // place; and calls in an order that is refused.
+use crate::keys::without_key;
 use aead_states::AeadState;
 use alg_encoding::Alg;
 use psa_status::Status;
+use service_calls::AeadStep;
 use std::test::Fail;
 
 #[derive(Drop)]
@@ -145,11 +147,17 @@ fn any_cutting(rt: HostRuntime) -> Result<(), Fail> {
 fn phases(rt: HostRuntime) -> Result<(), Fail> {
     let mut state = AeadState::new();
     assert_eq!(rt; state.aead_set_nonce(GCM.nonce), Err(Status::BadState));
-    assert_eq!(rt; state.lose_key(), Status::BadState);
+    assert_eq!(rt;
+        without_key(&mut state, AeadStep::Finish),
+        Some(Status::BadState)
+    );
     assert_eq!(rt; setup(&mut state, &GCM, true), Ok(()));
     assert_eq!(rt; setup(&mut state, &GCM, true), Err(Status::BadState));
     assert_eq!(rt; state.aead_set_nonce(GCM.nonce), Ok(()));
-    assert_eq!(rt; state.lose_key(), Status::InvalidHandle);
+    assert_eq!(rt;
+        without_key(&mut state, AeadStep::Finish),
+        Some(Status::InvalidHandle)
+    );
     assert_eq!(rt; state.aead_finish(&mut [0; 16]), Err(Status::BadState));
     assert!(rt; !state.is_inactive());
     state.wipe();

@@ -1,8 +1,10 @@
 // The examples of SP 800-38A (appendix F.1.1, F.2.1 and F.5.1), whole and in pieces; padding; and calls out of order.
 
+use crate::keys::without_key;
 use alg_encoding::Alg;
 use cipher_states::CipherState;
 use psa_status::Status;
+use service_calls::CipherStep;
 use std::test::Fail;
 
 const CTR: Alg = Alg(0x04c0_1000);
@@ -190,9 +192,15 @@ fn errors_last_until_a_wipe(rt: HostRuntime) -> Result<(), Fail> {
     assert!(rt; is_in_error(&mut state));
     // the key is gone
     let mut state = started(true, CTR, Some(COUNTER))?;
-    assert_eq!(rt; state.lose_key(), Status::InvalidHandle);
+    assert_eq!(rt;
+        without_key(&mut state, CipherStep::Finish),
+        Some(Status::InvalidHandle)
+    );
     assert!(rt; is_in_error(&mut state));
-    assert_eq!(rt; state.lose_key(), Status::BadState);
+    assert_eq!(rt;
+        without_key(&mut state, CipherStep::Finish),
+        Some(Status::BadState)
+    );
     Ok(())
 }
 

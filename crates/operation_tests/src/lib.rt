@@ -9,4 +9,6 @@ mod ciphers;
 #[cfg(test)]
 mod derivations;
 #[cfg(test)]
+mod keys;
+#[cfg(test)]
 mod macs;

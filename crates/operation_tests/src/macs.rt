@@ -1,8 +1,10 @@
 // The examples of FIPS 180-4 (24 and 448 bits), RFC 4231 (section 4.3) and SP 800-38B (appendix D.1), in pieces.
 
+use crate::keys::without_key;
 use alg_encoding::Alg;
 use mac_states::{HashOpState, MacState};
 use psa_status::Status;
+use service_calls::MacStep;
 use std::test::Fail;
 
 const SHA_256: Alg = Alg(0x0200_0009);
@@ -172,8 +174,14 @@ fn macs_out_of_order(rt: HostRuntime) -> Result<(), Fail> {
     assert_eq!(rt; set_up(&mut state, true, alg, key), Err(Status::BadState));
     state.wipe();
     set_up(&mut state, false, alg, key)?;
-    assert_eq!(rt; state.lose_key(), Status::InvalidHandle);
-    assert_eq!(rt; state.lose_key(), Status::BadState);
+    assert_eq!(rt;
+        without_key(&mut state, MacStep::SignFinish),
+        Some(Status::InvalidHandle)
+    );
+    assert_eq!(rt;
+        without_key(&mut state, MacStep::SignFinish),
+        Some(Status::BadState)
+    );
     assert_eq!(rt; state.mac_update(message), Err(Status::BadState));
     Ok(())
 }
