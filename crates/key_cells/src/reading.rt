@@ -16,11 +16,7 @@ use disk_face::Disk;
 use psa_status::Failed;
 
 /// Reads the bytes of a cell.
-pub fn read_cell<D: Disk>(
-    disk: &mut D,
-    cell: usize,
-    bytes: &mut [u8; 1088],
-) -> Result<(), Failed>
+pub fn read_cell<D: Disk>(disk: &mut D, cell: usize, bytes: &mut [u8; 1088]) -> Result<(), Failed>
     requires size { D.size disk.old ≡ 557120 }
     requires within { cell < 512 }
     ensures bytes { OnOk result (GivesPart (D.contents disk.old) (64 + 1088 * cell) 1088 bytes.new) }

@@ -82,22 +82,26 @@ pub returns-in_err-settle-clause-failed_entry : goal.returns-in_err-settle-claus
 returns-in_err-settle-clause-failed_entry g c = on_err c.from_residual.result (inl c.settle.ensures.entry)
 
 pub returns-in_err-fill-clause-failed_entry : goal.returns-in_err-fill-clause-failed_entry
-returns-in_err-fill-clause-failed_entry g c = on_err c.from_residual-in_err-fill.result (inr (c.in-Some.cell, subst (λ (l : List Slot). IsFirstWithoutKey l c.in-Some.cell) c.deref.ensures.value c.in-Some.ensures, λ opening first history h.
-    let d = g.D.Disk in
-    let self = c.args.self.now in
-    let cell = c.in-Some.cell in
-    let old = self.slots.items in
-    let mid = c.settle.new.self.slots.items in
-    let is = c.in_ok-settle.ensures.ok in
-    let contents : List Content = after_all after history first in
-    let stands = h.stands in
-    let first_cell = c.in-Some.ensures in
-    let within : cell < length old = omega (arith, ap length c.deref.ensures.value, first_cell.within) in
-    let here = ap (λ (l : List Slot). slot_at l cell) c.deref.ensures.value in
-    let free : slot_at mid cell ≡ Free =
-    ap (λ (l : List Slot). slot_at l cell) is ∙ (get_or-map settled_slot old cell Free Free within ∙ (ap settled_slot (sym here) ∙ settled_free (slot_at c.deref.result.now cell) first_cell.here)) in
-    let settling = moves_settled d.contents d.may_leave d.moment d.left_since self.disk c.settle.new.self.disk old mid contents c.requires.slots is (c.settle.ensures.keeps contents stands) in
-    let absent = free_absent d.contents d.may_leave d.moment d.left_since cell c.settle.new.self.disk mid contents (omega (arith, within, c.requires.slots)) stands.count free settling.stands (g.met.D.Disk.read_is_image c.settle.new.self.disk) in
-    let filling = c.in_err-fill.ensures.failed (settled contents) absent settling.stands in
-    adds_entry d.contents d.may_leave d.moment d.left_since g.met.D.Disk.only_now self.disk c.fill.new.self.disk old c.fill.new.self.slots.items (CreationFailed cell c.args.body.now) opening first history h
-    (moves_after_settled d.contents d.may_leave d.moment d.left_since self.disk c.settle.new.self.disk c.fill.new.self.disk old mid c.fill.new.self.slots.items contents (set (settled contents) cell (Doubtful c.args.body.now)) stands.count c.settle.ensures.free settling filling)))
+returns-in_err-fill-clause-failed_entry g c = on_err c.from_residual-in_err-fill.result (inr (
+  c.in-Some.cell,
+  subst (λ (l : List Slot). IsFirstWithoutKey l c.in-Some.cell) c.deref.ensures.value c.in-Some.ensures,
+  λ opening first history h.
+      let d = g.D.Disk in
+      let self = c.args.self.now in
+      let cell = c.in-Some.cell in
+      let old = self.slots.items in
+      let mid = c.settle.new.self.slots.items in
+      let is = c.in_ok-settle.ensures.ok in
+      let contents : List Content = after_all after history first in
+      let stands = h.stands in
+      let first_cell = c.in-Some.ensures in
+      let within : cell < length old = omega (arith, ap length c.deref.ensures.value, first_cell.within) in
+      let here = ap (λ (l : List Slot). slot_at l cell) c.deref.ensures.value in
+      let free : slot_at mid cell ≡ Free =
+      ap (λ (l : List Slot). slot_at l cell) is ∙ (get_or-map settled_slot old cell Free Free within ∙ (ap settled_slot (sym here) ∙ settled_free (slot_at c.deref.result.now cell) first_cell.here)) in
+      let settling = moves_settled d.contents d.may_leave d.moment d.left_since self.disk c.settle.new.self.disk old mid contents c.requires.slots is (c.settle.ensures.keeps contents stands) in
+      let absent = free_absent d.contents d.may_leave d.moment d.left_since cell c.settle.new.self.disk mid contents (omega (arith, within, c.requires.slots)) stands.count free settling.stands (g.met.D.Disk.read_is_image c.settle.new.self.disk) in
+      let filling = c.in_err-fill.ensures.failed (settled contents) absent settling.stands in
+      adds_entry d.contents d.may_leave d.moment d.left_since g.met.D.Disk.only_now self.disk c.fill.new.self.disk old c.fill.new.self.slots.items (CreationFailed cell c.args.body.now) opening first history h
+      (moves_after_settled d.contents d.may_leave d.moment d.left_since self.disk c.settle.new.self.disk c.fill.new.self.disk old mid c.fill.new.self.slots.items contents (set (settled contents) cell (Doubtful c.args.body.now)) stands.count c.settle.ensures.free settling filling),
+))
