@@ -29,17 +29,24 @@ fn front(id: u32) -> [u8; 15]
     [0, 0, 0, a, b, c, d, 0, 0, 0, 0, 0, 0, 0, 0]
 }
 
-/// The body of a key's cell.
-pub fn body_of(attributes: &Attributes, bytes: &[u8]) -> [u8; 1087]
-    requires { IsKeyOf attributes.now bytes.now }
-    ensures { result ≡ body_of attributes.now bytes.now }
+/// Makes bytes zeros that held a key.
+pub fn wipe(bytes: &mut [u8])
+    ensures { bytes.new ≡ replicate (length bytes.old) 0 }
+{
+    bytes.fill(0);
+}
+
+/// Makes the body of a key's cell out of zeros.
+pub fn fill_body(attributes: &Attributes, bytes: &[u8], body: &mut [u8; 1087])
+    requires key { IsKeyOf attributes.now bytes.now }
+    requires zeros { body.old ≡ replicate 1087 0 }
+    ensures { body.new ≡ body_of attributes.now bytes.now }
 {
     let mut record = [0; 1060];
     let length = write(attributes, bytes, &mut record);
-    let mut body = [0; BODY];
-    put(&mut body, 0, &front(attributes.id.0));
-    put(&mut body, 15, &record[..length]);
-    body
+    put(body, 0, &front(attributes.id.0));
+    put(body, 15, &record[..length]);
+    wipe(&mut record);
 }
 
 // Whether bytes are all zeros.

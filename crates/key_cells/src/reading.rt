@@ -10,25 +10,23 @@ ghost use Rattle.disk_face.specs.Moments.{Within};
 ghost use Rattle.key_cells.specs.Layout.{opened, zeros, header};
 
 use crate::Slot;
-use crate::body::read_key;
+use crate::body::{read_key, wipe};
 use crate::cells::{CELLS, CLOSED, OPENED, place};
 use disk_face::Disk;
 use psa_status::Failed;
 
-/// The bytes of a cell.
-pub fn read_cell<D: Disk>(disk: &mut D, cell: usize) -> Result<[u8; 1088], Failed>
+/// Reads the bytes of a cell.
+pub fn read_cell<D: Disk>(disk: &mut D, cell: usize, bytes: &mut [u8; 1088]) -> Result<(), Failed>
     requires size { D.size disk.old ≡ 557120 }
     requires within { cell < 512 }
-    ensures bytes { IfOk result (λ bytes. GivesPart (D.contents disk.old) (64 + 1088 * cell) 1088 bytes) }
+    ensures bytes { OnOk result (GivesPart (D.contents disk.old) (64 + 1088 * cell) 1088 bytes.new) }
     ensures same { D.contents disk.new ≡ D.contents disk.old }
     ensures size { D.size disk.new ≡ D.size disk.old }
     ensures crash { NoNewImage (D.may_leave disk.old) (D.may_leave disk.new) }
     ensures time { Elapses (D.moment disk.old) (D.moment disk.new) (D.left_since disk.old) (D.left_since disk.new) (D.may_leave disk.new) }
     ensures cause { HasCause (D.faults disk.old) (D.faults disk.new) result }
 {
-    let mut bytes = [0; 1088];
-    disk.read_at(place(cell), &mut bytes)?;
-    Ok(bytes)
+    disk.read_at(place(cell), bytes)
 }
 
 /// The cell of a key, among these slots.
@@ -157,11 +155,18 @@ pub fn read_store<D: Disk>(disk: &mut D, slots: &mut Vec<Slot>) -> Result<(), Op
     if !is_header(&bytes) {
         return Err(OpenFault::NotAStore);
     }
-    read_slots(disk, slots)
+    let mut room = [0; 1088];
+    let read = read_slots(disk, slots, &mut room);
+    wipe(&mut room);
+    read
 }
 
-// Reads the cells of a store.
-fn read_slots<D: Disk>(disk: &mut D, slots: &mut Vec<Slot>) -> Result<(), OpenFault>
+// Reads the cells of a store. The bytes of the last one are left in the room.
+fn read_slots<D: Disk>(
+    disk: &mut D,
+    slots: &mut Vec<Slot>,
+    room: &mut [u8; 1088],
+) -> Result<(), OpenFault>
     requires size { D.size disk.old ≡ 557120 }
     requires slots { length slots.old.items ≡ 512 }
     requires store { IfSome (D.contents disk.old) (λ image. IsStore image) }
@@ -180,11 +185,11 @@ fn read_slots<D: Disk>(disk: &mut D, slots: &mut Vec<Slot>) -> Result<(), OpenFa
 {
     let mut found = 0;
     for cell in 0..CELLS {
-        let bytes = match read_cell(disk, cell) {
-            Ok(bytes) => bytes,
+        match read_cell(disk, cell, room) {
+            Ok(()) => {}
             Err(Failed) => return Err(OpenFault::Disk),
-        };
-        let Some(slot) = slot_of(&bytes, &slots[..cell], found) else {
+        }
+        let Some(slot) = slot_of(room, &slots[..cell], found) else {
             return Err(OpenFault::DamagedCell { cell });
         };
         found = counted(found, &slot);

@@ -13,9 +13,9 @@ returns-in_default-clause-cause g c =
     let i = c.loop-cell.invariant in
     let slots = c.loop-cell.slots.items in
     let cell = c.loop-cell.cell in
-    first_damaged (d.contents c.args.disk.now) cell slots c.in-Ok.bytes (omega arith) i.count c.requires.store i.read i.one
-    (subst (λ told. GivesPart told (64 + 1088 * cell) 1088 c.in-Ok.bytes) i.same c.in-Ok.ensures.bytes)
-    (subst (λ (l : List Slot). IsBadCell c.in-Ok.bytes (take cell l)) c.deref.ensures.value c.in_default.ensures)
+    first_damaged (d.contents c.args.disk.now) cell slots c.read_cell.new.bytes (omega arith) i.count c.requires.store i.read i.one
+    (subst (λ told. GivesPart told (64 + 1088 * cell) 1088 c.read_cell.new.bytes) i.same c.in-Ok.ensures.bytes)
+    (subst (λ (l : List Slot). IsBadCell c.read_cell.new.bytes (take cell l)) c.deref.ensures.value c.in_default.ensures)
 
 pub loop-cell-preserved : goal.loop-cell-preserved
 loop-cell-preserved g c =
@@ -33,7 +33,7 @@ loop-cell-preserved g c =
       size = e.size ∙ i.size;
       count = length-set slots cell slot ∙ i.count;
       same = e.same ∙ i.same;
-      read = reads_more (d.contents first) cell slots slot c.in-Ok.bytes lt i.read (subst (λ told. GivesPart told (64 + 1088 * cell) 1088 c.in-Ok.bytes) i.same c.in-Ok.ensures.bytes) c.in-Some.ensures.reads;
+      read = reads_more (d.contents first) cell slots slot c.read_cell.new.bytes lt i.read (subst (λ told. GivesPart told (64 + 1088 * cell) 1088 c.read_cell.new.bytes) i.same c.in-Ok.ensures.bytes) c.in-Some.ensures.reads;
       one = one_more cell slots slot lt i.one (λ id has. subst (λ (l : List Slot). HasNoKey (take cell l) id) c.deref.ensures.value (c.in-Some.ensures.new id has));
       numbered = numbered_more cell c.loop-cell.found slots slot lt i.numbered i.keys c.in-Some.ensures.numbered;
       named = named_more cell slots slot lt i.named c.in-Some.ensures.named;

@@ -1,13 +1,13 @@
 use Rattle.disk_face.specs.Moments.{after_all}
-use Rattle.key_cells.specs.History.{Created, after}
-use Rattle.key_cells.proofs.Entries.{adds_entry}
+use Rattle.key_cells.specs.History.{Created, CreationFailed, after}
+use Rattle.key_cells.proofs.Entries.{adds_entry, adds_nothing}
 use Rattle.std.proofs.Common.{◌≡◌, ◌≢◌, ◌<◌, ℕ, List, inl, ⊎_elim, subst, set, length, ◌∙◌, sym, ap, arith, inr}
 use Rattle.std.proofs.lemmas.Bool.{cases_eq}
 use Rattle.std.proofs.lemmas.List.{get_or-map}
 use Rattle.key_cells.specs.declared.slot.Slot.{Slot}
 use Rattle.key_cells.specs.declared.slot.Slot.TheVariants.{Free}
-use Rattle.key_cells.specs.Contents.{Present, Doubtful, StaysFree, StaysFreeBut, IsFirstWithoutKey, slot_at, settled, settled_slot}
-use Rattle.key_cells.proofs.Moves.{moves_settled, moves_after_settled, free_absent, settled_free, on_err}
+use Rattle.key_cells.specs.Contents.{Content, Present, Doubtful, StaysFree, StaysFreeBut, IsFirstWithoutKey, slot_at, settled, settled_slot}
+use Rattle.key_cells.proofs.Moves.{keeps_none, moves_settled, moves_after_settled, free_absent, settled_free, on_err}
 use Rattle.key_cells.proofs.cells.Cells.place_body.Goals as goal
 
 pub returns-in_err-fill-clause-failed : goal.returns-in_err-fill-clause-failed
@@ -70,3 +70,38 @@ pub returns-clause-free : goal.returns-clause-free
 returns-clause-free g c =
     but_first c.args.self.now.slots.items c.settle.new.self.slots.items c.fill.new.self.slots.items c.in-Some.cell c.settle.ensures.free c.fill.ensures.others
     (subst (λ (l : List Slot). IsFirstWithoutKey l c.in-Some.cell) c.deref.ensures.value c.in-Some.ensures)
+
+pub returns-in_default-clause-failed_entry : goal.returns-in_default-clause-failed_entry
+returns-in_default-clause-failed_entry g c =
+    let d = g.D.Disk in
+    let self = c.args.self.now in
+    inl (adds_nothing d.contents d.may_leave d.moment d.left_since g.met.D.Disk.only_now self.disk self.disk self.slots.items self.slots.items
+    (keeps_none d.contents d.may_leave d.moment d.left_since self.disk self.slots.items))
+
+pub returns-in_err-settle-clause-failed_entry : goal.returns-in_err-settle-clause-failed_entry
+returns-in_err-settle-clause-failed_entry g c = on_err c.from_residual.result (inl c.settle.ensures.entry)
+
+pub returns-in_err-fill-clause-failed_entry : goal.returns-in_err-fill-clause-failed_entry
+returns-in_err-fill-clause-failed_entry g c = on_err c.from_residual-in_err-fill.result (inr (
+  c.in-Some.cell,
+  subst (λ (l : List Slot). IsFirstWithoutKey l c.in-Some.cell) c.deref.ensures.value c.in-Some.ensures,
+  λ opening first history h.
+      let d = g.D.Disk in
+      let self = c.args.self.now in
+      let cell = c.in-Some.cell in
+      let old = self.slots.items in
+      let mid = c.settle.new.self.slots.items in
+      let is = c.in_ok-settle.ensures.ok in
+      let contents : List Content = after_all after history first in
+      let stands = h.stands in
+      let first_cell = c.in-Some.ensures in
+      let within : cell < length old = omega (arith, ap length c.deref.ensures.value, first_cell.within) in
+      let here = ap (λ (l : List Slot). slot_at l cell) c.deref.ensures.value in
+      let free : slot_at mid cell ≡ Free =
+      ap (λ (l : List Slot). slot_at l cell) is ∙ (get_or-map settled_slot old cell Free Free within ∙ (ap settled_slot (sym here) ∙ settled_free (slot_at c.deref.result.now cell) first_cell.here)) in
+      let settling = moves_settled d.contents d.may_leave d.moment d.left_since self.disk c.settle.new.self.disk old mid contents c.requires.slots is (c.settle.ensures.keeps contents stands) in
+      let absent = free_absent d.contents d.may_leave d.moment d.left_since cell c.settle.new.self.disk mid contents (omega (arith, within, c.requires.slots)) stands.count free settling.stands (g.met.D.Disk.read_is_image c.settle.new.self.disk) in
+      let filling = c.in_err-fill.ensures.failed (settled contents) absent settling.stands in
+      adds_entry d.contents d.may_leave d.moment d.left_since g.met.D.Disk.only_now self.disk c.fill.new.self.disk old c.fill.new.self.slots.items (CreationFailed cell c.args.body.now) opening first history h
+      (moves_after_settled d.contents d.may_leave d.moment d.left_since self.disk c.settle.new.self.disk c.fill.new.self.disk old mid c.fill.new.self.slots.items contents (set (settled contents) cell (Doubtful c.args.body.now)) stands.count c.settle.ensures.free settling filling),
+))

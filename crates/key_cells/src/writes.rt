@@ -1,0 +1,110 @@
+// The steps of a call: each is one write that is made sure of.
+ghost use Rattle.std.specs.Prelude.{◌≡◌, ◌<◌, List, ℕ, length, set, OnOk, OnErr, IfErr};
+ghost use Rattle.psa_status.specs.Causes.{HasCause};
+ghost use Rattle.key_cells.specs.declared.slot.Slot.TheVariants.{Free, Open, Shut, Unsure};
+ghost use Rattle.key_cells.specs.Contents.{Content, Present, Doubtful, StandsFor, Moves, Keeps, StaysFree, slot_at, content_at, settled_slots};
+
+use crate::Slot;
+use crate::cells::{CLOSED, CellFault, Cells, OPENED, ZEROS, place};
+use disk_face::{Disk, write_through};
+use psa_status::Failed;
+
+impl<D: Disk> Cells<D> {
+    // Closes the gate of a cell whose body is whole.
+    pub(crate) fn close_gate(&mut self, cell: usize) -> Result<(), CellFault>
+        requires size { D.size self.old.disk ≡ 557120 }
+        requires slots { length self.old.slots.items ≡ 512 }
+        requires within { cell < 512 }
+        requires slot { slot_at self.old.slots.items cell ≡ Unsure }
+        ensures size { D.size self.new.disk ≡ 557120 }
+        ensures ok { OnOk result (self.new.slots.items ≡ set self.old.slots.items cell Shut) }
+        ensures err { OnErr result (self.new.slots.items ≡ self.old.slots.items) }
+        ensures slots { settled_slots self.new.slots.items ≡ settled_slots self.old.slots.items }
+        ensures free { StaysFree self.old.slots.items self.new.slots.items }
+        ensures keeps { Keeps D.contents D.may_leave D.moment D.left_since self.old.disk self.new.disk self.old.slots.items self.new.slots.items }
+        ensures cause { HasCause (D.faults self.old.disk) (D.faults self.new.disk) result }
+        ensures fault { IfErr result (λ fault. fault ≡ CellFault.Disk) }
+    {
+        match write_through(&mut self.disk, place(cell), &[CLOSED]) {
+            Ok(()) => {
+                self.slots[cell] = Slot::Shut;
+                Ok(())
+            }
+            Err(Failed) => Err(CellFault::Disk),
+        }
+    }
+
+    // Makes a closed cell all zeros.
+    pub(crate) fn clear_body(&mut self, cell: usize) -> Result<(), CellFault>
+        requires size { D.size self.old.disk ≡ 557120 }
+        requires slots { length self.old.slots.items ≡ 512 }
+        requires within { cell < 512 }
+        requires slot { slot_at self.old.slots.items cell ≡ Shut }
+        ensures size { D.size self.new.disk ≡ 557120 }
+        ensures ok { OnOk result (self.new.slots.items ≡ set self.old.slots.items cell Free) }
+        ensures err { OnErr result (self.new.slots.items ≡ self.old.slots.items) }
+        ensures slots { settled_slots self.new.slots.items ≡ settled_slots self.old.slots.items }
+        ensures free { StaysFree self.old.slots.items self.new.slots.items }
+        ensures keeps { Keeps D.contents D.may_leave D.moment D.left_since self.old.disk self.new.disk self.old.slots.items self.new.slots.items }
+        ensures cause { HasCause (D.faults self.old.disk) (D.faults self.new.disk) result }
+        ensures fault { IfErr result (λ fault. fault ≡ CellFault.Disk) }
+    {
+        match write_through(&mut self.disk, place(cell) + 1, &ZEROS) {
+            Ok(()) => {
+                self.slots[cell] = Slot::Free;
+                Ok(())
+            }
+            Err(Failed) => Err(CellFault::Disk),
+        }
+    }
+
+    // Writes the body of a closed cell, behind its gate.
+    pub(crate) fn write_body(&mut self, cell: usize, body: &[u8; 1087]) -> Result<(), CellFault>
+        requires size { D.size self.old.disk ≡ 557120 }
+        requires slots { length self.old.slots.items ≡ 512 }
+        requires within { cell < 512 }
+        requires slot { slot_at self.old.slots.items cell ≡ Shut }
+        ensures size { D.size self.new.disk ≡ 557120 }
+        ensures ok { OnOk result (self.new.slots.items ≡ set self.old.slots.items cell Unsure) }
+        ensures err { OnErr result (self.new.slots.items ≡ self.old.slots.items) }
+        ensures slots { settled_slots self.new.slots.items ≡ settled_slots self.old.slots.items }
+        ensures keeps { (contents : List Content) → content_at contents cell ≡ Doubtful body.now →
+            StandsFor D.contents D.may_leave self.old.disk self.old.slots.items contents →
+            Moves D.contents D.may_leave D.moment D.left_since self.old.disk self.new.disk self.old.slots.items self.new.slots.items contents contents }
+        ensures cause { HasCause (D.faults self.old.disk) (D.faults self.new.disk) result }
+        ensures fault { IfErr result (λ fault. fault ≡ CellFault.Disk) }
+    {
+        match write_through(&mut self.disk, place(cell) + 1, body) {
+            Ok(()) => {
+                self.slots[cell] = Slot::Unsure;
+                Ok(())
+            }
+            Err(Failed) => Err(CellFault::Disk),
+        }
+    }
+
+    // Opens the gate of a cell whose body is whole.
+    pub(crate) fn open_gate(&mut self, cell: usize, id: u32, creation: u64) -> Result<(), CellFault>
+        requires size { D.size self.old.disk ≡ 557120 }
+        requires slots { length self.old.slots.items ≡ 512 }
+        requires within { cell < 512 }
+        requires slot { slot_at self.old.slots.items cell ≡ Unsure }
+        ensures size { D.size self.new.disk ≡ 557120 }
+        ensures ok { OnOk result (self.new.slots.items ≡ set self.old.slots.items cell (Open id creation)) }
+        ensures err { OnErr result (self.new.slots.items ≡ self.old.slots.items) }
+        ensures opened { OnOk result ((contents : List Content) (bytes : List ℕ) → content_at contents cell ≡ Doubtful bytes →
+            StandsFor D.contents D.may_leave self.old.disk self.old.slots.items contents →
+            Moves D.contents D.may_leave D.moment D.left_since self.old.disk self.new.disk self.old.slots.items self.new.slots.items contents (set contents cell (Present bytes))) }
+        ensures failed { OnErr result (Keeps D.contents D.may_leave D.moment D.left_since self.old.disk self.new.disk self.old.slots.items self.new.slots.items) }
+        ensures cause { HasCause (D.faults self.old.disk) (D.faults self.new.disk) result }
+        ensures fault { IfErr result (λ fault. fault ≡ CellFault.Disk) }
+    {
+        match write_through(&mut self.disk, place(cell), &[OPENED]) {
+            Ok(()) => {
+                self.slots[cell] = Slot::Open { id, creation };
+                Ok(())
+            }
+            Err(Failed) => Err(CellFault::Disk),
+        }
+    }
+}
