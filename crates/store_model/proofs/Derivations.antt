@@ -15,7 +15,7 @@ use Rattle.store_model.specs.HandleCalls.{OnDerivation, input_key_rows}
 use Rattle.store_model.specs.Handles.{KeyCreation, Deriving, held_after}
 use Rattle.store_model.specs.Refusals.{IsLeft, AsItWas, Exhausted, Compared, lowers_capacity}
 use Rattle.store_model.specs.Sound.{IsSoundDerivation}
-use Rattle.store_model.proofs.Drawn.{none_holds}
+use Rattle.store_model.proofs.Tables.{none_holds}
 use Rattle.store_model.proofs.Steps.{IsStep, begun, unless_step, goes_step}
 
 -- inputs

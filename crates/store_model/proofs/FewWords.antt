@@ -1,26 +1,38 @@
 -- A request draws at most 256 random words.
-use Rattle.std.proofs.Common.{ℕ, ◌≤◌, Bool, true, false, cond, arith}
-use Rattle.std.specs.Prelude.{◌==◌}
+use Rattle.std.proofs.Common.{◌≡◌, ℕ, ◌+◌, ◌≤◌, refl, arith}
 use Rattle.random_streams.specs.RandomWords.{words_used}
 use Rattle.store_model.specs.Store.{Store}
+use Rattle.store_model.specs.Faults.{failure_of}
 use Rattle.store_model.specs.Outcome.{counted}
-use Rattle.store_model.specs.Draws.{with_drawn}
-use Rattle.store_model.specs.DerivationOperations.{stated_bytes, next_derived}
+use Rattle.store_model.specs.Creation.{created}
+use Rattle.store_model.specs.KeyUse.{destroyed}
+use Rattle.store_model.specs.Operations.{InError}
+use Rattle.store_model.specs.Handles.{Own, Service, Served, own_of, with_own, with_drawn, with_operation}
 use Rattle.store_model.specs.Requests.{OnStore, OnHandle}
+use Rattle.store_model.specs.DerivationOperations.{stated_bytes, next_derived, without}
+use Rattle.store_model.specs.Refusals.{held_derivation}
 use Rattle.store_model.specs.Laws.{DrawsFewWords}
-use Rattle.store_model.proofs.Drawn.{DrawsFew, draws_none, made_draws, set_draws, drawn_state, step-draws}
-use Rattle.store_model.proofs.Shape.{shape}
+use Rattle.store_model.proofs.Operations.{drawn_most}
+use Rattle.store_model.proofs.Served.{on_store_shape, on_handle_shape}
 
-drawn_by_draws : (store : Store) (caller other n : ℕ) (b : Bool) → n ≤ 16 → DrawsFew store (cond b (counted store) (with_drawn (counted store) caller n)) other
-drawn_by_draws store caller other n true h = draws_none store other
-drawn_by_draws store caller other n false h =
-    let drawn = set_draws (words_used n) store.callers caller other (drawn_state store caller n) (omega arith) in
-    omega (arith, drawn)
+few : (n : ℕ) → n ≤ 1024 → words_used n ≤ 256
+few n h = omega arith
+
+-- 1,024 bytes at most
+by_bytes : (service : Service) (store : Store) (caller other n : ℕ) (own : Own) → own.drawn ≡ (own_of service caller).drawn + words_used n → n ≤ 1024 →
+    (own_of (with_own service store caller own) other).drawn ≤ (own_of service other).drawn + 256
+by_bytes service store caller other n own e h = drawn_most 256 service store caller other own (let words = few n h in omega arith)
 
 pub draws : DrawsFewWords
-draws service caller other (OnStore call) mark = step-draws service.store caller other call mark
-draws service caller other (OnHandle handle call) mark = shape service caller handle call (λ served. DrawsFew service.store served.service.store other) (record {
-  untouched_too = λ status may. draws_none service.store other;
-  applied_too = λ after step. drawn_by_draws service.store caller other after.drawn (after.drawn == 0) step.few;
-  created_too = λ key w a made. made_draws service.store caller other a (next_derived w (stated_bytes a));
-})
+draws service caller other (OnStore call) mark =
+    on_store_shape service caller call (failure_of mark) (λ served. (own_of served.service other).drawn ≤ (own_of service other).drawn + 256) (record {
+      counted_too = λ reply drawn is. by_bytes service (counted service.store) caller other drawn (with_drawn (own_of service caller) drawn) refl (let f = is.few in omega arith);
+      created_too = λ a bytes drawn changes made. by_bytes service (created service.store caller a bytes).store caller other drawn (with_drawn (own_of service caller) drawn) refl made.few;
+      destroyed_too = λ id changes. by_bytes service (destroyed service.store id).store caller other 0 (with_drawn (own_of service caller) 0) refl (omega arith);
+    }) (λ id status changes. by_bytes service (destroyed service.store id).store caller other 0 (with_drawn (own_of service caller) 0) refl (omega arith))
+draws service caller other (OnHandle handle call) mark =
+    on_handle_shape service caller handle call (failure_of mark) (λ served. (own_of served.service other).drawn ≤ (own_of service other).drawn + 256) (record {
+      untouched_too = λ status may. omega arith;
+      applied_too = λ after step. by_bytes service (counted service.store) caller other after.drawn (with_drawn (with_operation (own_of service caller) handle after.operation) after.drawn) refl (let f = step.few in omega arith);
+      created_too = λ changes key w a made. drawn_most 256 service (created service.store caller a (next_derived w (stated_bytes a))).store caller other (with_operation (own_of service caller) handle (held_derivation key (without w (stated_bytes a)))) (omega arith);
+    }) (λ status. omega arith) (λ status. by_bytes service (counted service.store) caller other 0 (with_drawn (with_operation (own_of service caller) handle InError) 0) refl (omega arith))

@@ -5,22 +5,17 @@ use Rattle.std.specs.Ordering.{nat_cmp}
 use Rattle.std.specs.List.{AllByRecursion}
 use Rattle.std.specs.FinMap as map
 use Rattle.store_model.specs.Store.{Key, Store}
-use Rattle.store_model.specs.Faults.{FaultMark}
+use Rattle.store_model.specs.Faults.{FaultMark, failure_of}
 use Rattle.store_model.specs.Outcome.{counted}
-use Rattle.store_model.specs.Draws.{with_drawn}
 use Rattle.store_model.specs.DerivationOperations.{stated_bytes, next_derived}
-use Rattle.store_model.specs.Handles.{Service, Served, service_start, drawn_by}
+use Rattle.store_model.specs.Handles.{Service, Served, service_start}
 use Rattle.store_model.specs.Requests.{Request, OnStore, OnHandle, serve}
 use Rattle.store_model.specs.Replay.{Entry, outcome_of, replay}
 use Rattle.store_model.specs.Sound.{IsSound}
-use Rattle.store_model.specs.Origin.{Made, source_of_request, made_at, made_by, made_after, IsCaller, CopiesGainNothing}
-use Rattle.store_model.proofs.Origin.{Tracks, counted_tracks, created_tracks, drawn_tracks, step_tracks}
-use Rattle.store_model.proofs.Shape.{shape}
+use Rattle.store_model.specs.Origin.{Made, source_of, source_of_request, made_at, made_by, made_after, IsCaller, CopiesGainNothing}
+use Rattle.store_model.proofs.Origin.{Tracks, counted_tracks, created_tracks, destroyed_tracks, step_tracks}
+use Rattle.store_model.proofs.Served.{on_store_shape, on_handle_shape}
 use Rattle.store_model.proofs.SoundService.{starts, stays}
-
-drawn_by_tracks : (store : Store) (caller n : ℕ) (made : List Made) (b : Bool) → Tracks store made → Tracks (cond b store (with_drawn store caller n)) made
-drawn_by_tracks store caller n made true t = t
-drawn_by_tracks store caller n made false t = drawn_tracks store caller n made t
 
 -- the creations so far, beside a service after a request
 abbrev TracksServed : List Made → Option ℕ → Served → Type 0
@@ -28,15 +23,16 @@ TracksServed made source served = Tracks served.service.store (made_at source se
 
 request_tracks : (service : Service) (caller : ℕ) (request : Request) (mark : FaultMark) (made : List Made) → IsSound service → Tracks service.store made →
     TracksServed made (source_of_request service.store request) (serve service caller request mark)
-request_tracks service caller (OnStore call) mark made sound t = step_tracks service.store caller call mark made sound.store t
-request_tracks service caller (OnHandle handle call) mark made sound t = shape service caller handle call (TracksServed made None) (record {
+request_tracks service caller (OnStore call) mark made sound t =
+    let cases = step_tracks service.store caller call made sound.store t in
+    on_store_shape service caller call (failure_of mark) (TracksServed made (source_of service.store call))
+    (record { counted_too = cases.counted_too; created_too = cases.created_too; destroyed_too = cases.destroyed_too })
+    (λ id status changes. destroyed_tracks service.store id made t)
+request_tracks service caller (OnHandle handle call) mark made sound t = on_handle_shape service caller handle call (failure_of mark) (TracksServed made None) (record {
   untouched_too = λ status may. counted_tracks service.store made t;
-  applied_too = λ after step.
-      let store : Store = drawn_by (counted service.store) caller after.drawn in
-      subst (λ (l : List Made). Tracks store (l ++ made)) (sym (step.no_key None store))
-      (drawn_by_tracks (counted service.store) caller after.drawn made (after.drawn == 0) (counted_tracks service.store made t));
-  created_too = λ key w a creates. created_tracks service.store caller a (next_derived w (stated_bytes a)) None made sound.store t tt;
-})
+  applied_too = λ after step. subst (λ (l : List Made). Tracks (counted service.store) (l ++ made)) (sym (step.no_key None (counted service.store))) (counted_tracks service.store made t);
+  created_too = λ changes key w a creates. created_tracks service.store caller a (next_derived w (stated_bytes a)) None made sound.store t tt;
+}) (λ status. counted_tracks service.store made t) (λ status. counted_tracks service.store made t)
 
 over : (h : List Entry) (service : Service) (made : List Made) → AllByRecursion IsCaller h → IsSound service → Tracks service.store made → Tracks (replay service h).store (made_after service h made)
 over [] service made c sound t = t

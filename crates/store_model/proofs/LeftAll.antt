@@ -1,41 +1,71 @@
 -- What a request that doesn't succeed leaves.
-use Rattle.std.proofs.Common.{◌≡◌, ℕ, ◌⊎◌, Bool, true, false, inl, inr, List, refl, sym, ap, ◌∙◌, subst, slice_index_or, arith}
+use Rattle.std.proofs.Common.{◌≡◌, ℕ, ◌+◌, ◌⊎◌, Bool, true, false, inl, inr, List, refl, sym, ap, ◌∙◌, subst, slice_index_or, arith}
 use Rattle.std.specs.Prelude.{Option, None, Some, ◌==◌}
 use Rattle.std.proofs.lemmas.Bool.Decides.{nat_tests}
 use Rattle.psa_status.specs.declared.Status.{Status}
 use Rattle.psa_status.specs.declared.Status.TheVariants.{Success, BadState}
-use Rattle.store_model.specs.Faults.{FaultMark}
+use Rattle.random_streams.specs.RandomWords.{words_used}
+use Rattle.store_model.specs.Call.{Call}
+use Rattle.store_model.specs.Faults.{Plain, failure_of}
 use Rattle.store_model.specs.Outcome.{counted, refusal}
 use Rattle.store_model.specs.Operations.{Operation, Inactive, InError, Active, After, set_up}
-use Rattle.store_model.specs.Handles.{Work, Held, HandleOperation, Service, Served, operation_of, drawn_by, applied, untouched, stepped}
+use Rattle.store_model.specs.Handles.{Work, Held, HandleOperation, Own, Service, Served, own_of, operation_of, with_own, with_drawn, with_operation, next_random, applied, untouched, stepped}
 use Rattle.store_model.specs.HandleCalls.{HandleCall, HashSetup, MacSetup, CipherSetup, AeadSetup, DerivationSetup, OnHash, OnMac, OnCipher, OnAead, OnDerivation, InputKey, OutputKey, Abort, input_key, output_key}
-use Rattle.store_model.specs.Requests.{Request, OnStore, OnHandle, serve}
-use Rattle.store_model.specs.Refusals.{IsLeft, AsItWas, is_active, lowers_capacity, may_stay}
+use Rattle.store_model.specs.Requests.{Request, OnStore, OnHandle, on_store, serve_unless, serve}
+use Rattle.store_model.specs.Refusals.{IsLeft, AsItWas, is_active, is_setup, lowers_capacity, may_stay}
 use Rattle.store_model.specs.Laws.{handle_of, RefusalsLeaveAll, UnreadyHandlesStay, RefusedSetupsLeaveAll}
 use Rattle.store_model.specs.DerivationOperations.{DerivationWork}
 use Rattle.key_attributes.specs.declared.Attributes.{Attributes}
 use Rattle.store_model.specs.Operations.{is_inactive}
-use Rattle.store_model.proofs.Refusals.{step-leaves_all}
-use Rattle.store_model.proofs.Operations.{own_operation, same_operation}
+use Rattle.store_model.proofs.DrawnBytes.{length-random}
+use Rattle.store_model.proofs.StoreShape.{store_shape}
+use Rattle.store_model.proofs.Operations.{drawn_same, operations_same, own_operation, same_own, same_service}
 use Rattle.store_model.proofs.Others.{leaves_callers, leaves_handles}
 use Rattle.store_model.proofs.Shape.{shape, other_or}
 
 -- THE OTHER HANDLES
 
-others_left : (service : Service) (caller : ℕ) (request : Request) (mark : FaultMark) (other handle : ℕ) → (other ≡ caller → handle_of request ≡ Some handle → ⊥) →
+others_left : (service : Service) (caller : ℕ) (request : Request) (other handle : ℕ) → (other ≡ caller → handle_of request ≡ Some handle → ⊥) →
     (b : Bool) → (other == caller) ≡ b →
-    operation_of (serve service caller request mark).service other handle ≡ operation_of service other handle
-others_left service caller request mark other handle h true e =
+    operation_of (serve service caller request Plain).service other handle ≡ operation_of service other handle
+others_left service caller request other handle h true e =
     let same : other ≡ caller = grind (arith, nat_tests) in
-    ap (λ (c : ℕ). operation_of (serve service caller request mark).service c handle) same ∙ leaves_handles service caller handle request mark (h same)
+    ap (λ (c : ℕ). operation_of (serve service caller request Plain).service c handle) same ∙ leaves_handles service caller handle request Plain (h same)
     ∙ ap (λ (c : ℕ). operation_of service c handle) (sym same)
-others_left service caller request mark other handle h false e =
-    ap (λ (l : List HandleOperation). slice_index_or l handle Inactive) (leaves_callers service caller other request mark (λ same. grind (arith, nat_tests))).1
+others_left service caller request other handle h false e =
+    ap (λ (o : Own). slice_index_or o.operations handle Inactive) (leaves_callers service caller other request Plain (λ same. grind (arith, nat_tests))).0
+
+-- ON THE STORE
+
+-- no word is drawn
+no_words : (n drawn : ℕ) → n ≡ 0 → drawn + words_used n ≡ drawn
+no_words n drawn e = omega arith
+
+record StoreLeft (service : Service) (served : Served) : Type 0 where
+  store : served.service.store ≡ counted service.store
+  drawn : (other : ℕ) → (own_of served.service other).drawn ≡ (own_of service other).drawn
+  operations : (other handle : ℕ) → operation_of served.service other handle ≡ operation_of service other handle
+
+store_left : (service : Service) (caller : ℕ) (call : Call) → ((serve service caller (OnStore call) Plain).reply.status ≡ Success → ⊥) →
+    StoreLeft service (serve service caller (OnStore call) Plain)
+store_left service caller call failed =
+    store_shape service.store caller (next_random service caller) call
+    (λ outcome. (outcome.reply.status ≡ Success → ⊥) → StoreLeft service (on_store service caller outcome))
+    (λ n. length-random service.store.settings.seed caller (own_of service caller).drawn n) (record {
+      counted_too = λ reply drawn is no. record {
+        store = refl;
+        drawn = λ other. drawn_same service (counted service.store) caller other (with_drawn (own_of service caller) drawn) (no_words drawn (own_of service caller).drawn (is.undrawn no));
+        operations = λ other handle. operations_same service (counted service.store) caller (with_drawn (own_of service caller) drawn) refl other handle;
+      };
+      created_too = λ a bytes drawn changes made no. absurd (no refl);
+      destroyed_too = λ id changes no. absurd (no refl);
+    }) failed
 
 -- ITS OWN
 
 record LeavesOwn (service : Service) (caller handle : ℕ) (call : HandleCall) (served : Served) : Type 0 where
   store : served.service.store ≡ counted service.store
+  drawn : (other : ℕ) → (own_of served.service other).drawn ≡ (own_of service other).drawn
   own : IsLeft (may_stay call (operation_of service caller handle)) served.reply.status (operation_of service caller handle) (operation_of served.service caller handle)
 
 -- of an inactive operation: any call but an abort may leave it
@@ -63,41 +93,49 @@ set_left call other status before next now h (inr e) = elim (inactive_stays call
 ]
 
 -- an abort succeeds
-abort_succeeds : (service : Service) (caller handle : ℕ) (call : HandleCall) (mark : FaultMark) → call ≡ Abort → (serve service caller (OnHandle handle call) mark).reply.status ≡ Success
-abort_succeeds service caller handle call mark e = ap (λ c. (serve service caller (OnHandle handle c) mark).reply.status) e
+abort_succeeds : (service : Service) (caller handle : ℕ) (call : HandleCall) → call ≡ Abort → (serve service caller (OnHandle handle call) Plain).reply.status ≡ Success
+abort_succeeds service caller handle call e = ap (λ c. (serve service caller (OnHandle handle c) Plain).reply.status) e
 
-own_left : (service : Service) (caller handle : ℕ) (call : HandleCall) (mark : FaultMark) → ((serve service caller (OnHandle handle call) mark).reply.status ≡ Success → ⊥) →
-    LeavesOwn service caller handle call (serve service caller (OnHandle handle call) mark)
-own_left service caller handle call mark refused =
-    let other : call ≡ Abort → ⊥ = λ e. refused (abort_succeeds service caller handle call mark e) in
+own_left : (service : Service) (caller handle : ℕ) (call : HandleCall) → ((serve service caller (OnHandle handle call) Plain).reply.status ≡ Success → ⊥) →
+    LeavesOwn service caller handle call (serve service caller (OnHandle handle call) Plain)
+own_left service caller handle call refused =
+    let other : call ≡ Abort → ⊥ = λ e. refused (abort_succeeds service caller handle call e) in
     shape service caller handle call (λ served. (served.reply.status ≡ Success → ⊥) → LeavesOwn service caller handle call served) (record {
-      untouched_too = λ status may failed. record { store = refl; own = AsItWas may refl };
+      untouched_too = λ status may failed. record { store = refl; drawn = λ c. refl; own = AsItWas may refl };
       applied_too = λ after step failed. record {
-        store = ap (drawn_by (counted service.store) caller) (step.undrawn failed);
-        own = set_left call other after.reply.status (operation_of service caller handle) after.operation _ (step.left failed) (own_operation service caller handle after.operation);
+        store = refl;
+        drawn = λ c. drawn_same service (counted service.store) caller c (with_drawn (with_operation (own_of service caller) handle after.operation) after.drawn) (no_words after.drawn (own_of service caller).drawn (step.undrawn failed));
+        own = set_left call other after.reply.status (operation_of service caller handle) after.operation _ (step.left failed)
+            (own_operation service (counted service.store) caller handle after.operation (with_drawn (with_operation (own_of service caller) handle after.operation) after.drawn) refl);
       };
-      created_too = λ key w a made failed. absurd (failed refl);
+      created_too = λ changes key w a made failed. absurd (failed refl);
     }) refused
 
 same_call : {handle one : ℕ} {call other : HandleCall} → OnHandle handle call ≡ OnHandle one other → (handle ≡ one) × (call ≡ other)
 same_call e = (cc, cc)
 
 pub leaves_all : RefusalsLeaveAll
-leaves_all service caller (OnStore call) mark failed = record {
-  store = step-leaves_all service.store caller call mark failed;
-  others = λ other handle h. refl;
-  own = λ handle call e. cc;
-}
-leaves_all service caller (OnHandle handle call) mark failed = record {
-  store = (own_left service caller handle call mark failed).store;
-  others = λ other one h. others_left service caller (OnHandle handle call) mark other one h (other == caller) refl;
-  own = λ one other e.
-      let same : (handle ≡ one) × (call ≡ other) = same_call e in
-      let served : Served = serve service caller (OnHandle handle call) mark in
-      subst (λ (c : HandleCall). IsLeft (may_stay c (operation_of service caller one)) served.reply.status (operation_of service caller one) (operation_of served.service caller one)) same.1
-      (subst (λ (n : ℕ). IsLeft (may_stay call (operation_of service caller n)) served.reply.status (operation_of service caller n) (operation_of served.service caller n)) same.0
-      (own_left service caller handle call mark failed).own);
-}
+leaves_all service caller (OnStore call) failed =
+    let left = store_left service caller call failed in
+    record {
+      store = left.store;
+      drawn = left.drawn;
+      others = λ other handle h. left.operations other handle;
+      own = λ handle call e. cc;
+    }
+leaves_all service caller (OnHandle handle call) failed =
+    let left = own_left service caller handle call failed in
+    record {
+      store = left.store;
+      drawn = left.drawn;
+      others = λ other one h. others_left service caller (OnHandle handle call) other one h (other == caller) refl;
+      own = λ one other e.
+          let same : (handle ≡ one) × (call ≡ other) = same_call e in
+          let served : Served = serve service caller (OnHandle handle call) Plain in
+          subst (λ (c : HandleCall). IsLeft (may_stay c (operation_of service caller one)) served.reply.status (operation_of service caller one) (operation_of served.service caller one)) same.1
+          (subst (λ (n : ℕ). IsLeft (may_stay call (operation_of service caller n)) served.reply.status (operation_of service caller n) (operation_of served.service caller n)) same.0
+          left.own);
+    }
 
 -- A CALL THAT ISN'T IN ORDER
 
@@ -105,9 +143,9 @@ leaves_all service caller (OnHandle handle call) mark failed = record {
 stayed : (service : Service) (caller handle : ℕ) (status : Status) (operation : HandleOperation) → operation ≡ operation_of service caller handle →
     applied service caller handle (record { operation = operation; reply = refusal status; drawn = 0 }) ≡ untouched service status
 stayed service caller handle status operation e =
-    let counted_service : Service = record service { store = counted service.store } in
     ap (λ (o : HandleOperation). applied service caller handle (record { operation = o; reply = refusal status; drawn = 0 })) e
-    ∙ ap (λ (s : Service). record { service = s; reply = refusal status }) (same_operation counted_service caller handle)
+    ∙ ap (λ (own : Own). record { service = with_own service (counted service.store) caller own; reply = refusal status }) (same_own (own_of service caller) handle)
+    ∙ ap (λ (s : Service). record { service = s; reply = refusal status }) (same_service service (counted service.store) caller)
 
 setup_stays : (service : Service) (caller handle : ℕ) (refused : Option Status) (held : Held) (operation : HandleOperation) → operation ≡ operation_of service caller handle →
     is_inactive operation ≡ false → applied service caller handle (set_up operation refused held) ≡ untouched service BadState
@@ -132,19 +170,19 @@ output_stays service caller handle Inactive a h = refl
 output_stays service caller handle InError a h = refl
 
 pub unready_stay : UnreadyHandlesStay
-unready_stay service caller handle (HashSetup alg) mark h = setup_stays service caller handle _ _ _ refl h
-unready_stay service caller handle (MacSetup verifies id alg) mark h = setup_stays service caller handle _ _ _ refl h
-unready_stay service caller handle (CipherSetup encrypts id alg) mark h = setup_stays service caller handle _ _ _ refl h
-unready_stay service caller handle (AeadSetup encrypts id alg) mark h = setup_stays service caller handle _ _ _ refl h
-unready_stay service caller handle (DerivationSetup alg) mark h = setup_stays service caller handle _ _ _ refl h
-unready_stay service caller handle (OnHash step) mark h = stepped_stays service caller handle _ _ _ h
-unready_stay service caller handle (OnMac step) mark h = stepped_stays service caller handle _ _ _ h
-unready_stay service caller handle (OnCipher step) mark h = stepped_stays service caller handle _ _ _ h
-unready_stay service caller handle (OnAead step) mark h = stepped_stays service caller handle _ _ _ h
-unready_stay service caller handle (OnDerivation step) mark h = stepped_stays service caller handle _ _ _ h
-unready_stay service caller handle (InputKey step id) mark h = input_stays service caller handle _ step id h
-unready_stay service caller handle (OutputKey a) mark h = output_stays service caller handle _ a h
-unready_stay service caller handle Abort mark h = cc
+unready_stay service caller handle (HashSetup alg) h = setup_stays service caller handle _ _ _ refl h
+unready_stay service caller handle (MacSetup verifies id alg) h = setup_stays service caller handle _ _ _ refl h
+unready_stay service caller handle (CipherSetup encrypts id alg) h = setup_stays service caller handle _ _ _ refl h
+unready_stay service caller handle (AeadSetup encrypts id alg) h = setup_stays service caller handle _ _ _ refl h
+unready_stay service caller handle (DerivationSetup alg) h = setup_stays service caller handle _ _ _ refl h
+unready_stay service caller handle (OnHash step) h = stepped_stays service caller handle _ _ _ h
+unready_stay service caller handle (OnMac step) h = stepped_stays service caller handle _ _ _ h
+unready_stay service caller handle (OnCipher step) h = stepped_stays service caller handle _ _ _ h
+unready_stay service caller handle (OnAead step) h = stepped_stays service caller handle _ _ _ h
+unready_stay service caller handle (OnDerivation step) h = stepped_stays service caller handle _ _ _ h
+unready_stay service caller handle (InputKey step id) h = input_stays service caller handle _ step id h
+unready_stay service caller handle (OutputKey a) h = output_stays service caller handle _ a h
+unready_stay service caller handle Abort h = cc
 
 -- A REFUSED SETUP
 
@@ -156,17 +194,26 @@ refused_stays service caller handle (Some status) held Inactive e failed = ap (�
 refused_stays service caller handle refused held InError e failed = ap (λ (s : Served). s.service) (stayed service caller handle BadState InError e)
 refused_stays service caller handle refused held (Active other) e failed = ap (λ (s : Served). s.service) (stayed service caller handle BadState (Active other) e)
 
+setups_left : (service : Service) (caller handle : ℕ) (call : HandleCall) (o : Option Status) → is_setup call ≡ true → ((serve_unless o service caller (OnHandle handle call)).reply.status ≡ Success → ⊥) →
+    (serve_unless o service caller (OnHandle handle call)).service ≡ record service { store = counted service.store }
+setups_left service caller handle (HashSetup alg) None h failed = refused_stays service caller handle _ _ _ refl failed
+setups_left service caller handle (HashSetup alg) (Some status) h failed = refl
+setups_left service caller handle (MacSetup verifies id alg) None h failed = refused_stays service caller handle _ _ _ refl failed
+setups_left service caller handle (MacSetup verifies id alg) (Some status) h failed = refl
+setups_left service caller handle (CipherSetup encrypts id alg) None h failed = refused_stays service caller handle _ _ _ refl failed
+setups_left service caller handle (CipherSetup encrypts id alg) (Some status) h failed = refl
+setups_left service caller handle (AeadSetup encrypts id alg) None h failed = refused_stays service caller handle _ _ _ refl failed
+setups_left service caller handle (AeadSetup encrypts id alg) (Some status) h failed = refl
+setups_left service caller handle (DerivationSetup alg) None h failed = refused_stays service caller handle _ _ _ refl failed
+setups_left service caller handle (DerivationSetup alg) (Some status) h failed = refl
+setups_left service caller handle (OnHash step) o h failed = cc
+setups_left service caller handle (OnMac step) o h failed = cc
+setups_left service caller handle (OnCipher step) o h failed = cc
+setups_left service caller handle (OnAead step) o h failed = cc
+setups_left service caller handle (OnDerivation step) o h failed = cc
+setups_left service caller handle (InputKey step id) o h failed = cc
+setups_left service caller handle (OutputKey a) o h failed = cc
+setups_left service caller handle Abort o h failed = cc
+
 pub setups_stay : RefusedSetupsLeaveAll
-setups_stay service caller handle (HashSetup alg) mark h failed = refused_stays service caller handle _ _ _ refl failed
-setups_stay service caller handle (MacSetup verifies id alg) mark h failed = refused_stays service caller handle _ _ _ refl failed
-setups_stay service caller handle (CipherSetup encrypts id alg) mark h failed = refused_stays service caller handle _ _ _ refl failed
-setups_stay service caller handle (AeadSetup encrypts id alg) mark h failed = refused_stays service caller handle _ _ _ refl failed
-setups_stay service caller handle (DerivationSetup alg) mark h failed = refused_stays service caller handle _ _ _ refl failed
-setups_stay service caller handle (OnHash step) mark h failed = cc
-setups_stay service caller handle (OnMac step) mark h failed = cc
-setups_stay service caller handle (OnCipher step) mark h failed = cc
-setups_stay service caller handle (OnAead step) mark h failed = cc
-setups_stay service caller handle (OnDerivation step) mark h failed = cc
-setups_stay service caller handle (InputKey step id) mark h failed = cc
-setups_stay service caller handle (OutputKey a) mark h failed = cc
-setups_stay service caller handle Abort mark h failed = cc
+setups_stay service caller handle call mark h failed = setups_left service caller handle call (failure_of mark) h failed

@@ -1,5 +1,6 @@
-pub mod Callers
-pub mod Drawn
+pub mod Tables
+pub mod StoreShape
+pub mod Served
 pub mod DrawnBytes
 pub mod Filled
 pub mod Live
@@ -16,7 +17,4 @@ pub mod Follows
 pub mod SoundService
 pub mod GainNothing
 pub mod Origin
-pub mod Refusals
 pub mod Sound
-pub mod Counted
-pub mod CountedRequests

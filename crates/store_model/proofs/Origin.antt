@@ -1,5 +1,5 @@
 -- No chain of copies gains a flag or an algorithm.
-use Rattle.std.proofs.Common.{◌≡◌, ℕ, ◌+◌, ◌<◌, Bool, true, false, cond, List, [], ◌∷◌, ◌++◌, refl, sym, ap, ◌∙◌, arith, subst}
+use Rattle.std.proofs.Common.{◌≡◌, ℕ, ◌+◌, ◌<◌, Bool, true, false, cond, List, [], ◌∷◌, ◌++◌, refl, sym, ap, ◌∙◌, arith, subst, ◌⊎◌, inl, inr}
 use Rattle.std.specs.Prelude.{Option, None, Some, ◌==◌, ◌-◌, IfSome, bytes_eq, length, take, drop}
 use Rattle.std.specs.Option.{option_map}
 use Rattle.std.specs.Ordering.{nat_cmp}
@@ -18,21 +18,12 @@ use Rattle.store_model.specs.Call.{Call, Reply, Import, Export, GetAttributes, D
 use Rattle.store_model.specs.Faults.{FaultMark}
 use Rattle.store_model.specs.Outcome.{Outcome, counted, decided, refused, answered}
 use Rattle.store_model.specs.Creation.{created, new_key}
-use Rattle.store_model.specs.Copies.{copy_attributes, copy_met, copy_found}
 use Rattle.store_model.specs.KeyUse.{destroyed, export_rows, bytes_of, attributes_reply}
 use Rattle.store_model.specs.Algorithms.{tag_bytes}
-use Rattle.store_model.specs.Draws.{with_drawn, next_random}
-use Rattle.store_model.specs.Generation.{generated, key_bytes}
-use Rattle.store_model.specs.Ciphers.{mode_of, iv_length, ciphertext_length, deciphered, plain_or_zeros}
-use Rattle.store_model.specs.Aeads.{aead_text, aead_tag, opened}
-use Rattle.store_model.specs.Hashes as hashes
-use Rattle.store_model.specs.Macs as macs
-use Rattle.store_model.specs.Ciphers as ciphers
-use Rattle.store_model.specs.Aeads as aeads
-use Rattle.store_model.specs.Step.{step}
 use Rattle.store_model.specs.Sound.{IsSoundStore}
 use Rattle.store_model.specs.Origin.{Made, source_of, made_key, made_at, creation_at, origin_from, origin_of, HasOrigin}
-use Rattle.store_model.proofs.Sound.{drawn_sound, put, taken, left}
+use Rattle.store_model.proofs.StoreShape.{IsCopied, StoreCases}
+use Rattle.store_model.proofs.Sound.{put, taken, left}
 
 -- the creations so far, beside the store that they led to
 pub record Tracks (store : Store) (made : List Made) : Type 0 where
@@ -151,12 +142,6 @@ pushed store after made m id key sound keys found calls number same policy sourc
 pub counted_tracks : (store : Store) (made : List Made) → Tracks store made → Tracks (counted store) made
 counted_tracks store made t = kept store (counted store) made (λ id key e. e) refl refl t
 
-decided_tracks : (store : Store) (source : Option ℕ) (made : List Made) (o : Option Status) (done : Outcome) → Tracks store made →
-    (o ≡ None → Tracks done.store (made_at source done.store done.reply.output ++ made)) →
-    let outcome = decided store o done in Tracks outcome.store (made_at source outcome.store outcome.reply.output ++ made)
-decided_tracks store source made None done t h = h refl
-decided_tracks store source made (Some s) done t h = counted_tracks store made t
-
 there_now : (keys : map.FinMap nat_cmp Key) (id : ℕ) (key : Key) → map.get (map.insert keys id key) id ≡ Some key
 there_now keys id key = put keys id key id ∙ ap (λ b. cond b (Some key) (map.get keys id)) (same_number id id refl)
 
@@ -171,41 +156,8 @@ created_tracks store caller a bytes source made sound t h =
     subst (λ o. Tracks after (made_key source o ++ made)) (sym (there_now store.keys id key))
     (pushed store after made m id key sound refl refl refl refl refl refl h t)
 
--- a call that changes no key, whose reply describes none
-answered_tracks : (store : Store) (made : List Made) (o : Option Status) (reply : Reply) → made_at None (counted store) reply.output ≡ [] → Tracks store made →
-    let outcome = answered store o reply in Tracks outcome.store (made_at None outcome.store outcome.reply.output ++ made)
-answered_tracks store made None reply h t = subst (λ l. Tracks (counted store) (l ++ made)) (sym h) (counted_tracks store made t)
-answered_tracks store made (Some s) reply h t = counted_tracks store made t
-
-deciphered_output : (after : Store) (needed : ℕ) (o : Option (List ℕ)) → made_at None after (plain_or_zeros needed o).output ≡ []
-deciphered_output after needed None = refl
-deciphered_output after needed (Some text) = refl
-
--- either of two replies that describe no key
-either_output : (after : Store) (b : Bool) (x y : Reply) → made_at None after x.output ≡ [] → made_at None after y.output ≡ [] → made_at None after (cond b x y).output ≡ []
-either_output after true x y h k = h
-either_output after false x y h k = k
-
-opened_output : (after : Store) (alg : ℕ) (key nonce ad cipher tag : List ℕ) → made_at None after (opened alg key nonce ad cipher tag).output ≡ []
-opened_output after alg key nonce ad cipher tag =
-    let plain : List ℕ = aead_text alg key nonce cipher in
-    either_output after (bytes_eq tag (aead_tag alg key nonce ad plain cipher)) _ _ refl refl
-
-described_output : (source : Option ℕ) (after : Store) (o : Option Key) → made_at source after (attributes_reply o).output ≡ []
-described_output source after None = refl
-described_output source after (Some key) = refl
-
-destroyed_tracks : (store : Store) (id : ℕ) (made : List Made) → Tracks store made → Tracks (destroyed store id).store made
+pub destroyed_tracks : (store : Store) (id : ℕ) (made : List Made) → Tracks store made → Tracks (destroyed store id).store made
 destroyed_tracks store id made t = kept store (destroyed store id).store made (λ q key e. left (q == id) _ key (sym (taken store.keys id q) ∙ e)) refl refl t
-
-pub drawn_tracks : (store : Store) (caller n : ℕ) (made : List Made) → Tracks store made → Tracks (with_drawn store caller n) made
-drawn_tracks store caller n made t = record { alive = t.alive; below = t.below; origin = t.origin }
-
-generated_tracks : (store : Store) (caller : ℕ) (a : Attributes) (made : List Made) → IsSoundStore store → Tracks store made →
-    let outcome = generated store caller a in Tracks outcome.store (made_at None outcome.store outcome.reply.output ++ made)
-generated_tracks store caller a made sound t =
-    let n = key_bytes a in
-    created_tracks (with_drawn store caller n) caller a (next_random store caller n) None made (drawn_sound store caller n sound) (drawn_tracks store caller n made t) tt
 
 -- a key's policy has the flags that its others imply
 filled_policy : (store : Store) (id : ℕ) (key : Key) → IsSoundStore store → map.get store.keys id ≡ Some key → IsFilled key.attributes.policy
@@ -214,50 +166,29 @@ filled_policy store id key sound e = ap (λ (a : Attributes). a.policy.usage.0) 
 copy_policy : (source stated met : Policy) → IsFilled source → meet_of source stated ≡ Some met → IsWithin (with_implied met) source
 copy_policy source stated met filled e = (IsWithin-implied source met filled (subst (λ o. IfSome o (λ m. IsWithin m source)) e (meet-within_source source stated))).1
 
-met_tracks : (store : Store) (caller id : ℕ) (source : Key) (stated : Attributes) (made : List Made) → IsSoundStore store → Tracks store made → map.get store.keys id ≡ Some source →
-    (met : Option Policy) → meet_of source.attributes.policy stated.policy ≡ met →
-    let outcome = copy_met store caller source stated met in Tracks outcome.store (made_at (Some source.number) outcome.store outcome.reply.output ++ made)
-met_tracks store caller id source stated made sound t e None f = decided_tracks store (Some source.number) made _ (refused store InvalidArgument) t (λ n. counted_tracks store made t)
-met_tracks store caller id source stated made sound t e (Some met) f =
-    let a = copy_attributes source.attributes stated met in
-    let older = t.alive id source e in
-    let within = copy_policy source.attributes.policy stated.policy met (filled_policy store id source sound e) f in
-    decided_tracks store (Some source.number) made _ (created store caller a source.bytes) t
-    (λ n. created_tracks store caller a source.bytes (Some source.number) made sound t
-    (record { older = older.0; there = older.1.0; within = subst (IsWithin (with_implied met)) (sym older.1.1) within }))
+-- where the policy of what a call creates comes from
+created_source : (store : Store) (call : Call) (a : Attributes) (made : List Made) → IsSoundStore store → Tracks store made → (source : Option ℕ) → source_of store call ≡ source →
+    (source_of store call ≡ None) ⊎ IsCopied store call a.policy → HasSource made source (with_implied a.policy)
+created_source store call a made sound t None e h = tt
+created_source store call a made sound t (Some number) e (inl none) = let clash = sym e ∙ none in cc
+created_source store call a made sound t (Some number) e (inr copy) =
+    let older = t.alive copy.id copy.source copy.there in
+    let same : copy.source.number ≡ number = some_same (sym copy.number ∙ e) in
+    let within = copy_policy copy.source.attributes.policy copy.stated a.policy (filled_policy store copy.id copy.source sound copy.there) copy.met in
+    record { older = older.0; there = ap (creation_at made) (sym same) ∙ older.1.0; within = subst (IsWithin (with_implied a.policy)) (sym older.1.1) within }
+  where
+    some_same : {m n : ℕ} → Some m ≡ Some n → m ≡ n
+    some_same e = cc
 
-found_tracks : (store : Store) (caller id : ℕ) (stated : Attributes) (made : List Made) → IsSoundStore store → Tracks store made → (found : Option Key) → map.get store.keys id ≡ found →
-    let outcome = copy_found store caller found stated in Tracks outcome.store (made_at (option_map (λ key. key.number) found) outcome.store outcome.reply.output ++ made)
-found_tracks store caller id stated made sound t None e = counted_tracks store made t
-found_tracks store caller id stated made sound t (Some source) e = met_tracks store caller id source stated made sound t e (meet_of source.attributes.policy stated.policy) refl
+-- the creations so far, beside what a call on the store made
+abbrev pub TracksOutcome : List Made → Option ℕ → Outcome → Type 0
+TracksOutcome made source outcome = Tracks outcome.store (made_at source outcome.store outcome.reply.output ++ made)
 
-pub step_tracks : (store : Store) (caller : ℕ) (call : Call) (mark : FaultMark) (made : List Made) → IsSoundStore store → Tracks store made →
-    let outcome = step store caller call mark in Tracks outcome.store (made_at (source_of store call) outcome.store outcome.reply.output ++ made)
-step_tracks store caller (Import a bytes) mark made sound t = decided_tracks store None made _ (created store caller a bytes) t (λ n. created_tracks store caller a bytes None made sound t tt)
-step_tracks store caller (Export id room) mark made sound t =
-    answered_tracks store made (first_row (export_rows (map.get store.keys id) room)) _ refl t
-step_tracks store caller (GetAttributes id) mark made sound t =
-    subst (λ l. Tracks (counted store) (l ++ made)) (sym (described_output None (counted store) (map.get store.keys id))) (counted_tracks store made t)
-step_tracks store caller (Destroy id) mark made sound t = decided_tracks store None made _ (destroyed store id) t (λ n. destroyed_tracks store id made t)
-step_tracks store caller (Copy source stated) mark made sound t = found_tracks store caller source stated made sound t (map.get store.keys source) refl
-step_tracks store caller (Generate a) mark made sound t = decided_tracks store None made _ (generated store caller a) t (λ n. generated_tracks store caller a made sound t)
-step_tracks store caller (HashCompute alg input room) mark made sound t = answered_tracks store made (first_row (hashes.compute_rows alg room)) _ refl t
-step_tracks store caller (HashCompare alg input hash) mark made sound t = answered_tracks store made (first_row (hashes.compare_rows alg input hash)) _ refl t
-step_tracks store caller (MacCompute id alg input room) mark made sound t =
-    answered_tracks store made (first_row (macs.compute_rows (map.get store.keys id) alg (length input) room)) _ refl t
-step_tracks store caller (MacVerify id alg input mac) mark made sound t =
-    answered_tracks store made (first_row (macs.verify_rows (map.get store.keys id) alg input mac)) _ refl t
-step_tracks store caller (CipherEncrypt id alg input room) mark made sound t =
-    decided_tracks store None made (first_row (ciphers.encrypt_rows (map.get store.keys id) alg (length input) room)) _ t
-    (λ n. drawn_tracks (counted store) caller (iv_length (mode_of alg)) made (counted_tracks store made t))
-step_tracks store caller (CipherDecrypt id alg input room) mark made sound t =
-    let n = iv_length (mode_of alg) in
-    answered_tracks store made (first_row (ciphers.decrypt_rows (map.get store.keys id) alg (length input) room)) _
-    (deciphered_output (counted store) (ciphertext_length alg (length input)) (deciphered (mode_of alg) (bytes_of (map.get store.keys id)) (take n input) (drop n input))) t
-step_tracks store caller (AeadEncrypt id alg nonce ad input room) mark made sound t =
-    answered_tracks store made (first_row (aeads.encrypt_rows (map.get store.keys id) alg (length nonce) (length ad) (length input) room)) _ refl t
-step_tracks store caller (AeadDecrypt id alg nonce ad input room) mark made sound t =
-    let key = bytes_of (map.get store.keys id) in
-    let n = length input - tag_bytes alg in
-    answered_tracks store made (first_row (aeads.decrypt_rows (map.get store.keys id) alg (length nonce) (length ad) (length input) room)) _
-    (opened_output (counted store) alg key nonce ad (take n input) (drop n input)) t
+pub step_tracks : (store : Store) (caller : ℕ) (call : Call) (made : List Made) → IsSoundStore store → Tracks store made →
+    StoreCases store caller call (TracksOutcome made (source_of store call))
+step_tracks store caller call made sound t = record {
+  counted_too = λ reply drawn is. subst (λ (l : List Made). Tracks (counted store) (l ++ made)) (sym (is.no_key (source_of store call) (counted store))) (counted_tracks store made t);
+  created_too = λ a bytes drawn changes creates.
+      created_tracks store caller a bytes (source_of store call) made sound t (created_source store call a made sound t (source_of store call) refl creates.source);
+  destroyed_too = λ id changes. destroyed_tracks store id made t;
+}

@@ -23,22 +23,24 @@ use Rattle.store_model.specs.Handles.{KeyCreation, Work, Hashing, Authenticating
 use Rattle.store_model.specs.HandleCalls.{HandleCall, HashSetup, MacSetup, CipherSetup, AeadSetup, DerivationSetup, OnHash, OnMac, OnCipher, OnAead, OnDerivation, InputKey, OutputKey, Abort, creation_of, mac_usage, cipher_usage, input_key, input_key_rows, output_key, output_key_of, created_from, random_of, handle_step}
 use Rattle.store_model.specs.Refusals.{AsItWas, held_derivation, is_active, lowers_capacity, may_stay}
 use Rattle.store_model.specs.Sound.{IsSoundStore, IsSoundUse, IsSoundWork, IsSoundHeld}
-use Rattle.store_model.proofs.Drawn.{none_holds}
+use Rattle.store_model.specs.Laws.{handle_changes_keys}
+use Rattle.store_model.proofs.Tables.{none_holds}
 use Rattle.store_model.proofs.Steps.{IsStep, step_wider, begun, fails_step, unless_step, alive_step, ends_step, hash_is_step, mac_is_step, cipher_is_step, aead_is_step}
 use Rattle.store_model.proofs.Derivations.{derivation_is_step, exhausted_step, key_sound, key_due, start_sound, not_below, flipped}
 
 -- an active derivation has its secret, its bytes and the creation's leave
-pub record Creates (service : Service) (caller handle : ℕ) (key : Option KeyCreation) (w : DerivationWork) (a : Attributes) : Type 0 where
+pub record DerivesKey (service : Service) (caller handle : ℕ) (key : Option KeyCreation) (w : DerivationWork) (a : Attributes) : Type 0 where
   pub was : operation_of service caller handle ≡ held_derivation key w
   pub keyed : is_some w.secret ≡ true
   pub enough : stated_bytes a ≤ w.capacity
   pub rows : first_row (creation_rows service.store caller a (stated_bytes a)) ≡ None
 
--- what is to be shown of each kind of outcome, of a call which, refused, may leave the operation or not
-pub record Cases (service : Service) (caller handle : ℕ) (may : Bool) (P : Served → Type 0) : Type 0 where
+-- what is to be shown of each kind of outcome, of a call which, refused, may leave the operation or not, and which may
+-- change the keys or not
+pub record Cases (service : Service) (caller handle : ℕ) (may changes : Bool) (P : Served → Type 0) : Type 0 where
   pub untouched_too : (status : Status) → may ≡ true → P (untouched service status)
   pub applied_too : (after : After Held) → IsStep may service.store (operation_of service caller handle) after → P (applied service caller handle after)
-  pub created_too : (key : Option KeyCreation) (w : DerivationWork) (a : Attributes) → Creates service caller handle key w a → P (created_from service caller handle key w a None)
+  pub created_too : changes ≡ true → (key : Option KeyCreation) (w : DerivationWork) (a : Attributes) → DerivesKey service caller handle key w a → P (created_from service caller handle key w a None)
 
 -- SETUPS
 
@@ -106,7 +108,7 @@ own_derivation (Ciphering v) w e = cc
 own_derivation (Sealing v) w e = cc
 own_derivation (Deriving v) w e = cc
 
-module _ (service : Service) (caller handle : ℕ) (may : Bool) (P : Served → Type 0) (cases : Cases service caller handle may P) where
+module _ (service : Service) (caller handle : ℕ) (may changes : Bool) (P : Served → Type 0) (cases : Cases service caller handle may changes P) where
   abbrev before : HandleOperation
   before = operation_of service caller handle
 
@@ -147,29 +149,29 @@ module _ (service : Service) (caller handle : ℕ) (may : Bool) (P : Served → 
 
   -- A KEY OF DERIVED BYTES
 
-  created_shape : (w : DerivationWork) (a : Attributes) → before ≡ held_derivation own_key w → is_some w.secret ≡ true → stated_bytes a ≤ w.capacity →
+  created_shape : changes ≡ true → (w : DerivationWork) (a : Attributes) → before ≡ held_derivation own_key w → is_some w.secret ≡ true → stated_bytes a ≤ w.capacity →
       (o : Option Status) → first_row (creation_rows service.store caller a (stated_bytes a)) ≡ o → P (created_from service caller handle own_key w a o)
-  created_shape w a was secret enough (Some status) e = cases.applied_too _ (fails_step service.store own_key Deriving before status)
-  created_shape w a was secret enough None e = cases.created_too own_key w a (record { was = was; keyed = secret; enough = enough; rows = e })
+  created_shape creates w a was secret enough (Some status) e = cases.applied_too _ (fails_step service.store own_key Deriving before status)
+  created_shape creates w a was secret enough None e = cases.created_too creates own_key w a (record { was = was; keyed = secret; enough = enough; rows = e })
 
-  within_shape : (w : DerivationWork) (a : Attributes) → before ≡ held_derivation own_key w → is_some w.secret ≡ true → (b : Bool) → nat_lt w.capacity (stated_bytes a) ≡ b →
+  within_shape : changes ≡ true → (w : DerivationWork) (a : Attributes) → before ≡ held_derivation own_key w → is_some w.secret ≡ true → (b : Bool) → nat_lt w.capacity (stated_bytes a) ≡ b →
       P (cond b (applied service caller handle (held_after own_key Deriving (exhausted w)))
       (created_from service caller handle own_key w a (first_row (creation_rows service.store caller a (stated_bytes a)))))
-  within_shape w a was secret true e =
+  within_shape creates w a was secret true e =
       cases.applied_too _ (subst (λ o. IsStep may service.store o (held_after own_key Deriving (exhausted w))) (sym was) (exhausted_step service.store own_key w))
-  within_shape w a was secret false e = created_shape w a was secret (not_below w.capacity (stated_bytes a) e) _ refl
+  within_shape creates w a was secret false e = created_shape creates w a was secret (not_below w.capacity (stated_bytes a) e) _ refl
 
-  output_shape : (w : DerivationWork) (a : Attributes) → before ≡ held_derivation own_key w → (o : Option Status) → (o ≡ None → is_some w.secret ≡ true) →
+  output_shape : changes ≡ true → (w : DerivationWork) (a : Attributes) → before ≡ held_derivation own_key w → (o : Option Status) → (o ≡ None → is_some w.secret ≡ true) →
       P (output_key_of service caller handle own_key w a o)
-  output_shape w a was (Some status) secret = cases.applied_too _ (fails_step service.store own_key Deriving before status)
-  output_shape w a was None secret = within_shape w a was (secret refl) (nat_lt w.capacity (stated_bytes a)) refl
+  output_shape creates w a was (Some status) secret = cases.applied_too _ (fails_step service.store own_key Deriving before status)
+  output_shape creates w a was None secret = within_shape creates w a was (secret refl) (nat_lt w.capacity (stated_bytes a)) refl
 
-  output_key_shape : (is_active (part_of derivation_part before) ≡ false → may ≡ true) → (now : Operation DerivationWork) (a : Attributes) → part_of derivation_part before ≡ now → P (output_key service caller handle now a)
-  output_key_shape idle (Active w) a e =
-      output_shape w a (held_as derivation_part Deriving own_derivation before w e) _
+  output_key_shape : changes ≡ true → (is_active (part_of derivation_part before) ≡ false → may ≡ true) → (now : Operation DerivationWork) (a : Attributes) → part_of derivation_part before ≡ now → P (output_key service caller handle now a)
+  output_key_shape creates idle (Active w) a e =
+      output_shape creates w a (held_as derivation_part Deriving own_derivation before w e) _
       (λ none. flipped (is_some w.secret) (none_holds ((not (is_alive service.store own_key), InvalidHandle) ∷ output_key_rows w a) 1 none))
-  output_key_shape idle Inactive a e = cases.untouched_too BadState (idle (ap is_active e))
-  output_key_shape idle InError a e = cases.untouched_too BadState (idle (ap is_active e))
+  output_key_shape creates idle Inactive a e = cases.untouched_too BadState (idle (ap is_active e))
+  output_key_shape creates idle InError a e = cases.untouched_too BadState (idle (ap is_active e))
 
 -- ANY CALL
 
@@ -188,7 +190,7 @@ other_or false b e = e
 
 -- what is to be shown of each kind of outcome of a call
 abbrev pub CallCases : (service : Service) (caller handle : ℕ) → HandleCall → (Served → Type 0) → Type 0
-CallCases service caller handle call P = Cases service caller handle (may_stay call (operation_of service caller handle)) P
+CallCases service caller handle call P = Cases service caller handle (may_stay call (operation_of service caller handle)) (handle_changes_keys call) P
 
 pub shape : (service : Service) (caller handle : ℕ) (call : HandleCall) (P : Served → Type 0) → CallCases service caller handle call P → P (handle_step service caller handle call)
 shape service caller handle (HashSetup alg) P cases =
@@ -203,19 +205,19 @@ shape service caller handle (DerivationSetup alg) P cases =
     cases.applied_too _ (set_up_step refl service.store _ (first_row (class_rows class.Derivation alg)) (record { key = None; work = Deriving (derivation_work alg) })
     (λ s. record { key = tt; work = start_sound alg }))
 shape service caller handle (OnHash step) P cases =
-    stepped_shape service caller handle _ P cases hash_part Hashing own_hash (λ w. hash_step w step) (λ w. step_wider no_wider (hash_is_step service.store _ w step)) (not_false _) _ refl
+    stepped_shape service caller handle _ _ P cases hash_part Hashing own_hash (λ w. hash_step w step) (λ w. step_wider no_wider (hash_is_step service.store _ w step)) (not_false _) _ refl
 shape service caller handle (OnMac step) P cases =
-    stepped_shape service caller handle _ P cases mac_part Authenticating own_mac (λ w. mac_step w step) (λ w. step_wider no_wider (mac_is_step service.store _ w step)) (not_false _) _ refl
+    stepped_shape service caller handle _ _ P cases mac_part Authenticating own_mac (λ w. mac_step w step) (λ w. step_wider no_wider (mac_is_step service.store _ w step)) (not_false _) _ refl
 shape service caller handle (OnCipher step) P cases =
     let random : List ℕ = random_of service caller in
-    stepped_shape service caller handle _ P cases cipher_part Ciphering own_cipher (λ w. cipher_step random w step) (λ w. step_wider no_wider (cipher_is_step service.store _ random w step)) (not_false _) _ refl
+    stepped_shape service caller handle _ _ P cases cipher_part Ciphering own_cipher (λ w. cipher_step random w step) (λ w. step_wider no_wider (cipher_is_step service.store _ random w step)) (not_false _) _ refl
 shape service caller handle (OnAead step) P cases =
     let random : List ℕ = random_of service caller in
-    stepped_shape service caller handle _ P cases aead_part Sealing own_aead (λ w. aead_step random w step) (λ w. step_wider no_wider (aead_is_step service.store _ random w step)) (not_false _) _ refl
+    stepped_shape service caller handle _ _ P cases aead_part Sealing own_aead (λ w. aead_step random w step) (λ w. step_wider no_wider (aead_is_step service.store _ random w step)) (not_false _) _ refl
 shape service caller handle (OnDerivation step) P cases =
     let lowers : Bool = lowers_capacity (OnDerivation step) in
-    stepped_shape service caller handle _ P cases derivation_part Deriving own_derivation (λ w. derivation_step w step)
+    stepped_shape service caller handle _ _ P cases derivation_part Deriving own_derivation (λ w. derivation_step w step)
     (λ w. step_wider (one_or lowers _) (derivation_is_step service.store _ w step)) (λ idle. other_or lowers _ (not_false _ idle)) _ refl
-shape service caller handle (InputKey step id) P cases = input_key_shape service caller handle _ P cases (not_false _) _ step id refl
-shape service caller handle (OutputKey a) P cases = output_key_shape service caller handle _ P cases (not_false _) _ a refl
+shape service caller handle (InputKey step id) P cases = input_key_shape service caller handle _ _ P cases (not_false _) _ step id refl
+shape service caller handle (OutputKey a) P cases = output_key_shape service caller handle _ _ P cases refl (not_false _) _ a refl
 shape service caller handle Abort P cases = cases.applied_too (ends done) (ends_step service.store None Deriving _ done refl (λ s a. refl))

@@ -15,6 +15,7 @@ use Rattle.store_model.specs.Handles.{KeyCreation, Work, Hashing, Authenticating
 use Rattle.store_model.specs.Refusals.{IsLeft, AsItWas, Failed, Exhausted, Compared}
 use Rattle.store_model.specs.Sound.{IsSoundStore, IsSoundWork, IsSoundOperation}
 use Rattle.store_model.specs.Origin.{made_at}
+use Rattle.store_model.proofs.StoreShape.{MakesNone}
 
 -- what a call on a handle makes of its operation, where it creates no key; and whether, refused, it may leave it
 pub record IsStep (may_stay : Bool) (store : Store) (before : HandleOperation) (after : After Held) : Type 0 where
@@ -23,10 +24,6 @@ pub record IsStep (may_stay : Bool) (store : Store) (before : HandleOperation) (
   pub left : (after.reply.status ≡ Success → ⊥) → IsLeft may_stay after.reply.status before after.operation
   pub no_key : (source : Option ℕ) (after_it : Store) → made_at source after_it after.reply.output ≡ []
   pub sound : IsSoundStore store → IsSoundOperation store before → IsSoundOperation store after.operation
-
--- a reply that answers no identifier
-abbrev pub MakesNone : Reply → Type 0
-MakesNone reply = (source : Option ℕ) (after : Store) → made_at source after reply.output ≡ []
 
 left_wider : {a b : Bool} {status : Status} {before after : HandleOperation} → (a ≡ true → b ≡ true) → IsLeft a status before after → IsLeft b status before after
 left_wider wider (AsItWas may same) = AsItWas (wider may) same

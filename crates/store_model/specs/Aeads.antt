@@ -1,6 +1,5 @@
 -- AEADs of a whole message: the ciphertext, and the tag behind it.
-use Rattle.std.specs.Prelude.{ℕ, ◌+◌, ◌-◌, ◌*◌, ◌^◌, not, nat_lt, nat_le, ◌||◌, ◌&&◌, ◌==◌, bytes_eq, Bool, List, ◌∷◌, ◌++◌, length, take, drop, Option, if◌then◌else◌}
-use Rattle.std.specs.FinMap as map
+use Rattle.std.specs.Prelude.{ℕ, ◌+◌, ◌-◌, ◌*◌, ◌^◌, not, nat_lt, nat_le, ◌||◌, ◌&&◌, ◌==◌, bytes_eq, Bool, List, ◌∷◌, ◌++◌, length, take, drop, if◌then◌else◌}
 use Rattle.psa_status.specs.declared.Status.TheVariants.{InvalidArgument, InvalidSignature}
 use Rattle.psa_status.specs.Rows.{Rows, first_row}
 use Rattle.alg_encoding.specs.declared.table.Class.TheVariants.{Aead}
@@ -8,12 +7,11 @@ use Rattle.alg_encoding.specs.Encoding.{base_of}
 use Rattle.crypto_specs.specs.Aes.{aes_encrypt}
 use Rattle.crypto_specs.specs.Ccm.{ccm_text, ccm_tag}
 use Rattle.crypto_specs.specs.Gcm.{gcm_text, gcm_tag}
-use Rattle.store_model.specs.Store.{Key, Store}
+use Rattle.store_model.specs.Store.{Store}
 use Rattle.store_model.specs.Call.{Reply}
-use Rattle.store_model.specs.KeyUse.{bytes_of}
 use Rattle.store_model.specs.Algorithms.{tag_bytes}
-use Rattle.store_model.specs.Rules.{use_rows, room_rows, total_limit}
-use Rattle.store_model.specs.Outcome.{Outcome, answered, given, spoiled}
+use Rattle.store_model.specs.Rules.{using_key, room_rows, total_limit}
+use Rattle.store_model.specs.Outcome.{Outcome, reply_unless, replies, given, spoiled}
 
 abbrev pub is_ccm : ℕ → Bool
 is_ccm alg = base_of alg == 0x05400100
@@ -40,25 +38,23 @@ aead_tag alg key nonce ad plain cipher =
     else gcm_tag (aes_encrypt key) (tag_bytes alg) nonce ad cipher
 
 -- aead_encrypt: ENCRYPT
-abbrev pub encrypt_rows : Option Key → ℕ → (nonce ad payload room : ℕ) → Rows
-encrypt_rows found alg nonce ad payload room =
-    use_rows Aead 0x100 alg found
-    ++ (not (permits_lengths alg nonce ad payload), InvalidArgument)
-    ∷ room_rows (payload + tag_bytes alg) room
+abbrev pub encrypt_rows : ℕ → (nonce ad payload room : ℕ) → Rows
+encrypt_rows alg nonce ad payload room = (not (permits_lengths alg nonce ad payload), InvalidArgument) ∷ room_rows (payload + tag_bytes alg) room
 
 abbrev pub sealed : ℕ → (key nonce ad text : List ℕ) → List ℕ
 sealed alg key nonce ad text = let cipher : List ℕ = aead_text alg key nonce text in cipher ++ aead_tag alg key nonce ad text cipher
 
+abbrev pub sealed_reply : ℕ → (key nonce ad input : List ℕ) → ℕ → Reply
+sealed_reply alg key nonce ad input room =
+    reply_unless (first_row (encrypt_rows alg (length nonce) (length ad) (length input) room)) (given (sealed alg key nonce ad input))
+
 abbrev pub step_aead_encrypt : Store → (id alg : ℕ) → (nonce ad input : List ℕ) → ℕ → Outcome
-step_aead_encrypt store id alg nonce ad input room =
-    let found : Option Key = map.get store.keys id in
-    answered store (first_row (encrypt_rows found alg (length nonce) (length ad) (length input) room)) (given (sealed alg (bytes_of found) nonce ad input))
+step_aead_encrypt store id alg nonce ad input room = using_key store Aead 0x100 alg id (λ key. replies (sealed_reply alg key nonce ad input room))
 
 -- aead_decrypt: DECRYPT. The input ends with the tag.
-abbrev pub decrypt_rows : Option Key → ℕ → (nonce ad input room : ℕ) → Rows
-decrypt_rows found alg nonce ad input room =
-    use_rows Aead 0x200 alg found
-    ++ (nat_lt input (tag_bytes alg) || not (permits_lengths alg nonce ad (input - tag_bytes alg)), InvalidArgument)
+abbrev pub decrypt_rows : ℕ → (nonce ad input room : ℕ) → Rows
+decrypt_rows alg nonce ad input room =
+    (nat_lt input (tag_bytes alg) || not (permits_lengths alg nonce ad (input - tag_bytes alg)), InvalidArgument)
     ∷ room_rows (input - tag_bytes alg) room
 
 -- what a tag opens, and zeros where it isn't the text's
@@ -67,9 +63,10 @@ opened alg key nonce ad cipher tag =
     let plain : List ℕ = aead_text alg key nonce cipher in
     if bytes_eq tag (aead_tag alg key nonce ad plain cipher) then given plain else spoiled InvalidSignature (length cipher)
 
-abbrev pub step_aead_decrypt : Store → (id alg : ℕ) → (nonce ad input : List ℕ) → ℕ → Outcome
-step_aead_decrypt store id alg nonce ad input room =
-    let found : Option Key = map.get store.keys id in
+abbrev pub opened_reply : ℕ → (key nonce ad input : List ℕ) → ℕ → Reply
+opened_reply alg key nonce ad input room =
     let n : ℕ = length input - tag_bytes alg in
-    answered store (first_row (decrypt_rows found alg (length nonce) (length ad) (length input) room))
-    (opened alg (bytes_of found) nonce ad (take n input) (drop n input))
+    reply_unless (first_row (decrypt_rows alg (length nonce) (length ad) (length input) room)) (opened alg key nonce ad (take n input) (drop n input))
+
+abbrev pub step_aead_decrypt : Store → (id alg : ℕ) → (nonce ad input : List ℕ) → ℕ → Outcome
+step_aead_decrypt store id alg nonce ad input room = using_key store Aead 0x200 alg id (λ key. replies (opened_reply alg key nonce ad input room))

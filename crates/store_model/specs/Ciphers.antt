@@ -1,18 +1,16 @@
 -- Ciphers of a whole message.
 use Rattle.std.specs.Prelude.{ℕ, ◌+◌, ◌-◌, ◌%◌, not, nat_lt, ◌||◌, ◌&&◌, ◌==◌, Bool, true, false, List, ◌∷◌, ◌++◌, length, take, drop, Option, Some, None, if◌then◌else◌}
-use Rattle.std.specs.FinMap as map
 use Rattle.psa_status.specs.declared.Status.TheVariants.{InvalidArgument, InvalidPadding}
 use Rattle.psa_status.specs.Rows.{Rows, first_row}
 use Rattle.alg_encoding.specs.declared.table.Class.TheVariants.{Cipher}
 use Rattle.crypto_specs.specs.Aes.{aes_encrypt}
 use Rattle.crypto_specs.specs.AesInverse.{aes_decrypt}
 use Rattle.crypto_specs.specs.Modes.{ctr_xor, cbc_encrypt, cbc_decrypt, ecb_encrypt, ecb_decrypt, pkcs7_padded, pkcs7_unpadded}
-use Rattle.store_model.specs.Store.{Key, Store}
+use Rattle.store_model.specs.Store.{Store}
 use Rattle.store_model.specs.Call.{Reply}
-use Rattle.store_model.specs.KeyUse.{bytes_of}
-use Rattle.store_model.specs.Draws.{with_drawn, next_random}
-use Rattle.store_model.specs.Rules.{use_rows, room_rows, total_limit}
-use Rattle.store_model.specs.Outcome.{Outcome, decided, answered, given, spoiled, counted}
+use Rattle.store_model.specs.Draws.{Random}
+use Rattle.store_model.specs.Rules.{using_key, room_rows, total_limit}
+use Rattle.store_model.specs.Outcome.{Outcome, Computed, computed_unless, reply_unless, replies, given, spoiled}
 
 -- the modes of the cipher algorithms
 pub data Mode : Type 0 where
@@ -53,51 +51,43 @@ deciphered CbcNoPadding key iv text = Some (cbc_decrypt (aes_decrypt key) iv tex
 deciphered CbcPkcs7 key iv text = pkcs7_unpadded (cbc_decrypt (aes_decrypt key) iv text)
 deciphered EcbNoPadding key iv text = Some (ecb_decrypt (aes_decrypt key) text)
 
--- ---- cipher_encrypt: ENCRYPT. A fresh initialisation vector is drawn, and stands before the ciphertext.
+-- cipher_encrypt: ENCRYPT. A fresh initialisation vector is drawn, and stands before the ciphertext.
 
-abbrev pub encrypted_length : ℕ → ℕ → ℕ
-encrypted_length alg n = iv_length (mode_of alg) + enciphered_length (mode_of alg) n
+abbrev pub encrypt_rows : Mode → (bytes room : ℕ) → Rows
+encrypt_rows mode bytes room =
+    ((takes_whole_blocks mode && not (bytes % 16 == 0)) || nat_lt total_limit bytes, InvalidArgument)
+    ∷ room_rows (iv_length mode + enciphered_length mode bytes) room
 
-abbrev pub encrypt_rows : Option Key → ℕ → (bytes room : ℕ) → Rows
-encrypt_rows found alg bytes room =
-    use_rows Cipher 0x100 alg found
-    ++ ((takes_whole_blocks (mode_of alg) && not (bytes % 16 == 0)) || nat_lt total_limit bytes, InvalidArgument)
-    ∷ room_rows (encrypted_length alg bytes) room
+abbrev pub encrypted : Mode → (iv key input : List ℕ) → ℕ → Computed
+encrypted mode iv key input room =
+    computed_unless (first_row (encrypt_rows mode (length input) room)) (record { reply = given (iv ++ enciphered mode key iv input); drawn = iv_length mode })
 
-abbrev pub step_cipher_encrypt : Store → ℕ → (id alg : ℕ) → List ℕ → ℕ → Outcome
-step_cipher_encrypt store caller id alg input room =
-    let found : Option Key = map.get store.keys id in
-    let iv : List ℕ = next_random store caller (iv_length (mode_of alg)) in
-    decided store (first_row (encrypt_rows found alg (length input) room)) (record {
-      store = with_drawn (counted store) caller (iv_length (mode_of alg));
-      reply = given (iv ++ enciphered (mode_of alg) (bytes_of found) iv input);
-    })
+abbrev pub step_cipher_encrypt : Store → Random → (id alg : ℕ) → List ℕ → ℕ → Outcome
+step_cipher_encrypt store random id alg input room =
+    let mode : Mode = mode_of alg in
+    using_key store Cipher 0x100 alg id (λ key. encrypted mode (random (iv_length mode)) key input room)
 
--- ---- cipher_decrypt: DECRYPT. The input begins with the initialisation vector.
-
--- the bytes of the ciphertext in so many bytes of input
-abbrev pub ciphertext_length : ℕ → ℕ → ℕ
-ciphertext_length alg n = n - iv_length (mode_of alg)
+-- cipher_decrypt: DECRYPT. The input begins with the initialisation vector.
 
 abbrev pub is_ciphertext_length : Mode → ℕ → Bool
 is_ciphertext_length Ctr n = true
 is_ciphertext_length CbcPkcs7 n = n % 16 == 0 && not (n == 0)
 is_ciphertext_length _ n = n % 16 == 0
 
-abbrev pub decrypt_rows : Option Key → ℕ → (bytes room : ℕ) → Rows
-decrypt_rows found alg bytes room =
-    use_rows Cipher 0x200 alg found
-    ++ (nat_lt bytes (iv_length (mode_of alg)) || not (is_ciphertext_length (mode_of alg) (ciphertext_length alg bytes)) || nat_lt total_limit bytes, InvalidArgument)
-    ∷ room_rows (ciphertext_length alg bytes) room
+abbrev pub decrypt_rows : Mode → (bytes room : ℕ) → Rows
+decrypt_rows mode bytes room =
+    (nat_lt bytes (iv_length mode) || not (is_ciphertext_length mode (bytes - iv_length mode)) || nat_lt total_limit bytes, InvalidArgument)
+    ∷ room_rows (bytes - iv_length mode) room
 
 -- a text whose padding isn't one leaves zeros
 abbrev pub plain_or_zeros : ℕ → Option (List ℕ) → Reply
 plain_or_zeros needed (Some text) = record (given text) { needed = needed }
 plain_or_zeros needed None = spoiled InvalidPadding needed
 
+abbrev pub decrypted_reply : Mode → (key input : List ℕ) → ℕ → Reply
+decrypted_reply mode key input room =
+    let n : ℕ = iv_length mode in
+    reply_unless (first_row (decrypt_rows mode (length input) room)) (plain_or_zeros (length input - n) (deciphered mode key (take n input) (drop n input)))
+
 abbrev pub step_cipher_decrypt : Store → (id alg : ℕ) → List ℕ → ℕ → Outcome
-step_cipher_decrypt store id alg input room =
-    let found : Option Key = map.get store.keys id in
-    let n : ℕ = iv_length (mode_of alg) in
-    answered store (first_row (decrypt_rows found alg (length input) room))
-    (plain_or_zeros (ciphertext_length alg (length input)) (deciphered (mode_of alg) (bytes_of found) (take n input) (drop n input)))
+step_cipher_decrypt store id alg input room = using_key store Cipher 0x200 alg id (λ key. replies (decrypted_reply (mode_of alg) key input room))

@@ -1,18 +1,18 @@
 -- Calls that create a key.
-use Rattle.std.specs.Prelude.{ℕ, ◌+◌, ◌^◌, nat_le, ◌||◌, List, [], ◌∷◌, ◌++◌, length}
+use Rattle.std.specs.Prelude.{ℕ, ◌+◌, ◌^◌, nat_le, ◌||◌, List, [], ◌∷◌, ◌++◌, length, slice_set}
 use Rattle.std.specs.FinMap as map
 use Rattle.psa_status.specs.declared.Status.TheVariants.{Success, KeyLimit}
 use Rattle.psa_status.specs.Rows.{Rows, first_row}
 use Rattle.key_attributes.specs.declared.Attributes.{Attributes}
 use Rattle.key_attributes.specs.Checks.{attribute_rows, filled}
-use Rattle.store_model.specs.Store.{Key, Store, CallerState, caller_state, with_caller, has_secure_element, next_volatile, live_volatile}
+use Rattle.store_model.specs.Store.{Key, Store, made_of, has_secure_element, next_volatile, live_volatile}
 use Rattle.store_model.specs.Call.{Identifier}
 use Rattle.store_model.specs.Outcome.{Outcome, decided, counted}
 
 -- a caller has at most 16 live volatile keys, and makes at most 2^20 of them
 abbrev pub limit_rows : Store → ℕ → Rows
 limit_rows store caller =
-    (nat_le 16 (live_volatile store.keys caller) || nat_le (2 ^ 20) (caller_state store caller).made, KeyLimit)
+    (nat_le 16 (live_volatile store.keys caller) || nat_le (2 ^ 20) (made_of store caller), KeyLimit)
     ∷ []
 
 -- the refusals of every creation of a key with these stated attributes and so many bytes
@@ -32,16 +32,18 @@ new_key store caller id a bytes = record {
   creator = caller;
 }
 
-abbrev pub one_more_made : CallerState → CallerState
-one_more_made state = record state { made = state.made + 1 }
+-- a caller has made one volatile key more
+abbrev pub one_more_made : Store → ℕ → List ℕ
+one_more_made store caller = slice_set store.made caller (made_of store caller + 1)
 
 -- a volatile key comes into being under the caller's next identifier
 abbrev pub created : Store → ℕ → Attributes → List ℕ → Outcome
 created store caller a bytes =
     let id = next_volatile store caller in
     record {
-      store = record (with_caller (counted store) caller (one_more_made (caller_state store caller))) { keys = map.insert store.keys id (new_key store caller id a bytes) };
+      store = record (counted store) { keys = map.insert store.keys id (new_key store caller id a bytes); made = one_more_made store caller };
       reply = record { status = Success; output = Identifier id; needed = 0 };
+      drawn = 0;
     }
 
 abbrev pub step_import : Store → ℕ → Attributes → List ℕ → Outcome

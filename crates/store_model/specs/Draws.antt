@@ -1,13 +1,6 @@
--- The random words that calls draw.
-use Rattle.std.specs.Prelude.{ℕ, ◌+◌, List}
-use Rattle.random_streams.specs.RandomWords.{random_bytes, words_used}
-use Rattle.store_model.specs.Store.{Store, CallerState, caller_state, with_caller}
+-- The random bytes that calls draw.
+use Rattle.std.specs.Prelude.{ℕ, List}
 
--- a caller draws the random words of n bytes
-abbrev pub with_drawn : Store → ℕ → ℕ → Store
-with_drawn store caller n =
-    let state : CallerState = caller_state store caller in
-    with_caller store caller (record state { drawn = state.drawn + words_used n })
-
-abbrev pub next_random : Store → ℕ → ℕ → List ℕ
-next_random store caller n = random_bytes store.settings.seed caller (caller_state store caller).drawn n
+-- a caller's next random bytes, as many as are asked for
+abbrev pub Random : Type 0
+Random = ℕ → List ℕ

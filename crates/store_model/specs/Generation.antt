@@ -4,7 +4,7 @@ use Rattle.psa_status.specs.declared.Status.TheVariants.{InvalidArgument}
 use Rattle.psa_status.specs.Rows.{Rows, first_row}
 use Rattle.key_attributes.specs.declared.Attributes.{Attributes}
 use Rattle.store_model.specs.Store.{Store}
-use Rattle.store_model.specs.Draws.{with_drawn, next_random}
+use Rattle.store_model.specs.Draws.{Random}
 use Rattle.store_model.specs.Outcome.{Outcome, decided}
 use Rattle.store_model.specs.Creation.{creation_rows, created}
 
@@ -17,8 +17,8 @@ generation_rows store caller a =
     ∷ creation_rows store caller a (key_bytes a)
 
 -- the key's bytes are the caller's next random ones
-abbrev pub generated : Store → ℕ → Attributes → Outcome
-generated store caller a = created (with_drawn store caller (key_bytes a)) caller a (next_random store caller (key_bytes a))
+abbrev pub generated : Store → ℕ → Random → Attributes → Outcome
+generated store caller random a = record (created store caller a (random (key_bytes a))) { drawn = key_bytes a }
 
-abbrev pub step_generate : Store → ℕ → Attributes → Outcome
-step_generate store caller a = decided store (first_row (generation_rows store caller a)) (generated store caller a)
+abbrev pub step_generate : Store → ℕ → Random → Attributes → Outcome
+step_generate store caller random a = decided store (first_row (generation_rows store caller a)) (generated store caller random a)

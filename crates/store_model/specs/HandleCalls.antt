@@ -9,7 +9,6 @@ use Rattle.alg_encoding.specs.declared.table.Class.TheVariants as class
 use Rattle.key_attributes.specs.declared.Attributes.{Attributes}
 use Rattle.policy_rules.specs.Policy.{may_use}
 use Rattle.store_model.specs.Store.{Key}
-use Rattle.store_model.specs.Draws.{next_random}
 use Rattle.store_model.specs.Outcome.{Outcome, done}
 use Rattle.store_model.specs.Rules.{class_rows, use_rows}
 use Rattle.store_model.specs.KeyUse.{bytes_of}
@@ -20,7 +19,7 @@ use Rattle.store_model.specs.MacOperations.{MacStep, mac_work, mac_step}
 use Rattle.store_model.specs.CipherOperations.{CipherStep, cipher_work, cipher_step}
 use Rattle.store_model.specs.AeadOperations.{AeadStep, aead_work, aead_step}
 use Rattle.store_model.specs.DerivationOperations.{DerivationStep, DerivationWork, derivation_work, derivation_step, secret_step, key_step_rows, with_key, output_key_rows, exhausted, without, next_derived, stated_bytes}
-use Rattle.store_model.specs.Handles.{KeyCreation, Work, Hashing, Authenticating, Ciphering, Sealing, Deriving, Service, Served, operation_of, with_operation, applied, untouched, stepped, part_of, hash_part, mac_part, cipher_part, aead_part, derivation_part, key_of_operation, is_alive, held_after, held_with}
+use Rattle.store_model.specs.Handles.{KeyCreation, Work, Hashing, Authenticating, Ciphering, Sealing, Deriving, Service, Served, own_of, operation_of, with_own, with_operation, next_random, applied, untouched, stepped, part_of, hash_part, mac_part, cipher_part, aead_part, derivation_part, key_of_operation, is_alive, held_after, held_with}
 
 pub data HandleCall : Type 0 where
   HashSetup : (alg : ℕ) → HandleCall
@@ -104,7 +103,7 @@ created_from service caller handle key w a None =
     let n : ℕ = stated_bytes a in
     let made : Outcome = created service.store caller a (next_derived w n) in
     record {
-      service = with_operation (record service { store = made.store }) caller handle (held_with key Deriving (Active (without w n)));
+      service = with_own service made.store caller (with_operation (own_of service caller) handle (held_with key Deriving (Active (without w n))));
       reply = made.reply;
     }
 
@@ -124,7 +123,7 @@ output_key service caller handle InError a = untouched service BadState
 -- ANY CALL
 
 abbrev pub random_of : Service → ℕ → List ℕ
-random_of service caller = next_random service.store caller 16
+random_of service caller = next_random service caller 16
 
 abbrev pub handle_step : Service → (caller handle : ℕ) → HandleCall → Served
 handle_step service caller handle (HashSetup alg) = set_up_with service caller handle (first_row (class_rows class.Hash alg)) None (Hashing (hash_work alg))

@@ -5,7 +5,8 @@ use Rattle.psa_status.specs.declared.Status.{Status}
 use Rattle.psa_status.specs.declared.Status.TheVariants.{BadState}
 use Rattle.store_model.specs.Store.{Key, Store, Settings, caller_count, start_of}
 use Rattle.store_model.specs.Call.{Reply}
-use Rattle.store_model.specs.Draws.{with_drawn}
+use Rattle.random_streams.specs.RandomWords.{random_bytes, words_used}
+use Rattle.store_model.specs.Draws.{Random}
 use Rattle.store_model.specs.Outcome.{counted, refusal}
 use Rattle.store_model.specs.Operations.{Operation, Inactive, InError, Active, After, with_live_key}
 use Rattle.store_model.specs.HashOperations.{HashWork}
@@ -35,45 +36,61 @@ pub record Held : Type 0 where
 abbrev pub HandleOperation : Type 0
 HandleOperation = Operation Held
 
--- the store, and each caller's operations by the numbers of the caller and of the handle, from 1
+-- what is one caller's own: how many random words it has drawn, and the operations of its handles by their numbers,
+-- from 1
+pub record Own : Type 0 where
+  pub drawn : ℕ
+  pub operations : List HandleOperation
+
+-- the store, which is shared, and what is each caller's own, by the caller's number (0 is nobody's)
 pub record Service : Type 0 where
   pub store : Store
-  pub operations : List (List HandleOperation)
+  pub owns : List Own
 
 -- how many handles a caller has
 abbrev pub handle_count : ℕ
 handle_count = 4
 
--- every handle is inactive
+-- nothing is drawn, and every handle is inactive
+abbrev pub new_own : Own
+new_own = record { drawn = 0; operations = replicate (handle_count + 1) Inactive }
+
 abbrev pub service_of : Store → Service
-service_of store = record { store = store; operations = replicate (caller_count + 1) (replicate (handle_count + 1) Inactive) }
+service_of store = record { store = store; owns = replicate (caller_count + 1) new_own }
 
 abbrev pub service_start : Settings → Service
 service_start settings = service_of (start_of settings)
 
-abbrev pub handles_of : Service → ℕ → List HandleOperation
-handles_of service caller = get_or service.operations caller []
+abbrev pub own_of : Service → ℕ → Own
+own_of service caller = get_or service.owns caller new_own
 
 abbrev pub operation_of : Service → (caller handle : ℕ) → HandleOperation
-operation_of service caller handle = get_or (handles_of service caller) handle Inactive
+operation_of service caller handle = get_or (own_of service caller).operations handle Inactive
 
-abbrev pub with_operation : Service → (caller handle : ℕ) → HandleOperation → Service
-with_operation service caller handle operation =
-    record service { operations = slice_set service.operations caller (slice_set (handles_of service caller) handle operation) }
+-- the service whose store is this, and in which this is the caller's own
+abbrev pub with_own : Service → Store → ℕ → Own → Service
+with_own service store caller own = record { store = store; owns = slice_set service.owns caller own }
+
+-- a caller's next random bytes
+abbrev pub next_random : Service → ℕ → Random
+next_random service caller n = random_bytes service.store.settings.seed caller (own_of service caller).drawn n
+
+-- a caller's own after it drew the words of so many random bytes
+abbrev pub with_drawn : Own → ℕ → Own
+with_drawn own n = record own { drawn = own.drawn + words_used n }
+
+abbrev pub with_operation : Own → ℕ → HandleOperation → Own
+with_operation own handle operation = record own { operations = slice_set own.operations handle operation }
 
 -- the service after a call, and the reply
 pub record Served : Type 0 where
   pub service : Service
   pub reply : Reply
 
--- random bytes are drawn where there are any to draw
-abbrev pub drawn_by : Store → (caller n : ℕ) → Store
-drawn_by store caller n = if n == 0 then store else with_drawn store caller n
-
 -- one more call, of which this came
 abbrev pub applied : Service → (caller handle : ℕ) → After Held → Served
 applied service caller handle after = record {
-  service = with_operation (record service { store = drawn_by (counted service.store) caller after.drawn }) caller handle after.operation;
+  service = with_own service (counted service.store) caller (with_drawn (with_operation (own_of service caller) handle after.operation) after.drawn);
   reply = after.reply;
 }
 

@@ -32,7 +32,7 @@ export_reply found room = reply_unless (first_row (export_rows found room)) (exp
 
 -- an export changes no key
 abbrev pub step_export : Store → ℕ → ℕ → Outcome
-step_export store id room = record { store = counted store; reply = export_reply (map.get store.keys id) room }
+step_export store id room = record { store = counted store; reply = export_reply (map.get store.keys id) room; drawn = 0 }
 
 -- GET ATTRIBUTES
 
@@ -42,7 +42,7 @@ attributes_reply (Some key) = record { status = Success; output = Description ke
 
 -- asking for the attributes changes no key
 abbrev pub step_attributes : Store → ℕ → Outcome
-step_attributes store id = record { store = counted store; reply = attributes_reply (map.get store.keys id) }
+step_attributes store id = record { store = counted store; reply = attributes_reply (map.get store.keys id); drawn = 0 }
 
 -- DESTROY: destroying no key succeeds
 
@@ -50,7 +50,7 @@ abbrev pub destroy_rows : Option Key → ℕ → Rows
 destroy_rows found id = (not (id == 0) && not (is_some found), InvalidHandle) ∷ []
 
 abbrev pub destroyed : Store → ℕ → Outcome
-destroyed store id = record { store = record (counted store) { keys = map.remove store.keys id }; reply = done }
+destroyed store id = record { store = record (counted store) { keys = map.remove store.keys id }; reply = done; drawn = 0 }
 
 abbrev pub step_destroy : Store → ℕ → Outcome
 step_destroy store id = decided store (first_row (destroy_rows (map.get store.keys id) id)) (destroyed store id)

@@ -1,11 +1,12 @@
 -- Laws of every request.
-use Rattle.std.specs.Prelude.{◌≡◌, ◌≤◌, ◌+◌, ℕ, false, true, Option, None, Some}
+use Rattle.std.specs.Prelude.{◌≡◌, ◌≤◌, ◌+◌, ℕ, Bool, false, true, Option, None, Some}
 use Rattle.psa_status.specs.declared.Status.TheVariants.{Success, BadState}
-use Rattle.store_model.specs.Store.{caller_state}
-use Rattle.store_model.specs.Faults.{FaultMark}
+use Rattle.store_model.specs.Store.{Store, made_of}
+use Rattle.store_model.specs.Faults.{FaultMark, Plain}
 use Rattle.store_model.specs.Outcome.{counted}
-use Rattle.store_model.specs.Handles.{HandleOperation, Service, Served, handles_of, operation_of, untouched}
-use Rattle.store_model.specs.HandleCalls.{HandleCall}
+use Rattle.store_model.specs.Handles.{HandleOperation, Service, Served, own_of, operation_of, untouched}
+use Rattle.store_model.specs.Call.{Call, Import, Destroy, Copy, Generate}
+use Rattle.store_model.specs.HandleCalls.{HandleCall, OutputKey}
 use Rattle.store_model.specs.Requests.{Request, OnStore, OnHandle, serve}
 use Rattle.store_model.specs.Refusals.{IsLeft, is_setup, is_ready, may_stay}
 
@@ -14,12 +15,12 @@ abbrev pub handle_of : Request → Option ℕ
 handle_of (OnStore call) = None
 handle_of (OnHandle handle call) = Some handle
 
--- a request of one caller leaves every other caller's state in the store, and all its operations
+-- a request of one caller leaves what is every other caller's own, and how many volatile keys that one has made
 abbrev pub LeavesOtherCallers : Type 0
 LeavesOtherCallers =
     (service : Service) (caller other : ℕ) (request : Request) (mark : FaultMark) → (other ≡ caller → ⊥) →
     let after : Service = (serve service caller request mark).service in
-    (caller_state after.store other ≡ caller_state service.store other) × (handles_of after other ≡ handles_of service other)
+    (own_of after other ≡ own_of service other) × (made_of after.store other ≡ made_of service.store other)
 
 -- a request leaves the operation of each handle of the caller that it isn't on
 abbrev pub LeavesOtherHandles : Type 0
@@ -31,30 +32,60 @@ LeavesOtherHandles =
 abbrev pub DrawsFewWords : Type 0
 DrawsFewWords =
     (service : Service) (caller other : ℕ) (request : Request) (mark : FaultMark) →
-    (caller_state (serve service caller request mark).service.store other).drawn ≤ (caller_state service.store other).drawn + 256
+    (own_of (serve service caller request mark).service other).drawn ≤ (own_of service other).drawn + 256
 
--- what a request that didn't succeed leaves: all keys and each caller's state, since it is counted and no more;
--- the operations of all handles but its own; and of its own what may be left
+-- what a request that didn't succeed leaves, where no device failed: the store, since it is counted and no more; the
+-- random words of every caller; the operations of all handles but its own; and of its own what may be left
 pub record IsLeftAll (before : Service) (caller : ℕ) (request : Request) (served : Served) : Type 0 where
   pub store : served.service.store ≡ counted before.store
+  pub drawn : (other : ℕ) → (own_of served.service other).drawn ≡ (own_of before other).drawn
   pub others : (other handle : ℕ) → (other ≡ caller → handle_of request ≡ Some handle → ⊥) → operation_of served.service other handle ≡ operation_of before other handle
   pub own : (handle : ℕ) (call : HandleCall) → request ≡ OnHandle handle call →
       let was : HandleOperation = operation_of before caller handle in IsLeft (may_stay call was) served.reply.status was (operation_of served.service caller handle)
 
 abbrev pub RefusalsLeaveAll : Type 0
 RefusalsLeaveAll =
-    (service : Service) (caller : ℕ) (request : Request) (mark : FaultMark) → ((serve service caller request mark).reply.status ≡ Success → ⊥) →
-    IsLeftAll service caller request (serve service caller request mark)
+    (service : Service) (caller : ℕ) (request : Request) → ((serve service caller request Plain).reply.status ≡ Success → ⊥) →
+    IsLeftAll service caller request (serve service caller request Plain)
 
 -- a call on a handle that isn't in order answers BAD_STATE, and leaves all but the count
 abbrev pub UnreadyHandlesStay : Type 0
 UnreadyHandlesStay =
-    (service : Service) (caller handle : ℕ) (call : HandleCall) (mark : FaultMark) → is_ready call (operation_of service caller handle) ≡ false →
-    serve service caller (OnHandle handle call) mark ≡ untouched service BadState
+    (service : Service) (caller handle : ℕ) (call : HandleCall) → is_ready call (operation_of service caller handle) ≡ false →
+    serve service caller (OnHandle handle call) Plain ≡ untouched service BadState
 
--- a setup that doesn't succeed leaves all but the count
+-- a setup that doesn't succeed leaves all but the count, also where a device failed
 abbrev pub RefusedSetupsLeaveAll : Type 0
 RefusedSetupsLeaveAll =
     (service : Service) (caller handle : ℕ) (call : HandleCall) (mark : FaultMark) → is_setup call ≡ true →
     ((serve service caller (OnHandle handle call) mark).reply.status ≡ Success → ⊥) →
     (serve service caller (OnHandle handle call) mark).service ≡ record service { store = counted service.store }
+
+-- whether a request may change the keys: a creation or a destruction
+abbrev pub changes_keys : Call → Bool
+changes_keys (Import a bytes) = true
+changes_keys (Copy source stated) = true
+changes_keys (Generate a) = true
+changes_keys (Destroy id) = true
+changes_keys _ = false
+
+abbrev pub handle_changes_keys : HandleCall → Bool
+handle_changes_keys (OutputKey a) = true
+handle_changes_keys _ = false
+
+abbrev pub may_change_keys : Request → Bool
+may_change_keys (OnStore call) = changes_keys call
+may_change_keys (OnHandle handle call) = handle_changes_keys call
+
+-- a request that neither creates nor destroys leaves the shared store but for the count, whatever it computes
+abbrev pub LeavesShared : Type 0
+LeavesShared =
+    (service : Service) (caller : ℕ) (request : Request) (mark : FaultMark) → may_change_keys request ≡ false →
+    (serve service caller request mark).service.store ≡ counted service.store
+
+-- no request changes the settings, nor how many keys were found
+abbrev pub LeavesSettings : Type 0
+LeavesSettings =
+    (service : Service) (caller : ℕ) (request : Request) (mark : FaultMark) →
+    let after : Store = (serve service caller request mark).service.store in
+    (after.settings ≡ service.store.settings) × (after.found ≡ service.store.found)

@@ -5,10 +5,11 @@ use Rattle.psa_status.specs.declared.Status.TheVariants.{Success}
 use Rattle.store_model.specs.Store.{Store}
 use Rattle.store_model.specs.Call.{Reply, Nothing, Done, Bytes}
 
--- the store after a call, and the reply
+-- the store after a call, the reply, and how many random bytes the caller drew for it
 pub record Outcome : Type 0 where
   pub store : Store
   pub reply : Reply
+  pub drawn : ℕ
 
 -- the store with one more call
 abbrev pub counted : Store → Store
@@ -19,7 +20,7 @@ refusal status = record { status = status; output = Nothing; needed = 0 }
 
 -- a refusal leaves the store as it was, but for the count of calls
 abbrev pub refused : Store → Status → Outcome
-refused store status = record { store = counted store; reply = refusal status }
+refused store status = record { store = counted store; reply = refusal status; drawn = 0 }
 
 -- what a call does where no row of its table holds, and else its refusal
 abbrev pub decided : Store → Option Status → Outcome → Outcome
@@ -30,9 +31,26 @@ abbrev pub reply_unless : Option Status → Reply → Reply
 reply_unless None reply = reply
 reply_unless (Some status) reply = refusal status
 
--- a call that changes no key and nothing of a caller's
+-- a call that changes no key and draws nothing
 abbrev pub answered : Store → Option Status → Reply → Outcome
-answered store status reply = record { store = counted store; reply = reply_unless status reply }
+answered store status reply = record { store = counted store; reply = reply_unless status reply; drawn = 0 }
+
+-- what is computed for a call: its reply, and how many random bytes are drawn
+pub record Computed : Type 0 where
+  pub reply : Reply
+  pub drawn : ℕ
+
+abbrev pub replies : Reply → Computed
+replies reply = record { reply = reply; drawn = 0 }
+
+-- where no row of its table holds, and else the refusal
+abbrev pub computed_unless : Option Status → Computed → Computed
+computed_unless None computed = computed
+computed_unless (Some status) computed = replies (refusal status)
+
+-- a call that changes no key, and of which this was computed
+abbrev pub with_computed : Store → Computed → Outcome
+with_computed store computed = record { store = counted store; reply = computed.reply; drawn = computed.drawn }
 
 -- success, without a result, and with bytes
 abbrev pub done : Reply

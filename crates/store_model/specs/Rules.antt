@@ -1,13 +1,16 @@
 -- The refusals that calls with an algorithm share, in their order.
 use Rattle.std.specs.Option.{option_map_or}
-use Rattle.std.specs.Prelude.{ℕ, ◌-◌, ◌^◌, Bool, true, false, not, nat_lt, ◌&&◌, ◌==◌, [], ◌∷◌, ◌++◌, Option, Some, None, is_some, if◌then◌else◌}
+use Rattle.std.specs.FinMap as map
+use Rattle.std.specs.Prelude.{ℕ, ◌-◌, ◌^◌, Bool, true, false, not, nat_lt, ◌&&◌, ◌==◌, [], ◌∷◌, ◌++◌, Option, Some, None, is_some, if◌then◌else◌, List}
 use Rattle.psa_status.specs.declared.Status.TheVariants.{NotPermitted, NotSupported, InvalidArgument, InvalidHandle, BufferTooSmall}
-use Rattle.psa_status.specs.Rows.{Rows}
+use Rattle.psa_status.specs.Rows.{Rows, first_row}
 use Rattle.alg_encoding.specs.declared.table.Class.{Class}
 use Rattle.alg_encoding.specs.declared.table.Class.TheVariants as class
 use Rattle.alg_encoding.specs.Encoding.{class_of, is_concrete}
 use Rattle.policy_rules.specs.Policy.{may_use}
-use Rattle.store_model.specs.Store.{Key}
+use Rattle.store_model.specs.Store.{Key, Store}
+use Rattle.store_model.specs.KeyUse.{bytes_of}
+use Rattle.store_model.specs.Outcome.{Outcome, Computed, computed_unless, with_computed}
 use Rattle.store_model.specs.Algorithms.{is_hmac}
 
 -- the classes are told apart by a number each
@@ -40,6 +43,12 @@ use_rows class usage alg (Some key) =
     ++ (not (may_use key.attributes.policy usage alg), NotPermitted)
     ∷ (not (fits_type alg key.attributes.key_type.0), InvalidArgument)
     ∷ []
+
+-- a call that uses a key with an algorithm: the refusals of the key's use, and then what is computed with its bytes
+abbrev pub using_key : Store → Class → (usage alg id : ℕ) → (List ℕ → Computed) → Outcome
+using_key store class usage alg id compute =
+    let found : Option Key = map.get store.keys id in
+    with_computed store (computed_unless (first_row (use_rows class usage alg found)) (compute (bytes_of found)))
 
 -- no input is longer than 2^32 - 1 bytes
 abbrev pub total_limit : ℕ

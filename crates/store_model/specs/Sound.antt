@@ -2,12 +2,12 @@
 use Rattle.std.specs.Prelude.{◌≡◌, ◌≤◌, ◌<◌, ◌↔◌, ℕ, ◌+◌, ◌^◌, true, false, length, Option, None, Some, is_some, Ok}
 use Rattle.std.specs.FinMap as map
 use Rattle.key_attributes.specs.Checks.{checked}
-use Rattle.store_model.specs.Store.{Key, Store, Settings, caller_count, caller_state, first_volatile, has_secure_element, live_volatile}
+use Rattle.store_model.specs.Store.{Key, Store, Settings, caller_count, made_of, first_volatile, has_secure_element, live_volatile}
 use Rattle.store_model.specs.Faults.{FaultMark}
 use Rattle.store_model.specs.Creation.{identified}
 use Rattle.store_model.specs.Operations.{Inactive, InError, Active}
 use Rattle.store_model.specs.DerivationOperations.{DerivationWork, full_capacity, is_hkdf}
-use Rattle.store_model.specs.Handles.{KeyCreation, Work, Hashing, Authenticating, Ciphering, Sealing, Deriving, Held, HandleOperation, Service, handle_count, service_start, handles_of, operation_of, key_of_operation, is_alive}
+use Rattle.store_model.specs.Handles.{KeyCreation, Work, Hashing, Authenticating, Ciphering, Sealing, Deriving, Held, HandleOperation, Service, handle_count, service_start, own_of, operation_of, key_of_operation, is_alive}
 use Rattle.store_model.specs.Requests.{Request, serve}
 
 -- THE STORE
@@ -21,15 +21,15 @@ pub record IsSoundKey (store : Store) (id : ℕ) (key : Key) : Type 0 where
   pub attributes : checked (identified key.attributes 0) (length key.bytes) (has_secure_element store) ≡ Ok (identified key.attributes 0)
   pub from_first : 1 ≤ key.creator
   pub to_last : key.creator ≤ caller_count
-  pub made : (n : ℕ) × (n < (caller_state store key.creator).made) × (id ≡ first_volatile key.creator + n)
+  pub made : (n : ℕ) × (n < made_of store key.creator) × (id ≡ first_volatile key.creator + n)
 
 pub record IsSoundStore (store : Store) : Type 0 where
   pub keys : (id : ℕ) (key : Key) → map.get store.keys id ≡ Some key → IsSoundKey store id key
   -- no creation number stands twice
   pub numbers : (id other : ℕ) (key same : Key) → map.get store.keys id ≡ Some key → map.get store.keys other ≡ Some same → key.number ≡ same.number → id ≡ other
-  pub made : (caller : ℕ) → (caller_state store caller).made ≤ 2 ^ 20
+  pub made : (caller : ℕ) → made_of store caller ≤ 2 ^ 20
   pub live : (caller : ℕ) → live_volatile store.keys caller ≤ 16
-  pub callers : length store.callers ≡ caller_count + 1
+  pub callers : length store.made ≡ caller_count + 1
 
 -- THE OPERATIONS
 
@@ -73,7 +73,8 @@ pub record IsSound (service : Service) : Type 0 where
   pub store : IsSoundStore service.store
   pub operations : (caller handle : ℕ) → IsSoundOperation service.store (operation_of service caller handle)
   -- each caller has its handles
-  pub handles : (caller : ℕ) → caller ≤ caller_count → length (handles_of service caller) ≡ handle_count + 1
+  pub handles : (caller : ℕ) → length (own_of service caller).operations ≡ handle_count + 1
+  pub callers : length service.owns ≡ caller_count + 1
 
 -- each service is sound at its start, and each request keeps it so
 abbrev pub StartsSound : Type 0

@@ -1,5 +1,5 @@
 -- The one-thread store.
-use Rattle.std.specs.Prelude.{ℕ, ◌+◌, ◌*◌, ◌/◌, ◌^◌, Bool, List, [], ◌==◌, replicate, get_or, slice_set, refl}
+use Rattle.std.specs.Prelude.{ℕ, ◌+◌, ◌*◌, ◌/◌, ◌^◌, Bool, List, [], ◌==◌, replicate, get_or, refl}
 use Rattle.std.specs.List.{list_any}
 use Rattle.std.specs.Ordering.{nat_cmp}
 use Rattle.std.specs.Coded.{Coded, code_by, coded×, coded_ℕ, coded_list}
@@ -17,21 +17,16 @@ pub record Key : Type 0 where
 abbrev pub KeyMap : Type 0
 KeyMap = map.FinMap nat_cmp Key
 
--- what is a caller's own: how many volatile keys it has made, and how many random words it has drawn
-pub record CallerState : Type 0 where
-  pub made : ℕ
-  pub drawn : ℕ
-
 -- what never changes: the seed of the random words, and the locations that have a driver
 pub record Settings : Type 0 where
   pub seed : List ℕ
   pub locations : List ℕ
 
--- the store: its keys by their identifiers, each caller's state by the caller's number (0 is nobody's), the
--- calls so far, how many keys were found at opening, and what never changes
+-- the store, which all callers share: its keys by their identifiers, how many volatile keys each caller has made, by
+-- the caller's number (0 is nobody's), the calls so far, how many keys were found at opening, and what never changes
 pub record Store : Type 0 where
   pub keys : KeyMap
-  pub callers : List CallerState
+  pub made : List ℕ
   pub calls : ℕ
   pub found : ℕ
   pub settings : Settings
@@ -40,23 +35,17 @@ pub record Store : Type 0 where
 abbrev pub caller_count : ℕ
 caller_count = 16
 
-abbrev pub new_caller : CallerState
-new_caller = record { made = 0; drawn = 0 }
-
 -- before any call, without a key
 abbrev pub start_of : Settings → Store
-start_of settings = record { keys = map.empty; callers = replicate (caller_count + 1) new_caller; calls = 0; found = 0; settings = settings }
+start_of settings = record { keys = map.empty; made = replicate (caller_count + 1) 0; calls = 0; found = 0; settings = settings }
 
 -- a seed of zeros, and no driver
 abbrev pub plain_settings : Settings
 plain_settings = record { seed = replicate 32 0; locations = [] }
 
-abbrev pub caller_state : Store → ℕ → CallerState
-caller_state store caller = get_or store.callers caller new_caller
-
--- the store with another state of a caller
-abbrev pub with_caller : Store → ℕ → CallerState → Store
-with_caller store caller state = record store { callers = slice_set store.callers caller state }
+-- how many volatile keys a caller has made
+abbrev pub made_of : Store → ℕ → ℕ
+made_of store caller = get_or store.made caller 0
 
 -- whether a driver of the secure element's location is there
 abbrev pub has_secure_element : Store → Bool
@@ -68,7 +57,7 @@ first_volatile caller = 0x40000000 + caller * 2 ^ 20
 
 -- the identifier of the next volatile key of a caller
 abbrev pub next_volatile : Store → ℕ → ℕ
-next_volatile store caller = first_volatile caller + (caller_state store caller).made
+next_volatile store caller = first_volatile caller + made_of store caller
 
 abbrev pub is_volatile_of : ℕ → ℕ → Bool
 is_volatile_of caller id = id / 2 ^ 20 == 1024 + caller
@@ -98,9 +87,6 @@ key_code =
     })
     (λ _. refl)
 
-abbrev pub caller_code : Coded CallerState
-caller_code = code_by (ℕ × ℕ) (coded× coded_ℕ coded_ℕ) (λ c. (c.made, c.drawn)) (λ p. record { made = p.0; drawn = p.1 }) (λ _. refl)
-
 abbrev pub settings_code : Coded Settings
 settings_code =
     code_by (List ℕ × List ℕ) (coded× (coded_list coded_ℕ) (coded_list coded_ℕ)) (λ s. (s.seed, s.locations)) (λ p. record { seed = p.0; locations = p.1 })
@@ -108,8 +94,8 @@ settings_code =
 
 abbrev pub store_code : Coded Store
 store_code =
-    code_by ((KeyMap × (List CallerState)) × ((ℕ × ℕ) × Settings))
-    (coded× (coded× (map.code coded_ℕ key_code) (coded_list caller_code)) (coded× (coded× coded_ℕ coded_ℕ) settings_code))
-    (λ s. ((s.keys, s.callers), ((s.calls, s.found), s.settings)))
-    (λ p. record { keys = p.0.0; callers = p.0.1; calls = p.1.0.0; found = p.1.0.1; settings = p.1.1 })
+    code_by ((KeyMap × (List ℕ)) × ((ℕ × ℕ) × Settings))
+    (coded× (coded× (map.code coded_ℕ key_code) (coded_list coded_ℕ)) (coded× (coded× coded_ℕ coded_ℕ) settings_code))
+    (λ s. ((s.keys, s.made), ((s.calls, s.found), s.settings)))
+    (λ p. record { keys = p.0.0; made = p.0.1; calls = p.1.0.0; found = p.1.0.1; settings = p.1.1 })
     (λ _. refl)

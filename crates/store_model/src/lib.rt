@@ -1,11 +1,11 @@
 //! The one-thread key store, its calls and its replies: definitions, which stand in `specs/`, and laws of them.
 #![tactic(auto)]
 
-ghost use Rattle.store_model.specs.Laws.{DrawsFewWords, LeavesOtherCallers, LeavesOtherHandles, RefusalsLeaveAll, RefusedSetupsLeaveAll, UnreadyHandlesStay};
+ghost use Rattle.store_model.specs.Laws.{DrawsFewWords, LeavesOtherCallers, LeavesOtherHandles, LeavesSettings, LeavesShared, RefusalsLeaveAll, RefusedSetupsLeaveAll, UnreadyHandlesStay};
 ghost use Rattle.store_model.specs.Origin.{CopiesGainNothing};
 ghost use Rattle.store_model.specs.Sound.{AliveByNumber, StartsSound, StaysSound};
 
-/// A request of one caller leaves every other caller's state and operations.
+/// A request of one caller leaves what is every other caller's own.
 pub fn leaves_other_callers()
     ensures { LeavesOtherCallers }
 {}
@@ -20,8 +20,15 @@ pub fn draws_few_words()
     ensures { DrawsFewWords }
 {}
 
-/// A request that doesn't succeed leaves all keys, each caller's state and the operations of all other handles; and of
-/// its own handle's operation an error, or a derivation with the same inputs, or what it was: this last of a setup, of a
+/// A request that neither creates nor destroys a key leaves the shared store but for the count of calls, whatever it
+/// computes. None changes the settings.
+pub fn leaves_shared()
+    ensures shared { LeavesShared }
+    ensures settings { LeavesSettings }
+{}
+
+/// A request that doesn't succeed, though no device failed, leaves all keys, each caller's random words and the operations
+/// of all other handles; and of its own handle's operation an error, or a derivation with the same inputs, or what it was: this last of a setup, of a
 /// capacity that isn't lower, and of a call that isn't in order on its handle alone. A call that isn't in order, and a
 /// refused setup, leave all.
 pub fn refusals_leave_all()

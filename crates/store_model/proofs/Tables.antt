@@ -1,0 +1,24 @@
+-- Tables of refusals of which no row holds.
+use Rattle.std.proofs.Common.{◌≡◌, ℕ, zero, suc, Bool, true, false, cond, [], ◌∷◌, refl}
+use Rattle.std.specs.Prelude.{Option, Some, None}
+use Rattle.psa_status.specs.declared.Status.{Status}
+use Rattle.psa_status.specs.Rows.{Rows, first_row}
+
+-- whether a row of a table holds
+abbrev pub holds_at : Rows → ℕ → Bool
+holds_at [] n = false
+holds_at (row ∷ rows) zero = row.0
+holds_at (row ∷ rows) (suc n) = holds_at rows n
+
+passed : (b : Bool) (s : Status) (o : Option Status) → cond b (Some s) o ≡ None → (b ≡ false) × (o ≡ None)
+passed true s o h = cc
+passed false s o h = (refl, h)
+
+pub none_holds : (rows : Rows) (n : ℕ) → first_row rows ≡ None → holds_at rows n ≡ false
+none_holds [] n h = refl
+none_holds (row ∷ rows) zero h = (passed row.0 row.1 (first_row rows) h).0
+none_holds (row ∷ rows) (suc n) h = none_holds rows n (passed row.0 row.1 (first_row rows) h).1
+
+-- a table of which no row holds, without its first one
+pub rest_holds : (b : Bool) (s : Status) (o : Option Status) → cond b (Some s) o ≡ None → o ≡ None
+rest_holds b s o h = (passed b s o h).1
