@@ -32,3 +32,11 @@ pub record RandomStream : Type 0 where
   pub seed : List ℕ
   pub caller : ℕ
   pub place : ℕ
+
+-- a stream's next bytes, as many as are asked for
+abbrev pub next_bytes : RandomStream → ℕ → List ℕ
+next_bytes stream n = random_bytes stream.seed stream.caller stream.place n
+
+-- the stream once the words of n bytes are drawn
+abbrev pub drawn_from : RandomStream → ℕ → RandomStream
+drawn_from stream n = record stream { place = stream.place + words_used n }

@@ -2,7 +2,7 @@
 #![tactic(auto)]
 
 ghost use Rattle.std.specs.Prelude.{◌≡◌, ◌+◌, ◌≤◌, length};
-ghost use Rattle.random_streams.specs.RandomWords.{random_bytes, words_used, words_offered, RandomStream};
+ghost use Rattle.random_streams.specs.RandomWords.{drawn_from, next_bytes, words_used, words_offered, RandomStream};
 
 use rand_chacha::ChaCha20Rng;
 use rand_core::SeedableRng;
@@ -42,8 +42,8 @@ impl Stream {
     /// one to three that are left. A stream offers 2^60 words.
     pub fn fill(&mut self, out: &mut [u8])
         requires { self.old.place + words_used (length out.old) ≤ words_offered }
-        ensures bytes { out.new ≡ random_bytes self.old.seed self.old.caller self.old.place (length out.old) }
-        ensures place { self.new ≡ record self.old { place = self.old.place + words_used (length out.old) } }
+        ensures bytes { out.new ≡ next_bytes self.old (length out.old) }
+        ensures place { self.new ≡ drawn_from self.old (length out.old) }
     {
         fill_bytes_via_u32(&mut self.generator, out);
     }

@@ -13,7 +13,6 @@ use Rattle.store_model.specs.KeyUse.{destroyed, step_destroy}
 use Rattle.store_core.specs.declared.entries.Entry.{Entry}
 use Rattle.store_core.specs.declared.store.Store.TheInside.{Inside}
 use Rattle.store_core.specs.Inside.{store_of, IsStore}
-use Rattle.store_core.specs.Streams.{gone_back, callers_of}
 use Rattle.store_core.specs.Entries.{entry_id, key_map, IsFree, IsFreeOrMade, AreKeys}
 use Rattle.store_core.proofs.Counts.{counted-set}
 use Rattle.store_core.proofs.Places.{all_set, distinct_freed}
@@ -31,7 +30,7 @@ pub zero_destroyed : (i : Inside) (id : ℕ) → id ≡ 0 → counted (store_of 
 zero_destroyed i id e =
     let none = key_map-zero i.keys.items in
     let same : ◌≡◌ {A = model.Store} (counted (store_of i)) (destroyed (store_of i) 0).store =
-    λ j. record { keys = none j; callers = callers_of i.made i.streams.items; calls = i.calls + 1; found = 0; settings = model.plain_settings } in
+    λ j. record { keys = none j; made = i.made; calls = i.calls + 1; found = 0; settings = model.plain_settings } in
     subst (λ k. counted (store_of i) ≡ (step_destroy (store_of i) k).store) (sym e) same
 
 row : (z : Bool) (found : Option Key) → z ≡ false → found ≡ None → cond (not z && not (is_some found)) (Some InvalidHandle) None ≡ Some InvalidHandle
@@ -67,19 +66,18 @@ keys_freed made es place e d keys free at = record {
 }
 
 pub store_freed : (i j : Inside) (place : ℕ) (e d : Entry) → IsStore i → IsFree e → place < length i.keys.items →
-    j.ids.items ≡ slice_set i.ids.items place 0 → j.keys.items ≡ slice_set i.keys.items place e → j.made ≡ i.made → j.streams.items ≡ i.streams.items → IsStore j
-store_freed i j place e d ok free at ids keys made streams = record {
+    j.ids.items ≡ slice_set i.ids.items place 0 → j.keys.items ≡ slice_set i.keys.items place e → j.made ≡ i.made → IsStore j
+store_freed i j place e d ok free at ids keys made = record {
   keys = rw (keys, made) (keys_freed i.made i.keys.items place e d ok.keys free at);
   ids = ids ∙ ap (λ l. slice_set l place 0) ok.ids ∙ ap (slice_set (map entry_id i.keys.items) place) (sym free.none) ∙ sym (map-set entry_id i.keys.items place e) ∙ ap (map entry_id) (sym keys);
   room = ap length keys ∙ length-set i.keys.items place e ∙ ok.room;
   callers = ap length made ∙ ok.callers;
-  streams = ap (map gone_back) streams ∙ ok.streams;
 }
 
 pub destroyed_at : (i : Inside) (place id : ℕ) (e d : Entry) → IsStore i → (id == 0) ≡ false → place < length i.keys.items → entry_id (slice_index_or i.keys.items place d) ≡ id → IsFree e →
     ◌≡◌ {A = model.Store}
-    (record { keys = key_map (slice_set i.keys.items place e); callers = callers_of i.made i.streams.items; calls = i.calls + 1; found = 0; settings = model.plain_settings })
+    (record { keys = key_map (slice_set i.keys.items place e); made = i.made; calls = i.calls + 1; found = 0; settings = model.plain_settings })
     (destroyed (store_of i) id).store
 destroyed_at i place id e d ok t at same free =
     let keys = key_map-freed i.keys.items place id e d t at same free.none ok.keys.distinct in
-    λ j. record { keys = keys j; callers = callers_of i.made i.streams.items; calls = i.calls + 1; found = 0; settings = model.plain_settings }
+    λ j. record { keys = keys j; made = i.made; calls = i.calls + 1; found = 0; settings = model.plain_settings }

@@ -1,17 +1,11 @@
-pub mod Callers
-pub mod Ciphering
 pub mod Classes
 pub mod Copying
 pub mod Counts
 pub mod Destroying
-pub mod Drawing
 pub mod Generating
 pub mod Importing
 pub mod Looks
 pub mod Maps
-pub mod Paddings
-pub mod Permitted
 pub mod Places
-pub mod Refused
 pub mod Sizes
 pub mod Turns

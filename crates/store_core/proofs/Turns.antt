@@ -2,7 +2,7 @@
 use Rattle.std.proofs.Common.{◌≡◌, ℕ, ◌+◌, ◌-◌, ◌/◌, ◌%◌, ◌^◌, ◌<◌, ◌≤◌, Bool, true, false, cond, List, [], ◌∷◌, map, replicate, length, take, refl, sym, ap, ◌∙◌, arith, subst, zero-add, inl, inr}
 use Rattle.std.specs.Prelude.{Option, None, Some, IsTrue, ◌==◌, nat_le, ◌||◌, slice_index, slice_index_or, slice_set, count_by}
 use Rattle.std.specs.Option.{option_map}
-use Rattle.std.specs.List.{AllByRecursion, position, position_or_len, range_with_len}
+use Rattle.std.specs.List.{AllByRecursion, position, position_or_len}
 use Rattle.std.specs.FinMap as finite
 use Rattle.std.proofs.Math.ListN.{length-set}
 use Rattle.std.proofs.lemmas.List.{map-set, length-map}
@@ -12,14 +12,12 @@ use Rattle.psa_status.specs.Rows.{first_row}
 use Rattle.key_attributes.specs.declared.Attributes.{Attributes}
 use Rattle.key_attributes.specs.Checks.{filled, permits_size}
 use Rattle.store_model.specs.Store as model
-use Rattle.store_model.specs.Store.{Key, KeyMap, CallerState, is_volatile_of, live_volatile, first_volatile, next_volatile, caller_state}
-use Rattle.store_model.specs.Creation.{limit_rows, identified, new_key, created, one_more_made}
+use Rattle.store_model.specs.Store.{Key, KeyMap, is_volatile_of, live_volatile, first_volatile, next_volatile}
+use Rattle.store_model.specs.Creation.{limit_rows, identified, new_key, created}
 use Rattle.store_core.specs.declared.entries.Entry.{Entry}
 use Rattle.store_core.specs.declared.store.Store.TheInside.{Inside}
 use Rattle.store_core.specs.Inside.{store_of, IsStore}
-use Rattle.store_core.specs.Streams.{first_stream, gone_back, callers_of}
 use Rattle.store_core.specs.Entries.{entry_id, key_of, key_map, IsMade, IsFree, IsFreeOrMade, AreDistinct, AreKeys, live_in}
-use Rattle.store_core.proofs.Callers.{caller-at, callers-made, seventeen}
 use Rattle.store_core.proofs.Counts.{counted-is, counted-ids, counted-set}
 use Rattle.store_core.proofs.Places.{entry_at, found, not_found, found_id, all_at, all_weaker, distinct_set, each_set, fresh, written}
 use Rattle.store_core.proofs.Maps.{get-key_map, key_map-set, live_is, no_pairs, not_of}
@@ -41,18 +39,12 @@ live_count i caller ok =
     live_is caller i.keys.items ok.keys.distinct ∙ sym (counted-ids (λ id. is_volatile_of caller id) i.keys.items)
     ∙ counted-is (λ id. is_volatile_of caller id) (map entry_id i.keys.items) ∙ ap (count_by (λ id. is_volatile_of caller id)) (sym ok.ids)
 
-pub made_of : (i : Inside) (caller : ℕ) → IsStore i → caller ≤ 16 → (caller_state (store_of i) caller).made ≡ slice_index i.made caller
-made_of i caller ok last =
-    ap (λ (s : CallerState). s.made)
-    (caller-at i.made i.streams.items caller (first_stream caller) (seventeen i.streams.items ok.streams ∙ sym ok.callers) (omega (arith, ok.callers)))
-
 -- the limits are those that the code looks at
 pub limits : (i : Inside) (store : model.Store) (caller : ℕ) → store_of i ≡ store → IsStore i → caller ≤ 16 →
     first_row (limit_rows store caller) ≡ cond (nat_le 16 (count_by (λ id. is_volatile_of caller id) i.ids.items) || nat_le (2 ^ 20) (slice_index i.made caller)) (Some KeyLimit) None
 limits i store caller view ok last =
     let live = live_count i caller ok in
-    let made = made_of i caller ok last in
-    ap (λ s. first_row (limit_rows s caller)) (sym view) ∙ (λ j. cond (nat_le 16 (live j) || nat_le (2 ^ 20) (made j)) (Some KeyLimit) None)
+    ap (λ s. first_row (limit_rows s caller)) (sym view) ∙ (λ j. cond (nat_le 16 (live j) || nat_le (2 ^ 20) (slice_index i.made caller)) (Some KeyLimit) None)
 
 -- a caller that no row refuses is below both limits
 no_limit : (m n : ℕ) → cond (nat_le 16 m || nat_le (2 ^ 20) n) (Some KeyLimit) None ≡ None → (m < 16) × (n < 2 ^ 20)
@@ -65,8 +57,8 @@ no_limit m n h = below (nat_le 16 m || nat_le (2 ^ 20) n) refl h
 pub below_both : (i : Inside) (store : model.Store) (caller : ℕ) → store_of i ≡ store → IsStore i → caller ≤ 16 → first_row (limit_rows store caller) ≡ None →
     (live_in caller i.keys.items < 16) × (slice_index i.made caller < 2 ^ 20)
 below_both i store caller view ok last h =
-    let none = no_limit (live_volatile (key_map i.keys.items) caller) (caller_state (store_of i) caller).made (subst (λ s. first_row (limit_rows s caller) ≡ None) (sym view) h) in
-    (omega (arith, none.0, live_is caller i.keys.items ok.keys.distinct), omega (arith, none.1, made_of i caller ok last))
+    let none = no_limit (live_volatile (key_map i.keys.items) caller) (slice_index i.made caller) (subst (λ s. first_row (limit_rows s caller) ≡ None) (sym view) h) in
+    (omega (arith, none.0, live_is caller i.keys.items ok.keys.distinct), none.1)
 
 -- the place where a new key goes is free
 pub place_is_free : (es : List Entry) (place : ℕ) (d : Entry) → place ≡ position_or_len (λ id. id == 0) (map entry_id es) → place < length es → entry_id (slice_index_or es place d) ≡ 0
@@ -111,19 +103,18 @@ keys_set made es caller place e d keys first last size room few at id short size
 pub store_kept : (i j : Inside) (caller place : ℕ) (e d : Entry) → IsStore i → 1 ≤ caller → caller ≤ 16 → slice_index i.made caller < 2 ^ 20 → live_in caller i.keys.items < 16 → place < 256 →
     entry_id e ≡ first_volatile caller + slice_index i.made caller → e.length ≤ 1024 → IsTrue (permits_size e.attributes.key_type.0 e.length) →
     j.ids.items ≡ slice_set i.ids.items place (entry_id e) → j.keys.items ≡ slice_set i.keys.items place e → j.made ≡ slice_set i.made caller (slice_index i.made caller + 1) →
-    j.streams.items ≡ i.streams.items → IsStore j
-store_kept i j caller place e d ok first last room few at id short sized ids keys made streams = record {
+    IsStore j
+store_kept i j caller place e d ok first last room few at id short sized ids keys made = record {
   keys = rw (keys, made) (keys_set i.made i.keys.items caller place e d ok.keys first last ok.callers room few (omega (arith, ok.room)) id short sized);
   ids = ids ∙ ap (λ l. slice_set l place (entry_id e)) ok.ids ∙ sym (map-set entry_id i.keys.items place e) ∙ ap (map entry_id) (sym keys);
   room = ap length keys ∙ length-set i.keys.items place e ∙ ok.room;
   callers = ap length made ∙ length-set i.made caller _ ∙ ok.callers;
-  streams = ap (map gone_back) streams ∙ ok.streams;
 }
 
 -- the new key is the model's
 
 pub ids_at : (i : Inside) (caller id : ℕ) → IsStore i → caller ≤ 16 → id ≡ first_volatile caller + slice_index i.made caller → id ≡ next_volatile (store_of i) caller
-ids_at i caller id ok last e = e ∙ ap (λ m. first_volatile caller + m) (sym (made_of i caller ok last))
+ids_at i caller id ok last e = e
 
 key_at : (i : Inside) (caller : ℕ) (e : Entry) (a recorded : Attributes) (bytes : List ℕ) → IsStore i → caller ≤ 16 → filled a (length bytes) ≡ recorded →
     entry_id e ≡ first_volatile caller + slice_index i.made caller → e.attributes ≡ identified recorded (first_volatile caller + slice_index i.made caller) →
@@ -133,20 +124,11 @@ key_at : (i : Inside) (caller : ℕ) (e : Entry) (a recorded : Attributes) (byte
 key_at i caller e a recorded bytes ok last filled_is id_is attributes_is number_is creator_is bytes_is =
     let ids = ids_at i caller (entry_id e) ok last id_is in
     let numbers = number_is ∙ sym (zero-add i.calls) in
-    let made = sym (made_of i caller ok last) in
     let given = sym filled_is in
     let same : identified recorded (first_volatile caller + slice_index i.made caller) ≡ identified (filled a (length bytes)) (next_volatile (store_of i) caller) =
-    λ j. identified (given j) (first_volatile caller + made j) in
+    λ j. identified (given j) (first_volatile caller + slice_index i.made caller) in
     let attributes = attributes_is ∙ same in
     λ j. finite.insert (key_map i.keys.items) (ids j) (record { number = numbers j; attributes = attributes j; bytes = bytes_is j; creator = creator_is j })
-
-callers_at : (i : Inside) (caller : ℕ) → IsStore i → caller ≤ 16 →
-    ◌≡◌ {A = List CallerState} (callers_of (slice_set i.made caller (slice_index i.made caller + 1)) i.streams.items)
-    (slice_set (callers_of i.made i.streams.items) caller (one_more_made (caller_state (store_of i) caller)))
-callers_at i caller ok last =
-    let state : CallerState = caller_state (store_of i) caller in
-    callers-made i.made i.streams.items caller (slice_index i.made caller + 1)
-    ∙ ap (λ n. slice_set (callers_of i.made i.streams.items) caller (record state { made = n + 1 })) (sym (made_of i caller ok last))
 
 pub created_at : (i : Inside) (caller place : ℕ) (e d : Entry) (a recorded : Attributes) (bytes : List ℕ) → IsStore i → caller ≤ 16 → filled a (length bytes) ≡ recorded →
     place < 256 → place ≡ position_or_len (λ id. id == 0) (map entry_id i.keys.items) → slice_index i.made caller < 2 ^ 20 →
@@ -155,7 +137,7 @@ pub created_at : (i : Inside) (caller place : ℕ) (e d : Entry) (a recorded : A
     ◌≡◌ {A = model.Store}
     (record {
       keys = key_map (slice_set i.keys.items place e);
-      callers = callers_of (slice_set i.made caller (slice_index i.made caller + 1)) i.streams.items;
+      made = slice_set i.made caller (slice_index i.made caller + 1);
       calls = i.calls + 1;
       found = 0;
       settings = model.plain_settings;
@@ -166,8 +148,7 @@ created_at i caller place e d a recorded bytes ok last filled_is at free below i
     let new = key_map-set i.keys.items place e d inside (place_is_free i.keys.items place d free inside)
     (fresh i.made caller (entry_id e) (omega arith) (omega arith) i.keys.items ok.keys.each) (omega arith) in
     let keys = new ∙ key_at i caller e a recorded bytes ok last filled_is id_is attributes_is number_is creator_is bytes_is in
-    let callers = callers_at i caller ok last in
-    λ k. record { keys = keys k; callers = callers k; calls = i.calls + 1; found = 0; settings = model.plain_settings }
+    λ k. record { keys = keys k; made = slice_set i.made caller (slice_index i.made caller + 1); calls = i.calls + 1; found = 0; settings = model.plain_settings }
 
 -- what the map has at a key's place
 
@@ -250,8 +231,8 @@ ids_free (x ∷ es) n h e = ap (λ k. replicate k 0) (sym e) ∙ (λ i. sym h.0.
 
 pub empty_store : (es : List Entry) → AllByRecursion IsFree es →
     ◌≡◌ {A = model.Store}
-    (record { keys = key_map es; callers = callers_of (replicate 17 0) (map first_stream (range_with_len 0 17)); calls = 0; found = 0; settings = model.plain_settings })
+    (record { keys = key_map es; made = replicate 17 0; calls = 0; found = 0; settings = model.plain_settings })
     (model.start_of model.plain_settings)
 empty_store es h =
     let keys : key_map es ≡ finite.empty = ap finite.from_entries (no_pairs es h) in
-    λ i. record { keys = keys i; callers = replicate 17 model.new_caller; calls = 0; found = 0; settings = model.plain_settings }
+    λ i. record { keys = keys i; made = replicate 17 0; calls = 0; found = 0; settings = model.plain_settings }

@@ -1,18 +1,14 @@
 -- What the store's fields stand for.
 use Rattle.std.specs.Prelude.{map, length, ◌≡◌}
-use Rattle.std.specs.List.{range_with_len}
 use Rattle.store_model.specs.Store as model
 use Rattle.store_core.specs.declared.store.Store.TheInside.{Inside}
 use Rattle.store_core.specs.Entries.{entry_id, key_map, AreKeys}
-use Rattle.store_core.specs.Streams.{first_stream, gone_back, callers_of}
 
 abbrev pub store_of : Inside → model.Store
-store_of s = record { keys = key_map s.keys.items; callers = callers_of s.made s.streams.items; calls = s.calls; found = 0; settings = model.plain_settings }
+store_of s = record { keys = key_map s.keys.items; made = s.made; calls = s.calls; found = 0; settings = model.plain_settings }
 
--- each stream is its caller's, under the seed
 pub record IsStore (s : Inside) : Type 0 where
   pub keys : AreKeys s.made s.keys.items
   pub ids : s.ids.items ≡ map entry_id s.keys.items
   pub room : length s.keys.items ≡ 256
   pub callers : length s.made ≡ 17
-  pub streams : map gone_back s.streams.items ≡ map first_stream (range_with_len 0 17)

@@ -1,9 +1,5 @@
-pub mod Ciphered
 pub mod Copied
 pub mod Entries
 pub mod Generated
 pub mod Inside
-pub mod Modes
-pub mod Replies
-pub mod Streams
 pub mod Uses

@@ -1,18 +1,15 @@
 ghost use Rattle.std.specs.Prelude.{◌≡◌, ◌≤◌, ◌<◌, ◌^◌, ◌+◌, ℕ, List, IfOk, Some, None, length, if◌then◌else◌, min, IsTrue, MatchOption};
 ghost use Rattle.psa_status.specs.Rows.{first_row};
 ghost use Rattle.psa_status.specs.declared.Status.TheVariants.{KeyLimit};
-ghost use Rattle.random_streams.specs.RandomWords.{words_used, words_offered};
 ghost use Rattle.key_attributes.specs.declared.Attributes.{Attributes};
 ghost use Rattle.std.specs.FinMap as finite;
 ghost use Rattle.key_attributes.specs.Checks.{filled, permits_size};
 ghost use Rattle.store_model.specs.Store as model;
-ghost use Rattle.store_model.specs.Call.{Import, Export, GetAttributes, Destroy, Copy, buffer_after};
-ghost use Rattle.store_model.specs.Faults.{Plain};
-ghost use Rattle.store_model.specs.Creation.{limit_rows, created};
-ghost use Rattle.store_model.specs.Draws.{with_drawn, next_random};
-ghost use Rattle.store_model.specs.Handles.{drawn_by};
-ghost use Rattle.store_model.specs.Outcome.{counted, decided};
-ghost use Rattle.store_model.specs.Step.{step};
+ghost use Rattle.store_model.specs.Call.{buffer_after};
+ghost use Rattle.store_model.specs.Copies.{step_copy};
+ghost use Rattle.store_model.specs.Creation.{limit_rows, created, step_import};
+ghost use Rattle.store_model.specs.KeyUse.{step_attributes, step_destroy, step_export};
+ghost use Rattle.store_model.specs.Outcome.{decided};
 ghost use Rattle.store_model.specs.Answers.{id_reply, AnswersLength, attributes_answer, plain_reply};
 ghost use Rattle.store_core.specs.Uses.{IsFound};
 
@@ -21,21 +18,18 @@ use crate::entries::{
     Entry, FIRST_VOLATILE, LIVE_LIMIT, MADE_LIMIT, buffered, copy_out, free_entry, free_place,
     key_place, live, new_ids, new_keys,
 };
-use crate::streams::new_streams;
 use key_attributes::{Attributes, KeyId, check_attributes};
 use psa_status::{Memory, Status};
-use random_streams::Stream;
 use std::alloc::Global;
 use std::marker::Model;
 
-/// The keys, each caller's random words, and how many calls were made. The keys' identifiers stand also in a
-/// list of their own, which is what look-ups read.
+/// The keys, how many each caller has made, and how many calls were made. The keys' identifiers stand also in a list of
+/// their own, which is what look-ups read.
 #[derive(Drop)]
 pub struct Store {
     ids: Vec<u32>,
     keys: Vec<Entry>,
     made: [u32; 17],
-    streams: Vec<Stream>,
     pub(crate) calls: u64,
 }
 
@@ -60,12 +54,10 @@ impl Store {
     {
         let keys = new_keys(alloc, 256)?;
         let ids = new_ids(alloc, 256)?;
-        let streams = new_streams(alloc)?;
         Ok(Store {
             ids,
             keys,
             made: [0; 17],
-            streams,
             calls: 0,
         })
     }
@@ -91,8 +83,8 @@ impl Store {
         requires first { 1 ≤ caller }
         requires last { caller ≤ 16 }
         requires turns { self.old.calls < 2 ^ 62 }
-        ensures store { self.new ≡ (step self.old caller (Import attributes.now bytes.now) Plain).store }
-        ensures reply { id_reply result ≡ (step self.old caller (Import attributes.now bytes.now) Plain).reply }
+        ensures store { self.new ≡ (step_import self.old caller attributes.now bytes.now).store }
+        ensures reply { id_reply result ≡ (step_import self.old caller attributes.now bytes.now).reply }
     {
         let turn = self.calls + 1;
         match check_attributes(attributes, bytes.len(), false) {
@@ -115,8 +107,8 @@ impl Store {
         requires first { 1 ≤ caller }
         requires last { caller ≤ 16 }
         requires turns { self.old.calls < 2 ^ 62 }
-        ensures store { self.new ≡ (step self.old caller (Copy source.0 attributes.now) Plain).store }
-        ensures reply { id_reply result ≡ (step self.old caller (Copy source.0 attributes.now) Plain).reply }
+        ensures store { self.new ≡ (step_copy self.old caller source.0 attributes.now).store }
+        ensures reply { id_reply result ≡ (step_copy self.old caller source.0 attributes.now).reply }
     {
         let Some(place) = key_place(&self.ids, source) else {
             self.calls += 1;
@@ -195,59 +187,12 @@ impl Store {
         id
     }
 
-    // Draws the caller's next random bytes.
-    pub(crate) fn draw(&mut self, caller: u8, out: &mut [u8])
-        requires last { caller ≤ 16 }
-        requires words { (model.caller_state self.old caller).drawn + words_used (length out.old) ≤ words_offered }
-        ensures store { self.new ≡ with_drawn self.old caller (length out.old) }
-        ensures bytes { out.new ≡ next_random self.old caller (length out.old) }
-    {
-        self.streams[caller as usize].fill(out);
-    }
-
-    /// How many random words a caller has drawn.
-    pub fn drawn(&self, caller: u8) -> u64
-        requires last { caller ≤ 16 }
-        ensures { result ≡ (model.caller_state self.now caller).drawn }
-    {
-        self.streams[caller as usize].place()
-    }
-
-    /// The caller's next random bytes, which are not drawn.
-    pub fn peek(&mut self, caller: u8, out: &mut [u8; 16])
-        requires last { caller ≤ 16 }
-        requires words { (model.caller_state self.old caller).drawn + 256 ≤ 2 ^ 60 }
-        ensures store { self.new ≡ self.old }
-        ensures bytes { out.new ≡ next_random self.old caller 16 }
-    {
-        let stream = &mut self.streams[caller as usize];
-        let place = stream.place();
-        stream.fill(out);
-        stream.go_back(place);
-    }
-
-    /// Draws the caller's next random bytes, 16 at most, of which nothing is kept.
-    pub fn skip(&mut self, caller: u8, count: usize)
-        requires last { caller ≤ 16 }
-        requires words { (model.caller_state self.old caller).drawn + 256 ≤ 2 ^ 60 }
-        ensures { self.new ≡ drawn_by self.old caller (min count 16) }
-    {
-        if count == 0 {
-            return;
-        }
-        let drawn = count.min(16);
-        let mut bytes = [0; 16];
-        self.draw(caller, &mut bytes[..drawn]);
-    }
-
     /// Copies a key that may be exported into the buffer, and answers its length.
-    pub fn export_key(&mut self, caller: u8, key: KeyId, out: &mut [u8]) -> Result<usize, Status>
-        requires first { 1 ≤ caller }
-        requires last { caller ≤ 16 }
+    pub fn export_key(&mut self, key: KeyId, out: &mut [u8]) -> Result<usize, Status>
         requires turns { self.old.calls < 2 ^ 62 }
-        ensures store { self.new ≡ (step self.old caller (Export key.0 (length out.old)) Plain).store }
-        ensures reply { AnswersLength result (step self.old caller (Export key.0 (length out.old)) Plain).reply }
-        ensures buffer { out.new ≡ buffer_after out.old (step self.old caller (Export key.0 (length out.old)) Plain).reply }
+        ensures store { self.new ≡ (step_export self.old key.0 (length out.old)).store }
+        ensures reply { AnswersLength result (step_export self.old key.0 (length out.old)).reply }
+        ensures buffer { out.new ≡ buffer_after out.old (step_export self.old key.0 (length out.old)).reply }
     {
         self.calls += 1;
         let Some(place) = key_place(&self.ids, key) else {
@@ -257,12 +202,10 @@ impl Store {
     }
 
     /// What is known of a key beside its bytes.
-    pub fn attributes(&mut self, caller: u8, key: KeyId) -> Result<Attributes, Status>
-        requires first { 1 ≤ caller }
-        requires last { caller ≤ 16 }
+    pub fn attributes(&mut self, key: KeyId) -> Result<Attributes, Status>
         requires turns { self.old.calls < 2 ^ 62 }
-        ensures store { self.new ≡ (step self.old caller (GetAttributes key.0) Plain).store }
-        ensures reply { attributes_answer result ≡ (step self.old caller (GetAttributes key.0) Plain).reply }
+        ensures store { self.new ≡ (step_attributes self.old key.0).store }
+        ensures reply { attributes_answer result ≡ (step_attributes self.old key.0).reply }
     {
         self.calls += 1;
         let Some(place) = key_place(&self.ids, key) else {
@@ -272,12 +215,10 @@ impl Store {
     }
 
     /// Removes a key, and wipes its bytes. Destroying the identifier 0 succeeds.
-    pub fn destroy(&mut self, caller: u8, key: KeyId) -> Result<(), Status>
-        requires first { 1 ≤ caller }
-        requires last { caller ≤ 16 }
+    pub fn destroy(&mut self, key: KeyId) -> Result<(), Status>
         requires turns { self.old.calls < 2 ^ 62 }
-        ensures store { self.new ≡ (step self.old caller (Destroy key.0) Plain).store }
-        ensures reply { plain_reply result ≡ (step self.old caller (Destroy key.0) Plain).reply }
+        ensures store { self.new ≡ (step_destroy self.old key.0).store }
+        ensures reply { plain_reply result ≡ (step_destroy self.old key.0).reply }
     {
         self.calls += 1;
         if key.0 == 0 {

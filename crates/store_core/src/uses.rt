@@ -8,7 +8,7 @@ ghost use Rattle.alg_encoding.specs.Encoding.{IsConcrete};
 ghost use Rattle.store_model.specs.Handles.{is_alive};
 ghost use Rattle.store_model.specs.HandleCalls.{derivation_key_rows, fits_step};
 ghost use Rattle.store_model.specs.Rules.{class_number, class_rows, fits_type, use_rows};
-ghost use Rattle.store_core.specs.Uses.{IsUsable, IsLookedUp, IsDerivationKey, derivation_permission_rows, pattern_refusal, permission_rows};
+ghost use Rattle.store_core.specs.Uses.{IsLookedUp, IsDerivationKey, derivation_permission_rows, pattern_refusal, permission_rows};
 
 use crate::Store;
 use alg_encoding::{Alg, Class};
@@ -120,24 +120,6 @@ impl Store {
         match self.entry(key) {
             Some(entry) => entry.number == number,
             None => false,
-        }
-    }
-
-    /// The bytes of the key that a call of this class uses with an algorithm, or the first refusal.
-    pub(crate) fn usable(
-        &self,
-        class: Class,
-        usage: Usage,
-        alg: Alg,
-        key: KeyId,
-    ) -> Result<&[u8], Status>
-        ensures { MatchResult result
-            (λ bytes. IsUsable class usage.0 alg.0 (finite.get self.now.keys key.0) bytes.now)
-            (λ status. first_row (use_rows class usage.0 alg.0 (finite.get self.now.keys key.0)) ≡ Some status) }
-    {
-        match self.look(class, usage, alg, key) {
-            Ok(found) => Ok(found.bytes),
-            Err(status) => Err(status),
         }
     }
 }

@@ -16,7 +16,7 @@ use Rattle.policy_rules.proofs.Copies.{IsWithin-refl, IsWithin-trans, IsWithin-i
 use Rattle.store_model.specs.Store.{Key, Store, next_volatile}
 use Rattle.store_model.specs.Call.{Call, Reply, Import, Export, GetAttributes, Destroy, Copy, Generate, HashCompute, HashCompare, MacCompute, MacVerify, CipherEncrypt, CipherDecrypt, AeadEncrypt, AeadDecrypt}
 use Rattle.store_model.specs.Faults.{FaultMark}
-use Rattle.store_model.specs.Outcome.{Outcome, counted, decided, refused, answered}
+use Rattle.store_model.specs.Outcome.{Outcome, counted, decided, refused}
 use Rattle.store_model.specs.Creation.{created, new_key}
 use Rattle.store_model.specs.KeyUse.{destroyed, export_rows, bytes_of, attributes_reply}
 use Rattle.store_model.specs.Algorithms.{tag_bytes}

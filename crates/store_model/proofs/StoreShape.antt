@@ -13,7 +13,7 @@ use Rattle.key_attributes.specs.Checks.{permits_size}
 use Rattle.policy_rules.specs.Policy.{meet_of}
 use Rattle.store_model.specs.Store.{Key, Store}
 use Rattle.store_model.specs.Call.{Call, Reply, Import, Export, GetAttributes, Destroy, Copy, Generate, HashCompute, HashCompare, MacCompute, MacVerify, CipherEncrypt, CipherDecrypt, AeadEncrypt, AeadDecrypt}
-use Rattle.store_model.specs.Outcome.{Outcome, Computed, replies, computed_unless, with_computed, answered, counted, decided, refused, refusal, reply_unless, given, done, spoiled}
+use Rattle.store_model.specs.Outcome.{Outcome, Computed, replies, computed_unless, with_computed, counted, decided, refused, refusal, reply_unless, given, done, spoiled}
 use Rattle.store_model.specs.Draws.{Random}
 use Rattle.store_model.specs.Creation.{creation_rows, created}
 use Rattle.store_model.specs.Copies.{source_rows, copy_attributes, copy_met, copy_found}
@@ -116,7 +116,7 @@ module _ (store : Store) (caller : ℕ) (call : Call) (P : Outcome → Type 0) (
   replied : (reply : Reply) → MakesNone reply → P (record { store = counted store; reply = reply; drawn = 0 })
   replied reply none = cases.counted_too reply 0 (undrawn_counts reply none)
 
-  answered_too : (o : Option Status) (reply : Reply) → MakesNone reply → P (answered store o reply)
+  answered_too : (o : Option Status) (reply : Reply) → MakesNone reply → P (with_computed store (replies (reply_unless o reply)))
   answered_too o reply none = replied (reply_unless o reply) (unless_none o reply none)
 
   refused_too : (status : Status) → P (refused store status)

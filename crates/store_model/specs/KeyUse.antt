@@ -5,7 +5,7 @@ use Rattle.psa_status.specs.declared.Status.TheVariants.{Success, NotPermitted, 
 use Rattle.psa_status.specs.Rows.{Rows, first_row}
 use Rattle.store_model.specs.Store.{Key, Store}
 use Rattle.store_model.specs.Call.{Reply, Bytes, Description}
-use Rattle.store_model.specs.Outcome.{Outcome, counted, decided, refusal, reply_unless, done}
+use Rattle.store_model.specs.Outcome.{Outcome, counted, decided, refusal, reply_unless, replies, with_computed, done}
 
 -- whether a flag is in a key's usage
 abbrev pub has_usage : Key → ℕ → Bool
@@ -32,7 +32,7 @@ export_reply found room = reply_unless (first_row (export_rows found room)) (exp
 
 -- an export changes no key
 abbrev pub step_export : Store → ℕ → ℕ → Outcome
-step_export store id room = record { store = counted store; reply = export_reply (map.get store.keys id) room; drawn = 0 }
+step_export store id room = with_computed store (replies (export_reply (map.get store.keys id) room))
 
 -- GET ATTRIBUTES
 
@@ -42,7 +42,7 @@ attributes_reply (Some key) = record { status = Success; output = Description ke
 
 -- asking for the attributes changes no key
 abbrev pub step_attributes : Store → ℕ → Outcome
-step_attributes store id = record { store = counted store; reply = attributes_reply (map.get store.keys id); drawn = 0 }
+step_attributes store id = with_computed store (replies (attributes_reply (map.get store.keys id)))
 
 -- DESTROY: destroying no key succeeds
 

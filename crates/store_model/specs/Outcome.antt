@@ -31,10 +31,6 @@ abbrev pub reply_unless : Option Status → Reply → Reply
 reply_unless None reply = reply
 reply_unless (Some status) reply = refusal status
 
--- a call that changes no key and draws nothing
-abbrev pub answered : Store → Option Status → Reply → Outcome
-answered store status reply = record { store = counted store; reply = reply_unless status reply; drawn = 0 }
-
 -- what is computed for a call: its reply, and how many random bytes are drawn
 pub record Computed : Type 0 where
   pub reply : Reply

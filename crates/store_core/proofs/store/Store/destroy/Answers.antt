@@ -31,7 +31,7 @@ pub invariant_of-self-2 : goal.invariant_of-self-2
 invariant_of-self-2 c =
     let scan = c.in-Some.ensures ∙ ap (λ ids. place ids c.args.key.0) (c.deref.ensures.value ∙ c.self.invariant.ids) in
     let key = key_there c.args.key.0 c.self.inside.keys.items c.in-Some.place no_entry scan in
-    store_freed c.self.inside _ c.in-Some.place c.free_entry.result no_entry c.self.invariant c.free_entry.ensures key.0 refl refl refl refl
+    store_freed c.self.inside _ c.in-Some.place c.free_entry.result no_entry c.self.invariant c.free_entry.ensures key.0 refl refl refl
 
 pub returns-clause-store : goal.returns-clause-store
 returns-clause-store c =

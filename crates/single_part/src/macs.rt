@@ -1,21 +1,17 @@
 // MACs of a whole message.
-ghost use Rattle.std.specs.Prelude.{◌≡◌, ◌≤◌, ◌<◌, ◌^◌, length, take};
+ghost use Rattle.std.specs.Prelude.{◌≡◌, ◌≤◌, length, take};
 ghost use Rattle.crypto_specs.specs.Aes.{IsKey, aes_encrypt};
 ghost use Rattle.crypto_specs.specs.Cmac.{cmac};
 ghost use Rattle.alg_encoding.specs.Encoding.{base_of};
-ghost use Rattle.store_model.specs.Call.{MacCompute, MacVerify, buffer_after};
-ghost use Rattle.store_model.specs.Faults.{Plain};
+ghost use Rattle.store_model.specs.Call.{buffer_after};
 ghost use Rattle.store_model.specs.Algorithms.{cmac_base, mac_of, tag_bytes, whole_mac};
-ghost use Rattle.store_model.specs.Step.{step};
 ghost use Rattle.store_model.specs.Answers.{AnswersLength, plain_reply};
-ghost use Rattle.store_core.specs.Replies.{mac_reply, verified_reply};
+ghost use Rattle.store_model.specs.Macs.{mac_reply, verified_reply};
 
-use crate::Store;
-use alg_encoding::{Alg, Class};
+use alg_encoding::Alg;
 use algorithm_facts::{TOTAL_LIMIT, aes_key, hash_function, is_cmac, tag_bytes};
 use cmac_ops::cmac;
 use hmac_ops::hmac;
-use key_attributes::{KeyId, Usage};
 use operation_phase::{give, put_front};
 use psa_status::Status;
 
@@ -55,7 +51,9 @@ fn put_mac(alg: Alg, key: &[u8], message: &[u8], out: &mut [u8; 64]) -> usize
     whole.min(tag_bytes(alg))
 }
 
-fn compute(alg: Alg, key: &[u8], input: &[u8], out: &mut [u8]) -> Result<usize, Status>
+/// Writes the MAC of a message to the front of a buffer that has room for it, and answers its length. `InvalidArgument`
+/// where the message is longer than 2^32 - 1 bytes, and `BufferTooSmall`.
+pub fn mac_compute(alg: Alg, key: &[u8], input: &[u8], out: &mut [u8]) -> Result<usize, Status>
     requires { base_of alg.0 ≡ cmac_base → IsKey key.now }
     ensures reply { AnswersLength result (mac_reply alg.0 key.now input.now (length out.old)) }
     ensures buffer { out.new ≡ buffer_after out.old (mac_reply alg.0 key.now input.now (length out.old)) }
@@ -71,7 +69,9 @@ fn compute(alg: Alg, key: &[u8], input: &[u8], out: &mut [u8]) -> Result<usize, 
     give(&mac[..length], out)
 }
 
-fn verify(alg: Alg, key: &[u8], input: &[u8], mac: &[u8]) -> Result<(), Status>
+/// Compares a MAC with that of a message. `InvalidArgument` where the message is longer than 2^32 - 1 bytes, and
+/// `InvalidSignature` where a byte or the length differs.
+pub fn mac_verify(alg: Alg, key: &[u8], input: &[u8], mac: &[u8]) -> Result<(), Status>
     requires { base_of alg.0 ≡ cmac_base → IsKey key.now }
     ensures { plain_reply result ≡ verified_reply alg.0 key.now input.now mac.now }
 {
@@ -84,48 +84,5 @@ fn verify(alg: Alg, key: &[u8], input: &[u8], mac: &[u8]) -> Result<(), Status>
         Ok(())
     } else {
         Err(Status::InvalidSignature)
-    }
-}
-
-impl Store {
-    /// Writes the MAC of a message under a key to the front of a buffer that has room for it, and answers its length.
-    pub fn mac_compute(
-        &mut self,
-        caller: u8,
-        key: KeyId,
-        alg: Alg,
-        input: &[u8],
-        out: &mut [u8],
-    ) -> Result<usize, Status>
-        requires first { 1 ≤ caller }
-        requires last { caller ≤ 16 }
-        requires turns { self.old.calls < 2 ^ 62 }
-        ensures store { self.new ≡ (step self.old caller (MacCompute key.0 alg.0 input.now (length out.old)) Plain).store }
-        ensures reply { AnswersLength result (step self.old caller (MacCompute key.0 alg.0 input.now (length out.old)) Plain).reply }
-        ensures buffer { out.new ≡ buffer_after out.old (step self.old caller (MacCompute key.0 alg.0 input.now (length out.old)) Plain).reply }
-    {
-        self.count();
-        let bytes = self.usable(Class::Mac, Usage::SIGN_MESSAGE, alg, key)?;
-        compute(alg, bytes, input, out)
-    }
-
-    /// Compares a MAC with that of a message under a key. `InvalidSignature` where a byte or the length differs.
-    pub fn mac_verify(
-        &mut self,
-        caller: u8,
-        key: KeyId,
-        alg: Alg,
-        input: &[u8],
-        mac: &[u8],
-    ) -> Result<(), Status>
-        requires first { 1 ≤ caller }
-        requires last { caller ≤ 16 }
-        requires turns { self.old.calls < 2 ^ 62 }
-        ensures store { self.new ≡ (step self.old caller (MacVerify key.0 alg.0 input.now mac.now) Plain).store }
-        ensures reply { plain_reply result ≡ (step self.old caller (MacVerify key.0 alg.0 input.now mac.now) Plain).reply }
-    {
-        self.count();
-        let bytes = self.usable(Class::Mac, Usage::VERIFY_MESSAGE, alg, key)?;
-        verify(alg, bytes, input, mac)
     }
 }

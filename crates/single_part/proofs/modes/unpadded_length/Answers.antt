@@ -2,8 +2,8 @@ use Rattle.std.proofs.Common.{◌≡◌, ◌++◌, length, take, ap₂, ◌∙�
 use Rattle.std.specs.Prelude.{Some, None}
 use Rattle.std.proofs.lemmas.List.{take-append-drop}
 use Rattle.crypto_specs.specs.Modes.{pkcs7_unpadded}
-use Rattle.store_core.proofs.Paddings.{none_in_text, some_in_text}
-use Rattle.store_core.proofs.modes.unpadded_length.Goals as goal
+use Rattle.single_part.proofs.Paddings.{none_in_text, some_in_text}
+use Rattle.single_part.proofs.modes.unpadded_length.Goals as goal
 
 pub returns-in-Some : goal.returns-in-Some
 returns-in-Some c =

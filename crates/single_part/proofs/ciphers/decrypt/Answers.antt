@@ -1,18 +1,17 @@
-use Rattle.std.proofs.Common.{◌-◌, [], length, take, drop, ap, sym, ◌∙◌}
+use Rattle.std.proofs.Common.{◌-◌, length, take, drop, ap, sym, ◌∙◌}
 use Rattle.std.proofs.lemmas.Result.{err_from_is_err_and}
 use Rattle.psa_status.proofs.Rows.{unless-err}
-use Rattle.store_model.specs.Ciphers.{iv_length, deciphered, plain_or_zeros}
-use Rattle.store_core.specs.Ciphered.{cipher_rows}
+use Rattle.psa_status.specs.Rows.{first_row}
+use Rattle.store_model.specs.Ciphers.{iv_length, deciphered, plain_or_zeros, decrypt_rows}
 use Rattle.algorithm_facts.specs.Modes.{model_mode}
-use Rattle.store_core.proofs.Refused.{refused_or_spoilt}
-use Rattle.store_core.proofs.Ciphering.{decrypted_buffer}
-use Rattle.store_core.proofs.ciphers.decrypt.Goals as goal
+use Rattle.single_part.proofs.Ciphering.{refused_or_spoilt, decrypted_buffer}
+use Rattle.single_part.proofs.ciphers.decrypt.Goals as goal
 
 pub returns-in_err-needed-clause-reply : goal.returns-in_err-needed-clause-reply
 returns-in_err-needed-clause-reply c =
     let p = err_from_is_err_and c.from_residual.result c.from_residual.ensures.1 in
     let mode = model_mode c.args.mode in
-    refused_or_spoilt (cipher_rows mode (length c.args.input.now) (length c.args.out.now)) []
+    refused_or_spoilt (first_row (decrypt_rows mode (length c.args.input.now) (length c.args.out.now)))
     (plain_or_zeros (length c.args.input.now - iv_length mode) (deciphered mode c.args.key.now (take (iv_length mode) c.args.input.now) (drop (iv_length mode) c.args.input.now)))
     c.from_residual.result _ c.in_err-needed.field-0.0 p.1 p.2 (unless-err _ _ _ (sym c.in_err-needed.ensures.value))
 

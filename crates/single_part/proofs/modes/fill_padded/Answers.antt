@@ -1,6 +1,6 @@
 use Rattle.std.proofs.Common.{arith}
-use Rattle.store_core.proofs.Paddings.{padded_parts}
-use Rattle.store_core.proofs.modes.fill_padded.Goals as goal
+use Rattle.single_part.proofs.Paddings.{padded_parts}
+use Rattle.single_part.proofs.modes.fill_padded.Goals as goal
 
 pub returns : goal.returns
 returns c =

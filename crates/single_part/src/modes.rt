@@ -6,7 +6,7 @@ ghost use Rattle.store_model.specs.Call.{buffer_after};
 ghost use Rattle.store_model.specs.Ciphers.{mode_of, iv_length, takes_whole_blocks, enciphered, enciphered_length, deciphered, is_ciphertext_length, plain_or_zeros};
 ghost use Rattle.store_model.specs.Answers.{AnswersOrSpoils};
 ghost use Rattle.algorithm_facts.specs.Modes.{model_mode};
-ghost use Rattle.store_core.specs.Modes.{deciphered_blocks};
+ghost use Rattle.single_part.specs.Modes.{deciphered_blocks};
 
 use aes_core::AesKey;
 use algorithm_facts::{Mode, iv_length};

@@ -1,20 +1,15 @@
 // AEADs of a whole message.
-ghost use Rattle.std.specs.Prelude.{◌≡◌, ◌+◌, ◌≤◌, ◌<◌, ◌^◌, length, replicate, bytes_eq, IsTrue, MatchBool};
+ghost use Rattle.std.specs.Prelude.{◌≡◌, ◌+◌, ◌≤◌, length, replicate, bytes_eq, IsTrue, MatchBool};
 ghost use Rattle.crypto_specs.specs.Aes.{IsKey};
-ghost use Rattle.store_model.specs.Call.{AeadDecrypt, AeadEncrypt, buffer_after};
-ghost use Rattle.store_model.specs.Faults.{Plain};
+ghost use Rattle.store_model.specs.Call.{buffer_after};
 ghost use Rattle.store_model.specs.Algorithms.{tag_bytes};
-ghost use Rattle.store_model.specs.Aeads.{aead_tag, aead_text, permits_lengths, sealed};
-ghost use Rattle.store_model.specs.Step.{step};
+ghost use Rattle.store_model.specs.Aeads.{aead_tag, aead_text, opened_reply, permits_lengths, sealed, sealed_reply};
 ghost use Rattle.store_model.specs.Answers.{AnswersLength, AnswersOrSpoils};
-ghost use Rattle.store_core.specs.Replies.{opened_reply, sealed_reply};
 ghost use Rattle.algorithm_facts.specs.TagLengths.{IsAead};
 
-use crate::Store;
 use aes_core::AesKey;
-use alg_encoding::{Alg, Class};
+use alg_encoding::Alg;
 use algorithm_facts::{TOTAL_LIMIT, aes_key, is_ccm, permits_nonce, tag_bytes};
-use key_attributes::{KeyId, Usage};
 use psa_status::Status;
 
 // Whether the algorithm takes so many bytes of a nonce, of associated data, and of a payload.
@@ -97,7 +92,9 @@ fn open_into(
     open(alg, key, nonce, ad, out, tag)
 }
 
-fn encrypt(
+/// Writes the ciphertext of a text and its tag to the front of a buffer that has room for them, and answers how many
+/// bytes they are. `InvalidArgument` where the algorithm doesn't take so many bytes, and `BufferTooSmall`.
+pub fn aead_encrypt(
     alg: Alg,
     key: &[u8],
     nonce: &[u8],
@@ -123,7 +120,10 @@ fn encrypt(
     Ok(needed)
 }
 
-fn decrypt(
+/// Writes the text of a ciphertext, which its tag ends, to the front of a buffer that has room for it, and answers its
+/// length. `InvalidSignature` where the tag isn't its tag: the buffer then has zeros in the text's place.
+/// `InvalidArgument` where the algorithm doesn't take so many bytes, and `BufferTooSmall`.
+pub fn aead_decrypt(
     alg: Alg,
     key: &[u8],
     nonce: &[u8],
@@ -155,57 +155,5 @@ fn decrypt(
         Ok(needed)
     } else {
         Err(Status::InvalidSignature)
-    }
-}
-
-impl Store {
-    /// Writes the ciphertext of a text and its tag to the front of a buffer that has room for them, and answers how
-    /// many bytes they are.
-    pub fn aead_encrypt(
-        &mut self,
-        caller: u8,
-        key: KeyId,
-        alg: Alg,
-        nonce: &[u8],
-        ad: &[u8],
-        input: &[u8],
-        out: &mut [u8],
-    ) -> Result<usize, Status>
-        requires first { 1 ≤ caller }
-        requires last { caller ≤ 16 }
-        requires turns { self.old.calls < 2 ^ 62 }
-        ensures store { self.new ≡ (step self.old caller (AeadEncrypt key.0 alg.0 nonce.now ad.now input.now (length out.old)) Plain).store }
-        ensures reply { AnswersLength result (step self.old caller (AeadEncrypt key.0 alg.0 nonce.now ad.now input.now (length out.old)) Plain).reply }
-        ensures buffer { out.new ≡
-            buffer_after out.old (step self.old caller (AeadEncrypt key.0 alg.0 nonce.now ad.now input.now (length out.old)) Plain).reply }
-    {
-        self.count();
-        let bytes = self.usable(Class::Aead, Usage::ENCRYPT, alg, key)?;
-        encrypt(alg, bytes, nonce, ad, input, out)
-    }
-
-    /// Writes the text of a ciphertext, which its tag ends, to the front of a buffer that has room for it, and answers
-    /// its length. `InvalidSignature` where the tag isn't its tag: the buffer then has zeros in the text's place.
-    pub fn aead_decrypt(
-        &mut self,
-        caller: u8,
-        key: KeyId,
-        alg: Alg,
-        nonce: &[u8],
-        ad: &[u8],
-        input: &[u8],
-        out: &mut [u8],
-    ) -> Result<usize, Status>
-        requires first { 1 ≤ caller }
-        requires last { caller ≤ 16 }
-        requires turns { self.old.calls < 2 ^ 62 }
-        ensures store { self.new ≡ (step self.old caller (AeadDecrypt key.0 alg.0 nonce.now ad.now input.now (length out.old)) Plain).store }
-        ensures reply { AnswersOrSpoils result (step self.old caller (AeadDecrypt key.0 alg.0 nonce.now ad.now input.now (length out.old)) Plain).reply }
-        ensures buffer { out.new ≡
-            buffer_after out.old (step self.old caller (AeadDecrypt key.0 alg.0 nonce.now ad.now input.now (length out.old)) Plain).reply }
-    {
-        self.count();
-        let bytes = self.usable(Class::Aead, Usage::DECRYPT, alg, key)?;
-        decrypt(alg, bytes, nonce, ad, input, out)
     }
 }

@@ -1,0 +1,84 @@
+-- What a cipher writes to a buffer.
+use Rattle.std.proofs.Common.{◌≡◌, ℕ, ◌+◌, ◌-◌, ◌≤◌, List, [], ◌++◌, length, take, drop, replicate, refl, ap, sym, ◌∙◌, subst, arith}
+use Rattle.std.specs.Prelude.{Option, Some, None, Result, Ok, Err}
+use Rattle.std.proofs.lemmas.List.{append-nil, length-take, length-drop, length-append, drop_all, take-take}
+use Rattle.std.proofs.lemmas.Slice.{drop-append-drop}
+use Rattle.std.proofs.Math.Seq.{take-append_seam}
+use Rattle.psa_status.specs.declared.Status.{Status}
+use Rattle.psa_status.specs.Rows.{Rows, first_row, unless}
+use Rattle.psa_status.proofs.Rows.{first_row-back, unless-ok, unless-err}
+use Rattle.alg_encoding.specs.declared.table.Class.TheVariants.{Cipher}
+use Rattle.store_model.specs.Store.{Key, Store}
+use Rattle.store_model.specs.Call.{Reply, buffer_after, buffer_bytes}
+use Rattle.store_model.specs.KeyUse.{bytes_of}
+use Rattle.store_model.specs.Rules.{use_rows}
+use Rattle.store_model.specs.Outcome.{Outcome, decided, refused, reply_unless, refusal, given}
+use Rattle.store_model.specs.Ciphers.{Mode, mode_of, iv_length, enciphered, enciphered_length, encrypt_rows, decrypt_rows, deciphered, plain_or_zeros}
+use Rattle.store_model.specs.Answers.{AnswersOrSpoils}
+use Rattle.store_model.specs.Ciphers.{decrypted_reply}
+
+-- a refusal of the table
+pub refused_or_spoilt : (o : Option Status) (reply : Reply) (r : Result ℕ Status) (s t : Status) → r ≡ Err s → s ≡ t → o ≡ Some t → AnswersOrSpoils r (reply_unless o reply)
+refused_or_spoilt o reply r s t e f h =
+    let same : reply_unless o reply ≡ refusal t = ap (λ (x : Option Status). reply_unless x reply) h in
+    subst (λ x. AnswersOrSpoils x (reply_unless o reply)) (sym (e ∙ ap Err f)) (ap (λ (x : Reply). x.status) same, ap (λ (x : Reply). x.output) same)
+
+-- a buffer whose front alone is written
+
+pub front_written : (old : List ℕ) (n : ℕ) (reply : Reply) → reply.needed ≡ n → n ≤ length old → buffer_after (take n old) reply ++ drop n old ≡ buffer_after old reply
+front_written old n reply e h =
+    let written : List ℕ = buffer_bytes reply.output in
+    let zeros : List ℕ = replicate (reply.needed - length written) 0 in
+    let past : drop reply.needed (take n old) ≡ [] = drop_all reply.needed (take n old) (omega (arith, length-take n old)) in
+    ap (λ (l : List ℕ). written ++ zeros ++ l ++ drop n old) past ∙ ap (λ (l : List ℕ). l ++ drop n old) (append-nil (written ++ zeros))
+    ∙ ap (λ k. written ++ zeros ++ drop k old) (sym e)
+
+needed_is : (n : ℕ) (o : Option (List ℕ)) → (plain_or_zeros n o).needed ≡ n
+needed_is n None = refl
+needed_is n (Some text) = refl
+
+-- a decryption that no row refuses
+pub decrypted_buffer : (mode : Mode) (key bytes input old iv cipher new : List ℕ) (needed : ℕ) →
+    Ok needed ≡ unless (first_row (decrypt_rows mode (length input) (length old))) (length input - iv_length mode) →
+    needed ≤ length old → iv ≡ take (iv_length mode) input → cipher ≡ drop (iv_length mode) input → bytes ≡ key →
+    new ≡ buffer_after (take needed old) (plain_or_zeros (length cipher) (deciphered mode bytes iv cipher)) →
+    new ++ drop needed old ≡ buffer_after old (decrypted_reply mode key input (length old))
+decrypted_buffer mode key bytes input old iv cipher new needed passed fits vector rest same h =
+    let both = unless-ok _ (length input - iv_length mode) needed (sym passed) in
+    let whole = plain_or_zeros (length input - iv_length mode) (deciphered mode key (take (iv_length mode) input) (drop (iv_length mode) input)) in
+    let text = plain_or_zeros (length cipher) (deciphered mode bytes iv cipher) in
+    let count : length cipher ≡ length input - iv_length mode = ap length rest ∙ length-drop (iv_length mode) input in
+    let reply : text ≡ whole = λ i. plain_or_zeros (count i) (deciphered mode (same i) (vector i) (rest i)) in
+    ap (λ l. l ++ drop needed old) h
+    ∙ front_written old needed text (needed_is (length cipher) (deciphered mode bytes iv cipher) ∙ count ∙ both.1) fits
+    ∙ ap (buffer_after old) (reply ∙ ap (λ o. reply_unless o whole) (sym both.0))
+
+-- an encryption that no row refuses
+
+-- the room for the vector
+pub vector_fits : (mode : Mode) (n needed room k : ℕ) → Ok needed ≡ unless (first_row (encrypt_rows mode n room)) (iv_length mode + enciphered_length mode n) → needed ≤ room → k ≡ iv_length mode → (k ≤ needed) × (k ≤ room)
+vector_fits mode n needed room k passed fits e =
+    let count = (unless-ok _ (iv_length mode + enciphered_length mode n) needed (sym passed)).1 in
+    (omega (arith, count, e), omega (arith, count, e, fits))
+
+-- what is written are the drawn vector and the ciphertext behind it
+pub sealed_is : (mode : Mode) (aes key iv input old new : List ℕ) (k needed : ℕ) → aes ≡ key → k ≡ iv_length mode → length iv ≡ k → k ≤ needed →
+    new ≡ take (iv_length mode) (take needed (iv ++ drop k old)) ++ enciphered mode aes (take (iv_length mode) (take needed (iv ++ drop k old))) input →
+    new ≡ iv ++ enciphered mode key iv input
+sealed_is mode aes key iv input old new k needed own size long fits h =
+    let front : take (iv_length mode) (take needed (iv ++ drop k old)) ≡ iv =
+    take-take (iv_length mode) needed (iv ++ drop k old) (omega arith)
+    ∙ ap (λ n. take n (iv ++ drop k old)) (sym (long ∙ size)) ∙ take-append_seam iv (drop k old) in
+    h ∙ (λ i. front i ++ enciphered mode (own i) (front i) input)
+
+pub sealed_buffer : (old drawn new sealed : List ℕ) (k needed : ℕ) → k ≤ needed → length drawn ≡ k → new ≡ sealed → length sealed ≡ needed →
+    new ++ drop needed (drawn ++ drop k old) ≡ buffer_after old (given sealed)
+sealed_buffer old drawn new sealed k needed fits long e size =
+    let none : 0 ≡ length sealed - length sealed = omega arith in
+    (λ i. e i ++ drop-append-drop k old drawn needed fits long i)
+    ∙ ap (λ (l : List ℕ). l ++ drop needed old) (sym (append-nil sealed))
+    ∙ (λ i. sealed ++ replicate (none i) 0 ++ drop (sym size i) old)
+
+-- the part of a buffer behind another
+pub part_length : (old drawn : List ℕ) (k needed : ℕ) → length drawn ≡ k → k ≤ length old → needed ≤ length old → length (take needed (drawn ++ drop k old)) ≡ needed
+part_length old drawn k needed long fits room = omega (arith, length-take needed (drawn ++ drop k old), length-append drawn (drop k old), length-drop k old)

@@ -1,0 +1,2 @@
+mod Ciphering
+mod Paddings

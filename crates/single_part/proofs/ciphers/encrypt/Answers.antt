@@ -1,0 +1,62 @@
+use Rattle.std.proofs.Common.{◌≡◌, ◌≤◌, ◌++◌, refl, ap, sym, ◌∙◌, length, take, subst, arith}
+use Rattle.std.specs.Prelude.{None, Ok}
+use Rattle.std.proofs.lemmas.List.{length-take}
+use Rattle.psa_status.specs.Rows.{first_row}
+use Rattle.psa_status.proofs.Rows.{unless-ok}
+use Rattle.random_streams.specs.RandomWords.{next_bytes}
+use Rattle.store_model.specs.Call.{buffer_after}
+use Rattle.store_model.specs.Outcome.{Computed, computed_unless, given}
+use Rattle.store_model.specs.Ciphers.{iv_length, encrypt_rows, enciphered, encrypted}
+use Rattle.store_model.specs.Answers.{AnswersLength}
+use Rattle.algorithm_facts.specs.Modes.{model_mode}
+use Rattle.single_part.proofs.Ciphering.{vector_fits, sealed_is, sealed_buffer, part_length}
+use Rattle.single_part.proofs.ciphers.encrypt.Goals as goal
+
+-- no row refuses the call
+passed : (c : goal.After-wipe) → first_row (encrypt_rows (model_mode c.args.mode) (length c.args.input.now) (length c.args.out.now)) ≡ None
+passed c = (unless-ok _ _ c.in_ok-needed.needed (sym c.in_ok-needed.ensures.value)).0
+
+-- how many bytes are drawn
+fits : (c : goal.After-wipe) → (c.iv_length.result ≤ c.in_ok-needed.needed) × (c.iv_length.result ≤ length c.args.out.now)
+fits c =
+    vector_fits (model_mode c.args.mode) (length c.args.input.now) c.in_ok-needed.needed (length c.args.out.now) c.iv_length.result c.in_ok-needed.ensures.value c.in_ok-needed.ensures.room
+    c.iv_length.ensures.value
+
+size : (c : goal.After-wipe) → length (take c.iv_length.result c.args.out.now) ≡ c.iv_length.result
+size c = omega (arith, length-take c.iv_length.result c.args.out.now, (fits c).1)
+
+vector_size : (c : goal.After-wipe) → length (take c.iv_length.result c.args.out.now) ≡ iv_length (model_mode c.args.mode)
+vector_size c = size c ∙ c.iv_length.ensures.value
+
+drawn_size : (c : goal.After-wipe) → length c.fill.new.out ≡ c.iv_length.result
+drawn_size c = c.fill.auto.out ∙ size c
+
+-- what is written
+abbrev Sealed : goal.After-wipe → Type 0
+Sealed c = c.encipher_behind.new.out ≡ c.fill.new.out ++ enciphered (model_mode c.args.mode) c.args.key.now c.fill.new.out c.args.input.now
+
+sealed : (c : goal.After-wipe) → Sealed c
+sealed c =
+    sealed_is (model_mode c.args.mode) c.aes_key-aes.result c.args.key.now c.fill.new.out c.args.input.now c.args.out.now c.encipher_behind.new.out c.iv_length.result c.in_ok-needed.needed
+    c.aes_key-aes.ensures c.iv_length.ensures.value (drawn_size c) (fits c).0 c.encipher_behind.ensures
+
+vector : (c : goal.After-wipe) → c.fill.new.out ≡ next_bytes c.args.stream.now (iv_length (model_mode c.args.mode))
+vector c = c.fill.ensures.bytes ∙ ap (next_bytes c.args.stream.now) (vector_size c)
+
+sealed_size : (c : goal.After-wipe) → length c.encipher_behind.new.out ≡ c.in_ok-needed.needed
+sealed_size c = c.encipher_behind.auto.out ∙ part_length c.args.out.now c.fill.new.out c.iv_length.result c.in_ok-needed.needed (drawn_size c) (fits c).1 c.in_ok-needed.ensures.room
+
+-- what the call computes, by the vector
+abbrev text : goal.After-wipe → Computed
+text c = record { reply = given (c.fill.new.out ++ enciphered (model_mode c.args.mode) c.args.key.now c.fill.new.out c.args.input.now); drawn = iv_length (model_mode c.args.mode) }
+
+pub returns-clause-reply : goal.returns-clause-reply
+returns-clause-reply c =
+    subst (λ iv. AnswersLength (Ok c.in_ok-needed.needed) (encrypted (model_mode c.args.mode) iv c.args.key.now c.args.input.now (length c.args.out.now)).reply) (vector c)
+    (subst (λ o. AnswersLength (Ok c.in_ok-needed.needed) (computed_unless o (text c)).reply) (sym (passed c)) (refl, sym (sealed_size c) ∙ ap length (sealed c), refl))
+
+pub returns-clause-buffer : goal.returns-clause-buffer
+returns-clause-buffer c =
+    sealed_buffer c.args.out.now c.fill.new.out c.encipher_behind.new.out _ c.iv_length.result c.in_ok-needed.needed (fits c).0 (drawn_size c) (sealed c) (ap length (sym (sealed c)) ∙ sealed_size c)
+    ∙ ap (λ o. buffer_after c.args.out.now (computed_unless o (text c)).reply) (sym (passed c))
+    ∙ ap (λ iv. buffer_after c.args.out.now (encrypted (model_mode c.args.mode) iv c.args.key.now c.args.input.now (length c.args.out.now)).reply) (vector c)
