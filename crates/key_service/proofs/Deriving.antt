@@ -21,7 +21,7 @@ use Rattle.key_service.specs.Cells.{key_in}
 use Rattle.key_service.specs.Derivations.{HasAlgorithm, IsDerivation}
 use Rattle.key_service.specs.Services.{StandsFor}
 use Rattle.key_service.specs.declared.cells.Cell.{Cell}
-use Rattle.key_service.specs.declared.operations.Operations.{Operations}
+use Rattle.key_service.specs.declared.callers.Callers.{Callers}
 use Rattle.key_service.proofs.Families.{derivation_view, PutDerivation}
 use Rattle.key_service.proofs.Served.{IsAt, cell_stands, alive_is}
 use Rattle.operation_phase.specs.Turns.{by_key}
@@ -84,14 +84,14 @@ set_up_has class alg = has (first_row (class_rows class alg)) refl
     has (Some status) e = tt
 
 -- a step of any kind that keeps the algorithm
-pub work_served : (store after : Store) (operations : Operations) (service : Service) (caller handle place : ℕ) (cell : Cell) (state : DerivationState) (f : DerivationWork → After DerivationWork) (alive : Bool) →
-    StandsFor store operations service → IsAt operations caller handle place cell → after ≡ counted store → alive ≡ is_alive after (key_in cell.key) →
+pub work_served : (store after : Store) (callers : Callers) (service : Service) (caller handle place : ℕ) (cell : Cell) (state : DerivationState) (f : DerivationWork → After DerivationWork) (alive : Bool) →
+    StandsFor store callers service → IsAt callers caller handle place cell → after ≡ counted store → alive ≡ is_alive after (key_in cell.key) →
     ((own : Operation DerivationWork) → IsDerivationOperation cell.derivation own → IsDerivationOperation state (by_key alive own f).operation) →
     ((w : DerivationWork) → HasAlgorithm cell.alg.0 (Active w) → HasAlgorithm cell.alg.0 (f w).operation) →
     IsStep (IsDerivation cell.alg.0) (PutDerivation cell) cell.derivation state service caller handle alive f
     (stepped service caller handle Deriving (part_of derivation_part (operation_of service caller handle)) f)
-work_served store after operations service caller handle place cell state f alive h at counts live code keeps =
-    let view = derivation_view cell (operation_of service caller handle) (cell_stands store operations service caller handle place cell h at) in
+work_served store after callers service caller handle place cell state f alive h at counts live code keeps =
+    let view = derivation_view cell (operation_of service caller handle) (cell_stands store callers service caller handle place cell h at) in
     step_is (IsDerivation cell.alg.0) (key_in cell.key) Deriving derivation_part (PutDerivation cell) cell.derivation state service caller handle alive f view
     (alive_is store after service (key_in cell.key) alive h.store_is counts live)
     (λ own is. record { state = code own is.state; algorithm = by_key-keeps cell.alg.0 alive own f keeps is.algorithm })

@@ -1,5 +1,5 @@
 -- A key of derived bytes: what the store makes of them.
-use Rattle.std.proofs.Common.{◌≡◌, ◌≤◌, ℕ, true, false, List, [], set, get_or, length, take, take_all, refl, sym, ap, ◌∙◌, subst, arith}
+use Rattle.std.proofs.Common.{◌≡◌, ◌≤◌, ◌+◌, ℕ, true, false, List, [], set, get_or, length, take, take_all, refl, sym, ap, ◌∙◌, subst, arith}
 use Rattle.std.specs.Prelude.{Option, Some, None, Ok, Err, min}
 use Rattle.psa_status.specs.declared.Status.{Status}
 use Rattle.psa_status.specs.declared.Status.TheVariants.{InvalidHandle}
@@ -7,15 +7,14 @@ use Rattle.psa_status.specs.Rows.{first_row}
 use Rattle.key_attributes.specs.declared.Attributes.{Attributes}
 use Rattle.key_attributes.specs.declared.KeyId.{KeyId}
 use Rattle.store_model.specs.Store.{Store}
-use Rattle.store_model.specs.Call.{Reply, Identifier, Nothing, Import}
-use Rattle.store_model.specs.Faults.{Plain}
-use Rattle.store_model.specs.Step.{step}
+use Rattle.store_model.specs.Call.{Reply, Identifier, Nothing}
 use Rattle.store_model.specs.Outcome.{Outcome, counted, decided, refusal}
-use Rattle.store_model.specs.Creation.{creation_rows, created}
+use Rattle.store_model.specs.Creation.{creation_rows, created, step_import}
 use Rattle.store_model.specs.Answers.{id_reply}
 use Rattle.store_model.specs.Operations.{Operation, Inactive, InError, Active, on_active, fails, loses_key}
 use Rattle.store_model.specs.DerivationOperations.{DerivationWork, stated_bytes, next_derived, without, derived_key}
-use Rattle.store_model.specs.Handles.{HandleOperation, Service, Served, operation_of, part_of, derivation_part, Deriving, is_alive, key_of_operation, applied, held_with}
+use Rattle.random_streams.specs.RandomWords.{words_used}
+use Rattle.store_model.specs.Handles.{HandleOperation, Own, Service, Served, own_of, with_operation, operation_of, part_of, derivation_part, Deriving, is_alive, key_of_operation, applied, held_with}
 use Rattle.store_model.specs.HandleCalls.{output_key, created_from}
 use Rattle.derivation_states.specs.Replies.{AnswersFront}
 use Rattle.derivation_states.specs.States.{IsDerivationOperation}
@@ -24,7 +23,7 @@ use Rattle.key_service.specs.Cells.{IsOperation, key_in}
 use Rattle.key_service.specs.Derivations.{IsDerivation}
 use Rattle.key_service.specs.Services.{AreOperations, StandsFor}
 use Rattle.key_service.specs.declared.cells.Cell.{Cell}
-use Rattle.key_service.specs.declared.operations.Operations.{Operations}
+use Rattle.key_service.specs.declared.callers.Callers.{Callers}
 use Rattle.key_service.proofs.Families.{derivation_view, PutDerivation}
 use Rattle.key_service.proofs.Deriving.{work_served, derived_keeps, derived_draws}
 use Rattle.key_service.proofs.KeyInputs.{seen_of, seen_is, fails_stands}
@@ -32,6 +31,7 @@ use Rattle.key_service.proofs.KeyOutputs as outputs
 use Rattle.key_service.proofs.KeyOutputs.{IsDerived, derived_is, not_derived, derived_key_is, derived_operation}
 use Rattle.key_service.proofs.KeySizes.{few_bytes, front_rows}
 use Rattle.key_service.proofs.Places.{operations_put}
+use Rattle.key_service.proofs.Streams.{undrew, streams_drawn}
 use Rattle.key_service.proofs.Served.{IsAt, cell_stands, applied_stands, alive_after, plain_stands}
 use Rattle.key_service.proofs.Steps.{View, Busy, Idle, is_active}
 
@@ -90,13 +90,13 @@ out_by store service caller handle cell state a count old out code gives (Busy w
     }
 out_by store service caller handle cell state a count old out code gives (Idle own is idle other put) = absurd (idle_gives own a count old out idle (gives own is.state))
 
-pub out_is : (store : Store) (operations : Operations) (service : Service) (caller handle place : ℕ) (cell : Cell) (state : DerivationState) (a : Attributes) (count : ℕ) (old out : List ℕ) →
-    StandsFor store operations service → IsAt operations caller handle place cell →
+pub out_is : (store : Store) (callers : Callers) (service : Service) (caller handle place : ℕ) (cell : Cell) (state : DerivationState) (a : Attributes) (count : ℕ) (old out : List ℕ) →
+    StandsFor store callers service → IsAt callers caller handle place cell →
     ((own : Operation DerivationWork) → IsDerivationOperation cell.derivation own → IsDerivationOperation state (on_active own (λ w. derived_key w a)).operation) →
     ((own : Operation DerivationWork) → IsDerivationOperation cell.derivation own → AnswersFront 1025 (Ok count) old out (on_active own (λ w. derived_key w a)).reply) →
     IsOut store service caller handle cell state a count out
-out_is store operations service caller handle place cell state a count old out h at code gives =
-    out_by store service caller handle cell state a count old out code gives (derivation_view cell (operation_of service caller handle) (cell_stands store operations service caller handle place cell h at))
+out_is store callers service caller handle place cell state a count old out h at code gives =
+    out_by store service caller handle cell state a count old out code gives (derivation_view cell (operation_of service caller handle) (cell_stands store callers service caller handle place cell h at))
 
 served_is : (store : Store) (service : Service) (caller handle : ℕ) (cell : Cell) (state : DerivationState) (a : Attributes) (count : ℕ) (out : List ℕ) (o : IsOut store service caller handle cell state a count out) →
     is_alive service.store (key_in cell.key) ≡ true →
@@ -119,11 +119,11 @@ rows_seen store service caller a count bytes status is size front e =
 
 pub record IsMade (store : Store) (service : Service) (caller handle : ℕ) (cell : Cell) (w : DerivationWork) (a : Attributes) (bytes : List ℕ) : Type 0 where
   pub served : output_key service caller handle (seen_of service caller handle) a ≡ created_from service caller handle (key_in cell.key) w a None
-  pub outcome : step store caller (Import a bytes) Plain ≡ created service.store caller a (next_derived w (stated_bytes a))
+  pub outcome : step_import store caller a bytes ≡ created service.store caller a (next_derived w (stated_bytes a))
 
 made_is : (store : Store) (service : Service) (caller handle : ℕ) (cell : Cell) (state : DerivationState) (a : Attributes) (count : ℕ) (out bytes : List ℕ) (id : KeyId) (o : IsOut store service caller handle cell state a count out) →
     store ≡ service.store → is_alive service.store (key_in cell.key) ≡ true → bytes ≡ take count out → length bytes ≡ count → count ≡ min (stated_bytes a) 1025 →
-    id_reply (Ok id) ≡ (step store caller (Import a bytes) Plain).reply → IsMade store service caller handle cell o.w a bytes
+    id_reply (Ok id) ≡ (step_import store caller a bytes).reply → IsMade store service caller handle cell o.w a bytes
 made_is store service caller handle cell state a count out bytes id o is lives front size few reply =
     let none = made store id (first_row (creation_rows store caller a (length bytes))) (created store caller a bytes) reply in
     let rows = rows_seen store service caller a count bytes None is size few none in
@@ -133,29 +133,33 @@ made_is store service caller handle cell state a count out bytes id o is lives f
       outcome = ap (λ r. decided store r (created store caller a bytes)) none ∙ (λ i. created (is i) caller a (whole i));
     }
 
-pub made_stands : (store after : Store) (operations next : Operations) (service : Service) (caller handle place : ℕ) (cell : Cell) (state : DerivationState) (a : Attributes) (count : ℕ) (out bytes : List ℕ) (id : KeyId)
+pub made_stands : (store after : Store) (callers next : Callers) (service : Service) (caller handle place : ℕ) (cell : Cell) (state : DerivationState) (a : Attributes) (count : ℕ) (out bytes : List ℕ) (id : KeyId)
     (o : IsOut store service caller handle cell state a count out) →
-    StandsFor store operations service → IsAt operations caller handle place cell → next.cells.items ≡ set operations.cells.items place (record cell { derivation = state }) →
+    StandsFor store callers service → IsAt callers caller handle place cell → next.cells.items ≡ set callers.cells.items place (record cell { derivation = state }) → next.streams.items ≡ callers.streams.items →
     true ≡ is_alive store (key_in cell.key) → bytes ≡ take count out → length bytes ≡ count → count ≡ min (stated_bytes a) 1025 →
-    id_reply (Ok id) ≡ (step store caller (Import a bytes) Plain).reply → after ≡ (step store caller (Import a bytes) Plain).store →
+    id_reply (Ok id) ≡ (step_import store caller a bytes).reply → after ≡ (step_import store caller a bytes).store →
     StandsFor after next (output_key service caller handle (seen_of service caller handle) a).service
-made_stands store after operations next service caller handle place cell state a count out bytes id o h at cells live front size few reply stored =
+made_stands store after callers next service caller handle place cell state a count out bytes id o h at cells same live front size few reply stored =
     let lives = ap (λ s. is_alive s (key_in cell.key)) (sym h.store_is) ∙ sym live in
     let m = made_is store service caller handle cell state a count out bytes id o h.store_is lives front size few reply in
     let operation : HandleOperation = held_with (key_in cell.key) Deriving (Active (without o.w (stated_bytes a))) in
-    let put = operations_put operations.cells.items service.operations caller handle (record cell { derivation = state }) operation h.each at.0.first at.0.last at.0.low at.0.high
+    let own : Own = with_operation (own_of service caller) handle operation in
+    let put = operations_put callers.cells.items service.owns caller handle (record cell { derivation = state }) operation own refl h.each at.0.first at.0.last at.0.low at.0.high
     (o.put state (Active (without o.w (stated_bytes a))) o.state_is) in
-    let items = ap (λ i. set operations.cells.items i (record cell { derivation = state })) (sym at.0.is) ∙ sym cells in
-    record {
-      store_is = stored ∙ ap (λ (x : Outcome). x.store) m.outcome ∙ ap (λ (s : Served). s.service.store) (sym m.served);
-      each = subst (λ (s : Served). AreOperations next.cells.items s.service.operations) (sym m.served) (subst (λ (l : List Cell). AreOperations l (set service.operations caller (set (get_or service.operations caller []) handle operation))) items put);
-    }
+    let items = ap (λ i. set callers.cells.items i (record cell { derivation = state })) (sym at.0.is) ∙ sym cells in
+    let made : Store = (created service.store caller a (next_derived o.w (stated_bytes a))).store in
+    let words : own.drawn ≡ (own_of service caller).drawn + words_used 0 = omega arith in
+    subst (λ (s : Served). StandsFor after next s.service) (sym m.served) (record {
+      store_is = stored ∙ ap (λ (x : Outcome). x.store) m.outcome;
+      each = subst (λ (l : List Cell). AreOperations l (set service.owns caller own)) items put;
+      streams = streams_drawn callers.streams.items next.streams.items service made caller 0 own h.streams (undrew caller same refl) refl h.each.callers at.0.last words;
+    })
 
-pub made_reply : (store : Store) (operations : Operations) (service : Service) (caller handle place : ℕ) (cell : Cell) (state : DerivationState) (a : Attributes) (count : ℕ) (out bytes : List ℕ) (id : KeyId)
-    (o : IsOut store service caller handle cell state a count out) → StandsFor store operations service →
+pub made_reply : (store : Store) (callers : Callers) (service : Service) (caller handle place : ℕ) (cell : Cell) (state : DerivationState) (a : Attributes) (count : ℕ) (out bytes : List ℕ) (id : KeyId)
+    (o : IsOut store service caller handle cell state a count out) → StandsFor store callers service →
     true ≡ is_alive store (key_in cell.key) → bytes ≡ take count out → length bytes ≡ count → count ≡ min (stated_bytes a) 1025 →
-    id_reply (Ok id) ≡ (step store caller (Import a bytes) Plain).reply → id_reply (Ok id) ≡ (output_key service caller handle (seen_of service caller handle) a).reply
-made_reply store operations service caller handle place cell state a count out bytes id o h live front size few reply =
+    id_reply (Ok id) ≡ (step_import store caller a bytes).reply → id_reply (Ok id) ≡ (output_key service caller handle (seen_of service caller handle) a).reply
+made_reply store callers service caller handle place cell state a count out bytes id o h live front size few reply =
     let lives = ap (λ s. is_alive s (key_in cell.key)) (sym h.store_is) ∙ sym live in
     let m = made_is store service caller handle cell state a count out bytes id o h.store_is lives front size few reply in
     reply ∙ ap (λ (x : Outcome). x.reply) m.outcome ∙ ap (λ (s : Served). s.reply) (sym m.served)
@@ -170,52 +174,52 @@ refused_is store service caller handle cell state a count out bytes status o is 
     served_is store service caller handle cell state a count out o lives
     ∙ ap (created_from service caller handle (key_in cell.key) o.w a) (rows_seen store service caller a count bytes (Some status) is size few rows)
 
-pub unmade_stands : (store after : Store) (operations next : Operations) (service : Service) (caller handle place : ℕ) (cell : Cell) (state failed : DerivationState) (a : Attributes) (count : ℕ) (out bytes : List ℕ) (status : Status)
+pub unmade_stands : (store after : Store) (callers next : Callers) (service : Service) (caller handle place : ℕ) (cell : Cell) (state failed : DerivationState) (a : Attributes) (count : ℕ) (out bytes : List ℕ) (status : Status)
     (o : IsOut store service caller handle cell state a count out) →
-    StandsFor store operations service → IsAt operations caller handle place cell → next.cells.items ≡ set operations.cells.items place (record cell { derivation = failed }) →
+    StandsFor store callers service → IsAt callers caller handle place cell → next.cells.items ≡ set callers.cells.items place (record cell { derivation = failed }) → next.streams.items ≡ callers.streams.items →
     true ≡ is_alive store (key_in cell.key) → length bytes ≡ count → count ≡ min (stated_bytes a) 1025 →
-    refusal status ≡ (step store caller (Import a bytes) Plain).reply → after ≡ (step store caller (Import a bytes) Plain).store → IsDerivationOperation failed InError →
+    refusal status ≡ (step_import store caller a bytes).reply → after ≡ (step_import store caller a bytes).store → IsDerivationOperation failed InError →
     StandsFor after next (output_key service caller handle (seen_of service caller handle) a).service
-unmade_stands store after operations next service caller handle place cell state failed a count out bytes status o h at cells live size few reply stored is =
+unmade_stands store after callers next service caller handle place cell state failed a count out bytes status o h at cells same live size few reply stored is =
     let lives = ap (λ s. is_alive s (key_in cell.key)) (sym h.store_is) ∙ sym live in
     let rows = unmade store status (first_row (creation_rows store caller a (length bytes))) caller a bytes reply in
-    applied_stands store after operations next service caller handle place cell (record cell { derivation = failed }) _ (fails status) h at cells
+    applied_stands store after callers next service caller handle place cell (record cell { derivation = failed }) _ (fails status) h at cells (undrew caller same refl)
     (refused_is store service caller handle cell state a count out bytes status o h.store_is lives size few rows)
     (o.put failed InError (record { state = is; algorithm = tt }))
     (stored ∙ ap (λ r. (decided store r (created store caller a bytes)).store) rows)
 
-pub unmade_reply : (store : Store) (operations : Operations) (service : Service) (caller handle place : ℕ) (cell : Cell) (state : DerivationState) (a : Attributes) (count : ℕ) (out bytes : List ℕ) (status : Status)
-    (o : IsOut store service caller handle cell state a count out) → StandsFor store operations service →
+pub unmade_reply : (store : Store) (callers : Callers) (service : Service) (caller handle place : ℕ) (cell : Cell) (state : DerivationState) (a : Attributes) (count : ℕ) (out bytes : List ℕ) (status : Status)
+    (o : IsOut store service caller handle cell state a count out) → StandsFor store callers service →
     true ≡ is_alive store (key_in cell.key) → length bytes ≡ count → count ≡ min (stated_bytes a) 1025 →
-    refusal status ≡ (step store caller (Import a bytes) Plain).reply → refusal status ≡ (output_key service caller handle (seen_of service caller handle) a).reply
-unmade_reply store operations service caller handle place cell state a count out bytes status o h live size few reply =
+    refusal status ≡ (step_import store caller a bytes).reply → refusal status ≡ (output_key service caller handle (seen_of service caller handle) a).reply
+unmade_reply store callers service caller handle place cell state a count out bytes status o h live size few reply =
     let lives = ap (λ s. is_alive s (key_in cell.key)) (sym h.store_is) ∙ sym live in
     let rows = unmade store status (first_row (creation_rows store caller a (length bytes))) caller a bytes reply in
     ap (λ (s : Served). s.reply) (sym (refused_is store service caller handle cell state a count out bytes status o h.store_is lives size few rows))
 
 -- NO BYTES ARE GIVEN
 
-pub lost_stands : (store after : Store) (operations next : Operations) (service : Service) (caller handle place : ℕ) (cell : Cell) (state : DerivationState) (a : Attributes) →
-    StandsFor store operations service → IsAt operations caller handle place cell → next.cells.items ≡ set operations.cells.items place (record cell { derivation = state }) → after ≡ counted store →
+pub lost_stands : (store after : Store) (callers next : Callers) (service : Service) (caller handle place : ℕ) (cell : Cell) (state : DerivationState) (a : Attributes) →
+    StandsFor store callers service → IsAt callers caller handle place cell → next.cells.items ≡ set callers.cells.items place (record cell { derivation = state }) → next.streams.items ≡ callers.streams.items → after ≡ counted store →
     false ≡ is_alive store (key_in cell.key) →
     ((own : Operation DerivationWork) → IsDerivationOperation cell.derivation own → IsDerivationOperation state (loses_key own).operation) →
     StandsFor after next (output_key service caller handle (seen_of service caller handle) a).service
-lost_stands store after operations next service caller handle place cell state a h at cells counts live code =
-    fails_stands store after operations next service caller handle place cell state _ InvalidHandle false h at cells counts (alive_after store after (key_in cell.key) false counts live)
+lost_stands store after callers next service caller handle place cell state a h at cells same counts live code =
+    fails_stands store after callers next service caller handle place cell state _ InvalidHandle false h at cells same counts (alive_after store after (key_in cell.key) false counts live)
     (outputs.dead_is service caller handle (seen_of service caller handle) a
-    (λ w e. ap (is_alive service.store) (seen_is store operations service caller handle place cell h at w e).key ∙ ap (λ s. is_alive s (key_in cell.key)) (sym h.store_is) ∙ sym live)) code
+    (λ w e. ap (is_alive service.store) (seen_is store callers service caller handle place cell h at w e).key ∙ ap (λ s. is_alive s (key_in cell.key)) (sym h.store_is) ∙ sym live)) code
 
-pub ungiven_stands : (store after : Store) (operations next : Operations) (service : Service) (caller handle place : ℕ) (cell : Cell) (state : DerivationState) (a : Attributes) (old out : List ℕ) (status : Status) →
-    StandsFor store operations service → IsAt operations caller handle place cell → next.cells.items ≡ set operations.cells.items place (record cell { derivation = state }) → after ≡ counted store →
+pub ungiven_stands : (store after : Store) (callers next : Callers) (service : Service) (caller handle place : ℕ) (cell : Cell) (state : DerivationState) (a : Attributes) (old out : List ℕ) (status : Status) →
+    StandsFor store callers service → IsAt callers caller handle place cell → next.cells.items ≡ set callers.cells.items place (record cell { derivation = state }) → next.streams.items ≡ callers.streams.items → after ≡ counted store →
     true ≡ is_alive store (key_in cell.key) →
     ((own : Operation DerivationWork) → IsDerivationOperation cell.derivation own → IsDerivationOperation state (on_active own (λ w. derived_key w a)).operation) →
     ((own : Operation DerivationWork) → IsDerivationOperation cell.derivation own → AnswersFront 1025 (Err status) old out (on_active own (λ w. derived_key w a)).reply) →
     StandsFor after next (output_key service caller handle (seen_of service caller handle) a).service
-ungiven_stands store after operations next service caller handle place cell state a old out status h at cells counts live code gives =
+ungiven_stands store after callers next service caller handle place cell state a old out status h at cells same counts live code gives =
     subst (λ (s : Served). StandsFor after next s.service)
     (sym (outputs.refused_is service caller handle (seen_of service caller handle) a status
-    (λ w e. (let own = seen_is store operations service caller handle place cell h at w e in
+    (λ w e. (let own = seen_is store callers service caller handle place cell h at w e in
     (ap (is_alive service.store) own.key ∙ ap (λ s. is_alive s (key_in cell.key)) (sym h.store_is) ∙ sym live, (gives (Active w) own.is.state).0)))))
-    (plain_stands (IsDerivation cell.alg.0) (PutDerivation cell) cell.derivation state true (λ w. derived_key w a) store after operations next service caller handle place cell (record cell { derivation = state }) _
-    (work_served store after operations service caller handle place cell state (λ w. derived_key w a) true h at counts (alive_after store after (key_in cell.key) true counts live) code (λ w. derived_keeps cell.alg.0 w a)) h at
-    cells (λ o put. put) counts (λ w. derived_draws w a))
+    (plain_stands (IsDerivation cell.alg.0) (PutDerivation cell) cell.derivation state true (λ w. derived_key w a) store after callers next service caller handle place cell (record cell { derivation = state }) _
+    (work_served store after callers service caller handle place cell state (λ w. derived_key w a) true h at counts (alive_after store after (key_in cell.key) true counts live) code (λ w. derived_keeps cell.alg.0 w a)) h at
+    cells same (λ o put. put) counts (λ w. derived_draws w a))

@@ -1,5 +1,4 @@
 pub mod Deriving
-pub mod Drawn
 pub mod Families
 pub mod Fresh
 pub mod KeyCreations
@@ -11,5 +10,7 @@ pub mod Places
 pub mod Served
 pub mod Setups
 pub mod Steps
+pub mod Streams
 pub mod Turning
+pub mod Undrawn
 pub mod Views

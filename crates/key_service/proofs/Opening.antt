@@ -1,19 +1,21 @@
--- All operations as they are opened.
-use Rattle.std.proofs.Common.{◌≡◌, ◌≤◌, ◌+◌, ℕ, Bool, true, cond, List, [], ◌∷◌, ◌++◌, length, get_or, replicate, length-append, refl, sym, ap, ◌∙◌, subst, arith}
+-- All callers as they are opened.
+use Rattle.std.proofs.Common.{◌≡◌, ◌≤◌, ◌+◌, ℕ, Bool, true, cond, List, [], ◌∷◌, ◌++◌, length, get_or, length-append, refl, sym, ap, ◌∙◌, subst, arith}
 use Rattle.std.specs.Prelude.{All}
-use Rattle.std.proofs.lemmas.List.{get_or-replicate, length-replicate}
 use Rattle.std.proofs.lemmas.List.Elements.{All-append, All-cons, All-nil}
-use Rattle.store_model.specs.Store.{Store}
+use Rattle.std.specs.Prelude.{map}
+use Rattle.std.specs.List.{range_with_len}
+use Rattle.std.proofs.lemmas.List.FromFn.{get_or-map-range_with_len}
+use Rattle.random_streams.specs.RandomWords.{RandomStream}
+use Rattle.store_model.specs.Store.{Store, plain_settings}
+use Rattle.store_model.proofs.Operations.{start_own, start_operation}
 use Rattle.store_model.specs.Operations.{Inactive}
-use Rattle.store_model.specs.Handles.{HandleOperation, service_of}
+use Rattle.store_model.specs.Handles.{HandleOperation, Own, operation_of, service_of}
 use Rattle.key_service.specs.Cells.{IsOperation}
 use Rattle.key_service.specs.Places.{place_of}
-use Rattle.key_service.specs.Services.{AreOperations, StandsFor}
+use Rattle.key_service.specs.Opened.{AllInactive, first_stream}
+use Rattle.key_service.specs.Services.{AreOperations, AreStreams, StandsFor}
 use Rattle.key_service.specs.declared.cells.Cell.{Cell}
-use Rattle.key_service.specs.declared.operations.Operations.{Operations}
-
-abbrev pub AllInactive : List Cell → Type 0
-AllInactive cells = All (λ c. IsOperation c Inactive) cells
+use Rattle.key_service.specs.declared.callers.Callers.{Callers}
 
 -- one more cell was pushed
 pub one_more : (cells next : List Cell) (c : Cell) (pushed : Bool) → next ≡ cond pushed (cells ++ c ∷ []) cells → pushed ≡ true → AllInactive cells → IsOperation c Inactive →
@@ -25,26 +27,28 @@ one_more cells next c pushed is done all inactive =
           (All-append (λ c. IsOperation c Inactive) cells (c ∷ []) all (All-cons (λ c. IsOperation c Inactive) c [] inactive (All-nil (λ c. IsOperation c Inactive)))),
     )
 
-none : List HandleOperation
-none = replicate 5 Inactive
+inactive_at : (store : Store) (caller handle : ℕ) → operation_of (service_of store) caller handle ≡ Inactive
+inactive_at store caller handle = start_operation (λ (o : HandleOperation). o ≡ Inactive) store refl caller handle
 
-own_none : (caller : ℕ) → caller ≤ 16 → get_or (replicate 17 none) caller [] ≡ none
-own_none caller h = get_or-replicate 17 caller none [] (omega (arith, h))
-
-inactive_at : (caller handle : ℕ) → caller ≤ 16 → handle ≤ 4 → get_or (get_or (replicate 17 none) caller []) handle Inactive ≡ Inactive
-unfolding none
-inactive_at caller handle h k = ap (λ (l : List HandleOperation). get_or l handle Inactive) (own_none caller h) ∙ get_or-replicate 5 handle Inactive Inactive (omega (arith, k))
-
-are_none : (cells : List Cell) → length cells ≡ 64 → AllInactive cells → AreOperations cells (replicate 17 none)
-unfolding none
-are_none cells n all = record {
+are_none : (store : Store) (cells : List Cell) → length cells ≡ 64 → AllInactive cells → AreOperations cells (service_of store).owns
+are_none store cells n all = record {
   count = n;
-  callers = length-replicate 17 none;
-  handles = λ caller h. ap length (own_none caller h) ∙ length-replicate {A = HandleOperation} 5 Inactive;
-  each = λ caller handle cell first last low high at. subst (IsOperation cell) (sym (inactive_at caller handle last high))
+  callers = refl;
+  handles = λ caller. start_own (λ (o : Own). length o.operations ≡ 5) store refl caller;
+  each = λ caller handle cell first last low high at. subst (IsOperation cell) (sym (inactive_at store caller handle))
       (subst (λ c. IsOperation c Inactive) (sym at) (all (place_of caller handle) cell (omega (arith, n, first, last, low, high))));
 }
 
-pub opened : (operations : Operations) → length operations.cells.items ≡ 64 → AllInactive operations.cells.items → (store : Store) → StandsFor store operations (service_of store)
-unfolding none
-opened operations n all store = record { store_is = refl; each = are_none operations.cells.items n all }
+-- each stream is at its first word
+stream_starts : (store : Store) (streams : List RandomStream) → store.settings ≡ plain_settings → streams ≡ map first_stream (range_with_len 0 17) → AreStreams streams (service_of store)
+stream_starts store streams settings is = record {
+  count = ap length is;
+  each = λ caller stream last at.
+      let seed = sym settings in
+      at ∙ ap (λ (l : List RandomStream). get_or l caller stream) is ∙ get_or-map-range_with_len first_stream 0 17 caller caller stream (omega (arith, last)) (omega arith)
+      ∙ (let words = sym (start_own (λ (o : Own). o.drawn ≡ 0) store refl caller) in λ i. record { seed = (seed i).seed; caller = caller; place = words i });
+}
+
+pub opened : (callers : Callers) → length callers.cells.items ≡ 64 → AllInactive callers.cells.items → callers.streams.items ≡ map first_stream (range_with_len 0 17) → (store : Store) → store.settings ≡ plain_settings →
+    StandsFor store callers (service_of store)
+opened callers n all streams store settings = record { store_is = refl; each = are_none store callers.cells.items n all; streams = stream_starts store callers.streams.items settings streams }

@@ -1,5 +1,6 @@
 pub mod Cells
 pub mod Derivations
+pub mod Opened
 pub mod Places
 pub mod Services
 pub mod Setups

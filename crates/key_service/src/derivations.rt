@@ -1,8 +1,7 @@
 // Derivations.
 ghost use Rattle.std.specs.Prelude.{◌≡◌, ◌≤◌, ◌<◌, ◌^◌, length, replicate, take};
 ghost use Rattle.store_model.specs.Answers.{id_reply, plain_reply};
-ghost use Rattle.store_model.specs.Call.{Import};
-ghost use Rattle.store_model.specs.Step.{step};
+ghost use Rattle.store_model.specs.Creation.{step_import};
 ghost use Rattle.store_model.specs.Faults.{Plain};
 ghost use Rattle.store_model.specs.Handles.{Service};
 ghost use Rattle.store_model.specs.HandleCalls.{InputKey, OutputKey};
@@ -10,7 +9,7 @@ ghost use Rattle.store_model.specs.Requests.{OnHandle, serve};
 ghost use Rattle.key_service.specs.Services.{StandsFor};
 
 use crate::cells::KeyCreation;
-use crate::operations::{Operations, place};
+use crate::callers::{Callers, place};
 use derivation_states::KEY_ROOM;
 use key_attributes::{Attributes, KeyId};
 use psa_status::Status;
@@ -29,8 +28,8 @@ fn create(
     requires last { caller ≤ 16 }
     requires turns { store.old.calls < 2 ^ 62 }
     requires front { length ≤ 1025 }
-    ensures store { store.new ≡ (step store.old caller (Import attributes.now (take length bytes.old)) Plain).store }
-    ensures reply { id_reply result ≡ (step store.old caller (Import attributes.now (take length bytes.old)) Plain).reply }
+    ensures store { store.new ≡ (step_import store.old caller attributes.now (take length bytes.old)).store }
+    ensures reply { id_reply result ≡ (step_import store.old caller attributes.now (take length bytes.old)).reply }
     ensures wiped { bytes.new ≡ replicate 1025 0 }
 {
     let created = store.import_key(caller, attributes, &bytes[..length]);
@@ -38,7 +37,7 @@ fn create(
     created
 }
 
-impl Operations {
+impl Callers {
     /// Gives a key as the secret or the password, which the operation has from then on.
     pub(crate) fn key_derivation_input_key(
         &mut self,

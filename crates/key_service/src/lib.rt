@@ -1,15 +1,16 @@
-//! The calls on callers' handles, over the one-thread store. Each method is one turn, whose contract is a step of the
-//! service.
+//! The calls of the service: a turn on the one-thread store, which decides, and beside it what is computed on the
+//! caller's own operations, stream and buffers. The contract of each is a step of the model's service.
 #![tactic(auto)]
 
+mod callers;
 mod cells;
 mod derivations;
-mod operations;
+mod keyed_calls;
 mod service;
 mod serving;
 mod setting_up;
 mod store_calls;
 mod turns;
 
-pub use operations::Operations;
+pub use callers::Callers;
 pub use service::Service;

@@ -1,15 +1,16 @@
-// The store and the callers' operations, side by side.
-ghost use Rattle.std.specs.Prelude.{◌≡◌, ◌≤◌, ◌<◌, ◌^◌, ◌+◌, IfOk, length};
-ghost use Rattle.store_model.specs.Store.{caller_state, plain_settings};
+// The store, which is shared, and what is the callers' own, side by side.
+ghost use Rattle.std.specs.Prelude.{◌≡◌, ◌≤◌, ◌<◌, ◌^◌, IfOk, length};
+ghost use Rattle.store_model.specs.Store.{plain_settings};
 ghost use Rattle.store_model.specs.Call.{buffer_after};
 ghost use Rattle.store_model.specs.Faults.{Plain};
 ghost use Rattle.store_model.specs.Handles as model;
 ghost use Rattle.store_model.specs.Requests.{OnHandle, OnStore, serve};
 ghost use Rattle.service_calls.specs.Answered.{AnswersReply};
 ghost use Rattle.service_calls.specs.Meanings.{model_handle_call, model_store_call};
+ghost use Rattle.key_service.specs.Services.{HasWords};
 ghost use Rattle.key_service.specs.Whole.{Stands};
 
-use crate::operations::Operations;
+use crate::callers::Callers;
 use crate::store_calls::on_store;
 use psa_status::{Memory, Status};
 use service_calls::{HandleCall, Op, Output, StoreCall};
@@ -20,7 +21,7 @@ use store_core::Store;
 #[derive(Drop)]
 pub struct Service {
     pub store: Store,
-    pub operations: Operations,
+    pub callers: Callers,
 }
 
 impl Service {
@@ -29,8 +30,8 @@ impl Service {
         ensures { IfOk result (λ service. Stands service (model.service_start plain_settings)) }
     {
         let store = Store::open(alloc)?;
-        let operations = Operations::open(alloc)?;
-        Ok(Service { store, operations })
+        let callers = Callers::open(alloc)?;
+        Ok(Service { store, callers })
     }
 
     /// Makes a caller's call on the store. Bytes that it gives are written to the front of the buffer.
@@ -43,7 +44,7 @@ impl Service {
         requires first { 1 ≤ caller }
         requires last { caller ≤ 16 }
         requires turns { self.old.store.calls < 2 ^ 62 }
-        requires words { (caller_state self.old.store caller).drawn + 256 ≤ 2 ^ 60 }
+        requires words { HasWords self.old.callers.streams.items caller }
         ensures stands { (it : model.Service) → Stands self.old it →
             Stands self.new (serve it caller (OnStore (model_store_call call.entry (length out.old))) Plain).service }
         ensures reply { (it : model.Service) → Stands self.old it →
@@ -51,7 +52,8 @@ impl Service {
         ensures buffer { (it : model.Service) → Stands self.old it →
             out.new ≡ buffer_after out.old (serve it caller (OnStore (model_store_call call.entry (length out.old))) Plain).reply }
     {
-        on_store(&mut self.store, caller, call, out)
+        let stream = &mut self.callers.streams[caller as usize];
+        on_store(&mut self.store, stream, caller, call, out)
     }
 
     /// Makes a caller's call on a handle. Bytes that it gives are written to the front of the buffer.
@@ -65,7 +67,7 @@ impl Service {
         requires first { 1 ≤ caller }
         requires last { caller ≤ 16 }
         requires turns { self.old.store.calls < 2 ^ 62 }
-        requires words { (caller_state self.old.store caller).drawn + 256 ≤ 2 ^ 60 }
+        requires words { HasWords self.old.callers.streams.items caller }
         ensures stands { (it : model.Service) → Stands self.old it →
             Stands self.new (serve it caller (OnHandle op (model_handle_call call.entry (length out.old))) Plain).service }
         ensures reply { (it : model.Service) → Stands self.old it →
@@ -73,7 +75,6 @@ impl Service {
         ensures buffer { (it : model.Service) → Stands self.old it →
             out.new ≡ buffer_after out.old (serve it caller (OnHandle op (model_handle_call call.entry (length out.old))) Plain).reply }
     {
-        self.operations
-            .serve(&mut self.store, caller, op, call, out)
+        self.callers.serve(&mut self.store, caller, op, call, out)
     }
 }

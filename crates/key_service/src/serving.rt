@@ -1,21 +1,20 @@
 // Any call on a handle.
-ghost use Rattle.std.specs.Prelude.{◌≡◌, ◌≤◌, ◌<◌, ◌^◌, ◌+◌, length};
-ghost use Rattle.store_model.specs.Store.{caller_state};
+ghost use Rattle.std.specs.Prelude.{◌≡◌, ◌≤◌, ◌<◌, ◌^◌, length};
 ghost use Rattle.store_model.specs.Call.{buffer_after};
 ghost use Rattle.store_model.specs.Faults.{Plain};
 ghost use Rattle.store_model.specs.Handles.{Service};
 ghost use Rattle.store_model.specs.Requests.{OnHandle, serve};
 ghost use Rattle.service_calls.specs.Answered.{AnswersReply};
 ghost use Rattle.service_calls.specs.Meanings.{model_handle_call, model_step};
-ghost use Rattle.key_service.specs.Services.{StandsFor};
+ghost use Rattle.key_service.specs.Services.{HasWords, StandsFor};
 
-use crate::operations::{Operations, place};
+use crate::callers::{Callers, place};
 use crate::turns::turn;
 use psa_status::Status;
 use service_calls::{HandleCall, Op, Output, Step, identifier, plain};
 use store_core::Store;
 
-impl Operations {
+impl Callers {
     // Takes one step of a handle's operation.
     fn step(
         &mut self,
@@ -28,7 +27,7 @@ impl Operations {
         requires first { 1 ≤ caller }
         requires last { caller ≤ 16 }
         requires turns { store.old.calls < 2 ^ 62 }
-        requires words { (caller_state store.old caller).drawn + 256 ≤ 2 ^ 60 }
+        requires words { HasWords self.old.streams.items caller }
         ensures stands { (service : Service) → StandsFor store.old self.old service →
             StandsFor store.new self.new (serve service caller (OnHandle op (model_step step.entry (length out.old))) Plain).service }
         ensures reply { (service : Service) → StandsFor store.old self.old service →
@@ -38,13 +37,14 @@ impl Operations {
     {
         store.count();
         let cell = &mut self.cells[place(caller, op)];
+        let stream = &mut self.streams[caller as usize];
         let alive = cell.has_key(store);
         match step {
-            Step::Hash(step) => turn(store, caller, &mut cell.hash, true, step, out),
-            Step::Mac(step) => turn(store, caller, &mut cell.mac, alive, step, out),
-            Step::Cipher(step) => turn(store, caller, &mut cell.cipher, alive, step, out),
-            Step::Aead(step) => turn(store, caller, &mut cell.aead, alive, step, out),
-            Step::Derivation(step) => turn(store, caller, &mut cell.derivation, alive, step, out),
+            Step::Hash(step) => turn(stream, &mut cell.hash, true, step, out),
+            Step::Mac(step) => turn(stream, &mut cell.mac, alive, step, out),
+            Step::Cipher(step) => turn(stream, &mut cell.cipher, alive, step, out),
+            Step::Aead(step) => turn(stream, &mut cell.aead, alive, step, out),
+            Step::Derivation(step) => turn(stream, &mut cell.derivation, alive, step, out),
         }
     }
 
@@ -60,7 +60,7 @@ impl Operations {
         requires first { 1 ≤ caller }
         requires last { caller ≤ 16 }
         requires turns { store.old.calls < 2 ^ 62 }
-        requires words { (caller_state store.old caller).drawn + 256 ≤ 2 ^ 60 }
+        requires words { HasWords self.old.streams.items caller }
         ensures stands { (service : Service) → StandsFor store.old self.old service →
             StandsFor store.new self.new (serve service caller (OnHandle op (model_handle_call call.entry (length out.old))) Plain).service }
         ensures reply { (service : Service) → StandsFor store.old self.old service →

@@ -8,14 +8,14 @@ ghost use Rattle.store_model.specs.Requests.{OnHandle, serve};
 ghost use Rattle.service_calls.specs.Meanings.{model_setup};
 ghost use Rattle.key_service.specs.Services.{StandsFor};
 
-use crate::operations::{Operations, place};
+use crate::callers::{Callers, place};
 use alg_encoding::{Alg, Class};
 use key_attributes::{KeyId, Usage};
 use psa_status::Status;
 use service_calls::{Op, Setup};
 use store_core::Store;
 
-impl Operations {
+impl Callers {
     // Sets an inactive operation up to hash a message.
     fn hash_setup(&mut self, store: &mut Store, caller: u8, op: Op, alg: Alg) -> Result<(), Status>
         requires first { 1 ≤ caller }

@@ -10,6 +10,7 @@ use Rattle.script_lang.specs.declared.faults.ScriptFault.TheVariants as faults
 use Rattle.script_lang.specs.Pieces.{text_lines}
 use Rattle.script_lang.specs.Lines.{Read, nothing_read, line_at, lines_at, goes_on, script_of, ScriptFails}
 use Rattle.script_lang.specs.PrintedOrder.{AnswersLines, IsAnswer}
+use Rattle.session_host.specs.LineOrder.{opened_service}
 use Rattle.psa_command.specs.Ends.{Answered, PartlyAnswered}
 use Rattle.psa_command.specs.declared.command.Exit.{Exit}
 use Rattle.psa_command.specs.declared.command.Exit.TheVariants.{Done, Usage, Script, ReadFault, WriteFault, Memory}
@@ -76,7 +77,7 @@ one_fault : (read : Result (List ScriptLine) ScriptFault) (f g : ScriptFault) �
 one_fault read f g e k = cc
 
 -- an answer to the lines that a text reads as is one to the text
-pub as_answer : (text out : List ℕ) (lines : List ScriptLine) → script_of text ≡ Ok lines → AnswersLines lines out → IsAnswer text out
+pub as_answer : (text out : List ℕ) (lines : List ScriptLine) → script_of text ≡ Ok lines → AnswersLines opened_service lines out → IsAnswer opened_service text out
 as_answer text out lines reads answers = record { lines = lines; is_script = reads; answers = answers }
 
 -- WHAT ELSE FOLLOWS FROM HOW A RUN ENDED
@@ -94,7 +95,7 @@ pub record IsKnown (exit : Exit) (left old new : Option (List ℕ)) (read_fault 
 pub known_as : {exit other : Exit} {left old new : Option (List ℕ)} {read write : Type 0} → exit ≡ other → IsKnown other left old new read write → IsKnown exit left old new read write
 known_as {left} {old} {new} {read} {write} is known = subst (λ e. IsKnown e left old new read write) (sym is) known
 
-no_answer : (text out : List ℕ) (f : ScriptFault) → IsAnswer text out → script_of text ≡ Err f → ⊥
+no_answer : (text out : List ℕ) (f : ScriptFault) → IsAnswer opened_service text out → script_of text ≡ Err f → ⊥
 no_answer text out f answer e = let is = sym answer.is_script ∙ e in cc
 
 -- a script is answered, but for a fault of the source or the sink, and want of memory

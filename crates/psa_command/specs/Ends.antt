@@ -5,6 +5,7 @@ use Rattle.std.specs.Borrow.{Bor}
 use Rattle.std.specs.Io.KnownBytes.{Appends}
 use Rattle.script_lang.specs.declared.faults.ScriptFault.TheVariants as faults
 use Rattle.script_lang.specs.PrintedOrder.{IsAnswer}
+use Rattle.session_host.specs.LineOrder.{opened_service}
 use Rattle.psa_command.specs.declared.command.Exit.{Exit}
 use Rattle.psa_command.specs.declared.command.Exit.TheVariants.{Done, Usage, Script, ReadFault, WriteFault, Memory}
 
@@ -14,11 +15,11 @@ AreWords words = map (λ w. w.now) words ≡ codes "run" ∷ []
 
 -- what was taken grew by an answer to the script
 abbrev pub Answered : List ℕ → Option (List ℕ) → Option (List ℕ) → Type 0
-Answered text old new = (out : List ℕ) × IsAnswer text out × Appends old new out
+Answered text old new = (out : List ℕ) × IsAnswer opened_service text out × Appends old new out
 
 -- what was taken grew by the front of an answer
 abbrev pub PartlyAnswered : List ℕ → Option (List ℕ) → Option (List ℕ) → Type 0
-PartlyAnswered text old new = (out : List ℕ) × IsAnswer text out × (n : ℕ) × Appends old new (take n out)
+PartlyAnswered text old new = (out : List ℕ) × IsAnswer opened_service text out × (n : ℕ) × Appends old new (take n out)
 
 -- ends before which the source was read to its end
 abbrev pub IsReadToEnd : Exit → Type 0

@@ -1,7 +1,6 @@
 -- What a script's calls answer, and what is printed of it.
-use Rattle.std.specs.Prelude.{ℕ, zero, suc, ◌≡◌, ◌+◌, ◌==◌, List, [], ◌∷◌, ◌++◌, true, false, slice_index, filter, flat_map, map, Ok, All}
+use Rattle.std.specs.Prelude.{ℕ, zero, suc, ◌≡◌, ◌+◌, ◌==◌, List, [], ◌∷◌, ◌++◌, true, false, slice_index, filter, flat_map, map, Ok, All, Option, Some, None}
 use Rattle.key_attributes.specs.declared.Attributes.{Attributes}
-use Rattle.store_model.specs.Store.{plain_settings}
 use Rattle.store_model.specs.Call as model
 use Rattle.store_model.specs.Call.{Call, Output, Reply, output_bytes}
 use Rattle.store_model.specs.Faults.{Plain}
@@ -10,10 +9,10 @@ use Rattle.store_model.specs.MacOperations.{MacUpdate, MacSignFinish, MacVerifyF
 use Rattle.store_model.specs.CipherOperations.{CipherGenerateIv, CipherSetIv, CipherUpdate, CipherFinish}
 use Rattle.store_model.specs.AeadOperations.{AeadGenerateNonce, AeadSetNonce, AeadSetLengths, AeadUpdateAd, AeadUpdate, AeadFinish, AeadVerify}
 use Rattle.store_model.specs.DerivationOperations.{GetCapacity, SetCapacity, InputBytes, InputInteger, OutputBytes, VerifyBytes}
-use Rattle.store_model.specs.Handles.{Service, service_start}
+use Rattle.store_model.specs.Handles.{Service}
 use Rattle.store_model.specs.HandleCalls as on_handle
 use Rattle.store_model.specs.Requests.{Request, OnStore, OnHandle}
-use Rattle.store_model.specs.Replay.{Entry, outcome_of}
+use Rattle.store_model.specs.Replay.{Entry, outcome_of, reply_at}
 use Rattle.script_lang.specs.declared.families.Creation.{Creation}
 use Rattle.script_lang.specs.declared.families.Creation.TheVariants as creations
 use Rattle.script_lang.specs.declared.families.KeyCall.{KeyCall}
@@ -172,9 +171,22 @@ turns rank service (e ∷ es) =
     let after = outcome_of service e in
     record { entry = e; rank = rank; reply = after.reply } ∷ turns (rank + 1) after.service es
 
--- the turns of a history on the service as it starts
-abbrev pub turns_from_start : List Entry → List Turn
-turns_from_start history = turns 0 (service_start plain_settings) history
+-- the turns of a history on a service as it starts
+abbrev pub turns_from : Service → List Entry → List Turn
+turns_from start history = turns 0 start history
+
+abbrev pub turn_at : List Turn → ℕ → Option Turn
+turn_at [] place = None
+turn_at (t ∷ ts) zero = Some t
+turn_at (t ∷ ts) (suc place) = turn_at ts place
+
+-- the turn at a place has this place as its rank, and its reply is that of the replay there; there is none past the end
+abbrev pub IsReplayed : (at : Option Turn) → ℕ → Option Reply → Type 0
+IsReplayed (Some t) place replayed = (t.rank ≡ place) × (replayed ≡ Some t.reply)
+IsReplayed None place replayed = replayed ≡ None
+
+abbrev pub TurnsAreReplayed : Type 0
+TurnsAreReplayed = (start : Service) (history : List Entry) (place : ℕ) → IsReplayed (turn_at (turns_from start history) place) place (reply_at start history place)
 
 abbrev pub turns_of : ℕ → List Turn → List Turn
 turns_of session ts = filter (λ t. t.entry.caller == session) ts
@@ -214,21 +226,21 @@ abbrev pub text_of : List ReplyLine → List ℕ
 text_of replies = flat_map reply_text replies
 
 -- The calls of these lines were made in one common order, this history, and these bytes are its replies: each
--- session's calls are those of its lines, in their order, replayed on the one-thread service.
-pub record IsOrder (lines : List ScriptLine) (history : List Entry) (out : List ℕ) : Type 0 where
-  pub own : (session : ℕ) → AreCalls [] (lines_of session lines) (turns_of session (turns_from_start history))
+-- session's calls are those of its lines, in their order, replayed on the one-thread service from its start.
+pub record IsOrder (start : Service) (lines : List ScriptLine) (history : List Entry) (out : List ℕ) : Type 0 where
+  pub own : (session : ℕ) → AreCalls [] (lines_of session lines) (turns_of session (turns_from start history))
   pub plain : All (λ e. e.mark ≡ Plain) history
   -- one worker makes them in the order of the lines
   pub line_order : map (λ e. e.caller) history ≡ map (λ line. line.session) lines
-  pub is_out : out ≡ text_of (replies_to 16 (turns_from_start history))
+  pub is_out : out ≡ text_of (replies_to 16 (turns_from start history))
 
 -- these bytes answer these lines
-pub record AnswersLines (lines : List ScriptLine) (out : List ℕ) : Type 0 where
+pub record AnswersLines (start : Service) (lines : List ScriptLine) (out : List ℕ) : Type 0 where
   pub history : List Entry
-  pub order : IsOrder lines history out
+  pub order : IsOrder start lines history out
 
 -- The text reads as lines, and the bytes written answer these.
-pub record IsAnswer (script out : List ℕ) : Type 0 where
+pub record IsAnswer (start : Service) (script out : List ℕ) : Type 0 where
   pub lines : List ScriptLine
   pub is_script : script_of script ≡ Ok lines
-  pub answers : AnswersLines lines out
+  pub answers : AnswersLines start lines out

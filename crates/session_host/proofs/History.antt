@@ -4,20 +4,18 @@ use Rattle.std.specs.Prelude.{Bool, ◌==◌, filter}
 use Rattle.std.proofs.lemmas.Bool.{eqb-true}
 use Rattle.std.proofs.lemmas.List.{append-nil}
 use Rattle.std.proofs.lemmas.List.Elements.{filter-append}
-use Rattle.store_model.specs.Store.{caller_state}
-use Rattle.store_model.specs.Handles.{Service}
+use Rattle.store_model.specs.Handles.{Service, own_of}
 use Rattle.store_model.specs.Replay.{Entry, outcome_of, replay}
 use Rattle.store_model.proofs.FewWords.{draws}
 use Rattle.script_lang.specs.declared.script.ScriptLine.{ScriptLine}
-use Rattle.store_model.proofs.CountedRequests.{serve-calls}
+use Rattle.store_model.proofs.Others.{serve_keeps}
 use Rattle.script_lang.specs.PrintedOrder.{Turn, turns, turns_of, lines_of, AreCalls, call_of, id_given, numbered, printed}
 
 pub replay_calls : (service : Service) (es : List Entry) → (replay service es).store.calls ≡ service.store.calls + length es
 replay_calls service [] = omega arith
-replay_calls service (e ∷ es) = omega (arith, replay_calls (outcome_of service e).service es, serve-calls service e.caller e.call e.mark)
+replay_calls service (e ∷ es) = omega (arith, replay_calls (outcome_of service e).service es, (serve_keeps service e.caller e.call e.mark).calls)
 
-pub replay_draws : (service : Service) (es : List Entry) (session : ℕ) →
-    (caller_state (replay service es).store session).drawn ≤ (caller_state service.store session).drawn + 256 * length es
+pub replay_draws : (service : Service) (es : List Entry) (session : ℕ) → (own_of (replay service es) session).drawn ≤ (own_of service session).drawn + 256 * length es
 replay_draws service [] session = omega arith
 replay_draws service (e ∷ es) session = omega (arith, replay_draws (outcome_of service e).service es session, draws service e.caller session e.call e.mark)
 

@@ -5,19 +5,22 @@ use Rattle.std.proofs.lemmas.Bool.Decides.{eqb_tells}
 use Rattle.std.proofs.lemmas.List.{append-nil, take_more, get_or-replicate, length-map, map-append, get_or-set_same, get_or-set_other}
 use Rattle.std.proofs.lemmas.List.Elements.{All-append, All-cons, All-nil}
 use Rattle.std.proofs.lemmas.List.Sums.{length-filter, count_by-le-length}
-use Rattle.store_model.specs.Store.{caller_state, new_caller, plain_settings}
+use Rattle.random_streams.specs.RandomWords.{RandomStream}
+use Rattle.store_model.specs.Store.{plain_settings, start_of}
+use Rattle.store_model.proofs.Operations.{start_own}
+use Rattle.key_service.specs.Services.{HasWords}
 use Rattle.store_model.specs.Faults.{Plain}
 use Rattle.store_model.specs.Handles as model
-use Rattle.store_model.specs.Handles.{service_start}
+use Rattle.store_model.specs.Handles.{Own, own_of}
 use Rattle.store_model.specs.Replay.{Entry, outcome_of, replay}
 use Rattle.script_lang.specs.declared.script.ScriptLine.{ScriptLine}
 use Rattle.script_lang.specs.declared.replies.ReplyLine.{ReplyLine}
 use Rattle.script_lang.specs.Lines.{IsOfSession}
-use Rattle.script_lang.specs.PrintedOrder.{Turn, turns, turns_from_start, turns_of, lines_of, AreCalls, call_of, id_given, numbered, printed, replies_to, text_of, AnswersLines}
+use Rattle.script_lang.specs.PrintedOrder.{Turn, turns, turns_from, turns_of, lines_of, AreCalls, call_of, id_given, numbered, printed, replies_to, text_of, AnswersLines}
 use Rattle.key_service.specs.declared.service.Service.{Service}
 use Rattle.session_host.specs.declared.sessions.SessionReplies.{SessionReplies}
 use Rattle.key_service.specs.Whole.{Stands}
-use Rattle.session_host.specs.LineOrder.{line_entry, line_served, line_turn, IsFresh, AreReplies, AreAnswered, HasAnswered, all_replies}
+use Rattle.session_host.specs.LineOrder.{opened_service, line_entry, line_served, line_turn, IsFresh, AreReplies, AreAnswered, HasAnswered, all_replies}
 use Rattle.session_host.proofs.History.{replay_calls, replay_draws, replay_more, turns_more, calls_more, kept_own, left_out, numbered_length, numbered_more}
 
 -- the turn of one more line is the last of the history
@@ -26,12 +29,12 @@ turn_of : ℕ → model.Service → List ℕ → ScriptLine → Turn
 turn_of rank service ids line = record { entry = line_entry ids line; rank = rank; reply = (line_served service ids line).reply }
 
 pub one_turn : (history : List Entry) (ids : List ℕ) (line : ScriptLine) →
-    turns_from_start (history ++ line_entry ids line ∷ []) ≡ turns_from_start history ++ line_turn (replay (service_start plain_settings) history) ids line ∷ []
+    turns_from opened_service (history ++ line_entry ids line ∷ []) ≡ turns_from opened_service history ++ line_turn (replay (opened_service) history) ids line ∷ []
 unfolding turn_of
 one_turn history ids line =
-    let start : model.Service = service_start plain_settings in
+    let start : model.Service = opened_service in
     turns_more 0 start history (line_entry ids line)
-    ∙ ap (λ n. turns_from_start history ++ turn_of n (replay start history) ids line ∷ []) (sym (replay_calls start history))
+    ∙ ap (λ n. turns_from opened_service history ++ turn_of n (replay start history) ids line ∷ []) (sym (replay_calls start history))
 
 -- the replies of the session of the line, and of another
 
@@ -43,18 +46,18 @@ own_replies session ts t own new e h n =
     n ∙ ap (λ k. own.replies.items ++ printed k t ∷ []) m ∙ ap (λ rs. rs ++ printed (1 + length (turns_of session ts)) t ∷ []) h
     ∙ sym (numbered_more 1 (turns_of session ts) t) ∙ ap (numbered 1) (sym (kept_own (λ t. t.entry.caller == session) ts t e))
 
-other_replies : (session : ℕ) (ts : List Turn) (t : Turn) (history more : List Entry) (s : SessionReplies) → ts ≡ turns_from_start history →
-    turns_from_start more ≡ ts ++ t ∷ [] → (t.entry.caller == session) ≡ false → AreReplies session history s → AreReplies session more s
+other_replies : (session : ℕ) (ts : List Turn) (t : Turn) (history more : List Entry) (s : SessionReplies) → ts ≡ turns_from opened_service history →
+    turns_from opened_service more ≡ ts ++ t ∷ [] → (t.entry.caller == session) ≡ false → AreReplies session history s → AreReplies session more s
 other_replies session ts t history more s before after e h =
-    let same : turns_of session (turns_from_start history) ≡ turns_of session (turns_from_start more) =
+    let same : turns_of session (turns_from opened_service history) ≡ turns_of session (turns_from opened_service more) =
     ap (turns_of session) (sym before) ∙ sym (left_out (λ t. t.entry.caller == session) ts t e) ∙ ap (turns_of session) (sym after) in
     record {
       replies = h.replies ∙ ap (numbered 1) same;
       given = h.given ∙ ap (map (λ t. id_given t.reply)) same;
     }
 
-same_session : (session : ℕ) (ts : List Turn) (t : Turn) (history more : List Entry) (own new : SessionReplies) → ts ≡ turns_from_start history →
-    turns_from_start more ≡ ts ++ t ∷ [] → (t.entry.caller == session) ≡ true → AreReplies session history own →
+same_session : (session : ℕ) (ts : List Turn) (t : Turn) (history more : List Entry) (own new : SessionReplies) → ts ≡ turns_from opened_service history →
+    turns_from opened_service more ≡ ts ++ t ∷ [] → (t.entry.caller == session) ≡ true → AreReplies session history own →
     new.replies.items ≡ own.replies.items ++ printed (length own.replies.items + 1) t ∷ [] → new.given.items ≡ own.given.items ++ id_given t.reply ∷ [] →
     AreReplies session more new
 same_session session ts t history more own new before after e h r g = record {
@@ -67,7 +70,7 @@ same_session session ts t history more own new before after e h r g = record {
 
 each_session : (sessions : List SessionReplies) (history more : List Entry) (t : Turn) (i j : ℕ) (own new s : SessionReplies) → i < length sessions →
     ((k : ℕ) (s : SessionReplies) → k < 16 → s ≡ get_or sessions k s → AreReplies (k + 1) history s) → j < 16 → s ≡ get_or (set sessions i new) j s → i < 16 → own ≡ get_or sessions i own →
-    turns_from_start more ≡ turns_from_start history ++ t ∷ [] → t.entry.caller ≡ i + 1 →
+    turns_from opened_service more ≡ turns_from opened_service history ++ t ∷ [] → t.entry.caller ≡ i + 1 →
     new.replies.items ≡ own.replies.items ++ printed (length own.replies.items + 1) t ∷ [] → new.given.items ≡ own.given.items ++ id_given t.reply ∷ [] →
     AreReplies (j + 1) more s
 each_session sessions history more t i j own new s within told below at first owned after caller r g = elim (eqb_tells j i) [
@@ -75,10 +78,10 @@ each_session sessions history more t i j own new s within told below at first ow
       let new_is : new ≡ s = sym (get_or-set_same sessions i new s within) ∙ ap (λ k. get_or (set sessions i new) k s) (sym e.1) ∙ sym at in
       subst (AreReplies (j + 1) more) new_is
       (subst (λ k. AreReplies (k + 1) more new) (sym e.1)
-      (same_session (i + 1) (turns_from_start history) t history more own new refl after (ap (λ n. n == i + 1) caller ∙ eq-eqb (i + 1) (i + 1) refl) (told i own first owned) r g))
+      (same_session (i + 1) (turns_from opened_service history) t history more own new refl after (ap (λ n. n == i + 1) caller ∙ eq-eqb (i + 1) (i + 1) refl) (told i own first owned) r g))
   | inr e ↦
       let other : (t.entry.caller == j + 1) ≡ false = ne_eqb t.entry.caller (j + 1) (λ same. e.1 (omega (arith, caller, same))) in
-      other_replies (j + 1) (turns_from_start history) t history more s refl after other
+      other_replies (j + 1) (turns_from opened_service history) t history more s refl after other
       (told j s below (at ∙ get_or-set_other sessions i j new s e.1))
 ]
 
@@ -95,34 +98,34 @@ pub one_more : (lines : List ScriptLine) (sessions : List SessionReplies) (servi
     HasAnswered (lines ++ line ∷ []) (set sessions i new) next
 one_more lines sessions service next line i own new h place within at n r g =
     let old : AreAnswered lines sessions = h.answered in
-    let it : model.Service = replay (service_start plain_settings) old.history in
+    let it : model.Service = replay (opened_service) old.history in
     let entry : Entry = line_entry own.given.items line in
     let t : Turn = line_turn it own.given.items line in
     let told : AreReplies (i + 1) old.history own = old.told i own within at in
-    let after : turns_from_start (old.history ++ entry ∷ []) ≡ turns_from_start old.history ++ t ∷ [] = one_turn old.history own.given.items line in
+    let after : turns_from opened_service (old.history ++ entry ∷ []) ≡ turns_from opened_service old.history ++ t ∷ [] = one_turn old.history own.given.items line in
     record {
       answered = record {
         history = old.history ++ entry ∷ [];
         plain = plain_more old.history entry old.plain refl;
         line_order = map-append (λ e. e.caller) old.history (entry ∷ []) ∙ ap (λ l. l ++ line.session ∷ []) old.line_order ∙ sym (map-append (λ l. l.session) lines (line ∷ []));
         own = λ session. subst (λ us. AreCalls [] (lines_of session (lines ++ line ∷ [])) (turns_of session us)) (sym after)
-            (calls_more session lines (turns_from_start old.history) line t (old.own session) refl
-            (λ e. ap (λ is. call_of is line.call) (told.given ∙ ap (λ s. map (λ t. id_given t.reply) (turns_of s (turns_from_start old.history))) (place ∙ e))));
+            (calls_more session lines (turns_from opened_service old.history) line t (old.own session) refl
+            (λ e. ap (λ is. call_of is line.call) (told.given ∙ ap (λ s. map (λ t. id_given t.reply) (turns_of s (turns_from opened_service old.history))) (place ∙ e))));
         sixteen = length-set sessions i new ∙ old.sixteen;
         told = λ j s below is. each_session sessions old.history (old.history ++ entry ∷ []) t i j own new s (omega (arith, old.sixteen)) old.told below is within at after (sym place) (r it h.stands) (g it h.stands);
       };
-      stands = subst (Stands next) (sym (replay_more (service_start plain_settings) old.history entry)) (n it h.stands);
+      stands = subst (Stands next) (sym (replay_more (opened_service) old.history entry)) (n it h.stands);
     }
 
 -- before the first line
 
-no_calls : (session : ℕ) → AreCalls [] (lines_of session []) (turns_of session (turns_from_start []))
+no_calls : (session : ℕ) → AreCalls [] (lines_of session []) (turns_of session (turns_from opened_service []))
 no_calls session = tt
 
 fresh_at : (sessions : List SessionReplies) → length sessions ≡ 16 → All IsFresh sessions → (i : ℕ) (s : SessionReplies) → i < 16 → s ≡ get_or sessions i s → IsFresh s
 fresh_at sessions n fresh i s below at = subst IsFresh (sym at) (fresh i s (omega (arith, n)))
 
-pub no_line : (sessions : List SessionReplies) (service : Service) → length sessions ≡ 16 → All IsFresh sessions → Stands service (service_start plain_settings) → HasAnswered [] sessions service
+pub no_line : (sessions : List SessionReplies) (service : Service) → length sessions ≡ 16 → All IsFresh sessions → Stands service (opened_service) → HasAnswered [] sessions service
 no_line sessions service n fresh stands = record {
   answered = record {
     history = [];
@@ -162,14 +165,14 @@ sixteen_own ts i s e =
     let m : i + 1 ≡ suc (0 + i) = omega arith in
     e ∙ ap (λ k. numbered 1 (turns_of k ts)) m
 
-all_sixteen : (lines : List ScriptLine) (sessions : List SessionReplies) (h : AreAnswered lines sessions) → all_replies sessions ≡ replies_to 16 (turns_from_start h.history)
+all_sixteen : (lines : List ScriptLine) (sessions : List SessionReplies) (h : AreAnswered lines sessions) → all_replies sessions ≡ replies_to 16 (turns_from opened_service h.history)
 all_sixteen lines sessions h =
-    let ts : List Turn = turns_from_start h.history in
+    let ts : List Turn = turns_from opened_service h.history in
     let all : 0 + length sessions ≡ 16 = omega (arith, h.sixteen) in
     in_all (λ s. s.replies.items) 0 ts sessions (λ i s below at. sixteen_own ts i s ((h.told i s (omega (arith, below, h.sixteen)) at).replies))
     ∙ ap (λ k. replies_to k ts) all
 
-pub answers_lines : (lines : List ScriptLine) (sessions : List SessionReplies) (out : List ℕ) → AreAnswered lines sessions → out ≡ text_of (all_replies sessions) → AnswersLines lines out
+pub answers_lines : (lines : List ScriptLine) (sessions : List SessionReplies) (out : List ℕ) → AreAnswered lines sessions → out ≡ text_of (all_replies sessions) → AnswersLines opened_service lines out
 answers_lines lines sessions out h e = record {
   history = h.history;
   order = record {
@@ -191,28 +194,28 @@ turns_length n service (e ∷ es) = ap suc (turns_length (n + 1) (outcome_of ser
 
 pub calls_are : (lines : List ScriptLine) (sessions : List SessionReplies) (service : Service) → HasAnswered lines sessions service → service.store.calls ≡ length lines
 calls_are lines sessions service h =
-    let start : model.Service = service_start plain_settings in
+    let start : model.Service = opened_service in
     let from : service.store.calls ≡ (replay start h.answered.history).store.calls = ap (λ s. s.calls) h.stands.store_is in
     omega (arith, from, replay_calls start h.answered.history, as_many lines sessions h.answered)
 
 pub few_replies : (lines : List ScriptLine) (sessions : List SessionReplies) (i : ℕ) (own : SessionReplies) → AreAnswered lines sessions → i < 16 → own ≡ get_or sessions i own →
     length own.replies.items ≤ length lines
 few_replies lines sessions i own h within at =
-    let ts : List Turn = turns_from_start h.history in
+    let ts : List Turn = turns_from opened_service h.history in
     let few : length (turns_of (i + 1) ts) ≤ length ts = omega (arith, length-filter (λ t. t.entry.caller == i + 1) ts, count_by-le-length (λ t. t.entry.caller == i + 1) ts) in
-    omega (arith, ap length (h.told i own within at).replies, numbered_length 1 (turns_of (i + 1) ts), turns_length 0 (service_start plain_settings) h.history, as_many lines sessions h)
+    omega (arith, ap length (h.told i own within at).replies, numbered_length 1 (turns_of (i + 1) ts), turns_length 0 (opened_service) h.history, as_many lines sessions h)
 
 -- how many random words were drawn
 
-start_draws : (session : ℕ) → session ≤ 16 → (caller_state (service_start plain_settings).store session).drawn ≡ 0
-start_draws session within = ap (λ s. s.drawn) (get_or-replicate 17 session new_caller new_caller (omega (arith, within)))
+start_draws : (session : ℕ) → (own_of (opened_service) session).drawn ≡ 0
+start_draws session = start_own (λ (o : Own). o.drawn ≡ 0) (start_of plain_settings) refl session
 
-few_drawn : (lines : List ScriptLine) (sessions : List SessionReplies) (service : Service) (session : ℕ) → session ≤ 16 → HasAnswered lines sessions service →
-    (caller_state service.store session).drawn ≤ 256 * length lines
-few_drawn lines sessions service session within h =
-    let start : model.Service = service_start plain_settings in
-    let from : (caller_state service.store session).drawn ≡ (caller_state (replay start h.answered.history).store session).drawn = ap (λ s. (caller_state s session).drawn) h.stands.store_is in
-    omega (arith, from, replay_draws start h.answered.history session, start_draws session within, as_many lines sessions h.answered)
+few_drawn : (lines : List ScriptLine) (sessions : List SessionReplies) (service : Service) (session : ℕ) (stream : RandomStream) → session ≤ 16 → HasAnswered lines sessions service →
+    stream ≡ get_or service.callers.streams.items session stream → stream.place ≤ 256 * length lines
+few_drawn lines sessions service session stream within h at =
+    let start : model.Service = opened_service in
+    let from : stream.place ≡ (own_of (replay start h.answered.history) session).drawn = ap (λ (s : RandomStream). s.place) (h.stands.streams.each session stream within at) in
+    omega (arith, from, replay_draws start h.answered.history session, start_draws session, as_many lines sessions h.answered)
 
 -- the next line of a script
 
@@ -234,9 +237,9 @@ pub few_calls : (lines : List ScriptLine) (i : ℕ) (sessions : List SessionRepl
 few_calls lines i sessions service few within h = omega (arith, calls_are (take i lines) sessions service h, length-take-le i lines (omega arith))
 
 pub few_words : (lines : List ScriptLine) (i : ℕ) (sessions : List SessionReplies) (service : Service) (line : ScriptLine) → length lines ≤ 20000 → i < length lines → IsOfSession line →
-    HasAnswered (take i lines) sessions service → (caller_state service.store line.session).drawn + 256 ≤ 2 ^ 60
-few_words lines i sessions service line few within own_session h =
-    omega (arith, few_drawn (take i lines) sessions service line.session own_session.1 h, length-take-le i lines (omega arith))
+    HasAnswered (take i lines) sessions service → HasWords service.callers.streams.items line.session
+few_words lines i sessions service line few within own_session h = λ stream at.
+    omega (arith, few_drawn (take i lines) sessions service line.session stream own_session.1 h at, length-take-le i lines (omega arith))
 
 pub few_own : (lines : List ScriptLine) (i : ℕ) (sessions : List SessionReplies) (service : Service) (line : ScriptLine) (own : SessionReplies) → length lines ≤ 20000 → i < length lines → IsOfSession line →
     HasAnswered (take i lines) sessions service → own ≡ get_or sessions (line.session - 1) own → length own.replies.items < 2 ^ 31

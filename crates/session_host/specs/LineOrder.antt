@@ -13,9 +13,13 @@ use Rattle.key_service.specs.Whole.{Stands}
 use Rattle.key_service.specs.declared.service.Service.{Service}
 use Rattle.script_lang.specs.declared.script.ScriptLine.{ScriptLine}
 use Rattle.script_lang.specs.declared.replies.ReplyLine.{ReplyLine}
-use Rattle.script_lang.specs.PrintedOrder.{Turn, turns_from_start, turns_of, lines_of, AreCalls, call_of, id_given, numbered}
+use Rattle.script_lang.specs.PrintedOrder.{Turn, turns_from, turns_of, lines_of, AreCalls, call_of, id_given, numbered}
 use Rattle.session_host.specs.declared.answers.Answer.{Answer}
 use Rattle.session_host.specs.declared.sessions.SessionReplies.{SessionReplies}
+
+-- the service as it is opened: without a key, and with inactive operations
+abbrev pub opened_service : model.Service
+opened_service = service_start plain_settings
 
 -- what is known of a call's answer
 pub record Answers (a : Answer) (reply : Reply) : Type 0 where
@@ -48,22 +52,22 @@ pub record IsFresh (s : SessionReplies) : Type 0 where
 
 -- a session's replies are those of its turns in a history, and what is given are their identifiers
 pub record AreReplies (session : ℕ) (history : List Entry) (s : SessionReplies) : Type 0 where
-  pub replies : s.replies.items ≡ numbered 1 (turns_of session (turns_from_start history))
-  pub given : s.given.items ≡ map (λ t. id_given t.reply) (turns_of session (turns_from_start history))
+  pub replies : s.replies.items ≡ numbered 1 (turns_of session (turns_from opened_service history))
+  pub given : s.given.items ≡ map (λ t. id_given t.reply) (turns_of session (turns_from opened_service history))
 
 -- The calls of lines were made in one order, and each of sixteen sessions has the replies to its own.
 pub record AreAnswered (lines : List ScriptLine) (sessions : List SessionReplies) : Type 0 where
   pub history : List Entry
   pub plain : All (λ e. e.mark ≡ Plain) history
   pub line_order : map (λ e. e.caller) history ≡ map (λ line. line.session) lines
-  pub own : (session : ℕ) → AreCalls [] (lines_of session lines) (turns_of session (turns_from_start history))
+  pub own : (session : ℕ) → AreCalls [] (lines_of session lines) (turns_of session (turns_from opened_service history))
   pub sixteen : length sessions ≡ 16
   pub told : (i : ℕ) (s : SessionReplies) → i < 16 → s ≡ get_or sessions i s → AreReplies (i + 1) history s
 
 -- the same, and what the service stands for after these calls
 pub record HasAnswered (lines : List ScriptLine) (sessions : List SessionReplies) (service : Service) : Type 0 where
   pub answered : AreAnswered lines sessions
-  pub stands : Stands service (replay (service_start plain_settings) answered.history)
+  pub stands : Stands service (replay (opened_service) answered.history)
 
 -- the replies of all sessions, in their order
 abbrev pub all_replies : List SessionReplies → List ReplyLine

@@ -1,6 +1,6 @@
 // The calls of a script's lines.
 ghost use Rattle.std.specs.Prelude.{◌≡◌, ◌≤◌, ◌<◌, ◌^◌, ◌+◌, IfOk, length};
-ghost use Rattle.store_model.specs.Store.{caller_state};
+ghost use Rattle.key_service.specs.Services.{HasWords};
 ghost use Rattle.store_model.specs.Faults.{Plain};
 ghost use Rattle.store_model.specs.Handles as model;
 ghost use Rattle.store_model.specs.Requests.{OnHandle, OnStore, serve};
@@ -31,7 +31,7 @@ fn make_on_store(
     requires first { 1 ≤ caller }
     requires last { caller ≤ 16 }
     requires turns { service.old.store.calls < 2 ^ 62 }
-    requires words { (caller_state service.old.store caller).drawn + 256 ≤ 2 ^ 60 }
+    requires words { HasWords service.old.callers.streams.items caller }
     requires room { value.room ≤ length buffer.old }
     ensures stands { (it : model.Service) → Stands service.old it → Stands service.new (serve it caller (OnStore (model_store_call value.entry.call value.entry.room)) Plain).service }
     ensures reply { (it : model.Service) → Stands service.old it →
@@ -54,7 +54,7 @@ fn make_on_handle(
     requires first { 1 ≤ caller }
     requires last { caller ≤ 16 }
     requires turns { service.old.store.calls < 2 ^ 62 }
-    requires words { (caller_state service.old.store caller).drawn + 256 ≤ 2 ^ 60 }
+    requires words { HasWords service.old.callers.streams.items caller }
     requires room { value.room ≤ length buffer.old }
     ensures stands { (it : model.Service) → Stands service.old it → Stands service.new (serve it caller (OnHandle op (model_handle_call value.entry.call value.entry.room)) Plain).service }
     ensures reply { (it : model.Service) → Stands service.old it →
@@ -76,7 +76,7 @@ pub fn answered(
     requires first { 1 ≤ line.now.session }
     requires last { line.now.session ≤ 16 }
     requires turns { service.old.store.calls < 2 ^ 62 }
-    requires words { (caller_state service.old.store line.now.session).drawn + 256 ≤ 2 ^ 60 }
+    requires words { HasWords service.old.callers.streams.items line.now.session }
     requires room { 16448 ≤ length buffer.old }
     requires limits { IsWellFormed line.now }
     ensures stands { (it : model.Service) → Stands service.old it → Stands service.new (line_served it given.now line.now).service }

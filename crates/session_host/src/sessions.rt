@@ -1,6 +1,6 @@
 // The calls of a script, made in line order.
 ghost use Rattle.std.specs.Prelude.{◌≡◌, ◌≤◌, ◌<◌, ◌^◌, ◌++◌, ◌∷◌, ◌+◌, [], IfOk, OnOk, All, length};
-ghost use Rattle.store_model.specs.Store.{caller_state};
+ghost use Rattle.key_service.specs.Services.{HasWords};
 ghost use Rattle.store_model.specs.Handles as model;
 ghost use Rattle.script_lang.specs.Limits.{IsWellFormed};
 ghost use Rattle.script_lang.specs.Lines.{IsOfSession};
@@ -46,7 +46,7 @@ fn answer_line(
     requires first { 1 ≤ line.now.session }
     requires last { line.now.session ≤ 16 }
     requires turns { service.old.store.calls < 2 ^ 62 }
-    requires words { (caller_state service.old.store line.now.session).drawn + 256 ≤ 2 ^ 60 }
+    requires words { HasWords service.old.callers.streams.items line.now.session }
     requires room { 16448 ≤ length buffer.old }
     requires limits { IsWellFormed line.now }
     requires few { length own.old.replies.items < 2 ^ 31 }

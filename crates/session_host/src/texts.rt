@@ -3,6 +3,7 @@ ghost use Rattle.std.specs.Prelude.{◌≡◌, ◌≤◌, ◌++◌, IfOk, OnOk, 
 ghost use Rattle.script_lang.specs.Limits.{IsWellFormed};
 ghost use Rattle.script_lang.specs.Lines.{IsOfSession};
 ghost use Rattle.script_lang.specs.PrintedOrder.{AnswersLines, text_of};
+ghost use Rattle.session_host.specs.LineOrder.{opened_service};
 ghost use Rattle.session_host.specs.LineOrder.{all_replies};
 
 use crate::sessions::{SessionReplies, answer_lines};
@@ -37,7 +38,7 @@ pub fn answer_text(alloc: Global, lines: &[ScriptLine]) -> Result<Vec<u8>, Memor
     requires sessions { All IsOfSession lines.now }
     requires limits { All IsWellFormed lines.now }
     requires few { length lines.now ≤ 20000 }
-    ensures { IfOk result (λ out. AnswersLines lines.now out.items) }
+    ensures { IfOk result (λ out. AnswersLines opened_service lines.now out.items) }
 {
     let sessions = answer_lines(alloc, lines)?;
     text_of_sessions(alloc, &sessions)
