@@ -1,6 +1,6 @@
 // Operations in several parts, whose updates run again and again through a handle of a service.
 ghost use Rattle.std.specs.Prelude.{◌≡◌, ◌≤◌, ◌<◌, ◌+◌, ◌^◌, IfOk};
-ghost use Rattle.store_model.specs.Store.{caller_state};
+ghost use Rattle.key_service.specs.Services.{HasWords};
 
 use crate::jobs::Family;
 use alg_encoding::Alg;
@@ -86,9 +86,9 @@ pub struct Handle {
 // Whether the service counts one more call, and the caller can draw for it.
 fn check_turn(service: &Service) -> Result<(), Failure>
     ensures turns { IfOk result (λ _. service.now.store.calls < 2 ^ 62) }
-    ensures words { IfOk result (λ _. (caller_state service.now.store 1).drawn + 256 ≤ 2 ^ 60) }
+    ensures words { IfOk result (λ _. HasWords service.now.callers.streams.items 1) }
 {
-    if service.store.ranked() < 1 << 62 && service.store.drawn(CALLER) <= (1 << 60) - 256 {
+    if service.store.ranked() < 1 << 62 && service.has_words(CALLER) {
         Ok(())
     } else {
         Err(Failure::Refused)

@@ -1,5 +1,5 @@
 // What is the callers' own.
-ghost use Rattle.std.specs.Prelude.{◌≡◌, ◌≤◌, ◌<◌, ◌^◌, IfOk, length, map};
+ghost use Rattle.std.specs.Prelude.{◌≡◌, ◌≤◌, ◌<◌, ◌^◌, ◌↔◌, IfOk, IsTrue, length, map};
 ghost use Rattle.store_model.specs.Store as model;
 ghost use Rattle.store_model.specs.Answers.{plain_reply};
 ghost use Rattle.store_model.specs.Faults.{Plain};
@@ -22,6 +22,12 @@ const CALLERS: usize = 16;
 
 // How many handles a caller has.
 const HANDLES: usize = 4;
+
+// A stream offers so many random words.
+const WORDS_OFFERED: u64 = 1 << 60;
+
+// A call draws no more random words than this, those of a key of 1,024 bytes.
+const WORDS_A_CALL: u64 = 256;
 
 /// What is the callers' own: the operations of 16 callers' four handles each, and each caller's stream of random words,
 /// by the caller's number.
@@ -72,7 +78,7 @@ pub(crate) fn place(caller: u8, op: Op) -> usize
 }
 
 impl Callers {
-    ghost use Rattle.key_service.specs.Services.{StandsFor};
+    ghost use Rattle.key_service.specs.Services.{HasWords, StandsFor};
 
     /// All operations inactive, and no random word drawn; `Memory` where there is no room for them.
     pub(crate) fn open(alloc: Global) -> Result<Callers, Memory>
@@ -81,6 +87,14 @@ impl Callers {
         let cells = new_cells(alloc)?;
         let streams = new_streams(alloc)?;
         Ok(Callers { cells, streams })
+    }
+
+    /// Whether a caller's stream offers the random words of one call more.
+    pub(crate) fn has_words(&self, caller: u8) -> bool
+        requires last { caller ≤ 16 }
+        ensures { IsTrue result ↔ HasWords self.now.streams.items caller }
+    {
+        self.streams[caller as usize].place() <= WORDS_OFFERED - WORDS_A_CALL
     }
 
     /// Forgets what an operation was, and makes it inactive.

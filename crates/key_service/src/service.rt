@@ -1,5 +1,5 @@
 // The store, which is shared, and what is the callers' own, side by side.
-ghost use Rattle.std.specs.Prelude.{◌≡◌, ◌≤◌, ◌<◌, ◌^◌, IfOk, length};
+ghost use Rattle.std.specs.Prelude.{◌≡◌, ◌≤◌, ◌<◌, ◌^◌, ◌↔◌, IfOk, IsTrue, length};
 ghost use Rattle.store_model.specs.Store.{plain_settings};
 ghost use Rattle.store_model.specs.Call.{buffer_after};
 ghost use Rattle.store_model.specs.Faults.{Plain};
@@ -32,6 +32,15 @@ impl Service {
         let store = Store::open(alloc)?;
         let callers = Callers::open(alloc)?;
         Ok(Service { store, callers })
+    }
+
+    /// Whether a caller's stream offers the random words of one call more: there are 2^60 of them, and a call draws 256
+    /// at most.
+    pub fn has_words(&self, caller: u8) -> bool
+        requires last { caller ≤ 16 }
+        ensures { IsTrue result ↔ HasWords self.now.callers.streams.items caller }
+    {
+        self.callers.has_words(caller)
     }
 
     /// Makes a caller's call on the store. Bytes that it gives are written to the front of the buffer.

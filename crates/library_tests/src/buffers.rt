@@ -1,7 +1,8 @@
 // What calls leave in the caller's buffers, which no reply line shows.
-use alg_encoding::Alg;
+use alg_encoding::{Alg, Class};
 use key_attributes::{Attributes, KeyId, KeyType, Lifetime, Policy, Usage};
 use psa_status::Status;
+use single_part::{aead_decrypt, cipher_decrypt, mac_compute};
 use store_core::Store;
 
 // Attributes of a key of this type for an algorithm, to export it, to compute and verify, or to encipher and decipher.
@@ -25,7 +26,7 @@ fn bytes_past_an_export_stay(rt: HostRuntime) {
         .import_key(1, &used_with(0x1001, 0), b"abc")
         .expect(&rt, "a key");
     let mut out = [7u8; 4];
-    assert_eq!(rt; store.export_key(2, key, &mut out), Ok(3));
+    assert_eq!(rt; store.export_key(key, &mut out), Ok(3));
     assert_eq!(rt; out, [b'a', b'b', b'c', 7]);
     assert_eq!(rt; store.ranked(), 2);
 }
@@ -37,14 +38,12 @@ fn bytes_past_a_mac_stay(rt: HostRuntime) {
         .import_key(1, &used_with(0x1100, 0x03848009), b"Jefe")
         .expect(&rt, "a key");
     let mut mac = [7u8; 33];
+    let hmac = Alg::of(0x03800009);
+    let jefe = store
+        .look(Class::Mac, Usage::SIGN_MESSAGE, hmac, key)
+        .expect(&rt, "a key that may sign");
     assert_eq!(rt;
-        store.mac_compute(
-            1,
-            key,
-            Alg::of(0x03800009),
-            b"what do ya want for nothing?",
-            &mut mac
-        ),
+        mac_compute(hmac, jefe.bytes, b"what do ya want for nothing?", &mut mac),
         Ok(32)
     );
     assert_eq!(rt; mac[32], 7);
@@ -64,8 +63,11 @@ fn a_text_with_a_wrong_tag_is_zeros(rt: HostRuntime) {
         0xbd, 0xdf,
     ];
     let mut text = [7u8; 17];
+    let zeros = store
+        .look(Class::Aead, Usage::DECRYPT, gcm, key)
+        .expect(&rt, "a key that may decrypt");
     assert_eq!(rt;
-        store.aead_decrypt(3, key, gcm, &[0; 12], b"a", &sealed, &mut text),
+        aead_decrypt(gcm, zeros.bytes, &[0; 12], b"a", &sealed, &mut text),
         Err(Status::InvalidSignature)
     );
     assert_eq!(rt; text, *b"\0\0\0\0\0\0\0\0\0\0\0\0\0\0\0\0\x07");
@@ -85,11 +87,14 @@ fn padding_becomes_zeros(rt: HostRuntime) {
         0x89, 0x3b,
     ];
     let mut out = [7u8; 17];
-    assert_eq!(rt; store.cipher_decrypt(1, key, cbc, &input, &mut out), Ok(14));
+    let found = store
+        .look(Class::Cipher, Usage::DECRYPT, cbc, key)
+        .expect(&rt, "a key that may decrypt");
+    assert_eq!(rt; cipher_decrypt(cbc, found.bytes, &input, &mut out), Ok(14));
     assert_eq!(rt; out, *b"Fourteen bytes\0\0\x07");
     input[15] ^= 1;
     assert_eq!(rt;
-        store.cipher_decrypt(1, key, cbc, &input, &mut out),
+        cipher_decrypt(cbc, found.bytes, &input, &mut out),
         Err(Status::InvalidPadding)
     );
     assert_eq!(rt; out, *b"\0\0\0\0\0\0\0\0\0\0\0\0\0\0\0\0\x07");

@@ -5,15 +5,11 @@ use Rattle.std.proofs.lemmas.List.{append-nil, length-take, length-drop, length-
 use Rattle.std.proofs.lemmas.Slice.{drop-append-drop}
 use Rattle.std.proofs.Math.Seq.{take-append_seam}
 use Rattle.psa_status.specs.declared.Status.{Status}
-use Rattle.psa_status.specs.Rows.{Rows, first_row, unless}
-use Rattle.psa_status.proofs.Rows.{first_row-back, unless-ok, unless-err}
-use Rattle.alg_encoding.specs.declared.table.Class.TheVariants.{Cipher}
-use Rattle.store_model.specs.Store.{Key, Store}
+use Rattle.psa_status.specs.Rows.{first_row, unless}
+use Rattle.psa_status.proofs.Rows.{unless-ok}
 use Rattle.store_model.specs.Call.{Reply, buffer_after, buffer_bytes}
-use Rattle.store_model.specs.KeyUse.{bytes_of}
-use Rattle.store_model.specs.Rules.{use_rows}
-use Rattle.store_model.specs.Outcome.{Outcome, decided, refused, reply_unless, refusal, given}
-use Rattle.store_model.specs.Ciphers.{Mode, mode_of, iv_length, enciphered, enciphered_length, encrypt_rows, decrypt_rows, deciphered, plain_or_zeros}
+use Rattle.store_model.specs.Outcome.{reply_unless, refusal, given}
+use Rattle.store_model.specs.Ciphers.{Mode, iv_length, enciphered, enciphered_length, encrypt_rows, decrypt_rows, deciphered, plain_or_zeros}
 use Rattle.store_model.specs.Answers.{AnswersOrSpoils}
 use Rattle.store_model.specs.Ciphers.{decrypted_reply}
 

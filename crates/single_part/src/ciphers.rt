@@ -120,12 +120,7 @@ fn decrypt(mode: Mode, key: &[u8], input: &[u8], out: &mut [u8]) -> Result<usize
 /// room for the whole ciphertext, and answers the text's length. `InvalidPadding` where no padding ends the text and one
 /// should: the buffer then has zeros in its place. `InvalidArgument` where the algorithm doesn't take so many bytes, and
 /// `BufferTooSmall`.
-pub fn cipher_decrypt(
-    alg: Alg,
-    key: &[u8],
-    input: &[u8],
-    out: &mut [u8],
-) -> Result<usize, Status>
+pub fn cipher_decrypt(alg: Alg, key: &[u8], input: &[u8], out: &mut [u8]) -> Result<usize, Status>
     requires { IsKey key.now }
     ensures reply { AnswersOrSpoils result (decrypted_reply (mode_of alg.0) key.now input.now (length out.old)) }
     ensures buffer { out.new ≡ buffer_after out.old (decrypted_reply (mode_of alg.0) key.now input.now (length out.old)) }

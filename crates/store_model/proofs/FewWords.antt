@@ -7,7 +7,7 @@ use Rattle.store_model.specs.Outcome.{counted}
 use Rattle.store_model.specs.Creation.{created}
 use Rattle.store_model.specs.KeyUse.{destroyed}
 use Rattle.store_model.specs.Operations.{InError}
-use Rattle.store_model.specs.Handles.{Own, Service, Served, own_of, with_own, with_drawn, with_operation}
+use Rattle.store_model.specs.Handles.{Own, Service, own_of, with_own, with_drawn, with_operation}
 use Rattle.store_model.specs.Requests.{OnStore, OnHandle}
 use Rattle.store_model.specs.DerivationOperations.{stated_bytes, next_derived, without}
 use Rattle.store_model.specs.Refusals.{held_derivation}

@@ -1,19 +1,12 @@
 -- The keys after a call are those before, and the one that the call made.
-use Rattle.std.proofs.Common.{◌≡◌, ℕ, ◌⊎◌, ◌+◌, ◌≤◌, ◌++◌, Bool, true, false, cond, inl, inr, List, length, refl, sym, ap, ◌∙◌, arith}
+use Rattle.std.proofs.Common.{◌≡◌, ℕ, ◌⊎◌, ◌+◌, ◌≤◌, Bool, true, false, cond, inl, inr, List, refl, sym, ap, ◌∙◌, arith}
 use Rattle.std.specs.Prelude.{Option, None, Some, ◌==◌}
 use Rattle.std.specs.FinMap as map
-use Rattle.psa_status.specs.declared.Status.{Status}
-use Rattle.psa_status.specs.declared.Status.TheVariants.{InvalidArgument}
-use Rattle.psa_status.specs.Rows.{first_row}
 use Rattle.key_attributes.specs.declared.Attributes.{Attributes}
-use Rattle.key_attributes.specs.declared.Policy.{Policy}
-use Rattle.policy_rules.specs.Policy.{meet_of}
 use Rattle.store_model.specs.Store.{Key, Store, KeyMap, next_volatile}
-use Rattle.store_model.specs.Call.{Call, Import, Export, GetAttributes, Destroy, Copy, Generate, HashCompute, HashCompare, MacCompute, MacVerify, CipherEncrypt, CipherDecrypt, AeadEncrypt, AeadDecrypt}
-use Rattle.store_model.specs.Faults.{FaultMark}
-use Rattle.store_model.specs.Outcome.{Outcome, counted, decided, refused}
-use Rattle.store_model.specs.Creation.{created, creation_rows, new_key}
-use Rattle.store_model.specs.KeyUse.{destroy_rows, destroyed}
+use Rattle.store_model.specs.Outcome.{counted}
+use Rattle.store_model.specs.Creation.{created, new_key}
+use Rattle.store_model.specs.KeyUse.{destroyed}
 use Rattle.store_model.specs.Handles.{KeyCreation, HandleOperation}
 use Rattle.store_model.specs.Operations.{Inactive, InError, Active}
 use Rattle.store_model.specs.Sound.{IsSoundCreation, IsSoundUse, IsSoundOperation}

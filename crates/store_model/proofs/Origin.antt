@@ -1,25 +1,19 @@
 -- No chain of copies gains a flag or an algorithm.
 use Rattle.std.proofs.Common.{◌≡◌, ℕ, ◌+◌, ◌<◌, Bool, true, false, cond, List, [], ◌∷◌, ◌++◌, refl, sym, ap, ◌∙◌, arith, subst, ◌⊎◌, inl, inr}
-use Rattle.std.specs.Prelude.{Option, None, Some, ◌==◌, ◌-◌, IfSome, bytes_eq, length, take, drop}
-use Rattle.std.specs.Option.{option_map}
+use Rattle.std.specs.Prelude.{Option, None, Some, ◌==◌, IfSome}
 use Rattle.std.specs.Ordering.{nat_cmp}
 use Rattle.std.specs.FinMap as map
 use Rattle.std.proofs.lemmas.Bool.Decides.{nat_tests}
-use Rattle.psa_status.specs.declared.Status.{Status}
-use Rattle.psa_status.specs.declared.Status.TheVariants.{InvalidArgument}
-use Rattle.psa_status.specs.Rows.{first_row}
 use Rattle.psa_status.proofs.Rows.{unless-ok}
 use Rattle.key_attributes.specs.declared.Attributes.{Attributes}
 use Rattle.key_attributes.specs.declared.Policy.{Policy}
 use Rattle.policy_rules.specs.Policy.{meet_of, with_implied, IsWithin, IsFilled}
 use Rattle.policy_rules.proofs.Copies.{IsWithin-refl, IsWithin-trans, IsWithin-implied, meet-within_source}
 use Rattle.store_model.specs.Store.{Key, Store, next_volatile}
-use Rattle.store_model.specs.Call.{Call, Reply, Import, Export, GetAttributes, Destroy, Copy, Generate, HashCompute, HashCompare, MacCompute, MacVerify, CipherEncrypt, CipherDecrypt, AeadEncrypt, AeadDecrypt}
-use Rattle.store_model.specs.Faults.{FaultMark}
-use Rattle.store_model.specs.Outcome.{Outcome, counted, decided, refused}
+use Rattle.store_model.specs.Call.{Call}
+use Rattle.store_model.specs.Outcome.{Outcome, counted}
 use Rattle.store_model.specs.Creation.{created, new_key}
-use Rattle.store_model.specs.KeyUse.{destroyed, export_rows, bytes_of, attributes_reply}
-use Rattle.store_model.specs.Algorithms.{tag_bytes}
+use Rattle.store_model.specs.KeyUse.{destroyed}
 use Rattle.store_model.specs.Sound.{IsSoundStore}
 use Rattle.store_model.specs.Origin.{Made, source_of, made_key, made_at, creation_at, origin_from, origin_of, HasOrigin}
 use Rattle.store_model.proofs.StoreShape.{IsCopied, StoreCases}

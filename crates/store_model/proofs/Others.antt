@@ -1,22 +1,19 @@
 -- A request leaves other callers, other handles of its caller, the settings, and where it changes no key the store.
 use Rattle.std.proofs.Common.{◌≡◌, ℕ, ◌+◌, Bool, true, false, List, refl, sym, ap}
-use Rattle.std.specs.Prelude.{Option, Some, None}
+use Rattle.std.specs.Prelude.{Some}
 use Rattle.std.proofs.lemmas.List.{get_or-set_other}
-use Rattle.psa_status.specs.declared.Status.{Status}
 use Rattle.key_attributes.specs.declared.Attributes.{Attributes}
 use Rattle.store_model.specs.Store.{Store, made_of}
-use Rattle.store_model.specs.Call.{Call, Reply}
-use Rattle.store_model.specs.Outcome.{Outcome, counted}
+use Rattle.store_model.specs.Outcome.{counted}
 use Rattle.store_model.specs.Creation.{created}
 use Rattle.store_model.specs.KeyUse.{destroyed}
 use Rattle.store_model.specs.DerivationOperations.{stated_bytes, next_derived, without}
-use Rattle.store_model.specs.Operations.{Active, Inactive, InError}
+use Rattle.store_model.specs.Operations.{InError}
 use Rattle.store_model.specs.Faults.{FaultMark, failure_of}
-use Rattle.store_model.specs.Handles.{HandleOperation, Own, Service, Served, own_of, operation_of, with_own, with_drawn, with_operation}
-use Rattle.store_model.specs.HandleCalls.{HandleCall, OutputKey}
-use Rattle.store_model.specs.Requests.{Request, OnStore, OnHandle, on_store, failed_on, failed_handle_step, serve_unless, serve}
+use Rattle.store_model.specs.Handles.{HandleOperation, Service, Served, own_of, operation_of, with_drawn, with_operation}
+use Rattle.store_model.specs.Requests.{Request, OnStore, OnHandle, serve}
 use Rattle.store_model.specs.Refusals.{held_derivation}
-use Rattle.store_model.specs.Laws.{LeavesOtherCallers, LeavesOtherHandles, LeavesShared, LeavesSettings, changes_keys, handle_changes_keys, may_change_keys, handle_of}
+use Rattle.store_model.specs.Laws.{LeavesOtherCallers, LeavesOtherHandles, LeavesShared, LeavesSettings}
 use Rattle.store_model.proofs.Operations.{other_own, operations_same, other_handle}
 use Rattle.store_model.proofs.Served.{on_store_shape, on_handle_shape}
 
@@ -59,7 +56,7 @@ leaves_handles service caller other (OnStore call) mark h =
 leaves_handles service caller other (OnHandle handle call) mark h =
     let apart : other ≡ handle → ⊥ = λ e. h (ap Some (sym e)) in
     let left = λ (operation : HandleOperation) (n : ℕ).
-        other_handle service (counted service.store) caller handle other operation (with_drawn (with_operation (own_of service caller) handle operation) n) refl apart in
+    other_handle service (counted service.store) caller handle other operation (with_drawn (with_operation (own_of service caller) handle operation) n) refl apart in
     on_handle_shape service caller handle call (failure_of mark) (λ served. operation_of served.service caller other ≡ operation_of service caller other) (record {
       untouched_too = λ status may. refl;
       applied_too = λ after step. left after.operation after.drawn;

@@ -3,7 +3,6 @@ use Rattle.std.proofs.Common.{◌≡◌, ℕ, Bool, true, false, cond}
 use Rattle.std.specs.Prelude.{Option, Some, None}
 use Rattle.psa_status.specs.declared.Status.{Status}
 use Rattle.store_model.specs.Call.{Call}
-use Rattle.store_model.specs.Outcome.{Outcome}
 use Rattle.store_model.specs.Operations.{Active, Inactive, InError, fails}
 use Rattle.store_model.specs.Handles.{HandleOperation, Service, Served, own_of, operation_of, next_random, applied, untouched}
 use Rattle.store_model.specs.HandleCalls.{HandleCall}

@@ -8,15 +8,12 @@ use Rattle.std.proofs.lemmas.Cmp.{nat_cmp_total}
 use Rattle.std.proofs.lemmas.Bool.Decides.{nat_tests}
 use Rattle.std.proofs.lemmas.List.{get_or-set_same, get_or-set_other}
 use Rattle.std.proofs.Math.ListN.{length-set}
-use Rattle.psa_status.specs.declared.Status.{Status}
-use Rattle.psa_status.specs.declared.Status.TheVariants.{InvalidArgument, KeyLimit}
+use Rattle.psa_status.specs.declared.Status.TheVariants.{KeyLimit}
 use Rattle.psa_status.specs.Rows.{first_row}
 use Rattle.key_attributes.specs.declared.Attributes.{Attributes}
-use Rattle.key_attributes.specs.declared.Policy.{Policy}
 use Rattle.key_attributes.specs.Checks.{attribute_rows, filled, checked}
-use Rattle.policy_rules.specs.Policy.{meet_of}
 use Rattle.store_model.specs.Store.{Key, Store, Settings, start_of, made_of, next_volatile, is_volatile_of, live_volatile, has_secure_element}
-use Rattle.store_model.specs.Outcome.{Outcome, counted, decided, refused}
+use Rattle.store_model.specs.Outcome.{counted}
 use Rattle.store_model.specs.Creation.{limit_rows, creation_rows, created, new_key, identified, one_more_made}
 use Rattle.store_model.specs.KeyUse.{destroyed}
 use Rattle.store_model.specs.Sound.{IsSoundKey, IsSoundStore}

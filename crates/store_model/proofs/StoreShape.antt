@@ -1,5 +1,5 @@
 -- The shape of any call on the store: it is counted alone, or creates a key, or destroys one.
-use Rattle.std.proofs.Common.{◌≡◌, ℕ, ◌≤◌, Bool, true, false, not, cond, List, [], ◌++◌, length, refl, sym, ap, ◌∙◌, ◌⊎◌, inl, inr, arith}
+use Rattle.std.proofs.Common.{◌≡◌, ℕ, ◌≤◌, Bool, true, false, not, cond, List, [], ◌++◌, length, refl, ap, ◌∙◌, ◌⊎◌, inl, inr, arith}
 use Rattle.std.specs.Prelude.{Option, Some, None, bytes_eq, take, drop, ◌-◌}
 use Rattle.std.specs.Option.{option_map}
 use Rattle.std.specs.FinMap as map

@@ -1,11 +1,11 @@
 -- One call on the service: on the store, or on a handle.
-use Rattle.std.specs.Prelude.{ℕ, Bool, Option, Some, None, if◌then◌else◌}
+use Rattle.std.specs.Prelude.{ℕ, Option, Some, None, if◌then◌else◌}
 use Rattle.psa_status.specs.declared.Status.{Status}
 use Rattle.store_model.specs.Call.{Call}
 use Rattle.store_model.specs.Faults.{FaultMark, failure_of}
 use Rattle.store_model.specs.Step.{step, failed_step}
 use Rattle.store_model.specs.Outcome.{Outcome}
-use Rattle.store_model.specs.Operations.{Inactive, InError, Active, fails, stays}
+use Rattle.store_model.specs.Operations.{Inactive, InError, Active, fails}
 use Rattle.store_model.specs.Handles.{HandleOperation, Service, Served, own_of, operation_of, with_own, with_drawn, next_random, applied, untouched}
 use Rattle.store_model.specs.HandleCalls.{HandleCall, handle_step}
 use Rattle.store_model.specs.Refusals.{is_setup}
