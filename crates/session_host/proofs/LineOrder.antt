@@ -2,7 +2,7 @@
 use Rattle.std.proofs.Common.{◌≡◌, ◌<◌, ◌≤◌, ℕ, ◌+◌, ◌-◌, ◌*◌, ◌^◌, List, [], ◌∷◌, ◌++◌, length, length-take-le, take, get_or, refl, sym, ap, ◌∙◌, subst, arith, true, false, map, append_assoc, set, length-set, eq-eqb, ne_eqb, suc, inl, inr}
 use Rattle.std.specs.Prelude.{◌==◌, All, flat_map}
 use Rattle.std.proofs.lemmas.Bool.Decides.{eqb_tells}
-use Rattle.std.proofs.lemmas.List.{append-nil, take_more, get_or-replicate, length-map, map-append, get_or-set_same, get_or-set_other}
+use Rattle.std.proofs.lemmas.List.{append-nil, take_more, length-map, map-append, get_or-set_same, get_or-set_other}
 use Rattle.std.proofs.lemmas.List.Elements.{All-append, All-cons, All-nil}
 use Rattle.std.proofs.lemmas.List.Sums.{length-filter, count_by-le-length}
 use Rattle.random_streams.specs.RandomWords.{RandomStream}
