@@ -1,5 +1,8 @@
 pub mod BoxValues
 pub mod Doublings
+pub mod WordBytes
+pub mod MixedTables
+pub mod ColumnSums
 pub mod Expansion
 pub mod RoundKeys
 pub mod KeyRules

@@ -11,6 +11,8 @@ use rounds::{cipher, inv_cipher};
 use schedule::key_expansion;
 use std::marker::Model;
 
+mod columns;
+mod mixed_tables;
 mod products;
 mod rounds;
 mod schedule;
@@ -21,7 +23,7 @@ mod tables;
 #[derive(Drop)]
 pub struct AesKey {
     rounds: usize,
-    schedule: [u8; 240],
+    schedule: [u32; 60],
 }
 
 impl Model for AesKey {
@@ -59,7 +61,7 @@ impl AesKey {
         requires { IsKey self.now }
         ensures { block.new ≡ aes_encrypt self.now block.old }
     {
-        *block = cipher(&self.schedule, self.rounds, *block);
+        *block = self.encrypt_number(number_of(block)).to_be_bytes();
     }
 
     /// Deciphers a block in place (FIPS 197 section 5.3).
@@ -75,7 +77,7 @@ impl AesKey {
         requires { IsKey self.now }
         ensures { number_block result ≡ aes_encrypt self.now (number_block block) }
     {
-        number_of(&cipher(&self.schedule, self.rounds, block.to_be_bytes()))
+        cipher(&self.schedule, self.rounds, block)
     }
 
     /// The block deciphered, where a block is a number whose highest byte is the block's first.
@@ -91,7 +93,7 @@ impl AesKey {
         ensures { self.new ≡ [] }
     {
         self.rounds = 0;
-        self.schedule = [0; 240];
+        self.schedule = [0; 60];
     }
 }
 
