@@ -5,7 +5,7 @@ use Rattle.std.specs.Int.Bits.{xor_assoc}
 use Rattle.std.proofs.lemmas.Nat.{xor_comm, be_bytes_4}
 use Rattle.crypto_specs.specs.Field.{gf_mul}
 use Rattle.crypto_specs.specs.Sbox.{sbox}
-use Rattle.crypto_specs.specs.Aes.{mixed, sub_bytes, shift_rows, mix_columns}
+use Rattle.crypto_specs.specs.Aes.{sub_bytes, shift_rows, mix_columns}
 use Rattle.crypto_specs.proofs.FieldLaws.{gf_mul-byte}
 use Rattle.aes_core.specs.Words.{bytes_of, mixed_column, products}
 use Rattle.aes_core.proofs.WordBytes.{byte_of_xor-0, byte_of_xor-1, byte_of_xor-2, byte_of_xor-3, row_0, row_1, row_2, row_3, four_words}
@@ -25,7 +25,7 @@ products_bytes a0 a1 a2 a3 b h = be_bytes_4 (gf_mul a0 b ∷ gf_mul a1 b ∷ gf_
 turned : (a b c d : ℕ) → bit_xor (bit_xor (bit_xor a b) c) d ≡ bit_xor (bit_xor (bit_xor b c) d) a
 turned a b c d = ap (λ (n : ℕ). bit_xor n d) (xor_assoc a b c) ∙ xor_assoc a (bit_xor b c) d ∙ xor_comm a (bit_xor (bit_xor b c) d)
 
-list_of : {a b c d e f g h : ℕ} → a ≡ e → b ≡ f → c ≡ g → d ≡ h → a ∷ b ∷ c ∷ d ∷ [] ≡ e ∷ f ∷ g ∷ h ∷ []
+pub list_of : {a b c d e f g h : ℕ} → a ≡ e → b ≡ f → c ≡ g → d ≡ h → a ∷ b ∷ c ∷ d ∷ [] ≡ e ∷ f ∷ g ∷ h ∷ []
 list_of ea eb ec ed = rw (ea, eb, ec, ed) refl
 
 sum_bytes : (t u v w : ℕ) → bytes_of (bit_xor (bit_xor (bit_xor t u) v) w ∷ [])

@@ -3,6 +3,9 @@ pub mod Doublings
 pub mod WordBytes
 pub mod MixedTables
 pub mod ColumnSums
+pub mod InvMixedTables
 pub mod Expansion
 pub mod RoundKeys
+pub mod InvColumns
+pub mod InvSchedule
 pub mod KeyRules

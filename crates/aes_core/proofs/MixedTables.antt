@@ -1,5 +1,5 @@
 -- The tables of the rounds, entry by entry.
-use Rattle.std.proofs.Common.{◌≡◌, ℕ, ◌<◌, true, List, [], ◌∷◌, slice_index, refl, ap, ◌∙◌}
+use Rattle.std.proofs.Common.{◌≡◌, ℕ, ◌<◌, true, slice_index, refl, ap, ◌∙◌}
 use Rattle.crypto_specs.specs.Field.{sum_of_shifts}
 use Rattle.crypto_specs.specs.Sbox.{sbox}
 use Rattle.crypto_specs.proofs.Tables.{holds_values, value_of}

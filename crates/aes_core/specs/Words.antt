@@ -1,5 +1,5 @@
 -- Words of 32 bits, four bytes each, first byte highest. The columns of a state are four such words.
-use Rattle.std.specs.Prelude.{ℕ, List, [], ◌∷◌}
+use Rattle.std.specs.Prelude.{ℕ, List, [], ◌∷◌, slice_index}
 use Rattle.std.specs.Int.{w32, byte_at, from_be_bytes}
 use Rattle.crypto_specs.specs.Field.{gf_mul}
 use Rattle.crypto_specs.specs.Aes.{mixed}
@@ -18,3 +18,7 @@ mixed_column a0 a1 a2 a3 b0 b1 b2 b3 =
 -- the word of the products of b and four elements
 abbrev pub products : ℕ → ℕ → ℕ → ℕ → ℕ → ℕ
 products a0 a1 a2 a3 b = from_be_bytes w32 (gf_mul a0 b ∷ gf_mul a1 b ∷ gf_mul a2 b ∷ gf_mul a3 b ∷ [])
+
+-- InvMixColumns of a column
+abbrev pub inv_mixed_word : List ℕ → List ℕ
+inv_mixed_word t = mixed_column 14 11 13 9 (slice_index t 0) (slice_index t 1) (slice_index t 2) (slice_index t 3)

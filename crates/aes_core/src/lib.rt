@@ -7,11 +7,15 @@ ghost use Rattle.crypto_specs.specs.AesInverse.{aes_decrypt};
 ghost use Rattle.crypto_specs.specs.Modes.{number_block};
 
 use cipher_blocks::number_of;
-use rounds::{cipher, inv_cipher};
+use inv_schedule::inv_key_expansion;
+use rounds::{cipher, eq_inv_cipher, inv_cipher};
 use schedule::key_expansion;
 use std::marker::Model;
 
 mod columns;
+mod inv_columns;
+mod inv_mixed_tables;
+mod inv_schedule;
 mod mixed_tables;
 mod products;
 mod rounds;
@@ -19,11 +23,13 @@ mod schedule;
 mod state;
 mod tables;
 
-/// A key with its schedule. A contract sees the key's bytes, and none of them once it is wiped.
+/// A key with its schedules, for encryption and for decryption. A contract sees the key's bytes, and
+/// none of them once it is wiped.
 #[derive(Drop)]
 pub struct AesKey {
     rounds: usize,
     schedule: [u32; 60],
+    inverse: [u32; 60],
 }
 
 impl Model for AesKey {
@@ -35,7 +41,7 @@ impl Model for AesKey {
 
     ghost view = { λ a. key_of a.rounds a.schedule };
 
-    ghost invariant = { λ a. IsReadyOrWiped a.rounds a.schedule };
+    ghost invariant = { λ a. IsReadyOrWiped a.rounds a.schedule a.inverse };
 }
 
 impl AesKey {
@@ -50,9 +56,12 @@ impl AesKey {
             32 => 14,
             _ => return None,
         };
+        let schedule = key_expansion(key, rounds);
+        let inverse = inv_key_expansion(&schedule, rounds);
         Some(AesKey {
             rounds,
-            schedule: key_expansion(key, rounds),
+            schedule,
+            inverse,
         })
     }
 
@@ -85,15 +94,16 @@ impl AesKey {
         requires { IsKey self.now }
         ensures { number_block result ≡ aes_decrypt self.now (number_block block) }
     {
-        number_of(&inv_cipher(&self.schedule, self.rounds, block.to_be_bytes()))
+        eq_inv_cipher(&self.inverse, self.rounds, block)
     }
 
-    /// Clears the key: its schedule is zeros, and no call takes it from then on.
+    /// Clears the key: its schedules are zeros, and no call takes it from then on.
     pub fn wipe(&mut self)
         ensures { self.new ≡ [] }
     {
         self.rounds = 0;
         self.schedule = [0; 60];
+        self.inverse = [0; 60];
     }
 }
 

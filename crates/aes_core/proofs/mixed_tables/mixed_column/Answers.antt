@@ -1,4 +1,4 @@
-use Rattle.std.proofs.Common.{ℕ, ◌/◌, ◌%◌, ◌^◌, ap, ◌∙◌, arith}
+use Rattle.std.proofs.Common.{ℕ, ◌/◌, ◌^◌, ap, ◌∙◌, arith}
 use Rattle.std.specs.Int.{byte_at}
 use Rattle.crypto_specs.specs.Sbox.{sbox}
 use Rattle.crypto_specs.proofs.CipherInverseBytes.{sbox-byte}

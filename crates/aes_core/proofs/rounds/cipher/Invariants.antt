@@ -1,4 +1,4 @@
-use Rattle.std.proofs.Common.{◌≡◌, ◌-◌, length}
+use Rattle.std.proofs.Common.{◌≡◌, ◌-◌}
 use Rattle.crypto_specs.specs.Modes.{number_block}
 use Rattle.crypto_specs.specs.Aes.{rounds}
 use Rattle.aes_core.specs.Words.{bytes_of}
