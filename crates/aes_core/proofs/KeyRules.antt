@@ -8,10 +8,6 @@ use Rattle.aes_core.proofs.WordBytes.{bytes_of-take}
 use Rattle.aes_core.specs.KeyFields.{IsInvScheduleOf, IsScheduleOf, IsReadyOrWiped, key_of}
 use Rattle.aes_core.proofs.RoundKeys.{AgreeBelow, agree_taken, cipher_same, inv_cipher_same}
 
-pub made : (k s v : List ℕ) (nr : ℕ) → IsKey k → nr ≡ round_count k → key_of nr s ≡ k → bytes_of (take (4 * (nr + 1)) s) ≡ key_schedule k → IsInvScheduleOf nr s v
-    → IsReadyOrWiped nr s v × (key_of nr s ≡ k)
-made k s v nr key er is words inverse = (inl (rw is (record { is_key = key; count = er; words = words; inv_words = inverse })), is)
-
 -- what the fields of a key that is not wiped stand for
 pub ready : (k s v : List ℕ) (nr : ℕ) → IsReadyOrWiped nr s v → key_of nr s ≡ k → IsKey k → IsScheduleOf nr s v k
 ready k s v nr (inl h) is key = rw is at h
