@@ -2,10 +2,10 @@
 use Rattle.std.proofs.Common.{◌≡◌, ℕ, ◌+◌, ◌-◌, ◌*◌, List, length, take, sym, ap, ◌∙◌, inl, inr, arith}
 use Rattle.crypto_specs.specs.Aes.{cipher, aes_encrypt, IsKey}
 use Rattle.crypto_specs.specs.AesInverse.{inv_cipher, aes_decrypt}
-use Rattle.crypto_specs.specs.KeyExpansion.{key_schedule, round_count}
+use Rattle.crypto_specs.specs.KeyExpansion.{key_schedule}
 use Rattle.aes_core.specs.Words.{bytes_of}
 use Rattle.aes_core.proofs.WordBytes.{bytes_of-take}
-use Rattle.aes_core.specs.KeyFields.{IsInvScheduleOf, IsScheduleOf, IsReadyOrWiped, key_of}
+use Rattle.aes_core.specs.KeyFields.{IsScheduleOf, IsReadyOrWiped, key_of}
 use Rattle.aes_core.proofs.RoundKeys.{AgreeBelow, agree_taken, cipher_same, inv_cipher_same}
 
 -- what the fields of a key that is not wiped stand for

@@ -30,10 +30,6 @@ bytes_of_xor a b = rw (byte_of_xor-3 a b, byte_of_xor-2 a b, byte_of_xor-1 a b, 
 
 -- ---- words among others
 
-pub length-bytes_of : (ws : List ℕ) → length (bytes_of ws) ≡ 4 * length ws
-length-bytes_of [] = refl
-length-bytes_of (w ∷ ws) = omega (arith, length-bytes_of ws)
-
 pub bytes_of-append : (vs ws : List ℕ) → bytes_of (vs ++ ws) ≡ bytes_of vs ++ bytes_of ws
 bytes_of-append [] ws = refl
 bytes_of-append (v ∷ vs) ws = ap (λ (l : List ℕ). byte_at 3 v ∷ byte_at 2 v ∷ byte_at 1 v ∷ byte_at 0 v ∷ l) (bytes_of-append vs ws)
