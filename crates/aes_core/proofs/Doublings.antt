@@ -1,21 +1,9 @@
--- Products by the constants of MixColumns and its inverse, as sums of doublings.
+-- Products by the constants of InvMixColumns, as sums of doublings.
 use Rattle.std.proofs.Common.{◌≡◌, ℕ, ◌+◌, ◌-◌, ◌*◌, ◌%◌, ◌^◌, ◌<◌, ◌≤◌, bit_xor, zero-add, sym, ap, ◌∙◌, arith, false}
 use Rattle.std.specs.Prelude.{nat_lt}
 use Rattle.std.specs.Int.Bits.{xor_zero_r, xor_assoc, xor_block}
 use Rattle.std.proofs.lemmas.Bool.{le-ltb}
 use Rattle.crypto_specs.specs.Field.{xtime, gf_mul, sum_of_shifts}
-
-pub gf_mul-1 : (b : ℕ) → gf_mul 1 b ≡ b
-unfolding sum_of_shifts
-gf_mul-1 b = xor_zero_r b
-
-pub gf_mul-2 : (b : ℕ) → gf_mul 2 b ≡ xtime b
-unfolding sum_of_shifts
-gf_mul-2 b = xor_zero_r (xtime b)
-
-pub gf_mul-3 : (b : ℕ) → gf_mul 3 b ≡ bit_xor b (xtime b)
-unfolding sum_of_shifts
-gf_mul-3 b = ap (bit_xor b) (xor_zero_r (xtime b))
 
 pub gf_mul-9 : (b : ℕ) → gf_mul 9 b ≡ bit_xor b (xtime (xtime (xtime b)))
 unfolding sum_of_shifts

@@ -1,12 +1,12 @@
--- The key schedule in the array, word by word.
-use Rattle.std.proofs.Common.{◌≡◌, ℕ, zero, suc, ◌+◌, ◌-◌, ◌*◌, ◌%◌, ◌/◌, ◌<◌, ◌≤◌, List, [], ◌∷◌, ◌++◌, length, take, slice_index, refl, sym, ap, ap₂, ◌∙◌, take-take, length-append, arith}
+-- The key schedule, word by word.
+use Rattle.std.proofs.Common.{◌≡◌, ℕ, zero, suc, ◌+◌, ◌-◌, ◌*◌, ◌%◌, ◌/◌, ◌<◌, ◌≤◌, List, [], ◌∷◌, ◌++◌, length, take, set, slice_index, bit_xor, refl, sym, ap, ap₂, ◌∙◌, take-take, length-append, arith}
 use Rattle.std.proofs.Math.Seq.{take-length}
 use Rattle.std.proofs.lemmas.Bool.{eq-eqb}
-use Rattle.std.proofs.lemmas.List.{get_or-take, take-append-le}
-use borrow.Rule.Slice.PartMut.{put_mid}
-use Rattle.std.proofs.lemmas.Slice.{take-put_mid}
+use Rattle.std.proofs.lemmas.List.{get_or-take, take-append-le, take_more_set}
 use Rattle.crypto_specs.specs.Aes.{IsKey}
 use Rattle.crypto_specs.specs.KeyExpansion.{xor_words, sub_word, rot_word, power_of_x, schedule_core, next_word, add_word, expanded, key_schedule, round_count}
+use Rattle.aes_core.specs.Words.{bytes_of}
+use Rattle.aes_core.proofs.WordBytes.{bytes_of-take, bytes_of-append, bytes_of_xor, word_at_is}
 
 -- the first of the three cases
 pub core_at_start : (words i : ℕ) (t substituted word : List ℕ) (k : ℕ) → i % words ≡ 0 → substituted ≡ sub_word (rot_word t) → k ≡ power_of_x (i / words - 1)
@@ -29,11 +29,35 @@ next_word_of_taken words i s low h =
     ) refl
 
 -- word i written after the words before it
-pub add_word_written : (words i k : ℕ) (s word : List ℕ) → 4 ≤ words → words ≤ i → i < 60 → length s ≡ 240 → length word ≡ 4 → word ≡ next_word words s i
-    → take (4 * (i + 1)) (put_mid (4 * i) k s word) ≡ add_word words i (take (4 * i) s)
-add_word_written words i k s word low h small len four e =
-    let written : take (4 * (i + 1)) (put_mid (4 * i) k s word) ≡ take (4 * i) s ++ word = take-put_mid (4 * i) k s word (4 * (i + 1)) (omega arith) (omega arith) in
-    written ∙ ap (λ (l : List ℕ). take (4 * i) s ++ l) (e ∙ sym (next_word_of_taken words i s low h))
+pub word_added : (words i word : ℕ) (s : List ℕ) → 4 ≤ words → words ≤ i → i < length s → bytes_of (word ∷ []) ≡ next_word words (bytes_of s) i
+    → bytes_of (take (i + 1) (set s i word)) ≡ add_word words i (bytes_of (take i s))
+word_added words i word s low h small e =
+    ap bytes_of (take_more_set s i word small) ∙ bytes_of-append (take i s) (word ∷ [])
+    ∙ ap (λ (l : List ℕ). bytes_of (take i s) ++ l) (e ∙ sym (next_word_of_taken words i (bytes_of s) low h) ∙ ap (λ (l : List ℕ). next_word words l i) (sym (bytes_of-take i s)))
+
+-- word i of the words, and the core of the word before it
+pub next_word_is : (words i core : ℕ) (ws core_bytes : List ℕ) → bytes_of (core ∷ []) ≡ core_bytes → core_bytes ≡ schedule_core words i (bytes_of (slice_index ws (i - 1) ∷ []))
+    → bytes_of (bit_xor (slice_index ws (i - words)) core ∷ []) ≡ next_word words (bytes_of ws) i
+next_word_is words i core ws core_bytes eb ec =
+    bytes_of_xor (slice_index ws (i - words)) core
+    ∙ ap₂ xor_words (sym (word_at_is ws (i - words))) (eb ∙ ec ∙ ap (schedule_core words i) (sym (word_at_is ws (i - 1))))
+
+four_more : (n : ℕ) (key : List ℕ) → n + 4 ≤ length key
+    → take (n + 4) key ≡ take n key ++ (slice_index key n ∷ slice_index key (n + 1) ∷ slice_index key (n + 2) ∷ slice_index key (n + 3) ∷ [])
+four_more zero (a ∷ b ∷ c ∷ d ∷ key) h = refl
+four_more zero key h = absurd (omega arith)
+four_more (suc n) [] h = absurd (omega arith)
+four_more (suc n) (x ∷ key) h =
+    let more : (i : ℕ) → suc n + i ≡ suc (n + i) = λ i. omega arith in
+    rw (more 4, more 1, more 2, more 3) (ap (λ (l : List ℕ). x ∷ l) (four_more n key (omega arith)))
+
+-- a word of the key after those before it
+pub key_word : (i word : ℕ) (s key : List ℕ) → i < length s → bytes_of (take i s) ≡ take (4 * i) key
+    → bytes_of (word ∷ []) ≡ slice_index key (4 * i) ∷ slice_index key (4 * i + 1) ∷ slice_index key (4 * i + 2) ∷ slice_index key (4 * i + 3) ∷ []
+    → 4 * i + 4 ≤ length key → bytes_of (take (i + 1) (set s i word)) ≡ take (4 * (i + 1)) key
+key_word i word s key small before e room =
+    ap bytes_of (take_more_set s i word small) ∙ bytes_of-append (take i s) (word ∷ []) ∙ ap₂ (λ (l m : List ℕ). l ++ m) before e
+    ∙ sym (four_more (4 * i) key room) ∙ ap (λ (n : ℕ). take n key) (omega arith)
 
 pub expanded_next : (words i : ℕ) (key s : List ℕ) → words ≤ i → s ≡ expanded words key (i - words) → add_word words i s ≡ expanded words key (i + 1 - words)
 unfolding expanded
@@ -42,14 +66,13 @@ expanded_next words i key s h e =
     let back : words + (i - words) ≡ i = omega arith in
     rw (n, back, e) refl
 
-pub words_start : (k s : List ℕ) (nr : ℕ) → IsKey k → nr ≡ round_count k → take (length k) s ≡ k → take (4 * (nr - 6)) s ≡ expanded (nr - 6) k (nr - 6 - (nr - 6))
+-- the words of a key begin its schedule
+pub words_start : (k s : List ℕ) (nr : ℕ) → IsKey k → nr ≡ round_count k → bytes_of (take (length k / 4) s) ≡ k → bytes_of (take (nr - 6) s) ≡ expanded (nr - 6) k (nr - 6 - (nr - 6))
 unfolding expanded
 words_start k s nr key er h =
-    let count : 4 * (nr - 6) ≡ length k = omega arith in
-    let none : nr - 6 - (nr - 6) ≡ 0 = omega arith in
-    rw (none, count) h
-
--- ---- the key at the front of its schedule
+    let count : nr - 6 ≡ length k / 4 = omega arith in
+    let none : length k / 4 - length k / 4 ≡ 0 = omega arith in
+    rw (count, none) h
 
 expanded_begins : (words : ℕ) (k : List ℕ) (n : ℕ) → (length k ≤ length (expanded words k n)) × (take (length k) (expanded words k n) ≡ k)
 unfolding expanded
@@ -61,16 +84,17 @@ expanded_begins words k (suc n) =
       take-append-le (length k) w (next_word words w (words + n)) before.0 ∙ before.1,
     )
 
-pub schedule_begins : (k s : List ℕ) (n : ℕ) → length k ≤ n → take n s ≡ key_schedule k → take (length k) s ≡ k
+pub schedule_begins : (k s : List ℕ) (nr : ℕ) → IsKey k → nr ≡ round_count k → bytes_of (take (4 * (nr + 1)) s) ≡ key_schedule k → bytes_of (take (nr - 6) s) ≡ k
 unfolding key_schedule
-schedule_begins k s n h e =
+schedule_begins k s nr key er e =
     let nk : ℕ = length k / 4 in
-    sym (take-take (length k) n s h) ∙ ap (take (length k)) e ∙ (expanded_begins nk k (4 * (nk + 6 + 1) - nk)).1
+    let front : take (nr - 6) s ≡ take (nr - 6) (take (4 * (nr + 1)) s) = sym (take-take (nr - 6) (4 * (nr + 1)) s (omega arith)) in
+    let count : 4 * (nr - 6) ≡ length k = omega arith in
+    ap bytes_of front ∙ bytes_of-take (nr - 6) (take (4 * (nr + 1)) s) ∙ rw (count, e) ((expanded_begins nk k (4 * (nk + 6 + 1) - nk)).1)
 
-pub schedule_done : (k s : List ℕ) (nr i : ℕ) → nr ≡ length k / 4 + 6 → i ≡ 4 * (nr + 1) → take (4 * i) s ≡ expanded (nr - 6) k (i - (nr - 6)) → take (16 * (nr + 1)) s ≡ key_schedule k
+pub schedule_done : (k s : List ℕ) (nr i : ℕ) → nr ≡ length k / 4 + 6 → i ≡ 4 * (nr + 1) → bytes_of (take i s) ≡ expanded (nr - 6) k (i - (nr - 6)) → bytes_of (take (4 * (nr + 1)) s) ≡ key_schedule k
 unfolding key_schedule
 schedule_done k s nr i er ei e =
-    let end : 16 * (nr + 1) ≡ 4 * i = omega arith in
     let words : nr - 6 ≡ length k / 4 = omega arith in
     let count : i - (nr - 6) ≡ 4 * (length k / 4 + 6 + 1) - length k / 4 = omega arith in
-    rw end (e ∙ ap₂ (λ (a b : ℕ). expanded a k b) words count)
+    ap (λ (n : ℕ). bytes_of (take n s)) (sym ei) ∙ e ∙ ap₂ (λ (a b : ℕ). expanded a k b) words count

@@ -1,5 +1,11 @@
 pub mod BoxValues
 pub mod Doublings
+pub mod WordBytes
+pub mod MixedTables
+pub mod ColumnSums
+pub mod InvMixedTables
 pub mod Expansion
 pub mod RoundKeys
+pub mod InvColumns
+pub mod InvSchedule
 pub mod KeyRules

@@ -7,21 +7,29 @@ ghost use Rattle.crypto_specs.specs.AesInverse.{aes_decrypt};
 ghost use Rattle.crypto_specs.specs.Modes.{number_block};
 
 use cipher_blocks::number_of;
-use rounds::{cipher, inv_cipher};
+use inv_schedule::inv_key_expansion;
+use rounds::{cipher, eq_inv_cipher, inv_cipher};
 use schedule::key_expansion;
 use std::marker::Model;
 
+mod columns;
+mod inv_columns;
+mod inv_mixed_tables;
+mod inv_schedule;
+mod mixed_tables;
 mod products;
 mod rounds;
 mod schedule;
 mod state;
 mod tables;
 
-/// A key with its schedule. A contract sees the key's bytes, and none of them once it is wiped.
+/// A key with its schedules, for encryption and for decryption. A contract sees the key's bytes, and
+/// none of them once it is wiped.
 #[derive(Drop)]
 pub struct AesKey {
     rounds: usize,
-    schedule: [u8; 240],
+    schedule: [u32; 60],
+    inverse: [u32; 60],
 }
 
 impl Model for AesKey {
@@ -33,7 +41,7 @@ impl Model for AesKey {
 
     ghost view = { λ a. key_of a.rounds a.schedule };
 
-    ghost invariant = { λ a. IsReadyOrWiped a.rounds a.schedule };
+    ghost invariant = { λ a. IsReadyOrWiped a.rounds a.schedule a.inverse };
 }
 
 impl AesKey {
@@ -48,9 +56,12 @@ impl AesKey {
             32 => 14,
             _ => return None,
         };
+        let schedule = key_expansion(key, rounds);
+        let inverse = inv_key_expansion(&schedule, rounds);
         Some(AesKey {
             rounds,
-            schedule: key_expansion(key, rounds),
+            schedule,
+            inverse,
         })
     }
 
@@ -59,7 +70,7 @@ impl AesKey {
         requires { IsKey self.now }
         ensures { block.new ≡ aes_encrypt self.now block.old }
     {
-        *block = cipher(&self.schedule, self.rounds, *block);
+        *block = self.encrypt_number(number_of(block)).to_be_bytes();
     }
 
     /// Deciphers a block in place (FIPS 197 section 5.3).
@@ -75,7 +86,7 @@ impl AesKey {
         requires { IsKey self.now }
         ensures { number_block result ≡ aes_encrypt self.now (number_block block) }
     {
-        number_of(&cipher(&self.schedule, self.rounds, block.to_be_bytes()))
+        cipher(&self.schedule, self.rounds, block)
     }
 
     /// The block deciphered, where a block is a number whose highest byte is the block's first.
@@ -83,15 +94,16 @@ impl AesKey {
         requires { IsKey self.now }
         ensures { number_block result ≡ aes_decrypt self.now (number_block block) }
     {
-        number_of(&inv_cipher(&self.schedule, self.rounds, block.to_be_bytes()))
+        eq_inv_cipher(&self.inverse, self.rounds, block)
     }
 
-    /// Clears the key: its schedule is zeros, and no call takes it from then on.
+    /// Clears the key: its schedules are zeros, and no call takes it from then on.
     pub fn wipe(&mut self)
         ensures { self.new ≡ [] }
     {
         self.rounds = 0;
-        self.schedule = [0; 240];
+        self.schedule = [0; 60];
+        self.inverse = [0; 60];
     }
 }
 

@@ -1,4 +1,4 @@
-// Products in GF(2^8) by the constants of MixColumns and its inverse, as sums of doublings
+// Products in GF(2^8) by the constants of InvMixColumns, as sums of doublings
 // (FIPS 197 section 4.2.1).
 
 ghost use Rattle.std.specs.Prelude.{◌≡◌};
@@ -9,12 +9,6 @@ pub(crate) fn xtime(b: u8) -> u8
     ensures { result ≡ xtime b }
 {
     if b < 128 { b << 1 } else { (b << 1) ^ 0x1b }
-}
-
-pub(crate) fn times_3(b: u8) -> u8
-    ensures { result ≡ gf_mul 3 b }
-{
-    b ^ xtime(b)
 }
 
 pub(crate) fn times_9(b: u8) -> u8

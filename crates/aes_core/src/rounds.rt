@@ -1,38 +1,56 @@
 // The cipher and its inverse, round by round over the schedule (FIPS 197 sections 5.1 and 5.3).
 
-ghost use Rattle.std.specs.Prelude.{◌≡◌, ◌<◌, ◌≤◌};
+ghost use Rattle.std.specs.Prelude.{◌≡◌, ◌<◌, ◌≤◌, ℕ, List};
+ghost use Rattle.crypto_specs.specs.Modes.{number_block};
 ghost use Rattle.crypto_specs.specs.Aes.{cipher};
 ghost use Rattle.crypto_specs.specs.AesInverse.{inv_cipher};
+ghost use Rattle.aes_core.specs.Words.{bytes_of};
+ghost use Rattle.aes_core.specs.KeyFields.{IsInvScheduleOf};
 
-use crate::state::{
-    add_round_key, inv_mix_columns, inv_shift_rows, inv_sub_bytes, mix_columns, shift_rows,
-    sub_bytes,
-};
+use crate::columns::{add_round_key, block_of, columns_of, last_columns, mixed_columns};
+use crate::inv_columns::{inv_last_columns, inv_mixed_columns};
+use crate::state::{add_key_bytes, inv_mix_columns, inv_shift_rows, inv_sub_bytes};
 
-pub(crate) fn cipher(schedule: &[u8; 240], rounds: usize, block: [u8; 16]) -> [u8; 16]
+// By tables. A block is a number whose highest byte is the first one.
+pub(crate) fn cipher(schedule: &[u32; 60], rounds: usize, block: u128) -> u128
     requires low { 1 ≤ rounds }
     requires high { rounds < 15 }
-    ensures { result ≡ cipher schedule.now rounds block }
+    ensures { number_block result ≡ cipher (bytes_of schedule.now) rounds (number_block block) }
 {
-    let mut state = add_round_key(schedule, block, 0);
+    let mut state = add_round_key(schedule, columns_of(block), 0);
     'rounds: for round in 1..rounds {
-        state = add_round_key(schedule, mix_columns(shift_rows(sub_bytes(state))), round);
+        state = add_round_key(schedule, mixed_columns(state), round);
     }
-    add_round_key(schedule, shift_rows(sub_bytes(state)), rounds)
+    block_of(&add_round_key(schedule, last_columns(state), rounds))
 }
 
-pub(crate) fn inv_cipher(schedule: &[u8; 240], rounds: usize, block: [u8; 16]) -> [u8; 16]
+// The equivalent inverse cipher, by tables (section 5.3.5). A block is a number as above.
+pub(crate) fn eq_inv_cipher(inverse: &[u32; 60], rounds: usize, block: u128) -> u128
     requires low { 1 ≤ rounds }
     requires high { rounds < 15 }
-    ensures { result ≡ inv_cipher schedule.now rounds block }
+    ensures { (schedule : List ℕ) → IsInvScheduleOf rounds schedule inverse.now
+        → number_block result ≡ inv_cipher (bytes_of schedule) rounds (number_block block) }
 {
-    let mut state = add_round_key(schedule, block, rounds);
+    let mut state = add_round_key(inverse, columns_of(block), rounds);
     'inv_rounds: for round in 1..rounds {
-        state = inv_mix_columns(add_round_key(
+        state = add_round_key(inverse, inv_mixed_columns(state), rounds - round);
+    }
+    block_of(&add_round_key(inverse, inv_last_columns(state), 0))
+}
+
+// By the standard's steps, one after another.
+pub(crate) fn inv_cipher(schedule: &[u32; 60], rounds: usize, block: [u8; 16]) -> [u8; 16]
+    requires low { 1 ≤ rounds }
+    requires high { rounds < 15 }
+    ensures { result ≡ inv_cipher (bytes_of schedule.now) rounds block }
+{
+    let mut state = add_key_bytes(schedule, block, rounds);
+    'inv_rounds: for round in 1..rounds {
+        state = inv_mix_columns(add_key_bytes(
             schedule,
             inv_sub_bytes(inv_shift_rows(state)),
             rounds - round,
         ));
     }
-    add_round_key(schedule, inv_sub_bytes(inv_shift_rows(state)), 0)
+    add_key_bytes(schedule, inv_sub_bytes(inv_shift_rows(state)), 0)
 }

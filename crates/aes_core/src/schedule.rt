@@ -1,26 +1,16 @@
-// The key expansion (FIPS 197 section 5.2). A schedule is an array of the words' bytes, with room
-// for the 60 words of the longest one.
+// The key expansion (FIPS 197 section 5.2). A schedule is an array of words, first byte highest, with
+// room for the 60 words of the longest one.
 
-ghost use Rattle.std.specs.Prelude.{◌≡◌, ◌+◌, ◌*◌, ◌<◌, ◌≤◌, length, take};
+ghost use Rattle.std.specs.Prelude.{◌≡◌, ◌+◌, ◌-◌, ◌*◌, ◌/◌, ◌<◌, ◌≤◌, [], ◌∷◌, length, take};
 ghost use Rattle.crypto_specs.specs.Aes.{IsKey};
-ghost use Rattle.crypto_specs.specs.KeyExpansion.{word_at, xor_words, sub_word, rot_word, schedule_core, next_word, add_word, key_schedule, round_count};
+ghost use Rattle.crypto_specs.specs.KeyExpansion.{xor_words, sub_word, rot_word, schedule_core, next_word, key_schedule, round_count};
+ghost use Rattle.aes_core.specs.Words.{bytes_of};
 
+use crate::columns::word_of;
 use crate::tables::sub_byte;
 
 // Rcon: the first byte of each round constant, the powers of x.
 const ROUND_CONSTANTS: [u8; 10] = [0x01, 0x02, 0x04, 0x08, 0x10, 0x20, 0x40, 0x80, 0x1b, 0x36];
-
-fn word_at(schedule: &[u8; 240], i: usize) -> [u8; 4]
-    requires { i < 60 }
-    ensures { result ≡ word_at schedule.now i }
-{
-    [
-        schedule[4 * i],
-        schedule[4 * i + 1],
-        schedule[4 * i + 2],
-        schedule[4 * i + 3],
-    ]
-}
 
 fn xor_words(a: [u8; 4], b: [u8; 4]) -> [u8; 4]
     ensures { result ≡ xor_words a b }
@@ -65,53 +55,42 @@ fn schedule_core(words: usize, i: usize, t: [u8; 4]) -> [u8; 4]
 }
 
 // Word `i` of the schedule, from the words before it.
-fn next_word(schedule: &[u8; 240], words: usize, i: usize) -> [u8; 4]
+fn next_word(schedule: &[u32; 60], words: usize, i: usize) -> u32
     requires low { 4 ≤ words }
     requires high { words ≤ i }
     requires small { i < 11 * words }
     requires end { i < 60 }
-    ensures { result ≡ next_word words schedule.now i }
+    ensures { bytes_of (result ∷ []) ≡ next_word words (bytes_of schedule.now) i }
 {
-    let core = schedule_core(words, i, word_at(schedule, i - 1));
-    xor_words(word_at(schedule, i - words), core)
+    let core = schedule_core(words, i, schedule[i - 1].to_be_bytes());
+    schedule[i - words] ^ word_of(&core)
 }
 
-// Adds word `i` to the words before it.
-fn add_word(schedule: &mut [u8; 240], words: usize, i: usize)
-    requires low { 4 ≤ words }
-    requires high { words ≤ i }
-    requires small { i < 11 * words }
-    requires end { i < 60 }
-    ensures length { length schedule.new ≡ 240 }
-    ensures words { take (4 * (i + 1)) schedule.new ≡ add_word words i (take (4 * i) schedule.old) }
+// The words of a key, and zeros after them.
+fn with_room(key: &[u8]) -> [u32; 60]
+    requires { IsKey key.now }
+    ensures length { length result ≡ 60 }
+    ensures words { bytes_of (take (length key.now / 4) result) ≡ key.now }
 {
-    let word = next_word(schedule, words, i);
-    schedule[4 * i..4 * i + 4].copy_from_slice(&word);
-}
-
-// The key, and zeros after it.
-fn with_room(key: &[u8]) -> [u8; 240]
-    requires { length key.now ≤ 240 }
-    ensures { take (length key.now) result ≡ key.now }
-{
-    let mut schedule = [0; 240];
-    'bytes: for i in 0..key.len() {
-        schedule[i] = key[i];
+    let mut schedule = [0; 60];
+    'words: for i in 0..key.len() / 4 {
+        schedule[i] = word_of(&[key[4 * i], key[4 * i + 1], key[4 * i + 2], key[4 * i + 3]]);
     }
     schedule
 }
 
 // The schedule of a key that has so many rounds.
-pub(crate) fn key_expansion(key: &[u8], rounds: usize) -> [u8; 240]
+pub(crate) fn key_expansion(key: &[u8], rounds: usize) -> [u32; 60]
     requires key { IsKey key.now }
     requires count { rounds ≡ round_count key.now }
-    ensures key { take (length key.now) result ≡ key.now }
-    ensures words { take (16 * (rounds + 1)) result ≡ key_schedule key.now }
+    ensures key { bytes_of (take (rounds - 6) result) ≡ key.now }
+    ensures words { bytes_of (take (4 * (rounds + 1)) result) ≡ key_schedule key.now }
 {
     let words = rounds - 6;
     let mut schedule = with_room(key);
     'words: for i in words..4 * (rounds + 1) {
-        add_word(&mut schedule, words, i);
+        let word = next_word(&schedule, words, i);
+        schedule[i] = word;
     }
     schedule
 }

@@ -67,10 +67,10 @@ fn key_of(halves: [u128; 2], length: usize) -> Option<AesKey>
 
 // Round key `rounds` of a key.
 fn last_round_key(key: &AesKey) -> Option<u128> {
-    let at = 16 * key.rounds;
+    let at = 4 * key.rounds;
     let mut number = 0;
-    'bytes: for i in 0..16 {
-        number = number << 8 | u128::from(*key.schedule.get(at + i)?);
+    'words: for i in 0..4 {
+        number = number << 32 | u128::from(*key.schedule.get(at + i)?);
     }
     Some(number)
 }
@@ -81,7 +81,7 @@ fn schedules(rt: HostRuntime) -> Result<(), Fail> {
         let mut key = key_of(*halves, *length).ok_or("key")?;
         assert_eq!(rt; last_round_key(&key), Some(*expected));
         key.wipe();
-        assert_eq!(rt; key.schedule, [0; 240]);
+        assert_eq!(rt; key.schedule, [0; 60]);
     }
     Ok(())
 }

@@ -66,6 +66,27 @@ moved s t e width start n k lt h ew ec eb eu le = record {
   block = λ _. eb ∙ h.block lt;
 }
 
+-- a block of a text, and the next block of the stream, of which none is kept
+pub block_is : (s : KeyStream) (e : List ℕ → List ℕ) (width : CounterWidth) (start n : ℕ) (block : List ℕ) → ((b : List ℕ) → length (e b) ≡ 16) → s.used ≡ 16 → length block ≡ 16 → IsAt s e width start n
+    → xor_bytes block (e (number_block s.counter)) ≡ text_xor e width start n block
+unfolding byte_of_stream stream_block
+block_is s e width start n block long used whole h =
+    by_byte e width start block (e (number_block s.counter)) n (omega (arith, long (number_block s.counter))) (λ i below.
+    let row : h.blocks ≡ (n + i) / 16 = omega (arith, h.place) in
+    let place : i ≡ (n + i) % 16 = omega (arith, h.place) in
+    ap₂ slice_index (ap (λ (c : ℕ). e (number_block c)) h.counter ∙ ap (stream_block e width start) row) place)
+
+pub block_on : (s t : KeyStream) (e : List ℕ → List ℕ) (width : CounterWidth) (start n : ℕ) → s.used ≡ 16 → IsAt s e width start n → t.width ≡ s.width → t.used ≡ 16
+    → t.counter ≡ counted s.width s.counter 1 → IsAt t e width start (n + 16)
+block_on s t e width start n u h ew eu ec = record {
+  blocks = h.blocks + 1;
+  counts = ew ∙ h.counts;
+  counter = ec ∙ ap (λ (w : CounterWidth). counted w s.counter 1) h.counts ∙ next_counted width start h.blocks s.counter h.counter;
+  place = omega (arith, h.place);
+  used = omega arith;
+  block = λ lt. absurd (omega arith);
+}
+
 -- a further run of a piece, in place
 pub run_done : (e : List ℕ → List ℕ) (width : CounterWidth) (start n : ℕ) (whole now out : List ℕ) (done k : ℕ) → done ≤ length whole
     → now ≡ text_xor e width start n (take done whole) ++ drop done whole

@@ -1,11 +1,12 @@
 ghost use Rattle.std.specs.Prelude.{◌≡◌, ℕ, ◌+◌, ◌<◌, ◌≤◌, List, ◌++◌, length, take, drop};
 ghost use Rattle.crypto_specs.specs.Aes.{aes_encrypt, IsKey};
-ghost use Rattle.key_streams.specs.Counters.{text_xor};
+ghost use Rattle.crypto_specs.specs.Modes.{number_block};
+ghost use Rattle.key_streams.specs.Counters.{counted, text_xor};
 ghost use Rattle.key_streams.specs.Streams.{IsAt, IsClearStream};
 
 use crate::width::CounterWidth;
 use aes_core::AesKey;
-use cipher_blocks::xor_bytes_into;
+use cipher_blocks::{number_of, set_number, xor_bytes_into};
 
 /// A place in the key stream that a cipher makes of the blocks from a first counter block on. The key
 /// stands apart: each call takes it, and it has to be the same one.
@@ -63,8 +64,41 @@ impl KeyStream {
         }
     }
 
-    // Takes the front of a piece, as far as one block goes, and answers how many bytes that is.
+    // Takes the front of a piece, as far as one block goes, and answers how many bytes that is. A whole
+    // block goes by its number, and isn't kept.
     fn xor_run(&mut self, key: &AesKey, piece: &mut [u8]) -> usize
+        requires key { IsKey key.now }
+        requires some { 0 < length piece.old }
+        ensures some { 0 < result }
+        ensures within { result ≤ length piece.old }
+        ensures text { (width : CounterWidth) (start n : ℕ) → IsAt self.old (aes_encrypt key.now) width start n
+            → piece.new ≡ text_xor (aes_encrypt key.now) width start n (take result piece.old) ++ drop result piece.old }
+        ensures at { (width : CounterWidth) (start n : ℕ) → IsAt self.old (aes_encrypt key.now) width start n
+            → IsAt self.new (aes_encrypt key.now) width start (n + result) }
+    {
+        if self.used != 16 || piece.len() < 16 {
+            return self.xor_part(key, piece);
+        }
+        self.xor_block(key, &mut piece[..16]);
+        16
+    }
+
+    // Takes a block of a text, where the last one of the stream is used up.
+    fn xor_block(&mut self, key: &AesKey, block: &mut [u8])
+        requires key { IsKey key.now }
+        requires used { self.old.used ≡ 16 }
+        requires whole { length block.old ≡ 16 }
+        ensures text { (width : CounterWidth) (start n : ℕ) → IsAt self.old (aes_encrypt key.now) width start n
+            → block.new ≡ text_xor (aes_encrypt key.now) width start n block.old }
+        ensures at { (width : CounterWidth) (start n : ℕ) → IsAt self.old (aes_encrypt key.now) width start n
+            → IsAt self.new (aes_encrypt key.now) width start (n + 16) }
+    {
+        let mask = self.next_block(key);
+        set_number(block, number_of(block) ^ mask);
+    }
+
+    // Takes the front of a piece, as far as the last block goes or else the next one.
+    fn xor_part(&mut self, key: &AesKey, piece: &mut [u8]) -> usize
         requires key { IsKey key.now }
         requires some { 0 < length piece.old }
         ensures some { 0 < result }
@@ -99,8 +133,20 @@ impl KeyStream {
         ensures at { (width : CounterWidth) (start n : ℕ) → self.old.used ≡ 16
             → IsAt self.old (aes_encrypt key.now) width start n → IsAt self.new (aes_encrypt key.now) width start n }
     {
-        self.block = key.encrypt_number(self.counter).to_be_bytes();
-        self.counter = self.width.next(self.counter);
+        self.block = self.next_block(key).to_be_bytes();
         self.used = 0;
+    }
+
+    // The next block of the stream, as a number.
+    fn next_block(&mut self, key: &AesKey) -> u128
+        requires { IsKey key.now }
+        ensures block { number_block result ≡ aes_encrypt key.now (number_block self.old.counter) }
+        ensures counter { self.new.counter ≡ counted self.old.width self.old.counter 1 }
+        ensures width { self.new.width ≡ self.old.width }
+        ensures used { self.new.used ≡ self.old.used }
+    {
+        let block = key.encrypt_number(self.counter);
+        self.counter = self.width.next(self.counter);
+        block
     }
 }

@@ -1,8 +1,8 @@
-use Rattle.std.proofs.Common.{◌∙◌}
-use Rattle.aes_core.proofs.KeyRules.{ready, cipher_of}
+use Rattle.std.proofs.Common.{◌∙◌, ap}
+use Rattle.crypto_specs.specs.Modes.{number_block}
+use Rattle.crypto_specs.specs.Aes.{aes_encrypt}
 use Rattle.aes_core.proofs.AesKey.encrypt_block.Goals as goal
 
 pub returns : goal.returns
-returns c =
-    let s = c.self.inside in
-    c.cipher.ensures ∙ cipher_of c.args.self.now s.schedule c.args.block.now s.rounds (ready c.args.self.now s.schedule s.rounds c.self.invariant c.self.view_is c.requires)
+unfolding number_block
+returns c = c.to_be_bytes.ensures ∙ c.encrypt_number.ensures ∙ ap (aes_encrypt c.args.self.now) c.number_of.ensures.block

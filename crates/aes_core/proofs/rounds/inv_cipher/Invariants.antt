@@ -1,6 +1,7 @@
 use Rattle.std.proofs.Common.{◌≡◌, ◌-◌, length}
 use Rattle.crypto_specs.specs.AesInverse.{inv_rounds}
+use Rattle.aes_core.specs.Words.{bytes_of}
 use Rattle.aes_core.proofs.rounds.inv_cipher.Given as goal
 
 abbrev pub invariant-inv_rounds : goal.invariant-inv_rounds
-invariant-inv_rounds l = (l.state ≡ inv_rounds l.schedule l.rounds l.fn.block (l.round - 1)) × (length l.state ≡ 16)
+invariant-inv_rounds l = (l.state ≡ inv_rounds (bytes_of l.schedule) l.rounds l.fn.block (l.round - 1)) × (length l.state ≡ 16)

@@ -1,14 +1,19 @@
-use Rattle.std.proofs.Common.{◌≡◌, ◌∙◌, ◌*◌, ◌+◌, arith}
-use Rattle.aes_core.proofs.Expansion.{expanded_next, schedule_done, schedule_begins, words_start}
+use Rattle.std.proofs.Common.{◌≡◌, ◌∙◌, ◌*◌, ◌+◌, ◌-◌, arith}
+use Rattle.std.proofs.lemmas.List.{length-set}
+use Rattle.aes_core.proofs.Expansion.{word_added, expanded_next, schedule_done, schedule_begins, words_start}
 use Rattle.aes_core.proofs.schedule.key_expansion.Goals as goal
 
 pub words-init : goal.words-init
-words-init c = (omega arith, words_start c.args.key.now c.with_room-schedule.result c.args.rounds c.requires.key c.requires.count c.with_room-schedule.ensures)
+words-init c = (
+  c.with_room-schedule.ensures.length,
+  words_start c.args.key.now c.with_room-schedule.result c.args.rounds c.requires.key c.requires.count c.with_room-schedule.ensures.words,
+)
 
 pub words-preserved : goal.words-preserved
 words-preserved c = (
-  c.add_word.ensures.length,
-  c.add_word.ensures.words ∙ expanded_next _ c.words.i c.args.key.now _ (c.words.auto.i) c.words.invariant.1,
+  length-set c.words.schedule c.words.i c.next_word-word.result ∙ c.words.invariant.0,
+  word_added (c.args.rounds - 6) c.words.i _ c.words.schedule (omega arith) c.words.auto.i (omega arith) c.next_word-word.ensures
+      ∙ expanded_next _ c.words.i c.args.key.now _ c.words.auto.i c.words.invariant.1,
 )
 
 pub returns : goal.returns
@@ -16,6 +21,6 @@ returns c =
     let end : c.words.i ≡ 4 * (c.args.rounds + 1) = omega (arith, c.words.auto.i-end (omega arith)) in
     let words = schedule_done c.args.key.now c.words.schedule c.args.rounds c.words.i c.requires.count end c.words.invariant.1 in
     record {
-      key = schedule_begins c.args.key.now c.words.schedule _ (omega arith) words;
+      key = schedule_begins c.args.key.now c.words.schedule c.args.rounds c.requires.key c.requires.count words;
       words = words;
     }

@@ -1,6 +1,7 @@
-use Rattle.std.proofs.Common.{◌≡◌, ◌*◌, ◌-◌, length, take}
+use Rattle.std.proofs.Common.{◌≡◌, ◌-◌, length, take}
 use Rattle.crypto_specs.specs.KeyExpansion.{expanded}
+use Rattle.aes_core.specs.Words.{bytes_of}
 use Rattle.aes_core.proofs.schedule.key_expansion.Given as goal
 
 abbrev pub invariant-words : goal.invariant-words
-invariant-words l = (length l.schedule ≡ 240) × (take (4 * l.i) l.schedule ≡ expanded l.words l.key (l.i - l.words))
+invariant-words l = (length l.schedule ≡ 60) × (bytes_of (take l.i l.schedule) ≡ expanded l.words l.key (l.i - l.words))

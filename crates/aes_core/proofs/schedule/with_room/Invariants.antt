@@ -1,5 +1,6 @@
-use Rattle.std.proofs.Common.{◌≡◌, length, take}
+use Rattle.std.proofs.Common.{◌≡◌, ◌*◌, length, take}
+use Rattle.aes_core.specs.Words.{bytes_of}
 use Rattle.aes_core.proofs.schedule.with_room.Given as goal
 
-abbrev pub invariant-bytes : goal.invariant-bytes
-invariant-bytes l = (length l.schedule ≡ 240) × (take l.i l.schedule ≡ take l.i l.key)
+abbrev pub invariant-words : goal.invariant-words
+invariant-words l = (length l.schedule ≡ 60) × (bytes_of (take l.i l.schedule) ≡ take (4 * l.i) l.key)

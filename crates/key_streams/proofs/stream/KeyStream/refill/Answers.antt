@@ -7,4 +7,4 @@ use Rattle.key_streams.proofs.stream.KeyStream.refill.Goals as goal
 pub returns-clause-at : goal.returns-clause-at
 unfolding number_block
 returns-clause-at c = λ width start n u h.
-    refilled c.args.self.now _ (aes_encrypt c.args.key.now) width start n u h refl refl c.next-self.ensures (c.to_be_bytes-self.ensures ∙ c.encrypt_number.ensures)
+    refilled c.args.self.now _ (aes_encrypt c.args.key.now) width start n u h c.next_block.ensures.width refl c.next_block.ensures.counter (c.to_be_bytes-self.ensures ∙ c.next_block.ensures.block)

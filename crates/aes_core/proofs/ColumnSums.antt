@@ -1,0 +1,113 @@
+-- Four table entries sum up to a column.
+use Rattle.std.proofs.Common.{◌≡◌, ℕ, zero, suc, ◌<◌, List, [], ◌∷◌, slice_index, bit_xor, refl, sym, ap, ap₂, ◌∙◌, arith}
+use Rattle.std.specs.Int.{byte_at}
+use Rattle.std.specs.Int.Bits.{xor_assoc}
+use Rattle.std.proofs.lemmas.Nat.{xor_comm, be_bytes_4}
+use Rattle.crypto_specs.specs.Field.{gf_mul}
+use Rattle.crypto_specs.specs.Sbox.{sbox}
+use Rattle.crypto_specs.specs.Aes.{sub_bytes, shift_rows, mix_columns}
+use Rattle.crypto_specs.proofs.FieldLaws.{gf_mul-byte}
+use Rattle.aes_core.specs.Words.{bytes_of, mixed_column, products}
+use Rattle.aes_core.proofs.WordBytes.{byte_of_xor-0, byte_of_xor-1, byte_of_xor-2, byte_of_xor-3, row_0, row_1, row_2, row_3, four_words}
+
+-- the bytes of a word of products
+products_bytes : (a0 a1 a2 a3 b : ℕ) → b < 256 → bytes_of (products a0 a1 a2 a3 b ∷ []) ≡ gf_mul a0 b ∷ gf_mul a1 b ∷ gf_mul a2 b ∷ gf_mul a3 b ∷ []
+products_bytes a0 a1 a2 a3 b h = be_bytes_4 (gf_mul a0 b ∷ gf_mul a1 b ∷ gf_mul a2 b ∷ gf_mul a3 b ∷ []) (products a0 a1 a2 a3 b) refl all refl
+  where
+    all : (i : ℕ) → slice_index (gf_mul a0 b ∷ gf_mul a1 b ∷ gf_mul a2 b ∷ gf_mul a3 b ∷ []) i < 256
+    all zero = gf_mul-byte a0 b h
+    all (suc zero) = gf_mul-byte a1 b h
+    all (suc (suc zero)) = gf_mul-byte a2 b h
+    all (suc (suc (suc zero))) = gf_mul-byte a3 b h
+    all (suc (suc (suc (suc i)))) = omega arith
+
+-- a sum of four, turned
+turned : (a b c d : ℕ) → bit_xor (bit_xor (bit_xor a b) c) d ≡ bit_xor (bit_xor (bit_xor b c) d) a
+turned a b c d = ap (λ (n : ℕ). bit_xor n d) (xor_assoc a b c) ∙ xor_assoc a (bit_xor b c) d ∙ xor_comm a (bit_xor (bit_xor b c) d)
+
+pub list_of : {a b c d e f g h : ℕ} → a ≡ e → b ≡ f → c ≡ g → d ≡ h → a ∷ b ∷ c ∷ d ∷ [] ≡ e ∷ f ∷ g ∷ h ∷ []
+list_of ea eb ec ed = rw (ea, eb, ec, ed) refl
+
+sum_bytes : (t u v w : ℕ) → bytes_of (bit_xor (bit_xor (bit_xor t u) v) w ∷ [])
+    ≡ bit_xor (bit_xor (bit_xor (byte_at 3 t) (byte_at 3 u)) (byte_at 3 v)) (byte_at 3 w)
+    ∷ bit_xor (bit_xor (bit_xor (byte_at 2 t) (byte_at 2 u)) (byte_at 2 v)) (byte_at 2 w)
+    ∷ bit_xor (bit_xor (bit_xor (byte_at 1 t) (byte_at 1 u)) (byte_at 1 v)) (byte_at 1 w)
+    ∷ bit_xor (bit_xor (bit_xor (byte_at 0 t) (byte_at 0 u)) (byte_at 0 v)) (byte_at 0 w) ∷ []
+sum_bytes t u v w =
+    let three : (f : ℕ → ℕ) → ((a b : ℕ) → f (bit_xor a b) ≡ bit_xor (f a) (f b)) → f (bit_xor (bit_xor (bit_xor t u) v) w) ≡ bit_xor (bit_xor (bit_xor (f t) (f u)) (f v)) (f w) =
+    λ f h. h (bit_xor (bit_xor t u) v) w ∙ ap (λ (n : ℕ). bit_xor n (f w)) (h (bit_xor t u) v ∙ ap (λ (n : ℕ). bit_xor n (f v)) (h t u)) in
+    list_of (three (byte_at 3) byte_of_xor-3) (three (byte_at 2) byte_of_xor-2) (three (byte_at 1) byte_of_xor-1) (three (byte_at 0) byte_of_xor-0)
+
+pub column_of_entries : (a0 a1 a2 a3 p q r s t u v w : ℕ) → p < 256 → q < 256 → r < 256 → s < 256
+    → t ≡ products a0 a3 a2 a1 p → u ≡ products a1 a0 a3 a2 q → v ≡ products a2 a1 a0 a3 r → w ≡ products a3 a2 a1 a0 s
+    → bytes_of (bit_xor (bit_xor (bit_xor t u) v) w ∷ []) ≡ mixed_column a0 a1 a2 a3 p q r s
+column_of_entries a0 a1 a2 a3 p q r s t u v w hp hq hr hs et eu ev ew =
+    let at : (n : ℕ) (l : List ℕ) → bytes_of (n ∷ []) ≡ l → (i : ℕ) → slice_index (bytes_of (n ∷ [])) i ≡ slice_index l i = λ n l e i. ap (λ (m : List ℕ). slice_index m i) e in
+    let word : (n m : ℕ) → n ≡ m → bytes_of (n ∷ []) ≡ bytes_of (m ∷ []) = λ n m e. ap (λ (k : ℕ). bytes_of (k ∷ [])) e in
+    let bt = at t _ (word t _ et ∙ products_bytes a0 a3 a2 a1 p hp) in
+    let bu = at u _ (word u _ eu ∙ products_bytes a1 a0 a3 a2 q hq) in
+    let bv = at v _ (word v _ ev ∙ products_bytes a2 a1 a0 a3 r hr) in
+    let bw = at w _ (word w _ ew ∙ products_bytes a3 a2 a1 a0 s hs) in
+    let sum : (x y z o x' y' z' o' : ℕ) → x ≡ x' → y ≡ y' → z ≡ z' → o ≡ o' → bit_xor (bit_xor (bit_xor x y) z) o ≡ bit_xor (bit_xor (bit_xor x' y') z') o' =
+    λ x y z o x' y' z' o' ex ey ez eo. ap₂ bit_xor (ap₂ bit_xor (ap₂ bit_xor ex ey) ez) eo in
+    let m : ℕ → ℕ → ℕ = gf_mul in
+    sum_bytes t u v w
+    ∙ list_of
+    (sum _ _ _ _ _ _ _ _ (bt 0) (bu 0) (bv 0) (bw 0))
+    (sum _ _ _ _ _ _ _ _ (bt 1) (bu 1) (bv 1) (bw 1) ∙ turned (m a3 p) (m a0 q) (m a1 r) (m a2 s))
+    (sum _ _ _ _ _ _ _ _ (bt 2) (bu 2) (bv 2) (bw 2) ∙ turned (m a2 p) (m a3 q) (m a0 r) (m a1 s) ∙ turned (m a3 q) (m a0 r) (m a1 s) (m a2 p))
+    (sum _ _ _ _ _ _ _ _ (bt 3) (bu 3) (bv 3) (bw 3) ∙ sym (turned (m a0 s) (m a1 p) (m a2 q) (m a3 r)))
+
+-- the columns of a round
+pub mixed_state : (s : List ℕ) (x y z w : ℕ) → let at = slice_index s in
+    bytes_of (x ∷ []) ≡ mixed_column 2 3 1 1 (sbox (byte_at 3 (at 0))) (sbox (byte_at 2 (at 1))) (sbox (byte_at 1 (at 2))) (sbox (byte_at 0 (at 3)))
+    → bytes_of (y ∷ []) ≡ mixed_column 2 3 1 1 (sbox (byte_at 3 (at 1))) (sbox (byte_at 2 (at 2))) (sbox (byte_at 1 (at 3))) (sbox (byte_at 0 (at 0)))
+    → bytes_of (z ∷ []) ≡ mixed_column 2 3 1 1 (sbox (byte_at 3 (at 2))) (sbox (byte_at 2 (at 3))) (sbox (byte_at 1 (at 0))) (sbox (byte_at 0 (at 1)))
+    → bytes_of (w ∷ []) ≡ mixed_column 2 3 1 1 (sbox (byte_at 3 (at 3))) (sbox (byte_at 2 (at 0))) (sbox (byte_at 1 (at 1))) (sbox (byte_at 0 (at 2)))
+    → bytes_of (x ∷ y ∷ z ∷ w ∷ []) ≡ mix_columns (shift_rows (sub_bytes (bytes_of s)))
+mixed_state s x y z w ex ey ez ew =
+    rw (
+      row_0 s 0,
+      row_1 s 0,
+      row_2 s 0,
+      row_3 s 0,
+      row_0 s 1,
+      row_1 s 1,
+      row_2 s 1,
+      row_3 s 1,
+      row_0 s 2,
+      row_1 s 2,
+      row_2 s 2,
+      row_3 s 2,
+      row_0 s 3,
+      row_1 s 3,
+      row_2 s 3,
+      row_3 s 3,
+    ) (four_words x y z w _ _ _ _ ex ey ez ew)
+
+-- and of the last one
+pub last_state : (s : List ℕ) (x y z w : ℕ) → let at = slice_index s in
+    bytes_of (x ∷ []) ≡ sbox (byte_at 3 (at 0)) ∷ sbox (byte_at 2 (at 1)) ∷ sbox (byte_at 1 (at 2)) ∷ sbox (byte_at 0 (at 3)) ∷ []
+    → bytes_of (y ∷ []) ≡ sbox (byte_at 3 (at 1)) ∷ sbox (byte_at 2 (at 2)) ∷ sbox (byte_at 1 (at 3)) ∷ sbox (byte_at 0 (at 0)) ∷ []
+    → bytes_of (z ∷ []) ≡ sbox (byte_at 3 (at 2)) ∷ sbox (byte_at 2 (at 3)) ∷ sbox (byte_at 1 (at 0)) ∷ sbox (byte_at 0 (at 1)) ∷ []
+    → bytes_of (w ∷ []) ≡ sbox (byte_at 3 (at 3)) ∷ sbox (byte_at 2 (at 0)) ∷ sbox (byte_at 1 (at 1)) ∷ sbox (byte_at 0 (at 2)) ∷ []
+    → bytes_of (x ∷ y ∷ z ∷ w ∷ []) ≡ shift_rows (sub_bytes (bytes_of s))
+last_state s x y z w ex ey ez ew =
+    rw (
+      row_0 s 0,
+      row_1 s 0,
+      row_2 s 0,
+      row_3 s 0,
+      row_0 s 1,
+      row_1 s 1,
+      row_2 s 1,
+      row_3 s 1,
+      row_0 s 2,
+      row_1 s 2,
+      row_2 s 2,
+      row_3 s 2,
+      row_0 s 3,
+      row_1 s 3,
+      row_2 s 3,
+      row_3 s 3,
+    ) (four_words x y z w _ _ _ _ ex ey ez ew)

@@ -1,0 +1,6 @@
+use Rattle.std.proofs.Common.{arith}
+use Rattle.aes_core.proofs.WordBytes.{block_of_words}
+use Rattle.aes_core.proofs.columns.block_of.Goals as goal
+
+pub returns : goal.returns
+returns c = block_of_words c.args.s.now _ c.told-s (omega arith) (omega arith) (omega arith) (omega arith)

@@ -1,0 +1,6 @@
+use Rattle.std.proofs.Common.{◌≡◌, length}
+use Rattle.aes_core.proofs.InvSchedule.{IsDoneBelow}
+use Rattle.aes_core.proofs.inv_schedule.inv_key_expansion.Given as goal
+
+abbrev pub invariant-words : goal.invariant-words
+invariant-words l = (length l.inverse ≡ 60) × IsDoneBelow l.i l.schedule l.inverse

@@ -1,0 +1,9 @@
+use Rattle.std.proofs.Common.{◌≡◌, ◌-◌, ℕ, List}
+use Rattle.crypto_specs.specs.Modes.{number_block}
+use Rattle.crypto_specs.specs.AesInverse.{inv_rounds}
+use Rattle.aes_core.specs.Words.{bytes_of}
+use Rattle.aes_core.specs.KeyFields.{IsInvScheduleOf}
+use Rattle.aes_core.proofs.rounds.eq_inv_cipher.Given as goal
+
+abbrev pub invariant-inv_rounds : goal.invariant-inv_rounds
+invariant-inv_rounds l = (schedule : List ℕ) → IsInvScheduleOf l.rounds schedule l.inverse → bytes_of l.state ≡ inv_rounds (bytes_of schedule) l.rounds (number_block l.block) (l.round - 1)

@@ -1,0 +1,9 @@
+use Rattle.std.proofs.Common.{ap, ◌∙◌}
+use Rattle.crypto_specs.specs.KeyExpansion.{schedule_core}
+use Rattle.aes_core.proofs.Expansion.{next_word_is}
+use Rattle.aes_core.proofs.schedule.next_word.Goals as goal
+
+pub returns : goal.returns
+returns c =
+    next_word_is c.args.words c.args.i c.word_of.result c.args.schedule.now _ c.word_of.ensures
+    (c.schedule_core-core.ensures ∙ ap (schedule_core c.args.words c.args.i) c.to_be_bytes.ensures)
