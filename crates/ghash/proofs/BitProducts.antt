@@ -39,3 +39,7 @@ bits_next z x v next w i all h en ew e =
 pub bits_done : (z x v n : ℕ) → n ≡ 0 → bit_xor z (sum_of_shifts n x v) ≡ z
 unfolding sum_of_shifts
 bits_done z x v n e = rw e (xor_zero_r z)
+
+pub no_terms : (a v : ℕ) → 0 ≡ sum_of_shifts 0 a v
+unfolding sum_of_shifts
+no_terms a v = refl

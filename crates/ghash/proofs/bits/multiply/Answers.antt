@@ -1,7 +1,7 @@
 use Rattle.std.proofs.Common.{◌∙◌, sym, arith}
-use Rattle.ghash.proofs.Products.{term_set, term_clear, bits_next, bits_done}
-use Rattle.ghash.proofs.multiply.Goals as goal
-use Rattle.ghash.proofs.multiply.Goals.{then-x-i-eq1, else-x-i-eq1}
+use Rattle.ghash.proofs.BitProducts.{term_set, term_clear, bits_next, bits_done}
+use Rattle.ghash.proofs.bits.multiply.Goals as goal
+use Rattle.ghash.proofs.bits.multiply.Goals.{then-x-i-eq1, else-x-i-eq1}
 
 pub bits-preserved : goal.bits-preserved
 bits-preserved c =
