@@ -2,7 +2,7 @@
 //! longer than a block.
 #![tactic(auto)]
 
-ghost use Rattle.std.specs.Prelude.{◌≡◌, ◌+◌, ◌-◌, ◌≤◌, ◌++◌, length, take, drop, replicate};
+ghost use Rattle.std.specs.Prelude.{◌≡◌, ◌+◌, ◌-◌, ◌≤◌, ◌++◌, ◌↔◌, IsTrue, length, take, drop, replicate};
 ghost use Rattle.crypto_specs.specs.Bytes.{xor_bytes};
 ghost use Rattle.crypto_specs.specs.Modes.{block_number, number_block};
 
@@ -23,9 +23,30 @@ pub fn filled_number(piece: &[u8]) -> u128
     ensures number { result ≡ block_number piece.now }
     ensures block { number_block result ≡ piece.now ++ replicate (16 - length piece.now) 0 }
 {
+    if piece.len() == 16 {
+        return number_of(piece);
+    }
     let mut block = [0; 16];
     put_at(&mut block, 0, piece);
     u128::from_be_bytes(block)
+}
+
+/// Whether a piece is the front of the block of this number, in a time that tells nothing of where they
+/// differ.
+pub fn is_front(piece: &[u8], block: u128) -> bool
+    requires { length piece.now ≤ 16 }
+    ensures { IsTrue result ↔ (piece.now ≡ take (length piece.now) (number_block block)) }
+{
+    let front = filled_number(&block.to_be_bytes()[..piece.len()]);
+    filled_number(piece) == front
+}
+
+/// Overwrites a piece by the front of the block of this number.
+pub fn set_front(piece: &mut [u8], block: u128)
+    requires { length piece.old ≤ 16 }
+    ensures { piece.new ≡ take (length piece.old) (number_block block) }
+{
+    piece.copy_from_slice(&block.to_be_bytes()[..piece.len()]);
 }
 
 /// Overwrites a block by the one of this number.
