@@ -41,13 +41,18 @@ zero_block : number_block 0 ≡ replicate 16 0
 unfolding number_block
 zero_block = refl
 
--- from the zero block: the first block, the associated data and the payload
-pub chained_in_turn : (e : List ℕ → List ℕ) (control start value result : ℕ) (first : List ℕ) (front payload : List (List ℕ)) → number_block control ≡ first → number_block start ≡ e (number_block control)
-    → number_block value ≡ chained_from e (number_block start) front → number_block result ≡ chained_from e (number_block value) payload
-    → number_block result ≡ chained e (first ∷ front ++ payload)
+-- from the zero block: the first block, and the associated data
+pub front_is : (e : List ℕ → List ℕ) (control start value : ℕ) (first : List ℕ) (front : List (List ℕ)) → number_block control ≡ first → number_block start ≡ e (number_block control)
+    → number_block value ≡ chained_from e (number_block start) front → number_block value ≡ chained e (first ∷ front)
 unfolding chained
-chained_in_turn e control start value result first front payload ef es ev er =
+front_is e control start value first front ef es ev =
     let sum : number_block control ≡ xor_bytes (replicate 16 0) first =
     ap number_block (sym (xor_zero_l control)) ∙ block_of_xor 0 control ∙ ap₂ xor_bytes zero_block ef in
-    er ∙ ap (λ (y : List ℕ). chained_from e y payload) (ev ∙ ap (λ (y : List ℕ). chained_from e y front) (es ∙ ap e sum))
-    ∙ sym (fold-append (chain_step e) (e (xor_bytes (replicate 16 0) first)) front payload)
+    ev ∙ ap (λ (y : List ℕ). chained_from e y front) (es ∙ ap e sum)
+
+-- and then the payload
+pub payload_chained : (e : List ℕ → List ℕ) (front payload : List (List ℕ)) (value result : ℕ) → number_block value ≡ chained e front
+    → number_block result ≡ chained_from e (number_block value) payload → number_block result ≡ chained e (front ++ payload)
+unfolding chained
+payload_chained e front payload value result ev er =
+    er ∙ ap (λ (y : List ℕ). chained_from e y payload) ev ∙ sym (fold-append (chain_step e) (replicate 16 0) front payload)

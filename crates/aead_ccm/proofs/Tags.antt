@@ -1,9 +1,20 @@
 -- The tag of a payload.
-use Rattle.std.proofs.Common.{◌≡◌, ℕ, List, take, ap}
+use Rattle.std.proofs.Common.{◌≡◌, ℕ, List, ◌∷◌, length, take, bit_xor, ap, ap₂, ◌∙◌}
 use Rattle.crypto_specs.specs.Bytes.{xor_bytes}
+use Rattle.crypto_specs.specs.Modes.{number_block}
 use Rattle.crypto_specs.specs.Cmac.{chained}
-use Rattle.crypto_specs.specs.Ccm.{ccm_counter_block, ccm_tag, formatted_blocks}
+use Rattle.crypto_specs.specs.Ccm.{ccm_counter_block, ccm_tag, control_block, encoded_data, filled_blocks, formatted_blocks}
+use Rattle.cipher_blocks.proofs.BlockNumbers.{block_of_xor}
+use Rattle.aead_ccm.specs.Chaining.{chained_from}
+use Rattle.aead_ccm.proofs.Chains.{payload_chained}
 
-pub tag_is : (e : List ℕ → List ℕ) (nonce ad payload whole : List ℕ) (t : ℕ) → whole ≡ xor_bytes (chained e (formatted_blocks t nonce ad payload)) (e (ccm_counter_block nonce 0)) → take t whole ≡ ccm_tag e t nonce ad payload
-unfolding ccm_tag
-tag_is e nonce ad payload whole t ew = ap (take t) ew
+pub tag_is : (e : List ℕ → List ℕ) (nonce ad payload : List ℕ) (t chain mac first mask : ℕ)
+    → number_block chain ≡ chained e (control_block t nonce (length ad) (length payload) ∷ filled_blocks (encoded_data ad))
+    → number_block mac ≡ chained_from e (number_block chain) (filled_blocks payload)
+    → number_block first ≡ ccm_counter_block nonce 0 → number_block mask ≡ e (number_block first)
+    → take t (number_block (bit_xor mac mask)) ≡ ccm_tag e t nonce ad payload
+unfolding ccm_tag formatted_blocks
+tag_is e nonce ad payload t chain mac first mask ec em ef ek =
+    ap (take t)
+    (block_of_xor mac mask
+    ∙ ap₂ xor_bytes (payload_chained e (control_block t nonce (length ad) (length payload) ∷ filled_blocks (encoded_data ad)) (filled_blocks payload) chain mac ec em) (ek ∙ ap e ef))

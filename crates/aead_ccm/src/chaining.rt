@@ -1,10 +1,10 @@
-// The CBC-MAC over the formatted blocks (SP 800-38C, section 6.1, steps 1 to 3).
+// The CBC-MAC over the formatted blocks (SP 800-38C, section 6.1, steps 1 to 3), before the payload.
 
-ghost use Rattle.std.specs.Prelude.{◌≡◌, ℕ, ◌^◌, ◌<◌, length};
+ghost use Rattle.std.specs.Prelude.{◌≡◌, ◌^◌, ◌<◌, ◌∷◌, length};
 ghost use Rattle.crypto_specs.specs.Aes.{aes_encrypt, IsKey};
 ghost use Rattle.crypto_specs.specs.Modes.{number_block};
 ghost use Rattle.crypto_specs.specs.Cmac.{chained};
-ghost use Rattle.crypto_specs.specs.Ccm.{encoded_data, filled_blocks, formatted_blocks};
+ghost use Rattle.crypto_specs.specs.Ccm.{control_block, encoded_data, filled_blocks};
 ghost use Rattle.aead_ccm.specs.Chaining.{chained_from};
 ghost use Rattle.aead_ccm.specs.Lengths.{IsNonceLength, IsTagLength};
 
@@ -12,18 +12,18 @@ use crate::formatting::{control_block, data_front};
 use aes_core::AesKey;
 use cipher_blocks::filled_number;
 
-// The chain's value Y_r, of which the tag's bytes are taken.
-pub(crate) fn mac(key: &AesKey, tag: usize, nonce: &[u8], ad: &[u8], payload: &[u8]) -> u128
+// The chain's value before the payload: the block B_0, which alone has the payload's length in it, and
+// the associated data.
+pub(crate) fn chain_front(key: &AesKey, tag: usize, nonce: &[u8], ad: &[u8], payload: usize) -> u128
     requires key { IsKey key.now }
     requires tag { IsTagLength tag }
     requires nonce { IsNonceLength (length nonce.now) }
     requires ad { length ad.now < 2 ^ 32 }
-    ensures { number_block result ≡
-        chained (aes_encrypt key.now) (formatted_blocks tag nonce.now ad.now payload.now) }
+    ensures { number_block result ≡ chained (aes_encrypt key.now)
+        (control_block tag nonce.now (length ad.now) payload ∷ filled_blocks (encoded_data ad.now)) }
 {
-    let start = key.encrypt_number(control_block(tag, nonce, ad.len(), payload.len()));
-    let value = chain_data(key, start, ad);
-    chain_text(key, value, payload)
+    let start = key.encrypt_number(control_block(tag, nonce, ad.len(), payload));
+    chain_data(key, start, ad)
 }
 
 // Chains associated data on, with its length before it: nothing where there is none.

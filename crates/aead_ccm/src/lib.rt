@@ -1,19 +1,20 @@
 //! CCM (SP 800-38C) over AES, on a whole payload in place, with the formats of its appendix A.
 #![tactic(auto)]
 
-ghost use Rattle.std.specs.Prelude.{◌≡◌, ℕ, ◌-◌, ◌*◌, ◌^◌, ◌<◌, length, take, replicate, IsTrue, ◌↔◌, MatchBool};
+ghost use Rattle.std.specs.Prelude.{◌≡◌, ◌^◌, ◌<◌, length, replicate, IsTrue, ◌↔◌, MatchBool};
 ghost use Rattle.crypto_specs.specs.Aes.{aes_encrypt, IsKey};
-ghost use Rattle.crypto_specs.specs.Bytes.{xor_bytes};
-ghost use Rattle.crypto_specs.specs.Cmac.{chained};
-ghost use Rattle.crypto_specs.specs.Ccm.{ccm_counter_block, ccm_tag, ccm_text, formatted_blocks};
+ghost use Rattle.crypto_specs.specs.Ccm.{ccm_tag, ccm_text};
 ghost use Rattle.aead_ccm.specs.Lengths.{IsNonceLength, IsPayloadLength, IsTagLength};
 
 use aes_core::AesKey;
+use chaining::chain_front;
+use cipher_blocks::{is_front, set_front};
 pub use formatting::{control_block, counter_block, permits_payload};
+use passes::{open_text, seal_text};
 
 mod chaining;
-mod counting;
 mod formatting;
+mod passes;
 
 /// Enciphers a payload in place and writes its tag, which covers the associated data `ad` too (SP
 /// 800-38C, section 6.1).
@@ -26,9 +27,10 @@ pub fn seal(key: &AesKey, nonce: &[u8], ad: &[u8], text: &mut [u8], tag: &mut [u
     ensures text { text.new ≡ ccm_text (aes_encrypt key.now) nonce.now text.old }
     ensures tag { tag.new ≡ ccm_tag (aes_encrypt key.now) (length tag.old) nonce.now ad.now text.old }
 {
-    let whole = whole_tag(key, tag.len(), nonce, ad, text);
-    counting::xor_stream(key, nonce, text);
-    tag.copy_from_slice(&whole[..tag.len()]);
+    let first = counter_block(nonce, 0);
+    let chain = chain_front(key, tag.len(), nonce, ad, text.len());
+    let mac = seal_text(key, first, chain, text);
+    set_front(tag, mac ^ key.encrypt_number(first));
 }
 
 /// Deciphers a payload in place where the tag is its tag, and otherwise makes it zeros (SP 800-38C,
@@ -45,26 +47,13 @@ pub fn open(key: &AesKey, nonce: &[u8], ad: &[u8], text: &mut [u8], tag: &[u8]) 
         (text.new ≡ ccm_text (aes_encrypt key.now) nonce.now text.old)
         (text.new ≡ replicate (length text.old) 0) }
 {
-    counting::xor_stream(key, nonce, text);
-    let expected = whole_tag(key, tag.len(), nonce, ad, text);
-    if tag == &expected[..tag.len()] {
+    let first = counter_block(nonce, 0);
+    let chain = chain_front(key, tag.len(), nonce, ad, text.len());
+    let mac = open_text(key, first, chain, text);
+    if is_front(tag, mac ^ key.encrypt_number(first)) {
         true
     } else {
         text.fill(0);
         false
     }
-}
-
-// The tag of a payload, whole: only the block B_0 has its length in it (SP 800-38C, section 6.1).
-fn whole_tag(key: &AesKey, tag: usize, nonce: &[u8], ad: &[u8], payload: &[u8]) -> [u8; 16]
-    requires key { IsKey key.now }
-    requires tag { IsTagLength tag }
-    requires nonce { IsNonceLength (length nonce.now) }
-    requires ad { length ad.now < 2 ^ 32 }
-    ensures { result ≡ xor_bytes
-        (chained (aes_encrypt key.now) (formatted_blocks tag nonce.now ad.now payload.now))
-        (aes_encrypt key.now (ccm_counter_block nonce.now 0)) }
-{
-    let mac = chaining::mac(key, tag, nonce, ad, payload);
-    (mac ^ key.encrypt_number(counter_block(nonce, 0))).to_be_bytes()
 }

@@ -9,6 +9,7 @@ ghost use Rattle.crypto_specs.specs.Gcm.{gcm_tag, gcm_text, ghash_of};
 ghost use Rattle.aead_gcm.specs.Lengths.{IsNonceLength, IsTagLength};
 
 use aes_core::AesKey;
+use cipher_blocks::{is_front, set_front};
 pub use counters::{increment, initial_counter_block};
 pub use hashing::{absorb, hash_subkey, length_block};
 
@@ -29,8 +30,7 @@ pub fn seal(key: &AesKey, nonce: &[u8], ad: &[u8], text: &mut [u8], tag: &mut [u
     let subkey = hash_subkey(key);
     let first = initial_counter_block(subkey, nonce);
     counters::xor_stream(key, first, text);
-    let whole = whole_tag(key, subkey, first, ad, text);
-    tag.copy_from_slice(&whole[..tag.len()]);
+    set_front(tag, whole_tag(key, subkey, first, ad, text));
 }
 
 /// Deciphers a text in place where the tag is its tag, and otherwise makes it zeros (SP 800-38D,
@@ -49,8 +49,7 @@ pub fn open(key: &AesKey, nonce: &[u8], ad: &[u8], text: &mut [u8], tag: &[u8]) 
 {
     let subkey = hash_subkey(key);
     let first = initial_counter_block(subkey, nonce);
-    let expected = whole_tag(key, subkey, first, ad, text);
-    if tag == &expected[..tag.len()] {
+    if is_front(tag, whole_tag(key, subkey, first, ad, text)) {
         counters::xor_stream(key, first, text);
         true
     } else {
@@ -59,14 +58,14 @@ pub fn open(key: &AesKey, nonce: &[u8], ad: &[u8], text: &mut [u8], tag: &[u8]) 
     }
 }
 
-// The tag of a ciphertext, whole: `first` is the initial counter block (SP 800-38D, section 7.1,
-// steps 4 to 6).
-fn whole_tag(key: &AesKey, subkey: u128, first: u128, ad: &[u8], text: &[u8]) -> [u8; 16]
+// The tag of a ciphertext, whole, as a number: `first` is the initial counter block (SP 800-38D,
+// section 7.1, steps 4 to 6).
+fn whole_tag(key: &AesKey, subkey: u128, first: u128, ad: &[u8], text: &[u8]) -> u128
     requires key { IsKey key.now }
     requires ad { length ad.now < 2 ^ 32 }
     requires text { length text.now < 2 ^ 32 }
-    ensures { result ≡ xor_bytes (aes_encrypt key.now (number_block first))
+    ensures { number_block result ≡ xor_bytes (aes_encrypt key.now (number_block first))
         (number_block (ghash_of subkey ad.now text.now)) }
 {
-    (key.encrypt_number(first) ^ hashing::ghash_of(subkey, ad, text)).to_be_bytes()
+    key.encrypt_number(first) ^ hashing::ghash_of(subkey, ad, text)
 }

@@ -1,6 +1,6 @@
 -- The chain over a text in pieces.
 use Rattle.std.proofs.Common.{◌≡◌, ℕ, ◌-◌, ◌<◌, ◌≤◌, List, [], ◌∷◌, ◌++◌, length, take, drop, bit_xor, replicate, refl, sym, ap, ap₂, ◌∙◌, arith}
-use Rattle.std.proofs.lemmas.List.{length-append, length-replicate, take-append-drop, take_at, drop_at, take_all, drop_all, append-nil, append_assoc}
+use Rattle.std.proofs.lemmas.List.{length-append, length-replicate, length-take, take-append-drop, take_at, drop_at, take_all, drop_all, append-nil, append_assoc}
 use Rattle.std.specs.Int.Bits.{xor_zero_l}
 use Rattle.crypto_specs.specs.Bytes.{xor_bytes}
 use Rattle.crypto_specs.specs.Modes.{number_block}
@@ -55,3 +55,12 @@ pub first_chained : (e : List ℕ → List ℕ) (control : ℕ) (first : List �
 unfolding chained
 first_chained e control first h =
     ap e (ap number_block (sym (xor_zero_l control)) ∙ block_of_xor 0 control ∙ ap₂ xor_bytes zero_block h)
+
+-- a block is absorbed from the front of a piece
+pub front_absorbed : (e : List ℕ → List ℕ) (v x w : ℕ) (waiting piece rest : List ℕ) → waiting ≡ [] → 16 ≤ length piece → number_block x ≡ filled_block (take 16 piece) → number_block w ≡ e (number_block (bit_xor v x))
+    → chained_from e (number_block w) (filled_blocks (waiting ++ (drop 16 piece ++ rest))) ≡ chained_from e (number_block v) (filled_blocks (waiting ++ (piece ++ rest)))
+front_absorbed e v x w waiting piece rest none long ex ew =
+    let whole : take 16 piece ++ (drop 16 piece ++ rest) ≡ waiting ++ (piece ++ rest) =
+    sym (append_assoc (take 16 piece) (drop 16 piece) rest) ∙ ap (λ (l : List ℕ). l ++ rest) (take-append-drop 16 piece) ∙ ap (λ (l : List ℕ). l ++ (piece ++ rest)) (sym none) in
+    full_absorbed e v x w (take 16 piece) waiting (drop 16 piece ++ rest) (omega (arith, length-take 16 piece)) ex ew none
+    ∙ ap (λ (l : List ℕ). chained_from e (number_block v) (filled_blocks l)) whole

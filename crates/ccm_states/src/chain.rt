@@ -9,6 +9,7 @@ ghost use Rattle.ccm_states.specs.Chains.{chain_after, IsClearChain};
 
 use aes_core::AesKey;
 use block_buffers::BlockBuffer;
+use cipher_blocks::filled_number;
 
 // The chain's value, and the bytes that wait: they fill no block yet, or one that is absorbed with what follows it.
 #[derive(Drop)]
@@ -67,7 +68,22 @@ impl Chain {
             chain_after (aes_encrypt key.now) self.old (piece.now ++ rest) }
     {
         self.make_room(key);
+        if self.waiting.is_empty() && piece.len() >= 16 {
+            self.absorb_front(key, piece);
+            return 16;
+        }
         self.waiting.put(piece)
+    }
+
+    // Absorbs the first block of a piece where nothing waits.
+    fn absorb_front(&mut self, key: &AesKey, piece: &[u8])
+        requires key { IsKey key.now }
+        requires none { self.old.waiting ≡ [] }
+        requires long { 16 ≤ length piece.now }
+        ensures { (rest : List ℕ) → chain_after (aes_encrypt key.now) self.new (drop 16 piece.now ++ rest) ≡
+            chain_after (aes_encrypt key.now) self.old (piece.now ++ rest) }
+    {
+        self.value = key.encrypt_number(self.value ^ filled_number(&piece[..16]));
     }
 
     // Absorbs a block that waits.

@@ -107,7 +107,7 @@ xor_byte k a b =
     byte_at_is k (bit_xor a b) ∙ ap (λ (n : ℕ). n % 256) shifted ∙ xor_mod (a / 256 ^ k) (b / 256 ^ k) 8
     ∙ ap₂ bit_xor (sym (byte_at_is k a)) (sym (byte_at_is k b))
 
-xor_bytes_high_first : (k a b : ℕ) → bytes_high_first k (bit_xor a b) ≡ xor_bytes (bytes_high_first k a) (bytes_high_first k b)
+pub xor_bytes_high_first : (k a b : ℕ) → bytes_high_first k (bit_xor a b) ≡ xor_bytes (bytes_high_first k a) (bytes_high_first k b)
 xor_bytes_high_first zero a b = refl
 xor_bytes_high_first (suc k) a b = ap₂ (λ (x : ℕ) (xs : List ℕ). x ∷ xs) (xor_byte k a b) (xor_bytes_high_first k a b)
 

@@ -1,7 +1,8 @@
 -- Blocks whose end is filled with zeros.
-use Rattle.std.proofs.Common.{◌≡◌, ℕ, zero, suc, ◌-◌, ◌≤◌, List, ◌++◌, length, drop, ap, ◌∙◌, arith}
-use Rattle.std.specs.Prelude.{replicate}
-use Rattle.std.proofs.lemmas.List.{length-append, length-replicate, drop-replicate}
+use Rattle.std.proofs.Common.{◌≡◌, ℕ, zero, suc, ◌-◌, ◌≤◌, Bool, eqb, List, ◌++◌, length, take, drop, refl, sym, ap, ◌∙◌, arith}
+use Rattle.std.specs.Prelude.{replicate, IsTrue, ◌↔◌}
+use Rattle.std.proofs.lemmas.Bool.{eqb-true, eq-eqb}
+use Rattle.std.proofs.lemmas.List.{length-append, length-replicate, drop-replicate, take_at}
 use Rattle.crypto_specs.specs.Modes.{block_number, number_block}
 use Rattle.crypto_specs.proofs.Blocks.{number_of_filled}
 use Rattle.cipher_blocks.proofs.BlockNumbers.{AreBytes, bytes-append, block_of_number}
@@ -27,3 +28,15 @@ written_block piece block h all e =
     let long : length (piece ++ zeros) ≡ 16 = omega (arith, length-append piece zeros, length-replicate {A = ℕ} (16 - length piece) 0) in
     ap (λ (b : List ℕ). number_block (block_number b)) (written_in_zeros piece block e)
     ∙ block_of_number (piece ++ zeros) long (bytes-append piece zeros all (zeros-bytes (16 - length piece)))
+
+-- pieces of one length are equal where their numbers are
+pub pieces_told : (a b : List ℕ) (x y : ℕ) → length a ≡ length b → number_block x ≡ a ++ replicate (16 - length a) 0 → number_block y ≡ b ++ replicate (16 - length b) 0
+    → x ≡ block_number a → y ≡ block_number b → (r : Bool) → r ≡ eqb x y → IsTrue r ↔ (a ≡ b)
+pieces_told a b x y same ex ey nx ny r er =
+    let front : x ≡ y → a ≡ b = λ e.
+    sym (take_at a (replicate (16 - length a) 0) (length a) refl) ∙ ap (take (length a)) (sym ex ∙ ap number_block e ∙ ey) ∙ take_at b (replicate (16 - length b) 0) (length a) (sym same) in
+    (λ h. front (eqb-true x y (sym er ∙ h)), λ e. er ∙ eq-eqb x y (nx ∙ ap block_number e ∙ sym ny))
+
+-- what decides of one list decides of an equal one
+pub decided_of_equal : (r : Bool) (piece x y : List ℕ) → IsTrue r ↔ (piece ≡ x) → x ≡ y → IsTrue r ↔ (piece ≡ y)
+decided_of_equal r piece x y told e = (λ h. told.0 h ∙ e, λ h. told.1 (h ∙ sym e))

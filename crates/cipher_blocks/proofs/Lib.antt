@@ -1,2 +1,3 @@
 pub mod BlockNumbers
 pub mod FilledBlocks
+pub mod HalfBlocks

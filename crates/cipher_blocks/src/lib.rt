@@ -2,7 +2,8 @@
 //! longer than a block.
 #![tactic(auto)]
 
-ghost use Rattle.std.specs.Prelude.{◌≡◌, ◌+◌, ◌-◌, ◌≤◌, ◌++◌, length, take, drop, replicate};
+ghost use Rattle.std.specs.Prelude.{◌≡◌, ◌+◌, ◌-◌, ◌≤◌, ◌++◌, ◌↔◌, IsTrue, length, take, drop, replicate};
+ghost use Rattle.std.specs.Int.{to_be_bytes, w64};
 ghost use Rattle.crypto_specs.specs.Bytes.{xor_bytes};
 ghost use Rattle.crypto_specs.specs.Modes.{block_number, number_block};
 
@@ -23,9 +24,30 @@ pub fn filled_number(piece: &[u8]) -> u128
     ensures number { result ≡ block_number piece.now }
     ensures block { number_block result ≡ piece.now ++ replicate (16 - length piece.now) 0 }
 {
+    if piece.len() == 16 {
+        return number_of(piece);
+    }
     let mut block = [0; 16];
     put_at(&mut block, 0, piece);
     u128::from_be_bytes(block)
+}
+
+/// Whether a piece is the front of the block of this number. The comparison doesn't end at the first
+/// byte that differs.
+pub fn is_front(piece: &[u8], block: u128) -> bool
+    requires { length piece.now ≤ 16 }
+    ensures { IsTrue result ↔ (piece.now ≡ take (length piece.now) (number_block block)) }
+{
+    let front = filled_number(&block.to_be_bytes()[..piece.len()]);
+    filled_number(piece) == front
+}
+
+/// Overwrites a piece by the front of the block of this number.
+pub fn set_front(piece: &mut [u8], block: u128)
+    requires { length piece.old ≤ 16 }
+    ensures { piece.new ≡ take (length piece.old) (number_block block) }
+{
+    piece.copy_from_slice(&block.to_be_bytes()[..piece.len()]);
 }
 
 /// Overwrites a block by the one of this number.
@@ -33,7 +55,9 @@ pub fn set_number(block: &mut [u8], number: u128)
     requires { length block.old ≡ 16 }
     ensures { block.new ≡ number_block number }
 {
-    block.copy_from_slice(&number.to_be_bytes());
+    // In halves: compilers store a number of 128 bits byte by byte.
+    block[..8].copy_from_slice(&((number >> 64) as u64).to_be_bytes());
+    block[8..].copy_from_slice(&((number % (1 << 64)) as u64).to_be_bytes());
 }
 
 /// Overwrites the bytes of a block from byte `at` on.
@@ -49,7 +73,30 @@ pub fn xor_into(piece: &mut [u8], block: u128)
     requires { length piece.old ≤ 16 }
     ensures { piece.new ≡ xor_bytes piece.old (number_block block) }
 {
-    xor_bytes_into(piece, &block.to_be_bytes(), 0);
+    if piece.len() == 16 {
+        xor_half(&mut piece[..8], (block >> 64) as u64);
+        xor_half(&mut piece[8..], (block % (1 << 64)) as u64);
+    } else {
+        xor_by_byte(piece, &block.to_be_bytes(), 0);
+    }
+}
+
+// Xors the bytes of a number into half of a block.
+fn xor_half(half: &mut [u8], mask: u64)
+    requires { length half.old ≡ 8 }
+    ensures { half.new ≡ xor_bytes half.old (to_be_bytes w64 mask) }
+{
+    half.copy_from_slice(&(half_number(half) ^ mask).to_be_bytes());
+}
+
+// The number of half of a block.
+fn half_number(half: &[u8]) -> u64
+    requires { length half.now ≡ 8 }
+    ensures { to_be_bytes w64 result ≡ half.now }
+{
+    let mut bytes = [0; 8];
+    bytes.copy_from_slice(half);
+    u64::from_be_bytes(bytes)
 }
 
 /// Xors the bytes of a block from byte `from` on into a piece.
@@ -58,7 +105,7 @@ pub fn xor_bytes_into(piece: &mut [u8], block: &[u8; 16], from: usize)
     ensures { piece.new ≡ xor_bytes piece.old (drop from block.now) }
 {
     if piece.len() == 16 {
-        set_number(piece, number_of(piece) ^ number_of(block));
+        xor_into(piece, number_of(block));
     } else {
         xor_by_byte(piece, block, from);
     }

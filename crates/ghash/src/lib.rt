@@ -2,45 +2,20 @@
 //! which is the coefficient of x^0.
 #![tactic(auto)]
 
-ghost use Rattle.std.specs.Prelude.{◌≡◌, ℕ, ◌%◌, bit_xor};
-ghost use Rattle.crypto_specs.specs.Ghash.{block_product, times_x};
+ghost use Rattle.std.specs.Prelude.{◌≡◌, bit_xor};
+ghost use Rattle.crypto_specs.specs.Ghash.{block_product};
 
+pub use bits::multiply;
+use groups::{multiply_by, products};
 use std::marker::Model;
 
-// x^128 = x^7 + x^2 + x + 1.
-const REDUCTION: u128 = 0xe1 << 120;
-
-// The product of a block and x.
-fn times_x(v: u128) -> u128
-    ensures { result ≡ times_x v }
-{
-    if v % 2 == 1 {
-        (v >> 1) ^ REDUCTION
-    } else {
-        v >> 1
-    }
-}
-
-/// The product of two blocks, as polynomials modulo x^128 + x^7 + x^2 + x + 1 (SP 800-38D, section
-/// 6.3).
-pub fn multiply(x: u128, y: u128) -> u128
-    ensures { result ≡ block_product x y }
-{
-    let mut product = 0;
-    let mut shifted = y;
-    'bits: for i in 0..128u32 {
-        if (x >> (127 - i)) % 2 == 1 {
-            product ^= shifted;
-        }
-        shifted = times_x(shifted);
-    }
-    product
-}
+mod bits;
+mod groups;
 
 /// GHASH of the blocks so far. A contract sees the hash subkey and the value.
 #[derive(Drop)]
 pub struct Ghash {
-    subkey: u128,
+    products: [u128; 16],
     value: u128,
 }
 
@@ -49,7 +24,14 @@ impl Model for Ghash {
 
     ghost Value = { ℕ × ℕ };
 
-    ghost view = { λ a. (a.subkey, a.value) };
+    ghost use Rattle.std.specs.Prelude.{◌≡◌, slice_index};
+    ghost use Rattle.ghash.specs.Products.{products_of};
+
+    // The bits 1000 are the polynomial 1.
+    ghost view = { λ a. (slice_index a.products 8, a.value) };
+
+    // The products are those of the hash subkey; so all of them are 0 where it is.
+    ghost invariant = { λ a. a.products ≡ products_of (slice_index a.products 8) };
 }
 
 impl Ghash {
@@ -58,7 +40,7 @@ impl Ghash {
         ensures { result ≡ (h, 0) }
     {
         Ghash {
-            subkey: h,
+            products: products(h),
             value: 0,
         }
     }
@@ -67,7 +49,7 @@ impl Ghash {
     pub fn block(&mut self, x: u128)
         ensures { self.new ≡ (self.old.0, block_product (bit_xor self.old.1 x) self.old.0) }
     {
-        self.value = multiply(self.value ^ x, self.subkey);
+        self.value = multiply_by(self.value ^ x, &self.products);
     }
 
     /// GHASH of the blocks so far.
@@ -77,11 +59,11 @@ impl Ghash {
         self.value
     }
 
-    /// Clears the hash subkey and the value.
+    /// Clears the hash subkey with its products, and the value.
     pub fn wipe(&mut self)
         ensures { self.new ≡ (0, 0) }
     {
-        self.subkey = 0;
+        self.products = [0; 16];
         self.value = 0;
     }
 }

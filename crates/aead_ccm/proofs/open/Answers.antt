@@ -1,24 +1,36 @@
-use Rattle.std.proofs.Common.{◌∙◌, length, true, false, ap}
+use Rattle.std.proofs.Common.{ℕ, ◌∷◌, ◌∙◌, length, true, false, sym, ap}
 use Rattle.crypto_specs.specs.Aes.{aes_encrypt}
-use Rattle.crypto_specs.specs.Ccm.{ccm_tag}
-use Rattle.crypto_specs.proofs.Tags.{tag_decided}
+use Rattle.crypto_specs.specs.Ccm.{ccm_tag, control_block, encoded_data, filled_blocks}
+use Rattle.crypto_specs.specs.Cmac.{chained}
+use Rattle.cipher_blocks.proofs.FilledBlocks.{decided_of_equal}
+use Rattle.aead_ccm.proofs.KeyStream.{text_is}
 use Rattle.aead_ccm.proofs.Tags.{tag_is}
 use Rattle.aead_ccm.proofs.open.Goals as goal
 
-pub returns-then-eq-clause-tag : goal.returns-then-eq-clause-tag
-returns-then-eq-clause-tag c =
-    let e = aes_encrypt c.args.key.now in
-    let nonce = c.args.nonce.now in
-    let ad = c.args.ad.now in
-    let t = length c.args.tag.now in
-    let right = tag_is e nonce ad c.xor_stream.new.text c.whole_tag-expected.result t c.whole_tag-expected.ensures ∙ ap (ccm_tag e t nonce ad) c.xor_stream.ensures in
-    tag_decided true c.args.tag.now _ _ c.if-eq.ensures right
+pub returns-then-is_front-clause-text : goal.returns-then-is_front-clause-text
+returns-then-is_front-clause-text c =
+    text_is (aes_encrypt c.args.key.now) c.args.nonce.now c.args.text.now c.open_text-mac.new.text c.counter_block-first.result c.requires.nonce c.requires.text c.counter_block-first.ensures c.open_text-mac.ensures.text
 
-pub returns-else-eq-clause-tag : goal.returns-else-eq-clause-tag
-returns-else-eq-clause-tag c =
+pub returns-then-is_front-clause-tag : goal.returns-then-is_front-clause-tag
+returns-then-is_front-clause-tag c =
     let e = aes_encrypt c.args.key.now in
     let nonce = c.args.nonce.now in
     let ad = c.args.ad.now in
     let t = length c.args.tag.now in
-    let right = tag_is e nonce ad c.xor_stream.new.text c.whole_tag-expected.result t c.whole_tag-expected.ensures ∙ ap (ccm_tag e t nonce ad) c.xor_stream.ensures in
-    tag_decided false c.args.tag.now _ _ c.if-eq.ensures right
+    let plain = c.open_text-mac.new.text in
+    let chain = c.chain_front-chain.ensures ∙ ap (λ (n : ℕ). chained e (control_block t nonce (length ad) n ∷ filled_blocks (encoded_data ad))) (sym c.open_text-mac.auto.text) in
+    let right = tag_is e nonce ad plain t c.chain_front-chain.result c.open_text-mac.result c.counter_block-first.result c.encrypt_number.result chain c.open_text-mac.ensures.chain c.counter_block-first.ensures c.encrypt_number.ensures
+    ∙ ap (ccm_tag e t nonce ad) (text_is e nonce c.args.text.now plain c.counter_block-first.result c.requires.nonce c.requires.text c.counter_block-first.ensures c.open_text-mac.ensures.text) in
+    decided_of_equal true c.args.tag.now _ _ c.if-is_front.ensures right
+
+pub returns-else-is_front-clause-tag : goal.returns-else-is_front-clause-tag
+returns-else-is_front-clause-tag c =
+    let e = aes_encrypt c.args.key.now in
+    let nonce = c.args.nonce.now in
+    let ad = c.args.ad.now in
+    let t = length c.args.tag.now in
+    let plain = c.open_text-mac.new.text in
+    let chain = c.chain_front-chain.ensures ∙ ap (λ (n : ℕ). chained e (control_block t nonce (length ad) n ∷ filled_blocks (encoded_data ad))) (sym c.open_text-mac.auto.text) in
+    let right = tag_is e nonce ad plain t c.chain_front-chain.result c.open_text-mac.result c.counter_block-first.result c.encrypt_number.result chain c.open_text-mac.ensures.chain c.counter_block-first.ensures c.encrypt_number.ensures
+    ∙ ap (ccm_tag e t nonce ad) (text_is e nonce c.args.text.now plain c.counter_block-first.result c.requires.nonce c.requires.text c.counter_block-first.ensures c.open_text-mac.ensures.text) in
+    decided_of_equal false c.args.tag.now _ _ c.if-is_front.ensures right

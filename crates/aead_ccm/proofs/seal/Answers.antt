@@ -1,9 +1,15 @@
 use Rattle.std.proofs.Common.{◌∙◌, length}
 use Rattle.crypto_specs.specs.Aes.{aes_encrypt}
+use Rattle.aead_ccm.proofs.KeyStream.{text_is}
 use Rattle.aead_ccm.proofs.Tags.{tag_is}
 use Rattle.aead_ccm.proofs.seal.Goals as goal
 
+pub returns-clause-text : goal.returns-clause-text
+returns-clause-text c =
+    text_is (aes_encrypt c.args.key.now) c.args.nonce.now c.args.text.now c.seal_text-mac.new.text c.counter_block-first.result c.requires.nonce c.requires.text c.counter_block-first.ensures c.seal_text-mac.ensures.text
+
 pub returns-clause-tag : goal.returns-clause-tag
 returns-clause-tag c =
-    c.copy_from_slice.ensures.after
-    ∙ tag_is (aes_encrypt c.args.key.now) c.args.nonce.now c.args.ad.now c.args.text.now c.whole_tag-whole.result (length c.args.tag.now) c.whole_tag-whole.ensures
+    c.set_front.ensures
+    ∙ tag_is (aes_encrypt c.args.key.now) c.args.nonce.now c.args.ad.now c.args.text.now (length c.args.tag.now) c.chain_front-chain.result c.seal_text-mac.result c.counter_block-first.result c.encrypt_number.result
+    c.chain_front-chain.ensures c.seal_text-mac.ensures.chain c.counter_block-first.ensures c.encrypt_number.ensures

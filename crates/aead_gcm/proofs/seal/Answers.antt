@@ -1,5 +1,6 @@
 use Rattle.std.proofs.Common.{◌∙◌, length}
 use Rattle.crypto_specs.specs.Aes.{aes_encrypt}
+use Rattle.crypto_specs.specs.Modes.{number_block}
 use Rattle.aead_gcm.proofs.Tags.{tag_is, text_is}
 use Rattle.aead_gcm.proofs.seal.Goals as goal
 
@@ -12,5 +13,5 @@ returns-clause-text c =
 pub returns-clause-tag : goal.returns-clause-tag
 returns-clause-tag c =
     let e = aes_encrypt c.args.key.now in
-    c.copy_from_slice.ensures.after
-    ∙ tag_is e c.args.nonce.now c.args.ad.now c.xor_stream.new.text c.whole_tag-whole.result c.hash_subkey-subkey.result c.initial_counter_block-first.result (length c.args.tag.now) c.hash_subkey-subkey.ensures (c.initial_counter_block-first.ensures e) c.whole_tag-whole.ensures
+    c.set_front.ensures
+    ∙ tag_is e c.args.nonce.now c.args.ad.now c.xor_stream.new.text (number_block c.whole_tag.result) c.hash_subkey-subkey.result c.initial_counter_block-first.result (length c.args.tag.now) c.hash_subkey-subkey.ensures (c.initial_counter_block-first.ensures e) c.whole_tag.ensures

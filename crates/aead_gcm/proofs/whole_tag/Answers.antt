@@ -5,7 +5,6 @@ use Rattle.cipher_blocks.proofs.BlockNumbers.{block_of_xor}
 use Rattle.aead_gcm.proofs.whole_tag.Goals as goal
 
 pub returns : goal.returns
-unfolding number_block
 returns c =
-    c.to_be_bytes.ensures ∙ block_of_xor c.encrypt_number.result c.ghash_of.result
+    block_of_xor c.encrypt_number.result c.ghash_of.result
     ∙ ap₂ xor_bytes c.encrypt_number.ensures (ap number_block c.ghash_of.ensures)

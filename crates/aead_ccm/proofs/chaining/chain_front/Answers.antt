@@ -1,0 +1,11 @@
+use Rattle.std.proofs.Common.{length}
+use Rattle.crypto_specs.specs.Aes.{aes_encrypt}
+use Rattle.crypto_specs.specs.Ccm.{control_block, encoded_data, filled_blocks}
+use Rattle.aead_ccm.proofs.Chains.{front_is}
+use Rattle.aead_ccm.proofs.chaining.chain_front.Goals as goal
+
+pub returns : goal.returns
+returns c =
+    front_is (aes_encrypt c.args.key.now) c.control_block.result c.encrypt_number-start.result c.chain_data.result
+    (control_block c.args.tag c.args.nonce.now (length c.args.ad.now) c.args.payload) (filled_blocks (encoded_data c.args.ad.now))
+    c.control_block.ensures c.encrypt_number-start.ensures c.chain_data.ensures

@@ -1,0 +1,15 @@
+use Rattle.std.proofs.Common.{◌≡◌, ◌++◌, ◌*◌, length, take, drop}
+use Rattle.crypto_specs.specs.Aes.{aes_encrypt}
+use Rattle.crypto_specs.specs.Bytes.{xor_bytes}
+use Rattle.crypto_specs.specs.Modes.{block_count, number_block}
+use Rattle.crypto_specs.specs.Ccm.{filled_blocks}
+use Rattle.aead_ccm.specs.Chaining.{chained_from}
+use Rattle.aead_ccm.specs.Counting.{masks}
+use Rattle.aead_ccm.proofs.passes.open_text.Given as goal
+
+abbrev pub invariant-turns : goal.invariant-turns
+invariant-turns l = record {
+  text : l.text ≡ xor_bytes (take (16 * l.n) l.fn.text) (masks (aes_encrypt l.key) l.first l.n) ++ drop (16 * l.n) l.fn.text;
+  chain : chained_from (aes_encrypt l.key) (number_block l.value) (filled_blocks (drop (16 * l.n) (xor_bytes l.fn.text (masks (aes_encrypt l.key) l.first (block_count (length l.fn.text))))))
+      ≡ chained_from (aes_encrypt l.key) (number_block l.chain) (filled_blocks (xor_bytes l.fn.text (masks (aes_encrypt l.key) l.first (block_count (length l.fn.text)))));
+}

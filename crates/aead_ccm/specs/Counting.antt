@@ -1,0 +1,8 @@
+-- The key stream of CCM by counter blocks as numbers.
+use Rattle.std.specs.Prelude.{ℕ, zero, suc, ◌+◌, List, [], ◌++◌, bit_xor}
+use Rattle.crypto_specs.specs.Modes.{number_block}
+
+-- n blocks, from the counter block after `first` on: i is xored into the zeros that `first` ends in
+unfoldable pub masks : (List ℕ → List ℕ) → ℕ → ℕ → List ℕ
+masks e first zero = []
+masks e first (suc n) = masks e first n ++ e (number_block (bit_xor first (n + 1)))

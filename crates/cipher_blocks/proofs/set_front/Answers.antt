@@ -1,0 +1,7 @@
+use Rattle.std.proofs.Common.{◌∙◌, length, take, ap}
+use Rattle.crypto_specs.specs.Modes.{number_block}
+use Rattle.cipher_blocks.proofs.set_front.Goals as goal
+
+pub returns : goal.returns
+unfolding number_block
+returns c = c.copy_from_slice.ensures.after ∙ ap (take (length c.args.piece.now)) c.to_be_bytes.ensures

@@ -1,0 +1,115 @@
+-- The product of blocks, four bits at a time.
+use Rattle.std.proofs.Common.{◌≡◌, ℕ, zero, suc, ◌+◌, ◌*◌, ◌/◌, ◌%◌, ◌^◌, ◌<◌, Bool, true, false, cond, eqb, List, [], ◌∷◌, slice_index, bit_xor, refl, sym, ap, ap₂, ◌∙◌, arith}
+use Rattle.std.specs.Prelude.{map}
+use Rattle.std.specs.List.{range_with_len}
+use Rattle.std.specs.Int.{bit_at}
+use Rattle.std.specs.Int.Bits.{xor_zero_r, xor_assoc, xor_shifted}
+use Rattle.std.proofs.lemmas.Nat.{shr-shr, xor_comm}
+use Rattle.std.proofs.lemmas.List.{get_or-map}
+use Rattle.std.proofs.lemmas.List.FromFn.{get_or-range_with_len}
+use Rattle.crypto_specs.specs.Ghash.{times_x, sum_of_shifts}
+use Rattle.crypto_specs.proofs.GhashLaws.{times_x-xor}
+use Rattle.crypto_specs.proofs.Tables.{holds_values, value_of}
+use Rattle.ghash.specs.Products.{products_of, times_x4}
+use Rattle.ghash.specs.declared.groups.TheConstants.{REDUCTIONS}
+use Rattle.ghash.proofs.BitProducts.{term, times_x_even}
+
+-- ---- a sum's product by x^4
+
+times_x-cond : (t : Bool) (v : ℕ) → cond t (times_x v) 0 ≡ times_x (cond t v 0)
+unfolding times_x
+times_x-cond true v = refl
+times_x-cond false v = refl
+
+sum-times_x : (n a v : ℕ) → sum_of_shifts n a (times_x v) ≡ times_x (sum_of_shifts n a v)
+unfolding sum_of_shifts times_x
+sum-times_x zero a v = refl
+sum-times_x (suc n) a v =
+    ap₂ bit_xor (times_x-cond (eqb (bit_at a n) 1) v) (sum-times_x n a (times_x v))
+    ∙ sym (times_x-xor (term a n v) (sum_of_shifts n a (times_x v)))
+
+sum-times_x4 : (n a v : ℕ) → sum_of_shifts n a (times_x4 v) ≡ times_x4 (sum_of_shifts n a v)
+sum-times_x4 n a v =
+    sum-times_x n a (times_x (times_x (times_x v)))
+    ∙ ap times_x (sum-times_x n a (times_x (times_x v)) ∙ ap times_x (sum-times_x n a (times_x v) ∙ ap times_x (sum-times_x n a v)))
+
+-- ---- a group of four bits
+
+group_bit : (b j : ℕ) → j < 4 → b % 16 / 2 ^ j % 2 ≡ b / 2 ^ j % 2
+group_bit b zero h = omega arith
+group_bit b (suc zero) h = omega arith
+group_bit b (suc (suc zero)) h = omega arith
+group_bit b (suc (suc (suc zero))) h = omega arith
+group_bit b (suc (suc (suc (suc j)))) h = absurd (omega arith)
+
+bit_of_group : (a n j : ℕ) → j < 4 → bit_at a (n + j) ≡ bit_at (a / 2 ^ n % 16) j
+bit_of_group a n j h = ap (λ (m : ℕ). m % 2) (sym (shr-shr a n j)) ∙ sym (group_bit (a / 2 ^ n) j h)
+
+-- the sum over the bits of the highest group, and that over the others
+sum_four : (n a v : ℕ) → sum_of_shifts (suc (suc (suc (suc n)))) a v ≡ bit_xor (sum_of_shifts 4 (a / 2 ^ n % 16) v) (sum_of_shifts n a (times_x4 v))
+unfolding sum_of_shifts
+sum_four n a v =
+    let g : ℕ = a / 2 ^ n % 16 in
+    let b0 : bit_at a n ≡ bit_at g 0 = ap (bit_at a) (omega arith) ∙ bit_of_group a n 0 (omega arith) in
+    let b1 : bit_at a (suc n) ≡ bit_at g 1 = ap (bit_at a) (omega arith) ∙ bit_of_group a n 1 (omega arith) in
+    let b2 : bit_at a (suc (suc n)) ≡ bit_at g 2 = ap (bit_at a) (omega arith) ∙ bit_of_group a n 2 (omega arith) in
+    let b3 : bit_at a (suc (suc (suc n))) ≡ bit_at g 3 = ap (bit_at a) (omega arith) ∙ bit_of_group a n 3 (omega arith) in
+    rw (b0, b1, b2, b3) (regrouped (term g 3 v) (term g 2 (times_x v)) (term g 1 (times_x (times_x v))) (term g 0 (times_x (times_x (times_x v)))) (sum_of_shifts n a (times_x4 v)))
+  where
+    regrouped : (p q r s t : ℕ) → bit_xor p (bit_xor q (bit_xor r (bit_xor s t))) ≡ bit_xor (bit_xor p (bit_xor q (bit_xor r (bit_xor s 0)))) t
+    regrouped p q r s t = rw xor_zero_r (sym (xor_assoc p (bit_xor q (bit_xor r s)) t ∙ ap (bit_xor p) (xor_assoc q (bit_xor r s) t ∙ ap (bit_xor q) (xor_assoc r s t))))
+
+-- the sum over n bits becomes that over four more
+pub next_group : (z x h n : ℕ) → z ≡ sum_of_shifts n x h → bit_xor (times_x4 z) (sum_of_shifts 4 (x / 2 ^ n % 16) h) ≡ sum_of_shifts (n + 4) x h
+next_group z x h n e =
+    let more : n + 4 ≡ suc (suc (suc (suc n))) = omega arith in
+    xor_comm (times_x4 z) (sum_of_shifts 4 (x / 2 ^ n % 16) h)
+    ∙ ap (bit_xor (sum_of_shifts 4 (x / 2 ^ n % 16) h)) (ap times_x4 e ∙ sym (sum-times_x4 n x h))
+    ∙ sym (sum_four n x h) ∙ ap (λ (m : ℕ). sum_of_shifts m x h) (sym more)
+
+-- ---- the product by x^4, by the table of reductions
+
+halved : (m v : ℕ) → m ≡ 2 * v → times_x m ≡ v
+halved m v e = sym (times_x_even m (λ o. absurd (omega arith))) ∙ omega arith
+
+high_part : (a : ℕ) → times_x4 (a * 16) ≡ a
+high_part a =
+    ap (λ (n : ℕ). times_x (times_x (times_x n))) (halved (a * 16) (a * 8) (omega arith))
+    ∙ ap (λ (n : ℕ). times_x (times_x n)) (halved (a * 8) (a * 4) (omega arith))
+    ∙ ap times_x (halved (a * 4) (a * 2) (omega arith)) ∙ halved (a * 2) a (omega arith)
+
+abbrev pub at_top : ℕ → ℕ
+at_top r = r * 2 ^ 64
+
+reductions-test : holds_values times_x4 0 (map at_top REDUCTIONS) ≡ true
+unfolding times_x
+reductions-test = refl
+
+low_part : (r : ℕ) → r < 16 → at_top (slice_index REDUCTIONS r) ≡ times_x4 r
+low_part r h = sym (get_or-map at_top REDUCTIONS r 0 0 h) ∙ value_of times_x4 (map at_top REDUCTIONS) r reductions-test h
+
+pub shifted_four : (z : ℕ) → bit_xor (z / 16) (at_top (slice_index REDUCTIONS (z % 16))) ≡ times_x4 z
+shifted_four z =
+    let high : ℕ = z / 16 in
+    let low : ℕ = z % 16 in
+    let parts : bit_xor (high * 2 ^ 4) low ≡ z = xor_shifted high 4 low (omega arith) ∙ omega arith in
+    ap₂ bit_xor (sym (high_part high)) (low_part low (omega arith)) ∙ sym (times_x4-xor (high * 16) low) ∙ ap times_x4 parts
+  where
+    times_x4-xor : (a b : ℕ) → times_x4 (bit_xor a b) ≡ bit_xor (times_x4 a) (times_x4 b)
+    times_x4-xor a b = simp times_x-xor
+
+-- ---- the table of products
+
+pub product_in : (t : List ℕ) (h g : ℕ) → t ≡ products_of h → g < 16 → slice_index t g ≡ sum_of_shifts 4 g h
+unfolding products_of
+product_in t h g e l =
+    ap (λ (s : List ℕ). slice_index s g) e ∙ get_or-map (λ g. sum_of_shifts 4 g h) (range_with_len 0 16) g 0 0 l
+    ∙ ap (λ (n : ℕ). sum_of_shifts 4 n h) (get_or-range_with_len 0 16 g 0 l ∙ omega arith)
+
+pub one_in_products : (h : ℕ) → slice_index (products_of h) 8 ≡ h
+unfolding products_of sum_of_shifts
+one_in_products h = xor_zero_r h
+
+pub products_of_zero : 0 ∷ 0 ∷ 0 ∷ 0 ∷ 0 ∷ 0 ∷ 0 ∷ 0 ∷ 0 ∷ 0 ∷ 0 ∷ 0 ∷ 0 ∷ 0 ∷ 0 ∷ 0 ∷ [] ≡ products_of 0
+unfolding products_of sum_of_shifts times_x
+products_of_zero = refl

@@ -1,0 +1,61 @@
+-- The product of blocks by x^4 in two halves, and the bytes of a block.
+use Rattle.std.proofs.Common.{◌≡◌, ℕ, zero, suc, ◌+◌, ◌*◌, ◌/◌, ◌%◌, ◌^◌, ◌<◌, slice_index, bit_xor, sym, ap, ap₂, ◌∙◌, arith}
+use Rattle.std.specs.Int.Bits.{xor_zero_r, xor_shifted}
+use Rattle.std.proofs.lemmas.Nat.{xor_block, xor_comm, shr-shr}
+use Rattle.ghash.specs.Products.{joined, times_x4}
+use Rattle.ghash.specs.declared.groups.TheConstants.{REDUCTIONS}
+use Rattle.ghash.proofs.GroupProducts.{at_top, shifted_four}
+
+-- the sum of joined halves
+xor_joined : (a b c d : ℕ) → b < 2 ^ 64 → d < 2 ^ 64 → bit_xor (joined a b) (joined c d) ≡ joined (bit_xor a c) (bit_xor b d)
+xor_joined a b c d hb hd = xor_block 64 a c b d hb hd
+
+-- the four lowest bits of the high half go into the low one
+low_shifted : (high low : ℕ) → low < 2 ^ 64 → bit_xor (low / 16) (high * 2 ^ 60 % 2 ^ 64) ≡ high % 16 * 2 ^ 60 + low / 16
+low_shifted high low h =
+    let moved : high * 2 ^ 60 % 2 ^ 64 ≡ high % 16 * 2 ^ 60 = omega arith in
+    ap (bit_xor (low / 16)) moved ∙ xor_comm (low / 16) (high % 16 * 2 ^ 60) ∙ xor_shifted (high % 16) 60 (low / 16) (omega arith)
+
+pub halves_shifted : (high low block : ℕ) → low < 2 ^ 64
+    → joined (bit_xor (bit_xor (high / 16) (slice_index REDUCTIONS (low % 16))) (block / 2 ^ 64)) (bit_xor (bit_xor (low / 16) (high * 2 ^ 60 % 2 ^ 64)) (block % 2 ^ 64))
+    ≡ bit_xor (times_x4 (joined high low)) block
+halves_shifted high low block h =
+    let z : ℕ = joined high low in
+    let down : ℕ = bit_xor (low / 16) (high * 2 ^ 60 % 2 ^ 64) in
+    let top : ℕ = slice_index REDUCTIONS (low % 16) in
+    let is_down : down ≡ high % 16 * 2 ^ 60 + low / 16 = low_shifted high low h in
+    let below : down < 2 ^ 64 = omega (arith, is_down) in
+    let shifted : z / 16 ≡ joined (high / 16) down = omega (arith, is_down) in
+    let place : z % 16 ≡ low % 16 = omega arith in
+    let at : at_top top ≡ joined top 0 = omega arith in
+    let product : times_x4 z ≡ joined (bit_xor (high / 16) top) down =
+    sym (shifted_four z) ∙ ap₂ bit_xor shifted (ap (λ (i : ℕ). at_top (slice_index REDUCTIONS i)) place ∙ at)
+    ∙ xor_joined (high / 16) down top 0 below (omega arith) ∙ ap (joined (bit_xor (high / 16) top)) (xor_zero_r down) in
+    let parts : block ≡ joined (block / 2 ^ 64) (block % 2 ^ 64) = omega arith in
+    sym (ap₂ bit_xor product parts ∙ xor_joined (bit_xor (high / 16) top) down (block / 2 ^ 64) (block % 2 ^ 64) below (omega arith))
+
+-- ---- the bits of a block
+
+-- byte i of 64 bits of a block
+byte_of_bits : (y i : ℕ) → i < 8 → y % 2 ^ 64 / 2 ^ (8 * i) % 256 ≡ y / 2 ^ (8 * i) % 256
+byte_of_bits y zero h = omega arith
+byte_of_bits y (suc zero) h = omega arith
+byte_of_bits y (suc (suc zero)) h = omega arith
+byte_of_bits y (suc (suc (suc zero))) h = omega arith
+byte_of_bits y (suc (suc (suc (suc zero)))) h = omega arith
+byte_of_bits y (suc (suc (suc (suc (suc zero))))) h = omega arith
+byte_of_bits y (suc (suc (suc (suc (suc (suc zero)))))) h = omega arith
+byte_of_bits y (suc (suc (suc (suc (suc (suc (suc zero))))))) h = omega arith
+byte_of_bits y (suc (suc (suc (suc (suc (suc (suc (suc i)))))))) h = absurd (omega arith)
+
+pub byte_is : (bits x m i : ℕ) → i < 8 → bits ≡ x / 2 ^ m % 2 ^ 64 → bits / 2 ^ (8 * i) % 256 ≡ x / 2 ^ (m + 8 * i) % 256
+byte_is bits x m i h e = ap (λ (b : ℕ). b / 2 ^ (8 * i) % 256) e ∙ byte_of_bits (x / 2 ^ m) i h ∙ ap (λ (n : ℕ). n % 256) (shr-shr x m (8 * i))
+
+-- the two groups of four bits in a byte
+pub low_group : (b x n : ℕ) → b ≡ x / 2 ^ n % 256 → b % 16 ≡ x / 2 ^ n % 16
+low_group b x n e = omega (arith, e)
+
+pub high_group : (b x n : ℕ) → b ≡ x / 2 ^ n % 256 → b / 16 ≡ x / 2 ^ (n + 4) % 16
+high_group b x n e =
+    let shifted : x / 2 ^ n / 2 ^ 4 ≡ x / 2 ^ (n + 4) = shr-shr x n 4 in
+    omega (arith, e, shifted)

@@ -1,0 +1,16 @@
+-- The product of blocks, four bits at a time.
+use Rattle.std.specs.Prelude.{ℕ, ◌+◌, ◌*◌, ◌^◌, List, map}
+use Rattle.std.specs.List.{range_with_len}
+use Rattle.crypto_specs.specs.Ghash.{times_x, sum_of_shifts}
+
+-- the product of h and each polynomial of degree below 4, whose highest bit is the coefficient of x^0
+unfoldable pub products_of : ℕ → List ℕ
+products_of h = map (λ g. sum_of_shifts 4 g h) (range_with_len 0 16)
+
+-- the product of v and x^4
+abbrev pub times_x4 : ℕ → ℕ
+times_x4 v = times_x (times_x (times_x (times_x v)))
+
+-- a block of two halves
+abbrev pub joined : ℕ → ℕ → ℕ
+joined high low = high * 2 ^ 64 + low

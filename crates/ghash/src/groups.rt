@@ -1,0 +1,111 @@
+// The product of a block and a fixed one, four bits at a time by a table of products of the fixed one.
+
+ghost use Rattle.std.specs.Prelude.{◌≡◌, ℕ, ◌+◌, ◌*◌, ◌/◌, ◌%◌, ◌^◌, ◌<◌, ◌≤◌, bit_xor};
+ghost use Rattle.crypto_specs.specs.Ghash.{block_product, sum_of_shifts};
+ghost use Rattle.ghash.specs.Products.{joined, products_of, times_x4};
+
+use crate::bits::times_x;
+
+// What the lowest four bits of a block become under the product by x^4: the high half of a block whose
+// low one is 0.
+const REDUCTIONS: [u64; 16] = [
+    0x0000 << 48,
+    0x1c20 << 48,
+    0x3840 << 48,
+    0x2460 << 48,
+    0x7080 << 48,
+    0x6ca0 << 48,
+    0x48c0 << 48,
+    0x54e0 << 48,
+    0xe100 << 48,
+    0xfd20 << 48,
+    0xd940 << 48,
+    0xc560 << 48,
+    0x9180 << 48,
+    0x8da0 << 48,
+    0xa9c0 << 48,
+    0xb5e0 << 48,
+];
+
+// The products of a block and each polynomial of degree below 4, whose four bits are the place.
+pub(crate) fn products(h: u128) -> [u128; 16]
+    ensures { result ≡ products_of h }
+{
+    let x1 = times_x(h);
+    let x2 = times_x(x1);
+    let x3 = times_x(x2);
+    let low = x2 ^ x3;
+    let high = h ^ x1;
+    [
+        0,
+        x3,
+        x2,
+        low,
+        x1,
+        x1 ^ x3,
+        x1 ^ x2,
+        x1 ^ low,
+        h,
+        h ^ x3,
+        h ^ x2,
+        h ^ low,
+        high,
+        high ^ x3,
+        high ^ x2,
+        high ^ low,
+    ]
+}
+
+// The product of a block and the one that the products are of.
+pub(crate) fn multiply_by(x: u128, products: &[u128; 16]) -> u128
+    ensures { (h : ℕ) → products.now ≡ products_of h → result ≡ block_product x h }
+{
+    let zero = Halves { high: 0, low: 0 };
+    let sum = zero.with_terms((x % (1 << 64)) as u64, products);
+    let whole = sum.with_terms((x >> 64) as u64, products);
+    whole.joined()
+}
+
+// A block in two halves: shifts of them cost less than those of a u128.
+#[derive(Drop)]
+struct Halves {
+    high: u64,
+    low: u64,
+}
+
+impl Halves {
+    // The sum over the bits of a block `x` below bit `m` with the terms of its next 64 bits.
+    fn with_terms(self, bits: u64, products: &[u128; 16]) -> Halves
+        ensures { (h x m : ℕ) → products.now ≡ products_of h → bits ≡ x / 2 ^ m % 2 ^ 64
+            → joined self.high self.low ≡ sum_of_shifts m x h
+            → joined result.high result.low ≡ sum_of_shifts (m + 64) x h }
+    {
+        let mut sum = self;
+        'bytes: for n in 0..8u32 {
+            let byte = ((bits >> (8 * n)) % 256) as usize;
+            let half = sum.times_x4_plus(products[byte % 16]);
+            let whole = half.times_x4_plus(products[byte / 16]);
+            sum = whole;
+        }
+        sum
+    }
+
+    // The product by x^4, and a block added to it.
+    fn times_x4_plus(self, block: u128) -> Halves
+        ensures { joined result.high result.low ≡ bit_xor (times_x4 (joined self.high self.low)) block }
+    {
+        let high = (block >> 64) as u64;
+        let low = (block % (1 << 64)) as u64;
+        Halves {
+            high: (self.high >> 4) ^ REDUCTIONS[(self.low % 16) as usize] ^ high,
+            low: (self.low >> 4) ^ (self.high << 60) ^ low,
+        }
+    }
+
+    // The block of the halves.
+    fn joined(self) -> u128
+        ensures { result ≡ joined self.high self.low }
+    {
+        (u128::from(self.high) << 64) + u128::from(self.low)
+    }
+}
