@@ -13,7 +13,7 @@ ghost use Rattle.aead_states.specs.Holding.{HoldsAead};
 use crate::declared::{is_whole_ad, is_whole_payload};
 use crate::running::RunningAead;
 use algorithm_facts::tag_bytes;
-use operation_phase::give;
+use operation_phase::{give, is_front};
 use psa_status::Status;
 
 impl RunningAead {
@@ -71,8 +71,8 @@ impl RunningAead {
     {
         self.check_whole(!self.encrypts)?;
         let length = self.tag_length();
-        let whole = self.whole_tag();
-        if tag == &whole[..length] {
+        let mut whole = self.whole_tag();
+        if is_front(tag, &mut whole, length) {
             Ok(())
         } else {
             Err(Status::InvalidSignature)

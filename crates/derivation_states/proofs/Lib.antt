@@ -2,6 +2,5 @@ pub mod Blocks
 pub mod Joined
 pub mod Lengths
 pub mod Derived
-pub mod Pieces
 pub mod Nexts
 pub mod Running

@@ -17,7 +17,7 @@ use alg_encoding::Alg;
 use algorithm_facts::{hash_function, is_cmac, tag_bytes};
 use hash_ops::Hash;
 use hmac_ops::HmacState;
-use operation_phase::give;
+use operation_phase::{give, is_front};
 use psa_status::Status;
 
 /// A message that is authenticated piece by piece: it stands for its pieces, one after another. Its MAC is made, or
@@ -133,7 +133,7 @@ impl RunningMac {
         }
         let mut mac = [0; 64];
         let length = self.put_mac(&mut mac);
-        if expected == &mac[..length] {
+        if is_front(expected, &mut mac, length) {
             Ok(())
         } else {
             Err(Status::InvalidSignature)

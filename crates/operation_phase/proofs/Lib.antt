@@ -1,2 +1,3 @@
+pub mod ByteLists
 pub mod Standing
 pub mod Stepping

@@ -5,11 +5,13 @@ ghost use Rattle.std.specs.Prelude.{◌≡◌, if◌then◌else◌, IfOk, IfErr}
 ghost use Rattle.psa_status.specs.declared.Status.TheVariants.{BadState};
 ghost use Rattle.operation_phase.specs.declared.Phase.TheVariants as phase;
 
+pub use comparing::is_front;
 pub use family::{Family, compute, drawn};
 pub use outputs::{give, put_front};
 use psa_status::Status;
 pub use state::{OperationState, Work};
 
+mod comparing;
 mod family;
 mod outputs;
 mod state;

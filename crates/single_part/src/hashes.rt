@@ -8,7 +8,7 @@ ghost use Rattle.store_model.specs.Answers.{AnswersLength, plain_reply};
 use alg_encoding::{Alg, Class};
 use algorithm_facts::{check_class, hash_function};
 use hash_ops::one_shot::hash;
-use operation_phase::give;
+use operation_phase::{give, is_front};
 use psa_status::Status;
 
 // Writes the hash of a message to the front of `out`, and answers its length.
@@ -40,7 +40,7 @@ pub fn hash_compare(alg: Alg, input: &[u8], hash: &[u8]) -> Result<(), Status>
     check_class(Class::Hash, alg)?;
     let mut own = [0; 64];
     let length = hash_message(alg, input, &mut own);
-    if hash == &own[..length] {
+    if is_front(hash, &mut own, length) {
         Ok(())
     } else {
         Err(Status::InvalidSignature)

@@ -12,7 +12,7 @@ use alg_encoding::Alg;
 use algorithm_facts::{TOTAL_LIMIT, aes_key, hash_function, is_cmac, tag_bytes};
 use cmac_ops::cmac;
 use hmac_ops::hmac;
-use operation_phase::{give, put_front};
+use operation_phase::{give, is_front, put_front};
 use psa_status::Status;
 
 // Writes CMAC's whole MAC of a message to the front of `out`, and answers its length.
@@ -80,7 +80,7 @@ pub fn mac_verify(alg: Alg, key: &[u8], input: &[u8], mac: &[u8]) -> Result<(), 
     }
     let mut own = [0; 64];
     let length = put_mac(alg, key, input, &mut own);
-    if mac == &own[..length] {
+    if is_front(mac, &mut own, length) {
         Ok(())
     } else {
         Err(Status::InvalidSignature)
