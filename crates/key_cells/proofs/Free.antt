@@ -1,11 +1,11 @@
 -- Which cells are free before calls, between them and after them.
-use Rattle.std.proofs.Common.{◌≡◌, ⊎_elim, ℕ, true, List, set, ◌<◌, ◌∙◌, sym, ap, subst}
+use Rattle.std.proofs.Common.{◌≡◌, ⊎_elim, ℕ, true, List, set, length, ◌<◌, ◌∙◌, sym, ap, subst, arith}
 use Rattle.std.proofs.lemmas.Bool.{cases_eq}
-use Rattle.std.proofs.lemmas.List.{get_or-set_other}
+use Rattle.std.proofs.lemmas.List.{get_or-set_other, get_or-map}
 use Rattle.key_cells.specs.declared.slot.Slot.{Slot}
 use Rattle.key_cells.specs.declared.slot.Slot.TheVariants.{Free, Open, Shut, Unsure}
 use Rattle.key_cells.specs.Layout.{cells}
-use Rattle.key_cells.specs.Contents.{StaysFree, slot_at, is_open}
+use Rattle.key_cells.specs.Contents.{StaysFree, IsSure, slot_at, settled_slot, is_open}
 
 -- slots that are free before two calls and after them are so between them
 abbrev pub FreeBetween : List Slot → List Slot → List Slot → Type 0
@@ -56,3 +56,8 @@ open_not_free Free is free = cc
 open_not_free (Open id creation) is free = cc
 open_not_free Shut is free = cc
 open_not_free Unsure is free = cc
+
+-- where no cell is in doubt, neither is one of a directory that is the same
+pub sure_still : (slots now : List Slot) (cell : ℕ) → length slots ≡ 512 → cell < 512 → now ≡ slots → IsSure slots → settled_slot (slot_at now cell) ≡ slot_at now cell
+sure_still slots now cell sized lt same sure =
+    rw same (sym (get_or-map settled_slot slots cell Free Free (omega (arith, sized, lt))) ∙ ap (λ (l : List Slot). slot_at l cell) sure)

@@ -1,6 +1,6 @@
 -- What a file stands for that was opened.
-use Rattle.std.proofs.Common.{◌≡◌, ◌≢◌, ⊎_elim, ℕ, ◌<◌, Bool, true, false, cond, ◌==◌, List, [], ◌∷◌, length, Option, None, Some, IfSome, replicate, refl, sym, ◌∙◌, ap, subst, arith}
-use Rattle.std.proofs.lemmas.Bool.{eqb-true, eq-eqb}
+use Rattle.std.proofs.Common.{◌≡◌, ◌≢◌, ⊎_elim, ℕ, zero, suc, ◌<◌, ◌≤◌, ◌+◌, ne_eqb, Bool, true, false, cond, ◌==◌, List, [], ◌∷◌, length, Option, None, Some, IfSome, replicate, refl, sym, ◌∙◌, ap, subst, arith}
+use Rattle.std.proofs.lemmas.Bool.{eqb-true, eq-eqb, cases_eq}
 use Rattle.std.proofs.lemmas.List.{get_or-replicate}
 use Rattle.key_attributes.specs.declared.Attributes.{Attributes}
 use Rattle.key_cells.specs.declared.slot.Slot.{Slot}
@@ -15,6 +15,9 @@ use Rattle.key_cells.proofs.CellsRead.{content_there}
 use Rattle.key_cells.proofs.Opened.{not_opened}
 use Rattle.key_file.specs.Files.{Stored, stored, Keys, Doubt, TellsCell, IsOf, IsFiled, AreFound, StandsFor}
 use Rattle.key_file.proofs.Filing.{one_id}
+
+false_true : false ≡ true → ⊥
+false_true e = cc
 
 -- the content of a cell, as an opening found it
 pub FoundIn : Slot → Content → List ℕ → Type 0
@@ -93,3 +96,70 @@ module _ {D : Type 0} (told : D → Option (List ℕ)) (may_leave : D → List �
         stands = stands;
         filed = found_filed slots (found_in image) image o.sized o.one (found_each image slots found) keys are;
       }
+
+-- keys that stand in the first so many cells, each under its number
+record KeysBelow (image : List ℕ) (slots : List Slot) (count : ℕ) : Type 0 where
+  keys : Keys
+  there : (id : ℕ) (key : Stored) → keys id ≡ Some key →
+      (cell : ℕ) × (cell < count) × (has_id id (slot_at slots cell) ≡ true) × HoldsKey key.attributes key.bytes (body cell image) × (key.creation ≡ creation_at (slot_at slots cell))
+  all : (id cell : ℕ) → cell < count → has_id id (slot_at slots cell) ≡ true → (key : Stored) × (keys id ≡ Some key)
+
+-- one cell more
+keys_next : (image : List ℕ) (slots : List Slot) (count : ℕ) → KeysBelow image slots count → (slot : Slot) (g : List ℕ) → slot_at slots count ≡ slot → Finds slot g (body count image) → KeysBelow image slots (count + 1)
+keys_next image slots count below Free g is f = record {
+  keys = below.keys;
+  there = λ id key e. let t = below.there id key e in (t.0, omega (arith, t.1), t.2, t.3, t.4);
+  all = λ id cell lt has. ⊎_elim
+      (λ same. let z : false ≡ true = sym (ap (has_id id) (ap (slot_at slots) same ∙ is)) ∙ has in absurd (false_true z))
+      (λ differs. below.all id cell (omega (arith, lt, differs)) has)
+      (cases_eq cell count);
+}
+keys_next image slots count below (Open own creation) g is f =
+    let a = f.1.0 in
+    let key : Stored = stored creation a f.1.1 in
+    record {
+      keys = λ id. cond (id == own) (Some key) (below.keys id);
+      there = λ id k e. ⊎_elim
+          (λ same. let z : Some key ≡ Some k = ap (λ t. cond t (Some key) (below.keys id)) (sym (eq-eqb id own same)) ∙ e in
+          let k_is : key ≡ k = cc in
+          (count, omega arith, ap (has_id id) is ∙ eq-eqb own id (sym same), subst (λ (x : Stored). HoldsKey x.attributes x.bytes (body count image)) k_is f.1.2, ap (λ (x : Stored). x.creation) (sym k_is) ∙ sym (ap creation_at is)))
+          (λ differs. let t = below.there id k (ap (λ t. cond t (Some key) (below.keys id)) (sym (ne_eqb id own differs)) ∙ e) in (t.0, omega (arith, t.1), t.2, t.3, t.4))
+          (cases_eq id own);
+      all = λ id cell lt has. ⊎_elim
+          (λ same. (key, ap (λ t. cond t (Some key) (below.keys id)) (eq-eqb id own same)))
+          (λ differs.
+          let earlier = below.all id cell (omega (arith, lt, not_last id cell differs has)) has in
+          (earlier.0, ap (λ t. cond t (Some key) (below.keys id)) (ne_eqb id own differs) ∙ earlier.1))
+          (cases_eq id own);
+    }
+  where
+    not_last : (id cell : ℕ) → id ≢ own → has_id id (slot_at slots cell) ≡ true → cell ≢ count
+    not_last id cell differs has same = differs (sym (eqb-true own id (sym (ap (has_id id) (ap (slot_at slots) same ∙ is)) ∙ has)))
+keys_next image slots count below Shut g is f = absurd f
+keys_next image slots count below Unsure g is f = absurd f
+
+keys_below : (image : List ℕ) (slots : List Slot) → ((cell : ℕ) → cell < 512 → Finds (slot_at slots cell) (gate cell image) (body cell image)) → (count : ℕ) → count ≤ 512 → KeysBelow image slots count
+keys_below image slots each zero le = record {
+  keys = λ id. None;
+  there = λ id key e. cc;
+  all = λ id cell lt has. absurd (omega (arith, lt));
+}
+keys_below image slots each (suc count) le =
+    subst (λ (n : ℕ). KeysBelow image slots n) (omega arith) (keys_next image slots count (keys_below image slots each count (omega (arith, le))) (slot_at slots count) (gate count image) refl (each count (omega (arith, le))))
+
+-- an opening found keys
+pub found_keys : (image : List ℕ) (slots : List Slot) → IsFound image slots → (keys : Keys) × AreFound image slots keys
+found_keys [] slots is = (
+  λ id. None,
+  record {
+    there = λ id key e. cc;
+    all = λ id cell lt has. let z : false ≡ true = sym (ap (λ (l : List Slot). has_id id (slot_at l cell)) is ∙ ap (has_id id) (get_or-replicate 512 cell Free Free lt)) ∙ has in absurd (false_true z);
+  },
+)
+found_keys (byte ∷ rest) slots is =
+    let below = keys_below (byte ∷ rest) slots is.each 512 (omega arith) in
+    (below.keys, record { there = below.there; all = below.all })
+
+pub some_found : (told : Option (List ℕ)) (slots : List Slot) → IfSome told (λ image. IsFound image slots) → IfSome told (λ image. (keys : Keys) × AreFound image slots keys)
+some_found None slots found = tt
+some_found (Some image) slots found = found_keys image slots found

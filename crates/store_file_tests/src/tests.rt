@@ -1,7 +1,7 @@
 ghost use Rattle.std.specs.Prelude.{◌≡◌, ◌≤◌, ◌∷◌, [], ℕ, length};
 ghost use Rattle.key_cells.specs.Body.{IsKeyOf};
 
-use disk_face::{BrokenDisk, Disk, Fails, MemoryDisk};
+use disk_face::{Disk, Fails, MemoryDisk};
 use key_attributes::{Attributes, KeyId, KeyType, Lifetime, Policy, Usage};
 use key_cells::{CellFault, Cells, OpenFault};
 use key_record::{read, write};
@@ -9,8 +9,8 @@ use secret_bytes::Secret;
 use std::alloc::Global;
 use std::test::Fail;
 
-// The attributes of a key of one byte that may be exported.
-fn one_byte_key(id: u32) -> Attributes
+/// The attributes of a key of one byte that may be exported.
+pub fn one_byte_key(id: u32) -> Attributes
     requires some { 1 ≤ id }
     requires persistent { id ≤ 0x3fffffff }
     ensures { (byte : ℕ) → IsKeyOf result (byte ∷ []) }
@@ -27,8 +27,8 @@ fn one_byte_key(id: u32) -> Attributes
     }
 }
 
-// Makes a key of one byte.
-fn create<D: Disk>(cells: &mut Cells<D>, id: u32, byte: u8) -> Result<usize, CellFault>
+/// Makes a key of one byte.
+pub fn create<D: Disk>(cells: &mut Cells<D>, id: u32, byte: u8) -> Result<usize, CellFault>
     requires size { D.size cells.old.disk ≡ 557120 }
     requires slots { length cells.old.slots.items ≡ 512 }
     requires some { 1 ≤ id }
@@ -39,8 +39,8 @@ fn create<D: Disk>(cells: &mut Cells<D>, id: u32, byte: u8) -> Result<usize, Cel
     cells.create(0, &one_byte_key(id), &[byte])
 }
 
-// Opens the store of these bytes.
-fn open(alloc: Global, bytes: Vec<u8>) -> Result<Cells<MemoryDisk>, OpenFault> {
+/// Opens the store of these bytes.
+pub fn open(alloc: Global, bytes: Vec<u8>) -> Result<Cells<MemoryDisk>, OpenFault> {
     let disk = match MemoryDisk::new(alloc, bytes, Fails::From(u64::MAX)) {
         Ok(disk) => disk,
         Err(_) => return Err(OpenFault::Memory),
@@ -51,89 +51,8 @@ fn open(alloc: Global, bytes: Vec<u8>) -> Result<Cells<MemoryDisk>, OpenFault> {
     }
 }
 
-// What is known of a key after a crash.
-#[derive(Clone, Copy, Debug, PartialEq, Eq, Drop)]
-enum Fate {
-    Absent,
-    Either,
-    Whole,
-}
-
-// Whether a store that is opened again has what it may have of key 5: its one byte, or nothing.
-fn agrees(alloc: Global, image: Vec<u8>, fate: Fate) -> Result<bool, Fail> {
-    let mut secret = Secret::new(alloc).map_err(|_| "memory")?;
-    let disk = MemoryDisk::new(alloc, image, Fails::From(u64::MAX)).map_err(|_| "memory")?;
-    let mut cells = Cells::open(alloc, disk).map_err(|_| "open")?;
-    match cells.find(5) {
-        None => Ok(fate != Fate::Whole),
-        Some(cell) => {
-            let there = cells.load(cell, &mut secret).is_ok()
-                && secret.as_slice() == [0xaau8].as_slice();
-            Ok(there && fate != Fate::Absent)
-        }
-    }
-}
-
-#[test]
-fn a_stop_leaves_a_key_whole_or_absent(rt: HostRuntime) -> Result<(), Fail> {
-    let alloc = rt.alloc();
-    // A new store takes six calls of the disk, a creation four, and a destruction four.
-    let rows = [
-        (6u64, Fate::Absent),
-        (7, Fate::Absent),
-        (8, Fate::Either),
-        (9, Fate::Either),
-        (10, Fate::Whole),
-        (11, Fate::Either),
-        (12, Fate::Absent),
-        (13, Fate::Absent),
-        (14, Fate::Absent),
-    ];
-    for (stop, fate) in rows {
-        let disk = MemoryDisk::new(alloc, Vec::new(alloc), Fails::From(stop)).map_err(
-            |_| "memory",
-        )?;
-        let mut cells = Cells::open(alloc, disk).map_err(|_| "open")?;
-        let made = create(&mut cells, 5, 0xaa);
-        assert_eq!(rt; made.is_ok(), stop >= 10);
-        if let Some(cell) = cells.find(5) {
-            assert_eq!(rt; cells.destroy(cell).is_ok(), stop == 14);
-        }
-        let disk = cells.into_disk();
-        for kept in [false, true] {
-            let kept = vec![in alloc; kept; disk.pending()]?;
-            let image = disk.image(&kept).map_err(|_| "memory")?;
-            assert!(rt; agrees(alloc, image, fate)?);
-        }
-    }
-    Ok(())
-}
-
-#[test]
-fn a_fault_is_closed_by_the_next_write(rt: HostRuntime) -> Result<(), Fail> {
-    let alloc = rt.alloc();
-    for call in 6..10u64 {
-        let disk = MemoryDisk::new(
-            alloc,
-            Vec::new(alloc),
-            Fails::Listed(vec![in alloc; call]?),
-        ).map_err(|_| "memory")?;
-        let mut cells = Cells::open(alloc, disk).map_err(|_| "open")?;
-        assert_eq!(rt; create(&mut cells, 5, 0xaa), Err(CellFault::Disk));
-        assert_eq!(rt; cells.find(5), None);
-        assert_eq!(rt; create(&mut cells, 5, 0xbb), Ok(0));
-        assert_eq!(rt; create(&mut cells, 6, 0xcc), Ok(1));
-        if let Some(cell) = cells.find(5) {
-            assert_eq!(rt; cells.destroy(cell), Ok(()));
-        }
-        assert_eq!(rt; create(&mut cells, 7, 0xdd), Ok(0));
-        assert_eq!(rt; cells.count(), 2);
-    }
-    Ok(())
-}
-
-// Makes so many keys, with the identifiers from 1 on.
-fn fill<D: Disk>(cells: &mut Cells<D>, count: u32) -> Result<(), CellFault>
+/// Makes so many keys, with the identifiers from 1 on.
+pub fn fill<D: Disk>(cells: &mut Cells<D>, count: u32) -> Result<(), CellFault>
     requires size { D.size cells.old.disk ≡ 557120 }
     requires slots { length cells.old.slots.items ≡ 512 }
     requires few { count ≤ 512 }
@@ -143,24 +62,6 @@ fn fill<D: Disk>(cells: &mut Cells<D>, count: u32) -> Result<(), CellFault>
     for id in 1..=count {
         create(cells, id, (id % 251) as u8)?;
     }
-    Ok(())
-}
-
-#[test]
-fn a_store_has_512_keys_and_no_more(rt: HostRuntime) -> Result<(), Fail> {
-    let alloc = rt.alloc();
-    let disk = MemoryDisk::new(alloc, Vec::new(alloc), Fails::From(u64::MAX)).map_err(
-        |_| "memory",
-    )?;
-    let mut cells = Cells::open(alloc, disk).map_err(|_| "open")?;
-    assert_eq!(rt; fill(&mut cells, 512), Ok(()));
-    assert_eq!(rt; create(&mut cells, 513, 0), Err(CellFault::Full));
-    let bytes = cells.into_disk().bytes().to_vec(alloc)?;
-    let again = open(alloc, bytes).map_err(|_| "again")?;
-    assert_eq!(rt; again.count(), 512);
-    assert_eq!(rt; again.find(512), Some(511));
-    assert_eq!(rt; again.creation(511), 511);
-    assert_eq!(rt; again.find(513), None);
     Ok(())
 }
 
@@ -220,28 +121,6 @@ fn damage_is_found(rt: HostRuntime) -> Result<(), Fail> {
     let mut longer = store.to_vec(alloc)?;
     longer.push(0)?;
     assert_eq!(rt; refusal(alloc, longer), other);
-    Ok(())
-}
-
-#[test]
-fn an_opening_meets_faults(rt: HostRuntime) -> Result<(), Fail> {
-    let alloc = rt.alloc();
-    match Cells::open(alloc, BrokenDisk::new()) {
-        Ok(_cells) => return Err("opened")?,
-        Err((disk, fault)) => {
-            assert_eq!(rt; fault, OpenFault::Disk);
-            assert_eq!(rt; disk.faults(), 1);
-        }
-    }
-    for call in 0..6u64 {
-        let disk = MemoryDisk::new(alloc, Vec::new(alloc), Fails::From(call)).map_err(
-            |_| "memory",
-        )?;
-        match Cells::open(alloc, disk) {
-            Ok(_cells) => return Err("opened")?,
-            Err((_disk, fault)) => assert_eq!(rt; fault, OpenFault::Disk),
-        }
-    }
     Ok(())
 }
 
