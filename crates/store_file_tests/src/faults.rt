@@ -1,7 +1,7 @@
 // Faults of the disk, and what a crash after them leaves.
 ghost use Rattle.std.specs.Prelude.{◌≡◌, length, IfOk};
 
-use crate::tests::{create, fill, open};
+use crate::tests::{create, fill, new_cells, new_disk, open};
 use disk_face::{BrokenDisk, Fails, MemoryDisk};
 use key_cells::{CellFault, Cells, OpenFault};
 use secret_bytes::Secret;
@@ -42,15 +42,26 @@ pub fn images(alloc: Global, disk: &MemoryDisk) -> Result<Vec<Vec<u8>>, Fail> {
     let mut images = Vec::new(alloc);
     for number in 0..choices {
         let kept = choice(alloc, number, pending)?;
-        images.push(disk.image(&kept).map_err(|_| "memory")?)?;
+        match disk.image(&kept) {
+            Ok(image) => images.push(image)?,
+            Err(_) => return Err("memory")?,
+        }
     }
     Ok(images)
 }
 
+/// A buffer for a key.
+pub fn new_secret(alloc: Global) -> Result<Secret, Fail> {
+    match Secret::new(alloc) {
+        Ok(secret) => Ok(secret),
+        Err(_) => Err("memory")?,
+    }
+}
+
 // Whether a store that is opened again has what it may have of key 5: its one byte, or nothing.
 fn agrees(alloc: Global, image: Vec<u8>, fate: Fate) -> Result<bool, Fail> {
-    let mut secret = Secret::new(alloc).map_err(|_| "memory")?;
-    let mut cells = open(alloc, image).map_err(|_| "open")?;
+    let mut secret = new_secret(alloc)?;
+    let mut cells = open(alloc, image)?;
     match cells.find(5) {
         None => Ok(fate != Fate::Whole),
         Some(cell) => {
@@ -78,8 +89,7 @@ fn a_fault_leaves_a_key_whole_or_absent(rt: HostRuntime) -> Result<(), Fail> {
     for (call, fate) in rows {
         for fails in [Fails::From(call), Fails::Listed(vec![in alloc; call]?)] {
             let goes_on = matches!(fails, Fails::Listed(_));
-            let disk = MemoryDisk::new(alloc, Vec::new(alloc), fails).map_err(|_| "memory")?;
-            let mut cells = Cells::open(alloc, disk).map_err(|_| "open")?;
+            let mut cells = new_cells(alloc, fails)?;
             assert_eq!(rt; create(&mut cells, 5, 0xaa).is_ok(), call >= 10);
             if let Some(cell) = cells.find(5) {
                 assert_eq!(rt; cells.destroy(cell), Err(CellFault::Disk));
@@ -105,12 +115,22 @@ fn a_fault_leaves_a_key_whole_or_absent(rt: HostRuntime) -> Result<(), Fail> {
 // Whether each image that a crash may leave now has exactly the keys 1 and 2, in the first two cells.
 fn keeps_both(alloc: Global, disk: &MemoryDisk) -> Result<bool, Fail> {
     for image in images(alloc, disk)? {
-        let cells = open(alloc, image).map_err(|_| "open")?;
+        let cells = open(alloc, image)?;
         if cells.count() != 2 || cells.find(1) != Some(0) || cells.find(2) != Some(1) {
             return Ok(false);
         }
     }
     Ok(true)
+}
+
+// Whether all bytes from a place on are zeros.
+fn is_zero_from(bytes: &[u8], from: usize) -> bool {
+    for (place, byte) in bytes.iter().enumerate() {
+        if place >= from && *byte != 0 {
+            return false;
+        }
+    }
+    true
 }
 
 #[test]
@@ -124,19 +144,14 @@ fn an_opening_meets_faults(rt: HostRuntime) -> Result<(), Fail> {
         }
     }
     for call in 0..6u64 {
-        let disk = MemoryDisk::new(alloc, Vec::new(alloc), Fails::From(call)).map_err(
-            |_| "memory",
-        )?;
+        let disk = new_disk(alloc, Vec::new(alloc), Fails::From(call))?;
         match Cells::open(alloc, disk) {
             Ok(_cells) => return Err("opened")?,
             Err((_disk, fault)) => assert_eq!(rt; fault, OpenFault::Disk),
         }
     }
     // Two keys, and two cells that are left over, one closed by 0 and one by another byte.
-    let disk = MemoryDisk::new(alloc, Vec::new(alloc), Fails::From(u64::MAX)).map_err(
-        |_| "memory",
-    )?;
-    let mut cells = Cells::open(alloc, disk).map_err(|_| "open")?;
+    let mut cells = new_cells(alloc, Fails::From(u64::MAX))?;
     assert_eq!(rt; fill(&mut cells, 4), Ok(()));
     let mut store = cells.into_disk().bytes().to_vec(alloc)?;
     for (gate, byte) in [(2240, 0), (3328, 0xa4)] {
@@ -146,9 +161,7 @@ fn an_opening_meets_faults(rt: HostRuntime) -> Result<(), Fail> {
     }
     // A sync, the length, the header, 512 cells, a write of each cell that is left over, and a sync.
     for call in [0u64, 1, 2, 3, 514, 515, 516, 517, 518] {
-        let disk = MemoryDisk::new(alloc, store.to_vec(alloc)?, Fails::From(call)).map_err(
-            |_| "memory",
-        )?;
+        let disk = new_disk(alloc, store.to_vec(alloc)?, Fails::From(call))?;
         let (disk, fault) = match Cells::open(alloc, disk) {
             Ok(cells) => (cells.into_disk(), None),
             Err((disk, fault)) => (disk, Some(fault)),
@@ -156,7 +169,7 @@ fn an_opening_meets_faults(rt: HostRuntime) -> Result<(), Fail> {
         assert_eq!(rt; fault.is_none(), call == 518);
         assert!(rt; fault.is_none() || fault == Some(OpenFault::Disk));
         assert!(rt; keeps_both(alloc, &disk)?);
-        let cleared = disk.bytes().iter().skip(2240).all(|byte| *byte == 0);
+        let cleared = is_zero_from(disk.bytes(), 2240);
         assert_eq!(rt; cleared, call >= 517);
     }
     Ok(())

@@ -1,4 +1,4 @@
-ghost use Rattle.std.specs.Prelude.{◌≡◌, ◌≤◌, ◌∷◌, [], ℕ, length};
+ghost use Rattle.std.specs.Prelude.{◌≡◌, ◌≤◌, ◌∷◌, [], ℕ, length, IfOk};
 ghost use Rattle.key_cells.specs.Body.{IsKeyOf};
 
 use disk_face::{Disk, Fails, MemoryDisk};
@@ -13,7 +13,8 @@ use std::test::Fail;
 pub fn one_byte_key(id: u32) -> Attributes
     requires some { 1 ≤ id }
     requires persistent { id ≤ 0x3fffffff }
-    ensures { (byte : ℕ) → IsKeyOf result (byte ∷ []) }
+    ensures key { (byte : ℕ) → IsKeyOf result (byte ∷ []) }
+    ensures id { result.id.0 ≡ id }
 {
     Attributes {
         lifetime: Lifetime(1),
@@ -39,15 +40,33 @@ pub fn create<D: Disk>(cells: &mut Cells<D>, id: u32, byte: u8) -> Result<usize,
     cells.create(0, &one_byte_key(id), &[byte])
 }
 
-/// Opens the store of these bytes.
-pub fn open(alloc: Global, bytes: Vec<u8>) -> Result<Cells<MemoryDisk>, OpenFault> {
-    let disk = match MemoryDisk::new(alloc, bytes, Fails::From(u64::MAX)) {
-        Ok(disk) => disk,
-        Err(_) => return Err(OpenFault::Memory),
-    };
-    match Cells::open(alloc, disk) {
+/// A disk of these bytes that fails so.
+pub fn new_disk(alloc: Global, bytes: Vec<u8>, fails: Fails) -> Result<MemoryDisk, Fail> {
+    match MemoryDisk::new(alloc, bytes, fails) {
+        Ok(disk) => Ok(disk),
+        Err(_) => Err("memory")?,
+    }
+}
+
+/// A new store over a disk that fails so.
+pub fn new_cells(alloc: Global, fails: Fails) -> Result<Cells<MemoryDisk>, Fail>
+    ensures size { IfOk result (λ cells. length cells.disk.bytes.items ≡ 557120) }
+    ensures slots { IfOk result (λ cells. length cells.slots.items ≡ 512) }
+{
+    match Cells::open(alloc, new_disk(alloc, Vec::new(alloc), fails)?) {
         Ok(cells) => Ok(cells),
-        Err((_disk, fault)) => Err(fault),
+        Err((_disk, _fault)) => Err("open")?,
+    }
+}
+
+/// Opens the store of these bytes.
+pub fn open(alloc: Global, bytes: Vec<u8>) -> Result<Cells<MemoryDisk>, Fail>
+    ensures size { IfOk result (λ cells. length cells.disk.bytes.items ≡ 557120) }
+    ensures slots { IfOk result (λ cells. length cells.slots.items ≡ 512) }
+{
+    match Cells::open(alloc, new_disk(alloc, bytes, Fails::From(u64::MAX))?) {
+        Ok(cells) => Ok(cells),
+        Err((_disk, _fault)) => Err("open")?,
     }
 }
 
@@ -66,20 +85,17 @@ pub fn fill<D: Disk>(cells: &mut Cells<D>, count: u32) -> Result<(), CellFault>
 }
 
 // What an opening of these bytes is refused for.
-fn refusal(alloc: Global, bytes: Vec<u8>) -> Option<OpenFault> {
-    match open(alloc, bytes) {
-        Ok(_cells) => None,
-        Err(fault) => Some(fault),
+fn refusal(alloc: Global, bytes: Vec<u8>) -> Result<Option<OpenFault>, Fail> {
+    match Cells::open(alloc, new_disk(alloc, bytes, Fails::From(u64::MAX))?) {
+        Ok(_cells) => Ok(None),
+        Err((_disk, fault)) => Ok(Some(fault)),
     }
 }
 
 #[test]
 fn damage_is_found(rt: HostRuntime) -> Result<(), Fail> {
     let alloc = rt.alloc();
-    let disk = MemoryDisk::new(alloc, Vec::new(alloc), Fails::From(u64::MAX)).map_err(
-        |_| "memory",
-    )?;
-    let mut cells = Cells::open(alloc, disk).map_err(|_| "open")?;
+    let mut cells = new_cells(alloc, Fails::From(u64::MAX))?;
     assert_eq!(rt; fill(&mut cells, 4), Ok(()));
     let store = cells.into_disk().bytes().to_vec(alloc)?;
     let other = Some(OpenFault::NotAStore);
@@ -115,12 +131,12 @@ fn damage_is_found(rt: HostRuntime) -> Result<(), Fail> {
         if let Some(old) = bytes.get_mut(place) {
             *old = byte;
         }
-        assert_eq!(rt; refusal(alloc, bytes), answer);
+        assert_eq!(rt; refusal(alloc, bytes)?, answer);
     }
-    assert_eq!(rt; refusal(alloc, vec![in alloc; 0u8; 10]?), other);
+    assert_eq!(rt; refusal(alloc, vec![in alloc; 0u8; 10]?)?, other);
     let mut longer = store.to_vec(alloc)?;
     longer.push(0)?;
-    assert_eq!(rt; refusal(alloc, longer), other);
+    assert_eq!(rt; refusal(alloc, longer)?, other);
     Ok(())
 }
 
