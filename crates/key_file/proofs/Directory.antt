@@ -3,7 +3,7 @@ use Rattle.std.proofs.Common.{◌≡◌, ℕ, ◌<◌, ◌+◌, true, false, Lis
 use Rattle.std.proofs.lemmas.List.{get_or-map, length-map, map-set}
 use Rattle.key_cells.specs.declared.slot.Slot.{Slot}
 use Rattle.key_cells.specs.declared.slot.Slot.TheVariants.{Free, Open, Shut, Unsure}
-use Rattle.key_cells.specs.Contents.{IsFull, IsSure, IsFirstWithoutKey, slot_at, is_open, settled_slot, settled_slots}
+use Rattle.key_cells.specs.Contents.{IsFull, IsSure, IsFirstWithoutKey, cell_slot, is_open, settled_slot, settled_slots}
 use Rattle.key_cells.proofs.Moves.{settled_open}
 use Rattle.key_file.proofs.Filing.{settled_twice}
 
@@ -15,8 +15,8 @@ full_is_sure (Open id creation ∷ slots) full = ap (λ (l : List Slot). Open id
 full_is_sure (Shut ∷ slots) full = let z : false ≡ true = full 0 (omega arith) in cc
 full_is_sure (Unsure ∷ slots) full = let z : false ≡ true = full 0 (omega arith) in cc
 
-open_settled : (slots : List Slot) (cell : ℕ) → cell < length slots → is_open (slot_at (settled_slots slots) cell) ≡ is_open (slot_at slots cell)
-open_settled slots cell lt = ap is_open (get_or-map settled_slot slots cell Free Free lt) ∙ settled_open (slot_at slots cell)
+open_settled : (slots : List Slot) (cell : ℕ) → cell < length slots → is_open (cell_slot (settled_slots slots) cell) ≡ is_open (cell_slot slots cell)
+open_settled slots cell lt = ap is_open (get_or-map settled_slot slots cell Free Free lt) ∙ settled_open (cell_slot slots cell)
 
 -- the first cell without a key is the same once nothing is in doubt
 pub first_of_settled : (slots slots' : List Slot) (cell : ℕ) → slots' ≡ settled_slots slots → IsFirstWithoutKey slots' cell → IsFirstWithoutKey slots cell
@@ -25,15 +25,15 @@ first_of_settled slots slots' cell is first =
     let within : cell < length slots = omega (arith, size, first.within) in
     record {
       within = within;
-      here = sym (open_settled slots cell within) ∙ (ap (λ (l : List Slot). is_open (slot_at l cell)) (sym is) ∙ first.here);
-      before = λ other lt. sym (open_settled slots other (omega (arith, lt, within))) ∙ (ap (λ (l : List Slot). is_open (slot_at l other)) (sym is) ∙ first.before other lt);
+      here = sym (open_settled slots cell within) ∙ (ap (λ (l : List Slot). is_open (cell_slot l cell)) (sym is) ∙ first.here);
+      before = λ other lt. sym (open_settled slots other (omega (arith, lt, within))) ∙ (ap (λ (l : List Slot). is_open (cell_slot l other)) (sym is) ∙ first.before other lt);
     }
 
 -- each cell has a key where each has one once nothing is in doubt
 pub full_of_settled : (slots slots' : List Slot) → slots' ≡ settled_slots slots → IsFull slots' → IsFull slots
 full_of_settled slots slots' is full cell lt =
     let size : length slots' ≡ length slots = ap length is ∙ length-map slots settled_slot in
-    sym (open_settled slots cell lt) ∙ (ap (λ (l : List Slot). is_open (slot_at l cell)) (sym is) ∙ full cell (omega (arith, size, lt)))
+    sym (open_settled slots cell lt) ∙ (ap (λ (l : List Slot). is_open (cell_slot l cell)) (sym is) ∙ full cell (omega (arith, size, lt)))
 
 -- a key is placed after the cells in doubt were closed
 pub placed_after : (slots slots' last : List Slot) (cell : ℕ) (slot : Slot) → slots' ≡ settled_slots slots → last ≡ set (settled_slots slots') cell slot → last ≡ set (settled_slots slots) cell slot

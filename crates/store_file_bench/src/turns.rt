@@ -66,7 +66,7 @@ pub fn write_cells(disk: &mut Room) -> Result<(), Failed>
     Ok(())
 }
 
-/// Makes the calls of the disk that an opening of a full store makes.
+/// Reads a store's file as an opening does.
 pub fn read_cells(disk: &mut Room) -> Result<(), Failed>
     requires { length disk.old.bytes.items ≡ 557120 }
     ensures { length disk.new.bytes.items ≡ 557120 }
@@ -74,7 +74,6 @@ pub fn read_cells(disk: &mut Room) -> Result<(), Failed>
     let mut header = [0; 64];
     let mut cell = [0; 1088];
     disk.sync()?;
-    let _size = disk.len()?;
     disk.read_at(0, &mut header)?;
     for at in 0..512u64 {
         disk.read_at(64 + 1088 * at, &mut cell)?;
@@ -96,12 +95,10 @@ pub fn found(cells: &Cells<Room>) -> u32
 }
 
 /// Looks for the last two of 512 keys in turn.
-pub fn look(cells: &Cells<Room>, turns: usize) -> usize {
-    let mut last = 0;
+pub fn look(cells: &Cells<Room>, turns: usize) -> Option<usize> {
+    let mut last = None;
     'looks: for turn in 0..turns {
-        if let Some(cell) = cells.find(512 - (turn & 1) as u32) {
-            last = cell;
-        }
+        last = cells.find(512 - (turn & 1) as u32);
     }
     last
 }
