@@ -1,7 +1,6 @@
 //! Tries the store file for its figures. With no words it prints what becomes of a full store. `store_file_bench
-//! open|read|create|write|find TURNS` does one thing again and again, so that its time can be taken from outside: opens
-//! a full store, reads all of its file, makes 512 keys in a new store, writes what these creations write into a new
-//! store's file, or looks for one of 512 keys.
+//! open|create|find TURNS` does one thing again and again, so that its time can be taken from outside: opens a full
+//! store, makes 512 keys in a new one, or looks for one of 512 keys.
 #![tactic(auto)]
 
 ghost use Rattle.std.specs.Prelude.{◌≡◌, length, IfSome};
@@ -14,7 +13,7 @@ use room::Room;
 use std::process::ExitCode;
 use std::{env, io};
 
-const USAGE: &str = "usage: store_file_bench [open|read|create|write|find TURNS]";
+const USAGE: &str = "usage: store_file_bench [open|create|find TURNS]";
 
 // A full store.
 fn full_store(rt: &HostRuntime) -> Option<Cells<Room>>
@@ -46,51 +45,28 @@ fn try_all(rt: &HostRuntime) -> io::Result<bool> {
     }
 }
 
-// Makes the file of a full store anew, without its cells.
-fn written_store(rt: &HostRuntime) -> Option<Cells<Room>>
-    ensures { IfSome result (λ cells. length cells.disk.bytes.items ≡ 557120) }
-{
-    let Ok(mut cells) = turns::new_store(rt.alloc()) else {
-        return None;
-    };
-    match turns::write_cells(&mut cells.disk) {
-        Ok(()) => Some(cells),
-        Err(_) => None,
-    }
-}
-
-// Does one thing with a full store, and gives what stands then.
-fn take_turn(rt: &HostRuntime, word: &str, cells: Cells<Room>) -> Option<Cells<Room>>
-    requires { length cells.disk.bytes.items ≡ 557120 }
-    ensures { IfSome result (λ cells. length cells.disk.bytes.items ≡ 557120) }
-{
-    let mut cells = cells;
+// Does one thing so often with a full store.
+fn run(rt: &HostRuntime, word: &str, count: usize) -> Option<usize> {
+    let mut cells = full_store(rt)?;
     match word {
-        "open" => match Cells::open(rt.alloc(), cells.into_disk()) {
-            Ok(again) => Some(again),
-            Err(_refused) => None,
-        },
-        "read" => match turns::read_cells(&mut cells.disk) {
-            Ok(()) => Some(cells),
-            Err(_) => None,
-        },
-        "create" => full_store(rt),
-        "write" => written_store(rt),
+        "find" => turns::look(&cells, count),
+        "create" => {
+            'creations: for _ in 0..count {
+                cells = full_store(rt)?;
+            }
+            cells.find(512)
+        }
+        "open" => {
+            'openings: for _ in 0..count {
+                cells = match Cells::open(rt.alloc(), cells.into_disk()) {
+                    Ok(again) => again,
+                    Err(_refused) => return None,
+                };
+            }
+            cells.find(512)
+        }
         _ => None,
     }
-}
-
-// Does one thing so often.
-fn run(rt: &HostRuntime, word: &str, count: usize) -> Option<()> {
-    let mut cells = full_store(rt)?;
-    if word == "find" {
-        let _last = turns::look(&cells, count);
-        return Some(());
-    }
-    'turns: for _ in 0..count {
-        cells = take_turn(rt, word, cells)?;
-    }
-    Some(())
 }
 
 fn main(rt: HostRuntime) -> io::Result<ExitCode> {

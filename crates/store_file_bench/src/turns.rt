@@ -3,10 +3,8 @@ ghost use Rattle.std.specs.Prelude.{◌≡◌, ◌≤◌, ◌∷◌, [], ℕ, le
 ghost use Rattle.key_cells.specs.Body.{IsKeyOf};
 
 use crate::room::Room;
-use disk_face::Disk;
 use key_attributes::{Attributes, KeyId, KeyType, Lifetime, Policy, Usage};
 use key_cells::{CellFault, Cells, OpenFault};
-use psa_status::Failed;
 use std::alloc::Global;
 
 /// The attributes of a key of one byte that may be exported.
@@ -51,36 +49,6 @@ pub fn fill(cells: &mut Cells<Room>) -> Result<(), CellFault>
     Ok(())
 }
 
-/// Makes the calls of the disk that a creation in each of 512 cells makes.
-pub fn write_cells(disk: &mut Room) -> Result<(), Failed>
-    requires { length disk.old.bytes.items ≡ 557120 }
-    ensures { length disk.new.bytes.items ≡ 557120 }
-{
-    let body = [0xa5; 1087];
-    for cell in 0..512u64 {
-        disk.write_at(65 + 1088 * cell, &body)?;
-        disk.sync()?;
-        disk.write_at(64 + 1088 * cell, &[0xa5])?;
-        disk.sync()?;
-    }
-    Ok(())
-}
-
-/// Reads a store's file as an opening does.
-pub fn read_cells(disk: &mut Room) -> Result<(), Failed>
-    requires { length disk.old.bytes.items ≡ 557120 }
-    ensures { length disk.new.bytes.items ≡ 557120 }
-{
-    let mut header = [0; 64];
-    let mut cell = [0; 1088];
-    disk.sync()?;
-    disk.read_at(0, &mut header)?;
-    for at in 0..512u64 {
-        disk.read_at(64 + 1088 * at, &mut cell)?;
-    }
-    Ok(())
-}
-
 /// How many of the keys from 1 to 600 a store has.
 pub fn found(cells: &Cells<Room>) -> u32
     ensures { result ≤ 600 }
@@ -94,11 +62,16 @@ pub fn found(cells: &Cells<Room>) -> u32
     found
 }
 
-/// Looks for the last two of 512 keys in turn.
+/// Looks for the last two of 512 keys in turn. Which of them comes next hangs on what was found, so that no look can be
+/// left out.
 pub fn look(cells: &Cells<Room>, turns: usize) -> Option<usize> {
-    let mut last = None;
-    'looks: for turn in 0..turns {
-        last = cells.find(512 - (turn & 1) as u32);
+    let mut last = cells.find(512);
+    'looks: for _ in 0..turns {
+        let id = match last {
+            Some(cell) => 512 - (cell & 1) as u32,
+            None => 512,
+        };
+        last = cells.find(id);
     }
     last
 }
