@@ -1,18 +1,17 @@
 -- What the slots are that an opening reads, one cell after the other.
-use Rattle.std.proofs.Common.{◌≡◌, ◌≢◌, ◌⊎◌, inl, inr, ⊎_elim, ℕ, ◌+◌, ◌*◌, ◌-◌, ◌<◌, ◌≤◌, Bool, true, false, cond, List, [], ◌∷◌, ◌++◌, length, get_or, set, take, drop, count_by, refl, sym, ◌∙◌, ap, subst, arith, Option, None, Some, IfSome}
+use Rattle.std.proofs.Common.{◌≡◌, ◌≢◌, inl, inr, ⊎_elim, ℕ, ◌+◌, ◌*◌, ◌<◌, ◌≤◌, Bool, true, false, cond, List, [], ◌∷◌, length, get_or, set, take, drop, count_by, refl, sym, ◌∙◌, ap, subst, arith, Option, None, Some, IfSome}
 use Rattle.std.proofs.lemmas.Bool.{cases_eq, eq-eqb, eqb-true}
 use Rattle.std.proofs.lemmas.List.{get_or-set_same, get_or-set_other, length-set, length-take, take-set-le, get_or-take}
 use Rattle.std.proofs.lemmas.List.Sums.{count_by_more_no, count_by_more_yes}
-use Rattle.key_attributes.specs.declared.Attributes.{Attributes}
 use Rattle.key_cells.specs.declared.slot.Slot.{Slot}
 use Rattle.key_cells.specs.declared.slot.Slot.TheVariants.{Free, Open, Shut, Unsure}
 use Rattle.key_cells.specs.declared.reading.OpenFault.TheVariants.{DamagedCell}
-use Rattle.key_cells.specs.Layout.{cells, place, part, gate, body, opened_gate, closed, zeros}
+use Rattle.key_cells.specs.Layout.{gate, body, opened_gate, closed, zeros}
 use Rattle.key_cells.specs.Contents.{cell_slot, has_id, is_open, creation_of_slot, HasNoKey}
-use Rattle.key_cells.specs.Body.{IsPersistent, HoldsKey, HoldsId, HoldsNoKey}
-use Rattle.key_cells.specs.Image.{IsStoreFile, IsOpen, IsTwice, IsDamaged, IsFirstDamaged, identifier_in}
+use Rattle.key_cells.specs.Body.{IsPersistent, HoldsId, HoldsNoKey}
+use Rattle.key_cells.specs.Image.{IsStoreFile, IsDamaged, identifier_in}
 use Rattle.key_cells.specs.Causes.{IsCaused}
-use Rattle.key_cells.specs.Opening.{Reads, ReadsCell, ReadsBelow, HasOneEach, IsNumbered, IsNamed, HasIdOf, IsBadCell, GivesPart}
+use Rattle.key_cells.specs.Opening.{Reads, ReadsCell, ReadsBelow, HasOneEach, IsNumbered, IsNamed, IsBadCell, GivesPart}
 use Rattle.key_cells.proofs.Bodies.{parts_of}
 use Rattle.key_cells.proofs.CellsRead.{gate_read, body_read}
 

@@ -10,12 +10,12 @@ use Rattle.disk_face.proofs.Moments.{within_none, within_one, within_both}
 use Rattle.key_cells.specs.declared.slot.Slot.{Slot}
 use Rattle.key_cells.specs.declared.slot.Slot.TheVariants.{Free, Open, Shut, Unsure}
 use Rattle.key_cells.specs.declared.reading.OpenFault.{OpenFault}
-use Rattle.key_cells.specs.declared.reading.OpenFault.TheVariants.{NotAStore, DamagedCell, Disk, Memory}
+use Rattle.key_cells.specs.declared.reading.OpenFault.TheVariants.{NotAStore, Disk}
 use Rattle.key_cells.specs.Layout.{cells, gate, body, opened_gate, closed}
-use Rattle.key_cells.specs.Contents.{Content, Absent, Present, Doubtful, SoundBy, StandsForContents, cell_slot, has_id, is_open, creation_of_slot, settled_slot, settled_slots}
-use Rattle.key_cells.specs.Image.{IsStoreFile, IsOpen, Opens, SparesOpen}
+use Rattle.key_cells.specs.Contents.{Content, Absent, Present, SoundBy, StandsForContents, cell_slot, has_id, is_open, creation_of_slot, settled_slot, settled_slots}
+use Rattle.key_cells.specs.Image.{IsStoreFile, SparesOpen}
 use Rattle.key_cells.specs.Causes.{IsCaused, IsDisk, IsRefusal}
-use Rattle.key_cells.specs.Opening.{is_opened, content_of, contents_of, found_in, IsFoundIn, IsDirectory, Finds, Reads, ReadsBelow, HasOneEach, IsNumbered, IsNamed, Spares, Clearing, WithinSpares}
+use Rattle.key_cells.specs.Opening.{content_of, contents_of, found_in, IsFoundIn, IsDirectory, Finds, Reads, ReadsBelow, HasOneEach, IsNumbered, IsNamed, Spares, Clearing, WithinSpares}
 use Rattle.key_cells.specs.Opened.{IsOpened, IsRefused}
 use Rattle.key_cells.proofs.CellsRead.{content_there, for_told, length-contents_of}
 use Rattle.key_cells.proofs.Finding.{not_damaged}

@@ -1,19 +1,18 @@
 -- What a file stands for that was opened.
-use Rattle.std.proofs.Common.{◌≡◌, ◌≢◌, ⊎_elim, ℕ, zero, suc, ◌<◌, ◌≤◌, ◌+◌, ne_eqb, Bool, true, false, cond, ◌==◌, List, [], ◌∷◌, length, Option, None, Some, IfSome, replicate, refl, sym, ◌∙◌, ap, subst, arith}
+use Rattle.std.proofs.Common.{◌≡◌, ◌≢◌, ⊎_elim, ℕ, zero, suc, ◌<◌, ◌≤◌, ◌+◌, ne_eqb, true, false, cond, ◌==◌, List, [], ◌∷◌, length, Option, None, Some, IfSome, refl, sym, ◌∙◌, ap, subst, arith}
 use Rattle.std.proofs.lemmas.Bool.{eqb-true, eq-eqb, cases_eq}
 use Rattle.std.proofs.lemmas.List.{get_or-replicate}
-use Rattle.key_attributes.specs.declared.Attributes.{Attributes}
 use Rattle.key_cells.specs.declared.slot.Slot.{Slot}
 use Rattle.key_cells.specs.declared.slot.Slot.TheVariants.{Free, Open, Shut, Unsure}
-use Rattle.key_cells.specs.Layout.{gate, body, opened_gate}
+use Rattle.key_cells.specs.Layout.{gate, body}
 use Rattle.key_cells.specs.Contents as cells
 use Rattle.key_cells.specs.Contents.{Content, Absent, Present, Doubtful, cell_slot, content_at, has_id, creation_of_slot}
 use Rattle.key_cells.specs.Body.{HoldsKey, HoldsId}
-use Rattle.key_cells.specs.Opening.{content_of, contents_of, found_in, IsFoundIn, Finds, HasOneEach}
+use Rattle.key_cells.specs.Opening.{content_of, found_in, IsFoundIn, Finds, HasOneEach}
 use Rattle.key_cells.specs.Opened.{IsOpened}
 use Rattle.key_cells.proofs.CellsRead.{content_there}
 use Rattle.key_cells.proofs.Opened.{not_opened}
-use Rattle.key_file.specs.Files.{Stored, stored, Keys, Doubt, TellsCell, IsOf, IsFiled, AreFound, StandsForKeys}
+use Rattle.key_file.specs.Files.{Stored, stored, Keys, TellsCell, IsOf, IsFiled, AreFound, StandsForKeys}
 use Rattle.key_file.proofs.Filing.{one_id}
 
 false_true : false ≡ true → ⊥

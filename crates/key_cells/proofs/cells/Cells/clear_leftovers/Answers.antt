@@ -1,4 +1,4 @@
-use Rattle.std.proofs.Common.{◌≡◌, ◌≤◌, ℕ, List, ◌+◌, length, take, set, ap, subst, sym, refl, ◌∙◌, arith}
+use Rattle.std.proofs.Common.{◌≡◌, ◌≤◌, ℕ, List, ◌+◌, length, take, ap, subst, sym, refl, ◌∙◌, arith}
 use Rattle.std.proofs.lemmas.List.{length-set, take_all, length-map}
 use Rattle.std.proofs.lemmas.Result.{on_ok_weaker}
 use Rattle.disk_face.proofs.Moments.{within_none, within_both, within_more}

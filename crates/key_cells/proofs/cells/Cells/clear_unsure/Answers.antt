@@ -1,4 +1,4 @@
-use Rattle.std.proofs.Common.{◌≡◌, ℕ, ◌+◌, List, Option, replicate, ap, subst}
+use Rattle.std.proofs.Common.{◌≡◌, ℕ, replicate, subst}
 use Rattle.disk_face.specs.Disk.{Torn, Follows, HoldsWritten, HoldsAround}
 use Rattle.key_cells.specs.Layout.{place}
 use Rattle.key_cells.proofs.Clearing.{torn_unsure, unsure_cleared, clearing_done, clearing_failed, clearing_within}
