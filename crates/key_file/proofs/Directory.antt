@@ -1,9 +1,10 @@
 -- What calls make of the directory.
 use Rattle.std.proofs.Common.{◌≡◌, ℕ, ◌<◌, true, false, List, [], ◌∷◌, length, set, suc, refl, sym, ◌∙◌, ap, arith}
+use Rattle.std.proofs.lemmas.Bool.{eqb-true}
 use Rattle.std.proofs.lemmas.List.{get_or-map, length-map, map-set}
 use Rattle.key_cells.specs.declared.slot.Slot.{Slot}
 use Rattle.key_cells.specs.declared.slot.Slot.TheVariants.{Free, Open, Shut, Unsure}
-use Rattle.key_cells.specs.Contents.{IsFull, IsSure, IsFirstWithoutKey, cell_slot, is_open, settled_slot, settled_slots}
+use Rattle.key_cells.specs.Contents.{IsFull, IsSure, IsFirstWithoutKey, cell_slot, has_id, is_open, settled_slot, settled_slots}
 use Rattle.key_cells.proofs.Moves.{settled_open}
 use Rattle.key_file.proofs.Filing.{settled_twice}
 
@@ -46,3 +47,10 @@ missing_after slots slots' last cell is missing = missing ∙ ap (λ (l : List S
 -- and where a cell was put in doubt
 pub missing_unsure : (slots slots' last : List Slot) (cell : ℕ) → settled_slots slots' ≡ settled_slots slots → last ≡ set slots' cell Unsure → settled_slots last ≡ set (settled_slots slots) cell Free
 missing_unsure slots slots' last cell same is = ap settled_slots is ∙ (map-set settled_slot slots' cell Unsure ∙ ap (λ (l : List Slot). set l cell Free) same)
+
+-- a slot has one identifier
+pub same_id : (slot : Slot) (id other : ℕ) → has_id id slot ≡ true → has_id other slot ≡ true → other ≡ id
+same_id Free id other is is' = cc
+same_id (Open own creation) id other is is' = sym (eqb-true own other is') ∙ eqb-true own id is
+same_id Shut id other is is' = cc
+same_id Unsure id other is is' = cc
