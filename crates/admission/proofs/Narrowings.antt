@@ -10,7 +10,7 @@ use Rattle.policy_rules.specs.declared.narrowing.Verdict.TheVariants.{Keep, Refu
 use Rattle.policy_rules.specs.Narrow.{narrowed, KeepsWithin}
 use Rattle.policy_rules.proofs.Rules.{narrowed-within}
 use Rattle.policy_rules.proofs.Copies.{IsWithin-refl, IsWithin-trans}
-use Rattle.admission.specs.Apply.{Narrows, after_verdict, applied}
+use Rattle.admission.specs.Apply.{Narrows, after_verdict, after_rules}
 
 -- a verdict leaves all but the policy
 abbrev KeepsRest : Attributes → Verdict → Type 0
@@ -46,6 +46,6 @@ step a (Keep kept) next h within rest = later a kept (next kept) (record { polic
 step a Refuse next h within rest = tt
 
 -- each rule narrows
-pub narrows : (labels : List Label) (a : Attributes) → IfOk (applied labels a) (Narrows a)
+pub narrows : (labels : List Label) (a : Attributes) → IfOk (after_rules labels a) (Narrows a)
 narrows [] a = narrows_none a
-narrows (label ∷ labels) a = step a (narrowed label a) (applied labels) (narrows labels) (narrowed-within label a) (narrowed-rest label a)
+narrows (label ∷ labels) a = step a (narrowed label a) (after_rules labels) (narrows labels) (narrowed-within label a) (narrowed-rest label a)

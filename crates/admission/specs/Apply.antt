@@ -31,9 +31,9 @@ after_verdict (Keep kept) next = next kept
 after_verdict Refuse next = Err NotPermitted
 
 -- each rule in turn narrows what the one before it kept, and the first that refuses ends it
-abbrev pub applied : List Label → Attributes → Result Attributes Status
-applied [] attributes = Ok attributes
-applied (label ∷ labels) attributes = after_verdict (narrowed label attributes) (applied labels)
+abbrev pub after_rules : List Label → Attributes → Result Attributes Status
+after_rules [] attributes = Ok attributes
+after_rules (label ∷ labels) attributes = after_verdict (narrowed label attributes) (after_rules labels)
 
 -- beside the policy all is as it was, and the policy has no flag and permits no algorithm that the one before doesn't
 pub record Narrows (before after : Attributes) : Type 0 where

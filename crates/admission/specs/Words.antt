@@ -5,18 +5,18 @@ use Rattle.std.specs.Option.{option_map, option_and_then}
 use Rattle.policy_rules.specs.declared.narrowing.Label.{Label}
 use Rattle.policy_rules.specs.declared.narrowing.Label.TheVariants.{NoExport, NoCopy, NoEcb, Aes256}
 
-abbrev pub word_of : Label → List ℕ
-word_of NoExport = codes "no-export"
-word_of NoCopy = codes "no-copy"
-word_of NoEcb = codes "no-ecb"
-word_of Aes256 = codes "aes256"
+abbrev pub label_word : Label → List ℕ
+label_word NoExport = codes "no-export"
+label_word NoCopy = codes "no-copy"
+label_word NoEcb = codes "no-ecb"
+label_word Aes256 = codes "aes256"
 
 abbrev pub all_labels : List Label
 all_labels = NoExport ∷ NoCopy ∷ NoEcb ∷ Aes256 ∷ []
 
 -- the given label with a word
 abbrev pub label_named : List Label → List ℕ → Option Label
-label_named given word = find (λ label. bytes_eq (word_of label) word) given
+label_named given word = find (λ label. bytes_eq (label_word label) word) given
 
 -- the given labels with these words, where each is the word of one
 abbrev pub labels_named : List Label → List (List ℕ) → Option (List Label)

@@ -1,7 +1,7 @@
 // The rules that are in force.
 ghost use Rattle.std.specs.Prelude.{◌≡◌, List, map};
 ghost use Rattle.policy_rules.specs.declared.narrowing.Label.{Label};
-ghost use Rattle.admission.specs.Apply.{applied, is_one_of, picked};
+ghost use Rattle.admission.specs.Apply.{after_rules, is_one_of, picked};
 
 use crate::Rule;
 use key_attributes::Attributes;
@@ -15,7 +15,7 @@ pub trait Admission: Send + Drop {
 
     /// The attributes that the rules leave of a new key's. `NotPermitted` where one refuses.
     fn apply(&self, attributes: &Attributes) -> Result<Attributes, Status>
-        ensures { result ≡ applied (labels self.now) attributes.now };
+        ensures { result ≡ after_rules (labels self.now) attributes.now };
 }
 
 /// The rules that are in force, in the order in which they are asked.

@@ -1,7 +1,7 @@
 // The labels in a word of the command line.
 ghost use Rattle.std.specs.Prelude.{◌≡◌, IfOk, map};
 ghost use Rattle.std.specs.Option.{option_map};
-ghost use Rattle.admission.specs.Words.{label_named, labels_in, word_of};
+ghost use Rattle.admission.specs.Words.{label_named, labels_in, label_word};
 
 use crate::Rule;
 use policy_rules::Label;
@@ -9,8 +9,8 @@ use psa_status::Memory;
 use std::alloc::Global;
 
 // The word of a label.
-fn word_of(label: Label) -> &'static str
-    ensures { result.now ≡ word_of label }
+fn label_word(label: Label) -> &'static str
+    ensures { result.now ≡ label_word label }
 {
     match label {
         Label::NoExport => "no-export",
@@ -25,7 +25,7 @@ fn label_of(rules: &[Rule], word: &str) -> Option<Label>
     ensures { result ≡ label_named (map (λ rule. rule.label) rules.now) word.now }
 {
     for rule in rules {
-        if word_of(rule.label()) == word {
+        if label_word(rule.label()) == word {
             return Some(rule.label());
         }
     }

@@ -1,7 +1,7 @@
 // The four rules, each with a test of its own.
 ghost use Rattle.std.specs.Prelude.{◌≡◌, IfOk};
 ghost use Rattle.std.specs.Option.{option_map};
-ghost use Rattle.admission.specs.Apply.{applied, picked};
+ghost use Rattle.admission.specs.Apply.{after_rules, picked};
 ghost use Rattle.admission.specs.Words.{all_labels, labels_in};
 
 use admission::{Admission, Rule, Rules, read_labels};
@@ -16,7 +16,7 @@ pub fn admitted(
     text: &str,
     attributes: &Attributes,
 ) -> Result<Option<Result<Attributes, Status>>, AllocError>
-    ensures { IfOk result (λ answer. answer ≡ option_map (λ named. applied (picked named all_labels) attributes.now) (labels_in all_labels text.now)) }
+    ensures { IfOk result (λ answer. answer ≡ option_map (λ named. after_rules (picked named all_labels) attributes.now) (labels_in all_labels text.now)) }
 {
     let mut list = Vec::new(alloc);
     list.push(Rule::new(

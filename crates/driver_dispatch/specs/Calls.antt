@@ -6,21 +6,21 @@ use Rattle.psa_status.specs.Causes.{one_more}
 use Rattle.alg_encoding.specs.declared.table.Class.TheVariants as class
 use Rattle.alg_encoding.specs.Encoding.{class_of, IsConcrete}
 use Rattle.store_model.specs.Algorithms.{tag_bytes}
-use Rattle.driver_dispatch.specs.Held.{HeldKey, HeldKeys, key_at}
+use Rattle.driver_dispatch.specs.Held.{HeldKey, HeldKeys, held_key}
 
-abbrev pub HasKey : Option HeldKey → (HeldKey → Type 0) → Type 0
-HasKey None P = ⊥
-HasKey (Some key) P = P key
+abbrev pub IsSomeKey : Option HeldKey → (HeldKey → Type 0) → Type 0
+IsSomeKey None P = ⊥
+IsSomeKey (Some key) P = P key
 
 -- the handle is in the map, and its key is such
-abbrev pub Holds : Option HeldKeys → ℕ → (HeldKey → Type 0) → Type 0
-Holds None handle P = ⊤
-Holds (Some held) handle P = HasKey (key_at held handle) P
+abbrev pub HoldsHandle : Option HeldKeys → ℕ → (HeldKey → Type 0) → Type 0
+HoldsHandle None handle P = ⊤
+HoldsHandle (Some held) handle P = IsSomeKey (held_key held handle) P
 
 -- the handle isn't in the map
 abbrev pub Lacks : Option HeldKeys → ℕ → Type 0
 Lacks None handle = ⊤
-Lacks (Some held) handle = key_at held handle ≡ None
+Lacks (Some held) handle = held_key held handle ≡ None
 
 -- A call that changes the map does so where it succeeds. Where it fails, it has done so or left the map as it was.
 abbrev pub Changes : {T E : Type 0} → (HeldKeys → HeldKeys) → (old new : Option HeldKeys) → Result T E → Type 0

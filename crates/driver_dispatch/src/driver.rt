@@ -6,8 +6,8 @@ ghost use Rattle.crypto_specs.specs.Aes.{aes_encrypt};
 ghost use Rattle.crypto_specs.specs.Modes.{ecb_encrypt};
 ghost use Rattle.store_model.specs.Algorithms.{mac_of};
 ghost use Rattle.store_model.specs.Rules.{fits_type};
-ghost use Rattle.driver_dispatch.specs.Held.{HeldKeys, with_copy, with_key, without_key};
-ghost use Rattle.driver_dispatch.specs.Calls.{Changes, CountsServed, Holds, IsMac, Lacks};
+ghost use Rattle.driver_dispatch.specs.Held.{HeldKeys, with_copy, with_held_key, without_key};
+ghost use Rattle.driver_dispatch.specs.Calls.{Changes, CountsServed, HoldsHandle, IsMac, Lacks};
 
 use alg_encoding::Alg;
 use key_attributes::KeyType;
@@ -36,14 +36,14 @@ pub trait Driver: Send + Drop {
         requires new { Lacks (keys self.old) handle }
         requires known { IsTrue (is_key_type key_type.0) }
         requires size { IsTrue (permits_size key_type.0 (length bytes.now)) }
-        ensures keys { Changes (with_key handle (record { key_type = key_type.0; bytes = bytes.now })) (keys self.old) (keys self.new) result }
+        ensures keys { Changes (with_held_key handle (record { key_type = key_type.0; bytes = bytes.now })) (keys self.old) (keys self.new) result }
         ensures served { served self.new ≡ served self.old }
         ensures location { location_of self.new ≡ location_of self.old }
         ensures cause { HasCause (faults self.old) (faults self.new) result };
 
     /// Forgets a key.
     fn destroy_key(&mut self, handle: u64) -> Result<(), Failed>
-        requires { Holds (keys self.old) handle (λ key. ⊤) }
+        requires { HoldsHandle (keys self.old) handle (λ key. ⊤) }
         ensures keys { Changes (without_key handle) (keys self.old) (keys self.new) result }
         ensures served { served self.new ≡ served self.old }
         ensures location { location_of self.new ≡ location_of self.old }
@@ -51,7 +51,7 @@ pub trait Driver: Send + Drop {
 
     /// Puts a key under a new handle too.
     fn copy_key(&mut self, from: u64, to: u64) -> Result<(), Failed>
-        requires source { Holds (keys self.old) from (λ key. ⊤) }
+        requires source { HoldsHandle (keys self.old) from (λ key. ⊤) }
         requires new { Lacks (keys self.old) to }
         ensures keys { Changes (with_copy from to) (keys self.old) (keys self.new) result }
         ensures served { served self.new ≡ served self.old }
@@ -60,9 +60,9 @@ pub trait Driver: Send + Drop {
 
     /// Enciphers whole blocks in place under an AES key, each by itself.
     fn encrypt_blocks(&mut self, handle: u64, blocks: &mut [u8]) -> Result<(), Failed>
-        requires aes { Holds (keys self.old) handle (λ key. key.key_type ≡ 0x2400) }
+        requires aes { HoldsHandle (keys self.old) handle (λ key. key.key_type ≡ 0x2400) }
         requires whole { length blocks.old % 16 ≡ 0 }
-        ensures blocks { OnOk result (Holds (keys self.old) handle (λ key. blocks.new ≡ ecb_encrypt (aes_encrypt key.bytes) blocks.old)) }
+        ensures blocks { OnOk result (HoldsHandle (keys self.old) handle (λ key. blocks.new ≡ ecb_encrypt (aes_encrypt key.bytes) blocks.old)) }
         ensures same { keys self.new ≡ keys self.old }
         ensures served { CountsServed (served self.old) (served self.new) result }
         ensures location { location_of self.new ≡ location_of self.old }
@@ -77,8 +77,8 @@ pub trait Driver: Send + Drop {
         tag: &mut [u8],
     ) -> Result<(), Failed>
         requires mac { IsMac alg.0 (length tag.old) }
-        requires fits { Holds (keys self.old) handle (λ key. IsTrue (fits_type alg.0 key.key_type)) }
-        ensures tag { OnOk result (Holds (keys self.old) handle (λ key. tag.new ≡ mac_of alg.0 key.bytes input.now)) }
+        requires fits { HoldsHandle (keys self.old) handle (λ key. IsTrue (fits_type alg.0 key.key_type)) }
+        ensures tag { OnOk result (HoldsHandle (keys self.old) handle (λ key. tag.new ≡ mac_of alg.0 key.bytes input.now)) }
         ensures same { keys self.new ≡ keys self.old }
         ensures served { CountsServed (served self.old) (served self.new) result }
         ensures location { location_of self.new ≡ location_of self.old }

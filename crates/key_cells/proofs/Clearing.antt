@@ -1,15 +1,15 @@
 -- How cells are made zeros that are left over from a crash.
-use Rattle.std.proofs.Common.{◌≡◌, ◌⊎◌, inl, inr, ⊎_elim, ℕ, ◌+◌, ◌<◌, ◌≤◌, List, length, get_or, set, take, drop, replicate, Option, None, Some, IfSome, is_some, refl, sym, ◌∙◌, ap, subst, arith}
+use Rattle.std.proofs.Common.{◌≡◌, ⊎_elim, ℕ, ◌+◌, ◌<◌, ◌≤◌, List, length, get_or, set, take, drop, replicate, Option, None, Some, is_some, refl, sym, ◌∙◌, ap, subst, arith}
 use Rattle.std.proofs.lemmas.Bool.{cases_eq}
 use Rattle.std.proofs.lemmas.List.{get_or-set_same, get_or-set_other, get_or-map, length-map, ext_get_or}
-use Rattle.disk_face.specs.Disk.{Torn, Follows, Holds, HoldsAround, Elapses, LeavesWhatIsRead}
+use Rattle.disk_face.specs.Disk.{Torn, Follows, HoldsWritten, HoldsAround, Elapses, LeavesWhatIsRead}
 use Rattle.disk_face.specs.Moments.{written, Within}
 use Rattle.disk_face.proofs.Images.{written_torn}
 use Rattle.disk_face.proofs.Moments.{within_one}
 use Rattle.key_cells.specs.declared.slot.Slot.{Slot}
 use Rattle.key_cells.specs.declared.slot.Slot.TheVariants.{Free, Open, Shut, Unsure}
 use Rattle.key_cells.specs.Layout.{cells, place, part, gate, body, closed, zeros}
-use Rattle.key_cells.specs.Contents.{Content, Absent, Present, Doubtful, Shows, Sound, SoundBy, StandsFor, slot_at, settled_slot, settled_slots}
+use Rattle.key_cells.specs.Contents.{Content, Absent, Present, Doubtful, Shows, Sound, SoundBy, StandsForContents, cell_slot, settled_slot, settled_slots}
 use Rattle.key_cells.specs.Opening.{Spares, Clearing, IsSettled}
 use Rattle.key_cells.proofs.Parts.{part_before, part_written}
 use Rattle.key_cells.proofs.Images.{sound_after, same_all, same_slots}
@@ -38,20 +38,20 @@ unsure_freed (Doubtful bytes) g b g' b' s is are = s
 
 module _ (cell : ℕ) (lt : cell < cells) (slots : List Slot) (contents : List Content) where
   -- a torn write of the body of a shut cell, or of the whole of an unsure one
-  pub torn_shut : slot_at slots cell ≡ Shut → (before image : List ℕ) → Torn (place cell + 1) 1087 before image → SoundBy Spares slots contents before → SoundBy Spares slots contents image
+  pub torn_shut : cell_slot slots cell ≡ Shut → (before image : List ℕ) → Torn (place cell + 1) 1087 before image → SoundBy Spares slots contents before → SoundBy Spares slots contents image
   torn_shut is before image torn s =
       let same : gate cell image ≡ gate cell before = part_before (place cell + 1) 1087 (place cell) 1 before image torn (omega arith) in
       let shown : Spares Shut (get_or contents cell Absent) (gate cell before) (body cell before) = subst (λ (x : Slot). Spares x (get_or contents cell Absent) (gate cell before) (body cell before)) is (s.each cell lt) in
       sound_after Spares cell (place cell + 1) 1087 slots slots contents contents before image (omega arith) (omega arith) torn (same_all cell slots contents)
       (rw (is, same) (spares_shut (get_or contents cell Absent) (gate cell before) (body cell before) (body cell image) shown)) s
 
-  pub torn_unsure : slot_at slots cell ≡ Unsure → (before image : List ℕ) → Torn (place cell) 1088 before image → SoundBy Spares slots contents before → SoundBy Spares slots contents image
+  pub torn_unsure : cell_slot slots cell ≡ Unsure → (before image : List ℕ) → Torn (place cell) 1088 before image → SoundBy Spares slots contents before → SoundBy Spares slots contents image
   torn_unsure is before image torn s =
       let shown : Spares Unsure (get_or contents cell Absent) (gate cell before) (body cell before) = subst (λ (x : Slot). Spares x (get_or contents cell Absent) (gate cell before) (body cell before)) is (s.each cell lt) in
       sound_after Spares cell (place cell) 1088 slots slots contents contents before image (omega arith) (omega arith) torn (same_all cell slots contents)
       (rw is (spares_unsure (get_or contents cell Absent) (gate cell before) (body cell before) (gate cell image) (body cell image) shown)) s
 
-  pub shut_cleared : length slots ≡ 512 → slot_at slots cell ≡ Shut → (read : List ℕ) → SoundBy Spares slots contents read → SoundBy Spares (set slots cell Free) contents (written read (place cell + 1) (replicate 1087 0))
+  pub shut_cleared : length slots ≡ 512 → cell_slot slots cell ≡ Shut → (read : List ℕ) → SoundBy Spares slots contents read → SoundBy Spares (set slots cell Free) contents (written read (place cell + 1) (replicate 1087 0))
   shut_cleared count is read s =
       let bytes : List ℕ = replicate 1087 0 in
       let fits : place cell + 1 + 1087 ≤ length read = omega (arith, s.size) in
@@ -64,7 +64,7 @@ module _ (cell : ℕ) (lt : cell < cells) (slots : List Slot) (contents : List C
       sound_after Spares cell (place cell + 1) 1087 slots (set slots cell Free) contents contents read image (omega arith) (omega arith) torn (same_slots cell slots contents Free)
       (rw (slot, same) (shut_freed (get_or contents cell Absent) (gate cell read) (body cell read) (body cell image) shown are)) s
 
-  pub unsure_cleared : length slots ≡ 512 → slot_at slots cell ≡ Unsure → (read : List ℕ) → SoundBy Spares slots contents read → SoundBy Spares (set slots cell Free) contents (written read (place cell) (replicate 1088 0))
+  pub unsure_cleared : length slots ≡ 512 → cell_slot slots cell ≡ Unsure → (read : List ℕ) → SoundBy Spares slots contents read → SoundBy Spares (set slots cell Free) contents (written read (place cell) (replicate 1088 0))
   unsure_cleared count is read s =
       let bytes : List ℕ = replicate 1088 0 in
       let fits : place cell + 1088 ≤ length read = omega (arith, s.size) in
@@ -78,7 +78,7 @@ module _ (cell : ℕ) (lt : cell < cells) (slots : List Slot) (contents : List C
       sound_after Spares cell (place cell) 1088 slots (set slots cell Free) contents contents read image (omega arith) (omega arith) torn (same_slots cell slots contents Free)
       (rw slot (unsure_freed (get_or contents cell Absent) (gate cell read) (body cell read) (gate cell image) (body cell image) shown now are)) s
 
-held : (told told' : Option (List ℕ)) (now bytes : List ℕ) (p : ℕ) → told ≡ Some now → Holds told p bytes told' → told' ≡ Some (written now p bytes)
+held : (told told' : Option (List ℕ)) (now bytes : List ℕ) (p : ℕ) → told ≡ Some now → HoldsWritten told p bytes told' → told' ≡ Some (written now p bytes)
 held None told' now bytes p is holds = cc
 held (Some old) told' now bytes p is holds = let same : old ≡ now = cc in holds ∙ ap (λ (l : List ℕ). Some (written l p bytes)) same
 
@@ -89,7 +89,7 @@ held_around (Some old) (Some new) now p n is holds = let same : old ≡ now = cc
 
 module _ {D : Type 0} (told : D → Option (List ℕ)) (may_leave : D → List ℕ → Type 0) (old new : D) (cell p n : ℕ) (first slots : List Slot) (contents : List Content) where
   -- a write that was done
-  pub clearing_done : (bytes : List ℕ) → Clearing told may_leave old first slots contents → length slots ≡ 512 → cell < cells → Holds (told old) p bytes (told new) → Follows (Torn p n) (may_leave old) (may_leave new)
+  pub clearing_done : (bytes : List ℕ) → Clearing told may_leave old first slots contents → length slots ≡ 512 → cell < cells → HoldsWritten (told old) p bytes (told new) → Follows (Torn p n) (may_leave old) (may_leave new)
       → ((before image : List ℕ) → Torn p n before image → SoundBy Spares first contents before → SoundBy Spares first contents image)
       → ((read : List ℕ) → SoundBy Spares slots contents read → SoundBy Spares (set slots cell Free) contents (written read p bytes))
       → Clearing told may_leave new first (set slots cell Free) contents
@@ -102,10 +102,10 @@ module _ {D : Type 0} (told : D → Option (List ℕ)) (may_leave : D → List �
     unsure = λ other less is. s.unsure other less (still other less Unsure is (λ e. cc));
   }
     where
-      still : (other : ℕ) → other < cells → (slot : Slot) → slot_at (set slots cell Free) other ≡ slot → (Free ≡ slot → ⊥) → slot_at slots other ≡ slot
+      still : (other : ℕ) → other < cells → (slot : Slot) → cell_slot (set slots cell Free) other ≡ slot → (Free ≡ slot → ⊥) → cell_slot slots other ≡ slot
       still other less slot is not_free =
           ⊎_elim
-          (λ same. absurd (not_free (sym (get_or-set_same slots cell Free Free (omega (arith, count))) ∙ subst (λ (k : ℕ). slot_at (set slots cell Free) k ≡ slot) same is)))
+          (λ same. absurd (not_free (sym (get_or-set_same slots cell Free Free (omega (arith, count))) ∙ subst (λ (k : ℕ). cell_slot (set slots cell Free) k ≡ slot) same is)))
           (λ differs. sym (get_or-set_other slots cell other Free Free differs) ∙ is)
           (cases_eq other cell)
 
@@ -148,7 +148,7 @@ pub sure_sound : (slots : List Slot) (contents : List Content) (image : List ℕ
 sure_sound slots contents image settled s = record {
   size = s.size;
   header = s.header;
-  each = λ cell lt. is_sure (slot_at slots cell) (get_or contents cell Absent) (gate cell image) (body cell image) (settled cell lt) (s.each cell lt);
+  each = λ cell lt. is_sure (cell_slot slots cell) (get_or contents cell Absent) (gate cell image) (body cell image) (settled cell lt) (s.each cell lt);
 }
 
 pub settled_twice : (slot : Slot) → settled_slot slot ≡ settled_slot (settled_slot slot)
@@ -159,15 +159,15 @@ settled_twice Unsure = refl
 
 pub settled_settled : (slots slots' : List Slot) → length slots ≡ 512 → slots' ≡ settled_slots slots → IsSettled cells slots'
 settled_settled slots slots' count is cell lt =
-    let at : slot_at slots' cell ≡ settled_slot (slot_at slots cell) = ap (λ (l : List Slot). slot_at l cell) is ∙ get_or-map settled_slot slots cell Free Free (omega (arith, count)) in
-    at ∙ (settled_twice (slot_at slots cell) ∙ ap settled_slot (sym at))
+    let at : cell_slot slots' cell ≡ settled_slot (cell_slot slots cell) = ap (λ (l : List Slot). cell_slot l cell) is ∙ get_or-map settled_slot slots cell Free Free (omega (arith, count)) in
+    at ∙ (settled_twice (cell_slot slots cell) ∙ ap settled_slot (sym at))
 
 pub all_settled : (slots : List Slot) → IsSettled (length slots) slots → slots ≡ settled_slots slots
 all_settled slots settled = ext_get_or Free slots (settled_slots slots) (sym (length-map slots settled_slot)) (λ i lt. settled i lt ∙ sym (get_or-map settled_slot slots i Free Free lt))
 
 module _ {D : Type 0} (told : D → Option (List ℕ)) (may_leave : D → List ℕ → Type 0) where
   -- nothing was left over
-  pub clear_already : (disk : D) (slots : List Slot) (contents : List Content) → length contents ≡ 512 → IsSettled cells slots → Clearing told may_leave disk slots slots contents → StandsFor told may_leave disk slots contents
+  pub clear_already : (disk : D) (slots : List Slot) (contents : List Content) → length contents ≡ 512 → IsSettled cells slots → Clearing told may_leave disk slots slots contents → StandsForContents told may_leave disk slots contents
   clear_already disk slots contents count settled s = record {
     tells = ap is_some s.is_told;
     count = count;
@@ -176,7 +176,7 @@ module _ {D : Type 0} (told : D → Option (List ℕ)) (may_leave : D → List �
 
   -- all was made sure of
   pub clear_sure : (old new : D) (first slots : List Slot) (contents : List Content) → length contents ≡ 512 → IsSettled cells slots → Clearing told may_leave old first slots contents
-      → told new ≡ told old → LeavesWhatIsRead (told old) (may_leave new) → StandsFor told may_leave new slots contents
+      → told new ≡ told old → LeavesWhatIsRead (told old) (may_leave new) → StandsForContents told may_leave new slots contents
   clear_sure old new first slots contents count settled s same durable = record {
     tells = ap is_some (same ∙ s.is_told);
     count = count;

@@ -4,18 +4,18 @@ use Rattle.std.proofs.lemmas.Bool.{eqb-true}
 use Rattle.std.proofs.lemmas.List.{get_or-map, length-map, take-map, get_or-replicate, nil_from_length}
 use Rattle.std.proofs.lemmas.List.Sums.{sum_by-cons}
 use Rattle.psa_status.specs.Causes.{Rose}
-use Rattle.disk_face.specs.Disk.{NoNewImage, Elapses, LeavesWhatIsRead, TellsAsBefore}
+use Rattle.disk_face.specs.Disk.{NoNewImage, Elapses, LeavesWhatIsRead, StillTells}
 use Rattle.disk_face.specs.Moments.{Within}
 use Rattle.disk_face.proofs.Moments.{within_none, within_one, within_both}
 use Rattle.key_cells.specs.declared.slot.Slot.{Slot}
 use Rattle.key_cells.specs.declared.slot.Slot.TheVariants.{Free, Open, Shut, Unsure}
 use Rattle.key_cells.specs.declared.reading.OpenFault.{OpenFault}
-use Rattle.key_cells.specs.declared.reading.OpenFault.TheVariants.{NotAStore, DamagedCell, Disk, Memory}
-use Rattle.key_cells.specs.Layout.{cells, gate, body, opened, closed}
-use Rattle.key_cells.specs.Contents.{Content, Absent, Present, Doubtful, SoundBy, StandsFor, slot_at, has_id, is_open, creation_at, settled_slot, settled_slots}
-use Rattle.key_cells.specs.Image.{IsStore, IsOpen, Opens, SparesOpen}
+use Rattle.key_cells.specs.declared.reading.OpenFault.TheVariants.{NotAStore, Disk}
+use Rattle.key_cells.specs.Layout.{cells, gate, body, opened_gate, closed}
+use Rattle.key_cells.specs.Contents.{Content, Absent, Present, SoundBy, StandsForContents, cell_slot, has_id, is_open, creation_of_slot, settled_slot, settled_slots}
+use Rattle.key_cells.specs.Image.{IsStoreFile, SparesOpen}
 use Rattle.key_cells.specs.Causes.{IsCaused, IsDisk, IsRefusal}
-use Rattle.key_cells.specs.Opening.{is_opened, content_of, contents_of, found_in, IsFound, IsDirectory, Finds, Reads, ReadsBelow, HasOneEach, IsNumbered, IsNamed, Spares, Clearing, WithinSpares}
+use Rattle.key_cells.specs.Opening.{content_of, contents_of, found_in, IsFoundIn, IsDirectory, Finds, Reads, ReadsBelow, HasOneEach, IsNumbered, IsNamed, Spares, Clearing, WithinSpares}
 use Rattle.key_cells.specs.Opened.{IsOpened, IsRefused}
 use Rattle.key_cells.proofs.CellsRead.{content_there, for_told, length-contents_of}
 use Rattle.key_cells.proofs.Finding.{not_damaged}
@@ -62,8 +62,8 @@ module _ {D : Type 0} (told : D → Option (List ℕ)) (may_leave : D → List �
     unwritten = λ is. calm.crash;
     unwritten_within = λ is. calm.within;
     durable = durable;
-    spares = always (told old) (λ image. IsStore image → WithinSpares (moment old) (moment new) (left_since old) (left_since new) (may_leave old) image) (λ image store. spares_calm old new calm image);
-    left = always (told old) (λ image. IsStore image → NoNewImage (may_leave old) (may_leave new) ⊎ ((other : List ℕ) → may_leave new other → SparesOpen image other)) (λ image store. inl calm.crash);
+    spares = always (told old) (λ image. IsStoreFile image → WithinSpares (moment old) (moment new) (left_since old) (left_since new) (may_leave old) image) (λ image store. spares_calm old new calm image);
+    left = always (told old) (λ image. IsStoreFile image → NoNewImage (may_leave old) (may_leave new) ⊎ ((other : List ℕ) → may_leave new other → SparesOpen image other)) (λ image store. inl calm.crash);
   }
     where
       always : (o : Option (List ℕ)) (P : List ℕ → Type 0) → ((image : List ℕ) → P image) → IfSome o P
@@ -77,7 +77,7 @@ module _ {D : Type 0} (told : D → Option (List ℕ)) (may_leave : D → List �
       weaker None h = tt
       weaker (Some image) h = f image h
 
-  spares_after : (a b c : D) → Calm a b → (image : List ℕ) → (IsStore image → WithinSpares (moment b) (moment c) (left_since b) (left_since c) (may_leave b) image) → IsStore image → WithinSpares (moment a) (moment c) (left_since a) (left_since c) (may_leave a) image
+  spares_after : (a b c : D) → Calm a b → (image : List ℕ) → (IsStoreFile image → WithinSpares (moment b) (moment c) (left_since b) (left_since c) (may_leave b) image) → IsStoreFile image → WithinSpares (moment a) (moment c) (left_since a) (left_since c) (may_leave a) image
   spares_after a b c calm image later store =
       within_both (moment a) (moment b) (moment c) (left_since a) (left_since b) (left_since c) (may_leave a) (λ other. may_leave b other ⊎ SparesOpen image other) (λ other. may_leave a other ⊎ SparesOpen image other)
       calm.within (later store) (λ other h. inl h) (λ other h. ⊎_elim (λ left. inl (calm.crash other left)) (λ spared. inr spared) h)
@@ -90,8 +90,8 @@ module _ {D : Type 0} (told : D → Option (List ℕ)) (may_leave : D → List �
     numbered = o.numbered;
     named = o.named;
     tells = o.tells ∙ ap is_some calm.same;
-    found = after (told a) (told b) (λ image. IsFound image slots) (λ image. IsFound image slots) calm.same (λ image h. h) o.found;
-    stands = after (told a) (told b) (λ image. StandsFor told may_leave c slots (found_in image)) (λ image. StandsFor told may_leave c slots (found_in image)) calm.same (λ image h. h) o.stands;
+    found = after (told a) (told b) (λ image. IsFoundIn image slots) (λ image. IsFoundIn image slots) calm.same (λ image h. h) o.found;
+    stands = after (told a) (told b) (λ image. StandsForContents told may_leave c slots (found_in image)) (λ image. StandsForContents told may_leave c slots (found_in image)) calm.same (λ image h. h) o.stands;
     spares = after (told a) (told b) _ _ calm.same (λ image h. spares_after a b c calm image h) o.spares;
   }
 
@@ -106,11 +106,11 @@ module _ {D : Type 0} (told : D → Option (List ℕ)) (may_leave : D → List �
     unwritten_within = λ is. within_both (moment a) (moment b) (moment c) (left_since a) (left_since b) (left_since c) (may_leave a) (may_leave b) (may_leave a) calm.within (r.unwritten_within is) (λ other h. h) (λ other h. calm.crash other h);
     durable = λ is. subst (λ (o : Option (List ℕ)). LeavesWhatIsRead o (may_leave c)) calm.same (r.durable is);
     spares = after (told a) (told b) _ _ calm.same (λ image h. spares_after a b c calm image h) r.spares;
-    left = after (told a) (told b) _ (λ image. IsStore image → NoNewImage (may_leave a) (may_leave c) ⊎ ((other : List ℕ) → may_leave c other → SparesOpen image other)) calm.same
+    left = after (told a) (told b) _ (λ image. IsStoreFile image → NoNewImage (may_leave a) (may_leave c) ⊎ ((other : List ℕ) → may_leave c other → SparesOpen image other)) calm.same
         (λ image h store. ⊎_elim (λ none. inl (λ other left. calm.crash other (none other left))) (λ spared. inr spared) (h store)) r.left;
   }
 
-pub not_opened : (g b : List ℕ) → g ≢ opened → content_of g b ≡ Absent
+pub not_opened : (g b : List ℕ) → g ≢ opened_gate → content_of g b ≡ Absent
 not_opened [] b differs = refl
 not_opened (x ∷ []) b differs = by (x == 0xa5) refl
   where
@@ -126,20 +126,20 @@ reads_spares (Open id creation) gate body r = subst (λ (g : List ℕ). Spares (
 reads_spares Shut gate body r = subst (λ (g : List ℕ). Spares Shut (content_of g body) g body) (sym r) refl
 reads_spares Unsure gate body r = subst (λ (c : Content). Spares Unsure c gate body) (sym (not_opened gate body r)) tt
 
-pub reads_sound : (slots : List Slot) (image : List ℕ) → IsStore image → ReadsBelow cells slots image → SoundBy Spares slots (contents_of image) image
+pub reads_sound : (slots : List Slot) (image : List ℕ) → IsStoreFile image → ReadsBelow cells slots image → SoundBy Spares slots (contents_of image) image
 reads_sound slots image store reads = record {
   size = store.size;
   header = store.header;
-  each = λ cell lt. rw (content_there cell image lt) (reads_spares (slot_at slots cell) (gate cell image) (body cell image) (reads cell lt));
+  each = λ cell lt. rw (content_there cell image lt) (reads_spares (cell_slot slots cell) (gate cell image) (body cell image) (reads cell lt));
 }
 
 -- what is spared is each open cell, byte for byte
 pub spares_open : (slots : List Slot) (image other : List ℕ) → SoundBy Spares slots (contents_of image) other → SparesOpen image other
 spares_open slots image other s cell lt is =
     let there : get_or (contents_of image) cell Absent ≡ Present (body cell image) = content_there cell image lt ∙ ap (λ (g : List ℕ). content_of g (body cell image)) is in
-    by (slot_at slots cell) (gate cell other) (body cell other) (subst (λ (c : Content). Spares (slot_at slots cell) c (gate cell other) (body cell other)) there (s.each cell lt))
+    by (cell_slot slots cell) (gate cell other) (body cell other) (subst (λ (c : Content). Spares (cell_slot slots cell) c (gate cell other) (body cell other)) there (s.each cell lt))
   where
-    by : (slot : Slot) (g b : List ℕ) → Spares slot (Present (body cell image)) g b → (g ≡ opened) × (b ≡ body cell image)
+    by : (slot : Slot) (g b : List ℕ) → Spares slot (Present (body cell image)) g b → (g ≡ opened_gate) × (b ≡ body cell image)
     by Free g b h = absurd h
     by (Open id creation) g b h = h
     by Shut g b h = absurd h
@@ -158,7 +158,7 @@ settled_is_open (Open own creation) = refl
 settled_is_open Shut = refl
 settled_is_open Unsure = refl
 
-settled_creation : (slot : Slot) → creation_at (settled_slot slot) ≡ creation_at slot
+settled_creation : (slot : Slot) → creation_of_slot (settled_slot slot) ≡ creation_of_slot slot
 settled_creation Free = refl
 settled_creation (Open own creation) = refl
 settled_creation Shut = refl
@@ -177,38 +177,38 @@ settled_count (slot ∷ slots) =
     ∙ sym (sum_by-cons key_of slot slots)))
 
 module _ (slots slots' : List Slot) (count : length slots ≡ 512) (is : slots' ≡ settled_slots slots) where
-  at : (cell : ℕ) → cell < cells → slot_at slots' cell ≡ settled_slot (slot_at slots cell)
-  at cell lt = ap (λ (l : List Slot). slot_at l cell) is ∙ get_or-map settled_slot slots cell Free Free (omega (arith, count))
+  at : (cell : ℕ) → cell < cells → cell_slot slots' cell ≡ settled_slot (cell_slot slots cell)
+  at cell lt = ap (λ (l : List Slot). cell_slot l cell) is ∙ get_or-map settled_slot slots cell Free Free (omega (arith, count))
 
   pub settled_one : HasOneEach cells slots → HasOneEach cells slots'
   settled_one one id cell other lt lt' has has' =
       one id cell other lt lt'
-      (sym (settled_has id (slot_at slots cell)) ∙ (ap (has_id id) (sym (at cell lt)) ∙ has))
-      (sym (settled_has id (slot_at slots other)) ∙ (ap (has_id id) (sym (at other lt')) ∙ has'))
+      (sym (settled_has id (cell_slot slots cell)) ∙ (ap (has_id id) (sym (at cell lt)) ∙ has))
+      (sym (settled_has id (cell_slot slots other)) ∙ (ap (has_id id) (sym (at other lt')) ∙ has'))
 
   pub settled_named : IsNamed cells slots → IsNamed cells slots'
-  settled_named named id cell lt has = named id cell lt (sym (settled_has id (slot_at slots cell)) ∙ (ap (has_id id) (sym (at cell lt)) ∙ has))
+  settled_named named id cell lt has = named id cell lt (sym (settled_has id (cell_slot slots cell)) ∙ (ap (has_id id) (sym (at cell lt)) ∙ has))
 
   pub settled_numbered : IsNumbered cells slots → IsNumbered cells slots'
   settled_numbered numbered cell lt open_now =
-      ap creation_at (at cell lt) ∙ (settled_creation (slot_at slots cell)
-      ∙ (numbered cell lt (sym (settled_is_open (slot_at slots cell)) ∙ (ap is_open (sym (at cell lt)) ∙ open_now))
+      ap creation_of_slot (at cell lt) ∙ (settled_creation (cell_slot slots cell)
+      ∙ (numbered cell lt (sym (settled_is_open (cell_slot slots cell)) ∙ (ap is_open (sym (at cell lt)) ∙ open_now))
       ∙ (sym (settled_count (take cell slots)) ∙ ap (count_by is_open) (sym (ap (take cell) is ∙ take-map settled_slot cell slots)))))
 
   finds : (slot : Slot) (g b : List ℕ) → Reads slot g b → Finds (settled_slot slot) g b
-  finds Free g b r = λ e. let clash : closed ≡ opened = sym r.0 ∙ e in cc
+  finds Free g b r = λ e. let clash : closed ≡ opened_gate = sym r.0 ∙ e in cc
   finds (Open id creation) g b r = r
-  finds Shut g b r = λ e. let clash : closed ≡ opened = sym r ∙ e in cc
+  finds Shut g b r = λ e. let clash : closed ≡ opened_gate = sym r ∙ e in cc
   finds Unsure g b r = r
 
-  pub settled_directory : (image : List ℕ) → IsStore image → ReadsBelow cells slots image → HasOneEach cells slots → IsDirectory slots' image
+  pub settled_directory : (image : List ℕ) → IsStoreFile image → ReadsBelow cells slots image → HasOneEach cells slots → IsDirectory slots' image
   settled_directory image store reads one = record {
     opens = record { store = store; sound = λ cell lt damaged. not_damaged cells slots image reads one cell lt damaged };
-    each = λ cell lt. subst (λ (s : Slot). Finds s (gate cell image) (body cell image)) (sym (at cell lt)) (finds (slot_at slots cell) (gate cell image) (body cell image) (reads cell lt));
+    each = λ cell lt. subst (λ (s : Slot). Finds s (gate cell image) (body cell image)) (sym (at cell lt)) (finds (cell_slot slots cell) (gate cell image) (body cell image) (reads cell lt));
   }
 
 -- a new store, of an image of no bytes
-pub no_store : (told : Option (List ℕ)) (size : ℕ) (P : List ℕ → Type 0) → size ≡ 0 → IfSome told (λ image. length image ≡ size) → IfSome told (λ image. IsStore image → P image)
+pub no_store : (told : Option (List ℕ)) (size : ℕ) (P : List ℕ → Type 0) → size ≡ 0 → IfSome told (λ image. length image ≡ size) → IfSome told (λ image. IsStoreFile image → P image)
 no_store None size P none measured = tt
 no_store (Some image) size P none measured = λ store. absurd (omega (arith, store.size, measured))
 
@@ -217,7 +217,7 @@ of_nothing None size P none measured h = tt
 of_nothing (Some image) size P none measured h = subst P (sym (nil_from_length image (measured ∙ none))) h
 
 pub refused_new : {D : Type 0} (told : D → Option (List ℕ)) (may_leave : D → List ℕ → Type 0) (moment : D → ℕ) (left_since : D → ℕ → List ℕ → Type 0) (faults : D → ℕ) (old new : D) (size : ℕ)
-    → size ≡ 0 → IfSome (told old) (λ image. length image ≡ size) → TellsAsBefore (told old) (told new) → faults old ≤ faults new → Rose (faults old) (faults new) → IsRefused told may_leave moment left_since faults old new Disk
+    → size ≡ 0 → IfSome (told old) (λ image. length image ≡ size) → StillTells (told old) (told new) → faults old ≤ faults new → Rose (faults old) (faults new) → IsRefused told may_leave moment left_since faults old new Disk
 refused_new told may_leave moment left_since faults old new size none measured tells later rose = record {
   tells = tells;
   later = later;
@@ -232,35 +232,35 @@ refused_new told may_leave moment left_since faults old new size none measured t
 }
 
 -- a store that was read, of an image that isn't empty
-pub of_store : (told : Option (List ℕ)) (P : List ℕ → List Content → Type 0) → IfSome told (λ image. IsStore image × P image (contents_of image)) → IfSome told (λ image. P image (found_in image))
+pub of_store : (told : Option (List ℕ)) (P : List ℕ → List Content → Type 0) → IfSome told (λ image. IsStoreFile image × P image (contents_of image)) → IfSome told (λ image. P image (found_in image))
 of_store None P h = tt
 of_store (Some []) P h = absurd (omega (arith, h.0.size))
 of_store (Some (byte ∷ rest)) P h = h.1
 
-pub of_directory : (told : Option (List ℕ)) (slots : List Slot) → IfSome told (λ image. IsDirectory slots image) → IfSome told (λ image. IsFound image slots)
+pub of_directory : (told : Option (List ℕ)) (slots : List Slot) → IfSome told (λ image. IsDirectory slots image) → IfSome told (λ image. IsFoundIn image slots)
 of_directory None slots h = tt
 of_directory (Some []) slots h = absurd (omega (arith, h.opens.store.size))
 of_directory (Some (byte ∷ rest)) slots h = h
 
 -- no slot of a new store has a key
-pub none_has : (id cell : ℕ) (slots : List Slot) → slots ≡ replicate 512 Free → cell < cells → has_id id (slot_at slots cell) ≡ true → ⊥
+pub none_has : (id cell : ℕ) (slots : List Slot) → slots ≡ replicate 512 Free → cell < cells → has_id id (cell_slot slots cell) ≡ true → ⊥
 none_has id cell slots are lt has =
-    let free : slot_at slots cell ≡ Free = ap (λ (l : List Slot). slot_at l cell) are ∙ get_or-replicate 512 cell Free Free lt in
+    let free : cell_slot slots cell ≡ Free = ap (λ (l : List Slot). cell_slot l cell) are ∙ get_or-replicate 512 cell Free Free lt in
     let clash : false ≡ true = sym (ap (has_id id) free) ∙ has in
     cc
 
-pub none_open : (cell : ℕ) (slots : List Slot) → slots ≡ replicate 512 Free → cell < cells → is_open (slot_at slots cell) ≡ true → ⊥
+pub none_open : (cell : ℕ) (slots : List Slot) → slots ≡ replicate 512 Free → cell < cells → is_open (cell_slot slots cell) ≡ true → ⊥
 none_open cell slots are lt open_now =
-    let free : slot_at slots cell ≡ Free = ap (λ (l : List Slot). slot_at l cell) are ∙ get_or-replicate 512 cell Free Free lt in
+    let free : cell_slot slots cell ≡ Free = ap (λ (l : List Slot). cell_slot l cell) are ∙ get_or-replicate 512 cell Free Free lt in
     let clash : false ≡ true = sym (ap is_open free) ∙ open_now in
     cc
 
-module _ {D : Type 0} (told : D → Option (List ℕ)) (may_leave : D → List ℕ → Type 0) (moment : D → ℕ) (left_since : D → ℕ → List ℕ → Type 0) (faults : D → ℕ) (disk mid : D) (slots : List Slot) (calm : Calm told may_leave moment left_since faults disk mid) (durable : LeavesWhatIsRead (told disk) (may_leave disk)) (store : IfSome (told disk) (λ image. IsStore image)) (reads : IfSome (told disk) (λ image. ReadsBelow cells slots image)) where
+module _ {D : Type 0} (told : D → Option (List ℕ)) (may_leave : D → List ℕ → Type 0) (moment : D → ℕ) (left_since : D → ℕ → List ℕ → Type 0) (faults : D → ℕ) (disk mid : D) (slots : List Slot) (calm : Calm told may_leave moment left_since faults disk mid) (durable : LeavesWhatIsRead (told disk) (may_leave disk)) (store : IfSome (told disk) (λ image. IsStoreFile image)) (reads : IfSome (told disk) (λ image. ReadsBelow cells slots image)) where
   -- what was read, before any cell that is left over is cleared
   read_begins : (image : List ℕ) → told disk ≡ Some image → Clearing told may_leave mid slots slots (contents_of image)
   read_begins image is =
       let only : LeavesWhatIsRead (Some image) (may_leave disk) = subst (λ (o : Option (List ℕ)). LeavesWhatIsRead o (may_leave disk)) is durable in
-      let here : IsStore image = subst (λ (o : Option (List ℕ)). IfSome o (λ image. IsStore image)) is store in
+      let here : IsStoreFile image = subst (λ (o : Option (List ℕ)). IfSome o (λ image. IsStoreFile image)) is store in
       let read : ReadsBelow cells slots image = subst (λ (o : Option (List ℕ)). IfSome o (λ image. ReadsBelow cells slots image)) is reads in
       record {
         now = image;
@@ -274,13 +274,13 @@ module _ {D : Type 0} (told : D → Option (List ℕ)) (may_leave : D → List �
   abbrev pub ClearsWithin : D → Type 0
   ClearsWithin new = (contents : List Content) → Clearing told may_leave mid slots slots contents → Within (moment mid) (moment new) (left_since mid) (left_since new) (SoundBy Spares slots contents)
 
-  read_spares : (new : D) → ClearsWithin new → IfSome (told disk) (λ image. IsStore image → WithinSpares (moment disk) (moment new) (left_since disk) (left_since new) (may_leave disk) image)
+  read_spares : (new : D) → ClearsWithin new → IfSome (told disk) (λ image. IsStoreFile image → WithinSpares (moment disk) (moment new) (left_since disk) (left_since new) (may_leave disk) image)
   read_spares new within = for_told (told disk) _ (λ image is here.
       within_both (moment disk) (moment mid) (moment new) (left_since disk) (left_since mid) (left_since new) (may_leave disk) (SoundBy Spares slots (contents_of image)) (λ other. may_leave disk other ⊎ SparesOpen image other)
       calm.within (within (contents_of image) (read_begins image is)) (λ other h. inl h) (λ other h. inr (spares_open slots image other h)))
 
-  pub read_opened : (new : D) (slots' : List Slot) → length slots ≡ 512 → slots' ≡ settled_slots slots → HasOneEach cells slots → IsNumbered cells slots → IsNamed cells slots → TellsAsBefore (told mid) (told new)
-      → ((contents : List Content) → length contents ≡ 512 → Clearing told may_leave mid slots slots contents → StandsFor told may_leave new slots' contents) → ClearsWithin new
+  pub read_opened : (new : D) (slots' : List Slot) → length slots ≡ 512 → slots' ≡ settled_slots slots → HasOneEach cells slots → IsNumbered cells slots → IsNamed cells slots → StillTells (told mid) (told new)
+      → ((contents : List Content) → length contents ≡ 512 → Clearing told may_leave mid slots slots contents → StandsForContents told may_leave new slots' contents) → ClearsWithin new
       → IsOpened told may_leave moment left_since disk new slots'
   read_opened new slots' count is one numbered named tells stands within = record {
     sized = ap length is ∙ (length-map slots settled_slot ∙ count);
@@ -289,16 +289,16 @@ module _ {D : Type 0} (told : D → Option (List ℕ)) (may_leave : D → List �
     named = settled_named slots slots' count is named;
     tells = tells ∙ ap is_some calm.same;
     found = of_directory (told disk) slots' (for_told (told disk) _ (λ image told_is.
-        let here : IsStore image = subst (λ (o : Option (List ℕ)). IfSome o (λ image. IsStore image)) told_is store in
+        let here : IsStoreFile image = subst (λ (o : Option (List ℕ)). IfSome o (λ image. IsStoreFile image)) told_is store in
         let read : ReadsBelow cells slots image = subst (λ (o : Option (List ℕ)). IfSome o (λ image. ReadsBelow cells slots image)) told_is reads in
         settled_directory slots slots' count is image here read one));
-    stands = of_store (told disk) (λ image contents. StandsFor told may_leave new slots' contents) (for_told (told disk) _ (λ image told_is.
-        let here : IsStore image = subst (λ (o : Option (List ℕ)). IfSome o (λ image. IsStore image)) told_is store in
+    stands = of_store (told disk) (λ image contents. StandsForContents told may_leave new slots' contents) (for_told (told disk) _ (λ image told_is.
+        let here : IsStoreFile image = subst (λ (o : Option (List ℕ)). IfSome o (λ image. IsStoreFile image)) told_is store in
         (here, stands (contents_of image) (length-contents_of image) (read_begins image told_is))));
     spares = read_spares new within;
   }
 
-  pub read_refused : (new : D) → TellsAsBefore (told mid) (told new) → faults disk ≤ faults new → Rose (faults disk) (faults new)
+  pub read_refused : (new : D) → StillTells (told mid) (told new) → faults disk ≤ faults new → Rose (faults disk) (faults new)
       → ((contents : List Content) → Clearing told may_leave mid slots slots contents → (image : List ℕ) → may_leave new image → SoundBy Spares slots contents image) → ClearsWithin new
       → IsRefused told may_leave moment left_since faults disk new Disk
   read_refused new tells later rose left within = record {

@@ -2,24 +2,24 @@
 use Rattle.std.specs.Prelude.{◌≡◌, ◌≢◌, ◌⊎◌, ℕ, ◌<◌, List, length, take, drop}
 use Rattle.std.specs.Int.{w32, from_le_bytes}
 use Rattle.key_attributes.specs.declared.Attributes.{Attributes}
-use Rattle.key_cells.specs.Layout.{cells, store_size, header_size, part, gate, body, opened, header}
+use Rattle.key_cells.specs.Layout.{cells, store_size, header_size, part, gate, body, opened_gate, header}
 use Rattle.key_cells.specs.Body.{HoldsKey, HoldsNoKey}
 
 -- the length and the header of a store
-pub record IsStore (image : List ℕ) : Type 0 where
+pub record IsStoreFile (image : List ℕ) : Type 0 where
   pub size : length image ≡ store_size
   pub header : part 0 header_size image ≡ header
 
 abbrev pub IsOpen : ℕ → List ℕ → Type 0
-IsOpen cell image = gate cell image ≡ opened
+IsOpen cell image = gate cell image ≡ opened_gate
 
 -- the identifier in a body
-unfoldable pub id_in : List ℕ → ℕ
-id_in body = from_le_bytes w32 (take 4 (drop 3 body))
+unfoldable pub identifier_in : List ℕ → ℕ
+identifier_in body = from_le_bytes w32 (take 4 (drop 3 body))
 
 -- an earlier open cell has the identifier of this one
 abbrev pub IsTwice : List ℕ → ℕ → Type 0
-IsTwice image cell = (earlier : ℕ) × (earlier < cell) × IsOpen earlier image × (id_in (body earlier image) ≡ id_in (body cell image))
+IsTwice image cell = (earlier : ℕ) × (earlier < cell) × IsOpen earlier image × (identifier_in (body earlier image) ≡ identifier_in (body cell image))
 
 -- an open cell is damaged where it holds no key, or the identifier of an earlier open cell
 abbrev pub IsDamaged : List ℕ → ℕ → Type 0
@@ -27,16 +27,16 @@ IsDamaged image cell = IsOpen cell image × (HoldsNoKey (body cell image) ⊎ Is
 
 -- an image that can be opened
 pub record Opens (image : List ℕ) : Type 0 where
-  pub store : IsStore image
+  pub store : IsStoreFile image
   pub sound : (cell : ℕ) → cell < cells → IsDamaged image cell → ⊥
 
 -- one that can't: it is no store, or its first damaged cell is this one
 pub record IsNoStore (image : List ℕ) : Type 0 where
   pub some : length image ≢ 0
-  pub other : IsStore image → ⊥
+  pub other : IsStoreFile image → ⊥
 
 pub record IsFirstDamaged (image : List ℕ) (cell : ℕ) : Type 0 where
-  pub store : IsStore image
+  pub store : IsStoreFile image
   pub within : cell < cells
   pub here : IsDamaged image cell
   pub before : (other : ℕ) → other < cell → IsDamaged image other → ⊥

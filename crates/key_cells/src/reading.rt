@@ -3,11 +3,11 @@ ghost use Rattle.std.specs.Prelude.{◌≡◌, ◌≤◌, length, IsErrOf, ◌<�
 ghost use Rattle.psa_status.specs.Causes.{HasCause, Rose};
 ghost use Rattle.disk_face.specs.Disk.{NoNewImage, Elapses};
 ghost use Rattle.key_cells.specs.Contents.{is_open, HasNoKey, IsFirstWithKey};
-ghost use Rattle.key_cells.specs.Image.{IsStore};
+ghost use Rattle.key_cells.specs.Image.{IsStoreFile};
 ghost use Rattle.key_cells.specs.Opening.{GivesPart, IsBadCell, ReadsCell, ReadsBelow, HasOneEach, IsNumbered, IsNamed};
 ghost use Rattle.key_cells.specs.Causes.{IsCaused, IsDisk};
 ghost use Rattle.disk_face.specs.Moments.{Within};
-ghost use Rattle.key_cells.specs.Layout.{opened, zeros, header};
+ghost use Rattle.key_cells.specs.Layout.{opened_gate, zeros, header};
 
 use crate::Slot;
 use crate::body::{read_key, wipe};
@@ -44,7 +44,7 @@ pub fn find_key(slots: &[Slot], id: u32) -> Option<usize>
 
 // The slot of an open cell with these bytes, as the next that was found; none where it is damaged.
 fn open_slot_of(bytes: &[u8; 1088], before: &[Slot], found: u64) -> Option<Slot>
-    requires { take 1 bytes.now ≡ opened }
+    requires { take 1 bytes.now ≡ opened_gate }
     ensures { MatchOption result (IsBadCell bytes.now before.now) (λ slot. ReadsCell slot bytes.now before.now found) }
 {
     let Some((attributes, _end)) = read_key(bytes) else {
@@ -134,7 +134,7 @@ pub enum OpenFault {
 pub fn read_store<D: Disk>(disk: &mut D, slots: &mut Vec<Slot>) -> Result<(), OpenFault>
     requires size { D.size disk.old ≡ 557120 }
     requires slots { length slots.old.items ≡ 512 }
-    ensures store { OnOk result (IfSome (D.contents disk.old) (λ image. IsStore image)) }
+    ensures store { OnOk result (IfSome (D.contents disk.old) (λ image. IsStoreFile image)) }
     ensures read { OnOk result (IfSome (D.contents disk.old) (λ image. ReadsBelow 512 slots.new.items image)) }
     ensures one { OnOk result (HasOneEach 512 slots.new.items) }
     ensures numbered { OnOk result (IsNumbered 512 slots.new.items) }
@@ -169,7 +169,7 @@ fn read_slots<D: Disk>(
 ) -> Result<(), OpenFault>
     requires size { D.size disk.old ≡ 557120 }
     requires slots { length slots.old.items ≡ 512 }
-    requires store { IfSome (D.contents disk.old) (λ image. IsStore image) }
+    requires store { IfSome (D.contents disk.old) (λ image. IsStoreFile image) }
     ensures read { OnOk result (IfSome (D.contents disk.old) (λ image. ReadsBelow 512 slots.new.items image)) }
     ensures one { OnOk result (HasOneEach 512 slots.new.items) }
     ensures numbered { OnOk result (IsNumbered 512 slots.new.items) }

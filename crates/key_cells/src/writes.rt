@@ -2,7 +2,7 @@
 ghost use Rattle.std.specs.Prelude.{◌≡◌, ◌<◌, List, ℕ, length, set, OnOk, OnErr, IfErr};
 ghost use Rattle.psa_status.specs.Causes.{HasCause};
 ghost use Rattle.key_cells.specs.declared.slot.Slot.TheVariants.{Free, Open, Shut, Unsure};
-ghost use Rattle.key_cells.specs.Contents.{Content, Present, Doubtful, StandsFor, Moves, Keeps, StaysFree, slot_at, content_at, settled_slots};
+ghost use Rattle.key_cells.specs.Contents.{Content, Present, Doubtful, StandsForContents, Moves, Keeps, StaysFree, cell_slot, content_at, settled_slots};
 
 use crate::Slot;
 use crate::cells::{CLOSED, CellFault, Cells, OPENED, ZEROS, place};
@@ -15,7 +15,7 @@ impl<D: Disk> Cells<D> {
         requires size { D.size self.old.disk ≡ 557120 }
         requires slots { length self.old.slots.items ≡ 512 }
         requires within { cell < 512 }
-        requires slot { slot_at self.old.slots.items cell ≡ Unsure }
+        requires slot { cell_slot self.old.slots.items cell ≡ Unsure }
         ensures size { D.size self.new.disk ≡ 557120 }
         ensures ok { OnOk result (self.new.slots.items ≡ set self.old.slots.items cell Shut) }
         ensures err { OnErr result (self.new.slots.items ≡ self.old.slots.items) }
@@ -39,7 +39,7 @@ impl<D: Disk> Cells<D> {
         requires size { D.size self.old.disk ≡ 557120 }
         requires slots { length self.old.slots.items ≡ 512 }
         requires within { cell < 512 }
-        requires slot { slot_at self.old.slots.items cell ≡ Shut }
+        requires slot { cell_slot self.old.slots.items cell ≡ Shut }
         ensures size { D.size self.new.disk ≡ 557120 }
         ensures ok { OnOk result (self.new.slots.items ≡ set self.old.slots.items cell Free) }
         ensures err { OnErr result (self.new.slots.items ≡ self.old.slots.items) }
@@ -63,13 +63,13 @@ impl<D: Disk> Cells<D> {
         requires size { D.size self.old.disk ≡ 557120 }
         requires slots { length self.old.slots.items ≡ 512 }
         requires within { cell < 512 }
-        requires slot { slot_at self.old.slots.items cell ≡ Shut }
+        requires slot { cell_slot self.old.slots.items cell ≡ Shut }
         ensures size { D.size self.new.disk ≡ 557120 }
         ensures ok { OnOk result (self.new.slots.items ≡ set self.old.slots.items cell Unsure) }
         ensures err { OnErr result (self.new.slots.items ≡ self.old.slots.items) }
         ensures slots { settled_slots self.new.slots.items ≡ settled_slots self.old.slots.items }
         ensures keeps { (contents : List Content) → content_at contents cell ≡ Doubtful body.now →
-            StandsFor D.contents D.may_leave self.old.disk self.old.slots.items contents →
+            StandsForContents D.contents D.may_leave self.old.disk self.old.slots.items contents →
             Moves D.contents D.may_leave D.moment D.left_since self.old.disk self.new.disk self.old.slots.items self.new.slots.items contents contents }
         ensures cause { HasCause (D.faults self.old.disk) (D.faults self.new.disk) result }
         ensures fault { IfErr result (λ fault. fault ≡ CellFault.Disk) }
@@ -88,12 +88,12 @@ impl<D: Disk> Cells<D> {
         requires size { D.size self.old.disk ≡ 557120 }
         requires slots { length self.old.slots.items ≡ 512 }
         requires within { cell < 512 }
-        requires slot { slot_at self.old.slots.items cell ≡ Unsure }
+        requires slot { cell_slot self.old.slots.items cell ≡ Unsure }
         ensures size { D.size self.new.disk ≡ 557120 }
         ensures ok { OnOk result (self.new.slots.items ≡ set self.old.slots.items cell (Open id creation)) }
         ensures err { OnErr result (self.new.slots.items ≡ self.old.slots.items) }
         ensures opened { OnOk result ((contents : List Content) (bytes : List ℕ) → content_at contents cell ≡ Doubtful bytes →
-            StandsFor D.contents D.may_leave self.old.disk self.old.slots.items contents →
+            StandsForContents D.contents D.may_leave self.old.disk self.old.slots.items contents →
             Moves D.contents D.may_leave D.moment D.left_since self.old.disk self.new.disk self.old.slots.items self.new.slots.items contents (set contents cell (Present bytes))) }
         ensures failed { OnErr result (Keeps D.contents D.may_leave D.moment D.left_since self.old.disk self.new.disk self.old.slots.items self.new.slots.items) }
         ensures cause { HasCause (D.faults self.old.disk) (D.faults self.new.disk) result }

@@ -13,18 +13,18 @@ use Rattle.std.proofs.lemmas.List.Sums.{passes_at_first}
 use Rattle.std.proofs.lemmas.Option.{slice_get-get_or, slice_get_past}
 use Rattle.std.proofs.lemmas.Bool.{ltb-false}
 use Rattle.secret_bytes.specs.Buffer.{Buffer, buffer_of, bytes_of, IsClear}
-use Rattle.driver_dispatch.specs.Calls.{HasKey}
+use Rattle.driver_dispatch.specs.Calls.{IsSomeKey}
 use Rattle.std.specs.FinMap as finite
-use Rattle.driver_dispatch.specs.Held.{HeldKey, HeldKeys, no_keys, key_at, with_key, without_key}
+use Rattle.driver_dispatch.specs.Held.{HeldKey, HeldKeys, no_keys, held_key, with_held_key, without_key}
 use Rattle.soft_driver.specs.Sizes.{AreSized, IsSized}
-use Rattle.soft_driver.specs.Room.{key_of, keys_of, IsRoom}
+use Rattle.soft_driver.specs.Room.{key_held, keys_of, IsKeyRoom}
 use Rattle.soft_driver.specs.declared.held.Held.{Held}
 use Rattle.soft_driver.proofs.Maps.{put, taken, remove-insert, insert-remove, len_more, len_fewer, len_at_most, was_new}
 
 abbrev pub held_at : ℕ → List Held → Option Held
 held_at handle held = find (λ h. h.handle == handle) held
 
-picked : (b : Bool) (h : Held) (o : Option Held) → option_map key_of (cond b (Some h) o) ≡ cond b (Some (key_of h)) (option_map key_of o)
+picked : (b : Bool) (h : Held) (o : Option Held) → option_map key_held (cond b (Some h) o) ≡ cond b (Some (key_held h)) (option_map key_held o)
 picked true h o = refl
 picked false h o = refl
 
@@ -32,43 +32,43 @@ turned : (x y : ℕ) → (x == y) ≡ (y == x)
 turned x y = grind (arith, nat_tests)
 
 -- what the map has is what a scan of the list finds
-pub at_scan : (held : List Held) (q : ℕ) → key_at (keys_of held) q ≡ option_map key_of (held_at q held)
+pub at_scan : (held : List Held) (q : ℕ) → held_key (keys_of held) q ≡ option_map key_held (held_at q held)
 at_scan [] q = finite.get-empty nat_cmp q
 at_scan (h ∷ held) q =
-    put (keys_of held) h.handle (key_of h) q
-    ∙ ap (cond (q == h.handle) (Some (key_of h))) (at_scan held q)
-    ∙ ap (λ b. cond b (Some (key_of h)) (option_map key_of (held_at q held))) (turned q h.handle)
+    put (keys_of held) h.handle (key_held h) q
+    ∙ ap (cond (q == h.handle) (Some (key_held h))) (at_scan held q)
+    ∙ ap (λ b. cond b (Some (key_held h)) (option_map key_held (held_at q held))) (turned q h.handle)
     ∙ sym (picked (h.handle == q) h (held_at q held))
 
-pub pushed : (held : List Held) (h : Held) → key_at (keys_of held) h.handle ≡ None → keys_of (held ++ h ∷ []) ≡ with_key h.handle (key_of h) (keys_of held)
+pub pushed : (held : List Held) (h : Held) → held_key (keys_of held) h.handle ≡ None → keys_of (held ++ h ∷ []) ≡ with_held_key h.handle (key_held h) (keys_of held)
 pushed held h none =
-    ap finite.from_entries (map-append (λ (x : Held). (x.handle, key_of x)) held (h ∷ []))
-    ∙ finite.from_entries_push nat_cmp_total finite.nat_cmp-IsAntisymmetric (map (λ (x : Held). (x.handle, key_of x)) held) h.handle (key_of h)
-    (sym (finite.get-from_entries nat_cmp_total (map (λ (x : Held). (x.handle, key_of x)) held) h.handle) ∙ none)
+    ap finite.from_entries (map-append (λ (x : Held). (x.handle, key_held x)) held (h ∷ []))
+    ∙ finite.from_entries_push nat_cmp_total finite.nat_cmp-IsAntisymmetric (map (λ (x : Held). (x.handle, key_held x)) held) h.handle (key_held h)
+    (sym (finite.get-from_entries nat_cmp_total (map (λ (x : Held). (x.handle, key_held x)) held) h.handle) ∙ none)
 
 pub at_most : (held : List Held) → finite.len (keys_of held) ≤ length held
 at_most [] = omega (arith, finite.len-empty nat_cmp HeldKey)
-at_most (h ∷ held) = omega (arith, len_at_most (keys_of held) h.handle (key_of h), at_most held)
+at_most (h ∷ held) = omega (arith, len_at_most (keys_of held) h.handle (key_held h), at_most held)
 
 -- where no handle comes twice, the first one is new to the others
-pub first_new : (h : Held) (held : List Held) → finite.len (keys_of (h ∷ held)) ≡ length (h ∷ held) → (key_at (keys_of held) h.handle ≡ None) × (finite.len (keys_of held) ≡ length held)
-first_new h held e = was_new (keys_of held) h.handle (key_of h) (length held) (omega (arith, e)) (at_most held)
+pub first_new : (h : Held) (held : List Held) → finite.len (keys_of (h ∷ held)) ≡ length (h ∷ held) → (held_key (keys_of held) h.handle ≡ None) × (finite.len (keys_of held) ≡ length held)
+first_new h held e = was_new (keys_of held) h.handle (key_held h) (length held) (omega (arith, e)) (at_most held)
 
 -- each key of the list is in the map
 pub in_map : (held : List Held) (i : ℕ) (d : Held) → finite.len (keys_of held) ≡ length held → i < length held →
-    key_at (keys_of held) (get_or held i d).handle ≡ Some (key_of (get_or held i d))
+    held_key (keys_of held) (get_or held i d).handle ≡ Some (key_held (get_or held i d))
 in_map [] i d e within = absurd (omega (arith, within))
-in_map (h ∷ held) zero d e within = put (keys_of held) h.handle (key_of h) h.handle ∙ same (h.handle == h.handle) (grind (arith, nat_tests))
+in_map (h ∷ held) zero d e within = put (keys_of held) h.handle (key_held h) h.handle ∙ same (h.handle == h.handle) (grind (arith, nat_tests))
   where
-    same : (b : Bool) → b ≡ true → cond b (Some (key_of h)) (key_at (keys_of held) h.handle) ≡ Some (key_of h)
+    same : (b : Bool) → b ≡ true → cond b (Some (key_held h)) (held_key (keys_of held) h.handle) ≡ Some (key_held h)
     same true t = refl
     same false t = cc
 in_map (h ∷ held) (suc i) d e within =
     let parts = first_new h held e in
     let later = in_map held i d parts.1 (omega (arith, within)) in
-    put (keys_of held) h.handle (key_of h) (get_or held i d).handle
+    put (keys_of held) h.handle (key_held h) (get_or held i d).handle
     ∙ passed ((get_or held i d).handle == h.handle) _ _ (λ t. let same : (get_or held i d).handle ≡ h.handle = grind (arith, nat_tests) in
-    let gone : ◌≡◌ {A = Option HeldKey} (Some (key_of (get_or held i d))) None = sym later ∙ ap (key_at (keys_of held)) same ∙ parts.0 in cc)
+    let gone : ◌≡◌ {A = Option HeldKey} (Some (key_held (get_or held i d))) None = sym later ∙ ap (held_key (keys_of held)) same ∙ parts.0 in cc)
     ∙ later
   where
     passed : (b : Bool) (v : HeldKey) (o : Option HeldKey) → (b ≡ true → ⊥) → cond b (Some v) o ≡ o
@@ -79,26 +79,26 @@ in_map (h ∷ held) (suc i) d e within =
 pub removed : (held : List Held) (i : ℕ) (d : Held) → finite.len (keys_of held) ≡ length held → i < length held →
     keys_of (remove held i) ≡ without_key (get_or held i d).handle (keys_of held)
 removed [] i d e within = absurd (omega (arith, within))
-removed (h ∷ held) zero d e within = sym (remove-insert (keys_of held) h.handle (key_of h) (first_new h held e).0)
+removed (h ∷ held) zero d e within = sym (remove-insert (keys_of held) h.handle (key_held h) (first_new h held e).0)
 removed (h ∷ held) (suc i) d e within =
     let parts = first_new h held e in
     let later = in_map held i d parts.1 (omega (arith, within)) in
-    ap (λ m. finite.insert m h.handle (key_of h)) (removed held i d parts.1 (omega (arith, within)))
-    ∙ insert-remove (keys_of held) (get_or held i d).handle h.handle (key_of h) (λ same.
-    let gone : ◌≡◌ {A = Option HeldKey} (Some (key_of (get_or held i d))) None = sym later ∙ ap (key_at (keys_of held)) same ∙ parts.0 in cc)
+    ap (λ m. finite.insert m h.handle (key_held h)) (removed held i d parts.1 (omega (arith, within)))
+    ∙ insert-remove (keys_of held) (get_or held i d).handle h.handle (key_held h) (λ same.
+    let gone : ◌≡◌ {A = Option HeldKey} (Some (key_held (get_or held i d))) None = sym later ∙ ap (held_key (keys_of held)) same ∙ parts.0 in cc)
 
 -- sizes stay within bounds
-pub sized_with : (m : HeldKeys) (handle : ℕ) (key : HeldKey) → IsSized key → AreSized m → AreSized (with_key handle key m)
+pub sized_with : (m : HeldKeys) (handle : ℕ) (key : HeldKey) → IsSized key → AreSized m → AreSized (with_held_key handle key m)
 sized_with m handle key s all q = subst (λ o. IfSome o IsSized) (sym (put m handle key q)) (chosen (q == handle))
   where
-    chosen : (b : Bool) → IfSome (cond b (Some key) (key_at m q)) IsSized
+    chosen : (b : Bool) → IfSome (cond b (Some key) (held_key m q)) IsSized
     chosen true = s
     chosen false = all q
 
 pub sized_without : (m : HeldKeys) (handle : ℕ) → AreSized m → AreSized (without_key handle m)
 sized_without m handle all q = subst (λ o. IfSome o IsSized) (sym (taken m handle q)) (chosen (q == handle))
   where
-    chosen : (b : Bool) → IfSome (cond b None (key_at m q)) IsSized
+    chosen : (b : Bool) → IfSome (cond b None (held_key m q)) IsSized
     chosen true = tt
     chosen false = all q
 
@@ -106,7 +106,7 @@ sized_without m handle all q = subst (λ o. IfSome o IsSized) (sym (taken m hand
 pub record IsPlace (held : List Held) (handle place : ℕ) (d : Held) : Type 0 where
   pub within : place < length held
   pub handle_there : (get_or held place d).handle ≡ handle
-  pub key_there : key_at (keys_of held) handle ≡ Some (key_of (get_or held place d))
+  pub key_there : held_key (keys_of held) handle ≡ Some (key_held (get_or held place d))
 
 found_in : (held : List Held) (handle place : ℕ) (d : Held) → place ≡ position_or_len (λ h. h.handle == handle) held → place < length held → IsPlace held handle place d
 found_in held handle place d e within =
@@ -117,7 +117,7 @@ found_in held handle place d e within =
       handle_there = grind (arith, nat_tests);
       key_there =
           at_scan held handle
-          ∙ ap (option_map key_of) (find_at (λ h. h.handle == handle) held ∙ ap (slice_get held) (sym e) ∙ slice_get-get_or held place d within);
+          ∙ ap (option_map key_held) (find_at (λ h. h.handle == handle) held ∙ ap (slice_get held) (sym e) ∙ slice_get-get_or held place d within);
     }
 
 pub found : (held slice : List Held) (handle place : ℕ) (d : Held) → slice ≡ held →
@@ -129,29 +129,29 @@ none_past true n h = let clash : Some n ≡ None = h in cc
 none_past false n h = refl
 
 -- a handle that a scan doesn't find isn't in the map
-pub absent : (held : List Held) (handle : ℕ) → position (λ h. h.handle == handle) held ≡ None → HasKey (key_at (keys_of held) handle) (λ key. ⊤) → ⊥
+pub absent : (held : List Held) (handle : ℕ) → position (λ h. h.handle == handle) held ≡ None → IsSomeKey (held_key (keys_of held) handle) (λ key. ⊤) → ⊥
 absent held handle e has =
     let past : ltb (position_or_len (λ h. h.handle == handle) held) (length held) ≡ false = none_past _ (position_or_len (λ h. h.handle == handle) held) e in
-    let none : key_at (keys_of held) handle ≡ None =
+    let none : held_key (keys_of held) handle ≡ None =
     at_scan held handle
-    ∙ ap (option_map key_of) (find_at (λ h. h.handle == handle) held ∙ slice_get_past held _ (ltb-false _ _ past)) in
-    subst (λ o. HasKey o (λ key. ⊤)) none has
+    ∙ ap (option_map key_held) (find_at (λ h. h.handle == handle) held ∙ slice_get_past held _ (ltb-false _ _ past)) in
+    subst (λ o. IsSomeKey o (λ key. ⊤)) none has
 
 pub filled : (bytes : List ℕ) → bytes_of (buffer_of bytes) ≡ bytes
 filled bytes = take_at bytes (replicate (1024 - length bytes) 0) (length bytes) refl
 
 -- a further key, under a handle that the map doesn't have
-pub keys_with : (held held' : List Held) (m : HeldKeys) (h : Held) (key : HeldKey) → keys_of held ≡ m → key_at m h.handle ≡ None → key_of h ≡ key →
-    held' ≡ held ++ h ∷ [] → keys_of held' ≡ with_key h.handle key m
+pub keys_with : (held held' : List Held) (m : HeldKeys) (h : Held) (key : HeldKey) → keys_of held ≡ m → held_key m h.handle ≡ None → key_held h ≡ key →
+    held' ≡ held ++ h ∷ [] → keys_of held' ≡ with_held_key h.handle key m
 keys_with held held' m h key view new is e =
-    ap keys_of e ∙ pushed held h (ap (λ m. key_at m h.handle) view ∙ new)
-    ∙ ap (λ k. with_key h.handle k (keys_of held)) is ∙ ap (with_key h.handle key) view
+    ap keys_of e ∙ pushed held h (ap (λ m. held_key m h.handle) view ∙ new)
+    ∙ ap (λ k. with_held_key h.handle k (keys_of held)) is ∙ ap (with_held_key h.handle key) view
 
-pub room_with : (held held' : List Held) (spare spare' : List Buffer) (hc sc hc' sc' n : ℕ) (m : HeldKeys) (h : Held) (key : HeldKey) → IsRoom held spare hc sc →
-    keys_of held ≡ m → key_at m h.handle ≡ None → key_of h ≡ key → IsSized key →
-    held' ≡ held ++ h ∷ [] → spare' ≡ take n spare → length spare' + 1 ≡ length spare → hc' ≡ hc → sc' ≡ sc → IsRoom held' spare' hc' sc'
+pub room_with : (held held' : List Held) (spare spare' : List Buffer) (hc sc hc' sc' n : ℕ) (m : HeldKeys) (h : Held) (key : HeldKey) → IsKeyRoom held spare hc sc →
+    keys_of held ≡ m → held_key m h.handle ≡ None → key_held h ≡ key → IsSized key →
+    held' ≡ held ++ h ∷ [] → spare' ≡ take n spare → length spare' + 1 ≡ length spare → hc' ≡ hc → sc' ≡ sc → IsKeyRoom held' spare' hc' sc'
 room_with held held' spare spare' hc sc hc' sc' n m h key room view new is size eh es count eq-h eq-s =
-    let keys : keys_of held' ≡ with_key h.handle key m = keys_with held held' m h key view new is eh in
+    let keys : keys_of held' ≡ with_held_key h.handle key m = keys_with held held' m h key view new is eh in
     let longer : length held' ≡ length held + 1 = ap length eh ∙ length-append held (h ∷ []) in
     record {
       distinct = ap finite.len keys ∙ len_more m h.handle key new ∙ omega (arith, room.distinct, ap finite.len view, longer);
@@ -163,15 +163,15 @@ room_with held held' spare spare' hc sc hc' sc' n m h key room view new is size 
     }
 
 -- a room without a key, whose buffer is spare
-pub room_without : (held held' : List Held) (spare spare' : List Buffer) (hc sc hc' sc' handle place : ℕ) (d : Held) (s : Buffer) → IsRoom held spare hc sc →
+pub room_without : (held held' : List Held) (spare spare' : List Buffer) (hc sc hc' sc' handle place : ℕ) (d : Held) (s : Buffer) → IsKeyRoom held spare hc sc →
     IsPlace held handle place d → IsClear s →
-    held' ≡ remove held place → spare' ≡ spare ++ s ∷ [] → length held' + 1 ≡ length held → hc' ≡ hc → sc' ≡ sc → IsRoom held' spare' hc' sc'
+    held' ≡ remove held place → spare' ≡ spare ++ s ∷ [] → length held' + 1 ≡ length held → hc' ≡ hc → sc' ≡ sc → IsKeyRoom held' spare' hc' sc'
 room_without held held' spare spare' hc sc hc' sc' handle place d s room there clear eh es count eq-h eq-s =
     let keys : keys_of held' ≡ without_key handle (keys_of held) =
     ap keys_of eh ∙ removed held place d room.distinct there.within ∙ ap (λ k. without_key k (keys_of held)) there.handle_there in
     let longer : length spare' ≡ length spare + 1 = ap length es ∙ length-append spare (s ∷ []) in
     record {
-      distinct = ap finite.len keys ∙ len_fewer (keys_of held) handle (key_of (get_or held place d)) there.key_there ∙ omega (arith, room.distinct, count);
+      distinct = ap finite.len keys ∙ len_fewer (keys_of held) handle (key_held (get_or held place d)) there.key_there ∙ omega (arith, room.distinct, count);
       sized = subst AreSized (sym keys) (sized_without (keys_of held) handle room.sized);
       count = omega (arith, room.count, longer, count);
       clear = subst (All IsClear) (sym es) (All-push IsClear spare s room.clear clear);
@@ -180,12 +180,12 @@ room_without held held' spare spare' hc sc hc' sc' handle place d s room there c
     }
 
 -- a room without a key
-pub room_new : (held : List Held) (spare : List Buffer) (hc sc : ℕ) → held ≡ [] → All IsClear spare → length spare ≡ 4096 → 4096 ≤ hc → 4096 ≤ sc → IsRoom held spare hc sc
+pub room_new : (held : List Held) (spare : List Buffer) (hc sc : ℕ) → held ≡ [] → All IsClear spare → length spare ≡ 4096 → 4096 ≤ hc → 4096 ≤ sc → IsKeyRoom held spare hc sc
 room_new held spare hc sc none clear count eq-h eq-s =
     let keys : keys_of held ≡ no_keys = ap keys_of none in
     record {
       distinct = ap finite.len keys ∙ finite.len-empty nat_cmp HeldKey ∙ sym (ap length none);
-      sized = λ q. subst (λ o. IfSome o IsSized) (sym (ap (λ m. key_at m q) keys ∙ finite.get-empty nat_cmp q)) tt;
+      sized = λ q. subst (λ o. IfSome o IsSized) (sym (ap (λ m. held_key m q) keys ∙ finite.get-empty nat_cmp q)) tt;
       count = omega (arith, ap length none, count);
       clear = clear;
       held_room = eq-h;

@@ -3,8 +3,8 @@ use Rattle.std.specs.Prelude.{ℕ, Bool, List, ◌||◌, if◌then◌else◌, re
 use Rattle.std.specs.Coded.{Coded, code_by, coded×, coded_ℕ, coded_list}
 use Rattle.outside_io.specs.Causes.{one_more}
 use Rattle.outside_io.specs.Forms.{must_fail}
-use Rattle.driver_dispatch.specs.Held.{HeldKey, HeldKeys, held_code, no_keys, with_copy, with_key, without_key}
-use Rattle.soft_driver.specs.Sizes.{is_full}
+use Rattle.driver_dispatch.specs.Held.{HeldKey, HeldKeys, held_code, no_keys, with_copy, with_held_key, without_key}
+use Rattle.soft_driver.specs.Sizes.{is_room_full}
 
 -- where it is, the keys by their handles, the numbers of the calls that fail, the calls so far, the faults so far, and
 -- how often it has computed
@@ -25,21 +25,21 @@ is_listed s = must_fail s.fails s.calls
 
 -- a call that brings a key also fails where there is no room
 abbrev pub brings_no_key : SoftForm → Bool
-brings_no_key s = is_listed s || is_full s.keys
+brings_no_key s = is_listed s || is_room_full s.keys
 
-abbrev pub counted : SoftForm → SoftForm
-counted s = record s { calls = one_more s.calls }
+abbrev pub after_one_call : SoftForm → SoftForm
+after_one_call s = record s { calls = one_more s.calls }
 
 -- a call that fails leaves the keys
 abbrev pub failed : SoftForm → SoftForm
-failed s = record (counted s) { faults = one_more s.faults }
+failed s = record (after_one_call s) { faults = one_more s.faults }
 
 -- a call that leaves these keys
 abbrev pub leaving : SoftForm → HeldKeys → SoftForm
-leaving s keys = record (counted s) { keys = keys }
+leaving s keys = record (after_one_call s) { keys = keys }
 
 abbrev pub after_import : SoftForm → ℕ → HeldKey → SoftForm
-after_import s handle key = if brings_no_key s then failed s else leaving s (with_key handle key s.keys)
+after_import s handle key = if brings_no_key s then failed s else leaving s (with_held_key handle key s.keys)
 
 abbrev pub after_copy : SoftForm → (from to : ℕ) → SoftForm
 after_copy s from to = if brings_no_key s then failed s else leaving s (with_copy from to s.keys)

@@ -2,18 +2,18 @@
 use Rattle.std.specs.Prelude.{ℕ, Bool, ◌==◌, IfSome, IsTrue, length}
 use Rattle.std.specs.FinMap as map
 use Rattle.key_attributes.specs.Checks.{permits_size}
-use Rattle.driver_dispatch.specs.Held.{HeldKey, HeldKeys, key_at}
+use Rattle.driver_dispatch.specs.Held.{HeldKey, HeldKeys, held_key}
 
 -- there is room for 4,096 keys
 abbrev pub room : ℕ
 room = 4096
 
-abbrev pub is_full : HeldKeys → Bool
-is_full held = map.len held == room
+abbrev pub is_room_full : HeldKeys → Bool
+is_room_full held = map.len held == room
 
 -- the type permits so many bytes
 abbrev pub IsSized : HeldKey → Type 0
 IsSized key = IsTrue (permits_size key.key_type (length key.bytes))
 
 abbrev pub AreSized : HeldKeys → Type 0
-AreSized held = (handle : ℕ) → IfSome (key_at held handle) IsSized
+AreSized held = (handle : ℕ) → IfSome (held_key held handle) IsSized

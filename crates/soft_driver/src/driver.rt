@@ -1,14 +1,14 @@
 // The driver in memory.
-ghost use Rattle.std.specs.Prelude.{◌≡◌, ◌↔◌, ◌%◌, ⊤, Some, IsErr, IfOk, IsTrue, OnOk, true, length};
+ghost use Rattle.std.specs.Prelude.{◌≡◌, ◌↔◌, ◌%◌, ⊤, Some, IsErr, IfOk, IsTrue, OnOk, OnErr, true, length};
 ghost use Rattle.psa_status.specs.Causes.{HasCause, one_more};
 ghost use Rattle.key_attributes.specs.Checks.{is_key_type, permits_size};
 ghost use Rattle.crypto_specs.specs.Aes.{aes_encrypt};
 ghost use Rattle.crypto_specs.specs.Modes.{ecb_encrypt};
 ghost use Rattle.store_model.specs.Algorithms.{mac_of};
 ghost use Rattle.store_model.specs.Rules.{fits_type};
-ghost use Rattle.driver_dispatch.specs.Held.{with_copy, with_key, without_key};
-ghost use Rattle.driver_dispatch.specs.Calls.{Changes, CountsServed, Holds, IsMac, Lacks};
-ghost use Rattle.soft_driver.specs.Form.{after_computing, after_copy, after_destroy, after_import, brings_no_key, counted, is_listed, new_form};
+ghost use Rattle.driver_dispatch.specs.Held.{with_copy, with_held_key, without_key};
+ghost use Rattle.driver_dispatch.specs.Calls.{Changes, CountsServed, HoldsHandle, IsMac, Lacks};
+ghost use Rattle.soft_driver.specs.Form.{after_computing, after_copy, after_destroy, after_import, brings_no_key, after_one_call, is_listed, new_form};
 
 use crate::computing::{encipher_blocks, fill_mac};
 use crate::room::KeyRoom;
@@ -19,7 +19,8 @@ use psa_status::{Failed, Memory};
 use std::alloc::Global;
 use std::marker::Model;
 
-/// A driver in memory, with room for 4,096 keys. It tells its map. Calls are numbered from 0, but for `location`, which
+/// A driver in memory, with room for 4,096 keys. It tells its map. A call that fails leaves the keys and what it was to
+/// fill. Calls are numbered from 0, but for `location`, which
 /// isn't counted.
 #[derive(Drop)]
 pub struct SoftDriver {
@@ -59,7 +60,7 @@ impl SoftDriver {
     // Counts a call, and says whether its number is listed.
     fn is_listed(&mut self) -> bool
         ensures listed { result ≡ is_listed self.old }
-        ensures counted { self.new ≡ counted self.old }
+        ensures counted { self.new ≡ after_one_call self.old }
     {
         let number = self.calls;
         self.calls = self.calls.saturating_add(1);
@@ -96,7 +97,7 @@ impl Driver for SoftDriver {
         requires size { IsTrue (permits_size key_type.0 (length bytes.now)) }
         ensures after { self.new ≡ after_import self.old handle (record { key_type = key_type.0; bytes = bytes.now }) }
         ensures fails { IsErr result ↔ (brings_no_key self.old ≡ true) }
-        ensures keys { Changes (with_key handle (record { key_type = key_type.0; bytes = bytes.now })) (Some self.old.keys) (Some self.new.keys) result }
+        ensures keys { Changes (with_held_key handle (record { key_type = key_type.0; bytes = bytes.now })) (Some self.old.keys) (Some self.new.keys) result }
         ensures served { self.new.served ≡ self.old.served }
         ensures location { self.new.location ≡ self.old.location }
         ensures cause { HasCause self.old.faults self.new.faults result }
@@ -109,7 +110,7 @@ impl Driver for SoftDriver {
     }
 
     fn destroy_key(&mut self, handle: u64) -> Result<(), Failed>
-        requires { Holds (Some self.old.keys) handle (λ key. ⊤) }
+        requires { HoldsHandle (Some self.old.keys) handle (λ key. ⊤) }
         ensures after { self.new ≡ after_destroy self.old handle }
         ensures fails { IsErr result ↔ (is_listed self.old ≡ true) }
         ensures keys { Changes (without_key handle) (Some self.old.keys) (Some self.new.keys) result }
@@ -125,7 +126,7 @@ impl Driver for SoftDriver {
     }
 
     fn copy_key(&mut self, from: u64, to: u64) -> Result<(), Failed>
-        requires source { Holds (Some self.old.keys) from (λ key. ⊤) }
+        requires source { HoldsHandle (Some self.old.keys) from (λ key. ⊤) }
         requires new { Lacks (Some self.old.keys) to }
         ensures after { self.new ≡ after_copy self.old from to }
         ensures fails { IsErr result ↔ (brings_no_key self.old ≡ true) }
@@ -142,11 +143,12 @@ impl Driver for SoftDriver {
     }
 
     fn encrypt_blocks(&mut self, handle: u64, blocks: &mut [u8]) -> Result<(), Failed>
-        requires aes { Holds (Some self.old.keys) handle (λ key. key.key_type ≡ 0x2400) }
+        requires aes { HoldsHandle (Some self.old.keys) handle (λ key. key.key_type ≡ 0x2400) }
         requires whole { length blocks.old % 16 ≡ 0 }
         ensures after { self.new ≡ after_computing self.old }
         ensures fails { IsErr result ↔ (is_listed self.old ≡ true) }
-        ensures blocks { OnOk result (Holds (Some self.old.keys) handle (λ key. blocks.new ≡ ecb_encrypt (aes_encrypt key.bytes) blocks.old)) }
+        ensures kept { OnErr result (blocks.new ≡ blocks.old) }
+        ensures blocks { OnOk result (HoldsHandle (Some self.old.keys) handle (λ key. blocks.new ≡ ecb_encrypt (aes_encrypt key.bytes) blocks.old)) }
         ensures same { Some self.new.keys ≡ Some self.old.keys }
         ensures served { CountsServed self.old.served self.new.served result }
         ensures location { self.new.location ≡ self.old.location }
@@ -168,10 +170,11 @@ impl Driver for SoftDriver {
         tag: &mut [u8],
     ) -> Result<(), Failed>
         requires mac { IsMac alg.0 (length tag.old) }
-        requires fits { Holds (Some self.old.keys) handle (λ key. IsTrue (fits_type alg.0 key.key_type)) }
+        requires fits { HoldsHandle (Some self.old.keys) handle (λ key. IsTrue (fits_type alg.0 key.key_type)) }
         ensures after { self.new ≡ after_computing self.old }
         ensures fails { IsErr result ↔ (is_listed self.old ≡ true) }
-        ensures tag { OnOk result (Holds (Some self.old.keys) handle (λ key. tag.new ≡ mac_of alg.0 key.bytes input.now)) }
+        ensures kept { OnErr result (tag.new ≡ tag.old) }
+        ensures tag { OnOk result (HoldsHandle (Some self.old.keys) handle (λ key. tag.new ≡ mac_of alg.0 key.bytes input.now)) }
         ensures same { Some self.new.keys ≡ Some self.old.keys }
         ensures served { CountsServed self.old.served self.new.served result }
         ensures location { self.new.location ≡ self.old.location }

@@ -3,8 +3,8 @@ ghost use Rattle.std.specs.Prelude.{◌≡◌, ◌≤◌, ◌<◌, ◌==◌, ⊤
 ghost use Rattle.std.specs.List.{position, position_or_len};
 ghost use Rattle.std.specs.Vec.{vec_capacity};
 ghost use Rattle.secret_bytes.specs.Buffer.{IsClear};
-ghost use Rattle.driver_dispatch.specs.Held.{key_at};
-ghost use Rattle.driver_dispatch.specs.Calls.{HasKey};
+ghost use Rattle.driver_dispatch.specs.Held.{held_key};
+ghost use Rattle.driver_dispatch.specs.Calls.{IsSomeKey};
 ghost use Rattle.soft_driver.specs.Room.{keys_of};
 
 use key_attributes::KeyType;
@@ -47,7 +47,7 @@ fn place_of(held: &[Held], handle: u64) -> Option<usize>
 
 /// The place of a key that is held.
 pub fn held_place(held: &[Held], handle: u64) -> usize
-    requires { HasKey (key_at (keys_of held.now) handle) (λ key. ⊤) }
+    requires { IsSomeKey (held_key (keys_of held.now) handle) (λ key. ⊤) }
     ensures inside { result < length held.now }
     ensures first { result ≡ position_or_len (λ key. key.handle == handle) held.now }
 {

@@ -1,9 +1,9 @@
 // The keys that are held, in buffers that are taken at the start.
 ghost use Rattle.std.specs.Prelude.{◌≡◌, ⊤, false, None, IfOk, IsTrue, length};
 ghost use Rattle.key_attributes.specs.Checks.{permits_size};
-ghost use Rattle.driver_dispatch.specs.Held.{HeldKey, key_at, no_keys, with_copy, with_key, without_key};
-ghost use Rattle.driver_dispatch.specs.Calls.{HasKey};
-ghost use Rattle.soft_driver.specs.Sizes.{IsSized, is_full};
+ghost use Rattle.driver_dispatch.specs.Held.{HeldKey, held_key, no_keys, with_copy, with_held_key, without_key};
+ghost use Rattle.driver_dispatch.specs.Calls.{IsSomeKey};
+ghost use Rattle.soft_driver.specs.Sizes.{IsSized, is_room_full};
 
 use crate::held::{Held, ROOM, clear_secrets, held_place};
 use key_attributes::KeyType;
@@ -22,7 +22,7 @@ pub struct KeyRoom {
 impl Model for KeyRoom {
     ghost use Rattle.std.specs.Vec.{vec_capacity};
     ghost use Rattle.driver_dispatch.specs.Held.{HeldKeys, held_code};
-    ghost use Rattle.soft_driver.specs.Room.{keys_of, IsRoom};
+    ghost use Rattle.soft_driver.specs.Room.{keys_of, IsKeyRoom};
 
     ghost Value = { HeldKeys };
 
@@ -30,7 +30,7 @@ impl Model for KeyRoom {
 
     ghost view = { λ r. keys_of r.held.items };
 
-    ghost invariant = { λ r. IsRoom r.held.items r.spare.items (vec_capacity r.held) (vec_capacity r.spare) };
+    ghost invariant = { λ r. IsKeyRoom r.held.items r.spare.items (vec_capacity r.held) (vec_capacity r.spare) };
 }
 
 impl KeyRoom {
@@ -47,15 +47,15 @@ impl KeyRoom {
 
     /// Whether there is no room for a further key.
     pub fn is_full(&self) -> bool
-        ensures { result ≡ is_full self.now }
+        ensures { result ≡ is_room_full self.now }
     {
         self.held.len() == ROOM
     }
 
     /// The bytes of a key.
     pub fn key(&self, handle: u64) -> &[u8]
-        requires { HasKey (key_at self.now handle) (λ key. ⊤) }
-        ensures { HasKey (key_at self.now handle) (λ key. (result.now ≡ key.bytes) × IsSized key) }
+        requires { IsSomeKey (held_key self.now handle) (λ key. ⊤) }
+        ensures { IsSomeKey (held_key self.now handle) (λ key. (result.now ≡ key.bytes) × IsSized key) }
     {
         let place = held_place(&self.held, handle);
         self.held[place].secret.as_slice()
@@ -63,10 +63,10 @@ impl KeyRoom {
 
     /// Takes a key under a new handle.
     pub fn put(&mut self, handle: u64, key_type: KeyType, bytes: &[u8])
-        requires space { is_full self.old ≡ false }
-        requires new { key_at self.old handle ≡ None }
+        requires space { is_room_full self.old ≡ false }
+        requires new { held_key self.old handle ≡ None }
         requires size { IsTrue (permits_size key_type.0 (length bytes.now)) }
-        ensures { self.new ≡ with_key handle (record { key_type = key_type.0; bytes = bytes.now }) self.old }
+        ensures { self.new ≡ with_held_key handle (record { key_type = key_type.0; bytes = bytes.now }) self.old }
     {
         let Some(mut secret) = self.spare.pop() else {
             unreachable!();
@@ -81,9 +81,9 @@ impl KeyRoom {
 
     /// Puts a key under a new handle too.
     pub fn copy(&mut self, from: u64, to: u64)
-        requires space { is_full self.old ≡ false }
-        requires source { HasKey (key_at self.old from) (λ key. ⊤) }
-        requires new { key_at self.old to ≡ None }
+        requires space { is_room_full self.old ≡ false }
+        requires source { IsSomeKey (held_key self.old from) (λ key. ⊤) }
+        requires new { held_key self.old to ≡ None }
         ensures { self.new ≡ with_copy from to self.old }
     {
         let Some(mut secret) = self.spare.pop() else {
@@ -102,7 +102,7 @@ impl KeyRoom {
 
     /// Forgets a key, whose buffer is wiped.
     pub fn remove(&mut self, handle: u64)
-        requires { HasKey (key_at self.old handle) (λ key. ⊤) }
+        requires { IsSomeKey (held_key self.old handle) (λ key. ⊤) }
         ensures { self.new ≡ without_key handle self.old }
     {
         let place = held_place(&self.held, handle);

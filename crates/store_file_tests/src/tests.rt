@@ -1,7 +1,7 @@
-ghost use Rattle.std.specs.Prelude.{◌≡◌, ◌≤◌, ◌∷◌, [], ℕ, length};
+ghost use Rattle.std.specs.Prelude.{◌≡◌, ◌≤◌, ◌∷◌, [], ℕ, length, IfOk};
 ghost use Rattle.key_cells.specs.Body.{IsKeyOf};
 
-use disk_face::{BrokenDisk, Disk, Fails, MemoryDisk};
+use disk_face::{Disk, Fails, MemoryDisk};
 use key_attributes::{Attributes, KeyId, KeyType, Lifetime, Policy, Usage};
 use key_cells::{CellFault, Cells, OpenFault};
 use key_record::{read, write};
@@ -9,11 +9,12 @@ use secret_bytes::Secret;
 use std::alloc::Global;
 use std::test::Fail;
 
-// The attributes of a key of one byte that may be exported.
-fn one_byte_key(id: u32) -> Attributes
+/// The attributes of a key of one byte that may be exported.
+pub fn one_byte_key(id: u32) -> Attributes
     requires some { 1 ≤ id }
     requires persistent { id ≤ 0x3fffffff }
-    ensures { (byte : ℕ) → IsKeyOf result (byte ∷ []) }
+    ensures key { (byte : ℕ) → IsKeyOf result (byte ∷ []) }
+    ensures id { result.id.0 ≡ id }
 {
     Attributes {
         lifetime: Lifetime(1),
@@ -27,8 +28,8 @@ fn one_byte_key(id: u32) -> Attributes
     }
 }
 
-// Makes a key of one byte.
-fn create<D: Disk>(cells: &mut Cells<D>, id: u32, byte: u8) -> Result<usize, CellFault>
+/// Makes a key of one byte.
+pub fn create<D: Disk>(cells: &mut Cells<D>, id: u32, byte: u8) -> Result<usize, CellFault>
     requires size { D.size cells.old.disk ≡ 557120 }
     requires slots { length cells.old.slots.items ≡ 512 }
     requires some { 1 ≤ id }
@@ -39,101 +40,38 @@ fn create<D: Disk>(cells: &mut Cells<D>, id: u32, byte: u8) -> Result<usize, Cel
     cells.create(0, &one_byte_key(id), &[byte])
 }
 
-// Opens the store of these bytes.
-fn open(alloc: Global, bytes: Vec<u8>) -> Result<Cells<MemoryDisk>, OpenFault> {
-    let disk = match MemoryDisk::new(alloc, bytes, Fails::From(u64::MAX)) {
-        Ok(disk) => disk,
-        Err(_) => return Err(OpenFault::Memory),
-    };
-    match Cells::open(alloc, disk) {
+/// A disk of these bytes that fails so.
+pub fn new_disk(alloc: Global, bytes: Vec<u8>, fails: Fails) -> Result<MemoryDisk, Fail> {
+    match MemoryDisk::new(alloc, bytes, fails) {
+        Ok(disk) => Ok(disk),
+        Err(_) => Err("memory")?,
+    }
+}
+
+/// A new store over a disk that fails so.
+pub fn new_cells(alloc: Global, fails: Fails) -> Result<Cells<MemoryDisk>, Fail>
+    ensures size { IfOk result (λ cells. length cells.disk.bytes.items ≡ 557120) }
+    ensures slots { IfOk result (λ cells. length cells.slots.items ≡ 512) }
+{
+    match Cells::open(alloc, new_disk(alloc, Vec::new(alloc), fails)?) {
         Ok(cells) => Ok(cells),
-        Err((_disk, fault)) => Err(fault),
+        Err((_disk, _fault)) => Err("open")?,
     }
 }
 
-// What is known of a key after a crash.
-#[derive(Clone, Copy, Debug, PartialEq, Eq, Drop)]
-enum Fate {
-    Absent,
-    Either,
-    Whole,
-}
-
-// Whether a store that is opened again has what it may have of key 5: its one byte, or nothing.
-fn agrees(alloc: Global, image: Vec<u8>, fate: Fate) -> Result<bool, Fail> {
-    let mut secret = Secret::new(alloc).map_err(|_| "memory")?;
-    let disk = MemoryDisk::new(alloc, image, Fails::From(u64::MAX)).map_err(|_| "memory")?;
-    let mut cells = Cells::open(alloc, disk).map_err(|_| "open")?;
-    match cells.find(5) {
-        None => Ok(fate != Fate::Whole),
-        Some(cell) => {
-            let there = cells.load(cell, &mut secret).is_ok()
-                && secret.as_slice() == [0xaau8].as_slice();
-            Ok(there && fate != Fate::Absent)
-        }
+/// Opens the store of these bytes.
+pub fn open(alloc: Global, bytes: Vec<u8>) -> Result<Cells<MemoryDisk>, Fail>
+    ensures size { IfOk result (λ cells. length cells.disk.bytes.items ≡ 557120) }
+    ensures slots { IfOk result (λ cells. length cells.slots.items ≡ 512) }
+{
+    match Cells::open(alloc, new_disk(alloc, bytes, Fails::From(u64::MAX))?) {
+        Ok(cells) => Ok(cells),
+        Err((_disk, _fault)) => Err("open")?,
     }
 }
 
-#[test]
-fn a_stop_leaves_a_key_whole_or_absent(rt: HostRuntime) -> Result<(), Fail> {
-    let alloc = rt.alloc();
-    // A new store takes six calls of the disk, a creation four, and a destruction four.
-    let rows = [
-        (6u64, Fate::Absent),
-        (7, Fate::Absent),
-        (8, Fate::Either),
-        (9, Fate::Either),
-        (10, Fate::Whole),
-        (11, Fate::Either),
-        (12, Fate::Absent),
-        (13, Fate::Absent),
-        (14, Fate::Absent),
-    ];
-    for (stop, fate) in rows {
-        let disk = MemoryDisk::new(alloc, Vec::new(alloc), Fails::From(stop)).map_err(
-            |_| "memory",
-        )?;
-        let mut cells = Cells::open(alloc, disk).map_err(|_| "open")?;
-        let made = create(&mut cells, 5, 0xaa);
-        assert_eq!(rt; made.is_ok(), stop >= 10);
-        if let Some(cell) = cells.find(5) {
-            assert_eq!(rt; cells.destroy(cell).is_ok(), stop == 14);
-        }
-        let disk = cells.into_disk();
-        for kept in [false, true] {
-            let kept = vec![in alloc; kept; disk.pending()]?;
-            let image = disk.image(&kept).map_err(|_| "memory")?;
-            assert!(rt; agrees(alloc, image, fate)?);
-        }
-    }
-    Ok(())
-}
-
-#[test]
-fn a_fault_is_closed_by_the_next_write(rt: HostRuntime) -> Result<(), Fail> {
-    let alloc = rt.alloc();
-    for call in 6..10u64 {
-        let disk = MemoryDisk::new(
-            alloc,
-            Vec::new(alloc),
-            Fails::Listed(vec![in alloc; call]?),
-        ).map_err(|_| "memory")?;
-        let mut cells = Cells::open(alloc, disk).map_err(|_| "open")?;
-        assert_eq!(rt; create(&mut cells, 5, 0xaa), Err(CellFault::Disk));
-        assert_eq!(rt; cells.find(5), None);
-        assert_eq!(rt; create(&mut cells, 5, 0xbb), Ok(0));
-        assert_eq!(rt; create(&mut cells, 6, 0xcc), Ok(1));
-        if let Some(cell) = cells.find(5) {
-            assert_eq!(rt; cells.destroy(cell), Ok(()));
-        }
-        assert_eq!(rt; create(&mut cells, 7, 0xdd), Ok(0));
-        assert_eq!(rt; cells.count(), 2);
-    }
-    Ok(())
-}
-
-// Makes so many keys, with the identifiers from 1 on.
-fn fill<D: Disk>(cells: &mut Cells<D>, count: u32) -> Result<(), CellFault>
+/// Makes so many keys, with the identifiers from 1 on.
+pub fn fill<D: Disk>(cells: &mut Cells<D>, count: u32) -> Result<(), CellFault>
     requires size { D.size cells.old.disk ≡ 557120 }
     requires slots { length cells.old.slots.items ≡ 512 }
     requires few { count ≤ 512 }
@@ -146,39 +84,18 @@ fn fill<D: Disk>(cells: &mut Cells<D>, count: u32) -> Result<(), CellFault>
     Ok(())
 }
 
-#[test]
-fn a_store_has_512_keys_and_no_more(rt: HostRuntime) -> Result<(), Fail> {
-    let alloc = rt.alloc();
-    let disk = MemoryDisk::new(alloc, Vec::new(alloc), Fails::From(u64::MAX)).map_err(
-        |_| "memory",
-    )?;
-    let mut cells = Cells::open(alloc, disk).map_err(|_| "open")?;
-    assert_eq!(rt; fill(&mut cells, 512), Ok(()));
-    assert_eq!(rt; create(&mut cells, 513, 0), Err(CellFault::Full));
-    let bytes = cells.into_disk().bytes().to_vec(alloc)?;
-    let again = open(alloc, bytes).map_err(|_| "again")?;
-    assert_eq!(rt; again.count(), 512);
-    assert_eq!(rt; again.find(512), Some(511));
-    assert_eq!(rt; again.creation(511), 511);
-    assert_eq!(rt; again.find(513), None);
-    Ok(())
-}
-
 // What an opening of these bytes is refused for.
-fn refusal(alloc: Global, bytes: Vec<u8>) -> Option<OpenFault> {
-    match open(alloc, bytes) {
-        Ok(_cells) => None,
-        Err(fault) => Some(fault),
+fn refusal(alloc: Global, bytes: Vec<u8>) -> Result<Option<OpenFault>, Fail> {
+    match Cells::open(alloc, new_disk(alloc, bytes, Fails::From(u64::MAX))?) {
+        Ok(_cells) => Ok(None),
+        Err((_disk, fault)) => Ok(Some(fault)),
     }
 }
 
 #[test]
 fn damage_is_found(rt: HostRuntime) -> Result<(), Fail> {
     let alloc = rt.alloc();
-    let disk = MemoryDisk::new(alloc, Vec::new(alloc), Fails::From(u64::MAX)).map_err(
-        |_| "memory",
-    )?;
-    let mut cells = Cells::open(alloc, disk).map_err(|_| "open")?;
+    let mut cells = new_cells(alloc, Fails::From(u64::MAX))?;
     assert_eq!(rt; fill(&mut cells, 4), Ok(()));
     let store = cells.into_disk().bytes().to_vec(alloc)?;
     let other = Some(OpenFault::NotAStore);
@@ -214,34 +131,12 @@ fn damage_is_found(rt: HostRuntime) -> Result<(), Fail> {
         if let Some(old) = bytes.get_mut(place) {
             *old = byte;
         }
-        assert_eq!(rt; refusal(alloc, bytes), answer);
+        assert_eq!(rt; refusal(alloc, bytes)?, answer);
     }
-    assert_eq!(rt; refusal(alloc, vec![in alloc; 0u8; 10]?), other);
+    assert_eq!(rt; refusal(alloc, vec![in alloc; 0u8; 10]?)?, other);
     let mut longer = store.to_vec(alloc)?;
     longer.push(0)?;
-    assert_eq!(rt; refusal(alloc, longer), other);
-    Ok(())
-}
-
-#[test]
-fn an_opening_meets_faults(rt: HostRuntime) -> Result<(), Fail> {
-    let alloc = rt.alloc();
-    match Cells::open(alloc, BrokenDisk::new()) {
-        Ok(_cells) => return Err("opened")?,
-        Err((disk, fault)) => {
-            assert_eq!(rt; fault, OpenFault::Disk);
-            assert_eq!(rt; disk.faults(), 1);
-        }
-    }
-    for call in 0..6u64 {
-        let disk = MemoryDisk::new(alloc, Vec::new(alloc), Fails::From(call)).map_err(
-            |_| "memory",
-        )?;
-        match Cells::open(alloc, disk) {
-            Ok(_cells) => return Err("opened")?,
-            Err((_disk, fault)) => assert_eq!(rt; fault, OpenFault::Disk),
-        }
-    }
+    assert_eq!(rt; refusal(alloc, longer)?, other);
     Ok(())
 }
 

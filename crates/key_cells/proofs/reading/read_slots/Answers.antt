@@ -1,4 +1,4 @@
-use Rattle.std.proofs.Common.{◌<◌, List, length, take, subst, ap, ◌∙◌, arith, ◌+◌, ◌*◌}
+use Rattle.std.proofs.Common.{◌<◌, List, length, take, subst, ◌∙◌, arith, ◌+◌, ◌*◌}
 use Rattle.std.proofs.lemmas.List.{length-set}
 use Rattle.disk_face.proofs.Moments.{within_more}
 use Rattle.key_cells.specs.declared.slot.Slot.{Slot}

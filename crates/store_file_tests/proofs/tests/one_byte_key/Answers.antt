@@ -1,8 +1,8 @@
 use Rattle.std.proofs.Common.{refl, arith}
 use Rattle.store_file_tests.proofs.tests.one_byte_key.Goals as goal
 
-pub returns : goal.returns
-returns c = λ byte. record {
+pub returns-clause-key : goal.returns-clause-key
+returns-clause-key c = λ byte. record {
   kept = record {
     lifetime = refl;
     size = refl;

@@ -1,9 +1,9 @@
-use Rattle.std.proofs.Common.{◌≡◌, ◌≤◌, ℕ, List, ◌+◌, length, take, set, ap, subst, sym, refl, ◌∙◌, arith}
+use Rattle.std.proofs.Common.{◌≡◌, ◌≤◌, ℕ, List, ◌+◌, length, take, ap, subst, sym, refl, ◌∙◌, arith}
 use Rattle.std.proofs.lemmas.List.{length-set, take_all, length-map}
 use Rattle.std.proofs.lemmas.Result.{on_ok_weaker}
 use Rattle.disk_face.proofs.Moments.{within_none, within_both, within_more}
 use Rattle.key_cells.specs.declared.slot.Slot.{Slot}
-use Rattle.key_cells.specs.Contents.{SoundBy, settled_slot, settled_slots, slot_at}
+use Rattle.key_cells.specs.Contents.{SoundBy, settled_slot, settled_slots, cell_slot}
 use Rattle.key_cells.specs.Opening.{Spares, IsSettled}
 use Rattle.key_cells.proofs.Images.{front_more, settled_set}
 use Rattle.key_cells.proofs.Clearing.{all_settled, settled_settled, settled_twice, clear_already, clear_sure}
@@ -57,9 +57,9 @@ loop-cell-preserved g c =
     let is = c.in_ok-clear_leftover.ensures.ok in
     record {
       size = e.size;
-      count = ap length is ∙ length-set old.slots.items cell (settled_slot (slot_at old.slots.items cell)) ∙ i.count;
+      count = ap length is ∙ length-set old.slots.items cell (settled_slot (cell_slot old.slots.items cell)) ∙ i.count;
       front = ap (take (cell + 1)) is ∙ front_more old.slots.items first.slots.items cell (omega (arith, i.count)) i.front i.same;
-      same = ap settled_slots is ∙ (settled_set old.slots.items cell (settled_slot (slot_at old.slots.items cell)) (omega (arith, i.count)) (sym (settled_twice (slot_at old.slots.items cell))) ∙ i.same);
+      same = ap settled_slots is ∙ (settled_set old.slots.items cell (settled_slot (cell_slot old.slots.items cell)) (omega (arith, i.count)) (sym (settled_twice (cell_slot old.slots.items cell))) ∙ i.same);
       clears = λ contents s. e.clears first.slots.items contents (i.clears contents s);
       within = λ contents s.
           within_both (d.moment first.disk) (d.moment old.disk) (d.moment new.disk) (d.left_since first.disk) (d.left_since old.disk) (d.left_since new.disk)

@@ -1,5 +1,5 @@
-use Rattle.std.proofs.Common.{◌≡◌, ℕ, ◌+◌, List, Option, replicate, ap, subst}
-use Rattle.disk_face.specs.Disk.{Torn, Follows, Holds, HoldsAround}
+use Rattle.std.proofs.Common.{◌≡◌, ℕ, replicate, subst}
+use Rattle.disk_face.specs.Disk.{Torn, Follows, HoldsWritten, HoldsAround}
 use Rattle.key_cells.specs.Layout.{place}
 use Rattle.key_cells.proofs.Clearing.{torn_unsure, unsure_cleared, clearing_done, clearing_failed, clearing_within}
 use Rattle.key_cells.proofs.cells.Cells.clear_unsure.Goals as goal
@@ -14,7 +14,7 @@ returns-in-Ok-clause-clears g c = λ first contents s.
     let at : c.place.result ≡ place cell = c.place.ensures in
     let crash = subst (λ (k : ℕ). Follows (Torn k 1088) (d.may_leave old.disk) (d.may_leave c.write_at.new.self)) at e.crash in
     let torn = torn_unsure cell c.requires.within first contents (s.unsure cell c.requires.within c.requires.slot) in
-    let holds = subst (λ (k : ℕ). Holds (d.contents old.disk) k (replicate 1088 0) (d.contents c.write_at.new.self)) at c.in-Ok.ensures.written in
+    let holds = subst (λ (k : ℕ). HoldsWritten (d.contents old.disk) k (replicate 1088 0) (d.contents c.write_at.new.self)) at c.in-Ok.ensures.written in
     clearing_done d.contents d.may_leave old.disk c.write_at.new.self cell (place cell) 1088 first slots contents (replicate 1088 0) s c.requires.slots c.requires.within holds crash torn
     (unsure_cleared cell c.requires.within slots contents c.requires.slots c.requires.slot)
 

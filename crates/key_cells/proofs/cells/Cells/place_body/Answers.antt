@@ -6,7 +6,7 @@ use Rattle.std.proofs.lemmas.Bool.{cases_eq}
 use Rattle.std.proofs.lemmas.List.{get_or-map}
 use Rattle.key_cells.specs.declared.slot.Slot.{Slot}
 use Rattle.key_cells.specs.declared.slot.Slot.TheVariants.{Free}
-use Rattle.key_cells.specs.Contents.{Content, Present, Doubtful, StaysFree, StaysFreeBut, IsFirstWithoutKey, slot_at, settled, settled_slot}
+use Rattle.key_cells.specs.Contents.{Content, Present, Doubtful, StaysFree, StaysFreeBut, IsFirstWithoutKey, cell_slot, settled, settled_slot}
 use Rattle.key_cells.proofs.Moves.{keeps_none, moves_settled, moves_after_settled, free_absent, settled_free, on_err}
 use Rattle.key_cells.proofs.cells.Cells.place_body.Goals as goal
 
@@ -20,9 +20,9 @@ returns-in_err-fill-clause-failed g c = on_err c.from_residual-in_err-fill.resul
     let is = c.in_ok-settle.ensures.ok in
     let first_cell = c.in-Some.ensures in
     let within : cell < length old = omega (arith, ap length c.deref.ensures.value, first_cell.within) in
-    let here = ap (λ (l : List Slot). slot_at l cell) c.deref.ensures.value in
-    let free : slot_at mid cell ≡ Free =
-    ap (λ (l : List Slot). slot_at l cell) is ∙ (get_or-map settled_slot old cell Free Free within ∙ (ap settled_slot (sym here) ∙ settled_free (slot_at c.deref.result.now cell) first_cell.here)) in
+    let here = ap (λ (l : List Slot). cell_slot l cell) c.deref.ensures.value in
+    let free : cell_slot mid cell ≡ Free =
+    ap (λ (l : List Slot). cell_slot l cell) is ∙ (get_or-map settled_slot old cell Free Free within ∙ (ap settled_slot (sym here) ∙ settled_free (cell_slot c.deref.result.now cell) first_cell.here)) in
     let first = moves_settled d.contents d.may_leave d.moment d.left_since self.disk c.settle.new.self.disk old mid contents c.requires.slots is (c.settle.ensures.keeps contents stands) in
     let absent = free_absent d.contents d.may_leave d.moment d.left_since cell c.settle.new.self.disk mid contents (omega (arith, within, c.requires.slots)) stands.count free first.stands (g.met.D.Disk.read_is_image c.settle.new.self.disk) in
     let second = c.in_err-fill.ensures.failed (settled contents) absent first.stands in
@@ -38,9 +38,9 @@ returns-clause-created g c = λ contents stands.
     let is = c.in_ok-settle.ensures.ok in
     let first_cell = c.in-Some.ensures in
     let within : cell < length old = omega (arith, ap length c.deref.ensures.value, first_cell.within) in
-    let here = ap (λ (l : List Slot). slot_at l cell) c.deref.ensures.value in
-    let free : slot_at mid cell ≡ Free =
-    ap (λ (l : List Slot). slot_at l cell) is ∙ (get_or-map settled_slot old cell Free Free within ∙ (ap settled_slot (sym here) ∙ settled_free (slot_at c.deref.result.now cell) first_cell.here)) in
+    let here = ap (λ (l : List Slot). cell_slot l cell) c.deref.ensures.value in
+    let free : cell_slot mid cell ≡ Free =
+    ap (λ (l : List Slot). cell_slot l cell) is ∙ (get_or-map settled_slot old cell Free Free within ∙ (ap settled_slot (sym here) ∙ settled_free (cell_slot c.deref.result.now cell) first_cell.here)) in
     let first = moves_settled d.contents d.may_leave d.moment d.left_since self.disk c.settle.new.self.disk old mid contents c.requires.slots is (c.settle.ensures.keeps contents stands) in
     let absent = free_absent d.contents d.may_leave d.moment d.left_since cell c.settle.new.self.disk mid contents (omega (arith, within, c.requires.slots)) stands.count free first.stands (g.met.D.Disk.read_is_image c.settle.new.self.disk) in
     let second = c.in_ok-fill.ensures.filled (settled contents) absent first.stands in
@@ -54,7 +54,7 @@ returns-clause-entry g c = λ opening first history h.
     (returns-clause-created g c (after_all after history first) h.stands)
 
 -- free cells stay free but for the one that is taken
-but_first : (old mid new : List Slot) (cell : ℕ) → StaysFree old mid → ((other : ℕ) → other ≢ cell → slot_at new other ≡ slot_at mid other) → IsFirstWithoutKey old cell → StaysFreeBut old new
+but_first : (old mid new : List Slot) (cell : ℕ) → StaysFree old mid → ((other : ℕ) → other ≢ cell → cell_slot new other ≡ cell_slot mid other) → IsFirstWithoutKey old cell → StaysFreeBut old new
 but_first old mid new cell stays others first other lt free =
     ⊎_elim
     (λ same. inr (subst (λ (k : ℕ). IsFirstWithoutKey old k) (sym same) first))
@@ -96,9 +96,9 @@ returns-in_err-fill-clause-failed_entry g c = on_err c.from_residual-in_err-fill
       let stands = h.stands in
       let first_cell = c.in-Some.ensures in
       let within : cell < length old = omega (arith, ap length c.deref.ensures.value, first_cell.within) in
-      let here = ap (λ (l : List Slot). slot_at l cell) c.deref.ensures.value in
-      let free : slot_at mid cell ≡ Free =
-      ap (λ (l : List Slot). slot_at l cell) is ∙ (get_or-map settled_slot old cell Free Free within ∙ (ap settled_slot (sym here) ∙ settled_free (slot_at c.deref.result.now cell) first_cell.here)) in
+      let here = ap (λ (l : List Slot). cell_slot l cell) c.deref.ensures.value in
+      let free : cell_slot mid cell ≡ Free =
+      ap (λ (l : List Slot). cell_slot l cell) is ∙ (get_or-map settled_slot old cell Free Free within ∙ (ap settled_slot (sym here) ∙ settled_free (cell_slot c.deref.result.now cell) first_cell.here)) in
       let settling = moves_settled d.contents d.may_leave d.moment d.left_since self.disk c.settle.new.self.disk old mid contents c.requires.slots is (c.settle.ensures.keeps contents stands) in
       let absent = free_absent d.contents d.may_leave d.moment d.left_since cell c.settle.new.self.disk mid contents (omega (arith, within, c.requires.slots)) stands.count free settling.stands (g.met.D.Disk.read_is_image c.settle.new.self.disk) in
       let filling = c.in_err-fill.ensures.failed (settled contents) absent settling.stands in

@@ -1,7 +1,7 @@
 use Rattle.std.proofs.Common.{rules, ◌≡◌, ap, ◌∙◌}
 use Rattle.driver_dispatch.specs.Held.{HeldKey}
 use Rattle.secret_bytes.specs.Buffer.{bytes_of}
-use Rattle.soft_driver.specs.Room.{key_of}
+use Rattle.soft_driver.specs.Room.{key_held}
 use Rattle.soft_driver.specs.declared.held.Held.{Held}
 use Rattle.soft_driver.proofs.Rooms.{room_with, keys_with, filled}
 use Rattle.soft_driver.proofs.room.KeyRoom.put.Goals as goal
@@ -10,7 +10,7 @@ pub invariant_of-self : goal.invariant_of-self
 invariant_of-self c =
     let h : Held = record { handle = c.args.handle; key_type = c.args.key_type; secret = c.fill_from.new.self } in
     let key : HeldKey = record { key_type = c.args.key_type.0; bytes = c.args.bytes.now } in
-    let is : key_of h ≡ key = ap (λ b. record { key_type = c.args.key_type.0; bytes = b }) (ap bytes_of c.fill_from.ensures ∙ filled c.args.bytes.now) in
+    let is : key_held h ≡ key = ap (λ b. record { key_type = c.args.key_type.0; bytes = b }) (ap bytes_of c.fill_from.ensures ∙ filled c.args.bytes.now) in
     room_with c.self.inside.held.items _ c.self.inside.spare.items _ _ _ _ _ _ c.args.self.now h key c.self.invariant c.self.view_is c.requires.new is c.requires.size
     c.push_reserved.ensures.items c.pop.ensures.rest (search rules) c.push_reserved.ensures.capacity c.pop.ensures.capacity
 
@@ -18,5 +18,5 @@ pub returns : goal.returns
 returns c =
     let h : Held = record { handle = c.args.handle; key_type = c.args.key_type; secret = c.fill_from.new.self } in
     let key : HeldKey = record { key_type = c.args.key_type.0; bytes = c.args.bytes.now } in
-    let is : key_of h ≡ key = ap (λ b. record { key_type = c.args.key_type.0; bytes = b }) (ap bytes_of c.fill_from.ensures ∙ filled c.args.bytes.now) in
+    let is : key_held h ≡ key = ap (λ b. record { key_type = c.args.key_type.0; bytes = b }) (ap bytes_of c.fill_from.ensures ∙ filled c.args.bytes.now) in
     keys_with c.self.inside.held.items _ c.args.self.now h key c.self.view_is c.requires.new is c.push_reserved.ensures.items
