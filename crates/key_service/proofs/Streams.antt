@@ -1,12 +1,12 @@
 -- A caller draws from its stream, and every other stream stays.
-use Rattle.std.proofs.Common.{◌≡◌, ◌≤◌, ◌+◌, ℕ, zero, suc, List, [], ◌∷◌, length, get_or, set, length-set, refl, sym, ap, ◌∙◌, subst, arith, inl, inr}
+use Rattle.std.proofs.Common.{◌≡◌, ◌≤◌, ◌+◌, ℕ, zero, suc, List, [], ◌∷◌, length, get_or, set, length-set, refl, sym, ap, ◌∙◌, arith, inl, inr}
 use Rattle.std.proofs.lemmas.Bool.Decides.{eqb_tells}
 use Rattle.std.proofs.lemmas.List.{get_or-set_same, get_or-set_other, set-get_or}
 use Rattle.random_streams.specs.RandomWords.{RandomStream, next_bytes, drawn_from, words_used}
 use Rattle.store_model.specs.Store.{Store}
 use Rattle.store_model.specs.Draws.{Random}
 use Rattle.store_model.specs.Handles.{Own, Service, new_own, own_of, with_own, next_random}
-use Rattle.key_service.specs.Services.{AreStreams, stream_in}
+use Rattle.key_service.specs.Services.{AreStreams}
 
 -- the words of so many bytes are drawn from a caller's stream
 pub record Drew (before after : List RandomStream) (caller n : ℕ) : Type 0 where

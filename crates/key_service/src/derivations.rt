@@ -8,8 +8,8 @@ ghost use Rattle.store_model.specs.HandleCalls.{InputKey, OutputKey};
 ghost use Rattle.store_model.specs.Requests.{OnHandle, serve};
 ghost use Rattle.key_service.specs.Services.{StandsFor};
 
-use crate::cells::KeyCreation;
 use crate::callers::{Callers, place};
+use crate::cells::KeyCreation;
 use derivation_states::KEY_ROOM;
 use key_attributes::{Attributes, KeyId};
 use psa_status::Status;

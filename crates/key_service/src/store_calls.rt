@@ -19,12 +19,7 @@ use single_part::{hash_compare, hash_compute};
 use store_core::Store;
 
 // The hash of a message.
-fn compute_hash(
-    store: &mut Store,
-    alg: Alg,
-    input: &[u8],
-    out: &mut [u8],
-) -> Result<usize, Status>
+fn compute_hash(store: &mut Store, alg: Alg, input: &[u8], out: &mut [u8]) -> Result<usize, Status>
     requires turns { store.old.calls < 2 ^ 62 }
     ensures store { store.new ≡ (step_hash_compute store.old alg.0 input.now (length out.old)).store }
     ensures reply { AnswersLength result (step_hash_compute store.old alg.0 input.now (length out.old)).reply }
@@ -82,7 +77,9 @@ pub fn on_store(
         StoreCall::Export(key) => bytes(store.export_key(key, out)),
         StoreCall::HashCompute { alg, input } => bytes(compute_hash(store, alg, input, out)),
         StoreCall::HashCompare { alg, input, hash } => plain(compare_hash(store, alg, input, hash)),
-        StoreCall::MacCompute { key, alg, input } => bytes(mac_compute(store, key, alg, input, out)),
+        StoreCall::MacCompute { key, alg, input } => bytes(mac_compute(
+            store, key, alg, input, out,
+        )),
         StoreCall::MacVerify {
             key,
             alg,

@@ -1,5 +1,5 @@
 -- Bytes compared one by one.
-use Rattle.std.proofs.Common.{◌≡◌, ℕ, Bool, true, false, ◌&&◌, eqb, List, [], ◌∷◌, ◌++◌, length, suc, refl, ap, ◌∙◌, arith}
+use Rattle.std.proofs.Common.{◌≡◌, ℕ, Bool, true, false, ◌&&◌, eqb, List, [], ◌∷◌, ◌++◌, length, refl, ap, ◌∙◌, arith}
 use Rattle.std.specs.Prelude.{bytes_eq}
 
 and_assoc : (a b c : Bool) → a && (b && c) ≡ a && b && c
@@ -15,13 +15,3 @@ bytes_eq_push [] [] x y e = and_true (eqb x y)
 bytes_eq_push [] (b ∷ bs) x y e = absurd (omega arith)
 bytes_eq_push (a ∷ rest) [] x y e = absurd (omega arith)
 bytes_eq_push (a ∷ rest) (b ∷ bs) x y e = ap (λ (t : Bool). eqb a b && t) (bytes_eq_push rest bs x y (omega arith)) ∙ and_assoc (eqb a b) (bytes_eq rest bs) (eqb x y)
-
-pub other_length : (xs ys : List ℕ) → (length xs ≡ length ys → ⊥) → bytes_eq xs ys ≡ false
-other_length [] [] h = absurd (h refl)
-other_length [] (y ∷ ys) h = refl
-other_length (x ∷ xs) [] h = refl
-other_length (x ∷ xs) (y ∷ ys) h = ap (λ (t : Bool). eqb x y && t) (other_length xs ys (λ e. h (ap suc e))) ∙ and_false (eqb x y)
-  where
-    and_false : (a : Bool) → a && false ≡ false
-    and_false true = refl
-    and_false false = refl

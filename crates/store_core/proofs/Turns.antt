@@ -12,7 +12,7 @@ use Rattle.psa_status.specs.Rows.{first_row}
 use Rattle.key_attributes.specs.declared.Attributes.{Attributes}
 use Rattle.key_attributes.specs.Checks.{filled, permits_size}
 use Rattle.store_model.specs.Store as model
-use Rattle.store_model.specs.Store.{Key, KeyMap, is_volatile_of, live_volatile, first_volatile, next_volatile}
+use Rattle.store_model.specs.Store.{KeyMap, is_volatile_of, live_volatile, first_volatile, next_volatile}
 use Rattle.store_model.specs.Creation.{limit_rows, identified, new_key, created}
 use Rattle.store_core.specs.declared.entries.Entry.{Entry}
 use Rattle.store_core.specs.declared.store.Store.TheInside.{Inside}

@@ -61,12 +61,7 @@ impl Store {
             self.calls += 1;
             return Err(Status::KeyLimit);
         }
-        Ok(self.add_random(
-            caller,
-            stream,
-            &recorded,
-            usize::from(attributes.bits / 8),
-        ))
+        Ok(self.add_random(caller, stream, &recorded, usize::from(attributes.bits / 8)))
     }
 
     // Adds a key of so many random bytes. Its caller is at no limit.

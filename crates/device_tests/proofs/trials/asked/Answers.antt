@@ -1,5 +1,4 @@
 use Rattle.std.proofs.Common.{◌≡◌, sym, subst, ap, ◌∙◌, refl}
-use Rattle.std.specs.Prelude.{Some}
 use Rattle.std.specs.Option.{option_map}
 use Rattle.driver_dispatch.specs.Held.{HeldKey, no_keys, with_held_key}
 use Rattle.driver_dispatch.specs.Calls.{Lacks, HoldsHandle}

@@ -1,7 +1,7 @@
 use Rattle.std.proofs.Common.{◌≡◌, ◌&&◌, Bool, eqb, length, take, get_or, sym, ap, ap₂, ◌∙◌, arith}
 use Rattle.std.specs.Prelude.{bytes_eq}
 use Rattle.std.proofs.lemmas.List.{length-take, take_more}
-use Rattle.operation_phase.proofs.ByteLists.{bytes_eq_push, other_length}
+use Rattle.operation_phase.proofs.ByteLists.{bytes_eq_push}
 use Rattle.operation_phase.proofs.comparing.is_equal.Goals as goal
 
 pub bytes-preserved : goal.bytes-preserved

@@ -1,4 +1,4 @@
-use Rattle.std.proofs.Common.{◌≡◌, length, refl, ap, ◌∙◌, subst}
+use Rattle.std.proofs.Common.{◌≡◌, length, refl, ap, ◌∙◌}
 use Rattle.random_streams.specs.RandomWords.{drawn_from, next_bytes}
 use Rattle.store_model.specs.Step.{step}
 use Rattle.store_model.specs.Faults.{Plain}

@@ -1,4 +1,4 @@
-use Rattle.std.proofs.Common.{List, ℕ, ◌+◌, length, refl, arith}
+use Rattle.std.proofs.Common.{List, ℕ, length, arith}
 use Rattle.std.proofs.lemmas.List.{take_all}
 use Rattle.disk_face.specs.Disk.{Grown}
 use Rattle.store_file_bench.proofs.room.RoomDisk.extend.Goals as goal
