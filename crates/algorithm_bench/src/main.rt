@@ -14,7 +14,8 @@ use std::{env, io};
 use updates::{Failure, Handle};
 
 const USAGE: &str = "usage: algorithm_bench NAME BYTES TURNS
-NAME is sha2, sha256, hmac, cmac, ecb, cbc, ctr, gcm, ccm or pbkdf2, or the update of an operation:
+NAME is sha2, sha256, hmac, cmac, ecb, ecb_decryption, cbc, cbc_decryption, ctr, gcm, ccm or pbkdf2, or the update
+of an operation:
 sha256_update, hmac_update, cmac_update, ctr_update, cbc_update, gcm_update or ccm_update.
 BYTES is a multiple of 16, from 16 to 65536.";
 

@@ -4,7 +4,7 @@ ghost use Rattle.crypto_specs.specs.Aes.{IsKey};
 
 use crate::jobs::Algorithm;
 use aes_core::AesKey;
-use cipher_modes::{cbc_encrypt, ctr_xor, ecb_encrypt};
+use cipher_modes::{cbc_decrypt, cbc_encrypt, ctr_xor, ecb_decrypt, ecb_encrypt};
 use cmac_ops::cmac;
 use hash_ops::Hash;
 use hash_ops::one_shot::hash;
@@ -35,7 +35,9 @@ fn turn(algorithm: Algorithm, key: &AesKey, text: &mut [u8], out: &mut [u8; 64])
         }
         Algorithm::Cmac => out[..16].copy_from_slice(&cmac(key, text)),
         Algorithm::Ecb => ecb_encrypt(key, text),
+        Algorithm::EcbDecryption => ecb_decrypt(key, text),
         Algorithm::Cbc => cbc_encrypt(key, &IV, text),
+        Algorithm::CbcDecryption => cbc_decrypt(key, &IV, text),
         Algorithm::Ctr => ctr_xor(key, &IV, text),
         Algorithm::Gcm => aead_gcm::seal(key, &NONCE, &[], text, &mut out[..16]),
         Algorithm::Ccm => aead_ccm::seal(key, &NONCE, &[], text, &mut out[..16]),
@@ -62,7 +64,11 @@ pub fn run(algorithm: Algorithm, text: &mut [u8], turns: usize) -> u64
         text[0] ^= out[0];
     }
     let output: &[u8] = match algorithm {
-        Algorithm::Ecb | Algorithm::Cbc | Algorithm::Ctr => text,
+        Algorithm::Ecb
+        | Algorithm::EcbDecryption
+        | Algorithm::Cbc
+        | Algorithm::CbcDecryption
+        | Algorithm::Ctr => text,
         _ => &out,
     };
     let mut front = [0; 8];
