@@ -1,5 +1,7 @@
 // A disk that fails each call, for tests.
-ghost use Rattle.std.specs.Prelude.{None, ⊤, ◌≡◌};
+ghost use Rattle.std.specs.Prelude.{None, ⊤, ◌≡◌, length, OnOk};
+ghost use Rattle.psa_status.specs.Causes.{HasCause};
+ghost use Rattle.disk_face.specs.Disk.{Follows, Grown, StillTells, Torn};
 
 use crate::Disk;
 use psa_status::Failed;
@@ -39,27 +41,46 @@ impl Disk for BrokenDisk {
 
     ghost faults = { λ disk. disk.faults };
 
-    fn len(&mut self) -> Result<u64, Failed> {
+    fn len(&mut self) -> Result<u64, Failed>
+        ensures fails { OnOk result ⊥ }
+        ensures cause { HasCause self.old.faults self.new.faults result }
+    {
         self.faults = self.faults.saturating_add(1);
         Err(Failed)
     }
 
-    fn read_at(&mut self, _place: u64, _out: &mut [u8]) -> Result<(), Failed> {
+    fn read_at(&mut self, _place: u64, _out: &mut [u8]) -> Result<(), Failed>
+        ensures fails { OnOk result ⊥ }
+        ensures cause { HasCause self.old.faults self.new.faults result }
+    {
         self.faults = self.faults.saturating_add(1);
         Err(Failed)
     }
 
-    fn write_at(&mut self, _place: u64, _bytes: &[u8]) -> Result<(), Failed> {
+    fn write_at(&mut self, _place: u64, _bytes: &[u8]) -> Result<(), Failed>
+        ensures fails { OnOk result ⊥ }
+        ensures tells { StillTells None None }
+        ensures crash { Follows (Torn _place (length _bytes.now)) (λ image. ⊤) (λ image. ⊤) }
+        ensures cause { HasCause self.old.faults self.new.faults result }
+    {
         self.faults = self.faults.saturating_add(1);
         Err(Failed)
     }
 
-    fn extend(&mut self, _length: u64) -> Result<(), Failed> {
+    fn extend(&mut self, _length: u64) -> Result<(), Failed>
+        ensures fails { OnOk result ⊥ }
+        ensures tells { StillTells None None }
+        ensures crash { Follows (Grown _length) (λ image. ⊤) (λ image. ⊤) }
+        ensures cause { HasCause self.old.faults self.new.faults result }
+    {
         self.faults = self.faults.saturating_add(1);
         Err(Failed)
     }
 
-    fn sync(&mut self) -> Result<(), Failed> {
+    fn sync(&mut self) -> Result<(), Failed>
+        ensures fails { OnOk result ⊥ }
+        ensures cause { HasCause self.old.faults self.new.faults result }
+    {
         self.faults = self.faults.saturating_add(1);
         Err(Failed)
     }
