@@ -13,7 +13,7 @@ ghost use Rattle.aead_states.specs.Holding.{HoldsAead};
 use crate::declared::{is_whole_ad, is_whole_payload};
 use crate::running::RunningAead;
 use algorithm_facts::tag_bytes;
-use operation_phase::{give, is_front};
+use operation_phase::{give_front, is_front};
 use psa_status::Status;
 
 impl RunningAead {
@@ -60,8 +60,8 @@ impl RunningAead {
     {
         self.check_whole(self.encrypts)?;
         let length = self.tag_length();
-        let whole = self.whole_tag();
-        give(&whole[..length], out)
+        let mut whole = self.whole_tag();
+        give_front(&mut whole, length, out)
     }
 
     // Compares the whole tag.

@@ -22,12 +22,17 @@ impl HmacKey {
     pub fn new(which: Hash, key: &[u8]) -> HmacKey
         ensures { IsHmacKey result which key.now }
     {
-        let block = key_block(which, key);
         let length = which.block_length();
+        let mut block = key_block(which, key);
+        let mut inner_pad = xored_with(&block, 0x36);
+        let mut outer_pad = xored_with(&block, 0x5c);
+        block.fill(0);
         let mut inner = HashState::new(which);
-        inner.update(&xored_with(&block, 0x36)[..length]);
+        inner.update(&inner_pad[..length]);
+        inner_pad.fill(0);
         let mut outer = HashState::new(which);
-        outer.update(&xored_with(&block, 0x5c)[..length]);
+        outer.update(&outer_pad[..length]);
+        outer_pad.fill(0);
         HmacKey { inner, outer }
     }
 

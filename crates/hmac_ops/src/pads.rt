@@ -26,7 +26,9 @@ pub fn key_block(which: Hash, key: &[u8]) -> [u8; 128]
     if key.len() > which.block_length() {
         let mut digest = [0u8; 64];
         let length = hash(which, key, &mut digest);
-        filled(&digest[..length])
+        let block = filled(&digest[..length]);
+        digest.fill(0);
+        block
     } else {
         filled(key)
     }

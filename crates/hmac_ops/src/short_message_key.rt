@@ -11,11 +11,11 @@ use hash_ops::Hash;
 use sha256_blocks::FirstBlock;
 
 // The first half of a block with room for the longest, which is a block of SHA-256.
-fn front(block: &[u8; 128]) -> [u8; 64]
-    ensures { result ≡ take 64 block.now }
+fn front(block: &[u8; 128]) -> &[u8; 64]
+    ensures { result.now ≡ take 64 block.now }
 {
     match block.first_chunk::<64>() {
-        Some(front) => *front,
+        Some(front) => front,
         None => unreachable!(),
     }
 }
@@ -33,21 +33,25 @@ impl ShortMessageKey {
     pub fn new(key: &[u8]) -> ShortMessageKey
         ensures { IsShortMessageKey result key.now }
     {
-        let block = key_block(Hash::Sha256, key);
-        let inner_pad = front(&xored_with(&block, 0x36));
-        let outer_pad = front(&xored_with(&block, 0x5c));
-        ShortMessageKey {
-            inner: FirstBlock::new(&inner_pad),
-            outer: FirstBlock::new(&outer_pad),
-        }
+        let mut block = key_block(Hash::Sha256, key);
+        let mut inner_pad = xored_with(&block, 0x36);
+        let mut outer_pad = xored_with(&block, 0x5c);
+        block.fill(0);
+        let inner = FirstBlock::new(front(&inner_pad));
+        inner_pad.fill(0);
+        let outer = FirstBlock::new(front(&outer_pad));
+        outer_pad.fill(0);
+        ShortMessageKey { inner, outer }
     }
 
     /// The authentication code of a message.
     pub fn code(&self, message: &[u8; 32]) -> [u8; 32]
         ensures { (key : List ℕ) → IsShortMessageKey self.now key → result ≡ hmac (hash_of Sha256) (block_length Sha256) key message.now }
     {
-        let digest = self.inner.digest_with(message);
-        self.outer.digest_with(&digest)
+        let mut digest = self.inner.digest_with(message);
+        let code = self.outer.digest_with(&digest);
+        digest.fill(0);
+        code
     }
 
     /// Forgets the key: the hash values are then zeros.

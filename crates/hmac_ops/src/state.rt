@@ -20,7 +20,10 @@ impl HmacState {
     pub fn new(which: Hash, key: &[u8]) -> HmacState
         ensures { HoldsHmac result which key.now [] }
     {
-        HmacKey::new(which, key).start()
+        let mut ready = HmacKey::new(which, key);
+        let state = ready.start();
+        ready.wipe();
+        state
     }
 
     /// Adds a piece to the message.
@@ -42,6 +45,7 @@ impl HmacState {
         let mut digest = [0u8; 64];
         let length = self.inner.finish(&mut digest);
         self.outer.update(&digest[..length]);
+        digest.fill(0);
         self.outer.finish(out)
     }
 

@@ -6,7 +6,7 @@ ghost use Rattle.mac_states.specs.Keyed.{has_key};
 
 use algorithm_facts::aes_key;
 use cmac_ops::CmacState;
-use operation_phase::put_front;
+use operation_phase::move_to_front;
 
 /// A CMAC that runs, or a wiped one.
 #[derive(Drop)]
@@ -55,7 +55,7 @@ impl CmacPart {
             return 0;
         }
         self.runs = false;
-        put_front(&self.state.finish(), out)
+        move_to_front(&mut self.state.finish(), out)
     }
 
     /// Forgets key and message.

@@ -17,7 +17,7 @@ use alg_encoding::Alg;
 use algorithm_facts::{hash_function, is_cmac, tag_bytes};
 use hash_ops::Hash;
 use hmac_ops::HmacState;
-use operation_phase::{give, is_front};
+use operation_phase::{give_front, is_front};
 use psa_status::Status;
 
 /// A message that is authenticated piece by piece: it stands for its pieces, one after another. Its MAC is made, or
@@ -120,7 +120,7 @@ impl RunningMac {
         }
         let mut mac = [0; 64];
         let length = self.put_mac(&mut mac);
-        give(&mac[..length], out)
+        give_front(&mut mac, length, out)
     }
 
     /// Compares the MAC of the message. `BadState` where it is made; `InvalidSignature` where a byte or the length

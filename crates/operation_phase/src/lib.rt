@@ -7,7 +7,7 @@ ghost use Rattle.operation_phase.specs.declared.Phase.TheVariants as phase;
 
 pub use comparing::is_front;
 pub use family::{Family, compute, drawn};
-pub use outputs::{give, put_front};
+pub use outputs::{give, give_front, move_to_front};
 use psa_status::Status;
 pub use state::{OperationState, Work};
 

@@ -1,5 +1,5 @@
 // Bytes at the front of a buffer.
-ghost use Rattle.std.specs.Prelude.{◌≡◌, ◌≤◌, IfOk, length, take};
+ghost use Rattle.std.specs.Prelude.{◌≡◌, ◌≤◌, IfOk, length, replicate, take};
 ghost use Rattle.std.specs.Result.{result_err};
 ghost use Rattle.psa_status.specs.Rows.{first_row};
 ghost use Rattle.store_model.specs.Call.{buffer_after};
@@ -23,12 +23,28 @@ pub fn give(bytes: &[u8], out: &mut [u8]) -> Result<usize, Status>
     Ok(bytes.len())
 }
 
-/// Writes bytes to the front of a buffer for any MAC, and answers how many they are.
-pub fn put_front(bytes: &[u8], out: &mut [u8; 64]) -> usize
-    requires { length bytes.now ≤ 64 }
-    ensures length { result ≡ length bytes.now }
-    ensures front { take result out.new ≡ bytes.now }
+/// Gives the first `count` bytes of what was computed as `give` does, and wipes what was computed whole.
+pub fn give_front(computed: &mut [u8], count: usize, out: &mut [u8]) -> Result<usize, Status>
+    requires { count ≤ length computed.old }
+    ensures refusal { result_err result ≡ first_row (room_rows (length (take count computed.old)) (length out.old)) }
+    ensures length { IfOk result (λ n. n ≡ length (take count computed.old)) }
+    ensures buffer { out.new ≡
+        buffer_after out.old (reply_unless (first_row (room_rows (length (take count computed.old)) (length out.old))) (given (take count computed.old))) }
+    ensures wiped { computed.new ≡ replicate (length computed.old) 0 }
+{
+    let given = give(&computed[..count], out);
+    computed.fill(0);
+    given
+}
+
+/// Moves bytes to the front of a buffer for any MAC, and answers how many they are. Where they stood is wiped.
+pub fn move_to_front(bytes: &mut [u8], out: &mut [u8; 64]) -> usize
+    requires { length bytes.old ≤ 64 }
+    ensures length { result ≡ length bytes.old }
+    ensures front { take result out.new ≡ bytes.old }
+    ensures wiped { bytes.new ≡ replicate (length bytes.old) 0 }
 {
     out[..bytes.len()].copy_from_slice(bytes);
+    bytes.fill(0);
     bytes.len()
 }

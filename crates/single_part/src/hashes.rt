@@ -8,7 +8,7 @@ ghost use Rattle.store_model.specs.Answers.{AnswersLength, plain_reply};
 use alg_encoding::{Alg, Class};
 use algorithm_facts::{check_class, hash_function};
 use hash_ops::one_shot::hash;
-use operation_phase::{give, is_front};
+use operation_phase::{give_front, is_front};
 use psa_status::Status;
 
 // Writes the hash of a message to the front of `out`, and answers its length.
@@ -29,7 +29,7 @@ pub fn hash_compute(alg: Alg, input: &[u8], out: &mut [u8]) -> Result<usize, Sta
     check_class(Class::Hash, alg)?;
     let mut own = [0; 64];
     let length = hash_message(alg, input, &mut own);
-    give(&own[..length], out)
+    give_front(&mut own, length, out)
 }
 
 /// Compares a hash with that of a message. `NotSupported` or `InvalidArgument` where the number names no hash, and

@@ -12,7 +12,7 @@ use alg_encoding::Alg;
 use algorithm_facts::{TOTAL_LIMIT, aes_key, hash_function, is_cmac, tag_bytes};
 use cmac_ops::cmac;
 use hmac_ops::hmac;
-use operation_phase::{give, is_front, put_front};
+use operation_phase::{give_front, is_front, move_to_front};
 use psa_status::Status;
 
 // Writes CMAC's whole MAC of a message to the front of `out`, and answers its length.
@@ -22,9 +22,9 @@ fn put_cmac(key: &[u8], message: &[u8], out: &mut [u8; 64]) -> usize
     ensures mac { take result out.new ≡ cmac (aes_encrypt key.now) message.now }
 {
     let mut aes = aes_key(key);
-    let tag = cmac(&aes, message);
+    let mut tag = cmac(&aes, message);
     aes.wipe();
-    put_front(&tag, out)
+    move_to_front(&mut tag, out)
 }
 
 // Writes the whole MAC of a message to the front of `out`, and answers its length.
@@ -66,7 +66,7 @@ pub fn mac_compute(alg: Alg, key: &[u8], input: &[u8], out: &mut [u8]) -> Result
     }
     let mut mac = [0; 64];
     let length = put_mac(alg, key, input, &mut mac);
-    give(&mac[..length], out)
+    give_front(&mut mac, length, out)
 }
 
 /// Compares a MAC with that of a message. `InvalidArgument` where the message is longer than 2^32 - 1 bytes, and

@@ -11,11 +11,11 @@ returns-then-key-block_length c =
     let key = c.args.key.now in
     let bounds = length_bounds which in
     let long : length (hash_of which key) ≤ block_length which = omega (arith, length-hash_of which key, bounds.0) in
-    ap (take (block_length which)) (c.filled.ensures ∙ ap (filled 128) c.hash-length.ensures.digest)
+    ap (take (block_length which)) (c.filled-block.ensures ∙ ap (filled 128) c.hash-length.ensures.digest)
     ∙ key_block_long (hash_of which) (block_length which) key _ bounds.1 (omega arith) refl long
 
 pub returns-else-key-block_length : goal.returns-else-key-block_length
 returns-else-key-block_length c =
     let which = c.args.which in
-    ap (take (block_length which)) c.filled-else-key-block_length.ensures
+    ap (take (block_length which)) c.filled.ensures
     ∙ key_block_short (hash_of which) (block_length which) c.args.key.now (length_bounds which).1 (omega arith)

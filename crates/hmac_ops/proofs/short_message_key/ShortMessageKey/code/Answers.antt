@@ -12,5 +12,5 @@ returns c = λ key held.
     let hash : List ℕ → List ℕ = hash_of Sha256 in
     let fits : (m : List ℕ) → length (hash m) ≤ 64 = λ m. omega (arith, length-hash_of Sha256 m) in
     let inner = c.digest_with-digest.ensures (inner_pad hash 64 key) (length-pad hash 64 key 0x36 fits) held.inner in
-    let outer = c.digest_with.ensures (outer_pad hash 64 key) (length-pad hash 64 key 0x5c fits) held.outer in
+    let outer = c.digest_with-code.ensures (outer_pad hash 64 key) (length-pad hash 64 key 0x5c fits) held.outer in
     outer ∙ ap (λ (d : List ℕ). hash (outer_pad hash 64 key ++ d)) inner

@@ -7,6 +7,6 @@ pub returns : goal.returns
 returns c =
     let after = compress initial_hash_256 in
     record {
-      inner = record { hash_value = c.new.ensures.hash_value ∙ ap after (c.front-inner_pad.ensures ∙ pad_of 64 _ _ _ 0x36 c.key_block-block.ensures c.xored_with.ensures) };
-      outer = record { hash_value = c.new-2.ensures.hash_value ∙ ap after (c.front-outer_pad.ensures ∙ pad_of 64 _ _ _ 0x5c c.key_block-block.ensures c.xored_with-2.ensures) };
+      inner = record { hash_value = c.new-inner.ensures.hash_value ∙ ap after (c.front.ensures ∙ pad_of 64 _ _ _ 0x36 c.key_block-block.ensures c.xored_with-inner_pad.ensures) };
+      outer = record { hash_value = c.new-outer.ensures.hash_value ∙ ap after (c.front-2.ensures ∙ pad_of 64 _ _ _ 0x5c c.key_block-block.ensures c.xored_with-outer_pad.ensures) };
     }
