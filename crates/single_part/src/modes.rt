@@ -96,7 +96,10 @@ fn unpadded_length(text: &[u8]) -> Option<usize>
         (λ kept. (kept ≤ length text.now) × (pkcs7_unpadded text.now ≡ Some (take kept text.now))) }
 {
     let (front, last) = text.split_at(text.len() - 16);
-    match unpad(&block_of(last)) {
+    let mut block = block_of(last);
+    let unpadded = unpad(&block);
+    block.fill(0);
+    match unpadded {
         Some(kept) => Some(front.len() + kept),
         None => None,
     }
