@@ -5,7 +5,6 @@ ghost use Rattle.psa_status.specs.Causes.{Rose};
 ghost use Rattle.outside_io.specs.Causes.{text_limit, TellsAsBefore};
 ghost use Rattle.script_lang.specs.declared.faults.ScriptFault.{ScriptFault};
 ghost use Rattle.script_lang.specs.declared.faults.ScriptFault.TheVariants as faults;
-ghost use Rattle.script_lang.specs.Limits.{IsWellFormed};
 ghost use Rattle.script_lang.specs.Lines.{script_of, IsOfSession};
 ghost use Rattle.psa_command.specs.Ends.{AreWords, Answered, PartlyAnswered, IsBeforeWriting, IsReadToEnd, IsQuiet, status_of};
 
@@ -74,7 +73,6 @@ fn read_calls<S: Source>(alloc: Global, source: &mut S) -> Result<Script, Exit>
     ensures calls { IfOk result (λ script. IfSome (S.left source.old) (λ text. script_of text ≡ Ok script)) }
     ensures few { IfOk result (λ script. length script ≤ 20000) }
     ensures sessions { IfOk result (λ script. All IsOfSession script) }
-    ensures limits { IfOk result (λ script. All IsWellFormed script) }
     ensures early { IfErr result IsBeforeWriting }
     ensures end { MatchResult result (λ script. IsAtEnd (S.left source.new)) (λ exit. IsReadToEnd exit → IsAtEnd (S.left source.new)) }
     ensures long { IsErrOf result (Exit.Script faults.TooLong) → (bytes : List ℕ) × (length bytes ≡ text_limit + 1) × Consumes (S.left source.old) (S.left source.new) bytes }

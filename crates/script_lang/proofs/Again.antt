@@ -4,7 +4,7 @@ use Rattle.std.proofs.lemmas.List.{append-nil}
 use Rattle.std.specs.Prelude.{Some, Ok}
 use Rattle.script_lang.specs.Pieces.{cut_of, words}
 use Rattle.script_lang.specs.Steps.{◌>>=◌}
-use Rattle.script_lang.specs.Table.{Shape, shape_of, command_named}
+use Rattle.script_lang.specs.Shapes.{Shape}
 use Rattle.script_lang.specs.Fields.{Fields, field_name, field_named, is_allowed, has_field, read_field, read_fields}
 use Rattle.script_lang.specs.Lines.{Places, Read, no_words, with_word, read_fixed, parts_at, words_at, is_comment, line_at}
 use Rattle.script_lang.specs.Grammar.{IsField, AreFields, IsFixed, AreFixed, IsLine, IsStep, IsStepBy}
@@ -13,22 +13,8 @@ use Rattle.script_lang.specs.declared.fields.Field.{Field}
 use Rattle.script_lang.specs.declared.fields.Field.TheVariants as field
 use Rattle.script_lang.specs.declared.fields.FieldValue.{FieldValue}
 use Rattle.script_lang.specs.declared.fixed.Fixed.{Fixed}
-use Rattle.script_lang.specs.declared.commands.Command.{Command}
-use Rattle.script_lang.specs.declared.commands.Command.TheVariants as command
-use Rattle.script_lang.specs.declared.commands.HandleCommand.TheVariants as on_handle
-use Rattle.script_lang.specs.declared.commands.CreationCommand.TheVariants as creation
-use Rattle.script_lang.specs.declared.commands.KeyCommand.TheVariants as key
-use Rattle.script_lang.specs.declared.commands.HashCommand.TheVariants as hash
-use Rattle.script_lang.specs.declared.commands.MacCommand.TheVariants as mac
-use Rattle.script_lang.specs.declared.commands.CipherCommand.TheVariants as cipher
-use Rattle.script_lang.specs.declared.commands.AeadCommand.TheVariants as aead
-use Rattle.script_lang.specs.declared.commands.HashStepCommand.TheVariants as hash_step
-use Rattle.script_lang.specs.declared.commands.MacStepCommand.TheVariants as mac_step
-use Rattle.script_lang.specs.declared.commands.CipherStepCommand.TheVariants as cipher_step
-use Rattle.script_lang.specs.declared.commands.AeadStepCommand.TheVariants as aead_step
-use Rattle.script_lang.specs.declared.commands.DerivationStepCommand.TheVariants as derivation_step
-use Rattle.script_lang.specs.declared.table.Kind.{Kind}
-use Rattle.script_lang.specs.declared.table.Kind.TheVariants as kind
+use Rattle.script_lang.specs.declared.commands.Kind.{Kind}
+use Rattle.script_lang.specs.declared.commands.Kind.TheVariants as kind
 
 -- a field's name is cut before its `=`, and names that field alone
 pub cut_name : (f : Field) (text : List ℕ) → cut_of 61 (field_name f ++ 61 ∷ text) ≡ Some (field_name f, text)
@@ -75,57 +61,6 @@ field_again field.Value = refl
 field_again field.Length = refl
 field_again field.Step = refl
 
--- a command's word names that command alone
-pub command_again : (c : Command) → command_named (shape_of c).word ≡ Some c
-command_again (command.Create creation.Import) = refl
-command_again (command.Create creation.Copy) = refl
-command_again (command.Create creation.Generate) = refl
-command_again (command.Key key.Destroy) = refl
-command_again (command.Key key.Attributes) = refl
-command_again (command.Key key.Export) = refl
-command_again (command.Hash hash.Compute) = refl
-command_again (command.Hash hash.Compare) = refl
-command_again (command.Mac mac.Compute) = refl
-command_again (command.Mac mac.Verify) = refl
-command_again (command.Cipher cipher.Encrypt) = refl
-command_again (command.Cipher cipher.Decrypt) = refl
-command_again (command.Aead aead.Encrypt) = refl
-command_again (command.Aead aead.Decrypt) = refl
-command_again (command.OnHandle (on_handle.Hash hash_step.Setup)) = refl
-command_again (command.OnHandle (on_handle.Hash hash_step.Update)) = refl
-command_again (command.OnHandle (on_handle.Hash hash_step.Finish)) = refl
-command_again (command.OnHandle (on_handle.Hash hash_step.Verify)) = refl
-command_again (command.OnHandle (on_handle.Mac mac_step.SignSetup)) = refl
-command_again (command.OnHandle (on_handle.Mac mac_step.VerifySetup)) = refl
-command_again (command.OnHandle (on_handle.Mac mac_step.Update)) = refl
-command_again (command.OnHandle (on_handle.Mac mac_step.SignFinish)) = refl
-command_again (command.OnHandle (on_handle.Mac mac_step.VerifyFinish)) = refl
-command_again (command.OnHandle (on_handle.Cipher cipher_step.EncryptSetup)) = refl
-command_again (command.OnHandle (on_handle.Cipher cipher_step.DecryptSetup)) = refl
-command_again (command.OnHandle (on_handle.Cipher cipher_step.GenerateIv)) = refl
-command_again (command.OnHandle (on_handle.Cipher cipher_step.SetIv)) = refl
-command_again (command.OnHandle (on_handle.Cipher cipher_step.Update)) = refl
-command_again (command.OnHandle (on_handle.Cipher cipher_step.Finish)) = refl
-command_again (command.OnHandle (on_handle.Aead aead_step.EncryptSetup)) = refl
-command_again (command.OnHandle (on_handle.Aead aead_step.DecryptSetup)) = refl
-command_again (command.OnHandle (on_handle.Aead aead_step.GenerateNonce)) = refl
-command_again (command.OnHandle (on_handle.Aead aead_step.SetNonce)) = refl
-command_again (command.OnHandle (on_handle.Aead aead_step.SetLengths)) = refl
-command_again (command.OnHandle (on_handle.Aead aead_step.UpdateAd)) = refl
-command_again (command.OnHandle (on_handle.Aead aead_step.Update)) = refl
-command_again (command.OnHandle (on_handle.Aead aead_step.Finish)) = refl
-command_again (command.OnHandle (on_handle.Aead aead_step.Verify)) = refl
-command_again (command.OnHandle (on_handle.Derivation derivation_step.Setup)) = refl
-command_again (command.OnHandle (on_handle.Derivation derivation_step.GetCapacity)) = refl
-command_again (command.OnHandle (on_handle.Derivation derivation_step.SetCapacity)) = refl
-command_again (command.OnHandle (on_handle.Derivation derivation_step.InputBytes)) = refl
-command_again (command.OnHandle (on_handle.Derivation derivation_step.InputInteger)) = refl
-command_again (command.OnHandle (on_handle.Derivation derivation_step.InputKey)) = refl
-command_again (command.OnHandle (on_handle.Derivation derivation_step.OutputBytes)) = refl
-command_again (command.OnHandle (on_handle.Derivation derivation_step.OutputKey)) = refl
-command_again (command.OnHandle (on_handle.Derivation derivation_step.VerifyBytes)) = refl
-command_again (command.OnHandle on_handle.Abort) = refl
-
 pub one_again : (row : Shape) (done : Fields) (w : List ℕ) (f : Field × FieldValue) → IsField w f → is_allowed row f.0 ≡ true → has_field done f.0 ≡ false → read_field row done w ≡ Ok f
 unfolding read_field
 one_again row done w f p allowed new = rw (p.1, cut_name f.0 p.0, field_again f.0, allowed, new, value_again f.0 p.0 f.1 p.2) refl
@@ -159,9 +94,9 @@ words_again read next ws l =
     rw (
       l.line,
       session_again l.session_word l.session l.is_session,
-      command_again l.command,
-      fixed_again (read.places l.session) (shape_of l.command).fixed no_words l.fixed_words l.field_words l.fixed l.are_fixed,
-      fields_again (shape_of l.command) [] l.field_words l.fields l.are_fields,
+      l.is_row,
+      fixed_again (read.places l.session) l.row.fixed no_words l.fixed_words l.field_words l.fixed l.are_fixed,
+      fields_again l.row [] l.field_words l.fields l.are_fields,
       l.all,
       l.after,
     ) refl

@@ -7,8 +7,8 @@ mod OutsideAgain
 mod OutsideMeans
 mod Rows
 mod States
+mod Table
 mod TextLines
 mod Texts
 mod Whole
 mod WholeMeans
-mod Within

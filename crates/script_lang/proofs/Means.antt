@@ -6,11 +6,10 @@ use Rattle.std.proofs.lemmas.Bool.Decides.{nat_tests}
 use Rattle.std.proofs.lemmas.Slice.Eq.{bytes_eq-Decides}
 use Rattle.script_lang.specs.Pieces.{cut_of, onto_front, words}
 use Rattle.script_lang.specs.Steps.{◌>>=◌, demand, some_or}
-use Rattle.script_lang.specs.Commands.{commands}
-use Rattle.script_lang.specs.Table.{Shape, shape_of, has_word, command_named}
-use Rattle.script_lang.specs.Calls.{call_of}
+use Rattle.script_lang.specs.Shapes.{Shape}
+use Rattle.script_lang.specs.Commands.{rows, has_word, row_named, IsRow}
 use Rattle.script_lang.specs.Fields.{Fields, all_fields, has_name, field_name, field_named, field_value, is_allowed, has_field, has_required, read_field, read_fields}
-use Rattle.script_lang.specs.Lines.{Places, Read, is_name, key_at, handle_at, session_of, no_words, with_word, read_fixed, with_call, parts_at, words_at, is_comment, line_at}
+use Rattle.script_lang.specs.Lines.{call_of, Places, Read, is_name, key_at, handle_at, session_of, no_words, with_word, read_fixed, with_call, parts_at, words_at, is_comment, line_at}
 use Rattle.script_lang.specs.Grammar.{IsField, AreFields, IsFixed, AreFixed, IsLine, IsStep, IsStepBy}
 use Rattle.script_lang.proofs.Texts.{some_is, fine, fine_is, some_or_ok, name_means, key_means, handle_means, value_means, session_means}
 use Rattle.script_lang.specs.declared.faults.Reason.{Reason}
@@ -19,9 +18,8 @@ use Rattle.script_lang.specs.declared.fields.Field.{Field}
 use Rattle.script_lang.specs.declared.fields.FieldValue.{FieldValue}
 use Rattle.script_lang.specs.declared.fixed.Fixed.{Fixed}
 use Rattle.script_lang.specs.declared.script.ScriptCall.{ScriptCall}
-use Rattle.script_lang.specs.declared.commands.Command.{Command}
-use Rattle.script_lang.specs.declared.table.Kind.{Kind}
-use Rattle.script_lang.specs.declared.table.Kind.TheVariants as kind
+use Rattle.script_lang.specs.declared.commands.Kind.{Kind}
+use Rattle.script_lang.specs.declared.commands.Kind.TheVariants as kind
 
 pub bind_ok : {A B : Type 0} (r : Result A Reason) (f : A → Result B Reason) (y : B) → (r >>= f) ≡ Ok y → (x : A) × (r ≡ Ok x) × (f x ≡ Ok y)
 bind_ok (Ok x) f y e = (x, refl, e)
@@ -123,28 +121,28 @@ fixed_read places (k ∷ ks) fixed (w ∷ ws) p e =
     (w ∷ r.0, ap (λ (xs : List (List ℕ)). w ∷ xs) r.1, (a.0, word_read places k fixed w a.0 a.1, r.2))
 
 -- the words after a command
-record AreParts (places : Places) (command : Command) (ws : List (List ℕ)) (parts : Option (List ℕ) × ScriptCall) : Type 0 where
+record AreParts (places : Places) (row : Shape) (ws : List (List ℕ)) (parts : Option (List ℕ) × ScriptCall) : Type 0 where
   fixed : Fixed
   fields : Fields
   fixed_words : List (List ℕ)
   field_words : List (List ℕ)
   joined : ws ≡ fixed_words ++ field_words
-  are_fixed : AreFixed places (shape_of command).fixed no_words fixed_words fixed
-  are_fields : AreFields (shape_of command) [] field_words fields
-  all : has_required (shape_of command) fields ≡ true
-  said : (fixed.name, call_of command fixed fields) ≡ parts
+  are_fixed : AreFixed places row.fixed no_words fixed_words fixed
+  are_fields : AreFields row [] field_words fields
+  all : has_required row fields ≡ true
+  said : (fixed.name, call_of row fixed fields) ≡ parts
 
-abbrev pub said_by : Command → Fixed → Fields → Option (List ℕ) × ScriptCall
-said_by command fixed fields = (fixed.name, call_of command fixed fields)
+abbrev pub said_by : Shape → Fixed → Fields → Option (List ℕ) × ScriptCall
+said_by row fixed fields = (fixed.name, call_of row fixed fields)
 
-parts_read : (places : Places) (command : Command) (ws : List (List ℕ)) (parts : Option (List ℕ) × ScriptCall) → parts_at places command ws ≡ Ok parts → AreParts places command ws parts
+parts_read : (places : Places) (row : Shape) (ws : List (List ℕ)) (parts : Option (List ℕ) × ScriptCall) → parts_at places row ws ≡ Ok parts → AreParts places row ws parts
 unfolding parts_at
-parts_read places command ws parts e =
-    let a = bind_ok (read_fixed places (shape_of command).fixed no_words ws) (λ fixed. read_fields (shape_of command) [] fixed.1 >>= λ fs. demand (has_required (shape_of command) fs) MissingField >>= λ _. Ok (said_by command fixed.0 fs)) parts e in
-    let b = bind_ok (read_fields (shape_of command) [] a.0.1) (λ fs. demand (has_required (shape_of command) fs) MissingField >>= λ _. Ok (said_by command a.0.0 fs)) parts a.2 in
-    let c = bind_ok (demand (has_required (shape_of command) b.0) MissingField) (λ _. Ok (said_by command a.0.0 b.0)) parts b.2 in
-    let f = fixed_read places (shape_of command).fixed no_words ws a.0 a.1 in
-    let g = fields_read (shape_of command) [] b.0 a.0.1 b.1 in
+parts_read places row ws parts e =
+    let a = bind_ok (read_fixed places row.fixed no_words ws) (λ fixed. read_fields row [] fixed.1 >>= λ fs. demand (has_required row fs) MissingField >>= λ _. Ok (said_by row fixed.0 fs)) parts e in
+    let b = bind_ok (read_fields row [] a.0.1) (λ fs. demand (has_required row fs) MissingField >>= λ _. Ok (said_by row a.0.0 fs)) parts a.2 in
+    let c = bind_ok (demand (has_required row b.0) MissingField) (λ _. Ok (said_by row a.0.0 b.0)) parts b.2 in
+    let f = fixed_read places row.fixed no_words ws a.0 a.1 in
+    let g = fields_read row [] b.0 a.0.1 b.1 in
     record {
       fixed = a.0.0;
       fields = b.0;
@@ -152,13 +150,18 @@ parts_read places command ws parts e =
       field_words = a.0.1;
       joined = f.1;
       are_fixed = f.2;
-      are_fields = subst (AreFields (shape_of command) [] a.0.1) (sym g.1) g.2;
-      all = demand_ok (has_required (shape_of command) b.0) MissingField c.0 c.1;
-      said = fine_is (said_by command a.0.0 b.0) parts c.2;
+      are_fields = subst (AreFields row [] a.0.1) (sym g.1) g.2;
+      all = demand_ok (has_required row b.0) MissingField c.0 c.1;
+      said = fine_is (said_by row a.0.0 b.0) parts c.2;
     }
 
-pub named_read : (name : List ℕ) (c : Command) → command_named name ≡ Some c → (shape_of c).word ≡ name
-named_read name c e = (bytes_eq-Decides (shape_of c).word name).0 (find_test (has_word name) commands c e)
+pub named_read : (name : List ℕ) (row : Shape) → row_named name ≡ Some row → row.word ≡ name
+unfolding row_named
+named_read name row e = (bytes_eq-Decides row.word name).0 (find_test (has_word name) rows row e)
+
+-- what is found under a word is a row
+pub row_read : (name : List ℕ) (row : Shape) → row_named name ≡ Some row → IsRow row
+row_read name row e = ap row_named (named_read name row e) ∙ e
 
 line_joined : (w word name : List ℕ) (ws front back : List (List ℕ)) → word ≡ name → ws ≡ front ++ back → w ∷ name ∷ ws ≡ w ∷ word ∷ front ++ back
 line_joined w word name ws front back e h = ap (λ (n : List ℕ). w ∷ n ∷ ws) (sym e) ∙ ap (λ (xs : List (List ℕ)). w ∷ word ∷ xs) h
@@ -175,20 +178,21 @@ line_read read next w [] e =
     no : Err UnknownCommand ≡ fine next → ⊥
     no e = cc
 line_read read next w (name ∷ ws) e =
-    let a = bind_ok (some_or BadSession (session_of w)) (λ s. some_or UnknownCommand (command_named name) >>= λ c. parts_at (read.places s) c ws >>= λ parts. Ok (with_call read s parts.0 parts.1)) next e in
-    let c = bind_ok (some_or UnknownCommand (command_named name)) (λ c. parts_at (read.places a.0) c ws >>= λ parts. Ok (with_call read a.0 parts.0 parts.1)) next a.2 in
+    let a = bind_ok (some_or BadSession (session_of w)) (λ s. some_or UnknownCommand (row_named name) >>= λ c. parts_at (read.places s) c ws >>= λ parts. Ok (with_call read s parts.0 parts.1)) next e in
+    let c = bind_ok (some_or UnknownCommand (row_named name)) (λ c. parts_at (read.places a.0) c ws >>= λ parts. Ok (with_call read a.0 parts.0 parts.1)) next a.2 in
     let p = bind_ok (parts_at (read.places a.0) c.0 ws) (λ parts. Ok (with_call read a.0 parts.0 parts.1)) next c.2 in
     let r = parts_read (read.places a.0) c.0 ws p.0 p.1 in
     record {
       session = a.0;
-      command = c.0;
+      row = c.0;
       fixed = r.fixed;
       fields = r.fields;
       session_word = w;
       fixed_words = r.fixed_words;
       field_words = r.field_words;
+      is_row = row_read name c.0 (some_or_ok UnknownCommand (row_named name) c.0 c.1);
       is_session = session_means w a.0 (some_or_ok BadSession (session_of w) a.0 a.1);
-      line = line_joined w (shape_of c.0).word name ws r.fixed_words r.field_words (named_read name c.0 (some_or_ok UnknownCommand (command_named name) c.0 c.1)) r.joined;
+      line = line_joined w c.0.word name ws r.fixed_words r.field_words (named_read name c.0 (some_or_ok UnknownCommand (row_named name) c.0 c.1)) r.joined;
       are_fixed = r.are_fixed;
       are_fields = r.are_fields;
       all = r.all;

@@ -5,14 +5,15 @@ use Rattle.std.proofs.lemmas.Bool.Decides.{nat_tests}
 use Rattle.script_lang.specs.Numbers.{number}
 use Rattle.script_lang.specs.Pieces.{cut_of, words, text_lines}
 use Rattle.script_lang.specs.Steps.{◌>>=◌, demand, some_or}
-use Rattle.script_lang.specs.Table.{Shape, shape_of, command_named}
+use Rattle.script_lang.specs.Shapes.{Shape}
+use Rattle.script_lang.specs.Commands.{row_named}
 use Rattle.script_lang.specs.Fields.{Fields, field_name, field_named, field_value, is_allowed, has_field, has_required, read_field, read_fields}
 use Rattle.script_lang.specs.Lines.{Places, Read, nothing_read, no_words, is_name, key_at, handle_at, with_word, read_fixed, session_of, parts_at, words_at, line_at, goes_on, lines_at, script_of, with_call}
 use Rattle.script_lang.specs.Grammar.{IsValue, IsHandle, AreSteps}
 use Rattle.script_lang.specs.Outside.{IsBadFixed, AreBadFixed, IsBadValue, IsBadField, AreBadFields, AreBadAfter, IsBadCommand, AreBadWords, IsBadLine, IsFault}
 use Rattle.script_lang.proofs.Texts.{given, number_means, name_means, name_again, handle_means, value_means, session_means, session_again, and_true}
-use Rattle.script_lang.proofs.Means.{made, cut_joined, field_named_is, named_read, said_by}
-use Rattle.script_lang.proofs.Again.{cut_name, field_again, command_again, one_again, word_again, fixed_again, line_again}
+use Rattle.script_lang.proofs.Means.{made, cut_joined, field_named_is, named_read, row_read, said_by}
+use Rattle.script_lang.proofs.Again.{cut_name, field_again, one_again, word_again, fixed_again, line_again}
 use Rattle.script_lang.proofs.OutsideMeans.{handle_err, value_err, after_name, after_session}
 use Rattle.script_lang.proofs.WholeMeans.{not_more}
 use Rattle.script_lang.specs.declared.faults.Reason.{Reason}
@@ -24,9 +25,8 @@ use Rattle.script_lang.specs.declared.fields.Field.{Field}
 use Rattle.script_lang.specs.declared.fields.FieldValue.{FieldValue}
 use Rattle.script_lang.specs.declared.fixed.Fixed.{Fixed}
 use Rattle.script_lang.specs.declared.script.KeyWord.TheVariants.{Line}
-use Rattle.script_lang.specs.declared.commands.Command.{Command}
-use Rattle.script_lang.specs.declared.table.Kind.{Kind}
-use Rattle.script_lang.specs.declared.table.Kind.TheVariants as kind
+use Rattle.script_lang.specs.declared.commands.Kind.{Kind}
+use Rattle.script_lang.specs.declared.commands.Kind.TheVariants as kind
 
 no_such : {X : Type 0} (o : Option X) → ((x : X) → o ≡ Some x → ⊥) → o ≡ None
 no_such None never = refl
@@ -142,16 +142,16 @@ regroup row (Err d) f r e = ap Err (wrong_same d r e)
 
 -- the words after a command
 
-parts_unread : (places : Places) (command : Command) (ws : List (List ℕ)) (r : Reason) →
-    AreBadFixed places (shape_of command).fixed no_words ws r ⊎ AreBadAfter places (shape_of command) ws r → parts_at places command ws ≡ Err r
+parts_unread : (places : Places) (row : Shape) (ws : List (List ℕ)) (r : Reason) →
+    AreBadFixed places row.fixed no_words ws r ⊎ AreBadAfter places row ws r → parts_at places row ws ≡ Err r
 unfolding parts_at
-parts_unread places command ws r (inl h) =
-    ap (λ x. x >>= λ fixed. read_fields (shape_of command) [] fixed.1 >>= λ fs. demand (has_required (shape_of command) fs) MissingField >>= λ _. Ok (said_by command fixed.0 fs))
-    (fixed_unread places (shape_of command).fixed no_words ws r h)
-parts_unread places command ws r (inr h) =
-    ap (λ x. x >>= λ fixed. read_fields (shape_of command) [] fixed.1 >>= λ fs. demand (has_required (shape_of command) fs) MissingField >>= λ _. Ok (said_by command fixed.0 fs))
-    (ap (read_fixed places (shape_of command).fixed no_words) h.joined ∙ fixed_again places (shape_of command).fixed no_words h.fixed_words h.field_words h.fixed h.are_fixed)
-    ∙ regroup (shape_of command) (read_fields (shape_of command) [] h.field_words) (said_by command h.fixed) r (fields_unread (shape_of command) [] h.field_words r h.are_bad)
+parts_unread places row ws r (inl h) =
+    ap (λ x. x >>= λ fixed. read_fields row [] fixed.1 >>= λ fs. demand (has_required row fs) MissingField >>= λ _. Ok (said_by row fixed.0 fs))
+    (fixed_unread places row.fixed no_words ws r h)
+parts_unread places row ws r (inr h) =
+    ap (λ x. x >>= λ fixed. read_fields row [] fixed.1 >>= λ fs. demand (has_required row fs) MissingField >>= λ _. Ok (said_by row fixed.0 fs))
+    (ap (read_fixed places row.fixed no_words) h.joined ∙ fixed_again places row.fixed no_words h.fixed_words h.field_words h.fixed h.are_fixed)
+    ∙ regroup row (read_fields row [] h.field_words) (said_by row h.fixed) r (fields_unread row [] h.field_words r h.are_bad)
 
 -- lines
 
@@ -159,12 +159,12 @@ command_unread : (read : Read) (s : ℕ) (ws : List (List ℕ)) (r : Reason) →
 command_unread read s [] r h = ap Err (sym h)
 command_unread read s (name ∷ ws) r (inl h) =
     ap (λ o. some_or UnknownCommand o >>= λ c. parts_at (read.places s) c ws >>= λ parts. Ok (with_call read s parts.0 parts.1))
-    (no_such (command_named name) (λ c e. h.1 c (named_read name c e)))
+    (no_such (row_named name) (λ c e. h.1 c (row_read name c e) (named_read name c e)))
     ∙ ap Err (sym h.0)
 command_unread read s (name ∷ ws) r (inr h) =
     ap (λ o. some_or UnknownCommand o >>= λ c. parts_at (read.places s) c ws >>= λ parts. Ok (with_call read s parts.0 parts.1))
-    (ap command_named (sym h.1) ∙ command_again h.0)
-    ∙ ap (λ x. x >>= λ parts. Ok (with_call read s parts.0 parts.1)) (parts_unread (read.places s) h.0 ws r h.2)
+    (ap row_named (sym h.2) ∙ h.1)
+    ∙ ap (λ x. x >>= λ parts. Ok (with_call read s parts.0 parts.1)) (parts_unread (read.places s) h.0 ws r h.3)
 
 words_unread : (read : Read) (ws : List (List ℕ)) (r : Reason) → AreBadWords read ws r → words_at read ws ≡ Err r
 unfolding words_at

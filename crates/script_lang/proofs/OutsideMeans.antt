@@ -6,14 +6,15 @@ use Rattle.script_lang.specs.Numbers.{number}
 use Rattle.script_lang.specs.Pieces.{cut_of, words, text_lines}
 use Rattle.hex.specs.Hex.{decode_of}
 use Rattle.script_lang.specs.Steps.{◌>>=◌, demand, some_or, first_or, rest_of}
-use Rattle.script_lang.specs.Table.{Shape, shape_of, command_named}
+use Rattle.script_lang.specs.Shapes.{Shape}
+use Rattle.script_lang.specs.Commands.{row_named}
 use Rattle.script_lang.specs.Fields.{Form, ShortForm, WordForm, LongForm, BytesForm, form_of, form_value, from_least, bytes_or_none, bytes_value, Fields, field_name, field_named, field_value, is_allowed, has_field, has_required, read_field, read_fields}
 use Rattle.script_lang.specs.Lines.{Places, Read, nothing_read, no_words, is_name, key_at, handle_at, with_word, read_fixed, session_of, parts_at, words_at, is_comment, line_at, goes_on, lines_at, script_of, with_call}
 use Rattle.script_lang.specs.Grammar.{IsHandle, AreSteps}
 use Rattle.script_lang.specs.Outside.{IsBadFixed, AreBadFixed, IsBadValue, IsBadField, AreBadFields, AreBadAfter, IsBadCommand, AreBadWords, IsBadLine, IsFault}
 use Rattle.script_lang.proofs.Texts.{some_is, fine_is, number_again, name_means, name_again, handle_again, value_again, session_means, session_again, some_or_ok, and_true, given}
-use Rattle.script_lang.proofs.Means.{made, bind_ok, demand_ok, cut_joined, field_read, field_named_is, word_read, fixed_read, named_read, said_by, line_means}
-use Rattle.script_lang.proofs.Again.{cut_name, field_again, command_again}
+use Rattle.script_lang.proofs.Means.{made, bind_ok, demand_ok, cut_joined, field_read, field_named_is, word_read, fixed_read, named_read, row_read, said_by, line_means}
+use Rattle.script_lang.proofs.Again.{cut_name, field_again}
 use Rattle.script_lang.specs.declared.faults.Reason.{Reason}
 use Rattle.script_lang.specs.declared.faults.Reason.TheVariants.{BadSession, UnknownCommand, MissingWord, BadHandle, BadName, BadKey, UnknownName, UnknownField, RepeatedField, BadValue, MissingField}
 use Rattle.script_lang.specs.declared.faults.ScriptFault.{ScriptFault}
@@ -24,9 +25,8 @@ use Rattle.script_lang.specs.declared.fields.FieldValue.TheVariants.{Short, Word
 use Rattle.script_lang.specs.declared.fixed.Fixed.{Fixed}
 use Rattle.script_lang.specs.declared.script.KeyWord.TheVariants.{Line}
 use Rattle.script_lang.specs.declared.script.ScriptLine.{ScriptLine}
-use Rattle.script_lang.specs.declared.commands.Command.{Command}
-use Rattle.script_lang.specs.declared.table.Kind.{Kind}
-use Rattle.script_lang.specs.declared.table.Kind.TheVariants as kind
+use Rattle.script_lang.specs.declared.commands.Kind.{Kind}
+use Rattle.script_lang.specs.declared.commands.Kind.TheVariants as kind
 
 -- steps that fail
 
@@ -238,23 +238,23 @@ fields_bad row done (w ∷ ws) r (inr e) =
 
 -- the words after a command
 
-after_bad : (places : Places) (command : Command) (ws : List (List ℕ)) (p : Fixed × List (List ℕ)) (r : Reason) →
-    read_fixed places (shape_of command).fixed no_words ws ≡ Ok p → FieldsFail (shape_of command) [] p.1 r → AreBadAfter places (shape_of command) ws r
-after_bad places command ws p r e h =
-    let f = fixed_read places (shape_of command).fixed no_words ws p e in
-    record { fixed = p.0; fixed_words = f.0; field_words = p.1; joined = f.1; are_fixed = f.2; are_bad = fields_bad (shape_of command) [] p.1 r h }
+after_bad : (places : Places) (row : Shape) (ws : List (List ℕ)) (p : Fixed × List (List ℕ)) (r : Reason) →
+    read_fixed places row.fixed no_words ws ≡ Ok p → FieldsFail row [] p.1 r → AreBadAfter places row ws r
+after_bad places row ws p r e h =
+    let f = fixed_read places row.fixed no_words ws p e in
+    record { fixed = p.0; fixed_words = f.0; field_words = p.1; joined = f.1; are_fixed = f.2; are_bad = fields_bad row [] p.1 r h }
 
-parts_bad : (places : Places) (command : Command) (ws : List (List ℕ)) (r : Reason) → parts_at places command ws ≡ Err r →
-    AreBadFixed places (shape_of command).fixed no_words ws r ⊎ AreBadAfter places (shape_of command) ws r
+parts_bad : (places : Places) (row : Shape) (ws : List (List ℕ)) (r : Reason) → parts_at places row ws ≡ Err r →
+    AreBadFixed places row.fixed no_words ws r ⊎ AreBadAfter places row ws r
 unfolding parts_at
-parts_bad places command ws r e =
-    elim (bind_err (read_fixed places (shape_of command).fixed no_words ws) (λ fixed. read_fields (shape_of command) [] fixed.1 >>= λ fs. demand (has_required (shape_of command) fs) MissingField >>= λ _. Ok (said_by command fixed.0 fs)) r e) [
-      | inl h ↦ inl (fixed_bad places (shape_of command).fixed no_words ws r h)
-      | inr h ↦ elim (bind_err (read_fields (shape_of command) [] h.0.1) (λ fs. demand (has_required (shape_of command) fs) MissingField >>= λ _. Ok (said_by command h.0.0 fs)) r h.2) [
-        | inl k ↦ inr (after_bad places command ws h.0 r h.1 (inl k))
-        | inr k ↦ elim (bind_err (demand (has_required (shape_of command) k.0) MissingField) (λ _. Ok (said_by command h.0.0 k.0)) r k.2) [
-          | inl m ↦ let d = demand_err (has_required (shape_of command) k.0) MissingField r m in inr (after_bad places command ws h.0 r h.1 (inr (k.0, k.1, d.0, d.1)))
-          | inr m ↦ absurd (not_both (Ok (said_by command h.0.0 k.0)) (said_by command h.0.0 k.0) r refl m.2)
+parts_bad places row ws r e =
+    elim (bind_err (read_fixed places row.fixed no_words ws) (λ fixed. read_fields row [] fixed.1 >>= λ fs. demand (has_required row fs) MissingField >>= λ _. Ok (said_by row fixed.0 fs)) r e) [
+      | inl h ↦ inl (fixed_bad places row.fixed no_words ws r h)
+      | inr h ↦ elim (bind_err (read_fields row [] h.0.1) (λ fs. demand (has_required row fs) MissingField >>= λ _. Ok (said_by row h.0.0 fs)) r h.2) [
+        | inl k ↦ inr (after_bad places row ws h.0 r h.1 (inl k))
+        | inr k ↦ elim (bind_err (demand (has_required row k.0) MissingField) (λ _. Ok (said_by row h.0.0 k.0)) r k.2) [
+          | inl m ↦ let d = demand_err (has_required row k.0) MissingField r m in inr (after_bad places row ws h.0 r h.1 (inr (k.0, k.1, d.0, d.1)))
+          | inr m ↦ absurd (not_both (Ok (said_by row h.0.0 k.0)) (said_by row h.0.0 k.0) r refl m.2)
         ]
       ]
     ]
@@ -262,16 +262,16 @@ parts_bad places command ws r e =
 -- lines
 
 abbrev pub after_session : Read → ℕ → List (List ℕ) → Result Read Reason
-after_session read s ws = first_or UnknownCommand ws >>= λ name. some_or UnknownCommand (command_named name) >>= λ c. parts_at (read.places s) c (rest_of ws) >>= λ parts. Ok (with_call read s parts.0 parts.1)
+after_session read s ws = first_or UnknownCommand ws >>= λ name. some_or UnknownCommand (row_named name) >>= λ c. parts_at (read.places s) c (rest_of ws) >>= λ parts. Ok (with_call read s parts.0 parts.1)
 
 command_bad : (read : Read) (s : ℕ) (ws : List (List ℕ)) (r : Reason) → after_session read s ws ≡ Err r → IsBadCommand read s ws r
 command_bad read s [] r e = sym (wrong_is (Err UnknownCommand) UnknownCommand r refl e)
 command_bad read s (name ∷ ws) r e =
-    elim (bind_err (some_or UnknownCommand (command_named name)) (λ c. parts_at (read.places s) c ws >>= λ parts. Ok (with_call read s parts.0 parts.1)) r e) [
-      | inl h ↦ let n = some_or_err UnknownCommand r (command_named name) h in
-          inl (n.1, λ c is. not_some (command_named name) c n.0 (ap command_named (sym is) ∙ command_again c))
+    elim (bind_err (some_or UnknownCommand (row_named name)) (λ c. parts_at (read.places s) c ws >>= λ parts. Ok (with_call read s parts.0 parts.1)) r e) [
+      | inl h ↦ let n = some_or_err UnknownCommand r (row_named name) h in
+          inl (n.1, λ c row is. not_some (row_named name) c n.0 (ap row_named (sym is) ∙ row))
       | inr h ↦ elim (bind_err (parts_at (read.places s) h.0 ws) (λ parts. Ok (with_call read s parts.0 parts.1)) r h.2) [
-        | inl k ↦ inr (h.0, named_read name h.0 (some_or_ok UnknownCommand (command_named name) h.0 h.1), parts_bad (read.places s) h.0 ws r k)
+        | inl k ↦ let found = some_or_ok UnknownCommand (row_named name) h.0 h.1 in inr (h.0, row_read name h.0 found, named_read name h.0 found, parts_bad (read.places s) h.0 ws r k)
         | inr k ↦ absurd (not_both (Ok (with_call read s k.0.0 k.0.1)) (with_call read s k.0.0 k.0.1) r refl k.2)
       ]
     ]

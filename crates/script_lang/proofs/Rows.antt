@@ -6,7 +6,7 @@ use Rattle.script_lang.specs.declared.faults.LineError.TheVariants as errors
 use Rattle.script_lang.specs.declared.faults.Reason.{Reason}
 use Rattle.script_lang.specs.declared.fields.Field.{Field}
 use Rattle.script_lang.specs.declared.fields.FieldValue.{FieldValue}
-use Rattle.script_lang.specs.Table.{Shape}
+use Rattle.script_lang.specs.Shapes.{Shape}
 use Rattle.script_lang.specs.Fields.{Fields, read_field, read_fields}
 use Rattle.script_lang.specs.Steps.{Fails, ◌>>=◌}
 

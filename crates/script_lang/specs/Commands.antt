@@ -1,68 +1,179 @@
--- The commands of the grammar, by families.
-use Rattle.std.specs.Prelude.{List, [], ◌∷◌}
-use Rattle.script_lang.specs.declared.commands.CreationCommand.TheVariants as creation
-use Rattle.script_lang.specs.declared.commands.KeyCommand.TheVariants as key
-use Rattle.script_lang.specs.declared.commands.HashCommand.TheVariants as hash
-use Rattle.script_lang.specs.declared.commands.MacCommand.TheVariants as mac
-use Rattle.script_lang.specs.declared.commands.CipherCommand.TheVariants as cipher
-use Rattle.script_lang.specs.declared.commands.AeadCommand.TheVariants as aead
-use Rattle.script_lang.specs.declared.commands.HashStepCommand.TheVariants as hash_step
-use Rattle.script_lang.specs.declared.commands.MacStepCommand.TheVariants as mac_step
-use Rattle.script_lang.specs.declared.commands.CipherStepCommand.TheVariants as cipher_step
-use Rattle.script_lang.specs.declared.commands.AeadStepCommand.TheVariants as aead_step
-use Rattle.script_lang.specs.declared.commands.DerivationStepCommand.TheVariants as derivation_step
-use Rattle.script_lang.specs.declared.commands.HandleCommand.TheVariants as on_handle
+-- The commands: how each is written, a row each, and the call that its line makes.
+use Rattle.std.specs.Prelude.{ℕ, ◌≡◌, Bool, true, false, List, [], ◌∷◌, Option, Some, find, slice_index, codes}
+use Rattle.std.specs.Str.{bytes_eq}
+use Rattle.store_model.specs.Call as store
+use Rattle.store_model.specs.HandleCalls as operation
+use Rattle.store_model.specs.Requests.{Request, OnStore, OnHandle}
+use Rattle.store_model.specs.HashOperations.{HashUpdate, HashFinish, HashVerify}
+use Rattle.store_model.specs.MacOperations.{MacUpdate, MacSignFinish, MacVerifyFinish}
+use Rattle.store_model.specs.CipherOperations.{CipherGenerateIv, CipherSetIv, CipherUpdate, CipherFinish}
+use Rattle.store_model.specs.AeadOperations.{AeadGenerateNonce, AeadSetNonce, AeadSetLengths, AeadUpdateAd, AeadUpdate, AeadFinish, AeadVerify}
+use Rattle.store_model.specs.DerivationOperations.{GetCapacity, SetCapacity, InputBytes, InputInteger, OutputBytes, VerifyBytes}
+use Rattle.script_lang.specs.Shapes.{Shape, row}
+use Rattle.script_lang.specs.Fields.{Fields, alg_at, attributes_at, bytes_at, data_at, long_at, room_at, short_at}
+use Rattle.script_lang.specs.declared.store_commands.KeyCommand.{KeyCommand}
+use Rattle.script_lang.specs.declared.store_commands.KeyCommand.TheVariants as key
+use Rattle.script_lang.specs.declared.store_commands.SinglePartCommand.{SinglePartCommand}
+use Rattle.script_lang.specs.declared.store_commands.SinglePartCommand.TheVariants as single
+use Rattle.script_lang.specs.declared.operation_commands.HashCommand.{HashCommand}
+use Rattle.script_lang.specs.declared.operation_commands.HashCommand.TheVariants as hash
+use Rattle.script_lang.specs.declared.operation_commands.MacCommand.{MacCommand}
+use Rattle.script_lang.specs.declared.operation_commands.MacCommand.TheVariants as mac
+use Rattle.script_lang.specs.declared.operation_commands.CipherCommand.{CipherCommand}
+use Rattle.script_lang.specs.declared.operation_commands.CipherCommand.TheVariants as cipher
+use Rattle.script_lang.specs.declared.operation_commands.AeadCommand.{AeadCommand}
+use Rattle.script_lang.specs.declared.operation_commands.AeadCommand.TheVariants as aead
+use Rattle.script_lang.specs.declared.operation_commands.DerivationCommand.{DerivationCommand}
+use Rattle.script_lang.specs.declared.operation_commands.DerivationCommand.TheVariants as derivation
 use Rattle.script_lang.specs.declared.commands.Command.{Command}
 use Rattle.script_lang.specs.declared.commands.Command.TheVariants as command
+use Rattle.script_lang.specs.declared.commands.Kind.TheVariants as kind
+use Rattle.script_lang.specs.declared.fields.Field.TheVariants as field
+use Rattle.script_lang.specs.declared.script.KeyWord.{KeyWord}
+use Rattle.script_lang.specs.declared.script.KeyWord.TheVariants.{Given, Line}
+use Rattle.script_lang.specs.declared.script.ScriptCall.{ScriptCall}
 
-abbrev pub commands : List Command
-commands =
-    command.Create creation.Import
-    ∷ command.Create creation.Copy
-    ∷ command.Create creation.Generate
-    ∷ command.Key key.Destroy
-    ∷ command.Key key.Attributes
-    ∷ command.Key key.Export
-    ∷ command.Hash hash.Compute
-    ∷ command.Hash hash.Compare
-    ∷ command.Mac mac.Compute
-    ∷ command.Mac mac.Verify
-    ∷ command.Cipher cipher.Encrypt
-    ∷ command.Cipher cipher.Decrypt
-    ∷ command.Aead aead.Encrypt
-    ∷ command.Aead aead.Decrypt
-    ∷ command.OnHandle (on_handle.Hash hash_step.Setup)
-    ∷ command.OnHandle (on_handle.Hash hash_step.Update)
-    ∷ command.OnHandle (on_handle.Hash hash_step.Finish)
-    ∷ command.OnHandle (on_handle.Hash hash_step.Verify)
-    ∷ command.OnHandle (on_handle.Mac mac_step.SignSetup)
-    ∷ command.OnHandle (on_handle.Mac mac_step.VerifySetup)
-    ∷ command.OnHandle (on_handle.Mac mac_step.Update)
-    ∷ command.OnHandle (on_handle.Mac mac_step.SignFinish)
-    ∷ command.OnHandle (on_handle.Mac mac_step.VerifyFinish)
-    ∷ command.OnHandle (on_handle.Cipher cipher_step.EncryptSetup)
-    ∷ command.OnHandle (on_handle.Cipher cipher_step.DecryptSetup)
-    ∷ command.OnHandle (on_handle.Cipher cipher_step.GenerateIv)
-    ∷ command.OnHandle (on_handle.Cipher cipher_step.SetIv)
-    ∷ command.OnHandle (on_handle.Cipher cipher_step.Update)
-    ∷ command.OnHandle (on_handle.Cipher cipher_step.Finish)
-    ∷ command.OnHandle (on_handle.Aead aead_step.EncryptSetup)
-    ∷ command.OnHandle (on_handle.Aead aead_step.DecryptSetup)
-    ∷ command.OnHandle (on_handle.Aead aead_step.GenerateNonce)
-    ∷ command.OnHandle (on_handle.Aead aead_step.SetNonce)
-    ∷ command.OnHandle (on_handle.Aead aead_step.SetLengths)
-    ∷ command.OnHandle (on_handle.Aead aead_step.UpdateAd)
-    ∷ command.OnHandle (on_handle.Aead aead_step.Update)
-    ∷ command.OnHandle (on_handle.Aead aead_step.Finish)
-    ∷ command.OnHandle (on_handle.Aead aead_step.Verify)
-    ∷ command.OnHandle (on_handle.Derivation derivation_step.Setup)
-    ∷ command.OnHandle (on_handle.Derivation derivation_step.GetCapacity)
-    ∷ command.OnHandle (on_handle.Derivation derivation_step.SetCapacity)
-    ∷ command.OnHandle (on_handle.Derivation derivation_step.InputBytes)
-    ∷ command.OnHandle (on_handle.Derivation derivation_step.InputInteger)
-    ∷ command.OnHandle (on_handle.Derivation derivation_step.InputKey)
-    ∷ command.OnHandle (on_handle.Derivation derivation_step.OutputBytes)
-    ∷ command.OnHandle (on_handle.Derivation derivation_step.OutputKey)
-    ∷ command.OnHandle (on_handle.Derivation derivation_step.VerifyBytes)
-    ∷ command.OnHandle on_handle.Abort
+unfoldable pub rows : List Shape
+rows =
+    row (codes "import") (command.Key key.Import) (kind.Name ∷ []) (field.Type ∷ field.Usage ∷ field.Alg ∷ field.Data ∷ []) (field.Life ∷ field.Id ∷ field.Bits ∷ [])
+    ∷ row (codes "generate") (command.Key key.Generate) (kind.Name ∷ []) (field.Type ∷ field.Bits ∷ field.Usage ∷ field.Alg ∷ []) (field.Life ∷ field.Id ∷ [])
+    ∷ row (codes "copy") (command.Key key.Copy) (kind.Name ∷ kind.Key ∷ []) (field.Usage ∷ field.Alg ∷ []) (field.Type ∷ field.Bits ∷ field.Life ∷ field.Id ∷ [])
+    ∷ row (codes "destroy") (command.Key key.Destroy) (kind.Key ∷ []) [] []
+    ∷ row (codes "attributes") (command.Key key.Attributes) (kind.Key ∷ []) [] []
+    ∷ row (codes "export") (command.Key key.Export) (kind.Key ∷ []) [] (field.Room ∷ [])
+    ∷ row (codes "hash_compute") (command.SinglePart single.HashCompute) [] (field.Alg ∷ field.Data ∷ []) (field.Room ∷ [])
+    ∷ row (codes "hash_compare") (command.SinglePart single.HashCompare) [] (field.Alg ∷ field.Data ∷ field.Hash ∷ []) []
+    ∷ row (codes "mac_compute") (command.SinglePart single.MacCompute) (kind.Key ∷ []) (field.Alg ∷ field.Data ∷ []) (field.Room ∷ [])
+    ∷ row (codes "mac_verify") (command.SinglePart single.MacVerify) (kind.Key ∷ []) (field.Alg ∷ field.Data ∷ field.Mac ∷ []) []
+    ∷ row (codes "cipher_encrypt") (command.SinglePart single.CipherEncrypt) (kind.Key ∷ []) (field.Alg ∷ field.Data ∷ []) (field.Room ∷ [])
+    ∷ row (codes "cipher_decrypt") (command.SinglePart single.CipherDecrypt) (kind.Key ∷ []) (field.Alg ∷ field.Data ∷ []) (field.Room ∷ [])
+    ∷ row (codes "aead_encrypt") (command.SinglePart single.AeadEncrypt) (kind.Key ∷ []) (field.Alg ∷ field.Nonce ∷ field.Data ∷ []) (field.Ad ∷ field.Room ∷ [])
+    ∷ row (codes "aead_decrypt") (command.SinglePart single.AeadDecrypt) (kind.Key ∷ []) (field.Alg ∷ field.Nonce ∷ field.Data ∷ []) (field.Ad ∷ field.Room ∷ [])
+    ∷ row (codes "hash_setup") (command.Hash hash.Setup) (kind.Handle ∷ []) (field.Alg ∷ []) []
+    ∷ row (codes "hash_update") (command.Hash hash.Update) (kind.Handle ∷ []) (field.Data ∷ []) []
+    ∷ row (codes "hash_finish") (command.Hash hash.Finish) (kind.Handle ∷ []) [] (field.Room ∷ [])
+    ∷ row (codes "hash_verify") (command.Hash hash.Verify) (kind.Handle ∷ []) (field.Hash ∷ []) []
+    ∷ row (codes "mac_sign_setup") (command.Mac mac.SignSetup) (kind.Handle ∷ kind.Key ∷ []) (field.Alg ∷ []) []
+    ∷ row (codes "mac_verify_setup") (command.Mac mac.VerifySetup) (kind.Handle ∷ kind.Key ∷ []) (field.Alg ∷ []) []
+    ∷ row (codes "mac_update") (command.Mac mac.Update) (kind.Handle ∷ []) (field.Data ∷ []) []
+    ∷ row (codes "mac_sign_finish") (command.Mac mac.SignFinish) (kind.Handle ∷ []) [] (field.Room ∷ [])
+    ∷ row (codes "mac_verify_finish") (command.Mac mac.VerifyFinish) (kind.Handle ∷ []) (field.Mac ∷ []) []
+    ∷ row (codes "cipher_encrypt_setup") (command.Cipher cipher.EncryptSetup) (kind.Handle ∷ kind.Key ∷ []) (field.Alg ∷ []) []
+    ∷ row (codes "cipher_decrypt_setup") (command.Cipher cipher.DecryptSetup) (kind.Handle ∷ kind.Key ∷ []) (field.Alg ∷ []) []
+    ∷ row (codes "cipher_generate_iv") (command.Cipher cipher.GenerateIv) (kind.Handle ∷ []) [] (field.Room ∷ [])
+    ∷ row (codes "cipher_set_iv") (command.Cipher cipher.SetIv) (kind.Handle ∷ []) (field.Iv ∷ []) []
+    ∷ row (codes "cipher_update") (command.Cipher cipher.Update) (kind.Handle ∷ []) (field.Data ∷ []) (field.Room ∷ [])
+    ∷ row (codes "cipher_finish") (command.Cipher cipher.Finish) (kind.Handle ∷ []) [] (field.Room ∷ [])
+    ∷ row (codes "aead_encrypt_setup") (command.Aead aead.EncryptSetup) (kind.Handle ∷ kind.Key ∷ []) (field.Alg ∷ []) []
+    ∷ row (codes "aead_decrypt_setup") (command.Aead aead.DecryptSetup) (kind.Handle ∷ kind.Key ∷ []) (field.Alg ∷ []) []
+    ∷ row (codes "aead_generate_nonce") (command.Aead aead.GenerateNonce) (kind.Handle ∷ []) [] (field.Room ∷ [])
+    ∷ row (codes "aead_set_nonce") (command.Aead aead.SetNonce) (kind.Handle ∷ []) (field.Nonce ∷ []) []
+    ∷ row (codes "aead_set_lengths") (command.Aead aead.SetLengths) (kind.Handle ∷ []) (field.AdLength ∷ field.PlainLength ∷ []) []
+    ∷ row (codes "aead_update_ad") (command.Aead aead.UpdateAd) (kind.Handle ∷ []) (field.Data ∷ []) []
+    ∷ row (codes "aead_update") (command.Aead aead.Update) (kind.Handle ∷ []) (field.Data ∷ []) (field.Room ∷ [])
+    ∷ row (codes "aead_finish") (command.Aead aead.Finish) (kind.Handle ∷ []) [] (field.Room ∷ [])
+    ∷ row (codes "aead_verify") (command.Aead aead.Verify) (kind.Handle ∷ []) (field.Tag ∷ []) []
+    ∷ row (codes "kdf_setup") (command.Derivation derivation.Setup) (kind.Handle ∷ []) (field.Alg ∷ []) []
+    ∷ row (codes "kdf_get_capacity") (command.Derivation derivation.GetCapacity) (kind.Handle ∷ []) [] []
+    ∷ row (codes "kdf_set_capacity") (command.Derivation derivation.SetCapacity) (kind.Handle ∷ []) (field.Capacity ∷ []) []
+    ∷ row (codes "kdf_input_bytes") (command.Derivation derivation.InputBytes) (kind.Handle ∷ []) (field.Step ∷ field.Data ∷ []) []
+    ∷ row (codes "kdf_input_integer") (command.Derivation derivation.InputInteger) (kind.Handle ∷ []) (field.Step ∷ field.Value ∷ []) []
+    ∷ row (codes "kdf_input_key") (command.Derivation derivation.InputKey) (kind.Handle ∷ kind.Key ∷ []) (field.Step ∷ []) []
+    ∷ row (codes "kdf_output_bytes") (command.Derivation derivation.OutputBytes) (kind.Handle ∷ []) (field.Length ∷ []) []
+    ∷ row (codes "kdf_output_key") (command.Derivation derivation.OutputKey) (kind.Handle ∷ kind.Name ∷ []) (field.Type ∷ field.Bits ∷ field.Usage ∷ field.Alg ∷ []) (field.Life ∷ field.Id ∷ [])
+    ∷ row (codes "kdf_verify_bytes") (command.Derivation derivation.VerifyBytes) (kind.Handle ∷ []) (field.Data ∷ []) []
+    ∷ row (codes "abort") command.Abort (kind.Handle ∷ []) [] []
     ∷ []
+
+abbrev pub has_word : List ℕ → Shape → Bool
+has_word word r = bytes_eq r.word word
+
+unfoldable pub row_named : List ℕ → Option Shape
+row_named word = find (has_word word) rows
+
+-- a row of the table
+abbrev pub IsRow : Shape → Type 0
+IsRow r = row_named r.word ≡ Some r
+
+-- the key that a word names, by the identifiers that the session's calls before gave
+abbrev pub key_of : List ℕ → KeyWord → ℕ
+key_of ids (Given id) = id.0
+key_of ids (Line place) = slice_index ids place
+
+-- what a line asks, by the key that it names and its fields
+
+abbrev pub key_call : KeyCommand → ℕ → Fields → store.Call
+key_call key.Import id fs = store.Import (attributes_at fs) (data_at fs)
+key_call key.Generate id fs = store.Generate (attributes_at fs)
+key_call key.Copy id fs = store.Copy id (attributes_at fs)
+key_call key.Destroy id fs = store.Destroy id
+key_call key.Attributes id fs = store.GetAttributes id
+key_call key.Export id fs = store.Export id (room_at fs)
+
+abbrev pub single_part_call : SinglePartCommand → ℕ → Fields → store.Call
+single_part_call single.HashCompute id fs = store.HashCompute (alg_at fs) (data_at fs) (room_at fs)
+single_part_call single.HashCompare id fs = store.HashCompare (alg_at fs) (data_at fs) (bytes_at field.Hash fs)
+single_part_call single.MacCompute id fs = store.MacCompute id (alg_at fs) (data_at fs) (room_at fs)
+single_part_call single.MacVerify id fs = store.MacVerify id (alg_at fs) (data_at fs) (bytes_at field.Mac fs)
+single_part_call single.CipherEncrypt id fs = store.CipherEncrypt id (alg_at fs) (data_at fs) (room_at fs)
+single_part_call single.CipherDecrypt id fs = store.CipherDecrypt id (alg_at fs) (data_at fs) (room_at fs)
+single_part_call single.AeadEncrypt id fs = store.AeadEncrypt id (alg_at fs) (bytes_at field.Nonce fs) (bytes_at field.Ad fs) (data_at fs) (room_at fs)
+single_part_call single.AeadDecrypt id fs = store.AeadDecrypt id (alg_at fs) (bytes_at field.Nonce fs) (bytes_at field.Ad fs) (data_at fs) (room_at fs)
+
+abbrev pub hash_call : HashCommand → Fields → operation.HandleCall
+hash_call hash.Setup fs = operation.HashSetup (alg_at fs)
+hash_call hash.Update fs = operation.OnHash (HashUpdate (data_at fs))
+hash_call hash.Finish fs = operation.OnHash (HashFinish (room_at fs))
+hash_call hash.Verify fs = operation.OnHash (HashVerify (bytes_at field.Hash fs))
+
+abbrev pub mac_call : MacCommand → ℕ → Fields → operation.HandleCall
+mac_call mac.SignSetup id fs = operation.MacSetup false id (alg_at fs)
+mac_call mac.VerifySetup id fs = operation.MacSetup true id (alg_at fs)
+mac_call mac.Update id fs = operation.OnMac (MacUpdate (data_at fs))
+mac_call mac.SignFinish id fs = operation.OnMac (MacSignFinish (room_at fs))
+mac_call mac.VerifyFinish id fs = operation.OnMac (MacVerifyFinish (bytes_at field.Mac fs))
+
+abbrev pub cipher_call : CipherCommand → ℕ → Fields → operation.HandleCall
+cipher_call cipher.EncryptSetup id fs = operation.CipherSetup true id (alg_at fs)
+cipher_call cipher.DecryptSetup id fs = operation.CipherSetup false id (alg_at fs)
+cipher_call cipher.GenerateIv id fs = operation.OnCipher (CipherGenerateIv (room_at fs))
+cipher_call cipher.SetIv id fs = operation.OnCipher (CipherSetIv (bytes_at field.Iv fs))
+cipher_call cipher.Update id fs = operation.OnCipher (CipherUpdate (data_at fs) (room_at fs))
+cipher_call cipher.Finish id fs = operation.OnCipher (CipherFinish (room_at fs))
+
+abbrev pub aead_call : AeadCommand → ℕ → Fields → operation.HandleCall
+aead_call aead.EncryptSetup id fs = operation.AeadSetup true id (alg_at fs)
+aead_call aead.DecryptSetup id fs = operation.AeadSetup false id (alg_at fs)
+aead_call aead.GenerateNonce id fs = operation.OnAead (AeadGenerateNonce (room_at fs))
+aead_call aead.SetNonce id fs = operation.OnAead (AeadSetNonce (bytes_at field.Nonce fs))
+aead_call aead.SetLengths id fs = operation.OnAead (AeadSetLengths (long_at field.AdLength fs) (long_at field.PlainLength fs))
+aead_call aead.UpdateAd id fs = operation.OnAead (AeadUpdateAd (data_at fs))
+aead_call aead.Update id fs = operation.OnAead (AeadUpdate (data_at fs) (room_at fs))
+aead_call aead.Finish id fs = operation.OnAead (AeadFinish (room_at fs))
+aead_call aead.Verify id fs = operation.OnAead (AeadVerify (bytes_at field.Tag fs))
+
+abbrev pub derivation_call : DerivationCommand → ℕ → Fields → operation.HandleCall
+derivation_call derivation.Setup id fs = operation.DerivationSetup (alg_at fs)
+derivation_call derivation.GetCapacity id fs = operation.OnDerivation GetCapacity
+derivation_call derivation.SetCapacity id fs = operation.OnDerivation (SetCapacity (long_at field.Capacity fs))
+derivation_call derivation.InputBytes id fs = operation.OnDerivation (InputBytes (short_at 0 field.Step fs) (data_at fs))
+derivation_call derivation.InputInteger id fs = operation.OnDerivation (InputInteger (short_at 0 field.Step fs) (long_at field.Value fs))
+derivation_call derivation.InputKey id fs = operation.InputKey (short_at 0 field.Step fs) id
+derivation_call derivation.OutputBytes id fs = operation.OnDerivation (OutputBytes (room_at fs))
+derivation_call derivation.OutputKey id fs = operation.OutputKey (attributes_at fs)
+derivation_call derivation.VerifyBytes id fs = operation.OnDerivation (VerifyBytes (data_at fs))
+
+-- the request of a command with a key and a handle, where its line names them, and fields
+abbrev pub request : Command → (id handle : ℕ) → Fields → Request
+request (command.Key c) id handle fs = OnStore (key_call c id fs)
+request (command.SinglePart c) id handle fs = OnStore (single_part_call c id fs)
+request (command.Hash c) id handle fs = OnHandle handle (hash_call c fs)
+request (command.Mac c) id handle fs = OnHandle handle (mac_call c id fs)
+request (command.Cipher c) id handle fs = OnHandle handle (cipher_call c id fs)
+request (command.Aead c) id handle fs = OnHandle handle (aead_call c id fs)
+request (command.Derivation c) id handle fs = OnHandle handle (derivation_call c id fs)
+request command.Abort id handle fs = OnHandle handle operation.Abort
+
+-- the request that a line makes, where its session's calls before gave these identifiers
+abbrev pub request_of : List ℕ → ScriptCall → Request
+request_of ids call = request call.command (key_of ids call.key) call.handle call.fields

@@ -2,11 +2,12 @@
 use Rattle.std.specs.Prelude.{ℕ, ◌^◌, Bool, not, nat_lt, nat_le, ◌==◌, List, [], ◌∷◌, ◌++◌, length, if◌then◌else◌, ◌||◌, Option, Some, None, option_map, find, Result, Ok, Err, codes}
 use Rattle.std.specs.List.{list_any, list_all}
 use Rattle.std.specs.Str.{bytes_eq}
+use Rattle.key_attributes.specs.declared.Attributes.{Attributes}
 use Rattle.hex.specs.Hex.{decode_of}
 use Rattle.script_lang.specs.Numbers.{number}
 use Rattle.script_lang.specs.Pieces.{cut_of}
 use Rattle.script_lang.specs.Steps.{◌>>=◌, demand, some_or}
-use Rattle.script_lang.specs.Table.{Shape}
+use Rattle.script_lang.specs.Shapes.{Shape}
 use Rattle.script_lang.specs.declared.faults.Reason.{Reason}
 use Rattle.script_lang.specs.declared.faults.Reason.TheVariants.{UnknownField, RepeatedField, BadValue}
 use Rattle.script_lang.specs.declared.fields.Field.{Field}
@@ -37,51 +38,48 @@ field_number field.Value = 17
 field_number field.Length = 18
 field_number field.Step = 19
 
+-- What the text of a field is: a number of at most so many digits of a base, from the least and below a limit
+-- (of 16 bits; of 32 bits in hex; of 64 bits in decimal), or bytes.
+pub data Form : Type 0 where
+  ShortForm : (base most least limit : ℕ) → Form
+  WordForm : Form
+  LongForm : Form
+  BytesForm : Form
+
+-- a field's name, and how its text is written
+abbrev pub field_row : Field → List ℕ × Form
+field_row field.Type = (codes "type", ShortForm 16 4 0 (2 ^ 16))
+field_row field.Usage = (codes "usage", WordForm)
+field_row field.Alg = (codes "alg", WordForm)
+field_row field.Data = (codes "data", BytesForm)
+field_row field.Life = (codes "life", WordForm)
+field_row field.Id = (codes "id", WordForm)
+field_row field.Bits = (codes "bits", ShortForm 10 20 0 (2 ^ 16))
+field_row field.Room = (codes "room", ShortForm 10 20 0 16449)
+field_row field.Hash = (codes "hash", BytesForm)
+field_row field.Mac = (codes "mac", BytesForm)
+field_row field.Nonce = (codes "nonce", BytesForm)
+field_row field.Ad = (codes "ad", BytesForm)
+field_row field.Iv = (codes "iv", BytesForm)
+field_row field.Tag = (codes "tag", BytesForm)
+field_row field.AdLength = (codes "ad_len", LongForm)
+field_row field.PlainLength = (codes "plain_len", LongForm)
+field_row field.Capacity = (codes "capacity", LongForm)
+field_row field.Value = (codes "value", LongForm)
+field_row field.Length = (codes "len", ShortForm 10 20 1 16385)
+field_row field.Step = (codes "step", ShortForm 16 4 0 (2 ^ 16))
+
 abbrev pub field_name : Field → List ℕ
-field_name field.Type = codes "type"
-field_name field.Usage = codes "usage"
-field_name field.Alg = codes "alg"
-field_name field.Data = codes "data"
-field_name field.Life = codes "life"
-field_name field.Id = codes "id"
-field_name field.Bits = codes "bits"
-field_name field.Room = codes "room"
-field_name field.Hash = codes "hash"
-field_name field.Mac = codes "mac"
-field_name field.Nonce = codes "nonce"
-field_name field.Ad = codes "ad"
-field_name field.Iv = codes "iv"
-field_name field.Tag = codes "tag"
-field_name field.AdLength = codes "ad_len"
-field_name field.PlainLength = codes "plain_len"
-field_name field.Capacity = codes "capacity"
-field_name field.Value = codes "value"
-field_name field.Length = codes "len"
-field_name field.Step = codes "step"
+field_name f = (field_row f).0
+
+abbrev pub form_of : Field → Form
+form_of f = (field_row f).1
 
 abbrev pub all_fields : List Field
 all_fields =
-    field.Type
-    ∷ field.Usage
-    ∷ field.Alg
-    ∷ field.Data
-    ∷ field.Life
-    ∷ field.Id
-    ∷ field.Bits
-    ∷ field.Room
-    ∷ field.Hash
-    ∷ field.Mac
-    ∷ field.Nonce
-    ∷ field.Ad
-    ∷ field.Iv
-    ∷ field.Tag
-    ∷ field.AdLength
-    ∷ field.PlainLength
-    ∷ field.Capacity
-    ∷ field.Value
-    ∷ field.Length
-    ∷ field.Step
-    ∷ []
+    field.Type ∷ field.Usage ∷ field.Alg ∷ field.Data ∷ field.Life ∷ field.Id ∷ field.Bits ∷ field.Room ∷ field.Hash ∷ field.Mac
+    ∷ field.Nonce ∷ field.Ad ∷ field.Iv ∷ field.Tag ∷ field.AdLength ∷ field.PlainLength ∷ field.Capacity ∷ field.Value ∷ field.Length
+    ∷ field.Step ∷ []
 
 abbrev pub has_name : List ℕ → Field → Bool
 has_name name f = bytes_eq (field_name f) name
@@ -103,36 +101,6 @@ has_field done f = list_any (λ g. field_number g.0 == field_number f) done
 
 abbrev pub has_required : Shape → Fields → Bool
 has_required row done = list_all (has_field done) row.required
-
--- What the text of a field is: a number of at most so many digits of a base, from the least and below a limit
--- (of 16 bits; of 32 bits in hex; of 64 bits in decimal), or bytes.
-pub data Form : Type 0 where
-  ShortForm : (base most least limit : ℕ) → Form
-  WordForm : Form
-  LongForm : Form
-  BytesForm : Form
-
-abbrev pub form_of : Field → Form
-form_of field.Type = ShortForm 16 4 0 (2 ^ 16)
-form_of field.Usage = WordForm
-form_of field.Alg = WordForm
-form_of field.Data = BytesForm
-form_of field.Life = WordForm
-form_of field.Id = WordForm
-form_of field.Bits = ShortForm 10 20 0 (2 ^ 16)
-form_of field.Room = ShortForm 10 20 0 16449
-form_of field.Hash = BytesForm
-form_of field.Mac = BytesForm
-form_of field.Nonce = BytesForm
-form_of field.Ad = BytesForm
-form_of field.Iv = BytesForm
-form_of field.Tag = BytesForm
-form_of field.AdLength = LongForm
-form_of field.PlainLength = LongForm
-form_of field.Capacity = LongForm
-form_of field.Value = LongForm
-form_of field.Length = ShortForm 10 20 1 16385
-form_of field.Step = ShortForm 16 4 0 (2 ^ 16)
 
 abbrev pub from_least : ℕ → Option ℕ → Option ℕ
 from_least least None = None
@@ -209,9 +177,25 @@ word_at f fs = word_of (find (is_field f) fs)
 abbrev pub long_at : Field → Fields → ℕ
 long_at f fs = long_of (find (is_field f) fs)
 
--- the length of the output buffer
+-- the length of the output buffer: `len` of a derivation's bytes, or `room`, and 16,448 where the line says neither
 abbrev pub room_at : Fields → ℕ
-room_at fs = short_at 16448 field.Room fs
+room_at fs = short_at (short_at 16448 field.Room fs) field.Length fs
 
 abbrev pub bytes_at : Field → Fields → List ℕ
 bytes_at f fs = bytes_of (find (is_field f) fs)
+
+abbrev pub alg_at : Fields → ℕ
+alg_at fs = word_at field.Alg fs
+
+abbrev pub data_at : Fields → List ℕ
+data_at fs = bytes_at field.Data fs
+
+-- the attributes of a key that a line creates
+abbrev pub attributes_at : Fields → Attributes
+attributes_at fs = record {
+  lifetime = record { 0 = word_at field.Life fs };
+  id = record { 0 = word_at field.Id fs };
+  key_type = record { 0 = short_at 0 field.Type fs };
+  bits = short_at 0 field.Bits fs;
+  policy = record { usage = record { 0 = word_at field.Usage fs }; alg = alg_at fs };
+}

@@ -5,10 +5,10 @@ use Rattle.std.specs.Fmt.{decimal}
 use Rattle.std.specs.Str.Parse.{IsNumeral, digits_value}
 use Rattle.hex.specs.Hex.{decode_of}
 use Rattle.script_lang.specs.Pieces.{words, text_lines}
-use Rattle.script_lang.specs.Table.{Shape, shape_of}
-use Rattle.script_lang.specs.Calls.{call_of}
+use Rattle.script_lang.specs.Shapes.{Shape}
+use Rattle.script_lang.specs.Commands.{IsRow}
 use Rattle.script_lang.specs.Fields.{Form, ShortForm, WordForm, LongForm, BytesForm, form_of, Fields, field_name, is_allowed, has_field, has_required}
-use Rattle.script_lang.specs.Lines.{Places, Read, nothing_read, no_words, with_call, is_comment}
+use Rattle.script_lang.specs.Lines.{Places, Read, nothing_read, no_words, call_of, with_call, is_comment}
 use Rattle.script_lang.specs.declared.fields.Field.{Field}
 use Rattle.script_lang.specs.declared.fields.FieldValue.{FieldValue}
 use Rattle.script_lang.specs.declared.fields.FieldValue.TheVariants.{Short, Word, Long, Bytes}
@@ -16,9 +16,8 @@ use Rattle.script_lang.specs.declared.fixed.Fixed.{Fixed}
 use Rattle.script_lang.specs.declared.script.KeyWord.{KeyWord}
 use Rattle.script_lang.specs.declared.script.KeyWord.TheVariants.{Given, Line}
 use Rattle.script_lang.specs.declared.script.ScriptLine.{ScriptLine}
-use Rattle.script_lang.specs.declared.commands.Command.{Command}
-use Rattle.script_lang.specs.declared.table.Kind.{Kind}
-use Rattle.script_lang.specs.declared.table.Kind.TheVariants as kind
+use Rattle.script_lang.specs.declared.commands.Kind.{Kind}
+use Rattle.script_lang.specs.declared.commands.Kind.TheVariants as kind
 
 -- one to so many digits of a base, of either case, which write a number below a limit
 abbrev pub IsNumber : (base most limit : ℕ) → List ℕ → ℕ → Type 0
@@ -101,18 +100,19 @@ IsSession word session = (word ≡ decimal session) × (1 ≤ session) × (sessi
 -- a line that is a call: a session, a command, its fixed words in order, then its fields
 pub record IsLine (read : Read) (ws : List (List ℕ)) (next : Read) : Type 0 where
   pub session : ℕ
-  pub command : Command
+  pub row : Shape
   pub fixed : Fixed
   pub fields : Fields
   pub session_word : List ℕ
   pub fixed_words : List (List ℕ)
   pub field_words : List (List ℕ)
   pub is_session : IsSession session_word session
-  pub line : ws ≡ session_word ∷ (shape_of command).word ∷ fixed_words ++ field_words
-  pub are_fixed : AreFixed (read.places session) (shape_of command).fixed no_words fixed_words fixed
-  pub are_fields : AreFields (shape_of command) [] field_words fields
-  pub all : has_required (shape_of command) fields ≡ true
-  pub after : next ≡ with_call read session fixed.name (call_of command fixed fields)
+  pub is_row : IsRow row
+  pub line : ws ≡ session_word ∷ row.word ∷ fixed_words ++ field_words
+  pub are_fixed : AreFixed (read.places session) row.fixed no_words fixed_words fixed
+  pub are_fields : AreFields row [] field_words fields
+  pub all : has_required row fields ≡ true
+  pub after : next ≡ with_call read session fixed.name (call_of row fixed fields)
 
 -- a comment and a line without words say nothing
 abbrev pub IsStepBy : Bool → Read → List (List ℕ) → Read → Type 0

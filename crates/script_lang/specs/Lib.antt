@@ -1,11 +1,9 @@
 pub mod Numbers
 pub mod Pieces
 pub mod Steps
-pub mod Commands
-pub mod Table
+pub mod Shapes
 pub mod Fields
-pub mod Calls
-pub mod Limits
+pub mod Commands
 pub mod Lines
 pub mod Sessions
 pub mod Grammar

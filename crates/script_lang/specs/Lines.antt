@@ -4,9 +4,9 @@ use Rattle.std.specs.List.{list_all}
 use Rattle.std.specs.Str.{bytes_eq}
 use Rattle.script_lang.specs.Numbers.{number}
 use Rattle.script_lang.specs.Pieces.{words, text_lines}
-use Rattle.script_lang.specs.Table.{shape_of, command_named}
-use Rattle.script_lang.specs.Calls.{call_of}
-use Rattle.script_lang.specs.Fields.{read_fields, has_required}
+use Rattle.script_lang.specs.Shapes.{Shape}
+use Rattle.script_lang.specs.Commands.{row_named}
+use Rattle.script_lang.specs.Fields.{Fields, read_fields, has_required}
 use Rattle.script_lang.specs.Steps.{◌>>=◌, demand, some_or, first_or, rest_of}
 use Rattle.script_lang.specs.declared.faults.LineError.{LineError}
 use Rattle.script_lang.specs.declared.faults.LineError.TheVariants as errors
@@ -20,9 +20,8 @@ use Rattle.script_lang.specs.declared.script.KeyWord.TheVariants.{Given, Line}
 use Rattle.script_lang.specs.declared.script.ScriptCall.{ScriptCall}
 use Rattle.script_lang.specs.declared.script.ScriptLine.{ScriptLine}
 use Rattle.script_lang.specs.declared.fixed.Fixed.{Fixed}
-use Rattle.script_lang.specs.declared.commands.Command.{Command}
-use Rattle.script_lang.specs.declared.table.Kind.{Kind}
-use Rattle.script_lang.specs.declared.table.Kind.TheVariants as kind
+use Rattle.script_lang.specs.declared.commands.Kind.{Kind}
+use Rattle.script_lang.specs.declared.commands.Kind.TheVariants as kind
 
 abbrev pub is_letter : ℕ → Bool
 is_letter c = nat_le 97 c && nat_le c 122
@@ -52,9 +51,9 @@ abbrev pub handle_at : List ℕ → Result ℕ Reason
 handle_at (c ∷ []) = if nat_le 49 c && nat_le c 52 then Ok (c - 48) else Err BadHandle
 handle_at _ = Err BadHandle
 
--- no fixed word yet
+-- no fixed word yet: the key 0, no name, and the first handle
 abbrev pub no_words : Fixed
-no_words = record { key = Given (record { 0 = 0 }); name = None; handle = 0 }
+no_words = record { key = Given (record { 0 = 0 }); name = None; handle = 1 }
 
 -- one more fixed word
 unfoldable pub with_word : Places → Kind → Fixed → List ℕ → Result Fixed Reason
@@ -114,21 +113,25 @@ with_call read session name call = record {
   places = named_at read.places session name (calls_of session read.lines);
 }
 
+-- the call of a row, by the fixed words and the fields of its line
+abbrev pub call_of : Shape → Fixed → Fields → ScriptCall
+call_of row fixed fs = record { command = row.command; key = fixed.key; handle = fixed.handle; fields = fs }
+
 -- the words after a command, by its row: the name that the line gives, and its call
-unfoldable pub parts_at : Places → Command → List (List ℕ) → Result (Option (List ℕ) × ScriptCall) Reason
-parts_at places command ws = do
-  fixed ← read_fixed places (shape_of command).fixed no_words ws
-  fs ← read_fields (shape_of command) [] fixed.1
-  all_so ← demand (has_required (shape_of command) fs) MissingField
-  Ok (fixed.0.name, call_of command fixed.0 fs)
+unfoldable pub parts_at : Places → Shape → List (List ℕ) → Result (Option (List ℕ) × ScriptCall) Reason
+parts_at places row ws = do
+  fixed ← read_fixed places row.fixed no_words ws
+  fs ← read_fields row [] fixed.1
+  all_so ← demand (has_required row fs) MissingField
+  Ok (fixed.0.name, call_of row fixed.0 fs)
 
 unfoldable pub words_at : Read → List (List ℕ) → Result Read Reason
 words_at read [] = Ok read
 words_at read (word ∷ ws) = do
   session ← some_or BadSession (session_of word)
   name ← first_or UnknownCommand ws
-  command ← some_or UnknownCommand (command_named name)
-  parts ← parts_at (read.places session) command (rest_of ws)
+  row ← some_or UnknownCommand (row_named name)
+  parts ← parts_at (read.places session) row (rest_of ws)
   Ok (with_call read session parts.0 parts.1)
 
 abbrev pub is_comment : List ℕ → Bool

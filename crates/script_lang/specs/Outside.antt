@@ -2,7 +2,8 @@
 -- to right.
 use Rattle.std.specs.Prelude.{ℕ, ◌≡◌, ◌≤◌, ◌<◌, ◌+◌, ◌^◌, ◌⊎◌, true, false, List, [], ◌∷◌, ◌++◌, length, None}
 use Rattle.script_lang.specs.Pieces.{words, text_lines}
-use Rattle.script_lang.specs.Table.{Shape, shape_of}
+use Rattle.script_lang.specs.Shapes.{Shape}
+use Rattle.script_lang.specs.Commands.{IsRow}
 use Rattle.script_lang.specs.Fields.{Fields, field_name, is_allowed, has_field, has_required}
 use Rattle.script_lang.specs.Lines.{Places, Read, nothing_read, no_words, is_comment}
 use Rattle.script_lang.specs.Grammar.{IsNumber, IsName, IsHandle, IsValue, IsField, IsFixed, AreFixed, IsSession, AreSteps}
@@ -13,9 +14,8 @@ use Rattle.script_lang.specs.declared.faults.ScriptFault.TheVariants as faults
 use Rattle.script_lang.specs.declared.fields.Field.{Field}
 use Rattle.script_lang.specs.declared.fields.FieldValue.{FieldValue}
 use Rattle.script_lang.specs.declared.fixed.Fixed.{Fixed}
-use Rattle.script_lang.specs.declared.commands.Command.{Command}
-use Rattle.script_lang.specs.declared.table.Kind.{Kind}
-use Rattle.script_lang.specs.declared.table.Kind.TheVariants as kind
+use Rattle.script_lang.specs.declared.commands.Kind.{Kind}
+use Rattle.script_lang.specs.declared.commands.Kind.TheVariants as kind
 
 -- a word of one of the two forms of a key, whether or not its name was given
 abbrev pub IsKeyForm : List ℕ → Type 0
@@ -67,8 +67,8 @@ pub record AreBadAfter (places : Places) (row : Shape) (ws : List (List ℕ)) (r
 abbrev pub IsBadCommand : Read → ℕ → List (List ℕ) → Reason → Type 0
 IsBadCommand read s [] r = r ≡ UnknownCommand
 IsBadCommand read s (name ∷ ws) r =
-    ((r ≡ UnknownCommand) × ((c : Command) → (shape_of c).word ≡ name → ⊥))
-    ⊎ ((c : Command) × ((shape_of c).word ≡ name) × (AreBadFixed (read.places s) (shape_of c).fixed no_words ws r ⊎ AreBadAfter (read.places s) (shape_of c) ws r))
+    ((r ≡ UnknownCommand) × ((row : Shape) → IsRow row → row.word ≡ name → ⊥))
+    ⊎ ((row : Shape) × IsRow row × (row.word ≡ name) × (AreBadFixed (read.places s) row.fixed no_words ws r ⊎ AreBadAfter (read.places s) row ws r))
 
 abbrev pub AreBadWords : Read → List (List ℕ) → Reason → Type 0
 AreBadWords read [] r = ⊥

@@ -1,185 +1,132 @@
-// The commands of the grammar, by families.
-ghost use Rattle.std.specs.Prelude.{◌≡◌};
-ghost use Rattle.script_lang.specs.Commands.{commands};
+// The commands of the grammar, and how each is written.
+ghost use Rattle.std.specs.Prelude.{◌≡◌, find, map};
+ghost use Rattle.std.specs.Option.{option_copied, option_map};
+ghost use Rattle.script_lang.specs.Shapes.{is_written, shape};
+ghost use Rattle.script_lang.specs.Commands.{row_named, rows};
 
-/// A command that makes a key.
+use crate::fields::Field::{
+    Ad, AdLength, Alg, Bits, Capacity, Data, Hash, Id, Iv, Length, Life, Mac, Nonce, PlainLength,
+    Room, Step, Tag, Type, Usage, Value,
+};
+use crate::fields::{Field, is_text};
+use crate::operation_commands::{
+    AeadCommand, CipherCommand, DerivationCommand, HashCommand, MacCommand,
+};
+use crate::store_commands::{KeyCommand, SinglePartCommand};
+use Kind::{Handle, Key, Name};
+
+/// What a fixed word is: a name that the line gives, a key, or the handle of an operation.
 #[derive(Clone, Copy, Drop)]
-pub(crate) enum CreationCommand {
-    Import,
-    Copy,
-    Generate,
+pub enum Kind {
+    Name,
+    Key,
+    Handle,
 }
 
-/// A command on a key.
+/// A command.
 #[derive(Clone, Copy, Drop)]
-pub(crate) enum KeyCommand {
-    Destroy,
-    Attributes,
-    Export,
-}
-
-/// A hash of a whole message.
-#[derive(Clone, Copy, Drop)]
-pub(crate) enum HashCommand {
-    Compute,
-    Compare,
-}
-
-/// A MAC of a whole message.
-#[derive(Clone, Copy, Drop)]
-pub(crate) enum MacCommand {
-    Compute,
-    Verify,
-}
-
-/// A cipher of a whole message.
-#[derive(Clone, Copy, Drop)]
-pub(crate) enum CipherCommand {
-    Encrypt,
-    Decrypt,
-}
-
-/// An AEAD of a whole message.
-#[derive(Clone, Copy, Drop)]
-pub(crate) enum AeadCommand {
-    Encrypt,
-    Decrypt,
-}
-
-/// A command on a hash operation.
-#[derive(Clone, Copy, Drop)]
-pub(crate) enum HashStepCommand {
-    Setup,
-    Update,
-    Finish,
-    Verify,
-}
-
-/// A command on a MAC operation.
-#[derive(Clone, Copy, Drop)]
-pub(crate) enum MacStepCommand {
-    SignSetup,
-    VerifySetup,
-    Update,
-    SignFinish,
-    VerifyFinish,
-}
-
-/// A command on a cipher operation.
-#[derive(Clone, Copy, Drop)]
-pub(crate) enum CipherStepCommand {
-    EncryptSetup,
-    DecryptSetup,
-    GenerateIv,
-    SetIv,
-    Update,
-    Finish,
-}
-
-/// A command on an AEAD operation.
-#[derive(Clone, Copy, Drop)]
-pub(crate) enum AeadStepCommand {
-    EncryptSetup,
-    DecryptSetup,
-    GenerateNonce,
-    SetNonce,
-    SetLengths,
-    UpdateAd,
-    Update,
-    Finish,
-    Verify,
-}
-
-/// A command on a key derivation.
-#[derive(Clone, Copy, Drop)]
-pub(crate) enum DerivationStepCommand {
-    Setup,
-    GetCapacity,
-    SetCapacity,
-    InputBytes,
-    InputInteger,
-    InputKey,
-    OutputBytes,
-    OutputKey,
-    VerifyBytes,
-}
-
-/// A command on an operation.
-#[derive(Clone, Copy, Drop)]
-pub(crate) enum HandleCommand {
-    Hash(HashStepCommand),
-    Mac(MacStepCommand),
-    Cipher(CipherStepCommand),
-    Aead(AeadStepCommand),
-    Derivation(DerivationStepCommand),
-    Abort,
-}
-
-#[derive(Clone, Copy, Drop)]
-pub(crate) enum Command {
-    Create(CreationCommand),
+pub enum Command {
     Key(KeyCommand),
+    SinglePart(SinglePartCommand),
     Hash(HashCommand),
     Mac(MacCommand),
     Cipher(CipherCommand),
     Aead(AeadCommand),
-    OnHandle(HandleCommand),
+    Derivation(DerivationCommand),
+    Abort,
 }
 
-const COMMANDS: &[Command] = &[
-    Command::Create(CreationCommand::Import),
-    Command::Create(CreationCommand::Copy),
-    Command::Create(CreationCommand::Generate),
-    Command::Key(KeyCommand::Destroy),
-    Command::Key(KeyCommand::Attributes),
-    Command::Key(KeyCommand::Export),
-    Command::Hash(HashCommand::Compute),
-    Command::Hash(HashCommand::Compare),
-    Command::Mac(MacCommand::Compute),
-    Command::Mac(MacCommand::Verify),
-    Command::Cipher(CipherCommand::Encrypt),
-    Command::Cipher(CipherCommand::Decrypt),
-    Command::Aead(AeadCommand::Encrypt),
-    Command::Aead(AeadCommand::Decrypt),
-    Command::OnHandle(HandleCommand::Hash(HashStepCommand::Setup)),
-    Command::OnHandle(HandleCommand::Hash(HashStepCommand::Update)),
-    Command::OnHandle(HandleCommand::Hash(HashStepCommand::Finish)),
-    Command::OnHandle(HandleCommand::Hash(HashStepCommand::Verify)),
-    Command::OnHandle(HandleCommand::Mac(MacStepCommand::SignSetup)),
-    Command::OnHandle(HandleCommand::Mac(MacStepCommand::VerifySetup)),
-    Command::OnHandle(HandleCommand::Mac(MacStepCommand::Update)),
-    Command::OnHandle(HandleCommand::Mac(MacStepCommand::SignFinish)),
-    Command::OnHandle(HandleCommand::Mac(MacStepCommand::VerifyFinish)),
-    Command::OnHandle(HandleCommand::Cipher(CipherStepCommand::EncryptSetup)),
-    Command::OnHandle(HandleCommand::Cipher(CipherStepCommand::DecryptSetup)),
-    Command::OnHandle(HandleCommand::Cipher(CipherStepCommand::GenerateIv)),
-    Command::OnHandle(HandleCommand::Cipher(CipherStepCommand::SetIv)),
-    Command::OnHandle(HandleCommand::Cipher(CipherStepCommand::Update)),
-    Command::OnHandle(HandleCommand::Cipher(CipherStepCommand::Finish)),
-    Command::OnHandle(HandleCommand::Aead(AeadStepCommand::EncryptSetup)),
-    Command::OnHandle(HandleCommand::Aead(AeadStepCommand::DecryptSetup)),
-    Command::OnHandle(HandleCommand::Aead(AeadStepCommand::GenerateNonce)),
-    Command::OnHandle(HandleCommand::Aead(AeadStepCommand::SetNonce)),
-    Command::OnHandle(HandleCommand::Aead(AeadStepCommand::SetLengths)),
-    Command::OnHandle(HandleCommand::Aead(AeadStepCommand::UpdateAd)),
-    Command::OnHandle(HandleCommand::Aead(AeadStepCommand::Update)),
-    Command::OnHandle(HandleCommand::Aead(AeadStepCommand::Finish)),
-    Command::OnHandle(HandleCommand::Aead(AeadStepCommand::Verify)),
-    Command::OnHandle(HandleCommand::Derivation(DerivationStepCommand::Setup)),
-    Command::OnHandle(HandleCommand::Derivation(DerivationStepCommand::GetCapacity)),
-    Command::OnHandle(HandleCommand::Derivation(DerivationStepCommand::SetCapacity)),
-    Command::OnHandle(HandleCommand::Derivation(DerivationStepCommand::InputBytes)),
-    Command::OnHandle(HandleCommand::Derivation(DerivationStepCommand::InputInteger)),
-    Command::OnHandle(HandleCommand::Derivation(DerivationStepCommand::InputKey)),
-    Command::OnHandle(HandleCommand::Derivation(DerivationStepCommand::OutputBytes)),
-    Command::OnHandle(HandleCommand::Derivation(DerivationStepCommand::OutputKey)),
-    Command::OnHandle(HandleCommand::Derivation(DerivationStepCommand::VerifyBytes)),
-    Command::OnHandle(HandleCommand::Abort),
+/// A command's word, its fixed words in order, the fields that it needs, and those that may stand.
+#[derive(Clone, Copy, Drop)]
+pub(crate) struct Row {
+    pub word: &'static [u8],
+    pub command: Command,
+    pub fixed: &'static [Kind],
+    pub required: &'static [Field],
+    pub optional: &'static [Field],
+}
+
+macro_rules! rows {
+    ($($word:literal, $command:expr, [$($fixed:ident),*], [$($required:ident),*], [$($optional:ident),*];)*) => {
+        &[$(Row {
+            word: $word,
+            command: $command,
+            fixed: &[$($fixed),*],
+            required: &[$($required),*],
+            optional: &[$($optional),*],
+        }),*]
+    };
+}
+
+const ROWS: &[Row] = rows![
+    b"import", Command::Key(KeyCommand::Import), [Name], [Type, Usage, Alg, Data], [Life, Id, Bits];
+    b"generate", Command::Key(KeyCommand::Generate), [Name], [Type, Bits, Usage, Alg], [Life, Id];
+    b"copy", Command::Key(KeyCommand::Copy), [Name, Key], [Usage, Alg], [Type, Bits, Life, Id];
+    b"destroy", Command::Key(KeyCommand::Destroy), [Key], [], [];
+    b"attributes", Command::Key(KeyCommand::Attributes), [Key], [], [];
+    b"export", Command::Key(KeyCommand::Export), [Key], [], [Room];
+    b"hash_compute", Command::SinglePart(SinglePartCommand::HashCompute), [], [Alg, Data], [Room];
+    b"hash_compare", Command::SinglePart(SinglePartCommand::HashCompare), [], [Alg, Data, Hash], [];
+    b"mac_compute", Command::SinglePart(SinglePartCommand::MacCompute), [Key], [Alg, Data], [Room];
+    b"mac_verify", Command::SinglePart(SinglePartCommand::MacVerify), [Key], [Alg, Data, Mac], [];
+    b"cipher_encrypt", Command::SinglePart(SinglePartCommand::CipherEncrypt), [Key], [Alg, Data], [Room];
+    b"cipher_decrypt", Command::SinglePart(SinglePartCommand::CipherDecrypt), [Key], [Alg, Data], [Room];
+    b"aead_encrypt", Command::SinglePart(SinglePartCommand::AeadEncrypt), [Key], [Alg, Nonce, Data], [Ad, Room];
+    b"aead_decrypt", Command::SinglePart(SinglePartCommand::AeadDecrypt), [Key], [Alg, Nonce, Data], [Ad, Room];
+    b"hash_setup", Command::Hash(HashCommand::Setup), [Handle], [Alg], [];
+    b"hash_update", Command::Hash(HashCommand::Update), [Handle], [Data], [];
+    b"hash_finish", Command::Hash(HashCommand::Finish), [Handle], [], [Room];
+    b"hash_verify", Command::Hash(HashCommand::Verify), [Handle], [Hash], [];
+    b"mac_sign_setup", Command::Mac(MacCommand::SignSetup), [Handle, Key], [Alg], [];
+    b"mac_verify_setup", Command::Mac(MacCommand::VerifySetup), [Handle, Key], [Alg], [];
+    b"mac_update", Command::Mac(MacCommand::Update), [Handle], [Data], [];
+    b"mac_sign_finish", Command::Mac(MacCommand::SignFinish), [Handle], [], [Room];
+    b"mac_verify_finish", Command::Mac(MacCommand::VerifyFinish), [Handle], [Mac], [];
+    b"cipher_encrypt_setup", Command::Cipher(CipherCommand::EncryptSetup), [Handle, Key], [Alg], [];
+    b"cipher_decrypt_setup", Command::Cipher(CipherCommand::DecryptSetup), [Handle, Key], [Alg], [];
+    b"cipher_generate_iv", Command::Cipher(CipherCommand::GenerateIv), [Handle], [], [Room];
+    b"cipher_set_iv", Command::Cipher(CipherCommand::SetIv), [Handle], [Iv], [];
+    b"cipher_update", Command::Cipher(CipherCommand::Update), [Handle], [Data], [Room];
+    b"cipher_finish", Command::Cipher(CipherCommand::Finish), [Handle], [], [Room];
+    b"aead_encrypt_setup", Command::Aead(AeadCommand::EncryptSetup), [Handle, Key], [Alg], [];
+    b"aead_decrypt_setup", Command::Aead(AeadCommand::DecryptSetup), [Handle, Key], [Alg], [];
+    b"aead_generate_nonce", Command::Aead(AeadCommand::GenerateNonce), [Handle], [], [Room];
+    b"aead_set_nonce", Command::Aead(AeadCommand::SetNonce), [Handle], [Nonce], [];
+    b"aead_set_lengths", Command::Aead(AeadCommand::SetLengths), [Handle], [AdLength, PlainLength], [];
+    b"aead_update_ad", Command::Aead(AeadCommand::UpdateAd), [Handle], [Data], [];
+    b"aead_update", Command::Aead(AeadCommand::Update), [Handle], [Data], [Room];
+    b"aead_finish", Command::Aead(AeadCommand::Finish), [Handle], [], [Room];
+    b"aead_verify", Command::Aead(AeadCommand::Verify), [Handle], [Tag], [];
+    b"kdf_setup", Command::Derivation(DerivationCommand::Setup), [Handle], [Alg], [];
+    b"kdf_get_capacity", Command::Derivation(DerivationCommand::GetCapacity), [Handle], [], [];
+    b"kdf_set_capacity", Command::Derivation(DerivationCommand::SetCapacity), [Handle], [Capacity], [];
+    b"kdf_input_bytes", Command::Derivation(DerivationCommand::InputBytes), [Handle], [Step, Data], [];
+    b"kdf_input_integer", Command::Derivation(DerivationCommand::InputInteger), [Handle], [Step, Value], [];
+    b"kdf_input_key", Command::Derivation(DerivationCommand::InputKey), [Handle, Key], [Step], [];
+    b"kdf_output_bytes", Command::Derivation(DerivationCommand::OutputBytes), [Handle], [Length], [];
+    b"kdf_output_key", Command::Derivation(DerivationCommand::OutputKey), [Handle, Name], [Type, Bits, Usage, Alg], [Life, Id];
+    b"kdf_verify_bytes", Command::Derivation(DerivationCommand::VerifyBytes), [Handle], [Data], [];
+    b"abort", Command::Abort, [Handle], [], [];
 ];
 
-/// All commands.
-pub(crate) fn commands() -> &'static [Command]
-    ensures { result.now ≡ commands }
+/// All rows.
+#[tactic(auto, unfolding(crate::specs::Commands::rows))]
+fn all_rows() -> &'static [Row]
+    ensures { map shape result.now ≡ rows }
 {
-    COMMANDS
+    ROWS
+}
+
+fn find_row<'a>(rows: &'a [Row], word: &[u8]) -> Option<&'a Row>
+    ensures { option_copied result ≡ find (is_written word.now) rows.now }
+{
+    rows.iter().find(|row| is_text(row.word, word))
+}
+
+/// The row of a command's word.
+#[tactic(auto, using(crate::proofs::Table::found_shape), unfolding(crate::specs::Commands::row_named))]
+pub(crate) fn row_named(word: &[u8]) -> Option<Row>
+    ensures { option_map shape result ≡ row_named word.now }
+{
+    find_row(all_rows(), word).copied()
 }

@@ -1,21 +1,23 @@
 // The fields of a line.
-ghost use Rattle.std.specs.Prelude.{◌≡◌, ◌≤◌, ◌<◌, ◌+◌, ◌^◌, [], Ok, find};
+ghost use Rattle.std.specs.Prelude.{◌≡◌, ◌≤◌, ◌<◌, ◌+◌, ◌^◌, []};
 ghost use Rattle.std.specs.Option.{option_copied};
 ghost use Rattle.std.specs.Str.{bytes_eq};
-ghost use Rattle.script_lang.specs.Table.{shape};
+ghost use Rattle.script_lang.specs.Shapes.{shape};
 ghost use Rattle.script_lang.specs.Steps.{Gives};
-ghost use Rattle.script_lang.specs.Fields.{field_number, field_named, field_name, all_fields, field_value, has_field, is_among, has_required, short_value, word_value, long_value, bytes_value, is_field, short_at, word_at, long_at, room_at, bytes_at, read_field, read_fields};
+ghost use Rattle.script_lang.specs.Fields.{field_number, field_named, field_name, all_fields, field_value, has_field, is_among, has_required, short_value, word_value, long_value, bytes_value, read_field, read_fields};
 
+use crate::commands::Row;
 use crate::faults::{LineError, Reason};
+use crate::field_list::Fields;
 use crate::numbers::number_of;
 use crate::pieces::{Words, cut};
 use crate::script::ByteList;
-use crate::table::Row;
 use hex::FromHexError;
 use std::alloc::Global;
 
+/// A field of a line, by its name.
 #[derive(Clone, Copy, Drop)]
-pub(crate) enum Field {
+pub enum Field {
     Type,
     Usage,
     Alg,
@@ -40,7 +42,7 @@ pub(crate) enum Field {
 
 /// What a field says.
 #[derive(Drop)]
-pub(crate) enum FieldValue {
+pub enum FieldValue {
     Short(u16),
     Word(u32),
     Long(u64),
@@ -48,7 +50,7 @@ pub(crate) enum FieldValue {
 }
 
 /// The length of an output buffer whose line states none, and the greatest that a line may state.
-const ROOM: u16 = 16448;
+pub(crate) const ROOM: u16 = 16448;
 
 /// The greatest number of bytes that a line may ask a derivation for.
 const LENGTH_LIMIT: u64 = 16384;
@@ -258,71 +260,6 @@ fn value_of(alloc: Global, field: Field, text: &[u8]) -> Result<FieldValue, Line
     }
 }
 
-/// The field that stands among these.
-fn find_field(done: &[(Field, FieldValue)], field: Field) -> Option<&(Field, FieldValue)>
-    ensures { option_copied result ≡ find (is_field field) done.now }
-{
-    done.iter().find(|f| f.0.number() == field.number())
-}
-
-/// The number of a field, and a default where it is missing.
-pub(crate) fn short_in(done: &[(Field, FieldValue)], field: Field, default: u16) -> u16
-    ensures { result ≡ short_at default field done.now }
-{
-    match find_field(done, field) {
-        Some((_, FieldValue::Short(n))) => *n,
-        _ => default,
-    }
-}
-
-/// The number of a field, and 0 where it is missing.
-pub(crate) fn word_in(done: &[(Field, FieldValue)], field: Field) -> u32
-    ensures { result ≡ word_at field done.now }
-{
-    match find_field(done, field) {
-        Some((_, FieldValue::Word(n))) => *n,
-        _ => 0,
-    }
-}
-
-/// The number of a field, and 0 where it is missing.
-pub(crate) fn long_in(done: &[(Field, FieldValue)], field: Field) -> u64
-    ensures { result ≡ long_at field done.now }
-{
-    match find_field(done, field) {
-        Some((_, FieldValue::Long(n))) => *n,
-        _ => 0,
-    }
-}
-
-/// The length of the output buffer.
-pub(crate) fn room_in(done: &[(Field, FieldValue)]) -> u16
-    ensures { result ≡ room_at done.now }
-{
-    short_in(done, Field::Room, ROOM)
-}
-
-/// The bytes of a field, and none where it is missing.
-fn bytes_in(done: &[(Field, FieldValue)], field: Field) -> &[u8]
-    ensures { result.now ≡ bytes_at field done.now }
-{
-    match find_field(done, field) {
-        Some((_, FieldValue::Bytes(bytes))) => bytes.as_slice(),
-        _ => &[],
-    }
-}
-
-/// A copy of the bytes of a field, and none where it is missing.
-pub(crate) fn bytes_for(
-    alloc: Global,
-    done: &[(Field, FieldValue)],
-    field: Field,
-) -> Result<ByteList, LineError>
-    ensures { Gives (λ b. b) result (Ok (bytes_at field done.now)) }
-{
-    Ok(ByteList::of(bytes_in(done, field).to_vec(alloc)?))
-}
-
 /// A further word of a line, after the fields that stand already.
 #[tactic(auto, unfolding(crate::specs::Fields::read_field))]
 fn field_at(
@@ -350,17 +287,13 @@ fn field_at(
 }
 
 /// The fields of the words that are left.
-pub(crate) fn fields_of(
-    alloc: Global,
-    row: Row,
-    words: &mut Words,
-) -> Result<Vec<(Field, FieldValue)>, LineError>
-    ensures { Gives (λ v. v.items) result (read_fields (shape row) [] words.old) }
+pub(crate) fn fields_of(alloc: Global, row: Row, words: &mut Words) -> Result<Fields, LineError>
+    ensures { Gives (λ fields. fields) result (read_fields (shape row) [] words.old) }
 {
     let mut done = Vec::new(alloc);
     while let Some(word) = words.next() {
         let field = field_at(alloc, row, &done, word)?;
         done.push(field)?;
     }
-    Ok(done)
+    Ok(Fields::of(done))
 }

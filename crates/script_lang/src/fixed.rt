@@ -5,21 +5,22 @@ ghost use Rattle.script_lang.specs.Steps.{Gives, Fails};
 ghost use Rattle.script_lang.specs.Lines.{handle_at, is_name, is_name_byte, key_at, no_words, with_word, read_fixed};
 ghost use Rattle.script_lang.specs.Sessions.{places_of};
 
+use crate::commands::Kind;
 use crate::faults::{LineError, Reason};
 use crate::numbers::number_of;
 use crate::pieces::Words;
 use crate::script::{ByteList, KeyWord};
 use crate::sessions::Session;
-use crate::table::Kind;
 use key_attributes::KeyId;
+use service_calls::Op;
 use std::alloc::Global;
 
-/// The fixed words of a line.
+/// The fixed words of a line. What it doesn't name is the key 0, and the first handle.
 #[derive(Drop)]
 pub(crate) struct Fixed {
     pub key: KeyWord,
     pub name: Option<ByteList>,
-    pub handle: u8,
+    pub handle: Op,
 }
 
 impl Fixed {
@@ -29,7 +30,7 @@ impl Fixed {
         Fixed {
             key: KeyWord::Given(KeyId(0)),
             name: None,
-            handle: 0,
+            handle: Op::first(),
         }
     }
 }
@@ -76,11 +77,14 @@ fn key_of(session: &Session, word: &[u8]) -> Result<KeyWord, LineError>
 }
 
 /// A handle, 1 to 4.
-fn handle_of(word: &[u8]) -> Result<u8, LineError>
+fn handle_of(word: &[u8]) -> Result<Op, LineError>
     ensures { Gives (λ h. h) result (handle_at word.now) }
 {
     match word {
-        [digit] if b'1' <= *digit && *digit <= b'4' => Ok(*digit - b'0'),
+        [digit @ b'1'..=b'4'] => match Op::new(*digit - b'0') {
+            Some(op) => Ok(op),
+            None => unreachable!(),
+        },
         _ => Err(LineError::Bad(Reason::BadHandle)),
     }
 }

@@ -1,29 +1,32 @@
 //! The script language: the lines that sessions' calls are written in, and the text of their replies.
 #![tactic(auto)]
 
-mod calls;
 mod commands;
-mod families;
 mod faults;
+mod field_list;
 mod fields;
 mod fixed;
 mod grammar;
-mod handle_calls;
-mod handle_steps;
 mod laws;
 mod numbers;
+mod operation_commands;
 mod pieces;
 mod reading;
 mod replies;
 mod script;
 mod sessions;
-mod table;
+mod store_commands;
 
-pub use families::{AeadCall, CipherCall, Creation, HashCall, KeyCall, MacCall};
+pub use commands::{Command, Kind};
 pub use faults::{Reason, ScriptFault};
+pub use field_list::Fields;
+pub use fields::{Field, FieldValue};
 pub use grammar::script_grammar;
-pub use handle_calls::{AeadStep, CipherStep, DerivationStep, HandleCall, HashStep, MacStep};
 pub use laws::turns_are_replayed;
+pub use operation_commands::{
+    AeadCommand, CipherCommand, DerivationCommand, HashCommand, MacCommand,
+};
 pub use reading::read_script;
 pub use replies::{ReplyLine, write_reply};
 pub use script::{ByteList, KeyWord, Script, ScriptCall, ScriptLine};
+pub use store_commands::{KeyCommand, SinglePartCommand};

@@ -4,11 +4,10 @@ ghost use Rattle.script_lang.specs.declared.faults.LineError.TheVariants.{Memory
 ghost use Rattle.script_lang.specs.Steps.{Fails, Gives};
 ghost use Rattle.script_lang.specs.Pieces.{words, text_lines};
 ghost use Rattle.script_lang.specs.Lines.{session_of, with_call, parts_at, words_at, line_at, lines_at, nothing_read, fault_at, script_of, ScriptGives, IsOfSession};
-ghost use Rattle.script_lang.specs.Limits.{IsWellFormed};
+ghost use Rattle.script_lang.specs.Shapes.{shape};
 ghost use Rattle.script_lang.specs.Sessions.{places_of, read_of, AreCounted, IsNew};
 
-use crate::calls::call_of;
-use crate::commands::Command;
+use crate::commands::{Row, row_named};
 use crate::faults::{LineError, Reason, ScriptFault};
 use crate::fields::{fields_of, has_required};
 use crate::fixed::{Fixed, take_words};
@@ -49,19 +48,23 @@ struct Reading {
 fn read_parts(
     alloc: Global,
     session: &Session,
-    command: Command,
+    row: Row,
     words: &mut Words,
 ) -> Result<(Option<ByteList>, ScriptCall), LineError>
-    ensures { Gives (λ p. p) result (parts_at (places_of session.now) command words.old) }
+    ensures { Gives (λ p. p) result (parts_at (places_of session.now) (shape row) words.old) }
 {
-    let row = command.row();
     let mut fixed = Fixed::new();
     take_words(alloc, session, row.fixed, &mut fixed, words)?;
     let fields = fields_of(alloc, row, words)?;
-    if !has_required(row, &fields) {
+    if !has_required(row, fields.items()) {
         return Err(LineError::Bad(Reason::MissingField));
     }
-    let call = call_of(alloc, command, &fixed, &fields)?;
+    let call = ScriptCall {
+        command: row.command,
+        key: fixed.key,
+        handle: fixed.handle,
+        fields,
+    };
     Ok((fixed.name, call))
 }
 
@@ -140,10 +143,10 @@ impl Reading {
         let Some(name) = words.next() else {
             return Err(LineError::Bad(Reason::UnknownCommand));
         };
-        let Some(command) = Command::named(name) else {
+        let Some(row) = row_named(name) else {
             return Err(LineError::Bad(Reason::UnknownCommand));
         };
-        let (name, call) = read_parts(alloc, self.session(session), *command, words)?;
+        let (name, call) = read_parts(alloc, self.session(session), row, words)?;
         self.add(session, name, call)
     }
 
@@ -180,7 +183,6 @@ fn read_lines(alloc: Global, text: &[u8]) -> Result<Vec<ScriptLine>, ScriptFault
     ensures value { ScriptGives (λ v. v.items) result (lines_at 1 nothing_read (text_lines text.now)) }
     ensures few { IfOk result (λ v. length v.items ≤ 20000) }
     ensures sessions { IfOk result (λ v. All IsOfSession v.items) }
-    ensures calls { IfOk result (λ v. All IsWellFormed v.items) }
 {
     let mut reading = match Reading::new(alloc) {
         Ok(reading) => reading,
@@ -221,7 +223,6 @@ pub fn read_script(alloc: Global, text: &[u8]) -> Result<Script, ScriptFault>
     ensures value { ScriptGives (λ script. script) result (script_of text.now) }
     ensures few { IfOk result (λ script. length script ≤ 20000) }
     ensures sessions { IfOk result (λ script. All IsOfSession script) }
-    ensures calls { IfOk result (λ script. All IsWellFormed script) }
 {
     if text.len() > TEXT_LIMIT {
         return Err(ScriptFault::TooLong);

@@ -1,10 +1,14 @@
 // A script as it was read.
 ghost use Rattle.std.specs.Prelude.{◌≡◌, ◌<◌, IfOk, slice_get, length, Some};
+ghost use Rattle.service_calls.specs.Meanings.{model_request};
+ghost use Rattle.script_lang.specs.Commands.{key_of, request_of};
+ghost use Rattle.script_lang.specs.Fields.{room_at};
 
-use crate::families::{AeadCall, CipherCall, Creation, HashCall, KeyCall, MacCall};
-use crate::handle_calls::HandleCall;
+use crate::commands::Command;
+use crate::field_list::Fields;
 use key_attributes::KeyId;
 use psa_status::Memory;
+use service_calls::{Call, HandleCall, Op};
 use std::alloc::Global;
 use std::marker::Model;
 
@@ -62,17 +66,45 @@ pub enum KeyWord {
     Line(u32),
 }
 
-/// A call of a script.
+impl KeyWord {
+    /// The key's identifier, where `given` has the identifiers that the session's calls before gave.
+    fn id(self, given: &[u32]) -> KeyId
+        ensures { result.0 ≡ key_of given.now self }
+    {
+        match self {
+            KeyWord::Given(id) => id,
+            KeyWord::Line(place) => KeyId(given.get(place as usize).copied().unwrap_or(0)),
+        }
+    }
+}
+
+/// A call of a script: its command, and what its line says beside it.
 #[derive(Drop)]
-pub enum ScriptCall {
-    Create(Creation),
-    Key(KeyCall),
-    Hash(HashCall),
-    Mac(MacCall),
-    Cipher(CipherCall),
-    Aead(AeadCall),
-    /// A call on one of the session's operations, by its handle, 1 to 4.
-    OnHandle { handle: u8, call: HandleCall },
+pub struct ScriptCall {
+    pub command: Command,
+    pub key: KeyWord,
+    pub handle: Op,
+    pub fields: Fields,
+}
+
+impl ScriptCall {
+    /// The call as a value, where `given` has the identifiers that the session's calls before gave.
+    pub fn value(&self, given: &[u32]) -> Call<'_>
+        ensures { model_request result (room_at self.now.fields) ≡ request_of given.now self.now }
+    {
+        let key = self.key.id(given);
+        let fields = &self.fields;
+        match self.command {
+            Command::Key(command) => Call::OnStore(command.call(key, fields)),
+            Command::SinglePart(command) => Call::OnStore(command.call(key, fields)),
+            Command::Hash(command) => Call::OnHandle(self.handle, command.call(fields)),
+            Command::Mac(command) => Call::OnHandle(self.handle, command.call(key, fields)),
+            Command::Cipher(command) => Call::OnHandle(self.handle, command.call(key, fields)),
+            Command::Aead(command) => Call::OnHandle(self.handle, command.call(key, fields)),
+            Command::Derivation(command) => Call::OnHandle(self.handle, command.call(key, fields)),
+            Command::Abort => Call::OnHandle(self.handle, HandleCall::Abort),
+        }
+    }
 }
 
 /// A line of a script that is a call, and the session that makes it, 1 to 16.

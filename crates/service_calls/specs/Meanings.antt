@@ -23,6 +23,9 @@ use Rattle.service_calls.specs.declared.handle_calls.Setup.{Setup}
 use Rattle.service_calls.specs.declared.handle_calls.Setup.TheVariants as setup
 use Rattle.service_calls.specs.declared.handle_calls.HandleCall.{HandleCall}
 use Rattle.service_calls.specs.declared.handle_calls.HandleCall.TheVariants as call
+use Rattle.store_model.specs.Requests.{Request, OnStore, OnHandle}
+use Rattle.service_calls.specs.declared.call.Call.{Call}
+use Rattle.service_calls.specs.declared.call.Call.TheVariants as asked
 use Rattle.service_calls.specs.declared.store_calls.StoreCall.{StoreCall}
 use Rattle.service_calls.specs.declared.store_calls.StoreCall.TheVariants as store
 
@@ -98,3 +101,7 @@ model_store_call (store.CipherEncrypt key alg input) room = on_store.CipherEncry
 model_store_call (store.CipherDecrypt key alg input) room = on_store.CipherDecrypt key.0 alg.0 input.now room
 model_store_call (store.AeadEncrypt key alg nonce ad input) room = on_store.AeadEncrypt key.0 alg.0 nonce.now ad.now input.now room
 model_store_call (store.AeadDecrypt key alg nonce ad input) room = on_store.AeadDecrypt key.0 alg.0 nonce.now ad.now input.now room
+
+abbrev pub model_request : Call → (room : ℕ) → Request
+model_request (asked.OnStore c) room = OnStore (model_store_call c room)
+model_request (asked.OnHandle op c) room = OnHandle op (model_handle_call c room)

@@ -1,12 +1,14 @@
 //! Calls on the service as values, and what they answer. An output buffer stands beside a call.
 #![tactic(auto)]
 
+mod call;
 mod handle_calls;
 mod op;
 mod output;
 mod steps;
 mod store_calls;
 
+pub use call::Call;
 pub use handle_calls::{HandleCall, Setup};
 pub use op::Op;
 pub use output::{Output, bytes, description, identifier, number, plain};

@@ -20,6 +20,13 @@ impl Model for Op {
 }
 
 impl Op {
+    /// The first handle.
+    pub fn first() -> Op
+        ensures { result ≡ 1 }
+    {
+        Op(1)
+    }
+
     /// The handle of this number, which is 1 to 4.
     pub fn new(number: u8) -> Option<Op>
         ensures { MatchOption result ((number ≡ 0) ⊎ (4 < number)) (λ op. op ≡ number) }

@@ -16,7 +16,8 @@ use Rattle.store_model.specs.Replay.{Entry, outcome_of, replay}
 use Rattle.script_lang.specs.declared.script.ScriptLine.{ScriptLine}
 use Rattle.script_lang.specs.declared.replies.ReplyLine.{ReplyLine}
 use Rattle.script_lang.specs.Lines.{IsOfSession}
-use Rattle.script_lang.specs.PrintedOrder.{Turn, turns, turns_from, turns_of, lines_of, AreCalls, call_of, id_given, numbered, printed, replies_to, text_of, AnswersLines}
+use Rattle.script_lang.specs.Commands.{request_of}
+use Rattle.script_lang.specs.PrintedOrder.{Turn, turns, turns_from, turns_of, lines_of, AreCalls, id_given, numbered, printed, replies_to, text_of, AnswersLines}
 use Rattle.key_service.specs.declared.service.Service.{Service}
 use Rattle.session_host.specs.declared.sessions.SessionReplies.{SessionReplies}
 use Rattle.key_service.specs.Whole.{Stands}
@@ -110,7 +111,7 @@ one_more lines sessions service next line i own new h place within at n r g =
         line_order = map-append (λ e. e.caller) old.history (entry ∷ []) ∙ ap (λ l. l ++ line.session ∷ []) old.line_order ∙ sym (map-append (λ l. l.session) lines (line ∷ []));
         own = λ session. subst (λ us. AreCalls [] (lines_of session (lines ++ line ∷ [])) (turns_of session us)) (sym after)
             (calls_more session lines (turns_from opened_service old.history) line t (old.own session) refl
-            (λ e. ap (λ is. call_of is line.call) (told.given ∙ ap (λ s. map (λ t. id_given t.reply) (turns_of s (turns_from opened_service old.history))) (place ∙ e))));
+            (λ e. ap (λ is. request_of is line.call) (told.given ∙ ap (λ s. map (λ t. id_given t.reply) (turns_of s (turns_from opened_service old.history))) (place ∙ e))));
         sixteen = length-set sessions i new ∙ old.sixteen;
         told = λ j s below is. each_session sessions old.history (old.history ++ entry ∷ []) t i j own new s (omega (arith, old.sixteen)) old.told below is within at after (sym place) (r it h.stands) (g it h.stands);
       };

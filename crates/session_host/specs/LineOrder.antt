@@ -13,7 +13,8 @@ use Rattle.key_service.specs.Whole.{Stands}
 use Rattle.key_service.specs.declared.service.Service.{Service}
 use Rattle.script_lang.specs.declared.script.ScriptLine.{ScriptLine}
 use Rattle.script_lang.specs.declared.replies.ReplyLine.{ReplyLine}
-use Rattle.script_lang.specs.PrintedOrder.{Turn, turns_from, turns_of, lines_of, AreCalls, call_of, id_given, numbered}
+use Rattle.script_lang.specs.Commands.{request_of}
+use Rattle.script_lang.specs.PrintedOrder.{Turn, turns_from, turns_of, lines_of, AreCalls, id_given, numbered}
 use Rattle.session_host.specs.declared.answers.Answer.{Answer}
 use Rattle.session_host.specs.declared.sessions.SessionReplies.{SessionReplies}
 
@@ -35,7 +36,7 @@ pub record Fills (answer : Result Output Status) (out : List ℕ) (reply : Reply
 
 -- the entry of a line's call, by the identifiers that its session's calls before gave
 abbrev pub line_entry : List ℕ → ScriptLine → Entry
-line_entry ids line = record { caller = line.session; call = call_of ids line.call; mark = Plain; done = 0; faults = 0; hard = 0 }
+line_entry ids line = record { caller = line.session; call = request_of ids line.call; mark = Plain; done = 0; faults = 0; hard = 0 }
 
 -- the service and the reply after a line's call
 abbrev pub line_served : model.Service → List ℕ → ScriptLine → Served

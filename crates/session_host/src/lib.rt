@@ -3,10 +3,7 @@
 
 mod answers;
 mod calls;
-mod handle_values;
 mod sessions;
-mod store_values;
 mod texts;
-mod words;
 
 pub use texts::answer_text;

@@ -2,7 +2,6 @@
 ghost use Rattle.std.specs.Prelude.{◌≡◌, ◌≤◌, ◌<◌, ◌^◌, ◌++◌, ◌∷◌, ◌+◌, [], IfOk, OnOk, All, length};
 ghost use Rattle.key_service.specs.Services.{HasWords};
 ghost use Rattle.store_model.specs.Handles as model;
-ghost use Rattle.script_lang.specs.Limits.{IsWellFormed};
 ghost use Rattle.script_lang.specs.Lines.{IsOfSession};
 ghost use Rattle.script_lang.specs.PrintedOrder.{printed, id_given};
 ghost use Rattle.key_service.specs.Whole.{Stands};
@@ -14,8 +13,8 @@ use psa_status::Memory;
 use script_lang::{ReplyLine, ScriptLine};
 use std::alloc::Global;
 
-/// The bytes of the longest output buffer that a line can ask for.
-const OUTPUT_BYTES: usize = 16448;
+/// No line asks for a longer output buffer, in bytes: its length is a number of 16 bits.
+const OUTPUT_BYTES: usize = 65535;
 
 /// The replies to the calls of one session, and the identifiers that they gave, or 0.
 #[derive(Drop)]
@@ -47,8 +46,7 @@ fn answer_line(
     requires last { line.now.session ≤ 16 }
     requires turns { service.old.store.calls < 2 ^ 62 }
     requires words { HasWords service.old.callers.streams.items line.now.session }
-    requires room { 16448 ≤ length buffer.old }
-    requires limits { IsWellFormed line.now }
+    requires room { 65535 ≤ length buffer.old }
     requires few { length own.old.replies.items < 2 ^ 31 }
     ensures stands { (it : model.Service) → Stands service.old it → Stands service.new (line_served it own.old.given.items line.now).service }
     ensures replies { (it : model.Service) → Stands service.old it →
@@ -99,7 +97,6 @@ fn zeros(alloc: Global, count: usize) -> Result<Vec<u8>, Memory>
 /// The replies to the calls of a script, made in line order on a store without a key and on inactive operations.
 pub fn answer_lines(alloc: Global, lines: &[ScriptLine]) -> Result<Vec<SessionReplies>, Memory>
     requires sessions { All IsOfSession lines.now }
-    requires limits { All IsWellFormed lines.now }
     requires few { length lines.now ≤ 20000 }
     ensures { IfOk result (λ sessions. AreAnswered lines.now sessions.items) }
 {

@@ -1,6 +1,5 @@
 // The text of the replies, by session.
 ghost use Rattle.std.specs.Prelude.{◌≡◌, ◌≤◌, ◌++◌, IfOk, OnOk, All, length};
-ghost use Rattle.script_lang.specs.Limits.{IsWellFormed};
 ghost use Rattle.script_lang.specs.Lines.{IsOfSession};
 ghost use Rattle.script_lang.specs.PrintedOrder.{AnswersLines, text_of};
 ghost use Rattle.session_host.specs.LineOrder.{opened_service};
@@ -36,7 +35,6 @@ fn text_of_sessions(alloc: Global, sessions: &[SessionReplies]) -> Result<Vec<u8
 /// operations, and each has one reply line. Fails where memory runs out.
 pub fn answer_text(alloc: Global, lines: &[ScriptLine]) -> Result<Vec<u8>, Memory>
     requires sessions { All IsOfSession lines.now }
-    requires limits { All IsWellFormed lines.now }
     requires few { length lines.now ≤ 20000 }
     ensures { IfOk result (λ out. AnswersLines opened_service lines.now out.items) }
 {

@@ -1,6 +1,7 @@
 use Rattle.std.proofs.Common.{sym, ap, ◌∙◌, subst}
+use Rattle.std.specs.Prelude.{Ok}
 use Rattle.std.proofs.lemmas.Result.{err_from_is_err_and}
-use Rattle.script_lang.specs.Table.{shape}
+use Rattle.script_lang.specs.Shapes.{shape}
 use Rattle.script_lang.specs.Fields.{Fields, read_field, read_fields}
 use Rattle.script_lang.specs.Steps.{Fails}
 use Rattle.script_lang.proofs.Rows.{fields_end, fields_turn, fields_fail}
@@ -21,4 +22,4 @@ loop-word-preserved c =
     ∙ c.loop-word.invariant
 
 pub returns : goal.returns
-returns c = sym c.loop-word.invariant ∙ fields_end (shape c.args.row) c.loop-word.done.items c.loop-word.words c.in_default.ensures.0
+returns c = sym c.loop-word.invariant ∙ fields_end (shape c.args.row) c.loop-word.done.items c.loop-word.words c.in_default.ensures.0 ∙ ap Ok (sym c.of.ensures)

@@ -1,8 +1,6 @@
 use Rattle.std.proofs.Common.{length, sym, ap, ◌∙◌, subst, arith}
 use Rattle.script_lang.specs.Lines.{fault_at, ScriptFails}
-use Rattle.script_lang.specs.Pieces.{text_lines}
 use Rattle.script_lang.proofs.Whole.{lines_turn, lines_end, lines_fail}
-use Rattle.script_lang.proofs.Within.{lines_keep}
 use Rattle.script_lang.proofs.reading.read_lines.Goals as goal
 
 pub loop-line-preserved : goal.loop-line-preserved
@@ -21,8 +19,3 @@ returns-in-Err-read_line-clause-value c =
 
 pub returns-clause-value : goal.returns-clause-value
 returns-clause-value c = sym c.loop-line.invariant.read ∙ lines_end c.loop-line.number _ c.loop-line.lines c.in_default.ensures.0
-
-pub returns-clause-calls : goal.returns-clause-calls
-returns-clause-calls c =
-    lines_keep (text_lines c.args.text.now) c.loop-line.reading.lines.items
-    (sym c.loop-line.invariant.read ∙ lines_end c.loop-line.number _ c.loop-line.lines c.in_default.ensures.0)
