@@ -1,9 +1,6 @@
 // Scripts: their first faults, their calls and names, and reply lines.
 use psa_status::{Memory, Status};
-use script_lang::{
-    ByteList, Creation, HandleCall, KeyCall, KeyWord, MacCall, MacStep, ReplyLine, ScriptCall,
-    ScriptLine, read_script, write_reply,
-};
+use script_lang::{ByteList, KeyWord, ReplyLine, ScriptLine, read_script, write_reply};
 use std::alloc::{AllocError, Global};
 
 /// What comes of a text: its calls, or the line that is printed of its fault.
@@ -149,23 +146,9 @@ fn every_command_is_read(rt: HostRuntime) -> Result<(), AllocError> {
 
 /// The place that the key of a line stands for, and 9 where it has none.
 fn place(line: Option<&ScriptLine>) -> u32 {
-    let key = match line.map(|l| &l.call) {
-        Some(ScriptCall::Create(Creation::Copy { key, .. })) => *key,
-        Some(ScriptCall::Key(KeyCall::Export { key, .. })) => *key,
-        Some(ScriptCall::Key(KeyCall::Destroy { key })) => *key,
-        Some(ScriptCall::Key(KeyCall::Attributes { key })) => *key,
-        Some(ScriptCall::Mac(MacCall::Verify { key, .. })) => *key,
-        Some(
-            ScriptCall::OnHandle {
-                call: HandleCall::Mac(MacStep::SignSetup { key, .. }),
-                ..
-            },
-        ) => *key,
-        _ => return 9,
-    };
-    match key {
-        KeyWord::Line(place) => place,
-        KeyWord::Given(_) => 9,
+    match line.map(|l| l.call.key) {
+        Some(KeyWord::Line(place)) => place,
+        _ => 9,
     }
 }
 
