@@ -1,6 +1,9 @@
 // The steps of a call: each is one write that is made sure of.
 ghost use Rattle.std.specs.Prelude.{◌≡◌, ◌<◌, List, ℕ, length, set, OnOk, OnErr, IfErr};
 ghost use Rattle.psa_status.specs.Causes.{HasCause};
+ghost use Rattle.disk_face.specs.Disk.{Follows, StillTells, Torn};
+ghost use Rattle.disk_face.specs.Moments.{AfterStep, LeavesWritten, Within};
+ghost use Rattle.key_cells.specs.Layout.{opened_gate, place};
 ghost use Rattle.key_cells.specs.declared.slot.Slot.TheVariants.{Free, Open, Shut, Unsure};
 ghost use Rattle.key_cells.specs.Contents.{Content, Present, Doubtful, StandsForContents, Moves, Keeps, StaysFree, cell_slot, content_at, settled_slots};
 
@@ -8,6 +11,21 @@ use crate::Slot;
 use crate::cells::{CLOSED, CellFault, Cells, OPENED, ZEROS, place};
 use disk_face::{Disk, write_through};
 use psa_status::Failed;
+
+// Writes that a cell is open, and makes sure of it: else a crash could take back a creation that was answered.
+fn write_open_gate<D: Disk>(disk: &mut D, cell: usize) -> Result<(), Failed>
+    requires size { D.size disk.old ≡ 557120 }
+    requires within { cell < 512 }
+    ensures durable { OnOk result (LeavesWritten (D.contents disk.old) (place cell) opened_gate (D.may_leave disk.new)) }
+    ensures torn { Follows (Torn (place cell) 1) (D.may_leave disk.old) (D.may_leave disk.new) }
+    ensures within { Within (D.moment disk.old) (D.moment disk.new) (D.left_since disk.old) (D.left_since disk.new)
+        (AfterStep (Torn (place cell) 1) (D.may_leave disk.old)) }
+    ensures tells { StillTells (D.contents disk.old) (D.contents disk.new) }
+    ensures size { D.size disk.new ≡ 557120 }
+    ensures cause { HasCause (D.faults disk.old) (D.faults disk.new) result }
+{
+    write_through(disk, place(cell), &[OPENED])
+}
 
 impl<D: Disk> Cells<D> {
     // Closes the gate of a cell whose body is whole.
@@ -99,7 +117,7 @@ impl<D: Disk> Cells<D> {
         ensures cause { HasCause (D.faults self.old.disk) (D.faults self.new.disk) result }
         ensures fault { IfErr result (λ fault. fault ≡ CellFault.Disk) }
     {
-        match write_through(&mut self.disk, place(cell), &[OPENED]) {
+        match write_open_gate(&mut self.disk, cell) {
             Ok(()) => {
                 self.slots[cell] = Slot::Open { id, creation };
                 Ok(())
