@@ -1,11 +1,9 @@
 -- Four table entries sum up to a column.
-use Rattle.std.proofs.Common.{◌≡◌, ℕ, zero, suc, ◌<◌, List, [], ◌∷◌, slice_index, bit_xor, refl, sym, ap, ap₂, ◌∙◌, arith}
+use Rattle.std.proofs.Common.{◌≡◌, ℕ, zero, suc, ◌+◌, ◌*◌, ◌%◌, ◌<◌, List, [], ◌∷◌, ◌++◌, slice_index, bit_xor, refl, sym, ap, ap₂, ◌∙◌, arith}
 use Rattle.std.specs.Int.{byte_at}
 use Rattle.std.specs.Int.Bits.{xor_assoc}
 use Rattle.std.proofs.lemmas.Nat.{xor_comm, be_bytes_4}
 use Rattle.crypto_specs.specs.Field.{gf_mul}
-use Rattle.crypto_specs.specs.Sbox.{sbox}
-use Rattle.crypto_specs.specs.Aes.{sub_bytes, shift_rows, mix_columns}
 use Rattle.crypto_specs.proofs.FieldLaws.{gf_mul-byte}
 use Rattle.aes_core.specs.Words.{bytes_of, mixed_column, products}
 use Rattle.aes_core.proofs.WordBytes.{byte_of_xor-0, byte_of_xor-1, byte_of_xor-2, byte_of_xor-3, row_0, row_1, row_2, row_3, four_words}
@@ -58,56 +56,23 @@ column_of_entries a0 a1 a2 a3 p q r s t u v w hp hq hr hs et eu ev ew =
     (sum _ _ _ _ _ _ _ _ (bt 2) (bu 2) (bv 2) (bw 2) ∙ turned (m a2 p) (m a3 q) (m a0 r) (m a1 s) ∙ turned (m a3 q) (m a0 r) (m a1 s) (m a2 p))
     (sum _ _ _ _ _ _ _ _ (bt 3) (bu 3) (bv 3) (bw 3) ∙ sym (turned (m a0 s) (m a1 p) (m a2 q) (m a3 r)))
 
--- the columns of a round
-pub mixed_state : (s : List ℕ) (x y z w : ℕ) → let at = slice_index s in
-    bytes_of (x ∷ []) ≡ mixed_column 2 3 1 1 (sbox (byte_at 3 (at 0))) (sbox (byte_at 2 (at 1))) (sbox (byte_at 1 (at 2))) (sbox (byte_at 0 (at 3)))
-    → bytes_of (y ∷ []) ≡ mixed_column 2 3 1 1 (sbox (byte_at 3 (at 1))) (sbox (byte_at 2 (at 2))) (sbox (byte_at 1 (at 3))) (sbox (byte_at 0 (at 0)))
-    → bytes_of (z ∷ []) ≡ mixed_column 2 3 1 1 (sbox (byte_at 3 (at 2))) (sbox (byte_at 2 (at 3))) (sbox (byte_at 1 (at 0))) (sbox (byte_at 0 (at 1)))
-    → bytes_of (w ∷ []) ≡ mixed_column 2 3 1 1 (sbox (byte_at 3 (at 3))) (sbox (byte_at 2 (at 0))) (sbox (byte_at 1 (at 1))) (sbox (byte_at 0 (at 2)))
-    → bytes_of (x ∷ y ∷ z ∷ w ∷ []) ≡ mix_columns (shift_rows (sub_bytes (bytes_of s)))
-mixed_state s x y z w ex ey ez ew =
-    rw (
-      row_0 s 0,
-      row_1 s 0,
-      row_2 s 0,
-      row_3 s 0,
-      row_0 s 1,
-      row_1 s 1,
-      row_2 s 1,
-      row_3 s 1,
-      row_0 s 2,
-      row_1 s 2,
-      row_2 s 2,
-      row_3 s 2,
-      row_0 s 3,
-      row_1 s 3,
-      row_2 s 3,
-      row_3 s 3,
-    ) (four_words x y z w _ _ _ _ ex ey ez ew)
+-- what f makes of a column whose row r stands in column c + d * r
+abbrev pub column_of_words : (ℕ → ℕ → ℕ → ℕ → List ℕ) → ℕ → List ℕ → ℕ → List ℕ
+column_of_words f d s c =
+    f (byte_at 3 (slice_index s c)) (byte_at 2 (slice_index s ((c + d) % 4))) (byte_at 1 (slice_index s ((c + 2 * d) % 4))) (byte_at 0 (slice_index s ((c + 3 * d) % 4)))
 
--- and of the last one
-pub last_state : (s : List ℕ) (x y z w : ℕ) → let at = slice_index s in
-    bytes_of (x ∷ []) ≡ sbox (byte_at 3 (at 0)) ∷ sbox (byte_at 2 (at 1)) ∷ sbox (byte_at 1 (at 2)) ∷ sbox (byte_at 0 (at 3)) ∷ []
-    → bytes_of (y ∷ []) ≡ sbox (byte_at 3 (at 1)) ∷ sbox (byte_at 2 (at 2)) ∷ sbox (byte_at 1 (at 3)) ∷ sbox (byte_at 0 (at 0)) ∷ []
-    → bytes_of (z ∷ []) ≡ sbox (byte_at 3 (at 2)) ∷ sbox (byte_at 2 (at 3)) ∷ sbox (byte_at 1 (at 0)) ∷ sbox (byte_at 0 (at 1)) ∷ []
-    → bytes_of (w ∷ []) ≡ sbox (byte_at 3 (at 3)) ∷ sbox (byte_at 2 (at 0)) ∷ sbox (byte_at 1 (at 1)) ∷ sbox (byte_at 0 (at 2)) ∷ []
-    → bytes_of (x ∷ y ∷ z ∷ w ∷ []) ≡ shift_rows (sub_bytes (bytes_of s))
-last_state s x y z w ex ey ez ew =
-    rw (
-      row_0 s 0,
-      row_1 s 0,
-      row_2 s 0,
-      row_3 s 0,
-      row_0 s 1,
-      row_1 s 1,
-      row_2 s 1,
-      row_3 s 1,
-      row_0 s 2,
-      row_1 s 2,
-      row_2 s 2,
-      row_3 s 2,
-      row_0 s 3,
-      row_1 s 3,
-      row_2 s 3,
-      row_3 s 3,
-    ) (four_words x y z w _ _ _ _ ex ey ez ew)
+-- and of the bytes of a state
+abbrev pub column_of_bytes : (ℕ → ℕ → ℕ → ℕ → List ℕ) → ℕ → List ℕ → ℕ → List ℕ
+column_of_bytes f d t c =
+    f (slice_index t (0 + 4 * c)) (slice_index t (1 + 4 * ((c + d) % 4))) (slice_index t (2 + 4 * ((c + 2 * d) % 4))) (slice_index t (3 + 4 * ((c + 3 * d) % 4)))
+
+column_same : (f : ℕ → ℕ → ℕ → ℕ → List ℕ) (d : ℕ) (s : List ℕ) (c : ℕ) → column_of_words f d s c ≡ column_of_bytes f d (bytes_of s) c
+column_same f d s c = rw (row_0 s c, row_1 s ((c + d) % 4), row_2 s ((c + 2 * d) % 4), row_3 s ((c + 3 * d) % 4)) refl
+
+-- the columns of a round: the rows are turned by 1, or by 3 in an inverse round
+pub four_columns : (f : ℕ → ℕ → ℕ → ℕ → List ℕ) (d : ℕ) (s : List ℕ) (x y z w : ℕ)
+    → bytes_of (x ∷ []) ≡ column_of_words f d s 0 → bytes_of (y ∷ []) ≡ column_of_words f d s 1
+    → bytes_of (z ∷ []) ≡ column_of_words f d s 2 → bytes_of (w ∷ []) ≡ column_of_words f d s 3
+    → let column = column_of_bytes f d (bytes_of s) in bytes_of (x ∷ y ∷ z ∷ w ∷ []) ≡ column 0 ++ (column 1 ++ (column 2 ++ column 3))
+four_columns f d s x y z w ex ey ez ew =
+    four_words x y z w _ _ _ _ (ex ∙ column_same f d s 0) (ey ∙ column_same f d s 1) (ez ∙ column_same f d s 2) (ew ∙ column_same f d s 3)

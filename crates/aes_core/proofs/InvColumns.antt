@@ -1,4 +1,4 @@
--- The columns of an inverse round, and round keys that InvMixColumns is taken of.
+-- Round keys that InvMixColumns is taken of.
 use Rattle.std.proofs.Common.{◌≡◌, ℕ, ◌+◌, ◌-◌, ◌*◌, ◌<◌, ◌≤◌, List, [], ◌∷◌, ◌++◌, ◌⊎◌, slice_index, bit_xor, refl, sym, ap, ap₂, ◌∙◌, inl, inr, arith}
 use Rattle.std.specs.Int.{byte_at}
 use Rattle.crypto_specs.specs.Field.{gf_mul}
@@ -9,63 +9,9 @@ use Rattle.crypto_specs.proofs.FieldLaws.{xor_four, gf_mul-xor}
 use Rattle.crypto_specs.proofs.CipherInverseBytes.{inv_sbox-byte, inv_sbox_of_sbox}
 use Rattle.aes_core.specs.Words.{bytes_of, mixed_column, inv_mixed_word}
 use Rattle.aes_core.specs.KeyFields.{IsInvScheduleOf}
-use Rattle.aes_core.proofs.WordBytes.{row_0, row_1, row_2, row_3, four_words}
+use Rattle.aes_core.proofs.WordBytes.{row_0, row_1, row_2, row_3}
 use Rattle.aes_core.proofs.ColumnSums.{list_of}
 use Rattle.aes_core.proofs.RoundKeys.{inv_rounds_next}
-
--- the columns of an inverse round
-pub inv_mixed_state : (s : List ℕ) (x y z w : ℕ) → let at = slice_index s in
-    bytes_of (x ∷ []) ≡ mixed_column 14 11 13 9 (inv_sbox (byte_at 3 (at 0))) (inv_sbox (byte_at 2 (at 3))) (inv_sbox (byte_at 1 (at 2))) (inv_sbox (byte_at 0 (at 1)))
-    → bytes_of (y ∷ []) ≡ mixed_column 14 11 13 9 (inv_sbox (byte_at 3 (at 1))) (inv_sbox (byte_at 2 (at 0))) (inv_sbox (byte_at 1 (at 3))) (inv_sbox (byte_at 0 (at 2)))
-    → bytes_of (z ∷ []) ≡ mixed_column 14 11 13 9 (inv_sbox (byte_at 3 (at 2))) (inv_sbox (byte_at 2 (at 1))) (inv_sbox (byte_at 1 (at 0))) (inv_sbox (byte_at 0 (at 3)))
-    → bytes_of (w ∷ []) ≡ mixed_column 14 11 13 9 (inv_sbox (byte_at 3 (at 3))) (inv_sbox (byte_at 2 (at 2))) (inv_sbox (byte_at 1 (at 1))) (inv_sbox (byte_at 0 (at 0)))
-    → bytes_of (x ∷ y ∷ z ∷ w ∷ []) ≡ inv_mix_columns (inv_sub_bytes (inv_shift_rows (bytes_of s)))
-inv_mixed_state s x y z w ex ey ez ew =
-    rw (
-      row_0 s 0,
-      row_1 s 0,
-      row_2 s 0,
-      row_3 s 0,
-      row_0 s 1,
-      row_1 s 1,
-      row_2 s 1,
-      row_3 s 1,
-      row_0 s 2,
-      row_1 s 2,
-      row_2 s 2,
-      row_3 s 2,
-      row_0 s 3,
-      row_1 s 3,
-      row_2 s 3,
-      row_3 s 3,
-    ) (four_words x y z w _ _ _ _ ex ey ez ew)
-
--- and of the last one
-pub inv_last_state : (s : List ℕ) (x y z w : ℕ) → let at = slice_index s in
-    bytes_of (x ∷ []) ≡ inv_sbox (byte_at 3 (at 0)) ∷ inv_sbox (byte_at 2 (at 3)) ∷ inv_sbox (byte_at 1 (at 2)) ∷ inv_sbox (byte_at 0 (at 1)) ∷ []
-    → bytes_of (y ∷ []) ≡ inv_sbox (byte_at 3 (at 1)) ∷ inv_sbox (byte_at 2 (at 0)) ∷ inv_sbox (byte_at 1 (at 3)) ∷ inv_sbox (byte_at 0 (at 2)) ∷ []
-    → bytes_of (z ∷ []) ≡ inv_sbox (byte_at 3 (at 2)) ∷ inv_sbox (byte_at 2 (at 1)) ∷ inv_sbox (byte_at 1 (at 0)) ∷ inv_sbox (byte_at 0 (at 3)) ∷ []
-    → bytes_of (w ∷ []) ≡ inv_sbox (byte_at 3 (at 3)) ∷ inv_sbox (byte_at 2 (at 2)) ∷ inv_sbox (byte_at 1 (at 1)) ∷ inv_sbox (byte_at 0 (at 0)) ∷ []
-    → bytes_of (x ∷ y ∷ z ∷ w ∷ []) ≡ inv_sub_bytes (inv_shift_rows (bytes_of s))
-inv_last_state s x y z w ex ey ez ew =
-    rw (
-      row_0 s 0,
-      row_1 s 0,
-      row_2 s 0,
-      row_3 s 0,
-      row_0 s 1,
-      row_1 s 1,
-      row_2 s 1,
-      row_3 s 1,
-      row_0 s 2,
-      row_1 s 2,
-      row_2 s 2,
-      row_3 s 2,
-      row_0 s 3,
-      row_1 s 3,
-      row_2 s 3,
-      row_3 s 3,
-    ) (four_words x y z w _ _ _ _ ex ey ez ew)
 
 -- ---- a product with the matrix is linear
 

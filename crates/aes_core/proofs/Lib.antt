@@ -3,7 +3,6 @@ pub mod Doublings
 pub mod WordBytes
 pub mod MixedTables
 pub mod ColumnSums
-pub mod InvMixedTables
 pub mod Expansion
 pub mod RoundKeys
 pub mod InvColumns

@@ -1,40 +1,48 @@
--- The tables of the rounds, entry by entry.
-use Rattle.std.proofs.Common.{◌≡◌, ℕ, ◌<◌, true, List, [], get_or, slice_index, refl, ap, ◌∙◌}
+-- The tables of the rounds and of the inverse rounds, entry by entry.
+use Rattle.std.proofs.Common.{◌≡◌, ℕ, ◌<◌, true, List, [], ◌∷◌, length, get_or, slice_index, bit_xor, refl, ap, ◌∙◌, arith}
 use Rattle.crypto_specs.specs.Field.{sum_of_shifts}
-use Rattle.crypto_specs.specs.Sbox.{sbox}
 use Rattle.crypto_specs.proofs.Tables.{holds_values, value_of}
-use Rattle.aes_core.specs.Words.{products}
-use Rattle.aes_core.specs.declared.tables.TheConstants.{SBOX}
+use Rattle.aes_core.specs.Words.{bytes_of, mixed_column, products}
+use Rattle.aes_core.specs.declared.tables.TheConstants.{SBOX, INV_SBOX}
 use Rattle.aes_core.specs.declared.mixed_tables.TheConstants.{MIXED_ROWS}
-use Rattle.aes_core.proofs.BoxValues.{sbox_at}
+use Rattle.aes_core.specs.declared.inv_mixed_tables.TheConstants.{INV_MIXED_ROWS}
+use Rattle.aes_core.proofs.ColumnSums.{column_of_entries}
 
-abbrev pub row : ℕ → List ℕ
-row r = get_or MIXED_ROWS r []
+abbrev pub row : List (List ℕ) → ℕ → List ℕ
+row rows r = get_or rows r []
 
-test_0 : holds_values (λ x. products 2 1 1 3 (slice_index SBOX x)) 0 (row 0) ≡ true
+-- table r of a box: the products of its entries and column r of the matrix whose first row is a0, a1, a2, a3
+abbrev HoldsRow : List ℕ → List ℕ → ℕ → ℕ → ℕ → ℕ → Type 0
+HoldsRow t box a0 a1 a2 a3 = holds_values (λ x. products a0 a1 a2 a3 (slice_index box x)) 0 t ≡ true
+
+pub record HoldRows (rows : List (List ℕ)) (box : List ℕ) (a0 a1 a2 a3 : ℕ) : Type 0 where
+  pub row_0 : HoldsRow (row rows 0) box a0 a3 a2 a1
+  pub row_1 : HoldsRow (row rows 1) box a1 a0 a3 a2
+  pub row_2 : HoldsRow (row rows 2) box a2 a1 a0 a3
+  pub row_3 : HoldsRow (row rows 3) box a3 a2 a1 a0
+  pub long_0 : length (row rows 0) ≡ 256
+  pub long_1 : length (row rows 1) ≡ 256
+  pub long_2 : length (row rows 2) ≡ 256
+  pub long_3 : length (row rows 3) ≡ 256
+
+pub mixed_rows : HoldRows MIXED_ROWS SBOX 2 3 1 1
 unfolding sum_of_shifts
-test_0 = refl
+mixed_rows = record { row_0 = refl; row_1 = refl; row_2 = refl; row_3 = refl; long_0 = refl; long_1 = refl; long_2 = refl; long_3 = refl }
 
-test_1 : holds_values (λ x. products 3 2 1 1 (slice_index SBOX x)) 0 (row 1) ≡ true
+pub inv_mixed_rows : HoldRows INV_MIXED_ROWS INV_SBOX 14 11 13 9
 unfolding sum_of_shifts
-test_1 = refl
+inv_mixed_rows = record { row_0 = refl; row_1 = refl; row_2 = refl; row_3 = refl; long_0 = refl; long_1 = refl; long_2 = refl; long_3 = refl }
 
-test_2 : holds_values (λ x. products 1 3 2 1 (slice_index SBOX x)) 0 (row 2) ≡ true
-unfolding sum_of_shifts
-test_2 = refl
-
-test_3 : holds_values (λ x. products 1 1 3 2 (slice_index SBOX x)) 0 (row 3) ≡ true
-unfolding sum_of_shifts
-test_3 = refl
-
-pub row_0_at : (x : ℕ) → x < 256 → slice_index (row 0) x ≡ products 2 1 1 3 (sbox x)
-row_0_at x h = value_of (λ x. products 2 1 1 3 (slice_index SBOX x)) (row 0) x test_0 h ∙ ap (products 2 1 1 3) (sbox_at x h)
-
-pub row_1_at : (x : ℕ) → x < 256 → slice_index (row 1) x ≡ products 3 2 1 1 (sbox x)
-row_1_at x h = value_of (λ x. products 3 2 1 1 (slice_index SBOX x)) (row 1) x test_1 h ∙ ap (products 3 2 1 1) (sbox_at x h)
-
-pub row_2_at : (x : ℕ) → x < 256 → slice_index (row 2) x ≡ products 1 3 2 1 (sbox x)
-row_2_at x h = value_of (λ x. products 1 3 2 1 (slice_index SBOX x)) (row 2) x test_2 h ∙ ap (products 1 3 2 1) (sbox_at x h)
-
-pub row_3_at : (x : ℕ) → x < 256 → slice_index (row 3) x ≡ products 1 1 3 2 (sbox x)
-row_3_at x h = value_of (λ x. products 1 1 3 2 (slice_index SBOX x)) (row 3) x test_3 h ∙ ap (products 1 1 3 2) (sbox_at x h)
+-- an entry of each table, at the bytes p, q, r, s, where the box is the function f
+pub column_of_tables : (rows : List (List ℕ)) (box : List ℕ) (f : ℕ → ℕ) (a0 a1 a2 a3 p q r s : ℕ) → HoldRows rows box a0 a1 a2 a3
+    → ((x : ℕ) → x < 256 → slice_index box x ≡ f x) → ((x : ℕ) → f x < 256) → p < 256 → q < 256 → r < 256 → s < 256
+    → bytes_of (bit_xor (bit_xor (bit_xor (slice_index (row rows 0) p) (slice_index (row rows 1) q)) (slice_index (row rows 2) r)) (slice_index (row rows 3) s) ∷ [])
+    ≡ mixed_column a0 a1 a2 a3 (f p) (f q) (f r) (f s)
+column_of_tables rows box f a0 a1 a2 a3 p q r s h box_is all hp hq hr hs =
+    let at : (t : List ℕ) (b0 b1 b2 b3 x : ℕ) → HoldsRow t box b0 b1 b2 b3 → length t ≡ 256 → x < 256 → slice_index t x ≡ products b0 b1 b2 b3 (f x) =
+    λ t b0 b1 b2 b3 x test long below. value_of (λ x. products b0 b1 b2 b3 (slice_index box x)) t x test (omega arith) ∙ ap (products b0 b1 b2 b3) (box_is x below) in
+    column_of_entries a0 a1 a2 a3 (f p) (f q) (f r) (f s) _ _ _ _ (all p) (all q) (all r) (all s)
+    (at (row rows 0) a0 a3 a2 a1 p h.row_0 h.long_0 hp)
+    (at (row rows 1) a1 a0 a3 a2 q h.row_1 h.long_1 hq)
+    (at (row rows 2) a2 a1 a0 a3 r h.row_2 h.long_2 hr)
+    (at (row rows 3) a3 a2 a1 a0 s h.row_3 h.long_3 hs)

@@ -4,6 +4,10 @@ use Rattle.std.proofs.lemmas.List.{get_or-take}
 use Rattle.crypto_specs.specs.Aes.{state_of, entry, add_round_key, rounds, cipher, mix_columns, shift_rows, sub_bytes}
 use Rattle.crypto_specs.specs.AesInverse.{inv_rounds, inv_cipher, inv_mix_columns, inv_shift_rows, inv_sub_bytes}
 
+pub rounds_none : (w s : List ℕ) (n : ℕ) → n ≡ 0 → add_round_key w s 0 ≡ rounds w s n
+unfolding rounds
+rounds_none w s n e = rw e refl
+
 pub rounds_next : (w s t : List ℕ) (n : ℕ) → 1 ≤ n → t ≡ rounds w s (n - 1) → add_round_key w (mix_columns (shift_rows (sub_bytes t))) n ≡ rounds w s (n + 1 - 1)
 unfolding rounds
 rounds_next w s t zero h e = absurd (omega arith)
@@ -12,6 +16,10 @@ rounds_next w s t (suc m) h e =
     let before : suc m - 1 ≡ m = omega arith in
     let place : m + 1 ≡ suc m = omega arith in
     rw (now, place, e, before) refl
+
+pub inv_rounds_none : (w s : List ℕ) (nr n : ℕ) → n ≡ 0 → add_round_key w s nr ≡ inv_rounds w nr s n
+unfolding inv_rounds
+inv_rounds_none w s nr n e = rw e refl
 
 pub inv_rounds_next : (w s t : List ℕ) (nr n : ℕ) → 1 ≤ n → t ≡ inv_rounds w nr s (n - 1) → inv_mix_columns (add_round_key w (inv_sub_bytes (inv_shift_rows t)) (nr - n)) ≡ inv_rounds w nr s (n + 1 - 1)
 unfolding inv_rounds

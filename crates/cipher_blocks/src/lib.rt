@@ -55,9 +55,17 @@ pub fn set_number(block: &mut [u8], number: u128)
     requires { length block.old ≡ 16 }
     ensures { block.new ≡ number_block number }
 {
-    // In halves: compilers store a number of 128 bits byte by byte.
-    block[..8].copy_from_slice(&((number >> 64) as u64).to_be_bytes());
-    block[8..].copy_from_slice(&((number % (1 << 64)) as u64).to_be_bytes());
+    set_half(&mut block[..8], (number >> 64) as u64);
+    set_half(&mut block[8..], (number % (1 << 64)) as u64);
+}
+
+// Overwrites half of a block by the bytes of a number. It is a function of its own since compilers store
+// the halves of a number of 128 bits byte by byte where they see both at once.
+fn set_half(half: &mut [u8], number: u64)
+    requires { length half.old ≡ 8 }
+    ensures { half.new ≡ to_be_bytes w64 number }
+{
+    half.copy_from_slice(&number.to_be_bytes());
 }
 
 /// Overwrites the bytes of a block from byte `at` on.
@@ -86,7 +94,7 @@ fn xor_half(half: &mut [u8], mask: u64)
     requires { length half.old ≡ 8 }
     ensures { half.new ≡ xor_bytes half.old (to_be_bytes w64 mask) }
 {
-    half.copy_from_slice(&(half_number(half) ^ mask).to_be_bytes());
+    set_half(half, half_number(half) ^ mask);
 }
 
 // The number of half of a block.

@@ -8,9 +8,10 @@ use Rattle.std.proofs.lemmas.Nat.{shr-shr, xor_comm}
 use Rattle.std.proofs.lemmas.List.{get_or-map}
 use Rattle.std.proofs.lemmas.List.FromFn.{get_or-range_with_len}
 use Rattle.crypto_specs.specs.Ghash.{times_x, sum_of_shifts}
+use Rattle.crypto_specs.proofs.FieldLaws.{xor_four}
 use Rattle.crypto_specs.proofs.GhashLaws.{times_x-xor}
 use Rattle.crypto_specs.proofs.Tables.{holds_values, value_of}
-use Rattle.ghash.specs.Products.{products_of, times_x4}
+use Rattle.ghash.specs.Products.{products_of, shifted, times_x4}
 use Rattle.ghash.specs.declared.groups.TheConstants.{REDUCTIONS}
 use Rattle.ghash.proofs.BitProducts.{term, times_x_even}
 
@@ -60,12 +61,54 @@ sum_four n a v =
     regrouped p q r s t = rw xor_zero_r (sym (xor_assoc p (bit_xor q (bit_xor r s)) t ∙ ap (bit_xor p) (xor_assoc q (bit_xor r s) t ∙ ap (bit_xor q) (xor_assoc r s t))))
 
 -- the sum over n bits becomes that over four more
-pub next_group : (z x h n : ℕ) → z ≡ sum_of_shifts n x h → bit_xor (times_x4 z) (sum_of_shifts 4 (x / 2 ^ n % 16) h) ≡ sum_of_shifts (n + 4) x h
+next_group : (z x h n : ℕ) → z ≡ sum_of_shifts n x h → bit_xor (times_x4 z) (sum_of_shifts 4 (x / 2 ^ n % 16) h) ≡ sum_of_shifts (n + 4) x h
 next_group z x h n e =
     let more : n + 4 ≡ suc (suc (suc (suc n))) = omega arith in
     xor_comm (times_x4 z) (sum_of_shifts 4 (x / 2 ^ n % 16) h)
     ∙ ap (bit_xor (sum_of_shifts 4 (x / 2 ^ n % 16) h)) (ap times_x4 e ∙ sym (sum-times_x4 n x h))
     ∙ sym (sum_four n x h) ∙ ap (λ (m : ℕ). sum_of_shifts m x h) (sym more)
+
+-- ---- the bits from bit 64 on, beside those below
+
+-- the sum over the bits below n and those of the bits from n on, by the product of h and x^n
+sum_above : (n m x h : ℕ) → bit_xor (sum_of_shifts m (x / 2 ^ n) h) (sum_of_shifts n x (shifted m h)) ≡ sum_of_shifts (n + m) x h
+unfolding sum_of_shifts shifted
+sum_above n zero x h = ap (λ (k : ℕ). sum_of_shifts k x h) (omega arith)
+sum_above n (suc m) x h =
+    let more : n + suc m ≡ suc (n + m) = omega arith in
+    let place : bit_at (x / 2 ^ n) m ≡ bit_at x (n + m) = ap (λ (k : ℕ). k % 2) (shr-shr x n m) in
+    rw (more, place)
+    (xor_assoc (term x (n + m) h) (sum_of_shifts m (x / 2 ^ n) (times_x h)) (sum_of_shifts n x (shifted m (times_x h)))
+    ∙ ap (bit_xor (term x (n + m) h)) (sum_above n m x (times_x h)))
+
+pub halves_summed : (x h : ℕ) → bit_xor (sum_of_shifts 64 (x / 2 ^ 64) h) (sum_of_shifts 64 x (shifted 64 h)) ≡ sum_of_shifts 128 x h
+halves_summed x h = sum_above 64 64 x h
+
+-- the product by x^n, and by x^4
+times_x-shifted : (n v : ℕ) → times_x (shifted n v) ≡ shifted (suc n) v
+unfolding shifted
+times_x-shifted zero v = refl
+times_x-shifted (suc n) v = times_x-shifted n (times_x v)
+
+pub shifted_more : (n v : ℕ) → times_x4 (shifted n v) ≡ shifted (n + 4) v
+shifted_more n v =
+    let more : n + 4 ≡ suc (suc (suc (suc n))) = omega arith in
+    ap (λ (m : ℕ). times_x (times_x (times_x m))) (times_x-shifted n v) ∙ ap (λ (m : ℕ). times_x (times_x m)) (times_x-shifted (suc n) v)
+    ∙ ap times_x (times_x-shifted (suc (suc n)) v) ∙ times_x-shifted (suc (suc (suc n))) v ∙ ap (λ (m : ℕ). shifted m v) (sym more)
+
+times_x4-xor : (a b : ℕ) → times_x4 (bit_xor a b) ≡ bit_xor (times_x4 a) (times_x4 b)
+times_x4-xor a b = simp times_x-xor
+
+-- two sums become those over four bits more
+pub next_groups : (z a g b h n p q : ℕ) → z ≡ bit_xor (sum_of_shifts n a g) (sum_of_shifts n b h)
+    → p ≡ sum_of_shifts 4 (a / 2 ^ n % 16) g → q ≡ sum_of_shifts 4 (b / 2 ^ n % 16) h
+    → bit_xor (times_x4 z) (bit_xor p q) ≡ bit_xor (sum_of_shifts (n + 4) a g) (sum_of_shifts (n + 4) b h)
+next_groups z a g b h n p q e ep eq =
+    let one : ℕ = sum_of_shifts n a g in
+    let other : ℕ = sum_of_shifts n b h in
+    ap₂ bit_xor (ap times_x4 e ∙ times_x4-xor one other) (ap₂ bit_xor ep eq)
+    ∙ xor_four (times_x4 one) (times_x4 other) (sum_of_shifts 4 (a / 2 ^ n % 16) g) (sum_of_shifts 4 (b / 2 ^ n % 16) h)
+    ∙ ap₂ bit_xor (next_group one a g n refl) (next_group other b h n refl)
 
 -- ---- the product by x^4, by the table of reductions
 
@@ -94,9 +137,6 @@ shifted_four z =
     let low : ℕ = z % 16 in
     let parts : bit_xor (high * 2 ^ 4) low ≡ z = xor_shifted high 4 low (omega arith) ∙ omega arith in
     ap₂ bit_xor (sym (high_part high)) (low_part low (omega arith)) ∙ sym (times_x4-xor (high * 16) low) ∙ ap times_x4 parts
-  where
-    times_x4-xor : (a b : ℕ) → times_x4 (bit_xor a b) ≡ bit_xor (times_x4 a) (times_x4 b)
-    times_x4-xor a b = simp times_x-xor
 
 -- ---- the table of products
 
@@ -113,3 +153,7 @@ one_in_products h = xor_zero_r h
 pub products_of_zero : 0 ∷ 0 ∷ 0 ∷ 0 ∷ 0 ∷ 0 ∷ 0 ∷ 0 ∷ 0 ∷ 0 ∷ 0 ∷ 0 ∷ 0 ∷ 0 ∷ 0 ∷ 0 ∷ [] ≡ products_of 0
 unfolding products_of sum_of_shifts times_x
 products_of_zero = refl
+
+pub far_products_of_zero : 0 ∷ 0 ∷ 0 ∷ 0 ∷ 0 ∷ 0 ∷ 0 ∷ 0 ∷ 0 ∷ 0 ∷ 0 ∷ 0 ∷ 0 ∷ 0 ∷ 0 ∷ 0 ∷ [] ≡ products_of (shifted 64 0)
+unfolding shifted times_x
+far_products_of_zero = products_of_zero

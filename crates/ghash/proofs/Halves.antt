@@ -16,10 +16,10 @@ low_shifted high low h =
     let moved : high * 2 ^ 60 % 2 ^ 64 ≡ high % 16 * 2 ^ 60 = omega arith in
     ap (bit_xor (low / 16)) moved ∙ xor_comm (low / 16) (high % 16 * 2 ^ 60) ∙ xor_shifted (high % 16) 60 (low / 16) (omega arith)
 
-pub halves_shifted : (high low block : ℕ) → low < 2 ^ 64
-    → joined (bit_xor (bit_xor (high / 16) (slice_index REDUCTIONS (low % 16))) (block / 2 ^ 64)) (bit_xor (bit_xor (low / 16) (high * 2 ^ 60 % 2 ^ 64)) (block % 2 ^ 64))
-    ≡ bit_xor (times_x4 (joined high low)) block
-halves_shifted high low block h =
+pub halves_shifted : (high low p q : ℕ) → low < 2 ^ 64 → q < 2 ^ 64
+    → joined (bit_xor (bit_xor (high / 16) (slice_index REDUCTIONS (low % 16))) p) (bit_xor (bit_xor (low / 16) (high * 2 ^ 60 % 2 ^ 64)) q)
+    ≡ bit_xor (times_x4 (joined high low)) (joined p q)
+halves_shifted high low p q h k =
     let z : ℕ = joined high low in
     let down : ℕ = bit_xor (low / 16) (high * 2 ^ 60 % 2 ^ 64) in
     let top : ℕ = slice_index REDUCTIONS (low % 16) in
@@ -31,8 +31,7 @@ halves_shifted high low block h =
     let product : times_x4 z ≡ joined (bit_xor (high / 16) top) down =
     sym (shifted_four z) ∙ ap₂ bit_xor shifted (ap (λ (i : ℕ). at_top (slice_index REDUCTIONS i)) place ∙ at)
     ∙ xor_joined (high / 16) down top 0 below (omega arith) ∙ ap (joined (bit_xor (high / 16) top)) (xor_zero_r down) in
-    let parts : block ≡ joined (block / 2 ^ 64) (block % 2 ^ 64) = omega arith in
-    sym (ap₂ bit_xor product parts ∙ xor_joined (bit_xor (high / 16) top) down (block / 2 ^ 64) (block % 2 ^ 64) below (omega arith))
+    sym (ap (λ (n : ℕ). bit_xor n (joined p q)) product ∙ xor_joined (bit_xor (high / 16) top) down p q below k)
 
 -- ---- the bits of a block
 
@@ -48,8 +47,8 @@ byte_of_bits y (suc (suc (suc (suc (suc (suc zero)))))) h = omega arith
 byte_of_bits y (suc (suc (suc (suc (suc (suc (suc zero))))))) h = omega arith
 byte_of_bits y (suc (suc (suc (suc (suc (suc (suc (suc i)))))))) h = absurd (omega arith)
 
-pub byte_is : (bits x m i : ℕ) → i < 8 → bits ≡ x / 2 ^ m % 2 ^ 64 → bits / 2 ^ (8 * i) % 256 ≡ x / 2 ^ (m + 8 * i) % 256
-byte_is bits x m i h e = ap (λ (b : ℕ). b / 2 ^ (8 * i) % 256) e ∙ byte_of_bits (x / 2 ^ m) i h ∙ ap (λ (n : ℕ). n % 256) (shr-shr x m (8 * i))
+pub byte_is : (bits x i : ℕ) → i < 8 → bits ≡ x % 2 ^ 64 → bits / 2 ^ (8 * i) % 256 ≡ x / 2 ^ (8 * i) % 256
+byte_is bits x i h e = ap (λ (b : ℕ). b / 2 ^ (8 * i) % 256) e ∙ byte_of_bits x i h
 
 -- the two groups of four bits in a byte
 pub low_group : (b x n : ℕ) → b ≡ x / 2 ^ n % 256 → b % 16 ≡ x / 2 ^ n % 16

@@ -1,8 +1,8 @@
-// The product of a block and a fixed one, four bits at a time by a table of products of the fixed one.
+// The product of a block and a fixed one, four bits at a time by tables of products of the fixed one.
 
-ghost use Rattle.std.specs.Prelude.{◌≡◌, ℕ, ◌+◌, ◌*◌, ◌/◌, ◌%◌, ◌^◌, ◌<◌, ◌≤◌, bit_xor};
-ghost use Rattle.crypto_specs.specs.Ghash.{block_product, sum_of_shifts};
-ghost use Rattle.ghash.specs.Products.{joined, products_of, times_x4};
+ghost use Rattle.std.specs.Prelude.{◌≡◌, ℕ, bit_xor};
+ghost use Rattle.crypto_specs.specs.Ghash.{block_product};
+ghost use Rattle.ghash.specs.Products.{joined, products_of, shifted, times_x4};
 
 use crate::bits::times_x;
 
@@ -56,16 +56,6 @@ pub(crate) fn products(h: u128) -> [u128; 16]
     ]
 }
 
-// The product of a block and the one that the products are of.
-pub(crate) fn multiply_by(x: u128, products: &[u128; 16]) -> u128
-    ensures { (h : ℕ) → products.now ≡ products_of h → result ≡ block_product x h }
-{
-    let zero = Halves { high: 0, low: 0 };
-    let sum = zero.with_terms((x % (1 << 64)) as u64, products);
-    let whole = sum.with_terms((x >> 64) as u64, products);
-    whole.joined()
-}
-
 // A block in two halves: shifts of them cost less than those of a u128.
 #[derive(Drop)]
 struct Halves {
@@ -74,31 +64,24 @@ struct Halves {
 }
 
 impl Halves {
-    // The sum over the bits of a block `x` below bit `m` with the terms of its next 64 bits.
-    fn with_terms(self, bits: u64, products: &[u128; 16]) -> Halves
-        ensures { (h x m : ℕ) → products.now ≡ products_of h → bits ≡ x / 2 ^ m % 2 ^ 64
-            → joined self.high self.low ≡ sum_of_shifts m x h
-            → joined result.high result.low ≡ sum_of_shifts (m + 64) x h }
+    // The halves of a block.
+    fn of(block: u128) -> Halves
+        ensures { joined result.high result.low ≡ block }
     {
-        let mut sum = self;
-        'bytes: for n in 0..8u32 {
-            let byte = ((bits >> (8 * n)) % 256) as usize;
-            let half = sum.times_x4_plus(products[byte % 16]);
-            let whole = half.times_x4_plus(products[byte / 16]);
-            sum = whole;
+        Halves {
+            high: (block >> 64) as u64,
+            low: (block % (1 << 64)) as u64,
         }
-        sum
     }
 
     // The product by x^4, and a block added to it.
     fn times_x4_plus(self, block: u128) -> Halves
         ensures { joined result.high result.low ≡ bit_xor (times_x4 (joined self.high self.low)) block }
     {
-        let high = (block >> 64) as u64;
-        let low = (block % (1 << 64)) as u64;
+        let added = Halves::of(block);
         Halves {
-            high: (self.high >> 4) ^ REDUCTIONS[(self.low % 16) as usize] ^ high,
-            low: (self.low >> 4) ^ (self.high << 60) ^ low,
+            high: (self.high >> 4) ^ REDUCTIONS[(self.low % 16) as usize] ^ added.high,
+            low: (self.low >> 4) ^ (self.high << 60) ^ added.low,
         }
     }
 
@@ -108,4 +91,34 @@ impl Halves {
     {
         (u128::from(self.high) << 64) + u128::from(self.low)
     }
+}
+
+// The product of a block and x^64.
+pub(crate) fn times_x64(block: u128) -> u128
+    ensures { result ≡ shifted 64 block }
+{
+    let mut product = Halves::of(block);
+    'groups: for _ in 0..16u32 {
+        let next = product.times_x4_plus(0);
+        product = next;
+    }
+    product.joined()
+}
+
+// The product of a block and the one that the products in `near` are of. Those in `far` are of the
+// latter's product by x^64, so that a turn, which waits for the one before it, takes a byte of either
+// half.
+pub(crate) fn multiply_by(x: u128, near: &[u128; 16], far: &[u128; 16]) -> u128
+    ensures { (h : ℕ) → near.now ≡ products_of h → far.now ≡ products_of (shifted 64 h) → result ≡ block_product x h }
+{
+    let halves = Halves::of(x);
+    let mut sum = Halves { high: 0, low: 0 };
+    'bytes: for n in 0..8u32 {
+        let high = ((halves.high >> (8 * n)) % 256) as usize;
+        let low = ((halves.low >> (8 * n)) % 256) as usize;
+        let half = sum.times_x4_plus(near[high % 16] ^ far[low % 16]);
+        let whole = half.times_x4_plus(near[high / 16] ^ far[low / 16]);
+        sum = whole;
+    }
+    sum.joined()
 }

@@ -6,7 +6,7 @@ ghost use Rattle.std.specs.Prelude.{◌≡◌, bit_xor};
 ghost use Rattle.crypto_specs.specs.Ghash.{block_product};
 
 pub use bits::multiply;
-use groups::{multiply_by, products};
+use groups::{multiply_by, products, times_x64};
 use std::marker::Model;
 
 mod bits;
@@ -16,6 +16,8 @@ mod groups;
 #[derive(Drop)]
 pub struct Ghash {
     products: [u128; 16],
+    // Of the hash subkey's product by x^64.
+    far_products: [u128; 16],
     value: u128,
 }
 
@@ -24,14 +26,14 @@ impl Model for Ghash {
 
     ghost Value = { ℕ × ℕ };
 
-    ghost use Rattle.std.specs.Prelude.{◌≡◌, slice_index};
-    ghost use Rattle.ghash.specs.Products.{products_of};
+    ghost use Rattle.std.specs.Prelude.{slice_index};
+    ghost use Rattle.ghash.specs.Products.{AreProducts};
 
     // The bits 1000 are the polynomial 1.
     ghost view = { λ a. (slice_index a.products 8, a.value) };
 
     // The products are those of the hash subkey; so all of them are 0 where it is.
-    ghost invariant = { λ a. a.products ≡ products_of (slice_index a.products 8) };
+    ghost invariant = { λ a. AreProducts a.products a.far_products (slice_index a.products 8) };
 }
 
 impl Ghash {
@@ -41,6 +43,7 @@ impl Ghash {
     {
         Ghash {
             products: products(h),
+            far_products: products(times_x64(h)),
             value: 0,
         }
     }
@@ -49,7 +52,7 @@ impl Ghash {
     pub fn block(&mut self, x: u128)
         ensures { self.new ≡ (self.old.0, block_product (bit_xor self.old.1 x) self.old.0) }
     {
-        self.value = multiply_by(self.value ^ x, &self.products);
+        self.value = multiply_by(self.value ^ x, &self.products, &self.far_products);
     }
 
     /// GHASH of the blocks so far.
@@ -64,6 +67,7 @@ impl Ghash {
         ensures { self.new ≡ (0, 0) }
     {
         self.products = [0; 16];
+        self.far_products = [0; 16];
         self.value = 0;
     }
 }

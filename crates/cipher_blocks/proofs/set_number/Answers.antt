@@ -1,8 +1,8 @@
-use Rattle.std.proofs.Common.{◌∙◌, arith}
+use Rattle.std.proofs.Common.{arith}
 use Rattle.cipher_blocks.proofs.HalfBlocks.{block_written}
 use Rattle.cipher_blocks.proofs.set_number.Goals as goal
 
 pub returns : goal.returns
 returns c =
-    block_written c.args.block.now c.args.number c.copy_from_slice.new.self c.copy_from_slice-2.new.self _ c.requires (omega arith)
-    (c.copy_from_slice.ensures.after ∙ c.to_be_bytes.ensures) (c.copy_from_slice-2.ensures.after ∙ c.to_be_bytes-2.ensures)
+    block_written c.args.block.now c.args.number c.set_half.new.half c.set_half-2.new.half _ c.requires (omega arith)
+    c.set_half.ensures c.set_half-2.ensures

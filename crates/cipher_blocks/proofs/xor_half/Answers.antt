@@ -6,5 +6,5 @@ use Rattle.cipher_blocks.proofs.xor_half.Goals as goal
 
 pub returns : goal.returns
 returns c =
-    c.copy_from_slice.ensures.after ∙ c.to_be_bytes.ensures ∙ xor_bytes_high_first 8 c.half_number.result c.args.mask
+    c.set_half.ensures ∙ xor_bytes_high_first 8 c.half_number.result c.args.mask
     ∙ ap (λ (l : List ℕ). xor_bytes l (to_be_bytes w64 c.args.mask)) c.half_number.ensures

@@ -1,5 +1,10 @@
-use Rattle.aes_core.proofs.ColumnSums.{mixed_state}
+use Rattle.std.proofs.Common.{ℕ}
+use Rattle.crypto_specs.specs.Sbox.{sbox}
+use Rattle.aes_core.specs.Words.{mixed_column}
+use Rattle.aes_core.proofs.ColumnSums.{four_columns}
 use Rattle.aes_core.proofs.columns.mixed_columns.Goals as goal
 
 pub returns : goal.returns
-returns c = mixed_state c.args.s _ _ _ _ c.mixed_column.ensures c.mixed_column-2.ensures c.mixed_column-3.ensures c.mixed_column-4.ensures
+returns c =
+    four_columns (λ (p q r s : ℕ). mixed_column 2 3 1 1 (sbox p) (sbox q) (sbox r) (sbox s)) 1 c.args.s _ _ _ _
+    c.mixed_column.ensures c.mixed_column-2.ensures c.mixed_column-3.ensures c.mixed_column-4.ensures

@@ -1,18 +1,21 @@
-use Rattle.std.proofs.Common.{ℕ, ◌/◌, ◌^◌, ap, ◌∙◌, arith}
+use Rattle.std.proofs.Common.{ℕ, ◌≡◌, ◌/◌, ◌^◌, ◌∙◌, ap, arith}
 use Rattle.std.specs.Int.{byte_at}
 use Rattle.crypto_specs.specs.Sbox.{sbox}
 use Rattle.crypto_specs.proofs.CipherInverseBytes.{sbox-byte}
-use Rattle.aes_core.specs.Words.{products}
-use Rattle.aes_core.proofs.MixedTables.{row_0_at, row_1_at, row_2_at, row_3_at}
-use Rattle.aes_core.proofs.ColumnSums.{column_of_entries}
+use Rattle.aes_core.specs.Words.{mixed_column}
+use Rattle.aes_core.specs.declared.tables.TheConstants.{SBOX}
+use Rattle.aes_core.specs.declared.mixed_tables.TheConstants.{MIXED_ROWS}
+use Rattle.aes_core.proofs.BoxValues.{sbox_at}
+use Rattle.aes_core.proofs.MixedTables.{column_of_tables, mixed_rows}
 use Rattle.aes_core.proofs.mixed_tables.mixed_column.Goals as goal
 
 pub returns : goal.returns
 returns c =
     let a = c.args.a in
-    let b = c.args.b in
-    let d = c.args.d in
-    column_of_entries 2 3 1 1 (sbox (byte_at 3 a)) (sbox (byte_at 2 b)) (sbox (byte_at 1 c.args.c)) (sbox (byte_at 0 d)) _ _ _ _
-    (sbox-byte (byte_at 3 a)) (sbox-byte (byte_at 2 b)) (sbox-byte (byte_at 1 c.args.c)) (sbox-byte (byte_at 0 d))
-    (row_0_at (a / 2 ^ 24) (omega arith) ∙ ap (λ (x : ℕ). products 2 1 1 3 (sbox x)) (omega arith))
-    (row_1_at (byte_at 2 b) (omega arith)) (row_2_at (byte_at 1 c.args.c) (omega arith)) (row_3_at (byte_at 0 d) (omega arith))
+    let q = sbox (byte_at 2 c.args.b) in
+    let r = sbox (byte_at 1 c.args.c) in
+    let s = sbox (byte_at 0 c.args.d) in
+    let highest : a / 2 ^ 24 ≡ byte_at 3 a = omega arith in
+    column_of_tables MIXED_ROWS SBOX sbox 2 3 1 1 (a / 2 ^ 24) (byte_at 2 c.args.b) (byte_at 1 c.args.c) (byte_at 0 c.args.d) mixed_rows sbox_at sbox-byte
+    (omega arith) (omega arith) (omega arith) (omega arith)
+    ∙ ap (λ (p : ℕ). mixed_column 2 3 1 1 (sbox p) q r s) highest

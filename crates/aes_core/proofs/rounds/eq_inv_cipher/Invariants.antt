@@ -1,4 +1,4 @@
-use Rattle.std.proofs.Common.{◌≡◌, ◌-◌, ℕ, List}
+use Rattle.std.proofs.Common.{◌≡◌, ◌-◌, ◌%◌, ◌≤◌, ℕ, List}
 use Rattle.crypto_specs.specs.Modes.{number_block}
 use Rattle.crypto_specs.specs.AesInverse.{inv_rounds}
 use Rattle.aes_core.specs.Words.{bytes_of}
@@ -6,4 +6,13 @@ use Rattle.aes_core.specs.KeyFields.{IsInvScheduleOf}
 use Rattle.aes_core.proofs.rounds.eq_inv_cipher.Given as goal
 
 abbrev pub invariant-inv_rounds : goal.invariant-inv_rounds
-invariant-inv_rounds l = (schedule : List ℕ) → IsInvScheduleOf l.rounds schedule l.inverse → bytes_of l.state ≡ inv_rounds (bytes_of schedule) l.rounds (number_block l.block) (l.round - 1)
+invariant-inv_rounds l = record {
+  some : 1 ≤ l.round;
+  within : l.round ≤ l.rounds;
+  left_in_pairs : l.round % 2 ≡ l.rounds % 2;
+  state_is : (schedule : List ℕ) → IsInvScheduleOf l.rounds schedule l.inverse
+      → bytes_of l.state ≡ inv_rounds (bytes_of schedule) l.rounds (number_block l.block) (l.round - 1);
+}
+
+abbrev pub decreases-inv_rounds : goal.decreases-inv_rounds
+decreases-inv_rounds l = l.rounds - l.round

@@ -1,6 +1,11 @@
-use Rattle.std.proofs.Common.{arith}
+use Rattle.std.proofs.Common.{◌∙◌, bit_xor, ap, arith}
+use Rattle.ghash.specs.Products.{joined, times_x4}
 use Rattle.ghash.proofs.Halves.{halves_shifted}
 use Rattle.ghash.proofs.groups.Halves.times_x4_plus.Goals as goal
 
 pub returns : goal.returns
-returns c = halves_shifted c.args.self.high c.args.self.low c.args.block (omega (arith, c.well_formed))
+returns c =
+    let high = c.args.self.high in
+    let low = c.args.self.low in
+    halves_shifted high low c.of-added.result.high c.of-added.result.low (omega (arith, c.well_formed)) (omega (arith, c.of-added.type_inv))
+    ∙ ap (bit_xor (times_x4 (joined high low))) c.of-added.ensures

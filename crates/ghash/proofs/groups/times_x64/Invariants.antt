@@ -1,0 +1,6 @@
+use Rattle.std.proofs.Common.{◌≡◌, ◌*◌}
+use Rattle.ghash.specs.Products.{joined, shifted}
+use Rattle.ghash.proofs.groups.times_x64.Given as goal
+
+abbrev pub invariant-groups : goal.invariant-groups
+invariant-groups l = joined l.product.high l.product.low ≡ shifted (4 * l.counter) l.block
