@@ -1,2 +1,3 @@
 pub mod Modes
-pub mod TagLengths
+pub mod Parse
+pub mod Names
