@@ -1,3 +1,4 @@
 pub mod Modes
 pub mod Parse
 pub mod Names
+pub mod Keys

@@ -1,6 +1,9 @@
 -- What a number says of the algorithm that it names.
-use Rattle.std.specs.Prelude.{ℕ, ◌≡◌, ◌≤◌, ◌-◌, ◌*◌, ◌^◌, ◌&&◌, nat_le, nat_lt, Bool, true, false, List, None}
+use Rattle.std.specs.Prelude.{ℕ, ◌≡◌, ◌≤◌, ◌-◌, ◌*◌, ◌^◌, ◌&&◌, nat_le, nat_lt, Bool, true, false, List, None, IsTrue}
 use Rattle.alg_encoding.specs.declared.table.Class.{Class}
+use Rattle.alg_encoding.specs.declared.table.Lengths.{Lengths}
+use Rattle.alg_encoding.specs.declared.table.Lengths.TheVariants as lengths
+use Rattle.alg_encoding.specs.Table.{permits_length}
 use Rattle.alg_encoding.specs.Encoding.{base_of}
 use Rattle.psa_status.specs.Rows.{first_row}
 use Rattle.crypto_specs.specs.Aes.{aes_encrypt}
@@ -8,8 +11,6 @@ use Rattle.crypto_specs.specs.Cmac.{cmac}
 use Rattle.crypto_specs.specs.Hmac.{hmac}
 use Rattle.hash_ops.specs.declared.Hash.{Hash}
 use Rattle.hash_ops.specs.Hashes as hashes
-use Rattle.aead_ccm.specs.Lengths as ccm
-use Rattle.aead_gcm.specs.Lengths as gcm
 use Rattle.store_model.specs.Algorithms.{cmac_base, digest, hash_block_length, hash_length_of, low_byte, tag_bytes, whole_mac}
 use Rattle.store_model.specs.Aeads as model
 use Rattle.store_model.specs.Ciphers.{mode_of}
@@ -75,10 +76,13 @@ permits_nonce_by Gcm nonce payload = (nat_le 1 nonce && nat_le nonce 256) && nat
 abbrev pub permits_lengths_by : AeadKind → (nonce ad payload : ℕ) → Bool
 permits_lengths_by kind nonce ad payload = nat_le ad total_limit && permits_nonce_by kind nonce payload
 
--- the tag lengths that an AEAD's standard permits, in bytes
+abbrev pub tag_lengths : AeadKind → Lengths
+tag_lengths Ccm = lengths.Ccm
+tag_lengths Gcm = lengths.Gcm
+
+-- the AEAD's standard permits a tag of so many bytes
 abbrev pub IsTagLength : AeadKind → ℕ → Type 0
-IsTagLength Ccm n = ccm.IsTagLength n
-IsTagLength Gcm n = gcm.IsTagLength n
+IsTagLength kind n = IsTrue (permits_length (tag_lengths kind) n)
 
 pub record NamesAead (alg : ℕ) (aead : AeadAlgorithm) : Type 0 where
   pub kind : is_ccm aead.kind ≡ model.is_ccm alg

@@ -1,5 +1,5 @@
 -- How an algorithm's number is read, and its class.
-use Rattle.std.specs.Prelude.{ℕ, ◌/◌, ◌%◌, ◌^◌, ◌==◌, Bool, true, false, Option, Some, None, if◌then◌else◌}
+use Rattle.std.specs.Prelude.{ℕ, ◌/◌, ◌%◌, ◌^◌, ◌==◌, Bool, false, not, Option, Some, None, if◌then◌else◌}
 use Rattle.alg_encoding.specs.declared.table.Class.{Class}
 use Rattle.alg_encoding.specs.declared.table.Class.TheVariants as class
 use Rattle.hash_ops.specs.declared.Hash.{Hash}
@@ -12,6 +12,7 @@ use Rattle.algorithm_facts.specs.declared.algorithms.Scheme.{Scheme}
 use Rattle.algorithm_facts.specs.declared.algorithms.MacKind.TheVariants.{Hmac, Cmac}
 use Rattle.algorithm_facts.specs.declared.algorithms.AeadKind.TheVariants.{Ccm, Gcm}
 use Rattle.algorithm_facts.specs.declared.algorithms.Scheme.TheVariants.{Hkdf, Pbkdf2}
+use Rattle.algorithm_facts.specs.Names.{is_cmac}
 use Rattle.algorithm_facts.specs.declared.modes.Mode.TheVariants.{Ctr, CbcNoPadding, CbcPkcs7, EcbNoPadding}
 
 abbrev pub mac_at : MacKind → Option ℕ → Option Algorithm
@@ -56,13 +57,6 @@ class_in (family.Cipher mode) = class.Cipher
 class_in (family.Aead aead) = class.Aead
 class_in (family.Derivation derivation) = class.Derivation
 
-abbrev pub is_hmac_kind : MacKind → Bool
-is_hmac_kind (Hmac hash) = true
-is_hmac_kind Cmac = false
-
 abbrev pub is_hmac_in : Algorithm → Bool
-is_hmac_in (family.Hash hash) = false
-is_hmac_in (family.Mac mac) = is_hmac_kind mac.kind
-is_hmac_in (family.Cipher mode) = false
-is_hmac_in (family.Aead aead) = false
-is_hmac_in (family.Derivation derivation) = false
+is_hmac_in (family.Mac mac) = not (is_cmac mac.kind)
+is_hmac_in _ = false

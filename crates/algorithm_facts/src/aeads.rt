@@ -11,10 +11,7 @@ impl AeadKind {
     pub fn is_ccm(self) -> bool
         ensures { result ≡ is_ccm self }
     {
-        match self {
-            AeadKind::Ccm => true,
-            AeadKind::Gcm => false,
-        }
+        matches!(self, AeadKind::Ccm)
     }
 
     /// Whether the AEAD takes a nonce of so many bytes before a payload of so many.

@@ -8,7 +8,7 @@ ghost use Rattle.alg_encoding.specs.Encoding.{class_of, is_concrete};
 ghost use Rattle.store_model.specs.Algorithms.{is_hmac};
 ghost use Rattle.store_model.specs.Rules.{class_rows};
 ghost use Rattle.algorithm_facts.specs.Names.{Names, block_limit, is_hkdf, NamesAead, NamesDerivation, NamesHash, NamesMac, NamesMode};
-ghost use Rattle.algorithm_facts.specs.Parse.{aead_at, algorithm_at, class_in, derivation_at, hashed, is_hmac_in, is_hmac_kind, mac_at};
+ghost use Rattle.algorithm_facts.specs.Parse.{aead_at, algorithm_at, class_in, derivation_at, hashed, is_hmac_in, mac_at};
 
 use crate::modes::Mode;
 use alg_encoding::{Alg, Class};
@@ -70,20 +70,16 @@ pub enum Algorithm {
 fn mac(kind: MacKind, length: Option<u8>) -> Option<Algorithm>
     ensures { result ≡ mac_at kind length }
 {
-    match length {
-        Some(length) => Some(Algorithm::Mac(MacAlgorithm { kind, length })),
-        None => None,
-    }
+    let length = length?;
+    Some(Algorithm::Mac(MacAlgorithm { kind, length }))
 }
 
 // The AEAD whose number states this length of the tag.
 fn aead(kind: AeadKind, tag_length: Option<u8>) -> Option<Algorithm>
     ensures { result ≡ aead_at kind tag_length }
 {
-    match tag_length {
-        Some(tag_length) => Some(Algorithm::Aead(AeadAlgorithm { kind, tag_length })),
-        None => None,
-    }
+    let tag_length = tag_length?;
+    Some(Algorithm::Aead(AeadAlgorithm { kind, tag_length }))
 }
 
 fn derivation(scheme: Scheme, hash: Hash) -> Option<Algorithm>
@@ -166,24 +162,13 @@ impl Algorithm {
     pub fn is_hmac(self) -> bool
         ensures { result ≡ is_hmac_in self }
     {
-        match self {
-            Algorithm::Mac(mac) => mac.kind.is_hmac(),
-            Algorithm::Hash(_)
-            | Algorithm::Cipher(_)
-            | Algorithm::Aead(_)
-            | Algorithm::Derivation(_) => { false }
-        }
-    }
-}
-
-impl MacKind {
-    pub fn is_hmac(self) -> bool
-        ensures { result ≡ is_hmac_kind self }
-    {
-        match self {
-            MacKind::Hmac(_) => true,
-            MacKind::Cmac => false,
-        }
+        matches!(
+            self,
+            Algorithm::Mac(MacAlgorithm {
+                kind: MacKind::Hmac(_),
+                ..
+            })
+        )
     }
 }
 
@@ -191,10 +176,7 @@ impl Scheme {
     pub fn is_hkdf(self) -> bool
         ensures { result ≡ is_hkdf self }
     {
-        match self {
-            Scheme::Hkdf => true,
-            Scheme::Pbkdf2 => false,
-        }
+        matches!(self, Scheme::Hkdf)
     }
 
     /// The most blocks that it can make: HKDF counts them by a byte, PBKDF2 by four.

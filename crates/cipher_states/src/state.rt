@@ -8,7 +8,7 @@ ghost use Rattle.store_model.specs.CipherOperations.{CipherFinish, CipherGenerat
 ghost use Rattle.operation_phase.specs.declared.Phase.TheVariants as phases;
 ghost use Rattle.alg_encoding.specs.declared.table.Class.TheVariants.{Cipher};
 ghost use Rattle.algorithm_facts.specs.Names.{IsOfClass};
-ghost use Rattle.cipher_states.specs.Keyed.{is_key};
+ghost use Rattle.algorithm_facts.specs.Keys.{is_key};
 
 use crate::running::RunningCipher;
 use alg_encoding::Alg;

@@ -71,7 +71,11 @@ const CCM: Case = Case {
 // Sets an operation up with a case's key.
 fn setup(state: &mut AeadState, case: &Case, encrypts: bool) -> Result<(), Status> {
     let key = case.key.to_be_bytes();
-    let alg = Alg(if case.is_ccm { 0x0546_0100 } else { 0x0550_0200 });
+    let alg = Alg(if case.is_ccm {
+        0x0546_0100
+    } else {
+        0x0550_0200
+    });
     aead_algorithm(alg)?;
     if encrypts {
         state.aead_encrypt_setup(&key, alg)
