@@ -46,7 +46,8 @@ impl RunningAead {
             → is_whole_payload w.lengths (length w.text) ≡ true → take (tag_bytes w.alg) result ≡ work_tag w }
     {
         self.begin_text();
-        self.parts.tag(self.aead.kind, &self.key, self.ad, self.text)
+        self.parts
+            .tag(self.aead.kind, &self.key, self.ad, self.text)
     }
 
     // Writes the tag to the front of a buffer, and answers its length.

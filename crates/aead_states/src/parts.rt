@@ -39,7 +39,14 @@ impl Parts {
     }
 
     // Begins with a nonce. CCM asks for the lengths in bytes of the associated data and of the payload.
-    pub(crate) fn start(&mut self, aead: AeadAlgorithm, key: &AesKey, nonce: &[u8], ad: u64, payload: u64)
+    pub(crate) fn start(
+        &mut self,
+        aead: AeadAlgorithm,
+        key: &AesKey,
+        nonce: &[u8],
+        ad: u64,
+        payload: u64,
+    )
         requires key { IsKey key.now }
         requires aead { IsTagLength aead.kind aead.tag_length }
         requires nonce { IsTrue (permits_nonce_by aead.kind (length nonce.now) payload) }

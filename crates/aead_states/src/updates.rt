@@ -103,7 +103,8 @@ impl RunningAead {
             → HoldsAead self.new (with_payload w input.now) }
     {
         out.copy_from_slice(input);
-        self.parts.xor(self.encrypts, self.aead.kind, &self.key, out);
+        self.parts
+            .xor(self.encrypts, self.aead.kind, &self.key, out);
         self.text = total;
     }
 }

@@ -36,7 +36,14 @@ fn seal(aead: AeadAlgorithm, key: &AesKey, nonce: &[u8], ad: &[u8], text: &mut [
 }
 
 // Deciphers a text in place where the tag is its tag, and otherwise makes it zeros.
-fn open(aead: AeadAlgorithm, key: &AesKey, nonce: &[u8], ad: &[u8], text: &mut [u8], tag: &[u8]) -> bool
+fn open(
+    aead: AeadAlgorithm,
+    key: &AesKey,
+    nonce: &[u8],
+    ad: &[u8],
+    text: &mut [u8],
+    tag: &[u8],
+) -> bool
     requires key { IsKey key.now }
     requires algorithm { IsTagLength aead.kind aead.tag_length }
     requires lengths { IsTrue (permits_lengths_by aead.kind (length nonce.now) (length ad.now) (length text.old)) }
@@ -54,7 +61,14 @@ fn open(aead: AeadAlgorithm, key: &AesKey, nonce: &[u8], ad: &[u8], text: &mut [
 }
 
 // Fills a buffer with the ciphertext of a text and its tag.
-fn seal_into(aead: AeadAlgorithm, key: &AesKey, nonce: &[u8], ad: &[u8], input: &[u8], out: &mut [u8])
+fn seal_into(
+    aead: AeadAlgorithm,
+    key: &AesKey,
+    nonce: &[u8],
+    ad: &[u8],
+    input: &[u8],
+    out: &mut [u8],
+)
     requires key { IsKey key.now }
     requires algorithm { IsTagLength aead.kind aead.tag_length }
     requires lengths { IsTrue (permits_lengths_by aead.kind (length nonce.now) (length ad.now) (length input.now)) }
