@@ -1,6 +1,8 @@
 -- What the state of an AEAD operation stands for.
 use Rattle.std.specs.Prelude.{◌≡◌, true, false, [], length, is_some, MatchBool}
 use Rattle.store_model.specs.Aeads.{is_ccm}
+use Rattle.store_model.specs.Algorithms.{tag_bytes}
+use Rattle.algorithm_facts.specs.Names.{is_ccm as is_ccm_kind}
 use Rattle.store_model.specs.Operations.{Operation}
 use Rattle.store_model.specs.CipherOperations.{bytes_or_empty}
 use Rattle.store_model.specs.AeadOperations.{AeadWork, declared_payload}
@@ -39,7 +41,8 @@ pub record IsBegun (s : RunningAead) (w : AeadWork) : Type 0 where
 -- what was said and given, and what runs over it
 pub record HoldsAead (s : RunningAead) (w : AeadWork) : Type 0 where
   pub encrypts : s.encrypts ≡ w.encrypts
-  pub alg : s.alg.0 ≡ w.alg
+  pub kind : is_ccm_kind s.aead.kind ≡ is_ccm w.alg
+  pub tag : s.aead.tag_length ≡ tag_bytes w.alg
   pub key : s.key ≡ w.key
   pub has_key : s.has_key ≡ true
   pub lengths : lengths_of s.lengths ≡ w.lengths

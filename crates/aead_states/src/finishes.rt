@@ -12,7 +12,6 @@ ghost use Rattle.aead_states.specs.Holding.{HoldsAead};
 
 use crate::declared::{is_whole_ad, is_whole_payload};
 use crate::running::RunningAead;
-use algorithm_facts::tag_bytes;
 use operation_phase::{give_front, is_front};
 use psa_status::Status;
 
@@ -34,10 +33,10 @@ impl RunningAead {
 
     fn tag_length(&self) -> usize
         requires { self.now.has_nonce ≡ true }
-        ensures value { result ≡ tag_bytes self.now.alg.0 }
+        ensures value { result ≡ self.now.aead.tag_length }
         ensures bound { result ≤ 16 }
     {
-        tag_bytes(self.alg)
+        usize::from(self.aead.tag_length)
     }
 
     // The whole tag, of which the algorithm's is the front.
@@ -47,7 +46,8 @@ impl RunningAead {
             → is_whole_payload w.lengths (length w.text) ≡ true → take (tag_bytes w.alg) result ≡ work_tag w }
     {
         self.begin_text();
-        self.parts.tag(self.alg, &self.key, self.ad, self.text)
+        self.parts
+            .tag(self.aead.kind, &self.key, self.ad, self.text)
     }
 
     // Writes the tag to the front of a buffer, and answers its length.

@@ -1,10 +1,11 @@
 // Nonces.
-ghost use Rattle.std.specs.Prelude.{◌≡◌, ◌≤◌, ℕ, List, true, ◌&&◌, IfOk, OnOk, IsTrue, length, take};
+ghost use Rattle.std.specs.Prelude.{◌≡◌, ◌≤◌, ℕ, List, true, IfOk, OnOk, IsTrue, length, take};
 ghost use Rattle.std.specs.Result.{result_err};
 ghost use Rattle.psa_status.specs.Rows.{first_row};
 ghost use Rattle.store_model.specs.Call.{buffer_after};
 ghost use Rattle.store_model.specs.Outcome.{given, reply_unless};
-ghost use Rattle.store_model.specs.Aeads.{permits_nonce, permits_payload};
+ghost use Rattle.store_model.specs.Aeads as model;
+ghost use Rattle.algorithm_facts.specs.Names.{is_ccm, permits_nonce_by};
 ghost use Rattle.store_model.specs.Rules.{total_limit};
 ghost use Rattle.store_model.specs.AeadOperations.{AeadGenerateNonce, AeadWork, aead_step, declared_payload, generate_nonce_rows, nonce_length, set_nonce_rows, takes_nonce, with_nonce};
 ghost use Rattle.aead_states.specs.DeclaredLengths.{lengths_of};
@@ -12,19 +13,18 @@ ghost use Rattle.aead_states.specs.Holding.{HoldsAead};
 
 use crate::declared::{declared_ad, declared_payload};
 use crate::running::RunningAead;
-use alg_encoding::Alg;
-use algorithm_facts::{is_ccm, permits_nonce};
+use algorithm_facts::AeadKind;
 use operation_phase::give;
 use psa_status::Status;
 
 // The bytes of a nonce that is generated: with CCM the most that leave room for the payload's length.
-fn nonce_length(alg: Alg, payload: u64) -> usize
+fn nonce_length(kind: AeadKind, payload: u64) -> usize
     requires { payload ≤ total_limit }
     ensures bound { result ≤ 16 }
-    ensures permitted { IsTrue (permits_nonce alg.0 result && permits_payload alg.0 result payload) }
-    ensures value { (w : AeadWork) → alg.0 ≡ w.alg → payload ≡ declared_payload w.lengths → result ≡ nonce_length w }
+    ensures permitted { IsTrue (permits_nonce_by kind result payload) }
+    ensures value { (w : AeadWork) → is_ccm kind ≡ model.is_ccm w.alg → payload ≡ declared_payload w.lengths → result ≡ nonce_length w }
 {
-    if !is_ccm(alg) || 1 << 16 <= payload && payload < 1 << 24 {
+    if !kind.is_ccm() || 1 << 16 <= payload && payload < 1 << 24 {
         12
     } else if payload < 1 << 16 {
         13
@@ -39,19 +39,19 @@ impl RunningAead {
         ensures key { result ≡ true → self.now.has_key ≡ true }
         ensures value { (w : AeadWork) → HoldsAead self.now w → result ≡ takes_nonce w }
     {
-        self.has_key && !self.has_nonce && (!is_ccm(self.alg) || self.lengths.is_some())
+        self.has_key && !self.has_nonce && (!self.aead.kind.is_ccm() || self.lengths.is_some())
     }
 
     // Begins with a nonce that the algorithm takes.
     fn begin(&mut self, nonce: &[u8])
         requires key { self.old.has_key ≡ true }
-        requires nonce { IsTrue (permits_nonce self.old.alg.0 (length nonce.now)
-            && permits_payload self.old.alg.0 (length nonce.now) (declared_payload (lengths_of self.old.lengths))) }
+        requires nonce { IsTrue (permits_nonce_by self.old.aead.kind (length nonce.now)
+            (declared_payload (lengths_of self.old.lengths))) }
         ensures { (w : AeadWork) → HoldsAead self.old w → takes_nonce w ≡ true →
             HoldsAead self.new (with_nonce w nonce.now) }
     {
         let (ad, payload) = (declared_ad(self.lengths), declared_payload(self.lengths));
-        self.parts.start(self.alg, &self.key, nonce, ad, payload);
+        self.parts.start(self.aead, &self.key, nonce, ad, payload);
         self.has_nonce = true;
     }
 
@@ -66,7 +66,7 @@ impl RunningAead {
             return Err(Status::BadState);
         }
         let payload = declared_payload(self.lengths) as usize;
-        if !permits_nonce(self.alg, nonce.len(), payload) {
+        if !self.aead.kind.permits_nonce(nonce.len(), payload) {
             return Err(Status::InvalidArgument);
         }
         self.begin(nonce);
@@ -82,7 +82,7 @@ impl RunningAead {
         if !(self.encrypts && self.takes_nonce()) {
             return 0;
         }
-        let length = nonce_length(self.alg, declared_payload(self.lengths));
+        let length = nonce_length(self.aead.kind, declared_payload(self.lengths));
         if room < length { 0 } else { length }
     }
 
@@ -104,7 +104,7 @@ impl RunningAead {
         if !(self.encrypts && self.takes_nonce()) {
             return Err(Status::BadState);
         }
-        let nonce = &random[..nonce_length(self.alg, declared_payload(self.lengths))];
+        let nonce = &random[..nonce_length(self.aead.kind, declared_payload(self.lengths))];
         let length = give(nonce, out)?;
         self.begin(nonce);
         Ok(length)

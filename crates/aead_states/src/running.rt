@@ -1,22 +1,21 @@
 // An operation that is active, or a wiped one.
-ghost use Rattle.std.specs.Prelude.{◌≡◌, ◌≤◌, Bool, true, IsTrue};
+ghost use Rattle.std.specs.Prelude.{◌≡◌, ◌≤◌, ℕ, Bool, true, IsTrue};
 ghost use Rattle.crypto_specs.specs.Aes.{IsKey};
 ghost use Rattle.store_model.specs.Rules.{total_limit};
-ghost use Rattle.algorithm_facts.specs.TagLengths.{IsAead};
+ghost use Rattle.algorithm_facts.specs.Names.{IsTagLength, NamesAead};
 ghost use Rattle.aead_states.specs.Ready.{is_ready};
 
 use crate::lengths::Lengths;
 use crate::parts::Parts;
 use aes_core::AesKey;
-use alg_encoding::Alg;
-use algorithm_facts::aes_key;
+use algorithm_facts::{AeadAlgorithm, AeadKind, aes_key};
 
 // What was said and given to an operation: its algorithm and key, the declared lengths, whether the nonce is there,
 // how many bytes of associated data and of text there are, and whether any text was given.
 #[derive(Drop)]
 pub(crate) struct RunningAead {
     pub(crate) encrypts: bool,
-    pub(crate) alg: Alg,
+    pub(crate) aead: AeadAlgorithm,
     pub(crate) key: AesKey,
     pub(crate) has_key: bool,
     pub(crate) lengths: Option<Lengths>,
@@ -25,7 +24,7 @@ pub(crate) struct RunningAead {
     pub(crate) text: u64,
     pub(crate) has_text: bool,
     pub(crate) parts: Parts,
-    ghost ready: { has_key ≡ true → IsTrue (is_ready alg.0 key) },
+    ghost ready: { has_key ≡ true → IsTrue (is_ready aead key) },
     ghost keyed: { has_nonce ≡ true → has_key ≡ true },
     ghost ad_limit: { ad ≤ total_limit },
     ghost text_limit: { text ≤ total_limit },
@@ -42,7 +41,10 @@ impl RunningAead {
         key.wipe();
         RunningAead {
             encrypts: false,
-            alg: Alg(0),
+            aead: AeadAlgorithm {
+                kind: AeadKind::Gcm,
+                tag_length: 16,
+            },
             key,
             has_key: false,
             lengths: None,
@@ -65,13 +67,13 @@ impl RunningAead {
     }
 
     // Begins with a key, and nothing else yet.
-    pub(crate) fn start(&mut self, encrypts: bool, key: &[u8], alg: Alg)
+    pub(crate) fn start(&mut self, encrypts: bool, key: &[u8], aead: AeadAlgorithm)
         requires key { IsKey key.now }
-        requires aead { IsAead alg.0 }
-        ensures { HoldsAead self.new (aead_work encrypts alg.0 key.now) }
+        requires aead { IsTagLength aead.kind aead.tag_length }
+        ensures { (alg : ℕ) → NamesAead alg aead → HoldsAead self.new (aead_work encrypts alg key.now) }
     {
         self.encrypts = encrypts;
-        self.alg = alg;
+        self.aead = aead;
         self.key = aes_key(key);
         self.has_key = true;
         self.lengths = None;

@@ -4,25 +4,28 @@ ghost use Rattle.crypto_specs.specs.Aes.{IsKey};
 ghost use Rattle.store_model.specs.Answers.{plain_reply};
 ghost use Rattle.store_model.specs.Operations.{Operation};
 ghost use Rattle.store_model.specs.AeadOperations.{AeadWork, aead_setup};
-ghost use Rattle.algorithm_facts.specs.TagLengths.{IsAead};
+ghost use Rattle.alg_encoding.specs.declared.table.Class.TheVariants.{Aead};
+ghost use Rattle.algorithm_facts.specs.Names.{IsOfClass};
 ghost use Rattle.aead_states.specs.Holding.{IsAeadOperation};
 
 use crate::AeadState;
 use alg_encoding::Alg;
+use algorithm_facts::aead_algorithm;
 use operation_phase::Phase;
 use psa_status::Status;
 
 impl AeadState {
     fn setup(&mut self, encrypts: bool, key: &[u8], alg: Alg) -> Result<(), Status>
         requires key { IsKey key.now }
-        requires aead { IsAead alg.0 }
+        requires algorithm { IsOfClass Aead alg.0 }
         ensures state { (op : Operation AeadWork) → IsAeadOperation self.old op →
             IsAeadOperation self.new (aead_setup op encrypts alg.0 key.now).operation }
         ensures reply { (op : Operation AeadWork) → IsAeadOperation self.old op →
             plain_reply result ≡ (aead_setup op encrypts alg.0 key.now).reply }
     {
         self.state.phase.check_inactive()?;
-        self.state.work.start(encrypts, key, alg);
+        let aead = aead_algorithm(alg)?;
+        self.state.work.start(encrypts, key, aead);
         self.state.phase = Phase::Active;
         Ok(())
     }
@@ -30,7 +33,7 @@ impl AeadState {
     /// Sets an inactive operation up to encrypt a text under a key. `BadState` where it isn't inactive.
     pub fn aead_encrypt_setup(&mut self, key: &[u8], alg: Alg) -> Result<(), Status>
         requires key { IsKey key.now }
-        requires aead { IsAead alg.0 }
+        requires algorithm { IsOfClass Aead alg.0 }
         ensures state { (op : Operation AeadWork) → IsAeadOperation self.old op →
             IsAeadOperation self.new (aead_setup op true alg.0 key.now).operation }
         ensures reply { (op : Operation AeadWork) → IsAeadOperation self.old op →
@@ -42,7 +45,7 @@ impl AeadState {
     /// Sets an inactive operation up to decrypt a text under a key. `BadState` where it isn't inactive.
     pub fn aead_decrypt_setup(&mut self, key: &[u8], alg: Alg) -> Result<(), Status>
         requires key { IsKey key.now }
-        requires aead { IsAead alg.0 }
+        requires algorithm { IsOfClass Aead alg.0 }
         ensures state { (op : Operation AeadWork) → IsAeadOperation self.old op →
             IsAeadOperation self.new (aead_setup op false alg.0 key.now).operation }
         ensures reply { (op : Operation AeadWork) → IsAeadOperation self.old op →

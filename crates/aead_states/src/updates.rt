@@ -28,7 +28,7 @@ impl RunningAead {
         if is_past_ad(self.lengths, total) || is_past_limit(total) {
             return Err(Status::InvalidArgument);
         }
-        self.parts.update_ad(self.alg, &self.key, input);
+        self.parts.update_ad(self.aead.kind, &self.key, input);
         self.ad = total;
         Ok(())
     }
@@ -65,7 +65,7 @@ impl RunningAead {
             HoldsAead self.new (with_begun_text w) }
     {
         if !self.has_text {
-            self.parts.begin_text(self.alg, &self.key);
+            self.parts.begin_text(self.aead.kind, &self.key);
             self.has_text = true;
         }
     }
@@ -103,7 +103,8 @@ impl RunningAead {
             → HoldsAead self.new (with_payload w input.now) }
     {
         out.copy_from_slice(input);
-        self.parts.xor(self.encrypts, self.alg, &self.key, out);
+        self.parts
+            .xor(self.encrypts, self.aead.kind, &self.key, out);
         self.text = total;
     }
 }

@@ -1,1 +1,1 @@
-pub mod Hashing
+pub mod Parsing

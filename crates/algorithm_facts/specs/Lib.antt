@@ -1,2 +1,4 @@
 pub mod Modes
-pub mod TagLengths
+pub mod Parse
+pub mod Names
+pub mod Keys

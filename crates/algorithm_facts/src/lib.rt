@@ -1,15 +1,18 @@
-//! What algorithm numbers say to the code that computes with them: the mode of a cipher, the hash of a MAC, the
-//! lengths of a nonce and a tag.
+//! What algorithm numbers name, read once: the family, the hash function, the mode and the length of the tag; and what
+//! the code that computes with an algorithm has to know of it.
 #![tactic(auto)]
 
+mod aeads;
+mod algorithms;
 mod keys;
+mod lengths;
 mod modes;
-mod numbers;
+pub mod steps;
 
-pub use keys::{aes_key, check_class};
-pub use modes::{
-    Mode, enciphered_length, is_ciphertext_length, iv_length, mode_of, takes_whole_blocks,
+pub use algorithms::{
+    AeadAlgorithm, AeadKind, Algorithm, KeyDerivation, MacAlgorithm, MacKind, Scheme,
+    aead_algorithm, cipher_algorithm, derivation_algorithm, hash_algorithm, mac_algorithm,
 };
-pub use numbers::{
-    SECRET_STEP, TOTAL_LIMIT, hash_function, is_ccm, is_cmac, is_hmac, permits_nonce, tag_bytes,
-};
+pub use keys::aes_key;
+pub use lengths::TOTAL_LIMIT;
+pub use modes::{Mode, enciphered_length, is_ciphertext_length, iv_length, takes_whole_blocks};

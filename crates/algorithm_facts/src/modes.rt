@@ -1,9 +1,7 @@
 // The modes of the cipher algorithms.
 ghost use Rattle.std.specs.Prelude.{◌≡◌, ◌≤◌, ◌<◌, ◌^◌};
-ghost use Rattle.store_model.specs.Ciphers.{enciphered_length, is_ciphertext_length, iv_length, mode_of, takes_whole_blocks};
+ghost use Rattle.store_model.specs.Ciphers.{enciphered_length, is_ciphertext_length, iv_length, takes_whole_blocks};
 ghost use Rattle.algorithm_facts.specs.Modes.{model_mode};
-
-use alg_encoding::Alg;
 
 /// The modes of the cipher algorithms.
 #[derive(Clone, Copy, Drop)]
@@ -12,18 +10,6 @@ pub enum Mode {
     CbcNoPadding,
     CbcPkcs7,
     EcbNoPadding,
-}
-
-/// The mode of a cipher's number.
-pub fn mode_of(alg: Alg) -> Mode
-    ensures { model_mode result ≡ mode_of alg.0 }
-{
-    match alg.0 {
-        0x04c0_1000 => Mode::Ctr,
-        0x0440_4000 => Mode::CbcNoPadding,
-        0x0440_4100 => Mode::CbcPkcs7,
-        _ => Mode::EcbNoPadding,
-    }
 }
 
 /// The bytes of the initialisation vector, which stands before the ciphertext.

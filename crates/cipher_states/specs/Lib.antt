@@ -1,4 +1,3 @@
-pub mod Keyed
 pub mod Modes
 pub mod Ways
 pub mod Texts

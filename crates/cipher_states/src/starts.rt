@@ -10,6 +10,7 @@ ghost use Rattle.store_model.specs.Call.{buffer_after};
 ghost use Rattle.store_model.specs.Outcome.{given, reply_unless};
 ghost use Rattle.store_model.specs.CipherOperations.{CipherGenerateIv, CipherWork, cipher_step, cipher_work, generate_iv_rows, set_iv_rows, takes_iv, with_iv};
 ghost use Rattle.algorithm_facts.specs.Modes.{model_mode};
+ghost use Rattle.algorithm_facts.specs.Names.{NamesMode};
 ghost use Rattle.cipher_states.specs.States.{HoldsCipher, IsClearRunning};
 ghost use Rattle.cipher_states.specs.Modes.{keeps_last};
 ghost use Rattle.cipher_states.specs.Texts.{RunsBlocks};
@@ -19,8 +20,7 @@ use crate::block_text::BlockText;
 use crate::running::RunningCipher;
 use crate::ways::Way;
 use aes_core::AesKey;
-use alg_encoding::Alg;
-use algorithm_facts::{Mode, aes_key, mode_of};
+use algorithm_facts::{Mode, aes_key};
 use key_streams::{CounterWidth, KeyStream};
 use psa_status::Status;
 
@@ -88,13 +88,13 @@ impl RunningCipher {
     }
 
     /// Begins with the empty text under this key. Where the mode has an initialisation vector, that comes next.
-    pub(crate) fn start(&mut self, encrypts: bool, alg: Alg, key: &[u8])
+    pub(crate) fn start(&mut self, encrypts: bool, mode: Mode, key: &[u8])
         requires { IsKey key.now }
         ensures key { IsKey self.new.key }
-        ensures holds { HoldsCipher self.new (cipher_work encrypts alg.0 key.now) }
+        ensures holds { (alg : ℕ) → NamesMode alg mode → HoldsCipher self.new (cipher_work encrypts alg key.now) }
     {
         self.encrypts = encrypts;
-        self.mode = mode_of(alg);
+        self.mode = mode;
         self.key = aes_key(key);
         self.has_iv = false;
         self.total = 0;

@@ -6,10 +6,13 @@ ghost use Rattle.store_model.specs.Answers.{AnswersLength, AnswersOrSpoils, plai
 ghost use Rattle.store_model.specs.Operations.{Operation, Inactive, is_inactive, on_active};
 ghost use Rattle.store_model.specs.CipherOperations.{CipherFinish, CipherGenerateIv, CipherSetIv, CipherUpdate, CipherWork, cipher_setup, cipher_step};
 ghost use Rattle.operation_phase.specs.declared.Phase.TheVariants as phases;
-ghost use Rattle.cipher_states.specs.Keyed.{is_key};
+ghost use Rattle.alg_encoding.specs.declared.table.Class.TheVariants.{Cipher};
+ghost use Rattle.algorithm_facts.specs.Names.{IsOfClass};
+ghost use Rattle.algorithm_facts.specs.Keys.{is_key};
 
 use crate::running::RunningCipher;
 use alg_encoding::Alg;
+use algorithm_facts::cipher_algorithm;
 use operation_phase::{OperationState, Phase};
 use psa_status::Status;
 
@@ -49,21 +52,24 @@ impl CipherState {
     }
 
     fn setup(&mut self, encrypts: bool, key: &[u8], alg: Alg) -> Result<(), Status>
-        requires { IsKey key.now }
+        requires algorithm { IsOfClass Cipher alg.0 }
+        requires key { IsKey key.now }
         ensures state { (op : Operation CipherWork) → IsCipherOperation self.old op →
             IsCipherOperation self.new (cipher_setup op encrypts alg.0 key.now).operation }
         ensures reply { (op : Operation CipherWork) → IsCipherOperation self.old op →
             plain_reply result ≡ (cipher_setup op encrypts alg.0 key.now).reply }
     {
         self.state.phase.check_inactive()?;
-        self.state.work.start(encrypts, alg, key);
+        let mode = cipher_algorithm(alg)?;
+        self.state.work.start(encrypts, mode, key);
         self.state.phase = Phase::Active;
         Ok(())
     }
 
     /// Sets an inactive operation up to encrypt under an AES key. `BadState` where it isn't inactive.
     pub fn cipher_encrypt_setup(&mut self, key: &[u8], alg: Alg) -> Result<(), Status>
-        requires { IsKey key.now }
+        requires algorithm { IsOfClass Cipher alg.0 }
+        requires key { IsKey key.now }
         ensures state { (op : Operation CipherWork) → IsCipherOperation self.old op →
             IsCipherOperation self.new (cipher_setup op true alg.0 key.now).operation }
         ensures reply { (op : Operation CipherWork) → IsCipherOperation self.old op →
@@ -74,7 +80,8 @@ impl CipherState {
 
     /// Sets an inactive operation up to decrypt under an AES key. `BadState` where it isn't inactive.
     pub fn cipher_decrypt_setup(&mut self, key: &[u8], alg: Alg) -> Result<(), Status>
-        requires { IsKey key.now }
+        requires algorithm { IsOfClass Cipher alg.0 }
+        requires key { IsKey key.now }
         ensures state { (op : Operation CipherWork) → IsCipherOperation self.old op →
             IsCipherOperation self.new (cipher_setup op false alg.0 key.now).operation }
         ensures reply { (op : Operation CipherWork) → IsCipherOperation self.old op →

@@ -8,10 +8,10 @@ use Rattle.hash_ops.specs.Hashes.{hash_of, block_length}
 use Rattle.store_model.specs.CipherOperations.{bytes_or_empty}
 use Rattle.store_model.specs.DerivationOperations.{DerivationWork, is_hkdf, number_or_zero}
 use Rattle.derivation_states.specs.Inputs.{HoldsInputs, given_bytes}
-use Rattle.derivation_states.specs.Kdfs.{IsKdf}
+use Rattle.algorithm_facts.specs.Names.{NamesDerivation}
 use Rattle.derivation_states.specs.Streams.{work_hash, work_block_length, hmac_key, block_at}
 use Rattle.derivation_states.specs.declared.inputs.Inputs.{Inputs}
-use Rattle.derivation_states.specs.declared.kdf.Kdf.{Kdf}
+use Rattle.algorithm_facts.specs.declared.algorithms.KeyDerivation.{KeyDerivation}
 use Rattle.derivation_states.proofs.Blocks.{block_of_hkdf, block_of_pbkdf2}
 
 mapped : (f : List ℕ → List ℕ) (o : Option (List ℕ)) → is_some o ≡ true → bytes_or_empty (option_map f o) ≡ f (bytes_or_empty o)
@@ -22,7 +22,7 @@ counted : (o : Option ℕ) → is_some o ≡ true → unwrap_or o 1 ≡ number_o
 counted (Some n) e = refl
 counted None e = cc
 
-module _ (k : Kdf) (i : Inputs) (w : DerivationWork) (kdf : IsKdf k w.alg) (holds : HoldsInputs i w) (secret : is_some w.secret ≡ true) where
+module _ (k : KeyDerivation) (i : Inputs) (w : DerivationWork) (kdf : NamesDerivation w.alg k) (holds : HoldsInputs i w) (secret : is_some w.secret ≡ true) where
   key_is : (key : List ℕ) → key ≡ bytes_or_empty (given_bytes i.key) → key ≡ hmac_key w (bytes_or_empty w.secret)
   key_is key e = e ∙ ap bytes_or_empty holds.key ∙ mapped (hmac_key w) w.secret secret
 
@@ -33,8 +33,8 @@ module _ (k : Kdf) (i : Inputs) (w : DerivationWork) (kdf : IsKdf k w.alg) (hold
       let prk : key ≡ extract (work_hash w) (work_block_length w) (bytes_or_empty w.salt) (bytes_or_empty w.secret) =
       key_is key is_key ∙ ap (λ (b : Bool). cond b (extract (work_hash w) (work_block_length w) (bytes_or_empty w.salt) (bytes_or_empty w.secret)) (bytes_or_empty w.secret)) e in
       let same : (m : ℕ) → expand_block (hash_of k.hash) (block_length k.hash) key info m ≡ block_at w m = λ m.
-      ap (λ (f : List ℕ → List ℕ). expand_block f (block_length k.hash) key info m) kdf.digest
-      ∙ ap (λ (b : ℕ). expand_block (work_hash w) b key info m) kdf.block
+      ap (λ (f : List ℕ → List ℕ). expand_block f (block_length k.hash) key info m) kdf.hash.digest
+      ∙ ap (λ (b : ℕ). expand_block (work_hash w) b key info m) kdf.hash.block
       ∙ ap (λ (p : List ℕ). expand_block (work_hash w) (work_block_length w) p info m) prk
       ∙ ap (λ (l : List ℕ). expand_block (work_hash w) (work_block_length w) (extract (work_hash w) (work_block_length w) (bytes_or_empty w.salt) (bytes_or_empty w.secret)) l m) (is_info ∙ ap bytes_or_empty holds.info)
       ∙ sym (block_of_hkdf w e m) in
@@ -50,8 +50,8 @@ module _ (k : Kdf) (i : Inputs) (w : DerivationWork) (kdf : IsKdf k w.alg) (hold
       let salted : salt ≡ bytes_or_empty w.salt = is_salt ∙ ap bytes_or_empty holds.salt in
       let cost : turns ≡ number_or_zero w.cost = is_turns ∙ ap (λ (o : Option ℕ). unwrap_or o 1) holds.cost ∙ counted w.cost (holds.costed e secret) in
       made
-      ∙ ap (λ (f : List ℕ → List ℕ). pbkdf2_block f (block_length k.hash) key salt turns (n + 1)) kdf.digest
-      ∙ ap (λ (b : ℕ). pbkdf2_block (work_hash w) b key salt turns (n + 1)) kdf.block
+      ∙ ap (λ (f : List ℕ → List ℕ). pbkdf2_block f (block_length k.hash) key salt turns (n + 1)) kdf.hash.digest
+      ∙ ap (λ (b : ℕ). pbkdf2_block (work_hash w) b key salt turns (n + 1)) kdf.hash.block
       ∙ ap (λ (l : List ℕ). pbkdf2_block (work_hash w) (work_block_length w) l salt turns (n + 1)) password
       ∙ ap (λ (l : List ℕ). pbkdf2_block (work_hash w) (work_block_length w) (bytes_or_empty w.secret) l turns (n + 1)) salted
       ∙ ap (λ (t : ℕ). pbkdf2_block (work_hash w) (work_block_length w) (bytes_or_empty w.secret) (bytes_or_empty w.salt) t (n + 1)) cost

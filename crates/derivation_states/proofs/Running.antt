@@ -10,12 +10,12 @@ use Rattle.hash_ops.specs.declared.Hash.TheVariants.{Sha224, Sha256, Sha384, Sha
 use Rattle.hash_ops.proofs.Digests.{length-hash_of}
 use Rattle.store_model.specs.DerivationOperations.{DerivationWork, number_or_zero, next_derived, without}
 use Rattle.derivation_states.specs.Inputs.{HoldsInputs}
-use Rattle.derivation_states.specs.Kdfs.{IsKdf}
+use Rattle.algorithm_facts.specs.Names.{NamesDerivation}
 use Rattle.derivation_states.specs.Outputs.{IsRunning}
 use Rattle.derivation_states.specs.Streams.{block_at}
 use Rattle.derivation_states.specs.declared.inputs.Inputs.{Inputs}
 use Rattle.derivation_states.specs.declared.output.Output.{Output}
-use Rattle.derivation_states.specs.declared.kdf.Kdf.{Kdf}
+use Rattle.algorithm_facts.specs.declared.algorithms.KeyDerivation.{KeyDerivation}
 use Rattle.derivation_states.proofs.Lengths.{HasBlocks}
 use Rattle.derivation_states.proofs.Derived.{next_byte, next_derived_add, length-next_derived}
 
@@ -33,10 +33,10 @@ some_turns : (cost given : Option ℕ) → cost ≡ given → is_some given ≡ 
 some_turns cost (Some n) e s h = h n e
 some_turns cost None e s h = cc
 
-pub has_blocks : (k : Kdf) (i : Inputs) (w : DerivationWork) → IsKdf k w.alg → HoldsInputs i w → is_some w.secret ≡ true → HasBlocks w (digest_length k.hash)
+pub has_blocks : (k : KeyDerivation) (i : Inputs) (w : DerivationWork) → NamesDerivation w.alg k → HoldsInputs i w → is_some w.secret ≡ true → HasBlocks w (digest_length k.hash)
 has_blocks k i w kdf inputs secret = record {
   some = some_digest k.hash;
-  digest = λ m. ap (λ (f : List ℕ → List ℕ). length (f m)) (sym kdf.digest) ∙ length-hash_of k.hash m;
+  digest = λ m. ap (λ (f : List ℕ → List ℕ). length (f m)) (sym kdf.hash.digest) ∙ length-hash_of k.hash m;
   turns = λ e. some_turns i.cost w.cost inputs.cost (inputs.costed e secret) i.some_turns;
 }
 

@@ -1,5 +1,4 @@
 pub mod Streams
-pub mod Kdfs
 pub mod Inputs
 pub mod Outputs
 pub mod States

@@ -3,7 +3,7 @@ use Rattle.std.specs.Prelude.{◌≡◌, ◌+◌, ◌*◌, ◌≤◌, false, is_
 use Rattle.hash_ops.specs.Hashes.{digest_length}
 use Rattle.store_model.specs.DerivationOperations.{DerivationWork}
 use Rattle.derivation_states.specs.Streams.{block_at}
-use Rattle.derivation_states.specs.Kdfs.{IsKdf}
+use Rattle.algorithm_facts.specs.Names.{NamesDerivation}
 use Rattle.derivation_states.specs.declared.output.Output.{Output}
 
 pub record IsClearOutput (o : Output) : Type 0 where
@@ -15,7 +15,7 @@ pub record IsClearOutput (o : Output) : Type 0 where
 
 -- the current block, which is whole, and how many of its bytes were taken; block 0 has none
 pub record IsRunning (o : Output) (w : DerivationWork) : Type 0 where
-  pub kdf : IsKdf o.kdf w.alg
+  pub kdf : NamesDerivation w.alg o.kdf
   pub capacity : o.capacity ≡ w.capacity
   pub place : w.taken + o.length ≡ digest_length o.kdf.hash * o.number + o.used
   pub block : take o.length o.block ≡ block_at w o.number

@@ -4,22 +4,14 @@ ghost use Rattle.std.specs.Prelude.{◌≡◌, ◌≤◌, ◌+◌, ◌==◌, ℕ
 ghost use Rattle.std.specs.Option.{ForSome};
 ghost use Rattle.psa_status.specs.Rows.{first_row, unless};
 ghost use Rattle.store_model.specs.DerivationOperations.{DerivationWork, input_bytes_rows, input_integer_rows, is_due, is_salt_due, is_secret_due, key_step, key_step_rows, takes_bytes, with_bytes, with_key};
-ghost use Rattle.derivation_states.specs.Kdfs.{IsKdf};
+ghost use Rattle.algorithm_facts.specs.Names.{NamesDerivation};
 
 use crate::input::Input;
-use crate::kdf::{Kdf, Scheme};
-use algorithm_facts::SECRET_STEP;
+use algorithm_facts::steps::{COST, INFO, PASSWORD, SALT, SECRET};
+use algorithm_facts::{KeyDerivation, Scheme};
 use kdf_core::hkdf_extract;
 use psa_status::{Memory, Status};
 use std::alloc::Global;
-
-const PASSWORD: u16 = 0x102;
-
-const SALT: u16 = 0x202;
-
-const INFO: u16 = 0x203;
-
-const COST: u16 = 0x205;
 
 // The most bytes of an input.
 const LONGEST_INPUT: usize = 1024;
@@ -70,10 +62,10 @@ impl Inputs {
     }
 
     // Whether a salt may come.
-    fn is_salt_due(&self, kdf: Kdf) -> bool
-        ensures { (w : DerivationWork) → IsKdf kdf w.alg → HoldsInputs self.now w → result ≡ is_salt_due w }
+    fn is_salt_due(&self, kdf: KeyDerivation) -> bool
+        ensures { (w : DerivationWork) → NamesDerivation w.alg kdf → HoldsInputs self.now w → result ≡ is_salt_due w }
     {
-        let may_come = if kdf.is_hkdf() {
+        let may_come = if kdf.scheme.is_hkdf() {
             !self.salt.is_given()
         } else {
             self.cost.is_some()
@@ -82,10 +74,10 @@ impl Inputs {
     }
 
     // Whether a secret or a password may come.
-    fn is_secret_due(&self, kdf: Kdf) -> bool
-        ensures { (w : DerivationWork) → IsKdf kdf w.alg → HoldsInputs self.now w → result ≡ is_secret_due w }
+    fn is_secret_due(&self, kdf: KeyDerivation) -> bool
+        ensures { (w : DerivationWork) → NamesDerivation w.alg kdf → HoldsInputs self.now w → result ≡ is_secret_due w }
     {
-        !self.key.is_given() && (kdf.is_hkdf() || self.salt.is_given())
+        !self.key.is_given() && (kdf.scheme.is_hkdf() || self.salt.is_given())
     }
 
     // The length of what stands at a step already, to which more is added.
@@ -101,8 +93,8 @@ impl Inputs {
     }
 
     // Whether bytes may come at a step that takes bytes.
-    fn is_due(&self, kdf: Kdf, has_begun: bool, step: u16) -> bool
-        ensures { (w : DerivationWork) → IsKdf kdf w.alg → HoldsInputs self.now w → has_begun ≡ not (w.taken == 0)
+    fn is_due(&self, kdf: KeyDerivation, has_begun: bool, step: u16) -> bool
+        ensures { (w : DerivationWork) → NamesDerivation w.alg kdf → HoldsInputs self.now w → has_begun ≡ not (w.taken == 0)
             → result ≡ is_due w step }
     {
         match step {
@@ -115,12 +107,12 @@ impl Inputs {
     /// The refusal of bytes at a step, where `has_begun` says whether output was taken.
     pub fn check_bytes(
         &self,
-        kdf: Kdf,
+        kdf: KeyDerivation,
         has_begun: bool,
         step: u16,
         bytes: &[u8],
     ) -> Result<(), Status>
-        ensures rows { (w : DerivationWork) → IsKdf kdf w.alg → HoldsInputs self.now w → has_begun ≡ not (w.taken == 0)
+        ensures rows { (w : DerivationWork) → NamesDerivation w.alg kdf → HoldsInputs self.now w → has_begun ≡ not (w.taken == 0)
             → result ≡ unless (first_row (input_bytes_rows w step bytes.now)) tt }
         ensures room { OnOk result (length (stands_at self.now step) + length bytes.now ≤ 1024) }
     {
@@ -137,9 +129,9 @@ impl Inputs {
     }
 
     // Takes a secret or a password.
-    fn put_secret(&mut self, kdf: Kdf, secret: &[u8])
+    fn put_secret(&mut self, kdf: KeyDerivation, secret: &[u8])
         requires { length secret.now ≤ 1024 }
-        ensures { (w : DerivationWork) → IsKdf kdf w.alg → HoldsInputs self.old w → is_secret_due w ≡ true
+        ensures { (w : DerivationWork) → NamesDerivation w.alg kdf → HoldsInputs self.old w → is_secret_due w ≡ true
             → HoldsInputs self.new (record w { secret = Some secret.now }) }
     {
         match kdf.scheme {
@@ -154,9 +146,9 @@ impl Inputs {
     }
 
     /// Takes bytes at a step that takes them and is due.
-    pub fn put_bytes(&mut self, kdf: Kdf, step: u16, bytes: &[u8])
+    pub fn put_bytes(&mut self, kdf: KeyDerivation, step: u16, bytes: &[u8])
         requires { length (stands_at self.old step) + length bytes.now ≤ 1024 }
-        ensures { (w : DerivationWork) → IsKdf kdf w.alg → HoldsInputs self.old w → is_due w step ≡ true
+        ensures { (w : DerivationWork) → NamesDerivation w.alg kdf → HoldsInputs self.old w → is_due w step ≡ true
             → HoldsInputs self.new (with_bytes w step bytes.now) }
     {
         match step {
@@ -167,8 +159,8 @@ impl Inputs {
     }
 
     /// The refusal of a key at a step, whatever the key is.
-    pub fn check_key_step(&self, kdf: Kdf, step: u16) -> Result<(), Status>
-        ensures { (w : DerivationWork) → IsKdf kdf w.alg → HoldsInputs self.now w
+    pub fn check_key_step(&self, kdf: KeyDerivation, step: u16) -> Result<(), Status>
+        ensures { (w : DerivationWork) → NamesDerivation w.alg kdf → HoldsInputs self.now w
             → result ≡ unless (first_row (key_step_rows w step)) tt }
     {
         if step != key_step(kdf) {
@@ -181,9 +173,9 @@ impl Inputs {
     }
 
     /// Takes a key's bytes as the secret or the password, where it is due.
-    pub fn put_key(&mut self, kdf: Kdf, key: &[u8])
+    pub fn put_key(&mut self, kdf: KeyDerivation, key: &[u8])
         requires { length key.now ≤ 1024 }
-        ensures { (w : DerivationWork) → IsKdf kdf w.alg → HoldsInputs self.old w → is_secret_due w ≡ true
+        ensures { (w : DerivationWork) → NamesDerivation w.alg kdf → HoldsInputs self.old w → is_secret_due w ≡ true
             → HoldsInputs self.new (with_key w key.now) }
     {
         self.put_secret(kdf, key);
@@ -191,12 +183,12 @@ impl Inputs {
     }
 
     /// The number at a step as a cost, or its refusal.
-    pub fn check_integer(&self, kdf: Kdf, step: u16, value: u64) -> Result<u32, Status>
-        ensures rows { (w : DerivationWork) → IsKdf kdf w.alg → HoldsInputs self.now w
+    pub fn check_integer(&self, kdf: KeyDerivation, step: u16, value: u64) -> Result<u32, Status>
+        ensures rows { (w : DerivationWork) → NamesDerivation w.alg kdf → HoldsInputs self.now w
             → result ≡ unless (first_row (input_integer_rows w step value)) value }
         ensures some_turns { IfOk result (λ turns. 1 ≤ turns) }
     {
-        if kdf.is_hkdf() || step != COST {
+        if kdf.scheme.is_hkdf() || step != COST {
             return Err(Status::InvalidArgument);
         }
         if self.cost.is_some() {
@@ -222,18 +214,18 @@ impl Inputs {
 }
 
 // The step that a secret or a password has.
-fn key_step(kdf: Kdf) -> u16
-    ensures { (alg : ℕ) → IsKdf kdf alg → result ≡ key_step alg }
+fn key_step(kdf: KeyDerivation) -> u16
+    ensures { (alg : ℕ) → NamesDerivation alg kdf → result ≡ key_step alg }
 {
     match kdf.scheme {
-        Scheme::Hkdf => SECRET_STEP,
+        Scheme::Hkdf => SECRET,
         Scheme::Pbkdf2 => PASSWORD,
     }
 }
 
 // Whether a step takes bytes.
-fn takes_bytes(kdf: Kdf, step: u16) -> bool
-    ensures { (alg : ℕ) → IsKdf kdf alg → result ≡ takes_bytes alg step }
+fn takes_bytes(kdf: KeyDerivation, step: u16) -> bool
+    ensures { (alg : ℕ) → NamesDerivation alg kdf → result ≡ takes_bytes alg step }
 {
-    step == key_step(kdf) || step == SALT || (kdf.is_hkdf() && step == INFO)
+    step == key_step(kdf) || step == SALT || (kdf.scheme.is_hkdf() && step == INFO)
 }

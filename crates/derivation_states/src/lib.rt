@@ -11,10 +11,9 @@ ghost use Rattle.store_model.specs.Outcome.{refusal};
 ghost use Rattle.service_calls.specs.Answered.{number_reply};
 ghost use Rattle.derivation_states.specs.Replies.{AnswersFront};
 
-use alg_encoding::{Alg, Class};
-use algorithm_facts::check_class;
+use alg_encoding::Alg;
+use algorithm_facts::derivation_algorithm;
 use derivation::RunningDerivation;
-use kdf::Kdf;
 use key_attributes::Attributes;
 use operation_phase::{OperationState, Phase};
 use psa_status::{Memory, Status};
@@ -24,7 +23,6 @@ mod derivation;
 mod family;
 mod input;
 mod inputs;
-mod kdf;
 mod output;
 mod work;
 
@@ -90,8 +88,8 @@ impl DerivationState {
             → plain_reply result ≡ (derivation_setup op alg.0).reply }
     {
         self.state.phase.check_inactive()?;
-        check_class(Class::Derivation, alg)?;
-        self.state.work.output.start(Kdf::of(alg));
+        let derivation = derivation_algorithm(alg)?;
+        self.state.work.output.start(derivation);
         self.state.phase = Phase::Active;
         Ok(())
     }

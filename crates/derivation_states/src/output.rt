@@ -5,12 +5,12 @@ ghost use Rattle.psa_status.specs.declared.Status.TheVariants.{InsufficientData}
 ghost use Rattle.hash_ops.specs.Hashes.{digest_length};
 ghost use Rattle.store_model.specs.DerivationOperations.{DerivationWork, derivation_work, next_derived, without};
 ghost use Rattle.derivation_states.specs.Inputs.{HoldsInputs};
-ghost use Rattle.derivation_states.specs.Kdfs.{IsKdf, block_limit};
+ghost use Rattle.algorithm_facts.specs.Names.{NamesDerivation, block_limit};
 ghost use Rattle.derivation_states.specs.Streams.{block_at};
 
 use crate::KEY_ROOM;
 use crate::inputs::Inputs;
-use crate::kdf::{Kdf, Scheme};
+use algorithm_facts::{KeyDerivation, Scheme};
 use hash_ops::Hash;
 use kdf_core::{hkdf_block, pbkdf2_block};
 use psa_status::Status;
@@ -20,7 +20,7 @@ use psa_status::Status;
 /// the first byte.
 #[derive(Drop)]
 pub struct Output {
-    pub kdf: Kdf,
+    pub kdf: KeyDerivation,
     pub capacity: u64,
     number: u32,
     used: usize,
@@ -39,7 +39,7 @@ impl Output {
         ensures { IsClearOutput result }
     {
         Output {
-            kdf: Kdf {
+            kdf: KeyDerivation {
                 scheme: Scheme::Hkdf,
                 hash: Hash::Sha256,
             },
@@ -63,12 +63,12 @@ impl Output {
     }
 
     /// Makes it all bytes that a derivation can give.
-    pub fn start(&mut self, kdf: Kdf)
-        ensures { (alg : ℕ) → IsKdf kdf alg → HoldsOutput self.new (derivation_work alg) }
+    pub fn start(&mut self, kdf: KeyDerivation)
+        ensures { (alg : ℕ) → NamesDerivation alg kdf → HoldsOutput self.new (derivation_work alg) }
     {
         self.wipe();
         self.kdf = kdf;
-        self.capacity = kdf.hash.length() as u64 * u64::from(kdf.block_limit());
+        self.capacity = kdf.hash.length() as u64 * u64::from(kdf.scheme.block_limit());
     }
 
     /// Whether a byte was taken.

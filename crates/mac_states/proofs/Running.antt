@@ -44,17 +44,3 @@ runs_cmac s w e h = by_true s.cmac.runs (IsCmac s w) (IsHmac s w) e h
 pub runs_hmac : (s : RunningMac) (w : MacWork) → s.cmac.runs ≡ false → IsHmac s w →
     MatchBool s.cmac.runs (IsCmac s w) (IsHmac s w)
 runs_hmac s w e h = by_false s.cmac.runs (IsCmac s w) (IsHmac s w) e h
-
-other_base : (x : ℕ) (b : Bool) → (x == cmac_base) ≡ b → (x ≡ cmac_base → ⊥) → (x == cmac_base) ≡ false
-other_base x false e h = e
-other_base x true e h = let same : x ≡ cmac_base = grind (arith, nat_tests) in absurd (h same)
-
--- the whole MAC of an algorithm that isn't CMAC
-pub whole_hmac : (alg : ℕ) (which : Hash) (key m : List ℕ) → (base_of alg ≡ cmac_base → ⊥) →
-    hashes.hash_of which ≡ digest (low_byte alg) → hashes.block_length which ≡ hash_block_length (low_byte alg) →
-    hmac (hashes.hash_of which) (hashes.block_length which) key m ≡ whole_mac alg key m
-whole_hmac alg which key m other d b =
-    ap (λ (f : List ℕ → List ℕ). hmac f (hashes.block_length which) key m) d
-    ∙ ap (λ (n : ℕ). hmac (digest (low_byte alg)) n key m) b
-    ∙ ap (λ t. cond t (cmac (aes_encrypt key) m) (hmac (digest (low_byte alg)) (hash_block_length (low_byte alg)) key m))
-    (sym (other_base (base_of alg) (base_of alg == cmac_base) refl other))

@@ -12,7 +12,6 @@ use Rattle.mac_states.specs.declared.hash_state.HashOpState.{HashOpState}
 
 -- the hasher is one of the algorithm's function, and has taken in the message
 pub record HoldsHash (s : RunningHash) (work : HashWork) : Type 0 where
-  pub alg : s.alg.0 ≡ work.alg
   pub total : s.total.bytes ≡ length work.message
   pub which : Hash
   pub digest : hashes.hash_of which ≡ digest (low_byte work.alg)

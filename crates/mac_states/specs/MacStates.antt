@@ -1,12 +1,11 @@
 -- What a MAC in several parts stands for.
 use Rattle.std.specs.Prelude.{◌≡◌, ℕ, true, false, List, length, MatchBool}
 use Rattle.hash_ops.specs.declared.Hash.{Hash}
-use Rattle.hash_ops.specs.Hashes as hashes
-use Rattle.hmac_ops.specs.declared.state.HmacState.{HmacState}
 use Rattle.hmac_ops.specs.States.{HoldsHmac, IsWipedHmac}
 use Rattle.cmac_ops.specs.States.{HoldsCmac, IsWipedCmac}
-use Rattle.alg_encoding.specs.Encoding.{base_of}
-use Rattle.store_model.specs.Algorithms.{cmac_base, digest, hash_block_length, low_byte}
+use Rattle.store_model.specs.Algorithms.{tag_bytes, whole_mac}
+use Rattle.algorithm_facts.specs.declared.algorithms.MacKind.TheVariants.{Hmac, Cmac}
+use Rattle.algorithm_facts.specs.Names.{whole_mac_by}
 use Rattle.store_model.specs.Operations.{Operation}
 use Rattle.store_model.specs.MacOperations.{MacWork}
 use Rattle.operation_phase.specs.States.{IsOperation}
@@ -24,26 +23,20 @@ pub record IsClearCmac (s : CmacPart) : Type 0 where
   pub runs : s.runs ≡ false
   pub state : IsWipedCmac s.state
 
--- an HMAC runs over the algorithm's hash function under this key, and has taken in the message
-pub record RunsHmac (s : HmacState) (alg : ℕ) (key message : List ℕ) : Type 0 where
-  pub which : Hash
-  pub digest : hashes.hash_of which ≡ digest (low_byte alg)
-  pub block : hashes.block_length which ≡ hash_block_length (low_byte alg)
-  pub state : HoldsHmac s which key message
-
 -- the algorithm is CMAC, and that runs
 pub record IsCmac (s : RunningMac) (work : MacWork) : Type 0 where
-  pub base : base_of work.alg ≡ cmac_base
+  pub whole : (key message : List ℕ) → whole_mac_by Cmac key message ≡ whole_mac work.alg key message
   pub message : RunsCmac s.cmac work.key work.message
 
 -- the algorithm is HMAC, and that runs
 pub record IsHmac (s : RunningMac) (work : MacWork) : Type 0 where
-  pub base : base_of work.alg ≡ cmac_base → ⊥
-  pub message : RunsHmac s.hmac work.alg work.key work.message
+  pub which : Hash
+  pub whole : (key message : List ℕ) → whole_mac_by (Hmac which) key message ≡ whole_mac work.alg key message
+  pub message : HoldsHmac s.hmac which work.key work.message
 
 -- the MAC of the algorithm runs, and has taken in the message
 pub record HoldsMac (s : RunningMac) (work : MacWork) : Type 0 where
-  pub alg : s.alg.0 ≡ work.alg
+  pub tag : s.length ≡ tag_bytes work.alg
   pub verifies : s.verifies ≡ work.verifies
   pub total : s.total.bytes ≡ length work.message
   pub message : MatchBool s.cmac.runs (IsCmac s work) (IsHmac s work)

@@ -8,13 +8,11 @@ ghost use Rattle.operation_phase.specs.declared.Phase.TheVariants as phase;
 ghost use Rattle.mac_states.specs.HashStates.{IsClearHash, IsHashOperation};
 
 use crate::running_hash::RunningHash;
-use alg_encoding::{Alg, Class};
-use algorithm_facts::check_class;
+use alg_encoding::Alg;
+use algorithm_facts::hash_algorithm;
+use hash_ops::Hash;
 use operation_phase::{OperationState, Phase};
 use psa_status::Status;
-
-// What stands for the algorithm until a setup names one.
-const NO_ALGORITHM: Alg = Alg(0);
 
 /// A hash in several parts: a setup, any number of updates, and a finish or a verify.
 #[derive(Drop)]
@@ -28,7 +26,7 @@ impl HashOpState {
         ensures { IsHashOperation result Inactive }
     {
         HashOpState {
-            state: OperationState::new(RunningHash::new(NO_ALGORITHM)),
+            state: OperationState::new(RunningHash::new(Hash::Sha256)),
         }
     }
 
@@ -56,8 +54,8 @@ impl HashOpState {
             plain_reply result ≡ (hash_setup op alg.0).reply }
     {
         self.state.phase.check_inactive()?;
-        check_class(Class::Hash, alg)?;
-        self.state.work = RunningHash::new(alg);
+        let which = hash_algorithm(alg)?;
+        self.state.work = RunningHash::new(which);
         self.state.phase = Phase::Active;
         Ok(())
     }

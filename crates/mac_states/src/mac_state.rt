@@ -7,10 +7,13 @@ ghost use Rattle.store_model.specs.Call.{buffer_after};
 ghost use Rattle.store_model.specs.Answers.{AnswersLength, plain_reply};
 ghost use Rattle.store_model.specs.Operations.{Operation, Inactive, is_inactive, on_active};
 ghost use Rattle.store_model.specs.MacOperations.{MacSignFinish, MacUpdate, MacVerifyFinish, MacWork, mac_setup, mac_step};
+ghost use Rattle.alg_encoding.specs.declared.table.Class.TheVariants.{Mac};
+ghost use Rattle.algorithm_facts.specs.Names.{IsOfClass};
 ghost use Rattle.mac_states.specs.MacStates.{IsClearMac, IsMacOperation};
 
 use crate::running_mac::RunningMac;
 use alg_encoding::Alg;
+use algorithm_facts::mac_algorithm;
 use operation_phase::{OperationState, Phase};
 use psa_status::Status;
 
@@ -46,6 +49,7 @@ impl MacState {
     }
 
     fn setup(&mut self, verifies: bool, key: &[u8], alg: Alg) -> Result<(), Status>
+        requires algorithm { IsOfClass Mac alg.0 }
         requires aes { base_of alg.0 ≡ cmac_base → IsKey key.now }
         ensures state { (op : Operation MacWork) → IsMacOperation self.old op →
             IsMacOperation self.new (mac_setup op verifies alg.0 key.now).operation }
@@ -53,13 +57,15 @@ impl MacState {
             plain_reply result ≡ (mac_setup op verifies alg.0 key.now).reply }
     {
         self.state.phase.check_inactive()?;
-        self.state.work.start(verifies, alg, key);
+        let mac = mac_algorithm(alg)?;
+        self.state.work.start(verifies, mac, key);
         self.state.phase = Phase::Active;
         Ok(())
     }
 
     /// Sets an inactive operation up to make the MAC of a message under a key. `BadState` where it isn't inactive.
     pub fn mac_sign_setup(&mut self, key: &[u8], alg: Alg) -> Result<(), Status>
+        requires algorithm { IsOfClass Mac alg.0 }
         requires aes { base_of alg.0 ≡ cmac_base → IsKey key.now }
         ensures state { (op : Operation MacWork) → IsMacOperation self.old op →
             IsMacOperation self.new (mac_setup op false alg.0 key.now).operation }
@@ -71,6 +77,7 @@ impl MacState {
 
     /// Sets an inactive operation up to verify the MAC of a message under a key. `BadState` where it isn't inactive.
     pub fn mac_verify_setup(&mut self, key: &[u8], alg: Alg) -> Result<(), Status>
+        requires algorithm { IsOfClass Mac alg.0 }
         requires aes { base_of alg.0 ≡ cmac_base → IsKey key.now }
         ensures state { (op : Operation MacWork) → IsMacOperation self.old op →
             IsMacOperation self.new (mac_setup op true alg.0 key.now).operation }

@@ -1,20 +1,19 @@
 // The MAC of a message that comes piece by piece.
-ghost use Rattle.std.specs.Prelude.{◌≡◌, ◌≤◌, ◌++◌, Bool, IfOk, OnOk, length, take};
+ghost use Rattle.std.specs.Prelude.{◌≡◌, ◌≤◌, ◌++◌, ℕ, Bool, true, IfOk, OnOk, length, take};
 ghost use Rattle.std.specs.Result.{result_err};
 ghost use Rattle.psa_status.specs.Rows.{first_row};
 ghost use Rattle.crypto_specs.specs.Aes.{IsKey};
-ghost use Rattle.alg_encoding.specs.Encoding.{base_of};
-ghost use Rattle.store_model.specs.Algorithms.{cmac_base, mac_of, tag_bytes, whole_mac};
+ghost use Rattle.store_model.specs.Algorithms.{mac_of, tag_bytes, whole_mac};
 ghost use Rattle.store_model.specs.HashOperations.{total_rows};
 ghost use Rattle.store_model.specs.MacOperations.{MacWork, mac_work, sign_rows, verify_rows};
 ghost use Rattle.store_model.specs.Call.{buffer_after};
 ghost use Rattle.store_model.specs.Outcome.{given, reply_unless};
+ghost use Rattle.algorithm_facts.specs.Names.{NamesMac, is_cmac};
 ghost use Rattle.mac_states.specs.MacStates.{HoldsMac, IsClearRunningMac};
 
 use crate::cmac_part::CmacPart;
 use crate::total::Total;
-use alg_encoding::Alg;
-use algorithm_facts::{hash_function, is_cmac, tag_bytes};
+use algorithm_facts::{MacAlgorithm, MacKind};
 use hash_ops::Hash;
 use hmac_ops::HmacState;
 use operation_phase::{give_front, is_front};
@@ -24,7 +23,7 @@ use psa_status::Status;
 /// verified.
 #[derive(Drop)]
 pub struct RunningMac {
-    alg: Alg,
+    length: u8,
     verifies: bool,
     total: Total,
     hmac: HmacState,
@@ -39,7 +38,7 @@ impl RunningMac {
         let mut hmac = HmacState::new(Hash::Sha256, &[]);
         hmac.wipe();
         RunningMac {
-            alg: Alg(0),
+            length: 0,
             verifies: false,
             total: Total::none(),
             hmac,
@@ -48,17 +47,16 @@ impl RunningMac {
     }
 
     /// Begins with the empty message under this key.
-    pub fn start(&mut self, verifies: bool, alg: Alg, key: &[u8])
-        requires { base_of alg.0 ≡ cmac_base → IsKey key.now }
-        ensures { HoldsMac self.new (mac_work verifies alg.0 key.now) }
+    pub fn start(&mut self, verifies: bool, mac: MacAlgorithm, key: &[u8])
+        requires { is_cmac mac.kind ≡ true → IsKey key.now }
+        ensures { (alg : ℕ) → NamesMac alg mac → HoldsMac self.new (mac_work verifies alg key.now) }
     {
         self.wipe();
-        self.alg = alg;
+        self.length = mac.length;
         self.verifies = verifies;
-        if is_cmac(alg) {
-            self.cmac.start(key);
-        } else {
-            self.hmac = HmacState::new(hash_function(alg), key);
+        match mac.kind {
+            MacKind::Hmac(which) => self.hmac = HmacState::new(which, key),
+            MacKind::Cmac => self.cmac.start(key),
         }
     }
 
@@ -97,7 +95,7 @@ impl RunningMac {
         ensures tag { (w : MacWork) → HoldsMac self.old w → result ≤ tag_bytes w.alg }
         ensures mac { (w : MacWork) → HoldsMac self.old w → take result out.new ≡ mac_of w.alg w.key w.message }
     {
-        let length = tag_bytes(self.alg);
+        let length = usize::from(self.length);
         self.put_whole_mac(out).min(length)
     }
 
@@ -115,7 +113,7 @@ impl RunningMac {
         if self.verifies {
             return Err(Status::BadState);
         }
-        if out.len() < tag_bytes(self.alg) {
+        if out.len() < usize::from(self.length) {
             return Err(Status::BufferTooSmall);
         }
         let mut mac = [0; 64];

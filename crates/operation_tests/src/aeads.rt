@@ -3,6 +3,7 @@
 use crate::keys::without_key;
 use aead_states::AeadState;
 use alg_encoding::Alg;
+use algorithm_facts::aead_algorithm;
 use psa_status::Status;
 use service_calls::AeadStep;
 use std::test::Fail;
@@ -70,11 +71,16 @@ const CCM: Case = Case {
 // Sets an operation up with a case's key.
 fn setup(state: &mut AeadState, case: &Case, encrypts: bool) -> Result<(), Status> {
     let key = case.key.to_be_bytes();
-    match (case.is_ccm, encrypts) {
-        (true, true) => state.aead_encrypt_setup(&key, Alg(0x0546_0100)),
-        (true, false) => state.aead_decrypt_setup(&key, Alg(0x0546_0100)),
-        (false, true) => state.aead_encrypt_setup(&key, Alg(0x0550_0200)),
-        (false, false) => state.aead_decrypt_setup(&key, Alg(0x0550_0200)),
+    let alg = Alg(if case.is_ccm {
+        0x0546_0100
+    } else {
+        0x0550_0200
+    });
+    aead_algorithm(alg)?;
+    if encrypts {
+        state.aead_encrypt_setup(&key, alg)
+    } else {
+        state.aead_decrypt_setup(&key, alg)
     }
 }
 

@@ -2,6 +2,7 @@
 
 use crate::keys::without_key;
 use alg_encoding::Alg;
+use algorithm_facts::cipher_algorithm;
 use cipher_states::CipherState;
 use psa_status::Status;
 use service_calls::CipherStep;
@@ -54,14 +55,19 @@ fn text_of(blocks: [u128; 3]) -> [u8; 48] {
     text
 }
 
+fn set_up(state: &mut CipherState, encrypts: bool, alg: Alg, key: u128) -> Result<(), Status> {
+    cipher_algorithm(alg)?;
+    if encrypts {
+        state.cipher_encrypt_setup(&key.to_be_bytes(), alg)
+    } else {
+        state.cipher_decrypt_setup(&key.to_be_bytes(), alg)
+    }
+}
+
 // An operation that is set up, and has its initialisation vector where there is one.
 fn started(encrypts: bool, alg: Alg, iv: Option<u128>) -> Result<CipherState, Status> {
     let mut state = CipherState::new();
-    if encrypts {
-        state.cipher_encrypt_setup(&KEY.to_be_bytes(), alg)?;
-    } else {
-        state.cipher_decrypt_setup(&KEY.to_be_bytes(), alg)?;
-    }
+    set_up(&mut state, encrypts, alg, KEY)?;
     if let Some(iv) = iv {
         state.cipher_set_iv(&iv.to_be_bytes())?;
     }
@@ -151,7 +157,7 @@ fn is_in_error(state: &mut CipherState) -> bool {
         && state.cipher_set_iv(&[7; 16]) == Err(Status::BadState)
         && state.cipher_update(&[7; 3], &mut out) == refused
         && state.cipher_finish(&mut out) == refused
-        && state.cipher_encrypt_setup(&KEY.to_be_bytes(), CTR) == Err(Status::BadState)
+        && set_up(state, true, CTR, KEY) == Err(Status::BadState)
         && !state.is_inactive()
         && out == [0; 16]
 }
@@ -209,7 +215,7 @@ fn a_second_setup_is_refused_and_changes_nothing(rt: HostRuntime) -> Result<(), 
     let mut out = [0; 16];
     let mut state = started(true, ECB, None)?;
     assert_eq!(rt;
-        state.cipher_decrypt_setup(&COUNTER.to_be_bytes(), CTR),
+        set_up(&mut state, false, CTR, COUNTER),
         Err(Status::BadState)
     );
     assert_eq!(rt;

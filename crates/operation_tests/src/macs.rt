@@ -2,6 +2,7 @@
 
 use crate::keys::without_key;
 use alg_encoding::Alg;
+use algorithm_facts::mac_algorithm;
 use mac_states::{HashOpState, MacState};
 use psa_status::Status;
 use service_calls::MacStep;
@@ -64,6 +65,7 @@ const MACS: [(Alg, &[u8], &[u8], &[u8]); 2] = [
 
 // A setup whose key is the algorithm's.
 fn set_up(state: &mut MacState, verifies: bool, alg: Alg, key: &[u8]) -> Result<(), Status> {
+    mac_algorithm(alg)?;
     if alg.base() == 0x03c0_0200 && key.len() != 16 {
         return Err(Status::InvalidArgument);
     }

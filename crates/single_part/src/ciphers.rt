@@ -6,13 +6,15 @@ ghost use Rattle.random_streams.specs.RandomWords.{drawn_from, next_bytes};
 ghost use Rattle.store_model.specs.Call.{buffer_after};
 ghost use Rattle.store_model.specs.Ciphers.{mode_of, iv_length, takes_whole_blocks, enciphered_length, is_ciphertext_length, encrypt_rows, decrypt_rows, encrypted, decrypted_reply};
 ghost use Rattle.store_model.specs.Answers.{AnswersLength, AnswersOrSpoils};
+ghost use Rattle.alg_encoding.specs.declared.table.Class.TheVariants.{Cipher};
 ghost use Rattle.algorithm_facts.specs.Modes.{model_mode};
+ghost use Rattle.algorithm_facts.specs.Names.{IsOfClass};
 
 use crate::modes::{decipher, encipher_behind};
 use alg_encoding::Alg;
 use algorithm_facts::{
-    Mode, TOTAL_LIMIT, aes_key, enciphered_length, is_ciphertext_length, iv_length, mode_of,
-    takes_whole_blocks,
+    Mode, TOTAL_LIMIT, aes_key, cipher_algorithm, enciphered_length, is_ciphertext_length,
+    iv_length, takes_whole_blocks,
 };
 use psa_status::Status;
 use random_streams::Stream;
@@ -91,6 +93,7 @@ pub fn cipher_encrypt(
     input: &[u8],
     out: &mut [u8],
 ) -> Result<usize, Status>
+    requires algorithm { IsOfClass Cipher alg.0 }
     requires key { IsKey key.now }
     requires words { stream.old.place + 256 ≤ 2 ^ 60 }
     ensures reply { AnswersLength result
@@ -100,7 +103,7 @@ pub fn cipher_encrypt(
     ensures stream { stream.new ≡ drawn_from stream.old
         (encrypted (mode_of alg.0) (next_bytes stream.old (iv_length (mode_of alg.0))) key.now input.now (length out.old)).drawn }
 {
-    encrypt(stream, mode_of(alg), key, input, out)
+    encrypt(stream, cipher_algorithm(alg)?, key, input, out)
 }
 
 fn decrypt(mode: Mode, key: &[u8], input: &[u8], out: &mut [u8]) -> Result<usize, Status>
@@ -121,9 +124,10 @@ fn decrypt(mode: Mode, key: &[u8], input: &[u8], out: &mut [u8]) -> Result<usize
 /// should: the buffer then has zeros in its place. `InvalidArgument` where the algorithm doesn't take so many bytes, and
 /// `BufferTooSmall`.
 pub fn cipher_decrypt(alg: Alg, key: &[u8], input: &[u8], out: &mut [u8]) -> Result<usize, Status>
-    requires { IsKey key.now }
+    requires algorithm { IsOfClass Cipher alg.0 }
+    requires key { IsKey key.now }
     ensures reply { AnswersOrSpoils result (decrypted_reply (mode_of alg.0) key.now input.now (length out.old)) }
     ensures buffer { out.new ≡ buffer_after out.old (decrypted_reply (mode_of alg.0) key.now input.now (length out.old)) }
 {
-    decrypt(mode_of(alg), key, input, out)
+    decrypt(cipher_algorithm(alg)?, key, input, out)
 }

@@ -1,24 +1,14 @@
 // Hashes of a whole message.
-ghost use Rattle.std.specs.Prelude.{◌≡◌, ◌≤◌, length, take};
+ghost use Rattle.std.specs.Prelude.{◌≡◌, length};
 ghost use Rattle.store_model.specs.Call.{buffer_after};
-ghost use Rattle.store_model.specs.Algorithms.{hash_length_of, hash_of};
 ghost use Rattle.store_model.specs.Hashes.{compared_reply, hash_reply};
 ghost use Rattle.store_model.specs.Answers.{AnswersLength, plain_reply};
 
-use alg_encoding::{Alg, Class};
-use algorithm_facts::{check_class, hash_function};
-use hash_ops::one_shot::hash;
+use alg_encoding::Alg;
+use algorithm_facts::hash_algorithm;
+use hash_ops::one_shot;
 use operation_phase::{give_front, is_front};
 use psa_status::Status;
-
-// Writes the hash of a message to the front of `out`, and answers its length.
-fn hash_message(alg: Alg, input: &[u8], out: &mut [u8; 64]) -> usize
-    ensures bound { result ≤ 64 }
-    ensures length { result ≡ hash_length_of alg.0 }
-    ensures hash { take result out.new ≡ hash_of alg.0 input.now }
-{
-    hash(hash_function(alg), input, out)
-}
 
 /// Writes the hash of a message to the front of a buffer that has room for it, and answers its length. `NotSupported`
 /// or `InvalidArgument` where the number names no hash, and `BufferTooSmall`.
@@ -26,9 +16,9 @@ pub fn hash_compute(alg: Alg, input: &[u8], out: &mut [u8]) -> Result<usize, Sta
     ensures reply { AnswersLength result (hash_reply alg.0 input.now (length out.old)) }
     ensures buffer { out.new ≡ buffer_after out.old (hash_reply alg.0 input.now (length out.old)) }
 {
-    check_class(Class::Hash, alg)?;
+    let which = hash_algorithm(alg)?;
     let mut own = [0; 64];
-    let length = hash_message(alg, input, &mut own);
+    let length = one_shot::hash(which, input, &mut own);
     give_front(&mut own, length, out)
 }
 
@@ -37,9 +27,9 @@ pub fn hash_compute(alg: Alg, input: &[u8], out: &mut [u8]) -> Result<usize, Sta
 pub fn hash_compare(alg: Alg, input: &[u8], hash: &[u8]) -> Result<(), Status>
     ensures { plain_reply result ≡ compared_reply alg.0 input.now hash.now }
 {
-    check_class(Class::Hash, alg)?;
+    let which = hash_algorithm(alg)?;
     let mut own = [0; 64];
-    let length = hash_message(alg, input, &mut own);
+    let length = one_shot::hash(which, input, &mut own);
     if is_front(hash, &mut own, length) {
         Ok(())
     } else {

@@ -1,85 +1,91 @@
 // MACs of a whole message.
-ghost use Rattle.std.specs.Prelude.{◌≡◌, ◌≤◌, length, take};
+ghost use Rattle.std.specs.Prelude.{◌≡◌, ◌≤◌, ℕ, true, length, take};
 ghost use Rattle.crypto_specs.specs.Aes.{IsKey, aes_encrypt};
 ghost use Rattle.crypto_specs.specs.Cmac.{cmac};
 ghost use Rattle.alg_encoding.specs.Encoding.{base_of};
 ghost use Rattle.store_model.specs.Call.{buffer_after};
-ghost use Rattle.store_model.specs.Algorithms.{cmac_base, mac_of, tag_bytes, whole_mac};
+ghost use Rattle.store_model.specs.Algorithms.{cmac_base, mac_of};
 ghost use Rattle.store_model.specs.Answers.{AnswersLength, plain_reply};
 ghost use Rattle.store_model.specs.Macs.{mac_reply, verified_reply};
+ghost use Rattle.alg_encoding.specs.declared.table.Class.TheVariants.{Mac};
+ghost use Rattle.algorithm_facts.specs.Names.{IsOfClass, NamesMac, is_cmac, whole_length, whole_mac_by};
 
 use alg_encoding::Alg;
-use algorithm_facts::{TOTAL_LIMIT, aes_key, hash_function, is_cmac, tag_bytes};
+use algorithm_facts::{MacAlgorithm, MacKind, TOTAL_LIMIT, aes_key, mac_algorithm};
 use cmac_ops::cmac;
 use hmac_ops::hmac;
 use operation_phase::{give_front, is_front, move_to_front};
 use psa_status::Status;
 
-// Writes CMAC's whole MAC of a message to the front of `out`, and answers its length.
-fn put_cmac(key: &[u8], message: &[u8], out: &mut [u8; 64]) -> usize
+// Writes CMAC's whole MAC of a message to the front of `out`.
+fn put_cmac(key: &[u8], message: &[u8], out: &mut [u8; 64])
     requires { IsKey key.now }
-    ensures bound { result ≤ 64 }
-    ensures mac { take result out.new ≡ cmac (aes_encrypt key.now) message.now }
+    ensures { take 16 out.new ≡ cmac (aes_encrypt key.now) message.now }
 {
     let mut aes = aes_key(key);
     let mut tag = cmac(&aes, message);
     aes.wipe();
-    move_to_front(&mut tag, out)
+    move_to_front(&mut tag, out);
 }
 
-// Writes the whole MAC of a message to the front of `out`, and answers its length.
-fn put_whole_mac(alg: Alg, key: &[u8], message: &[u8], out: &mut [u8; 64]) -> usize
-    requires { base_of alg.0 ≡ cmac_base → IsKey key.now }
-    ensures bound { result ≤ 64 }
-    ensures mac { take result out.new ≡ whole_mac alg.0 key.now message.now }
+// Writes the whole MAC of a message to the front of `out`.
+fn put_whole_mac(kind: MacKind, key: &[u8], message: &[u8], out: &mut [u8; 64])
+    requires { is_cmac kind ≡ true → IsKey key.now }
+    ensures { take (whole_length kind) out.new ≡ whole_mac_by kind key.now message.now }
 {
-    if is_cmac(alg) {
-        put_cmac(key, message, out)
-    } else {
-        hmac(hash_function(alg), key, message, out)
+    match kind {
+        MacKind::Hmac(which) => {
+            hmac(which, key, message, out);
+        }
+        MacKind::Cmac => put_cmac(key, message, out),
     }
 }
 
 // Writes the MAC of a message, which is the front of the whole one, to the front of `out`, and answers its length.
-fn put_mac(alg: Alg, key: &[u8], message: &[u8], out: &mut [u8; 64]) -> usize
-    requires { base_of alg.0 ≡ cmac_base → IsKey key.now }
+fn put_mac(mac: MacAlgorithm, key: &[u8], message: &[u8], out: &mut [u8; 64]) -> usize
+    requires key { is_cmac mac.kind ≡ true → IsKey key.now }
+    requires within { mac.length ≤ whole_length mac.kind }
+    ensures length { result ≡ mac.length }
     ensures bound { result ≤ 64 }
-    ensures tag { result ≤ tag_bytes alg.0 }
-    ensures mac { take result out.new ≡ mac_of alg.0 key.now message.now }
+    ensures mac { (alg : ℕ) → NamesMac alg mac → take result out.new ≡ mac_of alg key.now message.now }
 {
-    let whole = put_whole_mac(alg, key, message, out);
-    whole.min(tag_bytes(alg))
+    put_whole_mac(mac.kind, key, message, out);
+    usize::from(mac.length)
 }
 
 /// Writes the MAC of a message to the front of a buffer that has room for it, and answers its length. `InvalidArgument`
 /// where the message is longer than 2^32 - 1 bytes, and `BufferTooSmall`.
 pub fn mac_compute(alg: Alg, key: &[u8], input: &[u8], out: &mut [u8]) -> Result<usize, Status>
-    requires { base_of alg.0 ≡ cmac_base → IsKey key.now }
+    requires algorithm { IsOfClass Mac alg.0 }
+    requires key { base_of alg.0 ≡ cmac_base → IsKey key.now }
     ensures reply { AnswersLength result (mac_reply alg.0 key.now input.now (length out.old)) }
     ensures buffer { out.new ≡ buffer_after out.old (mac_reply alg.0 key.now input.now (length out.old)) }
 {
+    let mac = mac_algorithm(alg)?;
     if input.len() > TOTAL_LIMIT {
         return Err(Status::InvalidArgument);
     }
-    if out.len() < tag_bytes(alg) {
+    if out.len() < usize::from(mac.length) {
         return Err(Status::BufferTooSmall);
     }
-    let mut mac = [0; 64];
-    let length = put_mac(alg, key, input, &mut mac);
-    give_front(&mut mac, length, out)
+    let mut own = [0; 64];
+    let length = put_mac(mac, key, input, &mut own);
+    give_front(&mut own, length, out)
 }
 
 /// Compares a MAC with that of a message. `InvalidArgument` where the message is longer than 2^32 - 1 bytes, and
 /// `InvalidSignature` where a byte or the length differs.
 pub fn mac_verify(alg: Alg, key: &[u8], input: &[u8], mac: &[u8]) -> Result<(), Status>
-    requires { base_of alg.0 ≡ cmac_base → IsKey key.now }
+    requires algorithm { IsOfClass Mac alg.0 }
+    requires key { base_of alg.0 ≡ cmac_base → IsKey key.now }
     ensures { plain_reply result ≡ verified_reply alg.0 key.now input.now mac.now }
 {
+    let algorithm = mac_algorithm(alg)?;
     if input.len() > TOTAL_LIMIT {
         return Err(Status::InvalidArgument);
     }
     let mut own = [0; 64];
-    let length = put_mac(alg, key, input, &mut own);
+    let length = put_mac(algorithm, key, input, &mut own);
     if is_front(mac, &mut own, length) {
         Ok(())
     } else {

@@ -1,3 +1,2 @@
 pub mod Maps
 pub mod Rooms
-pub mod Tags

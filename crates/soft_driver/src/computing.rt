@@ -1,16 +1,14 @@
 // What is computed with the bytes of a key.
-ghost use Rattle.std.specs.Prelude.{◌≡◌, ◌≤◌, ◌%◌, length, take};
-ghost use Rattle.alg_encoding.specs.Encoding.{base_of};
+ghost use Rattle.std.specs.Prelude.{◌≡◌, ◌≤◌, ◌%◌, ℕ, true, length, take};
 ghost use Rattle.crypto_specs.specs.Aes.{IsKey, aes_encrypt};
 ghost use Rattle.crypto_specs.specs.Cmac.{cmac};
 ghost use Rattle.crypto_specs.specs.Hmac.{hmac};
 ghost use Rattle.crypto_specs.specs.Modes.{ecb_encrypt};
 ghost use Rattle.hash_ops.specs.Hashes.{block_length, digest_length, hash_of};
-ghost use Rattle.store_model.specs.Algorithms.{cmac_base, mac_of};
-ghost use Rattle.driver_dispatch.specs.Calls.{IsMac};
+ghost use Rattle.store_model.specs.Algorithms.{mac_of};
+ghost use Rattle.algorithm_facts.specs.Names.{NamesMac, is_cmac, whole_length};
 
-use alg_encoding::Alg;
-use algorithm_facts::{aes_key, hash_function, is_cmac};
+use algorithm_facts::{MacAlgorithm, MacKind, aes_key};
 use cipher_modes::ecb_encrypt;
 use cmac_ops::cmac;
 use hash_ops::Hash;
@@ -51,14 +49,14 @@ fn fill_hmac(which: Hash, key: &[u8], message: &[u8], tag: &mut [u8])
 }
 
 /// Fills a tag of the algorithm's length with the MAC of a message.
-pub fn fill_mac(alg: Alg, key: &[u8], message: &[u8], tag: &mut [u8])
-    requires key { base_of alg.0 ≡ cmac_base → IsKey key.now }
-    requires mac { IsMac alg.0 (length tag.old) }
-    ensures { tag.new ≡ mac_of alg.0 key.now message.now }
+pub fn fill_mac(mac: MacAlgorithm, key: &[u8], message: &[u8], tag: &mut [u8])
+    requires key { is_cmac mac.kind ≡ true → IsKey key.now }
+    requires length { length tag.old ≡ mac.length }
+    requires within { mac.length ≤ whole_length mac.kind }
+    ensures { (alg : ℕ) → NamesMac alg mac → tag.new ≡ mac_of alg key.now message.now }
 {
-    if is_cmac(alg) {
-        fill_cmac(key, message, tag);
-    } else {
-        fill_hmac(hash_function(alg), key, message, tag);
+    match mac.kind {
+        MacKind::Hmac(which) => fill_hmac(which, key, message, tag),
+        MacKind::Cmac => fill_cmac(key, message, tag),
     }
 }

@@ -13,6 +13,7 @@ ghost use Rattle.soft_driver.specs.Form.{after_computing, after_copy, after_dest
 use crate::computing::{encipher_blocks, fill_mac};
 use crate::room::KeyRoom;
 use alg_encoding::Alg;
+use algorithm_facts::mac_algorithm;
 use driver_dispatch::Driver;
 use key_attributes::KeyType;
 use psa_status::{Failed, Memory};
@@ -183,7 +184,10 @@ impl Driver for SoftDriver {
         if self.is_listed() {
             return self.fail();
         }
-        fill_mac(alg, self.room.key(handle), input, tag);
+        let Ok(mac) = mac_algorithm(alg) else {
+            return self.fail();
+        };
+        fill_mac(mac, self.room.key(handle), input, tag);
         self.served = self.served.saturating_add(1);
         Ok(())
     }

@@ -1,4 +1,3 @@
-pub mod Classes
 pub mod Copying
 pub mod Counts
 pub mod Destroying

@@ -5,7 +5,7 @@ use Rattle.psa_status.specs.declared.Status.TheVariants.{NotPermitted, InvalidAr
 use Rattle.psa_status.specs.Rows.{Rows, first_row}
 use Rattle.alg_encoding.specs.declared.table.Class.{Class}
 use Rattle.alg_encoding.specs.declared.table.Class.TheVariants.{Cipher, Aead}
-use Rattle.alg_encoding.specs.Encoding.{IsConcrete, base_of}
+use Rattle.alg_encoding.specs.Encoding.{base_of}
 use Rattle.key_attributes.specs.declared.Attributes.{Attributes}
 use Rattle.key_attributes.specs.Checks.{permits_size}
 use Rattle.policy_rules.specs.Policy.{may_use}
@@ -14,8 +14,10 @@ use Rattle.store_model.specs.Store.{Key}
 use Rattle.store_model.specs.KeyUse.{bytes_of}
 use Rattle.store_model.specs.Algorithms.{is_hmac, cmac_base}
 use Rattle.store_model.specs.HandleCalls.{creation_of, derive_usage, fits_step, derivation_key_rows}
-use Rattle.store_model.specs.Rules.{class_rows, is_of_class, fits_type, use_rows}
-use Rattle.algorithm_facts.specs.TagLengths.{IsAead}
+use Rattle.store_model.specs.Rules.{class_rows, fits_type, use_rows}
+use Rattle.algorithm_facts.specs.declared.algorithms.Algorithm.{Algorithm}
+use Rattle.algorithm_facts.specs.Names.{IsOfClass}
+use Rattle.algorithm_facts.specs.Parse.{class_in, is_hmac_in}
 use Rattle.store_core.specs.declared.entries.Entry.{Entry}
 use Rattle.store_core.specs.Entries.{key_of}
 
@@ -33,12 +35,16 @@ permission_rows class usage alg a =
     ∷ (not (fits_type alg a.key_type.0), InvalidArgument)
     ∷ []
 
+-- the number names this algorithm, of the class
+pub record IsUsedAs (class : Class) (alg : ℕ) (algorithm : Algorithm) : Type 0 where
+  pub named : IsOfClass class alg
+  pub of_class : class_in algorithm ≡ class
+  pub hmac : is_hmac alg ≡ is_hmac_in algorithm
+
 -- a call may use the key, which has these bytes
 pub record IsUsable (class : Class) (usage alg : ℕ) (found : Option Key) (bytes : List ℕ) : Type 0 where
   pub there : bytes_of found ≡ bytes
   pub permitted : first_row (use_rows class usage alg found) ≡ None
-  pub of_class : IsTrue (is_of_class class alg)
-  pub concrete : IsConcrete alg
   pub aes : is_hmac alg ≡ false → IsKey bytes
 
 -- a key of this creation has the bytes
@@ -53,7 +59,8 @@ pub record IsLookedUp (class : Class) (usage alg id : ℕ) (found : Option Key) 
   pub usable : IsUsable class usage alg found bytes
   pub cmac : base_of alg ≡ cmac_base → IsKey bytes
   pub cipher : class ≡ Cipher → IsKey bytes
-  pub aead : class ≡ Aead → IsKey bytes × IsAead alg
+  pub aead : class ≡ Aead → IsKey bytes
+  pub algorithm : IsOfClass class alg
 
 -- the rows of a derivation's key that is there, by its attributes
 abbrev pub derivation_permission_rows : (step alg : ℕ) → Attributes → Rows

@@ -1,18 +1,20 @@
 // Calls that use a key with an algorithm.
-ghost use Rattle.std.specs.Prelude.{◌≡◌, ◌≤◌, IfOk, MatchResult, Some, Err, length};
+ghost use Rattle.std.specs.Prelude.{◌≡◌, ◌≤◌, ℕ, IfOk, MatchResult, Some, Err, length};
 ghost use Rattle.std.specs.Result.{result_err};
 ghost use Rattle.std.specs.FinMap as finite;
 ghost use Rattle.psa_status.specs.declared.Status.TheVariants.{NotPermitted};
 ghost use Rattle.psa_status.specs.Rows.{first_row, unless};
 ghost use Rattle.alg_encoding.specs.Encoding.{IsConcrete};
+ghost use Rattle.store_model.specs.Algorithms.{is_hmac};
 ghost use Rattle.store_model.specs.Handles.{is_alive};
 ghost use Rattle.store_model.specs.HandleCalls.{derivation_key_rows, fits_step};
 ghost use Rattle.store_model.specs.Rules.{class_number, class_rows, fits_type, use_rows};
-ghost use Rattle.store_core.specs.Uses.{IsLookedUp, IsDerivationKey, derivation_permission_rows, pattern_refusal, permission_rows};
+ghost use Rattle.algorithm_facts.specs.Parse.{is_hmac_in};
+ghost use Rattle.store_core.specs.Uses.{IsLookedUp, IsDerivationKey, IsUsedAs, derivation_permission_rows, pattern_refusal, permission_rows};
 
 use crate::Store;
 use alg_encoding::{Alg, Class};
-use algorithm_facts::{SECRET_STEP, check_class, is_hmac};
+use algorithm_facts::{Algorithm, steps};
 use key_attributes::{Attributes, KeyId, KeyType, Usage};
 use policy_rules::permits;
 use psa_status::Status;
@@ -25,10 +27,10 @@ pub struct Found<'a> {
 }
 
 // Whether keys of this type are for this algorithm.
-fn fits_type(alg: Alg, key_type: KeyType) -> bool
-    ensures { result ≡ fits_type alg.0 key_type.0 }
+fn fits_type(algorithm: Algorithm, key_type: KeyType) -> bool
+    ensures { (alg : ℕ) → is_hmac alg ≡ is_hmac_in algorithm → result ≡ fits_type alg key_type.0 }
 {
-    let wanted = if is_hmac(alg) {
+    let wanted = if algorithm.is_hmac() {
         KeyType::HMAC
     } else {
         KeyType::AES
@@ -36,25 +38,31 @@ fn fits_type(alg: Alg, key_type: KeyType) -> bool
     key_type == wanted
 }
 
-// The refusal of a use of a key that has these attributes.
-fn check_use(class: Class, usage: Usage, alg: Alg, attributes: &Attributes) -> Result<(), Status>
-    ensures { result ≡ unless (first_row (permission_rows class usage.0 alg.0 attributes.now)) tt }
+// The algorithm with which a key that has these attributes is used, or the refusal of the use.
+fn check_use(
+    class: Class,
+    usage: Usage,
+    alg: Alg,
+    attributes: &Attributes,
+) -> Result<Algorithm, Status>
+    ensures refusal { result_err result ≡ first_row (permission_rows class usage.0 alg.0 attributes.now) }
+    ensures algorithm { IfOk result (λ algorithm. IsUsedAs class alg.0 algorithm) }
 {
-    check_class(class, alg)?;
+    let algorithm = Algorithm::of_class(class, alg)?;
     if !permits(&attributes.policy, usage, alg) {
         return Err(Status::NotPermitted);
     }
-    if !fits_type(alg, attributes.key_type) {
+    if !fits_type(algorithm, attributes.key_type) {
         return Err(Status::InvalidArgument);
     }
-    Ok(())
+    Ok(algorithm)
 }
 
 // Whether keys of this type are for this step of a derivation.
 fn fits_step(step: u16, key_type: KeyType) -> bool
     ensures { result ≡ fits_step step key_type.0 }
 {
-    key_type == KeyType::DERIVE || (step != SECRET_STEP && key_type == KeyType::PASSWORD)
+    key_type == KeyType::DERIVE || (step != steps::SECRET && key_type == KeyType::PASSWORD)
 }
 
 // The refusal of a key that has these attributes as the secret of a derivation. A number that isn't concrete is

@@ -6,17 +6,17 @@ use Rattle.cipher_states.proofs.Beginnings.{begun_work, no_stream, no_chain}
 use Rattle.cipher_states.proofs.running.RunningCipher.start.Goals as goal
 
 pub returns-clause-holds : goal.returns-clause-holds
-returns-clause-holds c =
+returns-clause-holds c = λ alg names.
     let b = c.begin_text.ensures in
-    let m = mode_of c.args.alg.0 in
+    let m = mode_of alg in
     let encrypts = c.args.encrypts in
     record {
       encrypts = b.encrypts;
-      mode = ap model_mode b.mode ∙ c.mode_of-self.ensures;
+      mode = ap model_mode b.mode ∙ names;
       key = b.key ∙ c.aes_key-self.ensures;
       vector = b.has_iv;
       total = b.total;
       before = λ e. refl;
-      text = λ e. begun_work (model_mode c.mode_of-self.result) encrypts c.begin_text.new.self (cipher_work encrypts c.args.alg.0 c.args.key.now) _ c.mode_of-self.ensures refl refl
+      text = λ e. begun_work (model_mode c.args.mode) encrypts c.begin_text.new.self (cipher_work encrypts alg c.args.key.now) _ names refl refl
           (λ f. absurd (no_stream m e f)) (λ f. absurd (no_chain m encrypts e f)) b.stream b.blocks;
     }

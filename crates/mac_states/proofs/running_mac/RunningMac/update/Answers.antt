@@ -11,23 +11,19 @@ returns-then-self-clause-holds c = λ w h.
     let one = is_cmac c.args.self.now w c.if-self.true h in
     let r = c.update.ensures w.key w.message one.message in
     record {
-      alg = h.alg;
+      tag = h.tag;
       verifies = h.verifies;
       total = longer w.message c.args.input.now _ _ h.total c.in_ok-add.ensures.sum;
-      message = runs_cmac _ _ r.runs (record { base = one.base; message = r });
+      message = runs_cmac _ _ r.runs (record { whole = one.whole; message = r });
     }
 
 pub returns-else-self-clause-holds : goal.returns-else-self-clause-holds
 returns-else-self-clause-holds c = λ w h.
     let one = is_hmac c.args.self.now w c.if-self.false h in
-    let m = one.message in
-    let r = c.update-else-self.ensures m.which w.key w.message m.state in
+    let r = c.update-else-self.ensures one.which w.key w.message one.message in
     record {
-      alg = h.alg;
+      tag = h.tag;
       verifies = h.verifies;
       total = longer w.message c.args.input.now _ _ h.total c.in_ok-add.ensures.sum;
-      message = runs_hmac _ _ c.if-self.false (record {
-        base = one.base;
-        message = record { which = m.which; digest = m.digest; block = m.block; state = r };
-      });
+      message = runs_hmac _ _ c.if-self.false (record { which = one.which; whole = one.whole; message = r });
     }

@@ -9,4 +9,4 @@ returns c =
     let e = c.in-Some.entry.now in
     let found = finite.get c.args.self.now.keys c.args.key.0 in
     let usable : IsUsable c.args.class c.args.usage.0 c.args.alg.0 found (take e.length e.buffer) = search rules in
-    looked_up c.args.class c.args.usage.0 c.args.alg.0 c.args.key.0 found e c.in-Some.ensures usable
+    looked_up c.args.class c.args.usage.0 c.args.alg.0 c.args.key.0 found e _ c.in-Some.ensures usable c.in_ok-check_use.ensures.algorithm

@@ -1,4 +1,4 @@
--- Whether a key is there.
+-- AES keys, as a test.
 use Rattle.std.specs.Prelude.{ℕ, Bool, ◌==◌, ◌||◌, List, length}
 
 -- whether the bytes are an AES key, which a wiped one isn't
