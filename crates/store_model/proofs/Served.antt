@@ -8,14 +8,14 @@ use Rattle.store_model.specs.Handles.{HandleOperation, Service, Served, own_of, 
 use Rattle.store_model.specs.HandleCalls.{HandleCall}
 use Rattle.store_model.specs.Requests.{OnStore, OnHandle, on_store, failed_on, serve_unless}
 use Rattle.store_model.specs.Refusals.{is_setup}
-use Rattle.store_model.specs.Laws.{changes_keys}
+use Rattle.store_model.specs.Laws.{may_change_keys}
 use Rattle.store_model.proofs.DrawnBytes.{length-random}
 use Rattle.store_model.proofs.StoreShape.{StoreCases, failed_destroyed, store_shape, failed_shape}
 use Rattle.store_model.proofs.Shape.{CallCases, shape}
 
 pub on_store_shape : (service : Service) (caller : ℕ) (call : Call) (o : Option Status) (P : Served → Type 0) →
     StoreCases service.store caller call (λ outcome. P (on_store service caller outcome)) →
-    ((id : ℕ) (status : Status) → changes_keys call ≡ true → P (on_store service caller (failed_destroyed service.store id status))) →
+    ((id : ℕ) (status : Status) → may_change_keys (OnStore call) ≡ true → P (on_store service caller (failed_destroyed service.store id status))) →
     P (serve_unless o service caller (OnStore call))
 on_store_shape service caller call None P cases failed =
     store_shape service.store caller (next_random service caller) call (λ outcome. P (on_store service caller outcome))

@@ -11,7 +11,7 @@ use Rattle.key_attributes.specs.declared.Attributes.{Attributes}
 use Rattle.store_model.specs.Store.{Key, Store}
 use Rattle.store_model.specs.Outcome.{done}
 use Rattle.store_model.specs.KeyUse.{bytes_of}
-use Rattle.store_model.specs.Rules.{class_rows, use_rows}
+use Rattle.store_model.specs.Rules.{class_rows, use_rows, mac_usage, cipher_usage}
 use Rattle.store_model.specs.Creation.{creation_rows}
 use Rattle.store_model.specs.Operations.{Operation, Inactive, InError, Active, After, set_up, ends, goes_on}
 use Rattle.store_model.specs.HashOperations.{HashWork, hash_work, hash_step}
@@ -20,10 +20,11 @@ use Rattle.store_model.specs.CipherOperations.{CipherWork, cipher_work, cipher_s
 use Rattle.store_model.specs.AeadOperations.{AeadWork, aead_work, aead_step}
 use Rattle.store_model.specs.DerivationOperations.{DerivationWork, derivation_work, derivation_step, output_key_rows, stated_bytes, exhausted, with_key}
 use Rattle.store_model.specs.Handles.{KeyCreation, Work, Hashing, Authenticating, Ciphering, Sealing, Deriving, Held, HandleOperation, Service, Served, operation_of, applied, untouched, stepped, part_of, hash_part, mac_part, cipher_part, aead_part, derivation_part, key_of_operation, is_alive, held_after}
-use Rattle.store_model.specs.HandleCalls.{HandleCall, HashSetup, MacSetup, CipherSetup, AeadSetup, DerivationSetup, OnHash, OnMac, OnCipher, OnAead, OnDerivation, InputKey, OutputKey, Abort, creation_of, mac_usage, cipher_usage, input_key, input_key_rows, output_key, output_key_of, created_from, random_of, handle_step}
+use Rattle.store_model.specs.HandleCalls.{HandleCall, HashSetup, MacSetup, CipherSetup, AeadSetup, DerivationSetup, OnHash, OnMac, OnCipher, OnAead, OnDerivation, InputKey, OutputKey, Abort, creation_of, input_key, input_key_rows, output_key, output_key_of, created_from, random_of, handle_step}
 use Rattle.store_model.specs.Refusals.{AsItWas, held_derivation, is_active, lowers_capacity, may_stay}
 use Rattle.store_model.specs.Sound.{IsSoundStore, IsSoundUse, IsSoundWork, IsSoundHeld}
-use Rattle.store_model.specs.Laws.{handle_changes_keys}
+use Rattle.store_model.specs.Requests.{OnHandle}
+use Rattle.store_model.specs.Laws.{may_change_keys}
 use Rattle.store_model.proofs.Tables.{none_holds}
 use Rattle.store_model.proofs.Steps.{IsStep, step_wider, begun, fails_step, unless_step, alive_step, ends_step, hash_is_step, mac_is_step, cipher_is_step, aead_is_step}
 use Rattle.store_model.proofs.Derivations.{derivation_is_step, exhausted_step, key_sound, key_due, start_sound, not_below, flipped}
@@ -190,7 +191,7 @@ other_or false b e = e
 
 -- what is to be shown of each kind of outcome of a call
 abbrev pub CallCases : (service : Service) (caller handle : ℕ) → HandleCall → (Served → Type 0) → Type 0
-CallCases service caller handle call P = Cases service caller handle (may_stay call (operation_of service caller handle)) (handle_changes_keys call) P
+CallCases service caller handle call P = Cases service caller handle (may_stay call (operation_of service caller handle)) (may_change_keys (OnHandle handle call)) P
 
 pub shape : (service : Service) (caller handle : ℕ) (call : HandleCall) (P : Served → Type 0) → CallCases service caller handle call P → P (handle_step service caller handle call)
 shape service caller handle (HashSetup alg) P cases =

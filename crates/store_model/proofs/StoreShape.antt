@@ -15,10 +15,10 @@ use Rattle.store_model.specs.Store.{Key, Store}
 use Rattle.store_model.specs.Call.{Call, Reply, Import, Export, GetAttributes, Destroy, Copy, Generate, HashCompute, HashCompare, MacCompute, MacVerify, CipherEncrypt, CipherDecrypt, AeadEncrypt, AeadDecrypt}
 use Rattle.store_model.specs.Outcome.{Outcome, Computed, replies, computed_unless, with_computed, counted, decided, refused, refusal, reply_unless, given, done, spoiled}
 use Rattle.store_model.specs.Draws.{Random}
-use Rattle.store_model.specs.Creation.{creation_rows, created}
+use Rattle.store_model.specs.Creation.{creation_rows, created, stated_bytes}
 use Rattle.store_model.specs.Copies.{source_rows, copy_attributes, copy_met, copy_found}
-use Rattle.store_model.specs.KeyUse.{destroyed, attributes_reply, bytes_of, export_rows, exported}
-use Rattle.store_model.specs.Generation.{generated, generation_rows, key_bytes}
+use Rattle.store_model.specs.KeyUse.{destroyed, attributes_reply, bytes_of, export_rows}
+use Rattle.store_model.specs.Generation.{generated, generation_rows}
 use Rattle.store_model.specs.Ciphers.{Mode, Ctr, CbcNoPadding, CbcPkcs7, EcbNoPadding, mode_of, iv_length, plain_or_zeros, enciphered, deciphered}
 use Rattle.store_model.specs.Ciphers as ciphers
 use Rattle.store_model.specs.Hashes as hashes
@@ -30,7 +30,8 @@ use Rattle.alg_encoding.specs.declared.table.Class.TheVariants.{Mac, Cipher, Aea
 use Rattle.store_model.specs.Aeads.{aead_text, aead_tag, sealed, opened}
 use Rattle.store_model.specs.Step.{step, failed_step}
 use Rattle.store_model.specs.Origin.{source_of, made_at}
-use Rattle.store_model.specs.Laws.{changes_keys}
+use Rattle.store_model.specs.Requests.{OnStore}
+use Rattle.store_model.specs.Laws.{may_change_keys}
 use Rattle.store_model.proofs.Filled.{no_row}
 use Rattle.store_model.proofs.Tables.{none_holds, rest_holds}
 
@@ -62,8 +63,8 @@ pub record Creates (store : Store) (caller : ℕ) (call : Call) (a : Attributes)
 -- what is to be shown of each kind of outcome
 pub record StoreCases (store : Store) (caller : ℕ) (call : Call) (P : Outcome → Type 0) : Type 0 where
   pub counted_too : (reply : Reply) (drawn : ℕ) → IsCounted reply drawn → P (record { store = counted store; reply = reply; drawn = drawn })
-  pub created_too : (a : Attributes) (bytes : List ℕ) (drawn : ℕ) → changes_keys call ≡ true → Creates store caller call a bytes drawn → P (record (created store caller a bytes) { drawn = drawn })
-  pub destroyed_too : (id : ℕ) → changes_keys call ≡ true → P (destroyed store id)
+  pub created_too : (a : Attributes) (bytes : List ℕ) (drawn : ℕ) → may_change_keys (OnStore call) ≡ true → Creates store caller call a bytes drawn → P (record (created store caller a bytes) { drawn = drawn })
+  pub destroyed_too : (id : ℕ) → may_change_keys (OnStore call) ≡ true → P (destroyed store id)
 
 -- REPLIES
 
@@ -109,8 +110,8 @@ permitted : (key_type bytes : ℕ) → not (permits_size key_type bytes) ≡ fal
 permitted key_type bytes h = grind (arith, nat_tests)
 
 -- the sixth row of a generation's table is the size's
-generated_few : (store : Store) (caller : ℕ) (a : Attributes) → first_row (generation_rows store caller a) ≡ None → key_bytes a ≤ 1024
-generated_few store caller a h = permitted a.key_type.0 (key_bytes a) (none_holds (generation_rows store caller a) 5 h)
+generated_few : (store : Store) (caller : ℕ) (a : Attributes) → first_row (generation_rows store caller a) ≡ None → stated_bytes a ≤ 1024
+generated_few store caller a h = permitted a.key_type.0 (stated_bytes a) (none_holds (generation_rows store caller a) 5 h)
 
 module _ (store : Store) (caller : ℕ) (call : Call) (P : Outcome → Type 0) (cases : StoreCases store caller call P) where
   replied : (reply : Reply) → MakesNone reply → P (record { store = counted store; reply = reply; drawn = 0 })
@@ -133,7 +134,7 @@ module _ (store : Store) (caller : ℕ) (call : Call) (P : Outcome → Type 0) (
   used : (refused own : Option Status) (reply : Reply) → MakesNone reply → P (with_computed store (computed_unless refused (replies (reply_unless own reply))))
   used refused own reply none = computed_too refused (replies (reply_unless own reply)) (undrawn_counts (reply_unless own reply) (unless_none own reply none))
 
-  met_shape : changes_keys call ≡ true → (id : ℕ) (source : Key) (stated : Attributes) → map.get store.keys id ≡ Some source → source_of store call ≡ Some source.number →
+  met_shape : may_change_keys (OnStore call) ≡ true → (id : ℕ) (source : Key) (stated : Attributes) → map.get store.keys id ≡ Some source → source_of store call ≡ Some source.number →
       (met : Option Policy) → meet_of source.attributes.policy stated.policy ≡ met → P (copy_met store caller source stated met)
   met_shape changes id source stated there number None e = decided_too _ (refused store InvalidArgument) (λ n. refused_too InvalidArgument)
   met_shape changes id source stated there number (Some met) e =
@@ -144,7 +145,7 @@ module _ (store : Store) (caller : ℕ) (call : Call) (P : Outcome → Type 0) (
         source = inr (record { id = id; source = source; stated = stated.policy; there = there; number = number; met = e });
       }))
 
-  found_shape : changes_keys call ≡ true → (id : ℕ) (stated : Attributes) (found : Option Key) → map.get store.keys id ≡ found →
+  found_shape : may_change_keys (OnStore call) ≡ true → (id : ℕ) (stated : Attributes) (found : Option Key) → map.get store.keys id ≡ found →
       ((source : Key) → found ≡ Some source → source_of store call ≡ Some source.number) → P (copy_found store caller found stated)
   found_shape changes id stated None e number = refused_too InvalidHandle
   found_shape changes id stated (Some source) e number = met_shape changes id source stated e (number source refl) (meet_of source.attributes.policy stated.policy) refl
@@ -162,13 +163,13 @@ store_shape store caller random (Import a bytes) P long cases =
     decided_too store caller _ P cases _ (created store caller a bytes) (λ n. cases.created_too a bytes 0 refl (record { few = omega arith; rows = n; source = inl refl }))
 store_shape store caller random (Export id room) P long cases =
     let found : Option Key = map.get store.keys id in
-    answered_too store caller _ P cases (first_row (export_rows found room)) (exported (bytes_of found)) (λ s a. refl)
+    answered_too store caller _ P cases (first_row (export_rows found room)) (given (bytes_of found)) (λ s a. refl)
 store_shape store caller random (GetAttributes id) P long cases = replied store caller _ P cases _ (described (map.get store.keys id))
 store_shape store caller random (Destroy id) P long cases = decided_too store caller _ P cases _ (destroyed store id) (λ n. cases.destroyed_too id refl)
 store_shape store caller random (Copy source stated) P long cases = found_shape store caller _ P cases refl source stated (map.get store.keys source) refl (copy_source store source stated)
-store_shape store caller random (Generate a) P long cases = decided_too store caller _ P cases _ (generated store caller random a) (λ n. cases.created_too a (random (key_bytes a)) (key_bytes a) refl (record {
+store_shape store caller random (Generate a) P long cases = decided_too store caller _ P cases _ (generated store caller random a) (λ n. cases.created_too a (random (stated_bytes a)) (stated_bytes a) refl (record {
   few = generated_few store caller a n;
-  rows = ap (λ (k : ℕ). first_row (creation_rows store caller a k)) (long (key_bytes a)) ∙ rest_holds _ _ _ n;
+  rows = ap (λ (k : ℕ). first_row (creation_rows store caller a k)) (long (stated_bytes a)) ∙ rest_holds _ _ _ n;
   source = inl refl;
 }))
 store_shape store caller random (HashCompute alg input room) P long cases =
@@ -212,7 +213,7 @@ failed_destroyed store id status = record (refused store status) { store = (dest
 
 -- the shape of a call in whose turn a device failed
 pub failed_shape : (store : Store) (caller : ℕ) (call : Call) (status : Status) (P : Outcome → Type 0) → StoreCases store caller call P →
-    ((id : ℕ) → changes_keys call ≡ true → P (failed_destroyed store id status)) → P (failed_step store call status)
+    ((id : ℕ) → may_change_keys (OnStore call) ≡ true → P (failed_destroyed store id status)) → P (failed_step store call status)
 failed_shape store caller (Destroy id) status P cases failed = failed id refl
 failed_shape store caller (Import a bytes) status P cases failed = refused_too store caller _ P cases status
 failed_shape store caller (Export id room) status P cases failed = refused_too store caller _ P cases status

@@ -1,7 +1,7 @@
 -- Calls that create a key.
-use Rattle.std.specs.Prelude.{ℕ, ◌+◌, ◌^◌, nat_le, ◌||◌, List, [], ◌∷◌, ◌++◌, length, slice_set}
+use Rattle.std.specs.Prelude.{ℕ, ◌+◌, ◌/◌, ◌%◌, ◌^◌, not, nat_le, ◌==◌, ◌||◌, List, [], ◌∷◌, ◌++◌, length, slice_set}
 use Rattle.std.specs.FinMap as map
-use Rattle.psa_status.specs.declared.Status.TheVariants.{Success, KeyLimit}
+use Rattle.psa_status.specs.declared.Status.TheVariants.{Success, InvalidArgument, KeyLimit}
 use Rattle.psa_status.specs.Rows.{Rows, first_row}
 use Rattle.key_attributes.specs.declared.Attributes.{Attributes}
 use Rattle.key_attributes.specs.Checks.{attribute_rows, filled}
@@ -18,6 +18,13 @@ limit_rows store caller =
 -- the refusals of every creation of a key with these stated attributes and so many bytes
 abbrev pub creation_rows : Store → ℕ → Attributes → ℕ → Rows
 creation_rows store caller a bytes = attribute_rows a bytes (has_secure_element store) ++ limit_rows store caller
+
+-- the bytes of a key with these stated bits, and the refusal of bits that state none
+abbrev pub stated_bytes : Attributes → ℕ
+stated_bytes a = a.bits / 8
+
+abbrev pub stated_bits_rows : Attributes → Rows
+stated_bits_rows a = (a.bits == 0 || not (a.bits % 8 == 0), InvalidArgument) ∷ []
 
 -- the attributes with an identifier
 abbrev pub identified : Attributes → ℕ → Attributes

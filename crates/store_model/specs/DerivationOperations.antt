@@ -14,6 +14,8 @@ use Rattle.store_model.specs.Rules.{class_rows}
 use Rattle.store_model.specs.Outcome.{given, done, refusal}
 use Rattle.store_model.specs.Operations.{Operation, Inactive, InError, Active, After, goes_on, unless_failed, set_up}
 use Rattle.store_model.specs.CipherOperations.{bytes_or_empty}
+use Rattle.store_model.specs.Creation.{stated_bits_rows}
+pub use Rattle.store_model.specs.Creation.{stated_bytes}
 
 -- The algorithm; the cost, the salt, the secret or password and the info once they are there, and whether the
 -- secret came by a key; how many bytes of output were taken, and how many can still be.
@@ -147,16 +149,11 @@ output_rows w = (not (is_some w.secret), BadState) ∷ []
 abbrev pub taken_from : DerivationWork → ℕ → Reply → After DerivationWork
 taken_from w n reply = if nat_lt w.capacity n then exhausted w else goes_on (without w n) reply
 
--- the bytes of a key with these stated bits
-abbrev pub stated_bytes : Attributes → ℕ
-stated_bytes a = a.bits / 8
-
 -- what output_key refuses of a derivation, before the capacity is looked at
 abbrev pub output_key_rows : DerivationWork → Attributes → Rows
 output_key_rows w a =
-    output_rows w
-    ++ (a.bits == 0 || not (a.bits % 8 == 0), InvalidArgument)
-    ∷ (not (location a.lifetime.0 == 0), NotSupported)
+    output_rows w ++ stated_bits_rows a
+    ++ (not (location a.lifetime.0 == 0), NotSupported)
     ∷ (not w.by_key, NotPermitted)
     ∷ []
 
@@ -181,8 +178,7 @@ capacity_reply n = record { status = Success; output = Number n; needed = 0 }
 
 -- the derivation goes on, whether the bytes are those that were expected or not
 abbrev pub compared : Bool → Reply
-compared true = done
-compared false = refusal InvalidSignature
+compared same = if same then done else refusal InvalidSignature
 
 abbrev pub derivation_step : DerivationWork → DerivationStep → After DerivationWork
 derivation_step w GetCapacity = goes_on w (capacity_reply w.capacity)
@@ -201,5 +197,4 @@ key_given w step key = unless_failed (first_row (key_step_rows w step)) (goes_on
 -- what input_key refuses before its key is looked at, of any operation
 abbrev pub key_step_refusal : Operation DerivationWork → ℕ → Option Status
 key_step_refusal (Active w) step = first_row (key_step_rows w step)
-key_step_refusal Inactive step = Some BadState
-key_step_refusal InError step = Some BadState
+key_step_refusal _ step = Some BadState

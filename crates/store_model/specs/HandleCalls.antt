@@ -10,7 +10,7 @@ use Rattle.key_attributes.specs.declared.Attributes.{Attributes}
 use Rattle.policy_rules.specs.Policy.{may_use}
 use Rattle.store_model.specs.Store.{Key}
 use Rattle.store_model.specs.Outcome.{Outcome, done}
-use Rattle.store_model.specs.Rules.{class_rows, use_rows}
+use Rattle.store_model.specs.Rules.{class_rows, use_rows, mac_usage, cipher_usage}
 use Rattle.store_model.specs.KeyUse.{bytes_of}
 use Rattle.store_model.specs.Creation.{creation_rows, created}
 use Rattle.store_model.specs.Operations.{Operation, Inactive, InError, Active, set_up, fails, ends, goes_on, unless_failed, with_live_key}
@@ -53,13 +53,6 @@ set_up_keyed service caller handle class usage alg id work =
     let found : Option Key = map.get service.store.keys id in
     set_up_with service caller handle (first_row (use_rows class usage alg found)) (creation_of id found) (work (bytes_of found))
 
--- SIGN_MESSAGE and VERIFY_MESSAGE, ENCRYPT and DECRYPT
-abbrev pub mac_usage : Bool → ℕ
-mac_usage verifies = if verifies then 0x800 else 0x400
-
-abbrev pub cipher_usage : Bool → ℕ
-cipher_usage encrypts = if encrypts then 0x100 else 0x200
-
 -- A KEY AS THE SECRET OF A DERIVATION: DERIVE, and a type that fits the step
 
 abbrev pub derive_usage : ℕ
@@ -91,8 +84,7 @@ input_key service caller handle (Active w) step id =
     let found : Option Key = map.get service.store.keys id in
     applied service caller handle (held_after (creation_of id found) Deriving (with_live_key (is_alive service.store key)
     (unless_failed (first_row (input_key_rows w found step)) (goes_on (with_key w (bytes_of found)) done))))
-input_key service caller handle Inactive step id = untouched service BadState
-input_key service caller handle InError step id = untouched service BadState
+input_key service caller handle _ step id = untouched service BadState
 
 -- A KEY OF DERIVED BYTES
 
@@ -117,8 +109,7 @@ abbrev pub output_key : Service → (caller handle : ℕ) → Operation Derivati
 output_key service caller handle (Active w) a =
     let key : Option KeyCreation = key_of_operation (operation_of service caller handle) in
     output_key_of service caller handle key w a (first_row ((not (is_alive service.store key), InvalidHandle) ∷ output_key_rows w a))
-output_key service caller handle Inactive a = untouched service BadState
-output_key service caller handle InError a = untouched service BadState
+output_key service caller handle _ a = untouched service BadState
 
 -- ANY CALL
 

@@ -111,8 +111,7 @@ is_alive store None = true
 
 abbrev pub key_of_operation : HandleOperation → Option KeyCreation
 key_of_operation (Active held) = held.key
-key_of_operation Inactive = None
-key_of_operation InError = None
+key_of_operation _ = None
 
 -- ONE FAMILY'S PART: a handle that holds another family's work is as an inactive one to it
 
@@ -156,5 +155,4 @@ abbrev pub stepped : {W : Type 0} → Service → (caller handle : ℕ) → (W �
 stepped service caller handle embed (Active work) f =
     let key : Option KeyCreation = key_of_operation (operation_of service caller handle) in
     applied service caller handle (held_after key embed (with_live_key (is_alive service.store key) (f work)))
-stepped service caller handle embed Inactive f = untouched service BadState
-stepped service caller handle embed InError f = untouched service BadState
+stepped service caller handle embed _ f = untouched service BadState

@@ -4,8 +4,8 @@ use Rattle.std.specs.FinMap as map
 use Rattle.psa_status.specs.declared.Status.TheVariants.{Success, NotPermitted, InvalidHandle, BufferTooSmall}
 use Rattle.psa_status.specs.Rows.{Rows, first_row}
 use Rattle.store_model.specs.Store.{Key, Store}
-use Rattle.store_model.specs.Call.{Reply, Bytes, Description}
-use Rattle.store_model.specs.Outcome.{Outcome, counted, decided, refusal, reply_unless, replies, with_computed, done}
+use Rattle.store_model.specs.Call.{Reply, Description}
+use Rattle.store_model.specs.Outcome.{Outcome, counted, decided, refusal, reply_unless, replies, with_computed, done, given}
 
 -- whether a flag is in a key's usage
 abbrev pub has_usage : Key → ℕ → Bool
@@ -23,12 +23,9 @@ abbrev pub bytes_of : Option Key → List ℕ
 bytes_of None = []
 bytes_of (Some key) = key.bytes
 
-abbrev pub exported : List ℕ → Reply
-exported bytes = record { status = Success; output = Bytes bytes; needed = length bytes }
-
 -- the reply of an export, by what the map has at the identifier
 abbrev pub export_reply : Option Key → ℕ → Reply
-export_reply found room = reply_unless (first_row (export_rows found room)) (exported (bytes_of found))
+export_reply found room = reply_unless (first_row (export_rows found room)) (given (bytes_of found))
 
 -- an export changes no key
 abbrev pub step_export : Store → ℕ → ℕ → Outcome

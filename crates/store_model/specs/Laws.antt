@@ -62,26 +62,24 @@ RefusedSetupsLeaveAll =
     (serve service caller (OnHandle handle call) mark).service ≡ record service { store = counted service.store }
 
 -- whether a request may change the keys: a creation or a destruction
-abbrev pub changes_keys : Call → Bool
-changes_keys (Import a bytes) = true
-changes_keys (Copy source stated) = true
-changes_keys (Generate a) = true
-changes_keys (Destroy id) = true
-changes_keys _ = false
-
-abbrev pub handle_changes_keys : HandleCall → Bool
-handle_changes_keys (OutputKey a) = true
-handle_changes_keys _ = false
-
 abbrev pub may_change_keys : Request → Bool
-may_change_keys (OnStore call) = changes_keys call
-may_change_keys (OnHandle handle call) = handle_changes_keys call
+may_change_keys (OnStore (Import a bytes)) = true
+may_change_keys (OnStore (Copy source stated)) = true
+may_change_keys (OnStore (Generate a)) = true
+may_change_keys (OnStore (Destroy id)) = true
+may_change_keys (OnHandle handle (OutputKey a)) = true
+may_change_keys _ = false
 
 -- a request that neither creates nor destroys leaves the shared store but for the count, whatever it computes
 abbrev pub LeavesShared : Type 0
 LeavesShared =
     (service : Service) (caller : ℕ) (request : Request) (mark : FaultMark) → may_change_keys request ≡ false →
     (serve service caller request mark).service.store ≡ counted service.store
+
+-- each request is counted once, whatever its reply and its mark
+abbrev pub CountsOnce : Type 0
+CountsOnce =
+    (service : Service) (caller : ℕ) (request : Request) (mark : FaultMark) → (serve service caller request mark).service.store.calls ≡ service.store.calls + 1
 
 -- no request changes the settings, nor how many keys were found
 abbrev pub LeavesSettings : Type 0

@@ -6,7 +6,7 @@ use Rattle.std.specs.FinMap as map
 use Rattle.key_attributes.specs.declared.Policy.{Policy}
 use Rattle.policy_rules.specs.Policy.{IsWithin}
 use Rattle.store_model.specs.Store.{Key, Store, Settings, caller_count}
-use Rattle.store_model.specs.Call.{Call, Import, Export, GetAttributes, Destroy, Copy, Generate, HashCompute, HashCompare, MacCompute, MacVerify, CipherEncrypt, CipherDecrypt, AeadEncrypt, AeadDecrypt, Output, Nothing, Done, Identifier, Description, Bytes, Number}
+use Rattle.store_model.specs.Call.{Call, Copy, Output, Identifier}
 use Rattle.store_model.specs.Handles.{Service, Served, service_start}
 use Rattle.store_model.specs.Requests.{Request, OnStore, OnHandle}
 use Rattle.store_model.specs.Replay.{Entry, outcome_of, replay}
@@ -20,19 +20,7 @@ pub record Made : Type 0 where
 -- the creation number of a copy's source
 abbrev pub source_of : Store → Call → Option ℕ
 source_of store (Copy source stated) = option_map (λ key. key.number) (map.get store.keys source)
-source_of store (Import a bytes) = None
-source_of store (Export id room) = None
-source_of store (GetAttributes id) = None
-source_of store (Destroy id) = None
-source_of store (Generate a) = None
-source_of store (HashCompute alg input room) = None
-source_of store (HashCompare alg input hash) = None
-source_of store (MacCompute id alg input room) = None
-source_of store (MacVerify id alg input mac) = None
-source_of store (CipherEncrypt id alg input room) = None
-source_of store (CipherDecrypt id alg input room) = None
-source_of store (AeadEncrypt id alg nonce ad input room) = None
-source_of store (AeadDecrypt id alg nonce ad input room) = None
+source_of store _ = None
 
 -- only a copy has a source: a key of derived bytes has none
 abbrev pub source_of_request : Store → Request → Option ℕ
@@ -46,11 +34,7 @@ made_key source (Some key) = record { number = key.number; policy = key.attribut
 
 abbrev pub made_at : Option ℕ → Store → Output → List Made
 made_at source after (Identifier id) = made_key source (map.get after.keys id)
-made_at source after Nothing = []
-made_at source after Done = []
-made_at source after (Description attributes) = []
-made_at source after (Bytes bytes) = []
-made_at source after (Number number) = []
+made_at source after _ = []
 
 abbrev pub made_by : Service → Entry → List Made
 made_by service e = let served : Served = outcome_of service e in made_at (source_of_request service.store e.call) served.service.store served.reply.output

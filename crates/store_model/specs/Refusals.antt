@@ -21,9 +21,8 @@ pub data IsLeft (may_stay : Bool) (status : Status) (before after : HandleOperat
   Compared : (key : Option KeyCreation) (work : DerivationWork) (n : ℕ) (says : status ≡ InvalidSignature) (had : n ≤ work.capacity) (was : before ≡ held_derivation key work) (is : after ≡ held_derivation key (without work n)) → IsLeft may_stay status before after
 
 abbrev pub is_active : {W : Type 0} → Operation W → Bool
-is_active Inactive = false
-is_active InError = false
 is_active (Active work) = true
+is_active _ = false
 
 abbrev pub is_setup : HandleCall → Bool
 is_setup (HashSetup alg) = true
@@ -31,23 +30,11 @@ is_setup (MacSetup verifies id alg) = true
 is_setup (CipherSetup encrypts id alg) = true
 is_setup (AeadSetup encrypts id alg) = true
 is_setup (DerivationSetup alg) = true
-is_setup (OnHash step) = false
-is_setup (OnMac step) = false
-is_setup (OnCipher step) = false
-is_setup (OnAead step) = false
-is_setup (OnDerivation step) = false
-is_setup (InputKey step id) = false
-is_setup (OutputKey attributes) = false
-is_setup Abort = false
+is_setup _ = false
 
 -- whether the call is in order on the operation: a setup on an inactive one, a step or a finish on one that is
 -- active with the call's family, and an abort always
 abbrev pub is_ready : HandleCall → HandleOperation → Bool
-is_ready (HashSetup alg) operation = is_inactive operation
-is_ready (MacSetup verifies id alg) operation = is_inactive operation
-is_ready (CipherSetup encrypts id alg) operation = is_inactive operation
-is_ready (AeadSetup encrypts id alg) operation = is_inactive operation
-is_ready (DerivationSetup alg) operation = is_inactive operation
 is_ready (OnHash step) operation = is_active (part_of hash_part operation)
 is_ready (OnMac step) operation = is_active (part_of mac_part operation)
 is_ready (OnCipher step) operation = is_active (part_of cipher_part operation)
@@ -56,6 +43,7 @@ is_ready (OnDerivation step) operation = is_active (part_of derivation_part oper
 is_ready (InputKey step id) operation = is_active (part_of derivation_part operation)
 is_ready (OutputKey attributes) operation = is_active (part_of derivation_part operation)
 is_ready Abort operation = true
+is_ready setup operation = is_inactive operation
 
 abbrev pub lowers_capacity : HandleCall → Bool
 lowers_capacity (OnDerivation (SetCapacity capacity)) = true

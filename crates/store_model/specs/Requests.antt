@@ -25,8 +25,7 @@ on_store service caller outcome = record {
 -- operation in error.
 abbrev pub failed_on : Service → (caller handle : ℕ) → HandleOperation → Status → Served
 failed_on service caller handle (Active held) status = applied service caller handle (fails status)
-failed_on service caller handle Inactive status = untouched service status
-failed_on service caller handle InError status = untouched service status
+failed_on service caller handle _ status = untouched service status
 
 abbrev pub failed_handle_step : Service → (caller handle : ℕ) → HandleCall → Status → Served
 failed_handle_step service caller handle call status =

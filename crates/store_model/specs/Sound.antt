@@ -52,20 +52,16 @@ pub record IsSoundDerivation (work : DerivationWork) : Type 0 where
   pub keyed : is_hkdf work.alg ≡ false → is_some work.secret ≡ true → is_some work.cost ≡ true
 
 abbrev pub IsSoundWork : Work → Type 0
-IsSoundWork (Hashing work) = Unit {0}
-IsSoundWork (Authenticating work) = Unit {0}
-IsSoundWork (Ciphering work) = Unit {0}
-IsSoundWork (Sealing work) = Unit {0}
 IsSoundWork (Deriving work) = IsSoundDerivation work
+IsSoundWork _ = Unit {0}
 
 pub record IsSoundHeld (store : Store) (held : Held) : Type 0 where
   pub key : IsSoundUse store held.key
   pub work : IsSoundWork held.work
 
 abbrev pub IsSoundOperation : Store → HandleOperation → Type 0
-IsSoundOperation store Inactive = Unit {0}
-IsSoundOperation store InError = Unit {0}
 IsSoundOperation store (Active held) = IsSoundHeld store held
+IsSoundOperation store _ = Unit {0}
 
 -- THE SERVICE
 

@@ -1,7 +1,7 @@
 //! The one-thread key store, its calls and its replies: definitions, which stand in `specs/`, and laws of them.
 #![tactic(auto)]
 
-ghost use Rattle.store_model.specs.Laws.{DrawsFewWords, LeavesOtherCallers, LeavesOtherHandles, LeavesSettings, LeavesShared, RefusalsLeaveAll, RefusedSetupsLeaveAll, UnreadyHandlesStay};
+ghost use Rattle.store_model.specs.Laws.{CountsOnce, DrawsFewWords, LeavesOtherCallers, LeavesOtherHandles, LeavesSettings, LeavesShared, RefusalsLeaveAll, RefusedSetupsLeaveAll, UnreadyHandlesStay};
 ghost use Rattle.store_model.specs.Origin.{CopiesGainNothing};
 ghost use Rattle.store_model.specs.Sound.{AliveByNumber, StartsSound, StaysSound};
 
@@ -21,10 +21,11 @@ pub fn draws_few_words()
 {}
 
 /// A request that neither creates nor destroys a key leaves the shared store but for the count of calls, whatever it
-/// computes. None changes the settings.
+/// computes. Each is counted once, whatever its reply and its mark. None changes the settings.
 pub fn leaves_shared()
     ensures shared { LeavesShared }
     ensures settings { LeavesSettings }
+    ensures counts { CountsOnce }
 {}
 
 /// A request that doesn't succeed, though no device failed, leaves all keys, each caller's random words and the operations
