@@ -1,4 +1,5 @@
 pub mod Tables
+pub mod Buffers
 pub mod StoreShape
 pub mod Served
 pub mod DrawnBytes

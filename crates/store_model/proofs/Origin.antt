@@ -181,7 +181,7 @@ TracksOutcome made source outcome = Tracks outcome.store (made_at source outcome
 pub step_tracks : (store : Store) (caller : ℕ) (call : Call) (made : List Made) → IsSoundStore store → Tracks store made →
     StoreCases store caller call (TracksOutcome made (source_of store call))
 step_tracks store caller call made sound t = record {
-  counted_too = λ reply drawn is. subst (λ (l : List Made). Tracks (counted store) (l ++ made)) (sym (is.no_key (source_of store call) (counted store))) (counted_tracks store made t);
+  counted_too = λ reply drawn is. subst (λ (l : List Made). Tracks (counted store) (l ++ made)) (sym (is.quiet.no_key (source_of store call) (counted store))) (counted_tracks store made t);
   created_too = λ a bytes drawn changes creates.
       created_tracks store caller a bytes (source_of store call) made sound t (created_source store call a made sound t (source_of store call) refl creates.source);
   destroyed_too = λ id changes. destroyed_tracks store id made t;

@@ -12,7 +12,7 @@ use Rattle.store_model.specs.Operations.{InError}
 use Rattle.store_model.specs.Faults.{FaultMark, failure_of}
 use Rattle.store_model.specs.Handles.{HandleOperation, Service, Served, own_of, operation_of, with_drawn, with_operation}
 use Rattle.store_model.specs.Requests.{Request, OnStore, OnHandle, serve}
-use Rattle.store_model.specs.Refusals.{held_derivation}
+use Rattle.store_model.proofs.Steps.{held_derivation}
 use Rattle.store_model.specs.Laws.{LeavesOtherCallers, LeavesOtherHandles, LeavesShared, LeavesSettings, CountsOnce}
 use Rattle.store_model.proofs.Operations.{other_own, operations_same, other_handle}
 use Rattle.store_model.proofs.Served.{on_store_shape, on_handle_shape}

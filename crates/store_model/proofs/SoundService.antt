@@ -15,7 +15,7 @@ use Rattle.store_model.specs.DerivationOperations.{DerivationWork, stated_bytes,
 use Rattle.store_model.specs.Handles.{KeyCreation, HandleOperation, Own, Service, own_of, operation_of, with_own, with_drawn, key_of_operation, is_creation}
 use Rattle.store_model.specs.HandleCalls.{created_from}
 use Rattle.store_model.specs.Requests.{OnStore, OnHandle}
-use Rattle.store_model.specs.Refusals.{held_derivation}
+use Rattle.store_model.proofs.Steps.{held_derivation}
 use Rattle.store_model.specs.Sound.{IsSoundStore, IsSoundOperation, IsSoundHeld, IsSoundUse, IsSoundCreation, IsSound, StartsSound, StaysSound, HasNumber, AliveByNumber}
 use Rattle.store_model.proofs.Sound.{store-starts, counted_sound, created_sound, destroyed_sound}
 use Rattle.store_model.proofs.Follows.{Follows, counted_follows, created_follows, destroyed_follows, operation_follows}

@@ -1,5 +1,5 @@
 -- A derivation of bytes and keys: HKDF (RFC 5869) and PBKDF2 (RFC 8018).
-use Rattle.std.specs.Prelude.{ℕ, ◌+◌, ◌-◌, ◌*◌, ◌/◌, ◌%◌, ◌^◌, Bool, true, false, not, nat_lt, ◌&&◌, ◌||◌, ◌==◌, bytes_eq, List, [], ◌∷◌, ◌++◌, length, drop, Option, Some, None, is_some, if◌then◌else◌}
+use Rattle.std.specs.Prelude.{ℕ, ◌+◌, ◌-◌, ◌*◌, ◌/◌, ◌^◌, Bool, true, false, not, nat_lt, ◌&&◌, ◌||◌, ◌==◌, bytes_eq, List, [], ◌∷◌, ◌++◌, length, drop, Option, Some, None, is_some, if◌then◌else◌}
 use Rattle.psa_status.specs.declared.Status.{Status}
 use Rattle.psa_status.specs.declared.Status.TheVariants.{Success, BadState, InvalidArgument, NotSupported, NotPermitted, InsufficientData, InvalidSignature}
 use Rattle.psa_status.specs.Rows.{Rows, first_row}
@@ -12,7 +12,7 @@ use Rattle.store_model.specs.Algorithms.{digest, hash_block_length, hash_length_
 use Rattle.store_model.specs.Call.{Reply, Number}
 use Rattle.store_model.specs.Rules.{class_rows}
 use Rattle.store_model.specs.Outcome.{given, done, refusal}
-use Rattle.store_model.specs.Operations.{Operation, Inactive, InError, Active, After, goes_on, unless_failed, set_up}
+use Rattle.store_model.specs.Operations.{Operation, Active, After, goes_on, unless_failed, set_up}
 use Rattle.store_model.specs.CipherOperations.{bytes_or_empty}
 use Rattle.store_model.specs.Creation.{stated_bits_rows}
 pub use Rattle.store_model.specs.Creation.{stated_bytes}

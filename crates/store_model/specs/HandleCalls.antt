@@ -13,7 +13,7 @@ use Rattle.store_model.specs.Outcome.{Outcome, done}
 use Rattle.store_model.specs.Rules.{class_rows, use_rows, mac_usage, cipher_usage}
 use Rattle.store_model.specs.KeyUse.{bytes_of}
 use Rattle.store_model.specs.Creation.{creation_rows, created}
-use Rattle.store_model.specs.Operations.{Operation, Inactive, InError, Active, set_up, fails, ends, goes_on, unless_failed, with_live_key}
+use Rattle.store_model.specs.Operations.{Operation, Active, set_up, fails, ends, goes_on, unless_failed, with_live_key}
 use Rattle.store_model.specs.HashOperations.{HashStep, hash_work, hash_step}
 use Rattle.store_model.specs.MacOperations.{MacStep, mac_work, mac_step}
 use Rattle.store_model.specs.CipherOperations.{CipherStep, cipher_work, cipher_step}

@@ -5,7 +5,7 @@ use Rattle.store_model.specs.Call.{Call}
 use Rattle.store_model.specs.Faults.{FaultMark, failure_of}
 use Rattle.store_model.specs.Step.{step, failed_step}
 use Rattle.store_model.specs.Outcome.{Outcome}
-use Rattle.store_model.specs.Operations.{Inactive, InError, Active, fails}
+use Rattle.store_model.specs.Operations.{Active, fails}
 use Rattle.store_model.specs.Handles.{HandleOperation, Service, Served, own_of, operation_of, with_own, with_drawn, next_random, applied, untouched}
 use Rattle.store_model.specs.HandleCalls.{HandleCall, handle_step}
 use Rattle.store_model.specs.Refusals.{is_setup}

@@ -5,9 +5,9 @@ use Rattle.key_attributes.specs.Checks.{checked}
 use Rattle.store_model.specs.Store.{Key, Store, Settings, caller_count, made_of, first_volatile, has_secure_element, live_volatile}
 use Rattle.store_model.specs.Faults.{FaultMark}
 use Rattle.store_model.specs.Creation.{identified}
-use Rattle.store_model.specs.Operations.{Inactive, InError, Active}
+use Rattle.store_model.specs.Operations.{Active}
 use Rattle.store_model.specs.DerivationOperations.{DerivationWork, full_capacity, is_hkdf}
-use Rattle.store_model.specs.Handles.{KeyCreation, Work, Hashing, Authenticating, Ciphering, Sealing, Deriving, Held, HandleOperation, Service, handle_count, service_start, own_of, operation_of, key_of_operation, is_alive}
+use Rattle.store_model.specs.Handles.{KeyCreation, Work, Deriving, Held, HandleOperation, Service, handle_count, service_start, own_of, operation_of, key_of_operation, is_alive}
 use Rattle.store_model.specs.Requests.{Request, serve}
 
 -- THE STORE
