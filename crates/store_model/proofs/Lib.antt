@@ -18,4 +18,5 @@ pub mod Follows
 pub mod SoundService
 pub mod GainNothing
 pub mod Origin
+pub mod Found
 pub mod Sound

@@ -14,6 +14,7 @@ use Rattle.store_model.specs.Call.{Call}
 use Rattle.store_model.specs.Outcome.{Outcome, counted}
 use Rattle.store_model.specs.Creation.{created, new_key}
 use Rattle.store_model.specs.KeyUse.{destroyed}
+use Rattle.store_model.specs.Requests.{OnStore}
 use Rattle.store_model.specs.Sound.{IsSoundStore}
 use Rattle.store_model.specs.Origin.{Made, source_of, made_key, made_at, creation_at, origin_from, origin_of, HasOrigin}
 use Rattle.store_model.proofs.StoreShape.{IsCopied, StoreCases}
@@ -161,8 +162,8 @@ copy_policy : (source stated met : Policy) → IsFilled source → meet_of sourc
 copy_policy source stated met filled e = (IsWithin-implied source met filled (subst (λ o. IfSome o (λ m. IsWithin m source)) e (meet-within_source source stated))).1
 
 -- where the policy of what a call creates comes from
-created_source : (store : Store) (call : Call) (a : Attributes) (made : List Made) → IsSoundStore store → Tracks store made → (source : Option ℕ) → source_of store call ≡ source →
-    (source_of store call ≡ None) ⊎ IsCopied store call a.policy → HasSource made source (with_implied a.policy)
+created_source : (store : Store) (call : Call) (a : Attributes) (made : List Made) → IsSoundStore store → Tracks store made → (source : Option ℕ) → source_of store (OnStore call) ≡ source →
+    (source_of store (OnStore call) ≡ None) ⊎ IsCopied store call a.policy → HasSource made source (with_implied a.policy)
 created_source store call a made sound t None e h = tt
 created_source store call a made sound t (Some number) e (inl none) = let clash = sym e ∙ none in cc
 created_source store call a made sound t (Some number) e (inr copy) =
@@ -179,10 +180,10 @@ abbrev pub TracksOutcome : List Made → Option ℕ → Outcome → Type 0
 TracksOutcome made source outcome = Tracks outcome.store (made_at source outcome.store outcome.reply.output ++ made)
 
 pub step_tracks : (store : Store) (caller : ℕ) (call : Call) (made : List Made) → IsSoundStore store → Tracks store made →
-    StoreCases store caller call (TracksOutcome made (source_of store call))
+    StoreCases store caller call (TracksOutcome made (source_of store (OnStore call)))
 step_tracks store caller call made sound t = record {
-  counted_too = λ reply drawn is. subst (λ (l : List Made). Tracks (counted store) (l ++ made)) (sym (is.quiet.no_key (source_of store call) (counted store))) (counted_tracks store made t);
+  counted_too = λ reply drawn is. subst (λ (l : List Made). Tracks (counted store) (l ++ made)) (sym (is.quiet.no_key (source_of store (OnStore call)) (counted store))) (counted_tracks store made t);
   created_too = λ a bytes drawn changes creates.
-      created_tracks store caller a bytes (source_of store call) made sound t (created_source store call a made sound t (source_of store call) refl creates.source);
+      created_tracks store caller a bytes (source_of store (OnStore call)) made sound t (created_source store call a made sound t (source_of store (OnStore call)) refl creates.source);
   destroyed_too = λ id changes. destroyed_tracks store id made t;
 }

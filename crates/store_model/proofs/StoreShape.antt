@@ -58,14 +58,14 @@ pub record IsCopied (store : Store) (call : Call) (policy : Policy) : Type 0 whe
   pub source : Key
   pub stated : Policy
   pub there : map.get store.keys id ≡ Some source
-  pub number : source_of store call ≡ Some source.number
+  pub number : source_of store (OnStore call) ≡ Some source.number
   pub met : meet_of source.attributes.policy stated ≡ Some policy
 
 -- a creation that no row refuses, and what its bytes come from
 pub record Creates (store : Store) (caller : ℕ) (call : Call) (a : Attributes) (bytes : List ℕ) (drawn : ℕ) : Type 0 where
   pub few : drawn ≤ 1024
   pub rows : first_row (creation_rows store caller a (length bytes)) ≡ None
-  pub source : (source_of store call ≡ None) ⊎ IsCopied store call a.policy
+  pub source : (source_of store (OnStore call) ≡ None) ⊎ IsCopied store call a.policy
 
 -- what is to be shown of each kind of outcome
 pub record StoreCases (store : Store) (caller : ℕ) (call : Call) (P : Outcome → Type 0) : Type 0 where
@@ -153,7 +153,7 @@ module _ (store : Store) (caller : ℕ) (call : Call) (P : Outcome → Type 0) (
   used : (refused own : Option Status) (reply : Reply) → IsQuiet reply → P (with_computed store (computed_unless refused (replies (reply_unless own reply))))
   used refused own reply quiet = computed_too refused (replies (reply_unless own reply)) (undrawn_counts (reply_unless own reply) (unless_quiet own reply quiet))
 
-  met_shape : may_change_keys (OnStore call) ≡ true → (id : ℕ) (source : Key) (stated : Attributes) → map.get store.keys id ≡ Some source → source_of store call ≡ Some source.number →
+  met_shape : may_change_keys (OnStore call) ≡ true → (id : ℕ) (source : Key) (stated : Attributes) → map.get store.keys id ≡ Some source → source_of store (OnStore call) ≡ Some source.number →
       (met : Option Policy) → meet_of source.attributes.policy stated.policy ≡ met → P (copy_met store caller source stated met)
   met_shape changes id source stated there number None e = decided_too _ (refused store InvalidArgument) (λ n. refused_too InvalidArgument)
   met_shape changes id source stated there number (Some met) e =
@@ -165,12 +165,12 @@ module _ (store : Store) (caller : ℕ) (call : Call) (P : Outcome → Type 0) (
       }))
 
   found_shape : may_change_keys (OnStore call) ≡ true → (id : ℕ) (stated : Attributes) (found : Option Key) → map.get store.keys id ≡ found →
-      ((source : Key) → found ≡ Some source → source_of store call ≡ Some source.number) → P (copy_found store caller found stated)
+      ((source : Key) → found ≡ Some source → source_of store (OnStore call) ≡ Some source.number) → P (copy_found store caller found stated)
   found_shape changes id stated None e number = refused_too InvalidHandle
   found_shape changes id stated (Some source) e number = met_shape changes id source stated e (number source refl) (meet_of source.attributes.policy stated.policy) refl
 
 -- a copy's source is what the map has
-copy_source : (store : Store) (id : ℕ) (stated : Attributes) (source : Key) → map.get store.keys id ≡ Some source → source_of store (Copy id stated) ≡ Some source.number
+copy_source : (store : Store) (id : ℕ) (stated : Attributes) (source : Key) → map.get store.keys id ≡ Some source → source_of store (OnStore (Copy id stated)) ≡ Some source.number
 copy_source store id stated source e = ap (λ (o : Option Key). option_map (λ key. key.number) o) e
 
 -- the random bytes are as many as were asked for

@@ -2,7 +2,7 @@
 #![tactic(auto)]
 
 ghost use Rattle.store_model.specs.Laws.{CountsOnce, DrawsFewWords, LeavesOtherCallers, LeavesOtherHandles, LeavesSettings, LeavesShared, RefusalsLeaveAll, RefusalsLeaveBuffers, RefusedSetupsLeaveAll, UnreadyHandlesStay};
-ghost use Rattle.store_model.specs.Origin.{CopiesGainNothing};
+ghost use Rattle.store_model.specs.Origin.{CopiesGainNothing, NoneFoundAtStart};
 ghost use Rattle.store_model.specs.Sound.{AliveByNumber, StartsSound, StaysSound};
 
 /// A request of one caller leaves what is every other caller's own.
@@ -50,8 +50,10 @@ pub fn alive_by_number()
     ensures { AliveByNumber }
 {}
 
-/// No chain of copies gains a usage flag or an algorithm, over every history, and each key has the policy that its
-/// creation recorded.
+/// No chain of copies gains a usage flag or an algorithm, over every history and from every sound service, whose keys count
+/// as made before it; and each key has the policy that its creation recorded. Where a service begins without a key, nothing
+/// counts as made before.
 pub fn copies_gain_nothing()
-    ensures { CopiesGainNothing }
+    ensures gains { CopiesGainNothing }
+    ensures start { NoneFoundAtStart }
 {}
