@@ -9,7 +9,7 @@ use Rattle.store_model.specs.Store.{Key, Store}
 use Rattle.store_model.specs.Call.{Reply}
 use Rattle.store_model.specs.Outcome.{given, done, refusal}
 use Rattle.store_model.specs.Operations.{goes_on}
-use Rattle.store_model.specs.DerivationOperations.{DerivationWork, DerivationStep, GetCapacity, SetCapacity, InputBytes, InputInteger, OutputBytes, VerifyBytes, derivation_work, derivation_step, input_bytes_rows, input_integer_rows, output_rows, is_hkdf, is_due, is_salt_due, is_info_due, is_secret_due, salt_step, info_step, with_key, without, exhausted, next_derived, compared, capacity_reply}
+use Rattle.store_model.specs.DerivationOperations.{DerivationWork, DerivationStep, GetCapacity, SetCapacity, InputBytes, InputInteger, OutputBytes, VerifyBytes, derivation_work, derivation_step, input_bytes_rows, input_integer_rows, output_rows, is_hkdf, is_due, is_salt_due, is_info_due, is_secret_due, salt_step, info_step, with_key, without, exhausted, next_derived, compared}
 use Rattle.store_model.specs.CipherOperations.{bytes_or_empty}
 use Rattle.store_model.specs.HandleCalls.{HandleCall, OnDerivation, input_key_rows}
 use Rattle.store_model.specs.Handles.{KeyCreation, Deriving, held_with, held_after}
@@ -144,7 +144,7 @@ module _ (store : Store) (key : Option KeyCreation) where
   derivation_lost w (VerifyBytes expected) = refl
 
   pub derivation_is_step : (w : DerivationWork) (step : DerivationStep) → IsStep (OnDerivation step) store (held_derivation key w) (held_after key Deriving (derivation_step w step))
-  derivation_is_step w GetCapacity = goes_step store key Deriving w w (capacity_reply w.capacity) refl (λ s a. refl) (λ h. h)
+  derivation_is_step w GetCapacity = goes_step store key Deriving w w _ refl (λ s a. refl) (λ h. h)
   derivation_is_step w (SetCapacity n) = lowered_step w n (nat_lt w.capacity n) refl
   derivation_is_step w (InputBytes step bytes) =
       unless_step store key Deriving _ _ _ (λ status refused. refl) (λ e. goes_step store key Deriving w _ done refl (λ s a. refl)

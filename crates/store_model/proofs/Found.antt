@@ -11,11 +11,14 @@ use Rattle.std.proofs.lemmas.Bool.Decides.{nat_tests}
 use Rattle.policy_rules.proofs.Copies.{IsWithin-refl}
 use Rattle.store_model.specs.Store.{Key, Store, start_of}
 use Rattle.store_model.specs.Sound.{IsSoundStore}
-use Rattle.store_model.specs.Origin.{Made, found_key, found_made, creation_at, origin_from, origin_of, NoneFoundAtStart}
+use Rattle.store_model.specs.Origin.{Made, creation_from, found_made, creation_at, origin_from, origin_of, NoneFoundAtStart}
 use Rattle.store_model.proofs.Origin.{Tracks}
 
 abbrev KeyEntry : Type 0
 KeyEntry = ℕ × Key
+
+abbrev found_key : Key → Made
+found_key key = creation_from None key
 
 abbrev as_made : List KeyEntry → List Made
 as_made es = each found_key (each (λ e. e.1) es)

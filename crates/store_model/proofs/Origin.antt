@@ -2,6 +2,7 @@
 use Rattle.std.proofs.Common.{◌≡◌, ℕ, ◌+◌, ◌<◌, Bool, true, false, cond, List, [], ◌∷◌, ◌++◌, refl, sym, ap, ◌∙◌, arith, subst, ◌⊎◌, inl, inr}
 use Rattle.std.specs.Prelude.{Option, None, Some, ◌==◌, IfSome}
 use Rattle.std.specs.Ordering.{nat_cmp}
+use Rattle.std.specs.Option.{option_map_or}
 use Rattle.std.specs.FinMap as map
 use Rattle.std.proofs.lemmas.Bool.Decides.{nat_tests}
 use Rattle.psa_status.proofs.Rows.{unless-ok}
@@ -16,7 +17,7 @@ use Rattle.store_model.specs.Creation.{created, new_key}
 use Rattle.store_model.specs.KeyUse.{destroyed}
 use Rattle.store_model.specs.Requests.{OnStore}
 use Rattle.store_model.specs.Sound.{IsSoundStore}
-use Rattle.store_model.specs.Origin.{Made, source_of, made_key, made_at, creation_at, origin_from, origin_of, HasOrigin}
+use Rattle.store_model.specs.Origin.{Made, source_of, creation_from, made_at, creation_at, origin_from, origin_of, HasOrigin}
 use Rattle.store_model.proofs.StoreShape.{IsCopied, StoreCases}
 use Rattle.store_model.proofs.Sound.{put, taken, left}
 
@@ -148,7 +149,7 @@ created_tracks store caller a bytes source made sound t h =
     let key = new_key store caller id a bytes in
     let after = (created store caller a bytes).store in
     let m : Made = record { number = key.number; policy = key.attributes.policy; source = source } in
-    subst (λ o. Tracks after (made_key source o ++ made)) (sym (there_now store.keys id key))
+    subst (λ o. Tracks after (option_map_or (λ key. creation_from source key ∷ []) o [] ++ made)) (sym (there_now store.keys id key))
     (pushed store after made m id key sound refl refl refl refl refl refl h t)
 
 pub destroyed_tracks : (store : Store) (id : ℕ) (made : List Made) → Tracks store made → Tracks (destroyed store id).store made

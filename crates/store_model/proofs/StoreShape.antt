@@ -15,10 +15,10 @@ use Rattle.store_model.specs.Store.{Key, Store}
 use Rattle.store_model.specs.Call.{Call, Reply, Import, Export, GetAttributes, Destroy, Copy, Generate, HashCompute, HashCompare, MacCompute, MacVerify, CipherEncrypt, CipherDecrypt, AeadEncrypt, AeadDecrypt}
 use Rattle.store_model.specs.Outcome.{Outcome, Computed, replies, computed_unless, with_computed, counted, decided, refused, refusal, reply_unless, given, done, spoiled}
 use Rattle.store_model.specs.Draws.{Random}
-use Rattle.store_model.specs.Creation.{creation_rows, created, stated_bytes}
+use Rattle.store_model.specs.Creation.{creation_rows, created, stated_bytes, stated_bits_rows}
 use Rattle.store_model.specs.Copies.{source_rows, copy_attributes, copy_met, copy_found}
 use Rattle.store_model.specs.KeyUse.{destroyed, attributes_reply, bytes_of, export_rows}
-use Rattle.store_model.specs.Generation.{generated, generation_rows}
+use Rattle.store_model.specs.Generation.{generated}
 use Rattle.store_model.specs.Ciphers.{Mode, Ctr, CbcNoPadding, CbcPkcs7, EcbNoPadding, mode_of, iv_length, plain_or_zeros, enciphered, deciphered}
 use Rattle.store_model.specs.Ciphers as ciphers
 use Rattle.store_model.specs.Hashes as hashes
@@ -129,8 +129,8 @@ permitted : (key_type bytes : ℕ) → not (permits_size key_type bytes) ≡ fal
 permitted key_type bytes h = grind (arith, nat_tests)
 
 -- the sixth row of a generation's table is the size's
-generated_few : (store : Store) (caller : ℕ) (a : Attributes) → first_row (generation_rows store caller a) ≡ None → stated_bytes a ≤ 1024
-generated_few store caller a h = permitted a.key_type.0 (stated_bytes a) (none_holds (generation_rows store caller a) 5 h)
+generated_few : (store : Store) (caller : ℕ) (a : Attributes) → first_row (stated_bits_rows a ++ creation_rows store caller a (stated_bytes a)) ≡ None → stated_bytes a ≤ 1024
+generated_few store caller a h = permitted a.key_type.0 (stated_bytes a) (none_holds (stated_bits_rows a ++ creation_rows store caller a (stated_bytes a)) 5 h)
 
 module _ (store : Store) (caller : ℕ) (call : Call) (P : Outcome → Type 0) (cases : StoreCases store caller call P) where
   replied : (reply : Reply) → IsQuiet reply → P (record { store = counted store; reply = reply; drawn = 0 })

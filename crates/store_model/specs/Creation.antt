@@ -39,16 +39,15 @@ new_key store caller id a bytes = record {
   creator = caller;
 }
 
--- a caller has made one volatile key more
-abbrev pub one_more_made : Store → ℕ → List ℕ
-one_more_made store caller = slice_set store.made caller (made_of store caller + 1)
-
--- a volatile key comes into being under the caller's next identifier
+-- a volatile key comes into being under the caller's next identifier, and the caller has made one more
 abbrev pub created : Store → ℕ → Attributes → List ℕ → Outcome
 created store caller a bytes =
     let id = next_volatile store caller in
     record {
-      store = record (counted store) { keys = map.insert store.keys id (new_key store caller id a bytes); made = one_more_made store caller };
+      store = record (counted store) {
+        keys = map.insert store.keys id (new_key store caller id a bytes);
+        made = slice_set store.made caller (made_of store caller + 1);
+      };
       reply = record { status = Success; output = Identifier id; needed = 0 };
       drawn = 0;
     }

@@ -1,5 +1,6 @@
 -- A derivation of bytes and keys: HKDF (RFC 5869) and PBKDF2 (RFC 8018).
 use Rattle.std.specs.Prelude.{ℕ, ◌+◌, ◌-◌, ◌*◌, ◌/◌, ◌^◌, Bool, true, false, not, nat_lt, ◌&&◌, ◌||◌, ◌==◌, bytes_eq, List, [], ◌∷◌, ◌++◌, length, drop, Option, Some, None, is_some, if◌then◌else◌}
+use Rattle.std.specs.Option.{option_map_or}
 use Rattle.psa_status.specs.declared.Status.{Status}
 use Rattle.psa_status.specs.declared.Status.TheVariants.{Success, BadState, InvalidArgument, NotSupported, NotPermitted, InsufficientData, InvalidSignature}
 use Rattle.psa_status.specs.Rows.{Rows, first_row}
@@ -47,8 +48,7 @@ derivation_setup operation alg = set_up operation (first_row (class_rows Derivat
 -- THE OUTPUT: one list of bytes, whose front is taken piece by piece
 
 abbrev pub number_or_zero : Option ℕ → ℕ
-number_or_zero (Some n) = n
-number_or_zero None = 0
+number_or_zero found = option_map_or (λ n. n) found 0
 
 -- the first n bytes
 abbrev pub derived : DerivationWork → ℕ → List ℕ
@@ -108,10 +108,6 @@ is_info_due w = not (is_some w.info) && w.taken == 0
 abbrev pub is_due : DerivationWork → ℕ → Bool
 is_due w step = if step == salt_step then is_salt_due w else if step == info_step then is_info_due w else is_secret_due w
 
--- what stands at a step already
-abbrev pub given_at : DerivationWork → ℕ → List ℕ
-given_at w step = if step == salt_step then bytes_or_empty w.salt else []
-
 abbrev pub with_bytes : DerivationWork → ℕ → List ℕ → DerivationWork
 with_bytes w step bytes =
     if step == salt_step then record w { salt = Some (bytes_or_empty w.salt ++ bytes) }
@@ -121,11 +117,12 @@ with_bytes w step bytes =
 abbrev pub with_key : DerivationWork → List ℕ → DerivationWork
 with_key w key = record w { secret = Some key; by_key = true }
 
+-- a salt stands behind those before
 abbrev pub input_bytes_rows : DerivationWork → ℕ → List ℕ → Rows
 input_bytes_rows w step bytes =
     (not (takes_bytes w.alg step), InvalidArgument)
     ∷ (not (is_due w step), BadState)
-    ∷ (nat_lt 1024 (length (given_at w step) + length bytes), NotSupported)
+    ∷ (nat_lt 1024 (length (if step == salt_step then bytes_or_empty w.salt else []) + length bytes), NotSupported)
     ∷ []
 
 abbrev pub input_integer_rows : DerivationWork → ℕ → ℕ → Rows
@@ -173,15 +170,12 @@ pub data DerivationStep : Type 0 where
   OutputBytes : (length : ℕ) → DerivationStep
   VerifyBytes : (expected : List ℕ) → DerivationStep
 
-abbrev pub capacity_reply : ℕ → Reply
-capacity_reply n = record { status = Success; output = Number n; needed = 0 }
-
 -- the derivation goes on, whether the bytes are those that were expected or not
 abbrev pub compared : Bool → Reply
 compared same = if same then done else refusal InvalidSignature
 
 abbrev pub derivation_step : DerivationWork → DerivationStep → After DerivationWork
-derivation_step w GetCapacity = goes_on w (capacity_reply w.capacity)
+derivation_step w GetCapacity = goes_on w (record { status = Success; output = Number w.capacity; needed = 0 })
 derivation_step w (SetCapacity n) = if nat_lt w.capacity n then goes_on w (refusal InvalidArgument) else goes_on (record w { capacity = n }) done
 derivation_step w (InputBytes step bytes) = unless_failed (first_row (input_bytes_rows w step bytes)) (goes_on (with_bytes w step bytes) done)
 derivation_step w (InputInteger step value) = unless_failed (first_row (input_integer_rows w step value)) (goes_on (record w { cost = Some value }) done)

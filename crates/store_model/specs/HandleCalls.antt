@@ -1,5 +1,6 @@
 -- Calls on a handle.
 use Rattle.std.specs.Prelude.{ℕ, Bool, true, not, nat_lt, ◌&&◌, ◌||◌, ◌==◌, List, [], ◌∷◌, ◌++◌, Option, Some, None, if◌then◌else◌}
+use Rattle.std.specs.Option.{option_map}
 use Rattle.std.specs.FinMap as map
 use Rattle.psa_status.specs.declared.Status.{Status}
 use Rattle.psa_status.specs.declared.Status.TheVariants.{BadState, InvalidHandle, NotPermitted, InvalidArgument}
@@ -44,8 +45,7 @@ set_up_with service caller handle refused key work =
 
 -- the creation of what the map has at an identifier
 abbrev pub creation_of : ℕ → Option Key → Option KeyCreation
-creation_of id (Some key) = Some (record { id = id; number = key.number })
-creation_of id None = None
+creation_of id found = option_map (λ key. record { id = id; number = key.number }) found
 
 -- a setup with a key that may be used so with the algorithm
 abbrev pub set_up_keyed : Service → (caller handle : ℕ) → Class → (usage alg id : ℕ) → (List ℕ → Work) → Served
@@ -53,19 +53,13 @@ set_up_keyed service caller handle class usage alg id work =
     let found : Option Key = map.get service.store.keys id in
     set_up_with service caller handle (first_row (use_rows class usage alg found)) (creation_of id found) (work (bytes_of found))
 
--- A KEY AS THE SECRET OF A DERIVATION: DERIVE, and a type that fits the step
+-- A KEY AS THE SECRET OF A DERIVATION: the flag DERIVE, and the type DERIVE, or PASSWORD at a password step
 
 abbrev pub derive_usage : ℕ
 derive_usage = 0x4000
 
-abbrev pub derivation_type : ℕ
-derivation_type = 0x1200
-
-abbrev pub password_type : ℕ
-password_type = 0x1203
-
 abbrev pub fits_step : (step key_type : ℕ) → Bool
-fits_step step key_type = key_type == derivation_type || (not (step == secret_step) && key_type == password_type)
+fits_step step key_type = key_type == 0x1200 || (not (step == secret_step) && key_type == 0x1203)
 
 abbrev pub derivation_key_rows : Option Key → (step alg : ℕ) → Rows
 derivation_key_rows None step alg = (true, InvalidHandle) ∷ []

@@ -1,9 +1,10 @@
 -- The service: the store, and the operations of the callers' handles.
 use Rattle.std.specs.Prelude.{ℕ, ◌+◌, Bool, true, false, ◌==◌, List, replicate, get_or, slice_set, Option, Some, None}
+use Rattle.std.specs.Option.{option_map_or}
 use Rattle.std.specs.FinMap as map
 use Rattle.psa_status.specs.declared.Status.{Status}
 use Rattle.psa_status.specs.declared.Status.TheVariants.{BadState}
-use Rattle.store_model.specs.Store.{Key, Store, Settings, caller_count, start_of}
+use Rattle.store_model.specs.Store.{Store, Settings, caller_count, start_of}
 use Rattle.store_model.specs.Call.{Reply}
 use Rattle.random_streams.specs.RandomWords.{random_bytes, words_used}
 use Rattle.store_model.specs.Draws.{Random}
@@ -101,12 +102,8 @@ untouched service status = record { service = record service { store = counted s
 -- KEYS OF OPERATIONS
 
 -- whether the key of this creation is still there
-abbrev pub is_creation : KeyCreation → Option Key → Bool
-is_creation creation (Some key) = key.number == creation.number
-is_creation creation None = false
-
 abbrev pub is_alive : Store → Option KeyCreation → Bool
-is_alive store (Some creation) = is_creation creation (map.get store.keys creation.id)
+is_alive store (Some creation) = option_map_or (λ key. key.number == creation.number) (map.get store.keys creation.id) false
 is_alive store None = true
 
 abbrev pub key_of_operation : HandleOperation → Option KeyCreation

@@ -1,7 +1,7 @@
 -- Where a copy comes from, over a history.
 use Rattle.std.specs.Prelude.{◌≡◌, ◌≤◌, ℕ, List, [], ◌∷◌, ◌++◌, ◌==◌, find, map as each, Option, None, Some, if◌then◌else◌}
 use Rattle.std.specs.List.{AllByRecursion}
-use Rattle.std.specs.Option.{option_map}
+use Rattle.std.specs.Option.{option_map, option_map_or}
 use Rattle.std.specs.FinMap as map
 use Rattle.key_attributes.specs.declared.Policy.{Policy}
 use Rattle.policy_rules.specs.Policy.{IsWithin}
@@ -24,12 +24,11 @@ source_of store (OnStore (Copy source stated)) = option_map (λ key. key.number)
 source_of store _ = None
 
 -- what a call made, where it answers the identifier of a key
-abbrev pub made_key : Option ℕ → Option Key → List Made
-made_key source None = []
-made_key source (Some key) = record { number = key.number; policy = key.attributes.policy; source = source } ∷ []
+abbrev pub creation_from : Option ℕ → Key → Made
+creation_from source key = record { number = key.number; policy = key.attributes.policy; source = source }
 
 abbrev pub made_at : Option ℕ → Store → Output → List Made
-made_at source after (Identifier id) = made_key source (map.get after.keys id)
+made_at source after (Identifier id) = option_map_or (λ key. creation_from source key ∷ []) (map.get after.keys id) []
 made_at source after _ = []
 
 abbrev pub made_by : Service → Entry → List Made
@@ -42,11 +41,8 @@ made_after service (e ∷ es) made = made_after (outcome_of service e).service e
 
 -- A key that is there before a history counts as made before it, with its own policy and from no source, as where it was
 -- found at opening.
-abbrev pub found_key : Key → Made
-found_key key = record { number = key.number; policy = key.attributes.policy; source = None }
-
 abbrev pub found_made : Store → List Made
-found_made store = each found_key (map.values store.keys)
+found_made store = each (creation_from None) (map.values store.keys)
 
 -- the creation of this number
 abbrev pub creation_at : List Made → ℕ → Option Made
