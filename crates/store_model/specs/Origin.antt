@@ -23,10 +23,11 @@ abbrev pub source_of : Store → Request → Option ℕ
 source_of store (OnStore (Copy source stated)) = option_map (λ key. key.number) (map.get store.keys source)
 source_of store _ = None
 
--- what a call made, where it answers the identifier of a key
+-- a key's creation
 abbrev pub creation_from : Option ℕ → Key → Made
 creation_from source key = record { number = key.number; policy = key.attributes.policy; source = source }
 
+-- what a call made, where it answers the identifier of a key
 abbrev pub made_at : Option ℕ → Store → Output → List Made
 made_at source after (Identifier id) = option_map_or (λ key. creation_from source key ∷ []) (map.get after.keys id) []
 made_at source after _ = []
