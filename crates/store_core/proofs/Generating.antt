@@ -11,7 +11,8 @@ use Rattle.store_model.specs.Store as model
 use Rattle.store_model.specs.Outcome.{decided, refused}
 use Rattle.store_model.specs.Creation.{limit_rows}
 use Rattle.store_model.specs.Draws.{Random}
-use Rattle.store_model.specs.Generation.{key_bytes, generated, step_generate}
+use Rattle.store_model.specs.Generation.{generated, step_generate}
+use Rattle.store_model.specs.Creation.{stated_bytes}
 use Rattle.store_core.specs.declared.store.Store.TheInside.{Inside}
 use Rattle.store_core.specs.Inside.{store_of}
 use Rattle.store_core.specs.Generated.{generation_checked}
@@ -21,23 +22,23 @@ use Rattle.store_core.proofs.Sizes.{permitted, none_behind}
 pub generation_refused : (i : Inside) (caller : ℕ) (random : Random) (a : Attributes) (s : Status) → generation_checked a ≡ Err s → step_generate (store_of i) caller random a ≡ refused (store_of i) s
 generation_refused i caller random a s e =
     ap (λ o. decided (store_of i) o (generated (store_of i) caller random a))
-    (first_row-front ((a.bits == 0 || not (a.bits % 8 == 0), InvalidArgument) ∷ attribute_rows a (key_bytes a) false) (limit_rows (store_of i) caller) s (unless-err _ (filled a (key_bytes a)) s e))
+    (first_row-front ((a.bits == 0 || not (a.bits % 8 == 0), InvalidArgument) ∷ attribute_rows a (stated_bytes a) false) (limit_rows (store_of i) caller) s (unless-err _ (filled a (stated_bytes a)) s e))
 
 -- one that the limits decide
 pub generation_goes_on : (i : Inside) (caller : ℕ) (random : Random) (a recorded : Attributes) → generation_checked a ≡ Ok recorded →
     step_generate (store_of i) caller random a ≡ decided (store_of i) (first_row (limit_rows (store_of i) caller)) (generated (store_of i) caller random a)
 generation_goes_on i caller random a recorded e =
     ap (λ o. decided (store_of i) o (generated (store_of i) caller random a))
-    (first_row-back ((a.bits == 0 || not (a.bits % 8 == 0), InvalidArgument) ∷ attribute_rows a (key_bytes a) false) (limit_rows (store_of i) caller) (unless-ok _ (filled a (key_bytes a)) recorded e).0)
+    (first_row-back ((a.bits == 0 || not (a.bits % 8 == 0), InvalidArgument) ∷ attribute_rows a (stated_bytes a) false) (limit_rows (store_of i) caller) (unless-ok _ (filled a (stated_bytes a)) recorded e).0)
 
-pub generated_filled : (a recorded : Attributes) → generation_checked a ≡ Ok recorded → filled a (key_bytes a) ≡ recorded
-generated_filled a recorded e = (unless-ok _ (filled a (key_bytes a)) recorded e).1
+pub generated_filled : (a recorded : Attributes) → generation_checked a ≡ Ok recorded → filled a (stated_bytes a) ≡ recorded
+generated_filled a recorded e = (unless-ok _ (filled a (stated_bytes a)) recorded e).1
 
-pub generated_size : (a recorded : Attributes) → generation_checked a ≡ Ok recorded → IsTrue (permits_size recorded.key_type.0 (key_bytes a))
+pub generated_size : (a recorded : Attributes) → generation_checked a ≡ Ok recorded → IsTrue (permits_size recorded.key_type.0 (stated_bytes a))
 generated_size a recorded e =
-    let passed = unless-ok _ (filled a (key_bytes a)) recorded e in
-    subst (λ (r : Attributes). IsTrue (permits_size r.key_type.0 (key_bytes a))) passed.1
-    (permitted a (key_bytes a) false (none_behind ((a.bits == 0 || not (a.bits % 8 == 0), InvalidArgument) ∷ []) (attribute_rows a (key_bytes a) false) _ refl passed.0))
+    let passed = unless-ok _ (filled a (stated_bytes a)) recorded e in
+    subst (λ (r : Attributes). IsTrue (permits_size r.key_type.0 (stated_bytes a))) passed.1
+    (permitted a (stated_bytes a) false (none_behind ((a.bits == 0 || not (a.bits % 8 == 0), InvalidArgument) ∷ []) (attribute_rows a (stated_bytes a) false) _ refl passed.0))
 
 -- one whose caller is at a limit
 pub generation_full : (i : Inside) (store : model.Store) (caller : ℕ) (random : Random) (a recorded : Attributes) → store_of i ≡ store → generation_checked a ≡ Ok recorded →

@@ -1,3 +1,4 @@
+pub mod Codes
 pub mod Copied
 pub mod Entries
 pub mod Generated

@@ -4,8 +4,8 @@ ghost use Rattle.psa_status.specs.Rows.{first_row};
 ghost use Rattle.key_attributes.specs.declared.Attributes.{Attributes};
 ghost use Rattle.key_attributes.specs.Checks.{filled, permits_size};
 ghost use Rattle.store_model.specs.Store as model;
-ghost use Rattle.store_model.specs.Creation.{limit_rows, created};
-ghost use Rattle.store_model.specs.Generation.{key_bytes, step_generate};
+ghost use Rattle.store_model.specs.Creation.{limit_rows, created, stated_bytes};
+ghost use Rattle.store_model.specs.Generation.{step_generate};
 ghost use Rattle.random_streams.specs.RandomWords.{drawn_from, next_bytes};
 ghost use Rattle.store_model.specs.Answers.{id_reply};
 ghost use Rattle.store_core.specs.Generated.{generation_checked};
@@ -18,7 +18,7 @@ use random_streams::Stream;
 /// The attributes that a generation records, or the first refusal that the stated ones decide.
 fn check_generation(attributes: &Attributes) -> Result<Attributes, Status>
     ensures value { result ≡ generation_checked attributes.now }
-    ensures short { OnOk result (key_bytes attributes.now ≤ 1024) }
+    ensures short { OnOk result (stated_bytes attributes.now ≤ 1024) }
 {
     if attributes.bits == 0 || attributes.bits % 8 != 0 {
         return Err(Status::InvalidArgument);

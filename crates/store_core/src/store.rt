@@ -35,10 +35,11 @@ pub struct Store {
 
 impl Model for Store {
     ghost use Rattle.store_model.specs.Store as model;
+    ghost use Rattle.store_core.specs.Codes.{store_code};
 
     ghost Value = { model.Store };
 
-    ghost coded = { model.store_code };
+    ghost coded = { store_code };
 
     ghost use Rattle.store_core.specs.Inside.{store_of, IsStore};
 

@@ -1,22 +1,23 @@
 -- What a derivation's step makes of its operation.
 use Rattle.std.proofs.Common.{◌≡◌, ℕ, ◌≤◌, Bool, true, false, cond, List, length, refl, arith}
-use Rattle.std.specs.Prelude.{Option, None, Some, ◌==◌, ◌&&◌, ◌||◌, not, nat_lt, is_some, bytes_eq, ◌++◌}
+use Rattle.std.specs.Prelude.{Option, None, Some, ◌==◌, ◌&&◌, ◌||◌, not, nat_lt, nat_le, is_some, bytes_eq, ◌++◌}
 use Rattle.std.proofs.lemmas.Bool.Decides.{nat_tests}
 use Rattle.psa_status.specs.declared.Status.{Status}
-use Rattle.psa_status.specs.declared.Status.TheVariants.{InvalidArgument, InvalidSignature, InsufficientData}
+use Rattle.psa_status.specs.declared.Status.TheVariants.{InvalidArgument, InvalidHandle, InvalidSignature, InsufficientData}
 use Rattle.psa_status.specs.Rows.{first_row}
 use Rattle.store_model.specs.Store.{Key, Store}
 use Rattle.store_model.specs.Call.{Reply}
 use Rattle.store_model.specs.Outcome.{given, done, refusal}
 use Rattle.store_model.specs.Operations.{goes_on}
-use Rattle.store_model.specs.DerivationOperations.{DerivationWork, DerivationStep, GetCapacity, SetCapacity, InputBytes, InputInteger, OutputBytes, VerifyBytes, derivation_work, derivation_step, input_bytes_rows, input_integer_rows, is_hkdf, is_due, is_salt_due, is_info_due, is_secret_due, salt_step, info_step, with_key, without, exhausted, next_derived, compared, capacity_reply}
+use Rattle.store_model.specs.DerivationOperations.{DerivationWork, DerivationStep, GetCapacity, SetCapacity, InputBytes, InputInteger, OutputBytes, VerifyBytes, derivation_work, derivation_step, input_bytes_rows, input_integer_rows, output_rows, is_hkdf, is_due, is_salt_due, is_info_due, is_secret_due, salt_step, info_step, with_key, without, exhausted, next_derived, compared}
 use Rattle.store_model.specs.CipherOperations.{bytes_or_empty}
-use Rattle.store_model.specs.HandleCalls.{OnDerivation, input_key_rows}
-use Rattle.store_model.specs.Handles.{KeyCreation, Deriving, held_after}
-use Rattle.store_model.specs.Refusals.{IsLeft, AsItWas, Exhausted, Compared, lowers_capacity}
+use Rattle.store_model.specs.HandleCalls.{HandleCall, OnDerivation, input_key_rows}
+use Rattle.store_model.specs.Handles.{KeyCreation, Deriving, held_with, held_after}
+use Rattle.store_model.specs.Refusals.{goes_on_where, left_by}
+use Rattle.store_model.proofs.Buffers.{refusal_leaves}
 use Rattle.store_model.specs.Sound.{IsSoundDerivation}
-use Rattle.store_model.proofs.Tables.{none_holds}
-use Rattle.store_model.proofs.Steps.{IsStep, begun, unless_step, goes_step}
+use Rattle.store_model.proofs.Tables.{none_holds, refused_by}
+use Rattle.store_model.proofs.Steps.{IsStep, Loses, held_derivation, unless_step, goes_step}
 
 -- inputs
 
@@ -87,51 +88,78 @@ without_sound w n less h = record { capacity = let c = h.capacity in omega arith
 pub not_below : (m n : ℕ) → nat_lt m n ≡ false → n ≤ m
 not_below m n h = grind (arith, nat_tests)
 
-module _ {may : Bool} (store : Store) (key : Option KeyCreation) where
+pub above : (m n : ℕ) → nat_lt m n ≡ false → nat_le n m ≡ true
+above m n h = grind (arith, nat_tests)
+
+-- a derivation that goes on after a refusal
+pub went_on : (key : Option KeyCreation) (next : DerivationWork) (b : Bool) → b ≡ true → held_derivation key next ≡ held_with key (λ work. work) (goes_on_where b next)
+went_on key next true e = refl
+went_on key next false e = cc
+
+module _ {call : HandleCall} (store : Store) (key : Option KeyCreation) where
   -- a refusal that leaves the derivation active
-  stays_step : (w next : DerivationWork) (status : Status) → IsLeft may status (begun key Deriving w) (begun key Deriving next) → (IsSoundDerivation w → IsSoundDerivation next) →
-      IsStep may store (begun key Deriving w) (held_after key Deriving (goes_on next (refusal status)))
+  stays_step : (w next : DerivationWork) (status : Status) → held_derivation key next ≡ left_by call (held_derivation key w) status → (IsSoundDerivation w → IsSoundDerivation next) →
+      IsStep call store (held_derivation key w) (held_after key Deriving (goes_on next (refusal status)))
   stays_step w next status left sound = record {
     few = omega arith;
     undrawn = λ no. refl;
     left = λ no. left;
     no_key = λ s a. refl;
+    buffer = refusal_leaves status;
     sound = λ s h. record { key = h.key; work = sound h.work };
   }
 
-  pub exhausted_step : (w : DerivationWork) → IsStep may store (begun key Deriving w) (held_after key Deriving (exhausted w))
-  exhausted_step w = stays_step w (record w { capacity = 0 }) InsufficientData (Exhausted key w refl refl refl) (exhausted_sound w)
+  pub exhausted_step : (w : DerivationWork) → held_derivation key (record w { capacity = 0 }) ≡ left_by call (held_derivation key w) InsufficientData →
+      IsStep call store (held_derivation key w) (held_after key Deriving (exhausted w))
+  exhausted_step w left = stays_step w (record w { capacity = 0 }) InsufficientData left (exhausted_sound w)
 
   taken_step : (w : DerivationWork) (n : ℕ) (reply : Reply) (b : Bool) → nat_lt w.capacity n ≡ b →
-      (n ≤ w.capacity → IsStep may store (begun key Deriving w) (held_after key Deriving (goes_on (without w n) reply))) →
-      IsStep may store (begun key Deriving w) (held_after key Deriving (cond b (exhausted w) (goes_on (without w n) reply)))
-  taken_step w n reply true e h = exhausted_step w
-  taken_step w n reply false e h = h (not_below w.capacity n e)
-
-  compared_step : (w : DerivationWork) (n : ℕ) (same : Bool) → n ≤ w.capacity → IsStep may store (begun key Deriving w) (held_after key Deriving (goes_on (without w n) (compared same)))
-  compared_step w n true less = goes_step store key Deriving w (without w n) done refl (λ s a. refl) (without_sound w n less)
-  compared_step w n false less = stays_step w (without w n) InvalidSignature (Compared key w n refl less refl refl) (without_sound w n less)
-
-  lowered_step : may ≡ true → (w : DerivationWork) (n : ℕ) (b : Bool) → nat_lt w.capacity n ≡ b →
-      IsStep may store (begun key Deriving w) (held_after key Deriving (cond b (goes_on w (refusal InvalidArgument)) (goes_on (record w { capacity = n }) done)))
-  lowered_step stays w n true e = stays_step w w InvalidArgument (AsItWas stays refl) (λ h. h)
-  lowered_step stays w n false e = goes_step store key Deriving w (record w { capacity = n }) done refl (λ s a. refl) (lowered_sound w n (not_below w.capacity n e))
+      (nat_lt w.capacity n ≡ true → held_derivation key (record w { capacity = 0 }) ≡ left_by call (held_derivation key w) InsufficientData) →
+      (nat_lt w.capacity n ≡ false → IsStep call store (held_derivation key w) (held_after key Deriving (goes_on (without w n) reply))) →
+      IsStep call store (held_derivation key w) (held_after key Deriving (cond b (exhausted w) (goes_on (without w n) reply)))
+  taken_step w n reply true e left h = exhausted_step w (left e)
+  taken_step w n reply false e left h = h e
 
 module _ (store : Store) (key : Option KeyCreation) where
-  pub derivation_is_step : (w : DerivationWork) (step : DerivationStep) → IsStep (lowers_capacity (OnDerivation step)) store (begun key Deriving w) (held_after key Deriving (derivation_step w step))
-  derivation_is_step w GetCapacity = goes_step store key Deriving w w (capacity_reply w.capacity) refl (λ s a. refl) (λ h. h)
-  derivation_is_step w (SetCapacity n) = lowered_step store key refl w n (nat_lt w.capacity n) refl
+  compared_step : (w : DerivationWork) (expected : List ℕ) (same : Bool) → nat_lt w.capacity (length expected) ≡ false →
+      IsStep (OnDerivation (VerifyBytes expected)) store (held_derivation key w) (held_after key Deriving (goes_on (without w (length expected)) (compared same)))
+  compared_step w expected true less =
+      goes_step store key Deriving w (without w (length expected)) done refl (λ s a. refl) (without_sound w (length expected) (not_below w.capacity (length expected) less))
+  compared_step w expected false less =
+      stays_step store key w (without w (length expected)) InvalidSignature (went_on key (without w (length expected)) (nat_le (length expected) w.capacity) (above w.capacity (length expected) less))
+      (without_sound w (length expected) (not_below w.capacity (length expected) less))
+
+  lowered_step : (w : DerivationWork) (n : ℕ) (b : Bool) → nat_lt w.capacity n ≡ b →
+      IsStep (OnDerivation (SetCapacity n)) store (held_derivation key w) (held_after key Deriving (cond b (goes_on w (refusal InvalidArgument)) (goes_on (record w { capacity = n }) done)))
+  lowered_step w n true e = stays_step store key w w InvalidArgument (went_on key w (nat_lt w.capacity n) e) (λ h. h)
+  lowered_step w n false e = goes_step store key Deriving w (record w { capacity = n }) done refl (λ s a. refl) (lowered_sound w n (not_below w.capacity n e))
+
+  -- a call on a derivation whose key is gone
+  pub derivation_lost : (w : DerivationWork) (step : DerivationStep) → Loses (OnDerivation step) (held_derivation key w) InvalidHandle
+  derivation_lost w GetCapacity = refl
+  derivation_lost w (SetCapacity n) = refl
+  derivation_lost w (InputBytes step bytes) = refl
+  derivation_lost w (InputInteger step value) = refl
+  derivation_lost w (OutputBytes n) = refl
+  derivation_lost w (VerifyBytes expected) = refl
+
+  pub derivation_is_step : (w : DerivationWork) (step : DerivationStep) → IsStep (OnDerivation step) store (held_derivation key w) (held_after key Deriving (derivation_step w step))
+  derivation_is_step w GetCapacity = goes_step store key Deriving w w _ refl (λ s a. refl) (λ h. h)
+  derivation_is_step w (SetCapacity n) = lowered_step w n (nat_lt w.capacity n) refl
   derivation_is_step w (InputBytes step bytes) =
-      unless_step store key Deriving _ _ _ (λ e. goes_step store key Deriving w _ done refl (λ s a. refl)
+      unless_step store key Deriving _ _ _ (λ status refused. refl) (λ e. goes_step store key Deriving w _ done refl (λ s a. refl)
       (bytes_sound w bytes (step == salt_step) (step == info_step) (flipped (is_due w step) (none_holds (input_bytes_rows w step bytes) 1 e))))
   derivation_is_step w (InputInteger step value) =
-      unless_step store key Deriving _ _ _ (λ e. goes_step store key Deriving w _ done refl (λ s a. refl) (cost_sound w value (none_holds (input_integer_rows w step value) 2 e)))
+      unless_step store key Deriving _ _ _ (λ status refused. refl) (λ e. goes_step store key Deriving w _ done refl (λ s a. refl) (cost_sound w value (none_holds (input_integer_rows w step value) 2 e)))
   derivation_is_step w (OutputBytes n) =
-      unless_step store key Deriving _ _ _ (λ e. taken_step store key w n (given (next_derived w n)) (nat_lt w.capacity n) refl
-      (λ less. goes_step store key Deriving w (without w n) (given (next_derived w n)) refl (λ s a. refl) (without_sound w n less)))
+      unless_step store key Deriving _ _ _ (refused_by (Loses (OnDerivation (OutputBytes n)) (held_derivation key w)) (output_rows w) (refl, tt))
+      (λ e. taken_step store key w n (given (next_derived w n)) (nat_lt w.capacity n) refl (went_on key (record w { capacity = 0 }) (nat_lt w.capacity n))
+      (λ less. goes_step store key Deriving w (without w n) (given (next_derived w n)) refl (λ s a. refl) (without_sound w n (not_below w.capacity n less))))
   derivation_is_step w (VerifyBytes expected) =
-      unless_step store key Deriving _ _ _ (λ e. taken_step store key w (length expected) (compared (bytes_eq expected (next_derived w (length expected)))) (nat_lt w.capacity (length expected)) refl
-      (compared_step store key w (length expected) (bytes_eq expected (next_derived w (length expected)))))
+      let same : Bool = bytes_eq expected (next_derived w (length expected)) in
+      unless_step store key Deriving _ _ _ (refused_by (Loses (OnDerivation (VerifyBytes expected)) (held_derivation key w)) (output_rows w) (refl, tt))
+      (λ e. taken_step store key w (length expected) (compared same) (nat_lt w.capacity (length expected)) refl
+      (went_on key (record w { capacity = 0 }) (nat_lt w.capacity (length expected))) (compared_step w expected same))
 
 -- a key is due
 pub key_due : (w : DerivationWork) (found : Option Key) (step : ℕ) → first_row (input_key_rows w found step) ≡ None → is_secret_due w ≡ true

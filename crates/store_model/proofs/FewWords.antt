@@ -10,7 +10,7 @@ use Rattle.store_model.specs.Operations.{InError}
 use Rattle.store_model.specs.Handles.{Own, Service, own_of, with_own, with_drawn, with_operation}
 use Rattle.store_model.specs.Requests.{OnStore, OnHandle}
 use Rattle.store_model.specs.DerivationOperations.{stated_bytes, next_derived, without}
-use Rattle.store_model.specs.Refusals.{held_derivation}
+use Rattle.store_model.proofs.Steps.{held_derivation}
 use Rattle.store_model.specs.Laws.{DrawsFewWords}
 use Rattle.store_model.proofs.Operations.{drawn_most}
 use Rattle.store_model.proofs.Served.{on_store_shape, on_handle_shape}

@@ -1,31 +1,29 @@
 -- No chain of copies gains a flag or an algorithm, over every history.
-use Rattle.std.proofs.Common.{◌≡◌, ℕ, List, [], ◌∷◌, ◌++◌, sym, ◌∙◌, subst}
-use Rattle.std.specs.Prelude.{Option, None, Some}
-use Rattle.std.specs.Ordering.{nat_cmp}
+use Rattle.std.proofs.Common.{ℕ, List, [], ◌∷◌, ◌++◌, sym, subst}
+use Rattle.std.specs.Prelude.{Option, None}
 use Rattle.std.specs.List.{AllByRecursion}
-use Rattle.std.specs.FinMap as map
-use Rattle.store_model.specs.Store.{Key}
 use Rattle.store_model.specs.Faults.{FaultMark, failure_of}
 use Rattle.store_model.specs.Outcome.{counted}
 use Rattle.store_model.specs.DerivationOperations.{stated_bytes, next_derived}
-use Rattle.store_model.specs.Handles.{Service, Served, service_start}
+use Rattle.store_model.specs.Handles.{Service, Served}
 use Rattle.store_model.specs.Requests.{Request, OnStore, OnHandle, serve}
 use Rattle.store_model.specs.Replay.{Entry, outcome_of, replay}
 use Rattle.store_model.specs.Sound.{IsSound}
-use Rattle.store_model.specs.Origin.{Made, source_of, source_of_request, made_at, made_by, made_after, IsCaller, CopiesGainNothing}
+use Rattle.store_model.specs.Origin.{Made, source_of, made_at, made_by, made_after, found_made, IsCaller, CopiesGainNothing}
 use Rattle.store_model.proofs.Origin.{Tracks, counted_tracks, created_tracks, destroyed_tracks, step_tracks}
+use Rattle.store_model.proofs.Found.{found_tracks}
 use Rattle.store_model.proofs.Served.{on_store_shape, on_handle_shape}
-use Rattle.store_model.proofs.SoundService.{starts, stays}
+use Rattle.store_model.proofs.SoundService.{stays}
 
 -- the creations so far, beside a service after a request
 abbrev TracksServed : List Made → Option ℕ → Served → Type 0
 TracksServed made source served = Tracks served.service.store (made_at source served.service.store served.reply.output ++ made)
 
 request_tracks : (service : Service) (caller : ℕ) (request : Request) (mark : FaultMark) (made : List Made) → IsSound service → Tracks service.store made →
-    TracksServed made (source_of_request service.store request) (serve service caller request mark)
+    TracksServed made (source_of service.store request) (serve service caller request mark)
 request_tracks service caller (OnStore call) mark made sound t =
     let cases = step_tracks service.store caller call made sound.store t in
-    on_store_shape service caller call (failure_of mark) (TracksServed made (source_of service.store call))
+    on_store_shape service caller call (failure_of mark) (TracksServed made (source_of service.store (OnStore call)))
     (record { counted_too = cases.counted_too; created_too = cases.created_too; destroyed_too = cases.destroyed_too })
     (λ id status changes. destroyed_tracks service.store id made t)
 request_tracks service caller (OnHandle handle call) mark made sound t = on_handle_shape service caller handle call (failure_of mark) (TracksServed made None) (record {
@@ -39,17 +37,9 @@ over [] service made c sound t = t
 over (e ∷ es) service made c sound t =
     over es (outcome_of service e).service (made_by service e ++ made) c.1 (stays service e.caller e.call e.mark c.0.0 c.0.1 sound) (request_tracks service e.caller e.call e.mark made sound t)
 
-no_key_at : (id : ℕ) (key : Key) → map.get (map.empty {X = Key} {R = nat_cmp}) id ≡ Some key → ⊥
-no_key_at id key e = let none = sym (map.get-empty nat_cmp id) ∙ e in cc
-
-none_made : (m : Made) → ◌≡◌ {A = Option Made} None (Some m) → ⊥
-none_made m e = cc
-
 pub gain_nothing : CopiesGainNothing
-gain_nothing settings h callers =
-    let none : Tracks (service_start settings).store [] =
-    record { alive = λ id key e. absurd (no_key_at id key e); below = λ n m e. absurd (none_made m e); origin = λ n m e. absurd (none_made m e) } in
-    let after = over h (service_start settings) [] callers (starts settings) none in
+gain_nothing start h sound callers =
+    let after = over h start (found_made start.store) callers sound (found_tracks start.store sound.store) in
     record {
       creations = after.origin;
       keys = λ id key e. let made = after.alive id key e in record { creation = made.0; found = made.1.0; policy = made.1.1 };

@@ -1,7 +1,6 @@
 -- What a request that doesn't succeed leaves.
-use Rattle.std.proofs.Common.{◌≡◌, ℕ, ◌+◌, ◌⊎◌, Bool, true, false, inl, inr, refl, sym, ap, ◌∙◌, subst, slice_index_or, arith}
-use Rattle.std.specs.Prelude.{Option, None, Some, ◌==◌}
-use Rattle.std.proofs.lemmas.Bool.Decides.{nat_tests}
+use Rattle.std.proofs.Common.{◌≡◌, ℕ, ◌+◌, true, false, refl, sym, ap, ◌∙◌, slice_set, arith}
+use Rattle.std.specs.Prelude.{Option, None, Some}
 use Rattle.psa_status.specs.declared.Status.{Status}
 use Rattle.psa_status.specs.declared.Status.TheVariants.{Success, BadState}
 use Rattle.random_streams.specs.RandomWords.{words_used}
@@ -11,131 +10,85 @@ use Rattle.store_model.specs.Outcome.{counted, refusal}
 use Rattle.store_model.specs.Operations.{Operation, Inactive, InError, Active, After, set_up}
 use Rattle.store_model.specs.Handles.{Work, Held, HandleOperation, Own, Service, Served, own_of, operation_of, with_own, with_drawn, with_operation, next_random, applied, untouched, stepped}
 use Rattle.store_model.specs.HandleCalls.{HandleCall, HashSetup, MacSetup, CipherSetup, AeadSetup, DerivationSetup, OnHash, OnMac, OnCipher, OnAead, OnDerivation, InputKey, OutputKey, Abort, input_key, output_key}
-use Rattle.store_model.specs.Requests.{Request, OnStore, OnHandle, on_store, serve_unless, serve}
-use Rattle.store_model.specs.Refusals.{IsLeft, AsItWas, is_active, is_setup, lowers_capacity, may_stay}
-use Rattle.store_model.specs.Laws.{handle_of, RefusalsLeaveAll, UnreadyHandlesStay, RefusedSetupsLeaveAll}
+use Rattle.store_model.specs.Requests.{OnStore, OnHandle, on_store, serve_unless, serve}
+use Rattle.store_model.specs.Refusals.{is_active, is_setup, left_by}
+use Rattle.store_model.specs.Laws.{left_all, RefusalsLeaveAll, RefusalsLeaveBuffers, UnreadyHandlesStay, RefusedSetupsLeaveAll}
 use Rattle.store_model.specs.DerivationOperations.{DerivationWork}
 use Rattle.key_attributes.specs.declared.Attributes.{Attributes}
 use Rattle.store_model.specs.Operations.{is_inactive}
 use Rattle.store_model.proofs.DrawnBytes.{length-random}
 use Rattle.store_model.proofs.StoreShape.{store_shape}
-use Rattle.store_model.proofs.Operations.{drawn_same, operations_same, own_operation, same_own, same_service}
-use Rattle.store_model.proofs.Others.{leaves_callers, leaves_handles}
-use Rattle.store_model.proofs.Shape.{shape, other_or}
-
--- THE OTHER HANDLES
-
-others_left : (service : Service) (caller : ℕ) (request : Request) (other handle : ℕ) → (other ≡ caller → handle_of request ≡ Some handle → ⊥) →
-    (b : Bool) → (other == caller) ≡ b →
-    operation_of (serve service caller request Plain).service other handle ≡ operation_of service other handle
-others_left service caller request other handle h true e =
-    let same : other ≡ caller = grind (arith, nat_tests) in
-    ap (λ (c : ℕ). operation_of (serve service caller request Plain).service c handle) same ∙ leaves_handles service caller handle request Plain (h same)
-    ∙ ap (λ (c : ℕ). operation_of service c handle) (sym same)
-others_left service caller request other handle h false e =
-    ap (λ (o : Own). slice_index_or o.operations handle Inactive) (leaves_callers service caller other request Plain (λ same. grind (arith, nat_tests))).0
-
--- ON THE STORE
+use Rattle.store_model.proofs.Operations.{same_operation, same_own, same_service}
+use Rattle.store_model.proofs.Buffers.{LeavesBuffer, refusal_leaves}
+use Rattle.store_model.proofs.Served.{on_store_shape, on_handle_shape}
+use Rattle.store_model.proofs.Shape.{shape}
 
 -- no word is drawn
 no_words : (n drawn : ℕ) → n ≡ 0 → drawn + words_used n ≡ drawn
 no_words n drawn e = omega arith
 
-record StoreLeft (service : Service) (served : Served) : Type 0 where
-  store : served.service.store ≡ counted service.store
-  drawn : (other : ℕ) → (own_of served.service other).drawn ≡ (own_of service other).drawn
-  operations : (other handle : ℕ) → operation_of served.service other handle ≡ operation_of service other handle
+-- ON THE STORE
+
+undrawn : (service : Service) (caller n : ℕ) → n ≡ 0 → with_own service (counted service.store) caller (with_drawn (own_of service caller) n) ≡ record service { store = counted service.store }
+undrawn service caller n e =
+    let words : (own_of service caller).drawn + words_used n ≡ (own_of service caller).drawn = no_words n (own_of service caller).drawn e in
+    ap (λ (k : ℕ). with_own service (counted service.store) caller (record (own_of service caller) { drawn = k })) words ∙ same_service service (counted service.store) caller
 
 store_left : (service : Service) (caller : ℕ) (call : Call) → ((serve service caller (OnStore call) Plain).reply.status ≡ Success → ⊥) →
-    StoreLeft service (serve service caller (OnStore call) Plain)
-store_left service caller call failed =
+    (serve service caller (OnStore call) Plain).service ≡ record service { store = counted service.store }
+store_left service caller call =
     store_shape service.store caller (next_random service caller) call
-    (λ outcome. (outcome.reply.status ≡ Success → ⊥) → StoreLeft service (on_store service caller outcome))
+    (λ outcome. (outcome.reply.status ≡ Success → ⊥) → (on_store service caller outcome).service ≡ record service { store = counted service.store })
     (λ n. length-random service.store.settings.seed caller (own_of service caller).drawn n) (record {
-      counted_too = λ reply drawn is no. record {
-        store = refl;
-        drawn = λ other. drawn_same service (counted service.store) caller other (with_drawn (own_of service caller) drawn) (no_words drawn (own_of service caller).drawn (is.undrawn no));
-        operations = λ other handle. operations_same service (counted service.store) caller (with_drawn (own_of service caller) drawn) refl other handle;
-      };
+      counted_too = λ reply drawn is no. undrawn service caller drawn (is.undrawn no);
       created_too = λ a bytes drawn changes made no. absurd (no refl);
       destroyed_too = λ id changes no. absurd (no refl);
-    }) failed
+    })
 
--- ITS OWN
+-- ON A HANDLE
 
-record LeavesOwn (service : Service) (caller handle : ℕ) (call : HandleCall) (served : Served) : Type 0 where
-  store : served.service.store ≡ counted service.store
-  drawn : (other : ℕ) → (own_of served.service other).drawn ≡ (own_of service other).drawn
-  own : IsLeft (may_stay call (operation_of service caller handle)) served.reply.status (operation_of service caller handle) (operation_of served.service caller handle)
+stays_put : (service : Service) (caller handle : ℕ) (operation : HandleOperation) → operation ≡ operation_of service caller handle →
+    record service { store = counted service.store } ≡ with_own service (counted service.store) caller (with_operation (own_of service caller) handle operation)
+stays_put service caller handle operation e =
+    sym (ap (λ (o : HandleOperation). with_own service (counted service.store) caller (with_operation (own_of service caller) handle o)) e
+    ∙ ap (λ (own : Own). with_own service (counted service.store) caller own) (same_operation (own_of service caller) handle)
+    ∙ same_service service (counted service.store) caller)
 
--- of an inactive operation: any call but an abort may leave it
-inactive_stays : (call : HandleCall) → (may_stay call Inactive ≡ true) ⊎ (call ≡ Abort)
-inactive_stays (HashSetup alg) = inl refl
-inactive_stays (MacSetup verifies id alg) = inl refl
-inactive_stays (CipherSetup encrypts id alg) = inl refl
-inactive_stays (AeadSetup encrypts id alg) = inl refl
-inactive_stays (DerivationSetup alg) = inl refl
-inactive_stays (OnHash step) = inl refl
-inactive_stays (OnMac step) = inl refl
-inactive_stays (OnCipher step) = inl refl
-inactive_stays (OnAead step) = inl refl
-inactive_stays (OnDerivation step) = inl (other_or (lowers_capacity (OnDerivation step)) true refl)
-inactive_stays (InputKey step id) = inl refl
-inactive_stays (OutputKey a) = inl refl
-inactive_stays Abort = inr refl
-
-set_left : (call : HandleCall) → (call ≡ Abort → ⊥) → (status : Status) (before next now : HandleOperation) → IsLeft (may_stay call before) status before next →
-    (now ≡ next) ⊎ ((now ≡ Inactive) × (before ≡ Inactive)) → IsLeft (may_stay call before) status before now
-set_left call other status before next now h (inl e) = subst (IsLeft (may_stay call before) status before) (sym e) h
-set_left call other status before next now h (inr e) = elim (inactive_stays call) [
-  | inl may ↦ AsItWas (ap (may_stay call) e.1 ∙ may) (e.0 ∙ sym e.1)
-  | inr abort ↦ absurd (other abort)
-]
-
--- an abort succeeds
-abort_succeeds : (service : Service) (caller handle : ℕ) (call : HandleCall) → call ≡ Abort → (serve service caller (OnHandle handle call) Plain).reply.status ≡ Success
-abort_succeeds service caller handle call e = ap (λ c. (serve service caller (OnHandle handle c) Plain).reply.status) e
+applied_left : (service : Service) (caller handle n : ℕ) (operation left : HandleOperation) → n ≡ 0 → operation ≡ left →
+    with_own service (counted service.store) caller (with_drawn (with_operation (own_of service caller) handle operation) n)
+    ≡ with_own service (counted service.store) caller (with_operation (own_of service caller) handle left)
+applied_left service caller handle n operation left none e =
+    let words : (own_of service caller).drawn + words_used n ≡ (own_of service caller).drawn = no_words n (own_of service caller).drawn none in
+    λ i. with_own service (counted service.store) caller (record { drawn = words i; operations = slice_set (own_of service caller).operations handle (e i) })
 
 own_left : (service : Service) (caller handle : ℕ) (call : HandleCall) → ((serve service caller (OnHandle handle call) Plain).reply.status ≡ Success → ⊥) →
-    LeavesOwn service caller handle call (serve service caller (OnHandle handle call) Plain)
-own_left service caller handle call refused =
-    let other : call ≡ Abort → ⊥ = λ e. refused (abort_succeeds service caller handle call e) in
-    shape service caller handle call (λ served. (served.reply.status ≡ Success → ⊥) → LeavesOwn service caller handle call served) (record {
-      untouched_too = λ status may failed. record { store = refl; drawn = λ c. refl; own = AsItWas may refl };
-      applied_too = λ after step failed. record {
-        store = refl;
-        drawn = λ c. drawn_same service (counted service.store) caller c (with_drawn (with_operation (own_of service caller) handle after.operation) after.drawn) (no_words after.drawn (own_of service caller).drawn (step.undrawn failed));
-        own = set_left call other after.reply.status (operation_of service caller handle) after.operation _ (step.left failed)
-            (own_operation service (counted service.store) caller handle after.operation (with_drawn (with_operation (own_of service caller) handle after.operation) after.drawn) refl);
-      };
-      created_too = λ changes key w a made failed. absurd (failed refl);
-    }) refused
-
-same_call : {handle one : ℕ} {call other : HandleCall} → OnHandle handle call ≡ OnHandle one other → (handle ≡ one) × (call ≡ other)
-same_call e = (cc, cc)
+    (serve service caller (OnHandle handle call) Plain).service ≡ left_all service caller (OnHandle handle call) (serve service caller (OnHandle handle call) Plain).reply.status
+own_left service caller handle call =
+    shape service caller handle call (λ served. (served.reply.status ≡ Success → ⊥) → served.service ≡ left_all service caller (OnHandle handle call) served.reply.status) (record {
+      untouched_too = λ status same no. stays_put service caller handle (left_by call (operation_of service caller handle) status) same;
+      applied_too = λ after step no. applied_left service caller handle after.drawn after.operation _ (step.undrawn no) (step.left no);
+      created_too = λ changes key w a made no. absurd (no refl);
+    })
 
 pub leaves_all : RefusalsLeaveAll
-leaves_all service caller (OnStore call) failed =
-    let left = store_left service caller call failed in
-    record {
-      store = left.store;
-      drawn = left.drawn;
-      others = λ other handle h. left.operations other handle;
-      own = λ handle call e. cc;
-    }
-leaves_all service caller (OnHandle handle call) failed =
-    let left = own_left service caller handle call failed in
-    record {
-      store = left.store;
-      drawn = left.drawn;
-      others = λ other one h. others_left service caller (OnHandle handle call) other one h (other == caller) refl;
-      own = λ one other e.
-          let same : (handle ≡ one) × (call ≡ other) = same_call e in
-          let served : Served = serve service caller (OnHandle handle call) Plain in
-          subst (λ (c : HandleCall). IsLeft (may_stay c (operation_of service caller one)) served.reply.status (operation_of service caller one) (operation_of served.service caller one)) same.1
-          (subst (λ (n : ℕ). IsLeft (may_stay call (operation_of service caller n)) served.reply.status (operation_of service caller n) (operation_of served.service caller n)) same.0
-          left.own);
-    }
+leaves_all service caller (OnStore call) failed = store_left service caller call failed
+leaves_all service caller (OnHandle handle call) failed = own_left service caller handle call failed
+
+-- BUFFERS
+
+pub leaves_buffers : RefusalsLeaveBuffers
+leaves_buffers service caller (OnStore call) mark old refuses =
+    on_store_shape service caller call (failure_of mark) (λ served. LeavesBuffer served.reply) (record {
+      counted_too = λ reply drawn is. is.quiet.buffer;
+      created_too = λ a bytes drawn changes made fails. absurd (fails refl);
+      destroyed_too = λ id changes fails. absurd (fails refl);
+    }) (λ id status changes. refusal_leaves status) refuses old
+leaves_buffers service caller (OnHandle handle call) mark old refuses =
+    on_handle_shape service caller handle call (failure_of mark) (λ served. LeavesBuffer served.reply) (record {
+      untouched_too = λ status same. refusal_leaves status;
+      applied_too = λ after step. step.buffer;
+      created_too = λ changes key w a made fails. absurd (fails refl);
+    }) (λ status. refusal_leaves status) (λ status. refusal_leaves status) refuses old
 
 -- A CALL THAT ISN'T IN ORDER
 

@@ -1,4 +1,5 @@
 pub mod Tables
+pub mod Buffers
 pub mod StoreShape
 pub mod Served
 pub mod DrawnBytes
@@ -17,4 +18,5 @@ pub mod Follows
 pub mod SoundService
 pub mod GainNothing
 pub mod Origin
+pub mod Found
 pub mod Sound

@@ -101,6 +101,9 @@ own_operation service store caller handle operation own sets = of (set_own servi
     of (inr e) f = inr (ap at e.0 ∙ new_inactive handle, ap at e.1 ∙ new_inactive handle)
 
 -- an operation that is set again changes nothing
+pub same_operation : (own : Own) (handle : ℕ) → with_operation own handle (slice_index_or own.operations handle Inactive) ≡ own
+same_operation own handle = ap (λ (l : List HandleOperation). record own { operations = l }) (set-get_or own.operations handle Inactive)
+
 pub same_own : (own : Own) (handle : ℕ) → with_drawn (with_operation own handle (slice_index_or own.operations handle Inactive)) 0 ≡ own
 same_own own handle =
     let words : own.drawn + words_used 0 ≡ own.drawn = omega arith in

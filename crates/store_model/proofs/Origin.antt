@@ -2,6 +2,7 @@
 use Rattle.std.proofs.Common.{◌≡◌, ℕ, ◌+◌, ◌<◌, Bool, true, false, cond, List, [], ◌∷◌, ◌++◌, refl, sym, ap, ◌∙◌, arith, subst, ◌⊎◌, inl, inr}
 use Rattle.std.specs.Prelude.{Option, None, Some, ◌==◌, IfSome}
 use Rattle.std.specs.Ordering.{nat_cmp}
+use Rattle.std.specs.Option.{option_map_or}
 use Rattle.std.specs.FinMap as map
 use Rattle.std.proofs.lemmas.Bool.Decides.{nat_tests}
 use Rattle.psa_status.proofs.Rows.{unless-ok}
@@ -14,8 +15,9 @@ use Rattle.store_model.specs.Call.{Call}
 use Rattle.store_model.specs.Outcome.{Outcome, counted}
 use Rattle.store_model.specs.Creation.{created, new_key}
 use Rattle.store_model.specs.KeyUse.{destroyed}
+use Rattle.store_model.specs.Requests.{OnStore}
 use Rattle.store_model.specs.Sound.{IsSoundStore}
-use Rattle.store_model.specs.Origin.{Made, source_of, made_key, made_at, creation_at, origin_from, origin_of, HasOrigin}
+use Rattle.store_model.specs.Origin.{Made, source_of, creation_from, made_at, creation_at, origin_from, origin_of, HasOrigin}
 use Rattle.store_model.proofs.StoreShape.{IsCopied, StoreCases}
 use Rattle.store_model.proofs.Sound.{put, taken, left}
 
@@ -147,7 +149,7 @@ created_tracks store caller a bytes source made sound t h =
     let key = new_key store caller id a bytes in
     let after = (created store caller a bytes).store in
     let m : Made = record { number = key.number; policy = key.attributes.policy; source = source } in
-    subst (λ o. Tracks after (made_key source o ++ made)) (sym (there_now store.keys id key))
+    subst (λ o. Tracks after (option_map_or (λ key. creation_from source key ∷ []) o [] ++ made)) (sym (there_now store.keys id key))
     (pushed store after made m id key sound refl refl refl refl refl refl h t)
 
 pub destroyed_tracks : (store : Store) (id : ℕ) (made : List Made) → Tracks store made → Tracks (destroyed store id).store made
@@ -161,8 +163,8 @@ copy_policy : (source stated met : Policy) → IsFilled source → meet_of sourc
 copy_policy source stated met filled e = (IsWithin-implied source met filled (subst (λ o. IfSome o (λ m. IsWithin m source)) e (meet-within_source source stated))).1
 
 -- where the policy of what a call creates comes from
-created_source : (store : Store) (call : Call) (a : Attributes) (made : List Made) → IsSoundStore store → Tracks store made → (source : Option ℕ) → source_of store call ≡ source →
-    (source_of store call ≡ None) ⊎ IsCopied store call a.policy → HasSource made source (with_implied a.policy)
+created_source : (store : Store) (call : Call) (a : Attributes) (made : List Made) → IsSoundStore store → Tracks store made → (source : Option ℕ) → source_of store (OnStore call) ≡ source →
+    (source_of store (OnStore call) ≡ None) ⊎ IsCopied store call a.policy → HasSource made source (with_implied a.policy)
 created_source store call a made sound t None e h = tt
 created_source store call a made sound t (Some number) e (inl none) = let clash = sym e ∙ none in cc
 created_source store call a made sound t (Some number) e (inr copy) =
@@ -179,10 +181,10 @@ abbrev pub TracksOutcome : List Made → Option ℕ → Outcome → Type 0
 TracksOutcome made source outcome = Tracks outcome.store (made_at source outcome.store outcome.reply.output ++ made)
 
 pub step_tracks : (store : Store) (caller : ℕ) (call : Call) (made : List Made) → IsSoundStore store → Tracks store made →
-    StoreCases store caller call (TracksOutcome made (source_of store call))
+    StoreCases store caller call (TracksOutcome made (source_of store (OnStore call)))
 step_tracks store caller call made sound t = record {
-  counted_too = λ reply drawn is. subst (λ (l : List Made). Tracks (counted store) (l ++ made)) (sym (is.no_key (source_of store call) (counted store))) (counted_tracks store made t);
+  counted_too = λ reply drawn is. subst (λ (l : List Made). Tracks (counted store) (l ++ made)) (sym (is.quiet.no_key (source_of store (OnStore call)) (counted store))) (counted_tracks store made t);
   created_too = λ a bytes drawn changes creates.
-      created_tracks store caller a bytes (source_of store call) made sound t (created_source store call a made sound t (source_of store call) refl creates.source);
+      created_tracks store caller a bytes (source_of store (OnStore call)) made sound t (created_source store call a made sound t (source_of store (OnStore call)) refl creates.source);
   destroyed_too = λ id changes. destroyed_tracks store id made t;
 }

@@ -12,8 +12,8 @@ use Rattle.store_model.specs.Operations.{InError}
 use Rattle.store_model.specs.Faults.{FaultMark, failure_of}
 use Rattle.store_model.specs.Handles.{HandleOperation, Service, Served, own_of, operation_of, with_drawn, with_operation}
 use Rattle.store_model.specs.Requests.{Request, OnStore, OnHandle, serve}
-use Rattle.store_model.specs.Refusals.{held_derivation}
-use Rattle.store_model.specs.Laws.{LeavesOtherCallers, LeavesOtherHandles, LeavesShared, LeavesSettings}
+use Rattle.store_model.proofs.Steps.{held_derivation}
+use Rattle.store_model.specs.Laws.{LeavesOtherCallers, LeavesOtherHandles, LeavesShared, LeavesSettings, CountsOnce}
 use Rattle.store_model.proofs.Operations.{other_own, operations_same, other_handle}
 use Rattle.store_model.proofs.Served.{on_store_shape, on_handle_shape}
 
@@ -103,3 +103,6 @@ serve_keeps service caller (OnHandle handle call) mark = on_handle_shape service
 
 pub leaves_settings : LeavesSettings
 leaves_settings service caller request mark = let kept = serve_keeps service caller request mark in (kept.settings, kept.found)
+
+pub counts_once : CountsOnce
+counts_once service caller request mark = (serve_keeps service caller request mark).calls

@@ -1,6 +1,6 @@
 -- The shape of any call on a handle: it leaves all operations, or makes a step of its own, or creates a key.
 use Rattle.std.proofs.Common.{◌≡◌, ℕ, ◌≤◌, Bool, true, false, cond, List, refl, sym, ap, subst, arith}
-use Rattle.std.specs.Prelude.{Option, None, Some, not, ◌||◌, nat_lt, is_some, ◌∷◌}
+use Rattle.std.specs.Prelude.{Option, None, Some, not, nat_lt, is_some, ◌∷◌}
 use Rattle.std.specs.FinMap as map
 use Rattle.psa_status.specs.declared.Status.{Status}
 use Rattle.psa_status.specs.declared.Status.TheVariants.{BadState, InvalidHandle}
@@ -11,22 +11,24 @@ use Rattle.key_attributes.specs.declared.Attributes.{Attributes}
 use Rattle.store_model.specs.Store.{Key, Store}
 use Rattle.store_model.specs.Outcome.{done}
 use Rattle.store_model.specs.KeyUse.{bytes_of}
-use Rattle.store_model.specs.Rules.{class_rows, use_rows}
+use Rattle.store_model.specs.Rules.{class_rows, use_rows, mac_usage, cipher_usage}
 use Rattle.store_model.specs.Creation.{creation_rows}
-use Rattle.store_model.specs.Operations.{Operation, Inactive, InError, Active, After, set_up, ends, goes_on}
+use Rattle.store_model.specs.Operations.{Operation, Inactive, InError, Active, After, set_up, stays, fails, ends, goes_on, is_inactive}
 use Rattle.store_model.specs.HashOperations.{HashWork, hash_work, hash_step}
 use Rattle.store_model.specs.MacOperations.{MacWork, mac_work, mac_step}
 use Rattle.store_model.specs.CipherOperations.{CipherWork, cipher_work, cipher_step}
 use Rattle.store_model.specs.AeadOperations.{AeadWork, aead_work, aead_step}
 use Rattle.store_model.specs.DerivationOperations.{DerivationWork, derivation_work, derivation_step, output_key_rows, stated_bytes, exhausted, with_key}
 use Rattle.store_model.specs.Handles.{KeyCreation, Work, Hashing, Authenticating, Ciphering, Sealing, Deriving, Held, HandleOperation, Service, Served, operation_of, applied, untouched, stepped, part_of, hash_part, mac_part, cipher_part, aead_part, derivation_part, key_of_operation, is_alive, held_after}
-use Rattle.store_model.specs.HandleCalls.{HandleCall, HashSetup, MacSetup, CipherSetup, AeadSetup, DerivationSetup, OnHash, OnMac, OnCipher, OnAead, OnDerivation, InputKey, OutputKey, Abort, creation_of, mac_usage, cipher_usage, input_key, input_key_rows, output_key, output_key_of, created_from, random_of, handle_step}
-use Rattle.store_model.specs.Refusals.{AsItWas, held_derivation, is_active, lowers_capacity, may_stay}
+use Rattle.store_model.specs.HandleCalls.{HandleCall, HashSetup, MacSetup, CipherSetup, AeadSetup, DerivationSetup, OnHash, OnMac, OnCipher, OnAead, OnDerivation, InputKey, OutputKey, Abort, creation_of, input_key, input_key_rows, output_key, output_key_of, created_from, random_of, handle_step}
+use Rattle.store_model.specs.Refusals.{is_active, is_ready, left_by}
 use Rattle.store_model.specs.Sound.{IsSoundStore, IsSoundUse, IsSoundWork, IsSoundHeld}
-use Rattle.store_model.specs.Laws.{handle_changes_keys}
-use Rattle.store_model.proofs.Tables.{none_holds}
-use Rattle.store_model.proofs.Steps.{IsStep, step_wider, begun, fails_step, unless_step, alive_step, ends_step, hash_is_step, mac_is_step, cipher_is_step, aead_is_step}
-use Rattle.store_model.proofs.Derivations.{derivation_is_step, exhausted_step, key_sound, key_due, start_sound, not_below, flipped}
+use Rattle.store_model.specs.Requests.{OnHandle}
+use Rattle.store_model.specs.Laws.{may_change_keys}
+use Rattle.store_model.proofs.Tables.{none_holds, refused_by}
+use Rattle.store_model.proofs.Buffers.{refusal_leaves}
+use Rattle.store_model.proofs.Steps.{IsStep, Loses, held_derivation, begun, fails_step, unless_step, alive_step, ends_step, hash_is_step, mac_is_step, cipher_is_step, aead_is_step}
+use Rattle.store_model.proofs.Derivations.{derivation_is_step, derivation_lost, exhausted_step, went_on, key_sound, key_due, start_sound, not_below, flipped}
 
 -- an active derivation has its secret, its bytes and the creation's leave
 pub record DerivesKey (service : Service) (caller handle : ℕ) (key : Option KeyCreation) (w : DerivationWork) (a : Attributes) : Type 0 where
@@ -35,12 +37,19 @@ pub record DerivesKey (service : Service) (caller handle : ℕ) (key : Option Ke
   pub enough : stated_bytes a ≤ w.capacity
   pub rows : first_row (creation_rows service.store caller a (stated_bytes a)) ≡ None
 
--- what is to be shown of each kind of outcome, of a call which, refused, may leave the operation or not, and which may
--- change the keys or not
-pub record Cases (service : Service) (caller handle : ℕ) (may changes : Bool) (P : Served → Type 0) : Type 0 where
-  pub untouched_too : (status : Status) → may ≡ true → P (untouched service status)
-  pub applied_too : (after : After Held) → IsStep may service.store (operation_of service caller handle) after → P (applied service caller handle after)
-  pub created_too : changes ≡ true → (key : Option KeyCreation) (w : DerivationWork) (a : Attributes) → DerivesKey service caller handle key w a → P (created_from service caller handle key w a None)
+-- what is to be shown of each kind of outcome of a call
+pub record CallCases (service : Service) (caller handle : ℕ) (call : HandleCall) (P : Served → Type 0) : Type 0 where
+  pub untouched_too : (status : Status) → left_by call (operation_of service caller handle) status ≡ operation_of service caller handle → P (untouched service status)
+  pub applied_too : (after : After Held) → IsStep call service.store (operation_of service caller handle) after → P (applied service caller handle after)
+  pub created_too : may_change_keys (OnHandle handle call) ≡ true → (key : Option KeyCreation) (w : DerivationWork) (a : Attributes) → DerivesKey service caller handle key w a → P (created_from service caller handle key w a None)
+
+-- a call that isn't in order leaves its operation
+otherwise : (b : Bool) (x y : HandleOperation) → b ≡ false → cond b x y ≡ y
+otherwise true x y e = cc
+otherwise false x y e = refl
+
+unready_left : (call : HandleCall) (operation : HandleOperation) → is_ready call operation ≡ false → left_by call operation BadState ≡ operation
+unready_left call operation e = otherwise (is_ready call operation) _ operation e
 
 -- SETUPS
 
@@ -51,18 +60,37 @@ creation_sound store id (Some key) e sound = record {
   identifier = λ other same f n. sound.numbers other id same key f e n;
 }
 
-set_up_step : {may : Bool} → may ≡ true → (store : Store) (before : HandleOperation) (refused : Option Status) (held : Held) → (IsSoundStore store → IsSoundHeld store held) → IsStep may store before (set_up before refused held)
-set_up_step stays store Inactive None held sound = record { few = omega arith; undrawn = λ no. refl; left = λ no. absurd (no refl); no_key = λ s a. refl; sound = λ s h. sound s }
-set_up_step stays store Inactive (Some status) held sound = record { few = omega arith; undrawn = λ no. refl; left = λ no. AsItWas stays refl; no_key = λ s a. refl; sound = λ s h. h }
-set_up_step stays store InError refused held sound = record { few = omega arith; undrawn = λ no. refl; left = λ no. AsItWas stays refl; no_key = λ s a. refl; sound = λ s h. h }
-set_up_step stays store (Active other) refused held sound = record { few = omega arith; undrawn = λ no. refl; left = λ no. AsItWas stays refl; no_key = λ s a. refl; sound = λ s h. h }
+-- a call that is in order on inactive operations alone
+abbrev SetsUp : HandleCall → Type 0
+SetsUp call = (operation : HandleOperation) → is_ready call operation ≡ is_inactive operation
 
-keyed_step : {may : Bool} → may ≡ true → (store : Store) (before : HandleOperation) (class : Class) (usage alg id : ℕ) (work : List ℕ → Work) → ((key : List ℕ) → IsSoundWork (work key)) →
+setup_left : (call : HandleCall) → SetsUp call → (operation : HandleOperation) (status : Status) → operation ≡ left_by call operation status
+setup_left call sets Inactive status = ap (λ (b : Bool). cond b Inactive Inactive) (sym (sets Inactive))
+setup_left call sets InError status = ap (λ (b : Bool). cond b InError InError) (sym (sets InError))
+setup_left call sets (Active held) status = sym (otherwise (is_ready call (Active held)) _ (Active held) (sets (Active held)))
+
+stayed_step : (call : HandleCall) → SetsUp call → (store : Store) (operation : HandleOperation) (status : Status) → IsStep call store operation (stays operation status)
+stayed_step call sets store operation status = record {
+  few = omega arith;
+  undrawn = λ no. refl;
+  left = λ no. setup_left call sets operation status;
+  no_key = λ s a. refl;
+  buffer = refusal_leaves status;
+  sound = λ s h. h;
+}
+
+set_up_step : (call : HandleCall) → SetsUp call → (store : Store) (before : HandleOperation) (refused : Option Status) (held : Held) → (IsSoundStore store → IsSoundHeld store held) → IsStep call store before (set_up before refused held)
+set_up_step call sets store Inactive None held sound = record { few = omega arith; undrawn = λ no. refl; left = λ no. absurd (no refl); no_key = λ s a. refl; buffer = λ no. absurd (no refl); sound = λ s h. sound s }
+set_up_step call sets store Inactive (Some status) held sound = stayed_step call sets store Inactive status
+set_up_step call sets store InError refused held sound = stayed_step call sets store InError BadState
+set_up_step call sets store (Active other) refused held sound = stayed_step call sets store (Active other) BadState
+
+keyed_step : (call : HandleCall) → SetsUp call → (store : Store) (before : HandleOperation) (class : Class) (usage alg id : ℕ) (work : List ℕ → Work) → ((key : List ℕ) → IsSoundWork (work key)) →
     let found : Option Key = map.get store.keys id in
-    IsStep may store before (set_up before (first_row (use_rows class usage alg found)) (record { key = creation_of id found; work = work (bytes_of found) }))
-keyed_step stays store before class usage alg id work sound =
+    IsStep call store before (set_up before (first_row (use_rows class usage alg found)) (record { key = creation_of id found; work = work (bytes_of found) }))
+keyed_step call sets store before class usage alg id work sound =
     let found : Option Key = map.get store.keys id in
-    set_up_step stays store before (first_row (use_rows class usage alg found)) (record { key = creation_of id found; work = work (bytes_of found) })
+    set_up_step call sets store before (first_row (use_rows class usage alg found)) (record { key = creation_of id found; work = work (bytes_of found) })
     (λ s. record { key = creation_sound store id found refl s; work = sound (bytes_of found) })
 
 -- STEPS
@@ -108,116 +136,115 @@ own_derivation (Ciphering v) w e = cc
 own_derivation (Sealing v) w e = cc
 own_derivation (Deriving v) w e = cc
 
-module _ (service : Service) (caller handle : ℕ) (may changes : Bool) (P : Served → Type 0) (cases : Cases service caller handle may changes P) where
+module _ (service : Service) (caller handle : ℕ) (call : HandleCall) (P : Served → Type 0) (cases : CallCases service caller handle call P) where
   abbrev before : HandleOperation
   before = operation_of service caller handle
 
   abbrev own_key : Option KeyCreation
   own_key = key_of_operation before
 
+  -- what a call makes of its own operation
+  steps_shape : {W : Type 0} (embed : W → Work) (w : W) (after : After Held) → before ≡ begun own_key embed w → IsStep call service.store (begun own_key embed w) after → P (applied service caller handle after)
+  steps_shape embed w after was step = cases.applied_too after (subst (λ o. IsStep call service.store o after) (sym was) step)
+
   stepped_shape : {W : Type 0} (part : Work → Operation W) (embed : W → Work) → ((work : Work) (w : W) → part work ≡ Active w → work ≡ embed w) → (f : W → After W) →
-      ((w : W) → IsStep may service.store (begun own_key embed w) (held_after own_key embed (f w))) →
-      (is_active (part_of part before) ≡ false → may ≡ true) → (now : Operation W) → part_of part before ≡ now → P (stepped service caller handle embed now f)
-  stepped_shape part embed own f steps idle (Active w) e =
-      cases.applied_too _ (alive_step service.store own_key embed before (is_alive service.store own_key) (f w)
-      (subst (λ o. IsStep may service.store o (held_after own_key embed (f w))) (sym (held_as part embed own before w e)) (steps w)))
-  stepped_shape part embed own f steps idle Inactive e = cases.untouched_too BadState (idle (ap is_active e))
-  stepped_shape part embed own f steps idle InError e = cases.untouched_too BadState (idle (ap is_active e))
+      ((w : W) → Loses call (begun own_key embed w) InvalidHandle) → ((w : W) → IsStep call service.store (begun own_key embed w) (held_after own_key embed (f w))) →
+      (is_active (part_of part before) ≡ false → left_by call before BadState ≡ before) → (now : Operation W) → part_of part before ≡ now → P (stepped service caller handle embed now f)
+  stepped_shape part embed own f lost steps idle (Active w) e =
+      steps_shape embed w _ (held_as part embed own before w e) (alive_step service.store own_key embed (begun own_key embed w) (is_alive service.store own_key) (f w) (lost w) (steps w))
+  stepped_shape part embed own f lost steps idle Inactive e = cases.untouched_too BadState (idle (ap is_active e))
+  stepped_shape part embed own f lost steps idle InError e = cases.untouched_too BadState (idle (ap is_active e))
 
-  -- A KEY AS THE SECRET
+-- A KEY AS THE SECRET
 
-  given_step : (w : DerivationWork) (id step : ℕ) → before ≡ held_derivation own_key w →
-      let found : Option Key = map.get service.store.keys id in
-      first_row (input_key_rows w found step) ≡ None → IsStep may service.store before (held_after (creation_of id found) Deriving (goes_on (with_key w (bytes_of found)) done))
-  given_step w id step was e =
-      let found : Option Key = map.get service.store.keys id in
-      subst (λ o. IsStep may service.store o (held_after (creation_of id found) Deriving (goes_on (with_key w (bytes_of found)) done))) (sym was) (record {
-        few = omega arith;
-        undrawn = λ no. refl;
-        left = λ no. absurd (no refl);
-        no_key = λ s a. refl;
-        sound = λ s h. record { key = creation_sound service.store id found refl s; work = key_sound w (bytes_of found) (key_due w found step e) h.work };
-      })
+module _ (service : Service) (caller handle step id : ℕ) (P : Served → Type 0) (cases : CallCases service caller handle (InputKey step id) P) where
+  abbrev the_key : Option KeyCreation
+  the_key = key_of_operation (operation_of service caller handle)
 
-  input_key_shape : (is_active (part_of derivation_part before) ≡ false → may ≡ true) → (now : Operation DerivationWork) (step id : ℕ) → part_of derivation_part before ≡ now → P (input_key service caller handle now step id)
-  input_key_shape idle (Active w) step id e =
-      let key : Option KeyCreation = creation_of id (map.get service.store.keys id) in
-      cases.applied_too _ (alive_step service.store key Deriving before (is_alive service.store own_key) _
-      (unless_step service.store key Deriving before _ _ (given_step w id step (held_as derivation_part Deriving own_derivation before w e))))
-  input_key_shape idle Inactive step id e = cases.untouched_too BadState (idle (ap is_active e))
-  input_key_shape idle InError step id e = cases.untouched_too BadState (idle (ap is_active e))
+  abbrev found_key : Option Key
+  found_key = map.get service.store.keys id
 
-  -- A KEY OF DERIVED BYTES
+  given_step : (w : DerivationWork) → first_row (input_key_rows w found_key step) ≡ None →
+      IsStep (InputKey step id) service.store (held_derivation the_key w) (held_after (creation_of id found_key) Deriving (goes_on (with_key w (bytes_of found_key)) done))
+  given_step w e = record {
+    few = omega arith;
+    undrawn = λ no. refl;
+    left = λ no. absurd (no refl);
+    no_key = λ s a. refl;
+    buffer = λ no. absurd (no refl);
+    sound = λ s h. record { key = creation_sound service.store id found_key refl s; work = key_sound w (bytes_of found_key) (key_due w found_key step e) h.work };
+  }
 
-  created_shape : changes ≡ true → (w : DerivationWork) (a : Attributes) → before ≡ held_derivation own_key w → is_some w.secret ≡ true → stated_bytes a ≤ w.capacity →
-      (o : Option Status) → first_row (creation_rows service.store caller a (stated_bytes a)) ≡ o → P (created_from service caller handle own_key w a o)
-  created_shape creates w a was secret enough (Some status) e = cases.applied_too _ (fails_step service.store own_key Deriving before status)
-  created_shape creates w a was secret enough None e = cases.created_too creates own_key w a (record { was = was; keyed = secret; enough = enough; rows = e })
+  input_key_shape : (now : Operation DerivationWork) → part_of derivation_part (operation_of service caller handle) ≡ now → P (input_key service caller handle now step id)
+  input_key_shape (Active w) e =
+      let key : Option KeyCreation = creation_of id found_key in
+      steps_shape service caller handle _ P cases Deriving w _ (held_as derivation_part Deriving own_derivation (operation_of service caller handle) w e)
+      (alive_step service.store key Deriving (held_derivation the_key w) (is_alive service.store the_key) _ refl
+      (unless_step service.store key Deriving (held_derivation the_key w) (first_row (input_key_rows w found_key step)) (goes_on (with_key w (bytes_of found_key)) done) (λ status refused. refl) (given_step w)))
+  input_key_shape Inactive e = cases.untouched_too BadState (unready_left (InputKey step id) (operation_of service caller handle) (ap is_active e))
+  input_key_shape InError e = cases.untouched_too BadState (unready_left (InputKey step id) (operation_of service caller handle) (ap is_active e))
 
-  within_shape : changes ≡ true → (w : DerivationWork) (a : Attributes) → before ≡ held_derivation own_key w → is_some w.secret ≡ true → (b : Bool) → nat_lt w.capacity (stated_bytes a) ≡ b →
-      P (cond b (applied service caller handle (held_after own_key Deriving (exhausted w)))
-      (created_from service caller handle own_key w a (first_row (creation_rows service.store caller a (stated_bytes a)))))
-  within_shape creates w a was secret true e =
-      cases.applied_too _ (subst (λ o. IsStep may service.store o (held_after own_key Deriving (exhausted w))) (sym was) (exhausted_step service.store own_key w))
-  within_shape creates w a was secret false e = created_shape creates w a was secret (not_below w.capacity (stated_bytes a) e) _ refl
+-- A KEY OF DERIVED BYTES
 
-  output_shape : changes ≡ true → (w : DerivationWork) (a : Attributes) → before ≡ held_derivation own_key w → (o : Option Status) → (o ≡ None → is_some w.secret ≡ true) →
-      P (output_key_of service caller handle own_key w a o)
-  output_shape creates w a was (Some status) secret = cases.applied_too _ (fails_step service.store own_key Deriving before status)
-  output_shape creates w a was None secret = within_shape creates w a was (secret refl) (nat_lt w.capacity (stated_bytes a)) refl
+module _ (service : Service) (caller handle : ℕ) (a : Attributes) (P : Served → Type 0) (cases : CallCases service caller handle (OutputKey a) P) where
+  abbrev used_key : Option KeyCreation
+  used_key = key_of_operation (operation_of service caller handle)
 
-  output_key_shape : changes ≡ true → (is_active (part_of derivation_part before) ≡ false → may ≡ true) → (now : Operation DerivationWork) (a : Attributes) → part_of derivation_part before ≡ now → P (output_key service caller handle now a)
-  output_key_shape creates idle (Active w) a e =
-      output_shape creates w a (held_as derivation_part Deriving own_derivation before w e) _
-      (λ none. flipped (is_some w.secret) (none_holds ((not (is_alive service.store own_key), InvalidHandle) ∷ output_key_rows w a) 1 none))
-  output_key_shape creates idle Inactive a e = cases.untouched_too BadState (idle (ap is_active e))
-  output_key_shape creates idle InError a e = cases.untouched_too BadState (idle (ap is_active e))
+  lost_shape : (w : DerivationWork) (status : Status) → operation_of service caller handle ≡ held_derivation used_key w → Loses (OutputKey a) (held_derivation used_key w) status → P (applied service caller handle (fails status))
+  lost_shape w status was lost = steps_shape service caller handle _ P cases Deriving w _ was (fails_step service.store used_key Deriving (held_derivation used_key w) status lost)
+
+  created_shape : (w : DerivationWork) → operation_of service caller handle ≡ held_derivation used_key w → is_some w.secret ≡ true → stated_bytes a ≤ w.capacity →
+      (o : Option Status) → first_row (creation_rows service.store caller a (stated_bytes a)) ≡ o → P (created_from service caller handle used_key w a o)
+  created_shape w was secret enough (Some status) e =
+      lost_shape w status was (refused_by (Loses (OutputKey a) (held_derivation used_key w)) (creation_rows service.store caller a (stated_bytes a)) (refl, (refl, (refl, (refl, (refl, (refl, (refl, tt))))))) status e)
+  created_shape w was secret enough None e = cases.created_too refl used_key w a (record { was = was; keyed = secret; enough = enough; rows = e })
+
+  within_shape : (w : DerivationWork) → operation_of service caller handle ≡ held_derivation used_key w → is_some w.secret ≡ true → (b : Bool) → nat_lt w.capacity (stated_bytes a) ≡ b →
+      P (cond b (applied service caller handle (held_after used_key Deriving (exhausted w)))
+      (created_from service caller handle used_key w a (first_row (creation_rows service.store caller a (stated_bytes a)))))
+  within_shape w was secret true e =
+      steps_shape service caller handle _ P cases Deriving w _ was (exhausted_step service.store used_key w (went_on used_key (record w { capacity = 0 }) (nat_lt w.capacity (stated_bytes a)) e))
+  within_shape w was secret false e = created_shape w was secret (not_below w.capacity (stated_bytes a) e) _ refl
+
+  output_shape : (w : DerivationWork) → operation_of service caller handle ≡ held_derivation used_key w →
+      (o : Option Status) → first_row ((not (is_alive service.store used_key), InvalidHandle) ∷ output_key_rows w a) ≡ o → P (output_key_of service caller handle used_key w a o)
+  output_shape w was (Some status) e =
+      lost_shape w status was (refused_by (Loses (OutputKey a) (held_derivation used_key w)) ((not (is_alive service.store used_key), InvalidHandle) ∷ output_key_rows w a) (refl, (refl, (refl, (refl, (refl, tt))))) status e)
+  output_shape w was None e =
+      within_shape w was (flipped (is_some w.secret) (none_holds ((not (is_alive service.store used_key), InvalidHandle) ∷ output_key_rows w a) 1 e)) (nat_lt w.capacity (stated_bytes a)) refl
+
+  output_key_shape : (now : Operation DerivationWork) → part_of derivation_part (operation_of service caller handle) ≡ now → P (output_key service caller handle now a)
+  output_key_shape (Active w) e = output_shape w (held_as derivation_part Deriving own_derivation (operation_of service caller handle) w e) _ refl
+  output_key_shape Inactive e = cases.untouched_too BadState (unready_left (OutputKey a) (operation_of service caller handle) (ap is_active e))
+  output_key_shape InError e = cases.untouched_too BadState (unready_left (OutputKey a) (operation_of service caller handle) (ap is_active e))
 
 -- ANY CALL
 
-not_false : (b : Bool) → b ≡ false → not b ≡ true
-not_false b e = ap not e
-
-no_wider : {b : Bool} → false ≡ true → b ≡ true
-no_wider e = cc
-
-one_or : (a b : Bool) → a ≡ true → (a || b) ≡ true
-one_or a b e = ap (λ c. c || b) e
-
-pub other_or : (a b : Bool) → b ≡ true → (a || b) ≡ true
-other_or true b e = refl
-other_or false b e = e
-
--- what is to be shown of each kind of outcome of a call
-abbrev pub CallCases : (service : Service) (caller handle : ℕ) → HandleCall → (Served → Type 0) → Type 0
-CallCases service caller handle call P = Cases service caller handle (may_stay call (operation_of service caller handle)) (handle_changes_keys call) P
-
 pub shape : (service : Service) (caller handle : ℕ) (call : HandleCall) (P : Served → Type 0) → CallCases service caller handle call P → P (handle_step service caller handle call)
 shape service caller handle (HashSetup alg) P cases =
-    cases.applied_too _ (set_up_step refl service.store _ (first_row (class_rows class.Hash alg)) (record { key = None; work = Hashing (hash_work alg) }) (λ s. record { key = tt; work = tt }))
+    cases.applied_too _ (set_up_step (HashSetup alg) (λ o. refl) service.store _ (first_row (class_rows class.Hash alg)) (record { key = None; work = Hashing (hash_work alg) }) (λ s. record { key = tt; work = tt }))
 shape service caller handle (MacSetup verifies id alg) P cases =
-    cases.applied_too _ (keyed_step refl service.store _ class.Mac (mac_usage verifies) alg id (λ key. Authenticating (mac_work verifies alg key)) (λ key. tt))
+    cases.applied_too _ (keyed_step (MacSetup verifies id alg) (λ o. refl) service.store _ class.Mac (mac_usage verifies) alg id (λ key. Authenticating (mac_work verifies alg key)) (λ key. tt))
 shape service caller handle (CipherSetup encrypts id alg) P cases =
-    cases.applied_too _ (keyed_step refl service.store _ class.Cipher (cipher_usage encrypts) alg id (λ key. Ciphering (cipher_work encrypts alg key)) (λ key. tt))
+    cases.applied_too _ (keyed_step (CipherSetup encrypts id alg) (λ o. refl) service.store _ class.Cipher (cipher_usage encrypts) alg id (λ key. Ciphering (cipher_work encrypts alg key)) (λ key. tt))
 shape service caller handle (AeadSetup encrypts id alg) P cases =
-    cases.applied_too _ (keyed_step refl service.store _ class.Aead (cipher_usage encrypts) alg id (λ key. Sealing (aead_work encrypts alg key)) (λ key. tt))
+    cases.applied_too _ (keyed_step (AeadSetup encrypts id alg) (λ o. refl) service.store _ class.Aead (cipher_usage encrypts) alg id (λ key. Sealing (aead_work encrypts alg key)) (λ key. tt))
 shape service caller handle (DerivationSetup alg) P cases =
-    cases.applied_too _ (set_up_step refl service.store _ (first_row (class_rows class.Derivation alg)) (record { key = None; work = Deriving (derivation_work alg) })
+    cases.applied_too _ (set_up_step (DerivationSetup alg) (λ o. refl) service.store _ (first_row (class_rows class.Derivation alg)) (record { key = None; work = Deriving (derivation_work alg) })
     (λ s. record { key = tt; work = start_sound alg }))
 shape service caller handle (OnHash step) P cases =
-    stepped_shape service caller handle _ _ P cases hash_part Hashing own_hash (λ w. hash_step w step) (λ w. step_wider no_wider (hash_is_step service.store _ w step)) (not_false _) _ refl
+    stepped_shape service caller handle _ P cases hash_part Hashing own_hash (λ w. hash_step w step) (λ w. refl) (λ w. hash_is_step service.store _ w step) (unready_left (OnHash step) _) _ refl
 shape service caller handle (OnMac step) P cases =
-    stepped_shape service caller handle _ _ P cases mac_part Authenticating own_mac (λ w. mac_step w step) (λ w. step_wider no_wider (mac_is_step service.store _ w step)) (not_false _) _ refl
+    stepped_shape service caller handle _ P cases mac_part Authenticating own_mac (λ w. mac_step w step) (λ w. refl) (λ w. mac_is_step service.store _ w step) (unready_left (OnMac step) _) _ refl
 shape service caller handle (OnCipher step) P cases =
     let random : List ℕ = random_of service caller in
-    stepped_shape service caller handle _ _ P cases cipher_part Ciphering own_cipher (λ w. cipher_step random w step) (λ w. step_wider no_wider (cipher_is_step service.store _ random w step)) (not_false _) _ refl
+    stepped_shape service caller handle _ P cases cipher_part Ciphering own_cipher (λ w. cipher_step random w step) (λ w. refl) (λ w. cipher_is_step service.store _ random w step) (unready_left (OnCipher step) _) _ refl
 shape service caller handle (OnAead step) P cases =
     let random : List ℕ = random_of service caller in
-    stepped_shape service caller handle _ _ P cases aead_part Sealing own_aead (λ w. aead_step random w step) (λ w. step_wider no_wider (aead_is_step service.store _ random w step)) (not_false _) _ refl
+    stepped_shape service caller handle _ P cases aead_part Sealing own_aead (λ w. aead_step random w step) (λ w. refl) (λ w. aead_is_step service.store _ random w step) (unready_left (OnAead step) _) _ refl
 shape service caller handle (OnDerivation step) P cases =
-    let lowers : Bool = lowers_capacity (OnDerivation step) in
-    stepped_shape service caller handle _ _ P cases derivation_part Deriving own_derivation (λ w. derivation_step w step)
-    (λ w. step_wider (one_or lowers _) (derivation_is_step service.store _ w step)) (λ idle. other_or lowers _ (not_false _ idle)) _ refl
-shape service caller handle (InputKey step id) P cases = input_key_shape service caller handle _ _ P cases (not_false _) _ step id refl
-shape service caller handle (OutputKey a) P cases = output_key_shape service caller handle _ _ P cases refl (not_false _) _ a refl
+    stepped_shape service caller handle _ P cases derivation_part Deriving own_derivation (λ w. derivation_step w step) (λ w. derivation_lost service.store _ w step)
+    (λ w. derivation_is_step service.store _ w step) (unready_left (OnDerivation step) _) _ refl
+shape service caller handle (InputKey step id) P cases = input_key_shape service caller handle step id P cases _ refl
+shape service caller handle (OutputKey a) P cases = output_key_shape service caller handle a P cases _ refl
 shape service caller handle Abort P cases = cases.applied_too (ends done) (ends_step service.store None Deriving _ done refl (λ s a. refl))

@@ -14,7 +14,7 @@ use Rattle.key_attributes.specs.declared.Attributes.{Attributes}
 use Rattle.key_attributes.specs.Checks.{attribute_rows, filled, checked}
 use Rattle.store_model.specs.Store.{Key, Store, Settings, start_of, made_of, next_volatile, is_volatile_of, live_volatile, has_secure_element}
 use Rattle.store_model.specs.Outcome.{counted}
-use Rattle.store_model.specs.Creation.{limit_rows, creation_rows, created, new_key, identified, one_more_made}
+use Rattle.store_model.specs.Creation.{limit_rows, creation_rows, created, new_key, identified}
 use Rattle.store_model.specs.KeyUse.{destroyed}
 use Rattle.store_model.specs.Sound.{IsSoundKey, IsSoundStore}
 use Rattle.store_model.proofs.Filled.{no_row, filled-checked}
@@ -52,7 +52,7 @@ same_place c caller made n h e = ap (λ k. slice_index_or (slice_set made caller
 
 -- how many a caller has made after another one of a caller
 made_after : (store : Store) (caller c : ℕ) → caller < length store.made →
-    (b : Bool) → (c == caller) ≡ b → slice_index_or (one_more_made store caller) c 0 ≡ cond b (made_of store caller + 1) (made_of store c)
+    (b : Bool) → (c == caller) ≡ b → slice_index_or (slice_set store.made caller (made_of store caller + 1)) c 0 ≡ cond b (made_of store caller + 1) (made_of store c)
 made_after store caller c h true t = same_place c caller store.made (made_of store caller + 1) h (grind (arith, nat_tests))
 made_after store caller c h false t = get_or-set_other store.made caller c (made_of store caller + 1) 0 (λ e. grind (arith, nat_tests))
 

@@ -1,6 +1,7 @@
 -- Each request keeps a service sound.
-use Rattle.std.proofs.Common.{◌≡◌, ℕ, ◌≤◌, true, List, length, refl, sym, ap, ◌∙◌, subst, arith}
-use Rattle.std.specs.Prelude.{Option, None, Some}
+use Rattle.std.proofs.Common.{◌≡◌, ℕ, ◌≤◌, Bool, true, false, List, length, refl, sym, ap, ◌∙◌, subst, arith}
+use Rattle.std.specs.Prelude.{Option, None, Some, ◌==◌}
+use Rattle.std.specs.Option.{option_map_or}
 use Rattle.std.specs.FinMap as map
 use Rattle.std.proofs.lemmas.Bool.Decides.{nat_tests}
 use Rattle.psa_status.specs.Rows.{first_row}
@@ -12,10 +13,10 @@ use Rattle.store_model.specs.Faults.{failure_of}
 use Rattle.store_model.specs.KeyUse.{destroyed}
 use Rattle.store_model.specs.Operations.{Inactive, InError, Active}
 use Rattle.store_model.specs.DerivationOperations.{DerivationWork, stated_bytes, next_derived, without}
-use Rattle.store_model.specs.Handles.{KeyCreation, HandleOperation, Own, Service, own_of, operation_of, with_own, with_drawn, key_of_operation, is_creation}
+use Rattle.store_model.specs.Handles.{KeyCreation, HandleOperation, Own, Service, own_of, operation_of, with_own, with_drawn, key_of_operation}
 use Rattle.store_model.specs.HandleCalls.{created_from}
 use Rattle.store_model.specs.Requests.{OnStore, OnHandle}
-use Rattle.store_model.specs.Refusals.{held_derivation}
+use Rattle.store_model.proofs.Steps.{held_derivation}
 use Rattle.store_model.specs.Sound.{IsSoundStore, IsSoundOperation, IsSoundHeld, IsSoundUse, IsSoundCreation, IsSound, StartsSound, StaysSound, HasNumber, AliveByNumber}
 use Rattle.store_model.proofs.Sound.{store-starts, counted_sound, created_sound, destroyed_sound}
 use Rattle.store_model.proofs.Follows.{Follows, counted_follows, created_follows, destroyed_follows, operation_follows}
@@ -92,6 +93,9 @@ starts settings = record {
 }
 
 -- ALIVE BY NUMBER
+
+abbrev is_creation : KeyCreation → Option Key → Bool
+is_creation creation found = option_map_or (λ key. key.number == creation.number) found false
 
 creation_of_operation : (store : Store) (operation : HandleOperation) (creation : KeyCreation) → IsSoundOperation store operation → key_of_operation operation ≡ Some creation → IsSoundCreation store creation
 creation_of_operation store (Active held) creation h e = subst (IsSoundUse store) e h.key

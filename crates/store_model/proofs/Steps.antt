@@ -1,92 +1,91 @@
 -- What a step of a family makes of a handle's operation.
-use Rattle.std.proofs.Common.{◌≡◌, ℕ, ◌≤◌, Bool, true, false, cond, List, [], refl, arith}
+use Rattle.std.proofs.Common.{◌≡◌, ℕ, ◌≤◌, Bool, true, false, cond, List, [], refl, sym, arith}
 use Rattle.std.specs.Prelude.{Option, None, Some}
 use Rattle.psa_status.specs.declared.Status.{Status}
-use Rattle.psa_status.specs.declared.Status.TheVariants.{Success, InvalidHandle}
+use Rattle.psa_status.specs.declared.Status.TheVariants.{Success, InvalidHandle, InvalidPadding}
 use Rattle.store_model.specs.Store.{Store}
 use Rattle.store_model.specs.Call.{Reply}
 use Rattle.store_model.specs.Outcome.{given, done}
-use Rattle.store_model.specs.Operations.{Active, After, fails, ends, goes_on, unless_failed, with_live_key}
+use Rattle.store_model.specs.Operations.{InError, Active, After, fails, ends, goes_on, unless_failed, with_live_key}
 use Rattle.store_model.specs.HashOperations.{HashWork, HashStep, HashUpdate, HashFinish, HashVerify, hash_step}
 use Rattle.store_model.specs.MacOperations.{MacWork, MacStep, MacUpdate, MacSignFinish, MacVerifyFinish, mac_step}
-use Rattle.store_model.specs.CipherOperations.{CipherWork, CipherStep, CipherGenerateIv, CipherSetIv, CipherUpdate, CipherFinish, cipher_step, last_part, whole_text}
+use Rattle.store_model.specs.CipherOperations.{CipherWork, CipherStep, CipherGenerateIv, CipherSetIv, CipherUpdate, CipherFinish, cipher_step, last_part, last_length, whole_text}
+use Rattle.store_model.specs.Ciphers.{mode_of}
+use Rattle.store_model.specs.DerivationOperations.{DerivationWork}
 use Rattle.store_model.specs.AeadOperations.{AeadWork, AeadStep, AeadGenerateNonce, AeadSetNonce, AeadSetLengths, AeadUpdateAd, AeadUpdate, AeadFinish, AeadVerify, aead_step, nonce_length}
-use Rattle.store_model.specs.Handles.{KeyCreation, Work, Hashing, Authenticating, Ciphering, Sealing, Held, HandleOperation, held_after}
-use Rattle.store_model.specs.Refusals.{IsLeft, AsItWas, Failed, Exhausted, Compared}
+use Rattle.store_model.specs.Handles.{KeyCreation, Work, Hashing, Authenticating, Ciphering, Sealing, Deriving, Held, HandleOperation, held_after}
+use Rattle.store_model.specs.HandleCalls.{HandleCall, OnHash, OnMac, OnCipher, OnAead}
+use Rattle.store_model.specs.Refusals.{left_by}
+use Rattle.store_model.proofs.Buffers.{LeavesBuffer, refusal_leaves, spoiled_leaves}
 use Rattle.store_model.specs.Sound.{IsSoundStore, IsSoundWork, IsSoundOperation}
 use Rattle.store_model.specs.Origin.{made_at}
 use Rattle.store_model.proofs.StoreShape.{MakesNone}
 
--- what a call on a handle makes of its operation, where it creates no key; and whether, refused, it may leave it
-pub record IsStep (may_stay : Bool) (store : Store) (before : HandleOperation) (after : After Held) : Type 0 where
+-- what a call on a handle makes of its operation, where it creates no key
+pub record IsStep (call : HandleCall) (store : Store) (before : HandleOperation) (after : After Held) : Type 0 where
   pub few : after.drawn ≤ 16
   pub undrawn : (after.reply.status ≡ Success → ⊥) → after.drawn ≡ 0
-  pub left : (after.reply.status ≡ Success → ⊥) → IsLeft may_stay after.reply.status before after.operation
+  pub left : (after.reply.status ≡ Success → ⊥) → after.operation ≡ left_by call before after.reply.status
   pub no_key : (source : Option ℕ) (after_it : Store) → made_at source after_it after.reply.output ≡ []
+  pub buffer : LeavesBuffer after.reply
   pub sound : IsSoundStore store → IsSoundOperation store before → IsSoundOperation store after.operation
-
-left_wider : {a b : Bool} {status : Status} {before after : HandleOperation} → (a ≡ true → b ≡ true) → IsLeft a status before after → IsLeft b status before after
-left_wider wider (AsItWas may same) = AsItWas (wider may) same
-left_wider wider (Failed failed) = Failed failed
-left_wider wider (Exhausted key work says was now) = Exhausted key work says was now
-left_wider wider (Compared key work n says had was now) = Compared key work n says had was now
-
--- a step of a call is one of a call that may leave the operation more often
-pub step_wider : {a b : Bool} {store : Store} {before : HandleOperation} {after : After Held} → (a ≡ true → b ≡ true) → IsStep a store before after → IsStep b store before after
-step_wider wider step = record {
-  few = step.few;
-  undrawn = step.undrawn;
-  left = λ no. left_wider wider (step.left no);
-  no_key = step.no_key;
-  sound = step.sound;
-}
 
 -- an operation of a family
 abbrev pub begun : {W : Type 0} → Option KeyCreation → (W → Work) → W → HandleOperation
 begun key embed work = Active (record { key = key; work = embed work })
 
-module _ {W : Type 0} {may : Bool} (store : Store) (key : Option KeyCreation) (embed : W → Work) where
-  pub fails_step : (before : HandleOperation) (status : Status) → IsStep may store before (held_after key embed (fails status))
-  fails_step before status = record {
+abbrev pub held_derivation : Option KeyCreation → DerivationWork → HandleOperation
+held_derivation key work = begun key Deriving work
+
+-- a call whose refusal with this status puts the operation in error
+abbrev pub Loses : HandleCall → HandleOperation → Status → Type 0
+Loses call before status = left_by call before status ≡ InError
+
+module _ {W : Type 0} {call : HandleCall} (store : Store) (key : Option KeyCreation) (embed : W → Work) where
+  pub fails_step : (before : HandleOperation) (status : Status) → Loses call before status → IsStep call store before (held_after key embed (fails status))
+  fails_step before status lost = record {
     few = omega arith;
     undrawn = λ no. refl;
-    left = λ no. Failed refl;
+    left = λ no. sym lost;
     no_key = λ source after. refl;
+    buffer = refusal_leaves status;
     sound = λ s h. tt;
   }
 
-  pub unless_step : (before : HandleOperation) (o : Option Status) (after : After W) → (o ≡ None → IsStep may store before (held_after key embed after)) →
-      IsStep may store before (held_after key embed (unless_failed o after))
-  unless_step before None after h = h refl
-  unless_step before (Some status) after h = fails_step before status
+  pub unless_step : (before : HandleOperation) (o : Option Status) (after : After W) → ((status : Status) → o ≡ Some status → Loses call before status) →
+      (o ≡ None → IsStep call store before (held_after key embed after)) → IsStep call store before (held_after key embed (unless_failed o after))
+  unless_step before None after lost h = h refl
+  unless_step before (Some status) after lost h = fails_step before status (lost status refl)
 
-  pub alive_step : (before : HandleOperation) (b : Bool) (after : After W) → IsStep may store before (held_after key embed after) →
-      IsStep may store before (held_after key embed (with_live_key b after))
-  alive_step before true after h = h
-  alive_step before false after h = fails_step before InvalidHandle
+  pub alive_step : (before : HandleOperation) (b : Bool) (after : After W) → Loses call before InvalidHandle → IsStep call store before (held_after key embed after) →
+      IsStep call store before (held_after key embed (with_live_key b after))
+  alive_step before true after lost h = h
+  alive_step before false after lost h = fails_step before InvalidHandle lost
 
   -- a success with which the operation goes on
   pub draws_step : (w next : W) (reply : Reply) (n : ℕ) → n ≤ 16 → reply.status ≡ Success → MakesNone reply → (IsSoundWork (embed w) → IsSoundWork (embed next)) →
-      IsStep may store (begun key embed w) (held_after key embed (record { operation = Active next; reply = reply; drawn = n }))
+      IsStep call store (begun key embed w) (held_after key embed (record { operation = Active next; reply = reply; drawn = n }))
   draws_step w next reply n few success none sound = record {
     few = few;
     undrawn = λ no. absurd (no success);
     left = λ no. absurd (no success);
     no_key = none;
+    buffer = λ no. absurd (no success);
     sound = λ s h. record { key = h.key; work = sound h.work };
   }
 
   pub goes_step : (w next : W) (reply : Reply) → reply.status ≡ Success → MakesNone reply → (IsSoundWork (embed w) → IsSoundWork (embed next)) →
-      IsStep may store (begun key embed w) (held_after key embed (goes_on next reply))
+      IsStep call store (begun key embed w) (held_after key embed (goes_on next reply))
   goes_step w next reply success none sound = draws_step w next reply 0 (omega arith) success none sound
 
   -- a success with which it ends
-  pub ends_step : (before : HandleOperation) (reply : Reply) → reply.status ≡ Success → MakesNone reply → IsStep may store before (held_after key embed (ends reply))
+  pub ends_step : (before : HandleOperation) (reply : Reply) → reply.status ≡ Success → MakesNone reply → IsStep call store before (held_after key embed (ends reply))
   ends_step before reply success none = record {
     few = omega arith;
     undrawn = λ no. absurd (no success);
     left = λ no. absurd (no success);
     no_key = none;
+    buffer = λ no. absurd (no success);
     sound = λ s h. tt;
   }
 
@@ -97,39 +96,40 @@ short_nonce false false true = omega arith
 short_nonce false false false = omega arith
 
 module _ (store : Store) (key : Option KeyCreation) where
-  pub hash_is_step : (w : HashWork) (step : HashStep) → IsStep false store (begun key Hashing w) (held_after key Hashing (hash_step w step))
-  hash_is_step w (HashUpdate input) = unless_step store key Hashing _ _ _ (λ e. goes_step store key Hashing w _ done refl (λ s a. refl) (λ h. tt))
-  hash_is_step w (HashFinish room) = unless_step store key Hashing _ _ _ (λ e. ends_step store key Hashing _ (given _) refl (λ s a. refl))
-  hash_is_step w (HashVerify hash) = unless_step store key Hashing _ _ _ (λ e. ends_step store key Hashing _ done refl (λ s a. refl))
+  pub hash_is_step : (w : HashWork) (step : HashStep) → IsStep (OnHash step) store (begun key Hashing w) (held_after key Hashing (hash_step w step))
+  hash_is_step w (HashUpdate input) = unless_step store key Hashing _ _ _ (λ status refused. refl) (λ e. goes_step store key Hashing w _ done refl (λ s a. refl) (λ h. tt))
+  hash_is_step w (HashFinish room) = unless_step store key Hashing _ _ _ (λ status refused. refl) (λ e. ends_step store key Hashing _ (given _) refl (λ s a. refl))
+  hash_is_step w (HashVerify hash) = unless_step store key Hashing _ _ _ (λ status refused. refl) (λ e. ends_step store key Hashing _ done refl (λ s a. refl))
 
-  pub mac_is_step : (w : MacWork) (step : MacStep) → IsStep false store (begun key Authenticating w) (held_after key Authenticating (mac_step w step))
-  mac_is_step w (MacUpdate input) = unless_step store key Authenticating _ _ _ (λ e. goes_step store key Authenticating w _ done refl (λ s a. refl) (λ h. tt))
-  mac_is_step w (MacSignFinish room) = unless_step store key Authenticating _ _ _ (λ e. ends_step store key Authenticating _ (given _) refl (λ s a. refl))
-  mac_is_step w (MacVerifyFinish mac) = unless_step store key Authenticating _ _ _ (λ e. ends_step store key Authenticating _ done refl (λ s a. refl))
+  pub mac_is_step : (w : MacWork) (step : MacStep) → IsStep (OnMac step) store (begun key Authenticating w) (held_after key Authenticating (mac_step w step))
+  mac_is_step w (MacUpdate input) = unless_step store key Authenticating _ _ _ (λ status refused. refl) (λ e. goes_step store key Authenticating w _ done refl (λ s a. refl) (λ h. tt))
+  mac_is_step w (MacSignFinish room) = unless_step store key Authenticating _ _ _ (λ status refused. refl) (λ e. ends_step store key Authenticating _ (given _) refl (λ s a. refl))
+  mac_is_step w (MacVerifyFinish mac) = unless_step store key Authenticating _ _ _ (λ status refused. refl) (λ e. ends_step store key Authenticating _ done refl (λ s a. refl))
 
-  last_is_step : (w : CipherWork) (o : Option (List ℕ)) → IsStep false store (begun key Ciphering w) (held_after key Ciphering (last_part w o))
-  last_is_step w (Some text) = ends_step store key Ciphering _ _ refl (λ s a. refl)
-  last_is_step w None = record {
+  last_is_step : (w : CipherWork) (room : ℕ) (o : Option (List ℕ)) → IsStep (OnCipher (CipherFinish room)) store (begun key Ciphering w) (held_after key Ciphering (last_part w o))
+  last_is_step w room (Some text) = ends_step store key Ciphering _ _ refl (λ s a. refl)
+  last_is_step w room None = record {
     few = omega arith;
     undrawn = λ no. refl;
-    left = λ no. Failed refl;
+    left = λ no. refl;
     no_key = λ s a. refl;
+    buffer = spoiled_leaves InvalidPadding (last_length (mode_of w.alg)) refl;
     sound = λ s h. tt;
   }
 
-  pub cipher_is_step : (random : List ℕ) (w : CipherWork) (step : CipherStep) → IsStep false store (begun key Ciphering w) (held_after key Ciphering (cipher_step random w step))
+  pub cipher_is_step : (random : List ℕ) (w : CipherWork) (step : CipherStep) → IsStep (OnCipher step) store (begun key Ciphering w) (held_after key Ciphering (cipher_step random w step))
   cipher_is_step random w (CipherGenerateIv room) =
-      unless_step store key Ciphering _ _ _ (λ e. draws_step store key Ciphering w _ (given random) 16 (omega arith) refl (λ s a. refl) (λ h. tt))
-  cipher_is_step random w (CipherSetIv iv) = unless_step store key Ciphering _ _ _ (λ e. goes_step store key Ciphering w _ done refl (λ s a. refl) (λ h. tt))
-  cipher_is_step random w (CipherUpdate input room) = unless_step store key Ciphering _ _ _ (λ e. goes_step store key Ciphering w _ (given _) refl (λ s a. refl) (λ h. tt))
-  cipher_is_step random w (CipherFinish room) = unless_step store key Ciphering _ _ _ (λ e. last_is_step w (whole_text w))
+      unless_step store key Ciphering _ _ _ (λ status refused. refl) (λ e. draws_step store key Ciphering w _ (given random) 16 (omega arith) refl (λ s a. refl) (λ h. tt))
+  cipher_is_step random w (CipherSetIv iv) = unless_step store key Ciphering _ _ _ (λ status refused. refl) (λ e. goes_step store key Ciphering w _ done refl (λ s a. refl) (λ h. tt))
+  cipher_is_step random w (CipherUpdate input room) = unless_step store key Ciphering _ _ _ (λ status refused. refl) (λ e. goes_step store key Ciphering w _ (given _) refl (λ s a. refl) (λ h. tt))
+  cipher_is_step random w (CipherFinish room) = unless_step store key Ciphering _ _ _ (λ status refused. refl) (λ e. last_is_step w room (whole_text w))
 
-  pub aead_is_step : (random : List ℕ) (w : AeadWork) (step : AeadStep) → IsStep false store (begun key Sealing w) (held_after key Sealing (aead_step random w step))
+  pub aead_is_step : (random : List ℕ) (w : AeadWork) (step : AeadStep) → IsStep (OnAead step) store (begun key Sealing w) (held_after key Sealing (aead_step random w step))
   aead_is_step random w (AeadGenerateNonce room) =
-      unless_step store key Sealing _ _ _ (λ e. draws_step store key Sealing w _ (given _) (nonce_length w) (short_nonce _ _ _) refl (λ s a. refl) (λ h. tt))
-  aead_is_step random w (AeadSetNonce nonce) = unless_step store key Sealing _ _ _ (λ e. goes_step store key Sealing w _ done refl (λ s a. refl) (λ h. tt))
-  aead_is_step random w (AeadSetLengths ad payload) = unless_step store key Sealing _ _ _ (λ e. goes_step store key Sealing w _ done refl (λ s a. refl) (λ h. tt))
-  aead_is_step random w (AeadUpdateAd input) = unless_step store key Sealing _ _ _ (λ e. goes_step store key Sealing w _ done refl (λ s a. refl) (λ h. tt))
-  aead_is_step random w (AeadUpdate input room) = unless_step store key Sealing _ _ _ (λ e. goes_step store key Sealing w _ (given _) refl (λ s a. refl) (λ h. tt))
-  aead_is_step random w (AeadFinish room) = unless_step store key Sealing _ _ _ (λ e. ends_step store key Sealing _ (given _) refl (λ s a. refl))
-  aead_is_step random w (AeadVerify tag) = unless_step store key Sealing _ _ _ (λ e. ends_step store key Sealing _ done refl (λ s a. refl))
+      unless_step store key Sealing _ _ _ (λ status refused. refl) (λ e. draws_step store key Sealing w _ (given _) (nonce_length w) (short_nonce _ _ _) refl (λ s a. refl) (λ h. tt))
+  aead_is_step random w (AeadSetNonce nonce) = unless_step store key Sealing _ _ _ (λ status refused. refl) (λ e. goes_step store key Sealing w _ done refl (λ s a. refl) (λ h. tt))
+  aead_is_step random w (AeadSetLengths ad payload) = unless_step store key Sealing _ _ _ (λ status refused. refl) (λ e. goes_step store key Sealing w _ done refl (λ s a. refl) (λ h. tt))
+  aead_is_step random w (AeadUpdateAd input) = unless_step store key Sealing _ _ _ (λ status refused. refl) (λ e. goes_step store key Sealing w _ done refl (λ s a. refl) (λ h. tt))
+  aead_is_step random w (AeadUpdate input room) = unless_step store key Sealing _ _ _ (λ status refused. refl) (λ e. goes_step store key Sealing w _ (given _) refl (λ s a. refl) (λ h. tt))
+  aead_is_step random w (AeadFinish room) = unless_step store key Sealing _ _ _ (λ status refused. refl) (λ e. ends_step store key Sealing _ (given _) refl (λ s a. refl))
+  aead_is_step random w (AeadVerify tag) = unless_step store key Sealing _ _ _ (λ status refused. refl) (λ e. ends_step store key Sealing _ done refl (λ s a. refl))

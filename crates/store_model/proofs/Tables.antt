@@ -1,5 +1,5 @@
 -- Tables of refusals of which no row holds.
-use Rattle.std.proofs.Common.{◌≡◌, ℕ, zero, suc, Bool, true, false, cond, [], ◌∷◌, refl}
+use Rattle.std.proofs.Common.{◌≡◌, ℕ, zero, suc, Bool, true, false, cond, [], ◌∷◌, refl, subst}
 use Rattle.std.specs.Prelude.{Option, Some, None}
 use Rattle.psa_status.specs.declared.Status.{Status}
 use Rattle.psa_status.specs.Rows.{Rows, first_row}
@@ -22,3 +22,17 @@ none_holds (row ∷ rows) (suc n) h = none_holds rows n (passed row.0 row.1 (fir
 -- a table of which no row holds, without its first one
 pub rest_holds : (b : Bool) (s : Status) (o : Option Status) → cond b (Some s) o ≡ None → o ≡ None
 rest_holds b s o h = (passed b s o h).1
+
+-- what holds of each row's status
+abbrev pub AllRows : (Status → Type 0) → Rows → Type 0
+AllRows P [] = Unit {0}
+AllRows P (row ∷ rows) = P row.1 × AllRows P rows
+
+one_or_later : (P : Status → Type 0) (b : Bool) (s : Status) (o : Option Status) → P s → ((status : Status) → o ≡ Some status → P status) → (status : Status) → cond b (Some s) o ≡ Some status → P status
+one_or_later P true s o here later status e = let same : s ≡ status = cc in subst P same here
+one_or_later P false s o here later status e = later status e
+
+-- holds of the table's refusal
+pub refused_by : (P : Status → Type 0) (rows : Rows) → AllRows P rows → (status : Status) → first_row rows ≡ Some status → P status
+refused_by P [] all status e = cc
+refused_by P (row ∷ rows) all status e = one_or_later P row.0 row.1 (first_row rows) all.0 (refused_by P rows all.1) status e

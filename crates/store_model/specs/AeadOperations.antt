@@ -1,5 +1,6 @@
 -- An AEAD in several parts.
 use Rattle.std.specs.Prelude.{ℕ, ◌+◌, ◌^◌, Bool, true, false, not, nat_lt, ◌&&◌, ◌||◌, ◌==◌, bytes_eq, List, [], ◌∷◌, ◌++◌, length, take, drop, Option, Some, None, is_some, if◌then◌else◌}
+use Rattle.std.specs.Option.{option_map_or}
 use Rattle.psa_status.specs.declared.Status.TheVariants.{BadState, InvalidArgument, InvalidSignature}
 use Rattle.psa_status.specs.Rows.{Rows, first_row}
 use Rattle.store_model.specs.Aeads.{is_ccm, permits_nonce, permits_payload, aead_text, aead_tag}
@@ -59,26 +60,21 @@ work_tag w =
 
 -- the payload that was declared, and 0 where none was
 abbrev pub declared_payload : Option Lengths → ℕ
-declared_payload (Some lengths) = lengths.payload
-declared_payload None = 0
+declared_payload declared = option_map_or (λ lengths. lengths.payload) declared 0
 
 -- whether so many bytes are past a declared length
 abbrev pub is_past_ad : Option Lengths → ℕ → Bool
-is_past_ad (Some lengths) n = nat_lt lengths.ad n
-is_past_ad None n = false
+is_past_ad declared n = option_map_or (λ lengths. nat_lt lengths.ad n) declared false
 
 abbrev pub is_past_payload : Option Lengths → ℕ → Bool
-is_past_payload (Some lengths) n = nat_lt lengths.payload n
-is_past_payload None n = false
+is_past_payload declared n = option_map_or (λ lengths. nat_lt lengths.payload n) declared false
 
 -- whether so many bytes of associated data are those declared
 abbrev pub is_whole_ad : Option Lengths → ℕ → Bool
-is_whole_ad (Some lengths) n = n == lengths.ad
-is_whole_ad None n = true
+is_whole_ad declared n = option_map_or (λ lengths. n == lengths.ad) declared true
 
 abbrev pub is_whole_payload : Option Lengths → ℕ → Bool
-is_whole_payload (Some lengths) n = n == lengths.payload
-is_whole_payload None n = true
+is_whole_payload declared n = option_map_or (λ lengths. n == lengths.payload) declared true
 
 -- the nonce comes once, and with CCM after the lengths
 abbrev pub takes_nonce : AeadWork → Bool

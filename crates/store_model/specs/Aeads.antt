@@ -1,5 +1,5 @@
 -- AEADs of a whole message: the ciphertext, and the tag behind it.
-use Rattle.std.specs.Prelude.{ℕ, ◌+◌, ◌-◌, ◌*◌, ◌^◌, not, nat_lt, nat_le, ◌||◌, ◌&&◌, ◌==◌, bytes_eq, Bool, List, ◌∷◌, ◌++◌, length, take, drop, if◌then◌else◌}
+use Rattle.std.specs.Prelude.{ℕ, ◌+◌, ◌-◌, ◌*◌, ◌^◌, not, nat_lt, nat_le, ◌||◌, ◌&&◌, ◌==◌, bytes_eq, Bool, false, true, List, ◌∷◌, ◌++◌, length, take, drop, if◌then◌else◌}
 use Rattle.psa_status.specs.declared.Status.TheVariants.{InvalidArgument, InvalidSignature}
 use Rattle.psa_status.specs.Rows.{Rows, first_row}
 use Rattle.alg_encoding.specs.declared.table.Class.TheVariants.{Aead}
@@ -10,7 +10,7 @@ use Rattle.crypto_specs.specs.Gcm.{gcm_text, gcm_tag}
 use Rattle.store_model.specs.Store.{Store}
 use Rattle.store_model.specs.Call.{Reply}
 use Rattle.store_model.specs.Algorithms.{tag_bytes}
-use Rattle.store_model.specs.Rules.{using_key, room_rows, total_limit}
+use Rattle.store_model.specs.Rules.{using_key, room_rows, total_limit, cipher_usage}
 use Rattle.store_model.specs.Outcome.{Outcome, reply_unless, replies, given, spoiled}
 
 abbrev pub is_ccm : ℕ → Bool
@@ -37,7 +37,7 @@ aead_tag alg key nonce ad plain cipher =
     if is_ccm alg then ccm_tag (aes_encrypt key) (tag_bytes alg) nonce ad plain
     else gcm_tag (aes_encrypt key) (tag_bytes alg) nonce ad cipher
 
--- aead_encrypt: ENCRYPT
+-- aead_encrypt
 abbrev pub encrypt_rows : ℕ → (nonce ad payload room : ℕ) → Rows
 encrypt_rows alg nonce ad payload room = (not (permits_lengths alg nonce ad payload), InvalidArgument) ∷ room_rows (payload + tag_bytes alg) room
 
@@ -49,9 +49,9 @@ sealed_reply alg key nonce ad input room =
     reply_unless (first_row (encrypt_rows alg (length nonce) (length ad) (length input) room)) (given (sealed alg key nonce ad input))
 
 abbrev pub step_aead_encrypt : Store → (id alg : ℕ) → (nonce ad input : List ℕ) → ℕ → Outcome
-step_aead_encrypt store id alg nonce ad input room = using_key store Aead 0x100 alg id (λ key. replies (sealed_reply alg key nonce ad input room))
+step_aead_encrypt store id alg nonce ad input room = using_key store Aead (cipher_usage true) alg id (λ key. replies (sealed_reply alg key nonce ad input room))
 
--- aead_decrypt: DECRYPT. The input ends with the tag.
+-- aead_decrypt: the input ends with the tag.
 abbrev pub decrypt_rows : ℕ → (nonce ad input room : ℕ) → Rows
 decrypt_rows alg nonce ad input room =
     (nat_lt input (tag_bytes alg) || not (permits_lengths alg nonce ad (input - tag_bytes alg)), InvalidArgument)
@@ -69,4 +69,4 @@ opened_reply alg key nonce ad input room =
     reply_unless (first_row (decrypt_rows alg (length nonce) (length ad) (length input) room)) (opened alg key nonce ad (take n input) (drop n input))
 
 abbrev pub step_aead_decrypt : Store → (id alg : ℕ) → (nonce ad input : List ℕ) → ℕ → Outcome
-step_aead_decrypt store id alg nonce ad input room = using_key store Aead 0x200 alg id (λ key. replies (opened_reply alg key nonce ad input room))
+step_aead_decrypt store id alg nonce ad input room = using_key store Aead (cipher_usage false) alg id (λ key. replies (opened_reply alg key nonce ad input room))

@@ -1,5 +1,6 @@
 -- What an algorithm number computes, by the standards' definitions.
-use Rattle.std.specs.Prelude.{ℕ, ◌%◌, ◌/◌, ◌^◌, Bool, ◌==◌, List, take, if◌then◌else◌, Option, Some, None}
+use Rattle.std.specs.Prelude.{ℕ, ◌%◌, ◌/◌, ◌^◌, Bool, ◌==◌, List, take, if◌then◌else◌, Option}
+use Rattle.std.specs.Option.{option_map_or}
 use Rattle.sha2.specs.Sha256.{sha224, sha256}
 use Rattle.sha2.specs.Sha512.{sha384, sha512}
 use Rattle.alg_encoding.specs.Encoding.{base_of, tag_length_of}
@@ -38,8 +39,7 @@ abbrev pub is_hmac : ℕ → Bool
 is_hmac alg = base_of alg / 2 ^ 8 == 0x038000
 
 abbrev pub length_or_none : Option ℕ → ℕ
-length_or_none (Some n) = n
-length_or_none None = 0
+length_or_none found = option_map_or (λ n. n) found 0
 
 -- the bytes of a MAC, or of the tag of an AEAD
 abbrev pub tag_bytes : ℕ → ℕ

@@ -44,12 +44,11 @@ attribute_bytes a =
 
 -- what is given back, as bytes
 abbrev pub output_bytes : Output → List ℕ
-output_bytes Nothing = []
-output_bytes Done = []
 output_bytes (Identifier id) = to_be_bytes w32 id
 output_bytes (Description attributes) = attribute_bytes attributes
 output_bytes (Bytes bytes) = bytes
 output_bytes (Number number) = to_be_bytes w64 number
+output_bytes _ = []
 
 -- what is given through an output buffer
 abbrev pub buffer_bytes : Output → List ℕ

@@ -1,5 +1,6 @@
 -- A cipher in several parts.
 use Rattle.std.specs.Prelude.{ℕ, ◌-◌, ◌*◌, ◌/◌, ◌%◌, Bool, not, ◌&&◌, ◌||◌, ◌==◌, List, [], ◌∷◌, ◌++◌, length, take, drop, Option, Some, None, is_some, if◌then◌else◌}
+use Rattle.std.specs.Option.{option_map_or}
 use Rattle.psa_status.specs.declared.Status.TheVariants.{BadState, InvalidArgument, InvalidPadding}
 use Rattle.psa_status.specs.Rows.{Rows, first_row}
 use Rattle.crypto_specs.specs.Aes.{aes_encrypt}
@@ -34,8 +35,7 @@ abbrev pub cipher_setup : Operation CipherWork → Bool → ℕ → List ℕ →
 cipher_setup operation encrypts alg key = set_up operation None (cipher_work encrypts alg key)
 
 abbrev pub bytes_or_empty : Option (List ℕ) → List ℕ
-bytes_or_empty (Some bytes) = bytes
-bytes_or_empty None = []
+bytes_or_empty found = option_map_or (λ bytes. bytes) found []
 
 -- THE OUTPUT THAT IS DUE: CTR gives each byte at once, and the others each whole block; decryption under
 -- CBC_PKCS7 keeps the last whole block back, since it may hold the padding
@@ -49,9 +49,8 @@ blocks_but_last text = take (16 * ((length text - 1) / 16)) text
 
 abbrev pub due_enciphered : Mode → (key iv text : List ℕ) → List ℕ
 due_enciphered Ctr key iv text = ctr_xor (aes_encrypt key) iv text
-due_enciphered CbcNoPadding key iv text = cbc_encrypt (aes_encrypt key) iv (whole_blocks text)
-due_enciphered CbcPkcs7 key iv text = cbc_encrypt (aes_encrypt key) iv (whole_blocks text)
 due_enciphered EcbNoPadding key iv text = ecb_encrypt (aes_encrypt key) (whole_blocks text)
+due_enciphered _ key iv text = cbc_encrypt (aes_encrypt key) iv (whole_blocks text)
 
 abbrev pub due_deciphered : Mode → (key iv text : List ℕ) → List ℕ
 due_deciphered Ctr key iv text = ctr_xor (aes_encrypt key) iv text

@@ -9,7 +9,7 @@ use Rattle.crypto_specs.specs.Modes.{ctr_xor, cbc_encrypt, cbc_decrypt, ecb_encr
 use Rattle.store_model.specs.Store.{Store}
 use Rattle.store_model.specs.Call.{Reply}
 use Rattle.store_model.specs.Draws.{Random}
-use Rattle.store_model.specs.Rules.{using_key, room_rows, total_limit}
+use Rattle.store_model.specs.Rules.{using_key, room_rows, total_limit, cipher_usage}
 use Rattle.store_model.specs.Outcome.{Outcome, Computed, computed_unless, reply_unless, replies, given, spoiled}
 
 -- the modes of the cipher algorithms
@@ -51,7 +51,7 @@ deciphered CbcNoPadding key iv text = Some (cbc_decrypt (aes_decrypt key) iv tex
 deciphered CbcPkcs7 key iv text = pkcs7_unpadded (cbc_decrypt (aes_decrypt key) iv text)
 deciphered EcbNoPadding key iv text = Some (ecb_decrypt (aes_decrypt key) text)
 
--- cipher_encrypt: ENCRYPT. A fresh initialisation vector is drawn, and stands before the ciphertext.
+-- cipher_encrypt: a fresh initialisation vector is drawn, and stands before the ciphertext.
 
 abbrev pub encrypt_rows : Mode → (bytes room : ℕ) → Rows
 encrypt_rows mode bytes room =
@@ -65,9 +65,9 @@ encrypted mode iv key input room =
 abbrev pub step_cipher_encrypt : Store → Random → (id alg : ℕ) → List ℕ → ℕ → Outcome
 step_cipher_encrypt store random id alg input room =
     let mode : Mode = mode_of alg in
-    using_key store Cipher 0x100 alg id (λ key. encrypted mode (random (iv_length mode)) key input room)
+    using_key store Cipher (cipher_usage true) alg id (λ key. encrypted mode (random (iv_length mode)) key input room)
 
--- cipher_decrypt: DECRYPT. The input begins with the initialisation vector.
+-- cipher_decrypt: the input begins with the initialisation vector.
 
 abbrev pub is_ciphertext_length : Mode → ℕ → Bool
 is_ciphertext_length Ctr n = true
@@ -90,4 +90,4 @@ decrypted_reply mode key input room =
     reply_unless (first_row (decrypt_rows mode (length input) room)) (plain_or_zeros (length input - n) (deciphered mode key (take n input) (drop n input)))
 
 abbrev pub step_cipher_decrypt : Store → (id alg : ℕ) → List ℕ → ℕ → Outcome
-step_cipher_decrypt store id alg input room = using_key store Cipher 0x200 alg id (λ key. replies (decrypted_reply (mode_of alg) key input room))
+step_cipher_decrypt store id alg input room = using_key store Cipher (cipher_usage false) alg id (λ key. replies (decrypted_reply (mode_of alg) key input room))

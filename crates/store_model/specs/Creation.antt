@@ -1,7 +1,7 @@
 -- Calls that create a key.
-use Rattle.std.specs.Prelude.{ℕ, ◌+◌, ◌^◌, nat_le, ◌||◌, List, [], ◌∷◌, ◌++◌, length, slice_set}
+use Rattle.std.specs.Prelude.{ℕ, ◌+◌, ◌/◌, ◌%◌, ◌^◌, not, nat_le, ◌==◌, ◌||◌, List, [], ◌∷◌, ◌++◌, length, slice_set}
 use Rattle.std.specs.FinMap as map
-use Rattle.psa_status.specs.declared.Status.TheVariants.{Success, KeyLimit}
+use Rattle.psa_status.specs.declared.Status.TheVariants.{Success, InvalidArgument, KeyLimit}
 use Rattle.psa_status.specs.Rows.{Rows, first_row}
 use Rattle.key_attributes.specs.declared.Attributes.{Attributes}
 use Rattle.key_attributes.specs.Checks.{attribute_rows, filled}
@@ -19,6 +19,13 @@ limit_rows store caller =
 abbrev pub creation_rows : Store → ℕ → Attributes → ℕ → Rows
 creation_rows store caller a bytes = attribute_rows a bytes (has_secure_element store) ++ limit_rows store caller
 
+-- the bytes of a key with these stated bits, and the refusal of bits that state none
+abbrev pub stated_bytes : Attributes → ℕ
+stated_bytes a = a.bits / 8
+
+abbrev pub stated_bits_rows : Attributes → Rows
+stated_bits_rows a = (a.bits == 0 || not (a.bits % 8 == 0), InvalidArgument) ∷ []
+
 -- the attributes with an identifier
 abbrev pub identified : Attributes → ℕ → Attributes
 identified a id = record a { id = record { 0 = id } }
@@ -32,16 +39,15 @@ new_key store caller id a bytes = record {
   creator = caller;
 }
 
--- a caller has made one volatile key more
-abbrev pub one_more_made : Store → ℕ → List ℕ
-one_more_made store caller = slice_set store.made caller (made_of store caller + 1)
-
--- a volatile key comes into being under the caller's next identifier
+-- a volatile key comes into being under the caller's next identifier, and the caller has made one more
 abbrev pub created : Store → ℕ → Attributes → List ℕ → Outcome
 created store caller a bytes =
     let id = next_volatile store caller in
     record {
-      store = record (counted store) { keys = map.insert store.keys id (new_key store caller id a bytes); made = one_more_made store caller };
+      store = record (counted store) {
+        keys = map.insert store.keys id (new_key store caller id a bytes);
+        made = slice_set store.made caller (made_of store caller + 1);
+      };
       reply = record { status = Success; output = Identifier id; needed = 0 };
       drawn = 0;
     }

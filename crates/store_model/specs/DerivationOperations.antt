@@ -1,5 +1,6 @@
 -- A derivation of bytes and keys: HKDF (RFC 5869) and PBKDF2 (RFC 8018).
-use Rattle.std.specs.Prelude.{ℕ, ◌+◌, ◌-◌, ◌*◌, ◌/◌, ◌%◌, ◌^◌, Bool, true, false, not, nat_lt, ◌&&◌, ◌||◌, ◌==◌, bytes_eq, List, [], ◌∷◌, ◌++◌, length, drop, Option, Some, None, is_some, if◌then◌else◌}
+use Rattle.std.specs.Prelude.{ℕ, ◌+◌, ◌-◌, ◌*◌, ◌/◌, ◌^◌, Bool, true, false, not, nat_lt, ◌&&◌, ◌||◌, ◌==◌, bytes_eq, List, [], ◌∷◌, ◌++◌, length, drop, Option, Some, None, is_some, if◌then◌else◌}
+use Rattle.std.specs.Option.{option_map_or}
 use Rattle.psa_status.specs.declared.Status.{Status}
 use Rattle.psa_status.specs.declared.Status.TheVariants.{Success, BadState, InvalidArgument, NotSupported, NotPermitted, InsufficientData, InvalidSignature}
 use Rattle.psa_status.specs.Rows.{Rows, first_row}
@@ -12,8 +13,10 @@ use Rattle.store_model.specs.Algorithms.{digest, hash_block_length, hash_length_
 use Rattle.store_model.specs.Call.{Reply, Number}
 use Rattle.store_model.specs.Rules.{class_rows}
 use Rattle.store_model.specs.Outcome.{given, done, refusal}
-use Rattle.store_model.specs.Operations.{Operation, Inactive, InError, Active, After, goes_on, unless_failed, set_up}
+use Rattle.store_model.specs.Operations.{Operation, Active, After, goes_on, unless_failed, set_up}
 use Rattle.store_model.specs.CipherOperations.{bytes_or_empty}
+use Rattle.store_model.specs.Creation.{stated_bits_rows}
+pub use Rattle.store_model.specs.Creation.{stated_bytes}
 
 -- The algorithm; the cost, the salt, the secret or password and the info once they are there, and whether the
 -- secret came by a key; how many bytes of output were taken, and how many can still be.
@@ -45,8 +48,7 @@ derivation_setup operation alg = set_up operation (first_row (class_rows Derivat
 -- THE OUTPUT: one list of bytes, whose front is taken piece by piece
 
 abbrev pub number_or_zero : Option ℕ → ℕ
-number_or_zero (Some n) = n
-number_or_zero None = 0
+number_or_zero found = option_map_or (λ n. n) found 0
 
 -- the first n bytes
 abbrev pub derived : DerivationWork → ℕ → List ℕ
@@ -106,10 +108,6 @@ is_info_due w = not (is_some w.info) && w.taken == 0
 abbrev pub is_due : DerivationWork → ℕ → Bool
 is_due w step = if step == salt_step then is_salt_due w else if step == info_step then is_info_due w else is_secret_due w
 
--- what stands at a step already
-abbrev pub given_at : DerivationWork → ℕ → List ℕ
-given_at w step = if step == salt_step then bytes_or_empty w.salt else []
-
 abbrev pub with_bytes : DerivationWork → ℕ → List ℕ → DerivationWork
 with_bytes w step bytes =
     if step == salt_step then record w { salt = Some (bytes_or_empty w.salt ++ bytes) }
@@ -119,11 +117,12 @@ with_bytes w step bytes =
 abbrev pub with_key : DerivationWork → List ℕ → DerivationWork
 with_key w key = record w { secret = Some key; by_key = true }
 
+-- a salt stands behind those before
 abbrev pub input_bytes_rows : DerivationWork → ℕ → List ℕ → Rows
 input_bytes_rows w step bytes =
     (not (takes_bytes w.alg step), InvalidArgument)
     ∷ (not (is_due w step), BadState)
-    ∷ (nat_lt 1024 (length (given_at w step) + length bytes), NotSupported)
+    ∷ (nat_lt 1024 (length (if step == salt_step then bytes_or_empty w.salt else []) + length bytes), NotSupported)
     ∷ []
 
 abbrev pub input_integer_rows : DerivationWork → ℕ → ℕ → Rows
@@ -147,16 +146,11 @@ output_rows w = (not (is_some w.secret), BadState) ∷ []
 abbrev pub taken_from : DerivationWork → ℕ → Reply → After DerivationWork
 taken_from w n reply = if nat_lt w.capacity n then exhausted w else goes_on (without w n) reply
 
--- the bytes of a key with these stated bits
-abbrev pub stated_bytes : Attributes → ℕ
-stated_bytes a = a.bits / 8
-
 -- what output_key refuses of a derivation, before the capacity is looked at
 abbrev pub output_key_rows : DerivationWork → Attributes → Rows
 output_key_rows w a =
-    output_rows w
-    ++ (a.bits == 0 || not (a.bits % 8 == 0), InvalidArgument)
-    ∷ (not (location a.lifetime.0 == 0), NotSupported)
+    output_rows w ++ stated_bits_rows a
+    ++ (not (location a.lifetime.0 == 0), NotSupported)
     ∷ (not w.by_key, NotPermitted)
     ∷ []
 
@@ -176,16 +170,12 @@ pub data DerivationStep : Type 0 where
   OutputBytes : (length : ℕ) → DerivationStep
   VerifyBytes : (expected : List ℕ) → DerivationStep
 
-abbrev pub capacity_reply : ℕ → Reply
-capacity_reply n = record { status = Success; output = Number n; needed = 0 }
-
 -- the derivation goes on, whether the bytes are those that were expected or not
 abbrev pub compared : Bool → Reply
-compared true = done
-compared false = refusal InvalidSignature
+compared same = if same then done else refusal InvalidSignature
 
 abbrev pub derivation_step : DerivationWork → DerivationStep → After DerivationWork
-derivation_step w GetCapacity = goes_on w (capacity_reply w.capacity)
+derivation_step w GetCapacity = goes_on w (record { status = Success; output = Number w.capacity; needed = 0 })
 derivation_step w (SetCapacity n) = if nat_lt w.capacity n then goes_on w (refusal InvalidArgument) else goes_on (record w { capacity = n }) done
 derivation_step w (InputBytes step bytes) = unless_failed (first_row (input_bytes_rows w step bytes)) (goes_on (with_bytes w step bytes) done)
 derivation_step w (InputInteger step value) = unless_failed (first_row (input_integer_rows w step value)) (goes_on (record w { cost = Some value }) done)
@@ -201,5 +191,4 @@ key_given w step key = unless_failed (first_row (key_step_rows w step)) (goes_on
 -- what input_key refuses before its key is looked at, of any operation
 abbrev pub key_step_refusal : Operation DerivationWork → ℕ → Option Status
 key_step_refusal (Active w) step = first_row (key_step_rows w step)
-key_step_refusal Inactive step = Some BadState
-key_step_refusal InError step = Some BadState
+key_step_refusal _ step = Some BadState

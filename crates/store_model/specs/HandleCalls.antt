@@ -1,5 +1,6 @@
 -- Calls on a handle.
 use Rattle.std.specs.Prelude.{ℕ, Bool, true, not, nat_lt, ◌&&◌, ◌||◌, ◌==◌, List, [], ◌∷◌, ◌++◌, Option, Some, None, if◌then◌else◌}
+use Rattle.std.specs.Option.{option_map}
 use Rattle.std.specs.FinMap as map
 use Rattle.psa_status.specs.declared.Status.{Status}
 use Rattle.psa_status.specs.declared.Status.TheVariants.{BadState, InvalidHandle, NotPermitted, InvalidArgument}
@@ -10,10 +11,10 @@ use Rattle.key_attributes.specs.declared.Attributes.{Attributes}
 use Rattle.policy_rules.specs.Policy.{may_use}
 use Rattle.store_model.specs.Store.{Key}
 use Rattle.store_model.specs.Outcome.{Outcome, done}
-use Rattle.store_model.specs.Rules.{class_rows, use_rows}
+use Rattle.store_model.specs.Rules.{class_rows, use_rows, mac_usage, cipher_usage}
 use Rattle.store_model.specs.KeyUse.{bytes_of}
 use Rattle.store_model.specs.Creation.{creation_rows, created}
-use Rattle.store_model.specs.Operations.{Operation, Inactive, InError, Active, set_up, fails, ends, goes_on, unless_failed, with_live_key}
+use Rattle.store_model.specs.Operations.{Operation, Active, set_up, fails, ends, goes_on, unless_failed, with_live_key}
 use Rattle.store_model.specs.HashOperations.{HashStep, hash_work, hash_step}
 use Rattle.store_model.specs.MacOperations.{MacStep, mac_work, mac_step}
 use Rattle.store_model.specs.CipherOperations.{CipherStep, cipher_work, cipher_step}
@@ -44,8 +45,7 @@ set_up_with service caller handle refused key work =
 
 -- the creation of what the map has at an identifier
 abbrev pub creation_of : ℕ → Option Key → Option KeyCreation
-creation_of id (Some key) = Some (record { id = id; number = key.number })
-creation_of id None = None
+creation_of id found = option_map (λ key. record { id = id; number = key.number }) found
 
 -- a setup with a key that may be used so with the algorithm
 abbrev pub set_up_keyed : Service → (caller handle : ℕ) → Class → (usage alg id : ℕ) → (List ℕ → Work) → Served
@@ -53,26 +53,13 @@ set_up_keyed service caller handle class usage alg id work =
     let found : Option Key = map.get service.store.keys id in
     set_up_with service caller handle (first_row (use_rows class usage alg found)) (creation_of id found) (work (bytes_of found))
 
--- SIGN_MESSAGE and VERIFY_MESSAGE, ENCRYPT and DECRYPT
-abbrev pub mac_usage : Bool → ℕ
-mac_usage verifies = if verifies then 0x800 else 0x400
-
-abbrev pub cipher_usage : Bool → ℕ
-cipher_usage encrypts = if encrypts then 0x100 else 0x200
-
--- A KEY AS THE SECRET OF A DERIVATION: DERIVE, and a type that fits the step
+-- A KEY AS THE SECRET OF A DERIVATION: the flag DERIVE, and the type DERIVE, or PASSWORD at a password step
 
 abbrev pub derive_usage : ℕ
 derive_usage = 0x4000
 
-abbrev pub derivation_type : ℕ
-derivation_type = 0x1200
-
-abbrev pub password_type : ℕ
-password_type = 0x1203
-
 abbrev pub fits_step : (step key_type : ℕ) → Bool
-fits_step step key_type = key_type == derivation_type || (not (step == secret_step) && key_type == password_type)
+fits_step step key_type = key_type == 0x1200 || (not (step == secret_step) && key_type == 0x1203)
 
 abbrev pub derivation_key_rows : Option Key → (step alg : ℕ) → Rows
 derivation_key_rows None step alg = (true, InvalidHandle) ∷ []
@@ -91,8 +78,7 @@ input_key service caller handle (Active w) step id =
     let found : Option Key = map.get service.store.keys id in
     applied service caller handle (held_after (creation_of id found) Deriving (with_live_key (is_alive service.store key)
     (unless_failed (first_row (input_key_rows w found step)) (goes_on (with_key w (bytes_of found)) done))))
-input_key service caller handle Inactive step id = untouched service BadState
-input_key service caller handle InError step id = untouched service BadState
+input_key service caller handle _ step id = untouched service BadState
 
 -- A KEY OF DERIVED BYTES
 
@@ -117,8 +103,7 @@ abbrev pub output_key : Service → (caller handle : ℕ) → Operation Derivati
 output_key service caller handle (Active w) a =
     let key : Option KeyCreation = key_of_operation (operation_of service caller handle) in
     output_key_of service caller handle key w a (first_row ((not (is_alive service.store key), InvalidHandle) ∷ output_key_rows w a))
-output_key service caller handle Inactive a = untouched service BadState
-output_key service caller handle InError a = untouched service BadState
+output_key service caller handle _ a = untouched service BadState
 
 -- ANY CALL
 

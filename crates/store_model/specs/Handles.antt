@@ -1,9 +1,10 @@
 -- The service: the store, and the operations of the callers' handles.
 use Rattle.std.specs.Prelude.{ℕ, ◌+◌, Bool, true, false, ◌==◌, List, replicate, get_or, slice_set, Option, Some, None}
+use Rattle.std.specs.Option.{option_map_or}
 use Rattle.std.specs.FinMap as map
 use Rattle.psa_status.specs.declared.Status.{Status}
 use Rattle.psa_status.specs.declared.Status.TheVariants.{BadState}
-use Rattle.store_model.specs.Store.{Key, Store, Settings, caller_count, start_of}
+use Rattle.store_model.specs.Store.{Store, Settings, caller_count, start_of}
 use Rattle.store_model.specs.Call.{Reply}
 use Rattle.random_streams.specs.RandomWords.{random_bytes, words_used}
 use Rattle.store_model.specs.Draws.{Random}
@@ -101,18 +102,13 @@ untouched service status = record { service = record service { store = counted s
 -- KEYS OF OPERATIONS
 
 -- whether the key of this creation is still there
-abbrev pub is_creation : KeyCreation → Option Key → Bool
-is_creation creation (Some key) = key.number == creation.number
-is_creation creation None = false
-
 abbrev pub is_alive : Store → Option KeyCreation → Bool
-is_alive store (Some creation) = is_creation creation (map.get store.keys creation.id)
+is_alive store (Some creation) = option_map_or (λ key. key.number == creation.number) (map.get store.keys creation.id) false
 is_alive store None = true
 
 abbrev pub key_of_operation : HandleOperation → Option KeyCreation
 key_of_operation (Active held) = held.key
-key_of_operation Inactive = None
-key_of_operation InError = None
+key_of_operation _ = None
 
 -- ONE FAMILY'S PART: a handle that holds another family's work is as an inactive one to it
 
@@ -156,5 +152,4 @@ abbrev pub stepped : {W : Type 0} → Service → (caller handle : ℕ) → (W �
 stepped service caller handle embed (Active work) f =
     let key : Option KeyCreation = key_of_operation (operation_of service caller handle) in
     applied service caller handle (held_after key embed (with_live_key (is_alive service.store key) (f work)))
-stepped service caller handle embed Inactive f = untouched service BadState
-stepped service caller handle embed InError f = untouched service BadState
+stepped service caller handle embed _ f = untouched service BadState

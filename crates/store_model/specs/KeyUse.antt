@@ -1,34 +1,27 @@
 -- Calls on a key that is there.
-use Rattle.std.specs.Prelude.{ℕ, Bool, true, not, nat_lt, ◌==◌, ◌&&◌, List, [], ◌∷◌, length, bit_and, Option, Some, None, is_some}
+use Rattle.std.specs.Prelude.{ℕ, true, not, nat_lt, ◌==◌, ◌&&◌, List, [], ◌∷◌, length, bit_and, Option, Some, None, is_some}
+use Rattle.std.specs.Option.{option_map_or}
 use Rattle.std.specs.FinMap as map
 use Rattle.psa_status.specs.declared.Status.TheVariants.{Success, NotPermitted, InvalidHandle, BufferTooSmall}
 use Rattle.psa_status.specs.Rows.{Rows, first_row}
 use Rattle.store_model.specs.Store.{Key, Store}
-use Rattle.store_model.specs.Call.{Reply, Bytes, Description}
-use Rattle.store_model.specs.Outcome.{Outcome, counted, decided, refusal, reply_unless, replies, with_computed, done}
+use Rattle.store_model.specs.Call.{Reply, Description}
+use Rattle.store_model.specs.Outcome.{Outcome, counted, decided, refusal, reply_unless, replies, with_computed, done, given}
 
--- whether a flag is in a key's usage
-abbrev pub has_usage : Key → ℕ → Bool
-has_usage key flag = not (bit_and key.attributes.policy.usage.0 flag == 0)
-
--- EXPORT
+-- EXPORT, whose flag is 1
 abbrev pub export_rows : Option Key → ℕ → Rows
 export_rows None room = (true, InvalidHandle) ∷ []
 export_rows (Some key) room =
-    (not (has_usage key 1), NotPermitted)
+    (bit_and key.attributes.policy.usage.0 1 == 0, NotPermitted)
     ∷ (nat_lt room (length key.bytes), BufferTooSmall)
     ∷ []
 
 abbrev pub bytes_of : Option Key → List ℕ
-bytes_of None = []
-bytes_of (Some key) = key.bytes
-
-abbrev pub exported : List ℕ → Reply
-exported bytes = record { status = Success; output = Bytes bytes; needed = length bytes }
+bytes_of found = option_map_or (λ key. key.bytes) found []
 
 -- the reply of an export, by what the map has at the identifier
 abbrev pub export_reply : Option Key → ℕ → Reply
-export_reply found room = reply_unless (first_row (export_rows found room)) (exported (bytes_of found))
+export_reply found room = reply_unless (first_row (export_rows found room)) (given (bytes_of found))
 
 -- an export changes no key
 abbrev pub step_export : Store → ℕ → ℕ → Outcome

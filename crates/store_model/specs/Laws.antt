@@ -1,14 +1,15 @@
 -- Laws of every request.
-use Rattle.std.specs.Prelude.{◌≡◌, ◌≤◌, ◌+◌, ℕ, Bool, false, true, Option, None, Some}
+use Rattle.std.specs.Prelude.{◌≡◌, ◌≤◌, ◌+◌, ℕ, Bool, false, true, Option, None, Some, List, ◌++◌, replicate, drop, if◌then◌else◌}
+use Rattle.psa_status.specs.declared.Status.{Status}
 use Rattle.psa_status.specs.declared.Status.TheVariants.{Success, BadState}
 use Rattle.store_model.specs.Store.{Store, made_of}
 use Rattle.store_model.specs.Faults.{FaultMark, Plain}
 use Rattle.store_model.specs.Outcome.{counted}
-use Rattle.store_model.specs.Handles.{HandleOperation, Service, Served, own_of, operation_of, untouched}
-use Rattle.store_model.specs.Call.{Call, Import, Destroy, Copy, Generate}
+use Rattle.store_model.specs.Handles.{HandleOperation, Service, Served, own_of, operation_of, with_own, with_operation, untouched}
+use Rattle.store_model.specs.Call.{Import, Destroy, Copy, Generate, Reply, buffer_after}
 use Rattle.store_model.specs.HandleCalls.{HandleCall, OutputKey}
 use Rattle.store_model.specs.Requests.{Request, OnStore, OnHandle, serve}
-use Rattle.store_model.specs.Refusals.{IsLeft, is_setup, is_ready, may_stay}
+use Rattle.store_model.specs.Refusals.{is_setup, is_ready, left_by, spoils}
 
 -- the handle that a request is on
 abbrev pub handle_of : Request → Option ℕ
@@ -34,19 +35,27 @@ DrawsFewWords =
     (service : Service) (caller other : ℕ) (request : Request) (mark : FaultMark) →
     (own_of (serve service caller request mark).service other).drawn ≤ (own_of service other).drawn + 256
 
--- what a request that didn't succeed leaves, where no device failed: the store, since it is counted and no more; the
--- random words of every caller; the operations of all handles but its own; and of its own what may be left
-pub record IsLeftAll (before : Service) (caller : ℕ) (request : Request) (served : Served) : Type 0 where
-  pub store : served.service.store ≡ counted before.store
-  pub drawn : (other : ℕ) → (own_of served.service other).drawn ≡ (own_of before other).drawn
-  pub others : (other handle : ℕ) → (other ≡ caller → handle_of request ≡ Some handle → ⊥) → operation_of served.service other handle ≡ operation_of before other handle
-  pub own : (handle : ℕ) (call : HandleCall) → request ≡ OnHandle handle call →
-      let was : HandleOperation = operation_of before caller handle in IsLeft (may_stay call was) served.reply.status was (operation_of served.service caller handle)
+-- what a request that didn't succeed leaves: all but the count of calls, and of its own handle's operation what `left_by`
+-- says
+abbrev pub left_all : Service → ℕ → Request → Status → Service
+left_all service caller (OnStore call) status = record service { store = counted service.store }
+left_all service caller (OnHandle handle call) status =
+    let left : HandleOperation = left_by call (operation_of service caller handle) status in
+    with_own service (counted service.store) caller (with_operation (own_of service caller) handle left)
 
+-- where no device failed, a refusal leaves exactly this
 abbrev pub RefusalsLeaveAll : Type 0
 RefusalsLeaveAll =
-    (service : Service) (caller : ℕ) (request : Request) → ((serve service caller request Plain).reply.status ≡ Success → ⊥) →
-    IsLeftAll service caller request (serve service caller request Plain)
+    (service : Service) (caller : ℕ) (request : Request) →
+    let served : Served = serve service caller request Plain in
+    (served.reply.status ≡ Success → ⊥) → served.service ≡ left_all service caller request served.reply.status
+
+-- a refusal leaves its output buffer, but for INVALID_SIGNATURE and INVALID_PADDING, which leave zeros in its front
+abbrev pub RefusalsLeaveBuffers : Type 0
+RefusalsLeaveBuffers =
+    (service : Service) (caller : ℕ) (request : Request) (mark : FaultMark) (old : List ℕ) →
+    let reply : Reply = (serve service caller request mark).reply in
+    (reply.status ≡ Success → ⊥) → buffer_after old reply ≡ (if spoils reply.status then replicate reply.needed 0 ++ drop reply.needed old else old)
 
 -- a call on a handle that isn't in order answers BAD_STATE, and leaves all but the count
 abbrev pub UnreadyHandlesStay : Type 0
@@ -62,26 +71,24 @@ RefusedSetupsLeaveAll =
     (serve service caller (OnHandle handle call) mark).service ≡ record service { store = counted service.store }
 
 -- whether a request may change the keys: a creation or a destruction
-abbrev pub changes_keys : Call → Bool
-changes_keys (Import a bytes) = true
-changes_keys (Copy source stated) = true
-changes_keys (Generate a) = true
-changes_keys (Destroy id) = true
-changes_keys _ = false
-
-abbrev pub handle_changes_keys : HandleCall → Bool
-handle_changes_keys (OutputKey a) = true
-handle_changes_keys _ = false
-
 abbrev pub may_change_keys : Request → Bool
-may_change_keys (OnStore call) = changes_keys call
-may_change_keys (OnHandle handle call) = handle_changes_keys call
+may_change_keys (OnStore (Import a bytes)) = true
+may_change_keys (OnStore (Copy source stated)) = true
+may_change_keys (OnStore (Generate a)) = true
+may_change_keys (OnStore (Destroy id)) = true
+may_change_keys (OnHandle handle (OutputKey a)) = true
+may_change_keys _ = false
 
 -- a request that neither creates nor destroys leaves the shared store but for the count, whatever it computes
 abbrev pub LeavesShared : Type 0
 LeavesShared =
     (service : Service) (caller : ℕ) (request : Request) (mark : FaultMark) → may_change_keys request ≡ false →
     (serve service caller request mark).service.store ≡ counted service.store
+
+-- each request is counted once, whatever its reply and its mark
+abbrev pub CountsOnce : Type 0
+CountsOnce =
+    (service : Service) (caller : ℕ) (request : Request) (mark : FaultMark) → (serve service caller request mark).service.store.calls ≡ service.store.calls + 1
 
 -- no request changes the settings, nor how many keys were found
 abbrev pub LeavesSettings : Type 0

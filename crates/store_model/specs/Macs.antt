@@ -1,15 +1,15 @@
 -- MACs of a whole message.
-use Rattle.std.specs.Prelude.{ℕ, not, nat_lt, length, bytes_eq, List, [], ◌∷◌}
+use Rattle.std.specs.Prelude.{ℕ, false, true, not, nat_lt, length, bytes_eq, List, [], ◌∷◌}
 use Rattle.psa_status.specs.declared.Status.TheVariants.{InvalidArgument, InvalidSignature}
 use Rattle.psa_status.specs.Rows.{Rows, first_row}
 use Rattle.alg_encoding.specs.declared.table.Class.TheVariants.{Mac}
 use Rattle.store_model.specs.Store.{Store}
 use Rattle.store_model.specs.Call.{Reply}
 use Rattle.store_model.specs.Algorithms.{mac_of, tag_bytes}
-use Rattle.store_model.specs.Rules.{using_key, room_rows, total_limit}
+use Rattle.store_model.specs.Rules.{using_key, room_rows, total_limit, mac_usage}
 use Rattle.store_model.specs.Outcome.{Outcome, reply_unless, replies, given, done}
 
--- mac_compute: SIGN_MESSAGE
+-- mac_compute
 abbrev pub compute_rows : (alg bytes room : ℕ) → Rows
 compute_rows alg bytes room = (nat_lt total_limit bytes, InvalidArgument) ∷ room_rows (tag_bytes alg) room
 
@@ -17,9 +17,9 @@ abbrev pub mac_reply : ℕ → (key input : List ℕ) → ℕ → Reply
 mac_reply alg key input room = reply_unless (first_row (compute_rows alg (length input) room)) (given (mac_of alg key input))
 
 abbrev pub step_mac_compute : Store → (id alg : ℕ) → List ℕ → ℕ → Outcome
-step_mac_compute store id alg input room = using_key store Mac 0x400 alg id (λ key. replies (mac_reply alg key input room))
+step_mac_compute store id alg input room = using_key store Mac (mac_usage false) alg id (λ key. replies (mac_reply alg key input room))
 
--- mac_verify: VERIFY_MESSAGE; the MAC that was given is compared whole
+-- mac_verify: the MAC that was given is compared whole
 abbrev pub verify_rows : ℕ → (key input mac : List ℕ) → Rows
 verify_rows alg key input mac =
     (nat_lt total_limit (length input), InvalidArgument)
@@ -30,4 +30,4 @@ abbrev pub verified_reply : ℕ → (key input mac : List ℕ) → Reply
 verified_reply alg key input mac = reply_unless (first_row (verify_rows alg key input mac)) done
 
 abbrev pub step_mac_verify : Store → (id alg : ℕ) → List ℕ → List ℕ → Outcome
-step_mac_verify store id alg input mac = using_key store Mac 0x800 alg id (λ key. replies (verified_reply alg key input mac))
+step_mac_verify store id alg input mac = using_key store Mac (mac_usage true) alg id (λ key. replies (verified_reply alg key input mac))

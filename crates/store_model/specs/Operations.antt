@@ -43,14 +43,12 @@ unless_failed (Some status) after = fails status
 abbrev pub set_up : {W : Type 0} → Operation W → Option Status → W → After W
 set_up Inactive None work = goes_on work done
 set_up Inactive (Some status) work = stays Inactive status
-set_up InError refused work = stays InError BadState
-set_up (Active other) refused work = stays (Active other) BadState
+set_up other refused work = stays other BadState
 
 -- a step or a finish: only of an active operation
 abbrev pub on_active : {W : Type 0} → Operation W → (W → After W) → After W
 on_active (Active work) f = f work
-on_active Inactive f = stays Inactive BadState
-on_active InError f = stays InError BadState
+on_active operation f = stays operation BadState
 
 -- a step on an operation that was made with a key, by whether that key is still there
 abbrev pub with_live_key : {W : Type 0} → Bool → After W → After W
@@ -63,5 +61,4 @@ loses_key operation = on_active operation (λ work. fails InvalidHandle)
 
 abbrev pub is_inactive : {W : Type 0} → Operation W → Bool
 is_inactive Inactive = true
-is_inactive InError = false
-is_inactive (Active work) = false
+is_inactive _ = false

@@ -1,15 +1,16 @@
 -- Where a copy comes from, over a history.
-use Rattle.std.specs.Prelude.{◌≡◌, ◌≤◌, ℕ, List, [], ◌∷◌, ◌++◌, ◌==◌, find, Option, None, Some, if◌then◌else◌}
+use Rattle.std.specs.Prelude.{◌≡◌, ◌≤◌, ℕ, List, [], ◌∷◌, ◌++◌, ◌==◌, find, map as each, Option, None, Some, if◌then◌else◌}
 use Rattle.std.specs.List.{AllByRecursion}
-use Rattle.std.specs.Option.{option_map}
+use Rattle.std.specs.Option.{option_map, option_map_or}
 use Rattle.std.specs.FinMap as map
 use Rattle.key_attributes.specs.declared.Policy.{Policy}
 use Rattle.policy_rules.specs.Policy.{IsWithin}
-use Rattle.store_model.specs.Store.{Key, Store, Settings, caller_count}
-use Rattle.store_model.specs.Call.{Call, Import, Export, GetAttributes, Destroy, Copy, Generate, HashCompute, HashCompare, MacCompute, MacVerify, CipherEncrypt, CipherDecrypt, AeadEncrypt, AeadDecrypt, Output, Nothing, Done, Identifier, Description, Bytes, Number}
-use Rattle.store_model.specs.Handles.{Service, Served, service_start}
-use Rattle.store_model.specs.Requests.{Request, OnStore, OnHandle}
+use Rattle.store_model.specs.Store.{Key, Store, Settings, caller_count, start_of}
+use Rattle.store_model.specs.Call.{Copy, Output, Identifier}
+use Rattle.store_model.specs.Handles.{Service, Served}
+use Rattle.store_model.specs.Requests.{Request, OnStore}
 use Rattle.store_model.specs.Replay.{Entry, outcome_of, replay}
+use Rattle.store_model.specs.Sound.{IsSound}
 
 -- a creation: its number, the policy that it recorded, and of a copy the source's number
 pub record Made : Type 0 where
@@ -17,48 +18,32 @@ pub record Made : Type 0 where
   pub policy : Policy
   pub source : Option ℕ
 
--- the creation number of a copy's source
-abbrev pub source_of : Store → Call → Option ℕ
-source_of store (Copy source stated) = option_map (λ key. key.number) (map.get store.keys source)
-source_of store (Import a bytes) = None
-source_of store (Export id room) = None
-source_of store (GetAttributes id) = None
-source_of store (Destroy id) = None
-source_of store (Generate a) = None
-source_of store (HashCompute alg input room) = None
-source_of store (HashCompare alg input hash) = None
-source_of store (MacCompute id alg input room) = None
-source_of store (MacVerify id alg input mac) = None
-source_of store (CipherEncrypt id alg input room) = None
-source_of store (CipherDecrypt id alg input room) = None
-source_of store (AeadEncrypt id alg nonce ad input room) = None
-source_of store (AeadDecrypt id alg nonce ad input room) = None
+-- the creation number of a copy's source; nothing else has one, nor has a key of derived bytes
+abbrev pub source_of : Store → Request → Option ℕ
+source_of store (OnStore (Copy source stated)) = option_map (λ key. key.number) (map.get store.keys source)
+source_of store _ = None
 
--- only a copy has a source: a key of derived bytes has none
-abbrev pub source_of_request : Store → Request → Option ℕ
-source_of_request store (OnStore call) = source_of store call
-source_of_request store (OnHandle handle call) = None
+-- a key's creation
+abbrev pub creation_from : Option ℕ → Key → Made
+creation_from source key = record { number = key.number; policy = key.attributes.policy; source = source }
 
 -- what a call made, where it answers the identifier of a key
-abbrev pub made_key : Option ℕ → Option Key → List Made
-made_key source None = []
-made_key source (Some key) = record { number = key.number; policy = key.attributes.policy; source = source } ∷ []
-
 abbrev pub made_at : Option ℕ → Store → Output → List Made
-made_at source after (Identifier id) = made_key source (map.get after.keys id)
-made_at source after Nothing = []
-made_at source after Done = []
-made_at source after (Description attributes) = []
-made_at source after (Bytes bytes) = []
-made_at source after (Number number) = []
+made_at source after (Identifier id) = option_map_or (λ key. creation_from source key ∷ []) (map.get after.keys id) []
+made_at source after _ = []
 
 abbrev pub made_by : Service → Entry → List Made
-made_by service e = let served : Served = outcome_of service e in made_at (source_of_request service.store e.call) served.service.store served.reply.output
+made_by service e = let served : Served = outcome_of service e in made_at (source_of service.store e.call) served.service.store served.reply.output
 
 -- what a history made, the newest first, on top of what was made before
 abbrev pub made_after : Service → List Entry → List Made → List Made
 made_after service [] made = made
 made_after service (e ∷ es) made = made_after (outcome_of service e).service es (made_by service e ++ made)
+
+-- A key that is there before a history counts as made before it, with its own policy and from no source, as where it was
+-- found at opening.
+abbrev pub found_made : Store → List Made
+found_made store = each (creation_from None) (map.values store.keys)
 
 -- the creation of this number
 abbrev pub creation_at : List Made → ℕ → Option Made
@@ -89,11 +74,18 @@ pub record HasCreation (made : List Made) (key : Key) : Type 0 where
   pub found : creation_at made key.number ≡ Some creation
   pub policy : creation.policy ≡ key.attributes.policy
 
--- Over every history: no chain of copies gains a flag or an algorithm, and each key has the policy that its creation
--- recorded.
-pub record GainsNothing (settings : Settings) (h : List Entry) : Type 0 where
-  pub creations : (number : ℕ) (m : Made) → creation_at (made_after (service_start settings) h []) number ≡ Some m → HasOrigin (made_after (service_start settings) h []) m
-  pub keys : (id : ℕ) (key : Key) → map.get (replay (service_start settings) h).store.keys id ≡ Some key → HasCreation (made_after (service_start settings) h []) key
+-- no chain of copies among these creations gains a flag or an algorithm, and each key has the policy that its creation
+-- recorded
+pub record GainsNothing (made : List Made) (store : Store) : Type 0 where
+  pub creations : (number : ℕ) (m : Made) → creation_at made number ≡ Some m → HasOrigin made m
+  pub keys : (id : ℕ) (key : Key) → map.get store.keys id ≡ Some key → HasCreation made key
 
+-- over every history, from every sound service
 abbrev pub CopiesGainNothing : Type 0
-CopiesGainNothing = (settings : Settings) (h : List Entry) → AllByRecursion IsCaller h → GainsNothing settings h
+CopiesGainNothing =
+    (start : Service) (h : List Entry) → IsSound start → AllByRecursion IsCaller h →
+    GainsNothing (made_after start h (found_made start.store)) (replay start h).store
+
+-- nothing counts as made before the first call of a service that begins without a key
+abbrev pub NoneFoundAtStart : Type 0
+NoneFoundAtStart = (settings : Settings) → found_made (start_of settings) ≡ []

@@ -1,29 +1,15 @@
--- What a refused call leaves of its handle's operation.
-use Rattle.std.specs.Prelude.{◌≡◌, ◌≤◌, ℕ, Bool, true, false, not, ◌||◌, Option}
+-- What a refused call leaves of its handle's operation, and of its output buffer.
+use Rattle.std.specs.Prelude.{Bool, true, false, nat_lt, nat_le, length, if◌then◌else◌}
 use Rattle.psa_status.specs.declared.Status.{Status}
-use Rattle.psa_status.specs.declared.Status.TheVariants.{InsufficientData, InvalidSignature}
-use Rattle.store_model.specs.Operations.{Operation, Inactive, InError, Active, is_inactive}
-use Rattle.store_model.specs.DerivationOperations.{DerivationWork, SetCapacity, without}
-use Rattle.store_model.specs.Handles.{KeyCreation, Deriving, HandleOperation, part_of, hash_part, mac_part, cipher_part, aead_part, derivation_part}
+use Rattle.psa_status.specs.declared.Status.TheVariants.{InvalidArgument, InsufficientData, InvalidSignature, InvalidPadding}
+use Rattle.store_model.specs.Operations.{Operation, InError, Active, is_inactive}
+use Rattle.store_model.specs.DerivationOperations.{DerivationWork, SetCapacity, OutputBytes, VerifyBytes, without, stated_bytes}
+use Rattle.store_model.specs.Handles.{Work, Deriving, HandleOperation, key_of_operation, held_with, part_of, hash_part, mac_part, cipher_part, aead_part, derivation_part}
 use Rattle.store_model.specs.HandleCalls.{HandleCall, HashSetup, MacSetup, CipherSetup, AeadSetup, DerivationSetup, OnHash, OnMac, OnCipher, OnAead, OnDerivation, InputKey, OutputKey, Abort}
 
--- an active derivation
-abbrev pub held_derivation : Option KeyCreation → DerivationWork → HandleOperation
-held_derivation key work = Active (record { key = key; work = Deriving work })
-
--- The operation is as it was, where such a refusal may leave it so, or in error. A derivation may also go on with its
--- inputs: with nothing left to give, since more was asked for than it could give; or without the bytes that were
--- compared and weren't those expected.
-pub data IsLeft (may_stay : Bool) (status : Status) (before after : HandleOperation) : Type 0 where
-  AsItWas : (may : may_stay ≡ true) (same : after ≡ before) → IsLeft may_stay status before after
-  Failed : (failed : after ≡ InError) → IsLeft may_stay status before after
-  Exhausted : (key : Option KeyCreation) (work : DerivationWork) (says : status ≡ InsufficientData) (was : before ≡ held_derivation key work) (is : after ≡ held_derivation key (record work { capacity = 0 })) → IsLeft may_stay status before after
-  Compared : (key : Option KeyCreation) (work : DerivationWork) (n : ℕ) (says : status ≡ InvalidSignature) (had : n ≤ work.capacity) (was : before ≡ held_derivation key work) (is : after ≡ held_derivation key (without work n)) → IsLeft may_stay status before after
-
 abbrev pub is_active : {W : Type 0} → Operation W → Bool
-is_active Inactive = false
-is_active InError = false
 is_active (Active work) = true
+is_active _ = false
 
 abbrev pub is_setup : HandleCall → Bool
 is_setup (HashSetup alg) = true
@@ -31,23 +17,11 @@ is_setup (MacSetup verifies id alg) = true
 is_setup (CipherSetup encrypts id alg) = true
 is_setup (AeadSetup encrypts id alg) = true
 is_setup (DerivationSetup alg) = true
-is_setup (OnHash step) = false
-is_setup (OnMac step) = false
-is_setup (OnCipher step) = false
-is_setup (OnAead step) = false
-is_setup (OnDerivation step) = false
-is_setup (InputKey step id) = false
-is_setup (OutputKey attributes) = false
-is_setup Abort = false
+is_setup _ = false
 
--- whether the call is in order on the operation: a setup on an inactive one, a step or a finish on one that is
--- active with the call's family, and an abort always
+-- whether the call is in order on the operation: a step or a finish on one that is active with the call's family, an
+-- abort always, and a setup on an inactive one
 abbrev pub is_ready : HandleCall → HandleOperation → Bool
-is_ready (HashSetup alg) operation = is_inactive operation
-is_ready (MacSetup verifies id alg) operation = is_inactive operation
-is_ready (CipherSetup encrypts id alg) operation = is_inactive operation
-is_ready (AeadSetup encrypts id alg) operation = is_inactive operation
-is_ready (DerivationSetup alg) operation = is_inactive operation
 is_ready (OnHash step) operation = is_active (part_of hash_part operation)
 is_ready (OnMac step) operation = is_active (part_of mac_part operation)
 is_ready (OnCipher step) operation = is_active (part_of cipher_part operation)
@@ -56,12 +30,32 @@ is_ready (OnDerivation step) operation = is_active (part_of derivation_part oper
 is_ready (InputKey step id) operation = is_active (part_of derivation_part operation)
 is_ready (OutputKey attributes) operation = is_active (part_of derivation_part operation)
 is_ready Abort operation = true
+is_ready setup operation = is_inactive operation
 
-abbrev pub lowers_capacity : HandleCall → Bool
-lowers_capacity (OnDerivation (SetCapacity capacity)) = true
-lowers_capacity _ = false
+-- a derivation that goes on so where this holds, and is in error else
+abbrev pub goes_on_where : Bool → DerivationWork → Operation Work
+goes_on_where holds w = if holds then Active (Deriving w) else InError
 
--- whether a refused call may leave the operation as it was: a setup, a capacity that isn't lower, and a call that
--- isn't in order on the operation; any other is lost with its refusal
-abbrev pub may_stay : HandleCall → HandleOperation → Bool
-may_stay call operation = is_setup call || lowers_capacity call || not (is_ready call operation)
+-- What a refused step or finish leaves of its operation's work: an error. But after three refusals a derivation goes on:
+-- as it was, where its capacity was to be raised; with nothing left to give, where more was asked for than it had; and
+-- without the bytes that were compared and weren't those expected.
+abbrev pub work_left : HandleCall → Status → Work → Operation Work
+work_left (OnDerivation (SetCapacity n)) InvalidArgument (Deriving w) = goes_on_where (nat_lt w.capacity n) w
+work_left (OnDerivation (OutputBytes n)) InsufficientData (Deriving w) = goes_on_where (nat_lt w.capacity n) (record w { capacity = 0 })
+work_left (OnDerivation (VerifyBytes expected)) InsufficientData (Deriving w) = goes_on_where (nat_lt w.capacity (length expected)) (record w { capacity = 0 })
+work_left (OutputKey a) InsufficientData (Deriving w) = goes_on_where (nat_lt w.capacity (stated_bytes a)) (record w { capacity = 0 })
+work_left (OnDerivation (VerifyBytes expected)) InvalidSignature (Deriving w) =
+    goes_on_where (nat_le (length expected) w.capacity) (without w (length expected))
+work_left _ _ _ = InError
+
+-- What a refused call leaves of the operation: all of one that it isn't in order on, and of an inactive one, which a
+-- setup found; and the work of an active one as above, with its key.
+abbrev pub left_by : HandleCall → HandleOperation → Status → HandleOperation
+left_by call operation status =
+    if is_ready call operation then held_with (key_of_operation operation) (λ work. work) (part_of (work_left call status) operation) else operation
+
+-- the refusals that leave zeros in the output buffer, as many as were needed
+abbrev pub spoils : Status → Bool
+spoils InvalidSignature = true
+spoils InvalidPadding = true
+spoils _ = false

@@ -1,14 +1,14 @@
 -- One call on the service: on the store, or on a handle.
-use Rattle.std.specs.Prelude.{ℕ, Option, Some, None, if◌then◌else◌}
+use Rattle.std.specs.Prelude.{ℕ, not, ◌||◌, Option, Some, None, if◌then◌else◌}
 use Rattle.psa_status.specs.declared.Status.{Status}
 use Rattle.store_model.specs.Call.{Call}
 use Rattle.store_model.specs.Faults.{FaultMark, failure_of}
 use Rattle.store_model.specs.Step.{step, failed_step}
 use Rattle.store_model.specs.Outcome.{Outcome}
-use Rattle.store_model.specs.Operations.{Inactive, InError, Active, fails}
-use Rattle.store_model.specs.Handles.{HandleOperation, Service, Served, own_of, operation_of, with_own, with_drawn, next_random, applied, untouched}
+use Rattle.store_model.specs.Operations.{fails}
+use Rattle.store_model.specs.Handles.{Service, Served, own_of, operation_of, with_own, with_drawn, next_random, applied, untouched}
 use Rattle.store_model.specs.HandleCalls.{HandleCall, handle_step}
-use Rattle.store_model.specs.Refusals.{is_setup}
+use Rattle.store_model.specs.Refusals.{is_setup, is_active}
 
 pub data Request : Type 0 where
   OnStore : (call : Call) → Request
@@ -23,14 +23,10 @@ on_store service caller outcome = record {
 
 -- A call on a handle in whose turn a device failed: a setup leaves the handle, and any other call puts an active
 -- operation in error.
-abbrev pub failed_on : Service → (caller handle : ℕ) → HandleOperation → Status → Served
-failed_on service caller handle (Active held) status = applied service caller handle (fails status)
-failed_on service caller handle Inactive status = untouched service status
-failed_on service caller handle InError status = untouched service status
-
 abbrev pub failed_handle_step : Service → (caller handle : ℕ) → HandleCall → Status → Served
 failed_handle_step service caller handle call status =
-    if is_setup call then untouched service status else failed_on service caller handle (operation_of service caller handle) status
+    if is_setup call || not (is_active (operation_of service caller handle)) then untouched service status
+    else applied service caller handle (fails status)
 
 abbrev pub serve_unless : Option Status → Service → ℕ → Request → Served
 serve_unless None service caller (OnStore call) = on_store service caller (step service.store caller (next_random service caller) call)

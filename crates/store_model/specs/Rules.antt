@@ -35,6 +35,13 @@ class_rows class alg =
 abbrev pub fits_type : ℕ → ℕ → Bool
 fits_type alg key_type = key_type == (if is_hmac alg then 0x1100 else 0x2400)
 
+-- SIGN_MESSAGE and VERIFY_MESSAGE, ENCRYPT and DECRYPT
+abbrev pub mac_usage : Bool → ℕ
+mac_usage verifies = if verifies then 0x800 else 0x400
+
+abbrev pub cipher_usage : Bool → ℕ
+cipher_usage encrypts = if encrypts then 0x100 else 0x200
+
 -- a call that uses a key with an algorithm, by what the map has at the identifier
 abbrev pub use_rows : Class → (usage alg : ℕ) → Option Key → Rows
 use_rows class usage alg None = (true, InvalidHandle) ∷ []

@@ -5,9 +5,9 @@ use Rattle.key_attributes.specs.Checks.{checked}
 use Rattle.store_model.specs.Store.{Key, Store, Settings, caller_count, made_of, first_volatile, has_secure_element, live_volatile}
 use Rattle.store_model.specs.Faults.{FaultMark}
 use Rattle.store_model.specs.Creation.{identified}
-use Rattle.store_model.specs.Operations.{Inactive, InError, Active}
+use Rattle.store_model.specs.Operations.{Active}
 use Rattle.store_model.specs.DerivationOperations.{DerivationWork, full_capacity, is_hkdf}
-use Rattle.store_model.specs.Handles.{KeyCreation, Work, Hashing, Authenticating, Ciphering, Sealing, Deriving, Held, HandleOperation, Service, handle_count, service_start, own_of, operation_of, key_of_operation, is_alive}
+use Rattle.store_model.specs.Handles.{KeyCreation, Work, Deriving, Held, HandleOperation, Service, handle_count, service_start, own_of, operation_of, key_of_operation, is_alive}
 use Rattle.store_model.specs.Requests.{Request, serve}
 
 -- THE STORE
@@ -52,20 +52,16 @@ pub record IsSoundDerivation (work : DerivationWork) : Type 0 where
   pub keyed : is_hkdf work.alg ≡ false → is_some work.secret ≡ true → is_some work.cost ≡ true
 
 abbrev pub IsSoundWork : Work → Type 0
-IsSoundWork (Hashing work) = Unit {0}
-IsSoundWork (Authenticating work) = Unit {0}
-IsSoundWork (Ciphering work) = Unit {0}
-IsSoundWork (Sealing work) = Unit {0}
 IsSoundWork (Deriving work) = IsSoundDerivation work
+IsSoundWork _ = Unit {0}
 
 pub record IsSoundHeld (store : Store) (held : Held) : Type 0 where
   pub key : IsSoundUse store held.key
   pub work : IsSoundWork held.work
 
 abbrev pub IsSoundOperation : Store → HandleOperation → Type 0
-IsSoundOperation store Inactive = Unit {0}
-IsSoundOperation store InError = Unit {0}
 IsSoundOperation store (Active held) = IsSoundHeld store held
+IsSoundOperation store _ = Unit {0}
 
 -- THE SERVICE
 

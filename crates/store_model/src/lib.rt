@@ -1,8 +1,8 @@
 //! The one-thread key store, its calls and its replies: definitions, which stand in `specs/`, and laws of them.
 #![tactic(auto)]
 
-ghost use Rattle.store_model.specs.Laws.{DrawsFewWords, LeavesOtherCallers, LeavesOtherHandles, LeavesSettings, LeavesShared, RefusalsLeaveAll, RefusedSetupsLeaveAll, UnreadyHandlesStay};
-ghost use Rattle.store_model.specs.Origin.{CopiesGainNothing};
+ghost use Rattle.store_model.specs.Laws.{CountsOnce, DrawsFewWords, LeavesOtherCallers, LeavesOtherHandles, LeavesSettings, LeavesShared, RefusalsLeaveAll, RefusalsLeaveBuffers, RefusedSetupsLeaveAll, UnreadyHandlesStay};
+ghost use Rattle.store_model.specs.Origin.{CopiesGainNothing, NoneFoundAtStart};
 ghost use Rattle.store_model.specs.Sound.{AliveByNumber, StartsSound, StaysSound};
 
 /// A request of one caller leaves what is every other caller's own.
@@ -21,18 +21,20 @@ pub fn draws_few_words()
 {}
 
 /// A request that neither creates nor destroys a key leaves the shared store but for the count of calls, whatever it
-/// computes. None changes the settings.
+/// computes. Each is counted once, whatever its reply and its mark. None changes the settings.
 pub fn leaves_shared()
     ensures shared { LeavesShared }
     ensures settings { LeavesSettings }
+    ensures counts { CountsOnce }
 {}
 
-/// A request that doesn't succeed, though no device failed, leaves all keys, each caller's random words and the operations
-/// of all other handles; and of its own handle's operation an error, or a derivation with the same inputs, or what it was: this last of a setup, of a
-/// capacity that isn't lower, and of a call that isn't in order on its handle alone. A call that isn't in order, and a
-/// refused setup, leave all.
+/// A request that doesn't succeed, though no device failed, leaves all but the count of calls and its own handle's
+/// operation, and of that exactly what its call, the operation and its status say (`left_by`). It leaves its output
+/// buffer, but for INVALID_SIGNATURE and INVALID_PADDING, which leave zeros, as many as were needed. A call that isn't in
+/// order on its handle, and a refused setup, leave all.
 pub fn refusals_leave_all()
     ensures refusals { RefusalsLeaveAll }
+    ensures buffers { RefusalsLeaveBuffers }
     ensures unready { UnreadyHandlesStay }
     ensures setups { RefusedSetupsLeaveAll }
 {}
@@ -48,8 +50,10 @@ pub fn alive_by_number()
     ensures { AliveByNumber }
 {}
 
-/// No chain of copies gains a usage flag or an algorithm, over every history, and each key has the policy that its
-/// creation recorded.
+/// No chain of copies gains a usage flag or an algorithm, over every history and from every sound service, whose keys count
+/// as made before it; and each key has the policy that its creation recorded. Where a service begins without a key, nothing
+/// counts as made before.
 pub fn copies_gain_nothing()
-    ensures { CopiesGainNothing }
+    ensures gains { CopiesGainNothing }
+    ensures start { NoneFoundAtStart }
 {}
