@@ -5,3 +5,4 @@ pub mod Counted
 pub mod Runs
 pub mod Holding
 pub mod Laws
+pub mod Setups

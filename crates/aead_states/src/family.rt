@@ -1,11 +1,12 @@
 // AEADs among the families of operations.
 ghost use Rattle.std.specs.Prelude.{◌≡◌};
 ghost use Rattle.store_model.specs.Outcome.{refusal};
-ghost use Rattle.store_model.specs.Operations.{Operation, loses_key};
+ghost use Rattle.store_model.specs.Operations.{Operation};
 ghost use Rattle.store_model.specs.AeadOperations.{AeadWork, aead_step};
 ghost use Rattle.service_calls.specs.Meanings.{model_aead_step};
 ghost use Rattle.aead_states.specs.Holding.{IsAeadOperation};
 ghost use Rattle.service_calls.specs.Random.{takes_nonce_bytes};
+ghost use Rattle.operation_phase.specs.Turns.{loses_key};
 
 use crate::state::AeadState;
 use operation_phase::Family;

@@ -3,10 +3,11 @@ ghost use Rattle.std.specs.Prelude.{◌≡◌, true, false};
 ghost use Rattle.crypto_specs.specs.Aes.{IsKey};
 ghost use Rattle.store_model.specs.Answers.{plain_reply};
 ghost use Rattle.store_model.specs.Operations.{Operation};
-ghost use Rattle.store_model.specs.AeadOperations.{AeadWork, aead_setup};
+ghost use Rattle.store_model.specs.AeadOperations.{AeadWork};
 ghost use Rattle.alg_encoding.specs.declared.table.Class.TheVariants.{Aead};
 ghost use Rattle.algorithm_facts.specs.Names.{IsOfClass};
 ghost use Rattle.aead_states.specs.Holding.{IsAeadOperation};
+ghost use Rattle.aead_states.specs.Setups.{aead_setup};
 
 use crate::AeadState;
 use alg_encoding::Alg;

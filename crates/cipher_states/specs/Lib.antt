@@ -3,3 +3,4 @@ pub mod Ways
 pub mod Texts
 pub mod States
 pub mod Laws
+pub mod Setups

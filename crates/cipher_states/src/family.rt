@@ -1,11 +1,12 @@
 // Ciphers among the families of operations.
 ghost use Rattle.std.specs.Prelude.{◌≡◌};
 ghost use Rattle.store_model.specs.Outcome.{refusal};
-ghost use Rattle.store_model.specs.Operations.{Operation, loses_key};
+ghost use Rattle.store_model.specs.Operations.{Operation};
 ghost use Rattle.store_model.specs.CipherOperations.{CipherWork, cipher_step};
 ghost use Rattle.service_calls.specs.Meanings.{model_cipher_step};
 ghost use Rattle.cipher_states.specs.States.{IsCipherOperation};
 ghost use Rattle.service_calls.specs.Random.{takes_iv_bytes};
+ghost use Rattle.operation_phase.specs.Turns.{loses_key};
 
 use crate::state::CipherState;
 use operation_phase::Family;

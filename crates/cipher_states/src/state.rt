@@ -3,8 +3,8 @@ ghost use Rattle.std.specs.Prelude.{◌≡◌, ◌≤◌, ℕ, List, [], IfOk, I
 ghost use Rattle.crypto_specs.specs.Aes.{IsKey};
 ghost use Rattle.store_model.specs.Call.{buffer_after};
 ghost use Rattle.store_model.specs.Answers.{AnswersLength, AnswersOrSpoils, plain_reply};
-ghost use Rattle.store_model.specs.Operations.{Operation, Inactive, is_inactive, on_active};
-ghost use Rattle.store_model.specs.CipherOperations.{CipherFinish, CipherGenerateIv, CipherSetIv, CipherUpdate, CipherWork, cipher_setup, cipher_step};
+ghost use Rattle.store_model.specs.Operations.{Operation, Inactive, is_inactive};
+ghost use Rattle.store_model.specs.CipherOperations.{CipherFinish, CipherGenerateIv, CipherSetIv, CipherUpdate, CipherWork, cipher_step};
 ghost use Rattle.operation_phase.specs.declared.Phase.TheVariants as phases;
 ghost use Rattle.alg_encoding.specs.declared.table.Class.TheVariants.{Cipher};
 ghost use Rattle.algorithm_facts.specs.Names.{IsOfClass};
@@ -26,6 +26,8 @@ pub struct CipherState {
 
 impl CipherState {
     ghost use Rattle.cipher_states.specs.States.{IsCipherOperation, IsClearCipher};
+ghost use Rattle.operation_phase.specs.Turns.{on_active};
+ghost use Rattle.cipher_states.specs.Setups.{cipher_setup};
 
     /// An inactive operation.
     pub fn new() -> CipherState

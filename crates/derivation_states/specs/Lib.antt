@@ -4,3 +4,4 @@ pub mod Outputs
 pub mod States
 pub mod Replies
 pub mod Laws
+pub mod KeySteps

@@ -2,8 +2,8 @@
 #![tactic(auto)]
 
 ghost use Rattle.std.specs.Prelude.{◌≡◌, ◌≤◌, ◌/◌, min, IfOk, OnOk, OnErr, length};
-ghost use Rattle.store_model.specs.Operations.{Operation, Inactive, InError, Active, is_inactive, loses_key, on_active};
-ghost use Rattle.store_model.specs.DerivationOperations.{DerivationWork, derivation_setup, derivation_step, derived_key, key_given, key_step_refusal, GetCapacity, SetCapacity, InputBytes, InputInteger, OutputBytes, VerifyBytes};
+ghost use Rattle.store_model.specs.Operations.{Operation, Inactive, InError, Active, is_inactive};
+ghost use Rattle.store_model.specs.DerivationOperations.{DerivationWork, derivation_step, GetCapacity, SetCapacity, InputBytes, InputInteger, OutputBytes, VerifyBytes};
 ghost use Rattle.store_model.specs.Answers.{AnswersLength, plain_reply};
 ghost use Rattle.store_model.specs.Call.{buffer_after};
 ghost use Rattle.derivation_states.specs.Laws.{DueGrows};
@@ -37,6 +37,8 @@ pub struct DerivationState {
 
 impl DerivationState {
     ghost use Rattle.derivation_states.specs.States.{IsClearDerivation, IsDerivationOperation};
+ghost use Rattle.operation_phase.specs.Turns.{loses_key, on_active};
+ghost use Rattle.derivation_states.specs.KeySteps.{derivation_setup, derived_key, key_given, key_step_refusal};
 
     /// An inactive derivation; `Memory` where there is no room for its buffers.
     pub fn new(alloc: Global) -> Result<DerivationState, Memory>

@@ -13,7 +13,7 @@ use Rattle.store_model.specs.Outcome.{counted, refusal, done, given}
 use Rattle.store_model.specs.Rules.{class_rows, is_of_class}
 use Rattle.store_model.specs.Operations.{Operation, Inactive, InError, Active, After, goes_on, unless_failed, set_up}
 use Rattle.store_model.specs.CipherOperations.{bytes_or_empty}
-use Rattle.store_model.specs.DerivationOperations.{DerivationWork, DerivationStep, GetCapacity, SetCapacity, InputBytes, InputInteger, OutputBytes, VerifyBytes, derivation_step, derivation_work, with_bytes, exhausted, without, taken_from, salt_step, info_step, input_bytes_rows, input_integer_rows, output_rows, next_derived, compared, stated_bytes, output_key_rows, derived_key}
+use Rattle.store_model.specs.DerivationOperations.{DerivationWork, DerivationStep, GetCapacity, SetCapacity, InputBytes, InputInteger, OutputBytes, VerifyBytes, derivation_step, derivation_work, with_bytes, exhausted, without, taken_from, salt_step, info_step, input_bytes_rows, input_integer_rows, output_rows, next_derived, compared, stated_bytes, output_key_rows}
 use Rattle.store_model.specs.Handles.{Service, operation_of, stepped, part_of, derivation_part, Deriving, is_alive}
 use Rattle.derivation_states.specs.States.{IsDerivationOperation}
 use Rattle.derivation_states.specs.declared.DerivationState.{DerivationState}
@@ -27,6 +27,7 @@ use Rattle.key_service.proofs.Served.{IsAt, cell_stands, alive_is}
 use Rattle.operation_phase.specs.Turns.{by_key}
 use Rattle.operation_phase.proofs.Stepping.{no_draw}
 use Rattle.key_service.proofs.Steps.{IsStep, step_is}
+use Rattle.derivation_states.specs.KeySteps.{derived_key}
 
 -- A DERIVATION KEEPS ITS ALGORITHM
 

@@ -11,8 +11,8 @@ use Rattle.store_model.specs.Call.{Reply, Identifier, Nothing}
 use Rattle.store_model.specs.Outcome.{Outcome, counted, decided, refusal}
 use Rattle.store_model.specs.Creation.{creation_rows, created, step_import}
 use Rattle.store_model.specs.Answers.{id_reply}
-use Rattle.store_model.specs.Operations.{Operation, Inactive, InError, Active, on_active, fails, loses_key}
-use Rattle.store_model.specs.DerivationOperations.{DerivationWork, stated_bytes, next_derived, without, derived_key}
+use Rattle.store_model.specs.Operations.{Operation, Inactive, InError, Active, fails}
+use Rattle.store_model.specs.DerivationOperations.{DerivationWork, stated_bytes, next_derived, without}
 use Rattle.random_streams.specs.RandomWords.{words_used}
 use Rattle.store_model.specs.Handles.{HandleOperation, Own, Service, Served, own_of, with_operation, operation_of, part_of, derivation_part, Deriving, is_alive, key_of_operation, applied, held_with}
 use Rattle.store_model.specs.HandleCalls.{output_key, created_from}
@@ -34,6 +34,8 @@ use Rattle.key_service.proofs.Places.{operations_put}
 use Rattle.key_service.proofs.Streams.{undrew, streams_drawn}
 use Rattle.key_service.proofs.Served.{IsAt, cell_stands, applied_stands, alive_after, plain_stands}
 use Rattle.key_service.proofs.Steps.{View, Busy, Idle, is_active}
+use Rattle.operation_phase.specs.Turns.{loses_key, on_active}
+use Rattle.derivation_states.specs.KeySteps.{derived_key}
 
 -- what an import answered
 

@@ -10,8 +10,8 @@ use Rattle.alg_encoding.specs.Encoding.{IsConcrete}
 use Rattle.store_model.specs.Store.{Key, Store}
 use Rattle.store_model.specs.Outcome.{counted, done}
 use Rattle.store_model.specs.KeyUse.{bytes_of}
-use Rattle.store_model.specs.Operations.{Operation, Inactive, InError, Active, After, goes_on, unless_failed, on_active, fails, loses_key, with_live_key}
-use Rattle.store_model.specs.DerivationOperations.{DerivationWork, key_step_rows, key_step_refusal, key_given, with_key}
+use Rattle.store_model.specs.Operations.{Operation, Inactive, InError, Active, After, goes_on, unless_failed, fails, with_live_key}
+use Rattle.store_model.specs.DerivationOperations.{DerivationWork, key_step_rows, with_key}
 use Rattle.store_model.specs.Handles.{HandleOperation, Service, Served, operation_of, stepped, part_of, derivation_part, Deriving, is_alive, key_of_operation, applied, held_after}
 use Rattle.store_model.specs.HandleCalls.{input_key, input_key_rows, derivation_key_rows, creation_of}
 use Rattle.store_core.specs.Uses.{IsDerivationKey}
@@ -31,6 +31,8 @@ use Rattle.key_service.proofs.Setups.{same_found}
 use Rattle.key_service.proofs.Streams.{undrew}
 use Rattle.operation_phase.specs.Turns.{by_key}
 use Rattle.key_service.proofs.Steps.{View, Busy, Idle, is_active, seen}
+use Rattle.operation_phase.specs.Turns.{loses_key, on_active}
+use Rattle.derivation_states.specs.KeySteps.{key_given, key_step_refusal}
 
 -- the derivation that the handle has
 abbrev pub seen_of : Service → (caller handle : ℕ) → Operation DerivationWork

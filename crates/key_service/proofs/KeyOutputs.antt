@@ -10,11 +10,12 @@ use Rattle.store_model.specs.Call.{Reply, Bytes, Nothing}
 use Rattle.store_model.specs.Outcome.{refusal, given}
 use Rattle.store_model.specs.Creation.{creation_rows}
 use Rattle.store_model.specs.Operations.{Operation, Inactive, InError, Active, goes_on, unless_failed, fails, with_live_key}
-use Rattle.store_model.specs.DerivationOperations.{DerivationWork, output_key_rows, exhausted, without, next_derived, stated_bytes, derived_key}
+use Rattle.store_model.specs.DerivationOperations.{DerivationWork, output_key_rows, exhausted, without, next_derived, stated_bytes}
 use Rattle.store_model.specs.Handles.{KeyCreation, Service, Served, operation_of, stepped, Deriving, key_of_operation, applied, held_after}
 use Rattle.store_model.specs.HandleCalls.{output_key, output_key_of, created_from}
 use Rattle.derivation_states.specs.Replies.{AnswersFront}
 use Rattle.key_service.proofs.KeyInputs.{alive_of}
+use Rattle.derivation_states.specs.KeySteps.{derived_key}
 
 -- the derivation's key is gone
 pub dead_is : (service : Service) (caller handle : ℕ) (own : Operation DerivationWork) (a : Attributes) → ((w : DerivationWork) → own ≡ Active w → alive_of service caller handle ≡ false) →

@@ -1,3 +1,4 @@
 pub mod Keyed
 pub mod HashStates
 pub mod MacStates
+pub mod Setups

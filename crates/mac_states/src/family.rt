@@ -1,12 +1,13 @@
 // Hashes and MACs among the families of operations.
 ghost use Rattle.std.specs.Prelude.{◌≡◌, false};
 ghost use Rattle.store_model.specs.Outcome.{refusal};
-ghost use Rattle.store_model.specs.Operations.{Operation, loses_key};
+ghost use Rattle.store_model.specs.Operations.{Operation};
 ghost use Rattle.store_model.specs.HashOperations.{HashWork, hash_step};
 ghost use Rattle.store_model.specs.MacOperations.{MacWork, mac_step};
 ghost use Rattle.service_calls.specs.Meanings.{model_hash_step, model_mac_step};
 ghost use Rattle.mac_states.specs.HashStates.{IsHashOperation};
 ghost use Rattle.mac_states.specs.MacStates.{IsMacOperation};
+ghost use Rattle.operation_phase.specs.Turns.{loses_key};
 
 use crate::hash_state::HashOpState;
 use crate::mac_state::MacState;

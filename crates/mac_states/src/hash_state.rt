@@ -2,10 +2,12 @@
 ghost use Rattle.std.specs.Prelude.{◌≡◌, Bool, length};
 ghost use Rattle.store_model.specs.Call.{buffer_after};
 ghost use Rattle.store_model.specs.Answers.{AnswersLength, plain_reply};
-ghost use Rattle.store_model.specs.Operations.{Operation, Inactive, is_inactive, on_active};
-ghost use Rattle.store_model.specs.HashOperations.{HashFinish, HashUpdate, HashVerify, HashWork, hash_setup, hash_step};
+ghost use Rattle.store_model.specs.Operations.{Operation, Inactive, is_inactive};
+ghost use Rattle.store_model.specs.HashOperations.{HashFinish, HashUpdate, HashVerify, HashWork, hash_step};
 ghost use Rattle.operation_phase.specs.declared.Phase.TheVariants as phase;
 ghost use Rattle.mac_states.specs.HashStates.{IsClearHash, IsHashOperation};
+ghost use Rattle.operation_phase.specs.Turns.{on_active};
+ghost use Rattle.mac_states.specs.Setups.{hash_setup};
 
 use crate::running_hash::RunningHash;
 use alg_encoding::Alg;

@@ -5,11 +5,13 @@ ghost use Rattle.alg_encoding.specs.Encoding.{base_of};
 ghost use Rattle.store_model.specs.Algorithms.{cmac_base};
 ghost use Rattle.store_model.specs.Call.{buffer_after};
 ghost use Rattle.store_model.specs.Answers.{AnswersLength, plain_reply};
-ghost use Rattle.store_model.specs.Operations.{Operation, Inactive, is_inactive, on_active};
-ghost use Rattle.store_model.specs.MacOperations.{MacSignFinish, MacUpdate, MacVerifyFinish, MacWork, mac_setup, mac_step};
+ghost use Rattle.store_model.specs.Operations.{Operation, Inactive, is_inactive};
+ghost use Rattle.store_model.specs.MacOperations.{MacSignFinish, MacUpdate, MacVerifyFinish, MacWork, mac_step};
 ghost use Rattle.alg_encoding.specs.declared.table.Class.TheVariants.{Mac};
 ghost use Rattle.algorithm_facts.specs.Names.{IsOfClass};
 ghost use Rattle.mac_states.specs.MacStates.{IsClearMac, IsMacOperation};
+ghost use Rattle.operation_phase.specs.Turns.{on_active};
+ghost use Rattle.mac_states.specs.Setups.{mac_setup};
 
 use crate::running_mac::RunningMac;
 use alg_encoding::Alg;

@@ -2,10 +2,11 @@
 use Rattle.std.proofs.Common.{◌≡◌, refl}
 use Rattle.psa_status.specs.declared.Status.TheVariants.{BadState}
 use Rattle.store_model.specs.Operations as model
-use Rattle.store_model.specs.Operations.{Operation, After, on_active, stays, is_inactive}
+use Rattle.store_model.specs.Operations.{Operation, After, stays, is_inactive}
 use Rattle.operation_phase.specs.Phases.{StandsFor}
 use Rattle.operation_phase.specs.declared.Phase.{Phase}
 use Rattle.operation_phase.specs.declared.Phase.TheVariants as phase
+use Rattle.operation_phase.specs.Turns.{on_active}
 
 -- a step on a state that isn't active leaves its operation
 pub not_active : {W : Type 0} (p : Phase) (clear : Type 0) (holds : W → Type 0) (op : Operation W) (f : W → After W) → (p ≡ phase.Active → ⊥) → StandsFor p clear holds op →

@@ -2,7 +2,8 @@
 use Rattle.std.proofs.Common.{◌≡◌, refl, sym, subst}
 use Rattle.std.specs.Prelude.{Option, Some, None}
 use Rattle.psa_status.specs.declared.Status.{Status}
-use Rattle.store_model.specs.Operations.{Operation, Inactive, InError, Active, After, on_active, unless_failed}
+use Rattle.store_model.specs.Operations.{Operation, Inactive, InError, Active, After, unless_failed}
+use Rattle.operation_phase.specs.Turns.{on_active}
 
 -- what is said of one step is said of the step that was asked for
 pub step_at : {S W : Type 0} (f : S → W → After W) (P : After W → Type 0) (own : Operation W) (s t : S) → s ≡ t → P (on_active own (f t)) → P (on_active own (f s))

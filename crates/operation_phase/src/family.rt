@@ -2,9 +2,10 @@
 ghost use Rattle.std.specs.Prelude.{◌≡◌, ◌≤◌, ℕ, Bool, List, true, length};
 ghost use Rattle.store_model.specs.Call.{buffer_after};
 ghost use Rattle.store_model.specs.Outcome.{refusal};
-ghost use Rattle.store_model.specs.Operations.{Operation, After, loses_key, on_active};
+ghost use Rattle.store_model.specs.Operations.{Operation, After};
 ghost use Rattle.service_calls.specs.Answered.{AnswersReply};
 ghost use Rattle.operation_phase.specs.Turns.{by_key};
+ghost use Rattle.operation_phase.specs.Turns.{loses_key, on_active};
 
 use psa_status::Status;
 use service_calls::Output;

@@ -1,6 +1,6 @@
 // The state of an operation of any family.
 ghost use Rattle.std.specs.Prelude.{◌≡◌};
-ghost use Rattle.store_model.specs.Operations.{Operation, Inactive, is_inactive, loses_key};
+ghost use Rattle.store_model.specs.Operations.{Operation, Inactive, is_inactive};
 ghost use Rattle.store_model.specs.Outcome.{refusal};
 ghost use Rattle.operation_phase.specs.declared.Phase.TheVariants as phases;
 
@@ -32,6 +32,7 @@ pub struct OperationState<W> {
 
 impl<W: Work + Drop> OperationState<W> {
     ghost use Rattle.operation_phase.specs.States.{IsOperation};
+ghost use Rattle.operation_phase.specs.Turns.{loses_key};
 
     /// An inactive operation.
     pub fn new(work: W) -> OperationState<W>

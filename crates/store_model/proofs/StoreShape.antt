@@ -142,9 +142,9 @@ module _ (store : Store) (caller : ℕ) (call : Call) (P : Outcome → Type 0) (
   refused_too : (status : Status) → P (refused store status)
   refused_too status = cases.counted_too (refusal status) 0 (refused_counts status)
 
-  decided_too : (o : Option Status) (done : Outcome) → (o ≡ None → P done) → P (decided store o done)
-  decided_too None done h = h refl
-  decided_too (Some status) done h = refused_too status
+  decided_too : (o : Option Status) (outcome : Outcome) → (o ≡ None → P outcome) → P (decided store o outcome)
+  decided_too None outcome h = h refl
+  decided_too (Some status) outcome h = refused_too status
 
   computed_too : (o : Option Status) (computed : Computed) → IsCounted computed.reply computed.drawn → P (with_computed store (computed_unless o computed))
   computed_too o computed h = cases.counted_too (computed_unless o computed).reply (computed_unless o computed).drawn (computed_counts o computed h)

@@ -7,7 +7,7 @@ use Rattle.store_model.specs.Aeads.{is_ccm, permits_nonce, permits_payload, aead
 use Rattle.store_model.specs.Algorithms.{tag_bytes}
 use Rattle.store_model.specs.Rules.{room_rows, total_limit}
 use Rattle.store_model.specs.Outcome.{given, done}
-use Rattle.store_model.specs.Operations.{Operation, Active, After, goes_on, ends, unless_failed, set_up}
+use Rattle.store_model.specs.Operations.{Active, After, goes_on, ends, unless_failed}
 use Rattle.store_model.specs.CipherOperations.{bytes_or_empty}
 
 -- the bytes of associated data and of payload that were declared
@@ -38,10 +38,6 @@ pub data AeadStep : Type 0 where
 
 abbrev pub aead_work : Bool → ℕ → List ℕ → AeadWork
 aead_work encrypts alg key = record { encrypts = encrypts; alg = alg; key = key; lengths = None; nonce = None; ad = []; text = []; has_text = false }
-
--- aead_encrypt_setup and aead_decrypt_setup, once the key is known to be for it
-abbrev pub aead_setup : Operation AeadWork → Bool → ℕ → List ℕ → After AeadWork
-aead_setup operation encrypts alg key = set_up operation None (aead_work encrypts alg key)
 
 -- THE OUTPUT THAT IS DUE: each byte at once
 

@@ -9,7 +9,7 @@ use Rattle.crypto_specs.specs.Modes.{ctr_xor, cbc_encrypt, cbc_decrypt, ecb_encr
 use Rattle.store_model.specs.Ciphers.{Mode, Ctr, CbcNoPadding, CbcPkcs7, EcbNoPadding, mode_of, iv_length, takes_whole_blocks, is_ciphertext_length, enciphered, deciphered}
 use Rattle.store_model.specs.Rules.{room_rows}
 use Rattle.store_model.specs.Outcome.{given, done, spoiled}
-use Rattle.store_model.specs.Operations.{Operation, InError, Active, After, goes_on, ends, unless_failed, set_up}
+use Rattle.store_model.specs.Operations.{InError, Active, After, goes_on, ends, unless_failed}
 use Rattle.store_model.specs.HashOperations.{total_rows}
 
 -- whether the text is encrypted, and not decrypted; the algorithm, the key, the initialisation vector once it is
@@ -29,10 +29,6 @@ pub data CipherStep : Type 0 where
 
 abbrev pub cipher_work : Bool → ℕ → List ℕ → CipherWork
 cipher_work encrypts alg key = record { encrypts = encrypts; alg = alg; key = key; iv = None; text = [] }
-
--- cipher_encrypt_setup and cipher_decrypt_setup, once the key is known to be for it
-abbrev pub cipher_setup : Operation CipherWork → Bool → ℕ → List ℕ → After CipherWork
-cipher_setup operation encrypts alg key = set_up operation None (cipher_work encrypts alg key)
 
 abbrev pub bytes_or_empty : Option (List ℕ) → List ℕ
 bytes_or_empty found = option_map_or (λ bytes. bytes) found []

@@ -1,19 +1,16 @@
 -- A derivation of bytes and keys: HKDF (RFC 5869) and PBKDF2 (RFC 8018).
 use Rattle.std.specs.Prelude.{ℕ, ◌+◌, ◌-◌, ◌*◌, ◌/◌, ◌^◌, Bool, true, false, not, nat_lt, ◌&&◌, ◌||◌, ◌==◌, bytes_eq, List, [], ◌∷◌, ◌++◌, length, drop, Option, Some, None, is_some, if◌then◌else◌}
 use Rattle.std.specs.Option.{option_map_or}
-use Rattle.psa_status.specs.declared.Status.{Status}
 use Rattle.psa_status.specs.declared.Status.TheVariants.{Success, BadState, InvalidArgument, NotSupported, NotPermitted, InsufficientData, InvalidSignature}
 use Rattle.psa_status.specs.Rows.{Rows, first_row}
-use Rattle.alg_encoding.specs.declared.table.Class.TheVariants.{Derivation}
 use Rattle.key_attributes.specs.declared.Attributes.{Attributes}
 use Rattle.key_attributes.specs.Checks.{location}
 use Rattle.crypto_specs.specs.Hkdf.{extract, expand}
 use Rattle.crypto_specs.specs.Pbkdf2.{pbkdf2}
 use Rattle.store_model.specs.Algorithms.{digest, hash_block_length, hash_length_of, low_byte}
 use Rattle.store_model.specs.Call.{Reply, Number}
-use Rattle.store_model.specs.Rules.{class_rows}
 use Rattle.store_model.specs.Outcome.{given, done, refusal}
-use Rattle.store_model.specs.Operations.{Operation, Active, After, goes_on, unless_failed, set_up}
+use Rattle.store_model.specs.Operations.{After, goes_on, unless_failed}
 use Rattle.store_model.specs.CipherOperations.{bytes_or_empty}
 use Rattle.store_model.specs.Creation.{stated_bits_rows}
 pub use Rattle.store_model.specs.Creation.{stated_bytes}
@@ -40,10 +37,6 @@ full_capacity alg = (if is_hkdf alg then 255 else 2 ^ 32 - 1) * hash_length_of a
 
 abbrev pub derivation_work : ℕ → DerivationWork
 derivation_work alg = record { alg = alg; cost = None; salt = None; secret = None; info = None; by_key = false; taken = 0; capacity = full_capacity alg }
-
--- kdf_setup
-abbrev pub derivation_setup : Operation DerivationWork → ℕ → After DerivationWork
-derivation_setup operation alg = set_up operation (first_row (class_rows Derivation alg)) (derivation_work alg)
 
 -- THE OUTPUT: one list of bytes, whose front is taken piece by piece
 
@@ -154,12 +147,6 @@ output_key_rows w a =
     ∷ (not w.by_key, NotPermitted)
     ∷ []
 
--- output_key of the derivation alone: the bytes of the key that is to be created
-abbrev pub derived_key : DerivationWork → Attributes → After DerivationWork
-derived_key w a =
-    let n : ℕ = stated_bytes a in
-    unless_failed (first_row (output_key_rows w a)) (taken_from w n (given (next_derived w n)))
-
 -- STEPS, but those that look at the store's keys
 
 pub data DerivationStep : Type 0 where
@@ -183,12 +170,3 @@ derivation_step w (OutputBytes n) = unless_failed (first_row (output_rows w)) (t
 derivation_step w (VerifyBytes expected) =
     let n : ℕ = length expected in
     unless_failed (first_row (output_rows w)) (taken_from w n (compared (bytes_eq expected (next_derived w n))))
-
--- input_key of the derivation alone, once the key is known to be for it
-abbrev pub key_given : DerivationWork → ℕ → List ℕ → After DerivationWork
-key_given w step key = unless_failed (first_row (key_step_rows w step)) (goes_on (with_key w key) done)
-
--- what input_key refuses before its key is looked at, of any operation
-abbrev pub key_step_refusal : Operation DerivationWork → ℕ → Option Status
-key_step_refusal (Active w) step = first_row (key_step_rows w step)
-key_step_refusal _ step = Some BadState

@@ -2,11 +2,10 @@
 use Rattle.std.specs.Prelude.{ℕ, ◌+◌, not, nat_lt, bytes_eq, List, [], ◌∷◌, ◌++◌, length}
 use Rattle.psa_status.specs.declared.Status.TheVariants.{InvalidArgument, InvalidSignature}
 use Rattle.psa_status.specs.Rows.{Rows, first_row}
-use Rattle.alg_encoding.specs.declared.table.Class.TheVariants.{Hash}
 use Rattle.store_model.specs.Algorithms.{hash_of, hash_length_of}
-use Rattle.store_model.specs.Rules.{class_rows, room_rows, total_limit}
+use Rattle.store_model.specs.Rules.{room_rows, total_limit}
 use Rattle.store_model.specs.Outcome.{given, done}
-use Rattle.store_model.specs.Operations.{Operation, After, goes_on, ends, unless_failed, set_up}
+use Rattle.store_model.specs.Operations.{After, goes_on, ends, unless_failed}
 
 -- the algorithm, and the message so far
 pub record HashWork : Type 0 where
@@ -20,10 +19,6 @@ pub data HashStep : Type 0 where
 
 abbrev pub hash_work : ℕ → HashWork
 hash_work alg = record { alg = alg; message = [] }
-
--- hash_setup
-abbrev pub hash_setup : Operation HashWork → ℕ → After HashWork
-hash_setup operation alg = set_up operation (first_row (class_rows Hash alg)) (hash_work alg)
 
 -- no message is longer than 2^32 - 1 bytes
 abbrev pub total_rows : (so_far more : ℕ) → Rows

@@ -1,11 +1,11 @@
 -- A MAC in several parts.
-use Rattle.std.specs.Prelude.{ℕ, Bool, not, bytes_eq, List, [], ◌∷◌, ◌++◌, length, None}
+use Rattle.std.specs.Prelude.{ℕ, Bool, not, bytes_eq, List, [], ◌∷◌, ◌++◌, length}
 use Rattle.psa_status.specs.declared.Status.TheVariants.{BadState, InvalidSignature}
 use Rattle.psa_status.specs.Rows.{Rows, first_row}
 use Rattle.store_model.specs.Algorithms.{mac_of, tag_bytes}
 use Rattle.store_model.specs.Rules.{room_rows}
 use Rattle.store_model.specs.Outcome.{given, done}
-use Rattle.store_model.specs.Operations.{Operation, After, goes_on, ends, unless_failed, set_up}
+use Rattle.store_model.specs.Operations.{After, goes_on, ends, unless_failed}
 use Rattle.store_model.specs.HashOperations.{total_rows}
 
 -- whether a MAC is verified, and not made; the algorithm, the key, and the message so far
@@ -22,10 +22,6 @@ pub data MacStep : Type 0 where
 
 abbrev pub mac_work : Bool → ℕ → List ℕ → MacWork
 mac_work verifies alg key = record { verifies = verifies; alg = alg; key = key; message = [] }
-
--- mac_sign_setup and mac_verify_setup, once the key is known to be for it
-abbrev pub mac_setup : Operation MacWork → Bool → ℕ → List ℕ → After MacWork
-mac_setup operation verifies alg key = set_up operation None (mac_work verifies alg key)
 
 abbrev pub sign_rows : MacWork → ℕ → Rows
 sign_rows w room = (w.verifies, BadState) ∷ room_rows (tag_bytes w.alg) room

@@ -45,19 +45,10 @@ set_up Inactive None work = goes_on work done
 set_up Inactive (Some status) work = stays Inactive status
 set_up other refused work = stays other BadState
 
--- a step or a finish: only of an active operation
-abbrev pub on_active : {W : Type 0} → Operation W → (W → After W) → After W
-on_active (Active work) f = f work
-on_active operation f = stays operation BadState
-
 -- a step on an operation that was made with a key, by whether that key is still there
 abbrev pub with_live_key : {W : Type 0} → Bool → After W → After W
 with_live_key true after = after
 with_live_key false after = fails InvalidHandle
-
--- the key that a step's operation was made with is gone
-abbrev pub loses_key : {W : Type 0} → Operation W → After W
-loses_key operation = on_active operation (λ work. fails InvalidHandle)
 
 abbrev pub is_inactive : {W : Type 0} → Operation W → Bool
 is_inactive Inactive = true

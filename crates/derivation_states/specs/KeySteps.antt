@@ -1,0 +1,30 @@
+-- What begins a derivation, and its part of the steps that look at the store's keys.
+use Rattle.std.specs.Prelude.{ℕ, List, Option, Some}
+use Rattle.key_attributes.specs.declared.Attributes.{Attributes}
+use Rattle.alg_encoding.specs.declared.table.Class.TheVariants.{Derivation}
+use Rattle.psa_status.specs.declared.Status.{Status}
+use Rattle.psa_status.specs.declared.Status.TheVariants.{BadState}
+use Rattle.psa_status.specs.Rows.{first_row}
+use Rattle.store_model.specs.Rules.{class_rows}
+use Rattle.store_model.specs.Outcome.{given, done}
+use Rattle.store_model.specs.Operations.{Operation, Active, After, goes_on, set_up, unless_failed}
+use Rattle.store_model.specs.DerivationOperations.{DerivationWork, derivation_work, key_step_rows, next_derived, output_key_rows, stated_bytes, taken_from, with_key}
+
+-- kdf_setup
+abbrev pub derivation_setup : Operation DerivationWork → ℕ → After DerivationWork
+derivation_setup operation alg = set_up operation (first_row (class_rows Derivation alg)) (derivation_work alg)
+
+-- output_key of the derivation alone: the bytes of the key that is to be created
+abbrev pub derived_key : DerivationWork → Attributes → After DerivationWork
+derived_key w a =
+    let n : ℕ = stated_bytes a in
+    unless_failed (first_row (output_key_rows w a)) (taken_from w n (given (next_derived w n)))
+
+-- input_key of the derivation alone, once the key is known to be for it
+abbrev pub key_given : DerivationWork → ℕ → List ℕ → After DerivationWork
+key_given w step key = unless_failed (first_row (key_step_rows w step)) (goes_on (with_key w key) done)
+
+-- what input_key refuses before its key is looked at, of any operation
+abbrev pub key_step_refusal : Operation DerivationWork → ℕ → Option Status
+key_step_refusal (Active w) step = first_row (key_step_rows w step)
+key_step_refusal _ step = Some BadState
