@@ -1,7 +1,6 @@
 -- What the table of algorithms says of the algorithm that a number names.
-use Rattle.std.proofs.Common.{◌≡◌, ℕ, ◌+◌, ◌*◌, ◌/◌, ◌%◌, ◌^◌, ◌≤◌, Bool, true, false, not, ◌&&◌, ◌||◌, cond, leb, List, [], ◌∷◌, refl, sym, ap, ◌∙◌, subst, arith}
-use Rattle.std.specs.Prelude.{Option, None, Some, is_some, IfSome, ◌==◌, ⊤}
-use Rattle.std.specs.List.{list_all}
+use Rattle.std.proofs.Common.{◌≡◌, ℕ, ◌/◌, ◌%◌, ◌^◌, ◌≤◌, Bool, true, false, not, ◌&&◌, ◌||◌, cond, leb, List, refl, sym, ap, ◌∙◌, subst, arith}
+use Rattle.std.specs.Prelude.{Option, None, Some, is_some, IfSome, ◌==◌}
 use Rattle.std.specs.Option.{option_map, option_map_or}
 use Rattle.std.proofs.lemmas.Bool.{and_parts, eqb-true, eq-eqb, leb-true}
 use Rattle.alg_encoding.specs.declared.table.Base.{Base}
@@ -9,7 +8,7 @@ use Rattle.alg_encoding.specs.declared.table.Class.{Class}
 use Rattle.alg_encoding.specs.declared.table.Class.TheVariants as class
 use Rattle.alg_encoding.specs.declared.table.Lengths.{Lengths}
 use Rattle.alg_encoding.specs.declared.table.Lengths.TheVariants as lengths
-use Rattle.alg_encoding.specs.Table.{table, has_length, permits_length, hash_length}
+use Rattle.alg_encoding.specs.Table.{has_length, permits_length, hash_length}
 use Rattle.alg_encoding.specs.Encoding.{entry_of, class_of, base_of, lengths_of, tag_length_of, is_concrete}
 use Rattle.alg_encoding.proofs.Facts.{entry_of-all, base_of-low, tag_length_of-permitted}
 use Rattle.crypto_specs.specs.Aes.{aes_encrypt}
@@ -18,7 +17,7 @@ use Rattle.crypto_specs.specs.Hmac.{hmac}
 use Rattle.hash_ops.specs.declared.Hash.{Hash}
 use Rattle.hash_ops.specs.declared.Hash.TheVariants.{Sha224, Sha256, Sha384, Sha512}
 use Rattle.hash_ops.specs.Hashes as hashes
-use Rattle.store_model.specs.Algorithms.{cmac_base, digest, hash_block_length, is_hmac, length_or_none, low_byte, tag_bytes, whole_mac}
+use Rattle.store_model.specs.Algorithms.{cmac_base, digest, hash_block_length, is_hmac, length_or_none, low_byte, whole_mac}
 use Rattle.store_model.specs.Ciphers.{mode_of}
 use Rattle.store_model.specs.Rules.{class_number}
 use Rattle.store_model.specs.Aeads as model
@@ -27,15 +26,12 @@ use Rattle.algorithm_facts.specs.declared.modes.Mode.{Mode}
 use Rattle.algorithm_facts.specs.declared.modes.Mode.TheVariants.{Ctr, CbcNoPadding, CbcPkcs7, EcbNoPadding}
 use Rattle.algorithm_facts.specs.declared.algorithms.Algorithm.{Algorithm}
 use Rattle.algorithm_facts.specs.declared.algorithms.Algorithm.TheVariants as family
-use Rattle.algorithm_facts.specs.declared.algorithms.MacAlgorithm.{MacAlgorithm}
 use Rattle.algorithm_facts.specs.declared.algorithms.MacKind.{MacKind}
 use Rattle.algorithm_facts.specs.declared.algorithms.MacKind.TheVariants.{Hmac, Cmac}
 use Rattle.algorithm_facts.specs.declared.algorithms.AeadKind.{AeadKind}
 use Rattle.algorithm_facts.specs.declared.algorithms.AeadKind.TheVariants.{Ccm, Gcm}
-use Rattle.algorithm_facts.specs.declared.algorithms.Scheme.{Scheme}
-use Rattle.algorithm_facts.specs.declared.algorithms.Scheme.TheVariants.{Hkdf, Pbkdf2}
-use Rattle.algorithm_facts.specs.Parse.{mac_at, aead_at, derivation_at, hashed, hashed_if, algorithm_at, class_in, is_hmac_in}
-use Rattle.algorithm_facts.specs.Names.{NamesHash, NamesMac, NamesMode, NamesAead, NamesDerivation, Names, IsTagLength, is_ccm, is_cmac, is_hkdf, whole_length, whole_mac_by}
+use Rattle.algorithm_facts.specs.Parse.{algorithm_at, class_in, is_hmac_in}
+use Rattle.algorithm_facts.specs.Names.{NamesHash, NamesMode, Names, IsTagLength, is_ccm, is_cmac, is_hkdf, whole_length, whole_mac_by}
 
 -- ---- what holds of the row of an algorithm, as a test
 
