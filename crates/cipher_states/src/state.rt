@@ -26,8 +26,8 @@ pub struct CipherState {
 
 impl CipherState {
     ghost use Rattle.cipher_states.specs.States.{IsCipherOperation, IsClearCipher};
-ghost use Rattle.operation_phase.specs.Turns.{on_active};
-ghost use Rattle.cipher_states.specs.Setups.{cipher_setup};
+    ghost use Rattle.operation_phase.specs.Turns.{on_active};
+    ghost use Rattle.cipher_states.specs.Setups.{cipher_setup};
 
     /// An inactive operation.
     pub fn new() -> CipherState

@@ -37,8 +37,8 @@ pub struct DerivationState {
 
 impl DerivationState {
     ghost use Rattle.derivation_states.specs.States.{IsClearDerivation, IsDerivationOperation};
-ghost use Rattle.operation_phase.specs.Turns.{loses_key, on_active};
-ghost use Rattle.derivation_states.specs.KeySteps.{derivation_setup, derived_key, key_given, key_step_refusal};
+    ghost use Rattle.operation_phase.specs.Turns.{loses_key, on_active};
+    ghost use Rattle.derivation_states.specs.KeySteps.{derivation_setup, derived_key, key_given, key_step_refusal};
 
     /// An inactive derivation; `Memory` where there is no room for its buffers.
     pub fn new(alloc: Global) -> Result<DerivationState, Memory>

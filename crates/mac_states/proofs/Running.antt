@@ -1,14 +1,8 @@
 -- Which MAC runs.
-use Rattle.std.proofs.Common.{◌≡◌, ℕ, Bool, true, false, cond, List, refl, sym, ap, ◌∙◌, arith}
-use Rattle.std.specs.Prelude.{◌==◌, MatchBool}
-use Rattle.std.proofs.lemmas.Bool.Decides.{nat_tests}
-use Rattle.crypto_specs.specs.Aes.{aes_encrypt}
+use Rattle.std.proofs.Common.{◌≡◌, Bool, true, false}
+use Rattle.std.specs.Prelude.{MatchBool}
 use Rattle.crypto_specs.specs.Cmac.{cmac}
-use Rattle.crypto_specs.specs.Hmac.{hmac}
-use Rattle.alg_encoding.specs.Encoding.{base_of}
-use Rattle.hash_ops.specs.declared.Hash.{Hash}
 use Rattle.hash_ops.specs.Hashes as hashes
-use Rattle.store_model.specs.Algorithms.{cmac_base, digest, hash_block_length, low_byte, whole_mac}
 use Rattle.store_model.specs.MacOperations.{MacWork}
 use Rattle.mac_states.specs.declared.running_mac.RunningMac.{RunningMac}
 use Rattle.mac_states.specs.MacStates.{HoldsMac, IsCmac, IsHmac}

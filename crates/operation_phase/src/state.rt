@@ -32,7 +32,7 @@ pub struct OperationState<W> {
 
 impl<W: Work + Drop> OperationState<W> {
     ghost use Rattle.operation_phase.specs.States.{IsOperation};
-ghost use Rattle.operation_phase.specs.Turns.{loses_key};
+    ghost use Rattle.operation_phase.specs.Turns.{loses_key};
 
     /// An inactive operation.
     pub fn new(work: W) -> OperationState<W>

@@ -1,7 +1,7 @@
 -- What a script's calls answer, and what is printed of it.
 use Rattle.std.specs.Prelude.{ℕ, zero, suc, ◌≡◌, ◌+◌, ◌==◌, List, [], ◌∷◌, ◌++◌, filter, flat_map, map, Ok, All, Option, Some, None}
 use Rattle.store_model.specs.Call as model
-use Rattle.store_model.specs.Call.{Call, Output, Reply, output_bytes}
+use Rattle.store_model.specs.Call.{Output, Reply, output_bytes}
 use Rattle.store_model.specs.Faults.{Plain}
 use Rattle.store_model.specs.Handles.{Service}
 use Rattle.store_model.specs.Replay.{Entry, outcome_of, reply_at}
