@@ -1,5 +1,5 @@
 -- The fields of a line.
-use Rattle.std.specs.Prelude.{ℕ, ◌^◌, Bool, not, nat_lt, nat_le, ◌==◌, List, [], ◌∷◌, ◌++◌, length, if◌then◌else◌, ◌||◌, Option, Some, None, option_map, find, Result, Ok, Err, codes}
+use Rattle.std.specs.Prelude.{ℕ, ◌^◌, Bool, not, nat_lt, nat_le, min, ◌==◌, List, [], ◌∷◌, ◌++◌, length, if◌then◌else◌, ◌||◌, Option, Some, None, option_map, find, Result, Ok, Err, codes}
 use Rattle.std.specs.List.{list_any, list_all}
 use Rattle.std.specs.Str.{bytes_eq}
 use Rattle.key_attributes.specs.declared.Attributes.{Attributes}
@@ -177,9 +177,10 @@ word_at f fs = word_of (find (is_field f) fs)
 abbrev pub long_at : Field → Fields → ℕ
 long_at f fs = long_of (find (is_field f) fs)
 
--- the length of the output buffer: `len` of a derivation's bytes, or `room`, and 16,448 where the line says neither
+-- the length of the output buffer, which has 16,448 bytes at most: `len` of a derivation's bytes, or `room`, and all where
+-- the line says neither
 abbrev pub room_at : Fields → ℕ
-room_at fs = short_at (short_at 16448 field.Room fs) field.Length fs
+room_at fs = min 16448 (short_at (short_at 16448 field.Room fs) field.Length fs)
 
 abbrev pub bytes_at : Field → Fields → List ℕ
 bytes_at f fs = bytes_of (find (is_field f) fs)

@@ -1,5 +1,5 @@
 // The fields of a line, and what they say.
-ghost use Rattle.std.specs.Prelude.{◌≡◌, find};
+ghost use Rattle.std.specs.Prelude.{◌≡◌, ◌≤◌, find};
 ghost use Rattle.std.specs.Option.{option_copied};
 ghost use Rattle.script_lang.specs.Fields.{alg_at, attributes_at, bytes_at, is_field, long_at, room_at, short_at, word_at};
 
@@ -87,9 +87,10 @@ impl Fields {
 
     /// The length of the output buffer in bytes.
     pub fn room(&self) -> u16
-        ensures { result ≡ room_at self.now }
+        ensures value { result ≡ room_at self.now }
+        ensures most { result ≤ 16448 }
     {
-        self.short(Field::Length, self.short(Field::Room, ROOM))
+        ROOM.min(self.short(Field::Length, self.short(Field::Room, ROOM)))
     }
 
     /// The algorithm.

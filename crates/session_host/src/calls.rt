@@ -24,7 +24,7 @@ pub fn answered(
     requires last { line.now.session ≤ 16 }
     requires turns { service.old.store.calls < 2 ^ 62 }
     requires words { HasWords service.old.callers.streams.items line.now.session }
-    requires room { 65535 ≤ length buffer.old }
+    requires room { 16448 ≤ length buffer.old }
     ensures stands { (it : model.Service) → Stands service.old it → Stands service.new (line_served it given.now line.now).service }
     ensures reply { (it : model.Service) → Stands service.old it → IfOk result (λ a. Answers a (line_turn it given.now line.now).reply) }
 {

@@ -13,8 +13,8 @@ use psa_status::Memory;
 use script_lang::{ReplyLine, ScriptLine};
 use std::alloc::Global;
 
-/// No line asks for a longer output buffer, in bytes: its length is a number of 16 bits.
-const OUTPUT_BYTES: usize = 65535;
+/// The bytes of the longest output buffer that a line can ask for.
+const OUTPUT_BYTES: usize = 16448;
 
 /// The replies to the calls of one session, and the identifiers that they gave, or 0.
 #[derive(Drop)]
@@ -46,7 +46,7 @@ fn answer_line(
     requires last { line.now.session ≤ 16 }
     requires turns { service.old.store.calls < 2 ^ 62 }
     requires words { HasWords service.old.callers.streams.items line.now.session }
-    requires room { 65535 ≤ length buffer.old }
+    requires room { 16448 ≤ length buffer.old }
     requires few { length own.old.replies.items < 2 ^ 31 }
     ensures stands { (it : model.Service) → Stands service.old it → Stands service.new (line_served it own.old.given.items line.now).service }
     ensures replies { (it : model.Service) → Stands service.old it →
