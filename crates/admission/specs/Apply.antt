@@ -1,15 +1,11 @@
 -- What rules make of the attributes of a new key.
-use Rattle.std.specs.Prelude.{◌≡◌, ℕ, Bool, List, [], ◌∷◌, ◌==◌, Result, Ok, Err, filter}
+use Rattle.std.specs.Prelude.{◌≡◌, ℕ, Bool, List, ◌==◌, filter}
 use Rattle.std.specs.List.{list_any}
-use Rattle.psa_status.specs.declared.Status.{Status}
-use Rattle.psa_status.specs.declared.Status.TheVariants.{NotPermitted}
 use Rattle.key_attributes.specs.declared.Attributes.{Attributes}
-use Rattle.policy_rules.specs.Narrow.{narrowed}
+pub use Rattle.policy_rules.specs.Narrow.{after_rules}
 use Rattle.policy_rules.specs.Policy.{IsWithin}
 use Rattle.policy_rules.specs.declared.narrowing.Label.{Label}
 use Rattle.policy_rules.specs.declared.narrowing.Label.TheVariants.{NoExport, NoCopy, NoEcb, Aes256}
-use Rattle.policy_rules.specs.declared.narrowing.Verdict.{Verdict}
-use Rattle.policy_rules.specs.declared.narrowing.Verdict.TheVariants.{Keep, Refuse}
 
 -- the labels are told apart by a number each
 abbrev pub label_number : Label → ℕ
@@ -25,15 +21,6 @@ is_one_of labels label = list_any (λ other. label_number other == label_number 
 -- of the labels of a list those that are named, in the list's order
 abbrev pub picked : (named list : List Label) → List Label
 picked named list = filter (is_one_of named) list
-
-abbrev pub after_verdict : Verdict → (Attributes → Result Attributes Status) → Result Attributes Status
-after_verdict (Keep kept) next = next kept
-after_verdict Refuse next = Err NotPermitted
-
--- each rule in turn narrows what the one before it kept, and the first that refuses ends it
-abbrev pub after_rules : List Label → Attributes → Result Attributes Status
-after_rules [] attributes = Ok attributes
-after_rules (label ∷ labels) attributes = after_verdict (narrowed label attributes) (after_rules labels)
 
 -- beside the policy all is as it was, and the policy has no flag and permits no algorithm that the one before doesn't
 pub record Narrows (before after : Attributes) : Type 0 where

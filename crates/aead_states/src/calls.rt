@@ -1,6 +1,6 @@
 // The steps of an operation, and its end.
 ghost use Rattle.std.specs.Prelude.{◌≡◌, ◌≤◌, ℕ, List, length};
-ghost use Rattle.store_model.specs.Answers.{AnswersLength, plain_reply};
+ghost use Rattle.service_calls.specs.Answers.{AnswersLength, plain_reply};
 ghost use Rattle.store_model.specs.Call.{buffer_after};
 ghost use Rattle.store_model.specs.Operations.{Operation};
 ghost use Rattle.store_model.specs.AeadOperations.{AeadFinish, AeadGenerateNonce, AeadSetLengths, AeadSetNonce, AeadUpdate, AeadUpdateAd, AeadVerify, AeadWork, aead_step};

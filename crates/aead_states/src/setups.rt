@@ -1,7 +1,7 @@
 // Setups.
 ghost use Rattle.std.specs.Prelude.{◌≡◌, true, false};
 ghost use Rattle.crypto_specs.specs.Aes.{IsKey};
-ghost use Rattle.store_model.specs.Answers.{plain_reply};
+ghost use Rattle.service_calls.specs.Answers.{plain_reply};
 ghost use Rattle.store_model.specs.Operations.{Operation};
 ghost use Rattle.store_model.specs.AeadOperations.{AeadWork};
 ghost use Rattle.alg_encoding.specs.declared.table.Class.TheVariants.{Aead};

@@ -2,7 +2,7 @@
 ghost use Rattle.std.specs.Prelude.{◌≡◌, ◌≤◌, ℕ, List, [], IfOk, IsTrue, true, false, length};
 ghost use Rattle.crypto_specs.specs.Aes.{IsKey};
 ghost use Rattle.store_model.specs.Call.{buffer_after};
-ghost use Rattle.store_model.specs.Answers.{AnswersLength, AnswersOrSpoils, plain_reply};
+ghost use Rattle.service_calls.specs.Answers.{AnswersLength, AnswersOrSpoils, plain_reply};
 ghost use Rattle.store_model.specs.Operations.{Operation, Inactive, is_inactive};
 ghost use Rattle.store_model.specs.CipherOperations.{CipherFinish, CipherGenerateIv, CipherSetIv, CipherUpdate, CipherWork, cipher_step};
 ghost use Rattle.operation_phase.specs.declared.Phase.TheVariants as phases;

@@ -4,7 +4,7 @@
 ghost use Rattle.std.specs.Prelude.{◌≡◌, ◌≤◌, ◌/◌, min, IfOk, OnOk, OnErr, length};
 ghost use Rattle.store_model.specs.Operations.{Operation, Inactive, InError, Active, is_inactive};
 ghost use Rattle.store_model.specs.DerivationOperations.{DerivationWork, derivation_step, GetCapacity, SetCapacity, InputBytes, InputInteger, OutputBytes, VerifyBytes};
-ghost use Rattle.store_model.specs.Answers.{AnswersLength, plain_reply};
+ghost use Rattle.service_calls.specs.Answers.{AnswersLength, plain_reply};
 ghost use Rattle.store_model.specs.Call.{buffer_after};
 ghost use Rattle.derivation_states.specs.Laws.{DueGrows};
 ghost use Rattle.store_model.specs.Outcome.{refusal};

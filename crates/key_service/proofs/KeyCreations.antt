@@ -10,7 +10,7 @@ use Rattle.store_model.specs.Store.{Store}
 use Rattle.store_model.specs.Call.{Reply, Identifier, Nothing}
 use Rattle.store_model.specs.Outcome.{Outcome, counted, decided, refusal}
 use Rattle.store_model.specs.Creation.{creation_rows, created, step_import}
-use Rattle.store_model.specs.Answers.{id_reply}
+use Rattle.service_calls.specs.Answers.{id_reply}
 use Rattle.store_model.specs.Operations.{Operation, Inactive, InError, Active, fails}
 use Rattle.store_model.specs.DerivationOperations.{DerivationWork, stated_bytes, next_derived, without}
 use Rattle.random_streams.specs.RandomWords.{words_used}

@@ -13,7 +13,7 @@ use Rattle.store_model.specs.Operations.{Operation, Inactive, InError, Active, A
 use Rattle.store_model.specs.Handles as model
 use Rattle.store_model.specs.Handles.{Work, Held, HandleOperation, Service, operation_of, applied, held_with, held_after}
 use Rattle.store_model.specs.HandleCalls.{handle_step}
-use Rattle.store_model.specs.Answers.{plain_reply}
+use Rattle.service_calls.specs.Answers.{plain_reply}
 use Rattle.service_calls.specs.Meanings.{model_setup}
 use Rattle.service_calls.specs.declared.handle_calls.Setup.{Setup}
 use Rattle.service_calls.specs.declared.handle_calls.Setup.TheVariants as setup

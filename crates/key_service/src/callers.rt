@@ -1,7 +1,7 @@
 // What is the callers' own.
 ghost use Rattle.std.specs.Prelude.{◌≡◌, ◌≤◌, ◌<◌, ◌^◌, ◌↔◌, IfOk, IsTrue, length, map};
 ghost use Rattle.store_model.specs.Store as model;
-ghost use Rattle.store_model.specs.Answers.{plain_reply};
+ghost use Rattle.service_calls.specs.Answers.{plain_reply};
 ghost use Rattle.store_model.specs.Faults.{Plain};
 ghost use Rattle.store_model.specs.Handles.{Service, service_of};
 ghost use Rattle.store_model.specs.HandleCalls.{Abort};

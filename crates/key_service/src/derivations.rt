@@ -1,6 +1,6 @@
 // Derivations.
 ghost use Rattle.std.specs.Prelude.{◌≡◌, ◌≤◌, ◌<◌, ◌^◌, length, replicate, take};
-ghost use Rattle.store_model.specs.Answers.{id_reply, plain_reply};
+ghost use Rattle.service_calls.specs.Answers.{id_reply, plain_reply};
 ghost use Rattle.store_model.specs.Creation.{step_import};
 ghost use Rattle.store_model.specs.Faults.{Plain};
 ghost use Rattle.store_model.specs.Handles.{Service};

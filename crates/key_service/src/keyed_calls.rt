@@ -2,7 +2,7 @@
 ghost use Rattle.std.specs.Prelude.{◌≡◌, ◌≤◌, ◌<◌, ◌^◌, ◌+◌, length};
 ghost use Rattle.random_streams.specs.RandomWords.{drawn_from, next_bytes};
 ghost use Rattle.store_model.specs.Aeads.{step_aead_decrypt, step_aead_encrypt};
-ghost use Rattle.store_model.specs.Answers.{AnswersLength, AnswersOrSpoils, plain_reply};
+ghost use Rattle.service_calls.specs.Answers.{AnswersLength, AnswersOrSpoils, plain_reply};
 ghost use Rattle.store_model.specs.Call.{buffer_after};
 ghost use Rattle.store_model.specs.Ciphers.{step_cipher_decrypt, step_cipher_encrypt};
 ghost use Rattle.store_model.specs.Macs.{step_mac_compute, step_mac_verify};

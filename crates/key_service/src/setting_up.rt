@@ -1,6 +1,6 @@
 // What sets operations up.
 ghost use Rattle.std.specs.Prelude.{◌≡◌, ◌≤◌, ◌<◌, ◌^◌};
-ghost use Rattle.store_model.specs.Answers.{plain_reply};
+ghost use Rattle.service_calls.specs.Answers.{plain_reply};
 ghost use Rattle.store_model.specs.Faults.{Plain};
 ghost use Rattle.store_model.specs.Handles.{HandleOperation, Service};
 ghost use Rattle.store_model.specs.Requests.{OnHandle, serve};

@@ -3,7 +3,7 @@ ghost use Rattle.std.specs.Prelude.{◌≡◌, ◌≤◌, ◌<◌, ◌^◌, ◌+
 ghost use Rattle.random_streams.specs.RandomWords.{drawn_from, next_bytes};
 ghost use Rattle.store_model.specs.Call.{buffer_after};
 ghost use Rattle.store_model.specs.Hashes.{step_hash_compare, step_hash_compute};
-ghost use Rattle.store_model.specs.Answers.{AnswersLength, plain_reply};
+ghost use Rattle.service_calls.specs.Answers.{AnswersLength, plain_reply};
 ghost use Rattle.store_model.specs.Step.{step};
 ghost use Rattle.service_calls.specs.Answered.{AnswersReply};
 ghost use Rattle.service_calls.specs.Meanings.{model_store_call};

@@ -1,7 +1,7 @@
 // A hash in several parts.
 ghost use Rattle.std.specs.Prelude.{◌≡◌, Bool, length};
 ghost use Rattle.store_model.specs.Call.{buffer_after};
-ghost use Rattle.store_model.specs.Answers.{AnswersLength, plain_reply};
+ghost use Rattle.service_calls.specs.Answers.{AnswersLength, plain_reply};
 ghost use Rattle.store_model.specs.Operations.{Operation, Inactive, is_inactive};
 ghost use Rattle.store_model.specs.HashOperations.{HashFinish, HashUpdate, HashVerify, HashWork, hash_step};
 ghost use Rattle.operation_phase.specs.declared.Phase.TheVariants as phase;

@@ -4,7 +4,7 @@ ghost use Rattle.crypto_specs.specs.Aes.{IsKey};
 ghost use Rattle.alg_encoding.specs.Encoding.{base_of};
 ghost use Rattle.store_model.specs.Algorithms.{cmac_base};
 ghost use Rattle.store_model.specs.Call.{buffer_after};
-ghost use Rattle.store_model.specs.Answers.{AnswersLength, plain_reply};
+ghost use Rattle.service_calls.specs.Answers.{AnswersLength, plain_reply};
 ghost use Rattle.store_model.specs.Operations.{Operation, Inactive, is_inactive};
 ghost use Rattle.store_model.specs.MacOperations.{MacSignFinish, MacUpdate, MacVerifyFinish, MacWork, mac_step};
 ghost use Rattle.alg_encoding.specs.declared.table.Class.TheVariants.{Mac};

@@ -1,5 +1,7 @@
 -- What an admission rule makes of the attributes of a new key.
-use Rattle.std.specs.Prelude.{ℕ, not, ◌&&◌, ◌==◌, if◌then◌else◌, bit_and}
+use Rattle.std.specs.Prelude.{ℕ, not, ◌&&◌, ◌==◌, if◌then◌else◌, bit_and, List, [], ◌∷◌, Result, Ok, Err}
+use Rattle.psa_status.specs.declared.Status.{Status}
+use Rattle.psa_status.specs.declared.Status.TheVariants.{NotPermitted}
 use Rattle.key_attributes.specs.declared.Attributes.{Attributes}
 use Rattle.policy_rules.specs.Policy.{IsWithin}
 use Rattle.policy_rules.specs.declared.narrowing.Label.{Label}
@@ -17,6 +19,15 @@ narrowed NoExport a = Keep (only_usage a 0xfffffffe)
 narrowed NoCopy a = Keep (only_usage a 0xfffffffd)
 narrowed NoEcb a = if a.policy.alg == 0x04404400 then Refuse else Keep a
 narrowed Aes256 a = if a.key_type.0 == 0x2400 && not (a.bits == 256) then Refuse else Keep a
+
+abbrev pub after_verdict : Verdict → (Attributes → Result Attributes Status) → Result Attributes Status
+after_verdict (Keep kept) next = next kept
+after_verdict Refuse next = Err NotPermitted
+
+-- each rule in turn narrows what the one before it kept, and the first that refuses ends it
+abbrev pub after_rules : List Label → Attributes → Result Attributes Status
+after_rules [] attributes = Ok attributes
+after_rules (label ∷ labels) attributes = after_verdict (narrowed label attributes) (after_rules labels)
 
 -- the policy that is kept has no flag and permits no algorithm that the one before doesn't
 abbrev pub KeepsWithin : Attributes → Verdict → Type 0

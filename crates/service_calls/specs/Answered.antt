@@ -3,7 +3,7 @@ use Rattle.std.specs.Prelude.{ℕ, ◌≡◌, Result, Ok, Err}
 use Rattle.psa_status.specs.declared.Status.{Status}
 use Rattle.psa_status.specs.declared.Status.TheVariants.{Success}
 use Rattle.store_model.specs.Call as model
-use Rattle.store_model.specs.Answers.{GivesBytes}
+use Rattle.service_calls.specs.Answers.{GivesBytes}
 use Rattle.store_model.specs.Call.{Reply, Nothing}
 use Rattle.store_model.specs.Outcome.{refusal, done}
 use Rattle.service_calls.specs.declared.output.Output.{Output}

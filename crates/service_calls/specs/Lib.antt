@@ -1,3 +1,4 @@
 pub mod Answered
 pub mod Meanings
 pub mod Random
+pub mod Answers

@@ -10,7 +10,7 @@ use Rattle.psa_status.proofs.Rows.{unless-ok}
 use Rattle.store_model.specs.Call.{Reply, buffer_after, buffer_bytes}
 use Rattle.store_model.specs.Outcome.{reply_unless, refusal, given}
 use Rattle.store_model.specs.Ciphers.{Mode, iv_length, enciphered, enciphered_length, encrypt_rows, decrypt_rows, deciphered, plain_or_zeros}
-use Rattle.store_model.specs.Answers.{AnswersOrSpoils}
+use Rattle.service_calls.specs.Answers.{AnswersOrSpoils}
 use Rattle.store_model.specs.Ciphers.{decrypted_reply}
 
 -- a refusal of the table

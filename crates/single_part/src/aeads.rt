@@ -3,7 +3,7 @@ ghost use Rattle.std.specs.Prelude.{◌≡◌, ℕ, ◌+◌, ◌≤◌, length, 
 ghost use Rattle.crypto_specs.specs.Aes.{IsKey};
 ghost use Rattle.store_model.specs.Call.{buffer_after};
 ghost use Rattle.store_model.specs.Aeads as model;
-ghost use Rattle.store_model.specs.Answers.{AnswersLength, AnswersOrSpoils};
+ghost use Rattle.service_calls.specs.Answers.{AnswersLength, AnswersOrSpoils};
 ghost use Rattle.alg_encoding.specs.declared.table.Class.TheVariants.{Aead};
 ghost use Rattle.algorithm_facts.specs.Names.{IsOfClass, IsTagLength, NamesAead, is_ccm, permits_lengths_by};
 

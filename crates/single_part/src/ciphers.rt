@@ -5,7 +5,7 @@ ghost use Rattle.crypto_specs.specs.Aes.{IsKey};
 ghost use Rattle.random_streams.specs.RandomWords.{drawn_from, next_bytes};
 ghost use Rattle.store_model.specs.Call.{buffer_after};
 ghost use Rattle.store_model.specs.Ciphers.{mode_of, iv_length, takes_whole_blocks, enciphered_length, is_ciphertext_length, encrypt_rows, decrypt_rows, encrypted, decrypted_reply};
-ghost use Rattle.store_model.specs.Answers.{AnswersLength, AnswersOrSpoils};
+ghost use Rattle.service_calls.specs.Answers.{AnswersLength, AnswersOrSpoils};
 ghost use Rattle.alg_encoding.specs.declared.table.Class.TheVariants.{Cipher};
 ghost use Rattle.algorithm_facts.specs.Modes.{model_mode};
 ghost use Rattle.algorithm_facts.specs.Names.{IsOfClass};

@@ -2,7 +2,7 @@
 ghost use Rattle.std.specs.Prelude.{◌≡◌, length};
 ghost use Rattle.store_model.specs.Call.{buffer_after};
 ghost use Rattle.store_model.specs.Hashes.{compared_reply, hash_reply};
-ghost use Rattle.store_model.specs.Answers.{AnswersLength, plain_reply};
+ghost use Rattle.service_calls.specs.Answers.{AnswersLength, plain_reply};
 
 use alg_encoding::Alg;
 use algorithm_facts::hash_algorithm;

@@ -5,7 +5,7 @@ ghost use Rattle.crypto_specs.specs.Cmac.{cmac};
 ghost use Rattle.alg_encoding.specs.Encoding.{base_of};
 ghost use Rattle.store_model.specs.Call.{buffer_after};
 ghost use Rattle.store_model.specs.Algorithms.{cmac_base, mac_of};
-ghost use Rattle.store_model.specs.Answers.{AnswersLength, plain_reply};
+ghost use Rattle.service_calls.specs.Answers.{AnswersLength, plain_reply};
 ghost use Rattle.store_model.specs.Macs.{mac_reply, verified_reply};
 ghost use Rattle.alg_encoding.specs.declared.table.Class.TheVariants.{Mac};
 ghost use Rattle.algorithm_facts.specs.Names.{IsOfClass, NamesMac, is_cmac, whole_length, whole_mac_by};

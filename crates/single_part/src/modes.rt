@@ -4,7 +4,7 @@ ghost use Rattle.crypto_specs.specs.Aes.{IsKey};
 ghost use Rattle.crypto_specs.specs.Modes.{pkcs7_padded, pkcs7_unpadded};
 ghost use Rattle.store_model.specs.Call.{buffer_after};
 ghost use Rattle.store_model.specs.Ciphers.{mode_of, iv_length, takes_whole_blocks, enciphered, enciphered_length, deciphered, is_ciphertext_length, plain_or_zeros};
-ghost use Rattle.store_model.specs.Answers.{AnswersOrSpoils};
+ghost use Rattle.service_calls.specs.Answers.{AnswersOrSpoils};
 ghost use Rattle.algorithm_facts.specs.Modes.{model_mode};
 ghost use Rattle.single_part.specs.Modes.{deciphered_blocks};
 

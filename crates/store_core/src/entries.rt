@@ -4,7 +4,7 @@ ghost use Rattle.std.specs.List.{position, position_or_len};
 ghost use Rattle.store_model.specs.Store.{is_volatile_of};
 ghost use Rattle.store_model.specs.Call.{buffer_after};
 ghost use Rattle.store_model.specs.KeyUse.{export_reply};
-ghost use Rattle.store_model.specs.Answers.{AnswersLength};
+ghost use Rattle.service_calls.specs.Answers.{AnswersLength};
 ghost use Rattle.store_core.specs.Entries.{key_of, IsFree};
 
 use key_attributes::{Attributes, KeyId, KeyType, LONGEST_KEY, Lifetime, Policy, Usage};

@@ -7,7 +7,7 @@ ghost use Rattle.store_model.specs.Store as model;
 ghost use Rattle.store_model.specs.Creation.{limit_rows, created, stated_bytes};
 ghost use Rattle.store_model.specs.Generation.{step_generate};
 ghost use Rattle.random_streams.specs.RandomWords.{drawn_from, next_bytes};
-ghost use Rattle.store_model.specs.Answers.{id_reply};
+ghost use Rattle.service_calls.specs.Answers.{id_reply};
 ghost use Rattle.store_core.specs.Generated.{generation_checked};
 
 use crate::Store;

@@ -10,7 +10,7 @@ ghost use Rattle.store_model.specs.Copies.{step_copy};
 ghost use Rattle.store_model.specs.Creation.{limit_rows, created, step_import};
 ghost use Rattle.store_model.specs.KeyUse.{step_attributes, step_destroy, step_export};
 ghost use Rattle.store_model.specs.Outcome.{decided};
-ghost use Rattle.store_model.specs.Answers.{id_reply, AnswersLength, attributes_answer, plain_reply};
+ghost use Rattle.service_calls.specs.Answers.{id_reply, AnswersLength, attributes_answer, plain_reply};
 ghost use Rattle.store_core.specs.Uses.{IsFound};
 
 use crate::copies::check_copy;

@@ -49,7 +49,7 @@ sealed_reply alg key nonce ad input room =
     reply_unless (first_row (encrypt_rows alg (length nonce) (length ad) (length input) room)) (given (sealed alg key nonce ad input))
 
 abbrev pub step_aead_encrypt : Store → (id alg : ℕ) → (nonce ad input : List ℕ) → ℕ → Outcome
-step_aead_encrypt store id alg nonce ad input room = using_key store Aead (cipher_usage true) alg id (λ key. replies (sealed_reply alg key nonce ad input room))
+step_aead_encrypt store id alg nonce ad input room = using_key store false Aead (cipher_usage true) alg id (λ key. replies (sealed_reply alg key nonce ad input room))
 
 -- aead_decrypt: the input ends with the tag.
 abbrev pub decrypt_rows : ℕ → (nonce ad input room : ℕ) → Rows
@@ -69,4 +69,4 @@ opened_reply alg key nonce ad input room =
     reply_unless (first_row (decrypt_rows alg (length nonce) (length ad) (length input) room)) (opened alg key nonce ad (take n input) (drop n input))
 
 abbrev pub step_aead_decrypt : Store → (id alg : ℕ) → (nonce ad input : List ℕ) → ℕ → Outcome
-step_aead_decrypt store id alg nonce ad input room = using_key store Aead (cipher_usage false) alg id (λ key. replies (opened_reply alg key nonce ad input room))
+step_aead_decrypt store id alg nonce ad input room = using_key store false Aead (cipher_usage false) alg id (λ key. replies (opened_reply alg key nonce ad input room))

@@ -10,6 +10,7 @@ pub data Call : Type 0 where
   Export : (id room : ℕ) → Call
   GetAttributes : (id : ℕ) → Call
   Destroy : (id : ℕ) → Call
+  Purge : (id : ℕ) → Call
   Copy : (source : ℕ) (attributes : Attributes) → Call
   Generate : (attributes : Attributes) → Call
   HashCompute : (alg : ℕ) (input : List ℕ) (room : ℕ) → Call

@@ -22,6 +22,10 @@ pub data Mode : Type 0 where
 abbrev pub mode_of : ℕ → Mode
 mode_of alg = if alg == 0x04c01000 then Ctr else if alg == 0x04404000 then CbcNoPadding else if alg == 0x04404100 then CbcPkcs7 else EcbNoPadding
 
+abbrev pub is_ctr : Mode → Bool
+is_ctr Ctr = true
+is_ctr _ = false
+
 -- the bytes of the initialisation vector, which stands before the ciphertext
 abbrev pub iv_length : Mode → ℕ
 iv_length EcbNoPadding = 0
@@ -65,7 +69,7 @@ encrypted mode iv key input room =
 abbrev pub step_cipher_encrypt : Store → Random → (id alg : ℕ) → List ℕ → ℕ → Outcome
 step_cipher_encrypt store random id alg input room =
     let mode : Mode = mode_of alg in
-    using_key store Cipher (cipher_usage true) alg id (λ key. encrypted mode (random (iv_length mode)) key input room)
+    using_key store (is_ctr mode) Cipher (cipher_usage true) alg id (λ key. encrypted mode (random (iv_length mode)) key input room)
 
 -- cipher_decrypt: the input begins with the initialisation vector.
 
@@ -90,4 +94,4 @@ decrypted_reply mode key input room =
     reply_unless (first_row (decrypt_rows mode (length input) room)) (plain_or_zeros (length input - n) (deciphered mode key (take n input) (drop n input)))
 
 abbrev pub step_cipher_decrypt : Store → (id alg : ℕ) → List ℕ → ℕ → Outcome
-step_cipher_decrypt store id alg input room = using_key store Cipher (cipher_usage false) alg id (λ key. replies (decrypted_reply (mode_of alg) key input room))
+step_cipher_decrypt store id alg input room = using_key store (is_ctr (mode_of alg)) Cipher (cipher_usage false) alg id (λ key. replies (decrypted_reply (mode_of alg) key input room))

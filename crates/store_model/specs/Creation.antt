@@ -1,23 +1,37 @@
 -- Calls that create a key.
-use Rattle.std.specs.Prelude.{ℕ, ◌+◌, ◌/◌, ◌%◌, ◌^◌, not, nat_le, ◌==◌, ◌||◌, List, [], ◌∷◌, ◌++◌, length, slice_set}
+use Rattle.std.specs.Prelude.{ℕ, ◌+◌, ◌/◌, ◌%◌, ◌^◌, not, nat_le, ◌==◌, ◌||◌, ◌&&◌, List, [], ◌∷◌, length, slice_set, is_some, Result, Ok, Err, if◌then◌else◌}
 use Rattle.std.specs.FinMap as map
-use Rattle.psa_status.specs.declared.Status.TheVariants.{Success, InvalidArgument, KeyLimit}
-use Rattle.psa_status.specs.Rows.{Rows, first_row}
+use Rattle.psa_status.specs.declared.Status.{Status}
+use Rattle.psa_status.specs.declared.Status.TheVariants.{Success, NotSupported, InvalidArgument, KeyLimit, AlreadyExists, InsufficientStorage}
+use Rattle.psa_status.specs.Rows.{Rows, first_row, unless, ◌>>=◌}
 use Rattle.key_attributes.specs.declared.Attributes.{Attributes}
-use Rattle.key_attributes.specs.Checks.{attribute_rows, filled}
-use Rattle.store_model.specs.Store.{Key, Store, made_of, has_secure_element, next_volatile, live_volatile}
+use Rattle.key_attributes.specs.Checks.{checked}
+use Rattle.policy_rules.specs.Narrow.{after_rules}
+use Rattle.store_model.specs.Store.{Key, Store, made_of, has_secure_element, is_volatile, next_volatile, live_volatile, count_persistent}
 use Rattle.store_model.specs.Call.{Identifier}
-use Rattle.store_model.specs.Outcome.{Outcome, decided, counted}
+use Rattle.store_model.specs.Outcome.{Outcome, refused, counted}
 
--- a caller has at most 16 live volatile keys, and makes at most 2^20 of them
-abbrev pub limit_rows : Store → ℕ → Rows
-limit_rows store caller =
-    (nat_le 16 (live_volatile store.keys caller) || nat_le (2 ^ 20) (made_of store caller), KeyLimit)
+-- a key is kept where there is a file
+abbrev pub file_rows : Store → Attributes → Rows
+file_rows store a = (not (is_volatile a || store.settings.has_file), NotSupported) ∷ []
+
+-- A caller has at most 16 live volatile keys, and makes at most 2^20 of them. A persistent key's identifier is new, and there
+-- are at most 512.
+abbrev pub room_for_key_rows : Store → ℕ → Attributes → Rows
+room_for_key_rows store caller a =
+    (is_volatile a && (nat_le 16 (live_volatile store.keys caller) || nat_le (2 ^ 20) (made_of store caller)), KeyLimit)
+    ∷ (not (is_volatile a) && is_some (map.get store.keys a.id.0), AlreadyExists)
+    ∷ (not (is_volatile a) && nat_le 512 (count_persistent store.keys), InsufficientStorage)
     ∷ []
 
--- the refusals of every creation of a key with these stated attributes and so many bytes
-abbrev pub creation_rows : Store → ℕ → Attributes → ℕ → Rows
-creation_rows store caller a bytes = attribute_rows a bytes (has_secure_element store) ++ limit_rows store caller
+-- What a creation of a key with these stated attributes and so many bytes records, or its first refusal: the attributes
+-- are checked, and filled in, each rule narrows them in turn, and the store has room.
+abbrev pub recorded_of : Store → ℕ → Attributes → ℕ → Result Attributes Status
+recorded_of store caller a bytes = do
+  stated ← unless (first_row (file_rows store a)) a
+  filled ← checked stated bytes (has_secure_element store)
+  kept ← after_rules store.settings.labels filled
+  unless (first_row (room_for_key_rows store caller kept)) kept
 
 -- the bytes of a key with these stated bits, and the refusal of bits that state none
 abbrev pub stated_bytes : Attributes → ℕ
@@ -30,27 +44,32 @@ stated_bits_rows a = (a.bits == 0 || not (a.bits % 8 == 0), InvalidArgument) ∷
 abbrev pub identified : Attributes → ℕ → Attributes
 identified a id = record a { id = record { 0 = id } }
 
+-- a volatile key has the caller's next identifier, and a persistent one that which was stated
+abbrev pub new_id : Store → ℕ → Attributes → ℕ
+new_id store caller kept = if is_volatile kept then next_volatile store caller else kept.id.0
+
 -- The call's place in the order gives the creation number. What is recorded has the key's identifier.
 abbrev pub new_key : Store → ℕ → ℕ → Attributes → List ℕ → Key
-new_key store caller id a bytes = record {
-  number = store.found + store.calls;
-  attributes = identified (filled a (length bytes)) id;
-  bytes = bytes;
-  creator = caller;
-}
+new_key store caller id kept bytes = record { number = store.found + store.calls; attributes = identified kept id; bytes = bytes; creator = caller }
 
--- a volatile key comes into being under the caller's next identifier, and the caller has made one more
+-- how many volatile keys each caller has made, with one more of this one where the new key is volatile
+abbrev pub made_after : Store → ℕ → Attributes → List ℕ
+made_after store caller kept = if is_volatile kept then slice_set store.made caller (made_of store caller + 1) else store.made
+
+-- a key comes into being with the attributes that are recorded
 abbrev pub created : Store → ℕ → Attributes → List ℕ → Outcome
-created store caller a bytes =
-    let id = next_volatile store caller in
+created store caller kept bytes =
+    let id = new_id store caller kept in
     record {
-      store = record (counted store) {
-        keys = map.insert store.keys id (new_key store caller id a bytes);
-        made = slice_set store.made caller (made_of store caller + 1);
-      };
+      store = record (counted store) { keys = map.insert store.keys id (new_key store caller id kept bytes); made = made_after store caller kept };
       reply = record { status = Success; output = Identifier id; needed = 0 };
       drawn = 0;
     }
 
+-- a creation, by what it records or its refusal
+abbrev pub created_unless : Store → ℕ → Result Attributes Status → List ℕ → Outcome
+created_unless store caller (Ok kept) bytes = created store caller kept bytes
+created_unless store caller (Err status) bytes = refused store status
+
 abbrev pub step_import : Store → ℕ → Attributes → List ℕ → Outcome
-step_import store caller a bytes = decided store (first_row (creation_rows store caller a (length bytes))) (created store caller a bytes)
+step_import store caller a bytes = created_unless store caller (recorded_of store caller a (length bytes)) bytes

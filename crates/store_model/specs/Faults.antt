@@ -1,7 +1,8 @@
 -- What is noted of a call in whose turn a device failed.
-use Rattle.std.specs.Prelude.{Bool, Option, Some, None}
-use Rattle.psa_status.specs.declared.Status.{Status}
+use Rattle.std.specs.Prelude.{Bool}
 use Rattle.psa_status.specs.declared.Status.TheVariants.{StorageFailure, HardwareFailure, DataCorrupt}
+use Rattle.store_model.specs.Call.{Reply}
+use Rattle.store_model.specs.Outcome.{refusal, spoiled}
 
 -- how the disk was used as it failed: read, or written. A persistent creation or destruction that failed
 -- at a write tells whether all cells that were in doubt before had been closed in its turn.
@@ -16,9 +17,10 @@ pub data FaultMark : Type 0 where
   Hardware : FaultMark
   Corrupt : FaultMark
 
--- the status of a call in whose turn a device failed
-abbrev pub failure_of : FaultMark → Option Status
-failure_of Plain = None
-failure_of (Storage access) = Some StorageFailure
-failure_of Hardware = Some HardwareFailure
-failure_of Corrupt = Some DataCorrupt
+-- The reply of a call with a mark, by that of one in whose turn no device failed. A driver's failure leaves zeros in the
+-- output buffer, as many as were needed.
+abbrev pub marked_reply : FaultMark → Reply → Reply
+marked_reply Plain reply = reply
+marked_reply (Storage access) reply = refusal StorageFailure
+marked_reply Hardware reply = spoiled HardwareFailure reply.needed
+marked_reply Corrupt reply = refusal DataCorrupt

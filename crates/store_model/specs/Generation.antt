@@ -1,16 +1,23 @@
 -- GENERATE: a key of random bytes, as many as the stated bits say. A refusal draws no word.
-use Rattle.std.specs.Prelude.{ℕ, ◌++◌}
-use Rattle.psa_status.specs.Rows.{first_row}
+use Rattle.std.specs.Prelude.{ℕ, Result, Ok, Err}
+use Rattle.psa_status.specs.declared.Status.{Status}
+use Rattle.psa_status.specs.Rows.{first_row, unless, ◌>>=◌}
 use Rattle.key_attributes.specs.declared.Attributes.{Attributes}
 use Rattle.store_model.specs.Store.{Store}
 use Rattle.store_model.specs.Draws.{Random}
-use Rattle.store_model.specs.Outcome.{Outcome, decided}
-use Rattle.store_model.specs.Creation.{creation_rows, created, stated_bytes, stated_bits_rows}
+use Rattle.store_model.specs.Outcome.{Outcome, refused}
+use Rattle.store_model.specs.Creation.{recorded_of, created, stated_bytes, stated_bits_rows}
+
+-- what a generation records, or its first refusal
+abbrev pub generation_of : Store → ℕ → Attributes → Result Attributes Status
+generation_of store caller a = do
+  bytes ← unless (first_row (stated_bits_rows a)) (stated_bytes a)
+  recorded_of store caller a bytes
 
 -- the key's bytes are the caller's next random ones
-abbrev pub generated : Store → ℕ → Random → Attributes → Outcome
-generated store caller random a = record (created store caller a (random (stated_bytes a))) { drawn = stated_bytes a }
+abbrev pub generated : Store → ℕ → Random → ℕ → Result Attributes Status → Outcome
+generated store caller random n (Ok kept) = record (created store caller kept (random n)) { drawn = n }
+generated store caller random n (Err status) = refused store status
 
 abbrev pub step_generate : Store → ℕ → Random → Attributes → Outcome
-step_generate store caller random a =
-    decided store (first_row (stated_bits_rows a ++ creation_rows store caller a (stated_bytes a))) (generated store caller random a)
+step_generate store caller random a = generated store caller random (stated_bytes a) (generation_of store caller a)

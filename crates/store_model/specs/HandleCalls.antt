@@ -1,20 +1,20 @@
 -- Calls on a handle.
-use Rattle.std.specs.Prelude.{ℕ, Bool, true, not, nat_lt, ◌&&◌, ◌||◌, ◌==◌, List, [], ◌∷◌, ◌++◌, Option, Some, None, if◌then◌else◌}
+use Rattle.std.specs.Prelude.{ℕ, Bool, true, false, not, nat_lt, ◌&&◌, ◌||◌, ◌==◌, List, [], ◌∷◌, ◌++◌, Option, Some, None, Result, Ok, Err}
 use Rattle.std.specs.Option.{option_map}
 use Rattle.std.specs.FinMap as map
 use Rattle.psa_status.specs.declared.Status.{Status}
-use Rattle.psa_status.specs.declared.Status.TheVariants.{BadState, InvalidHandle, NotPermitted, InvalidArgument}
-use Rattle.psa_status.specs.Rows.{Rows, first_row}
+use Rattle.psa_status.specs.declared.Status.TheVariants.{BadState, InvalidHandle, NotPermitted, NotSupported, InvalidArgument, InsufficientData}
+use Rattle.psa_status.specs.Rows.{Rows, first_row, unless, ◌>>=◌}
 use Rattle.alg_encoding.specs.declared.table.Class.{Class}
 use Rattle.alg_encoding.specs.declared.table.Class.TheVariants as class
 use Rattle.key_attributes.specs.declared.Attributes.{Attributes}
 use Rattle.policy_rules.specs.Policy.{may_use}
-use Rattle.store_model.specs.Store.{Key}
+use Rattle.store_model.specs.Store.{Key, Store, is_opaque}
 use Rattle.store_model.specs.Outcome.{Outcome, done}
 use Rattle.store_model.specs.Rules.{class_rows, use_rows, mac_usage, cipher_usage}
 use Rattle.store_model.specs.KeyUse.{bytes_of}
-use Rattle.store_model.specs.Creation.{creation_rows, created}
-use Rattle.store_model.specs.Operations.{Operation, Active, set_up, fails, ends, goes_on, unless_failed, with_live_key}
+use Rattle.store_model.specs.Creation.{recorded_of, created}
+use Rattle.store_model.specs.Operations.{Operation, Active, After, set_up, fails, ends, goes_on, unless_failed, with_live_key}
 use Rattle.store_model.specs.HashOperations.{HashStep, hash_work, hash_step}
 use Rattle.store_model.specs.MacOperations.{MacStep, mac_work, mac_step}
 use Rattle.store_model.specs.CipherOperations.{CipherStep, cipher_work, cipher_step}
@@ -39,6 +39,14 @@ pub data HandleCall : Type 0 where
 
 -- SETUPS
 
+abbrev pub is_setup : HandleCall → Bool
+is_setup (HashSetup alg) = true
+is_setup (MacSetup verifies id alg) = true
+is_setup (CipherSetup encrypts id alg) = true
+is_setup (AeadSetup encrypts id alg) = true
+is_setup (DerivationSetup alg) = true
+is_setup _ = false
+
 abbrev pub set_up_with : Service → (caller handle : ℕ) → Option Status → Option KeyCreation → Work → Served
 set_up_with service caller handle refused key work =
     applied service caller handle (set_up (operation_of service caller handle) refused (record { key = key; work = work }))
@@ -51,9 +59,9 @@ creation_of id found = option_map (λ key. record { id = id; number = key.number
 abbrev pub set_up_keyed : Service → (caller handle : ℕ) → Class → (usage alg id : ℕ) → (List ℕ → Work) → Served
 set_up_keyed service caller handle class usage alg id work =
     let found : Option Key = map.get service.store.keys id in
-    set_up_with service caller handle (first_row (use_rows class usage alg found)) (creation_of id found) (work (bytes_of found))
+    set_up_with service caller handle (first_row (use_rows false class usage alg found)) (creation_of id found) (work (bytes_of found))
 
--- A KEY AS THE SECRET OF A DERIVATION: the flag DERIVE, and the type DERIVE, or PASSWORD at a password step
+-- A KEY AS THE SECRET OF A DERIVATION: the flag DERIVE, the type DERIVE, or PASSWORD at a password step, and no device's
 
 abbrev pub derive_usage : ℕ
 derive_usage = 0x4000
@@ -66,6 +74,7 @@ derivation_key_rows None step alg = (true, InvalidHandle) ∷ []
 derivation_key_rows (Some key) step alg =
     (not (may_use key.attributes.policy derive_usage alg), NotPermitted)
     ∷ (not (fits_step step key.attributes.key_type.0), InvalidArgument)
+    ∷ (is_opaque key.attributes, NotSupported)
     ∷ []
 
 abbrev pub input_key_rows : DerivationWork → Option Key → ℕ → Rows
@@ -82,27 +91,31 @@ input_key service caller handle _ step id = untouched service BadState
 
 -- A KEY OF DERIVED BYTES
 
--- the derivation gave its bytes: the key is created, or the derivation is in error
-abbrev pub created_from : Service → (caller handle : ℕ) → Option KeyCreation → DerivationWork → Attributes → Option Status → Served
-created_from service caller handle key w a (Some status) = applied service caller handle (fails status)
-created_from service caller handle key w a None =
-    let n : ℕ = stated_bytes a in
-    let made : Outcome = created service.store caller a (next_derived w n) in
+-- what it records, or the first refusal: the derivation's key is there, the derivation gives so many bytes, and then that of
+-- every creation
+abbrev pub derived_key_of : Store → ℕ → Option KeyCreation → DerivationWork → Attributes → Result Attributes Status
+derived_key_of store caller key w a = do
+  stated ← unless (first_row ((not (is_alive store key), InvalidHandle) ∷ output_key_rows w a ++ (nat_lt w.capacity (stated_bytes a), InsufficientData) ∷ [])) a
+  recorded_of store caller stated (stated_bytes a)
+
+-- a refusal puts the derivation in error, but where too little is left, and then nothing is
+abbrev pub underived : DerivationWork → Status → After DerivationWork
+underived w InsufficientData = exhausted w
+underived w status = fails status
+
+abbrev pub derived_key : Service → (caller handle : ℕ) → Option KeyCreation → DerivationWork → ℕ → Result Attributes Status → Served
+derived_key service caller handle key w n (Err status) = applied service caller handle (held_after key Deriving (underived w status))
+derived_key service caller handle key w n (Ok kept) =
+    let made : Outcome = created service.store caller kept (next_derived w n) in
     record {
       service = with_own service made.store caller (with_operation (own_of service caller) handle (held_with key Deriving (Active (without w n))));
       reply = made.reply;
     }
 
-abbrev pub output_key_of : Service → (caller handle : ℕ) → Option KeyCreation → DerivationWork → Attributes → Option Status → Served
-output_key_of service caller handle key w a (Some status) = applied service caller handle (fails status)
-output_key_of service caller handle key w a None =
-    if nat_lt w.capacity (stated_bytes a) then applied service caller handle (held_after key Deriving (exhausted w))
-    else created_from service caller handle key w a (first_row (creation_rows service.store caller a (stated_bytes a)))
-
 abbrev pub output_key : Service → (caller handle : ℕ) → Operation DerivationWork → Attributes → Served
 output_key service caller handle (Active w) a =
     let key : Option KeyCreation = key_of_operation (operation_of service caller handle) in
-    output_key_of service caller handle key w a (first_row ((not (is_alive service.store key), InvalidHandle) ∷ output_key_rows w a))
+    derived_key service caller handle key w (stated_bytes a) (derived_key_of service.store caller key w a)
 output_key service caller handle _ a = untouched service BadState
 
 -- ANY CALL

@@ -2,17 +2,18 @@
 use Rattle.std.specs.Prelude.{ℕ, true, not, nat_lt, ◌==◌, ◌&&◌, List, [], ◌∷◌, length, bit_and, Option, Some, None, is_some}
 use Rattle.std.specs.Option.{option_map_or}
 use Rattle.std.specs.FinMap as map
-use Rattle.psa_status.specs.declared.Status.TheVariants.{Success, NotPermitted, InvalidHandle, BufferTooSmall}
+use Rattle.psa_status.specs.declared.Status.TheVariants.{Success, NotPermitted, NotSupported, InvalidHandle, BufferTooSmall}
 use Rattle.psa_status.specs.Rows.{Rows, first_row}
-use Rattle.store_model.specs.Store.{Key, Store}
+use Rattle.store_model.specs.Store.{Key, Store, is_opaque}
 use Rattle.store_model.specs.Call.{Reply, Description}
 use Rattle.store_model.specs.Outcome.{Outcome, counted, decided, refusal, reply_unless, replies, with_computed, done, given}
 
--- EXPORT, whose flag is 1
+-- EXPORT, whose flag is 1, of a key that no secure element holds
 abbrev pub export_rows : Option Key → ℕ → Rows
 export_rows None room = (true, InvalidHandle) ∷ []
 export_rows (Some key) room =
     (bit_and key.attributes.policy.usage.0 1 == 0, NotPermitted)
+    ∷ (is_opaque key.attributes, NotSupported)
     ∷ (nat_lt room (length key.bytes), BufferTooSmall)
     ∷ []
 
@@ -47,3 +48,12 @@ destroyed store id = record { store = record (counted store) { keys = map.remove
 
 abbrev pub step_destroy : Store → ℕ → Outcome
 step_destroy store id = decided store (first_row (destroy_rows (map.get store.keys id) id)) (destroyed store id)
+
+-- PURGE: a key that is kept in a file leaves the memory, which is nothing to the model
+
+abbrev pub purge_reply : Option Key → Reply
+purge_reply None = refusal InvalidHandle
+purge_reply (Some key) = done
+
+abbrev pub step_purge : Store → ℕ → Outcome
+step_purge store id = with_computed store (replies (purge_reply (map.get store.keys id)))

@@ -7,9 +7,9 @@ use Rattle.store_model.specs.Faults.{FaultMark, Plain}
 use Rattle.store_model.specs.Outcome.{counted}
 use Rattle.store_model.specs.Handles.{HandleOperation, Service, Served, own_of, operation_of, with_own, with_operation, untouched}
 use Rattle.store_model.specs.Call.{Import, Destroy, Copy, Generate, Reply, buffer_after}
-use Rattle.store_model.specs.HandleCalls.{HandleCall, OutputKey}
+use Rattle.store_model.specs.HandleCalls.{HandleCall, OutputKey, is_setup}
 use Rattle.store_model.specs.Requests.{Request, OnStore, OnHandle, serve}
-use Rattle.store_model.specs.Refusals.{is_setup, is_ready, left_by, spoils}
+use Rattle.store_model.specs.Refusals.{is_ready, left_by, spoils}
 
 -- the handle that a request is on
 abbrev pub handle_of : Request → Option ℕ
@@ -50,7 +50,7 @@ RefusalsLeaveAll =
     let served : Served = serve service caller request Plain in
     (served.reply.status ≡ Success → ⊥) → served.service ≡ left_all service caller request served.reply.status
 
--- a refusal leaves its output buffer, but for INVALID_SIGNATURE and INVALID_PADDING, which leave zeros in its front
+-- a refusal leaves its output buffer, but for those that leave zeros in its front
 abbrev pub RefusalsLeaveBuffers : Type 0
 RefusalsLeaveBuffers =
     (service : Service) (caller : ℕ) (request : Request) (mark : FaultMark) (old : List ℕ) →

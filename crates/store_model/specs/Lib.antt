@@ -24,7 +24,7 @@ pub mod Handles
 pub mod HandleCalls
 pub mod Requests
 pub mod Replay
-pub mod Answers
+pub mod Marks
 pub mod Refusals
 pub mod Laws
 pub mod Sound

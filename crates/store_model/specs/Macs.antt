@@ -17,7 +17,7 @@ abbrev pub mac_reply : ℕ → (key input : List ℕ) → ℕ → Reply
 mac_reply alg key input room = reply_unless (first_row (compute_rows alg (length input) room)) (given (mac_of alg key input))
 
 abbrev pub step_mac_compute : Store → (id alg : ℕ) → List ℕ → ℕ → Outcome
-step_mac_compute store id alg input room = using_key store Mac (mac_usage false) alg id (λ key. replies (mac_reply alg key input room))
+step_mac_compute store id alg input room = using_key store true Mac (mac_usage false) alg id (λ key. replies (mac_reply alg key input room))
 
 -- mac_verify: the MAC that was given is compared whole
 abbrev pub verify_rows : ℕ → (key input mac : List ℕ) → Rows
@@ -30,4 +30,4 @@ abbrev pub verified_reply : ℕ → (key input mac : List ℕ) → Reply
 verified_reply alg key input mac = reply_unless (first_row (verify_rows alg key input mac)) done
 
 abbrev pub step_mac_verify : Store → (id alg : ℕ) → List ℕ → List ℕ → Outcome
-step_mac_verify store id alg input mac = using_key store Mac (mac_usage true) alg id (λ key. replies (verified_reply alg key input mac))
+step_mac_verify store id alg input mac = using_key store true Mac (mac_usage true) alg id (λ key. replies (verified_reply alg key input mac))

@@ -6,7 +6,8 @@ use Rattle.std.specs.FinMap as map
 use Rattle.key_attributes.specs.declared.Policy.{Policy}
 use Rattle.policy_rules.specs.Policy.{IsWithin}
 use Rattle.store_model.specs.Store.{Key, Store, Settings, caller_count, start_of}
-use Rattle.store_model.specs.Call.{Copy, Output, Identifier}
+use Rattle.store_model.specs.Call.{Copy}
+use Rattle.store_model.specs.Marks.{key_given}
 use Rattle.store_model.specs.Handles.{Service, Served}
 use Rattle.store_model.specs.Requests.{Request, OnStore}
 use Rattle.store_model.specs.Replay.{Entry, outcome_of, replay}
@@ -28,12 +29,10 @@ abbrev pub creation_from : Option ℕ → Key → Made
 creation_from source key = record { number = key.number; policy = key.attributes.policy; source = source }
 
 -- what a call made, where it answers the identifier of a key
-abbrev pub made_at : Option ℕ → Store → Output → List Made
-made_at source after (Identifier id) = option_map_or (λ key. creation_from source key ∷ []) (map.get after.keys id) []
-made_at source after _ = []
-
 abbrev pub made_by : Service → Entry → List Made
-made_by service e = let served : Served = outcome_of service e in made_at (source_of service.store e.call) served.service.store served.reply.output
+made_by service e =
+    let served : Served = outcome_of service e in
+    option_map_or (λ key. creation_from (source_of service.store e.call) key ∷ []) (key_given served.service.store served.reply.output) []
 
 -- what a history made, the newest first, on top of what was made before
 abbrev pub made_after : Service → List Entry → List Made → List Made
@@ -88,4 +87,4 @@ CopiesGainNothing =
 
 -- nothing counts as made before the first call of a service that begins without a key
 abbrev pub NoneFoundAtStart : Type 0
-NoneFoundAtStart = (settings : Settings) → found_made (start_of settings) ≡ []
+NoneFoundAtStart = (settings : Settings) → found_made (start_of settings []) ≡ []

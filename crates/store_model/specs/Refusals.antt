@@ -1,23 +1,15 @@
 -- What a refused call leaves of its handle's operation, and of its output buffer.
 use Rattle.std.specs.Prelude.{Bool, true, false, nat_lt, nat_le, length, if◌then◌else◌}
 use Rattle.psa_status.specs.declared.Status.{Status}
-use Rattle.psa_status.specs.declared.Status.TheVariants.{InvalidArgument, InsufficientData, InvalidSignature, InvalidPadding}
+use Rattle.psa_status.specs.declared.Status.TheVariants.{InvalidArgument, InsufficientData, InvalidSignature, InvalidPadding, HardwareFailure}
 use Rattle.store_model.specs.Operations.{Operation, InError, Active, is_inactive}
 use Rattle.store_model.specs.DerivationOperations.{DerivationWork, SetCapacity, OutputBytes, VerifyBytes, without, stated_bytes}
 use Rattle.store_model.specs.Handles.{Work, Deriving, HandleOperation, key_of_operation, held_with, part_of, hash_part, mac_part, cipher_part, aead_part, derivation_part}
-use Rattle.store_model.specs.HandleCalls.{HandleCall, HashSetup, MacSetup, CipherSetup, AeadSetup, DerivationSetup, OnHash, OnMac, OnCipher, OnAead, OnDerivation, InputKey, OutputKey, Abort}
+use Rattle.store_model.specs.HandleCalls.{HandleCall, OnHash, OnMac, OnCipher, OnAead, OnDerivation, InputKey, OutputKey, Abort}
 
 abbrev pub is_active : {W : Type 0} → Operation W → Bool
 is_active (Active work) = true
 is_active _ = false
-
-abbrev pub is_setup : HandleCall → Bool
-is_setup (HashSetup alg) = true
-is_setup (MacSetup verifies id alg) = true
-is_setup (CipherSetup encrypts id alg) = true
-is_setup (AeadSetup encrypts id alg) = true
-is_setup (DerivationSetup alg) = true
-is_setup _ = false
 
 -- whether the call is in order on the operation: a step or a finish on one that is active with the call's family, an
 -- abort always, and a setup on an inactive one
@@ -58,4 +50,5 @@ left_by call operation status =
 abbrev pub spoils : Status → Bool
 spoils InvalidSignature = true
 spoils InvalidPadding = true
+spoils HardwareFailure = true
 spoils _ = false

@@ -1,14 +1,13 @@
 -- One call on the service: on the store, or on a handle.
-use Rattle.std.specs.Prelude.{ℕ, not, ◌||◌, Option, Some, None, if◌then◌else◌}
-use Rattle.psa_status.specs.declared.Status.{Status}
-use Rattle.store_model.specs.Call.{Call}
-use Rattle.store_model.specs.Faults.{FaultMark, failure_of}
-use Rattle.store_model.specs.Step.{step, failed_step}
-use Rattle.store_model.specs.Outcome.{Outcome}
-use Rattle.store_model.specs.Operations.{fails}
-use Rattle.store_model.specs.Handles.{Service, Served, own_of, operation_of, with_own, with_drawn, next_random, applied, untouched}
-use Rattle.store_model.specs.HandleCalls.{HandleCall, handle_step}
-use Rattle.store_model.specs.Refusals.{is_setup, is_active}
+use Rattle.std.specs.Prelude.{ℕ, if◌then◌else◌}
+use Rattle.store_model.specs.Call.{Call, Destroy}
+use Rattle.store_model.specs.Faults.{FaultMark, Plain, marked_reply}
+use Rattle.store_model.specs.Step.{step}
+use Rattle.store_model.specs.KeyUse.{destroyed}
+use Rattle.store_model.specs.Outcome.{Outcome, counted}
+use Rattle.store_model.specs.Operations.{InError}
+use Rattle.store_model.specs.Handles.{HandleOperation, Service, Served, own_of, operation_of, with_own, with_operation, with_drawn, next_random}
+use Rattle.store_model.specs.HandleCalls.{HandleCall, is_setup, handle_step}
 
 pub data Request : Type 0 where
   OnStore : (call : Call) → Request
@@ -21,19 +20,26 @@ on_store service caller outcome = record {
   reply = outcome.reply;
 }
 
--- A call on a handle in whose turn a device failed: a setup leaves the handle, and any other call puts an active
--- operation in error.
-abbrev pub failed_handle_step : Service → (caller handle : ℕ) → HandleCall → Status → Served
-failed_handle_step service caller handle call status =
-    if is_setup call || not (is_active (operation_of service caller handle)) then untouched service status
-    else applied service caller handle (fails status)
+-- a request in whose turn no device fails
+abbrev pub plain_step : Service → ℕ → Request → Served
+plain_step service caller (OnStore call) = on_store service caller (step service.store caller (next_random service caller) call)
+plain_step service caller (OnHandle handle call) = handle_step service caller handle call
 
-abbrev pub serve_unless : Option Status → Service → ℕ → Request → Served
-serve_unless None service caller (OnStore call) = on_store service caller (step service.store caller (next_random service caller) call)
-serve_unless None service caller (OnHandle handle call) = handle_step service caller handle call
-serve_unless (Some status) service caller (OnStore call) = on_store service caller (failed_step service.store call status)
-serve_unless (Some status) service caller (OnHandle handle call) = failed_handle_step service caller handle call status
+-- a device failed in the turn of a call on a handle: a setup leaves the handle, and any other call puts its operation in
+-- error
+abbrev pub failed_operation : HandleCall → HandleOperation → HandleOperation
+failed_operation call operation = if is_setup call then operation else InError
 
--- A request and its mark. No request that is built reads or writes a device yet, so that each mark is Plain.
+-- what a request leaves in whose turn a device failed: a destruction removes its key all the same, and any other call on the
+-- store leaves the keys
+abbrev pub failed_step : Service → ℕ → Request → Service
+failed_step service caller (OnStore (Destroy id)) = record service { store = (destroyed service.store id).store }
+failed_step service caller (OnStore call) = record service { store = counted service.store }
+failed_step service caller (OnHandle handle call) =
+    let left : HandleOperation = failed_operation call (operation_of service caller handle) in
+    with_own service (counted service.store) caller (with_operation (own_of service caller) handle left)
+
+-- a request and its mark
 abbrev pub serve : Service → ℕ → Request → FaultMark → Served
-serve service caller request mark = serve_unless (failure_of mark) service caller request
+serve service caller request Plain = plain_step service caller request
+serve service caller request mark = record { service = failed_step service caller request; reply = marked_reply mark (plain_step service caller request).reply }

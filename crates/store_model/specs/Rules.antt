@@ -8,7 +8,7 @@ use Rattle.alg_encoding.specs.declared.table.Class.{Class}
 use Rattle.alg_encoding.specs.declared.table.Class.TheVariants as class
 use Rattle.alg_encoding.specs.Encoding.{class_of, is_concrete}
 use Rattle.policy_rules.specs.Policy.{may_use}
-use Rattle.store_model.specs.Store.{Key, Store}
+use Rattle.store_model.specs.Store.{Key, Store, is_opaque}
 use Rattle.store_model.specs.KeyUse.{bytes_of}
 use Rattle.store_model.specs.Outcome.{Outcome, Computed, computed_unless, with_computed}
 use Rattle.store_model.specs.Algorithms.{is_hmac}
@@ -42,20 +42,22 @@ mac_usage verifies = if verifies then 0x800 else 0x400
 abbrev pub cipher_usage : Bool → ℕ
 cipher_usage encrypts = if encrypts then 0x100 else 0x200
 
--- a call that uses a key with an algorithm, by what the map has at the identifier
-abbrev pub use_rows : Class → (usage alg : ℕ) → Option Key → Rows
-use_rows class usage alg None = (true, InvalidHandle) ∷ []
-use_rows class usage alg (Some key) =
+-- A call that uses a key with an algorithm, by what the map has at the identifier. Of a key that a secure element holds
+-- the call has to be one that such a device computes.
+abbrev pub use_rows : (on_device : Bool) → Class → (usage alg : ℕ) → Option Key → Rows
+use_rows on_device class usage alg None = (true, InvalidHandle) ∷ []
+use_rows on_device class usage alg (Some key) =
     class_rows class alg
     ++ (not (may_use key.attributes.policy usage alg), NotPermitted)
     ∷ (not (fits_type alg key.attributes.key_type.0), InvalidArgument)
+    ∷ (is_opaque key.attributes && not on_device, NotSupported)
     ∷ []
 
 -- a call that uses a key with an algorithm: the refusals of the key's use, and then what is computed with its bytes
-abbrev pub using_key : Store → Class → (usage alg id : ℕ) → (List ℕ → Computed) → Outcome
-using_key store class usage alg id compute =
+abbrev pub using_key : Store → (on_device : Bool) → Class → (usage alg id : ℕ) → (List ℕ → Computed) → Outcome
+using_key store on_device class usage alg id compute =
     let found : Option Key = map.get store.keys id in
-    with_computed store (computed_unless (first_row (use_rows class usage alg found)) (compute (bytes_of found)))
+    with_computed store (computed_unless (first_row (use_rows on_device class usage alg found)) (compute (bytes_of found)))
 
 -- no input is longer than 2^32 - 1 bytes
 abbrev pub total_limit : ℕ

@@ -1,8 +1,9 @@
 -- What holds of each service that requests lead to.
-use Rattle.std.specs.Prelude.{◌≡◌, ◌≤◌, ◌<◌, ◌↔◌, ℕ, ◌+◌, ◌^◌, true, false, length, Option, None, Some, is_some, Ok}
+use Rattle.std.specs.Prelude.{◌≡◌, ◌≤◌, ◌<◌, ◌↔◌, ℕ, ◌+◌, ◌^◌, ◌==◌, true, false, List, [], ◌∷◌, length, find, Option, None, Some, is_some, Ok, if◌then◌else◌}
 use Rattle.std.specs.FinMap as map
+use Rattle.key_attributes.specs.declared.Attributes.{Attributes}
 use Rattle.key_attributes.specs.Checks.{checked}
-use Rattle.store_model.specs.Store.{Key, Store, Settings, caller_count, made_of, first_volatile, has_secure_element, live_volatile}
+use Rattle.store_model.specs.Store.{Key, Store, Settings, FoundKey, start_of, caller_count, made_of, first_volatile, has_secure_element, is_volatile, live_volatile, count_persistent}
 use Rattle.store_model.specs.Faults.{FaultMark}
 use Rattle.store_model.specs.Creation.{identified}
 use Rattle.store_model.specs.Operations.{Active}
@@ -12,16 +13,27 @@ use Rattle.store_model.specs.Requests.{Request, serve}
 
 -- THE STORE
 
--- A key has its identifier and a creation number that was given out. Its attributes, with no identifier in the place of a
--- volatile key's, pass the checks and come out of them as they are: they have the flags that others imply, and the bits of
--- the key's bytes. The identifier is the n-th volatile one of its creator, for an n below the number of those made.
+-- attributes as they could be stated: a volatile key's have no identifier
+abbrev pub as_stated : Attributes → Attributes
+as_stated a = if is_volatile a then identified a 0 else a
+
+-- attributes pass the checks, and come out of them as they are: they have the flags that others imply, and the bits of so
+-- many bytes
+abbrev pub IsChecked : Attributes → (bytes : ℕ) → Store → Type 0
+IsChecked a bytes store = checked (as_stated a) bytes (has_secure_element store) ≡ Ok (as_stated a)
+
+-- a volatile key's identifier is the n-th one of its creator, for an n below the number of those made
+pub record IsVolatileOf (store : Store) (id creator : ℕ) : Type 0 where
+  pub from_first : 1 ≤ creator
+  pub to_last : creator ≤ caller_count
+  pub made : (n : ℕ) × (n < made_of store creator) × (id ≡ first_volatile creator + n)
+
+-- a key has its identifier, a creation number that was given out, and checked attributes
 pub record IsSoundKey (store : Store) (id : ℕ) (key : Key) : Type 0 where
   pub identifier : key.attributes.id.0 ≡ id
   pub given : key.number < store.found + store.calls
-  pub attributes : checked (identified key.attributes 0) (length key.bytes) (has_secure_element store) ≡ Ok (identified key.attributes 0)
-  pub from_first : 1 ≤ key.creator
-  pub to_last : key.creator ≤ caller_count
-  pub made : (n : ℕ) × (n < made_of store key.creator) × (id ≡ first_volatile key.creator + n)
+  pub attributes : IsChecked key.attributes (length key.bytes) store
+  pub volatile : is_volatile key.attributes ≡ true → IsVolatileOf store id key.creator
 
 pub record IsSoundStore (store : Store) : Type 0 where
   pub keys : (id : ℕ) (key : Key) → map.get store.keys id ≡ Some key → IsSoundKey store id key
@@ -29,6 +41,7 @@ pub record IsSoundStore (store : Store) : Type 0 where
   pub numbers : (id other : ℕ) (key same : Key) → map.get store.keys id ≡ Some key → map.get store.keys other ≡ Some same → key.number ≡ same.number → id ≡ other
   pub made : (caller : ℕ) → made_of store caller ≤ 2 ^ 20
   pub live : (caller : ℕ) → live_volatile store.keys caller ≤ 16
+  pub persistent : count_persistent store.keys ≤ 512
   pub callers : length store.made ≡ caller_count + 1
 
 -- THE OPERATIONS
@@ -72,9 +85,18 @@ pub record IsSound (service : Service) : Type 0 where
   pub handles : (caller : ℕ) → length (own_of service caller).operations ≡ handle_count + 1
   pub callers : length service.owns ≡ caller_count + 1
 
+-- keys that an opening may find: each is persistent and checked, no identifier comes twice, and there are at most 512
+abbrev pub AreFound : Store → List FoundKey → Type 0
+AreFound store [] = Unit {0}
+AreFound store (key ∷ keys) =
+    (is_volatile key.attributes ≡ false) × IsChecked key.attributes (length key.bytes) store
+    × (find (λ other. other.attributes.id.0 == key.attributes.id.0) keys ≡ None) × AreFound store keys
+
 -- each service is sound at its start, and each request keeps it so
 abbrev pub StartsSound : Type 0
-StartsSound = (settings : Settings) → IsSound (service_start settings)
+StartsSound =
+    (settings : Settings) (found : List FoundKey) → AreFound (start_of settings found) found → length found ≤ 512 →
+    IsSound (service_start settings found)
 
 abbrev pub StaysSound : Type 0
 StaysSound =

@@ -1,10 +1,9 @@
 -- One call on the store, by a caller whose next random bytes these are.
 use Rattle.std.specs.Prelude.{ℕ}
 use Rattle.store_model.specs.Store.{Store}
-use Rattle.store_model.specs.Call.{Call, Import, Export, GetAttributes, Destroy, Copy, Generate, HashCompute, HashCompare, MacCompute, MacVerify, CipherEncrypt, CipherDecrypt, AeadEncrypt, AeadDecrypt}
+use Rattle.store_model.specs.Call.{Call, Import, Export, GetAttributes, Destroy, Purge, Copy, Generate, HashCompute, HashCompare, MacCompute, MacVerify, CipherEncrypt, CipherDecrypt, AeadEncrypt, AeadDecrypt}
 use Rattle.store_model.specs.Draws.{Random}
-use Rattle.psa_status.specs.declared.Status.{Status}
-use Rattle.store_model.specs.Outcome.{Outcome, refused}
+use Rattle.store_model.specs.Outcome.{Outcome}
 use Rattle.store_model.specs.Creation.{step_import}
 use Rattle.store_model.specs.Copies.{step_copy}
 use Rattle.store_model.specs.Generation.{step_generate}
@@ -12,13 +11,14 @@ use Rattle.store_model.specs.Hashes.{step_hash_compute, step_hash_compare}
 use Rattle.store_model.specs.Macs.{step_mac_compute, step_mac_verify}
 use Rattle.store_model.specs.Ciphers.{step_cipher_encrypt, step_cipher_decrypt}
 use Rattle.store_model.specs.Aeads.{step_aead_encrypt, step_aead_decrypt}
-use Rattle.store_model.specs.KeyUse.{step_export, step_attributes, step_destroy, destroyed}
+use Rattle.store_model.specs.KeyUse.{step_export, step_attributes, step_destroy, step_purge}
 
 abbrev pub step : Store → ℕ → Random → Call → Outcome
 step store caller random (Import a bytes) = step_import store caller a bytes
 step store caller random (Export id room) = step_export store id room
 step store caller random (GetAttributes id) = step_attributes store id
 step store caller random (Destroy id) = step_destroy store id
+step store caller random (Purge id) = step_purge store id
 step store caller random (Copy source stated) = step_copy store caller source stated
 step store caller random (Generate a) = step_generate store caller random a
 step store caller random (HashCompute alg input room) = step_hash_compute store alg input room
@@ -29,9 +29,3 @@ step store caller random (CipherEncrypt id alg input room) = step_cipher_encrypt
 step store caller random (CipherDecrypt id alg input room) = step_cipher_decrypt store id alg input room
 step store caller random (AeadEncrypt id alg nonce ad input room) = step_aead_encrypt store id alg nonce ad input room
 step store caller random (AeadDecrypt id alg nonce ad input room) = step_aead_decrypt store id alg nonce ad input room
-
--- A call on the store in whose turn a device failed: a destruction removes its key all the same, and any other call
--- leaves the keys.
-abbrev pub failed_step : Store → Call → Status → Outcome
-failed_step store (Destroy id) status = record (refused store status) { store = (destroyed store id).store }
-failed_step store _ status = refused store status

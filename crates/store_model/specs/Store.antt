@@ -1,9 +1,12 @@
 -- The one-thread store.
-use Rattle.std.specs.Prelude.{ℕ, ◌+◌, ◌*◌, ◌/◌, ◌^◌, Bool, List, [], ◌==◌, replicate, get_or}
+use Rattle.std.specs.Prelude.{ℕ, ◌+◌, ◌*◌, ◌/◌, ◌^◌, Bool, false, List, [], ◌∷◌, ◌==◌, nat_lt, length, replicate, get_or, Option}
+use Rattle.std.specs.Option.{option_map_or}
 use Rattle.std.specs.List.{list_any}
 use Rattle.std.specs.Ordering.{nat_cmp}
 use Rattle.std.specs.FinMap as map
 use Rattle.key_attributes.specs.declared.Attributes.{Attributes}
+use Rattle.key_attributes.specs.Checks.{persistence, location}
+use Rattle.policy_rules.specs.declared.narrowing.Label.{Label}
 
 -- a key that is alive: its creation number, its attributes, its bytes, and the caller that created it
 -- (0 where it was found at opening)
@@ -16,10 +19,13 @@ pub record Key : Type 0 where
 abbrev pub KeyMap : Type 0
 KeyMap = map.FinMap nat_cmp Key
 
--- what never changes: the seed of the random words, and the locations that have a driver
+-- what never changes: the seed of the random words, the labels of the rules in force in the order in which they are
+-- asked, the locations that have a driver, and whether there is a file that keeps persistent keys
 pub record Settings : Type 0 where
   pub seed : List ℕ
+  pub labels : List Label
   pub locations : List ℕ
+  pub has_file : Bool
 
 -- the store, which all callers share: its keys by their identifiers, how many volatile keys each caller has made, by
 -- the caller's number (0 is nobody's), the calls so far, how many keys were found at opening, and what never changes
@@ -34,13 +40,24 @@ pub record Store : Type 0 where
 abbrev pub caller_count : ℕ
 caller_count = 16
 
--- before any call, without a key
-abbrev pub start_of : Settings → Store
-start_of settings = record { keys = map.empty; made = replicate (caller_count + 1) 0; calls = 0; found = 0; settings = settings }
+-- a key that was found at opening
+pub record FoundKey : Type 0 where
+  pub attributes : Attributes
+  pub bytes : List ℕ
 
--- a seed of zeros, and no driver
+-- keys that were found, numbered in their order from a number on
+abbrev pub found_from : ℕ → List FoundKey → KeyMap
+found_from n [] = map.empty
+found_from n (key ∷ keys) =
+    map.insert (found_from (n + 1) keys) key.attributes.id.0 (record { number = n; attributes = key.attributes; bytes = key.bytes; creator = 0 })
+
+-- before any call, with the keys that were found
+abbrev pub start_of : Settings → List FoundKey → Store
+start_of settings found = record { keys = found_from 0 found; made = replicate (caller_count + 1) 0; calls = 0; found = length found; settings = settings }
+
+-- a seed of zeros, no rule, no driver and no file
 abbrev pub plain_settings : Settings
-plain_settings = record { seed = replicate 32 0; locations = [] }
+plain_settings = record { seed = replicate 32 0; labels = []; locations = []; has_file = false }
 
 -- how many volatile keys a caller has made
 abbrev pub made_of : Store → ℕ → ℕ
@@ -49,6 +66,19 @@ made_of store caller = get_or store.made caller 0
 -- whether a driver of the secure element's location is there
 abbrev pub has_secure_element : Store → Bool
 has_secure_element store = list_any (λ location. location == 1) store.settings.locations
+
+abbrev pub is_volatile : Attributes → Bool
+is_volatile a = persistence a.lifetime.0 == 0
+
+-- a key that the secure element holds
+abbrev pub is_opaque : Attributes → Bool
+is_opaque a = location a.lifetime.0 == 1
+
+abbrev pub is_persistent_key : Option Key → Bool
+is_persistent_key found = option_map_or (λ key. persistence key.attributes.lifetime.0 == 1) found false
+
+abbrev pub is_opaque_key : Option Key → Bool
+is_opaque_key found = option_map_or (λ key. is_opaque key.attributes) found false
 
 -- the identifiers of a caller's volatile keys
 abbrev pub first_volatile : ℕ → ℕ
@@ -64,3 +94,7 @@ is_volatile_of caller id = id / 2 ^ 20 == 1024 + caller
 -- how many volatile keys of a caller are alive
 abbrev pub live_volatile : KeyMap → ℕ → ℕ
 live_volatile keys caller = map.len (map.retain_keys keys (is_volatile_of caller))
+
+-- how many persistent keys there are: their identifiers are below every volatile key's
+abbrev pub count_persistent : KeyMap → ℕ
+count_persistent keys = map.len (map.retain_keys keys (λ id. nat_lt id 0x40000000))

@@ -2,7 +2,7 @@ use Rattle.std.proofs.Common.{◌≡◌, ℕ, ◌<◌, Bool, cond, List, length,
 use Rattle.std.proofs.lemmas.Bool.{eqb-true}
 use Rattle.crypto_specs.specs.Modes.{pkcs7_unpadded}
 use Rattle.store_model.specs.Call.{buffer_after}
-use Rattle.store_model.specs.Answers.{AnswersOrSpoils, GivesBytes}
+use Rattle.service_calls.specs.Answers.{AnswersOrSpoils, GivesBytes}
 use Rattle.store_model.specs.Operations.{After, InError, Inactive}
 use Rattle.store_model.specs.CipherOperations.{CipherWork, last_length}
 use Rattle.algorithm_facts.specs.Modes.{model_mode}

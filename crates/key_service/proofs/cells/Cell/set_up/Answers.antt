@@ -2,7 +2,7 @@ use Rattle.std.proofs.Common.{◌≡◌, true, false, sym, subst}
 use Rattle.std.specs.Prelude.{None}
 use Rattle.psa_status.specs.Rows.{first_row}
 use Rattle.alg_encoding.specs.declared.table.Class.TheVariants as class
-use Rattle.store_model.specs.Answers.{plain_reply}
+use Rattle.service_calls.specs.Answers.{plain_reply}
 use Rattle.store_model.specs.Rules.{class_rows}
 use Rattle.store_model.specs.Operations.{Inactive, Active}
 use Rattle.store_model.specs.Handles.{Hashing, Authenticating, Ciphering, Sealing, Deriving}

@@ -5,7 +5,7 @@ use Rattle.std.specs.FinMap as finite
 use Rattle.store_model.specs.Call.{buffer_after}
 use Rattle.store_model.specs.KeyUse.{export_reply}
 use Rattle.store_core.specs.declared.entries.Entry.{Entry}
-use Rattle.store_model.specs.Answers.{AnswersLength}
+use Rattle.service_calls.specs.Answers.{AnswersLength}
 use Rattle.store_core.specs.Entries.{key_of}
 use Rattle.store_core.proofs.Turns.{no_key_there, key_there, short_there}
 use Rattle.store_core.proofs.store.Store.export_key.Goals as goal
