@@ -14,7 +14,7 @@ use Rattle.store_model.specs.Operations.{Operation, Inactive, InError, Active, A
 use Rattle.store_model.specs.DerivationOperations.{DerivationWork, key_step_rows, with_key}
 use Rattle.store_model.specs.Handles.{HandleOperation, Service, Served, operation_of, stepped, part_of, derivation_part, Deriving, is_alive, key_of_operation, applied, held_after}
 use Rattle.store_model.specs.HandleCalls.{input_key, input_key_rows, derivation_key_rows, creation_of}
-use Rattle.store_core.specs.Uses.{IsDerivationKey}
+use Rattle.list_store.specs.Uses.{IsDerivationKey}
 use Rattle.derivation_states.specs.States.{IsDerivationOperation}
 use Rattle.derivation_states.specs.declared.DerivationState.{DerivationState}
 use Rattle.key_service.specs.Cells.{key_in}

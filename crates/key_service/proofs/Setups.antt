@@ -17,7 +17,7 @@ use Rattle.service_calls.specs.Answers.{plain_reply}
 use Rattle.service_calls.specs.Meanings.{model_setup}
 use Rattle.service_calls.specs.declared.handle_calls.Setup.{Setup}
 use Rattle.service_calls.specs.declared.handle_calls.Setup.TheVariants as setup
-use Rattle.store_core.specs.Uses.{IsLookedUp}
+use Rattle.list_store.specs.Uses.{IsLookedUp}
 use Rattle.key_service.specs.Cells.{IsOperation, key_in}
 use Rattle.key_service.specs.Setups.{Begins, IsFree, Refuses, keyed, set_up_by}
 use Rattle.key_service.specs.declared.cells.Cell.{Cell}

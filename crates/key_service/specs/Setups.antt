@@ -19,7 +19,7 @@ use Rattle.service_calls.specs.declared.handle_calls.Setup.{Setup}
 use Rattle.service_calls.specs.declared.handle_calls.Setup.TheVariants as setup
 use Rattle.store_model.specs.Operations.{After, Inactive, set_up, stays}
 use Rattle.store_model.specs.Handles.{Held, HandleOperation, Work, Hashing, Authenticating, Ciphering, Sealing, Deriving}
-use Rattle.store_core.specs.Uses.{IsLookedUp}
+use Rattle.list_store.specs.Uses.{IsLookedUp}
 use Rattle.key_service.specs.Cells.{IsOperation}
 use Rattle.key_service.specs.declared.cells.Cell.{Cell}
 

@@ -15,7 +15,7 @@ use psa_status::{Memory, Status};
 use random_streams::Stream;
 use service_calls::Op;
 use std::alloc::Global;
-use store_core::Store;
+use list_store::Store;
 
 // How many callers there are.
 const CALLERS: usize = 16;

@@ -17,7 +17,7 @@ use key_attributes::{KeyId, Usage};
 use mac_states::{HashOpState, MacState};
 use psa_status::{Memory, Status};
 use std::alloc::Global;
-use store_core::Store;
+use list_store::Store;
 
 /// A key that is told apart from every other one by the number of its creation.
 #[derive(Clone, Copy, Drop)]

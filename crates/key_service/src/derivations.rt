@@ -14,7 +14,7 @@ use derivation_states::KEY_ROOM;
 use key_attributes::{Attributes, KeyId};
 use psa_status::Status;
 use service_calls::Op;
-use store_core::Store;
+use list_store::Store;
 
 // Creates a key of the front of a buffer, which is then wiped.
 fn create(

@@ -11,7 +11,7 @@ use alg_encoding::{Alg, Class};
 use key_attributes::{KeyId, Usage};
 use psa_status::Status;
 use random_streams::Stream;
-use store_core::Store;
+use list_store::Store;
 
 /// The MAC of a message under a key that may sign messages.
 pub fn mac_compute(

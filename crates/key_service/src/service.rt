@@ -15,7 +15,7 @@ use crate::store_calls::on_store;
 use psa_status::{Memory, Status};
 use service_calls::{HandleCall, Op, Output, StoreCall};
 use std::alloc::Global;
-use store_core::Store;
+use list_store::Store;
 
 /// What callers make their calls on.
 #[derive(Drop)]

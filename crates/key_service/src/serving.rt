@@ -12,7 +12,7 @@ use crate::callers::{Callers, place};
 use crate::turns::turn;
 use psa_status::Status;
 use service_calls::{HandleCall, Op, Output, Step, identifier, plain};
-use store_core::Store;
+use list_store::Store;
 
 impl Callers {
     // Takes one step of a handle's operation.

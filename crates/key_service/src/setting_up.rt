@@ -15,7 +15,7 @@ use alg_encoding::Class;
 use key_attributes::Usage;
 use psa_status::Status;
 use service_calls::{Op, Setup};
-use store_core::Store;
+use list_store::Store;
 
 impl Cell {
     /// Sets an inactive operation up. `BadState` where it isn't inactive, and else the first refusal of the number, or of

@@ -16,7 +16,7 @@ use psa_status::Status;
 use random_streams::Stream;
 use service_calls::{Output, StoreCall, bytes, description, identifier, plain};
 use single_part::{hash_compare, hash_compute};
-use store_core::Store;
+use list_store::Store;
 
 // The hash of a message.
 fn compute_hash(store: &mut Store, alg: Alg, input: &[u8], out: &mut [u8]) -> Result<usize, Status>

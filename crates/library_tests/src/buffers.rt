@@ -3,7 +3,7 @@ use alg_encoding::{Alg, Class};
 use key_attributes::{Attributes, KeyId, KeyType, Lifetime, Policy, Usage};
 use psa_status::Status;
 use single_part::{aead_decrypt, cipher_decrypt, mac_compute};
-use store_core::Store;
+use list_store::Store;
 
 // Attributes of a key of this type for an algorithm, to export it, to compute and verify, or to encipher and decipher.
 fn used_with(key_type: u16, alg: u32) -> Attributes {

@@ -1,0 +1,238 @@
+-- A turn on the list is a step of the model.
+use Rattle.std.proofs.Common.{◌≡◌, ℕ, ◌+◌, ◌-◌, ◌/◌, ◌%◌, ◌^◌, ◌<◌, ◌≤◌, Bool, true, false, cond, List, [], ◌∷◌, map, replicate, length, take, refl, sym, ap, ◌∙◌, arith, subst, zero-add, inl, inr}
+use Rattle.std.specs.Prelude.{Option, None, Some, IsTrue, ◌==◌, nat_le, ◌||◌, slice_index, slice_index_or, slice_set, count_by}
+use Rattle.std.specs.Option.{option_map}
+use Rattle.std.specs.List.{AllByRecursion, position, position_or_len}
+use Rattle.std.specs.FinMap as finite
+use Rattle.std.proofs.Math.ListN.{length-set}
+use Rattle.std.proofs.lemmas.List.{map-set, length-map}
+use Rattle.std.proofs.lemmas.Bool.Decides.{nat_tests}
+use Rattle.psa_status.specs.declared.Status.TheVariants.{KeyLimit}
+use Rattle.psa_status.specs.Rows.{first_row}
+use Rattle.key_attributes.specs.declared.Attributes.{Attributes}
+use Rattle.key_attributes.specs.Checks.{filled, permits_size}
+use Rattle.store_model.specs.Store as model
+use Rattle.store_model.specs.Store.{KeyMap, is_volatile_of, live_volatile, first_volatile, next_volatile}
+use Rattle.store_model.specs.Creation.{limit_rows, identified, new_key, created}
+use Rattle.list_store.specs.declared.entries.Entry.{Entry}
+use Rattle.list_store.specs.declared.store.Store.TheInside.{Inside}
+use Rattle.list_store.specs.Inside.{store_of, IsStore}
+use Rattle.list_store.specs.Entries.{entry_id, key_of, key_map, IsMade, IsFree, IsFreeOrMade, AreDistinct, AreKeys, live_in}
+use Rattle.list_store.proofs.Counts.{counted-is, counted-ids, counted-set}
+use Rattle.list_store.proofs.Places.{entry_at, found, not_found, found_id, all_at, all_weaker, distinct_set, each_set, fresh, written}
+use Rattle.list_store.proofs.Maps.{get-key_map, key_map-set, live_is, no_pairs, not_of}
+
+-- an entry to stand past the end of a list
+pub no_entry : Entry
+no_entry = record {
+  attributes = record { lifetime = record { 0 = 0 }; id = record { 0 = 0 }; key_type = record { 0 = 0 }; bits = 0; policy = record { usage = record { 0 = 0 }; alg = 0 } };
+  number = 0;
+  creator = 0;
+  length = 0;
+  buffer = [];
+}
+
+-- how many live keys of a caller there are, and how many it has made
+
+pub live_count : (i : Inside) (caller : ℕ) → IsStore i → live_volatile (key_map i.keys.items) caller ≡ count_by (λ id. is_volatile_of caller id) i.ids.items
+live_count i caller ok =
+    live_is caller i.keys.items ok.keys.distinct ∙ sym (counted-ids (λ id. is_volatile_of caller id) i.keys.items)
+    ∙ counted-is (λ id. is_volatile_of caller id) (map entry_id i.keys.items) ∙ ap (count_by (λ id. is_volatile_of caller id)) (sym ok.ids)
+
+-- the limits are those that the code looks at
+pub limits : (i : Inside) (store : model.Store) (caller : ℕ) → store_of i ≡ store → IsStore i → caller ≤ 16 →
+    first_row (limit_rows store caller) ≡ cond (nat_le 16 (count_by (λ id. is_volatile_of caller id) i.ids.items) || nat_le (2 ^ 20) (slice_index i.made caller)) (Some KeyLimit) None
+limits i store caller view ok last =
+    let live = live_count i caller ok in
+    ap (λ s. first_row (limit_rows s caller)) (sym view) ∙ (λ j. cond (nat_le 16 (live j) || nat_le (2 ^ 20) (slice_index i.made caller)) (Some KeyLimit) None)
+
+-- a caller that no row refuses is below both limits
+no_limit : (m n : ℕ) → cond (nat_le 16 m || nat_le (2 ^ 20) n) (Some KeyLimit) None ≡ None → (m < 16) × (n < 2 ^ 20)
+no_limit m n h = below (nat_le 16 m || nat_le (2 ^ 20) n) refl h
+  where
+    below : (b : Bool) → (nat_le 16 m || nat_le (2 ^ 20) n) ≡ b → cond b (Some KeyLimit) None ≡ None → (m < 16) × (n < 2 ^ 20)
+    below true t e = cc
+    below false t e = (grind (arith, nat_tests), grind (arith, nat_tests))
+
+pub below_both : (i : Inside) (store : model.Store) (caller : ℕ) → store_of i ≡ store → IsStore i → caller ≤ 16 → first_row (limit_rows store caller) ≡ None →
+    (live_in caller i.keys.items < 16) × (slice_index i.made caller < 2 ^ 20)
+below_both i store caller view ok last h =
+    let none = no_limit (live_volatile (key_map i.keys.items) caller) (slice_index i.made caller) (subst (λ s. first_row (limit_rows s caller) ≡ None) (sym view) h) in
+    (omega (arith, none.0, live_is caller i.keys.items ok.keys.distinct), none.1)
+
+-- the place where a new key goes is free
+pub place_is_free : (es : List Entry) (place : ℕ) (d : Entry) → place ≡ position_or_len (λ id. id == 0) (map entry_id es) → place < length es → entry_id (slice_index_or es place d) ≡ 0
+place_is_free es place d e h = found_id 0 es _ (found 0 place es d e h)
+
+-- what holds of the list still holds with a new key
+
+few_step : (b c : Bool) (m n : ℕ) → m + cond c 1 0 ≡ n + cond b 1 0 → n ≤ 16 → (b ≡ true → n < 16) → m ≤ 16
+few_step true true m n e h k = omega arith
+few_step true false m n e h k = let below = k refl in omega arith
+few_step false true m n e h k = omega arith
+few_step false false m n e h k = omega arith
+
+same_caller : (q other caller m n : ℕ) → (q == 1024 + other) ≡ true → q ≡ 1024 + caller → (other ≡ caller → m ≡ n) → n < 16 → m < 16
+same_caller q other caller m n t e same h =
+    let one : other ≡ caller = grind (arith, nat_tests) in
+    let equal = same one in
+    omega arith
+
+pub keys_set : (made : List ℕ) (es : List Entry) (caller place : ℕ) (e d : Entry) → AreKeys made es →
+    1 ≤ caller → caller ≤ 16 → length made ≡ 17 → slice_index made caller < 2 ^ 20 → live_in caller es < 16 → place < length es →
+    entry_id e ≡ first_volatile caller + slice_index made caller → e.length ≤ 1024 → IsTrue (permits_size e.attributes.key_type.0 e.length) →
+    AreKeys (slice_set made caller (slice_index made caller + 1)) (slice_set es place e)
+keys_set made es caller place e d keys first last size room few at id short sized =
+    let group : entry_id e / 2 ^ 20 ≡ 1024 + caller = omega arith in
+    let number : entry_id e % 2 ^ 20 ≡ slice_index made caller = omega arith in
+    let new : IsMade (slice_set made caller (slice_index made caller + 1)) e = record {
+      from_first = omega arith;
+      to_last = omega arith;
+      earlier = omega (arith, written made caller (entry_id e / 2 ^ 20 - 1024) (slice_index made caller + 1) (omega arith) (omega arith));
+      short = short;
+      sized = sized;
+    } in
+    record {
+      each = each_set made caller es place e (omega arith) keys.each new;
+      distinct = distinct_set es place e keys.distinct (fresh made caller (entry_id e) group number es keys.each);
+      few = λ other. few_step (is_volatile_of other (entry_id e)) (is_volatile_of other (entry_id (slice_index_or es place d))) _ _
+          (counted-set (λ x. is_volatile_of other (entry_id x)) es place e d at) (keys.few other)
+          (λ t. same_caller (entry_id e / 2 ^ 20) other caller (live_in other es) (live_in caller es) t group (λ same. ap (λ c. live_in c es) same) few);
+    }
+
+pub store_kept : (i j : Inside) (caller place : ℕ) (e d : Entry) → IsStore i → 1 ≤ caller → caller ≤ 16 → slice_index i.made caller < 2 ^ 20 → live_in caller i.keys.items < 16 → place < 256 →
+    entry_id e ≡ first_volatile caller + slice_index i.made caller → e.length ≤ 1024 → IsTrue (permits_size e.attributes.key_type.0 e.length) →
+    j.ids.items ≡ slice_set i.ids.items place (entry_id e) → j.keys.items ≡ slice_set i.keys.items place e → j.made ≡ slice_set i.made caller (slice_index i.made caller + 1) →
+    IsStore j
+store_kept i j caller place e d ok first last room few at id short sized ids keys made = record {
+  keys = rw (keys, made) (keys_set i.made i.keys.items caller place e d ok.keys first last ok.callers room few (omega (arith, ok.room)) id short sized);
+  ids = ids ∙ ap (λ l. slice_set l place (entry_id e)) ok.ids ∙ sym (map-set entry_id i.keys.items place e) ∙ ap (map entry_id) (sym keys);
+  room = ap length keys ∙ length-set i.keys.items place e ∙ ok.room;
+  callers = ap length made ∙ length-set i.made caller _ ∙ ok.callers;
+}
+
+-- the new key is the model's
+
+pub ids_at : (i : Inside) (caller id : ℕ) → IsStore i → caller ≤ 16 → id ≡ first_volatile caller + slice_index i.made caller → id ≡ next_volatile (store_of i) caller
+ids_at i caller id ok last e = e
+
+key_at : (i : Inside) (caller : ℕ) (e : Entry) (a recorded : Attributes) (bytes : List ℕ) → IsStore i → caller ≤ 16 → filled a (length bytes) ≡ recorded →
+    entry_id e ≡ first_volatile caller + slice_index i.made caller → e.attributes ≡ identified recorded (first_volatile caller + slice_index i.made caller) →
+    e.number ≡ i.calls → e.creator ≡ caller → take e.length e.buffer ≡ bytes →
+    ◌≡◌ {A = KeyMap} (finite.insert (key_map i.keys.items) (entry_id e) (key_of e))
+    (finite.insert (key_map i.keys.items) (next_volatile (store_of i) caller) (new_key (store_of i) caller (next_volatile (store_of i) caller) a bytes))
+key_at i caller e a recorded bytes ok last filled_is id_is attributes_is number_is creator_is bytes_is =
+    let ids = ids_at i caller (entry_id e) ok last id_is in
+    let numbers = number_is ∙ sym (zero-add i.calls) in
+    let given = sym filled_is in
+    let same : identified recorded (first_volatile caller + slice_index i.made caller) ≡ identified (filled a (length bytes)) (next_volatile (store_of i) caller) =
+    λ j. identified (given j) (first_volatile caller + slice_index i.made caller) in
+    let attributes = attributes_is ∙ same in
+    λ j. finite.insert (key_map i.keys.items) (ids j) (record { number = numbers j; attributes = attributes j; bytes = bytes_is j; creator = creator_is j })
+
+pub created_at : (i : Inside) (caller place : ℕ) (e d : Entry) (a recorded : Attributes) (bytes : List ℕ) → IsStore i → caller ≤ 16 → filled a (length bytes) ≡ recorded →
+    place < 256 → place ≡ position_or_len (λ id. id == 0) (map entry_id i.keys.items) → slice_index i.made caller < 2 ^ 20 →
+    entry_id e ≡ first_volatile caller + slice_index i.made caller → e.attributes ≡ identified recorded (first_volatile caller + slice_index i.made caller) →
+    e.number ≡ i.calls → e.creator ≡ caller → take e.length e.buffer ≡ bytes →
+    ◌≡◌ {A = model.Store}
+    (record {
+      keys = key_map (slice_set i.keys.items place e);
+      made = slice_set i.made caller (slice_index i.made caller + 1);
+      calls = i.calls + 1;
+      found = 0;
+      settings = model.plain_settings;
+    })
+    (created (store_of i) caller a bytes).store
+created_at i caller place e d a recorded bytes ok last filled_is at free below id_is attributes_is number_is creator_is bytes_is =
+    let inside : place < length i.keys.items = omega (arith, ok.room) in
+    let new = key_map-set i.keys.items place e d inside (place_is_free i.keys.items place d free inside)
+    (fresh i.made caller (entry_id e) (omega arith) (omega arith) i.keys.items ok.keys.each) (omega arith) in
+    let keys = new ∙ key_at i caller e a recorded bytes ok last filled_is id_is attributes_is number_is creator_is bytes_is in
+    λ k. record { keys = keys k; made = slice_set i.made caller (slice_index i.made caller + 1); calls = i.calls + 1; found = 0; settings = model.plain_settings }
+
+-- what the map has at a key's place
+
+some_place : (b : Bool) (n k : ℕ) → cond b (Some n) None ≡ Some k → (b ≡ true) × (n ≡ k)
+some_place true n k h = (refl, cc)
+some_place false n k h = cc
+
+no_place : (b : Bool) (n : ℕ) → ◌≡◌ {A = Option ℕ} (cond b (Some n) None) None → b ≡ false
+no_place true n h = cc
+no_place false n h = refl
+
+placed : (id : ℕ) (es : List Entry) (k : ℕ) (d : Entry) → position (λ x. x == id) (map entry_id es) ≡ Some k → (k < length es) × (entry_at id es ≡ Some (slice_index_or es k d))
+placed id es k d h =
+    let p = some_place _ _ k h in
+    let inside : k < length es = let l = length-map es entry_id in let q = p.1 in let t = p.0 in grind (arith, nat_tests) in
+    (inside, found id k es d (sym p.1) inside)
+
+unplaced : (id : ℕ) (es : List Entry) → position (λ x. x == id) (map entry_id es) ≡ None → entry_at id es ≡ None
+unplaced id es h =
+    let t = no_place _ _ h in
+    let l = length-map es entry_id in
+    not_found id (position_or_len (λ x. x == id) (map entry_id es)) es refl (grind (arith, nat_tests))
+
+pub key_there : (id : ℕ) (es : List Entry) (k : ℕ) (d : Entry) → Some k ≡ cond (id == 0) None (position (λ x. x == id) (map entry_id es)) →
+    (k < length es) × (finite.get (key_map es) id ≡ Some (key_of (slice_index_or es k d))) × (entry_id (slice_index_or es k d) ≡ id)
+key_there id es k d h = there (id == 0) (sym h) (get-key_map es id)
+  where
+    there : (z : Bool) → cond z None (position (λ x. x == id) (map entry_id es)) ≡ Some k → finite.get (key_map es) id ≡ cond z None (option_map key_of (entry_at id es)) →
+        (k < length es) × (finite.get (key_map es) id ≡ Some (key_of (slice_index_or es k d))) × (entry_id (slice_index_or es k d) ≡ id)
+    there true g f = cc
+    there false g f = let p = placed id es k d g in (p.0, f ∙ ap (option_map key_of) p.1, found_id id es _ p.1)
+
+made_key : (made : List ℕ) (e : Entry) (id : ℕ) → IsFreeOrMade made e → entry_id e ≡ id → (id == 0) ≡ false → IsMade made e
+made_key made e id (inl f) same h = absurd (let zero = sym same ∙ f.none in grind (arith, nat_tests))
+made_key made e id (inr m) same h = m
+
+pub made_there : (made : List ℕ) (id : ℕ) (es : List Entry) (k : ℕ) (d : Entry) → AreKeys made es → Some k ≡ cond (id == 0) None (position (λ x. x == id) (map entry_id es)) →
+    IsMade made (slice_index_or es k d)
+made_there made id es k d keys h = there (id == 0) refl (sym h)
+  where
+    there : (z : Bool) → (id == 0) ≡ z → cond z None (position (λ x. x == id) (map entry_id es)) ≡ Some k → IsMade made (slice_index_or es k d)
+    there true t g = cc
+    there false t g = let p = placed id es k d g in made_key made _ id (all_at (IsFreeOrMade made) es k d keys.each p.0) (found_id id es _ p.1) t
+
+pub short_there : (made : List ℕ) (id : ℕ) (es : List Entry) (k : ℕ) (d : Entry) → AreKeys made es → Some k ≡ cond (id == 0) None (position (λ x. x == id) (map entry_id es)) →
+    (slice_index_or es k d).length ≤ 1024
+short_there made id es k d keys h = (made_there made id es k d keys h).short
+
+pub no_key_there : (id : ℕ) (es : List Entry) → None ≡ cond (id == 0) None (position (λ x. x == id) (map entry_id es)) → finite.get (key_map es) id ≡ None
+no_key_there id es h = not_there (id == 0) (sym h) (get-key_map es id)
+  where
+    not_there : (z : Bool) → cond z None (position (λ x. x == id) (map entry_id es)) ≡ None → finite.get (key_map es) id ≡ cond z None (option_map key_of (entry_at id es)) → finite.get (key_map es) id ≡ None
+    not_there true g f = f
+    not_there false g f = f ∙ ap (option_map key_of) (unplaced id es g)
+
+-- a list of free places
+
+live_none : (caller : ℕ) (es : List Entry) → AllByRecursion IsFree es → live_in caller es ≡ 0
+live_none caller [] h = refl
+live_none caller (e ∷ es) h = none (is_volatile_of caller (entry_id e)) (not_of caller (entry_id e) h.0.none) (live_none caller es h.1)
+  where
+    none : (b : Bool) → b ≡ false → live_in caller es ≡ 0 → cond b (1 + live_in caller es) (live_in caller es) ≡ 0
+    none true t k = cc
+    none false t k = k
+
+distinct_free : (es : List Entry) → AllByRecursion IsFree es → AreDistinct es
+distinct_free [] h = tt
+distinct_free (e ∷ es) h = (inl h.0.none, distinct_free es h.1)
+
+pub keys_free : (made : List ℕ) (es : List Entry) → AllByRecursion IsFree es → AreKeys made es
+keys_free made es h = record {
+  each = all_weaker IsFree (IsFreeOrMade made) (λ e f. inl f) es h;
+  distinct = distinct_free es h;
+  few = λ caller. omega (arith, live_none caller es h);
+}
+
+pub ids_free : (es : List Entry) (n : ℕ) → AllByRecursion IsFree es → length es ≡ n → replicate n 0 ≡ map entry_id es
+ids_free [] n h e = ap (λ k. replicate k 0) (sym e)
+ids_free (x ∷ es) n h e = ap (λ k. replicate k 0) (sym e) ∙ (λ i. sym h.0.none i ∷ ids_free es (length es) h.1 refl i)
+
+pub empty_store : (es : List Entry) → AllByRecursion IsFree es →
+    ◌≡◌ {A = model.Store}
+    (record { keys = key_map es; made = replicate 17 0; calls = 0; found = 0; settings = model.plain_settings })
+    (model.start_of model.plain_settings)
+empty_store es h =
+    let keys : key_map es ≡ finite.empty = ap finite.from_entries (no_pairs es h) in
+    λ i. record { keys = keys i; made = replicate 17 0; calls = 0; found = 0; settings = model.plain_settings }

@@ -1,0 +1,235 @@
+ghost use Rattle.std.specs.Prelude.{◌≡◌, ◌≤◌, ◌<◌, ◌^◌, ◌+◌, ℕ, List, IfOk, Some, None, length, if◌then◌else◌, min, IsTrue, MatchOption};
+ghost use Rattle.psa_status.specs.Rows.{first_row};
+ghost use Rattle.psa_status.specs.declared.Status.TheVariants.{KeyLimit};
+ghost use Rattle.key_attributes.specs.declared.Attributes.{Attributes};
+ghost use Rattle.std.specs.FinMap as finite;
+ghost use Rattle.key_attributes.specs.Checks.{filled, permits_size};
+ghost use Rattle.store_model.specs.Store as model;
+ghost use Rattle.store_model.specs.Call.{buffer_after};
+ghost use Rattle.store_model.specs.Copies.{step_copy};
+ghost use Rattle.store_model.specs.Creation.{limit_rows, created, step_import};
+ghost use Rattle.store_model.specs.KeyUse.{step_attributes, step_destroy, step_export};
+ghost use Rattle.store_model.specs.Outcome.{decided};
+ghost use Rattle.service_calls.specs.Answers.{id_reply, AnswersLength, attributes_answer, plain_reply};
+ghost use Rattle.list_store.specs.Uses.{IsFound};
+
+use crate::copies::check_copy;
+use crate::entries::{
+    Entry, FIRST_VOLATILE, LIVE_LIMIT, MADE_LIMIT, buffered, copy_out, free_entry, free_place,
+    key_place, live, new_ids, new_keys,
+};
+use key_attributes::{Attributes, KeyId, check_attributes};
+use psa_status::{Memory, Status};
+use std::alloc::Global;
+use std::marker::Model;
+
+/// The keys, how many each caller has made, and how many calls were made. The keys' identifiers stand also in a list of
+/// their own, which is what look-ups read.
+#[derive(Drop)]
+pub struct Store {
+    ids: Vec<u32>,
+    keys: Vec<Entry>,
+    made: [u32; 17],
+    pub(crate) calls: u64,
+}
+
+impl Model for Store {
+    ghost use Rattle.store_model.specs.Store as model;
+    ghost use Rattle.list_store.specs.Codes.{store_code};
+
+    ghost Value = { model.Store };
+
+    ghost coded = { store_code };
+
+    ghost use Rattle.list_store.specs.Inside.{store_of, IsStore};
+
+    ghost view = { store_of };
+
+    ghost invariant = { IsStore };
+}
+
+impl Store {
+    /// A store without a key, with room for 256 of them.
+    pub fn open(alloc: Global) -> Result<Store, Memory>
+        ensures { IfOk result (λ store. store ≡ model.start_of model.plain_settings) }
+    {
+        let keys = new_keys(alloc, 256)?;
+        let ids = new_ids(alloc, 256)?;
+        Ok(Store {
+            ids,
+            keys,
+            made: [0; 17],
+            calls: 0,
+        })
+    }
+
+    /// The entry of a key.
+    pub(crate) fn entry(&self, key: KeyId) -> Option<&Entry>
+        ensures { MatchOption result (finite.get self.now.keys key.0 ≡ None)
+            (λ entry. IsFound (finite.get self.now.keys key.0) entry.now) }
+    {
+        match key_place(&self.ids, key) {
+            Some(place) => Some(&self.keys[place]),
+            None => None,
+        }
+    }
+
+    /// Creates a key of these bytes, and answers its identifier.
+    pub fn import_key(
+        &mut self,
+        caller: u8,
+        attributes: &Attributes,
+        bytes: &[u8],
+    ) -> Result<KeyId, Status>
+        requires first { 1 ≤ caller }
+        requires last { caller ≤ 16 }
+        requires turns { self.old.calls < 2 ^ 62 }
+        ensures store { self.new ≡ (step_import self.old caller attributes.now bytes.now).store }
+        ensures reply { id_reply result ≡ (step_import self.old caller attributes.now bytes.now).reply }
+    {
+        let turn = self.calls + 1;
+        match check_attributes(attributes, bytes.len(), false) {
+            Ok(recorded) => self.create(caller, &recorded, bytes),
+            Err(status) => {
+                self.calls = turn;
+                Err(status)
+            }
+        }
+    }
+
+    /// Creates a key of the source's bytes, with what both its policy and the stated one permit, and answers its
+    /// identifier.
+    pub fn copy(
+        &mut self,
+        caller: u8,
+        source: KeyId,
+        attributes: &Attributes,
+    ) -> Result<KeyId, Status>
+        requires first { 1 ≤ caller }
+        requires last { caller ≤ 16 }
+        requires turns { self.old.calls < 2 ^ 62 }
+        ensures store { self.new ≡ (step_copy self.old caller source.0 attributes.now).store }
+        ensures reply { id_reply result ≡ (step_copy self.old caller source.0 attributes.now).reply }
+    {
+        let Some(place) = key_place(&self.ids, source) else {
+            self.calls += 1;
+            return Err(Status::InvalidHandle);
+        };
+        let entry = self.keys[place];
+        let bytes = &entry.buffer[..entry.length];
+        match check_copy(&entry.attributes, attributes, bytes.len()) {
+            Ok(recorded) => self.create(caller, &recorded, bytes),
+            Err(status) => {
+                self.calls += 1;
+                Err(status)
+            }
+        }
+    }
+
+    // Adds a key with these recorded attributes, unless its caller is at a limit.
+    fn create(&mut self, caller: u8, recorded: &Attributes, bytes: &[u8]) -> Result<KeyId, Status>
+        requires first { 1 ≤ caller }
+        requires last { caller ≤ 16 }
+        requires turns { self.old.calls < 2 ^ 62 }
+        requires short { length bytes.now ≤ 1024 }
+        requires sized { IsTrue (permits_size recorded.now.key_type.0 (length bytes.now)) }
+        ensures store { (a : Attributes) → filled a (length bytes.now) ≡ recorded.now →
+            self.new ≡ (decided self.old (first_row (limit_rows self.old caller)) (created self.old caller a bytes.now)).store }
+        ensures reply { (a : Attributes) → filled a (length bytes.now) ≡ recorded.now →
+            id_reply result ≡ (decided self.old (first_row (limit_rows self.old caller)) (created self.old caller a bytes.now)).reply }
+    {
+        if self.at_limit(caller) {
+            self.count();
+            return Err(Status::KeyLimit);
+        }
+        Ok(self.add(caller, recorded, bytes))
+    }
+
+    // Whether a caller is at a limit of keys.
+    pub(crate) fn at_limit(&self, caller: u8) -> bool
+        requires { caller ≤ 16 }
+        ensures { first_row (limit_rows self.now caller) ≡ (if result then Some KeyLimit else None) }
+    {
+        live(&self.ids, caller) >= LIVE_LIMIT || self.made[caller as usize] >= MADE_LIMIT
+    }
+
+    // Adds a key with these recorded attributes. Its caller is at no limit.
+    pub(crate) fn add(&mut self, caller: u8, recorded: &Attributes, bytes: &[u8]) -> KeyId
+        requires first { 1 ≤ caller }
+        requires last { caller ≤ 16 }
+        requires turns { self.old.calls < 2 ^ 62 }
+        requires room { first_row (limit_rows self.old caller) ≡ None }
+        requires short { length bytes.now ≤ 1024 }
+        requires sized { IsTrue (permits_size recorded.now.key_type.0 (length bytes.now)) }
+        ensures store { (a : Attributes) → filled a (length bytes.now) ≡ recorded.now →
+            self.new ≡ (created self.old caller a bytes.now).store }
+        ensures id { result.0 ≡ model.next_volatile self.old caller }
+    {
+        let number = self.calls;
+        self.calls += 1;
+        let made = self.made[caller as usize];
+        let id = KeyId(FIRST_VOLATILE + caller as u32 * MADE_LIMIT + made);
+        let place = free_place(&self.ids);
+        self.keys[place] = Entry {
+            attributes: Attributes {
+                lifetime: recorded.lifetime,
+                id,
+                key_type: recorded.key_type,
+                bits: recorded.bits,
+                policy: recorded.policy,
+            },
+            number,
+            creator: caller,
+            length: bytes.len(),
+            buffer: buffered(bytes),
+        };
+        self.ids[place] = id.0;
+        self.made[caller as usize] = made + 1;
+        id
+    }
+
+    /// Copies a key that may be exported into the buffer, and answers its length.
+    pub fn export_key(&mut self, key: KeyId, out: &mut [u8]) -> Result<usize, Status>
+        requires turns { self.old.calls < 2 ^ 62 }
+        ensures store { self.new ≡ (step_export self.old key.0 (length out.old)).store }
+        ensures reply { AnswersLength result (step_export self.old key.0 (length out.old)).reply }
+        ensures buffer { out.new ≡ buffer_after out.old (step_export self.old key.0 (length out.old)).reply }
+    {
+        self.calls += 1;
+        let Some(place) = key_place(&self.ids, key) else {
+            return Err(Status::InvalidHandle);
+        };
+        copy_out(&self.keys[place], out)
+    }
+
+    /// What is known of a key beside its bytes.
+    pub fn attributes(&mut self, key: KeyId) -> Result<Attributes, Status>
+        requires turns { self.old.calls < 2 ^ 62 }
+        ensures store { self.new ≡ (step_attributes self.old key.0).store }
+        ensures reply { attributes_answer result ≡ (step_attributes self.old key.0).reply }
+    {
+        self.calls += 1;
+        let Some(place) = key_place(&self.ids, key) else {
+            return Err(Status::InvalidHandle);
+        };
+        Ok(self.keys[place].attributes)
+    }
+
+    /// Removes a key, and wipes its bytes. Destroying the identifier 0 succeeds.
+    pub fn destroy(&mut self, key: KeyId) -> Result<(), Status>
+        requires turns { self.old.calls < 2 ^ 62 }
+        ensures store { self.new ≡ (step_destroy self.old key.0).store }
+        ensures reply { plain_reply result ≡ (step_destroy self.old key.0).reply }
+    {
+        self.calls += 1;
+        if key.0 == 0 {
+            return Ok(());
+        }
+        let Some(place) = key_place(&self.ids, key) else {
+            return Err(Status::InvalidHandle);
+        };
+        self.keys[place] = free_entry();
+        self.ids[place] = 0;
+        Ok(())
+    }
+}
