@@ -4,6 +4,7 @@ pub mod StoreShape
 pub mod Served
 pub mod DrawnBytes
 pub mod Filled
+pub mod Recorded
 pub mod Live
 mod Examples
 pub mod Steps

@@ -23,13 +23,13 @@ none_holds (row ∷ rows) (suc n) h = none_holds rows n (passed row.0 row.1 (fir
 pub rest_holds : (b : Bool) (s : Status) (o : Option Status) → cond b (Some s) o ≡ None → o ≡ None
 rest_holds b s o h = (passed b s o h).1
 
--- what holds of each row's status
+-- what holds of the status of each row that holds
 abbrev pub AllRows : (Status → Type 0) → Rows → Type 0
 AllRows P [] = Unit {0}
-AllRows P (row ∷ rows) = P row.1 × AllRows P rows
+AllRows P (row ∷ rows) = (row.0 ≡ true → P row.1) × AllRows P rows
 
-one_or_later : (P : Status → Type 0) (b : Bool) (s : Status) (o : Option Status) → P s → ((status : Status) → o ≡ Some status → P status) → (status : Status) → cond b (Some s) o ≡ Some status → P status
-one_or_later P true s o here later status e = let same : s ≡ status = cc in subst P same here
+one_or_later : (P : Status → Type 0) (b : Bool) (s : Status) (o : Option Status) → (b ≡ true → P s) → ((status : Status) → o ≡ Some status → P status) → (status : Status) → cond b (Some s) o ≡ Some status → P status
+one_or_later P true s o here later status e = let same : s ≡ status = cc in subst P same (here refl)
 one_or_later P false s o here later status e = later status e
 
 -- holds of the table's refusal

@@ -1,0 +1,153 @@
+-- What a creation records, and its refusals.
+use Rattle.std.proofs.Common.{◌≡◌, ℕ, ◌≤◌, Bool, true, false, not, cond, List, [], ◌∷◌, refl, sym, ap, ◌∙◌, subst, arith}
+use Rattle.std.specs.Prelude.{Option, None, Some, Result, Ok, Err, IfOk, ◌==◌, ◌&&◌, nat_le}
+use Rattle.std.proofs.lemmas.Bool.Decides.{nat_tests}
+use Rattle.psa_status.specs.declared.Status.{Status}
+use Rattle.psa_status.specs.declared.Status.TheVariants.{NotPermitted, NotSupported, InvalidArgument, KeyLimit, AlreadyExists, InsufficientStorage}
+use Rattle.psa_status.specs.Rows.{Rows, first_row, unless, ◌>>=◌}
+use Rattle.psa_status.proofs.Rows.{unless-ok, unless-err}
+use Rattle.key_attributes.specs.declared.Attributes.{Attributes}
+use Rattle.key_attributes.specs.Checks.{attribute_rows, filled, checked, permits_size}
+use Rattle.policy_rules.specs.declared.narrowing.Label.{Label}
+use Rattle.policy_rules.specs.declared.narrowing.Label.TheVariants.{NoExport, NoCopy, NoEcb, Aes256}
+use Rattle.policy_rules.specs.declared.narrowing.Verdict.{Verdict}
+use Rattle.policy_rules.specs.declared.narrowing.Verdict.TheVariants.{Keep, Refuse}
+use Rattle.policy_rules.specs.Narrow.{narrowed, after_verdict, after_rules}
+use Rattle.policy_rules.specs.Policy.{IsWithin, with_implied}
+use Rattle.policy_rules.proofs.Rules.{narrowed-within}
+use Rattle.policy_rules.proofs.Copies.{IsWithin-refl, IsWithin-trans}
+use Rattle.store_model.specs.Store.{Store, has_secure_element, is_volatile}
+use Rattle.store_model.specs.Creation.{identified, file_rows, room_for_key_rows, recorded_of}
+use Rattle.store_model.specs.Sound.{as_stated}
+use Rattle.store_model.proofs.Filled.{filled-checked, only_usage-checked}
+use Rattle.store_model.proofs.Tables.{AllRows, none_holds, refused_by}
+
+-- ONE ANSWER AFTER ANOTHER
+
+pub then_ok : {A B : Type 0} (r : Result A Status) (f : A → Result B Status) (y : B) → (r >>= f) ≡ Ok y → (x : A) × ((r ≡ Ok x) × (f x ≡ Ok y))
+then_ok (Ok x) f y e = (x, (refl, e))
+then_ok (Err s) f y e = cc
+
+-- what holds of each refusal
+abbrev pub OfRefusals : {A : Type 0} → (Status → Type 0) → Result A Status → Type 0
+OfRefusals P r = (s : Status) → r ≡ Err s → P s
+
+pub then_refused : {A B : Type 0} (P : Status → Type 0) (r : Result A Status) (f : A → Result B Status) → OfRefusals P r → ((x : A) → OfRefusals P (f x)) → OfRefusals P (r >>= f)
+then_refused P (Ok x) f first later s e = later x s e
+then_refused P (Err t) f first later s e = let same : t ≡ s = cc in subst P same (first t refl)
+
+pub unless_refused : {A : Type 0} (P : Status → Type 0) (rows : Rows) (x : A) → AllRows P rows → OfRefusals P (unless (first_row rows) x)
+unless_refused P rows x all s e = refused_by P rows all s (unless-err (first_row rows) x s e)
+
+-- WHAT RULES LEAVE
+
+-- beside the policy, which has no more than before, what passes the checks still does
+record Narrows (n : ℕ) (driver : Bool) (before after : Attributes) : Type 0 where
+  policy : IsWithin after.policy before.policy
+  checks : checked before n driver ≡ Ok before → checked after n driver ≡ Ok after
+
+abbrev NarrowsTo : ℕ → Bool → Attributes → Verdict → Type 0
+NarrowsTo n driver a (Keep kept) = Narrows n driver a kept
+NarrowsTo n driver a Refuse = Unit {0}
+
+narrows_none : (n : ℕ) (driver : Bool) (a : Attributes) → Narrows n driver a a
+narrows_none n driver a = record { policy = IsWithin-refl a.policy; checks = λ h. h }
+
+kept_or_refused : (n : ℕ) (driver b : Bool) (a : Attributes) → NarrowsTo n driver a (cond b Refuse (Keep a))
+kept_or_refused n driver true a = tt
+kept_or_refused n driver false a = narrows_none n driver a
+
+narrows : (n : ℕ) (driver : Bool) (label : Label) (a : Attributes) → NarrowsTo n driver a (narrowed label a)
+narrows n driver NoExport a = record { policy = narrowed-within NoExport a; checks = only_usage-checked a n driver 0xfffffffe refl }
+narrows n driver NoCopy a = record { policy = narrowed-within NoCopy a; checks = only_usage-checked a n driver 0xfffffffd refl }
+narrows n driver NoEcb a = kept_or_refused n driver (a.policy.alg == 0x04404400) a
+narrows n driver Aes256 a = kept_or_refused n driver (a.key_type.0 == 0x2400 && not (a.bits == 256)) a
+
+then_narrows : (n : ℕ) (driver : Bool) (a kept : Attributes) (r : Result Attributes Status) → Narrows n driver a kept → IfOk r (Narrows n driver kept) → IfOk r (Narrows n driver a)
+then_narrows n driver a kept (Ok last) first h = record { policy = IsWithin-trans a.policy kept.policy last.policy h.policy first.policy; checks = λ c. h.checks (first.checks c) }
+then_narrows n driver a kept (Err s) first h = tt
+
+verdict_narrows : (n : ℕ) (driver : Bool) (a : Attributes) (v : Verdict) (next : Attributes → Result Attributes Status) → NarrowsTo n driver a v →
+    ((kept : Attributes) → IfOk (next kept) (Narrows n driver kept)) → IfOk (after_verdict v next) (Narrows n driver a)
+verdict_narrows n driver a (Keep kept) next first h = then_narrows n driver a kept (next kept) first (h kept)
+verdict_narrows n driver a Refuse next first h = tt
+
+rules_narrow : (n : ℕ) (driver : Bool) (labels : List Label) (a : Attributes) → IfOk (after_rules labels a) (Narrows n driver a)
+rules_narrow n driver [] a = narrows_none n driver a
+rules_narrow n driver (label ∷ labels) a = verdict_narrows n driver a (narrowed label a) (after_rules labels) (narrows n driver label a) (rules_narrow n driver labels)
+
+verdict_refused : (P : Status → Type 0) (v : Verdict) (next : Attributes → Result Attributes Status) → P NotPermitted → ((kept : Attributes) → OfRefusals P (next kept)) → OfRefusals P (after_verdict v next)
+verdict_refused P (Keep kept) next refused later s e = later kept s e
+verdict_refused P Refuse next refused later s e = let same : NotPermitted ≡ s = cc in subst P same refused
+
+rules_refused : (P : Status → Type 0) → P NotPermitted → (labels : List Label) (a : Attributes) → OfRefusals P (after_rules labels a)
+rules_refused P refused [] a s e = cc
+rules_refused P refused (label ∷ labels) a s e = verdict_refused P (narrowed label a) (after_rules labels) refused (rules_refused P refused labels) s e
+
+-- WHAT IS RECORDED
+
+-- attributes that a new key of so many bytes may have, and for which there is room
+pub record MayBeKept (store : Store) (caller : ℕ) (kept : Attributes) (n : ℕ) : Type 0 where
+  pub checks : checked kept n (has_secure_element store) ≡ Ok kept
+  pub room : first_row (room_for_key_rows store caller kept) ≡ None
+
+-- what is recorded where these are stated
+pub record IsRecorded (store : Store) (caller : ℕ) (stated : Attributes) (n : ℕ) (kept : Attributes) : Type 0 where
+  pub may : MayBeKept store caller kept n
+  pub within : IsWithin kept.policy (with_implied stated.policy)
+
+pub recorded : (store : Store) (caller : ℕ) (a : Attributes) (n : ℕ) (kept : Attributes) → recorded_of store caller a n ≡ Ok kept → IsRecorded store caller a n kept
+recorded store caller a n kept e =
+    let driver = has_secure_element store in
+    let labels = store.settings.labels in
+    let one = then_ok (unless (first_row (file_rows store a)) a) _ kept e in
+    let stated : a ≡ one.0 = (unless-ok (first_row (file_rows store a)) a one.0 one.1.0).1 in
+    let two = then_ok (checked one.0 n driver) _ kept one.1.1 in
+    let passed = unless-ok (first_row (attribute_rows one.0 n driver)) (filled one.0 n) two.0 two.1.0 in
+    let three = then_ok (after_rules labels two.0) _ kept two.1.1 in
+    let last = unless-ok (first_row (room_for_key_rows store caller three.0)) three.0 kept three.1.1 in
+    let narrows : Narrows n driver two.0 three.0 = subst (λ r. IfOk r (Narrows n driver two.0)) three.1.0 (rules_narrow n driver labels two.0) in
+    let checks : checked two.0 n driver ≡ Ok two.0 = subst (λ x. checked x n driver ≡ Ok x) passed.1 (filled-checked one.0 n driver passed.0) in
+    let from : two.0 ≡ filled a n = sym passed.1 ∙ ap (λ x. filled x n) (sym stated) in
+    subst (IsRecorded store caller a n) last.1 (record {
+      may = record { checks = narrows.checks checks; room = last.0 };
+      within = subst (λ (x : Attributes). IsWithin three.0.policy x.policy) from narrows.policy;
+    })
+
+-- the refusals of a creation
+pub recorded_refused : (P : Status → Type 0) → P NotSupported → P InvalidArgument → P NotPermitted → P KeyLimit → P AlreadyExists → P InsufficientStorage →
+    (store : Store) (caller : ℕ) (a : Attributes) (n : ℕ) → OfRefusals P (recorded_of store caller a n)
+recorded_refused P unsupported invalid refused limit exists full store caller a n =
+    then_refused P (unless (first_row (file_rows store a)) a) _ (unless_refused P (file_rows store a) a (λ on. unsupported, tt)) (λ stated.
+    then_refused P (checked stated n (has_secure_element store)) _
+    (unless_refused P (attribute_rows stated n (has_secure_element store)) (filled stated n) (λ on. unsupported, (λ on. invalid, (λ on. invalid, (λ on. unsupported, (λ on. invalid, (λ on. invalid, tt)))))))
+    (λ filled_in. then_refused P (after_rules store.settings.labels filled_in) _ (rules_refused P refused store.settings.labels filled_in)
+    (λ kept. unless_refused P (room_for_key_rows store caller kept) kept (λ on. limit, (λ on. exists, (λ on. full, tt))))))
+
+-- WHAT CHECKED ATTRIBUTES HAVE
+
+permitted : (key_type bytes : ℕ) → not (permits_size key_type bytes) ≡ false → bytes ≤ 1024
+permitted key_type bytes h = grind (arith, nat_tests)
+
+pub few_bytes : (a : Attributes) (n : ℕ) (driver : Bool) → checked a n driver ≡ Ok a → n ≤ 1024
+few_bytes a n driver h = permitted a.key_type.0 n (none_holds (attribute_rows a n driver) 4 (unless-ok (first_row (attribute_rows a n driver)) (filled a n) a h).0)
+
+-- an identifier that may be stated of a volatile key, or of a persistent one
+abbrev pub IsStated : Bool → ℕ → Type 0
+IsStated true id = id ≡ 0
+IsStated false id = (1 ≤ id) × (id ≤ 0x3fffffff)
+
+by_kind : (volatile : Bool) (id : ℕ) → not (cond volatile (id == 0) (nat_le 1 id && nat_le id 0x3fffffff)) ≡ false → IsStated volatile id
+by_kind true id h = grind (arith, nat_tests)
+by_kind false id h = (grind (arith, nat_tests), grind (arith, nat_tests))
+
+pub stated_id : (a : Attributes) (n : ℕ) (driver : Bool) → checked a n driver ≡ Ok a → IsStated (is_volatile a) a.id.0
+stated_id a n driver h = by_kind (is_volatile a) a.id.0 (none_holds (attribute_rows a n driver) 1 (unless-ok (first_row (attribute_rows a n driver)) (filled a n) a h).0)
+
+same_stated : (a : Attributes) (volatile : Bool) → IsStated volatile a.id.0 → cond volatile (identified a 0) a ≡ a
+same_stated a true none = ap (identified a) (sym none)
+same_stated a false some = refl
+
+-- they are as they could be stated
+pub as_they_are : (a : Attributes) (n : ℕ) (driver : Bool) → checked a n driver ≡ Ok a → as_stated a ≡ a
+as_they_are a n driver h = same_stated a (is_volatile a) (stated_id a n driver h)
