@@ -104,7 +104,7 @@ module _ {call : HandleCall} (store : Store) (key : Option KeyCreation) where
     few = omega arith;
     undrawn = λ no. refl;
     left = λ no. left;
-    no_key = λ s a. refl;
+    no_key = λ a. refl;
     buffer = refusal_leaves status;
     sound = λ s h. record { key = h.key; work = sound h.work };
   }
@@ -124,7 +124,7 @@ module _ (store : Store) (key : Option KeyCreation) where
   compared_step : (w : DerivationWork) (expected : List ℕ) (same : Bool) → nat_lt w.capacity (length expected) ≡ false →
       IsStep (OnDerivation (VerifyBytes expected)) store (held_derivation key w) (held_after key Deriving (goes_on (without w (length expected)) (compared same)))
   compared_step w expected true less =
-      goes_step store key Deriving w (without w (length expected)) done refl (λ s a. refl) (without_sound w (length expected) (not_below w.capacity (length expected) less))
+      goes_step store key Deriving w (without w (length expected)) done refl (λ a. refl) (without_sound w (length expected) (not_below w.capacity (length expected) less))
   compared_step w expected false less =
       stays_step store key w (without w (length expected)) InvalidSignature (went_on key (without w (length expected)) (nat_le (length expected) w.capacity) (above w.capacity (length expected) less))
       (without_sound w (length expected) (not_below w.capacity (length expected) less))
@@ -132,7 +132,7 @@ module _ (store : Store) (key : Option KeyCreation) where
   lowered_step : (w : DerivationWork) (n : ℕ) (b : Bool) → nat_lt w.capacity n ≡ b →
       IsStep (OnDerivation (SetCapacity n)) store (held_derivation key w) (held_after key Deriving (cond b (goes_on w (refusal InvalidArgument)) (goes_on (record w { capacity = n }) done)))
   lowered_step w n true e = stays_step store key w w InvalidArgument (went_on key w (nat_lt w.capacity n) e) (λ h. h)
-  lowered_step w n false e = goes_step store key Deriving w (record w { capacity = n }) done refl (λ s a. refl) (lowered_sound w n (not_below w.capacity n e))
+  lowered_step w n false e = goes_step store key Deriving w (record w { capacity = n }) done refl (λ a. refl) (lowered_sound w n (not_below w.capacity n e))
 
   -- a call on a derivation whose key is gone
   pub derivation_lost : (w : DerivationWork) (step : DerivationStep) → Loses (OnDerivation step) (held_derivation key w) InvalidHandle
@@ -144,20 +144,20 @@ module _ (store : Store) (key : Option KeyCreation) where
   derivation_lost w (VerifyBytes expected) = refl
 
   pub derivation_is_step : (w : DerivationWork) (step : DerivationStep) → IsStep (OnDerivation step) store (held_derivation key w) (held_after key Deriving (derivation_step w step))
-  derivation_is_step w GetCapacity = goes_step store key Deriving w w _ refl (λ s a. refl) (λ h. h)
+  derivation_is_step w GetCapacity = goes_step store key Deriving w w _ refl (λ a. refl) (λ h. h)
   derivation_is_step w (SetCapacity n) = lowered_step w n (nat_lt w.capacity n) refl
   derivation_is_step w (InputBytes step bytes) =
-      unless_step store key Deriving _ _ _ (λ status refused. refl) (λ e. goes_step store key Deriving w _ done refl (λ s a. refl)
+      unless_step store key Deriving _ _ _ (λ status refused. refl) (λ e. goes_step store key Deriving w _ done refl (λ a. refl)
       (bytes_sound w bytes (step == salt_step) (step == info_step) (flipped (is_due w step) (none_holds (input_bytes_rows w step bytes) 1 e))))
   derivation_is_step w (InputInteger step value) =
-      unless_step store key Deriving _ _ _ (λ status refused. refl) (λ e. goes_step store key Deriving w _ done refl (λ s a. refl) (cost_sound w value (none_holds (input_integer_rows w step value) 2 e)))
+      unless_step store key Deriving _ _ _ (λ status refused. refl) (λ e. goes_step store key Deriving w _ done refl (λ a. refl) (cost_sound w value (none_holds (input_integer_rows w step value) 2 e)))
   derivation_is_step w (OutputBytes n) =
-      unless_step store key Deriving _ _ _ (refused_by (Loses (OnDerivation (OutputBytes n)) (held_derivation key w)) (output_rows w) (refl, tt))
+      unless_step store key Deriving _ _ _ (refused_by (Loses (OnDerivation (OutputBytes n)) (held_derivation key w)) (output_rows w) (λ on. refl, tt))
       (λ e. taken_step store key w n (given (next_derived w n)) (nat_lt w.capacity n) refl (went_on key (record w { capacity = 0 }) (nat_lt w.capacity n))
-      (λ less. goes_step store key Deriving w (without w n) (given (next_derived w n)) refl (λ s a. refl) (without_sound w n (not_below w.capacity n less))))
+      (λ less. goes_step store key Deriving w (without w n) (given (next_derived w n)) refl (λ a. refl) (without_sound w n (not_below w.capacity n less))))
   derivation_is_step w (VerifyBytes expected) =
       let same : Bool = bytes_eq expected (next_derived w (length expected)) in
-      unless_step store key Deriving _ _ _ (refused_by (Loses (OnDerivation (VerifyBytes expected)) (held_derivation key w)) (output_rows w) (refl, tt))
+      unless_step store key Deriving _ _ _ (refused_by (Loses (OnDerivation (VerifyBytes expected)) (held_derivation key w)) (output_rows w) (λ on. refl, tt))
       (λ e. taken_step store key w (length expected) (compared same) (nat_lt w.capacity (length expected)) refl
       (went_on key (record w { capacity = 0 }) (nat_lt w.capacity (length expected))) (compared_step w expected same))
 

@@ -1,35 +1,89 @@
 -- The shape of any request: on the store or on a handle, whether a device failed or not.
-use Rattle.std.proofs.Common.{◌≡◌, ℕ, Bool, true, false, cond}
-use Rattle.std.specs.Prelude.{Option, Some, None, not, ◌||◌}
-use Rattle.psa_status.specs.declared.Status.{Status}
-use Rattle.store_model.specs.Call.{Call}
-use Rattle.store_model.specs.Operations.{fails}
-use Rattle.store_model.specs.Handles.{Service, Served, own_of, operation_of, next_random, applied, untouched}
-use Rattle.store_model.specs.HandleCalls.{HandleCall}
-use Rattle.store_model.specs.Requests.{OnStore, OnHandle, on_store, serve_unless}
-use Rattle.store_model.specs.Refusals.{is_setup, is_active}
-use Rattle.store_model.specs.Laws.{may_change_keys}
+use Rattle.std.proofs.Common.{◌≡◌, ℕ, Bool, true, false, cond, refl, sym, ap, ◌∙◌, subst}
+use Rattle.std.specs.Prelude.{Some}
+use Rattle.psa_status.specs.declared.Status.TheVariants.{StorageFailure, HardwareFailure, DataCorrupt}
+use Rattle.store_model.specs.Call.{Call, Reply, Import, Export, GetAttributes, Destroy, Purge, Copy, Generate, HashCompute, HashCompare, MacCompute, MacVerify, CipherEncrypt, CipherDecrypt, AeadEncrypt, AeadDecrypt}
+use Rattle.store_model.specs.Outcome.{counted}
+use Rattle.store_model.specs.KeyUse.{destroyed}
+use Rattle.store_model.specs.Faults.{FaultMark, Plain, Storage, Hardware, Corrupt}
+use Rattle.store_model.specs.Operations.{InError}
+use Rattle.store_model.specs.Handles.{HandleOperation, Own, Service, Served, own_of, operation_of, with_own, with_operation, next_random}
+use Rattle.store_model.specs.HandleCalls.{HandleCall, is_setup}
+use Rattle.store_model.specs.Requests.{Request, OnStore, OnHandle, on_store, plain_step, failed_step, serve}
+use Rattle.store_model.specs.Laws.{handle_of, may_change_keys}
 use Rattle.store_model.proofs.DrawnBytes.{length-random}
-use Rattle.store_model.proofs.StoreShape.{StoreCases, failed_destroyed, store_shape, failed_shape}
+use Rattle.store_model.proofs.Operations.{same_operation, same_service}
+use Rattle.store_model.proofs.StoreShape.{IsQuiet, refusal_quiet, spoiled_quiet, StoreCases, store_shape}
 use Rattle.store_model.proofs.Shape.{CallCases, shape}
 
-pub on_store_shape : (service : Service) (caller : ℕ) (call : Call) (o : Option Status) (P : Served → Type 0) →
-    StoreCases service.store caller call (λ outcome. P (on_store service caller outcome)) →
-    ((id : ℕ) (status : Status) → may_change_keys (OnStore call) ≡ true → P (on_store service caller (failed_destroyed service.store id status))) →
-    P (serve_unless o service caller (OnStore call))
-on_store_shape service caller call None P cases failed =
-    store_shape service.store caller (next_random service caller) call (λ outcome. P (on_store service caller outcome))
-    (λ n. length-random service.store.settings.seed caller (own_of service caller).drawn n) cases
-on_store_shape service caller call (Some status) P cases failed =
-    failed_shape service.store caller call status (λ outcome. P (on_store service caller outcome)) cases (λ id changes. failed id status changes)
+-- an operation that stays
+pub stays_put : (service : Service) (caller handle : ℕ) (operation : HandleOperation) → operation ≡ operation_of service caller handle →
+    record service { store = counted service.store } ≡ with_own service (counted service.store) caller (with_operation (own_of service caller) handle operation)
+stays_put service caller handle operation e =
+    sym (ap (λ (o : HandleOperation). with_own service (counted service.store) caller (with_operation (own_of service caller) handle o)) e
+    ∙ ap (λ (own : Own). with_own service (counted service.store) caller own) (same_operation (own_of service caller) handle)
+    ∙ same_service service (counted service.store) caller)
 
-either : (b : Bool) (x y : Served) (P : Served → Type 0) → P x → P y → P (cond b x y)
-either true x y P h k = h
-either false x y P h k = k
+-- What is to be shown of each kind of what a device's failure leaves: all but the count of calls, the keys but for one that
+-- is destroyed, or the operation of the request's handle in error.
+pub record FailedCases (service : Service) (caller : ℕ) (request : Request) (P : Served → Type 0) : Type 0 where
+  pub counted_too : (reply : Reply) → IsQuiet reply → P (record { service = record service { store = counted service.store }; reply = reply })
+  pub destroyed_too : (reply : Reply) → IsQuiet reply → (id : ℕ) → may_change_keys request ≡ true → P (record { service = record service { store = (destroyed service.store id).store }; reply = reply })
+  pub lost_too : (reply : Reply) → IsQuiet reply → (handle : ℕ) → handle_of request ≡ Some handle →
+      P (record { service = with_own service (counted service.store) caller (with_operation (own_of service caller) handle InError); reply = reply })
 
-pub on_handle_shape : (service : Service) (caller handle : ℕ) (call : HandleCall) (o : Option Status) (P : Served → Type 0) → CallCases service caller handle call P →
-    ((status : Status) → P (untouched service status)) → ((status : Status) → P (applied service caller handle (fails status))) →
-    P (serve_unless o service caller (OnHandle handle call))
-on_handle_shape service caller handle call None P cases kept failed = shape service caller handle call P cases
-on_handle_shape service caller handle call (Some status) P cases kept failed =
-    either (is_setup call || not (is_active (operation_of service caller handle))) _ _ P (kept status) (failed status)
+-- what a device's failure leaves of a call on a handle, by whether it is a setup
+abbrev left_failed : Service → (caller handle : ℕ) → Bool → Service
+left_failed service caller handle setup =
+    with_own service (counted service.store) caller (with_operation (own_of service caller) handle (cond setup (operation_of service caller handle) InError))
+
+pub setup_fails : (service : Service) (caller handle : ℕ) (call : HandleCall) → is_setup call ≡ true → record service { store = counted service.store } ≡ failed_step service caller (OnHandle handle call)
+setup_fails service caller handle call e =
+    stays_put service caller handle _ (ap (λ b. cond b (operation_of service caller handle) InError) e)
+
+module _ (service : Service) (caller : ℕ) (P : Served → Type 0) where
+  -- a device failed in the turn of a call on the store
+  store_fails : (call : Call) → FailedCases service caller (OnStore call) P → (reply : Reply) → IsQuiet reply → P (record { service = failed_step service caller (OnStore call); reply = reply })
+  store_fails (Destroy id) cases reply quiet = cases.destroyed_too reply quiet id refl
+  store_fails (Import a bytes) cases reply quiet = cases.counted_too reply quiet
+  store_fails (Export id room) cases reply quiet = cases.counted_too reply quiet
+  store_fails (GetAttributes id) cases reply quiet = cases.counted_too reply quiet
+  store_fails (Purge id) cases reply quiet = cases.counted_too reply quiet
+  store_fails (Copy source stated) cases reply quiet = cases.counted_too reply quiet
+  store_fails (Generate a) cases reply quiet = cases.counted_too reply quiet
+  store_fails (HashCompute alg input room) cases reply quiet = cases.counted_too reply quiet
+  store_fails (HashCompare alg input hash) cases reply quiet = cases.counted_too reply quiet
+  store_fails (MacCompute id alg input room) cases reply quiet = cases.counted_too reply quiet
+  store_fails (MacVerify id alg input mac) cases reply quiet = cases.counted_too reply quiet
+  store_fails (CipherEncrypt id alg input room) cases reply quiet = cases.counted_too reply quiet
+  store_fails (CipherDecrypt id alg input room) cases reply quiet = cases.counted_too reply quiet
+  store_fails (AeadEncrypt id alg nonce ad input room) cases reply quiet = cases.counted_too reply quiet
+  store_fails (AeadDecrypt id alg nonce ad input room) cases reply quiet = cases.counted_too reply quiet
+
+  -- and of a call on a handle, by whether it is a setup
+  handle_fails : (handle : ℕ) (call : HandleCall) → FailedCases service caller (OnHandle handle call) P → (reply : Reply) → IsQuiet reply → (setup : Bool) → is_setup call ≡ setup →
+      P (record { service = failed_step service caller (OnHandle handle call); reply = reply })
+  handle_fails handle call cases reply quiet true e =
+      subst (λ (s : Service). P (record { service = s; reply = reply })) (setup_fails service caller handle call e) (cases.counted_too reply quiet)
+  handle_fails handle call cases reply quiet false e =
+      subst (λ (b : Bool). P (record { service = left_failed service caller handle b; reply = reply })) (sym e) (cases.lost_too reply quiet handle refl)
+
+  -- a request with a mark
+  marked_shape : (request : Request) → ((reply : Reply) → IsQuiet reply → P (record { service = failed_step service caller request; reply = reply })) → (mark : FaultMark) → P (plain_step service caller request) →
+      P (serve service caller request mark)
+  marked_shape request fails Plain plain = plain
+  marked_shape request fails (Storage access) plain = fails _ (refusal_quiet StorageFailure)
+  marked_shape request fails Hardware plain = fails _ (spoiled_quiet HardwareFailure (plain_step service caller request).reply.needed refl)
+  marked_shape request fails Corrupt plain = fails _ (refusal_quiet DataCorrupt)
+
+pub on_store_shape : (service : Service) (caller : ℕ) (call : Call) (mark : FaultMark) (P : Served → Type 0) → StoreCases service.store caller call (λ outcome. P (on_store service caller outcome)) →
+    FailedCases service caller (OnStore call) P → P (serve service caller (OnStore call) mark)
+on_store_shape service caller call mark P cases failed =
+    marked_shape service caller P (OnStore call) (store_fails service caller P call failed) mark
+    (store_shape service.store caller (next_random service caller) call (λ outcome. P (on_store service caller outcome))
+    (λ n. length-random service.store.settings.seed caller (own_of service caller).drawn n) cases)
+
+pub on_handle_shape : (service : Service) (caller handle : ℕ) (call : HandleCall) (mark : FaultMark) (P : Served → Type 0) → CallCases service caller handle call P →
+    FailedCases service caller (OnHandle handle call) P → P (serve service caller (OnHandle handle call) mark)
+on_handle_shape service caller handle call mark P cases failed =
+    marked_shape service caller P (OnHandle handle call) (λ reply quiet. handle_fails service caller P handle call failed reply quiet (is_setup call) refl) mark (shape service caller handle call P cases)

@@ -1,10 +1,11 @@
 -- The shape of any call on a handle: it leaves all operations, or makes a step of its own, or creates a key.
 use Rattle.std.proofs.Common.{◌≡◌, ℕ, ◌≤◌, Bool, true, false, cond, List, refl, sym, ap, subst, arith}
-use Rattle.std.specs.Prelude.{Option, None, Some, not, nat_lt, is_some, ◌∷◌}
+use Rattle.std.specs.Prelude.{Option, None, Some, Result, Ok, Err, not, nat_lt, is_some, [], ◌∷◌, ◌++◌}
 use Rattle.std.specs.FinMap as map
 use Rattle.psa_status.specs.declared.Status.{Status}
-use Rattle.psa_status.specs.declared.Status.TheVariants.{BadState, InvalidHandle}
-use Rattle.psa_status.specs.Rows.{first_row}
+use Rattle.psa_status.specs.declared.Status.TheVariants.{NotPermitted, NotSupported, InvalidArgument, InvalidHandle, BadState, AlreadyExists, InsufficientStorage, InsufficientData, KeyLimit}
+use Rattle.psa_status.specs.Rows.{Rows, first_row, unless}
+use Rattle.psa_status.proofs.Rows.{unless-ok}
 use Rattle.alg_encoding.specs.declared.table.Class.{Class}
 use Rattle.alg_encoding.specs.declared.table.Class.TheVariants as class
 use Rattle.key_attributes.specs.declared.Attributes.{Attributes}
@@ -12,36 +13,36 @@ use Rattle.store_model.specs.Store.{Key, Store}
 use Rattle.store_model.specs.Outcome.{done}
 use Rattle.store_model.specs.KeyUse.{bytes_of}
 use Rattle.store_model.specs.Rules.{class_rows, use_rows, mac_usage, cipher_usage}
-use Rattle.store_model.specs.Creation.{creation_rows}
 use Rattle.store_model.specs.Operations.{Operation, Inactive, InError, Active, After, set_up, stays, fails, ends, goes_on, is_inactive}
 use Rattle.store_model.specs.HashOperations.{HashWork, hash_work, hash_step}
 use Rattle.store_model.specs.MacOperations.{MacWork, mac_work, mac_step}
 use Rattle.store_model.specs.CipherOperations.{CipherWork, cipher_work, cipher_step}
 use Rattle.store_model.specs.AeadOperations.{AeadWork, aead_work, aead_step}
-use Rattle.store_model.specs.DerivationOperations.{DerivationWork, derivation_work, derivation_step, output_key_rows, stated_bytes, exhausted, with_key}
+use Rattle.store_model.specs.DerivationOperations.{DerivationWork, derivation_work, derivation_step, output_key_rows, stated_bytes, with_key}
 use Rattle.store_model.specs.Handles.{KeyCreation, Work, Hashing, Authenticating, Ciphering, Sealing, Deriving, Held, HandleOperation, Service, Served, operation_of, applied, untouched, stepped, part_of, hash_part, mac_part, cipher_part, aead_part, derivation_part, key_of_operation, is_alive, held_after}
-use Rattle.store_model.specs.HandleCalls.{HandleCall, HashSetup, MacSetup, CipherSetup, AeadSetup, DerivationSetup, OnHash, OnMac, OnCipher, OnAead, OnDerivation, InputKey, OutputKey, Abort, creation_of, input_key, input_key_rows, output_key, output_key_of, created_from, random_of, handle_step}
+use Rattle.store_model.specs.HandleCalls.{HandleCall, HashSetup, MacSetup, CipherSetup, AeadSetup, DerivationSetup, OnHash, OnMac, OnCipher, OnAead, OnDerivation, InputKey, OutputKey, Abort, creation_of, input_key, input_key_rows, output_key, derived_key_of, underived, derived_key, random_of, handle_step}
 use Rattle.store_model.specs.Refusals.{is_active, is_ready, left_by}
 use Rattle.store_model.specs.Sound.{IsSoundStore, IsSoundUse, IsSoundWork, IsSoundHeld}
 use Rattle.store_model.specs.Requests.{OnHandle}
 use Rattle.store_model.specs.Laws.{may_change_keys}
-use Rattle.store_model.proofs.Tables.{none_holds, refused_by}
+use Rattle.store_model.proofs.Tables.{none_holds}
+use Rattle.store_model.proofs.Recorded.{MayBeKept, OfRefusals, then_ok, then_refused, unless_refused, recorded, recorded_refused}
 use Rattle.store_model.proofs.Buffers.{refusal_leaves}
 use Rattle.store_model.proofs.Steps.{IsStep, Loses, held_derivation, begun, fails_step, unless_step, alive_step, ends_step, hash_is_step, mac_is_step, cipher_is_step, aead_is_step}
 use Rattle.store_model.proofs.Derivations.{derivation_is_step, derivation_lost, exhausted_step, went_on, key_sound, key_due, start_sound, not_below, flipped}
 
--- an active derivation has its secret, its bytes and the creation's leave
-pub record DerivesKey (service : Service) (caller handle : ℕ) (key : Option KeyCreation) (w : DerivationWork) (a : Attributes) : Type 0 where
+-- an active derivation has its secret and so many bytes, and these attributes may be kept
+pub record DerivesKey (service : Service) (caller handle : ℕ) (key : Option KeyCreation) (w : DerivationWork) (n : ℕ) (kept : Attributes) : Type 0 where
   pub was : operation_of service caller handle ≡ held_derivation key w
   pub keyed : is_some w.secret ≡ true
-  pub enough : stated_bytes a ≤ w.capacity
-  pub rows : first_row (creation_rows service.store caller a (stated_bytes a)) ≡ None
+  pub enough : n ≤ w.capacity
+  pub may : MayBeKept service.store caller kept n
 
 -- what is to be shown of each kind of outcome of a call
 pub record CallCases (service : Service) (caller handle : ℕ) (call : HandleCall) (P : Served → Type 0) : Type 0 where
   pub untouched_too : (status : Status) → left_by call (operation_of service caller handle) status ≡ operation_of service caller handle → P (untouched service status)
   pub applied_too : (after : After Held) → IsStep call service.store (operation_of service caller handle) after → P (applied service caller handle after)
-  pub created_too : may_change_keys (OnHandle handle call) ≡ true → (key : Option KeyCreation) (w : DerivationWork) (a : Attributes) → DerivesKey service caller handle key w a → P (created_from service caller handle key w a None)
+  pub created_too : may_change_keys (OnHandle handle call) ≡ true → (key : Option KeyCreation) (w : DerivationWork) (n : ℕ) (kept : Attributes) → DerivesKey service caller handle key w n kept → P (derived_key service caller handle key w n (Ok kept))
 
 -- a call that isn't in order leaves its operation
 otherwise : (b : Bool) (x y : HandleOperation) → b ≡ false → cond b x y ≡ y
@@ -74,23 +75,23 @@ stayed_step call sets store operation status = record {
   few = omega arith;
   undrawn = λ no. refl;
   left = λ no. setup_left call sets operation status;
-  no_key = λ s a. refl;
+  no_key = λ a. refl;
   buffer = refusal_leaves status;
   sound = λ s h. h;
 }
 
 set_up_step : (call : HandleCall) → SetsUp call → (store : Store) (before : HandleOperation) (refused : Option Status) (held : Held) → (IsSoundStore store → IsSoundHeld store held) → IsStep call store before (set_up before refused held)
-set_up_step call sets store Inactive None held sound = record { few = omega arith; undrawn = λ no. refl; left = λ no. absurd (no refl); no_key = λ s a. refl; buffer = λ no. absurd (no refl); sound = λ s h. sound s }
+set_up_step call sets store Inactive None held sound = record { few = omega arith; undrawn = λ no. refl; left = λ no. absurd (no refl); no_key = λ a. refl; buffer = λ no. absurd (no refl); sound = λ s h. sound s }
 set_up_step call sets store Inactive (Some status) held sound = stayed_step call sets store Inactive status
 set_up_step call sets store InError refused held sound = stayed_step call sets store InError BadState
 set_up_step call sets store (Active other) refused held sound = stayed_step call sets store (Active other) BadState
 
 keyed_step : (call : HandleCall) → SetsUp call → (store : Store) (before : HandleOperation) (class : Class) (usage alg id : ℕ) (work : List ℕ → Work) → ((key : List ℕ) → IsSoundWork (work key)) →
     let found : Option Key = map.get store.keys id in
-    IsStep call store before (set_up before (first_row (use_rows class usage alg found)) (record { key = creation_of id found; work = work (bytes_of found) }))
+    IsStep call store before (set_up before (first_row (use_rows false class usage alg found)) (record { key = creation_of id found; work = work (bytes_of found) }))
 keyed_step call sets store before class usage alg id work sound =
     let found : Option Key = map.get store.keys id in
-    set_up_step call sets store before (first_row (use_rows class usage alg found)) (record { key = creation_of id found; work = work (bytes_of found) })
+    set_up_step call sets store before (first_row (use_rows false class usage alg found)) (record { key = creation_of id found; work = work (bytes_of found) })
     (λ s. record { key = creation_sound store id found refl s; work = sound (bytes_of found) })
 
 -- STEPS
@@ -170,7 +171,7 @@ module _ (service : Service) (caller handle step id : ℕ) (P : Served → Type 
     few = omega arith;
     undrawn = λ no. refl;
     left = λ no. absurd (no refl);
-    no_key = λ s a. refl;
+    no_key = λ a. refl;
     buffer = λ no. absurd (no refl);
     sound = λ s h. record { key = creation_sound service.store id found_key refl s; work = key_sound w (bytes_of found_key) (key_due w found_key step e) h.work };
   }
@@ -190,31 +191,43 @@ module _ (service : Service) (caller handle : ℕ) (a : Attributes) (P : Served 
   abbrev used_key : Option KeyCreation
   used_key = key_of_operation (operation_of service caller handle)
 
-  lost_shape : (w : DerivationWork) (status : Status) → operation_of service caller handle ≡ held_derivation used_key w → Loses (OutputKey a) (held_derivation used_key w) status → P (applied service caller handle (fails status))
-  lost_shape w status was lost = steps_shape service caller handle _ P cases Deriving w _ was (fails_step service.store used_key Deriving (held_derivation used_key w) status lost)
+  abbrev rows_before : DerivationWork → Rows
+  rows_before w = (not (is_alive service.store used_key), InvalidHandle) ∷ output_key_rows w a ++ (nat_lt w.capacity (stated_bytes a), InsufficientData) ∷ []
 
-  created_shape : (w : DerivationWork) → operation_of service caller handle ≡ held_derivation used_key w → is_some w.secret ≡ true → stated_bytes a ≤ w.capacity →
-      (o : Option Status) → first_row (creation_rows service.store caller a (stated_bytes a)) ≡ o → P (created_from service caller handle used_key w a o)
-  created_shape w was secret enough (Some status) e =
-      lost_shape w status was (refused_by (Loses (OutputKey a) (held_derivation used_key w)) (creation_rows service.store caller a (stated_bytes a)) (refl, (refl, (refl, (refl, (refl, (refl, (refl, tt))))))) status e)
-  created_shape w was secret enough None e = cases.created_too refl used_key w a (record { was = was; keyed = secret; enough = enough; rows = e })
+  derives : (w : DerivationWork) → operation_of service caller handle ≡ held_derivation used_key w → (kept : Attributes) → derived_key_of service.store caller used_key w a ≡ Ok kept →
+      DerivesKey service caller handle used_key w (stated_bytes a) kept
+  derives w was kept e =
+      let one = then_ok (unless (first_row (rows_before w)) a) _ kept e in
+      let passed = (unless-ok (first_row (rows_before w)) a one.0 one.1.0).0 in
+      record {
+        was = was;
+        keyed = flipped (is_some w.secret) (none_holds (rows_before w) 1 passed);
+        enough = not_below w.capacity (stated_bytes a) (none_holds (rows_before w) 5 passed);
+        may = (recorded service.store caller one.0 (stated_bytes a) kept one.1.1).may;
+      }
 
-  within_shape : (w : DerivationWork) → operation_of service caller handle ≡ held_derivation used_key w → is_some w.secret ≡ true → (b : Bool) → nat_lt w.capacity (stated_bytes a) ≡ b →
-      P (cond b (applied service caller handle (held_after used_key Deriving (exhausted w)))
-      (created_from service caller handle used_key w a (first_row (creation_rows service.store caller a (stated_bytes a)))))
-  within_shape w was secret true e =
-      steps_shape service caller handle _ P cases Deriving w _ was (exhausted_step service.store used_key w (went_on used_key (record w { capacity = 0 }) (nat_lt w.capacity (stated_bytes a)) e))
-  within_shape w was secret false e = created_shape w was secret (not_below w.capacity (stated_bytes a) e) _ refl
+  -- what a refusal makes of the derivation
+  abbrev Underived : DerivationWork → Status → Type 0
+  Underived w status = IsStep (OutputKey a) service.store (held_derivation used_key w) (held_after used_key Deriving (underived w status))
 
-  output_shape : (w : DerivationWork) → operation_of service caller handle ≡ held_derivation used_key w →
-      (o : Option Status) → first_row ((not (is_alive service.store used_key), InvalidHandle) ∷ output_key_rows w a) ≡ o → P (output_key_of service caller handle used_key w a o)
-  output_shape w was (Some status) e =
-      lost_shape w status was (refused_by (Loses (OutputKey a) (held_derivation used_key w)) ((not (is_alive service.store used_key), InvalidHandle) ∷ output_key_rows w a) (refl, (refl, (refl, (refl, (refl, tt))))) status e)
-  output_shape w was None e =
-      within_shape w was (flipped (is_some w.secret) (none_holds ((not (is_alive service.store used_key), InvalidHandle) ∷ output_key_rows w a) 1 e)) (nat_lt w.capacity (stated_bytes a)) refl
+  in_error : (w : DerivationWork) (status : Status) → Loses (OutputKey a) (held_derivation used_key w) status → IsStep (OutputKey a) service.store (held_derivation used_key w) (held_after used_key Deriving (fails status))
+  in_error w status lost = fails_step service.store used_key Deriving (held_derivation used_key w) status lost
+
+  refused_step : (w : DerivationWork) → OfRefusals (Underived w) (derived_key_of service.store caller used_key w a)
+  refused_step w =
+      then_refused (Underived w) (unless (first_row (rows_before w)) a) _
+      (unless_refused (Underived w) (rows_before w) a (λ on. in_error w InvalidHandle refl, (λ on. in_error w BadState refl, (λ on. in_error w InvalidArgument refl, (λ on. in_error w NotSupported refl,
+      (λ on. in_error w NotPermitted refl, (λ less. exhausted_step service.store used_key w (went_on used_key (record w { capacity = 0 }) (nat_lt w.capacity (stated_bytes a)) less), tt)))))))
+      (λ stated. recorded_refused (Underived w) (in_error w NotSupported refl) (in_error w InvalidArgument refl) (in_error w NotPermitted refl) (in_error w KeyLimit refl) (in_error w AlreadyExists refl)
+      (in_error w InsufficientStorage refl) service.store caller stated (stated_bytes a))
+
+  derived_shape : (w : DerivationWork) → operation_of service caller handle ≡ held_derivation used_key w → (r : Result Attributes Status) → derived_key_of service.store caller used_key w a ≡ r →
+      P (derived_key service caller handle used_key w (stated_bytes a) r)
+  derived_shape w was (Ok kept) e = cases.created_too refl used_key w (stated_bytes a) kept (derives w was kept e)
+  derived_shape w was (Err status) e = steps_shape service caller handle _ P cases Deriving w _ was (refused_step w status e)
 
   output_key_shape : (now : Operation DerivationWork) → part_of derivation_part (operation_of service caller handle) ≡ now → P (output_key service caller handle now a)
-  output_key_shape (Active w) e = output_shape w (held_as derivation_part Deriving own_derivation (operation_of service caller handle) w e) _ refl
+  output_key_shape (Active w) e = derived_shape w (held_as derivation_part Deriving own_derivation (operation_of service caller handle) w e) _ refl
   output_key_shape Inactive e = cases.untouched_too BadState (unready_left (OutputKey a) (operation_of service caller handle) (ap is_active e))
   output_key_shape InError e = cases.untouched_too BadState (unready_left (OutputKey a) (operation_of service caller handle) (ap is_active e))
 
@@ -247,4 +260,4 @@ shape service caller handle (OnDerivation step) P cases =
     (λ w. derivation_is_step service.store _ w step) (unready_left (OnDerivation step) _) _ refl
 shape service caller handle (InputKey step id) P cases = input_key_shape service caller handle step id P cases _ refl
 shape service caller handle (OutputKey a) P cases = output_key_shape service caller handle a P cases _ refl
-shape service caller handle Abort P cases = cases.applied_too (ends done) (ends_step service.store None Deriving _ done refl (λ s a. refl))
+shape service caller handle Abort P cases = cases.applied_too (ends done) (ends_step service.store None Deriving _ done refl (λ a. refl))

@@ -18,7 +18,6 @@ use Rattle.store_model.specs.HandleCalls.{HandleCall, OnHash, OnMac, OnCipher, O
 use Rattle.store_model.specs.Refusals.{left_by}
 use Rattle.store_model.proofs.Buffers.{LeavesBuffer, refusal_leaves, spoiled_leaves}
 use Rattle.store_model.specs.Sound.{IsSoundStore, IsSoundWork, IsSoundOperation}
-use Rattle.store_model.specs.Origin.{made_at}
 use Rattle.store_model.proofs.StoreShape.{MakesNone}
 
 -- what a call on a handle makes of its operation, where it creates no key
@@ -26,7 +25,7 @@ pub record IsStep (call : HandleCall) (store : Store) (before : HandleOperation)
   pub few : after.drawn ≤ 16
   pub undrawn : (after.reply.status ≡ Success → ⊥) → after.drawn ≡ 0
   pub left : (after.reply.status ≡ Success → ⊥) → after.operation ≡ left_by call before after.reply.status
-  pub no_key : (source : Option ℕ) (after_it : Store) → made_at source after_it after.reply.output ≡ []
+  pub no_key : MakesNone after.reply
   pub buffer : LeavesBuffer after.reply
   pub sound : IsSoundStore store → IsSoundOperation store before → IsSoundOperation store after.operation
 
@@ -47,7 +46,7 @@ module _ {W : Type 0} {call : HandleCall} (store : Store) (key : Option KeyCreat
     few = omega arith;
     undrawn = λ no. refl;
     left = λ no. sym lost;
-    no_key = λ source after. refl;
+    no_key = λ after. refl;
     buffer = refusal_leaves status;
     sound = λ s h. tt;
   }
@@ -97,39 +96,39 @@ short_nonce false false false = omega arith
 
 module _ (store : Store) (key : Option KeyCreation) where
   pub hash_is_step : (w : HashWork) (step : HashStep) → IsStep (OnHash step) store (begun key Hashing w) (held_after key Hashing (hash_step w step))
-  hash_is_step w (HashUpdate input) = unless_step store key Hashing _ _ _ (λ status refused. refl) (λ e. goes_step store key Hashing w _ done refl (λ s a. refl) (λ h. tt))
-  hash_is_step w (HashFinish room) = unless_step store key Hashing _ _ _ (λ status refused. refl) (λ e. ends_step store key Hashing _ (given _) refl (λ s a. refl))
-  hash_is_step w (HashVerify hash) = unless_step store key Hashing _ _ _ (λ status refused. refl) (λ e. ends_step store key Hashing _ done refl (λ s a. refl))
+  hash_is_step w (HashUpdate input) = unless_step store key Hashing _ _ _ (λ status refused. refl) (λ e. goes_step store key Hashing w _ done refl (λ a. refl) (λ h. tt))
+  hash_is_step w (HashFinish room) = unless_step store key Hashing _ _ _ (λ status refused. refl) (λ e. ends_step store key Hashing _ (given _) refl (λ a. refl))
+  hash_is_step w (HashVerify hash) = unless_step store key Hashing _ _ _ (λ status refused. refl) (λ e. ends_step store key Hashing _ done refl (λ a. refl))
 
   pub mac_is_step : (w : MacWork) (step : MacStep) → IsStep (OnMac step) store (begun key Authenticating w) (held_after key Authenticating (mac_step w step))
-  mac_is_step w (MacUpdate input) = unless_step store key Authenticating _ _ _ (λ status refused. refl) (λ e. goes_step store key Authenticating w _ done refl (λ s a. refl) (λ h. tt))
-  mac_is_step w (MacSignFinish room) = unless_step store key Authenticating _ _ _ (λ status refused. refl) (λ e. ends_step store key Authenticating _ (given _) refl (λ s a. refl))
-  mac_is_step w (MacVerifyFinish mac) = unless_step store key Authenticating _ _ _ (λ status refused. refl) (λ e. ends_step store key Authenticating _ done refl (λ s a. refl))
+  mac_is_step w (MacUpdate input) = unless_step store key Authenticating _ _ _ (λ status refused. refl) (λ e. goes_step store key Authenticating w _ done refl (λ a. refl) (λ h. tt))
+  mac_is_step w (MacSignFinish room) = unless_step store key Authenticating _ _ _ (λ status refused. refl) (λ e. ends_step store key Authenticating _ (given _) refl (λ a. refl))
+  mac_is_step w (MacVerifyFinish mac) = unless_step store key Authenticating _ _ _ (λ status refused. refl) (λ e. ends_step store key Authenticating _ done refl (λ a. refl))
 
   last_is_step : (w : CipherWork) (room : ℕ) (o : Option (List ℕ)) → IsStep (OnCipher (CipherFinish room)) store (begun key Ciphering w) (held_after key Ciphering (last_part w o))
-  last_is_step w room (Some text) = ends_step store key Ciphering _ _ refl (λ s a. refl)
+  last_is_step w room (Some text) = ends_step store key Ciphering _ _ refl (λ a. refl)
   last_is_step w room None = record {
     few = omega arith;
     undrawn = λ no. refl;
     left = λ no. refl;
-    no_key = λ s a. refl;
+    no_key = λ a. refl;
     buffer = spoiled_leaves InvalidPadding (last_length (mode_of w.alg)) refl;
     sound = λ s h. tt;
   }
 
   pub cipher_is_step : (random : List ℕ) (w : CipherWork) (step : CipherStep) → IsStep (OnCipher step) store (begun key Ciphering w) (held_after key Ciphering (cipher_step random w step))
   cipher_is_step random w (CipherGenerateIv room) =
-      unless_step store key Ciphering _ _ _ (λ status refused. refl) (λ e. draws_step store key Ciphering w _ (given random) 16 (omega arith) refl (λ s a. refl) (λ h. tt))
-  cipher_is_step random w (CipherSetIv iv) = unless_step store key Ciphering _ _ _ (λ status refused. refl) (λ e. goes_step store key Ciphering w _ done refl (λ s a. refl) (λ h. tt))
-  cipher_is_step random w (CipherUpdate input room) = unless_step store key Ciphering _ _ _ (λ status refused. refl) (λ e. goes_step store key Ciphering w _ (given _) refl (λ s a. refl) (λ h. tt))
+      unless_step store key Ciphering _ _ _ (λ status refused. refl) (λ e. draws_step store key Ciphering w _ (given random) 16 (omega arith) refl (λ a. refl) (λ h. tt))
+  cipher_is_step random w (CipherSetIv iv) = unless_step store key Ciphering _ _ _ (λ status refused. refl) (λ e. goes_step store key Ciphering w _ done refl (λ a. refl) (λ h. tt))
+  cipher_is_step random w (CipherUpdate input room) = unless_step store key Ciphering _ _ _ (λ status refused. refl) (λ e. goes_step store key Ciphering w _ (given _) refl (λ a. refl) (λ h. tt))
   cipher_is_step random w (CipherFinish room) = unless_step store key Ciphering _ _ _ (λ status refused. refl) (λ e. last_is_step w room (whole_text w))
 
   pub aead_is_step : (random : List ℕ) (w : AeadWork) (step : AeadStep) → IsStep (OnAead step) store (begun key Sealing w) (held_after key Sealing (aead_step random w step))
   aead_is_step random w (AeadGenerateNonce room) =
-      unless_step store key Sealing _ _ _ (λ status refused. refl) (λ e. draws_step store key Sealing w _ (given _) (nonce_length w) (short_nonce _ _ _) refl (λ s a. refl) (λ h. tt))
-  aead_is_step random w (AeadSetNonce nonce) = unless_step store key Sealing _ _ _ (λ status refused. refl) (λ e. goes_step store key Sealing w _ done refl (λ s a. refl) (λ h. tt))
-  aead_is_step random w (AeadSetLengths ad payload) = unless_step store key Sealing _ _ _ (λ status refused. refl) (λ e. goes_step store key Sealing w _ done refl (λ s a. refl) (λ h. tt))
-  aead_is_step random w (AeadUpdateAd input) = unless_step store key Sealing _ _ _ (λ status refused. refl) (λ e. goes_step store key Sealing w _ done refl (λ s a. refl) (λ h. tt))
-  aead_is_step random w (AeadUpdate input room) = unless_step store key Sealing _ _ _ (λ status refused. refl) (λ e. goes_step store key Sealing w _ (given _) refl (λ s a. refl) (λ h. tt))
-  aead_is_step random w (AeadFinish room) = unless_step store key Sealing _ _ _ (λ status refused. refl) (λ e. ends_step store key Sealing _ (given _) refl (λ s a. refl))
-  aead_is_step random w (AeadVerify tag) = unless_step store key Sealing _ _ _ (λ status refused. refl) (λ e. ends_step store key Sealing _ done refl (λ s a. refl))
+      unless_step store key Sealing _ _ _ (λ status refused. refl) (λ e. draws_step store key Sealing w _ (given _) (nonce_length w) (short_nonce _ _ _) refl (λ a. refl) (λ h. tt))
+  aead_is_step random w (AeadSetNonce nonce) = unless_step store key Sealing _ _ _ (λ status refused. refl) (λ e. goes_step store key Sealing w _ done refl (λ a. refl) (λ h. tt))
+  aead_is_step random w (AeadSetLengths ad payload) = unless_step store key Sealing _ _ _ (λ status refused. refl) (λ e. goes_step store key Sealing w _ done refl (λ a. refl) (λ h. tt))
+  aead_is_step random w (AeadUpdateAd input) = unless_step store key Sealing _ _ _ (λ status refused. refl) (λ e. goes_step store key Sealing w _ done refl (λ a. refl) (λ h. tt))
+  aead_is_step random w (AeadUpdate input room) = unless_step store key Sealing _ _ _ (λ status refused. refl) (λ e. goes_step store key Sealing w _ (given _) refl (λ a. refl) (λ h. tt))
+  aead_is_step random w (AeadFinish room) = unless_step store key Sealing _ _ _ (λ status refused. refl) (λ e. ends_step store key Sealing _ (given _) refl (λ a. refl))
+  aead_is_step random w (AeadVerify tag) = unless_step store key Sealing _ _ _ (λ status refused. refl) (λ e. ends_step store key Sealing _ done refl (λ a. refl))

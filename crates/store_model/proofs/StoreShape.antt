@@ -1,25 +1,24 @@
 -- The shape of any call on the store: it is counted alone, or creates a key, or destroys one.
-use Rattle.std.proofs.Common.{◌≡◌, ℕ, ◌≤◌, Bool, true, false, not, cond, List, [], ◌++◌, length, refl, ap, ◌∙◌, ◌⊎◌, inl, inr, arith}
-use Rattle.std.specs.Prelude.{Option, Some, None, bytes_eq, take, drop, ◌-◌}
+use Rattle.std.proofs.Common.{◌≡◌, ℕ, ◌≤◌, Bool, true, false, not, cond, List, [], ◌++◌, length, refl, sym, ap, subst, ◌∙◌, ◌⊎◌, inl, inr, arith}
+use Rattle.std.specs.Prelude.{Option, Some, None, Result, Ok, Err, ok_or, bytes_eq, take, drop, ◌-◌}
 use Rattle.std.specs.Option.{option_map}
 use Rattle.std.specs.FinMap as map
-use Rattle.std.proofs.lemmas.Bool.Decides.{nat_tests}
 use Rattle.psa_status.specs.declared.Status.{Status}
 use Rattle.psa_status.specs.declared.Status.TheVariants.{Success, InvalidArgument, InvalidHandle, InvalidSignature, InvalidPadding}
-use Rattle.psa_status.specs.Rows.{first_row}
+use Rattle.psa_status.specs.Rows.{first_row, unless}
+use Rattle.psa_status.proofs.Rows.{unless-ok}
 use Rattle.key_attributes.specs.declared.Attributes.{Attributes}
 use Rattle.key_attributes.specs.declared.Policy.{Policy}
-use Rattle.key_attributes.specs.Checks.{permits_size}
-use Rattle.policy_rules.specs.Policy.{meet_of}
-use Rattle.store_model.specs.Store.{Key, Store}
-use Rattle.store_model.specs.Call.{Call, Reply, Import, Export, GetAttributes, Destroy, Copy, Generate, HashCompute, HashCompare, MacCompute, MacVerify, CipherEncrypt, CipherDecrypt, AeadEncrypt, AeadDecrypt}
+use Rattle.policy_rules.specs.Policy.{meet_of, with_implied, IsWithin}
+use Rattle.store_model.specs.Store.{Key, Store, has_secure_element}
+use Rattle.store_model.specs.Call.{Call, Reply, Import, Export, GetAttributes, Destroy, Purge, Copy, Generate, HashCompute, HashCompare, MacCompute, MacVerify, CipherEncrypt, CipherDecrypt, AeadEncrypt, AeadDecrypt}
 use Rattle.store_model.specs.Outcome.{Outcome, Computed, replies, computed_unless, with_computed, counted, decided, refused, refusal, reply_unless, given, done, spoiled}
 use Rattle.store_model.specs.Draws.{Random}
-use Rattle.store_model.specs.Creation.{creation_rows, created, stated_bytes, stated_bits_rows}
-use Rattle.store_model.specs.Copies.{source_rows, copy_attributes, copy_met, copy_found}
-use Rattle.store_model.specs.KeyUse.{destroyed, attributes_reply, bytes_of, export_rows}
-use Rattle.store_model.specs.Generation.{generated}
-use Rattle.store_model.specs.Ciphers.{Mode, Ctr, CbcNoPadding, CbcPkcs7, EcbNoPadding, mode_of, iv_length, plain_or_zeros, enciphered, deciphered}
+use Rattle.store_model.specs.Creation.{recorded_of, created, created_unless, stated_bytes, stated_bits_rows}
+use Rattle.store_model.specs.Copies.{source_rows, copy_attributes, copy_of}
+use Rattle.store_model.specs.KeyUse.{destroyed, attributes_reply, purge_reply, bytes_of, export_rows}
+use Rattle.store_model.specs.Generation.{generation_of, generated}
+use Rattle.store_model.specs.Ciphers.{Mode, Ctr, CbcNoPadding, CbcPkcs7, EcbNoPadding, is_ctr, mode_of, iv_length, plain_or_zeros, enciphered, deciphered}
 use Rattle.store_model.specs.Ciphers as ciphers
 use Rattle.store_model.specs.Hashes as hashes
 use Rattle.store_model.specs.Macs as macs
@@ -28,18 +27,18 @@ use Rattle.store_model.specs.Algorithms.{hash_of, mac_of, tag_bytes}
 use Rattle.store_model.specs.Rules.{use_rows}
 use Rattle.alg_encoding.specs.declared.table.Class.TheVariants.{Mac, Cipher, Aead}
 use Rattle.store_model.specs.Aeads.{aead_text, aead_tag, sealed, opened}
-use Rattle.store_model.specs.Step.{step, failed_step}
-use Rattle.store_model.specs.Origin.{source_of, made_at}
+use Rattle.store_model.specs.Step.{step}
+use Rattle.store_model.specs.Origin.{source_of}
+use Rattle.store_model.specs.Marks.{key_given}
 use Rattle.store_model.specs.Requests.{OnStore}
 use Rattle.store_model.specs.Laws.{may_change_keys}
 use Rattle.store_model.specs.Refusals.{spoils}
 use Rattle.store_model.proofs.Buffers.{LeavesBuffer, refusal_leaves, spoiled_leaves}
-use Rattle.store_model.proofs.Filled.{no_row}
-use Rattle.store_model.proofs.Tables.{none_holds, rest_holds}
+use Rattle.store_model.proofs.Recorded.{MayBeKept, then_ok, recorded, few_bytes}
 
 -- a reply that answers no identifier
 abbrev pub MakesNone : Reply → Type 0
-MakesNone reply = (source : Option ℕ) (after : Store) → made_at source after reply.output ≡ []
+MakesNone reply = (after : Store) → key_given after reply.output ≡ None
 
 -- a reply that answers no identifier and, where it refuses, leaves the buffer but for zeros
 pub record IsQuiet (reply : Reply) : Type 0 where
@@ -52,25 +51,27 @@ pub record IsCounted (reply : Reply) (drawn : ℕ) : Type 0 where
   pub undrawn : (reply.status ≡ Success → ⊥) → drawn ≡ 0
   pub quiet : IsQuiet reply
 
--- the policy that a copy records is the meet of its source's with the stated one
+-- the policy that a copy records is within the meet of its source's with the stated one
 pub record IsCopied (store : Store) (call : Call) (policy : Policy) : Type 0 where
   pub id : ℕ
   pub source : Key
   pub stated : Policy
+  pub met : Policy
   pub there : map.get store.keys id ≡ Some source
   pub number : source_of store (OnStore call) ≡ Some source.number
-  pub met : meet_of source.attributes.policy stated ≡ Some policy
+  pub meets : meet_of source.attributes.policy stated ≡ Some met
+  pub within : IsWithin policy (with_implied met)
 
--- a creation that no row refuses, and what its bytes come from
-pub record Creates (store : Store) (caller : ℕ) (call : Call) (a : Attributes) (bytes : List ℕ) (drawn : ℕ) : Type 0 where
+-- a creation that isn't refused, and what its bytes come from
+pub record Creates (store : Store) (caller : ℕ) (call : Call) (kept : Attributes) (bytes : List ℕ) (drawn : ℕ) : Type 0 where
   pub few : drawn ≤ 1024
-  pub rows : first_row (creation_rows store caller a (length bytes)) ≡ None
-  pub source : (source_of store (OnStore call) ≡ None) ⊎ IsCopied store call a.policy
+  pub may : MayBeKept store caller kept (length bytes)
+  pub source : (source_of store (OnStore call) ≡ None) ⊎ IsCopied store call kept.policy
 
 -- what is to be shown of each kind of outcome
 pub record StoreCases (store : Store) (caller : ℕ) (call : Call) (P : Outcome → Type 0) : Type 0 where
   pub counted_too : (reply : Reply) (drawn : ℕ) → IsCounted reply drawn → P (record { store = counted store; reply = reply; drawn = drawn })
-  pub created_too : (a : Attributes) (bytes : List ℕ) (drawn : ℕ) → may_change_keys (OnStore call) ≡ true → Creates store caller call a bytes drawn → P (record (created store caller a bytes) { drawn = drawn })
+  pub created_too : (kept : Attributes) (bytes : List ℕ) (drawn : ℕ) → may_change_keys (OnStore call) ≡ true → Creates store caller call kept bytes drawn → P (record (created store caller kept bytes) { drawn = drawn })
   pub destroyed_too : (id : ℕ) → may_change_keys (OnStore call) ≡ true → P (destroyed store id)
 
 -- REPLIES
@@ -78,14 +79,14 @@ pub record StoreCases (store : Store) (caller : ℕ) (call : Call) (P : Outcome 
 undrawn_counts : (reply : Reply) → IsQuiet reply → IsCounted reply 0
 undrawn_counts reply quiet = record { few = omega arith; undrawn = λ no. refl; quiet = quiet }
 
-refusal_quiet : (status : Status) → IsQuiet (refusal status)
-refusal_quiet status = record { no_key = λ s a. refl; buffer = refusal_leaves status }
+pub refusal_quiet : (status : Status) → IsQuiet (refusal status)
+refusal_quiet status = record { no_key = λ a. refl; buffer = refusal_leaves status }
 
 success_quiet : (reply : Reply) → reply.status ≡ Success → MakesNone reply → IsQuiet reply
 success_quiet reply success none = record { no_key = none; buffer = λ no. absurd (no success) }
 
 given_quiet : (bytes : List ℕ) → IsQuiet (given bytes)
-given_quiet bytes = success_quiet (given bytes) refl (λ s a. refl)
+given_quiet bytes = success_quiet (given bytes) refl (λ a. refl)
 
 pub refused_counts : (status : Status) → IsCounted (refusal status) 0
 refused_counts status = undrawn_counts (refusal status) (refusal_quiet status)
@@ -101,14 +102,18 @@ computed_counts (Some status) computed h = refused_counts status
 
 described : (o : Option Key) → IsQuiet (attributes_reply o)
 described None = refusal_quiet InvalidHandle
-described (Some key) = success_quiet (attributes_reply (Some key)) refl (λ s a. refl)
+described (Some key) = success_quiet (attributes_reply (Some key)) refl (λ a. refl)
 
-spoiled_quiet : (status : Status) (needed : ℕ) → spoils status ≡ true → IsQuiet (spoiled status needed)
-spoiled_quiet status needed e = record { no_key = λ s a. refl; buffer = spoiled_leaves status needed e }
+purged : (o : Option Key) → IsQuiet (purge_reply o)
+purged None = refusal_quiet InvalidHandle
+purged (Some key) = success_quiet done refl (λ a. refl)
+
+pub spoiled_quiet : (status : Status) (needed : ℕ) → spoils status ≡ true → IsQuiet (spoiled status needed)
+spoiled_quiet status needed e = record { no_key = λ a. refl; buffer = spoiled_leaves status needed e }
 
 plain_quiet : (needed : ℕ) (o : Option (List ℕ)) → IsQuiet (plain_or_zeros needed o)
 plain_quiet needed None = spoiled_quiet InvalidPadding needed refl
-plain_quiet needed (Some text) = success_quiet (plain_or_zeros needed (Some text)) refl (λ s a. refl)
+plain_quiet needed (Some text) = success_quiet (plain_or_zeros needed (Some text)) refl (λ a. refl)
 
 either_quiet : (b : Bool) (x y : Reply) → IsQuiet x → IsQuiet y → IsQuiet (cond b x y)
 either_quiet true x y h k = h
@@ -125,12 +130,13 @@ short_iv CbcNoPadding = omega arith
 short_iv CbcPkcs7 = omega arith
 short_iv EcbNoPadding = omega arith
 
-permitted : (key_type bytes : ℕ) → not (permits_size key_type bytes) ≡ false → bytes ≤ 1024
-permitted key_type bytes h = grind (arith, nat_tests)
+-- the random bytes are as many as were asked for
+abbrev pub IsRandom : Random → Type 0
+IsRandom random = (n : ℕ) → length (random n) ≡ n
 
--- the sixth row of a generation's table is the size's
-generated_few : (store : Store) (caller : ℕ) (a : Attributes) → first_row (stated_bits_rows a ++ creation_rows store caller a (stated_bytes a)) ≡ None → stated_bytes a ≤ 1024
-generated_few store caller a h = permitted a.key_type.0 (stated_bytes a) (none_holds (stated_bits_rows a ++ creation_rows store caller a (stated_bytes a)) 5 h)
+some_of : {A : Type 0} (o : Option A) (x : A) → ok_or o InvalidArgument ≡ Ok x → o ≡ Some x
+some_of None x e = cc
+some_of (Some y) x e = cc
 
 module _ (store : Store) (caller : ℕ) (call : Call) (P : Outcome → Type 0) (cases : StoreCases store caller call P) where
   replied : (reply : Reply) → IsQuiet reply → P (record { store = counted store; reply = reply; drawn = 0 })
@@ -153,97 +159,101 @@ module _ (store : Store) (caller : ℕ) (call : Call) (P : Outcome → Type 0) (
   used : (refused own : Option Status) (reply : Reply) → IsQuiet reply → P (with_computed store (computed_unless refused (replies (reply_unless own reply))))
   used refused own reply quiet = computed_too refused (replies (reply_unless own reply)) (undrawn_counts (reply_unless own reply) (unless_quiet own reply quiet))
 
-  met_shape : may_change_keys (OnStore call) ≡ true → (id : ℕ) (source : Key) (stated : Attributes) → map.get store.keys id ≡ Some source → source_of store (OnStore call) ≡ Some source.number →
-      (met : Option Policy) → meet_of source.attributes.policy stated.policy ≡ met → P (copy_met store caller source stated met)
-  met_shape changes id source stated there number None e = decided_too _ (refused store InvalidArgument) (λ n. refused_too InvalidArgument)
-  met_shape changes id source stated there number (Some met) e =
-      let a : Attributes = copy_attributes source.attributes stated met in
-      decided_too _ (created store caller a source.bytes) (λ n. cases.created_too a source.bytes 0 changes (record {
-        few = omega arith;
-        rows = (no_row (source_rows source.attributes stated) (creation_rows store caller a (length source.bytes)) n).1;
-        source = inr (record { id = id; source = source; stated = stated.policy; there = there; number = number; met = e });
-      }))
+  -- a creation, by what it records
+  recorded_too : (r : Result Attributes Status) (bytes : List ℕ) → ((kept : Attributes) → r ≡ Ok kept → P (created store caller kept bytes)) → P (created_unless store caller r bytes)
+  recorded_too (Ok kept) bytes h = h kept refl
+  recorded_too (Err status) bytes h = refused_too status
 
-  found_shape : may_change_keys (OnStore call) ≡ true → (id : ℕ) (stated : Attributes) (found : Option Key) → map.get store.keys id ≡ found →
-      ((source : Key) → found ≡ Some source → source_of store (OnStore call) ≡ Some source.number) → P (copy_found store caller found stated)
-  found_shape changes id stated None e number = refused_too InvalidHandle
-  found_shape changes id stated (Some source) e number = met_shape changes id source stated e (number source refl) (meet_of source.attributes.policy stated.policy) refl
+  drawn_too : (random : Random) (n : ℕ) (r : Result Attributes Status) → ((kept : Attributes) → r ≡ Ok kept → P (record (created store caller kept (random n)) { drawn = n })) → P (generated store caller random n r)
+  drawn_too random n (Ok kept) h = h kept refl
+  drawn_too random n (Err status) h = refused_too status
+
+  copy_shape : may_change_keys (OnStore call) ≡ true → (id : ℕ) (stated : Attributes) (found : Option Key) → map.get store.keys id ≡ found →
+      ((source : Key) → found ≡ Some source → source_of store (OnStore call) ≡ Some source.number) → P (created_unless store caller (copy_of store caller found stated) (bytes_of found))
+  copy_shape changes id stated None there number = refused_too InvalidHandle
+  copy_shape changes id stated (Some source) there number =
+      recorded_too (copy_of store caller (Some source) stated) source.bytes (λ kept e. cases.created_too kept source.bytes 0 changes (copied kept e))
+    where
+      copied : (kept : Attributes) → copy_of store caller (Some source) stated ≡ Ok kept → Creates store caller call kept source.bytes 0
+      copied kept e =
+          let one = then_ok (unless (first_row (source_rows source.attributes stated)) source.attributes) _ kept e in
+          let own : source.attributes ≡ one.0 = (unless-ok (first_row (source_rows source.attributes stated)) source.attributes one.0 one.1.0).1 in
+          let two = then_ok (ok_or (meet_of one.0.policy stated.policy) InvalidArgument) _ kept one.1.1 in
+          let r = recorded store caller (copy_attributes one.0 stated two.0) (length source.bytes) kept two.1.1 in
+          record {
+            few = omega arith;
+            may = r.may;
+            source = inr (record {
+              id = id;
+              source = source;
+              stated = stated.policy;
+              met = two.0;
+              there = there;
+              number = number source refl;
+              meets = ap (λ (x : Attributes). meet_of x.policy stated.policy) own ∙ some_of (meet_of one.0.policy stated.policy) two.0 two.1.0;
+              within = r.within;
+            });
+          }
+
+  generated_creates : source_of store (OnStore call) ≡ None → (random : Random) → IsRandom random → (a kept : Attributes) → generation_of store caller a ≡ Ok kept →
+      Creates store caller call kept (random (stated_bytes a)) (stated_bytes a)
+  generated_creates none random long a kept e =
+      let n : ℕ = stated_bytes a in
+      let one = then_ok (unless (first_row (stated_bits_rows a)) n) _ kept e in
+      let same : one.0 ≡ length (random n) = sym (unless-ok (first_row (stated_bits_rows a)) n one.0 one.1.0).1 ∙ sym (long n) in
+      let may = subst (MayBeKept store caller kept) same (recorded store caller a one.0 kept one.1.1).may in
+      record { few = subst (λ k. k ≤ 1024) (long n) (few_bytes kept (length (random n)) (has_secure_element store) may.checks); may = may; source = inl none }
 
 -- a copy's source is what the map has
 copy_source : (store : Store) (id : ℕ) (stated : Attributes) (source : Key) → map.get store.keys id ≡ Some source → source_of store (OnStore (Copy id stated)) ≡ Some source.number
 copy_source store id stated source e = ap (λ (o : Option Key). option_map (λ key. key.number) o) e
 
--- the random bytes are as many as were asked for
-abbrev pub IsRandom : Random → Type 0
-IsRandom random = (n : ℕ) → length (random n) ≡ n
-
 pub store_shape : (store : Store) (caller : ℕ) (random : Random) (call : Call) (P : Outcome → Type 0) → IsRandom random → StoreCases store caller call P → P (step store caller random call)
-store_shape store caller random (Import a bytes) P long cases =
-    decided_too store caller _ P cases _ (created store caller a bytes) (λ n. cases.created_too a bytes 0 refl (record { few = omega arith; rows = n; source = inl refl }))
+store_shape store caller random (Import a bytes) P long cases = recorded_too store caller _ P cases (recorded_of store caller a (length bytes)) bytes (λ kept e. cases.created_too kept bytes 0 refl (record {
+  few = omega arith;
+  may = (recorded store caller a (length bytes) kept e).may;
+  source = inl refl;
+}))
 store_shape store caller random (Export id room) P long cases =
     let found : Option Key = map.get store.keys id in
     answered_too store caller _ P cases (first_row (export_rows found room)) (given (bytes_of found)) (given_quiet (bytes_of found))
 store_shape store caller random (GetAttributes id) P long cases = replied store caller _ P cases _ (described (map.get store.keys id))
 store_shape store caller random (Destroy id) P long cases = decided_too store caller _ P cases _ (destroyed store id) (λ n. cases.destroyed_too id refl)
-store_shape store caller random (Copy source stated) P long cases = found_shape store caller _ P cases refl source stated (map.get store.keys source) refl (copy_source store source stated)
-store_shape store caller random (Generate a) P long cases = decided_too store caller _ P cases _ (generated store caller random a) (λ n. cases.created_too a (random (stated_bytes a)) (stated_bytes a) refl (record {
-  few = generated_few store caller a n;
-  rows = ap (λ (k : ℕ). first_row (creation_rows store caller a k)) (long (stated_bytes a)) ∙ rest_holds _ _ _ n;
-  source = inl refl;
-}))
+store_shape store caller random (Purge id) P long cases = replied store caller _ P cases _ (purged (map.get store.keys id))
+store_shape store caller random (Copy source stated) P long cases = copy_shape store caller _ P cases refl source stated (map.get store.keys source) refl (copy_source store source stated)
+store_shape store caller random (Generate a) P long cases = drawn_too store caller _ P cases random (stated_bytes a) (generation_of store caller a)
+    (λ kept e. cases.created_too kept (random (stated_bytes a)) (stated_bytes a) refl (generated_creates store caller _ P cases refl random long a kept e))
 store_shape store caller random (HashCompute alg input room) P long cases =
     answered_too store caller _ P cases (first_row (hashes.compute_rows alg room)) (given (hash_of alg input)) (given_quiet (hash_of alg input))
 store_shape store caller random (HashCompare alg input hash) P long cases =
-    answered_too store caller _ P cases (first_row (hashes.compare_rows alg input hash)) done (success_quiet done refl (λ s a. refl))
+    answered_too store caller _ P cases (first_row (hashes.compare_rows alg input hash)) done (success_quiet done refl (λ a. refl))
 store_shape store caller random (MacCompute id alg input room) P long cases =
     let found : Option Key = map.get store.keys id in
-    used store caller _ P cases (first_row (use_rows Mac 0x400 alg found)) (first_row (macs.compute_rows alg (length input) room)) (given (mac_of alg (bytes_of found) input)) (given_quiet (mac_of alg (bytes_of found) input))
+    used store caller _ P cases (first_row (use_rows true Mac 0x400 alg found)) (first_row (macs.compute_rows alg (length input) room)) (given (mac_of alg (bytes_of found) input)) (given_quiet (mac_of alg (bytes_of found) input))
 store_shape store caller random (MacVerify id alg input mac) P long cases =
     let found : Option Key = map.get store.keys id in
-    used store caller _ P cases (first_row (use_rows Mac 0x800 alg found)) (first_row (macs.verify_rows alg (bytes_of found) input mac)) done (success_quiet done refl (λ s a. refl))
+    used store caller _ P cases (first_row (use_rows true Mac 0x800 alg found)) (first_row (macs.verify_rows alg (bytes_of found) input mac)) done (success_quiet done refl (λ a. refl))
 store_shape store caller random (CipherEncrypt id alg input room) P long cases =
     let found : Option Key = map.get store.keys id in
     let mode : Mode = mode_of alg in
     let iv : List ℕ = random (iv_length mode) in
     let text : Computed = record { reply = given (iv ++ enciphered mode (bytes_of found) iv input); drawn = iv_length mode } in
     let rows : Option Status = first_row (ciphers.encrypt_rows mode (length input) room) in
-    computed_too store caller _ P cases (first_row (use_rows Cipher 0x100 alg found)) (computed_unless rows text)
+    computed_too store caller _ P cases (first_row (use_rows (is_ctr mode) Cipher 0x100 alg found)) (computed_unless rows text)
     (computed_counts rows text (record { few = short_iv mode; undrawn = λ no. absurd (no refl); quiet = given_quiet (iv ++ enciphered mode (bytes_of found) iv input) }))
 store_shape store caller random (CipherDecrypt id alg input room) P long cases =
     let found : Option Key = map.get store.keys id in
     let mode : Mode = mode_of alg in
     let n : ℕ = iv_length mode in
     let text : Option (List ℕ) = deciphered mode (bytes_of found) (take n input) (drop n input) in
-    used store caller _ P cases (first_row (use_rows Cipher 0x200 alg found)) (first_row (ciphers.decrypt_rows mode (length input) room)) (plain_or_zeros (length input - n) text)
+    used store caller _ P cases (first_row (use_rows (is_ctr mode) Cipher 0x200 alg found)) (first_row (ciphers.decrypt_rows mode (length input) room)) (plain_or_zeros (length input - n) text)
     (plain_quiet (length input - n) text)
 store_shape store caller random (AeadEncrypt id alg nonce ad input room) P long cases =
     let found : Option Key = map.get store.keys id in
-    used store caller _ P cases (first_row (use_rows Aead 0x100 alg found)) (first_row (aeads.encrypt_rows alg (length nonce) (length ad) (length input) room))
+    used store caller _ P cases (first_row (use_rows false Aead 0x100 alg found)) (first_row (aeads.encrypt_rows alg (length nonce) (length ad) (length input) room))
     (given (sealed alg (bytes_of found) nonce ad input)) (given_quiet (sealed alg (bytes_of found) nonce ad input))
 store_shape store caller random (AeadDecrypt id alg nonce ad input room) P long cases =
     let found : Option Key = map.get store.keys id in
     let n : ℕ = length input - tag_bytes alg in
-    used store caller _ P cases (first_row (use_rows Aead 0x200 alg found)) (first_row (aeads.decrypt_rows alg (length nonce) (length ad) (length input) room))
+    used store caller _ P cases (first_row (use_rows false Aead 0x200 alg found)) (first_row (aeads.decrypt_rows alg (length nonce) (length ad) (length input) room))
     (opened alg (bytes_of found) nonce ad (take n input) (drop n input)) (opened_quiet alg (bytes_of found) nonce ad (take n input) (drop n input))
-
--- a destruction in whose turn a device failed
-abbrev pub failed_destroyed : Store → ℕ → Status → Outcome
-failed_destroyed store id status = record (refused store status) { store = (destroyed store id).store }
-
--- the shape of a call in whose turn a device failed
-pub failed_shape : (store : Store) (caller : ℕ) (call : Call) (status : Status) (P : Outcome → Type 0) → StoreCases store caller call P →
-    ((id : ℕ) → may_change_keys (OnStore call) ≡ true → P (failed_destroyed store id status)) → P (failed_step store call status)
-failed_shape store caller (Destroy id) status P cases failed = failed id refl
-failed_shape store caller (Import a bytes) status P cases failed = refused_too store caller _ P cases status
-failed_shape store caller (Export id room) status P cases failed = refused_too store caller _ P cases status
-failed_shape store caller (GetAttributes id) status P cases failed = refused_too store caller _ P cases status
-failed_shape store caller (Copy source stated) status P cases failed = refused_too store caller _ P cases status
-failed_shape store caller (Generate a) status P cases failed = refused_too store caller _ P cases status
-failed_shape store caller (HashCompute alg input room) status P cases failed = refused_too store caller _ P cases status
-failed_shape store caller (HashCompare alg input hash) status P cases failed = refused_too store caller _ P cases status
-failed_shape store caller (MacCompute id alg input room) status P cases failed = refused_too store caller _ P cases status
-failed_shape store caller (MacVerify id alg input mac) status P cases failed = refused_too store caller _ P cases status
-failed_shape store caller (CipherEncrypt id alg input room) status P cases failed = refused_too store caller _ P cases status
-failed_shape store caller (CipherDecrypt id alg input room) status P cases failed = refused_too store caller _ P cases status
-failed_shape store caller (AeadEncrypt id alg nonce ad input room) status P cases failed = refused_too store caller _ P cases status
-failed_shape store caller (AeadDecrypt id alg nonce ad input room) status P cases failed = refused_too store caller _ P cases status
