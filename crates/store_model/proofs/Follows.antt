@@ -3,9 +3,9 @@ use Rattle.std.proofs.Common.{◌≡◌, ℕ, ◌⊎◌, ◌+◌, ◌≤◌, Boo
 use Rattle.std.specs.Prelude.{Option, None, Some, ◌==◌}
 use Rattle.std.specs.FinMap as map
 use Rattle.key_attributes.specs.declared.Attributes.{Attributes}
-use Rattle.store_model.specs.Store.{Key, Store, KeyMap, next_volatile}
+use Rattle.store_model.specs.Store.{Key, Store, KeyMap}
 use Rattle.store_model.specs.Outcome.{counted}
-use Rattle.store_model.specs.Creation.{created, new_key}
+use Rattle.store_model.specs.Creation.{created, new_id, new_key}
 use Rattle.store_model.specs.KeyUse.{destroyed}
 use Rattle.store_model.specs.Handles.{KeyCreation, HandleOperation}
 use Rattle.store_model.specs.Operations.{Inactive, InError, Active}
@@ -28,10 +28,10 @@ old_or_new : (store : Store) (new key : Key) (id : ℕ) (b : Bool) → new.numbe
 old_or_new store new key id true number e = let is : new ≡ key = cc in inr (ap (λ (k : Key). k.number) (sym is) ∙ number)
 old_or_new store new key id false number e = inl e
 
-pub created_follows : (store : Store) (caller : ℕ) (a : Attributes) → (bytes : List ℕ) → Follows store (created store caller a bytes).store
-created_follows store caller a bytes =
-    let id : ℕ = next_volatile store caller in
-    let new : Key = new_key store caller id a bytes in
+pub created_follows : (store : Store) (caller : ℕ) (kept : Attributes) (bytes : List ℕ) → Follows store (created store caller kept bytes).store
+created_follows store caller kept bytes =
+    let id : ℕ = new_id store caller kept in
+    let new : Key = new_key store caller id kept bytes in
     record { later = omega arith; keys = λ q key e. old_or_new store new key q (q == id) refl (sym (put store.keys id new q) ∙ e) }
 
 pub destroyed_follows : (store : Store) (id : ℕ) → Follows store (destroyed store id).store

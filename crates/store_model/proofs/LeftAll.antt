@@ -5,13 +5,13 @@ use Rattle.psa_status.specs.declared.Status.{Status}
 use Rattle.psa_status.specs.declared.Status.TheVariants.{Success, BadState}
 use Rattle.random_streams.specs.RandomWords.{words_used}
 use Rattle.store_model.specs.Call.{Call}
-use Rattle.store_model.specs.Faults.{Plain, failure_of}
+use Rattle.store_model.specs.Faults.{Plain, Storage, Hardware, Corrupt}
 use Rattle.store_model.specs.Outcome.{counted, refusal}
 use Rattle.store_model.specs.Operations.{Operation, Inactive, InError, Active, After, set_up}
 use Rattle.store_model.specs.Handles.{Work, Held, HandleOperation, Own, Service, Served, own_of, operation_of, with_own, with_drawn, with_operation, next_random, applied, untouched, stepped}
-use Rattle.store_model.specs.HandleCalls.{HandleCall, HashSetup, MacSetup, CipherSetup, AeadSetup, DerivationSetup, OnHash, OnMac, OnCipher, OnAead, OnDerivation, InputKey, OutputKey, Abort, input_key, output_key}
-use Rattle.store_model.specs.Requests.{OnStore, OnHandle, on_store, serve_unless, serve}
-use Rattle.store_model.specs.Refusals.{is_active, is_setup, left_by}
+use Rattle.store_model.specs.HandleCalls.{HandleCall, HashSetup, MacSetup, CipherSetup, AeadSetup, DerivationSetup, OnHash, OnMac, OnCipher, OnAead, OnDerivation, InputKey, OutputKey, Abort, is_setup, input_key, output_key}
+use Rattle.store_model.specs.Requests.{Request, OnStore, OnHandle, on_store, serve}
+use Rattle.store_model.specs.Refusals.{is_active, left_by}
 use Rattle.store_model.specs.Laws.{left_all, RefusalsLeaveAll, RefusalsLeaveBuffers, UnreadyHandlesStay, RefusedSetupsLeaveAll}
 use Rattle.store_model.specs.DerivationOperations.{DerivationWork}
 use Rattle.key_attributes.specs.declared.Attributes.{Attributes}
@@ -20,7 +20,7 @@ use Rattle.store_model.proofs.DrawnBytes.{length-random}
 use Rattle.store_model.proofs.StoreShape.{store_shape}
 use Rattle.store_model.proofs.Operations.{same_operation, same_own, same_service}
 use Rattle.store_model.proofs.Buffers.{LeavesBuffer, refusal_leaves}
-use Rattle.store_model.proofs.Served.{on_store_shape, on_handle_shape}
+use Rattle.store_model.proofs.Served.{FailedCases, stays_put, setup_fails, on_store_shape, on_handle_shape}
 use Rattle.store_model.proofs.Shape.{shape}
 
 -- no word is drawn
@@ -41,18 +41,11 @@ store_left service caller call =
     (λ outcome. (outcome.reply.status ≡ Success → ⊥) → (on_store service caller outcome).service ≡ record service { store = counted service.store })
     (λ n. length-random service.store.settings.seed caller (own_of service caller).drawn n) (record {
       counted_too = λ reply drawn is no. undrawn service caller drawn (is.undrawn no);
-      created_too = λ a bytes drawn changes made no. absurd (no refl);
+      created_too = λ kept bytes drawn changes made no. absurd (no refl);
       destroyed_too = λ id changes no. absurd (no refl);
     })
 
 -- ON A HANDLE
-
-stays_put : (service : Service) (caller handle : ℕ) (operation : HandleOperation) → operation ≡ operation_of service caller handle →
-    record service { store = counted service.store } ≡ with_own service (counted service.store) caller (with_operation (own_of service caller) handle operation)
-stays_put service caller handle operation e =
-    sym (ap (λ (o : HandleOperation). with_own service (counted service.store) caller (with_operation (own_of service caller) handle o)) e
-    ∙ ap (λ (own : Own). with_own service (counted service.store) caller own) (same_operation (own_of service caller) handle)
-    ∙ same_service service (counted service.store) caller)
 
 applied_left : (service : Service) (caller handle n : ℕ) (operation left : HandleOperation) → n ≡ 0 → operation ≡ left →
     with_own service (counted service.store) caller (with_drawn (with_operation (own_of service caller) handle operation) n)
@@ -67,7 +60,7 @@ own_left service caller handle call =
     shape service caller handle call (λ served. (served.reply.status ≡ Success → ⊥) → served.service ≡ left_all service caller (OnHandle handle call) served.reply.status) (record {
       untouched_too = λ status same no. stays_put service caller handle (left_by call (operation_of service caller handle) status) same;
       applied_too = λ after step no. applied_left service caller handle after.drawn after.operation _ (step.undrawn no) (step.left no);
-      created_too = λ changes key w a made no. absurd (no refl);
+      created_too = λ changes key w n kept made no. absurd (no refl);
     })
 
 pub leaves_all : RefusalsLeaveAll
@@ -76,19 +69,22 @@ leaves_all service caller (OnHandle handle call) failed = own_left service calle
 
 -- BUFFERS
 
+failed_buffers : (service : Service) (caller : ℕ) (request : Request) → FailedCases service caller request (λ served. LeavesBuffer served.reply)
+failed_buffers service caller request = record { counted_too = λ reply quiet. quiet.buffer; destroyed_too = λ reply quiet id changes. quiet.buffer; lost_too = λ reply quiet handle on. quiet.buffer }
+
 pub leaves_buffers : RefusalsLeaveBuffers
 leaves_buffers service caller (OnStore call) mark old refuses =
-    on_store_shape service caller call (failure_of mark) (λ served. LeavesBuffer served.reply) (record {
+    on_store_shape service caller call mark (λ served. LeavesBuffer served.reply) (record {
       counted_too = λ reply drawn is. is.quiet.buffer;
-      created_too = λ a bytes drawn changes made fails. absurd (fails refl);
+      created_too = λ kept bytes drawn changes made fails. absurd (fails refl);
       destroyed_too = λ id changes fails. absurd (fails refl);
-    }) (λ id status changes. refusal_leaves status) refuses old
+    }) (failed_buffers service caller (OnStore call)) refuses old
 leaves_buffers service caller (OnHandle handle call) mark old refuses =
-    on_handle_shape service caller handle call (failure_of mark) (λ served. LeavesBuffer served.reply) (record {
+    on_handle_shape service caller handle call mark (λ served. LeavesBuffer served.reply) (record {
       untouched_too = λ status same. refusal_leaves status;
       applied_too = λ after step. step.buffer;
-      created_too = λ changes key w a made fails. absurd (fails refl);
-    }) (λ status. refusal_leaves status) (λ status. refusal_leaves status) refuses old
+      created_too = λ changes key w n kept made fails. absurd (fails refl);
+    }) (failed_buffers service caller (OnHandle handle call)) refuses old
 
 -- A CALL THAT ISN'T IN ORDER
 
@@ -147,26 +143,24 @@ refused_stays service caller handle (Some status) held Inactive e failed = ap (�
 refused_stays service caller handle refused held InError e failed = ap (λ (s : Served). s.service) (stayed service caller handle BadState InError e)
 refused_stays service caller handle refused held (Active other) e failed = ap (λ (s : Served). s.service) (stayed service caller handle BadState (Active other) e)
 
-setups_left : (service : Service) (caller handle : ℕ) (call : HandleCall) (o : Option Status) → is_setup call ≡ true → ((serve_unless o service caller (OnHandle handle call)).reply.status ≡ Success → ⊥) →
-    (serve_unless o service caller (OnHandle handle call)).service ≡ record service { store = counted service.store }
-setups_left service caller handle (HashSetup alg) None h failed = refused_stays service caller handle _ _ _ refl failed
-setups_left service caller handle (HashSetup alg) (Some status) h failed = refl
-setups_left service caller handle (MacSetup verifies id alg) None h failed = refused_stays service caller handle _ _ _ refl failed
-setups_left service caller handle (MacSetup verifies id alg) (Some status) h failed = refl
-setups_left service caller handle (CipherSetup encrypts id alg) None h failed = refused_stays service caller handle _ _ _ refl failed
-setups_left service caller handle (CipherSetup encrypts id alg) (Some status) h failed = refl
-setups_left service caller handle (AeadSetup encrypts id alg) None h failed = refused_stays service caller handle _ _ _ refl failed
-setups_left service caller handle (AeadSetup encrypts id alg) (Some status) h failed = refl
-setups_left service caller handle (DerivationSetup alg) None h failed = refused_stays service caller handle _ _ _ refl failed
-setups_left service caller handle (DerivationSetup alg) (Some status) h failed = refl
-setups_left service caller handle (OnHash step) o h failed = cc
-setups_left service caller handle (OnMac step) o h failed = cc
-setups_left service caller handle (OnCipher step) o h failed = cc
-setups_left service caller handle (OnAead step) o h failed = cc
-setups_left service caller handle (OnDerivation step) o h failed = cc
-setups_left service caller handle (InputKey step id) o h failed = cc
-setups_left service caller handle (OutputKey a) o h failed = cc
-setups_left service caller handle Abort o h failed = cc
+setups_left : (service : Service) (caller handle : ℕ) (call : HandleCall) → is_setup call ≡ true → ((serve service caller (OnHandle handle call) Plain).reply.status ≡ Success → ⊥) →
+    (serve service caller (OnHandle handle call) Plain).service ≡ record service { store = counted service.store }
+setups_left service caller handle (HashSetup alg) h failed = refused_stays service caller handle _ _ _ refl failed
+setups_left service caller handle (MacSetup verifies id alg) h failed = refused_stays service caller handle _ _ _ refl failed
+setups_left service caller handle (CipherSetup encrypts id alg) h failed = refused_stays service caller handle _ _ _ refl failed
+setups_left service caller handle (AeadSetup encrypts id alg) h failed = refused_stays service caller handle _ _ _ refl failed
+setups_left service caller handle (DerivationSetup alg) h failed = refused_stays service caller handle _ _ _ refl failed
+setups_left service caller handle (OnHash step) h failed = cc
+setups_left service caller handle (OnMac step) h failed = cc
+setups_left service caller handle (OnCipher step) h failed = cc
+setups_left service caller handle (OnAead step) h failed = cc
+setups_left service caller handle (OnDerivation step) h failed = cc
+setups_left service caller handle (InputKey step id) h failed = cc
+setups_left service caller handle (OutputKey a) h failed = cc
+setups_left service caller handle Abort h failed = cc
 
 pub setups_stay : RefusedSetupsLeaveAll
-setups_stay service caller handle call mark h failed = setups_left service caller handle call (failure_of mark) h failed
+setups_stay service caller handle call Plain h failed = setups_left service caller handle call h failed
+setups_stay service caller handle call (Storage access) h failed = sym (setup_fails service caller handle call h)
+setups_stay service caller handle call Hardware h failed = sym (setup_fails service caller handle call h)
+setups_stay service caller handle call Corrupt h failed = sym (setup_fails service caller handle call h)
