@@ -59,34 +59,32 @@ leaves_callers service caller other (OnHandle handle call) mark h = on_handle_sh
 abbrev LeavesHandle : Service → (caller other : ℕ) → Served → Type 0
 LeavesHandle service caller other served = operation_of served.service caller other ≡ operation_of service caller other
 
-pub leaves_handles : LeavesOtherHandles
-leaves_handles service caller other request mark h = of request h mark
-  where
-    failed : (request : Request) → (handle_of request ≡ Some other → ⊥) → FailedCases service caller request (LeavesHandle service caller other)
-    failed request h = record {
-      counted_too = λ reply quiet. refl;
-      destroyed_too = λ reply quiet id changes. refl;
-      lost_too = λ reply quiet handle on.
-          other_handle service (counted service.store) caller handle other InError (with_operation (own_of service caller) handle InError) refl (λ e. h (on ∙ ap Some (sym e)));
-    }
+failed_handles : (service : Service) (caller other : ℕ) (request : Request) → (handle_of request ≡ Some other → ⊥) → FailedCases service caller request (LeavesHandle service caller other)
+failed_handles service caller other request h = record {
+  counted_too = λ reply quiet. refl;
+  destroyed_too = λ reply quiet id changes. refl;
+  lost_too = λ reply quiet handle on.
+      other_handle service (counted service.store) caller handle other InError (with_operation (own_of service caller) handle InError) refl (λ e. h (on ∙ ap Some (sym e)));
+}
 
-    of : (request : Request) → (handle_of request ≡ Some other → ⊥) → (mark : FaultMark) → LeavesHandle service caller other (serve service caller request mark)
-    of (OnStore call) h mark =
-        let left = λ (store : Store) (n : ℕ). operations_same service store caller (with_drawn (own_of service caller) n) refl caller other in
-        on_store_shape service caller call mark (LeavesHandle service caller other) (record {
-          counted_too = λ reply drawn is. left (counted service.store) drawn;
-          created_too = λ kept bytes drawn changes made. left (created service.store caller kept bytes).store drawn;
-          destroyed_too = λ id changes. left (destroyed service.store id).store 0;
-        }) (failed (OnStore call) h)
-    of (OnHandle handle call) h mark =
-        let apart : other ≡ handle → ⊥ = λ e. h (ap Some (sym e)) in
-        on_handle_shape service caller handle call mark (LeavesHandle service caller other) (record {
-          untouched_too = λ status may. refl;
-          applied_too = λ after step. other_handle service (counted service.store) caller handle other after.operation (with_drawn (with_operation (own_of service caller) handle after.operation) after.drawn) refl apart;
-          created_too = λ changes key w n kept made.
-              let operation : HandleOperation = held_derivation key (without w n) in
-              other_handle service (created service.store caller kept (next_derived w n)).store caller handle other operation (with_operation (own_of service caller) handle operation) refl apart;
-        }) (failed (OnHandle handle call) h)
+pub leaves_handles : LeavesOtherHandles
+leaves_handles service caller other (OnStore call) mark h =
+    let left = λ (store : Store) (n : ℕ). operations_same service store caller (with_drawn (own_of service caller) n) refl caller other in
+    on_store_shape service caller call mark (LeavesHandle service caller other) (record {
+      counted_too = λ reply drawn is. left (counted service.store) drawn;
+      created_too = λ kept bytes drawn changes made. left (created service.store caller kept bytes).store drawn;
+      destroyed_too = λ id changes. left (destroyed service.store id).store 0;
+    }) (failed_handles service caller other (OnStore call) h)
+leaves_handles service caller other (OnHandle handle call) mark h =
+    let left = λ (store : Store) (operation : HandleOperation) (n : ℕ).
+    other_handle service store caller handle other operation (with_drawn (with_operation (own_of service caller) handle operation) n) refl (λ e. h (ap Some (sym e))) in
+    on_handle_shape service caller handle call mark (LeavesHandle service caller other) (record {
+      untouched_too = λ status may. refl;
+      applied_too = λ after step. left (counted service.store) after.operation after.drawn;
+      created_too = λ changes key w n kept made.
+          let operation : HandleOperation = held_derivation key (without w n) in
+          other_handle service (created service.store caller kept (next_derived w n)).store caller handle other operation (with_operation (own_of service caller) handle operation) refl (λ e. h (ap Some (sym e)));
+    }) (failed_handles service caller other (OnHandle handle call) h)
 
 -- THE STORE
 
