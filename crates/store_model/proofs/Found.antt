@@ -142,4 +142,4 @@ none_made [] none = refl
 none_made (e ∷ es) none = absurd (omega arith)
 
 pub none_found : NoneFoundAtStart
-none_found settings = none_made (map.entries (start_of settings).keys) (sym (map.len-entries (start_of settings).keys) ∙ map.len-empty nat_cmp Key)
+none_found settings = none_made (map.entries (start_of settings []).keys) (sym (map.len-entries (start_of settings []).keys) ∙ map.len-empty nat_cmp Key)

@@ -21,3 +21,5 @@ pub mod GainNothing
 pub mod Origin
 pub mod Found
 pub mod Sound
+pub mod Starts
+pub mod Causes

@@ -10,15 +10,16 @@ use Rattle.key_attributes.specs.declared.Attributes.{Attributes}
 use Rattle.key_attributes.specs.declared.Policy.{Policy}
 use Rattle.policy_rules.specs.Policy.{meet_of, with_implied, IsWithin, IsFilled}
 use Rattle.policy_rules.proofs.Copies.{IsWithin-refl, IsWithin-trans, IsWithin-implied, meet-within_source}
-use Rattle.store_model.specs.Store.{Key, Store, next_volatile}
-use Rattle.store_model.specs.Call.{Call}
-use Rattle.store_model.specs.Outcome.{Outcome, counted}
-use Rattle.store_model.specs.Creation.{created, new_key}
+use Rattle.store_model.specs.Store.{Key, Store, is_volatile}
+use Rattle.store_model.specs.Call.{Call, Reply}
+use Rattle.store_model.specs.Outcome.{counted}
+use Rattle.store_model.specs.Creation.{identified, created, new_id, new_key}
+use Rattle.store_model.specs.Marks.{key_given}
 use Rattle.store_model.specs.KeyUse.{destroyed}
 use Rattle.store_model.specs.Requests.{OnStore}
 use Rattle.store_model.specs.Sound.{IsSoundStore}
-use Rattle.store_model.specs.Origin.{Made, source_of, creation_from, made_at, creation_at, origin_from, origin_of, HasOrigin}
-use Rattle.store_model.proofs.StoreShape.{IsCopied, StoreCases}
+use Rattle.store_model.specs.Origin.{Made, source_of, creation_from, creation_at, origin_from, origin_of, HasOrigin}
+use Rattle.store_model.proofs.StoreShape.{MakesNone, IsCopied, StoreCases}
 use Rattle.store_model.proofs.Sound.{put, taken, left}
 
 -- the creations so far, beside the store that they led to
@@ -138,16 +139,24 @@ pushed store after made m id key sound keys found calls number same policy sourc
 pub counted_tracks : (store : Store) (made : List Made) → Tracks store made → Tracks (counted store) made
 counted_tracks store made t = kept store (counted store) made (λ id key e. e) refl refl t
 
+-- the creations so far, beside what a call made
+abbrev pub TracksReply : List Made → Option ℕ → Store → Reply → Type 0
+TracksReply made source after reply = Tracks after (option_map_or (λ key. creation_from source key ∷ []) (key_given after reply.output) [] ++ made)
+
+-- a call that made none
+pub none_tracks : (store : Store) (made : List Made) (source : Option ℕ) (reply : Reply) → MakesNone reply → Tracks store made → TracksReply made source store reply
+none_tracks store made source reply none t = subst (λ o. Tracks store (option_map_or (λ key. creation_from source key ∷ []) o [] ++ made)) (sym (none store)) t
+
 there_now : (keys : map.FinMap nat_cmp Key) (id : ℕ) (key : Key) → map.get (map.insert keys id key) id ≡ Some key
 there_now keys id key = put keys id key id ∙ ap (λ b. cond b (Some key) (map.get keys id)) (same_number id id refl)
 
-pub created_tracks : (store : Store) (caller : ℕ) (a : Attributes) (bytes : List ℕ) (source : Option ℕ) (made : List Made) → IsSoundStore store → Tracks store made →
-    HasSource made source (with_implied a.policy) →
-    let outcome = created store caller a bytes in Tracks outcome.store (made_at source outcome.store outcome.reply.output ++ made)
-created_tracks store caller a bytes source made sound t h =
-    let id = next_volatile store caller in
-    let key = new_key store caller id a bytes in
-    let after = (created store caller a bytes).store in
+pub created_tracks : (store : Store) (caller : ℕ) (kept : Attributes) (bytes : List ℕ) (source : Option ℕ) (made : List Made) → IsSoundStore store → Tracks store made →
+    HasSource made source kept.policy →
+    let outcome = created store caller kept bytes in TracksReply made source outcome.store outcome.reply
+created_tracks store caller kept bytes source made sound t h =
+    let id = new_id store caller kept in
+    let key = new_key store caller id kept bytes in
+    let after = (created store caller kept bytes).store in
     let m : Made = record { number = key.number; policy = key.attributes.policy; source = source } in
     subst (λ o. Tracks after (option_map_or (λ key. creation_from source key ∷ []) o [] ++ made)) (sym (there_now store.keys id key))
     (pushed store after made m id key sound refl refl refl refl refl refl h t)
@@ -156,35 +165,38 @@ pub destroyed_tracks : (store : Store) (id : ℕ) (made : List Made) → Tracks 
 destroyed_tracks store id made t = kept store (destroyed store id).store made (λ q key e. left (q == id) _ key (sym (taken store.keys id q) ∙ e)) refl refl t
 
 -- a key's policy has the flags that its others imply
+same_policy : (a : Attributes) (b : Bool) → (cond b (identified a 0) a).policy ≡ a.policy
+same_policy a true = refl
+same_policy a false = refl
+
 filled_policy : (store : Store) (id : ℕ) (key : Key) → IsSoundStore store → map.get store.keys id ≡ Some key → IsFilled key.attributes.policy
-filled_policy store id key sound e = ap (λ (a : Attributes). a.policy.usage.0) (unless-ok _ _ _ (sound.keys id key e).attributes).1
+filled_policy store id key sound e =
+    subst IsFilled (same_policy key.attributes (is_volatile key.attributes)) (ap (λ (a : Attributes). a.policy.usage.0) (unless-ok _ _ _ (sound.keys id key e).attributes).1)
 
 copy_policy : (source stated met : Policy) → IsFilled source → meet_of source stated ≡ Some met → IsWithin (with_implied met) source
 copy_policy source stated met filled e = (IsWithin-implied source met filled (subst (λ o. IfSome o (λ m. IsWithin m source)) e (meet-within_source source stated))).1
 
 -- where the policy of what a call creates comes from
-created_source : (store : Store) (call : Call) (a : Attributes) (made : List Made) → IsSoundStore store → Tracks store made → (source : Option ℕ) → source_of store (OnStore call) ≡ source →
-    (source_of store (OnStore call) ≡ None) ⊎ IsCopied store call a.policy → HasSource made source (with_implied a.policy)
-created_source store call a made sound t None e h = tt
-created_source store call a made sound t (Some number) e (inl none) = let clash = sym e ∙ none in cc
-created_source store call a made sound t (Some number) e (inr copy) =
+created_source : (store : Store) (call : Call) (kept : Attributes) (made : List Made) → IsSoundStore store → Tracks store made → (source : Option ℕ) → source_of store (OnStore call) ≡ source →
+    (source_of store (OnStore call) ≡ None) ⊎ IsCopied store call kept.policy → HasSource made source kept.policy
+created_source store call kept made sound t None e h = tt
+created_source store call kept made sound t (Some number) e (inl none) = let clash = sym e ∙ none in cc
+created_source store call kept made sound t (Some number) e (inr copy) =
     let older = t.alive copy.id copy.source copy.there in
     let same : copy.source.number ≡ number = some_same (sym copy.number ∙ e) in
-    let within = copy_policy copy.source.attributes.policy copy.stated a.policy (filled_policy store copy.id copy.source sound copy.there) copy.met in
-    record { older = older.0; there = ap (creation_at made) (sym same) ∙ older.1.0; within = subst (IsWithin (with_implied a.policy)) (sym older.1.1) within }
+    let own = copy.source.attributes.policy in
+    let within : IsWithin kept.policy own =
+    IsWithin-trans own (with_implied copy.met) kept.policy copy.within (copy_policy own copy.stated copy.met (filled_policy store copy.id copy.source sound copy.there) copy.meets) in
+    record { older = older.0; there = ap (creation_at made) (sym same) ∙ older.1.0; within = subst (IsWithin kept.policy) (sym older.1.1) within }
   where
     some_same : {m n : ℕ} → Some m ≡ Some n → m ≡ n
     some_same e = cc
 
--- the creations so far, beside what a call on the store made
-abbrev pub TracksOutcome : List Made → Option ℕ → Outcome → Type 0
-TracksOutcome made source outcome = Tracks outcome.store (made_at source outcome.store outcome.reply.output ++ made)
-
 pub step_tracks : (store : Store) (caller : ℕ) (call : Call) (made : List Made) → IsSoundStore store → Tracks store made →
-    StoreCases store caller call (TracksOutcome made (source_of store (OnStore call)))
+    StoreCases store caller call (λ outcome. TracksReply made (source_of store (OnStore call)) outcome.store outcome.reply)
 step_tracks store caller call made sound t = record {
-  counted_too = λ reply drawn is. subst (λ (l : List Made). Tracks (counted store) (l ++ made)) (sym (is.quiet.no_key (source_of store (OnStore call)) (counted store))) (counted_tracks store made t);
-  created_too = λ a bytes drawn changes creates.
-      created_tracks store caller a bytes (source_of store (OnStore call)) made sound t (created_source store call a made sound t (source_of store (OnStore call)) refl creates.source);
+  counted_too = λ reply drawn is. none_tracks (counted store) made (source_of store (OnStore call)) reply is.quiet.no_key (counted_tracks store made t);
+  created_too = λ kept bytes drawn changes creates.
+      created_tracks store caller kept bytes (source_of store (OnStore call)) made sound t (created_source store call kept made sound t (source_of store (OnStore call)) refl creates.source);
   destroyed_too = λ id changes. destroyed_tracks store id made t;
 }

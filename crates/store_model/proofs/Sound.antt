@@ -122,7 +122,7 @@ same_caller q other caller m n t e same h =
     let equal = same one in
     omega arith
 
-of_volatile : (id other : ℕ) → id ≤ 0x3fffffff → (id / 2 ^ 20 == 1024 + other) ≡ true → ⊥
+pub of_volatile : (id other : ℕ) → id ≤ 0x3fffffff → (id / 2 ^ 20 == 1024 + other) ≡ true → ⊥
 of_volatile id other h t = let low : id / 2 ^ 20 ≤ 1023 = omega arith in grind (arith, nat_tests)
 
 of_persistent : (caller made : ℕ) → nat_lt (0x40000000 + caller * 2 ^ 20 + made) 0x40000000 ≡ true → ⊥

@@ -1,30 +1,30 @@
 -- Each request keeps a service sound.
 use Rattle.std.proofs.Common.{◌≡◌, ℕ, ◌≤◌, Bool, true, false, List, length, refl, sym, ap, ◌∙◌, subst, arith}
-use Rattle.std.specs.Prelude.{Option, None, Some, ◌==◌}
+use Rattle.std.specs.Prelude.{Option, None, Some, Ok, ◌==◌}
 use Rattle.std.specs.Option.{option_map_or}
 use Rattle.std.specs.FinMap as map
 use Rattle.std.proofs.lemmas.Bool.Decides.{nat_tests}
-use Rattle.psa_status.specs.Rows.{first_row}
 use Rattle.key_attributes.specs.declared.Attributes.{Attributes}
 use Rattle.store_model.specs.Store.{Key, Store, start_of}
 use Rattle.store_model.specs.Outcome.{counted}
-use Rattle.store_model.specs.Creation.{creation_rows, created}
-use Rattle.store_model.specs.Faults.{failure_of}
+use Rattle.store_model.specs.Creation.{created}
 use Rattle.store_model.specs.KeyUse.{destroyed}
 use Rattle.store_model.specs.Operations.{Inactive, InError, Active}
-use Rattle.store_model.specs.DerivationOperations.{DerivationWork, stated_bytes, next_derived, without}
+use Rattle.store_model.specs.DerivationOperations.{DerivationWork, next_derived, without}
 use Rattle.store_model.specs.Handles.{KeyCreation, HandleOperation, Own, Service, own_of, operation_of, with_own, with_drawn, key_of_operation}
-use Rattle.store_model.specs.HandleCalls.{created_from}
-use Rattle.store_model.specs.Requests.{OnStore, OnHandle}
+use Rattle.store_model.specs.HandleCalls.{derived_key}
+use Rattle.store_model.specs.Requests.{Request, OnStore, OnHandle}
 use Rattle.store_model.proofs.Steps.{held_derivation}
 use Rattle.store_model.specs.Sound.{IsSoundStore, IsSoundOperation, IsSoundHeld, IsSoundUse, IsSoundCreation, IsSound, StartsSound, StaysSound, HasNumber, AliveByNumber}
-use Rattle.store_model.proofs.Sound.{store-starts, counted_sound, created_sound, destroyed_sound}
+use Rattle.store_model.proofs.Recorded.{MayBeKept}
+use Rattle.store_model.proofs.Starts.{store_starts}
+use Rattle.store_model.proofs.Sound.{counted_sound, created_sound, destroyed_sound}
 use Rattle.store_model.proofs.Follows.{Follows, counted_follows, created_follows, destroyed_follows, operation_follows}
 use Rattle.store_model.proofs.Operations.{Sets, any_operation, operations_same, same_callers, same_handles, set_length, start_own, start_operation}
 use Rattle.store_model.proofs.Derivations.{without_sound}
 use Rattle.store_model.proofs.DerivedBytes.{length-next_derived}
 use Rattle.store_model.proofs.Shape.{DerivesKey}
-use Rattle.store_model.proofs.Served.{on_store_shape, on_handle_shape}
+use Rattle.store_model.proofs.Served.{FailedCases, on_store_shape, on_handle_shape}
 
 -- the store goes on, and one operation is set
 set_sound : (service : Service) (after : Store) (caller handle : ℕ) (operation : HandleOperation) (own : Own) → Sets service caller handle operation own → Follows service.store after → IsSoundStore after →
@@ -50,45 +50,56 @@ kept_sound service after caller n f store h =
       callers = same_callers service after caller own ∙ h.callers;
     }
 
-untouched_sound : (service : Service) → IsSound service → IsSound (record service { store = counted service.store })
-untouched_sound service h = record {
-  store = counted_sound service.store h.store;
-  operations = λ c n. operation_follows service.store (counted service.store) (counted_follows service.store) (operation_of service c n) (h.operations c n);
+-- the store goes on alone
+store_sound : (service : Service) (after : Store) → Follows service.store after → IsSoundStore after → IsSound service → IsSound (record service { store = after })
+store_sound service after f store h = record {
+  store = store;
+  operations = λ c n. operation_follows service.store after f (operation_of service c n) (h.operations c n);
   handles = h.handles;
   callers = h.callers;
 }
 
+untouched_sound : (service : Service) → IsSound service → IsSound (record service { store = counted service.store })
+untouched_sound service h = store_sound service (counted service.store) (counted_follows service.store) (counted_sound service.store h.store) h
+
+-- a device failed
+failed_sound : (service : Service) (caller : ℕ) (request : Request) → IsSound service → FailedCases service caller request (λ served. IsSound served.service)
+failed_sound service caller request h = record {
+  counted_too = λ reply quiet. untouched_sound service h;
+  destroyed_too = λ reply quiet id changes. store_sound service (destroyed service.store id).store (destroyed_follows service.store id) (destroyed_sound service.store id h.store) h;
+  lost_too = λ reply quiet handle on. set_sound service (counted service.store) caller handle InError _ refl (counted_follows service.store) (counted_sound service.store h.store) h tt;
+}
+
 -- a key of derived bytes
-derived_sound : (service : Service) (caller handle : ℕ) (key : Option KeyCreation) (w : DerivationWork) (a : Attributes) → 1 ≤ caller → caller ≤ 16 → IsSound service →
-    DerivesKey service caller handle key w a → IsSound (created_from service caller handle key w a None).service
-derived_sound service caller handle key w a first last h made =
-    let n : ℕ = stated_bytes a in
+derived_sound : (service : Service) (caller handle : ℕ) (key : Option KeyCreation) (w : DerivationWork) (n : ℕ) (kept : Attributes) → 1 ≤ caller → caller ≤ 16 → IsSound service →
+    DerivesKey service caller handle key w n kept → IsSound (derived_key service caller handle key w n (Ok kept)).service
+derived_sound service caller handle key w n kept first last h made =
     let bytes : List ℕ = next_derived w n in
     let held : IsSoundHeld service.store (record { key = key; work = _ }) = subst (IsSoundOperation service.store) made.was (h.operations caller handle) in
     let long : length bytes ≡ n = length-next_derived w n held.work made.keyed in
-    let rows : first_row (creation_rows service.store caller a (length bytes)) ≡ None = ap (λ (k : ℕ). first_row (creation_rows service.store caller a k)) long ∙ made.rows in
-    set_sound service (created service.store caller a bytes).store caller handle (held_derivation key (without w n)) _ refl (created_follows service.store caller a bytes)
-    (created_sound service.store caller a bytes first last h.store rows) h (record { key = held.key; work = without_sound w n made.enough held.work })
+    set_sound service (created service.store caller kept bytes).store caller handle (held_derivation key (without w n)) _ refl (created_follows service.store caller kept bytes)
+    (created_sound service.store caller kept bytes first last h.store (subst (MayBeKept service.store caller kept) (sym long) made.may)) h
+    (record { key = held.key; work = without_sound w n made.enough held.work })
 
 pub stays : StaysSound
-stays service caller (OnStore call) mark first last h = on_store_shape service caller call (failure_of mark) (λ served. IsSound served.service) (record {
+stays service caller (OnStore call) mark first last h = on_store_shape service caller call mark (λ served. IsSound served.service) (record {
   counted_too = λ reply drawn is. kept_sound service (counted service.store) caller drawn (counted_follows service.store) (counted_sound service.store h.store) h;
-  created_too = λ a bytes drawn changes made. kept_sound service (created service.store caller a bytes).store caller drawn (created_follows service.store caller a bytes)
-      (created_sound service.store caller a bytes first last h.store made.rows) h;
+  created_too = λ kept bytes drawn changes made. kept_sound service (created service.store caller kept bytes).store caller drawn (created_follows service.store caller kept bytes)
+      (created_sound service.store caller kept bytes first last h.store made.may) h;
   destroyed_too = λ id changes. kept_sound service (destroyed service.store id).store caller 0 (destroyed_follows service.store id) (destroyed_sound service.store id h.store) h;
-}) (λ id status changes. kept_sound service (destroyed service.store id).store caller 0 (destroyed_follows service.store id) (destroyed_sound service.store id h.store) h)
-stays service caller (OnHandle handle call) mark first last h = on_handle_shape service caller handle call (failure_of mark) (λ served. IsSound served.service) (record {
+}) (failed_sound service caller (OnStore call) h)
+stays service caller (OnHandle handle call) mark first last h = on_handle_shape service caller handle call mark (λ served. IsSound served.service) (record {
   untouched_too = λ status may. untouched_sound service h;
   applied_too = λ after step. set_sound service (counted service.store) caller handle after.operation _ refl (counted_follows service.store) (counted_sound service.store h.store) h
       (step.sound h.store (h.operations caller handle));
-  created_too = λ changes key w a made. derived_sound service caller handle key w a first last h made;
-}) (λ status. untouched_sound service h) (λ status. set_sound service (counted service.store) caller handle InError _ refl (counted_follows service.store) (counted_sound service.store h.store) h tt)
+  created_too = λ changes key w n kept made. derived_sound service caller handle key w n kept first last h made;
+}) (failed_sound service caller (OnHandle handle call) h)
 
 pub starts : StartsSound
-starts settings = record {
-  store = store-starts settings;
-  operations = start_operation (IsSoundOperation (start_of settings)) (start_of settings) tt;
-  handles = start_own (λ (o : Own). length o.operations ≡ 5) (start_of settings) refl;
+starts settings found are few = record {
+  store = store_starts settings found are few;
+  operations = start_operation (IsSoundOperation (start_of settings found)) (start_of settings found) tt;
+  handles = start_own (λ (o : Own). length o.operations ≡ 5) (start_of settings found) refl;
   callers = refl;
 }
 

@@ -1,5 +1,5 @@
 -- Laws of every request.
-use Rattle.std.specs.Prelude.{◌≡◌, ◌≤◌, ◌+◌, ℕ, Bool, false, true, Option, None, Some, List, ◌++◌, replicate, drop, if◌then◌else◌}
+use Rattle.std.specs.Prelude.{◌≡◌, ◌≤◌, ◌+◌, ℕ, Bool, false, true, Option, None, Some, List, [], ◌∷◌, ◌++◌, replicate, drop, if◌then◌else◌}
 use Rattle.psa_status.specs.declared.Status.{Status}
 use Rattle.psa_status.specs.declared.Status.TheVariants.{Success, BadState}
 use Rattle.store_model.specs.Store.{Store, made_of}
@@ -9,6 +9,8 @@ use Rattle.store_model.specs.Handles.{HandleOperation, Service, Served, own_of, 
 use Rattle.store_model.specs.Call.{Import, Destroy, Copy, Generate, Reply, buffer_after}
 use Rattle.store_model.specs.HandleCalls.{HandleCall, OutputKey, is_setup}
 use Rattle.store_model.specs.Requests.{Request, OnStore, OnHandle, serve}
+use Rattle.store_model.specs.Replay.{Entry, replay}
+use Rattle.store_model.specs.Marks.{Counts, MayBeMarked, HasFault, IsCaused, last_counts}
 use Rattle.store_model.specs.Refusals.{is_ready, left_by, spoils}
 
 -- the handle that a request is on
@@ -96,3 +98,10 @@ LeavesSettings =
     (service : Service) (caller : ℕ) (request : Request) (mark : FaultMark) →
     let after : Store = (serve service caller request mark).service.store in
     (after.settings ≡ service.store.settings) × (after.found ≡ service.store.found)
+
+-- a history whose marks are caused goes on so with one more entry, whose mark stands where it may and has its fault since the
+-- last one
+abbrev pub CausesGoOn : Type 0
+CausesGoOn =
+    (tells : Bool) (counts : Counts) (service : Service) (h : List Entry) (e : Entry) → IsCaused tells counts service h →
+    MayBeMarked (replay service h) e.caller e.call e.mark → HasFault tells (last_counts counts h) e e.mark → IsCaused tells counts service (h ++ e ∷ [])

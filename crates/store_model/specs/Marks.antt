@@ -106,3 +106,8 @@ IsCaused tells before service [] = Unit {0}
 IsCaused tells before service (e ∷ es) =
     MayBeMarked service e.caller e.call e.mark × HasFault tells before e e.mark
     × IsCaused tells (record { faults = e.faults; hard = e.hard }) (outcome_of service e).service es
+
+-- the counts of a history's last entry, or those before it where it has none
+abbrev pub last_counts : Counts → List Entry → Counts
+last_counts before [] = before
+last_counts before (e ∷ es) = last_counts (record { faults = e.faults; hard = e.hard }) es

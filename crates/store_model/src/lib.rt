@@ -1,7 +1,7 @@
 //! The one-thread key store, its calls and its replies: definitions, which stand in `specs/`, and laws of them.
 #![tactic(auto)]
 
-ghost use Rattle.store_model.specs.Laws.{CountsOnce, DrawsFewWords, LeavesOtherCallers, LeavesOtherHandles, LeavesSettings, LeavesShared, RefusalsLeaveAll, RefusalsLeaveBuffers, RefusedSetupsLeaveAll, UnreadyHandlesStay};
+ghost use Rattle.store_model.specs.Laws.{CausesGoOn, CountsOnce, DrawsFewWords, LeavesOtherCallers, LeavesOtherHandles, LeavesSettings, LeavesShared, RefusalsLeaveAll, RefusalsLeaveBuffers, RefusedSetupsLeaveAll, UnreadyHandlesStay};
 ghost use Rattle.store_model.specs.Origin.{CopiesGainNothing, NoneFoundAtStart};
 ghost use Rattle.store_model.specs.Sound.{AliveByNumber, StartsSound, StaysSound};
 
@@ -56,4 +56,10 @@ pub fn alive_by_number()
 pub fn copies_gain_nothing()
     ensures gains { CopiesGainNothing }
     ensures start { NoneFoundAtStart }
+{}
+
+/// A history whose marks are caused goes on so with one more entry: its mark stands where it may on what the history leads
+/// to, and has its fault since the history's last entry, or since the opening.
+pub fn causes_go_on()
+    ensures { CausesGoOn }
 {}
