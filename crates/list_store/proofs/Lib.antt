@@ -1,10 +1,7 @@
-pub mod Copying
 pub mod Counts
+pub mod Creating
 pub mod Destroying
-pub mod Generating
-pub mod Importing
 pub mod Looks
 pub mod Maps
 pub mod Places
-pub mod Sizes
 pub mod Turns

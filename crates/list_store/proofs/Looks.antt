@@ -21,7 +21,7 @@ short_front : (n : ℕ) (bytes : List ℕ) → n ≤ 1024 → length (take n byt
 short_front n bytes h = omega (arith, length-take n bytes)
 
 creation : (id : ℕ) (found : Option Key) (e : Entry) → IsFound found e → IsCreation id found (take e.length e.buffer) e.number
-creation id found e f = record { there = ap bytes_of f.there; creation = ap (creation_of id) f.there; short = short_front e.length e.buffer f.short }
+creation id found e f = record { there = ap bytes_of f.there; creation = ap (creation_of id) f.there; short = short_front e.length e.buffer f.kept.short }
 
 -- HMAC alone has keys of a type of its own
 not_mac : (algorithm : Algorithm) → (class_number (class_in algorithm) == 1) ≡ false → is_hmac_in algorithm ≡ false

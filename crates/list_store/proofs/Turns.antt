@@ -1,6 +1,6 @@
 -- A turn on the list is a step of the model.
 use Rattle.std.proofs.Common.{◌≡◌, ℕ, ◌+◌, ◌-◌, ◌/◌, ◌%◌, ◌^◌, ◌<◌, ◌≤◌, Bool, true, false, cond, List, [], ◌∷◌, map, replicate, length, take, refl, sym, ap, ◌∙◌, arith, subst, zero-add, inl, inr}
-use Rattle.std.specs.Prelude.{Option, None, Some, IsTrue, ◌==◌, nat_le, ◌||◌, slice_index, slice_index_or, slice_set, count_by}
+use Rattle.std.specs.Prelude.{Option, None, Some, ◌==◌, nat_le, ◌||◌, slice_index, slice_index_or, slice_set, count_by}
 use Rattle.std.specs.Option.{option_map}
 use Rattle.std.specs.List.{AllByRecursion, position, position_or_len}
 use Rattle.std.specs.FinMap as finite
@@ -10,14 +10,14 @@ use Rattle.std.proofs.lemmas.Bool.Decides.{nat_tests}
 use Rattle.psa_status.specs.declared.Status.TheVariants.{KeyLimit}
 use Rattle.psa_status.specs.Rows.{first_row}
 use Rattle.key_attributes.specs.declared.Attributes.{Attributes}
-use Rattle.key_attributes.specs.Checks.{filled, permits_size}
+use Rattle.key_attributes.specs.Checks.{persistence}
 use Rattle.store_model.specs.Store as model
-use Rattle.store_model.specs.Store.{KeyMap, is_volatile_of, live_volatile, first_volatile, next_volatile}
-use Rattle.store_model.specs.Creation.{limit_rows, identified, new_key, created}
+use Rattle.store_model.specs.Store.{KeyMap, is_volatile, is_volatile_of, live_volatile, count_persistent, first_volatile, next_volatile}
+use Rattle.store_model.specs.Creation.{room_for_key_rows, identified, new_key, new_id, created}
 use Rattle.list_store.specs.declared.entries.Entry.{Entry}
 use Rattle.list_store.specs.declared.store.Store.TheInside.{Inside}
 use Rattle.list_store.specs.Inside.{store_of, IsStore}
-use Rattle.list_store.specs.Entries.{entry_id, key_of, key_map, IsMade, IsFree, IsFreeOrMade, AreDistinct, AreKeys, live_in}
+use Rattle.list_store.specs.Entries.{entry_id, key_of, key_map, IsMade, IsFree, IsFreeOrMade, IsKept, IsRecorded, AreDistinct, AreKeys, live_in}
 use Rattle.list_store.proofs.Counts.{counted-is, counted-ids, counted-set}
 use Rattle.list_store.proofs.Places.{entry_at, found, not_found, found_id, all_at, all_weaker, distinct_set, each_set, fresh, written}
 use Rattle.list_store.proofs.Maps.{get-key_map, key_map-set, live_is, no_pairs, not_of}
@@ -39,12 +39,17 @@ live_count i caller ok =
     live_is caller i.keys.items ok.keys.distinct ∙ sym (counted-ids (λ id. is_volatile_of caller id) i.keys.items)
     ∙ counted-is (λ id. is_volatile_of caller id) (map entry_id i.keys.items) ∙ ap (count_by (λ id. is_volatile_of caller id)) (sym ok.ids)
 
--- the limits are those that the code looks at
-pub limits : (i : Inside) (store : model.Store) (caller : ℕ) → store_of i ≡ store → IsStore i → caller ≤ 16 →
-    first_row (limit_rows store caller) ≡ cond (nat_le 16 (count_by (λ id. is_volatile_of caller id) i.ids.items) || nat_le (2 ^ 20) (slice_index i.made caller)) (Some KeyLimit) None
-limits i store caller view ok last =
+-- the rows of a volatile key are the limits that the code looks at
+limit_only : (store : model.Store) (caller : ℕ) (a : Attributes) → a.lifetime.0 ≡ 0 →
+    first_row (room_for_key_rows store caller a) ≡ cond (nat_le 16 (live_volatile store.keys caller) || nat_le (2 ^ 20) (model.made_of store caller)) (Some KeyLimit) None
+limit_only store caller a e = ap (λ l. first_row (room_for_key_rows store caller (record a { lifetime = record { 0 = l } }))) e
+
+pub limits : (i : Inside) (store : model.Store) (caller : ℕ) (a : Attributes) → store_of i ≡ store → IsStore i → caller ≤ 16 → a.lifetime.0 ≡ 0 →
+    first_row (room_for_key_rows store caller a) ≡ cond (nat_le 16 (count_by (λ id. is_volatile_of caller id) i.ids.items) || nat_le (2 ^ 20) (slice_index i.made caller)) (Some KeyLimit) None
+limits i store caller a view ok last e =
     let live = live_count i caller ok in
-    ap (λ s. first_row (limit_rows s caller)) (sym view) ∙ (λ j. cond (nat_le 16 (live j) || nat_le (2 ^ 20) (slice_index i.made caller)) (Some KeyLimit) None)
+    ap (λ s. first_row (room_for_key_rows s caller a)) (sym view) ∙ limit_only (store_of i) caller a e
+    ∙ (λ j. cond (nat_le 16 (live j) || nat_le (2 ^ 20) (slice_index i.made caller)) (Some KeyLimit) None)
 
 -- a caller that no row refuses is below both limits
 no_limit : (m n : ℕ) → cond (nat_le 16 m || nat_le (2 ^ 20) n) (Some KeyLimit) None ≡ None → (m < 16) × (n < 2 ^ 20)
@@ -54,10 +59,11 @@ no_limit m n h = below (nat_le 16 m || nat_le (2 ^ 20) n) refl h
     below true t e = cc
     below false t e = (grind (arith, nat_tests), grind (arith, nat_tests))
 
-pub below_both : (i : Inside) (store : model.Store) (caller : ℕ) → store_of i ≡ store → IsStore i → caller ≤ 16 → first_row (limit_rows store caller) ≡ None →
+pub below_both : (i : Inside) (store : model.Store) (caller bytes : ℕ) (a : Attributes) → store_of i ≡ store → IsStore i → IsRecorded store caller a bytes →
     (live_in caller i.keys.items < 16) × (slice_index i.made caller < 2 ^ 20)
-below_both i store caller view ok last h =
-    let none = no_limit (live_volatile (key_map i.keys.items) caller) (slice_index i.made caller) (subst (λ s. first_row (limit_rows s caller) ≡ None) (sym view) h) in
+below_both i store caller bytes a view ok h =
+    let none = no_limit (live_volatile (key_map i.keys.items) caller) (slice_index i.made caller)
+    (sym (limit_only (store_of i) caller a h.kept.lifetime) ∙ subst (λ s. first_row (room_for_key_rows s caller a) ≡ None) (sym view) h.room) in
     (omega (arith, none.0, live_is caller i.keys.items ok.keys.distinct), none.1)
 
 -- the place where a new key goes is free
@@ -80,17 +86,16 @@ same_caller q other caller m n t e same h =
 
 pub keys_set : (made : List ℕ) (es : List Entry) (caller place : ℕ) (e d : Entry) → AreKeys made es →
     1 ≤ caller → caller ≤ 16 → length made ≡ 17 → slice_index made caller < 2 ^ 20 → live_in caller es < 16 → place < length es →
-    entry_id e ≡ first_volatile caller + slice_index made caller → e.length ≤ 1024 → IsTrue (permits_size e.attributes.key_type.0 e.length) →
+    entry_id e ≡ first_volatile caller + slice_index made caller → IsKept e.attributes e.length →
     AreKeys (slice_set made caller (slice_index made caller + 1)) (slice_set es place e)
-keys_set made es caller place e d keys first last size room few at id short sized =
+keys_set made es caller place e d keys first last size room few at id kept =
     let group : entry_id e / 2 ^ 20 ≡ 1024 + caller = omega arith in
     let number : entry_id e % 2 ^ 20 ≡ slice_index made caller = omega arith in
     let new : IsMade (slice_set made caller (slice_index made caller + 1)) e = record {
       from_first = omega arith;
       to_last = omega arith;
       earlier = omega (arith, written made caller (entry_id e / 2 ^ 20 - 1024) (slice_index made caller + 1) (omega arith) (omega arith));
-      short = short;
-      sized = sized;
+      kept = kept;
     } in
     record {
       each = each_set made caller es place e (omega arith) keys.each new;
@@ -101,11 +106,11 @@ keys_set made es caller place e d keys first last size room few at id short size
     }
 
 pub store_kept : (i j : Inside) (caller place : ℕ) (e d : Entry) → IsStore i → 1 ≤ caller → caller ≤ 16 → slice_index i.made caller < 2 ^ 20 → live_in caller i.keys.items < 16 → place < 256 →
-    entry_id e ≡ first_volatile caller + slice_index i.made caller → e.length ≤ 1024 → IsTrue (permits_size e.attributes.key_type.0 e.length) →
+    entry_id e ≡ first_volatile caller + slice_index i.made caller → IsKept e.attributes e.length →
     j.ids.items ≡ slice_set i.ids.items place (entry_id e) → j.keys.items ≡ slice_set i.keys.items place e → j.made ≡ slice_set i.made caller (slice_index i.made caller + 1) →
     IsStore j
-store_kept i j caller place e d ok first last room few at id short sized ids keys made = record {
-  keys = rw (keys, made) (keys_set i.made i.keys.items caller place e d ok.keys first last ok.callers room few (omega (arith, ok.room)) id short sized);
+store_kept i j caller place e d ok first last room few at id kept ids keys made = record {
+  keys = rw (keys, made) (keys_set i.made i.keys.items caller place e d ok.keys first last ok.callers room few (omega (arith, ok.room)) id kept);
   ids = ids ∙ ap (λ l. slice_set l place (entry_id e)) ok.ids ∙ sym (map-set entry_id i.keys.items place e) ∙ ap (map entry_id) (sym keys);
   room = ap length keys ∙ length-set i.keys.items place e ∙ ok.room;
   callers = ap length made ∙ length-set i.made caller _ ∙ ok.callers;
@@ -113,26 +118,24 @@ store_kept i j caller place e d ok first last room few at id short sized ids key
 
 -- the new key is the model's
 
-pub ids_at : (i : Inside) (caller id : ℕ) → IsStore i → caller ≤ 16 → id ≡ first_volatile caller + slice_index i.made caller → id ≡ next_volatile (store_of i) caller
-ids_at i caller id ok last e = e
+pub ids_at : (i : Inside) (caller id : ℕ) (a : Attributes) → a.lifetime.0 ≡ 0 → id ≡ first_volatile caller + slice_index i.made caller → id ≡ new_id (store_of i) caller a
+ids_at i caller id a volatile e = e ∙ sym (ap (λ l. new_id (store_of i) caller (record a { lifetime = record { 0 = l } })) volatile)
 
-key_at : (i : Inside) (caller : ℕ) (e : Entry) (a recorded : Attributes) (bytes : List ℕ) → IsStore i → caller ≤ 16 → filled a (length bytes) ≡ recorded →
-    entry_id e ≡ first_volatile caller + slice_index i.made caller → e.attributes ≡ identified recorded (first_volatile caller + slice_index i.made caller) →
-    e.number ≡ i.calls → e.creator ≡ caller → take e.length e.buffer ≡ bytes →
-    ◌≡◌ {A = KeyMap} (finite.insert (key_map i.keys.items) (entry_id e) (key_of e))
-    (finite.insert (key_map i.keys.items) (next_volatile (store_of i) caller) (new_key (store_of i) caller (next_volatile (store_of i) caller) a bytes))
-key_at i caller e a recorded bytes ok last filled_is id_is attributes_is number_is creator_is bytes_is =
-    let ids = ids_at i caller (entry_id e) ok last id_is in
-    let numbers = number_is ∙ sym (zero-add i.calls) in
-    let given = sym filled_is in
-    let same : identified recorded (first_volatile caller + slice_index i.made caller) ≡ identified (filled a (length bytes)) (next_volatile (store_of i) caller) =
-    λ j. identified (given j) (first_volatile caller + slice_index i.made caller) in
-    let attributes = attributes_is ∙ same in
-    λ j. finite.insert (key_map i.keys.items) (ids j) (record { number = numbers j; attributes = attributes j; bytes = bytes_is j; creator = creator_is j })
+-- the store with a new key that is volatile, or isn't
+abbrev created_if : Inside → ℕ → Attributes → List ℕ → Bool → model.Store
+created_if i caller a bytes volatile =
+    let id = cond volatile (next_volatile (store_of i) caller) a.id.0 in
+    record {
+      keys = finite.insert (key_map i.keys.items) id (new_key (store_of i) caller id a bytes);
+      made = cond volatile (slice_set i.made caller (slice_index i.made caller + 1)) i.made;
+      calls = i.calls + 1;
+      found = 0;
+      settings = model.plain_settings;
+    }
 
-pub created_at : (i : Inside) (caller place : ℕ) (e d : Entry) (a recorded : Attributes) (bytes : List ℕ) → IsStore i → caller ≤ 16 → filled a (length bytes) ≡ recorded →
+pub created_at : (i : Inside) (caller place : ℕ) (e d : Entry) (a : Attributes) (bytes : List ℕ) → IsStore i → caller ≤ 16 → a.lifetime.0 ≡ 0 →
     place < 256 → place ≡ position_or_len (λ id. id == 0) (map entry_id i.keys.items) → slice_index i.made caller < 2 ^ 20 →
-    entry_id e ≡ first_volatile caller + slice_index i.made caller → e.attributes ≡ identified recorded (first_volatile caller + slice_index i.made caller) →
+    entry_id e ≡ first_volatile caller + slice_index i.made caller → e.attributes ≡ identified a (first_volatile caller + slice_index i.made caller) →
     e.number ≡ i.calls → e.creator ≡ caller → take e.length e.buffer ≡ bytes →
     ◌≡◌ {A = model.Store}
     (record {
@@ -143,12 +146,18 @@ pub created_at : (i : Inside) (caller place : ℕ) (e d : Entry) (a recorded : A
       settings = model.plain_settings;
     })
     (created (store_of i) caller a bytes).store
-created_at i caller place e d a recorded bytes ok last filled_is at free below id_is attributes_is number_is creator_is bytes_is =
+created_at i caller place e d a bytes ok last volatile at free below id_is attributes_is number_is creator_is bytes_is =
     let inside : place < length i.keys.items = omega (arith, ok.room) in
     let new = key_map-set i.keys.items place e d inside (place_is_free i.keys.items place d free inside)
     (fresh i.made caller (entry_id e) (omega arith) (omega arith) i.keys.items ok.keys.each) (omega arith) in
-    let keys = new ∙ key_at i caller e a recorded bytes ok last filled_is id_is attributes_is number_is creator_is bytes_is in
-    λ k. record { keys = keys k; made = slice_set i.made caller (slice_index i.made caller + 1); calls = i.calls + 1; found = 0; settings = model.plain_settings }
+    let numbers = number_is ∙ sym (zero-add i.calls) in
+    let key : ◌≡◌ {A = KeyMap} (finite.insert (key_map i.keys.items) (entry_id e) (key_of e))
+    (finite.insert (key_map i.keys.items) (next_volatile (store_of i) caller) (new_key (store_of i) caller (next_volatile (store_of i) caller) a bytes)) =
+    λ j. finite.insert (key_map i.keys.items) (id_is j) (record { number = numbers j; attributes = attributes_is j; bytes = bytes_is j; creator = creator_is j }) in
+    let keys = new ∙ key in
+    let made : ◌≡◌ {A = model.Store} _ (created_if i caller a bytes true) =
+    λ k. record { keys = keys k; made = slice_set i.made caller (slice_index i.made caller + 1); calls = i.calls + 1; found = 0; settings = model.plain_settings } in
+    made ∙ sym (ap (λ l. created_if i caller a bytes (persistence l == 0)) volatile)
 
 -- what the map has at a key's place
 
@@ -193,9 +202,9 @@ made_there made id es k d keys h = there (id == 0) refl (sym h)
     there true t g = cc
     there false t g = let p = placed id es k d g in made_key made _ id (all_at (IsFreeOrMade made) es k d keys.each p.0) (found_id id es _ p.1) t
 
-pub short_there : (made : List ℕ) (id : ℕ) (es : List Entry) (k : ℕ) (d : Entry) → AreKeys made es → Some k ≡ cond (id == 0) None (position (λ x. x == id) (map entry_id es)) →
-    (slice_index_or es k d).length ≤ 1024
-short_there made id es k d keys h = (made_there made id es k d keys h).short
+pub kept_there : (made : List ℕ) (id : ℕ) (es : List Entry) (k : ℕ) (d : Entry) → AreKeys made es → Some k ≡ cond (id == 0) None (position (λ x. x == id) (map entry_id es)) →
+    IsKept (slice_index_or es k d).attributes (slice_index_or es k d).length
+kept_there made id es k d keys h = (made_there made id es k d keys h).kept
 
 pub no_key_there : (id : ℕ) (es : List Entry) → None ≡ cond (id == 0) None (position (λ x. x == id) (map entry_id es)) → finite.get (key_map es) id ≡ None
 no_key_there id es h = not_there (id == 0) (sym h) (get-key_map es id)
@@ -232,7 +241,7 @@ ids_free (x ∷ es) n h e = ap (λ k. replicate k 0) (sym e) ∙ (λ i. sym h.0.
 pub empty_store : (es : List Entry) → AllByRecursion IsFree es →
     ◌≡◌ {A = model.Store}
     (record { keys = key_map es; made = replicate 17 0; calls = 0; found = 0; settings = model.plain_settings })
-    (model.start_of model.plain_settings)
+    (model.start_of model.plain_settings [])
 empty_store es h =
     let keys : key_map es ≡ finite.empty = ap finite.from_entries (no_pairs es h) in
     λ i. record { keys = keys i; made = replicate 17 0; calls = 0; found = 0; settings = model.plain_settings }

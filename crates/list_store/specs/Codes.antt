@@ -1,7 +1,9 @@
 -- Keys and stores of the model are told apart by the numbers and bytes that they hold.
-use Rattle.std.specs.Prelude.{ℕ, List, refl}
-use Rattle.std.specs.Coded.{Coded, code_by, coded×, coded_ℕ, coded_list}
+use Rattle.std.specs.Prelude.{◌≡◌, ℕ, Bool, true, false, List, refl}
+use Rattle.std.specs.Coded.{Coded, code_by, coded×, coded_ℕ, coded_bool, coded_list}
 use Rattle.std.specs.FinMap as map
+use Rattle.policy_rules.specs.declared.narrowing.Label.{Label}
+use Rattle.policy_rules.specs.declared.narrowing.Label.TheVariants.{NoExport, NoCopy, NoEcb, Aes256}
 use Rattle.store_model.specs.Store.{Key, KeyMap, Settings, Store}
 
 abbrev pub key_code : Coded Key
@@ -23,9 +25,32 @@ key_code =
     })
     (λ _. refl)
 
+abbrev pub label_bits : Label → Bool × Bool
+label_bits NoExport = (false, false)
+label_bits NoCopy = (false, true)
+label_bits NoEcb = (true, false)
+label_bits Aes256 = (true, true)
+
+abbrev pub label_of : Bool → Bool → Label
+label_of false false = NoExport
+label_of false true = NoCopy
+label_of true false = NoEcb
+label_of true true = Aes256
+
+pub label_is : (label : Label) → label_of (label_bits label).0 (label_bits label).1 ≡ label
+label_is NoExport = refl
+label_is NoCopy = refl
+label_is NoEcb = refl
+label_is Aes256 = refl
+
+abbrev pub label_code : Coded Label
+label_code = code_by (Bool × Bool) (coded× coded_bool coded_bool) label_bits (λ p. label_of p.0 p.1) label_is
+
 abbrev pub settings_code : Coded Settings
 settings_code =
-    code_by (List ℕ × List ℕ) (coded× (coded_list coded_ℕ) (coded_list coded_ℕ)) (λ s. (s.seed, s.locations)) (λ p. record { seed = p.0; locations = p.1 })
+    code_by (((List ℕ) × (List ℕ)) × ((List Label) × Bool)) (coded× (coded× (coded_list coded_ℕ) (coded_list coded_ℕ)) (coded× (coded_list label_code) coded_bool))
+    (λ s. ((s.seed, s.locations), (s.labels, s.has_file)))
+    (λ p. record { seed = p.0.0; locations = p.0.1; labels = p.1.0; has_file = p.1.1 })
     (λ _. refl)
 
 abbrev pub store_code : Coded Store

@@ -2,8 +2,11 @@
 use Rattle.std.specs.Prelude.{ℕ, List, [], ◌∷◌, take, replicate, ◌≡◌, ◌≤◌, ◌<◌, ◌+◌, ◌-◌, ◌/◌, ◌%◌, ◌^◌, slice_index, find, None, ◌==◌, Bool, IsTrue, if◌then◌else◌, ◌⊎◌}
 use Rattle.std.specs.List.{AllByRecursion}
 use Rattle.std.specs.FinMap as finite
+use Rattle.key_attributes.specs.declared.Attributes.{Attributes}
 use Rattle.key_attributes.specs.Checks.{permits_size}
-use Rattle.store_model.specs.Store.{Key, KeyMap, is_volatile_of}
+use Rattle.psa_status.specs.Rows.{first_row}
+use Rattle.store_model.specs.Store.{Key, KeyMap, Store, is_volatile_of}
+use Rattle.store_model.specs.Creation.{room_for_key_rows}
 use Rattle.list_store.specs.declared.entries.Entry.{Entry}
 
 -- an entry's identifier; 0 where it is free
@@ -22,13 +25,23 @@ entry_pairs (e ∷ es) = if entry_id e == 0 then entry_pairs es else (entry_id e
 abbrev pub key_map : List Entry → KeyMap
 key_map es = finite.from_entries (entry_pairs es)
 
--- an entry is a volatile key of a caller, and not of a later creation; its type permits so many bytes
+-- attributes of a volatile and local key, whose type permits so many bytes
+pub record IsKept (a : Attributes) (bytes : ℕ) : Type 0 where
+  pub lifetime : a.lifetime.0 ≡ 0
+  pub short : bytes ≤ 1024
+  pub sized : IsTrue (permits_size a.key_type.0 bytes)
+
+-- a creation may record these attributes of a key of so many bytes, for which the store has room
+pub record IsRecorded (store : Store) (caller : ℕ) (a : Attributes) (bytes : ℕ) : Type 0 where
+  pub kept : IsKept a bytes
+  pub room : first_row (room_for_key_rows store caller a) ≡ None
+
+-- an entry is such a key of a caller, and not of a later creation
 pub record IsMade (made : List ℕ) (e : Entry) : Type 0 where
   pub from_first : 1025 ≤ entry_id e / 2 ^ 20
   pub to_last : entry_id e / 2 ^ 20 ≤ 1040
   pub earlier : entry_id e % 2 ^ 20 < slice_index made (entry_id e / 2 ^ 20 - 1024)
-  pub short : e.length ≤ 1024
-  pub sized : IsTrue (permits_size e.attributes.key_type.0 e.length)
+  pub kept : IsKept e.attributes e.length
 
 -- an entry is free, and all of its buffer is zeros
 pub record IsFree (e : Entry) : Type 0 where

@@ -1,5 +1,5 @@
 -- What the look-up of a key gives, and of one that a call uses with an algorithm.
-use Rattle.std.specs.Prelude.{ℕ, ◌≡◌, ◌≤◌, false, not, List, [], ◌∷◌, ◌++◌, length, IsTrue, Option, Some, None}
+use Rattle.std.specs.Prelude.{ℕ, ◌≡◌, ◌≤◌, Bool, false, not, List, [], ◌∷◌, ◌++◌, length, Option, Some, None}
 use Rattle.psa_status.specs.declared.Status.{Status}
 use Rattle.psa_status.specs.declared.Status.TheVariants.{NotPermitted, InvalidArgument, InvalidHandle}
 use Rattle.psa_status.specs.Rows.{Rows, first_row}
@@ -7,7 +7,6 @@ use Rattle.alg_encoding.specs.declared.table.Class.{Class}
 use Rattle.alg_encoding.specs.declared.table.Class.TheVariants.{Cipher, Aead}
 use Rattle.alg_encoding.specs.Encoding.{base_of}
 use Rattle.key_attributes.specs.declared.Attributes.{Attributes}
-use Rattle.key_attributes.specs.Checks.{permits_size}
 use Rattle.policy_rules.specs.Policy.{may_use}
 use Rattle.crypto_specs.specs.Aes.{IsKey}
 use Rattle.store_model.specs.Store.{Key}
@@ -19,15 +18,14 @@ use Rattle.algorithm_facts.specs.declared.algorithms.Algorithm.{Algorithm}
 use Rattle.algorithm_facts.specs.Names.{IsOfClass}
 use Rattle.algorithm_facts.specs.Parse.{class_in, is_hmac_in}
 use Rattle.list_store.specs.declared.entries.Entry.{Entry}
-use Rattle.list_store.specs.Entries.{key_of}
+use Rattle.list_store.specs.Entries.{key_of, IsKept}
 
--- an entry has what the map has at an identifier, and its type permits so many bytes
+-- an entry has what the map has at an identifier
 pub record IsFound (found : Option Key) (e : Entry) : Type 0 where
   pub there : found ≡ Some (key_of e)
-  pub short : e.length ≤ 1024
-  pub sized : IsTrue (permits_size e.attributes.key_type.0 e.length)
+  pub kept : IsKept e.attributes e.length
 
--- the rows of a key that is there, by its attributes
+-- the rows of a key that is there and local, by its attributes
 abbrev pub permission_rows : Class → (usage alg : ℕ) → Attributes → Rows
 permission_rows class usage alg a =
     class_rows class alg
@@ -44,7 +42,7 @@ pub record IsUsedAs (class : Class) (alg : ℕ) (algorithm : Algorithm) : Type 0
 -- a call may use the key, which has these bytes
 pub record IsUsable (class : Class) (usage alg : ℕ) (found : Option Key) (bytes : List ℕ) : Type 0 where
   pub there : bytes_of found ≡ bytes
-  pub permitted : first_row (use_rows class usage alg found) ≡ None
+  pub permitted : (on_device : Bool) → first_row (use_rows on_device class usage alg found) ≡ None
   pub aes : is_hmac alg ≡ false → IsKey bytes
 
 -- a key of this creation has the bytes
@@ -62,7 +60,7 @@ pub record IsLookedUp (class : Class) (usage alg id : ℕ) (found : Option Key) 
   pub aead : class ≡ Aead → IsKey bytes
   pub algorithm : IsOfClass class alg
 
--- the rows of a derivation's key that is there, by its attributes
+-- the rows of a derivation's key that is there and local, by its attributes
 abbrev pub derivation_permission_rows : (step alg : ℕ) → Attributes → Rows
 derivation_permission_rows step alg a =
     (not (may_use a.policy derive_usage alg), NotPermitted)

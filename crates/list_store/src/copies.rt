@@ -1,10 +1,11 @@
 // What a copy records.
-ghost use Rattle.std.specs.Prelude.{◌≡◌, ◌≤◌, OnOk, false};
-ghost use Rattle.key_attributes.specs.Checks.{location};
-ghost use Rattle.store_model.specs.Copies.{differs};
-ghost use Rattle.list_store.specs.Copied.{copy_checked};
+ghost use Rattle.std.specs.Prelude.{◌≡◌, ◌≤◌, IfOk, Some};
+ghost use Rattle.store_model.specs.Copies.{differs, copy_of};
+ghost use Rattle.list_store.specs.Entries.{key_of, IsRecorded};
 
-use key_attributes::{Attributes, Usage, check_attributes};
+use crate::Store;
+use crate::entries::Entry;
+use key_attributes::{Attributes, Usage};
 use policy_rules::meet;
 use psa_status::Status;
 
@@ -15,33 +16,39 @@ fn differs(stated: u16, own: u16) -> bool
     stated != 0 && stated != own
 }
 
-/// The attributes that a copy of so many bytes records, or its first refusal.
-pub fn check_copy(
-    source: &Attributes,
-    stated: &Attributes,
-    bytes: usize,
-) -> Result<Attributes, Status>
-    ensures value { result ≡ copy_checked source.now stated.now bytes false }
-    ensures short { OnOk result (bytes ≤ 1024) }
-{
-    if source.policy.usage.0 & Usage::COPY.0 == 0 {
-        return Err(Status::NotPermitted);
+impl Store {
+    /// What a copy of a key records, or its first refusal.
+    pub(crate) fn copied(
+        &self,
+        caller: u8,
+        source: &Entry,
+        stated: &Attributes,
+    ) -> Result<Attributes, Status>
+        requires last { caller ≤ 16 }
+        requires short { source.now.length ≤ 1024 }
+        ensures value { result ≡ copy_of self.now caller (Some (key_of source.now)) stated.now }
+        ensures recorded { IfOk result (λ recorded. IsRecorded self.now caller recorded source.now.length) }
+    {
+        let own = source.attributes;
+        if own.policy.usage.0 & Usage::COPY.0 == 0 {
+            return Err(Status::NotPermitted);
+        }
+        if differs(stated.key_type.0, own.key_type.0) || differs(stated.bits, own.bits) {
+            return Err(Status::InvalidArgument);
+        }
+        if stated.lifetime.0 >> 8 != own.lifetime.0 >> 8 {
+            return Err(Status::NotSupported);
+        }
+        let Some(policy) = meet(&own.policy, &stated.policy) else {
+            return Err(Status::InvalidArgument);
+        };
+        let met = Attributes {
+            lifetime: stated.lifetime,
+            id: stated.id,
+            key_type: own.key_type,
+            bits: own.bits,
+            policy,
+        };
+        self.recorded(caller, &met, source.length)
     }
-    if differs(stated.key_type.0, source.key_type.0) || differs(stated.bits, source.bits) {
-        return Err(Status::InvalidArgument);
-    }
-    if stated.lifetime.0 >> 8 != source.lifetime.0 >> 8 {
-        return Err(Status::NotSupported);
-    }
-    let Some(policy) = meet(&source.policy, &stated.policy) else {
-        return Err(Status::InvalidArgument);
-    };
-    let met = Attributes {
-        lifetime: stated.lifetime,
-        id: stated.id,
-        key_type: source.key_type,
-        bits: source.bits,
-        policy,
-    };
-    check_attributes(&met, bytes, false)
 }

@@ -5,7 +5,7 @@ ghost use Rattle.store_model.specs.Store.{is_volatile_of};
 ghost use Rattle.store_model.specs.Call.{buffer_after};
 ghost use Rattle.store_model.specs.KeyUse.{export_reply};
 ghost use Rattle.service_calls.specs.Answers.{AnswersLength};
-ghost use Rattle.list_store.specs.Entries.{key_of, IsFree};
+ghost use Rattle.list_store.specs.Entries.{key_of, IsFree, IsKept};
 
 use key_attributes::{Attributes, KeyId, KeyType, LONGEST_KEY, Lifetime, Policy, Usage};
 use psa_status::{Memory, Status};
@@ -124,7 +124,7 @@ pub fn buffered(bytes: &[u8]) -> [u8; LONGEST_KEY]
 
 /// Copies a key that may be exported into a buffer that has room for it.
 pub fn copy_out(entry: &Entry, out: &mut [u8]) -> Result<usize, Status>
-    requires { entry.now.length ≤ 1024 }
+    requires { IsKept entry.now.attributes entry.now.length }
     ensures reply { AnswersLength result (export_reply (Some (key_of entry.now)) (length out.old)) }
     ensures buffer { out.new ≡ buffer_after out.old (export_reply (Some (key_of entry.now)) (length out.old)) }
 {

@@ -1,30 +1,15 @@
 // A key of random bytes.
-ghost use Rattle.std.specs.Prelude.{◌≡◌, ◌≤◌, ◌<◌, ◌^◌, ◌+◌, ◌/◌, ℕ, None, OnOk, IsTrue, length, replicate};
-ghost use Rattle.psa_status.specs.Rows.{first_row};
-ghost use Rattle.key_attributes.specs.declared.Attributes.{Attributes};
-ghost use Rattle.key_attributes.specs.Checks.{filled, permits_size};
-ghost use Rattle.store_model.specs.Store as model;
-ghost use Rattle.store_model.specs.Creation.{limit_rows, created, stated_bytes};
-ghost use Rattle.store_model.specs.Generation.{step_generate};
+ghost use Rattle.std.specs.Prelude.{◌≡◌, ◌≤◌, ◌<◌, ◌^◌, ◌+◌, IfOk, replicate};
+ghost use Rattle.store_model.specs.Creation.{new_id, created, stated_bytes};
+ghost use Rattle.store_model.specs.Generation.{generation_of, step_generate};
 ghost use Rattle.random_streams.specs.RandomWords.{drawn_from, next_bytes};
 ghost use Rattle.service_calls.specs.Answers.{id_reply};
-ghost use Rattle.list_store.specs.Generated.{generation_checked};
+ghost use Rattle.list_store.specs.Entries.{IsRecorded};
 
 use crate::Store;
-use key_attributes::{Attributes, KeyId, LONGEST_KEY, check_attributes};
+use key_attributes::{Attributes, KeyId, LONGEST_KEY};
 use psa_status::Status;
 use random_streams::Stream;
-
-/// The attributes that a generation records, or the first refusal that the stated ones decide.
-fn check_generation(attributes: &Attributes) -> Result<Attributes, Status>
-    ensures value { result ≡ generation_checked attributes.now }
-    ensures short { OnOk result (stated_bytes attributes.now ≤ 1024) }
-{
-    if attributes.bits == 0 || attributes.bits % 8 != 0 {
-        return Err(Status::InvalidArgument);
-    }
-    check_attributes(attributes, usize::from(attributes.bits / 8), false)
-}
 
 /// Clears a buffer.
 fn wipe(buffer: &mut [u8; LONGEST_KEY])
@@ -50,21 +35,30 @@ impl Store {
         ensures reply { id_reply result ≡ (step_generate self.old caller (next_bytes stream.old) attributes.now).reply }
         ensures stream { stream.new ≡ drawn_from stream.old (step_generate self.old caller (next_bytes stream.old) attributes.now).drawn }
     {
-        let recorded = match check_generation(attributes) {
-            Ok(recorded) => recorded,
-            Err(status) => {
-                self.calls += 1;
-                return Err(status);
+        match self.generated(caller, attributes) {
+            Ok(recorded) => {
+                Ok(self.add_random(caller, stream, &recorded, usize::from(attributes.bits / 8)))
             }
-        };
-        if self.at_limit(caller) {
-            self.calls += 1;
-            return Err(Status::KeyLimit);
+            Err(status) => {
+                self.count();
+                Err(status)
+            }
         }
-        Ok(self.add_random(caller, stream, &recorded, usize::from(attributes.bits / 8)))
     }
 
-    // Adds a key of so many random bytes. Its caller is at no limit.
+    // What a generation records, or its first refusal.
+    fn generated(&self, caller: u8, attributes: &Attributes) -> Result<Attributes, Status>
+        requires { caller ≤ 16 }
+        ensures value { result ≡ generation_of self.now caller attributes.now }
+        ensures recorded { IfOk result (λ recorded. IsRecorded self.now caller recorded (stated_bytes attributes.now)) }
+    {
+        if attributes.bits == 0 || attributes.bits % 8 != 0 {
+            return Err(Status::InvalidArgument);
+        }
+        self.recorded(caller, attributes, usize::from(attributes.bits / 8))
+    }
+
+    // Adds a key of so many random bytes.
     fn add_random(
         &mut self,
         caller: u8,
@@ -76,12 +70,9 @@ impl Store {
         requires last { caller ≤ 16 }
         requires turns { self.old.calls < 2 ^ 62 }
         requires words { stream.old.place + 256 ≤ 2 ^ 60 }
-        requires room { first_row (limit_rows self.old caller) ≡ None }
-        requires short { count ≤ 1024 }
-        requires sized { IsTrue (permits_size recorded.now.key_type.0 count) }
-        ensures store { (a : Attributes) → filled a count ≡ recorded.now →
-            self.new ≡ (created self.old caller a (next_bytes stream.old count)).store }
-        ensures id { result.0 ≡ model.next_volatile self.old caller }
+        requires recorded { IsRecorded self.old caller recorded.now count }
+        ensures store { self.new ≡ (created self.old caller recorded.now (next_bytes stream.old count)).store }
+        ensures id { result.0 ≡ new_id self.old caller recorded.now }
         ensures stream { stream.new ≡ drawn_from stream.old count }
     {
         let mut buffer = [0; LONGEST_KEY];

@@ -1,19 +1,17 @@
-ghost use Rattle.std.specs.Prelude.{◌≡◌, ◌≤◌, ◌<◌, ◌^◌, ◌+◌, ℕ, List, IfOk, Some, None, length, if◌then◌else◌, min, IsTrue, MatchOption};
+ghost use Rattle.std.specs.Prelude.{◌≡◌, ◌≤◌, ◌<◌, ◌^◌, ◌+◌, ℕ, List, [], IfOk, Some, None, length, if◌then◌else◌, MatchOption};
 ghost use Rattle.psa_status.specs.Rows.{first_row};
 ghost use Rattle.psa_status.specs.declared.Status.TheVariants.{KeyLimit};
 ghost use Rattle.key_attributes.specs.declared.Attributes.{Attributes};
 ghost use Rattle.std.specs.FinMap as finite;
-ghost use Rattle.key_attributes.specs.Checks.{filled, permits_size};
 ghost use Rattle.store_model.specs.Store as model;
 ghost use Rattle.store_model.specs.Call.{buffer_after};
 ghost use Rattle.store_model.specs.Copies.{step_copy};
-ghost use Rattle.store_model.specs.Creation.{limit_rows, created, step_import};
+ghost use Rattle.store_model.specs.Creation.{room_for_key_rows, recorded_of, new_id, created, step_import};
 ghost use Rattle.store_model.specs.KeyUse.{step_attributes, step_destroy, step_export};
-ghost use Rattle.store_model.specs.Outcome.{decided};
 ghost use Rattle.service_calls.specs.Answers.{id_reply, AnswersLength, attributes_answer, plain_reply};
+ghost use Rattle.list_store.specs.Entries.{IsRecorded};
 ghost use Rattle.list_store.specs.Uses.{IsFound};
 
-use crate::copies::check_copy;
 use crate::entries::{
     Entry, FIRST_VOLATILE, LIVE_LIMIT, MADE_LIMIT, buffered, copy_out, free_entry, free_place,
     key_place, live, new_ids, new_keys,
@@ -51,7 +49,7 @@ impl Model for Store {
 impl Store {
     /// A store without a key, with room for 256 of them.
     pub fn open(alloc: Global) -> Result<Store, Memory>
-        ensures { IfOk result (λ store. store ≡ model.start_of model.plain_settings) }
+        ensures { IfOk result (λ store. store ≡ model.start_of model.plain_settings []) }
     {
         let keys = new_keys(alloc, 256)?;
         let ids = new_ids(alloc, 256)?;
@@ -87,11 +85,10 @@ impl Store {
         ensures store { self.new ≡ (step_import self.old caller attributes.now bytes.now).store }
         ensures reply { id_reply result ≡ (step_import self.old caller attributes.now bytes.now).reply }
     {
-        let turn = self.calls + 1;
-        match check_attributes(attributes, bytes.len(), false) {
-            Ok(recorded) => self.create(caller, &recorded, bytes),
+        match self.recorded(caller, attributes, bytes.len()) {
+            Ok(recorded) => Ok(self.add(caller, &recorded, bytes)),
             Err(status) => {
-                self.calls = turn;
+                self.count();
                 Err(status)
             }
         }
@@ -111,59 +108,63 @@ impl Store {
         ensures store { self.new ≡ (step_copy self.old caller source.0 attributes.now).store }
         ensures reply { id_reply result ≡ (step_copy self.old caller source.0 attributes.now).reply }
     {
-        let Some(place) = key_place(&self.ids, source) else {
-            self.calls += 1;
+        let Some(entry) = self.entry(source) else {
+            self.count();
             return Err(Status::InvalidHandle);
         };
-        let entry = self.keys[place];
-        let bytes = &entry.buffer[..entry.length];
-        match check_copy(&entry.attributes, attributes, bytes.len()) {
-            Ok(recorded) => self.create(caller, &recorded, bytes),
+        let entry = *entry;
+        match self.copied(caller, &entry, attributes) {
+            Ok(recorded) => Ok(self.add(caller, &recorded, &entry.buffer[..entry.length])),
             Err(status) => {
-                self.calls += 1;
+                self.count();
                 Err(status)
             }
         }
     }
 
-    // Adds a key with these recorded attributes, unless its caller is at a limit.
-    fn create(&mut self, caller: u8, recorded: &Attributes, bytes: &[u8]) -> Result<KeyId, Status>
-        requires first { 1 ≤ caller }
-        requires last { caller ≤ 16 }
-        requires turns { self.old.calls < 2 ^ 62 }
-        requires short { length bytes.now ≤ 1024 }
-        requires sized { IsTrue (permits_size recorded.now.key_type.0 (length bytes.now)) }
-        ensures store { (a : Attributes) → filled a (length bytes.now) ≡ recorded.now →
-            self.new ≡ (decided self.old (first_row (limit_rows self.old caller)) (created self.old caller a bytes.now)).store }
-        ensures reply { (a : Attributes) → filled a (length bytes.now) ≡ recorded.now →
-            id_reply result ≡ (decided self.old (first_row (limit_rows self.old caller)) (created self.old caller a bytes.now)).reply }
+    // What a creation of a key of so many bytes records, or its first refusal. There is neither a file nor a device, so
+    // that each key is volatile and local.
+    pub(crate) fn recorded(
+        &self,
+        caller: u8,
+        attributes: &Attributes,
+        bytes: usize,
+    ) -> Result<Attributes, Status>
+        requires { caller ≤ 16 }
+        ensures value { result ≡ recorded_of self.now caller attributes.now bytes }
+        ensures recorded { IfOk result (λ recorded. IsRecorded self.now caller recorded bytes) }
     {
+        let _ = &self.ids;
+        if attributes.lifetime.0 != 0 {
+            return Err(Status::NotSupported);
+        }
+        let recorded = match check_attributes(attributes, bytes, false) {
+            Ok(recorded) => recorded,
+            Err(status) => return Err(status),
+        };
         if self.at_limit(caller) {
-            self.count();
             return Err(Status::KeyLimit);
         }
-        Ok(self.add(caller, recorded, bytes))
+        Ok(recorded)
     }
 
     // Whether a caller is at a limit of keys.
-    pub(crate) fn at_limit(&self, caller: u8) -> bool
+    fn at_limit(&self, caller: u8) -> bool
         requires { caller ≤ 16 }
-        ensures { first_row (limit_rows self.now caller) ≡ (if result then Some KeyLimit else None) }
+        ensures { (a : Attributes) → a.lifetime.0 ≡ 0 →
+            first_row (room_for_key_rows self.now caller a) ≡ (if result then Some KeyLimit else None) }
     {
         live(&self.ids, caller) >= LIVE_LIMIT || self.made[caller as usize] >= MADE_LIMIT
     }
 
-    // Adds a key with these recorded attributes. Its caller is at no limit.
+    // Adds a key with these recorded attributes.
     pub(crate) fn add(&mut self, caller: u8, recorded: &Attributes, bytes: &[u8]) -> KeyId
         requires first { 1 ≤ caller }
         requires last { caller ≤ 16 }
         requires turns { self.old.calls < 2 ^ 62 }
-        requires room { first_row (limit_rows self.old caller) ≡ None }
-        requires short { length bytes.now ≤ 1024 }
-        requires sized { IsTrue (permits_size recorded.now.key_type.0 (length bytes.now)) }
-        ensures store { (a : Attributes) → filled a (length bytes.now) ≡ recorded.now →
-            self.new ≡ (created self.old caller a bytes.now).store }
-        ensures id { result.0 ≡ model.next_volatile self.old caller }
+        requires recorded { IsRecorded self.old caller recorded.now (length bytes.now) }
+        ensures store { self.new ≡ (created self.old caller recorded.now bytes.now).store }
+        ensures id { result.0 ≡ new_id self.old caller recorded.now }
     {
         let number = self.calls;
         self.calls += 1;
@@ -195,11 +196,13 @@ impl Store {
         ensures reply { AnswersLength result (step_export self.old key.0 (length out.old)).reply }
         ensures buffer { out.new ≡ buffer_after out.old (step_export self.old key.0 (length out.old)).reply }
     {
-        self.calls += 1;
-        let Some(place) = key_place(&self.ids, key) else {
+        let Some(entry) = self.entry(key) else {
+            self.count();
             return Err(Status::InvalidHandle);
         };
-        copy_out(&self.keys[place], out)
+        let copied = copy_out(entry, out);
+        self.count();
+        copied
     }
 
     /// What is known of a key beside its bytes.
@@ -208,11 +211,13 @@ impl Store {
         ensures store { self.new ≡ (step_attributes self.old key.0).store }
         ensures reply { attributes_answer result ≡ (step_attributes self.old key.0).reply }
     {
-        self.calls += 1;
-        let Some(place) = key_place(&self.ids, key) else {
+        let Some(entry) = self.entry(key) else {
+            self.count();
             return Err(Status::InvalidHandle);
         };
-        Ok(self.keys[place].attributes)
+        let attributes = entry.attributes;
+        self.count();
+        Ok(attributes)
     }
 
     /// Removes a key, and wipes its bytes. Destroying the identifier 0 succeeds.

@@ -1,5 +1,5 @@
 // Calls that use a key with an algorithm.
-ghost use Rattle.std.specs.Prelude.{◌≡◌, ◌≤◌, ℕ, IfOk, MatchResult, Some, Err, length};
+ghost use Rattle.std.specs.Prelude.{◌≡◌, ◌≤◌, ℕ, Bool, IfOk, MatchResult, Some, Err, length};
 ghost use Rattle.std.specs.Result.{result_err};
 ghost use Rattle.std.specs.FinMap as finite;
 ghost use Rattle.psa_status.specs.declared.Status.TheVariants.{NotPermitted};
@@ -91,7 +91,7 @@ impl Store {
     ) -> Result<Found<'_>, Status>
         ensures { MatchResult result
             (λ found. IsLookedUp class usage.0 alg.0 key.0 (finite.get self.now.keys key.0) found.bytes.now found.number)
-            (λ status. first_row (use_rows class usage.0 alg.0 (finite.get self.now.keys key.0)) ≡ Some status) }
+            (λ status. (on_device : Bool) → first_row (use_rows on_device class usage.0 alg.0 (finite.get self.now.keys key.0)) ≡ Some status) }
     {
         let Some(entry) = self.entry(key) else {
             return Err(Status::InvalidHandle);

@@ -13,11 +13,11 @@ by_second : (live made n : ℕ) → n ≡ live → n < 16 → cond (nat_le 16 li
 by_second live made n e h = grind (arith, nat_tests)
 
 pub returns-then-live-ge-LIVE_LIMIT : goal.returns-then-live-ge-LIVE_LIMIT
-returns-then-live-ge-LIVE_LIMIT c =
+returns-then-live-ge-LIVE_LIMIT c = λ a e.
     let live = c.live.ensures ∙ ap (λ (ids : List ℕ). count_by (λ id. is_volatile_of c.args.caller id) ids) c.deref.ensures.value in
-    limits c.self.inside c.args.self.now c.args.caller c.self.view_is c.self.invariant c.requires ∙ by_first _ _ c.live.result live c.if-live-ge-LIVE_LIMIT.true
+    limits c.self.inside c.args.self.now c.args.caller a c.self.view_is c.self.invariant c.requires e ∙ by_first _ _ c.live.result live c.if-live-ge-LIVE_LIMIT.true
 
 pub returns-else-live-ge-LIVE_LIMIT : goal.returns-else-live-ge-LIVE_LIMIT
-returns-else-live-ge-LIVE_LIMIT c =
+returns-else-live-ge-LIVE_LIMIT c = λ a e.
     let live = c.live.ensures ∙ ap (λ (ids : List ℕ). count_by (λ id. is_volatile_of c.args.caller id) ids) c.deref.ensures.value in
-    limits c.self.inside c.args.self.now c.args.caller c.self.view_is c.self.invariant c.requires ∙ by_second _ _ c.live.result live c.if-live-ge-LIVE_LIMIT.false
+    limits c.self.inside c.args.self.now c.args.caller a c.self.view_is c.self.invariant c.requires e ∙ by_second _ _ c.live.result live c.if-live-ge-LIVE_LIMIT.false
