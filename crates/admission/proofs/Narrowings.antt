@@ -7,10 +7,10 @@ use Rattle.policy_rules.specs.declared.narrowing.Label.{Label}
 use Rattle.policy_rules.specs.declared.narrowing.Label.TheVariants.{NoExport, NoCopy, NoEcb, Aes256}
 use Rattle.policy_rules.specs.declared.narrowing.Verdict.{Verdict}
 use Rattle.policy_rules.specs.declared.narrowing.Verdict.TheVariants.{Keep, Refuse}
-use Rattle.policy_rules.specs.Narrow.{narrowed, KeepsWithin}
+use Rattle.policy_rules.specs.Narrow.{narrowed, after_verdict, KeepsWithin}
 use Rattle.policy_rules.proofs.Rules.{narrowed-within}
 use Rattle.policy_rules.proofs.Copies.{IsWithin-refl, IsWithin-trans}
-use Rattle.admission.specs.Apply.{Narrows, after_verdict, after_rules}
+use Rattle.admission.specs.Apply.{Narrows, after_rules}
 
 -- a verdict leaves all but the policy
 abbrev KeepsRest : Attributes → Verdict → Type 0
