@@ -1,0 +1,150 @@
+//! The slots of the store's keys.
+ghost use Rattle.std.specs.Prelude.{◌≡◌, ◌<◌, ◌≤◌, ◌-◌, ◌+◌, ◌^◌, ◌↔◌, ℕ, List, [], length, replicate, true, false, Some, None, IsTrue, IfOk, IfSome, IfNone, MatchOption};
+ghost use Rattle.std.specs.FinMap as map;
+ghost use Rattle.secret_bytes.specs.Buffer.{IsClear};
+ghost use Rattle.slot_states.specs.declared.SlotState.TheVariants.{Full};
+ghost use Rattle.slot_table.specs.Slots.{empty_slot, slot_at, holds_key, is_idle, NoKey, CanReserve};
+ghost use Rattle.slot_table.specs.Changes.{full_slot};
+ghost use Rattle.store_model.specs.Store.{Key, Store};
+ghost use Rattle.store_model.specs.Sound.{HasNumber, IsSoundStore};
+ghost use Rattle.key_slots.specs.Holdings.{Pairs, Gains, named};
+ghost use Rattle.key_slots.specs.Standing.{Agrees, HasKey, IsOut, IsThereOrNew, IsVolatileKey, Puts};
+
+use key_attributes::{Attributes, KeyId};
+use psa_status::Memory;
+use secret_bytes::Secret;
+use slot_table::{Filling, Lease, SlotTable};
+use std::alloc::Global;
+
+/// The slots of the keys that are in memory.
+#[derive(Drop)]
+pub struct KeySlots {
+    pub table: SlotTable,
+}
+
+impl KeySlots {
+    /// Empty slots; `Memory` where there is no room for them.
+    pub fn new(alloc: Global) -> Result<KeySlots, Memory>
+        ensures { IfOk result (λ slots. slots.table.slots ≡ replicate 384 empty_slot) }
+    {
+        let table = SlotTable::new(alloc)?;
+        Ok(KeySlots { table })
+    }
+
+    /// The slot of a key that is in memory. A volatile key is.
+    pub fn find(&self, id: KeyId) -> Option<u32>
+        ensures found { MatchOption result (NoKey id.0 self.now.table.slots) (λ i. holds_key id.0 (slot_at self.now.table.slots i) ≡ true) }
+        ensures within { IfSome result (λ i. i < 384) }
+        ensures full { IfSome result (λ i. (slot_at self.now.table.slots i).state ≡ Full) }
+        ensures key { IfSome result (λ i. (store : Store) (all : List Pairs) → Agrees self.now.table.slots store all →
+            (key : Key) × (map.get store.keys id.0 ≡ Some key) × HasKey (slot_at self.now.table.slots i) key) }
+        ensures none { IfNone result ((store : Store) (all : List Pairs) → Agrees self.now.table.slots store all → IsVolatileKey (map.get store.keys id.0) → ⊥) }
+    {
+        self.table.find(id)
+    }
+
+    /// The attributes of the key of a full slot.
+    pub fn attributes(&self, slot: u32) -> &Attributes
+        requires { (slot_at self.now.table.slots slot).state ≡ Full }
+        ensures { result.now ≡ (slot_at self.now.table.slots slot).attributes }
+    {
+        self.table.attributes(slot)
+    }
+
+    /// Takes a slot for a key that is to come.
+    pub fn reserve(&mut self) -> Filling
+        requires { CanReserve self.old.table.slots }
+        ensures gives { (store : Store) (all more : List Pairs) → Agrees self.old.table.slots store all → Gains all more (result.slot, 0) →
+            Agrees self.new.table.slots store more }
+        ensures fewer { (id : ℕ) → NoKey id self.old.table.slots → NoKey id self.new.table.slots }
+    {
+        self.table.reserve()
+    }
+
+    /// Gives up a slot that waits for its key.
+    pub fn give_up(&mut self, filling: Filling)
+        requires { IsOut self.old.table.slots (filling.slot, 0) }
+        ensures { (store : Store) (all less : List Pairs) → Agrees self.old.table.slots store all → Gains less all (filling.slot, 0) →
+            Agrees self.new.table.slots store less }
+    {
+        self.table.drop_filling(filling);
+    }
+
+    /// Puts a key into the slot that waits for it, and answers the slot. No slot has a key of its identifier.
+    pub fn fill(
+        &mut self,
+        filling: Filling,
+        number: u64,
+        attributes: &Attributes,
+        bytes: &[u8],
+    ) -> u32
+        requires out { IsOut self.old.table.slots (filling.slot, 0) }
+        requires short { length bytes.now ≤ 1024 }
+        requires unknown { NoKey attributes.now.id.0 self.old.table.slots }
+        ensures slot { result ≡ filling.slot }
+        ensures within { result < 384 }
+        ensures filled { slot_at self.new.table.slots result ≡ full_slot number attributes.now bytes.now }
+        ensures takes { (old new : Store) (all less : List Pairs) (key : Key) → Agrees self.old.table.slots old all → Gains less all (filling.slot, 0) →
+            Puts old new attributes.now.id.0 (Some key) → HasKey (full_slot number attributes.now bytes.now) key → IsThereOrNew old attributes.now.id.0 key →
+            Agrees self.new.table.slots new less }
+    {
+        self.table.finish(filling, number, attributes, bytes)
+    }
+
+    /// Lends a copy of the bytes of a full slot's key, in a clear spare.
+    pub fn lend(&mut self, slot: u32, spare: Secret) -> Lease
+        requires full { (slot_at self.old.table.slots slot).state ≡ Full }
+        requires few { (slot_at self.old.table.slots slot).readers < 2 ^ 32 - 1 }
+        requires clear { IsClear spare }
+        ensures lease { result ≡ record { slot = slot; creation = (slot_at self.old.table.slots slot).creation; buffer = (slot_at self.old.table.slots slot).buffer } }
+        ensures gives { (store : Store) (all more : List Pairs) → Agrees self.old.table.slots store all → Gains all more (slot, result.creation + 1) →
+            Agrees self.new.table.slots store more }
+    {
+        self.table.register(slot, spare)
+    }
+
+    /// Takes a lease back, and answers the spare, which is clear.
+    pub fn take_back(&mut self, lease: Lease) -> Secret
+        requires { IsOut self.old.table.slots (lease.slot, lease.creation + 1) }
+        ensures clear { IsClear result }
+        ensures takes { (store : Store) (all less : List Pairs) → Agrees self.old.table.slots store all → Gains less all (lease.slot, lease.creation + 1) →
+            Agrees self.new.table.slots store less }
+    {
+        self.table.leave(lease)
+    }
+
+    /// Whether the key that a lease reads is still there.
+    pub fn is_alive(&self, lease: &Lease) -> bool
+        requires { IsOut self.now.table.slots (lease.now.slot, lease.now.creation + 1) }
+        ensures { (store : Store) (all : List Pairs) → Agrees self.now.table.slots store all → 0 < named lease.now.slot (lease.now.creation + 1) all →
+            IsTrue result ↔ HasNumber store lease.now.creation }
+    {
+        self.table.is_alive(lease)
+    }
+
+    /// Forgets a key that was destroyed. Where it is read, its slot waits for its last reader.
+    pub fn destroy(&mut self, id: KeyId)
+        ensures { (old new : Store) (all : List Pairs) → Agrees self.old.table.slots old all → IsSoundStore old → Puts old new id.0 None → Agrees self.new.table.slots new all }
+    {
+        if let Some(slot) = self.table.find(id) {
+            self.table.mark(slot);
+        }
+    }
+
+    /// Forgets a key that is in a file too and that nobody reads.
+    pub fn purge(&mut self, id: KeyId)
+        ensures stays { (store : Store) (all : List Pairs) → Agrees self.old.table.slots store all → Agrees self.new.table.slots store all }
+        ensures wiped { (i : ℕ) → holds_key id.0 (slot_at self.new.table.slots i) ≡ true → is_idle (slot_at self.new.table.slots i) ≡ false }
+    {
+        if let Some(slot) = self.table.find(id) {
+            self.table.purge(slot);
+        }
+    }
+
+    /// Whether a slot can be taken.
+    pub fn can_reserve(&self) -> bool
+        ensures { IsTrue result ↔ CanReserve self.now.table.slots }
+    {
+        self.table.can_reserve()
+    }
+}
