@@ -3,7 +3,7 @@ ghost use Rattle.std.specs.Prelude.{◌≡◌, ◌<◌, ◌≤◌, ◌-◌, ◌+
 ghost use Rattle.std.specs.FinMap as map;
 ghost use Rattle.secret_bytes.specs.Buffer.{IsClear};
 ghost use Rattle.slot_states.specs.declared.SlotState.TheVariants.{Full};
-ghost use Rattle.slot_table.specs.Slots.{empty_slot, slot_at, holds_key, is_idle, NoKey, CanReserve};
+ghost use Rattle.slot_table.specs.Slots.{empty_slot, slot_at, holds_key, is_idle, NoKey, CanReserve, IsLawful};
 ghost use Rattle.slot_table.specs.Changes.{full_slot};
 ghost use Rattle.store_model.specs.Store.{Key, Store};
 ghost use Rattle.store_model.specs.Sound.{HasNumber, IsSoundStore};
@@ -20,6 +20,7 @@ use std::alloc::Global;
 #[derive(Drop)]
 pub struct KeySlots {
     pub table: SlotTable,
+    pub ghost lawful: { IsLawful table },
 }
 
 impl KeySlots {

@@ -1,0 +1,10 @@
+use Rattle.std.proofs.Common.{◌≡◌, ap}
+use Rattle.slot_table.specs.Lent.{Reading}
+use Rattle.slot_table.specs.Slots.{slot_at}
+use Rattle.key_slots.proofs.Agreeing.{registers}
+use Rattle.key_slots.proofs.slots.KeySlots.lend.Goals as goal
+
+pub returns-clause-gives : goal.returns-clause-gives
+returns-clause-gives c = λ store all more a gains.
+    let creation = ap (λ (l : Reading). l.creation) c.register.ensures.lease in
+    rw c.register.ensures.slots (registers c.args.self.now.table store all more c.args.slot c.args.self.now.lawful c.requires.full (rw creation at gains) a)
