@@ -194,6 +194,12 @@ is_read slots store all i c a out =
     let is = is_lease (is_filling s.state) s.creation s.readers c (omega arith) in
     (inside, is.0, is.1)
 
+-- the readers of a slot's key
+pub readers_out : (slots : List Slot) (store : Store) (all : List Pairs) (i : ℕ) → i < 384 → Agrees slots store all → named i ((slot_at slots i).creation + 1) all ≡ (slot_at slots i).readers
+readers_out slots store all i inside a = let s = slot_at slots i in (a.each i inside).held (s.creation + 1) ∙ read (is_filling s.state) s.creation s.readers where
+  read : (f : Bool) (c r : ℕ) → counted f c r (c + 1) ≡ r
+  read f c r = grind (arith, nat_tests)
+
 -- a lease is given back; the last one wipes a pending slot
 pub leaves : (t : Table) (store : Store) (all less : List Pairs) (i c : ℕ) → IsLawful t → Gains less all (i, c + 1) → Agrees t.slots store all → Agrees (set t.slots i (left (slot_at t.slots i))) store less
 leaves t store all less i c law gains a =
@@ -276,7 +282,7 @@ same_id id s has = go (is_full s.state) s.attributes.id.0 has where
   go true n is = eqb-true n id is
   go false n is = absurd (false≢true is)
 
-holds_its_key : (id : ℕ) (s : Slot) → is_full s.state ≡ true → s.attributes.id.0 ≡ id → holds_key id s ≡ true
+pub holds_its_key : (id : ℕ) (s : Slot) → is_full s.state ≡ true → s.attributes.id.0 ≡ id → holds_key id s ≡ true
 holds_its_key id s full same = ap (λ b. b && (s.attributes.id.0 == id)) full ∙ eq-eqb s.attributes.id.0 id same
 
 -- a key that is gone stays so

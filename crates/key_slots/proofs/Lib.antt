@@ -1,2 +1,4 @@
 pub mod Pairs
 pub mod Agreeing
+pub mod Sums
+pub mod Counting
