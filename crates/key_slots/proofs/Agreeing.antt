@@ -1,21 +1,21 @@
 -- What each change of a slot makes of slots that stand for the keys.
-use Rattle.std.proofs.Common.{◌≡◌, ◌≢◌, ◌<◌, ◌≤◌, ℕ, ◌+◌, ◌-◌, ◌==◌, Bool, true, false, cond, List, length, set, refl, sym, ap, ◌∙◌, arith, Some, None, Option, inl, inr, ⊎_elim, ◌&&◌, subst, eq-eqb, replicate, [], zero, suc}
+use Rattle.std.proofs.Common.{◌≡◌, ◌≢◌, ◌<◌, ℕ, ◌+◌, ◌-◌, ◌==◌, Bool, true, false, cond, List, length, set, refl, sym, ap, ◌∙◌, arith, Some, None, Option, inl, inr, ◌&&◌, eq-eqb, replicate, [], zero, suc}
 use Rattle.std.proofs.lemmas.Bool.{false≢true, cases_lt, cases_eq}
 use Rattle.std.specs.FinMap as map
 use Rattle.std.specs.Bool.{OnTrue, OnFalse}
 use Rattle.slot_states.specs.declared.SlotState.{SlotState}
 use Rattle.slot_states.specs.declared.SlotState.TheVariants.{Empty, Filling, Full, Pending}
-use Rattle.slot_table.specs.Slots.{Slot, Table, slot_at, empty_slot, filling_slot, is_full, is_pending, is_idle, is_last, is_empty_state, holds_key, NoKey, NoneEmpty, IsEmptyAt, IsNext, IsLawfulSlot, IsLawful}
+use Rattle.slot_table.specs.Slots.{Slot, Table, slot_at, empty_slot, filling_slot, is_full, is_pending, is_idle, is_last, is_empty_state, holds_key, NoKey, IsNext, IsLawfulSlot, IsLawful}
 use Rattle.slot_table.specs.Changes.{full_slot, registered, left, destroyed_slot}
 use Rattle.slot_table.proofs.AtSlots.{at_each, slot_at-set_same, full_within, key_is_full, idle_is_full, idle_is_unread, find_passes, next_within, next_is_unread}
 use Rattle.key_attributes.specs.Checks.{persistence}
 use Rattle.key_attributes.specs.declared.Attributes.{Attributes}
 use Rattle.std.proofs.lemmas.Bool.{eqb-true}
-use Rattle.std.proofs.lemmas.Bool.Decides.{eqb_tells, nat_tests}
+use Rattle.std.proofs.lemmas.Bool.Decides.{nat_tests}
 use Rattle.store_model.specs.Store.{Key, Store, is_volatile}
-use Rattle.store_model.specs.Sound.{IsSoundStore, IsSoundKey, HasNumber}
+use Rattle.store_model.specs.Sound.{IsSoundStore, HasNumber}
 use Rattle.key_slots.specs.Holdings.{Pairs, Gains, named, same}
-use Rattle.key_slots.specs.Standing.{Agrees, StandsAt, IsGone, HasKey, Puts, IsThereOrNew, KeepsKeys, IsVolatileKey, next_number, is_filling, pairs_on}
+use Rattle.key_slots.specs.Standing.{Agrees, StandsAt, IsGone, HasKey, Puts, IsThereOrNew, KeepsKeys, IsVolatileKey, is_filling, pairs_on}
 use Rattle.key_slots.proofs.Pairs.{counted, elsewhere, was_out, nobody, nothing_out, one_more, one_less, one_filling, no_filling, is_lease, is_fill}
 
 -- A SLOT THAT IS SET
@@ -162,11 +162,11 @@ reserves t store all more i law next gains a =
     let inside : i < 384 = omega arith in
     changed t.slots store all more i filling_slot sized inside a (elsewhere all more i 0 gains)
     (wiped store more i filling_slot refl refl (λ n.
-        let none : named i n all ≡ 0 = (a.each i inside).held n ∙ unused (slot_at t.slots i) n (next_is_unread t i law next) (next_is_still t i next) in
-        let one = one_filling i n in
-        let e = gains i n in
-        let sum : named i n more ≡ counted true 0 0 n = omega arith in
-        sum))
+    let none : named i n all ≡ 0 = (a.each i inside).held n ∙ unused (slot_at t.slots i) n (next_is_unread t i law next) (next_is_still t i next) in
+    let one = one_filling i n in
+    let e = gains i n in
+    let sum : named i n more ≡ counted true 0 0 n = omega arith in
+    sum))
     (λ id key is volatile has. absurd (next_not_volatile t store all id i key next a inside is volatile has))
 
 -- a lease of a slot's key
@@ -207,7 +207,7 @@ leaves t store all less i c law gains a =
     let r = is_read t.slots store all i c a (was_out all less i (c + 1) gains) in
     let at = a.each i r.0 in
     let fewer : (n : ℕ) → named i n less ≡ counted (is_filling s.state) s.creation (s.readers - 1) n =
-        λ n. one_less (is_filling s.state) i s.creation s.readers n (named i n less) (sym (at.held n) ∙ gains i n ∙ ap (λ k. named i n less + same i n (i, k + 1)) r.1) in
+    λ n. one_less (is_filling s.state) i s.creation s.readers n (named i n less) (sym (at.held n) ∙ gains i n ∙ ap (λ k. named i n less + same i n (i, k + 1)) r.1) in
     changed t.slots store all less i (left s) law.sized r.0 a (λ j n other. sym (elsewhere less all i (c + 1) gains j n other))
     (stands s at fewer (is_last s) refl)
     (λ id key is volatile has. keeps s id has (is_last s) refl) where

@@ -1,27 +1,27 @@
 -- How many slots are in use.
-use Rattle.std.proofs.Common.{◌≡◌, ◌≢◌, ◌<◌, ◌≤◌, ℕ, suc, ◌+◌, ◌-◌, ◌*◌, ◌/◌, ◌^◌, ◌==◌, Bool, true, false, not, cond, ◌&&◌, ◌||◌, nat_lt, List, [], ◌∷◌, length, All, count_by, Option, Some, None, is_some, Result, Ok, refl, sym, ap, ◌∙◌, arith, ◌⊎◌, inl, inr}
-use Rattle.std.proofs.lemmas.Bool.{false≢true, cases_eq, eqb-true}
+use Rattle.std.proofs.Common.{◌≡◌, ◌≢◌, ◌<◌, ◌≤◌, ℕ, suc, ◌+◌, ◌-◌, ◌*◌, ◌/◌, ◌^◌, ◌==◌, Bool, true, false, not, cond, ◌&&◌, ◌||◌, nat_lt, List, [], ◌∷◌, length, All, count_by, Option, Some, None, is_some, Ok, refl, sym, ap, ◌∙◌, arith, ◌⊎◌, inl, inr}
+use Rattle.std.proofs.lemmas.Bool.{false≢true, cases_eq}
 use Rattle.std.proofs.lemmas.Bool.Decides.{nat_tests}
-use Rattle.std.proofs.lemmas.Cmp.{nat_cmp_total, ranked}
+use Rattle.std.proofs.lemmas.Cmp.{ranked}
 use Rattle.std.proofs.lemmas.List.Elements.{All-head, All-tail}
 use Rattle.std.proofs.lemmas.List.Sums.{sum_by-cons}
 use Rattle.std.specs.declared.cmp.Ordering.TheVariants.{Equal}
 use Rattle.std.specs.FinMap as map
 use Rattle.psa_status.specs.declared.Status.{Status}
 use Rattle.psa_status.specs.declared.Status.TheVariants.{NotSupported}
-use Rattle.psa_status.specs.Rows.{first_row, unless}
+use Rattle.psa_status.specs.Rows.{unless}
 use Rattle.key_attributes.specs.declared.Attributes.{Attributes}
-use Rattle.key_attributes.specs.Checks.{persistence, location, is_lifetime, attribute_rows, filled}
+use Rattle.key_attributes.specs.Checks.{persistence, location, is_lifetime}
 use Rattle.slot_states.specs.declared.SlotState.{SlotState}
 use Rattle.slot_states.specs.declared.SlotState.TheVariants.{Empty, Filling, Full, Pending}
-use Rattle.slot_table.specs.Slots.{Slot, Table, slot_at, empty_slot, is_empty_state, is_full, is_pending, is_idle, holds_key, CanReserve, IsLawfulSlot, IsLawful}
-use Rattle.store_model.specs.Store.{Key, KeyMap, Store, made_of, first_volatile, has_secure_element, is_volatile, is_volatile_of, live_volatile}
+use Rattle.slot_table.specs.Slots.{Slot, Table, slot_at, is_empty_state, is_full, is_idle, CanReserve, IsLawfulSlot, IsLawful}
+use Rattle.store_model.specs.Store.{Key, Store, has_secure_element, is_volatile, is_volatile_of}
 use Rattle.store_model.specs.Creation.{identified}
-use Rattle.store_model.specs.Sound.{IsChecked, IsVolatileOf, IsSoundKey, IsSoundStore, as_stated}
-use Rattle.key_slots.specs.Standing.{Agrees, StandsAt, HasKey, is_filling, pairs_on}
+use Rattle.store_model.specs.Sound.{IsChecked, IsSoundStore, as_stated}
+use Rattle.key_slots.specs.Standing.{Agrees, HasKey, is_filling}
 use Rattle.key_slots.proofs.Agreeing.{readers_out, holds_its_key}
 use Rattle.key_slots.specs.Holdings.{Pairs, same, names, named, IsHolding, AreHoldings}
-use Rattle.key_slots.proofs.Sums.{total, total-add, total-le, total-least, total-most, total-none, total-one, total-at, total-swap, first_passing, into_map}
+use Rattle.key_slots.proofs.Sums.{total, total-add, total-least, total-most, total-none, total-one, total-at, total-swap, first_passing, into_map}
 
 -- PAIRS
 
@@ -221,10 +221,10 @@ too_many t store all law a holdings sound none =
           let at = a.each i lt in
           is_used s (named i 0 all) (named i (s.creation + 1) all) (callers_of s) (law.each i) (none i lt) (at.held 0) (readers_out t.slots store all i lt a)
           (λ full. let k = at.full full in
-              elim (lifetime_of k.0.attributes (length k.0.bytes) store (sound.keys s.attributes.id.0 k.0 k.1).attributes) [
-                | inl volatile ↦ inl (has_caller store s sound full (ap is_volatile k.2.attributes ∙ volatile) k)
-                | inr persistent ↦ inr (ap (λ (x : Attributes). persistence x.lifetime.0 == 1) k.2.attributes ∙ persistent)
-              ])
+          elim (lifetime_of k.0.attributes (length k.0.bytes) store (sound.keys s.attributes.id.0 k.0 k.1).attributes) [
+            | inl volatile ↦ inl (has_caller store s sound full (ap is_volatile k.2.attributes ∙ volatile) k)
+            | inr persistent ↦ inr (ap (λ (x : Attributes). persistence x.lifetime.0 == 1) k.2.attributes ∙ persistent)
+          ])
 
 pub always_found : (t : Table) (store : Store) (all : List Pairs) → IsLawful t → Agrees t.slots store all → AreHoldings all → IsSoundStore store → CanReserve t.slots
 always_found t store all law a holdings sound = elim (first_passing (λ i. is_free (slot_at t.slots i)) 384) [

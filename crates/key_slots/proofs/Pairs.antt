@@ -1,7 +1,7 @@
 -- How often the holdings name a slot.
-use Rattle.std.proofs.Common.{◌≡◌, ◌≢◌, ℕ, zero, suc, ◌+◌, ◌-◌, ◌<◌, ◌≤◌, eqb, Bool, true, false, cond, List, [], ◌∷◌, length, replicate, refl, sym, ap, ◌∙◌, arith, eq-eqb, ne_eqb, ⊎_elim}
+use Rattle.std.proofs.Common.{◌≡◌, ◌≢◌, ℕ, zero, suc, ◌+◌, ◌-◌, ◌<◌, eqb, Bool, true, false, cond, List, [], replicate, refl, arith}
 use Rattle.std.proofs.lemmas.Bool.Decides.{nat_tests}
-use Rattle.key_slots.specs.Holdings.{Pairs, same, names, named, Gains}
+use Rattle.key_slots.specs.Holdings.{Pairs, same, named, Gains}
 
 -- how many pairs name a slot with the second number n: f where it waits for its key, and r readers of the key number c
 abbrev pub counted : (f : Bool) (c r n : ℕ) → ℕ

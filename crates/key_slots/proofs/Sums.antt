@@ -1,6 +1,6 @@
 -- Sums over the numbers below a bound, and how many keys of a map can be named.
-use Rattle.std.proofs.Common.{◌≡◌, ◌≢◌, ◌<◌, ◌≤◌, ℕ, zero, suc, ◌+◌, ◌-◌, ◌*◌, ◌==◌, Bool, true, false, cond, Option, Some, None, is_some, refl, sym, ap, ◌∙◌, arith, ◌⊎◌, inl, inr}
-use Rattle.std.proofs.lemmas.Bool.{false≢true, cases_eq, cases_lt}
+use Rattle.std.proofs.Common.{◌≡◌, ◌≢◌, ◌<◌, ◌≤◌, ℕ, zero, suc, ◌+◌, ◌-◌, ◌*◌, ◌==◌, Bool, true, false, cond, None, is_some, refl, sym, ap, ◌∙◌, arith, ◌⊎◌, inl, inr}
+use Rattle.std.proofs.lemmas.Bool.{false≢true, cases_eq}
 use Rattle.std.proofs.lemmas.Cmp.{nat_cmp_total}
 use Rattle.std.proofs.lemmas.Bool.Decides.{nat_tests}
 use Rattle.std.specs.Cmp.{unsigned_tied}
@@ -95,10 +95,10 @@ into_map m f t (suc n) has one = elim (t n) as (λ b. t n ≡ b → cond b 1 0 +
       let less : map.len (map.remove m (f n)) ≡ map.len m - 1 = map.len-remove nat_cmp_total m (f n) ∙ ap (λ b. cond b (map.len m - 1) (map.len m)) here in
       let some = some_len m (f n) here in
       let rest = into_map (map.remove m (f n)) f t n
-          (λ i lt passes.
-              let other : f i ≢ f n = λ same. let e = one i n (omega arith) (omega arith) passes is same in omega arith in
-              ap is_some (map.get-remove nat_cmp_total m (f n) (f i) ∙ ap (λ b. cond b None (map.get m (f i))) (unsigned_tied (f i) (f n) ∙ apart (f i) (f n) other)) ∙ has i (omega arith) passes)
-          (λ i j at_i at_j. one i j (omega arith) (omega arith)) in
+      (λ i lt passes.
+      let other : f i ≢ f n = λ same. let e = one i n (omega arith) (omega arith) passes is same in omega arith in
+      ap is_some (map.get-remove nat_cmp_total m (f n) (f i) ∙ ap (λ b. cond b None (map.get m (f i))) (unsigned_tied (f i) (f n) ∙ apart (f i) (f n) other)) ∙ has i (omega arith) passes)
+      (λ i j at_i at_j. one i j (omega arith) (omega arith)) in
       omega arith
   | false ↦ λ is. let rest = into_map m f t n (λ i lt. has i (omega arith)) (λ i j at_i at_j. one i j (omega arith) (omega arith)) in omega arith
 ] refl where

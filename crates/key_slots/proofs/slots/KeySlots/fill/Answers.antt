@@ -1,4 +1,4 @@
-use Rattle.key_slots.proofs.Agreeing.{is_waiting, fills}
+use Rattle.key_slots.proofs.Agreeing.{fills}
 use Rattle.key_slots.proofs.slots.KeySlots.fill.Goals as goal
 
 pub returns-clause-takes : goal.returns-clause-takes

@@ -1,4 +1,4 @@
-use Rattle.key_slots.proofs.Agreeing.{gives_up, is_waiting}
+use Rattle.key_slots.proofs.Agreeing.{gives_up}
 use Rattle.key_slots.proofs.slots.KeySlots.give_up.Goals as goal
 
 pub returns : goal.returns

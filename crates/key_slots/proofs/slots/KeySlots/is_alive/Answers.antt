@@ -1,5 +1,5 @@
 use Rattle.std.proofs.Common.{sym, ◌∙◌}
-use Rattle.key_slots.proofs.Agreeing.{is_read, lives}
+use Rattle.key_slots.proofs.Agreeing.{lives}
 use Rattle.key_slots.proofs.slots.KeySlots.is_alive.Goals as goal
 
 pub returns : goal.returns

@@ -1,6 +1,5 @@
-use Rattle.std.proofs.Common.{◌≡◌, ap}
+use Rattle.std.proofs.Common.{ap}
 use Rattle.slot_table.specs.Lent.{Reading}
-use Rattle.slot_table.specs.Slots.{slot_at}
 use Rattle.key_slots.proofs.Agreeing.{registers}
 use Rattle.key_slots.proofs.slots.KeySlots.lend.Goals as goal
 

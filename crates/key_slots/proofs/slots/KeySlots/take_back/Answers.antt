@@ -1,5 +1,4 @@
-use Rattle.std.proofs.Common.{sym}
-use Rattle.key_slots.proofs.Agreeing.{is_read, leaves}
+use Rattle.key_slots.proofs.Agreeing.{leaves}
 use Rattle.key_slots.proofs.slots.KeySlots.take_back.Goals as goal
 
 pub returns-clause-takes : goal.returns-clause-takes
