@@ -1,9 +1,12 @@
--- A history whose marks are caused, with one more entry.
+-- A history whose marks are caused and allowed, with one more entry.
 use Rattle.std.proofs.Common.{[], ◌∷◌}
 use Rattle.store_model.specs.Replay.{outcome_of}
-use Rattle.store_model.specs.Laws.{CausesGoOn}
+use Rattle.store_model.specs.Laws.{CausesGoOn, AllowedGoOn}
 
 pub go_on : CausesGoOn
-go_on tells counts service [] e caused may fault = (may, fault, tt)
-go_on tells counts service (first ∷ h) e caused may fault =
-    (caused.0, caused.1, go_on tells (record { faults = first.faults; hard = first.hard }) (outcome_of service first).service h e caused.2 may fault)
+go_on tells counts [] e caused fault = (fault, tt)
+go_on tells counts (first ∷ h) e caused fault = (caused.0, go_on tells (record { faults = first.faults; hard = first.hard }) h e caused.1 fault)
+
+pub allowed_go_on : AllowedGoOn
+allowed_go_on service [] e allowed may = (may, tt)
+allowed_go_on service (first ∷ h) e allowed may = (allowed.0, allowed_go_on (outcome_of service first).service h e allowed.1 may)

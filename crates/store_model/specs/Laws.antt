@@ -10,7 +10,7 @@ use Rattle.store_model.specs.Call.{Import, Destroy, Copy, Generate, Reply, buffe
 use Rattle.store_model.specs.HandleCalls.{HandleCall, OutputKey, is_setup}
 use Rattle.store_model.specs.Requests.{Request, OnStore, OnHandle, serve}
 use Rattle.store_model.specs.Replay.{Entry, replay}
-use Rattle.store_model.specs.Marks.{Counts, MayBeMarked, HasFault, IsCaused, last_counts}
+use Rattle.store_model.specs.Marks.{Counts, MayBeMarked, HasFault, IsCaused, AreAllowed, last_counts}
 use Rattle.store_model.specs.Refusals.{is_ready, left_by, spoils}
 
 -- the handle that a request is on
@@ -99,9 +99,13 @@ LeavesSettings =
     let after : Store = (serve service caller request mark).service.store in
     (after.settings ≡ service.store.settings) × (after.found ≡ service.store.found)
 
--- a history whose marks are caused goes on so with one more entry, whose mark stands where it may and has its fault since the
--- last one
+-- a history whose marks are caused, or allowed, goes on so with one more entry whose mark is
 abbrev pub CausesGoOn : Type 0
 CausesGoOn =
-    (tells : Bool) (counts : Counts) (service : Service) (h : List Entry) (e : Entry) → IsCaused tells counts service h →
-    MayBeMarked (replay service h) e.caller e.call e.mark → HasFault tells (last_counts counts h) e e.mark → IsCaused tells counts service (h ++ e ∷ [])
+    (tells : Bool) (counts : Counts) (h : List Entry) (e : Entry) → IsCaused tells counts h → HasFault tells (last_counts counts h) e e.mark →
+    IsCaused tells counts (h ++ e ∷ [])
+
+abbrev pub AllowedGoOn : Type 0
+AllowedGoOn =
+    (service : Service) (h : List Entry) (e : Entry) → AreAllowed service h → MayBeMarked (replay service h) e.caller e.call e.mark →
+    AreAllowed service (h ++ e ∷ [])

@@ -1,6 +1,6 @@
 -- Where the mark of a call may stand, and by what it is caused.
 use Rattle.std.specs.Prelude.{◌≡◌, ℕ, Bool, true, false, not, ◌||◌, ◌&&◌, List, [], ◌∷◌, ◌++◌, Option, Some, None, is_some, IsTrue, if◌then◌else◌}
-use Rattle.std.specs.Option.{option_map_or, option_and_then}
+use Rattle.std.specs.Option.{option_and_then}
 use Rattle.std.specs.FinMap as map
 use Rattle.psa_status.specs.declared.Status.{Status}
 use Rattle.psa_status.specs.declared.Status.TheVariants.{Success, InvalidSignature}
@@ -9,7 +9,7 @@ use Rattle.psa_status.specs.Causes.{Rose}
 use Rattle.store_model.specs.Store.{Key, Store, is_persistent_key, is_opaque_key}
 use Rattle.store_model.specs.Call.{Call, Export, GetAttributes, Destroy, Copy, MacCompute, MacVerify, CipherEncrypt, CipherDecrypt, AeadEncrypt, AeadDecrypt, Output, Identifier}
 use Rattle.store_model.specs.Faults.{FaultMark, Plain, Storage, Hardware, Corrupt, Reading, Writing}
-use Rattle.store_model.specs.Operations.{Operation, Active, is_inactive, with_live_key}
+use Rattle.store_model.specs.Operations.{Operation, Active, is_inactive}
 use Rattle.store_model.specs.DerivationOperations.{DerivationWork, key_step_rows}
 use Rattle.store_model.specs.Handles.{Service, Served, operation_of, key_of_operation, is_alive, part_of, derivation_part}
 use Rattle.store_model.specs.HandleCalls.{HandleCall, MacSetup, CipherSetup, AeadSetup, InputKey}
@@ -100,12 +100,15 @@ HasFault tells before e (Storage access) = Rose before.faults e.faults
 HasFault tells before e Hardware = Rose before.hard e.hard
 HasFault tells before e Corrupt = tells ≡ false
 
--- each mark of a history stands where it may, and has its fault since the entry before it, or since the opening
-abbrev pub IsCaused : (tells : Bool) → Counts → Service → List Entry → Type 0
-IsCaused tells before service [] = Unit {0}
-IsCaused tells before service (e ∷ es) =
-    MayBeMarked service e.caller e.call e.mark × HasFault tells before e e.mark
-    × IsCaused tells (record { faults = e.faults; hard = e.hard }) (outcome_of service e).service es
+-- each mark of a history stands where it may
+abbrev pub AreAllowed : Service → List Entry → Type 0
+AreAllowed service [] = Unit {0}
+AreAllowed service (e ∷ es) = MayBeMarked service e.caller e.call e.mark × AreAllowed (outcome_of service e).service es
+
+-- and each has its fault since the entry before it, or since the opening
+abbrev pub IsCaused : (tells : Bool) → Counts → List Entry → Type 0
+IsCaused tells before [] = Unit {0}
+IsCaused tells before (e ∷ es) = HasFault tells before e e.mark × IsCaused tells (record { faults = e.faults; hard = e.hard }) es
 
 -- the counts of a history's last entry, or those before it where it has none
 abbrev pub last_counts : Counts → List Entry → Counts

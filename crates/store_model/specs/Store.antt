@@ -1,5 +1,5 @@
 -- The one-thread store.
-use Rattle.std.specs.Prelude.{ℕ, ◌+◌, ◌*◌, ◌/◌, ◌^◌, Bool, false, List, [], ◌∷◌, ◌==◌, nat_lt, length, replicate, get_or, Option}
+use Rattle.std.specs.Prelude.{ℕ, ◌+◌, ◌*◌, ◌/◌, ◌^◌, Bool, false, not, List, [], ◌∷◌, ◌==◌, nat_lt, length, replicate, get_or, Option}
 use Rattle.std.specs.Option.{option_map_or}
 use Rattle.std.specs.List.{list_any}
 use Rattle.std.specs.Ordering.{nat_cmp}
@@ -75,7 +75,7 @@ abbrev pub is_opaque : Attributes → Bool
 is_opaque a = location a.lifetime.0 == 1
 
 abbrev pub is_persistent_key : Option Key → Bool
-is_persistent_key found = option_map_or (λ key. persistence key.attributes.lifetime.0 == 1) found false
+is_persistent_key found = option_map_or (λ key. not (is_volatile key.attributes)) found false
 
 abbrev pub is_opaque_key : Option Key → Bool
 is_opaque_key found = option_map_or (λ key. is_opaque key.attributes) found false

@@ -1,7 +1,7 @@
 //! The one-thread key store, its calls and its replies: definitions, which stand in `specs/`, and laws of them.
 #![tactic(auto)]
 
-ghost use Rattle.store_model.specs.Laws.{CausesGoOn, CountsOnce, DrawsFewWords, LeavesOtherCallers, LeavesOtherHandles, LeavesSettings, LeavesShared, RefusalsLeaveAll, RefusalsLeaveBuffers, RefusedSetupsLeaveAll, UnreadyHandlesStay};
+ghost use Rattle.store_model.specs.Laws.{AllowedGoOn, CausesGoOn, CountsOnce, DrawsFewWords, LeavesOtherCallers, LeavesOtherHandles, LeavesSettings, LeavesShared, RefusalsLeaveAll, RefusalsLeaveBuffers, RefusedSetupsLeaveAll, UnreadyHandlesStay};
 ghost use Rattle.store_model.specs.Origin.{CopiesGainNothing, NoneFoundAtStart};
 ghost use Rattle.store_model.specs.Sound.{AliveByNumber, StartsSound, StaysSound};
 
@@ -58,8 +58,9 @@ pub fn copies_gain_nothing()
     ensures start { NoneFoundAtStart }
 {}
 
-/// A history whose marks are caused goes on so with one more entry: its mark stands where it may on what the history leads
-/// to, and has its fault since the history's last entry, or since the opening.
+/// A history whose marks have their faults goes on so with one more entry whose mark has its fault since the last entry, or
+/// since the opening; and so does one whose marks stand where they may.
 pub fn causes_go_on()
-    ensures { CausesGoOn }
+    ensures causes { CausesGoOn }
+    ensures allowed { AllowedGoOn }
 {}
