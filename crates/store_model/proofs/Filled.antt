@@ -1,6 +1,6 @@
 -- What is recorded of a new key passes the checks, and comes out of them as it is.
 use Rattle.std.proofs.Common.{◌≡◌, ℕ, ◌*◌, Bool, true, false, not, refl, sym, ap, ◌∙◌, arith}
-use Rattle.std.specs.Prelude.{Option, None, Some, Ok, ◌==◌, ◌&&◌, [], ◌∷◌, ◌++◌, bit_and}
+use Rattle.std.specs.Prelude.{None, Ok, ◌==◌, ◌&&◌, [], ◌∷◌, bit_and}
 use Rattle.std.specs.Int.Bits.{and_zero_r}
 use Rattle.std.proofs.lemmas.Nat.{and_or_apart, and_or_self, and_comm, and_assoc, or_comm}
 use Rattle.std.specs.Int.RustNames.{bit_or}

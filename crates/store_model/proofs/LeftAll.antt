@@ -18,7 +18,7 @@ use Rattle.key_attributes.specs.declared.Attributes.{Attributes}
 use Rattle.store_model.specs.Operations.{is_inactive}
 use Rattle.store_model.proofs.DrawnBytes.{length-random}
 use Rattle.store_model.proofs.StoreShape.{store_shape}
-use Rattle.store_model.proofs.Operations.{same_operation, same_own, same_service}
+use Rattle.store_model.proofs.Operations.{same_own, same_service}
 use Rattle.store_model.proofs.Buffers.{LeavesBuffer, refusal_leaves}
 use Rattle.store_model.proofs.Served.{FailedCases, stays_put, setup_fails, on_store_shape, on_handle_shape}
 use Rattle.store_model.proofs.Shape.{shape}

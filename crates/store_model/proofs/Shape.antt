@@ -216,8 +216,19 @@ module _ (service : Service) (caller handle : ℕ) (a : Attributes) (P : Served 
   refused_step : (w : DerivationWork) → OfRefusals (Underived w) (derived_key_of service.store caller used_key w a)
   refused_step w =
       then_refused (Underived w) (unless (first_row (rows_before w)) a) _
-      (unless_refused (Underived w) (rows_before w) a (λ on. in_error w InvalidHandle refl, (λ on. in_error w BadState refl, (λ on. in_error w InvalidArgument refl, (λ on. in_error w NotSupported refl,
-      (λ on. in_error w NotPermitted refl, (λ less. exhausted_step service.store used_key w (went_on used_key (record w { capacity = 0 }) (nat_lt w.capacity (stated_bytes a)) less), tt)))))))
+      (unless_refused (Underived w) (rows_before w) a (
+        λ on. in_error w InvalidHandle refl,
+        (
+          λ on. in_error w BadState refl,
+          (
+            λ on. in_error w InvalidArgument refl,
+            (
+              λ on. in_error w NotSupported refl,
+              (λ on. in_error w NotPermitted refl, (λ less. exhausted_step service.store used_key w (went_on used_key (record w { capacity = 0 }) (nat_lt w.capacity (stated_bytes a)) less), tt)),
+            ),
+          ),
+        ),
+      ))
       (λ stated. recorded_refused (Underived w) (in_error w NotSupported refl) (in_error w InvalidArgument refl) (in_error w NotPermitted refl) (in_error w KeyLimit refl) (in_error w AlreadyExists refl)
       (in_error w InsufficientStorage refl) service.store caller stated (stated_bytes a))
 

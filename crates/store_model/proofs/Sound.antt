@@ -10,7 +10,7 @@ use Rattle.std.proofs.lemmas.List.{get_or-set_same, get_or-set_other}
 use Rattle.std.proofs.Math.ListN.{length-set}
 use Rattle.key_attributes.specs.declared.Attributes.{Attributes}
 use Rattle.key_attributes.specs.Checks.{checked}
-use Rattle.store_model.specs.Store.{Key, Store, made_of, has_secure_element, is_volatile, first_volatile, next_volatile, is_volatile_of, live_volatile, count_persistent}
+use Rattle.store_model.specs.Store.{Key, Store, made_of, has_secure_element, is_volatile, next_volatile, is_volatile_of, live_volatile, count_persistent}
 use Rattle.store_model.specs.Outcome.{counted}
 use Rattle.store_model.specs.Creation.{room_for_key_rows, created, new_id, new_key, identified}
 use Rattle.store_model.specs.KeyUse.{destroyed}

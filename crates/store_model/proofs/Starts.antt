@@ -1,6 +1,6 @@
 -- The keys that an opening finds make a sound store.
-use Rattle.std.proofs.Common.{◌≡◌, ℕ, ◌+◌, ◌/◌, ◌^◌, ◌<◌, ◌≤◌, Bool, true, false, cond, List, [], ◌∷◌, suc, zero, length, refl, sym, ap, ◌∙◌, arith, subst, replicate}
-use Rattle.std.specs.Prelude.{Option, None, Some, ◌==◌, nat_lt, find, slice_index_or}
+use Rattle.std.proofs.Common.{◌≡◌, ℕ, ◌+◌, ◌<◌, ◌≤◌, Bool, true, false, cond, List, [], ◌∷◌, suc, zero, length, refl, sym, ap, ◌∙◌, arith, subst, replicate}
+use Rattle.std.specs.Prelude.{None, Some, ◌==◌, nat_lt, find, slice_index_or}
 use Rattle.std.specs.Ordering.{nat_cmp}
 use Rattle.std.specs.FinMap as map
 use Rattle.std.proofs.lemmas.Bool.Decides.{nat_tests}

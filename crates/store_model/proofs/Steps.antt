@@ -1,5 +1,5 @@
 -- What a step of a family makes of a handle's operation.
-use Rattle.std.proofs.Common.{◌≡◌, ℕ, ◌≤◌, Bool, true, false, cond, List, [], refl, sym, arith}
+use Rattle.std.proofs.Common.{◌≡◌, ℕ, ◌≤◌, Bool, true, false, cond, List, refl, sym, arith}
 use Rattle.std.specs.Prelude.{Option, None, Some}
 use Rattle.psa_status.specs.declared.Status.{Status}
 use Rattle.psa_status.specs.declared.Status.TheVariants.{Success, InvalidHandle, InvalidPadding}

@@ -1,5 +1,5 @@
 -- The shape of any call on the store: it is counted alone, or creates a key, or destroys one.
-use Rattle.std.proofs.Common.{◌≡◌, ℕ, ◌≤◌, Bool, true, false, not, cond, List, [], ◌++◌, length, refl, sym, ap, subst, ◌∙◌, ◌⊎◌, inl, inr, arith}
+use Rattle.std.proofs.Common.{◌≡◌, ℕ, ◌≤◌, Bool, true, false, cond, List, ◌++◌, length, refl, sym, ap, subst, ◌∙◌, ◌⊎◌, inl, inr, arith}
 use Rattle.std.specs.Prelude.{Option, Some, None, Result, Ok, Err, ok_or, bytes_eq, take, drop, ◌-◌}
 use Rattle.std.specs.Option.{option_map}
 use Rattle.std.specs.FinMap as map
