@@ -29,9 +29,9 @@ pub fn leaves_shared()
 {}
 
 /// A request that doesn't succeed, though no device failed, leaves all but the count of calls and its own handle's
-/// operation, and of that exactly what its call, the operation and its status say (`left_by`). It leaves its output
-/// buffer, but for INVALID_SIGNATURE and INVALID_PADDING, which leave zeros, as many as were needed. A call that isn't in
-/// order on its handle, and a refused setup, leave all.
+/// operation, and of that exactly what its call, the operation and its status say (`left_by`). Whether one failed or not,
+/// a refusal leaves its output buffer, but for INVALID_SIGNATURE, INVALID_PADDING and HARDWARE_FAILURE, which leave zeros,
+/// as many as were needed. A call that isn't in order on its handle, and a refused setup, leave all.
 pub fn refusals_leave_all()
     ensures refusals { RefusalsLeaveAll }
     ensures buffers { RefusalsLeaveBuffers }
@@ -39,7 +39,7 @@ pub fn refusals_leave_all()
     ensures setups { RefusedSetupsLeaveAll }
 {}
 
-/// A service is sound at its start, and each request keeps it sound.
+/// A service is sound at its start, whatever keys an opening finds, and each request keeps it sound, whatever its mark.
 pub fn stays_sound()
     ensures starts { StartsSound }
     ensures stays { StaysSound }
@@ -50,9 +50,9 @@ pub fn alive_by_number()
     ensures { AliveByNumber }
 {}
 
-/// No chain of copies gains a usage flag or an algorithm, over every history and from every sound service, whose keys count
-/// as made before it; and each key has the policy that its creation recorded. Where a service begins without a key, nothing
-/// counts as made before.
+/// No chain of copies gains a usage flag or an algorithm, over every history, under every list of rules, and from every
+/// sound service, whose keys count as made before it; and each key has the policy that its creation recorded. Where a
+/// service begins without a key, nothing counts as made before.
 pub fn copies_gain_nothing()
     ensures gains { CopiesGainNothing }
     ensures start { NoneFoundAtStart }
