@@ -17,7 +17,7 @@ use Rattle.crypto_specs.specs.Hmac.{hmac}
 use Rattle.hash_ops.specs.declared.Hash.{Hash}
 use Rattle.hash_ops.specs.declared.Hash.TheVariants.{Sha224, Sha256, Sha384, Sha512}
 use Rattle.hash_ops.specs.Hashes as hashes
-use Rattle.store_model.specs.Algorithms.{cmac_base, digest, hash_block_length, is_hmac, length_or_none, low_byte, whole_mac}
+use Rattle.store_model.specs.Algorithms.{cmac_base, digest, hash_block_length, is_hmac, number_or_zero, low_byte, whole_mac}
 use Rattle.store_model.specs.Ciphers.{mode_of}
 use Rattle.store_model.specs.Rules.{class_number}
 use Rattle.store_model.specs.Aeads as model
@@ -172,7 +172,7 @@ module _ (alg : ℕ) where
       record {
         whole = λ key m. whole alg mac.kind key m row.1;
         cmac = λ is. cmac_only alg mac.kind row.1 is;
-        length = sym (ap length_or_none (stated (tag_length_of alg) mac.length parts.0));
+        length = sym (ap number_or_zero (stated (tag_length_of alg) mac.length parts.0));
         within = within l mac.length (whole_length mac.kind) (is_permitted l mac.length e parts.0) row.0;
       }
   names (family.Cipher mode) l e h =
@@ -183,7 +183,7 @@ module _ (alg : ℕ) where
       let row = and_parts (are_of l aead.kind) _ parts.1 in
       record {
         kind = same_bool (is_ccm aead.kind) (model.is_ccm alg) row.1;
-        length = sym (ap length_or_none (stated (tag_length_of alg) aead.tag_length parts.0));
+        length = sym (ap number_or_zero (stated (tag_length_of alg) aead.tag_length parts.0));
         permitted = permitted l aead.kind aead.tag_length (is_permitted l aead.tag_length e parts.0) row.0;
       }
   names (family.Derivation d) l e h =

@@ -27,8 +27,7 @@ shift_rows s = state_of (λ r c. entry s r ((c + r) % 4))
 abbrev pub mixed : ℕ → ℕ → ℕ → ℕ → ℕ → ℕ → ℕ → ℕ → ℕ
 mixed a0 a1 a2 a3 b0 b1 b2 b3 = bit_xor (bit_xor (bit_xor (gf_mul a0 b0) (gf_mul a1 b1)) (gf_mul a2 b2)) (gf_mul a3 b3)
 
--- each column's product with the matrix whose first row is a0, a1, a2, a3 and each further row the
--- one before it turned right by one
+-- each column's product with the matrix of the first row a0, a1, a2, a3, where each further row is the one before, turned right
 abbrev pub mixed_with : ℕ → ℕ → ℕ → ℕ → List ℕ → List ℕ
 mixed_with a0 a1 a2 a3 s = state_of (λ r c. mixed a0 a1 a2 a3 (entry s r c) (entry s ((r + 1) % 4) c) (entry s ((r + 2) % 4) c) (entry s ((r + 3) % 4) c))
 

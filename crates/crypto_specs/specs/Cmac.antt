@@ -16,8 +16,7 @@ subkey1 e = number_block (doubled (block_number (e (number_block 0))))
 unfoldable pub subkey2 : (List ℕ → List ℕ) → List ℕ
 subkey2 e = number_block (doubled (block_number (subkey1 e)))
 
--- the last block M_n, from what is left of the message (6.2, step 4): whole, with K1 added; or
--- filled by the bit 1 and zeros, with K2 added
+-- the last block M_n, from what is left (6.2, step 4): whole, with K1 added; or filled by the bit 1 and zeros, with K2 added
 unfoldable pub last_block : (List ℕ → List ℕ) → List ℕ → List ℕ
 last_block e left =
     cond (eqb (length left) 16) (xor_bytes left (subkey1 e))
@@ -31,8 +30,7 @@ chain_step e y block = e (xor_bytes y block)
 unfoldable pub chained : (List ℕ → List ℕ) → List (List ℕ) → List ℕ
 chained e bs = fold (chain_step e) (replicate 16 0) bs
 
--- how many blocks of a message of n bytes stand before the last one (6.2, step 2): an empty message
--- has one block, which is incomplete
+-- how many blocks of n bytes stand before the last one (6.2, step 2): an empty message has one block, which is incomplete
 abbrev pub front_count : ℕ → ℕ
 front_count n = max 1 (block_count n) - 1
 

@@ -24,8 +24,7 @@ ghash_of h ad text = ghash_from h 0 (numbers_of ad ++ numbers_of text ++ length_
 unfoldable pub increased : ℕ → ℕ → ℕ
 increased y n = y / 2 ^ 32 * 2 ^ 32 + (y % 2 ^ 32 + n) % 2 ^ 32
 
--- the pre-counter block J_0 (step 2): a nonce of 12 bytes and the number 1 in 4; of any other nonce,
--- its GHASH with its length
+-- the pre-counter block J_0 (step 2): a nonce of 12 bytes and the number 1 in 4; of any other nonce, its GHASH with its length
 unfoldable pub initial_counter_block : (List ℕ → List ℕ) → List ℕ → ℕ
 initial_counter_block e nonce = cond (eqb (length nonce) 12) (increased (block_number nonce) 1) (ghash_of (hash_subkey e) [] nonce)
 

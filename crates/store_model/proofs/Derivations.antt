@@ -13,7 +13,7 @@ use Rattle.store_model.specs.DerivationOperations.{DerivationWork, DerivationSte
 use Rattle.store_model.specs.CipherOperations.{bytes_or_empty}
 use Rattle.store_model.specs.HandleCalls.{HandleCall, OnDerivation, input_key_rows}
 use Rattle.store_model.specs.Handles.{KeyCreation, Deriving, held_with, held_after}
-use Rattle.store_model.specs.Refusals.{goes_on_where, left_by}
+use Rattle.store_model.specs.Refusals.{left_by}
 use Rattle.store_model.proofs.Buffers.{refusal_leaves}
 use Rattle.store_model.specs.Sound.{IsSoundDerivation}
 use Rattle.store_model.proofs.Tables.{none_holds, refused_by}
@@ -88,14 +88,6 @@ without_sound w n less h = record { capacity = let c = h.capacity in omega arith
 pub not_below : (m n : ℕ) → nat_lt m n ≡ false → n ≤ m
 not_below m n h = grind (arith, nat_tests)
 
-pub above : (m n : ℕ) → nat_lt m n ≡ false → nat_le n m ≡ true
-above m n h = grind (arith, nat_tests)
-
--- a derivation that goes on after a refusal
-pub went_on : (key : Option KeyCreation) (next : DerivationWork) (b : Bool) → b ≡ true → held_derivation key next ≡ held_with key (λ work. work) (goes_on_where b next)
-went_on key next true e = refl
-went_on key next false e = cc
-
 module _ {call : HandleCall} (store : Store) (key : Option KeyCreation) where
   -- a refusal that leaves the derivation active
   stays_step : (w next : DerivationWork) (status : Status) → held_derivation key next ≡ left_by call (held_derivation key w) status → (IsSoundDerivation w → IsSoundDerivation next) →
@@ -126,12 +118,12 @@ module _ (store : Store) (key : Option KeyCreation) where
   compared_step w expected true less =
       goes_step store key Deriving w (without w (length expected)) done refl (λ a. refl) (without_sound w (length expected) (not_below w.capacity (length expected) less))
   compared_step w expected false less =
-      stays_step store key w (without w (length expected)) InvalidSignature (went_on key (without w (length expected)) (nat_le (length expected) w.capacity) (above w.capacity (length expected) less))
+      stays_step store key w (without w (length expected)) InvalidSignature refl
       (without_sound w (length expected) (not_below w.capacity (length expected) less))
 
   lowered_step : (w : DerivationWork) (n : ℕ) (b : Bool) → nat_lt w.capacity n ≡ b →
       IsStep (OnDerivation (SetCapacity n)) store (held_derivation key w) (held_after key Deriving (cond b (goes_on w (refusal InvalidArgument)) (goes_on (record w { capacity = n }) done)))
-  lowered_step w n true e = stays_step store key w w InvalidArgument (went_on key w (nat_lt w.capacity n) e) (λ h. h)
+  lowered_step w n true e = stays_step store key w w InvalidArgument refl (λ h. h)
   lowered_step w n false e = goes_step store key Deriving w (record w { capacity = n }) done refl (λ a. refl) (lowered_sound w n (not_below w.capacity n e))
 
   -- a call on a derivation whose key is gone
@@ -153,13 +145,13 @@ module _ (store : Store) (key : Option KeyCreation) where
       unless_step store key Deriving _ _ _ (λ status refused. refl) (λ e. goes_step store key Deriving w _ done refl (λ a. refl) (cost_sound w value (none_holds (input_integer_rows w step value) 2 e)))
   derivation_is_step w (OutputBytes n) =
       unless_step store key Deriving _ _ _ (refused_by (Loses (OnDerivation (OutputBytes n)) (held_derivation key w)) (output_rows w) (λ on. refl, tt))
-      (λ e. taken_step store key w n (given (next_derived w n)) (nat_lt w.capacity n) refl (went_on key (record w { capacity = 0 }) (nat_lt w.capacity n))
+      (λ e. taken_step store key w n (given (next_derived w n)) (nat_lt w.capacity n) refl (λ less. refl)
       (λ less. goes_step store key Deriving w (without w n) (given (next_derived w n)) refl (λ a. refl) (without_sound w n (not_below w.capacity n less))))
   derivation_is_step w (VerifyBytes expected) =
       let same : Bool = bytes_eq expected (next_derived w (length expected)) in
       unless_step store key Deriving _ _ _ (refused_by (Loses (OnDerivation (VerifyBytes expected)) (held_derivation key w)) (output_rows w) (λ on. refl, tt))
       (λ e. taken_step store key w (length expected) (compared same) (nat_lt w.capacity (length expected)) refl
-      (went_on key (record w { capacity = 0 }) (nat_lt w.capacity (length expected))) (compared_step w expected same))
+      (λ less. refl) (compared_step w expected same))
 
 -- a key is due
 pub key_due : (w : DerivationWork) (found : Option Key) (step : ℕ) → first_row (input_key_rows w found step) ≡ None → is_secret_due w ≡ true

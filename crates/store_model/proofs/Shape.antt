@@ -29,7 +29,7 @@ use Rattle.store_model.proofs.Tables.{none_holds}
 use Rattle.store_model.proofs.Recorded.{MayBeKept, OfRefusals, then_ok, then_refused, unless_refused, recorded, recorded_refused}
 use Rattle.store_model.proofs.Buffers.{refusal_leaves}
 use Rattle.store_model.proofs.Steps.{IsStep, Loses, held_derivation, begun, fails_step, unless_step, alive_step, ends_step, hash_is_step, mac_is_step, cipher_is_step, aead_is_step}
-use Rattle.store_model.proofs.Derivations.{derivation_is_step, derivation_lost, exhausted_step, went_on, key_sound, key_due, start_sound, not_below, flipped}
+use Rattle.store_model.proofs.Derivations.{derivation_is_step, derivation_lost, exhausted_step, key_sound, key_due, start_sound, not_below, flipped}
 
 -- an active derivation has its secret and so many bytes, and these attributes may be kept
 pub record DerivesKey (service : Service) (caller handle : ℕ) (key : Option KeyCreation) (w : DerivationWork) (n : ℕ) (kept : Attributes) : Type 0 where
@@ -224,7 +224,7 @@ module _ (service : Service) (caller handle : ℕ) (a : Attributes) (P : Served 
             λ on. in_error w InvalidArgument refl,
             (
               λ on. in_error w NotSupported refl,
-              (λ on. in_error w NotPermitted refl, (λ less. exhausted_step service.store used_key w (went_on used_key (record w { capacity = 0 }) (nat_lt w.capacity (stated_bytes a)) less), tt)),
+              (λ on. in_error w NotPermitted refl, (λ less. exhausted_step service.store used_key w refl, tt)),
             ),
           ),
         ),

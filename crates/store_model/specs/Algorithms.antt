@@ -38,12 +38,12 @@ cmac_base = 0x03c00200
 abbrev pub is_hmac : ℕ → Bool
 is_hmac alg = base_of alg / 2 ^ 8 == 0x038000
 
-abbrev pub length_or_none : Option ℕ → ℕ
-length_or_none found = option_map_or (λ n. n) found 0
+abbrev pub number_or_zero : Option ℕ → ℕ
+number_or_zero found = option_map_or (λ n. n) found 0
 
 -- the bytes of a MAC, or of the tag of an AEAD
 abbrev pub tag_bytes : ℕ → ℕ
-tag_bytes alg = length_or_none (tag_length_of alg)
+tag_bytes alg = number_or_zero (tag_length_of alg)
 
 -- the MAC of a message: CMAC over AES, or HMAC over the hash of the low byte; a shorter one is its first bytes
 abbrev pub whole_mac : ℕ → List ℕ → List ℕ → List ℕ

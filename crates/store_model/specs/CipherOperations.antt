@@ -12,8 +12,7 @@ use Rattle.store_model.specs.Outcome.{given, done, spoiled}
 use Rattle.store_model.specs.Operations.{InError, Active, After, goes_on, ends, unless_failed}
 use Rattle.store_model.specs.HashOperations.{total_rows}
 
--- whether the text is encrypted, and not decrypted; the algorithm, the key, the initialisation vector once it is
--- there, and the text so far
+-- whether the text is encrypted, the algorithm, the key, the initialisation vector once it is there, and the text so far
 pub record CipherWork : Type 0 where
   pub encrypts : Bool
   pub alg : ℕ

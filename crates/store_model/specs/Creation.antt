@@ -15,8 +15,7 @@ use Rattle.store_model.specs.Outcome.{Outcome, refused, counted}
 abbrev pub file_rows : Store → Attributes → Rows
 file_rows store a = (not (is_volatile a || store.settings.has_file), NotSupported) ∷ []
 
--- A caller has at most 16 live volatile keys, and makes at most 2^20 of them. A persistent key's identifier is new, and there
--- are at most 512.
+-- a caller has at most 16 live volatile keys, and makes at most 2^20; persistent keys are at most 512, with an identifier each
 abbrev pub room_for_key_rows : Store → ℕ → Attributes → Rows
 room_for_key_rows store caller a =
     (is_volatile a && (nat_le 16 (live_volatile store.keys caller) || nat_le (2 ^ 20) (made_of store caller)), KeyLimit)

@@ -8,6 +8,7 @@ use Rattle.key_attributes.specs.Checks.{location}
 use Rattle.crypto_specs.specs.Hkdf.{extract, expand}
 use Rattle.crypto_specs.specs.Pbkdf2.{pbkdf2}
 use Rattle.store_model.specs.Algorithms.{digest, hash_block_length, hash_length_of, low_byte}
+pub use Rattle.store_model.specs.Algorithms.{number_or_zero}
 use Rattle.store_model.specs.Call.{Reply, Number}
 use Rattle.store_model.specs.Outcome.{given, done, refusal}
 use Rattle.store_model.specs.Operations.{After, goes_on, unless_failed}
@@ -39,9 +40,6 @@ abbrev pub derivation_work : ℕ → DerivationWork
 derivation_work alg = record { alg = alg; cost = None; salt = None; secret = None; info = None; by_key = false; taken = 0; capacity = full_capacity alg }
 
 -- THE OUTPUT: one list of bytes, whose front is taken piece by piece
-
-abbrev pub number_or_zero : Option ℕ → ℕ
-number_or_zero found = option_map_or (λ n. n) found 0
 
 -- the first n bytes
 abbrev pub derived : DerivationWork → ℕ → List ℕ

@@ -91,8 +91,7 @@ input_key service caller handle _ step id = untouched service BadState
 
 -- A KEY OF DERIVED BYTES
 
--- what it records, or the first refusal: the derivation's key is there, the derivation gives so many bytes, and then that of
--- every creation
+-- what it records, or the first refusal: the derivation's key is there and gives so many bytes, and then that of every creation
 abbrev pub derived_key_of : Store → ℕ → Option KeyCreation → DerivationWork → Attributes → Result Attributes Status
 derived_key_of store caller key w a = do
   stated ← unless (first_row ((not (is_alive store key), InvalidHandle) ∷ output_key_rows w a ++ (nat_lt w.capacity (stated_bytes a), InsufficientData) ∷ [])) a

@@ -37,8 +37,7 @@ pub record Held : Type 0 where
 abbrev pub HandleOperation : Type 0
 HandleOperation = Operation Held
 
--- what is one caller's own: how many random words it has drawn, and the operations of its handles by their numbers,
--- from 1
+-- what is one caller's own: how many random words it has drawn, and the operations of its handles by their numbers, from 1
 pub record Own : Type 0 where
   pub drawn : ℕ
   pub operations : List HandleOperation
@@ -146,8 +145,7 @@ held_with key embed InError = InError
 abbrev pub held_after : {W : Type 0} → Option KeyCreation → (W → Work) → After W → After Held
 held_after key embed after = record { operation = held_with key embed after.operation; reply = after.reply; drawn = after.drawn }
 
--- A step or a finish of one family on a handle: BAD_STATE where the handle isn't active with this family, then
--- INVALID_HANDLE where its key is gone, then what the family says.
+-- a call of one family on a handle: BAD_STATE where that isn't active with it, INVALID_HANDLE where its key is gone, and then f
 abbrev pub stepped : {W : Type 0} → Service → (caller handle : ℕ) → (W → Work) → Operation W → (W → After W) → Served
 stepped service caller handle embed (Active work) f =
     let key : Option KeyCreation = key_of_operation (operation_of service caller handle) in

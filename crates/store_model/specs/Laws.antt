@@ -37,8 +37,7 @@ DrawsFewWords =
     (service : Service) (caller other : ℕ) (request : Request) (mark : FaultMark) →
     (own_of (serve service caller request mark).service other).drawn ≤ (own_of service other).drawn + 256
 
--- what a request that didn't succeed leaves: all but the count of calls, and of its own handle's operation what `left_by`
--- says
+-- what a refused request leaves: all but the count of calls, and of its own handle's operation what `left_by` says
 abbrev pub left_all : Service → ℕ → Request → Status → Service
 left_all service caller (OnStore call) status = record service { store = counted service.store }
 left_all service caller (OnHandle handle call) status =

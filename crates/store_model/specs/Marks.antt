@@ -92,8 +92,7 @@ pub record Counts : Type 0 where
   pub faults : ℕ
   pub hard : ℕ
 
--- a mark is made only where the count of the device that failed rose in its turn, and never of a disk that tells its bytes
--- that they are no record
+-- a mark is made only where the count of the device that failed rose, and Corrupt never of a disk that tells its bytes
 abbrev pub HasFault : (tells : Bool) → Counts → Entry → FaultMark → Type 0
 HasFault tells before e Plain = Unit {0}
 HasFault tells before e (Storage access) = Rose before.faults e.faults

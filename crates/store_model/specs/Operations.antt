@@ -5,8 +5,7 @@ use Rattle.psa_status.specs.declared.Status.TheVariants.{BadState, InvalidHandle
 use Rattle.store_model.specs.Call.{Reply}
 use Rattle.store_model.specs.Outcome.{refusal, done}
 
--- An operation is inactive, has failed and waits for its abort, or is active with its work: what was said and
--- given to it so far, whole. How the pieces were cut isn't in it.
+-- an operation is inactive, has failed, or is active with its work: all that was given to it, whole, however it was cut
 pub data Operation (W : Type 0) : Type 0 where
   Inactive : Operation W
   InError : Operation W

@@ -39,8 +39,7 @@ abbrev pub made_after : Service → List Entry → List Made → List Made
 made_after service [] made = made
 made_after service (e ∷ es) made = made_after (outcome_of service e).service es (made_by service e ++ made)
 
--- A key that is there before a history counts as made before it, with its own policy and from no source, as where it was
--- found at opening.
+-- a key that is there before a history, as one found at opening, counts as made before it, from no source
 abbrev pub found_made : Store → List Made
 found_made store = each (creation_from None) (map.values store.keys)
 
@@ -73,8 +72,7 @@ pub record HasCreation (made : List Made) (key : Key) : Type 0 where
   pub found : creation_at made key.number ≡ Some creation
   pub policy : creation.policy ≡ key.attributes.policy
 
--- no chain of copies among these creations gains a flag or an algorithm, and each key has the policy that its creation
--- recorded
+-- no chain of copies among these gains a flag or an algorithm, and each key has the policy that its creation recorded
 pub record GainsNothing (made : List Made) (store : Store) : Type 0 where
   pub creations : (number : ℕ) (m : Made) → creation_at made number ≡ Some m → HasOrigin made m
   pub keys : (id : ℕ) (key : Key) → map.get store.keys id ≡ Some key → HasCreation made key

@@ -11,8 +11,7 @@ abbrev pub is_active : {W : Type 0} → Operation W → Bool
 is_active (Active work) = true
 is_active _ = false
 
--- whether the call is in order on the operation: a step or a finish on one that is active with the call's family, an
--- abort always, and a setup on an inactive one
+-- whether a call is in order: a step or a finish on an operation of its family, an abort always, a setup on an inactive one
 abbrev pub is_ready : HandleCall → HandleOperation → Bool
 is_ready (OnHash step) operation = is_active (part_of hash_part operation)
 is_ready (OnMac step) operation = is_active (part_of mac_part operation)
@@ -24,24 +23,17 @@ is_ready (OutputKey attributes) operation = is_active (part_of derivation_part o
 is_ready Abort operation = true
 is_ready setup operation = is_inactive operation
 
--- a derivation that goes on so where this holds, and is in error else
-abbrev pub goes_on_where : Bool → DerivationWork → Operation Work
-goes_on_where holds w = if holds then Active (Deriving w) else InError
-
--- What a refused step or finish leaves of its operation's work: an error. But after three refusals a derivation goes on:
--- as it was, where its capacity was to be raised; with nothing left to give, where more was asked for than it had; and
--- without the bytes that were compared and weren't those expected.
+-- A refused step or finish leaves an error. But after three refusals a derivation goes on: as it was, where its capacity was
+-- to be raised; without the bytes that weren't those expected; and with none left, where more was asked for than it had.
 abbrev pub work_left : HandleCall → Status → Work → Operation Work
-work_left (OnDerivation (SetCapacity n)) InvalidArgument (Deriving w) = goes_on_where (nat_lt w.capacity n) w
-work_left (OnDerivation (OutputBytes n)) InsufficientData (Deriving w) = goes_on_where (nat_lt w.capacity n) (record w { capacity = 0 })
-work_left (OnDerivation (VerifyBytes expected)) InsufficientData (Deriving w) = goes_on_where (nat_lt w.capacity (length expected)) (record w { capacity = 0 })
-work_left (OutputKey a) InsufficientData (Deriving w) = goes_on_where (nat_lt w.capacity (stated_bytes a)) (record w { capacity = 0 })
-work_left (OnDerivation (VerifyBytes expected)) InvalidSignature (Deriving w) =
-    goes_on_where (nat_le (length expected) w.capacity) (without w (length expected))
+work_left (OnDerivation (SetCapacity n)) InvalidArgument (Deriving w) = Active (Deriving w)
+work_left (OnDerivation (VerifyBytes expected)) InvalidSignature (Deriving w) = Active (Deriving (without w (length expected)))
+work_left (OnDerivation (VerifyBytes expected)) InsufficientData (Deriving w) = Active (Deriving (record w { capacity = 0 }))
+work_left (OnDerivation (OutputBytes n)) InsufficientData (Deriving w) = Active (Deriving (record w { capacity = 0 }))
+work_left (OutputKey a) InsufficientData (Deriving w) = Active (Deriving (record w { capacity = 0 }))
 work_left _ _ _ = InError
 
--- What a refused call leaves of the operation: all of one that it isn't in order on, and of an inactive one, which a
--- setup found; and the work of an active one as above, with its key.
+-- what a refused call leaves: an operation on which it isn't in order, and an inactive one; of an active one the work as above
 abbrev pub left_by : HandleCall → HandleOperation → Status → HandleOperation
 left_by call operation status =
     if is_ready call operation then held_with (key_of_operation operation) (λ work. work) (part_of (work_left call status) operation) else operation

@@ -25,13 +25,11 @@ abbrev pub plain_step : Service → ℕ → Request → Served
 plain_step service caller (OnStore call) = on_store service caller (step service.store caller (next_random service caller) call)
 plain_step service caller (OnHandle handle call) = handle_step service caller handle call
 
--- a device failed in the turn of a call on a handle: a setup leaves the handle, and any other call puts its operation in
--- error
+-- where a device failed, a setup leaves the handle, and any other call on one puts its operation in error
 abbrev pub failed_operation : HandleCall → HandleOperation → HandleOperation
 failed_operation call operation = if is_setup call then operation else InError
 
--- what a request leaves in whose turn a device failed: a destruction removes its key all the same, and any other call on the
--- store leaves the keys
+-- what is left where a device failed: a destruction removes its key all the same, and any other call on the store leaves the keys
 abbrev pub failed_step : Service → ℕ → Request → Service
 failed_step service caller (OnStore (Destroy id)) = record service { store = (destroyed service.store id).store }
 failed_step service caller (OnStore call) = record service { store = counted service.store }

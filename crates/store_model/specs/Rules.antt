@@ -42,8 +42,7 @@ mac_usage verifies = if verifies then 0x800 else 0x400
 abbrev pub cipher_usage : Bool → ℕ
 cipher_usage encrypts = if encrypts then 0x100 else 0x200
 
--- A call that uses a key with an algorithm, by what the map has at the identifier. Of a key that a secure element holds
--- the call has to be one that such a device computes.
+-- a call that uses what the map has at an identifier with an algorithm; a key of a device only where that computes such a call
 abbrev pub use_rows : (on_device : Bool) → Class → (usage alg : ℕ) → Option Key → Rows
 use_rows on_device class usage alg None = (true, InvalidHandle) ∷ []
 use_rows on_device class usage alg (Some key) =

@@ -17,8 +17,7 @@ use Rattle.store_model.specs.Requests.{Request, serve}
 abbrev pub as_stated : Attributes → Attributes
 as_stated a = if is_volatile a then identified a 0 else a
 
--- attributes pass the checks, and come out of them as they are: they have the flags that others imply, and the bits of so
--- many bytes
+-- attributes come out of the checks as they are: they have the flags that others imply, and the bits of so many bytes
 abbrev pub IsChecked : Attributes → (bytes : ℕ) → Store → Type 0
 IsChecked a bytes store = checked (as_stated a) bytes (has_secure_element store) ≡ Ok (as_stated a)
 
@@ -46,8 +45,7 @@ pub record IsSoundStore (store : Store) : Type 0 where
 
 -- THE OPERATIONS
 
--- the key that an operation was given: its creation number was given out, and no key with this number has another
--- identifier
+-- the key that an operation was given: its number was given out, and no key with this number has another identifier
 pub record IsSoundCreation (store : Store) (creation : KeyCreation) : Type 0 where
   pub given : creation.number < store.found + store.calls
   pub identifier : (id : ℕ) (key : Key) → map.get store.keys id ≡ Some key → key.number ≡ creation.number → id ≡ creation.id
@@ -56,8 +54,7 @@ abbrev pub IsSoundUse : Store → Option KeyCreation → Type 0
 IsSoundUse store None = Unit {0}
 IsSoundUse store (Some creation) = IsSoundCreation store creation
 
--- what was taken and what can still be taken are within the full capacity; and PBKDF2 has its cost, which isn't 0,
--- before a salt and a password
+-- all that is taken is within the full capacity; and PBKDF2 has its cost, which isn't 0, before a salt and a password
 pub record IsSoundDerivation (work : DerivationWork) : Type 0 where
   pub capacity : work.taken + work.capacity ≤ full_capacity work.alg
   pub cost : (n : ℕ) → work.cost ≡ Some n → 1 ≤ n

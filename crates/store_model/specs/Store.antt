@@ -8,8 +8,7 @@ use Rattle.key_attributes.specs.declared.Attributes.{Attributes}
 use Rattle.key_attributes.specs.Checks.{persistence, location}
 use Rattle.policy_rules.specs.declared.narrowing.Label.{Label}
 
--- a key that is alive: its creation number, its attributes, its bytes, and the caller that created it
--- (0 where it was found at opening)
+-- a key that is alive: its creation number, attributes and bytes, and the caller that created it (0 where it was found)
 pub record Key : Type 0 where
   pub number : ℕ
   pub attributes : Attributes
@@ -19,8 +18,7 @@ pub record Key : Type 0 where
 abbrev pub KeyMap : Type 0
 KeyMap = map.FinMap nat_cmp Key
 
--- what never changes: the seed of the random words, the labels of the rules in force in the order in which they are
--- asked, the locations that have a driver, and whether there is a file that keeps persistent keys
+-- what never changes: the seed, the labels of the rules in their order, the locations with a driver, and whether a file keeps keys
 pub record Settings : Type 0 where
   pub seed : List ℕ
   pub labels : List Label
