@@ -84,8 +84,6 @@ nonce_length w =
     else if nat_lt (declared_payload w.lengths) (2 ^ 24) then 12
     else 11
 
--- STEPS
-
 abbrev pub with_nonce : AeadWork → List ℕ → AeadWork
 with_nonce w nonce = record w { nonce = Some nonce }
 

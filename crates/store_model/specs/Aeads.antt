@@ -27,7 +27,6 @@ permits_payload alg n payload = nat_le payload total_limit && (not (is_ccm alg) 
 abbrev pub permits_lengths : ℕ → (nonce ad payload : ℕ) → Bool
 permits_lengths alg nonce ad payload = permits_nonce alg nonce && nat_le ad total_limit && permits_payload alg nonce payload
 
--- the text enciphered or deciphered
 abbrev pub aead_text : ℕ → (key nonce text : List ℕ) → List ℕ
 aead_text alg key nonce text = if is_ccm alg then ccm_text (aes_encrypt key) nonce text else gcm_text (aes_encrypt key) nonce text
 

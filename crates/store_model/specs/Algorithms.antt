@@ -17,14 +17,12 @@ digest byte message =
     else if byte == 10 then sha384 message
     else sha512 message
 
--- the bytes of a hash function's block
 abbrev pub hash_block_length : ℕ → ℕ
 hash_block_length byte = if byte == 8 then 64 else if byte == 9 then 64 else 128
 
 abbrev pub low_byte : ℕ → ℕ
 low_byte alg = alg % 2 ^ 8
 
--- the hash of a message
 abbrev pub hash_of : ℕ → List ℕ → List ℕ
 hash_of alg message = digest (low_byte alg) message
 
@@ -34,7 +32,6 @@ hash_length_of alg = hash_length (low_byte alg)
 abbrev pub cmac_base : ℕ
 cmac_base = 0x03c00200
 
--- whether a MAC's number is HMAC's
 abbrev pub is_hmac : ℕ → Bool
 is_hmac alg = base_of alg / 2 ^ 8 == 0x038000
 

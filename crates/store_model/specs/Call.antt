@@ -43,7 +43,6 @@ attribute_bytes a =
     to_be_bytes w32 a.lifetime.0 ++ to_be_bytes w32 a.id.0 ++ to_be_bytes w16 a.key_type.0 ++ to_be_bytes w16 a.bits
     ++ to_be_bytes w32 a.policy.usage.0 ++ to_be_bytes w32 a.policy.alg
 
--- what is given back, as bytes
 abbrev pub output_bytes : Output → List ℕ
 output_bytes (Identifier id) = to_be_bytes w32 id
 output_bytes (Description attributes) = attribute_bytes attributes

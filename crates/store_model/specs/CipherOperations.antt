@@ -62,8 +62,6 @@ cipher_due w =
 abbrev pub cipher_fresh : (before after : CipherWork) → List ℕ
 cipher_fresh before after = drop (length (cipher_due before)) (cipher_due after)
 
--- STEPS
-
 abbrev pub takes_iv : CipherWork → Bool
 takes_iv w = not (iv_length (mode_of w.alg) == 0) && not (is_some w.iv)
 

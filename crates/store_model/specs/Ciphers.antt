@@ -12,7 +12,6 @@ use Rattle.store_model.specs.Draws.{Random}
 use Rattle.store_model.specs.Rules.{using_key, room_rows, total_limit, cipher_usage}
 use Rattle.store_model.specs.Outcome.{Outcome, Computed, computed_unless, reply_unless, replies, given, spoiled}
 
--- the modes of the cipher algorithms
 pub data Mode : Type 0 where
   Ctr : Mode
   CbcNoPadding : Mode
@@ -31,7 +30,6 @@ abbrev pub iv_length : Mode → ℕ
 iv_length EcbNoPadding = 0
 iv_length _ = 16
 
--- whether a text has to be whole blocks
 abbrev pub takes_whole_blocks : Mode → Bool
 takes_whole_blocks CbcNoPadding = true
 takes_whole_blocks EcbNoPadding = true

@@ -39,7 +39,6 @@ stated_bytes a = a.bits / 8
 abbrev pub stated_bits_rows : Attributes → Rows
 stated_bits_rows a = (a.bits == 0 || not (a.bits % 8 == 0), InvalidArgument) ∷ []
 
--- the attributes with an identifier
 abbrev pub identified : Attributes → ℕ → Attributes
 identified a id = record a { id = record { 0 = id } }
 
@@ -65,7 +64,6 @@ created store caller kept bytes =
       drawn = 0;
     }
 
--- a creation, by what it records or its refusal
 abbrev pub created_unless : Store → ℕ → Result Attributes Status → List ℕ → Outcome
 created_unless store caller (Ok kept) bytes = created store caller kept bytes
 created_unless store caller (Err status) bytes = refused store status

@@ -77,7 +77,6 @@ info_step = 0x203
 abbrev pub cost_step : ℕ
 cost_step = 0x205
 
--- the step that a secret or a password has
 abbrev pub key_step : ℕ → ℕ
 key_step alg = if is_hkdf alg then secret_step else password_step
 
@@ -144,8 +143,6 @@ output_key_rows w a =
     ++ (not (location a.lifetime.0 == 0), NotSupported)
     ∷ (not w.by_key, NotPermitted)
     ∷ []
-
--- STEPS, but those that look at the store's keys
 
 pub data DerivationStep : Type 0 where
   GetCapacity : DerivationStep

@@ -8,13 +8,11 @@ use Rattle.store_model.specs.Draws.{Random}
 use Rattle.store_model.specs.Outcome.{Outcome, refused}
 use Rattle.store_model.specs.Creation.{recorded_of, created, stated_bytes, stated_bits_rows}
 
--- what a generation records, or its first refusal
 abbrev pub generation_of : Store → ℕ → Attributes → Result Attributes Status
 generation_of store caller a = do
   bytes ← unless (first_row (stated_bits_rows a)) (stated_bytes a)
   recorded_of store caller a bytes
 
--- the key's bytes are the caller's next random ones
 abbrev pub generated : Store → ℕ → Random → ℕ → Result Attributes Status → Outcome
 generated store caller random n (Ok kept) = record (created store caller kept (random n)) { drawn = n }
 generated store caller random n (Err status) = refused store status

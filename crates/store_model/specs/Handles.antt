@@ -16,7 +16,6 @@ use Rattle.store_model.specs.CipherOperations.{CipherWork}
 use Rattle.store_model.specs.AeadOperations.{AeadWork}
 use Rattle.store_model.specs.DerivationOperations.{DerivationWork}
 
--- the work of an operation of any family
 pub data Work : Type 0 where
   Hashing : (work : HashWork) → Work
   Authenticating : (work : MacWork) → Work
@@ -47,7 +46,6 @@ pub record Service : Type 0 where
   pub store : Store
   pub owns : List Own
 
--- how many handles a caller has
 abbrev pub handle_count : ℕ
 handle_count = 4
 
@@ -82,7 +80,6 @@ with_drawn own n = record own { drawn = own.drawn + words_used n }
 abbrev pub with_operation : Own → ℕ → HandleOperation → Own
 with_operation own handle operation = record own { operations = slice_set own.operations handle operation }
 
--- the service after a call, and the reply
 pub record Served : Type 0 where
   pub service : Service
   pub reply : Reply
@@ -136,7 +133,6 @@ abbrev pub derivation_part : Work → Operation DerivationWork
 derivation_part (Deriving work) = Active work
 derivation_part _ = Inactive
 
--- a family's operation, held with its key
 abbrev pub held_with : {W : Type 0} → Option KeyCreation → (W → Work) → Operation W → HandleOperation
 held_with key embed (Active work) = Active (record { key = key; work = embed work })
 held_with key embed Inactive = Inactive

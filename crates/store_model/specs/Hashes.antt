@@ -9,7 +9,6 @@ use Rattle.store_model.specs.Rules.{class_rows, room_rows}
 use Rattle.store_model.specs.Call.{Reply}
 use Rattle.store_model.specs.Outcome.{Outcome, with_computed, replies, reply_unless, given, done}
 
--- hash_compute
 abbrev pub compute_rows : (alg room : ℕ) → Rows
 compute_rows alg room = class_rows Hash alg ++ room_rows (hash_length_of alg) room
 

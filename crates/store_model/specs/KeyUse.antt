@@ -20,11 +20,9 @@ export_rows (Some key) room =
 abbrev pub bytes_of : Option Key → List ℕ
 bytes_of found = option_map_or (λ key. key.bytes) found []
 
--- the reply of an export, by what the map has at the identifier
 abbrev pub export_reply : Option Key → ℕ → Reply
 export_reply found room = reply_unless (first_row (export_rows found room)) (given (bytes_of found))
 
--- an export changes no key
 abbrev pub step_export : Store → ℕ → ℕ → Outcome
 step_export store id room = with_computed store (replies (export_reply (map.get store.keys id) room))
 
@@ -34,7 +32,6 @@ abbrev pub attributes_reply : Option Key → Reply
 attributes_reply None = refusal InvalidHandle
 attributes_reply (Some key) = record { status = Success; output = Description key.attributes; needed = 0 }
 
--- asking for the attributes changes no key
 abbrev pub step_attributes : Store → ℕ → Outcome
 step_attributes store id = with_computed store (replies (attributes_reply (map.get store.keys id)))
 
