@@ -45,6 +45,10 @@ pub record IsUsable (class : Class) (usage alg : ℕ) (found : Option Key) (byte
   pub permitted : (on_device : Bool) → first_row (use_rows on_device class usage alg found) ≡ None
   pub aes : is_hmac alg ≡ false → IsKey bytes
 
+-- this is the refusal of each such call
+pub record IsRefused (class : Class) (usage alg : ℕ) (found : Option Key) (status : Status) : Type 0 where
+  pub refused : (on_device : Bool) → first_row (use_rows on_device class usage alg found) ≡ Some status
+
 -- a key of this creation has the bytes
 pub record IsCreation (id : ℕ) (found : Option Key) (bytes : List ℕ) (number : ℕ) : Type 0 where
   pub there : bytes_of found ≡ bytes

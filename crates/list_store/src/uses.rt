@@ -1,5 +1,5 @@
 // Calls that use a key with an algorithm.
-ghost use Rattle.std.specs.Prelude.{◌≡◌, ◌≤◌, ℕ, Bool, IfOk, MatchResult, Some, Err, length};
+ghost use Rattle.std.specs.Prelude.{◌≡◌, ◌≤◌, ℕ, IfOk, MatchResult, Some, Err, length};
 ghost use Rattle.std.specs.Result.{result_err};
 ghost use Rattle.std.specs.FinMap as finite;
 ghost use Rattle.psa_status.specs.declared.Status.TheVariants.{NotPermitted};
@@ -8,9 +8,9 @@ ghost use Rattle.alg_encoding.specs.Encoding.{IsConcrete};
 ghost use Rattle.store_model.specs.Algorithms.{is_hmac};
 ghost use Rattle.store_model.specs.Handles.{is_alive};
 ghost use Rattle.store_model.specs.HandleCalls.{derivation_key_rows, fits_step};
-ghost use Rattle.store_model.specs.Rules.{class_number, class_rows, fits_type, use_rows};
+ghost use Rattle.store_model.specs.Rules.{class_number, class_rows, fits_type};
 ghost use Rattle.algorithm_facts.specs.Parse.{is_hmac_in};
-ghost use Rattle.list_store.specs.Uses.{IsLookedUp, IsDerivationKey, IsUsedAs, derivation_permission_rows, pattern_refusal, permission_rows};
+ghost use Rattle.list_store.specs.Uses.{IsLookedUp, IsRefused, IsDerivationKey, IsUsedAs, derivation_permission_rows, pattern_refusal, permission_rows};
 
 use crate::Store;
 use alg_encoding::{Alg, Class};
@@ -91,7 +91,7 @@ impl Store {
     ) -> Result<Found<'_>, Status>
         ensures { MatchResult result
             (λ found. IsLookedUp class usage.0 alg.0 key.0 (finite.get self.now.keys key.0) found.bytes.now found.number)
-            (λ status. (on_device : Bool) → first_row (use_rows on_device class usage.0 alg.0 (finite.get self.now.keys key.0)) ≡ Some status) }
+            (λ status. IsRefused class usage.0 alg.0 (finite.get self.now.keys key.0) status) }
     {
         let Some(entry) = self.entry(key) else {
             return Err(Status::InvalidHandle);
