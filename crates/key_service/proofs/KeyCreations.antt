@@ -1,21 +1,22 @@
 -- A key of derived bytes: what the store makes of them.
 use Rattle.std.proofs.Common.{◌≡◌, ◌≤◌, ◌+◌, ℕ, true, false, List, set, length, take, take_all, refl, sym, ap, ◌∙◌, subst, arith}
-use Rattle.std.specs.Prelude.{Option, Some, None, Ok, Err, min}
+use Rattle.std.specs.Prelude.{Result, Ok, Err, min}
 use Rattle.psa_status.specs.declared.Status.{Status}
 use Rattle.psa_status.specs.declared.Status.TheVariants.{InvalidHandle}
-use Rattle.psa_status.specs.Rows.{first_row}
 use Rattle.key_attributes.specs.declared.Attributes.{Attributes}
 use Rattle.key_attributes.specs.declared.KeyId.{KeyId}
 use Rattle.store_model.specs.Store.{Store}
 use Rattle.store_model.specs.Call.{Reply, Identifier, Nothing}
-use Rattle.store_model.specs.Outcome.{Outcome, counted, decided, refusal}
-use Rattle.store_model.specs.Creation.{creation_rows, created, step_import}
+use Rattle.store_model.specs.Outcome.{Outcome, counted, refusal}
+use Rattle.store_model.specs.Creation.{recorded_of, created, created_unless, step_import}
+use Rattle.store_model.proofs.Recorded.{recorded_refused}
 use Rattle.service_calls.specs.Answers.{id_reply}
 use Rattle.store_model.specs.Operations.{Operation, Inactive, InError, Active, fails}
 use Rattle.store_model.specs.DerivationOperations.{DerivationWork, stated_bytes, next_derived, without}
 use Rattle.random_streams.specs.RandomWords.{words_used}
-use Rattle.store_model.specs.Handles.{HandleOperation, Own, Service, Served, own_of, with_operation, operation_of, part_of, derivation_part, Deriving, is_alive, key_of_operation, applied, held_with}
-use Rattle.store_model.specs.HandleCalls.{output_key, created_from}
+use Rattle.store_model.specs.Handles.{HandleOperation, Own, Service, Served, own_of, with_operation, operation_of, part_of, derivation_part, Deriving, is_alive, key_of_operation, applied, held_with, held_after}
+use Rattle.store_model.specs.HandleCalls as calls
+use Rattle.store_model.specs.HandleCalls.{output_key, underived}
 use Rattle.derivation_states.specs.Replies.{AnswersFront}
 use Rattle.derivation_states.specs.States.{IsDerivationOperation}
 use Rattle.derivation_states.specs.declared.DerivationState.{DerivationState}
@@ -29,7 +30,7 @@ use Rattle.key_service.proofs.Deriving.{work_served, derived_keeps, derived_draw
 use Rattle.key_service.proofs.KeyInputs.{seen_of, seen_is, fails_stands}
 use Rattle.key_service.proofs.KeyOutputs as outputs
 use Rattle.key_service.proofs.KeyOutputs.{IsDerived, derived_is, not_derived, derived_key_is, derived_operation}
-use Rattle.key_service.proofs.KeySizes.{few_bytes, front_rows}
+use Rattle.key_service.proofs.KeySizes.{front_recorded, few_recorded}
 use Rattle.key_service.proofs.Places.{operations_put}
 use Rattle.key_service.proofs.Streams.{undrew, streams_drawn}
 use Rattle.key_service.proofs.Served.{IsAt, cell_stands, applied_stands, alive_after, plain_stands}
@@ -39,16 +40,16 @@ use Rattle.derivation_states.specs.KeySteps.{derived_key}
 
 -- what an import answered
 
-pub made : (store : Store) (id : KeyId) (o : Option Status) (done : Outcome) → id_reply (Ok id) ≡ (decided store o done).reply → o ≡ None
-made store id None done e = refl
-made store id (Some status) done e = absurd (not_refused id (ap (λ (r : Reply). r.output) e))
+pub made : (store : Store) (caller : ℕ) (id : KeyId) (r : Result Attributes Status) (bytes : List ℕ) → id_reply (Ok id) ≡ (created_unless store caller r bytes).reply → (kept : Attributes) × (r ≡ Ok kept)
+made store caller id (Ok kept) bytes e = (kept, refl)
+made store caller id (Err status) bytes e = absurd (not_refused id (ap (λ (r : Reply). r.output) e))
   where
     not_refused : (id : KeyId) → Identifier id.0 ≡ Nothing → ⊥
     not_refused id e = cc
 
-pub unmade : (store : Store) (status : Status) (o : Option Status) (caller : ℕ) (a : Attributes) (bytes : List ℕ) → refusal status ≡ (decided store o (created store caller a bytes)).reply → o ≡ Some status
-unmade store status (Some other) caller a bytes e = ap (λ (r : Reply). Some r.status) (sym e)
-unmade store status None caller a bytes e = absurd (not_created _ (ap (λ (r : Reply). r.output) e))
+pub unmade : (store : Store) (status : Status) (r : Result Attributes Status) (caller : ℕ) (bytes : List ℕ) → refusal status ≡ (created_unless store caller r bytes).reply → r ≡ Err status
+unmade store status (Err other) caller bytes e = ap (λ (r : Reply). Err r.status) (sym e)
+unmade store status (Ok kept) caller bytes e = absurd (not_created _ (ap (λ (r : Reply). r.output) e))
   where
     not_created : (id : ℕ) → Nothing ≡ Identifier id → ⊥
     not_created id e = cc
@@ -103,36 +104,39 @@ out_is store callers service caller handle place cell state a count old out h at
 served_is : (store : Store) (service : Service) (caller handle : ℕ) (cell : Cell) (state : DerivationState) (a : Attributes) (count : ℕ) (out : List ℕ) (o : IsOut store service caller handle cell state a count out) →
     is_alive service.store (key_in cell.key) ≡ true →
     output_key service caller handle (seen_of service caller handle) a
-    ≡ created_from service caller handle (key_in cell.key) o.w a (first_row (creation_rows service.store caller a (stated_bytes a)))
+    ≡ calls.derived_key service caller handle (key_in cell.key) o.w (stated_bytes a) (recorded_of service.store caller a (stated_bytes a))
 served_is store service caller handle cell state a count out o lives =
     let kept = ap key_of_operation o.whole in
     ap (λ own. output_key service caller handle own a) o.sees
     ∙ derived_key_is service caller handle o.w a count out (ap (is_alive service.store) kept ∙ lives) o.derived
-    ∙ ap (λ key. created_from service caller handle key o.w a (first_row (creation_rows service.store caller a (stated_bytes a)))) kept
+    ∙ ap (λ key. calls.derived_key service caller handle key o.w (stated_bytes a) (recorded_of service.store caller a (stated_bytes a))) kept
 
--- the rows as the import saw them
-pub rows_seen : (store : Store) (service : Service) (caller : ℕ) (a : Attributes) (count : ℕ) (bytes : List ℕ) (status : Option Status) → store ≡ service.store → length bytes ≡ count → count ≡ min (stated_bytes a) 1025 →
-    first_row (creation_rows store caller a (length bytes)) ≡ status → first_row (creation_rows service.store caller a (stated_bytes a)) ≡ status
-rows_seen store service caller a count bytes status is size front e =
+-- what is recorded as the import saw it
+pub recorded_seen : (store : Store) (service : Service) (caller : ℕ) (a : Attributes) (count : ℕ) (bytes : List ℕ) (r : Result Attributes Status) → store ≡ service.store → length bytes ≡ count → count ≡ min (stated_bytes a) 1025 →
+    recorded_of store caller a (length bytes) ≡ r → recorded_of service.store caller a (stated_bytes a) ≡ r
+recorded_seen store service caller a count bytes r is size front e =
     let same = size ∙ front in
-    sym (front_rows service.store caller a (stated_bytes a)) ∙ (λ i. first_row (creation_rows (sym is i) caller a (sym same i))) ∙ e
+    sym (front_recorded service.store caller a (stated_bytes a)) ∙ (λ i. recorded_of (sym is i) caller a (sym same i)) ∙ e
 
 -- THE KEY IS CREATED
 
 pub record IsMade (store : Store) (service : Service) (caller handle : ℕ) (cell : Cell) (w : DerivationWork) (a : Attributes) (bytes : List ℕ) : Type 0 where
-  pub served : output_key service caller handle (seen_of service caller handle) a ≡ created_from service caller handle (key_in cell.key) w a None
-  pub outcome : step_import store caller a bytes ≡ created service.store caller a (next_derived w (stated_bytes a))
+  pub kept : Attributes
+  pub served : output_key service caller handle (seen_of service caller handle) a ≡ calls.derived_key service caller handle (key_in cell.key) w (stated_bytes a) (Ok kept)
+  pub outcome : step_import store caller a bytes ≡ created service.store caller kept (next_derived w (stated_bytes a))
 
 made_is : (store : Store) (service : Service) (caller handle : ℕ) (cell : Cell) (state : DerivationState) (a : Attributes) (count : ℕ) (out bytes : List ℕ) (id : KeyId) (o : IsOut store service caller handle cell state a count out) →
     store ≡ service.store → is_alive service.store (key_in cell.key) ≡ true → bytes ≡ take count out → length bytes ≡ count → count ≡ min (stated_bytes a) 1025 →
     id_reply (Ok id) ≡ (step_import store caller a bytes).reply → IsMade store service caller handle cell o.w a bytes
 made_is store service caller handle cell state a count out bytes id o is lives front size few reply =
-    let none = made store id (first_row (creation_rows store caller a (length bytes))) (created store caller a bytes) reply in
-    let rows = rows_seen store service caller a count bytes None is size few none in
-    let whole = front ∙ all_bytes o.w a count out o.derived few (few_bytes service.store caller a (stated_bytes a) rows) in
+    let done = made store caller id (recorded_of store caller a (length bytes)) bytes reply in
+    let kept : Attributes = done.0 in
+    let recorded = recorded_seen store service caller a count bytes (Ok kept) is size few done.1 in
+    let whole = front ∙ all_bytes o.w a count out o.derived few (few_recorded service.store caller a kept (stated_bytes a) recorded) in
     record {
-      served = served_is store service caller handle cell state a count out o lives ∙ ap (created_from service caller handle (key_in cell.key) o.w a) rows;
-      outcome = ap (λ r. decided store r (created store caller a bytes)) none ∙ (λ i. created (is i) caller a (whole i));
+      kept = kept;
+      served = served_is store service caller handle cell state a count out o lives ∙ ap (calls.derived_key service caller handle (key_in cell.key) o.w (stated_bytes a)) recorded;
+      outcome = ap (λ r. created_unless store caller r bytes) done.1 ∙ (λ i. created (is i) caller kept (whole i));
     }
 
 pub made_stands : (store after : Store) (callers next : Callers) (service : Service) (caller handle place : ℕ) (cell : Cell) (state : DerivationState) (a : Attributes) (count : ℕ) (out bytes : List ℕ) (id : KeyId)
@@ -149,7 +153,7 @@ made_stands store after callers next service caller handle place cell state a co
     let put = operations_put callers.cells.items service.owns caller handle (record cell { derivation = state }) operation own refl h.each at.0.first at.0.last at.0.low at.0.high
     (o.put state (Active (without o.w (stated_bytes a))) o.state_is) in
     let items = ap (λ i. set callers.cells.items i (record cell { derivation = state })) (sym at.0.is) ∙ sym cells in
-    let made : Store = (created service.store caller a (next_derived o.w (stated_bytes a))).store in
+    let made : Store = (created service.store caller m.kept (next_derived o.w (stated_bytes a))).store in
     let words : own.drawn ≡ (own_of service caller).drawn + words_used 0 = omega arith in
     subst (λ (s : Served). StandsFor after next s.service) (sym m.served) (record {
       store_is = stored ∙ ap (λ (x : Outcome). x.store) m.outcome;
@@ -170,11 +174,14 @@ made_reply store callers service caller handle place cell state a count out byte
 
 refused_is : (store : Store) (service : Service) (caller handle : ℕ) (cell : Cell) (state : DerivationState) (a : Attributes) (count : ℕ) (out bytes : List ℕ) (status : Status) (o : IsOut store service caller handle cell state a count out) →
     store ≡ service.store → is_alive service.store (key_in cell.key) ≡ true → length bytes ≡ count → count ≡ min (stated_bytes a) 1025 →
-    first_row (creation_rows store caller a (length bytes)) ≡ Some status →
+    recorded_of store caller a (length bytes) ≡ Err status →
     output_key service caller handle (seen_of service caller handle) a ≡ applied service caller handle (fails status)
-refused_is store service caller handle cell state a count out bytes status o is lives size few rows =
+refused_is store service caller handle cell state a count out bytes status o is lives size few refused =
+    let recorded = recorded_seen store service caller a count bytes (Err status) is size few refused in
     served_is store service caller handle cell state a count out o lives
-    ∙ ap (created_from service caller handle (key_in cell.key) o.w a) (rows_seen store service caller a count bytes (Some status) is size few rows)
+    ∙ ap (calls.derived_key service caller handle (key_in cell.key) o.w (stated_bytes a)) recorded
+    ∙ ap (λ after. applied service caller handle (held_after (key_in cell.key) Deriving after))
+    (recorded_refused (λ s. underived o.w s ≡ fails s) refl refl refl refl refl refl service.store caller a (stated_bytes a) status recorded)
 
 pub unmade_stands : (store after : Store) (callers next : Callers) (service : Service) (caller handle place : ℕ) (cell : Cell) (state failed : DerivationState) (a : Attributes) (count : ℕ) (out bytes : List ℕ) (status : Status)
     (o : IsOut store service caller handle cell state a count out) →
@@ -184,11 +191,11 @@ pub unmade_stands : (store after : Store) (callers next : Callers) (service : Se
     StandsFor after next (output_key service caller handle (seen_of service caller handle) a).service
 unmade_stands store after callers next service caller handle place cell state failed a count out bytes status o h at cells same live size few reply stored is =
     let lives = ap (λ s. is_alive s (key_in cell.key)) (sym h.store_is) ∙ sym live in
-    let rows = unmade store status (first_row (creation_rows store caller a (length bytes))) caller a bytes reply in
+    let refused = unmade store status (recorded_of store caller a (length bytes)) caller bytes reply in
     applied_stands store after callers next service caller handle place cell (record cell { derivation = failed }) _ (fails status) h at cells (undrew caller same refl)
-    (refused_is store service caller handle cell state a count out bytes status o h.store_is lives size few rows)
+    (refused_is store service caller handle cell state a count out bytes status o h.store_is lives size few refused)
     (o.put failed InError (record { state = is; algorithm = tt }))
-    (stored ∙ ap (λ r. (decided store r (created store caller a bytes)).store) rows)
+    (stored ∙ ap (λ r. (created_unless store caller r bytes).store) refused)
 
 pub unmade_reply : (store : Store) (callers : Callers) (service : Service) (caller handle place : ℕ) (cell : Cell) (state : DerivationState) (a : Attributes) (count : ℕ) (out bytes : List ℕ) (status : Status)
     (o : IsOut store service caller handle cell state a count out) → StandsFor store callers service →
@@ -196,8 +203,8 @@ pub unmade_reply : (store : Store) (callers : Callers) (service : Service) (call
     refusal status ≡ (step_import store caller a bytes).reply → refusal status ≡ (output_key service caller handle (seen_of service caller handle) a).reply
 unmade_reply store callers service caller handle place cell state a count out bytes status o h live size few reply =
     let lives = ap (λ s. is_alive s (key_in cell.key)) (sym h.store_is) ∙ sym live in
-    let rows = unmade store status (first_row (creation_rows store caller a (length bytes))) caller a bytes reply in
-    ap (λ (s : Served). s.reply) (sym (refused_is store service caller handle cell state a count out bytes status o h.store_is lives size few rows))
+    let refused = unmade store status (recorded_of store caller a (length bytes)) caller bytes reply in
+    ap (λ (s : Served). s.reply) (sym (refused_is store service caller handle cell state a count out bytes status o h.store_is lives size few refused))
 
 -- NO BYTES ARE GIVEN
 

@@ -1,21 +1,28 @@
 -- A key of derived bytes: what the derivation gives.
-use Rattle.std.proofs.Common.{◌≡◌, ℕ, Bool, true, false, not, ◌||◌, cond, List, [], ◌∷◌, length, take, refl, sym, ap, ◌∙◌}
+use Rattle.std.proofs.Common.{◌≡◌, ℕ, Bool, true, false, not, ◌||◌, cond, List, [], ◌∷◌, ◌++◌, length, take, refl, sym, ap, ◌∙◌, subst}
 use Rattle.std.specs.Prelude.{Option, Some, None, Ok, nat_lt, ◌==◌, is_some, min, ◌%◌}
 use Rattle.psa_status.specs.declared.Status.{Status}
-use Rattle.psa_status.specs.declared.Status.TheVariants.{Success, BadState, InvalidHandle, InvalidArgument, NotSupported, NotPermitted}
-use Rattle.psa_status.specs.Rows.{first_row}
+use Rattle.psa_status.specs.declared.Status.TheVariants.{Success, BadState, InvalidHandle, InvalidArgument, NotSupported, NotPermitted, InsufficientData}
+use Rattle.psa_status.specs.Rows.{first_row, unless, ◌>>=◌}
+use Rattle.psa_status.proofs.Rows.{first_row-front, first_row-back}
 use Rattle.key_attributes.specs.declared.Attributes.{Attributes}
 use Rattle.key_attributes.specs.Checks.{location}
 use Rattle.store_model.specs.Call.{Reply, Bytes, Nothing}
 use Rattle.store_model.specs.Outcome.{refusal, given}
-use Rattle.store_model.specs.Creation.{creation_rows}
+use Rattle.store_model.specs.Creation.{recorded_of}
 use Rattle.store_model.specs.Operations.{Operation, Inactive, InError, Active, goes_on, unless_failed, fails, with_live_key}
 use Rattle.store_model.specs.DerivationOperations.{DerivationWork, output_key_rows, exhausted, without, next_derived, stated_bytes}
 use Rattle.store_model.specs.Handles.{KeyCreation, Service, Served, operation_of, stepped, Deriving, key_of_operation, applied, held_after}
-use Rattle.store_model.specs.HandleCalls.{output_key, output_key_of, created_from}
+use Rattle.store_model.specs.HandleCalls as calls
+use Rattle.store_model.specs.HandleCalls.{output_key, underived}
 use Rattle.derivation_states.specs.Replies.{AnswersFront}
 use Rattle.key_service.proofs.KeyInputs.{alive_of}
 use Rattle.derivation_states.specs.KeySteps.{derived_key}
+
+-- what comes of a key by the first row of the derivation's that holds
+abbrev output_by : Service → (caller handle : ℕ) → Option KeyCreation → DerivationWork → Attributes → Option Status → Served
+output_by service caller handle key w a refused =
+    calls.derived_key service caller handle key w (stated_bytes a) (unless refused a >>= (λ stated. recorded_of service.store caller stated (stated_bytes a)))
 
 -- the derivation's key is gone
 pub dead_is : (service : Service) (caller handle : ℕ) (own : Operation DerivationWork) (a : Attributes) → ((w : DerivationWork) → own ≡ Active w → alive_of service caller handle ≡ false) →
@@ -24,7 +31,7 @@ dead_is service caller handle Inactive a dead = refl
 dead_is service caller handle InError a dead = refl
 dead_is service caller handle (Active w) a dead =
     let key : Option KeyCreation = key_of_operation (operation_of service caller handle) in
-    ap (λ b. output_key_of service caller handle key w a (first_row ((not b, InvalidHandle) ∷ output_key_rows w a))) (dead w refl)
+    ap (λ b. output_by service caller handle key w a (first_row ((not b, InvalidHandle) ∷ output_key_rows w a ++ (nat_lt w.capacity (stated_bytes a), InsufficientData) ∷ []))) (dead w refl)
     ∙ sym (ap (λ b. applied service caller handle (held_after key Deriving (with_live_key b (fails InvalidHandle)))) (dead w refl))
 
 -- the derivation gives no bytes
@@ -35,20 +42,32 @@ not_given bytes status e = other bytes (ap (λ (r : Reply). r.output) e)
     other : (bytes : List ℕ) → Bytes bytes ≡ Nothing → ⊥
     other bytes e = cc
 
-short_by : (service : Service) (caller handle : ℕ) (key : Option KeyCreation) (w : DerivationWork) (n : ℕ) (bytes : List ℕ) (made : Served) (status : Status) (short : Bool) →
-    (cond short (exhausted w) (goes_on (without w n) (given bytes))).reply ≡ refusal status →
-    cond short (applied service caller handle (held_after key Deriving (exhausted w))) made ≡ applied service caller handle (held_after key Deriving (cond short (exhausted w) (goes_on (without w n) (given bytes))))
-short_by service caller handle key w n bytes made status true e = refl
-short_by service caller handle key w n bytes made status false e = absurd (not_given bytes status e)
+short_by : (service : Service) (caller handle : ℕ) (key : Option KeyCreation) (w : DerivationWork) (a : Attributes) (status : Status) (short : Bool) →
+    (cond short (exhausted w) (goes_on (without w (stated_bytes a)) (given (next_derived w (stated_bytes a))))).reply ≡ refusal status →
+    output_by service caller handle key w a (first_row ((short, InsufficientData) ∷ []))
+    ≡ applied service caller handle (held_after key Deriving (cond short (exhausted w) (goes_on (without w (stated_bytes a)) (given (next_derived w (stated_bytes a))))))
+short_by service caller handle key w a status true e = refl
+short_by service caller handle key w a status false e = absurd (not_given (next_derived w (stated_bytes a)) status e)
 
-refused_by : (service : Service) (caller handle : ℕ) (key : Option KeyCreation) (w : DerivationWork) (a : Attributes) (status : Status) (o : Option Status) →
+-- no row of the derivation's says that there are too few bytes
+fails_by : (w : DerivationWork) (a b c d : Bool) (status : Status) → first_row ((a, BadState) ∷ (b, InvalidArgument) ∷ (c, NotSupported) ∷ (d, NotPermitted) ∷ []) ≡ Some status → underived w status ≡ fails status
+fails_by w true b c d status e = let same : BadState ≡ status = cc in subst (λ s. underived w s ≡ fails s) same refl
+fails_by w false true c d status e = let same : InvalidArgument ≡ status = cc in subst (λ s. underived w s ≡ fails s) same refl
+fails_by w false false true d status e = let same : NotSupported ≡ status = cc in subst (λ s. underived w s ≡ fails s) same refl
+fails_by w false false false true status e = let same : NotPermitted ≡ status = cc in subst (λ s. underived w s ≡ fails s) same refl
+fails_by w false false false false status e = cc
+
+refused_by : (service : Service) (caller handle : ℕ) (key : Option KeyCreation) (w : DerivationWork) (a : Attributes) (status : Status) (o : Option Status) → first_row (output_key_rows w a) ≡ o →
     (unless_failed o (cond (nat_lt w.capacity (stated_bytes a)) (exhausted w) (goes_on (without w (stated_bytes a)) (given (next_derived w (stated_bytes a)))))).reply ≡ refusal status →
-    output_key_of service caller handle key w a o
+    output_by service caller handle key w a (first_row (output_key_rows w a ++ (nat_lt w.capacity (stated_bytes a), InsufficientData) ∷ []))
     ≡ applied service caller handle (held_after key Deriving (unless_failed o (cond (nat_lt w.capacity (stated_bytes a)) (exhausted w) (goes_on (without w (stated_bytes a)) (given (next_derived w (stated_bytes a)))))))
-refused_by service caller handle key w a status (Some other) e = refl
-refused_by service caller handle key w a status None e =
-    short_by service caller handle key w (stated_bytes a) (next_derived w (stated_bytes a)) (created_from service caller handle key w a (first_row (creation_rows service.store caller a (stated_bytes a)))) status
-    (nat_lt w.capacity (stated_bytes a)) e
+refused_by service caller handle key w a status (Some other) e h =
+    ap (output_by service caller handle key w a) (first_row-front (output_key_rows w a) ((nat_lt w.capacity (stated_bytes a), InsufficientData) ∷ []) other e)
+    ∙ ap (λ after. applied service caller handle (held_after key Deriving after))
+    (fails_by w (not (is_some w.secret)) (a.bits == 0 || not (a.bits % 8 == 0)) (not (location a.lifetime.0 == 0)) (not w.by_key) other e)
+refused_by service caller handle key w a status None e h =
+    ap (output_by service caller handle key w a) (first_row-back (output_key_rows w a) ((nat_lt w.capacity (stated_bytes a), InsufficientData) ∷ []) e)
+    ∙ short_by service caller handle key w a status (nat_lt w.capacity (stated_bytes a)) h
 
 pub refused_is : (service : Service) (caller handle : ℕ) (own : Operation DerivationWork) (a : Attributes) (status : Status) →
     ((w : DerivationWork) → own ≡ Active w → (alive_of service caller handle ≡ true) × ((derived_key w a).reply ≡ refusal status)) →
@@ -58,8 +77,8 @@ refused_is service caller handle InError a status refused = refl
 refused_is service caller handle (Active w) a status refused =
     let key : Option KeyCreation = key_of_operation (operation_of service caller handle) in
     let lives = (refused w refl).0 in
-    ap (λ b. output_key_of service caller handle key w a (first_row ((not b, InvalidHandle) ∷ output_key_rows w a))) lives
-    ∙ refused_by service caller handle key w a status (first_row (output_key_rows w a)) (refused w refl).1
+    ap (λ b. output_by service caller handle key w a (first_row ((not b, InvalidHandle) ∷ output_key_rows w a ++ (nat_lt w.capacity (stated_bytes a), InsufficientData) ∷ []))) lives
+    ∙ refused_by service caller handle key w a status (first_row (output_key_rows w a)) refl (refused w refl).1
     ∙ sym (ap (λ b. applied service caller handle (held_after key Deriving (with_live_key b (derived_key w a)))) lives)
 
 -- the derivation gives bytes
@@ -97,12 +116,12 @@ not_derived count old out h = clash h.0
 -- then the key is to be created
 pub derived_key_is : (service : Service) (caller handle : ℕ) (w : DerivationWork) (a : Attributes) (count : ℕ) (out : List ℕ) → alive_of service caller handle ≡ true → IsDerived w a count out →
     output_key service caller handle (Active w) a
-    ≡ created_from service caller handle (key_of_operation (operation_of service caller handle)) w a (first_row (creation_rows service.store caller a (stated_bytes a)))
+    ≡ calls.derived_key service caller handle (key_of_operation (operation_of service caller handle)) w (stated_bytes a) (recorded_of service.store caller a (stated_bytes a))
 derived_key_is service caller handle w a count out lives d =
     let key : Option KeyCreation = key_of_operation (operation_of service caller handle) in
-    ap (λ b. output_key_of service caller handle key w a (first_row ((not b, InvalidHandle) ∷ output_key_rows w a))) lives
-    ∙ ap (output_key_of service caller handle key w a) d.rows
-    ∙ ap (λ b. cond b (applied service caller handle (held_after key Deriving (exhausted w))) (created_from service caller handle key w a (first_row (creation_rows service.store caller a (stated_bytes a))))) d.enough
+    ap (λ b. output_by service caller handle key w a (first_row ((not b, InvalidHandle) ∷ output_key_rows w a ++ (nat_lt w.capacity (stated_bytes a), InsufficientData) ∷ []))) lives
+    ∙ ap (output_by service caller handle key w a) (first_row-back (output_key_rows w a) ((nat_lt w.capacity (stated_bytes a), InsufficientData) ∷ []) d.rows)
+    ∙ ap (λ b. output_by service caller handle key w a (first_row ((b, InsufficientData) ∷ []))) d.enough
 
 pub derived_operation : (w : DerivationWork) (a : Attributes) (count : ℕ) (out : List ℕ) → IsDerived w a count out → (derived_key w a).operation ≡ Active (without w (stated_bytes a))
 derived_operation w a count out d =

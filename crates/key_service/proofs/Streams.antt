@@ -6,7 +6,10 @@ use Rattle.random_streams.specs.RandomWords.{RandomStream, next_bytes, drawn_fro
 use Rattle.store_model.specs.Store.{Store}
 use Rattle.store_model.specs.Draws.{Random}
 use Rattle.store_model.specs.Handles.{Own, Service, new_own, own_of, with_own, next_random}
-use Rattle.key_service.specs.Services.{AreStreams}
+use Rattle.store_model.specs.Call.{Call}
+use Rattle.store_model.specs.Step.{step}
+use Rattle.key_service.specs.Services.{AreStreams, StandsFor}
+use Rattle.key_service.specs.declared.callers.Callers.{Callers}
 
 -- the words of so many bytes are drawn from a caller's stream
 pub record Drew (before after : List RandomStream) (caller n : ℕ) : Type 0 where
@@ -44,6 +47,13 @@ default_same (x ∷ l) (suc i) d = default_same l i d
 pub same_random : (streams : List RandomStream) (service : Service) (caller : ℕ) (stream : RandomStream) → AreStreams streams service → caller ≤ 16 → stream ≡ get_or streams caller stream →
     ◌≡◌ {A = Random} (next_bytes stream) (next_random service caller)
 same_random streams service caller stream are last at = ap next_bytes (are.each caller stream last at)
+
+-- a call on the store is that of the service
+pub same_step : (store : Store) (callers : Callers) (service : Service) (caller : ℕ) (stream : RandomStream) (call : Call) → StandsFor store callers service → caller ≤ 16 → stream ≡ get_or callers.streams.items caller stream →
+    step store caller (next_bytes stream) call ≡ step service.store caller (next_random service caller) call
+same_step store callers service caller stream call h last at =
+    let random = same_random callers.streams.items service caller stream h.streams last at in
+    λ i. step (h.store_is i) caller (random i) call
 
 pub streams_drawn : (before after : List RandomStream) (service : Service) (store : Store) (caller n : ℕ) (own : Own) → AreStreams before service → Drew before after caller n →
     store.settings ≡ service.store.settings → length service.owns ≡ 17 → caller ≤ 16 → own.drawn ≡ (own_of service caller).drawn + words_used n → AreStreams after (with_own service store caller own)

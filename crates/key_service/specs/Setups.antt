@@ -42,7 +42,7 @@ pub record Begins (class : Class) (usage alg : ℕ) (id : KeyId) (found : Option
 abbrev pub keyed : Store → HandleOperation → Class → (usage alg id : ℕ) → (List ℕ → Work) → After Held
 keyed store operation class usage alg id work =
     let found : Option Key = finite.get store.keys id in
-    set_up operation (first_row (use_rows class usage alg found)) (record { key = creation_of id found; work = work (bytes_of found) })
+    set_up operation (first_row (use_rows false class usage alg found)) (record { key = creation_of id found; work = work (bytes_of found) })
 
 abbrev pub unkeyed : HandleOperation → Class → ℕ → Work → After Held
 unkeyed operation class alg work = set_up operation (first_row (class_rows class alg)) (record { key = None; work = work })

@@ -11,11 +11,11 @@ ghost use Rattle.key_service.specs.Opened.{AllInactive, first_stream};
 ghost use Rattle.key_service.specs.Places.{IsPlace};
 
 use crate::cells::Cell;
+use list_store::Store;
 use psa_status::{Memory, Status};
 use random_streams::Stream;
 use service_calls::Op;
 use std::alloc::Global;
-use list_store::Store;
 
 // How many callers there are.
 const CALLERS: usize = 16;

@@ -1,5 +1,5 @@
 // What stands at one handle.
-ghost use Rattle.std.specs.Prelude.{◌≡◌, Option, IfOk, IfErr};
+ghost use Rattle.std.specs.Prelude.{◌≡◌, false, Option, IfOk, IfErr};
 ghost use Rattle.std.specs.FinMap as finite;
 ghost use Rattle.psa_status.specs.declared.Status.{Status};
 ghost use Rattle.psa_status.specs.Rows.{first_row};
@@ -14,10 +14,10 @@ use alg_encoding::{Alg, Class};
 use cipher_states::CipherState;
 use derivation_states::DerivationState;
 use key_attributes::{KeyId, Usage};
+use list_store::Store;
 use mac_states::{HashOpState, MacState};
 use psa_status::{Memory, Status};
 use std::alloc::Global;
-use list_store::Store;
 
 /// A key that is told apart from every other one by the number of its creation.
 #[derive(Clone, Copy, Drop)]
@@ -93,7 +93,7 @@ impl Cell {
         ensures begun { IfOk result (λ bytes.
             Begins class usage.0 alg.0 key (finite.get store.now.keys key.0) bytes.now self.old self.new) }
         ensures refused { IfErr result (λ status.
-            Refuses self.old (first_row (use_rows class usage.0 alg.0 (finite.get store.now.keys key.0))) status) }
+            Refuses self.old (first_row (use_rows false class usage.0 alg.0 (finite.get store.now.keys key.0))) status) }
         ensures kept { IfErr result (λ _. self.new ≡ self.old) }
     {
         self.check_inactive()?;

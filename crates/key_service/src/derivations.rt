@@ -12,9 +12,9 @@ use crate::callers::{Callers, place};
 use crate::cells::KeyCreation;
 use derivation_states::KEY_ROOM;
 use key_attributes::{Attributes, KeyId};
+use list_store::Store;
 use psa_status::Status;
 use service_calls::Op;
-use list_store::Store;
 
 // Creates a key of the front of a buffer, which is then wiped.
 fn create(

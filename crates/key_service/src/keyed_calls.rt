@@ -9,9 +9,9 @@ ghost use Rattle.store_model.specs.Macs.{step_mac_compute, step_mac_verify};
 
 use alg_encoding::{Alg, Class};
 use key_attributes::{KeyId, Usage};
+use list_store::Store;
 use psa_status::Status;
 use random_streams::Stream;
-use list_store::Store;
 
 /// The MAC of a message under a key that may sign messages.
 pub fn mac_compute(

@@ -1,5 +1,5 @@
 // The store, which is shared, and what is the callers' own, side by side.
-ghost use Rattle.std.specs.Prelude.{◌≡◌, ◌≤◌, ◌<◌, ◌^◌, ◌↔◌, IfOk, IsTrue, length};
+ghost use Rattle.std.specs.Prelude.{◌≡◌, ◌≤◌, ◌<◌, ◌^◌, ◌↔◌, [], IfOk, IsTrue, length};
 ghost use Rattle.store_model.specs.Store.{plain_settings};
 ghost use Rattle.store_model.specs.Call.{buffer_after};
 ghost use Rattle.store_model.specs.Faults.{Plain};
@@ -12,10 +12,10 @@ ghost use Rattle.key_service.specs.Whole.{Stands};
 
 use crate::callers::Callers;
 use crate::store_calls::on_store;
+use list_store::Store;
 use psa_status::{Memory, Status};
 use service_calls::{HandleCall, Op, Output, StoreCall};
 use std::alloc::Global;
-use list_store::Store;
 
 /// What callers make their calls on.
 #[derive(Drop)]
@@ -27,7 +27,7 @@ pub struct Service {
 impl Service {
     /// A store without a key, and all operations inactive; `Memory` where there is no room for them.
     pub fn open(alloc: Global) -> Result<Service, Memory>
-        ensures { IfOk result (λ service. Stands service (model.service_start plain_settings)) }
+        ensures { IfOk result (λ service. Stands service (model.service_start plain_settings [])) }
     {
         let store = Store::open(alloc)?;
         let callers = Callers::open(alloc)?;

@@ -10,9 +10,9 @@ ghost use Rattle.key_service.specs.Services.{HasWords, StandsFor};
 
 use crate::callers::{Callers, place};
 use crate::turns::turn;
+use list_store::Store;
 use psa_status::Status;
 use service_calls::{HandleCall, Op, Output, Step, identifier, plain};
-use list_store::Store;
 
 impl Callers {
     // Takes one step of a handle's operation.

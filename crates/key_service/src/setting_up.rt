@@ -13,9 +13,9 @@ use crate::callers::{Callers, place};
 use crate::cells::Cell;
 use alg_encoding::Class;
 use key_attributes::Usage;
+use list_store::Store;
 use psa_status::Status;
 use service_calls::{Op, Setup};
-use list_store::Store;
 
 impl Cell {
     /// Sets an inactive operation up. `BadState` where it isn't inactive, and else the first refusal of the number, or of

@@ -12,11 +12,11 @@ use crate::keyed_calls::{
     aead_decrypt, aead_encrypt, cipher_decrypt, cipher_encrypt, mac_compute, mac_verify,
 };
 use alg_encoding::Alg;
+use list_store::Store;
 use psa_status::Status;
 use random_streams::Stream;
 use service_calls::{Output, StoreCall, bytes, description, identifier, plain};
 use single_part::{hash_compare, hash_compute};
-use list_store::Store;
 
 // The hash of a message.
 fn compute_hash(store: &mut Store, alg: Alg, input: &[u8], out: &mut [u8]) -> Result<usize, Status>
