@@ -12,7 +12,6 @@ pub mod CipherInverseColumns
 pub mod CipherInverse
 pub mod CipherInverseKeys
 pub mod GhashLaws
-pub mod KeyWrapLaws
 pub mod AesVectors
 pub mod TableAes
 pub mod ModesVectors
@@ -21,7 +20,6 @@ pub mod CmacVectors
 pub mod CcmVectors
 pub mod HkdfVectors
 pub mod Pbkdf2Vectors
-pub mod KeyWrapVectors
 pub mod GcmVectors
 pub mod ModeLaws
 pub mod PaddingLaws

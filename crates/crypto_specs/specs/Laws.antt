@@ -9,7 +9,6 @@ use Rattle.crypto_specs.specs.Ghash.{block_product}
 use Rattle.crypto_specs.specs.Gcm.{gcm_text}
 use Rattle.crypto_specs.specs.Hmac.{hmac}
 use Rattle.crypto_specs.specs.Hkdf.{hash_length, extract}
-use Rattle.crypto_specs.specs.KeyWrap.{wrap, unwrap}
 
 -- a list of bytes
 abbrev pub AreBytes : List ℕ → Type 0
@@ -99,22 +98,3 @@ SecondFactorIsLinear = (a v w : ℕ) → block_product a (bit_xor v w) ≡ bit_x
 abbrev pub AbsentSaltIsEmptyKey : Type 0
 AbsentSaltIsEmptyKey =
     (hash : List ℕ → List ℕ) (n : ℕ) (secret : List ℕ) → hash_length hash ≤ n → extract hash n [] secret ≡ hmac hash n [] secret
-
--- ---- key wrap over a cipher e that d undoes
-
-abbrev pub UnwrappingUndoesWrapping : Type 0
-UnwrappingUndoesWrapping =
-    (e d : List ℕ → List ℕ) → IsUndoneBy e d → (key : List ℕ) → AreBytes key → 16 ≤ length key
-    → unwrap d (wrap e key) ≡ Some key
-
--- keys with one wrap are one key
-abbrev pub WrappingIsOneToOne : Type 0
-WrappingIsOneToOne =
-    (e d : List ℕ → List ℕ) → IsUndoneBy e d → (one other : List ℕ) → AreBytes one → AreBytes other
-    → 16 ≤ length one → 16 ≤ length other → wrap e one ≡ wrap e other → one ≡ other
-
--- a text that unwraps to a key is that key's wrap
-abbrev pub OnlyWrapsUnwrap : Type 0
-OnlyWrapsUnwrap =
-    (e d : List ℕ → List ℕ) → IsUndoneBy d e → (text key : List ℕ) → AreBytes text → 24 ≤ length text
-    → unwrap d text ≡ Some key → wrap e key ≡ text

@@ -1,7 +1,7 @@
 //! The definitions of the block cipher AES and of what is built on it, and their laws.
 #![tactic(auto)]
 
-ghost use Rattle.crypto_specs.specs.Laws.{DecryptionUndoesEncryption, EncryptionUndoesDecryption, FirstFactorIsLinear, SecondFactorIsLinear, UnwrappingUndoesWrapping, WrappingIsOneToOne, OnlyWrapsUnwrap, EcbDecryptionUndoesEncryption, CbcDecryptionUndoesEncryption, CtrUndoesItself, AnyCuttingIsTheSame, CcmTextUndoesItself, GcmTextUndoesItself, PaddingFillsBlocks, UnpaddingUndoesPadding, OnlyPaddedTextsUnpad, AbsentSaltIsEmptyKey};
+ghost use Rattle.crypto_specs.specs.Laws.{DecryptionUndoesEncryption, EncryptionUndoesDecryption, FirstFactorIsLinear, SecondFactorIsLinear, EcbDecryptionUndoesEncryption, CbcDecryptionUndoesEncryption, CtrUndoesItself, AnyCuttingIsTheSame, CcmTextUndoesItself, GcmTextUndoesItself, PaddingFillsBlocks, UnpaddingUndoesPadding, OnlyPaddedTextsUnpad, AbsentSaltIsEmptyKey};
 
 /// AES decryption undoes encryption on every block of 16 bytes, under every key (FIPS 197, 5.3).
 pub fn decryption_undoes_encryption()
@@ -73,17 +73,3 @@ pub fn absent_salt_is_empty_key()
     ensures { AbsentSaltIsEmptyKey }
 {}
 
-/// Unwrapping gives the key that was wrapped (RFC 3394, 2.2), over every cipher that has an inverse.
-pub fn unwrapping_undoes_wrapping()
-    ensures { UnwrappingUndoesWrapping }
-{}
-
-/// Two keys with the same wrap under one key encryption key are the same key.
-pub fn wrapping_is_one_to_one()
-    ensures { WrappingIsOneToOne }
-{}
-
-/// A text that unwraps to a key is that key's wrap, and no other.
-pub fn only_wraps_unwrap()
-    ensures { OnlyWrapsUnwrap }
-{}

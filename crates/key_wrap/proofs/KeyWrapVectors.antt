@@ -5,7 +5,7 @@ use Rattle.crypto_specs.specs.Field.{sum_of_shifts}
 use Rattle.crypto_specs.specs.KeyExpansion.{power_of_x}
 use Rattle.crypto_specs.specs.Aes.{aes_encrypt}
 use Rattle.crypto_specs.specs.AesInverse.{aes_decrypt}
-use Rattle.crypto_specs.specs.KeyWrap.{wrap_steps, wrap, unwrap_steps, unwrap}
+use Rattle.key_wrap.specs.KeyWrap.{wrap_steps, wrap, unwrap_steps, unwrap}
 use Rattle.crypto_specs.proofs.TableAes.{by_table, rounds_by, inv_rounds_by, expanded_by, schedule_by, encrypt_by, decrypt_by, table_encrypt, table_decrypt, encrypts_by_table, decrypts_by_table}
 
 abbrev wrapping_key : List ℕ

@@ -1,5 +1,0 @@
-use Rattle.crypto_specs.proofs.KeyWrapLaws.{wrapping_is_one_to_one}
-use Rattle.crypto_specs.proofs.wrapping_is_one_to_one.Goals as goal
-
-pub returns : goal.returns
-returns c = wrapping_is_one_to_one

@@ -1,0 +1,2 @@
+pub mod KeyWrapLaws
+pub mod KeyWrapVectors

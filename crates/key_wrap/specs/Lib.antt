@@ -1,0 +1,2 @@
+pub mod KeyWrap
+pub mod Laws
