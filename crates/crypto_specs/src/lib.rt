@@ -72,4 +72,3 @@ pub fn block_product_is_linear()
 pub fn absent_salt_is_empty_key()
     ensures { AbsentSaltIsEmptyKey }
 {}
-

@@ -1,6 +1,6 @@
 -- What a derivation's step makes of its operation.
 use Rattle.std.proofs.Common.{◌≡◌, ℕ, ◌≤◌, Bool, true, false, cond, List, length, refl, arith}
-use Rattle.std.specs.Prelude.{Option, None, Some, ◌==◌, ◌&&◌, ◌||◌, not, nat_lt, nat_le, is_some, bytes_eq, ◌++◌}
+use Rattle.std.specs.Prelude.{Option, None, Some, ◌==◌, ◌&&◌, ◌||◌, not, nat_lt, is_some, bytes_eq, ◌++◌}
 use Rattle.std.proofs.lemmas.Bool.Decides.{nat_tests}
 use Rattle.psa_status.specs.declared.Status.{Status}
 use Rattle.psa_status.specs.declared.Status.TheVariants.{InvalidArgument, InvalidHandle, InvalidSignature, InsufficientData}
@@ -12,7 +12,7 @@ use Rattle.store_model.specs.Operations.{goes_on}
 use Rattle.store_model.specs.DerivationOperations.{DerivationWork, DerivationStep, GetCapacity, SetCapacity, InputBytes, InputInteger, OutputBytes, VerifyBytes, derivation_work, derivation_step, input_bytes_rows, input_integer_rows, output_rows, is_hkdf, is_due, is_salt_due, is_info_due, is_secret_due, salt_step, info_step, with_key, without, exhausted, next_derived, compared}
 use Rattle.store_model.specs.CipherOperations.{bytes_or_empty}
 use Rattle.store_model.specs.HandleCalls.{HandleCall, OnDerivation, input_key_rows}
-use Rattle.store_model.specs.Handles.{KeyCreation, Deriving, held_with, held_after}
+use Rattle.store_model.specs.Handles.{KeyCreation, Deriving, held_after}
 use Rattle.store_model.specs.Refusals.{left_by}
 use Rattle.store_model.proofs.Buffers.{refusal_leaves}
 use Rattle.store_model.specs.Sound.{IsSoundDerivation}

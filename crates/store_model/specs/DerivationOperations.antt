@@ -1,6 +1,5 @@
 -- A derivation of bytes and keys: HKDF (RFC 5869) and PBKDF2 (RFC 8018).
 use Rattle.std.specs.Prelude.{ℕ, ◌+◌, ◌-◌, ◌*◌, ◌/◌, ◌^◌, Bool, true, false, not, nat_lt, ◌&&◌, ◌||◌, ◌==◌, bytes_eq, List, [], ◌∷◌, ◌++◌, length, drop, Option, Some, None, is_some, if◌then◌else◌}
-use Rattle.std.specs.Option.{option_map_or}
 use Rattle.psa_status.specs.declared.Status.TheVariants.{Success, BadState, InvalidArgument, NotSupported, NotPermitted, InsufficientData, InvalidSignature}
 use Rattle.psa_status.specs.Rows.{Rows, first_row}
 use Rattle.key_attributes.specs.declared.Attributes.{Attributes}

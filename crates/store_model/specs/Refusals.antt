@@ -1,9 +1,9 @@
 -- What a refused call leaves of its handle's operation, and of its output buffer.
-use Rattle.std.specs.Prelude.{Bool, true, false, nat_lt, nat_le, length, if◌then◌else◌}
+use Rattle.std.specs.Prelude.{Bool, true, false, length, if◌then◌else◌}
 use Rattle.psa_status.specs.declared.Status.{Status}
 use Rattle.psa_status.specs.declared.Status.TheVariants.{InvalidArgument, InsufficientData, InvalidSignature, InvalidPadding, HardwareFailure}
 use Rattle.store_model.specs.Operations.{Operation, InError, Active, is_inactive}
-use Rattle.store_model.specs.DerivationOperations.{DerivationWork, SetCapacity, OutputBytes, VerifyBytes, without, stated_bytes}
+use Rattle.store_model.specs.DerivationOperations.{SetCapacity, OutputBytes, VerifyBytes, without}
 use Rattle.store_model.specs.Handles.{Work, Deriving, HandleOperation, key_of_operation, held_with, part_of, hash_part, mac_part, cipher_part, aead_part, derivation_part}
 use Rattle.store_model.specs.HandleCalls.{HandleCall, OnHash, OnMac, OnCipher, OnAead, OnDerivation, InputKey, OutputKey, Abort}
 
