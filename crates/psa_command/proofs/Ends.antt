@@ -7,8 +7,8 @@ use Rattle.script_lang.specs.declared.script.ScriptLine.{ScriptLine}
 use Rattle.script_lang.specs.declared.faults.Reason.{Reason}
 use Rattle.script_lang.specs.declared.faults.ScriptFault.{ScriptFault}
 use Rattle.script_lang.specs.declared.faults.ScriptFault.TheVariants as faults
-use Rattle.script_lang.specs.Pieces.{text_lines}
-use Rattle.script_lang.specs.Lines.{Read, nothing_read, line_at, lines_at, goes_on, script_of, ScriptFails}
+use Rattle.script_lang.specs.Pieces.{line_words, text_lines}
+use Rattle.script_lang.specs.Lines.{Read, nothing_read, words_at, lines_at, goes_on, script_of, ScriptFails}
 use Rattle.script_lang.specs.PrintedOrder.{AnswersLines, IsAnswer}
 use Rattle.session_host.specs.LineOrder.{opened_service}
 use Rattle.psa_command.specs.Ends.{Answered, PartlyAnswered}
@@ -41,7 +41,7 @@ goes_not (Err r) n f h e = cc
 no_line_is : (n : ℕ) (read : Read) (texts : List (List ℕ)) → lines_at n read texts ≡ too_long_read → ⊥
 unfolding lines_at
 no_line_is n read [] e = cc
-no_line_is n read (text ∷ texts) e = goes_not (line_at read text) n (λ next. lines_at (n + 1) next texts) (λ next. no_line_is (n + 1) next texts) e
+no_line_is n read (text ∷ texts) e = goes_not (words_at read (line_words text)) n (λ next. lines_at (n + 1) next texts) (λ next. no_line_is (n + 1) next texts) e
 
 short_turn : (text : List ℕ) (b d : Bool) → nat_lt 4194304 (length text) ≡ b → length text ≤ 4194304 →
     cond b (Err faults.TooLong) (cond d (Err faults.TooManyLines) (lines_at 1 nothing_read (text_lines text))) ≡ too_long_read → ⊥

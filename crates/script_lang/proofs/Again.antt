@@ -1,13 +1,13 @@
 -- What is in the grammar is read.
-use Rattle.std.proofs.Common.{◌≡◌, ℕ, Bool, true, false, cond, List, [], ◌∷◌, ◌++◌, refl, sym, ap, ◌∙◌, append_assoc}
+use Rattle.std.proofs.Common.{◌≡◌, ℕ, true, false, List, [], ◌∷◌, ◌++◌, refl, sym, ap, ◌∙◌, append_assoc}
 use Rattle.std.proofs.lemmas.List.{append-nil}
 use Rattle.std.specs.Prelude.{Some, Ok}
-use Rattle.script_lang.specs.Pieces.{cut_of, words}
+use Rattle.script_lang.specs.Pieces.{cut_of}
 use Rattle.script_lang.specs.Steps.{◌>>=◌}
 use Rattle.script_lang.specs.Shapes.{Shape}
 use Rattle.script_lang.specs.Fields.{Fields, field_name, field_named, is_allowed, has_field, read_field, read_fields}
-use Rattle.script_lang.specs.Lines.{Places, Read, no_words, with_word, read_fixed, parts_at, words_at, is_comment, line_at}
-use Rattle.script_lang.specs.Grammar.{IsField, AreFields, IsFixed, AreFixed, IsLine, IsStep, IsStepBy}
+use Rattle.script_lang.specs.Lines.{Places, Read, no_words, with_word, read_fixed, parts_at, words_at}
+use Rattle.script_lang.specs.Grammar.{IsField, AreFields, IsFixed, AreFixed, IsLine, IsStep}
 use Rattle.script_lang.proofs.Texts.{name_again, key_again, handle_again, value_again, session_again}
 use Rattle.script_lang.specs.declared.fields.Field.{Field}
 use Rattle.script_lang.specs.declared.fields.Field.TheVariants as field
@@ -101,12 +101,7 @@ words_again read next ws l =
       l.after,
     ) refl
 
-step_again : (read next : Read) (ws : List (List ℕ)) (b : Bool) → IsStepBy b read ws next → cond b (Ok read) (words_at read ws) ≡ Ok next
+pub line_again : (read next : Read) (ws : List (List ℕ)) → IsStep read ws next → words_at read ws ≡ Ok next
 unfolding words_at
-step_again read next ws true h = ap Ok h
-step_again read next [] false h = ap Ok h
-step_again read next (w ∷ ws) false h = words_again read next (w ∷ ws) h
-
-pub line_again : (read next : Read) (line : List ℕ) → IsStep read line next → line_at read line ≡ Ok next
-unfolding line_at
-line_again read next line h = step_again read next (words line) (is_comment line) h
+line_again read next [] h = ap Ok h
+line_again read next (w ∷ ws) h = words_again read next (w ∷ ws) h

@@ -1,17 +1,18 @@
 -- What is read of a line is in the grammar.
 use Rattle.std.proofs.Common.{◌≡◌, ℕ, Bool, true, false, cond, not, List, [], ◌∷◌, ◌++◌, refl, sym, ap, subst, ◌∙◌, arith, append_assoc}
 use Rattle.std.proofs.lemmas.List.{append-nil}
-use Rattle.std.specs.Prelude.{Option, Some, None, Result, Ok, Err, find, ◌==◌}
+use Rattle.std.specs.Prelude.{Option, Some, None, Result, Ok, Err, find, ◌==◌, option_map, ok_or}
 use Rattle.std.proofs.lemmas.Bool.Decides.{nat_tests}
 use Rattle.std.proofs.lemmas.Slice.Eq.{bytes_eq-Decides}
-use Rattle.script_lang.specs.Pieces.{cut_of, onto_front, words}
-use Rattle.script_lang.specs.Steps.{◌>>=◌, demand, some_or}
+use Rattle.script_lang.specs.Pieces.{cut_of}
+use Rattle.script_lang.specs.Steps.{◌>>=◌, demand}
 use Rattle.script_lang.specs.Shapes.{Shape}
-use Rattle.script_lang.specs.Commands.{rows, has_word, row_named, IsRow}
-use Rattle.script_lang.specs.Fields.{Fields, all_fields, has_name, field_name, field_named, field_value, is_allowed, has_field, has_required, read_field, read_fields}
-use Rattle.script_lang.specs.Lines.{call_of, Places, Read, is_name, key_at, handle_at, session_of, no_words, with_word, read_fixed, with_call, parts_at, words_at, is_comment, line_at}
-use Rattle.script_lang.specs.Grammar.{IsField, AreFields, IsFixed, AreFixed, IsLine, IsStep, IsStepBy}
-use Rattle.script_lang.proofs.Texts.{some_is, fine, fine_is, some_or_ok, name_means, key_means, handle_means, value_means, session_means}
+use Rattle.std.specs.Str.{bytes_eq}
+use Rattle.script_lang.specs.Commands.{rows, row_named, IsRow}
+use Rattle.script_lang.specs.Fields.{Fields, all_fields, field_name, field_named, field_value, is_allowed, has_field, has_required, read_field, read_fields}
+use Rattle.script_lang.specs.Lines.{call_of, Places, Read, is_name, key_at, handle_at, session_of, no_words, with_word, read_fixed, with_call, parts_at, words_at}
+use Rattle.script_lang.specs.Grammar.{IsField, AreFields, IsFixed, AreFixed, IsLine, IsStep}
+use Rattle.script_lang.proofs.Texts.{some_is, fine, fine_is, ok_or_ok, name_means, key_means, handle_means, value_means, session_means}
 use Rattle.script_lang.specs.declared.faults.Reason.{Reason}
 use Rattle.script_lang.specs.declared.faults.Reason.TheVariants.{BadSession, UnknownCommand, BadName, MissingField, UnknownField, RepeatedField}
 use Rattle.script_lang.specs.declared.fields.Field.{Field}
@@ -39,7 +40,7 @@ find_test p [] x e = absurd cc
 find_test p (y ∷ ys) x e = find_turn p y (find p ys) x (p y) refl (find_test p ys x) e
 
 cut_turn : (s b : ℕ) (bs : List ℕ) (p : List ℕ × List ℕ) (t : Bool) (o : Option (List ℕ × List ℕ)) → (b == s) ≡ t →
-    ((q : List ℕ × List ℕ) → o ≡ Some q → bs ≡ q.0 ++ s ∷ q.1) → cond t (Some ([], bs)) (onto_front b o) ≡ Some p → b ∷ bs ≡ p.0 ++ s ∷ p.1
+    ((q : List ℕ × List ℕ) → o ≡ Some q → bs ≡ q.0 ++ s ∷ q.1) → cond t (Some ([], bs)) (option_map (λ parts. (b ∷ parts.0, parts.1)) o) ≡ Some p → b ∷ bs ≡ p.0 ++ s ∷ p.1
 cut_turn s b bs p true o t h e =
     let same : b ≡ s = grind (arith, nat_tests) in
     subst (λ (q : List ℕ × List ℕ). b ∷ bs ≡ q.0 ++ s ∷ q.1) (some_is ([], bs) p e) (ap (λ c. c ∷ bs) same)
@@ -61,7 +62,7 @@ made f v = Ok (f, v)
 
 -- a field that is named by the text before the first `=`
 pub field_named_is : (name : List ℕ) (f : Field) → field_named name ≡ Some f → field_name f ≡ name
-field_named_is name f e = (bytes_eq-Decides (field_name f) name).0 (find_test (has_name name) all_fields f e)
+field_named_is name f e = (bytes_eq-Decides (field_name f) name).0 (find_test (λ g. bytes_eq (field_name g) name) all_fields f e)
 
 field_made : (row : Shape) (done : Fields) (w : List ℕ) (parts : List ℕ × List ℕ) (f : Field) (v : FieldValue) →
     cut_of 61 w ≡ Some parts → field_named parts.0 ≡ Some f → field_value f parts.1 ≡ Ok v → IsField w (f, v)
@@ -83,9 +84,9 @@ pub field_read : (row : Shape) (done : Fields) (w : List ℕ) (f : Field × Fiel
     IsField w f × (is_allowed row f.0 ≡ true) × (has_field done f.0 ≡ false)
 unfolding read_field
 field_read row done w f e =
-    let a = bind_ok (some_or UnknownField (cut_of 61 w)) (λ parts. some_or UnknownField (field_named parts.0) >>= λ g. demand (is_allowed row g) UnknownField >>= λ _. demand (not (has_field done g)) RepeatedField >>= λ _. field_value g parts.1 >>= λ v. made g v) f e in
-    let b = bind_ok (some_or UnknownField (field_named a.0.0)) (λ g. demand (is_allowed row g) UnknownField >>= λ _. demand (not (has_field done g)) RepeatedField >>= λ _. field_value g a.0.1 >>= λ v. made g v) f a.2 in
-    good_read row done w a.0 b.0 f (some_or_ok UnknownField (cut_of 61 w) a.0 a.1) (some_or_ok UnknownField (field_named a.0.0) b.0 b.1) b.2
+    let a = bind_ok (ok_or (cut_of 61 w) UnknownField) (λ parts. ok_or (field_named parts.0) UnknownField >>= λ g. demand (is_allowed row g) UnknownField >>= λ _. demand (not (has_field done g)) RepeatedField >>= λ _. field_value g parts.1 >>= λ v. made g v) f e in
+    let b = bind_ok (ok_or (field_named a.0.0) UnknownField) (λ g. demand (is_allowed row g) UnknownField >>= λ _. demand (not (has_field done g)) RepeatedField >>= λ _. field_value g a.0.1 >>= λ v. made g v) f a.2 in
+    good_read row done w a.0 b.0 f (ok_or_ok UnknownField (cut_of 61 w) a.0 a.1) (ok_or_ok UnknownField (field_named a.0.0) b.0 b.1) b.2
 
 fields_read : (row : Shape) (done all : Fields) (ws : List (List ℕ)) → read_fields row done ws ≡ Ok all → (fs : Fields) × (all ≡ done ++ fs) × AreFields row done ws fs
 unfolding read_fields
@@ -157,7 +158,7 @@ parts_read places row ws parts e =
 
 pub named_read : (name : List ℕ) (row : Shape) → row_named name ≡ Some row → row.word ≡ name
 unfolding row_named
-named_read name row e = (bytes_eq-Decides row.word name).0 (find_test (has_word name) rows row e)
+named_read name row e = (bytes_eq-Decides row.word name).0 (find_test (λ r. bytes_eq r.word name) rows row e)
 
 -- what is found under a word is a row
 pub row_read : (name : List ℕ) (row : Shape) → row_named name ≡ Some row → IsRow row
@@ -172,14 +173,14 @@ with_said read next s parts said e h = sym (fine_is (with_call read s parts.0 pa
 line_read : (read next : Read) (w : List ℕ) (ws : List (List ℕ)) → words_at read (w ∷ ws) ≡ Ok next → IsLine read (w ∷ ws) next
 unfolding words_at
 line_read read next w [] e =
-    let a = bind_ok (some_or BadSession (session_of w)) (λ _. Err UnknownCommand) next e in
+    let a = bind_ok (ok_or (session_of w) BadSession) (λ _. Err UnknownCommand) next e in
     absurd (no a.2)
   where
     no : Err UnknownCommand ≡ fine next → ⊥
     no e = cc
 line_read read next w (name ∷ ws) e =
-    let a = bind_ok (some_or BadSession (session_of w)) (λ s. some_or UnknownCommand (row_named name) >>= λ c. parts_at (read.places s) c ws >>= λ parts. Ok (with_call read s parts.0 parts.1)) next e in
-    let c = bind_ok (some_or UnknownCommand (row_named name)) (λ c. parts_at (read.places a.0) c ws >>= λ parts. Ok (with_call read a.0 parts.0 parts.1)) next a.2 in
+    let a = bind_ok (ok_or (session_of w) BadSession) (λ s. ok_or (row_named name) UnknownCommand >>= λ c. parts_at (read.places s) c ws >>= λ parts. Ok (with_call read s parts.0 parts.1)) next e in
+    let c = bind_ok (ok_or (row_named name) UnknownCommand) (λ c. parts_at (read.places a.0) c ws >>= λ parts. Ok (with_call read a.0 parts.0 parts.1)) next a.2 in
     let p = bind_ok (parts_at (read.places a.0) c.0 ws) (λ parts. Ok (with_call read a.0 parts.0 parts.1)) next c.2 in
     let r = parts_read (read.places a.0) c.0 ws p.0 p.1 in
     record {
@@ -190,21 +191,16 @@ line_read read next w (name ∷ ws) e =
       session_word = w;
       fixed_words = r.fixed_words;
       field_words = r.field_words;
-      is_row = row_read name c.0 (some_or_ok UnknownCommand (row_named name) c.0 c.1);
-      is_session = session_means w a.0 (some_or_ok BadSession (session_of w) a.0 a.1);
-      line = line_joined w c.0.word name ws r.fixed_words r.field_words (named_read name c.0 (some_or_ok UnknownCommand (row_named name) c.0 c.1)) r.joined;
+      is_row = row_read name c.0 (ok_or_ok UnknownCommand (row_named name) c.0 c.1);
+      is_session = session_means w a.0 (ok_or_ok BadSession (session_of w) a.0 a.1);
+      line = line_joined w c.0.word name ws r.fixed_words r.field_words (named_read name c.0 (ok_or_ok UnknownCommand (row_named name) c.0 c.1)) r.joined;
       are_fixed = r.are_fixed;
       are_fields = r.are_fields;
       all = r.all;
       after = with_said read next a.0 p.0 (said_by c.0 r.fixed r.fields) p.2 r.said;
     }
 
-step_read : (read next : Read) (ws : List (List ℕ)) (b : Bool) → cond b (Ok read) (words_at read ws) ≡ Ok next → IsStepBy b read ws next
+pub line_means : (read next : Read) (ws : List (List ℕ)) → words_at read ws ≡ Ok next → IsStep read ws next
 unfolding words_at
-step_read read next ws true e = fine_is read next e
-step_read read next [] false e = fine_is read next e
-step_read read next (w ∷ ws) false e = line_read read next w ws e
-
-pub line_means : (read next : Read) (line : List ℕ) → line_at read line ≡ Ok next → IsStep read line next
-unfolding line_at
-line_means read next line e = step_read read next (words line) (is_comment line) e
+line_means read next [] e = fine_is read next e
+line_means read next (w ∷ ws) e = line_read read next w ws e

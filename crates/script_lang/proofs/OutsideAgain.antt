@@ -1,16 +1,16 @@
 -- A text that is outside the grammar isn't read, and the answer is its first reason.
 use Rattle.std.proofs.Common.{◌≡◌, ℕ, suc, ◌+◌, ◌<◌, ◌^◌, Bool, true, false, cond, not, List, [], ◌∷◌, ◌++◌, length, refl, sym, ap, ◌∙◌, arith, inl, inr, ◌⊎◌}
-use Rattle.std.specs.Prelude.{Option, Some, None, Result, Ok, Err, nat_lt, ◌==◌, ◌&&◌, option_map}
+use Rattle.std.specs.Prelude.{Option, Some, None, Result, Ok, Err, nat_lt, ◌==◌, ◌&&◌, option_map, ok_or}
 use Rattle.std.proofs.lemmas.Bool.Decides.{nat_tests}
 use Rattle.script_lang.specs.Numbers.{number}
-use Rattle.script_lang.specs.Pieces.{cut_of, words, text_lines}
-use Rattle.script_lang.specs.Steps.{◌>>=◌, demand, some_or}
+use Rattle.script_lang.specs.Pieces.{cut_of, line_words, text_lines}
+use Rattle.script_lang.specs.Steps.{◌>>=◌, demand}
 use Rattle.script_lang.specs.Shapes.{Shape}
 use Rattle.script_lang.specs.Commands.{row_named}
-use Rattle.script_lang.specs.Fields.{Fields, field_name, field_named, field_value, is_allowed, has_field, has_required, read_field, read_fields}
-use Rattle.script_lang.specs.Lines.{Places, Read, nothing_read, no_words, is_name, key_at, handle_at, with_word, read_fixed, session_of, parts_at, words_at, line_at, goes_on, lines_at, script_of, with_call}
-use Rattle.script_lang.specs.Grammar.{IsValue, IsHandle, AreSteps}
-use Rattle.script_lang.specs.Outside.{IsBadFixed, AreBadFixed, IsBadValue, IsBadField, AreBadFields, AreBadAfter, IsBadCommand, AreBadWords, IsBadLine, IsFault}
+use Rattle.script_lang.specs.Fields.{Fields, form_of, field_name, field_named, field_value, is_allowed, has_field, has_required, read_field, read_fields}
+use Rattle.script_lang.specs.Lines.{Places, Read, nothing_read, no_words, is_name, key_at, handle_at, with_word, read_fixed, session_of, parts_at, words_at, goes_on, lines_at, script_of, with_call}
+use Rattle.script_lang.specs.Grammar.{IsForm, IsKey, IsOneTo, AreSteps}
+use Rattle.script_lang.specs.Outside.{IsBadFixed, AreBadFixed, IsBadValue, IsBadField, AreBadFields, AreBadAfter, IsBadCommand, AreBadWords, IsFault}
 use Rattle.script_lang.proofs.Texts.{given, number_means, name_means, name_again, handle_means, value_means, session_means, session_again, and_true}
 use Rattle.script_lang.proofs.Means.{made, cut_joined, field_named_is, named_read, row_read, said_by}
 use Rattle.script_lang.proofs.Again.{cut_name, field_again, one_again, word_again, fixed_again, line_again}
@@ -24,6 +24,7 @@ use Rattle.script_lang.specs.declared.faults.ScriptFault.TheVariants.{TooLong, T
 use Rattle.script_lang.specs.declared.fields.Field.{Field}
 use Rattle.script_lang.specs.declared.fields.FieldValue.{FieldValue}
 use Rattle.script_lang.specs.declared.fixed.Fixed.{Fixed}
+use Rattle.script_lang.specs.declared.script.KeyWord.{KeyWord}
 use Rattle.script_lang.specs.declared.script.KeyWord.TheVariants.{Line}
 use Rattle.script_lang.specs.declared.commands.Kind.{Kind}
 use Rattle.script_lang.specs.declared.commands.Kind.TheVariants as kind
@@ -42,37 +43,30 @@ only_err (Err e) never = (e, refl)
 
 -- keys and names
 
-neither_turn : (places : Places) (c : ℕ) (cs : List ℕ) (r : Reason) (b d : Bool) → (c == 35) ≡ b → (c == 36 && is_name cs) ≡ d → IsBadFixed places kind.Key (c ∷ cs) r → (r ≡ BadKey) →
-    cond b (some_or BadKey (option_map given (number 16 8 (2 ^ 32) cs))) (cond d (some_or UnknownName (option_map Line (places cs))) (Err BadKey)) ≡ Err r
-neither_turn places c cs r true d t u (inr h) e = absurd (differ r h.0 e)
-  where
-    differ : (r : Reason) → r ≡ UnknownName → r ≡ BadKey → ⊥
-    differ r e f = cc
-neither_turn places c cs r false d t u (inr h) e = absurd (differ r h.0 e)
-  where
-    differ : (r : Reason) → r ≡ UnknownName → r ≡ BadKey → ⊥
-    differ r e f = cc
-neither_turn places c cs r true d t u (inl h) e =
-    ap (λ o. some_or BadKey (option_map given o)) (no_such (number 16 8 (2 ^ 32) cs) (λ n k. h.1 (inl (same c t, (n, number_means 16 8 (2 ^ 32) cs n k)))))
-    ∙ ap Err (sym e)
+bad_turn : (places : Places) (c : ℕ) (cs : List ℕ) (b d : Bool) → (c == 35) ≡ b → (c == 36 && is_name cs) ≡ d →
+    ((names : Places) (key : KeyWord) → IsKey names (c ∷ cs) key → ⊥) →
+    cond b (ok_or (option_map given (number 16 8 (2 ^ 32) cs)) BadKey) (cond d (ok_or (option_map Line (places cs)) UnknownName) (Err BadKey)) ≡ Err BadKey
+bad_turn places c cs true d t u none =
+    ap (λ o. ok_or (option_map given o) BadKey)
+    (no_such (number 16 8 (2 ^ 32) cs) (λ n k. none places (given n) (same c t, number_means 16 8 (2 ^ 32) cs n k)))
   where
     same : (c : ℕ) → (c == 35) ≡ true → c ≡ 35
     same c t = grind (arith, nat_tests)
-neither_turn places c cs r false true t u (inl h) e =
-    let k = and_true (c == 36) (is_name cs) u in absurd (h.1 (inr (same c k.0, name_means cs k.1)))
+bad_turn places c cs false true t u none =
+    let k = and_true (c == 36) (is_name cs) u in
+    let all : Places = λ name. Some 0 in absurd (none all (Line 0) (same c k.0, name_means cs k.1, refl))
   where
     same : (c : ℕ) → (c == 36) ≡ true → c ≡ 36
     same c t = grind (arith, nat_tests)
-neither_turn places c cs r false false t u (inl h) e = ap Err (sym e)
+bad_turn places c cs false false t u none = refl
 
 key_unread : (places : Places) (word : List ℕ) (r : Reason) → IsBadFixed places kind.Key word r → key_at places word ≡ Err r
 unfolding key_at
 key_unread places [] r (inl h) = ap Err (sym h.0)
-key_unread places [] r (inr h) = absurd h.1
-key_unread places (c ∷ cs) r (inl h) = neither_turn places c cs r (c == 35) (c == 36 && is_name cs) refl refl (inl h) h.0
-key_unread places (c ∷ cs) r (inr h) = rw (h.1.0, name_again cs h.1.1, h.1.2) (ap Err (sym h.0))
+key_unread places (c ∷ cs) r (inl h) = bad_turn places c cs (c == 35) (c == 36 && is_name cs) refl refl h.1 ∙ ap Err (sym h.0)
+key_unread places word r (inr h) = rw (h.1.1, name_again h.1.0 h.1.2, h.1.3) (ap Err (sym h.0))
 
-handle_unread : (word : List ℕ) (r : Reason) → r ≡ BadHandle → ((h : ℕ) → IsHandle word h → ⊥) → handle_at word ≡ Err r
+handle_unread : (word : List ℕ) (r : Reason) → r ≡ BadHandle → ((h : ℕ) → IsOneTo 4 word h → ⊥) → handle_at word ≡ Err r
 handle_unread word r is never =
     let h = only_err (handle_at word) (λ v e. never v (handle_means word v e)) in h.1 ∙ ap Err (handle_err word h.0 h.1 ∙ sym is)
 
@@ -95,7 +89,7 @@ fixed_unread places (k ∷ ks) fixed (w ∷ ws) r (inr h) =
 
 named_unread : (row : Shape) (done : Fields) (w : List ℕ) (r : Reason) (parts : List ℕ × List ℕ) → cut_of 61 w ≡ Some parts →
     ((f : Field) (text : List ℕ) → w ≡ field_name f ++ 61 ∷ text → is_allowed row f ≡ false) → r ≡ UnknownField →
-    (o : Option Field) → field_named parts.0 ≡ o → (some_or UnknownField o >>= λ f. after_name row done f parts.1) ≡ Err r
+    (o : Option Field) → field_named parts.0 ≡ o → (ok_or o UnknownField >>= λ f. after_name row done f parts.1) ≡ Err r
 named_unread row done w r parts c none e None n = ap Err (sym e)
 named_unread row done w r parts c none e (Some f) n =
     ap (λ b. demand b UnknownField >>= λ _. demand (not (has_field done f)) RepeatedField >>= λ _. field_value f parts.1 >>= λ v. made f v)
@@ -104,11 +98,11 @@ named_unread row done w r parts c none e (Some f) n =
 
 cut_unread : (row : Shape) (done : Fields) (w : List ℕ) (r : Reason) →
     ((f : Field) (text : List ℕ) → w ≡ field_name f ++ 61 ∷ text → is_allowed row f ≡ false) → r ≡ UnknownField →
-    (o : Option (List ℕ × List ℕ)) → cut_of 61 w ≡ o → (some_or UnknownField o >>= λ parts. some_or UnknownField (field_named parts.0) >>= λ f. after_name row done f parts.1) ≡ Err r
+    (o : Option (List ℕ × List ℕ)) → cut_of 61 w ≡ o → (ok_or o UnknownField >>= λ parts. ok_or (field_named parts.0) UnknownField >>= λ f. after_name row done f parts.1) ≡ Err r
 cut_unread row done w r none e None c = ap Err (sym e)
 cut_unread row done w r none e (Some parts) c = named_unread row done w r parts c none e (field_named parts.0) refl
 
-value_unread : (f : Field) (text : List ℕ) → ((v : FieldValue) → IsValue f text v → ⊥) → field_value f text ≡ Err BadValue
+value_unread : (f : Field) (text : List ℕ) → ((v : FieldValue) → IsForm (form_of f) text v → ⊥) → field_value f text ≡ Err BadValue
 value_unread f text never =
     let h = only_err (field_value f text) (λ v e. never v (value_means f text v e)) in h.1 ∙ ap Err (value_err f text h.0 h.1)
 
@@ -158,11 +152,11 @@ parts_unread places row ws r (inr h) =
 command_unread : (read : Read) (s : ℕ) (ws : List (List ℕ)) (r : Reason) → IsBadCommand read s ws r → after_session read s ws ≡ Err r
 command_unread read s [] r h = ap Err (sym h)
 command_unread read s (name ∷ ws) r (inl h) =
-    ap (λ o. some_or UnknownCommand o >>= λ c. parts_at (read.places s) c ws >>= λ parts. Ok (with_call read s parts.0 parts.1))
+    ap (λ o. ok_or o UnknownCommand >>= λ c. parts_at (read.places s) c ws >>= λ parts. Ok (with_call read s parts.0 parts.1))
     (no_such (row_named name) (λ c e. h.1 c (row_read name c e) (named_read name c e)))
     ∙ ap Err (sym h.0)
 command_unread read s (name ∷ ws) r (inr h) =
-    ap (λ o. some_or UnknownCommand o >>= λ c. parts_at (read.places s) c ws >>= λ parts. Ok (with_call read s parts.0 parts.1))
+    ap (λ o. ok_or o UnknownCommand >>= λ c. parts_at (read.places s) c ws >>= λ parts. Ok (with_call read s parts.0 parts.1))
     (ap row_named (sym h.2) ∙ h.1)
     ∙ ap (λ x. x >>= λ parts. Ok (with_call read s parts.0 parts.1)) (parts_unread (read.places s) h.0 ws r h.3)
 
@@ -170,28 +164,24 @@ words_unread : (read : Read) (ws : List (List ℕ)) (r : Reason) → AreBadWords
 unfolding words_at
 words_unread read [] r h = absurd h
 words_unread read (w ∷ ws) r (inl h) =
-    ap (λ o. some_or BadSession o >>= λ s. after_session read s ws) (no_such (session_of w) (λ s e. h.1 s (session_means w s e))) ∙ ap Err (sym h.0)
+    ap (λ o. ok_or o BadSession >>= λ s. after_session read s ws) (no_such (session_of w) (λ s e. h.1 s (session_means w s e))) ∙ ap Err (sym h.0)
 words_unread read (w ∷ ws) r (inr h) =
-    ap (λ o. some_or BadSession o >>= λ s. after_session read s ws) (session_again w h.0 h.1) ∙ command_unread read h.0 ws r h.2
-
-line_unread : (read : Read) (line : List ℕ) (r : Reason) → IsBadLine read line r → line_at read line ≡ Err r
-unfolding line_at
-line_unread read line r h = ap (λ b. cond b (Ok read) (words_at read (words line))) h.0 ∙ words_unread read (words line) r h.1
+    ap (λ o. ok_or o BadSession >>= λ s. after_session read s ws) (session_again w h.0 h.1) ∙ command_unread read h.0 ws r h.2
 
 -- scripts
 
-lines_unread : (n : ℕ) (read last : Read) (before after : List (List ℕ)) (line : List ℕ) (r : Reason) → AreSteps read before last → IsBadLine last line r →
+lines_unread : (n : ℕ) (read last : Read) (before after : List (List ℕ)) (line : List ℕ) (r : Reason) → AreSteps read before last → AreBadWords last (line_words line) r →
     lines_at n read (before ++ line ∷ after) ≡ Err (BadLine (n + length before) r)
 unfolding lines_at
 lines_unread n read last [] after line r steps bad =
-    ap (λ (x : Read). goes_on (line_at x line) n (λ next. lines_at (n + 1) next after)) steps
-    ∙ ap (λ x. goes_on x n (λ next. lines_at (n + 1) next after)) (line_unread last line r bad)
+    ap (λ (x : Read). goes_on (words_at x (line_words line)) n (λ next. lines_at (n + 1) next after)) steps
+    ∙ ap (λ x. goes_on x n (λ next. lines_at (n + 1) next after)) (words_unread last (line_words line) r bad)
     ∙ ap (λ m. Err (BadLine m r)) (first n)
   where
     first : (n : ℕ) → n ≡ n + 0
     first n = omega arith
 lines_unread n read last (text ∷ before) after line r steps bad =
-    ap (λ x. goes_on x n (λ next. lines_at (n + 1) next (before ++ line ∷ after))) (line_again read steps.0 text steps.1)
+    ap (λ x. goes_on x n (λ next. lines_at (n + 1) next (before ++ line ∷ after))) (line_again read steps.0 (line_words text) steps.1)
     ∙ lines_unread (n + 1) steps.0 last before after line r steps.2 bad
     ∙ ap (λ m. Err (BadLine m r)) (later n (length before))
   where

@@ -1,18 +1,17 @@
 -- A text that isn't read is outside the grammar, at the line and for the reason that is answered.
-use Rattle.std.proofs.Common.{◌≡◌, ℕ, suc, ◌+◌, ◌-◌, ◌<◌, ◌≤◌, Bool, true, false, cond, not, List, [], ◌∷◌, ◌++◌, length, refl, sym, ap, subst, ◌∙◌, arith, inl, inr, ◌⊎◌}
-use Rattle.std.specs.Prelude.{◌^◌, Option, Some, None, Result, Ok, Err, nat_lt, nat_le, ◌==◌, ◌&&◌, option_map}
+use Rattle.std.proofs.Common.{◌≡◌, ℕ, suc, ◌+◌, ◌-◌, ◌<◌, ◌≤◌, Bool, true, false, cond, not, List, [], ◌∷◌, ◌++◌, length, drop, refl, sym, ap, subst, ◌∙◌, arith, inl, inr, ◌⊎◌}
+use Rattle.std.specs.Prelude.{◌^◌, Option, Some, None, Result, Ok, Err, nat_lt, nat_le, ◌==◌, ◌&&◌, option_map, ok_or, slice_get}
 use Rattle.std.proofs.lemmas.Bool.Decides.{nat_tests}
 use Rattle.script_lang.specs.Numbers.{number}
-use Rattle.script_lang.specs.Pieces.{cut_of, words, text_lines}
-use Rattle.hex.specs.Hex.{decode_of}
-use Rattle.script_lang.specs.Steps.{◌>>=◌, demand, some_or, first_or, rest_of}
+use Rattle.script_lang.specs.Pieces.{cut_of, line_words, text_lines}
+use Rattle.script_lang.specs.Steps.{◌>>=◌, demand}
 use Rattle.script_lang.specs.Shapes.{Shape}
 use Rattle.script_lang.specs.Commands.{row_named}
-use Rattle.script_lang.specs.Fields.{Form, ShortForm, WordForm, LongForm, BytesForm, form_of, form_value, from_least, bytes_or_none, bytes_value, Fields, field_name, field_named, field_value, is_allowed, has_field, has_required, read_field, read_fields}
-use Rattle.script_lang.specs.Lines.{Places, Read, nothing_read, no_words, is_name, key_at, handle_at, with_word, read_fixed, session_of, parts_at, words_at, is_comment, line_at, goes_on, lines_at, script_of, with_call}
-use Rattle.script_lang.specs.Grammar.{IsHandle, AreSteps}
-use Rattle.script_lang.specs.Outside.{IsBadFixed, AreBadFixed, IsBadValue, IsBadField, AreBadFields, AreBadAfter, IsBadCommand, AreBadWords, IsBadLine, IsFault}
-use Rattle.script_lang.proofs.Texts.{some_is, fine_is, number_again, name_means, name_again, handle_again, value_again, session_means, session_again, some_or_ok, and_true, given}
+use Rattle.script_lang.specs.Fields.{form_of, form_value, Fields, field_name, field_named, field_value, is_allowed, has_field, has_required, read_field, read_fields}
+use Rattle.script_lang.specs.Lines.{Places, Read, nothing_read, no_words, is_name, key_at, handle_at, with_word, read_fixed, session_of, parts_at, words_at, goes_on, lines_at, script_of, with_call}
+use Rattle.script_lang.specs.Grammar.{IsKey, IsOneTo, AreSteps}
+use Rattle.script_lang.specs.Outside.{IsBadFixed, AreBadFixed, IsBadValue, IsBadField, AreBadFields, AreBadAfter, IsBadCommand, AreBadWords, IsFault}
+use Rattle.script_lang.proofs.Texts.{some_is, fine_is, number_again, name_means, name_again, handle_again, value_again, session_means, session_again, ok_or_ok, and_true, given}
 use Rattle.script_lang.proofs.Means.{made, bind_ok, demand_ok, cut_joined, field_read, field_named_is, word_read, fixed_read, named_read, row_read, said_by, line_means}
 use Rattle.script_lang.proofs.Again.{cut_name, field_again}
 use Rattle.script_lang.specs.declared.faults.Reason.{Reason}
@@ -21,9 +20,9 @@ use Rattle.script_lang.specs.declared.faults.ScriptFault.{ScriptFault}
 use Rattle.script_lang.specs.declared.faults.ScriptFault.TheVariants.{TooLong, TooManyLines, BadLine}
 use Rattle.script_lang.specs.declared.fields.Field.{Field}
 use Rattle.script_lang.specs.declared.fields.FieldValue.{FieldValue}
-use Rattle.script_lang.specs.declared.fields.FieldValue.TheVariants.{Short, Word, Long, Bytes}
 use Rattle.script_lang.specs.declared.fixed.Fixed.{Fixed}
-use Rattle.script_lang.specs.declared.script.KeyWord.TheVariants.{Line}
+use Rattle.script_lang.specs.declared.script.KeyWord.{KeyWord}
+use Rattle.script_lang.specs.declared.script.KeyWord.TheVariants.{Given, Line}
 use Rattle.script_lang.specs.declared.script.ScriptLine.{ScriptLine}
 use Rattle.script_lang.specs.declared.commands.Kind.{Kind}
 use Rattle.script_lang.specs.declared.commands.Kind.TheVariants as kind
@@ -50,9 +49,9 @@ demand_err : (b : Bool) (r e : Reason) → demand b r ≡ Err e → (b ≡ false
 demand_err true r e h = absurd cc
 demand_err false r e h = (refl, wrong_is (demand false r) e r h refl)
 
-some_or_err : {X : Type 0} (r e : Reason) (o : Option X) → some_or r o ≡ Err e → (o ≡ None) × (e ≡ r)
-some_or_err r e None h = (refl, wrong_is (some_or r None) e r h refl)
-some_or_err r e (Some x) h = absurd cc
+ok_or_err : {X : Type 0} (r e : Reason) (o : Option X) → ok_or o r ≡ Err e → (o ≡ None) × (e ≡ r)
+ok_or_err r e None h = (refl, wrong_is (ok_or None r) e r h refl)
+ok_or_err r e (Some x) h = absurd cc
 
 unmapped : {X Y : Type 0} (f : X → Y) (o : Option X) → option_map f o ≡ None → o ≡ None
 unmapped f None e = refl
@@ -61,36 +60,30 @@ unmapped f (Some x) e = absurd cc
 -- keys and names
 
 key_turn : (places : Places) (c : ℕ) (cs : List ℕ) (r : Reason) (b d : Bool) → (c == 35) ≡ b → (c == 36 && is_name cs) ≡ d →
-    cond b (some_or BadKey (option_map given (number 16 8 (2 ^ 32) cs))) (cond d (some_or UnknownName (option_map Line (places cs))) (Err BadKey)) ≡ Err r →
+    cond b (ok_or (option_map given (number 16 8 (2 ^ 32) cs)) BadKey) (cond d (ok_or (option_map Line (places cs)) UnknownName) (Err BadKey)) ≡ Err r →
     IsBadFixed places kind.Key (c ∷ cs) r
 key_turn places c cs r true d t u e =
-    let h = some_or_err BadKey r (option_map given (number 16 8 (2 ^ 32) cs)) e in
+    let h = ok_or_err BadKey r (option_map given (number 16 8 (2 ^ 32) cs)) e in
     let none = unmapped given (number 16 8 (2 ^ 32) cs) h.0 in
-    inl (
-      h.1,
-      λ form. elim form [
-        | inl n ↦ not_some (number 16 8 (2 ^ 32) cs) n.1.0 none (number_again 16 8 (2 ^ 32) cs n.1.0 n.1.1)
-        | inr n ↦ clash c t n.0
-      ],
-    )
+    inl (h.1, λ names key is. no_key names c cs key (same c t) none is)
   where
-    clash : (c : ℕ) → (c == 35) ≡ true → c ≡ 36 → ⊥
-    clash c t e = grind (arith, nat_tests)
+    same : (c : ℕ) → (c == 35) ≡ true → c ≡ 35
+    same c t = grind (arith, nat_tests)
+
+    clash : (c : ℕ) → c ≡ 35 → c ≡ 36 → ⊥
+    clash c e f = omega arith
+
+    no_key : (names : Places) (c : ℕ) (cs : List ℕ) (key : KeyWord) → c ≡ 35 → number 16 8 (2 ^ 32) cs ≡ None → IsKey names (c ∷ cs) key → ⊥
+    no_key names c cs (Given id) e none is = not_some (number 16 8 (2 ^ 32) cs) id.0 none (number_again 16 8 (2 ^ 32) cs id.0 is.1)
+    no_key names c cs (Line place) e none is = clash c e is.0
 key_turn places c cs r false true t u e =
-    let h = some_or_err UnknownName r (option_map Line (places cs)) e in
+    let h = ok_or_err UnknownName r (option_map Line (places cs)) e in
     let k = and_true (c == 36) (is_name cs) u in
-    inr (h.1, (same c k.0, name_means cs k.1, unmapped Line (places cs) h.0))
+    inr (h.1, (cs, ap (λ d. d ∷ cs) (same c k.0), name_means cs k.1, unmapped Line (places cs) h.0))
   where
     same : (c : ℕ) → (c == 36) ≡ true → c ≡ 36
     same c t = grind (arith, nat_tests)
-key_turn places c cs r false false t u e =
-    inl (
-      sym (wrong_is (Err BadKey) BadKey r refl e),
-      λ form. elim form [
-        | inl n ↦ first c t n.0
-        | inr n ↦ not_yes_no (c == 36 && is_name cs) u (both c (is_name cs) n.0 (name_again cs n.1))
-      ],
-    )
+key_turn places c cs r false false t u e = inl (sym (wrong_is (Err BadKey) BadKey r refl e), λ names key is. no_form names c cs key t u is)
   where
     first : (c : ℕ) → (c == 35) ≡ false → c ≡ 35 → ⊥
     first c t e = grind (arith, nat_tests)
@@ -98,9 +91,13 @@ key_turn places c cs r false false t u e =
     both : (c : ℕ) (b : Bool) → c ≡ 36 → b ≡ true → (c == 36 && b) ≡ true
     both c b e f = rw (e, f) refl
 
+    no_form : (names : Places) (c : ℕ) (cs : List ℕ) (key : KeyWord) → (c == 35) ≡ false → (c == 36 && is_name cs) ≡ false → IsKey names (c ∷ cs) key → ⊥
+    no_form names c cs (Given id) t u is = first c t is.0
+    no_form names c cs (Line place) t u is = not_yes_no (c == 36 && is_name cs) u (both c (is_name cs) is.0 (name_again cs is.1))
+
 key_bad : (places : Places) (word : List ℕ) (r : Reason) → key_at places word ≡ Err r → IsBadFixed places kind.Key word r
 unfolding key_at
-key_bad places [] r e = inl (sym (wrong_is (Err BadKey) BadKey r refl e), λ h. h)
+key_bad places [] r e = inl (sym (wrong_is (Err BadKey) BadKey r refl e), λ names key is. is)
 key_bad places (c ∷ cs) r e = key_turn places c cs r (c == 35) (c == 36 && is_name cs) refl refl e
 
 -- handles
@@ -114,7 +111,7 @@ handle_err [] r e = sym (wrong_is (Err BadHandle) BadHandle r refl e)
 handle_err (c ∷ []) r e = digit_err c r (nat_le 49 c && nat_le c 52) e
 handle_err (c ∷ d ∷ cs) r e = sym (wrong_is (Err BadHandle) BadHandle r refl e)
 
-handle_bad : (word : List ℕ) (r : Reason) → handle_at word ≡ Err r → (r ≡ BadHandle) × ((h : ℕ) → IsHandle word h → ⊥)
+handle_bad : (word : List ℕ) (r : Reason) → handle_at word ≡ Err r → (r ≡ BadHandle) × ((h : ℕ) → IsOneTo 4 word h → ⊥)
 handle_bad word r e = (handle_err word r e, λ h is. not_both (handle_at word) h r (handle_again word h is) e)
 
 -- fixed words
@@ -149,24 +146,9 @@ fixed_bad places (k ∷ ks) fixed (w ∷ ws) r e =
 
 -- fields
 
-bytes_err : {E : Type 0} (x : Result (List ℕ) E) (r : Reason) → bytes_or_none x ≡ Err r → r ≡ BadValue
-bytes_err (Ok bytes) r e = absurd (not_both (Ok (Bytes bytes)) (Bytes bytes) r refl e)
-bytes_err (Err x) r e = sym (wrong_is (Err BadValue) BadValue r refl e)
-
-long_err : (text : List ℕ) (r : Reason) (b : Bool) → cond b (Err BadValue) (bytes_or_none (decode_of text)) ≡ Err r → r ≡ BadValue
-long_err text r true e = sym (wrong_is (Err BadValue) BadValue r refl e)
-long_err text r false e = bytes_err (decode_of text) r e
-
-form_err : (form : Form) (text : List ℕ) (r : Reason) → form_value form text ≡ Err r → r ≡ BadValue
-unfolding bytes_value
-form_err (ShortForm base most least limit) text r e = (some_or_err BadValue r (option_map Short (from_least least (number base most limit text))) e).1
-form_err WordForm text r e = (some_or_err BadValue r (option_map Word (number 16 8 (2 ^ 32) text)) e).1
-form_err LongForm text r e = (some_or_err BadValue r (option_map Long (number 10 20 (2 ^ 64) text)) e).1
-form_err BytesForm text r e = long_err text r (nat_lt 32768 (length text)) e
-
 pub value_err : (f : Field) (text : List ℕ) (r : Reason) → field_value f text ≡ Err r → r ≡ BadValue
 unfolding field_value
-value_err f text r e = form_err (form_of f) text r e
+value_err f text r e = (ok_or_err BadValue r (form_value (form_of f) text) e).1
 
 cut_is : (w : List ℕ) (f : Field) (text : List ℕ) → w ≡ field_name f ++ 61 ∷ text → cut_of 61 w ≡ Some (field_name f, text)
 cut_is w f text e = ap (cut_of 61) e ∙ cut_name f text
@@ -209,14 +191,14 @@ known_bad row done w parts f r c n e =
 field_bad : (row : Shape) (done : Fields) (w : List ℕ) (r : Reason) → read_field row done w ≡ Err r → IsBadField row done w r
 unfolding read_field
 field_bad row done w r e =
-    elim (bind_err (some_or UnknownField (cut_of 61 w)) (λ parts. some_or UnknownField (field_named parts.0) >>= λ f. after_name row done f parts.1) r e) [
-      | inl h ↦ let n = some_or_err UnknownField r (cut_of 61 w) h in
+    elim (bind_err (ok_or (cut_of 61 w) UnknownField) (λ parts. ok_or (field_named parts.0) UnknownField >>= λ f. after_name row done f parts.1) r e) [
+      | inl h ↦ let n = ok_or_err UnknownField r (cut_of 61 w) h in
           inl (n.1, λ f text is. absurd (not_some (cut_of 61 w) (field_name f, text) n.0 (cut_is w f text is)))
-      | inr h ↦ let c = some_or_ok UnknownField (cut_of 61 w) h.0 h.1 in
-          elim (bind_err (some_or UnknownField (field_named h.0.0)) (λ f. after_name row done f h.0.1) r h.2) [
-            | inl k ↦ let n = some_or_err UnknownField r (field_named h.0.0) k in
+      | inr h ↦ let c = ok_or_ok UnknownField (cut_of 61 w) h.0 h.1 in
+          elim (bind_err (ok_or (field_named h.0.0) UnknownField) (λ f. after_name row done f h.0.1) r h.2) [
+            | inl k ↦ let n = ok_or_err UnknownField r (field_named h.0.0) k in
                 inl (n.1, λ f text is. absurd (not_some (field_named h.0.0) f n.0 (same_cut w f text h.0 is c)))
-            | inr k ↦ known_bad row done w h.0 k.0 r c (some_or_ok UnknownField (field_named h.0.0) k.0 k.1) k.2
+            | inr k ↦ known_bad row done w h.0 k.0 r c (ok_or_ok UnknownField (field_named h.0.0) k.0 k.1) k.2
           ]
     ]
 
@@ -262,16 +244,16 @@ parts_bad places row ws r e =
 -- lines
 
 abbrev pub after_session : Read → ℕ → List (List ℕ) → Result Read Reason
-after_session read s ws = first_or UnknownCommand ws >>= λ name. some_or UnknownCommand (row_named name) >>= λ c. parts_at (read.places s) c (rest_of ws) >>= λ parts. Ok (with_call read s parts.0 parts.1)
+after_session read s ws = ok_or (slice_get ws 0) UnknownCommand >>= λ name. ok_or (row_named name) UnknownCommand >>= λ c. parts_at (read.places s) c (drop 1 ws) >>= λ parts. Ok (with_call read s parts.0 parts.1)
 
 command_bad : (read : Read) (s : ℕ) (ws : List (List ℕ)) (r : Reason) → after_session read s ws ≡ Err r → IsBadCommand read s ws r
 command_bad read s [] r e = sym (wrong_is (Err UnknownCommand) UnknownCommand r refl e)
 command_bad read s (name ∷ ws) r e =
-    elim (bind_err (some_or UnknownCommand (row_named name)) (λ c. parts_at (read.places s) c ws >>= λ parts. Ok (with_call read s parts.0 parts.1)) r e) [
-      | inl h ↦ let n = some_or_err UnknownCommand r (row_named name) h in
+    elim (bind_err (ok_or (row_named name) UnknownCommand) (λ c. parts_at (read.places s) c ws >>= λ parts. Ok (with_call read s parts.0 parts.1)) r e) [
+      | inl h ↦ let n = ok_or_err UnknownCommand r (row_named name) h in
           inl (n.1, λ c row is. not_some (row_named name) c n.0 (ap row_named (sym is) ∙ row))
       | inr h ↦ elim (bind_err (parts_at (read.places s) h.0 ws) (λ parts. Ok (with_call read s parts.0 parts.1)) r h.2) [
-        | inl k ↦ let found = some_or_ok UnknownCommand (row_named name) h.0 h.1 in inr (h.0, row_read name h.0 found, named_read name h.0 found, parts_bad (read.places s) h.0 ws r k)
+        | inl k ↦ let found = ok_or_ok UnknownCommand (row_named name) h.0 h.1 in inr (h.0, row_read name h.0 found, named_read name h.0 found, parts_bad (read.places s) h.0 ws r k)
         | inr k ↦ absurd (not_both (Ok (with_call read s k.0.0 k.0.1)) (with_call read s k.0.0 k.0.1) r refl k.2)
       ]
     ]
@@ -280,18 +262,10 @@ words_bad : (read : Read) (ws : List (List ℕ)) (r : Reason) → words_at read 
 unfolding words_at
 words_bad read [] r e = not_both (Ok read) read r refl e
 words_bad read (w ∷ ws) r e =
-    elim (bind_err (some_or BadSession (session_of w)) (λ s. after_session read s ws) r e) [
-      | inl h ↦ let n = some_or_err BadSession r (session_of w) h in inl (n.1, λ s is. not_some (session_of w) s n.0 (session_again w s is))
-      | inr h ↦ inr (h.0, session_means w h.0 (some_or_ok BadSession (session_of w) h.0 h.1), command_bad read h.0 ws r h.2)
+    elim (bind_err (ok_or (session_of w) BadSession) (λ s. after_session read s ws) r e) [
+      | inl h ↦ let n = ok_or_err BadSession r (session_of w) h in inl (n.1, λ s is. not_some (session_of w) s n.0 (session_again w s is))
+      | inr h ↦ inr (h.0, session_means w h.0 (ok_or_ok BadSession (session_of w) h.0 h.1), command_bad read h.0 ws r h.2)
     ]
-
-line_turn : (read : Read) (ws : List (List ℕ)) (r : Reason) (b : Bool) → cond b (Ok read) (words_at read ws) ≡ Err r → (b ≡ false) × AreBadWords read ws r
-line_turn read ws r true e = absurd (not_both (Ok read) read r refl e)
-line_turn read ws r false e = (refl, words_bad read ws r e)
-
-line_bad : (read : Read) (line : List ℕ) (r : Reason) → line_at read line ≡ Err r → IsBadLine read line r
-unfolding line_at
-line_bad read line r e = line_turn read (words line) r (is_comment line) e
 
 -- scripts
 
@@ -310,13 +284,13 @@ record AreBadLines (number : ℕ) (read : Read) (texts : List (List ℕ)) (fault
   reason : Reason
   joined : texts ≡ before ++ line ∷ after
   steps : AreSteps read before last
-  bad : IsBadLine last line reason
+  bad : AreBadWords last (line_words line) reason
   is_fault : fault ≡ BadLine (number + length before) reason
 
 first : (n : ℕ) → n ≡ n + 0
 first n = omega arith
 
-lines_turn : (n : ℕ) (read : Read) (text : List ℕ) (texts : List (List ℕ)) (fault : ScriptFault) (x : Result Read Reason) → line_at read text ≡ x →
+lines_turn : (n : ℕ) (read : Read) (text : List ℕ) (texts : List (List ℕ)) (fault : ScriptFault) (x : Result Read Reason) → words_at read (line_words text) ≡ x →
     ((next : Read) → lines_at (n + 1) next texts ≡ Err fault → AreBadLines (n + 1) next texts fault) →
     goes_on x n (λ next. lines_at (n + 1) next texts) ≡ Err fault → AreBadLines n read (text ∷ texts) fault
 lines_turn n read text texts fault (Err r) e ih h = record {
@@ -327,7 +301,7 @@ lines_turn n read text texts fault (Err r) e ih h = record {
   reason = r;
   joined = refl;
   steps = refl;
-  bad = line_bad read text r e;
+  bad = words_bad read (line_words text) r e;
   is_fault = sym (fault_is (BadLine n r) fault (Err (BadLine n r)) refl h) ∙ ap (λ m. BadLine m r) (first n);
 }
 lines_turn n read text texts fault (Ok next) e ih h =
@@ -339,7 +313,7 @@ lines_turn n read text texts fault (Ok next) e ih h =
       last = b.last;
       reason = b.reason;
       joined = ap (λ (ts : List (List ℕ)). text ∷ ts) b.joined;
-      steps = (next, line_means read next text e, b.steps);
+      steps = (next, line_means read next (line_words text) e, b.steps);
       bad = b.bad;
       is_fault = b.is_fault ∙ ap (λ m. BadLine m b.reason) (later n (length b.before));
     }
@@ -350,7 +324,7 @@ lines_turn n read text texts fault (Ok next) e ih h =
 lines_bad : (n : ℕ) (read : Read) (texts : List (List ℕ)) (fault : ScriptFault) → lines_at n read texts ≡ Err fault → AreBadLines n read texts fault
 unfolding lines_at
 lines_bad n read [] fault e = absurd (no_fault fault read.lines (Ok read.lines) refl e)
-lines_bad n read (text ∷ texts) fault e = lines_turn n read text texts fault (line_at read text) refl (λ next. lines_bad (n + 1) next texts fault) e
+lines_bad n read (text ∷ texts) fault e = lines_turn n read text texts fault (words_at read (line_words text)) refl (λ next. lines_bad (n + 1) next texts fault) e
 
 first_bad : (text : List ℕ) (fault : ScriptFault) → length text ≤ 4194304 → length (text_lines text) ≤ 20000 → AreBadLines 1 nothing_read (text_lines text) fault → IsFault text fault
 first_bad text fault short few b =

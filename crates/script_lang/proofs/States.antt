@@ -5,7 +5,7 @@ use Rattle.std.proofs.lemmas.Bool.Decides.{nat_tests}
 use Rattle.std.proofs.Math.ListN.{length-set}
 use Rattle.std.proofs.lemmas.Option.{slice_get_read}
 use Rattle.std.proofs.lemmas.List.Sums.{length-filter, count_by-le-length}
-use Rattle.script_lang.specs.Lines.{Places, nothing_read, calls_of, given_place, named_at, with_call}
+use Rattle.script_lang.specs.Lines.{Places, nothing_read, lines_of, given_place, with_call}
 use Rattle.script_lang.specs.Sessions.{places_of, places_in, read_of, AreCounted, IsNew}
 use Rattle.script_lang.specs.declared.script.ScriptCall.{ScriptCall}
 use Rattle.script_lang.specs.declared.script.ScriptLine.{ScriptLine}
@@ -43,10 +43,10 @@ pub places_found : (lines : List ScriptLine) (xs : List Session) (i : ℕ) (x : 
 places_found lines xs i x h e = sym (ap places_in (found xs i x h e))
 
 -- the count that a session keeps
-pub count_found : (lines : List ScriptLine) (xs : List Session) (i : ℕ) (x : Session) → AreCounted lines xs → slice_get xs i ≡ Some x → x.calls ≡ calls_of i lines
-count_found lines xs i x counted e = subst (λ o. IfSome o (λ session. session.calls ≡ calls_of i lines)) e (counted.counts i)
+pub count_found : (lines : List ScriptLine) (xs : List Session) (i : ℕ) (x : Session) → AreCounted lines xs → slice_get xs i ≡ Some x → x.calls ≡ length (lines_of i lines)
+count_found lines xs i x counted e = subst (λ o. IfSome o (λ session. session.calls ≡ length (lines_of i lines))) e (counted.counts i)
 
-pub count_fits : (lines : List ScriptLine) (i : ℕ) → calls_of i lines ≤ length lines
+pub count_fits : (lines : List ScriptLine) (i : ℕ) → length (lines_of i lines) ≤ length lines
 count_fits lines i = omega (arith, length-filter (λ (line : ScriptLine). line.session == i) lines, count_by-le-length (λ (line : ScriptLine). line.session == i) lines)
 
 -- sessions of which nothing was read
@@ -62,7 +62,7 @@ new_read xs h =
 pub new_counted : (xs : List Session) → length xs ≡ 17 → All IsNew xs → AreCounted [] xs
 new_counted xs e h = record {
   seventeen = e;
-  counts = λ s. weaker IsNew (λ session. session.calls ≡ calls_of s []) (slice_get xs s) (λ x n. n.calls) (all_at IsNew xs s h);
+  counts = λ s. weaker IsNew (λ session. session.calls ≡ length (lines_of s [])) (slice_get xs s) (λ x n. n.calls) (all_at IsNew xs s h);
 }
 
 calls_turn : (b : Bool) (s n : ℕ) (x : ScriptLine) (fs gs : List ScriptLine) → length fs ≡ length gs + n →
@@ -74,7 +74,7 @@ calls_last : (b : Bool) (l : ScriptLine) → length (cond b (l ∷ []) []) ≡ c
 calls_last true l = refl
 calls_last false l = refl
 
-calls_more : (s : ℕ) (lines : List ScriptLine) (l : ScriptLine) → calls_of s (lines ++ l ∷ []) ≡ calls_of s lines + cond (l.session == s) 1 0
+calls_more : (s : ℕ) (lines : List ScriptLine) (l : ScriptLine) → length (lines_of s (lines ++ l ∷ [])) ≡ length (lines_of s lines) + cond (l.session == s) 1 0
 calls_more s [] l = calls_last (l.session == s) l ∙ omega arith
 calls_more s (x ∷ xs) l =
     calls_turn (x.session == s) s (cond (l.session == s) 1 0) x (filter (λ line. line.session == s) (xs ++ l ∷ [])) (filter (λ line. line.session == s) xs) (calls_more s xs l)
@@ -102,7 +102,7 @@ test_other a b h = λ e. absurd (grind (arith, nat_tests))
 
 places_turn : (lines : List ScriptLine) (xs : List Session) (i : ℕ) (old new : Session) (name : Option (List ℕ)) → IsMore lines xs i old new name →
     (s : ℕ) (n : List ℕ) (b : Bool) → (s == i) ≡ b →
-    places_in (slice_get (slice_set xs i (counted_on new)) s) n ≡ cond b (given_place (places_in (slice_get xs s)) name (calls_of i lines)) (places_in (slice_get xs s)) n
+    places_in (slice_get (slice_set xs i (counted_on new)) s) n ≡ cond b (given_place (places_in (slice_get xs s)) name (length (lines_of i lines))) (places_in (slice_get xs s)) n
 places_turn lines xs i old new name m s n true t =
     let e = test_same s i t in
     rw (e, set_same xs i (counted_on new) m.within, m.old_is)
@@ -113,25 +113,25 @@ places_turn lines xs i old new name m s n false t =
 pub more_read : (lines : List ScriptLine) (xs : List Session) (i : ℕ) (old new : Session) (name : Option (List ℕ)) (call : ScriptCall) → IsMore lines xs i old new name →
     read_of (lines ++ record { session = i; call = call } ∷ []) (slice_set xs i (counted_on new)) ≡ with_call (read_of lines xs) i name call
 more_read lines xs i old new name call m =
+    let now : ℕ → Places = λ s. places_in (slice_get (slice_set xs i (counted_on new)) s) in
+    let after : ℕ → Places = (with_call (read_of lines xs) i name call).places in
     ap (λ (p : ℕ → Places). record { lines = lines ++ record { session = i; call = call } ∷ []; places = p })
-    (pointwise (λ s. places_in (slice_get (slice_set xs i (counted_on new)) s)) (named_at (λ s. places_in (slice_get xs s)) i name (calls_of i lines))
-    (λ s. pointwise (places_in (slice_get (slice_set xs i (counted_on new)) s)) (named_at (λ s. places_in (slice_get xs s)) i name (calls_of i lines) s)
-    (λ n. places_turn lines xs i old new name m s n (s == i) refl)))
+    (pointwise now after (λ s. pointwise (now s) (after s) (λ n. places_turn lines xs i old new name m s n (s == i) refl)))
 
 counts_turn : (lines : List ScriptLine) (xs : List Session) (i : ℕ) (old new : Session) (name : Option (List ℕ)) (call : ScriptCall) → IsMore lines xs i old new name →
-    (s : ℕ) (b : Bool) → (i == s) ≡ b → IfSome (slice_get (slice_set xs i (counted_on new)) s) (λ session. session.calls ≡ calls_of s lines + cond b 1 0)
+    (s : ℕ) (b : Bool) → (i == s) ≡ b → IfSome (slice_get (slice_set xs i (counted_on new)) s) (λ session. session.calls ≡ length (lines_of s lines) + cond b 1 0)
 counts_turn lines xs i old new name call m s true t =
     let e : s ≡ i = sym (test_same i s t) in
     rw (e, set_same xs i (counted_on new) m.within) (ap (λ k. k + 1) (m.calls ∙ count_found lines xs i old m.counted m.old_is))
 counts_turn lines xs i old new name call m s false t =
     rw (set_other xs i s (counted_on new) (λ e. test_other i s t (sym e)))
-    (weaker (λ session. session.calls ≡ calls_of s lines) (λ session. session.calls ≡ calls_of s lines + 0) (slice_get xs s) (λ x h. omega (arith, h)) (m.counted.counts s))
+    (weaker (λ session. session.calls ≡ length (lines_of s lines)) (λ session. session.calls ≡ length (lines_of s lines) + 0) (slice_get xs s) (λ x h. omega (arith, h)) (m.counted.counts s))
 
 pub more_counted : (lines : List ScriptLine) (xs : List Session) (i : ℕ) (old new : Session) (name : Option (List ℕ)) (call : ScriptCall) → IsMore lines xs i old new name →
     AreCounted (lines ++ record { session = i; call = call } ∷ []) (slice_set xs i (counted_on new))
 more_counted lines xs i old new name call m = record {
   seventeen = length-set xs i (counted_on new) ∙ m.counted.seventeen;
-  counts = λ s. weaker (λ session. session.calls ≡ calls_of s lines + cond (i == s) 1 0) (λ session. session.calls ≡ calls_of s (lines ++ record { session = i; call = call } ∷ []))
+  counts = λ s. weaker (λ session. session.calls ≡ length (lines_of s lines) + cond (i == s) 1 0) (λ session. session.calls ≡ length (lines_of s (lines ++ record { session = i; call = call } ∷ [])))
       (slice_get (slice_set xs i (counted_on new)) s) (λ x h. h ∙ sym (calls_more s lines (record { session = i; call = call }))) (counts_turn lines xs i old new name call m s (i == s) refl);
 }
 

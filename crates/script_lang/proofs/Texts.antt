@@ -1,7 +1,8 @@
 -- Numbers, sessions, names, keys and values: what is read of a text is what the grammar says of it.
 use Rattle.std.proofs.Common.{◌≡◌, ℕ, ◌+◌, ◌-◌, ◌*◌, ◌^◌, ◌<◌, ◌≤◌, Bool, true, false, cond, List, [], ◌∷◌, length, get_or, refl, sym, ap, subst, ◌∙◌, arith}
-use Rattle.std.specs.Prelude.{Option, Some, None, Result, Ok, Err, nat_lt, nat_le, ◌||◌, ◌&&◌, ◌==◌, option_and_then, option_map}
+use Rattle.std.specs.Prelude.{Option, Some, None, Result, Ok, Err, nat_lt, nat_le, ◌||◌, ◌&&◌, ◌==◌, option_and_then, option_map, ok_or}
 use Rattle.std.specs.List.{list_all}
+use Rattle.std.specs.Result.{result_ok}
 use Rattle.std.specs.Char.{digit_value}
 use Rattle.std.specs.Fmt.{decimal}
 use Rattle.std.specs.Str.Parse.{AllDigits, digits_value, digits_value_after}
@@ -11,11 +12,11 @@ use Rattle.std.proofs.lemmas.List.Sums.{AllPass-from_list_all, list_all-from_All
 use Rattle.std.proofs.lemmas.Fmt.{decimal_is_IsNumeral, length-decimal-le, first_decimal, decimal-digits_value, decimal_digit}
 use Rattle.std.proofs.lemmas.Str.Parse.{IsNumeralModel}
 use Rattle.script_lang.proofs.Digits.{if_below, number_is, found}
-use Rattle.script_lang.specs.Numbers.{number_from, number}
-use Rattle.script_lang.specs.Steps.{some_or}
-use Rattle.script_lang.specs.Fields.{Form, ShortForm, WordForm, LongForm, BytesForm, form_of, from_least, form_value, field_value, bytes_value, bytes_or_none}
-use Rattle.script_lang.specs.Lines.{Places, is_letter, is_name_byte, is_name, handle_at, key_at, starts_with_zero, session_of}
-use Rattle.script_lang.specs.Grammar.{IsNumber, IsShort, IsWord, IsLong, AreBytes, IsForm, IsValue, IsLetter, IsNameByte, IsName, IsKey, IsHandle, IsSession}
+use Rattle.script_lang.specs.Numbers.{number_from, number, from_least}
+use Rattle.script_lang.specs.Pieces.{begins_with}
+use Rattle.script_lang.specs.Fields.{Form, ShortForm, WordForm, LongForm, BytesForm, form_of, form_value, field_value}
+use Rattle.script_lang.specs.Lines.{Places, is_letter, is_name_byte, is_name, handle_at, key_at, session_of}
+use Rattle.script_lang.specs.Grammar.{IsNumber, IsForm, IsLetter, IsNameByte, IsName, IsKey, IsOneTo}
 use Rattle.script_lang.specs.declared.faults.Reason.{Reason}
 use Rattle.script_lang.specs.declared.faults.Reason.TheVariants.{BadValue, BadHandle, BadKey, UnknownName}
 use Rattle.script_lang.specs.declared.fields.Field.{Field}
@@ -92,57 +93,58 @@ number_again base most limit text n h =
     number_is base most limit text (Some n) (omega (arith, h.0.0)) h.1 (sym (from_digits base 0 text h.0.1 ∙ ap some h.2))
     ∙ found limit n h.3
 
+-- a least number
+
+least_turn : (least m n : ℕ) (b : Bool) → nat_le least m ≡ b → cond b (Some m) None ≡ Some n → (m ≡ n) × (least ≤ n)
+least_turn least m n true t e = let same : m ≡ n = some_is m n e in (same, subst (λ k. least ≤ k) same (grind (arith, nat_tests)))
+least_turn least m n false t e = absurd cc
+
+from_least_ok : (least n : ℕ) (o : Option ℕ) → from_least least o ≡ Some n → (o ≡ Some n) × (least ≤ n)
+from_least_ok least n None e = absurd cc
+from_least_ok least n (Some m) e = let h = least_turn least m n (nat_le least m) refl e in (ap some h.0, h.1)
+
+from_least_again : (least n : ℕ) → least ≤ n → from_least least (Some n) ≡ Some n
+from_least_again least n h = let t : nat_le least n ≡ true = grind (arith, nat_tests) in ap (λ b. cond b (Some n) None) t
+
 -- sessions
 
 own : IsNumeralModel (AllDigits 10) (digits_value 10)
 own = record { to = λ ds h. h; from = λ ds h. h; same = λ ds h. refl }
 
-not_zero_first : (word : List ℕ) → starts_with_zero word ≡ false → get_or word 0 0 ≡ 48 → length word ≡ 1
+not_zero_first : (word : List ℕ) → begins_with 48 word ≡ false → get_or word 0 0 ≡ 48 → length word ≡ 1
 not_zero_first [] h e = absurd (omega arith)
 not_zero_first (c ∷ cs) h e = absurd (clash c h e)
   where
     clash : (c : ℕ) → (c == 48) ≡ false → c ≡ 48 → ⊥
     clash c h e = grind (arith, nat_tests)
 
-at_least_one : (s : ℕ) (o : Option ℕ) → option_and_then (λ n. cond (nat_lt n 1) None (Some n)) o ≡ Some s → (o ≡ Some s) × (1 ≤ s)
-at_least_one s None e = absurd cc
-at_least_one s (Some n) e = one s n (nat_lt n 1) refl e
-  where
-    one : (s n : ℕ) (b : Bool) → nat_lt n 1 ≡ b → cond b None (Some n) ≡ Some s → (some n ≡ Some s) × (1 ≤ s)
-    one s n true t e = absurd cc
-    one s n false t e = let same : n ≡ s = some_is n s e in (ap some same, subst (λ k. 1 ≤ k) same (grind (arith, nat_tests)))
-
-session_read : (word : List ℕ) (s : ℕ) (b : Bool) → starts_with_zero word ≡ b →
-    cond b None (option_and_then (λ n. cond (nat_lt n 1) None (Some n)) (number 10 2 17 word)) ≡ Some s → IsSession word s
+session_read : (word : List ℕ) (s : ℕ) (b : Bool) → begins_with 48 word ≡ b →
+    cond b None (from_least 1 (number 10 2 17 word)) ≡ Some s → IsOneTo 16 word s
 session_read word s true t e = absurd cc
 session_read word s false t e =
-    let h = at_least_one s (number 10 2 17 word) e in
+    let h = from_least_ok 1 s (number 10 2 17 word) e in
     let n = number_means 10 2 17 word s h.0 in
     let fits : digits_value 10 word < 2 ^ 64 = omega (arith, n.2, n.3) in
     (sym (decimal-digits_value own word n.0.1 n.0.0 (not_zero_first word t) fits) ∙ ap decimal n.2, h.1, omega (arith, n.3))
 
-pub session_means : (word : List ℕ) (s : ℕ) → session_of word ≡ Some s → IsSession word s
+pub session_means : (word : List ℕ) (s : ℕ) → session_of word ≡ Some s → IsOneTo 16 word s
 unfolding session_of
-session_means word s e = session_read word s (starts_with_zero word) refl e
+session_means word s e = session_read word s (begins_with 48 word) refl e
 
-first_is_not_zero : (word : List ℕ) → 48 < get_or word 0 0 → starts_with_zero word ≡ false
+first_is_not_zero : (word : List ℕ) → 48 < get_or word 0 0 → begins_with 48 word ≡ false
 first_is_not_zero [] h = refl
 first_is_not_zero (c ∷ cs) h = above c h
   where
     above : (c : ℕ) → 48 < c → (c == 48) ≡ false
     above c h = grind (arith, nat_tests)
 
-pub session_again : (word : List ℕ) (s : ℕ) → IsSession word s → session_of word ≡ Some s
+pub session_again : (word : List ℕ) (s : ℕ) → IsOneTo 16 word s → session_of word ≡ Some s
 unfolding session_of
 session_again word s h =
     let fits : s < 2 ^ 64 = omega (arith, h.2) in
     let numeral = decimal_is_IsNumeral s fits in
     let n : number 10 2 17 (decimal s) ≡ Some s = number_again 10 2 17 (decimal s) s (numeral.0, length-decimal-le 2 s (omega arith) (omega (arith, h.2)) fits, numeral.1, omega (arith, h.2)) in
-    let one : nat_lt s 1 ≡ false = not_below s h.1 in
-    rw (h.0, first_is_not_zero (decimal s) (first_decimal s (omega (arith, h.1)) fits), n, one) refl
-  where
-    not_below : (k : ℕ) → 1 ≤ k → nat_lt k 1 ≡ false
-    not_below k h = grind (arith, nat_tests)
+    rw (h.0, first_is_not_zero (decimal s) (first_decimal s (omega (arith, h.1)) fits), n) (from_least_again 1 s h.1)
 
 -- names
 
@@ -184,9 +186,9 @@ name_again (c ∷ cs) h =
 
 -- keys
 
-pub some_or_ok : {X : Type 0} (r : Reason) (o : Option X) (x : X) → some_or r o ≡ Ok x → o ≡ Some x
-some_or_ok r (Some y) x e = ap some (fine_is y x e)
-some_or_ok r None x e = absurd cc
+pub ok_or_ok : {X : Type 0} (r : Reason) (o : Option X) (x : X) → ok_or o r ≡ Ok x → o ≡ Some x
+ok_or_ok r (Some y) x e = ap some (fine_is y x e)
+ok_or_ok r None x e = absurd cc
 
 mapped : {X Y : Type 0} (f : X → Y) (o : Option X) (y : Y) → option_map f o ≡ Some y → (x : X) × (o ≡ Some x) × (f x ≡ y)
 mapped f (Some x) y e = (x, refl, some_is (f x) y e)
@@ -196,16 +198,16 @@ abbrev pub given : ℕ → KeyWord
 given n = Given (record { 0 = n })
 
 key_turn : (places : Places) (c : ℕ) (cs : List ℕ) (key : KeyWord) (b d : Bool) → (c == 35) ≡ b → (c == 36 && is_name cs) ≡ d →
-    cond b (some_or BadKey (option_map given (number 16 8 (2 ^ 32) cs))) (cond d (some_or UnknownName (option_map Line (places cs))) (Err BadKey)) ≡ Ok key →
+    cond b (ok_or (option_map given (number 16 8 (2 ^ 32) cs)) BadKey) (cond d (ok_or (option_map Line (places cs)) UnknownName) (Err BadKey)) ≡ Ok key →
     IsKey places (c ∷ cs) key
 key_turn places c cs key true d t u e =
-    let m = mapped given (number 16 8 (2 ^ 32) cs) key (some_or_ok BadKey (option_map given (number 16 8 (2 ^ 32) cs)) key e) in
+    let m = mapped given (number 16 8 (2 ^ 32) cs) key (ok_or_ok BadKey (option_map given (number 16 8 (2 ^ 32) cs)) key e) in
     subst (IsKey places (c ∷ cs)) m.2 (same c t, number_means 16 8 (2 ^ 32) cs m.0 m.1)
   where
     same : (c : ℕ) → (c == 35) ≡ true → c ≡ 35
     same c t = grind (arith, nat_tests)
 key_turn places c cs key false true t u e =
-    let m = mapped Line (places cs) key (some_or_ok UnknownName (option_map Line (places cs)) key e) in
+    let m = mapped Line (places cs) key (ok_or_ok UnknownName (option_map Line (places cs)) key e) in
     let h = and_true (c == 36) (is_name cs) u in
     subst (IsKey places (c ∷ cs)) m.2 (same c h.0, name_means cs h.1, m.1)
   where
@@ -226,7 +228,7 @@ key_again places (c ∷ cs) (Line place) h = rw (h.0, name_again cs h.1, h.2) re
 
 -- handles
 
-handle_turn : (c h : ℕ) (b : Bool) → (nat_le 49 c && nat_le c 52) ≡ b → cond b (fine (c - 48)) (Err BadHandle) ≡ Ok h → IsHandle (c ∷ []) h
+handle_turn : (c h : ℕ) (b : Bool) → (nat_le 49 c && nat_le c 52) ≡ b → cond b (fine (c - 48)) (Err BadHandle) ≡ Ok h → IsOneTo 4 (c ∷ []) h
 handle_turn c h true t e =
     let is : c - 48 ≡ h = fine_is (c - 48) h e in
     let within = in_range c t in
@@ -238,12 +240,12 @@ handle_turn c h true t e =
     in_range c t = grind (arith, nat_tests)
 handle_turn c h false t e = absurd cc
 
-pub handle_means : (word : List ℕ) (h : ℕ) → handle_at word ≡ Ok h → IsHandle word h
+pub handle_means : (word : List ℕ) (h : ℕ) → handle_at word ≡ Ok h → IsOneTo 4 word h
 handle_means [] h e = absurd cc
 handle_means (c ∷ []) h e = handle_turn c h (nat_le 49 c && nat_le c 52) refl e
 handle_means (c ∷ d ∷ cs) h e = absurd cc
 
-pub handle_again : (word : List ℕ) (h : ℕ) → IsHandle word h → handle_at word ≡ Ok h
+pub handle_again : (word : List ℕ) (h : ℕ) → IsOneTo 4 word h → handle_at word ≡ Ok h
 handle_again word h is =
     let small : h < 10 = omega (arith, is.2) in
     let same : 48 + h - 48 ≡ h = omega arith in
@@ -254,59 +256,47 @@ handle_again word h is =
 
 -- values
 
-least_turn : (least m n : ℕ) (b : Bool) → nat_le least m ≡ b → cond b (Some m) None ≡ Some n → (m ≡ n) × (least ≤ n)
-least_turn least m n true t e = let same : m ≡ n = some_is m n e in (same, subst (λ k. least ≤ k) same (grind (arith, nat_tests)))
-least_turn least m n false t e = absurd cc
-
-from_least_ok : (least n : ℕ) (o : Option ℕ) → from_least least o ≡ Some n → (o ≡ Some n) × (least ≤ n)
-from_least_ok least n None e = absurd cc
-from_least_ok least n (Some m) e = let h = least_turn least m n (nat_le least m) refl e in (ap some h.0, h.1)
-
-from_least_again : (least n : ℕ) → least ≤ n → from_least least (Some n) ≡ Some n
-from_least_again least n h = let t : nat_le least n ≡ true = grind (arith, nat_tests) in ap (λ b. cond b (Some n) None) t
-
-bytes_ok : {E : Type 0} (r : Result (List ℕ) E) (v : FieldValue) → bytes_or_none r ≡ Ok v → (bytes : List ℕ) × (r ≡ Ok bytes) × (Bytes bytes ≡ v)
-bytes_ok (Ok bytes) v e = (bytes, refl, fine_is (Bytes bytes) v e)
-bytes_ok (Err x) v e = absurd cc
-
-bytes_turn : (text : List ℕ) (v : FieldValue) (b : Bool) → nat_lt 32768 (length text) ≡ b → cond b (Err BadValue) (bytes_or_none (decode_of text)) ≡ Ok v → AreBytes text v
+bytes_turn : (text : List ℕ) (v : FieldValue) (b : Bool) → nat_lt 32768 (length text) ≡ b →
+    cond b None (option_map Bytes (result_ok (decode_of text))) ≡ Some v → IsForm BytesForm text v
 bytes_turn text v true t e = absurd cc
 bytes_turn text v false t e =
-    let m = bytes_ok (decode_of text) v e in
-    subst (AreBytes text) m.2 (at_most (length text) t, m.1)
+    let m = mapped Bytes (result_ok (decode_of text)) v e in
+    subst (IsForm BytesForm text) m.2 (at_most (length text) t, read_ok (decode_of text) m.0 m.1)
   where
     at_most : (n : ℕ) → nat_lt 32768 n ≡ false → n ≤ 32768
     at_most n t = grind (arith, nat_tests)
 
-form_means : (form : Form) (text : List ℕ) (v : FieldValue) → form_value form text ≡ Ok v → IsForm form text v
-unfolding bytes_value
+    read_ok : {E : Type 0} (r : Result (List ℕ) E) (bytes : List ℕ) → result_ok r ≡ Some bytes → r ≡ Ok bytes
+    read_ok (Ok x) bytes e = ap Ok (some_is x bytes e)
+    read_ok (Err d) bytes e = absurd cc
+
+form_means : (form : Form) (text : List ℕ) (v : FieldValue) → form_value form text ≡ Some v → IsForm form text v
 form_means (ShortForm base most least limit) text v e =
-    let m = mapped Short (from_least least (number base most limit text)) v (some_or_ok BadValue (option_map Short (from_least least (number base most limit text))) v e) in
+    let m = mapped Short (from_least least (number base most limit text)) v e in
     let l = from_least_ok least m.0 (number base most limit text) m.1 in
-    subst (IsShort base most least limit text) m.2 (number_means base most limit text m.0 l.0, l.1)
+    subst (IsForm (ShortForm base most least limit) text) m.2 (number_means base most limit text m.0 l.0, l.1)
 form_means WordForm text v e =
-    let m = mapped Word (number 16 8 (2 ^ 32) text) v (some_or_ok BadValue (option_map Word (number 16 8 (2 ^ 32) text)) v e) in
-    subst (IsWord text) m.2 (number_means 16 8 (2 ^ 32) text m.0 m.1)
+    let m = mapped Word (number 16 8 (2 ^ 32) text) v e in
+    subst (IsForm WordForm text) m.2 (number_means 16 8 (2 ^ 32) text m.0 m.1)
 form_means LongForm text v e =
-    let m = mapped Long (number 10 20 (2 ^ 64) text) v (some_or_ok BadValue (option_map Long (number 10 20 (2 ^ 64) text)) v e) in
-    subst (IsLong text) m.2 (number_means 10 20 (2 ^ 64) text m.0 m.1)
+    let m = mapped Long (number 10 20 (2 ^ 64) text) v e in
+    subst (IsForm LongForm text) m.2 (number_means 10 20 (2 ^ 64) text m.0 m.1)
 form_means BytesForm text v e = bytes_turn text v (nat_lt 32768 (length text)) refl e
 
-form_again : (form : Form) (text : List ℕ) (v : FieldValue) → IsForm form text v → form_value form text ≡ Ok v
-unfolding bytes_value
+form_again : (form : Form) (text : List ℕ) (v : FieldValue) → IsForm form text v → form_value form text ≡ Some v
 form_again (ShortForm base most least limit) text (Short n) h =
-    ap (λ o. some_or BadValue (option_map Short (from_least least o))) (number_again base most limit text n h.0)
-    ∙ ap (λ o. some_or BadValue (option_map Short o)) (from_least_again least n h.1)
+    ap (λ o. option_map Short (from_least least o)) (number_again base most limit text n h.0)
+    ∙ ap (option_map Short) (from_least_again least n h.1)
 form_again (ShortForm base most least limit) text (Word n) h = absurd h
 form_again (ShortForm base most least limit) text (Long n) h = absurd h
 form_again (ShortForm base most least limit) text (Bytes b) h = absurd h
 form_again WordForm text (Short n) h = absurd h
-form_again WordForm text (Word n) h = ap (λ o. some_or BadValue (option_map Word o)) (number_again 16 8 (2 ^ 32) text n h)
+form_again WordForm text (Word n) h = ap (option_map Word) (number_again 16 8 (2 ^ 32) text n h)
 form_again WordForm text (Long n) h = absurd h
 form_again WordForm text (Bytes b) h = absurd h
 form_again LongForm text (Short n) h = absurd h
 form_again LongForm text (Word n) h = absurd h
-form_again LongForm text (Long n) h = ap (λ o. some_or BadValue (option_map Long o)) (number_again 10 20 (2 ^ 64) text n h)
+form_again LongForm text (Long n) h = ap (option_map Long) (number_again 10 20 (2 ^ 64) text n h)
 form_again LongForm text (Bytes b) h = absurd h
 form_again BytesForm text (Short n) h = absurd h
 form_again BytesForm text (Word n) h = absurd h
@@ -316,10 +306,10 @@ form_again BytesForm text (Bytes b) h = rw (at_most (length text) h.0, h.1) refl
     at_most : (n : ℕ) → n ≤ 32768 → nat_lt 32768 n ≡ false
     at_most n h = grind (arith, nat_tests)
 
-pub value_means : (f : Field) (text : List ℕ) (v : FieldValue) → field_value f text ≡ Ok v → IsValue f text v
+pub value_means : (f : Field) (text : List ℕ) (v : FieldValue) → field_value f text ≡ Ok v → IsForm (form_of f) text v
 unfolding field_value
-value_means f text v e = form_means (form_of f) text v e
+value_means f text v e = form_means (form_of f) text v (ok_or_ok BadValue (form_value (form_of f) text) v e)
 
-pub value_again : (f : Field) (text : List ℕ) (v : FieldValue) → IsValue f text v → field_value f text ≡ Ok v
+pub value_again : (f : Field) (text : List ℕ) (v : FieldValue) → IsForm (form_of f) text v → field_value f text ≡ Ok v
 unfolding field_value
-value_again f text v h = form_again (form_of f) text v h
+value_again f text v h = ap (λ o. ok_or o BadValue) (form_again (form_of f) text v h)

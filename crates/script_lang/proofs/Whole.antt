@@ -6,11 +6,12 @@ use Rattle.script_lang.specs.declared.faults.LineError.TheVariants as errors
 use Rattle.script_lang.specs.declared.faults.Reason.{Reason}
 use Rattle.script_lang.specs.declared.faults.ScriptFault.{ScriptFault}
 use Rattle.script_lang.specs.declared.script.ScriptLine.{ScriptLine}
+use Rattle.script_lang.specs.Pieces.{line_words}
 use Rattle.script_lang.specs.Steps.{Fails}
-use Rattle.script_lang.specs.Lines.{Read, line_at, lines_at, goes_on, fault_at, ScriptFails}
+use Rattle.script_lang.specs.Lines.{Read, words_at, lines_at, goes_on, fault_at, ScriptFails}
 
 pub lines_turn : (n : ℕ) (read next : Read) (texts : List (List ℕ)) (text : List ℕ) (rest : List (List ℕ)) →
-    texts ≡ text ∷ rest → line_at read text ≡ Ok next → lines_at n read texts ≡ lines_at (n + 1) next rest
+    texts ≡ text ∷ rest → words_at read (line_words text) ≡ Ok next → lines_at n read texts ≡ lines_at (n + 1) next rest
 unfolding lines_at
 lines_turn n read next texts text rest e h = ap (lines_at n read) e ∙ ap (λ r. goes_on r n (λ next. lines_at (n + 1) next rest)) h
 
@@ -23,7 +24,7 @@ fault_first errors.Memory n r f h = tt
 fault_first (errors.Bad x) n r f h = ap (λ s. goes_on s n f) h
 
 pub lines_fail : (e : LineError) (n : ℕ) (read : Read) (texts : List (List ℕ)) (text : List ℕ) (rest : List (List ℕ)) →
-    texts ≡ text ∷ rest → Fails e (line_at read text) → ScriptFails (fault_at n e) (lines_at n read texts)
+    texts ≡ text ∷ rest → Fails e (words_at read (line_words text)) → ScriptFails (fault_at n e) (lines_at n read texts)
 unfolding lines_at
 lines_fail e n read texts text rest is h =
-    subst (λ ts. ScriptFails (fault_at n e) (lines_at n read ts)) (sym is) (fault_first e n (line_at read text) (λ next. lines_at (n + 1) next rest) h)
+    subst (λ ts. ScriptFails (fault_at n e) (lines_at n read ts)) (sym is) (fault_first e n (words_at read (line_words text)) (λ next. lines_at (n + 1) next rest) h)

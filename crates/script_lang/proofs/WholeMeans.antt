@@ -2,8 +2,8 @@
 use Rattle.std.proofs.Common.{◌≡◌, ℕ, ◌+◌, ◌≤◌, Bool, true, false, cond, List, [], ◌∷◌, length, refl, ap, ◌∙◌, arith}
 use Rattle.std.specs.Prelude.{Result, Ok, Err, nat_lt}
 use Rattle.std.proofs.lemmas.Bool.Decides.{nat_tests}
-use Rattle.script_lang.specs.Pieces.{text_lines}
-use Rattle.script_lang.specs.Lines.{Read, nothing_read, line_at, lines_at, goes_on, script_of}
+use Rattle.script_lang.specs.Pieces.{line_words, text_lines}
+use Rattle.script_lang.specs.Lines.{Read, nothing_read, words_at, lines_at, goes_on, script_of}
 use Rattle.script_lang.specs.Grammar.{AreSteps, IsScript}
 use Rattle.script_lang.proofs.Means.{line_means}
 use Rattle.script_lang.proofs.Again.{line_again}
@@ -28,14 +28,14 @@ pub lines_mean : (n : ℕ) (read : Read) (texts : List (List ℕ)) (calls : List
 unfolding lines_at
 lines_mean n read [] calls e = (read, refl, told_is read.lines calls e)
 lines_mean n read (text ∷ texts) calls e =
-    let h = goes_ok (line_at read text) n (λ next. lines_at (n + 1) next texts) calls e in
-    let r = lines_mean (n + 1) h.0 texts calls h.2 in (r.0, (h.0, line_means read h.0 text h.1, r.1), r.2)
+    let h = goes_ok (words_at read (line_words text)) n (λ next. lines_at (n + 1) next texts) calls e in
+    let r = lines_mean (n + 1) h.0 texts calls h.2 in (r.0, (h.0, line_means read h.0 (line_words text) h.1, r.1), r.2)
 
 pub lines_again : (n : ℕ) (read : Read) (texts : List (List ℕ)) (last : Read) → AreSteps read texts last → lines_at n read texts ≡ told last.lines
 unfolding lines_at
 lines_again n read [] last h = ap (λ (r : Read). told r.lines) h
 lines_again n read (text ∷ texts) last h =
-    ap (λ r. goes_on r n (λ next. lines_at (n + 1) next texts)) (line_again read h.0 text h.1) ∙ lines_again (n + 1) h.0 texts last h.2
+    ap (λ r. goes_on r n (λ next. lines_at (n + 1) next texts)) (line_again read h.0 (line_words text) h.1) ∙ lines_again (n + 1) h.0 texts last h.2
 
 at_most : (a b : ℕ) → nat_lt a b ≡ false → b ≤ a
 at_most a b t = grind (arith, nat_tests)

@@ -1,5 +1,5 @@
 -- The commands: how each is written, a row each, and the call that its line makes.
-use Rattle.std.specs.Prelude.{ℕ, ◌≡◌, Bool, true, false, List, [], ◌∷◌, Option, Some, find, slice_index, codes}
+use Rattle.std.specs.Prelude.{ℕ, ◌≡◌, true, false, List, [], ◌∷◌, Option, Some, find, slice_index, codes}
 use Rattle.std.specs.Str.{bytes_eq}
 use Rattle.store_model.specs.Call as store
 use Rattle.store_model.specs.HandleCalls as operation
@@ -85,11 +85,8 @@ rows =
     ∷ row (codes "abort") command.Abort (kind.Handle ∷ []) [] []
     ∷ []
 
-abbrev pub has_word : List ℕ → Shape → Bool
-has_word word r = bytes_eq r.word word
-
 unfoldable pub row_named : List ℕ → Option Shape
-row_named word = find (has_word word) rows
+row_named word = find (λ r. bytes_eq r.word word) rows
 
 -- a row of the table
 abbrev pub IsRow : Shape → Type 0

@@ -1,12 +1,13 @@
 -- The fields of a line.
-use Rattle.std.specs.Prelude.{ℕ, ◌^◌, Bool, not, nat_lt, nat_le, min, ◌==◌, List, [], ◌∷◌, ◌++◌, length, if◌then◌else◌, ◌||◌, Option, Some, None, option_map, find, Result, Ok, Err, codes}
+use Rattle.std.specs.Prelude.{ℕ, ◌^◌, Bool, not, nat_lt, min, ◌==◌, List, [], ◌∷◌, ◌++◌, length, if◌then◌else◌, ◌||◌, Option, Some, None, option_map, ok_or, find, Result, Ok, codes}
 use Rattle.std.specs.List.{list_any, list_all}
+use Rattle.std.specs.Result.{result_ok}
 use Rattle.std.specs.Str.{bytes_eq}
 use Rattle.key_attributes.specs.declared.Attributes.{Attributes}
 use Rattle.hex.specs.Hex.{decode_of}
-use Rattle.script_lang.specs.Numbers.{number}
+use Rattle.script_lang.specs.Numbers.{number, from_least}
 use Rattle.script_lang.specs.Pieces.{cut_of}
-use Rattle.script_lang.specs.Steps.{◌>>=◌, demand, some_or}
+use Rattle.script_lang.specs.Steps.{◌>>=◌, demand}
 use Rattle.script_lang.specs.Shapes.{Shape}
 use Rattle.script_lang.specs.declared.faults.Reason.{Reason}
 use Rattle.script_lang.specs.declared.faults.Reason.TheVariants.{UnknownField, RepeatedField, BadValue}
@@ -15,65 +16,45 @@ use Rattle.script_lang.specs.declared.fields.Field.TheVariants as field
 use Rattle.script_lang.specs.declared.fields.FieldValue.{FieldValue}
 use Rattle.script_lang.specs.declared.fields.FieldValue.TheVariants.{Short, Word, Long, Bytes}
 
--- fields are told apart by a number each
-abbrev pub field_number : Field → ℕ
-field_number field.Type = 0
-field_number field.Usage = 1
-field_number field.Alg = 2
-field_number field.Data = 3
-field_number field.Life = 4
-field_number field.Id = 5
-field_number field.Bits = 6
-field_number field.Room = 7
-field_number field.Hash = 8
-field_number field.Mac = 9
-field_number field.Nonce = 10
-field_number field.Ad = 11
-field_number field.Iv = 12
-field_number field.Tag = 13
-field_number field.AdLength = 14
-field_number field.PlainLength = 15
-field_number field.Capacity = 16
-field_number field.Value = 17
-field_number field.Length = 18
-field_number field.Step = 19
-
 -- What the text of a field is: a number of at most so many digits of a base, from the least and below a limit
--- (of 16 bits; of 32 bits in hex; of 64 bits in decimal), or bytes.
+-- (of 16 bits; of 32 bits in hex; of 64 bits in decimal), or bytes: hex digits in pairs, of at most 16,384 bytes.
 pub data Form : Type 0 where
   ShortForm : (base most least limit : ℕ) → Form
   WordForm : Form
   LongForm : Form
   BytesForm : Form
 
--- a field's name, and how its text is written
-abbrev pub field_row : Field → List ℕ × Form
-field_row field.Type = (codes "type", ShortForm 16 4 0 (2 ^ 16))
-field_row field.Usage = (codes "usage", WordForm)
-field_row field.Alg = (codes "alg", WordForm)
-field_row field.Data = (codes "data", BytesForm)
-field_row field.Life = (codes "life", WordForm)
-field_row field.Id = (codes "id", WordForm)
-field_row field.Bits = (codes "bits", ShortForm 10 20 0 (2 ^ 16))
-field_row field.Room = (codes "room", ShortForm 10 20 0 16449)
-field_row field.Hash = (codes "hash", BytesForm)
-field_row field.Mac = (codes "mac", BytesForm)
-field_row field.Nonce = (codes "nonce", BytesForm)
-field_row field.Ad = (codes "ad", BytesForm)
-field_row field.Iv = (codes "iv", BytesForm)
-field_row field.Tag = (codes "tag", BytesForm)
-field_row field.AdLength = (codes "ad_len", LongForm)
-field_row field.PlainLength = (codes "plain_len", LongForm)
-field_row field.Capacity = (codes "capacity", LongForm)
-field_row field.Value = (codes "value", LongForm)
-field_row field.Length = (codes "len", ShortForm 10 20 1 16385)
-field_row field.Step = (codes "step", ShortForm 16 4 0 (2 ^ 16))
+-- a field's number, which no other has, its name, and how its text is written
+abbrev pub field_row : Field → ℕ × List ℕ × Form
+field_row field.Type = (0, codes "type", ShortForm 16 4 0 (2 ^ 16))
+field_row field.Usage = (1, codes "usage", WordForm)
+field_row field.Alg = (2, codes "alg", WordForm)
+field_row field.Data = (3, codes "data", BytesForm)
+field_row field.Life = (4, codes "life", WordForm)
+field_row field.Id = (5, codes "id", WordForm)
+field_row field.Bits = (6, codes "bits", ShortForm 10 20 0 (2 ^ 16))
+field_row field.Room = (7, codes "room", ShortForm 10 20 0 16449)
+field_row field.Hash = (8, codes "hash", BytesForm)
+field_row field.Mac = (9, codes "mac", BytesForm)
+field_row field.Nonce = (10, codes "nonce", BytesForm)
+field_row field.Ad = (11, codes "ad", BytesForm)
+field_row field.Iv = (12, codes "iv", BytesForm)
+field_row field.Tag = (13, codes "tag", BytesForm)
+field_row field.AdLength = (14, codes "ad_len", LongForm)
+field_row field.PlainLength = (15, codes "plain_len", LongForm)
+field_row field.Capacity = (16, codes "capacity", LongForm)
+field_row field.Value = (17, codes "value", LongForm)
+field_row field.Length = (18, codes "len", ShortForm 10 20 1 16385)
+field_row field.Step = (19, codes "step", ShortForm 16 4 0 (2 ^ 16))
+
+abbrev pub field_number : Field → ℕ
+field_number f = (field_row f).0
 
 abbrev pub field_name : Field → List ℕ
-field_name f = (field_row f).0
+field_name f = (field_row f).1
 
 abbrev pub form_of : Field → Form
-form_of f = (field_row f).1
+form_of f = (field_row f).2
 
 abbrev pub all_fields : List Field
 all_fields =
@@ -81,11 +62,8 @@ all_fields =
     ∷ field.Nonce ∷ field.Ad ∷ field.Iv ∷ field.Tag ∷ field.AdLength ∷ field.PlainLength ∷ field.Capacity ∷ field.Value ∷ field.Length
     ∷ field.Step ∷ []
 
-abbrev pub has_name : List ℕ → Field → Bool
-has_name name f = bytes_eq (field_name f) name
-
 abbrev pub field_named : List ℕ → Option Field
-field_named name = find (has_name name) all_fields
+field_named name = find (λ f. bytes_eq (field_name f) name) all_fields
 
 abbrev pub Fields : Type 0
 Fields = List (Field × FieldValue)
@@ -96,47 +74,29 @@ is_among fields f = list_any (λ g. field_number g == field_number f) fields
 abbrev pub is_allowed : Shape → Field → Bool
 is_allowed row f = is_among row.required f || is_among row.optional f
 
+abbrev pub is_field : Field → Field × FieldValue → Bool
+is_field f g = field_number g.0 == field_number f
+
 abbrev pub has_field : Fields → Field → Bool
-has_field done f = list_any (λ g. field_number g.0 == field_number f) done
+has_field done f = list_any (is_field f) done
 
 abbrev pub has_required : Shape → Fields → Bool
 has_required row done = list_all (has_field done) row.required
 
-abbrev pub from_least : ℕ → Option ℕ → Option ℕ
-from_least least None = None
-from_least least (Some n) = if nat_le least n then Some n else None
-
-abbrev pub short_value : (base most least limit : ℕ) → List ℕ → Result FieldValue Reason
-short_value base most least limit text = some_or BadValue (option_map Short (from_least least (number base most limit text)))
-
-abbrev pub word_value : List ℕ → Result FieldValue Reason
-word_value text = some_or BadValue (option_map Word (number 16 8 (2 ^ 32) text))
-
-abbrev pub long_value : List ℕ → Result FieldValue Reason
-long_value text = some_or BadValue (option_map Long (number 10 20 (2 ^ 64) text))
-
-abbrev pub bytes_or_none : {E : Type 0} → Result (List ℕ) E → Result FieldValue Reason
-bytes_or_none (Ok bytes) = Ok (Bytes bytes)
-bytes_or_none (Err e) = Err BadValue
-
--- an even number of hex digits, of at most 16,384 bytes
-unfoldable pub bytes_value : List ℕ → Result FieldValue Reason
-bytes_value text = if nat_lt 32768 (length text) then Err BadValue else bytes_or_none (decode_of text)
-
-abbrev pub form_value : Form → List ℕ → Result FieldValue Reason
-form_value (ShortForm base most least limit) text = short_value base most least limit text
-form_value WordForm text = word_value text
-form_value LongForm text = long_value text
-form_value BytesForm text = bytes_value text
+abbrev pub form_value : Form → List ℕ → Option FieldValue
+form_value (ShortForm base most least limit) text = option_map Short (from_least least (number base most limit text))
+form_value WordForm text = option_map Word (number 16 8 (2 ^ 32) text)
+form_value LongForm text = option_map Long (number 10 20 (2 ^ 64) text)
+form_value BytesForm text = if nat_lt 32768 (length text) then None else option_map Bytes (result_ok (decode_of text))
 
 unfoldable pub field_value : Field → List ℕ → Result FieldValue Reason
-field_value f text = form_value (form_of f) text
+field_value f text = ok_or (form_value (form_of f) text) BadValue
 
 -- a further word of a line, after the fields that stand already
 unfoldable pub read_field : Shape → Fields → List ℕ → Result (Field × FieldValue) Reason
 read_field row done word = do
-  parts ← some_or UnknownField (cut_of 61 word)
-  f ← some_or UnknownField (field_named parts.0)
+  parts ← ok_or (cut_of 61 word) UnknownField
+  f ← ok_or (field_named parts.0) UnknownField
   allowed_so ← demand (is_allowed row f) UnknownField
   new_so ← demand (not (has_field done f)) RepeatedField
   v ← field_value f parts.1
@@ -147,9 +107,6 @@ read_fields row done [] = Ok done
 read_fields row done (word ∷ rest) = do
   f ← read_field row done word
   read_fields row (done ++ f ∷ []) rest
-
-abbrev pub is_field : Field → Field × FieldValue → Bool
-is_field f g = field_number g.0 == field_number f
 
 -- what a field says, and a default where it is missing
 abbrev pub short_of : ℕ → Option (Field × FieldValue) → ℕ

@@ -1,14 +1,14 @@
 -- The grammar of scripts: which calls a text says, and why a text says none. Numbers are stated by their digits'
 -- values (std's) or their texts, and bytes by what hex decodes; what this crate's readers do isn't in it.
-use Rattle.std.specs.Prelude.{ℕ, ◌≡◌, ◌≤◌, ◌<◌, ◌^◌, ◌⊎◌, Bool, true, false, List, [], ◌∷◌, ◌++◌, length, All, Some, Ok}
+use Rattle.std.specs.Prelude.{ℕ, ◌≡◌, ◌≤◌, ◌<◌, ◌^◌, ◌⊎◌, true, false, List, [], ◌∷◌, ◌++◌, length, All, Some, Ok}
 use Rattle.std.specs.Fmt.{decimal}
 use Rattle.std.specs.Str.Parse.{IsNumeral, digits_value}
 use Rattle.hex.specs.Hex.{decode_of}
-use Rattle.script_lang.specs.Pieces.{words, text_lines}
+use Rattle.script_lang.specs.Pieces.{line_words, text_lines}
 use Rattle.script_lang.specs.Shapes.{Shape}
 use Rattle.script_lang.specs.Commands.{IsRow}
 use Rattle.script_lang.specs.Fields.{Form, ShortForm, WordForm, LongForm, BytesForm, form_of, Fields, field_name, is_allowed, has_field, has_required}
-use Rattle.script_lang.specs.Lines.{Places, Read, nothing_read, no_words, call_of, with_call, is_comment}
+use Rattle.script_lang.specs.Lines.{Places, Read, nothing_read, no_words, call_of, with_call}
 use Rattle.script_lang.specs.declared.fields.Field.{Field}
 use Rattle.script_lang.specs.declared.fields.FieldValue.{FieldValue}
 use Rattle.script_lang.specs.declared.fields.FieldValue.TheVariants.{Short, Word, Long, Bytes}
@@ -23,43 +23,23 @@ use Rattle.script_lang.specs.declared.commands.Kind.TheVariants as kind
 abbrev pub IsNumber : (base most limit : ℕ) → List ℕ → ℕ → Type 0
 IsNumber base most limit text n = IsNumeral base text × (length text ≤ most) × (digits_value base text ≡ n) × (n < limit)
 
-abbrev pub IsShort : (base most least limit : ℕ) → List ℕ → FieldValue → Type 0
-IsShort base most least limit text (Short n) = IsNumber base most limit text n × (least ≤ n)
-IsShort base most least limit text _ = ⊥
-
-abbrev pub IsWord : List ℕ → FieldValue → Type 0
-IsWord text (Word n) = IsNumber 16 8 (2 ^ 32) text n
-IsWord text _ = ⊥
-
-abbrev pub IsLong : List ℕ → FieldValue → Type 0
-IsLong text (Long n) = IsNumber 10 20 (2 ^ 64) text n
-IsLong text _ = ⊥
-
--- hex digits in pairs, of either case, which write at most 16,384 bytes
-abbrev pub AreBytes : List ℕ → FieldValue → Type 0
-AreBytes text (Bytes bytes) = (length text ≤ 32768) × (decode_of text ≡ Ok bytes)
-AreBytes text _ = ⊥
-
+-- the value that a text says in a form; at most 16,384 bytes are written as hex digits in pairs, of either case
 abbrev pub IsForm : Form → List ℕ → FieldValue → Type 0
-IsForm (ShortForm base most least limit) text v = IsShort base most least limit text v
-IsForm WordForm text v = IsWord text v
-IsForm LongForm text v = IsLong text v
-IsForm BytesForm text v = AreBytes text v
-
--- what the text after a field's `=` says
-abbrev pub IsValue : Field → List ℕ → FieldValue → Type 0
-IsValue f text v = IsForm (form_of f) text v
+IsForm (ShortForm base most least limit) text (Short n) = IsNumber base most limit text n × (least ≤ n)
+IsForm WordForm text (Word n) = IsNumber 16 8 (2 ^ 32) text n
+IsForm LongForm text (Long n) = IsNumber 10 20 (2 ^ 64) text n
+IsForm BytesForm text (Bytes bytes) = (length text ≤ 32768) × (decode_of text ≡ Ok bytes)
+IsForm _ text _ = ⊥
 
 -- name=value
 abbrev pub IsField : List ℕ → Field × FieldValue → Type 0
-IsField word f = (text : List ℕ) × (word ≡ field_name f.0 ++ 61 ∷ text) × IsValue f.0 text f.1
+IsField word f = (text : List ℕ) × (word ≡ field_name f.0 ++ 61 ∷ text) × IsForm (form_of f.0) text f.1
 
 -- fields of a row in any order, each at most once, after some that stand already
 abbrev pub AreFields : Shape → Fields → List (List ℕ) → Fields → Type 0
 AreFields row done [] [] = Unit {0}
 AreFields row done (w ∷ ws) (f ∷ fs) = IsField w f × (is_allowed row f.0 ≡ true) × (has_field done f.0 ≡ false) × AreFields row (done ++ f ∷ []) ws fs
-AreFields row done [] (f ∷ fs) = ⊥
-AreFields row done (w ∷ ws) [] = ⊥
+AreFields row done _ _ = ⊥
 
 abbrev pub IsLetter : ℕ → Type 0
 IsLetter c = (97 ≤ c) × (c ≤ 122)
@@ -78,24 +58,20 @@ IsKey places [] key = ⊥
 IsKey places (c ∷ cs) (Given id) = (c ≡ 35) × IsNumber 16 8 (2 ^ 32) cs id.0
 IsKey places (c ∷ cs) (Line place) = (c ≡ 36) × IsName cs × (places cs ≡ Some place)
 
--- one of the numbers 1 to 4
-abbrev pub IsHandle : List ℕ → ℕ → Type 0
-IsHandle word handle = (word ≡ decimal handle) × (1 ≤ handle) × (handle ≤ 4)
+-- one of the numbers 1 to `last`, in decimal
+abbrev pub IsOneTo : (last : ℕ) → List ℕ → ℕ → Type 0
+IsOneTo last word n = (word ≡ decimal n) × (1 ≤ n) × (n ≤ last)
 
 -- a fixed word of a kind, and the fixed words with it
 abbrev pub IsFixed : Places → Kind → Fixed → List ℕ → Fixed → Type 0
 IsFixed places kind.Name fixed word next = IsName word × (record fixed { name = Some word } ≡ next)
 IsFixed places kind.Key fixed word next = (key : KeyWord) × IsKey places word key × (record fixed { key = key } ≡ next)
-IsFixed places kind.Handle fixed word next = (handle : ℕ) × IsHandle word handle × (record fixed { handle = handle } ≡ next)
+IsFixed places kind.Handle fixed word next = (handle : ℕ) × IsOneTo 4 word handle × (record fixed { handle = handle } ≡ next)
 
 abbrev pub AreFixed : Places → List Kind → Fixed → List (List ℕ) → Fixed → Type 0
 AreFixed places [] fixed [] last = fixed ≡ last
 AreFixed places (k ∷ ks) fixed (w ∷ ws) last = (next : Fixed) × IsFixed places k fixed w next × AreFixed places ks next ws last
-AreFixed places [] fixed (w ∷ ws) last = ⊥
-AreFixed places (k ∷ ks) fixed [] last = ⊥
-
-abbrev pub IsSession : List ℕ → ℕ → Type 0
-IsSession word session = (word ≡ decimal session) × (1 ≤ session) × (session ≤ 16)
+AreFixed places _ fixed _ last = ⊥
 
 -- a line that is a call: a session, a command, its fixed words in order, then its fields
 pub record IsLine (read : Read) (ws : List (List ℕ)) (next : Read) : Type 0 where
@@ -106,7 +82,7 @@ pub record IsLine (read : Read) (ws : List (List ℕ)) (next : Read) : Type 0 wh
   pub session_word : List ℕ
   pub fixed_words : List (List ℕ)
   pub field_words : List (List ℕ)
-  pub is_session : IsSession session_word session
+  pub is_session : IsOneTo 16 session_word session
   pub is_row : IsRow row
   pub line : ws ≡ session_word ∷ row.word ∷ fixed_words ++ field_words
   pub are_fixed : AreFixed (read.places session) row.fixed no_words fixed_words fixed
@@ -114,18 +90,14 @@ pub record IsLine (read : Read) (ws : List (List ℕ)) (next : Read) : Type 0 wh
   pub all : has_required row fields ≡ true
   pub after : next ≡ with_call read session fixed.name (call_of row fixed fields)
 
--- a comment and a line without words say nothing
-abbrev pub IsStepBy : Bool → Read → List (List ℕ) → Read → Type 0
-IsStepBy true read ws next = read ≡ next
-IsStepBy false read [] next = read ≡ next
-IsStepBy false read (w ∷ ws) next = IsLine read (w ∷ ws) next
-
-abbrev pub IsStep : Read → List ℕ → Read → Type 0
-IsStep read line next = IsStepBy (is_comment line) read (words line) next
+-- a line by its words; one without words, as a comment, says nothing
+abbrev pub IsStep : Read → List (List ℕ) → Read → Type 0
+IsStep read [] next = read ≡ next
+IsStep read ws next = IsLine read ws next
 
 abbrev pub AreSteps : Read → List (List ℕ) → Read → Type 0
 AreSteps read [] last = read ≡ last
-AreSteps read (line ∷ lines) last = (next : Read) × IsStep read line next × AreSteps next lines last
+AreSteps read (line ∷ lines) last = (next : Read) × IsStep read (line_words line) next × AreSteps next lines last
 
 -- at most 4 MiB and 20,000 lines, each in the grammar
 pub record IsScript (text : List ℕ) (calls : List ScriptLine) : Type 0 where

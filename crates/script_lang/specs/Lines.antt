@@ -1,13 +1,13 @@
 -- The lines of a script, read from left to right.
-use Rattle.std.specs.Prelude.{◌≡◌, ◌≤◌, ℕ, ◌+◌, ◌-◌, ◌^◌, Bool, false, ◌||◌, ◌&&◌, nat_lt, nat_le, ◌==◌, List, [], ◌∷◌, ◌++◌, length, filter, if◌then◌else◌, Option, Some, None, option_map, option_and_then, Result, Ok, Err}
+use Rattle.std.specs.Prelude.{◌≡◌, ◌≤◌, ℕ, ◌+◌, ◌-◌, ◌^◌, Bool, false, ◌||◌, ◌&&◌, nat_lt, nat_le, ◌==◌, List, [], ◌∷◌, ◌++◌, length, drop, slice_get, filter, if◌then◌else◌, Option, Some, None, option_map, ok_or, Result, Ok, Err}
 use Rattle.std.specs.List.{list_all}
 use Rattle.std.specs.Str.{bytes_eq}
-use Rattle.script_lang.specs.Numbers.{number}
-use Rattle.script_lang.specs.Pieces.{words, text_lines}
+use Rattle.script_lang.specs.Numbers.{number, from_least}
+use Rattle.script_lang.specs.Pieces.{begins_with, line_words, text_lines}
 use Rattle.script_lang.specs.Shapes.{Shape}
 use Rattle.script_lang.specs.Commands.{row_named}
 use Rattle.script_lang.specs.Fields.{Fields, read_fields, has_required}
-use Rattle.script_lang.specs.Steps.{◌>>=◌, demand, some_or, first_or, rest_of}
+use Rattle.script_lang.specs.Steps.{◌>>=◌, demand}
 use Rattle.script_lang.specs.declared.faults.LineError.{LineError}
 use Rattle.script_lang.specs.declared.faults.LineError.TheVariants as errors
 use Rattle.script_lang.specs.declared.faults.Reason.{Reason}
@@ -42,8 +42,8 @@ Places = List ℕ → Option ℕ
 unfoldable pub key_at : Places → List ℕ → Result KeyWord Reason
 key_at places [] = Err BadKey
 key_at places (c ∷ cs) =
-    if c == 35 then some_or BadKey (option_map (λ n. Given (record { 0 = n })) (number 16 8 (2 ^ 32) cs))
-    else if c == 36 && is_name cs then some_or UnknownName (option_map Line (places cs))
+    if c == 35 then ok_or (option_map (λ n. Given (record { 0 = n })) (number 16 8 (2 ^ 32) cs)) BadKey
+    else if c == 36 && is_name cs then ok_or (option_map Line (places cs)) UnknownName
     else Err BadKey
 
 -- a handle: one of the digits 1 to 4
@@ -71,9 +71,9 @@ with_word places kind.Handle fixed word = do
 unfoldable pub read_fixed : Places → List Kind → Fixed → List (List ℕ) → Result (Fixed × List (List ℕ)) Reason
 read_fixed places [] fixed ws = Ok (fixed, ws)
 read_fixed places (k ∷ ks) fixed ws = do
-  word ← first_or MissingWord ws
+  word ← ok_or (slice_get ws 0) MissingWord
   next ← with_word places k fixed word
-  read_fixed places ks next (rest_of ws)
+  read_fixed places ks next (drop 1 ws)
 
 -- what was read: the calls, and what the names of each session stand for
 pub record Read : Type 0 where
@@ -84,33 +84,23 @@ pub record Read : Type 0 where
 abbrev pub nothing_read : Read
 nothing_read = record { lines = []; places = λ session name. None }
 
-abbrev pub starts_with_zero : List ℕ → Bool
-starts_with_zero [] = false
-starts_with_zero (c ∷ cs) = c == 48
-
 -- 1 to 16, without a leading zero
 unfoldable pub session_of : List ℕ → Option ℕ
-session_of word =
-    if starts_with_zero word then None
-    else option_and_then (λ n. if nat_lt n 1 then None else Some n) (number 10 2 17 word)
+session_of word = if begins_with 48 word then None else from_least 1 (number 10 2 17 word)
 
--- how many calls of a session were read
-abbrev pub calls_of : ℕ → List ScriptLine → ℕ
-calls_of session lines = length (filter (λ line. line.session == session) lines)
+abbrev pub lines_of : ℕ → List ScriptLine → List ScriptLine
+lines_of session lines = filter (λ line. line.session == session) lines
 
 -- a name that a line gives stands for the line's place from then on
 abbrev pub given_place : Places → Option (List ℕ) → ℕ → Places
 given_place places None place = places
 given_place places (Some name) place = λ n. if bytes_eq n name then Some place else places n
 
-abbrev pub named_at : (ℕ → Places) → ℕ → Option (List ℕ) → ℕ → ℕ → Places
-named_at places session name place = λ s. if s == session then given_place (places s) name place else places s
-
 -- one more call of a session, and the name that its line gives
 abbrev pub with_call : Read → ℕ → Option (List ℕ) → ScriptCall → Read
 with_call read session name call = record {
   lines = read.lines ++ record { session = session; call = call } ∷ [];
-  places = named_at read.places session name (calls_of session read.lines);
+  places = λ s. if s == session then given_place (read.places s) name (length (lines_of session read.lines)) else read.places s;
 }
 
 -- the call of a row, by the fixed words and the fields of its line
@@ -125,22 +115,15 @@ parts_at places row ws = do
   all_so ← demand (has_required row fs) MissingField
   Ok (fixed.0.name, call_of row fixed.0 fs)
 
+-- the words of a line
 unfoldable pub words_at : Read → List (List ℕ) → Result Read Reason
 words_at read [] = Ok read
 words_at read (word ∷ ws) = do
-  session ← some_or BadSession (session_of word)
-  name ← first_or UnknownCommand ws
-  row ← some_or UnknownCommand (row_named name)
-  parts ← parts_at (read.places session) row (rest_of ws)
+  session ← ok_or (session_of word) BadSession
+  name ← ok_or (slice_get ws 0) UnknownCommand
+  row ← ok_or (row_named name) UnknownCommand
+  parts ← parts_at (read.places session) row (drop 1 ws)
   Ok (with_call read session parts.0 parts.1)
-
-abbrev pub is_comment : List ℕ → Bool
-is_comment [] = false
-is_comment (c ∷ cs) = c == 35
-
--- one line
-unfoldable pub line_at : Read → List ℕ → Result Read Reason
-line_at read text = if is_comment text then Ok read else words_at read (words text)
 
 abbrev pub goes_on : Result Read Reason → ℕ → (Read → Result (List ScriptLine) ScriptFault) → Result (List ScriptLine) ScriptFault
 goes_on (Ok next) n f = f next
@@ -149,7 +132,7 @@ goes_on (Err r) n f = Err (BadLine n r)
 -- the lines from one number on, or the first that is outside the grammar
 unfoldable pub lines_at : ℕ → Read → List (List ℕ) → Result (List ScriptLine) ScriptFault
 lines_at n read [] = Ok read.lines
-lines_at n read (line ∷ lines) = goes_on (line_at read line) n (λ next. lines_at (n + 1) next lines)
+lines_at n read (line ∷ lines) = goes_on (words_at read (line_words line)) n (λ next. lines_at (n + 1) next lines)
 
 -- the calls of a text, or why it isn't a script
 unfoldable pub script_of : List ℕ → Result (List ScriptLine) ScriptFault

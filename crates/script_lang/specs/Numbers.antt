@@ -1,5 +1,5 @@
 -- Numbers as texts.
-use Rattle.std.specs.Prelude.{ℕ, ◌+◌, ◌*◌, ◌||◌, nat_lt, List, [], ◌∷◌, length, if◌then◌else◌, Option, Some, None, option_and_then}
+use Rattle.std.specs.Prelude.{ℕ, ◌+◌, ◌*◌, ◌||◌, nat_lt, nat_le, List, [], ◌∷◌, length, if◌then◌else◌, Option, Some, None, option_and_then}
 use Rattle.std.specs.Char.{digit_value}
 
 -- a digit in a base, at most 16, in either case
@@ -16,3 +16,6 @@ abbrev pub number : ℕ → ℕ → ℕ → List ℕ → Option ℕ
 number base most limit text =
     if nat_lt (length text) 1 || nat_lt most (length text) then None
     else option_and_then (λ n. if nat_lt n limit then Some n else None) (number_from base 0 text)
+
+abbrev pub from_least : ℕ → Option ℕ → Option ℕ
+from_least least number = option_and_then (λ n. if nat_le least n then Some n else None) number

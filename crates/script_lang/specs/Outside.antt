@@ -1,12 +1,12 @@
 -- Why a text is no script: the first line that is outside the grammar, and the first reason in it, from left
 -- to right.
-use Rattle.std.specs.Prelude.{ℕ, ◌≡◌, ◌≤◌, ◌<◌, ◌+◌, ◌^◌, ◌⊎◌, true, false, List, [], ◌∷◌, ◌++◌, length, None}
-use Rattle.script_lang.specs.Pieces.{words, text_lines}
+use Rattle.std.specs.Prelude.{ℕ, ◌≡◌, ◌≤◌, ◌<◌, ◌+◌, ◌⊎◌, true, false, List, [], ◌∷◌, ◌++◌, length, None}
+use Rattle.script_lang.specs.Pieces.{line_words, text_lines}
 use Rattle.script_lang.specs.Shapes.{Shape}
 use Rattle.script_lang.specs.Commands.{IsRow}
-use Rattle.script_lang.specs.Fields.{Fields, field_name, is_allowed, has_field, has_required}
-use Rattle.script_lang.specs.Lines.{Places, Read, nothing_read, no_words, is_comment}
-use Rattle.script_lang.specs.Grammar.{IsNumber, IsName, IsHandle, IsValue, IsField, IsFixed, AreFixed, IsSession, AreSteps}
+use Rattle.script_lang.specs.Fields.{Fields, form_of, field_name, is_allowed, has_field, has_required}
+use Rattle.script_lang.specs.Lines.{Places, Read, nothing_read, no_words}
+use Rattle.script_lang.specs.Grammar.{IsForm, IsField, IsName, IsKey, IsOneTo, IsFixed, AreFixed, AreSteps}
 use Rattle.script_lang.specs.declared.faults.Reason.{Reason}
 use Rattle.script_lang.specs.declared.faults.Reason.TheVariants.{BadSession, UnknownCommand, MissingWord, BadHandle, BadName, BadKey, UnknownName, UnknownField, RepeatedField, BadValue, MissingField}
 use Rattle.script_lang.specs.declared.faults.ScriptFault.{ScriptFault}
@@ -14,23 +14,17 @@ use Rattle.script_lang.specs.declared.faults.ScriptFault.TheVariants as faults
 use Rattle.script_lang.specs.declared.fields.Field.{Field}
 use Rattle.script_lang.specs.declared.fields.FieldValue.{FieldValue}
 use Rattle.script_lang.specs.declared.fixed.Fixed.{Fixed}
+use Rattle.script_lang.specs.declared.script.KeyWord.{KeyWord}
 use Rattle.script_lang.specs.declared.commands.Kind.{Kind}
 use Rattle.script_lang.specs.declared.commands.Kind.TheVariants as kind
 
--- a word of one of the two forms of a key, whether or not its name was given
-abbrev pub IsKeyForm : List ℕ → Type 0
-IsKeyForm [] = ⊥
-IsKeyForm (c ∷ cs) = ((c ≡ 35) × ((n : ℕ) × IsNumber 16 8 (2 ^ 32) cs n)) ⊎ ((c ≡ 36) × IsName cs)
-
-abbrev pub IsUnknownName : Places → List ℕ → Type 0
-IsUnknownName places [] = ⊥
-IsUnknownName places (c ∷ cs) = (c ≡ 36) × IsName cs × (places cs ≡ None)
-
--- a word that should be a fixed word of a kind
+-- a word that should be a fixed word of a kind; a bad key is none whatever names were given
 abbrev pub IsBadFixed : Places → Kind → List ℕ → Reason → Type 0
 IsBadFixed places kind.Name word r = (r ≡ BadName) × (IsName word → ⊥)
-IsBadFixed places kind.Key word r = ((r ≡ BadKey) × (IsKeyForm word → ⊥)) ⊎ ((r ≡ UnknownName) × IsUnknownName places word)
-IsBadFixed places kind.Handle word r = (r ≡ BadHandle) × ((handle : ℕ) → IsHandle word handle → ⊥)
+IsBadFixed places kind.Key word r =
+    ((r ≡ BadKey) × ((given : Places) (key : KeyWord) → IsKey given word key → ⊥))
+    ⊎ ((r ≡ UnknownName) × ((name : List ℕ) × (word ≡ 36 ∷ name) × IsName name × (places name ≡ None)))
+IsBadFixed places kind.Handle word r = (r ≡ BadHandle) × ((handle : ℕ) → IsOneTo 4 word handle → ⊥)
 
 -- words of which the first should be fixed words of these kinds, after some
 abbrev pub AreBadFixed : Places → List Kind → Fixed → List (List ℕ) → Reason → Type 0
@@ -40,7 +34,9 @@ AreBadFixed places (k ∷ ks) fixed (w ∷ ws) r = IsBadFixed places k w r ⊎ (
 
 -- the value of a field of the row, after some fields
 abbrev pub IsBadValue : Fields → Field → List ℕ → Reason → Type 0
-IsBadValue done f text r = ((r ≡ RepeatedField) × (has_field done f ≡ true)) ⊎ ((r ≡ BadValue) × (has_field done f ≡ false) × ((v : FieldValue) → IsValue f text v → ⊥))
+IsBadValue done f text r =
+    ((r ≡ RepeatedField) × (has_field done f ≡ true))
+    ⊎ ((r ≡ BadValue) × (has_field done f ≡ false) × ((v : FieldValue) → IsForm (form_of f) text v → ⊥))
 
 -- a further word: no `=`, or none of the row's fields before the first; or a field that is bad
 abbrev pub IsBadField : Shape → Fields → List ℕ → Reason → Type 0
@@ -70,13 +66,10 @@ IsBadCommand read s (name ∷ ws) r =
     ((r ≡ UnknownCommand) × ((row : Shape) → IsRow row → row.word ≡ name → ⊥))
     ⊎ ((row : Shape) × IsRow row × (row.word ≡ name) × (AreBadFixed (read.places s) row.fixed no_words ws r ⊎ AreBadAfter (read.places s) row ws r))
 
+-- the words of a line that is outside the grammar, after what was read
 abbrev pub AreBadWords : Read → List (List ℕ) → Reason → Type 0
 AreBadWords read [] r = ⊥
-AreBadWords read (w ∷ ws) r = ((r ≡ BadSession) × ((s : ℕ) → IsSession w s → ⊥)) ⊎ ((s : ℕ) × IsSession w s × IsBadCommand read s ws r)
-
--- a line that is no comment and outside the grammar, after what was read
-abbrev pub IsBadLine : Read → List ℕ → Reason → Type 0
-IsBadLine read line r = (is_comment line ≡ false) × AreBadWords read (words line) r
+AreBadWords read (w ∷ ws) r = ((r ≡ BadSession) × ((s : ℕ) → IsOneTo 16 w s → ⊥)) ⊎ ((s : ℕ) × IsOneTo 16 w s × IsBadCommand read s ws r)
 
 -- the first line that is outside: those before it are in the grammar, and lines are counted from 1
 pub record IsFirstBad (text : List ℕ) (number : ℕ) (r : Reason) : Type 0 where
@@ -89,7 +82,7 @@ pub record IsFirstBad (text : List ℕ) (number : ℕ) (r : Reason) : Type 0 whe
   pub joined : text_lines text ≡ before ++ line ∷ after
   pub place : number ≡ length before + 1
   pub steps : AreSteps nothing_read before read
-  pub bad : IsBadLine read line r
+  pub bad : AreBadWords read (line_words line) r
 
 abbrev pub IsFault : List ℕ → ScriptFault → Type 0
 IsFault text faults.TooLong = 4194304 < length text

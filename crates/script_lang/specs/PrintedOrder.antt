@@ -1,5 +1,5 @@
 -- What a script's calls answer, and what is printed of it.
-use Rattle.std.specs.Prelude.{ℕ, zero, suc, ◌≡◌, ◌+◌, ◌==◌, List, [], ◌∷◌, ◌++◌, filter, flat_map, map, Ok, All, Option, Some, None}
+use Rattle.std.specs.Prelude.{ℕ, zero, suc, ◌≡◌, ◌+◌, ◌==◌, List, [], ◌∷◌, ◌++◌, filter, flat_map, map, slice_get, Ok, All, Option, IfSome, option_map}
 use Rattle.store_model.specs.Call as model
 use Rattle.store_model.specs.Call.{Output, Reply, output_bytes}
 use Rattle.store_model.specs.Faults.{Plain}
@@ -9,15 +9,12 @@ use Rattle.script_lang.specs.declared.script.ScriptLine.{ScriptLine}
 use Rattle.script_lang.specs.declared.replies.ReplyLine.{ReplyLine}
 use Rattle.script_lang.specs.Commands.{request_of}
 use Rattle.script_lang.specs.Replies.{reply_text}
-use Rattle.script_lang.specs.Lines.{script_of}
+use Rattle.script_lang.specs.Lines.{lines_of, script_of}
 
 -- the identifier that a call gave, or 0
-abbrev pub id_in : Output → ℕ
-id_in (model.Identifier id) = id
-id_in _ = 0
-
-abbrev pub id_given : Reply → ℕ
-id_given reply = id_in reply.output
+abbrev pub id_given : Output → ℕ
+id_given (model.Identifier id) = id
+id_given _ = 0
 
 -- a call as it stands in a history: its rank, and its reply when the history is replayed
 pub record Turn : Type 0 where
@@ -32,35 +29,21 @@ turns rank service (e ∷ es) =
     let after = outcome_of service e in
     record { entry = e; rank = rank; reply = after.reply } ∷ turns (rank + 1) after.service es
 
--- the turns of a history on a service as it starts
-abbrev pub turns_from : Service → List Entry → List Turn
-turns_from start history = turns 0 start history
-
-abbrev pub turn_at : List Turn → ℕ → Option Turn
-turn_at [] place = None
-turn_at (t ∷ ts) zero = Some t
-turn_at (t ∷ ts) (suc place) = turn_at ts place
-
 -- the turn at a place has this place as its rank, and its reply is that of the replay there; there is none past the end
-abbrev pub IsReplayed : (at : Option Turn) → ℕ → Option Reply → Type 0
-IsReplayed (Some t) place replayed = (t.rank ≡ place) × (replayed ≡ Some t.reply)
-IsReplayed None place replayed = replayed ≡ None
-
 abbrev pub TurnsAreReplayed : Type 0
-TurnsAreReplayed = (start : Service) (history : List Entry) (place : ℕ) → IsReplayed (turn_at (turns_from start history) place) place (reply_at start history place)
+TurnsAreReplayed =
+    (start : Service) (history : List Entry) (place : ℕ) → let at : Option Turn = slice_get (turns 0 start history) place in
+    IfSome at (λ t. t.rank ≡ place) × (option_map (λ t. t.reply) at ≡ reply_at start history place)
 
 abbrev pub turns_of : ℕ → List Turn → List Turn
 turns_of session ts = filter (λ t. t.entry.caller == session) ts
-
-abbrev pub lines_of : ℕ → List ScriptLine → List ScriptLine
-lines_of session lines = filter (λ line. line.session == session) lines
 
 -- A session's turns are the calls of its lines, in the order of the script, where a name stands for the
 -- identifier that the session's own reply before gave.
 abbrev pub AreCalls : List ℕ → List ScriptLine → List Turn → Type 0
 AreCalls ids [] [] = Unit {0}
 AreCalls ids (line ∷ lines) (turn ∷ turns) =
-    (turn.entry.caller ≡ line.session) × (turn.entry.call ≡ request_of ids line.call) × AreCalls (ids ++ id_given turn.reply ∷ []) lines turns
+    (turn.entry.caller ≡ line.session) × (turn.entry.call ≡ request_of ids line.call) × AreCalls (ids ++ id_given turn.reply.output ∷ []) lines turns
 AreCalls ids _ _ = ⊥
 
 -- a printed line: the number is the place among the session's own, from 1
@@ -86,19 +69,15 @@ replies_to (suc n) ts = replies_to n ts ++ numbered 1 (turns_of (suc n) ts)
 abbrev pub text_of : List ReplyLine → List ℕ
 text_of replies = flat_map reply_text replies
 
--- The calls of these lines were made in one common order, this history, and these bytes are its replies: each
+-- The calls of these lines were made in one common order, a history, and these bytes are its replies: each
 -- session's calls are those of its lines, in their order, replayed on the one-thread service from its start.
-pub record IsOrder (start : Service) (lines : List ScriptLine) (history : List Entry) (out : List ℕ) : Type 0 where
-  pub own : (session : ℕ) → AreCalls [] (lines_of session lines) (turns_of session (turns_from start history))
+pub record AnswersLines (start : Service) (lines : List ScriptLine) (out : List ℕ) : Type 0 where
+  pub history : List Entry
+  pub own : (session : ℕ) → AreCalls [] (lines_of session lines) (turns_of session (turns 0 start history))
   pub plain : All (λ e. e.mark ≡ Plain) history
   -- one worker makes them in the order of the lines
   pub line_order : map (λ e. e.caller) history ≡ map (λ line. line.session) lines
-  pub is_out : out ≡ text_of (replies_to 16 (turns_from start history))
-
--- these bytes answer these lines
-pub record AnswersLines (start : Service) (lines : List ScriptLine) (out : List ℕ) : Type 0 where
-  pub history : List Entry
-  pub order : IsOrder start lines history out
+  pub is_out : out ≡ text_of (replies_to 16 (turns 0 start history))
 
 -- The text reads as lines, and the bytes written answer these.
 pub record IsAnswer (start : Service) (script out : List ℕ) : Type 0 where

@@ -3,7 +3,7 @@ use Rattle.std.specs.Prelude.{ℕ, ◌≡◌, List, Option, None, Some, slice_ge
 use Rattle.std.specs.Ordering.{nat_cmp}
 use Rattle.std.specs.Cmp.Lexicographic.{slice_cmp}
 use Rattle.std.specs.BTreeMap.{get_by}
-use Rattle.script_lang.specs.Lines.{Places, Read, calls_of}
+use Rattle.script_lang.specs.Lines.{Places, Read, lines_of}
 use Rattle.script_lang.specs.declared.script.ScriptLine.{ScriptLine}
 use Rattle.script_lang.specs.declared.sessions.Session.{Session}
 
@@ -22,7 +22,7 @@ read_of lines sessions = record { lines = lines; places = λ s. places_in (slice
 -- each session counts its calls
 pub record AreCounted (lines : List ScriptLine) (sessions : List Session) : Type 0 where
   pub seventeen : length sessions ≡ 17
-  pub counts : (s : ℕ) → IfSome (slice_get sessions s) (λ session. session.calls ≡ calls_of s lines)
+  pub counts : (s : ℕ) → IfSome (slice_get sessions s) (λ session. session.calls ≡ length (lines_of s lines))
 
 -- a session of which nothing was read
 pub record IsNew (session : Session) : Type 0 where

@@ -1,6 +1,5 @@
 -- The row of a command.
-use Rattle.std.specs.Prelude.{ℕ, Bool, List}
-use Rattle.std.specs.Str.{bytes_eq}
+use Rattle.std.specs.Prelude.{ℕ, List}
 use Rattle.script_lang.specs.declared.fields.Field.{Field}
 use Rattle.script_lang.specs.declared.commands.Kind.{Kind}
 use Rattle.script_lang.specs.declared.commands.Command.{Command}
@@ -20,6 +19,3 @@ row word command fixed required optional = record { word = word; command = comma
 -- a row of the program as a row here
 abbrev pub shape : Row → Shape
 shape r = row r.word.now r.command r.fixed.now r.required.now r.optional.now
-
-abbrev pub is_written : List ℕ → Row → Bool
-is_written word r = bytes_eq r.word.now word

@@ -1,7 +1,8 @@
 // The commands of the grammar, and how each is written.
 ghost use Rattle.std.specs.Prelude.{◌≡◌, find, map};
+ghost use Rattle.std.specs.Str.{bytes_eq};
 ghost use Rattle.std.specs.Option.{option_copied, option_map};
-ghost use Rattle.script_lang.specs.Shapes.{is_written, shape};
+ghost use Rattle.script_lang.specs.Shapes.{shape};
 ghost use Rattle.script_lang.specs.Commands.{row_named, rows};
 
 use crate::fields::Field::{
@@ -118,13 +119,12 @@ fn all_rows() -> &'static [Row]
 }
 
 fn find_row<'a>(rows: &'a [Row], word: &[u8]) -> Option<&'a Row>
-    ensures { option_copied result ≡ find (is_written word.now) rows.now }
+    ensures { option_copied result ≡ find (λ r. bytes_eq r.word.now word.now) rows.now }
 {
     rows.iter().find(|row| is_text(row.word, word))
 }
 
 /// The row of a command's word.
-#[tactic(auto, using(crate::proofs::Table::found_shape), unfolding(crate::specs::Commands::row_named))]
 pub(crate) fn row_named(word: &[u8]) -> Option<Row>
     ensures { option_map shape result ≡ row_named word.now }
 {

@@ -1,10 +1,11 @@
 // The fields of a line.
-ghost use Rattle.std.specs.Prelude.{◌≡◌, ◌≤◌, ◌<◌, ◌+◌, ◌^◌, []};
+ghost use Rattle.std.specs.Prelude.{◌≡◌, ◌≤◌, ◌<◌, ◌+◌, ◌^◌, [], ok_or};
 ghost use Rattle.std.specs.Option.{option_copied};
 ghost use Rattle.std.specs.Str.{bytes_eq};
+ghost use Rattle.script_lang.specs.declared.faults.Reason.TheVariants.{BadValue};
 ghost use Rattle.script_lang.specs.Shapes.{shape};
 ghost use Rattle.script_lang.specs.Steps.{Gives};
-ghost use Rattle.script_lang.specs.Fields.{field_number, field_named, field_name, all_fields, field_value, has_field, is_among, has_required, short_value, word_value, long_value, bytes_value, read_field, read_fields};
+ghost use Rattle.script_lang.specs.Fields.{field_number, field_named, field_name, all_fields, field_value, has_field, is_among, has_required, ShortForm, WordForm, LongForm, BytesForm, form_value, read_field, read_fields};
 
 use crate::commands::Row;
 use crate::faults::{LineError, Reason};
@@ -191,7 +192,7 @@ fn short(
     requires first { 2 ≤ base }
     requires last { base ≤ 16 }
     requires fits { greatest < 2 ^ 16 }
-    ensures { Gives (λ v. v) result (short_value base most least (greatest + 1) text.now) }
+    ensures { Gives (λ v. v) result (ok_or (form_value (ShortForm base most least (greatest + 1)) text.now) BadValue) }
 {
     match number_of(base, most, greatest, text) {
         Some(number) if least <= number => Ok(FieldValue::Short(number as u16)),
@@ -200,7 +201,7 @@ fn short(
 }
 
 fn word(text: &[u8]) -> Result<FieldValue, LineError>
-    ensures { Gives (λ v. v) result (word_value text.now) }
+    ensures { Gives (λ v. v) result (ok_or (form_value WordForm text.now) BadValue) }
 {
     match number_of(16, 8, 0xffffffff, text) {
         Some(number) => Ok(FieldValue::Word(number as u32)),
@@ -209,7 +210,7 @@ fn word(text: &[u8]) -> Result<FieldValue, LineError>
 }
 
 fn long(text: &[u8]) -> Result<FieldValue, LineError>
-    ensures { Gives (λ v. v) result (long_value text.now) }
+    ensures { Gives (λ v. v) result (ok_or (form_value LongForm text.now) BadValue) }
 {
     match number_of(10, 20, u64::MAX, text) {
         Some(number) => Ok(FieldValue::Long(number)),
@@ -217,9 +218,8 @@ fn long(text: &[u8]) -> Result<FieldValue, LineError>
     }
 }
 
-#[tactic(auto, unfolding(crate::specs::Fields::bytes_value))]
 fn decoded(alloc: Global, text: &[u8]) -> Result<FieldValue, LineError>
-    ensures { Gives (λ v. v) result (bytes_value text.now) }
+    ensures { Gives (λ v. v) result (ok_or (form_value BytesForm text.now) BadValue) }
 {
     if text.len() > DIGIT_LIMIT {
         return Err(LineError::Bad(Reason::BadValue));

@@ -2,8 +2,8 @@
 ghost use Rattle.std.specs.Prelude.{◌≡◌, ◌≤◌, ◌<◌, ◌+◌, ◌^◌, [], length, nat_lt, All, OnOk, IfOk, IfErr, IfSome, Ok, ℕ, List};
 ghost use Rattle.script_lang.specs.declared.faults.LineError.TheVariants.{Memory};
 ghost use Rattle.script_lang.specs.Steps.{Fails, Gives};
-ghost use Rattle.script_lang.specs.Pieces.{words, text_lines};
-ghost use Rattle.script_lang.specs.Lines.{session_of, with_call, parts_at, words_at, line_at, lines_at, nothing_read, fault_at, script_of, ScriptGives, IsOfSession};
+ghost use Rattle.script_lang.specs.Pieces.{line_words, text_lines};
+ghost use Rattle.script_lang.specs.Lines.{session_of, with_call, parts_at, words_at, lines_at, nothing_read, fault_at, script_of, ScriptGives, IsOfSession};
 ghost use Rattle.script_lang.specs.Shapes.{shape};
 ghost use Rattle.script_lang.specs.Sessions.{places_of, read_of, AreCounted, IsNew};
 
@@ -33,7 +33,11 @@ fn session_of(word: &[u8]) -> Option<u8>
         return None;
     }
     let number = number_of(10, 2, 16, word)?;
-    if number < 1 { None } else { Some(number as u8) }
+    if 1 <= number {
+        Some(number as u8)
+    } else {
+        None
+    }
 }
 
 /// What was read so far: the calls, and the sessions, each at its number.
@@ -150,12 +154,12 @@ impl Reading {
         self.add(session, name, call)
     }
 
-    #[tactic(auto, unfolding(crate::specs::Lines::line_at))]
+    #[tactic(auto, unfolding(crate::specs::Lines::words_at))]
     fn read_line(&mut self, alloc: Global, text: &[u8]) -> Result<(), LineError>
         requires few { length self.old.lines.items < 2 ^ 31 }
         requires counted { AreCounted self.old.lines.items self.old.sessions.items }
-        ensures ok { OnOk result (line_at (read_of self.old.lines.items self.old.sessions.items) text.now ≡ Ok (read_of self.new.lines.items self.new.sessions.items)) }
-        ensures err { IfErr result (λ e. Fails e (line_at (read_of self.old.lines.items self.old.sessions.items) text.now)) }
+        ensures ok { OnOk result (words_at (read_of self.old.lines.items self.old.sessions.items) (line_words text.now) ≡ Ok (read_of self.new.lines.items self.new.sessions.items)) }
+        ensures err { IfErr result (λ e. Fails e (words_at (read_of self.old.lines.items self.old.sessions.items) (line_words text.now))) }
         ensures counted { OnOk result (AreCounted self.new.lines.items self.new.sessions.items) }
         ensures one { OnOk result (length self.new.lines.items ≤ length self.old.lines.items + 1) }
         ensures sessions { OnOk result (All IsOfSession self.old.lines.items → All IsOfSession self.new.lines.items) }

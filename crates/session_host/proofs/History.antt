@@ -10,7 +10,8 @@ use Rattle.store_model.proofs.FewWords.{draws}
 use Rattle.script_lang.specs.declared.script.ScriptLine.{ScriptLine}
 use Rattle.store_model.proofs.Others.{serve_keeps}
 use Rattle.script_lang.specs.Commands.{request_of}
-use Rattle.script_lang.specs.PrintedOrder.{Turn, turns, turns_of, lines_of, AreCalls, id_given, numbered, printed}
+use Rattle.script_lang.specs.Lines.{lines_of}
+use Rattle.script_lang.specs.PrintedOrder.{Turn, turns, turns_of, AreCalls, id_given, numbered, printed}
 
 pub replay_calls : (service : Service) (es : List Entry) → (replay service es).store.calls ≡ service.store.calls + length es
 replay_calls service [] = omega arith
@@ -42,15 +43,15 @@ turns_more n service (x ∷ es) e =
 -- one more call of a session, and one of another
 
 pub AreCalls-more : (ids : List ℕ) (lines : List ScriptLine) (ts : List Turn) (line : ScriptLine) (t : Turn) → AreCalls ids lines ts →
-    t.entry.caller ≡ line.session → t.entry.call ≡ request_of (ids ++ map (λ t. id_given t.reply) ts) line.call → AreCalls ids (lines ++ line ∷ []) (ts ++ t ∷ [])
+    t.entry.caller ≡ line.session → t.entry.call ≡ request_of (ids ++ map (λ t. id_given t.reply.output) ts) line.call → AreCalls ids (lines ++ line ∷ []) (ts ++ t ∷ [])
 AreCalls-more ids [] [] line t h s c = (s, c ∙ ap (λ is. request_of is line.call) (append-nil ids), tt)
 AreCalls-more ids [] (u ∷ ts) line t h s c = absurd h
 AreCalls-more ids (l ∷ lines) [] line t h s c = absurd h
 AreCalls-more ids (l ∷ lines) (u ∷ ts) line t h s c = (
   h.0,
   h.1,
-  AreCalls-more (ids ++ id_given u.reply ∷ []) lines ts line t h.2 s
-      (c ∙ ap (λ is. request_of is line.call) (sym (append_assoc ids (id_given u.reply ∷ []) (map (λ t. id_given t.reply) ts)))),
+  AreCalls-more (ids ++ id_given u.reply.output ∷ []) lines ts line t h.2 s
+      (c ∙ ap (λ is. request_of is line.call) (sym (append_assoc ids (id_given u.reply.output ∷ []) (map (λ t. id_given t.reply.output) ts)))),
 )
 
 pub kept_own : {X : Type 0} (p : X → Bool) (xs : List X) (x : X) → p x ≡ true → filter p (xs ++ x ∷ []) ≡ filter p xs ++ x ∷ []
@@ -61,7 +62,7 @@ left_out p xs x e = filter-append p xs (x ∷ []) ∙ ap (λ b. filter p xs ++ c
 
 own_or_other : (b : Bool) (session : ℕ) (lines : List ScriptLine) (ts : List Turn) (line : ScriptLine) (t : Turn) → (line.session == session) ≡ b →
     AreCalls [] (lines_of session lines) (turns_of session ts) → t.entry.caller ≡ line.session →
-    (line.session ≡ session → t.entry.call ≡ request_of (map (λ t. id_given t.reply) (turns_of session ts)) line.call) →
+    (line.session ≡ session → t.entry.call ≡ request_of (map (λ t. id_given t.reply.output) (turns_of session ts)) line.call) →
     AreCalls [] (lines_of session (lines ++ line ∷ [])) (turns_of session (ts ++ t ∷ []))
 own_or_other true session lines ts line t e h s c =
     subst (λ ls. AreCalls [] ls (turns_of session (ts ++ t ∷ []))) (sym (kept_own (λ l. l.session == session) lines line e))
@@ -73,7 +74,7 @@ own_or_other false session lines ts line t e h s c =
 
 pub calls_more : (session : ℕ) (lines : List ScriptLine) (ts : List Turn) (line : ScriptLine) (t : Turn) →
     AreCalls [] (lines_of session lines) (turns_of session ts) → t.entry.caller ≡ line.session →
-    (line.session ≡ session → t.entry.call ≡ request_of (map (λ t. id_given t.reply) (turns_of session ts)) line.call) →
+    (line.session ≡ session → t.entry.call ≡ request_of (map (λ t. id_given t.reply.output) (turns_of session ts)) line.call) →
     AreCalls [] (lines_of session (lines ++ line ∷ [])) (turns_of session (ts ++ t ∷ []))
 calls_more session lines ts line t h s c = own_or_other (line.session == session) session lines ts line t refl h s c
 

@@ -52,7 +52,7 @@ fn answer_line(
     ensures replies { (it : model.Service) → Stands service.old it →
         OnOk result (own.new.replies.items ≡ own.old.replies.items ++ printed (length own.old.replies.items + 1) (line_turn it own.old.given.items line.now) ∷ []) }
     ensures given { (it : model.Service) → Stands service.old it →
-        OnOk result (own.new.given.items ≡ own.old.given.items ++ id_given (line_turn it own.old.given.items line.now).reply ∷ []) }
+        OnOk result (own.new.given.items ≡ own.old.given.items ++ id_given (line_turn it own.old.given.items line.now).reply.output ∷ []) }
 {
     let rank = service.store.ranked();
     let number = own.replies.len() as u32 + 1;

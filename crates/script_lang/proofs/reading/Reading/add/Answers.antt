@@ -1,7 +1,7 @@
 use Rattle.std.proofs.Common.{◌≡◌, ◌∙◌, ap, subst, sym, arith, ◌<◌, length}
 use Rattle.std.specs.Prelude.{slice_set}
 use Rattle.script_lang.specs.Sessions.{read_of, AreCounted}
-use Rattle.script_lang.specs.Lines.{calls_of}
+use Rattle.script_lang.specs.Lines.{lines_of}
 use Rattle.script_lang.proofs.States.{counted_on, is_more, more_read, more_counted, count_found, count_fits, found}
 use Rattle.script_lang.proofs.reading.Reading.add.Goals as goal
 
@@ -9,7 +9,7 @@ pub overflow_add-state : goal.overflow_add-state
 overflow_add-state c =
     let old = c.index_mut-state.result.now in
     let within : c.args.session < length c.args.self.now.sessions.items = omega (arith, c.requires.counted.seventeen) in
-    let count : old.calls ≡ calls_of c.args.session c.args.self.now.lines.items =
+    let count : old.calls ≡ length (lines_of c.args.session c.args.self.now.lines.items) =
     count_found c.args.self.now.lines.items c.args.self.now.sessions.items c.args.session old c.requires.counted (found c.args.self.now.sessions.items c.args.session old within c.index_mut-state.ensures.value) in
     omega (arith, c.give.ensures.calls, count, count_fits c.args.self.now.lines.items c.args.session, c.requires.few)
 
