@@ -1,8 +1,6 @@
 -- Which MAC runs.
 use Rattle.std.proofs.Common.{◌≡◌, Bool, true, false}
 use Rattle.std.specs.Prelude.{MatchBool}
-use Rattle.crypto_specs.specs.Cmac.{cmac}
-use Rattle.hash_ops.specs.Hashes as hashes
 use Rattle.store_model.specs.MacOperations.{MacWork}
 use Rattle.mac_states.specs.declared.running_mac.RunningMac.{RunningMac}
 use Rattle.mac_states.specs.MacStates.{HoldsMac, IsCmac, IsHmac}
