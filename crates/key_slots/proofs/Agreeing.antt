@@ -7,7 +7,7 @@ use Rattle.slot_states.specs.declared.SlotState.{SlotState}
 use Rattle.slot_states.specs.declared.SlotState.TheVariants.{Empty, Filling, Full, Pending}
 use Rattle.slot_table.specs.Slots.{Slot, Table, slot_at, empty_slot, filling_slot, is_full, is_pending, is_idle, is_last, is_empty_state, holds_key, NoKey, IsNext, IsLawfulSlot, IsLawful}
 use Rattle.slot_table.specs.Changes.{full_slot, registered, left, destroyed_slot}
-use Rattle.slot_table.proofs.AtSlots.{at_each, slot_at-set_same, full_within, key_is_full, idle_is_full, idle_is_unread, find_passes, next_within, next_is_unread}
+use Rattle.slot_table.proofs.AtSlots.{at_each, slot_at-set_same, slot_at-set_other, full_within, key_is_full, idle_is_full, idle_is_unread, find_passes, next_within, next_is_unread}
 use Rattle.key_attributes.specs.Checks.{persistence}
 use Rattle.key_attributes.specs.declared.Attributes.{Attributes}
 use Rattle.std.proofs.lemmas.Bool.{eqb-true}
@@ -268,6 +268,12 @@ purged t new true id i law has is emptied same k =
     rw emptied (at_each (λ j x. holds_key id x ≡ true → is_idle x ≡ false) t.slots i empty_slot (full_within t.slots i (key_is_full id (slot_at t.slots i) has)) (λ had. absurd (false≢true had)) (λ j other had. absurd (other (law.one id j i had has))) k)
 purged t new false id i law has is emptied same k = rw same (λ had. ap (λ j. is_idle (slot_at t.slots j)) (law.one id k i had has) ∙ sym is)
 
+-- and the other slots stay
+pub purge_leaves : (t new : Table) (b : Bool) (id i : ℕ) → holds_key id (slot_at t.slots i) ≡ true → OnTrue b (new.slots ≡ set t.slots i empty_slot) → OnFalse b (new ≡ t) → (k : ℕ) → holds_key id (slot_at t.slots k) ≡ false → slot_at new.slots k ≡ slot_at t.slots k
+purge_leaves t new true id i has emptied same k without =
+    ap (λ (ss : List Slot). slot_at ss k) emptied ∙ slot_at-set_other t.slots i k empty_slot (λ here. false≢true (sym without ∙ ap (λ j. holds_key id (slot_at t.slots j)) here ∙ has))
+purge_leaves t new false id i has emptied same k without = ap (λ (x : Table). slot_at x.slots k) same
+
 -- KEYS THAT CHANGE
 
 some_same : {A : Type 0} (a b : A) → Some a ≡ Some b → a ≡ b
@@ -373,14 +379,6 @@ destroys t old new all id i law sound has puts a =
           absent = λ q x is number. let other = not_id q x is in other (sound.numbers q id x k.0 (sym (puts.others q other) ∙ is) k.1 (number ∙ k.2.number));
         };
       }
-
--- a key that no slot has is destroyed
-pub destroys_elsewhere : (slots : List Slot) (old new : Store) (all : List Pairs) (id : ℕ) → NoKey id slots → Puts old new id None → Agrees slots old all → Agrees slots new all
-destroys_elsewhere slots old new all id none puts a = record {
-  each = λ k lt. keeps_at old new all all id k None (slot_at slots k) puts (λ n. refl) (λ had. false≢true (sym (none k) ∙ had)) (gone_fewer old new id (slot_at slots k).creation puts) (a.each k lt);
-  beyond = a.beyond;
-  found = λ q x is volatile. a.found q x (sym (puts.others q (λ same. none_some x (sym puts.here ∙ ap (map.get new.keys) (sym same) ∙ is))) ∙ is) volatile;
-}
 
 -- NO SLOT CHANGES
 

@@ -70,7 +70,7 @@ pub record IsOut (slots : List Slot) (p : ℕ × ℕ) : Type 0 where
   pub agrees : Agrees slots store all
   pub out : 0 < named p.0 p.1 all
 
--- there is no key, or it is in a file
+-- there is a key, and it is volatile
 abbrev pub IsVolatileKey : Option Key → Type 0
 IsVolatileKey None = ⊥
 IsVolatileKey (Some key) = is_volatile key.attributes ≡ true

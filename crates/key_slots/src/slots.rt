@@ -136,6 +136,7 @@ impl KeySlots {
     pub fn purge(&mut self, id: KeyId)
         ensures stays { (store : Store) (all : List Pairs) → Agrees self.old.table.slots store all → Agrees self.new.table.slots store all }
         ensures wiped { (i : ℕ) → holds_key id.0 (slot_at self.new.table.slots i) ≡ true → is_idle (slot_at self.new.table.slots i) ≡ false }
+        ensures others { (i : ℕ) → holds_key id.0 (slot_at self.old.table.slots i) ≡ false → slot_at self.new.table.slots i ≡ slot_at self.old.table.slots i }
     {
         if let Some(slot) = self.table.find(id) {
             self.table.purge(slot);

@@ -1,4 +1,4 @@
-use Rattle.key_slots.proofs.Agreeing.{purges, purged}
+use Rattle.key_slots.proofs.Agreeing.{purges, purged, purge_leaves}
 use Rattle.key_slots.proofs.slots.KeySlots.purge.Goals as goal
 
 pub returns-in-Some-clause-stays : goal.returns-in-Some-clause-stays
@@ -10,3 +10,8 @@ pub returns-in-Some-clause-wiped : goal.returns-in-Some-clause-wiped
 returns-in-Some-clause-wiped c =
     let e = c.purge.ensures in
     purged c.args.self.now.table c.purge.new.self c.purge.result c.args.id.0 c.in-Some.slot c.args.self.now.lawful c.in-Some.ensures.found e.result e.slots e.other
+
+pub returns-in-Some-clause-others : goal.returns-in-Some-clause-others
+returns-in-Some-clause-others c =
+    let e = c.purge.ensures in
+    purge_leaves c.args.self.now.table c.purge.new.self c.purge.result c.args.id.0 c.in-Some.slot c.in-Some.ensures.found e.slots e.other
