@@ -207,7 +207,7 @@ few_replies lines sessions i own h within at =
 -- how many random words were drawn
 
 start_draws : (session : ℕ) → (own_of (opened_service) session).drawn ≡ 0
-start_draws session = start_own (λ (o : Own). o.drawn ≡ 0) (start_of plain_settings) refl session
+start_draws session = start_own (λ (o : Own). o.drawn ≡ 0) (start_of plain_settings []) refl session
 
 few_drawn : (lines : List ScriptLine) (sessions : List SessionReplies) (service : Service) (session : ℕ) (stream : RandomStream) → session ≤ 16 → HasAnswered lines sessions service →
     stream ≡ get_or service.callers.streams.items session stream → stream.place ≤ 256 * length lines

@@ -21,7 +21,7 @@ use Rattle.session_host.specs.declared.sessions.SessionReplies.{SessionReplies}
 
 -- the service as it is opened: without a key, and with inactive operations
 abbrev pub opened_service : model.Service
-opened_service = service_start plain_settings
+opened_service = service_start plain_settings []
 
 -- what is known of a call's answer
 pub record Answers (a : Answer) (reply : Reply) : Type 0 where
