@@ -1,9 +1,9 @@
 // What calls leave in the caller's buffers, which no reply line shows.
 use alg_encoding::{Alg, Class};
 use key_attributes::{Attributes, KeyId, KeyType, Lifetime, Policy, Usage};
+use list_store::Store;
 use psa_status::Status;
 use single_part::{aead_decrypt, cipher_decrypt, mac_compute};
-use list_store::Store;
 
 // Attributes of a key of this type for an algorithm, to export it, to compute and verify, or to encipher and decipher.
 fn used_with(key_type: u16, alg: u32) -> Attributes {
