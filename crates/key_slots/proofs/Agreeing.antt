@@ -15,7 +15,7 @@ use Rattle.std.proofs.lemmas.Bool.Decides.{nat_tests}
 use Rattle.store_model.specs.Store.{Key, Store, is_volatile}
 use Rattle.store_model.specs.Sound.{IsSoundStore, HasNumber}
 use Rattle.key_slots.specs.Holdings.{Pairs, Gains, named, same}
-use Rattle.key_slots.specs.Standing.{Agrees, StandsAt, IsGone, HasKey, Puts, IsThereOrNew, KeepsKeys, IsVolatileKey, is_filling, pairs_on}
+use Rattle.key_slots.specs.Standing.{Agrees, StandsAt, IsGone, SlotHasKey, Puts, IsThereOrNew, KeepsKeys, IsVolatileKey, is_filling, pairs_on}
 use Rattle.key_slots.proofs.Pairs.{counted, elsewhere, was_out, nobody, nothing_out, one_more, one_less, one_filling, no_filling, is_lease, is_fill}
 
 -- A SLOT THAT IS SET
@@ -93,7 +93,7 @@ unused : (s : Slot) (n : ℕ) → s.readers ≡ 0 → is_filling s.state ≡ fal
 unused s n unread still = ap (λ b. counted b s.creation s.readers n) still ∙ ap (λ r. counted false s.creation r n) unread ∙ nobody s.creation n
 
 -- the key of a slot that holds this identifier
-pub key_of_slot : (slots : List Slot) (store : Store) (all : List Pairs) (id i : ℕ) → Agrees slots store all → i < 384 → holds_key id (slot_at slots i) ≡ true → (key : Key) × (map.get store.keys id ≡ Some key) × HasKey (slot_at slots i) key
+pub key_of_slot : (slots : List Slot) (store : Store) (all : List Pairs) (id i : ℕ) → Agrees slots store all → i < 384 → holds_key id (slot_at slots i) ≡ true → (key : Key) × (map.get store.keys id ≡ Some key) × SlotHasKey (slot_at slots i) key
 key_of_slot slots store all id i a inside has =
     let s = slot_at slots i in
     let f = (a.each i inside).full (ap is_full (key_is_full id s has)) in
@@ -324,7 +324,7 @@ keeps_at old new all more id k found s puts alike without gone at = record {
 
 -- a creation ends with its key
 pub fills : (t : Table) (old new : Store) (all less : List Pairs) (key : Key) (i number : ℕ) (attributes : Attributes) (bytes : List ℕ) → IsLawful t → NoKey attributes.id.0 t.slots → Gains less all (i, 0) → Puts old new attributes.id.0 (Some key) →
-    HasKey (full_slot number attributes bytes) key → IsThereOrNew old attributes.id.0 key → Agrees t.slots old all → Agrees (set t.slots i (full_slot number attributes bytes)) new less
+    SlotHasKey (full_slot number attributes bytes) key → IsThereOrNew old attributes.id.0 key → Agrees t.slots old all → Agrees (set t.slots i (full_slot number attributes bytes)) new less
 fills t old new all less key i number attributes bytes law unknown gains puts has known a =
     let w = is_waiting t.slots old all i a (was_out all less i 0 gains) in
     let inside = w.0 in
@@ -369,7 +369,7 @@ destroys t old new all id i law sound has puts a =
       not_id : (q : ℕ) (x : Key) → map.get new.keys q ≡ Some x → q ≢ id
       not_id q x is same = none_some x (sym puts.here ∙ ap (map.get new.keys) (sym same) ∙ is)
 
-      here : (s : Slot) → StandsAt old all i s → s.state ≡ Full → (key : Key) × (map.get old.keys id ≡ Some key) × HasKey s key → (b : Bool) → (s.readers == 0) ≡ b → StandsAt new all i (cond b empty_slot (record s { state = Pending }))
+      here : (s : Slot) → StandsAt old all i s → s.state ≡ Full → (key : Key) × (map.get old.keys id ≡ Some key) × SlotHasKey s key → (b : Bool) → (s.readers == 0) ≡ b → StandsAt new all i (cond b empty_slot (record s { state = Pending }))
       here s at full k true unread = wiped new all i empty_slot refl refl (λ n. at.held n ∙ unused s n (eqb-true s.readers 0 unread) (ap is_filling full) ∙ sym (nobody 0 n))
       here s at full k false read = record {
         held = λ n. at.held n ∙ ap (λ x. counted (is_filling x) s.creation s.readers n) full;

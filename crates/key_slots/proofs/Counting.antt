@@ -18,7 +18,7 @@ use Rattle.slot_table.specs.Slots.{Slot, Table, slot_at, is_empty_state, is_full
 use Rattle.store_model.specs.Store.{Key, Store, has_secure_element, is_volatile, is_volatile_of}
 use Rattle.store_model.specs.Creation.{identified}
 use Rattle.store_model.specs.Sound.{IsChecked, IsSoundStore, as_stated}
-use Rattle.key_slots.specs.Standing.{Agrees, HasKey, is_filling}
+use Rattle.key_slots.specs.Standing.{Agrees, SlotHasKey, is_filling}
 use Rattle.key_slots.proofs.Agreeing.{readers_out, holds_its_key}
 use Rattle.key_slots.specs.Holdings.{Pairs, same, names, named, IsHolding, AreHoldings}
 use Rattle.key_slots.proofs.Sums.{total, total-add, total-least, total-most, total-none, total-one, total-at, total-swap, first_passing, into_map}
@@ -138,7 +138,7 @@ unfolding callers_of
 callers_of-at s c lt = total-at (λ k. cond (is_of_caller (k + 1) s) 1 0) c 16 lt
 
 -- a slot with a volatile key has a caller's
-has_caller : (store : Store) (s : Slot) → IsSoundStore store → is_full s.state ≡ true → is_volatile s.attributes ≡ true → (key : Key) × (map.get store.keys s.attributes.id.0 ≡ Some key) × HasKey s key → 1 ≤ callers_of s
+has_caller : (store : Store) (s : Slot) → IsSoundStore store → is_full s.state ≡ true → is_volatile s.attributes ≡ true → (key : Key) × (map.get store.keys s.attributes.id.0 ≡ Some key) × SlotHasKey s key → 1 ≤ callers_of s
 has_caller store s sound full volatile k =
     let own = (sound.keys s.attributes.id.0 k.0 k.1).volatile (ap is_volatile (sym k.2.attributes) ∙ volatile) in
     let c = k.0.creator in

@@ -13,7 +13,7 @@ abbrev pub slot_bytes : Key → List ℕ
 slot_bytes key = if is_opaque key.attributes then [] else key.bytes
 
 -- a slot has this key
-pub record HasKey (s : Slot) (key : Key) : Type 0 where
+pub record SlotHasKey (s : Slot) (key : Key) : Type 0 where
   pub number : s.creation ≡ key.number
   pub attributes : s.attributes ≡ key.attributes
   pub bytes : bytes_of s.buffer ≡ slot_bytes key
@@ -38,7 +38,7 @@ pairs_on s n = cond (n == 0) (cond (is_filling s.state) 1 0) (cond (n == s.creat
 -- The slot i stands for the keys and for what is out: a full one has a key of the store, and the key of a pending one is gone.
 pub record StandsAt (store : Store) (all : List Pairs) (i : ℕ) (s : Slot) : Type 0 where
   pub held : (n : ℕ) → named i n all ≡ pairs_on s n
-  pub full : is_full s.state ≡ true → (key : Key) × (map.get store.keys s.attributes.id.0 ≡ Some key) × HasKey s key
+  pub full : is_full s.state ≡ true → (key : Key) × (map.get store.keys s.attributes.id.0 ≡ Some key) × SlotHasKey s key
   pub pending : is_pending s.state ≡ true → IsGone store s.creation
 
 -- all slots do; each volatile key has a slot, and a persistent one may

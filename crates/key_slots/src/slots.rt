@@ -8,7 +8,7 @@ ghost use Rattle.slot_table.specs.Changes.{full_slot};
 ghost use Rattle.store_model.specs.Store.{Key, Store};
 ghost use Rattle.store_model.specs.Sound.{HasNumber, IsSoundStore};
 ghost use Rattle.key_slots.specs.Holdings.{Pairs, Gains, named};
-ghost use Rattle.key_slots.specs.Standing.{Agrees, HasKey, IsOut, IsThereOrNew, IsVolatileKey, Puts};
+ghost use Rattle.key_slots.specs.Standing.{Agrees, SlotHasKey, IsOut, IsThereOrNew, IsVolatileKey, Puts};
 
 use key_attributes::{Attributes, KeyId};
 use psa_status::Memory;
@@ -38,7 +38,7 @@ impl KeySlots {
         ensures within { IfSome result (λ i. i < 384) }
         ensures full { IfSome result (λ i. (slot_at self.now.table.slots i).state ≡ Full) }
         ensures key { IfSome result (λ i. (store : Store) (all : List Pairs) → Agrees self.now.table.slots store all →
-            (key : Key) × (map.get store.keys id.0 ≡ Some key) × HasKey (slot_at self.now.table.slots i) key) }
+            (key : Key) × (map.get store.keys id.0 ≡ Some key) × SlotHasKey (slot_at self.now.table.slots i) key) }
         ensures none { IfNone result ((store : Store) (all : List Pairs) → Agrees self.now.table.slots store all → IsVolatileKey (map.get store.keys id.0) → ⊥) }
     {
         self.table.find(id)
@@ -86,7 +86,7 @@ impl KeySlots {
         ensures within { result < 384 }
         ensures filled { slot_at self.new.table.slots result ≡ full_slot number attributes.now bytes.now }
         ensures takes { (old new : Store) (all less : List Pairs) (key : Key) → Agrees self.old.table.slots old all → Gains less all (filling.slot, 0) →
-            Puts old new attributes.now.id.0 (Some key) → HasKey (full_slot number attributes.now bytes.now) key → IsThereOrNew old attributes.now.id.0 key →
+            Puts old new attributes.now.id.0 (Some key) → SlotHasKey (full_slot number attributes.now bytes.now) key → IsThereOrNew old attributes.now.id.0 key →
             Agrees self.new.table.slots new less }
     {
         self.table.finish(filling, number, attributes, bytes)

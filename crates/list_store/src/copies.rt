@@ -1,6 +1,6 @@
 // What a copy records.
 ghost use Rattle.std.specs.Prelude.{◌≡◌, ◌≤◌, IfOk, Some};
-ghost use Rattle.store_model.specs.Copies.{differs, copy_of};
+ghost use Rattle.store_model.specs.Copies.{differs, recorded_copy};
 ghost use Rattle.list_store.specs.Entries.{key_of, IsRecorded};
 
 use crate::Store;
@@ -26,7 +26,7 @@ impl Store {
     ) -> Result<Attributes, Status>
         requires last { caller ≤ 16 }
         requires short { source.now.length ≤ 1024 }
-        ensures value { result ≡ copy_of self.now caller (Some (key_of source.now)) stated.now }
+        ensures value { result ≡ recorded_copy self.now caller (Some (key_of source.now)) stated.now }
         ensures recorded { IfOk result (λ recorded. IsRecorded self.now caller recorded source.now.length) }
     {
         let own = source.attributes;

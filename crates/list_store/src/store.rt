@@ -134,6 +134,7 @@ impl Store {
         ensures value { result ≡ recorded_of self.now caller attributes.now bytes }
         ensures recorded { IfOk result (λ recorded. IsRecorded self.now caller recorded bytes) }
     {
+        // the checker opens what the store stands for only where a field is read
         let _ = &self.ids;
         if attributes.lifetime.0 != 0 {
             return Err(Status::NotSupported);

@@ -23,16 +23,16 @@ pub record Turn : Type 0 where
   pub reply : Reply
 
 -- the turns of a history, from a rank on
-abbrev pub turns : ℕ → Service → List Entry → List Turn
-turns rank service [] = []
-turns rank service (e ∷ es) =
+abbrev pub turns_from : ℕ → Service → List Entry → List Turn
+turns_from rank service [] = []
+turns_from rank service (e ∷ es) =
     let after = outcome_of service e in
-    record { entry = e; rank = rank; reply = after.reply } ∷ turns (rank + 1) after.service es
+    record { entry = e; rank = rank; reply = after.reply } ∷ turns_from (rank + 1) after.service es
 
 -- the turn at a place has this place as its rank, and its reply is that of the replay there; there is none past the end
 abbrev pub TurnsAreReplayed : Type 0
 TurnsAreReplayed =
-    (start : Service) (history : List Entry) (place : ℕ) → let at : Option Turn = slice_get (turns 0 start history) place in
+    (start : Service) (history : List Entry) (place : ℕ) → let at : Option Turn = slice_get (turns_from 0 start history) place in
     IfSome at (λ t. t.rank ≡ place) × (option_map (λ t. t.reply) at ≡ reply_at start history place)
 
 abbrev pub turns_of : ℕ → List Turn → List Turn
@@ -73,11 +73,11 @@ text_of replies = flat_map reply_text replies
 -- session's calls are those of its lines, in their order, replayed on the one-thread service from its start.
 pub record AnswersLines (start : Service) (lines : List ScriptLine) (out : List ℕ) : Type 0 where
   pub history : List Entry
-  pub own : (session : ℕ) → AreCalls [] (lines_of session lines) (turns_of session (turns 0 start history))
+  pub own : (session : ℕ) → AreCalls [] (lines_of session lines) (turns_of session (turns_from 0 start history))
   pub plain : All (λ e. e.mark ≡ Plain) history
   -- one worker makes them in the order of the lines
   pub line_order : map (λ e. e.caller) history ≡ map (λ line. line.session) lines
-  pub is_out : out ≡ text_of (replies_to 16 (turns 0 start history))
+  pub is_out : out ≡ text_of (replies_to 16 (turns_from 0 start history))
 
 -- The text reads as lines, and the bytes written answer these.
 pub record IsAnswer (start : Service) (script out : List ℕ) : Type 0 where

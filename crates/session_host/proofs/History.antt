@@ -11,7 +11,7 @@ use Rattle.script_lang.specs.declared.script.ScriptLine.{ScriptLine}
 use Rattle.store_model.proofs.Others.{serve_keeps}
 use Rattle.script_lang.specs.Commands.{request_of}
 use Rattle.script_lang.specs.Lines.{lines_of}
-use Rattle.script_lang.specs.PrintedOrder.{Turn, turns, turns_of, AreCalls, id_given, numbered, printed}
+use Rattle.script_lang.specs.PrintedOrder.{Turn, turns_from, turns_of, AreCalls, id_given, numbered, printed}
 
 pub replay_calls : (service : Service) (es : List Entry) → (replay service es).store.calls ≡ service.store.calls + length es
 replay_calls service [] = omega arith
@@ -31,14 +31,14 @@ last_turn : ℕ → Service → Entry → Turn
 last_turn rank service e = record { entry = e; rank = rank; reply = (outcome_of service e).reply }
 
 pub turns_more : (n : ℕ) (service : Service) (es : List Entry) (e : Entry) →
-    turns n service (es ++ e ∷ []) ≡ turns n service es ++ record { entry = e; rank = n + length es; reply = (outcome_of (replay service es) e).reply } ∷ []
+    turns_from n service (es ++ e ∷ []) ≡ turns_from n service es ++ record { entry = e; rank = n + length es; reply = (outcome_of (replay service es) e).reply } ∷ []
 unfolding last_turn
 turns_more n service [] e = let m : n ≡ n + 0 = omega arith in ap (λ r. last_turn r service e ∷ []) m
 turns_more n service (x ∷ es) e =
     let m : n + 1 + length es ≡ n + length (x ∷ es) = omega arith in
     let next : Service = (outcome_of service x).service in
     ap (λ ts. record { entry = x; rank = n; reply = (outcome_of service x).reply } ∷ ts)
-    (turns_more (n + 1) next es e ∙ ap (λ r. turns (n + 1) next es ++ last_turn r (replay next es) e ∷ []) m)
+    (turns_more (n + 1) next es e ∙ ap (λ r. turns_from (n + 1) next es ++ last_turn r (replay next es) e ∷ []) m)
 
 -- one more call of a session, and one of another
 

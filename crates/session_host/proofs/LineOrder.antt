@@ -17,7 +17,7 @@ use Rattle.script_lang.specs.declared.script.ScriptLine.{ScriptLine}
 use Rattle.script_lang.specs.declared.replies.ReplyLine.{ReplyLine}
 use Rattle.script_lang.specs.Lines.{IsOfSession, lines_of}
 use Rattle.script_lang.specs.Commands.{request_of}
-use Rattle.script_lang.specs.PrintedOrder.{Turn, turns, turns_of, AreCalls, id_given, numbered, printed, replies_to, text_of, AnswersLines}
+use Rattle.script_lang.specs.PrintedOrder.{Turn, turns_from, turns_of, AreCalls, id_given, numbered, printed, replies_to, text_of, AnswersLines}
 use Rattle.key_service.specs.declared.service.Service.{Service}
 use Rattle.session_host.specs.declared.sessions.SessionReplies.{SessionReplies}
 use Rattle.key_service.specs.Whole.{Stands}
@@ -30,12 +30,12 @@ turn_of : ℕ → model.Service → List ℕ → ScriptLine → Turn
 turn_of rank service ids line = record { entry = line_entry ids line; rank = rank; reply = (line_served service ids line).reply }
 
 pub one_turn : (history : List Entry) (ids : List ℕ) (line : ScriptLine) →
-    turns 0 opened_service (history ++ line_entry ids line ∷ []) ≡ turns 0 opened_service history ++ line_turn (replay (opened_service) history) ids line ∷ []
+    turns_from 0 opened_service (history ++ line_entry ids line ∷ []) ≡ turns_from 0 opened_service history ++ line_turn (replay (opened_service) history) ids line ∷ []
 unfolding turn_of
 one_turn history ids line =
     let start : model.Service = opened_service in
     turns_more 0 start history (line_entry ids line)
-    ∙ ap (λ n. turns 0 opened_service history ++ turn_of n (replay start history) ids line ∷ []) (sym (replay_calls start history))
+    ∙ ap (λ n. turns_from 0 opened_service history ++ turn_of n (replay start history) ids line ∷ []) (sym (replay_calls start history))
 
 -- the replies of the session of the line, and of another
 
@@ -47,18 +47,18 @@ own_replies session ts t own new e h n =
     n ∙ ap (λ k. own.replies.items ++ printed k t ∷ []) m ∙ ap (λ rs. rs ++ printed (1 + length (turns_of session ts)) t ∷ []) h
     ∙ sym (numbered_more 1 (turns_of session ts) t) ∙ ap (numbered 1) (sym (kept_own (λ t. t.entry.caller == session) ts t e))
 
-other_replies : (session : ℕ) (ts : List Turn) (t : Turn) (history more : List Entry) (s : SessionReplies) → ts ≡ turns 0 opened_service history →
-    turns 0 opened_service more ≡ ts ++ t ∷ [] → (t.entry.caller == session) ≡ false → AreReplies session history s → AreReplies session more s
+other_replies : (session : ℕ) (ts : List Turn) (t : Turn) (history more : List Entry) (s : SessionReplies) → ts ≡ turns_from 0 opened_service history →
+    turns_from 0 opened_service more ≡ ts ++ t ∷ [] → (t.entry.caller == session) ≡ false → AreReplies session history s → AreReplies session more s
 other_replies session ts t history more s before after e h =
-    let same : turns_of session (turns 0 opened_service history) ≡ turns_of session (turns 0 opened_service more) =
+    let same : turns_of session (turns_from 0 opened_service history) ≡ turns_of session (turns_from 0 opened_service more) =
     ap (turns_of session) (sym before) ∙ sym (left_out (λ t. t.entry.caller == session) ts t e) ∙ ap (turns_of session) (sym after) in
     record {
       replies = h.replies ∙ ap (numbered 1) same;
       given = h.given ∙ ap (map (λ t. id_given t.reply.output)) same;
     }
 
-same_session : (session : ℕ) (ts : List Turn) (t : Turn) (history more : List Entry) (own new : SessionReplies) → ts ≡ turns 0 opened_service history →
-    turns 0 opened_service more ≡ ts ++ t ∷ [] → (t.entry.caller == session) ≡ true → AreReplies session history own →
+same_session : (session : ℕ) (ts : List Turn) (t : Turn) (history more : List Entry) (own new : SessionReplies) → ts ≡ turns_from 0 opened_service history →
+    turns_from 0 opened_service more ≡ ts ++ t ∷ [] → (t.entry.caller == session) ≡ true → AreReplies session history own →
     new.replies.items ≡ own.replies.items ++ printed (length own.replies.items + 1) t ∷ [] → new.given.items ≡ own.given.items ++ id_given t.reply.output ∷ [] →
     AreReplies session more new
 same_session session ts t history more own new before after e h r g = record {
@@ -71,7 +71,7 @@ same_session session ts t history more own new before after e h r g = record {
 
 each_session : (sessions : List SessionReplies) (history more : List Entry) (t : Turn) (i j : ℕ) (own new s : SessionReplies) → i < length sessions →
     ((k : ℕ) (s : SessionReplies) → k < 16 → s ≡ get_or sessions k s → AreReplies (k + 1) history s) → j < 16 → s ≡ get_or (set sessions i new) j s → i < 16 → own ≡ get_or sessions i own →
-    turns 0 opened_service more ≡ turns 0 opened_service history ++ t ∷ [] → t.entry.caller ≡ i + 1 →
+    turns_from 0 opened_service more ≡ turns_from 0 opened_service history ++ t ∷ [] → t.entry.caller ≡ i + 1 →
     new.replies.items ≡ own.replies.items ++ printed (length own.replies.items + 1) t ∷ [] → new.given.items ≡ own.given.items ++ id_given t.reply.output ∷ [] →
     AreReplies (j + 1) more s
 each_session sessions history more t i j own new s within told below at first owned after caller r g = elim (eqb_tells j i) [
@@ -79,10 +79,10 @@ each_session sessions history more t i j own new s within told below at first ow
       let new_is : new ≡ s = sym (get_or-set_same sessions i new s within) ∙ ap (λ k. get_or (set sessions i new) k s) (sym e.1) ∙ sym at in
       subst (AreReplies (j + 1) more) new_is
       (subst (λ k. AreReplies (k + 1) more new) (sym e.1)
-      (same_session (i + 1) (turns 0 opened_service history) t history more own new refl after (ap (λ n. n == i + 1) caller ∙ eq-eqb (i + 1) (i + 1) refl) (told i own first owned) r g))
+      (same_session (i + 1) (turns_from 0 opened_service history) t history more own new refl after (ap (λ n. n == i + 1) caller ∙ eq-eqb (i + 1) (i + 1) refl) (told i own first owned) r g))
   | inr e ↦
       let other : (t.entry.caller == j + 1) ≡ false = ne_eqb t.entry.caller (j + 1) (λ same. e.1 (omega (arith, caller, same))) in
-      other_replies (j + 1) (turns 0 opened_service history) t history more s refl after other
+      other_replies (j + 1) (turns_from 0 opened_service history) t history more s refl after other
       (told j s below (at ∙ get_or-set_other sessions i j new s e.1))
 ]
 
@@ -103,15 +103,15 @@ one_more lines sessions service next line i own new h place within at n r g =
     let entry : Entry = line_entry own.given.items line in
     let t : Turn = line_turn it own.given.items line in
     let told : AreReplies (i + 1) old.history own = old.told i own within at in
-    let after : turns 0 opened_service (old.history ++ entry ∷ []) ≡ turns 0 opened_service old.history ++ t ∷ [] = one_turn old.history own.given.items line in
+    let after : turns_from 0 opened_service (old.history ++ entry ∷ []) ≡ turns_from 0 opened_service old.history ++ t ∷ [] = one_turn old.history own.given.items line in
     record {
       answered = record {
         history = old.history ++ entry ∷ [];
         plain = plain_more old.history entry old.plain refl;
         line_order = map-append (λ e. e.caller) old.history (entry ∷ []) ∙ ap (λ l. l ++ line.session ∷ []) old.line_order ∙ sym (map-append (λ l. l.session) lines (line ∷ []));
         own = λ session. subst (λ us. AreCalls [] (lines_of session (lines ++ line ∷ [])) (turns_of session us)) (sym after)
-            (calls_more session lines (turns 0 opened_service old.history) line t (old.own session) refl
-            (λ e. ap (λ is. request_of is line.call) (told.given ∙ ap (λ s. map (λ t. id_given t.reply.output) (turns_of s (turns 0 opened_service old.history))) (place ∙ e))));
+            (calls_more session lines (turns_from 0 opened_service old.history) line t (old.own session) refl
+            (λ e. ap (λ is. request_of is line.call) (told.given ∙ ap (λ s. map (λ t. id_given t.reply.output) (turns_of s (turns_from 0 opened_service old.history))) (place ∙ e))));
         sixteen = length-set sessions i new ∙ old.sixteen;
         told = λ j s below is. each_session sessions old.history (old.history ++ entry ∷ []) t i j own new s (omega (arith, old.sixteen)) old.told below is within at after (sym place) (r it h.stands) (g it h.stands);
       };
@@ -120,7 +120,7 @@ one_more lines sessions service next line i own new h place within at n r g =
 
 -- before the first line
 
-no_calls : (session : ℕ) → AreCalls [] (lines_of session []) (turns_of session (turns 0 opened_service []))
+no_calls : (session : ℕ) → AreCalls [] (lines_of session []) (turns_of session (turns_from 0 opened_service []))
 no_calls session = tt
 
 fresh_at : (sessions : List SessionReplies) → length sessions ≡ 16 → All IsFresh sessions → (i : ℕ) (s : SessionReplies) → i < 16 → s ≡ get_or sessions i s → IsFresh s
@@ -166,9 +166,9 @@ sixteen_own ts i s e =
     let m : i + 1 ≡ suc (0 + i) = omega arith in
     e ∙ ap (λ k. numbered 1 (turns_of k ts)) m
 
-all_sixteen : (lines : List ScriptLine) (sessions : List SessionReplies) (h : AreAnswered lines sessions) → all_replies sessions ≡ replies_to 16 (turns 0 opened_service h.history)
+all_sixteen : (lines : List ScriptLine) (sessions : List SessionReplies) (h : AreAnswered lines sessions) → all_replies sessions ≡ replies_to 16 (turns_from 0 opened_service h.history)
 all_sixteen lines sessions h =
-    let ts : List Turn = turns 0 opened_service h.history in
+    let ts : List Turn = turns_from 0 opened_service h.history in
     let all : 0 + length sessions ≡ 16 = omega (arith, h.sixteen) in
     in_all (λ s. s.replies.items) 0 ts sessions (λ i s below at. sixteen_own ts i s ((h.told i s (omega (arith, below, h.sixteen)) at).replies))
     ∙ ap (λ k. replies_to k ts) all
@@ -187,7 +187,7 @@ answers_lines lines sessions out h e = record {
 as_many : (lines : List ScriptLine) (sessions : List SessionReplies) (h : AreAnswered lines sessions) → length h.history ≡ length lines
 as_many lines sessions h = sym (length-map h.history (λ e. e.caller)) ∙ ap length h.line_order ∙ length-map lines (λ line. line.session)
 
-turns_length : (n : ℕ) (service : model.Service) (es : List Entry) → length (turns n service es) ≡ length es
+turns_length : (n : ℕ) (service : model.Service) (es : List Entry) → length (turns_from n service es) ≡ length es
 turns_length n service [] = refl
 turns_length n service (e ∷ es) = ap suc (turns_length (n + 1) (outcome_of service e).service es)
 
@@ -200,7 +200,7 @@ calls_are lines sessions service h =
 pub few_replies : (lines : List ScriptLine) (sessions : List SessionReplies) (i : ℕ) (own : SessionReplies) → AreAnswered lines sessions → i < 16 → own ≡ get_or sessions i own →
     length own.replies.items ≤ length lines
 few_replies lines sessions i own h within at =
-    let ts : List Turn = turns 0 opened_service h.history in
+    let ts : List Turn = turns_from 0 opened_service h.history in
     let few : length (turns_of (i + 1) ts) ≤ length ts = omega (arith, length-filter (λ t. t.entry.caller == i + 1) ts, count_by-le-length (λ t. t.entry.caller == i + 1) ts) in
     omega (arith, ap length (h.told i own within at).replies, numbered_length 1 (turns_of (i + 1) ts), turns_length 0 (opened_service) h.history, as_many lines sessions h)
 

@@ -15,7 +15,7 @@ use Rattle.script_lang.specs.declared.script.ScriptLine.{ScriptLine}
 use Rattle.script_lang.specs.declared.replies.ReplyLine.{ReplyLine}
 use Rattle.script_lang.specs.Commands.{request_of}
 use Rattle.script_lang.specs.Lines.{lines_of}
-use Rattle.script_lang.specs.PrintedOrder.{Turn, turns, turns_of, AreCalls, id_given, numbered}
+use Rattle.script_lang.specs.PrintedOrder.{Turn, turns_from, turns_of, AreCalls, id_given, numbered}
 use Rattle.session_host.specs.declared.answers.Answer.{Answer}
 use Rattle.session_host.specs.declared.sessions.SessionReplies.{SessionReplies}
 
@@ -54,15 +54,15 @@ pub record IsFresh (s : SessionReplies) : Type 0 where
 
 -- a session's replies are those of its turns in a history, and what is given are their identifiers
 pub record AreReplies (session : ℕ) (history : List Entry) (s : SessionReplies) : Type 0 where
-  pub replies : s.replies.items ≡ numbered 1 (turns_of session (turns 0 opened_service history))
-  pub given : s.given.items ≡ map (λ t. id_given t.reply.output) (turns_of session (turns 0 opened_service history))
+  pub replies : s.replies.items ≡ numbered 1 (turns_of session (turns_from 0 opened_service history))
+  pub given : s.given.items ≡ map (λ t. id_given t.reply.output) (turns_of session (turns_from 0 opened_service history))
 
 -- The calls of lines were made in one order, and each of sixteen sessions has the replies to its own.
 pub record AreAnswered (lines : List ScriptLine) (sessions : List SessionReplies) : Type 0 where
   pub history : List Entry
   pub plain : All (λ e. e.mark ≡ Plain) history
   pub line_order : map (λ e. e.caller) history ≡ map (λ line. line.session) lines
-  pub own : (session : ℕ) → AreCalls [] (lines_of session lines) (turns_of session (turns 0 opened_service history))
+  pub own : (session : ℕ) → AreCalls [] (lines_of session lines) (turns_of session (turns_from 0 opened_service history))
   pub sixteen : length sessions ≡ 16
   pub told : (i : ℕ) (s : SessionReplies) → i < 16 → s ≡ get_or sessions i s → AreReplies (i + 1) history s
 

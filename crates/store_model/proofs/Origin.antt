@@ -14,7 +14,7 @@ use Rattle.store_model.specs.Store.{Key, Store, is_volatile}
 use Rattle.store_model.specs.Call.{Call, Reply}
 use Rattle.store_model.specs.Outcome.{counted}
 use Rattle.store_model.specs.Creation.{identified, created, new_id, new_key}
-use Rattle.store_model.specs.Marks.{key_given}
+use Rattle.store_model.specs.Marks.{key_answered}
 use Rattle.store_model.specs.KeyUse.{destroyed}
 use Rattle.store_model.specs.Requests.{OnStore}
 use Rattle.store_model.specs.Sound.{IsSoundStore}
@@ -141,7 +141,7 @@ counted_tracks store made t = kept store (counted store) made (λ id key e. e) r
 
 -- the creations so far, beside what a call made
 abbrev pub TracksReply : List Made → Option ℕ → Store → Reply → Type 0
-TracksReply made source after reply = Tracks after (option_map_or (λ key. creation_from source key ∷ []) (key_given after reply.output) [] ++ made)
+TracksReply made source after reply = Tracks after (option_map_or (λ key. creation_from source key ∷ []) (key_answered after reply.output) [] ++ made)
 
 -- a call that made none
 pub none_tracks : (store : Store) (made : List Made) (source : Option ℕ) (reply : Reply) → MakesNone reply → Tracks store made → TracksReply made source store reply

@@ -4,8 +4,8 @@ use Rattle.std.specs.Prelude.{None, Some, ◌==◌, nat_lt, find, slice_index_or
 use Rattle.std.specs.Ordering.{nat_cmp}
 use Rattle.std.specs.FinMap as map
 use Rattle.std.proofs.lemmas.Bool.Decides.{nat_tests}
-use Rattle.store_model.specs.Store.{Key, Store, Settings, FoundKey, found_from, start_of, has_secure_element, is_volatile, is_volatile_of}
-use Rattle.store_model.specs.Sound.{IsChecked, IsSoundStore, AreFound}
+use Rattle.store_model.specs.Store.{Key, Store, Settings, OpenedKey, found_from, start_of, has_secure_element, is_volatile, is_volatile_of}
+use Rattle.store_model.specs.Sound.{IsChecked, IsSoundStore, AreFoundKeys}
 use Rattle.store_model.proofs.Sound.{put, low_id, of_volatile}
 use Rattle.store_model.proofs.Live.{len_kept-insert, len_kept-empty}
 
@@ -20,11 +20,11 @@ record IsFoundKey (store : Store) (n count id : ℕ) (key : Key) : Type 0 where
   persistent : is_volatile key.attributes ≡ false
   attributes : IsChecked key.attributes (length key.bytes) store
 
-abbrev new_at : ℕ → FoundKey → Key
+abbrev new_at : ℕ → OpenedKey → Key
 new_at n k = record { number = n; attributes = k.attributes; bytes = k.bytes; creator = 0 }
 
 module _ (store : Store) where
-  found_key : (n : ℕ) (found : List FoundKey) → AreFound store found → (q : ℕ) (key : Key) → map.get (found_from n found) q ≡ Some key → IsFoundKey store n (length found) q key
+  found_key : (n : ℕ) (found : List OpenedKey) → AreFoundKeys store found → (q : ℕ) (key : Key) → map.get (found_from n found) q ≡ Some key → IsFoundKey store n (length found) q key
   found_key n [] are q key e = absurd (no_key_at q key e)
   found_key n (k ∷ ks) are q key e = of (found_key (n + 1) ks are.3 q key) (q == k.attributes.id.0) refl (sym (put (found_from (n + 1) ks) k.attributes.id.0 (new_at n k) q) ∙ e)
     where
@@ -38,7 +38,7 @@ module _ (store : Store) where
           record { identifier = f.identifier; from = (let l = f.from in omega arith); below = (let l = f.below in omega arith); persistent = f.persistent; attributes = f.attributes }
 
   -- no number comes twice
-  apart : (n : ℕ) (found : List FoundKey) → AreFound store found → (q r : ℕ) (key same : Key) → map.get (found_from n found) q ≡ Some key → map.get (found_from n found) r ≡ Some same →
+  apart : (n : ℕ) (found : List OpenedKey) → AreFoundKeys store found → (q r : ℕ) (key same : Key) → map.get (found_from n found) q ≡ Some key → map.get (found_from n found) r ≡ Some same →
       key.number ≡ same.number → q ≡ r
   apart n [] are q r key same e f g = absurd (no_key_at q key e)
   apart n (k ∷ ks) are q r key same e f g =
@@ -60,11 +60,11 @@ module _ (store : Store) where
           absurd (omega arith)
       of rest false false t u e f = rest e f g
 
-  low : (k : FoundKey) (ks : List FoundKey) → AreFound store (k ∷ ks) → k.attributes.id.0 ≤ 0x3fffffff
+  low : (k : OpenedKey) (ks : List OpenedKey) → AreFoundKeys store (k ∷ ks) → k.attributes.id.0 ≤ 0x3fffffff
   low k ks are = (low_id k.attributes (length k.bytes) (has_secure_element store) are.1 are.0).1
 
 -- an identifier that no key of a list has
-absent : (n : ℕ) (found : List FoundKey) (id : ℕ) → find (λ other. other.attributes.id.0 == id) found ≡ None → map.get (found_from n found) id ≡ None
+absent : (n : ℕ) (found : List OpenedKey) (id : ℕ) → find (λ other. other.attributes.id.0 == id) found ≡ None → map.get (found_from n found) id ≡ None
 absent n [] id e = map.get-empty nat_cmp id
 absent n (k ∷ ks) id e = of (absent (n + 1) ks id) (k.attributes.id.0 == id) refl e
   where
@@ -80,16 +80,16 @@ one_at_most true m n l e h = omega arith
 one_at_most false m n l e h = omega arith
 
 module _ (store : Store) (p : ℕ → Bool) where
-  kept_after : (n : ℕ) (k : FoundKey) (ks : List FoundKey) → AreFound store (k ∷ ks) →
+  kept_after : (n : ℕ) (k : OpenedKey) (ks : List OpenedKey) → AreFoundKeys store (k ∷ ks) →
       let rest = map.len (map.retain_keys (found_from (n + 1) ks) p) in map.len (map.retain_keys (found_from n (k ∷ ks)) p) ≡ cond (p k.attributes.id.0) (rest + 1) rest
   kept_after n k ks are = len_kept-insert p (found_from (n + 1) ks) k.attributes.id.0 (new_at n k) (absent (n + 1) ks k.attributes.id.0 are.2)
 
   -- no more are counted than there are
-  at_most_all : (n : ℕ) (found : List FoundKey) → AreFound store found → map.len (map.retain_keys (found_from n found) p) ≤ length found
+  at_most_all : (n : ℕ) (found : List OpenedKey) → AreFoundKeys store found → map.len (map.retain_keys (found_from n found) p) ≤ length found
   at_most_all n [] are = let e = len_kept-empty Key p in omega arith
   at_most_all n (k ∷ ks) are = one_at_most (p k.attributes.id.0) _ _ (length ks) (kept_after n k ks are) (at_most_all (n + 1) ks are.3)
 
-none_live : (store : Store) (c n : ℕ) (found : List FoundKey) → AreFound store found → map.len (map.retain_keys (found_from n found) (is_volatile_of c)) ≡ 0
+none_live : (store : Store) (c n : ℕ) (found : List OpenedKey) → AreFoundKeys store found → map.len (map.retain_keys (found_from n found) (is_volatile_of c)) ≡ 0
 none_live store c n [] are = len_kept-empty Key (is_volatile_of c)
 none_live store c n (k ∷ ks) are =
     let rest = none_live store c (n + 1) ks are.3 in
@@ -108,7 +108,7 @@ volatile_or_not : (b : Bool) → b ≡ false → b ≡ true → ⊥
 volatile_or_not true e f = cc
 volatile_or_not false e f = cc
 
-pub store_starts : (settings : Settings) (found : List FoundKey) → AreFound (start_of settings found) found → length found ≤ 512 → IsSoundStore (start_of settings found)
+pub store_starts : (settings : Settings) (found : List OpenedKey) → AreFoundKeys (start_of settings found) found → length found ≤ 512 → IsSoundStore (start_of settings found)
 store_starts settings found are few =
     let start = start_of settings found in
     record {

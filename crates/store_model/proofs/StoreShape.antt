@@ -15,7 +15,7 @@ use Rattle.store_model.specs.Call.{Call, Reply, Import, Export, GetAttributes, D
 use Rattle.store_model.specs.Outcome.{Outcome, Computed, replies, computed_unless, with_computed, counted, decided, refused, refusal, reply_unless, given, done, spoiled}
 use Rattle.store_model.specs.Draws.{Random}
 use Rattle.store_model.specs.Creation.{recorded_of, created, created_unless, stated_bytes, stated_bits_rows}
-use Rattle.store_model.specs.Copies.{source_rows, copy_attributes, copy_of}
+use Rattle.store_model.specs.Copies.{source_rows, copy_attributes, recorded_copy}
 use Rattle.store_model.specs.KeyUse.{destroyed, attributes_reply, purge_reply, bytes_of, export_rows}
 use Rattle.store_model.specs.Generation.{generation_of, generated}
 use Rattle.store_model.specs.Ciphers.{Mode, Ctr, CbcNoPadding, CbcPkcs7, EcbNoPadding, is_ctr, mode_of, iv_length, plain_or_zeros, enciphered, deciphered}
@@ -29,7 +29,7 @@ use Rattle.alg_encoding.specs.declared.table.Class.TheVariants.{Mac, Cipher, Aea
 use Rattle.store_model.specs.Aeads.{aead_text, aead_tag, sealed, opened}
 use Rattle.store_model.specs.Step.{step}
 use Rattle.store_model.specs.Origin.{source_of}
-use Rattle.store_model.specs.Marks.{key_given}
+use Rattle.store_model.specs.Marks.{key_answered}
 use Rattle.store_model.specs.Requests.{OnStore}
 use Rattle.store_model.specs.Laws.{may_change_keys}
 use Rattle.store_model.specs.Refusals.{spoils}
@@ -38,7 +38,7 @@ use Rattle.store_model.proofs.Recorded.{MayBeKept, then_ok, recorded, few_bytes}
 
 -- a reply that answers no identifier
 abbrev pub MakesNone : Reply → Type 0
-MakesNone reply = (after : Store) → key_given after reply.output ≡ None
+MakesNone reply = (after : Store) → key_answered after reply.output ≡ None
 
 -- a reply that answers no identifier and, where it refuses, leaves the buffer but for zeros
 pub record IsQuiet (reply : Reply) : Type 0 where
@@ -169,12 +169,12 @@ module _ (store : Store) (caller : ℕ) (call : Call) (P : Outcome → Type 0) (
   drawn_too random n (Err status) h = refused_too status
 
   copy_shape : may_change_keys (OnStore call) ≡ true → (id : ℕ) (stated : Attributes) (found : Option Key) → map.get store.keys id ≡ found →
-      ((source : Key) → found ≡ Some source → source_of store (OnStore call) ≡ Some source.number) → P (created_unless store caller (copy_of store caller found stated) (bytes_of found))
+      ((source : Key) → found ≡ Some source → source_of store (OnStore call) ≡ Some source.number) → P (created_unless store caller (recorded_copy store caller found stated) (bytes_of found))
   copy_shape changes id stated None there number = refused_too InvalidHandle
   copy_shape changes id stated (Some source) there number =
-      recorded_too (copy_of store caller (Some source) stated) source.bytes (λ kept e. cases.created_too kept source.bytes 0 changes (copied kept e))
+      recorded_too (recorded_copy store caller (Some source) stated) source.bytes (λ kept e. cases.created_too kept source.bytes 0 changes (copied kept e))
     where
-      copied : (kept : Attributes) → copy_of store caller (Some source) stated ≡ Ok kept → Creates store caller call kept source.bytes 0
+      copied : (kept : Attributes) → recorded_copy store caller (Some source) stated ≡ Ok kept → Creates store caller call kept source.bytes 0
       copied kept e =
           let one = then_ok (unless (first_row (source_rows source.attributes stated)) source.attributes) _ kept e in
           let own : source.attributes ≡ one.0 = (unless-ok (first_row (source_rows source.attributes stated)) source.attributes one.0 one.1.0).1 in

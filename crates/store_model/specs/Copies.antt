@@ -30,9 +30,9 @@ abbrev pub copy_attributes : Attributes → Attributes → Policy → Attributes
 copy_attributes source stated met = record { lifetime = stated.lifetime; id = stated.id; key_type = source.key_type; bits = source.bits; policy = met }
 
 -- what a copy of what the map has at the source's identifier records, or its first refusal
-abbrev pub copy_of : Store → ℕ → Option Key → Attributes → Result Attributes Status
-copy_of store caller None stated = Err InvalidHandle
-copy_of store caller (Some source) stated = do
+abbrev pub recorded_copy : Store → ℕ → Option Key → Attributes → Result Attributes Status
+recorded_copy store caller None stated = Err InvalidHandle
+recorded_copy store caller (Some source) stated = do
   own ← unless (first_row (source_rows source.attributes stated)) source.attributes
   met ← ok_or (meet_of own.policy stated.policy) InvalidArgument
   recorded_of store caller (copy_attributes own stated met) (length source.bytes)
@@ -40,4 +40,4 @@ copy_of store caller (Some source) stated = do
 abbrev pub step_copy : Store → ℕ → ℕ → Attributes → Outcome
 step_copy store caller source stated =
     let found : Option Key = map.get store.keys source in
-    created_unless store caller (copy_of store caller found stated) (bytes_of found)
+    created_unless store caller (recorded_copy store caller found stated) (bytes_of found)

@@ -51,15 +51,15 @@ abbrev pub new_key : Store → ℕ → ℕ → Attributes → List ℕ → Key
 new_key store caller id kept bytes = record { number = store.found + store.calls; attributes = identified kept id; bytes = bytes; creator = caller }
 
 -- how many volatile keys each caller has made, with one more of this one where the new key is volatile
-abbrev pub made_after : Store → ℕ → Attributes → List ℕ
-made_after store caller kept = if is_volatile kept then slice_set store.made caller (made_of store caller + 1) else store.made
+abbrev pub made_with : Store → ℕ → Attributes → List ℕ
+made_with store caller kept = if is_volatile kept then slice_set store.made caller (made_of store caller + 1) else store.made
 
 -- a key comes into being with the attributes that are recorded
 abbrev pub created : Store → ℕ → Attributes → List ℕ → Outcome
 created store caller kept bytes =
     let id = new_id store caller kept in
     record {
-      store = record (counted store) { keys = map.insert store.keys id (new_key store caller id kept bytes); made = made_after store caller kept };
+      store = record (counted store) { keys = map.insert store.keys id (new_key store caller id kept bytes); made = made_with store caller kept };
       reply = record { status = Success; output = Identifier id; needed = 0 };
       drawn = 0;
     }

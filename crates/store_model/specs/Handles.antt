@@ -4,7 +4,7 @@ use Rattle.std.specs.Option.{option_map_or}
 use Rattle.std.specs.FinMap as map
 use Rattle.psa_status.specs.declared.Status.{Status}
 use Rattle.psa_status.specs.declared.Status.TheVariants.{BadState}
-use Rattle.store_model.specs.Store.{Store, Settings, FoundKey, caller_count, start_of}
+use Rattle.store_model.specs.Store.{Store, Settings, OpenedKey, caller_count, start_of}
 use Rattle.store_model.specs.Call.{Reply}
 use Rattle.random_streams.specs.RandomWords.{random_bytes, words_used}
 use Rattle.store_model.specs.Draws.{Random}
@@ -56,7 +56,7 @@ new_own = record { drawn = 0; operations = replicate (handle_count + 1) Inactive
 abbrev pub service_of : Store → Service
 service_of store = record { store = store; owns = replicate (caller_count + 1) new_own }
 
-abbrev pub service_start : Settings → List FoundKey → Service
+abbrev pub service_start : Settings → List OpenedKey → Service
 service_start settings found = service_of (start_of settings found)
 
 abbrev pub own_of : Service → ℕ → Own

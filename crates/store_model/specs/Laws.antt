@@ -10,7 +10,7 @@ use Rattle.store_model.specs.Call.{Import, Destroy, Copy, Generate, Reply, buffe
 use Rattle.store_model.specs.HandleCalls.{HandleCall, OutputKey, is_setup}
 use Rattle.store_model.specs.Requests.{Request, OnStore, OnHandle, serve}
 use Rattle.store_model.specs.Replay.{Entry, replay}
-use Rattle.store_model.specs.Marks.{Counts, MayBeMarked, HasFault, IsCaused, AreAllowed, last_counts}
+use Rattle.store_model.specs.Marks.{FaultCounts, MayBeMarked, HasFault, IsCaused, AreAllowed, last_counts}
 use Rattle.store_model.specs.Refusals.{is_ready, left_by, spoils}
 
 -- the handle that a request is on
@@ -101,7 +101,7 @@ LeavesSettings =
 -- a history whose marks are caused, or allowed, goes on so with one more entry whose mark is
 abbrev pub CausesGoOn : Type 0
 CausesGoOn =
-    (tells : Bool) (counts : Counts) (h : List Entry) (e : Entry) → IsCaused tells counts h → HasFault tells (last_counts counts h) e e.mark →
+    (tells : Bool) (counts : FaultCounts) (h : List Entry) (e : Entry) → IsCaused tells counts h → HasFault tells (last_counts counts h) e e.mark →
     IsCaused tells counts (h ++ e ∷ [])
 
 abbrev pub AllowedGoOn : Type 0

@@ -57,14 +57,14 @@ abbrev pub reads_persistent : Service → ℕ → Request → Bool
 reads_persistent service caller request = is_persistent_key (option_and_then (map.get service.store.keys) (id_read service caller request))
 
 -- the key whose identifier an output is
-abbrev pub key_given : Store → Output → Option Key
-key_given store (Identifier id) = map.get store.keys id
-key_given store _ = None
+abbrev pub key_answered : Store → Output → Option Key
+key_answered store (Identifier id) = map.get store.keys id
+key_answered store _ = None
 
 -- the key that a request destroys, or makes where no device fails
 abbrev pub key_changed : Service → ℕ → Request → Option Key
 key_changed service caller (OnStore (Destroy id)) = map.get service.store.keys id
-key_changed service caller request = let served : Served = plain_step service caller request in key_given served.service.store served.reply.output
+key_changed service caller request = let served : Served = plain_step service caller request in key_answered served.service.store served.reply.output
 
 -- whether a status is known only after a secure element has computed
 abbrev pub is_of_computed : Status → Bool
@@ -88,12 +88,12 @@ MayBeMarked service caller request Hardware = IsTrue (is_opaque_key (key_changed
 MayBeMarked service caller request Corrupt = IsTrue (reads_persistent service caller request)
 
 -- how often the disk and the drivers have failed
-pub record Counts : Type 0 where
+pub record FaultCounts : Type 0 where
   pub faults : ℕ
   pub hard : ℕ
 
 -- a mark is made only where the count of the device that failed rose, and Corrupt never of a disk that tells its bytes
-abbrev pub HasFault : (tells : Bool) → Counts → Entry → FaultMark → Type 0
+abbrev pub HasFault : (tells : Bool) → FaultCounts → Entry → FaultMark → Type 0
 HasFault tells before e Plain = Unit {0}
 HasFault tells before e (Storage access) = Rose before.faults e.faults
 HasFault tells before e Hardware = Rose before.hard e.hard
@@ -105,11 +105,11 @@ AreAllowed service [] = Unit {0}
 AreAllowed service (e ∷ es) = MayBeMarked service e.caller e.call e.mark × AreAllowed (outcome_of service e).service es
 
 -- and each has its fault since the entry before it, or since the opening
-abbrev pub IsCaused : (tells : Bool) → Counts → List Entry → Type 0
+abbrev pub IsCaused : (tells : Bool) → FaultCounts → List Entry → Type 0
 IsCaused tells before [] = Unit {0}
 IsCaused tells before (e ∷ es) = HasFault tells before e e.mark × IsCaused tells (record { faults = e.faults; hard = e.hard }) es
 
 -- the counts of a history's last entry, or those before it where it has none
-abbrev pub last_counts : Counts → List Entry → Counts
+abbrev pub last_counts : FaultCounts → List Entry → FaultCounts
 last_counts before [] = before
 last_counts before (e ∷ es) = last_counts (record { faults = e.faults; hard = e.hard }) es

@@ -7,7 +7,7 @@ use Rattle.key_attributes.specs.declared.Policy.{Policy}
 use Rattle.policy_rules.specs.Policy.{IsWithin}
 use Rattle.store_model.specs.Store.{Key, Store, Settings, caller_count, start_of}
 use Rattle.store_model.specs.Call.{Copy}
-use Rattle.store_model.specs.Marks.{key_given}
+use Rattle.store_model.specs.Marks.{key_answered}
 use Rattle.store_model.specs.Handles.{Service, Served}
 use Rattle.store_model.specs.Requests.{Request, OnStore}
 use Rattle.store_model.specs.Replay.{Entry, outcome_of, replay}
@@ -32,7 +32,7 @@ creation_from source key = record { number = key.number; policy = key.attributes
 abbrev pub made_by : Service → Entry → List Made
 made_by service e =
     let served : Served = outcome_of service e in
-    option_map_or (λ key. creation_from (source_of service.store e.call) key ∷ []) (key_given served.service.store served.reply.output) []
+    option_map_or (λ key. creation_from (source_of service.store e.call) key ∷ []) (key_answered served.service.store served.reply.output) []
 
 -- what a history made, the newest first, on top of what was made before
 abbrev pub made_after : Service → List Entry → List Made → List Made

@@ -3,7 +3,7 @@ use Rattle.std.specs.Prelude.{◌≡◌, ◌≤◌, ◌<◌, ◌↔◌, ℕ, ◌
 use Rattle.std.specs.FinMap as map
 use Rattle.key_attributes.specs.declared.Attributes.{Attributes}
 use Rattle.key_attributes.specs.Checks.{checked}
-use Rattle.store_model.specs.Store.{Key, Store, Settings, FoundKey, start_of, caller_count, made_of, first_volatile, has_secure_element, is_volatile, live_volatile, count_persistent}
+use Rattle.store_model.specs.Store.{Key, Store, Settings, OpenedKey, start_of, caller_count, made_of, first_volatile, has_secure_element, is_volatile, live_volatile, count_persistent}
 use Rattle.store_model.specs.Faults.{FaultMark}
 use Rattle.store_model.specs.Creation.{identified}
 use Rattle.store_model.specs.Operations.{Active}
@@ -83,16 +83,16 @@ pub record IsSound (service : Service) : Type 0 where
   pub callers : length service.owns ≡ caller_count + 1
 
 -- keys that an opening may find: each is persistent and checked, no identifier comes twice, and there are at most 512
-abbrev pub AreFound : Store → List FoundKey → Type 0
-AreFound store [] = Unit {0}
-AreFound store (key ∷ keys) =
+abbrev pub AreFoundKeys : Store → List OpenedKey → Type 0
+AreFoundKeys store [] = Unit {0}
+AreFoundKeys store (key ∷ keys) =
     (is_volatile key.attributes ≡ false) × IsChecked key.attributes (length key.bytes) store
-    × (find (λ other. other.attributes.id.0 == key.attributes.id.0) keys ≡ None) × AreFound store keys
+    × (find (λ other. other.attributes.id.0 == key.attributes.id.0) keys ≡ None) × AreFoundKeys store keys
 
 -- each service is sound at its start, and each request keeps it so
 abbrev pub StartsSound : Type 0
 StartsSound =
-    (settings : Settings) (found : List FoundKey) → AreFound (start_of settings found) found → length found ≤ 512 →
+    (settings : Settings) (found : List OpenedKey) → AreFoundKeys (start_of settings found) found → length found ≤ 512 →
     IsSound (service_start settings found)
 
 abbrev pub StaysSound : Type 0

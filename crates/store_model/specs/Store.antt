@@ -39,18 +39,18 @@ abbrev pub caller_count : ℕ
 caller_count = 16
 
 -- a key that was found at opening
-pub record FoundKey : Type 0 where
+pub record OpenedKey : Type 0 where
   pub attributes : Attributes
   pub bytes : List ℕ
 
 -- keys that were found, numbered in their order from a number on
-abbrev pub found_from : ℕ → List FoundKey → KeyMap
+abbrev pub found_from : ℕ → List OpenedKey → KeyMap
 found_from n [] = map.empty
 found_from n (key ∷ keys) =
     map.insert (found_from (n + 1) keys) key.attributes.id.0 (record { number = n; attributes = key.attributes; bytes = key.bytes; creator = 0 })
 
 -- before any call, with the keys that were found
-abbrev pub start_of : Settings → List FoundKey → Store
+abbrev pub start_of : Settings → List OpenedKey → Store
 start_of settings found = record { keys = found_from 0 found; made = replicate (caller_count + 1) 0; calls = 0; found = length found; settings = settings }
 
 -- a seed of zeros, no rule, no driver and no file

@@ -3,21 +3,21 @@ use Rattle.std.specs.Prelude.{Option, IfSome, option_map, slice_get}
 use Rattle.store_model.specs.Call.{Reply}
 use Rattle.store_model.specs.Handles.{Service}
 use Rattle.store_model.specs.Replay.{Entry, outcome_of, reply_at}
-use Rattle.script_lang.specs.PrintedOrder.{Turn, turns}
+use Rattle.script_lang.specs.PrintedOrder.{Turn, turns_from}
 use Rattle.script_lang.proofs.laws.turns_are_replayed.Goals as goal
 
 abbrev IsReplayed : Option Turn → ℕ → Option Reply → Type 0
 IsReplayed at place replayed = IfSome at (λ t. t.rank ≡ place) × (option_map (λ t. t.reply) at ≡ replayed)
 
-replayed : (n : ℕ) (start : Service) (history : List Entry) (place : ℕ) → IsReplayed (slice_get (turns n start history) place) (n + place) (reply_at start history place)
+replayed : (n : ℕ) (start : Service) (history : List Entry) (place : ℕ) → IsReplayed (slice_get (turns_from n start history) place) (n + place) (reply_at start history place)
 replayed n start [] place = (tt, refl)
 replayed n start (e ∷ es) zero = (omega arith, refl)
 replayed n start (e ∷ es) (suc place) =
     let next : Service = (outcome_of start e).service in
     let same : n + 1 + place ≡ n + suc place = omega arith in
-    subst (λ (k : ℕ). IsReplayed (slice_get (turns (n + 1) next es) place) k (reply_at next es place)) same (replayed (n + 1) next es place)
+    subst (λ (k : ℕ). IsReplayed (slice_get (turns_from (n + 1) next es) place) k (reply_at next es place)) same (replayed (n + 1) next es place)
 
 pub returns : goal.returns
 returns c = λ start history place.
     let same : 0 + place ≡ place = omega arith in
-    subst (λ (k : ℕ). IsReplayed (slice_get (turns 0 start history) place) k (reply_at start history place)) same (replayed 0 start history place)
+    subst (λ (k : ℕ). IsReplayed (slice_get (turns_from 0 start history) place) k (reply_at start history place)) same (replayed 0 start history place)
