@@ -24,6 +24,7 @@ impl<D: Disk> Cells<D> {
         requires open { is_open (cell_slot self.old.slots.items cell) ≡ true }
         ensures size { D.size self.new.disk ≡ 557120 }
         ensures slots { self.new.slots ≡ self.old.slots }
+        ensures same { D.contents self.new.disk ≡ D.contents self.old.disk }
         ensures named { IfOk result (λ attributes. has_id attributes.id.0 (cell_slot self.old.slots.items cell) ≡ true) }
         ensures key { IfOk result (λ attributes. IsKeyOf attributes (bytes_of out.new)) }
         ensures loaded { IfOk result (λ attributes. (contents : List Content) (body : List ℕ) → content_at contents cell ≡ Present body →
@@ -61,6 +62,7 @@ impl<D: Disk> Cells<D> {
         requires within { cell < 512 }
         ensures size { D.size self.new.disk ≡ 557120 }
         ensures slots { self.new.slots ≡ self.old.slots }
+        ensures same { D.contents self.new.disk ≡ D.contents self.old.disk }
         ensures named { IfOk result (λ attributes. has_id attributes.id.0 (cell_slot self.old.slots.items cell) ≡ true) }
         ensures key { IfOk result (λ attributes. IsKeyOf attributes (bytes_of out.new)) }
         ensures loaded { IfOk result (λ attributes. (contents : List Content) (body : List ℕ) → content_at contents cell ≡ Present body →
