@@ -1,15 +1,16 @@
 -- What a creation records, without a file, a device or a rule.
-use Rattle.std.proofs.Common.{◌≡◌, ◌≤◌, ℕ, Bool, true, false, not, ◌&&◌, ◌||◌, ◌*◌, cond, [], ◌∷◌, refl, ap, ◌∙◌, sym, subst, arith}
-use Rattle.std.specs.Prelude.{Option, None, Some, Result, Ok, Err, IsTrue, ◌==◌, bit_and}
+use Rattle.std.proofs.Common.{◌≡◌, ◌≤◌, ℕ, Bool, true, false, not, ◌||◌, cond, [], ◌∷◌, refl, ap, ◌∙◌, sym, subst, arith}
+use Rattle.std.specs.Prelude.{Option, Some, Result, Ok, Err, IsTrue, ◌==◌}
 use Rattle.std.proofs.lemmas.Bool.Decides.{nat_tests}
 use Rattle.psa_status.specs.declared.Status.{Status}
-use Rattle.psa_status.specs.declared.Status.TheVariants.{InvalidArgument, NotSupported}
+use Rattle.psa_status.specs.declared.Status.TheVariants.{NotSupported}
 use Rattle.psa_status.specs.Rows.{first_row, unless, ◌>>=◌}
 use Rattle.psa_status.proofs.Rows.{unless-ok}
 use Rattle.key_attributes.specs.declared.Attributes.{Attributes}
-use Rattle.key_attributes.specs.Checks.{attribute_rows, checked, filled, is_key_type, is_lifetime, is_stated_id, permits_size, persistence}
+use Rattle.key_attributes.specs.Checks.{attribute_rows, checked, filled, is_lifetime, permits_size, persistence}
 use Rattle.policy_rules.specs.Narrow.{after_rules}
 use Rattle.store_model.specs.Store as model
+use Rattle.store_model.proofs.Tables.{none_holds}
 use Rattle.store_model.specs.Creation.{room_for_key_rows, recorded_of}
 use Rattle.list_store.specs.declared.store.Store.TheInside.{Inside}
 use Rattle.list_store.specs.Inside.{store_of}
@@ -48,22 +49,12 @@ by_room i store caller a recorded bytes o view none e h =
     subst (λ s. first_row (room_for_key_rows s caller recorded) ≡ o → unless o recorded ≡ recorded_of s caller a bytes) view
     (λ g. ap (λ r. unless r recorded) (sym g) ∙ sym (volatile i caller a bytes none ∙ ap (λ r. r >>= (λ kept. unless (first_row (room_for_key_rows (store_of i) caller kept)) kept)) e)) h
 
-fifth : (a b c d e : Bool) (s t u v w : Status) (rest : Option Status) →
-    cond a (Some s) (cond b (Some t) (cond c (Some u) (cond d (Some v) (cond (not e) (Some w) rest)))) ≡ None → e ≡ true
-fifth true b c d e s t u v w rest h = cc
-fifth false true c d e s t u v w rest h = cc
-fifth false false true d e s t u v w rest h = cc
-fifth false false false true e s t u v w rest h = cc
-fifth false false false false true s t u v w rest h = refl
-fifth false false false false false s t u v w rest h = cc
-
-permitted : (a : Attributes) (bytes : ℕ) → first_row (attribute_rows a bytes false) ≡ None → IsTrue (permits_size a.key_type.0 bytes)
-permitted a bytes h =
-    fifth (not (is_lifetime a.lifetime.0 false)) (not (is_stated_id a.lifetime.0 a.id.0)) (not (bit_and a.policy.usage.0 0xffff00f8 == 0)) (not (is_key_type a.key_type.0)) (permits_size a.key_type.0 bytes)
-    NotSupported InvalidArgument InvalidArgument NotSupported InvalidArgument (first_row ((not (a.bits == 0) && not (a.bits == 8 * bytes), InvalidArgument) ∷ [])) h
+shown : (b : Bool) → not b ≡ false → IsTrue b
+shown true e = refl
+shown false e = cc
 
 -- attributes that were checked are those of a key that can be kept
 pub checked_kept : (a recorded : Attributes) (bytes : ℕ) → a.lifetime.0 ≡ 0 → bytes ≤ 1024 → checked a bytes false ≡ Ok recorded → IsKept recorded bytes
 checked_kept a recorded bytes volatile short e =
     let passed = unless-ok _ (filled a bytes) recorded e in
-    subst (λ (r : Attributes). IsKept r bytes) passed.1 (record { lifetime = volatile; short = short; sized = permitted a bytes passed.0 })
+    subst (λ (r : Attributes). IsKept r bytes) passed.1 (record { lifetime = volatile; short = short; sized = shown (permits_size a.key_type.0 bytes) (none_holds (attribute_rows a bytes false) 4 passed.0) })
