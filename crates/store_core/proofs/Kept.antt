@@ -1,16 +1,15 @@
 -- What the directory says of the keys, and keys as a file keeps them.
-use Rattle.std.proofs.Common.{◌≡◌, ◌∙◌, ℕ, ◌*◌, ◌<◌, ◌≤◌, ◌==◌, Bool, true, false, cond, List, [], ◌∷◌, ◌++◌, length, refl, sym, ap, subst, arith, eq-eqb, nat_le, ◌&&◌, ◌||◌, not, Option, None, Some}
+use Rattle.std.proofs.Common.{◌≡◌, ◌∙◌, ℕ, ◌*◌, ◌<◌, ◌≤◌, ◌==◌, Bool, true, false, cond, List, [], ◌∷◌, length, refl, sym, ap, subst, arith, eq-eqb, nat_le, ◌&&◌, not, Option, None, Some}
 use Rattle.std.proofs.lemmas.Bool.{false≢true, eqb-true}
 use Rattle.std.proofs.lemmas.Bool.Decides.{nat_tests}
-use Rattle.std.specs.Prelude.{Ok, bit_and}
+use Rattle.std.specs.Prelude.{Ok, bit_and, is_some}
 use Rattle.std.specs.FinMap as map
 use Rattle.psa_status.specs.declared.Status.{Status}
-use Rattle.psa_status.specs.declared.Status.TheVariants.{NotSupported, InvalidArgument}
-use Rattle.psa_status.specs.Rows.{Rows, first_row, unless}
+use Rattle.psa_status.specs.declared.Status.TheVariants.{NotSupported, InvalidArgument, InvalidHandle}
+use Rattle.psa_status.specs.Rows.{first_row, unless}
 use Rattle.psa_status.proofs.Rows.{first_row-back, unless-ok}
 use Rattle.key_attributes.specs.declared.Attributes.{Attributes}
 use Rattle.key_attributes.specs.Checks.{persistence, implied_usage, size_rows, attribute_rows, is_lifetime, is_stated_id, filled, checked}
-use Rattle.key_record.specs.Record.{IsKept, is_usage}
 use Rattle.key_cells.specs.declared.slot.Slot as cell
 use Rattle.key_cells.specs.declared.slot.Slot.TheVariants.{Free, Open, Shut, Unsure}
 use Rattle.key_cells.specs.Contents.{HasNoKey, cell_slot, has_id, creation_of_slot}
@@ -21,6 +20,7 @@ use Rattle.store_model.specs.Store.{Key, is_volatile, is_opaque, is_persistent_k
 use Rattle.store_model.specs.Creation.{identified}
 use Rattle.store_model.specs.Sound.{as_stated}
 use Rattle.store_core.specs.Represents.{IsDirectory}
+use Rattle.store_core.specs.Uses.{there_rows}
 
 -- THE DIRECTORY
 
@@ -38,6 +38,15 @@ key_of_cell slots m id c d lt has = go (cell_slot slots c) refl has where
 
 pub is_persistent : (o : Option Key) (key : Key) → o ≡ Some key → is_volatile key.attributes ≡ false → is_persistent_key o ≡ true
 is_persistent o key is lasts = ap is_persistent_key is ∙ ap not lasts
+
+-- the row that asks for a key
+pub is_there : (o : Option Key) → is_some o ≡ true → there_rows o ≡ None
+is_there None is = absurd (false≢true is)
+is_there (Some key) is = refl
+
+pub is_missing : (o : Option Key) → is_some o ≡ false → there_rows o ≡ Some InvalidHandle
+is_missing None is = refl
+is_missing (Some key) is = absurd (false≢true (sym is))
 
 -- there is no key where no slot has a volatile one and no cell has one
 pub no_key : (slots : List cell.Slot) (m : model.Store) (id : ℕ) → IsDirectory slots m → HasNoKey slots id → (IsVolatileKey (map.get m.keys id) → ⊥) → map.get m.keys id ≡ None

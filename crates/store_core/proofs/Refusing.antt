@@ -1,5 +1,5 @@
 -- A ranked turn that looked for a key.
-use Rattle.std.proofs.Common.{◌≡◌, ◌∙◌, ℕ, ◌<◌, Bool, true, false, List, [], ◌∷◌, ◌++◌, refl, sym, ap, subst, Option, None, Some, is_some}
+use Rattle.std.proofs.Common.{◌≡◌, ◌∙◌, ℕ, ◌<◌, ◌-◌, ◌^◌, arith, take, true, false, List, [], ◌∷◌, ◌++◌, refl, sym, ap, subst, Option, None, Some, is_some}
 use Rattle.std.specs.Prelude.{Err, IsErrOf}
 use Rattle.std.specs.FinMap as map
 use Rattle.psa_status.specs.declared.Status.{Status}
@@ -7,19 +7,28 @@ use Rattle.psa_status.specs.declared.Status.TheVariants.{InvalidHandle}
 use Rattle.psa_status.specs.Causes.{Rose}
 use Rattle.policy_rules.specs.declared.narrowing.Label.{Label}
 use Rattle.driver_dispatch.specs.Held.{HeldKeys}
-use Rattle.key_slots.specs.Holdings.{Pairs}
+use Rattle.slot_table.specs.Slots.{Slot, slot_at}
+use Rattle.key_slots.specs.declared.slots.KeySlots.{KeySlots}
+use Rattle.key_slots.specs.Holdings.{Pairs, AreHoldings}
+use Rattle.key_slots.specs.Standing.{Agrees}
+use Rattle.key_slots.proofs.Agreeing.{readers_out}
+use Rattle.key_slots.proofs.Counting.{few_of_one}
 use Rattle.store_model.specs.Store as model
 use Rattle.store_model.specs.Store.{Key, is_persistent_key}
-use Rattle.store_model.specs.Faults.{Plain}
+use Rattle.store_model.specs.Call.{GetAttributes}
+use Rattle.store_model.specs.Faults.{FaultMark, Plain}
+use Rattle.store_model.specs.KeyUse.{export_rows}
+use Rattle.store_model.specs.Requests.{OnStore}
+use Rattle.store_model.proofs.Tables.{refused_by}
 use Rattle.store_model.specs.Outcome.{counted}
 use Rattle.store_model.specs.Handles.{Service}
 use Rattle.store_model.specs.Replay.{Entry, replay}
-use Rattle.store_model.specs.Marks.{FaultCounts, last_counts, reads_persistent}
+use Rattle.store_model.specs.Marks.{FaultCounts, reads_persistent}
 use Rattle.store_core.specs.declared.store.Store.{Store}
 use Rattle.store_core.specs.declared.reading.Unread.{Unread}
 use Rattle.store_core.specs.declared.reading.Unread.TheVariants.{Missing, Disk, Corrupt}
 use Rattle.store_core.specs.Represents.{IsTold, Opening}
-use Rattle.store_core.specs.Uses.{IsRefused, mark_of, status_of}
+use Rattle.store_core.specs.Uses.{IsRefused, export_refusal, mark_of, status_of}
 use Rattle.store_core.proofs.Histories.{told_before}
 use Rattle.store_core.proofs.Holding.{HoldsHere, StandsHere, IsTurn, IsReadingHere, turned, ends_quiet}
 use Rattle.store_core.proofs.Loading.{reads_it}
@@ -27,6 +36,25 @@ use Rattle.store_core.proofs.Loading.{reads_it}
 -- a search ended so
 abbrev IsWhy : Unread → Unread → Type 0
 IsWhy why other = IsErrOf {T = ℕ} {E = Unread} (Err why) other
+
+-- a status of which no device is the cause
+abbrev pub IsPlain : Status → Type 0
+IsPlain status = (mark_of status ≡ Plain) × ((rows : Option Key → Option Status) (id : ℕ) (m : model.Store) → rows (map.get m.keys id) ≡ Some status → IsRefused rows id status m)
+
+pub export_plain : (found : Option Key) (status : Status) → export_refusal found ≡ Some status → IsPlain status
+export_plain None status refused = refused_by IsPlain (take 2 (export_rows None 0)) ((λ on. (refl, λ rows id m is. is)), tt) status refused
+export_plain (Some key) status refused = refused_by IsPlain (take 2 (export_rows (Some key) 0)) ((λ on. (refl, λ rows id m is. is)), ((λ on. (refl, λ rows id m is. is)), tt)) status refused
+
+-- few read a slot
+pub few_readers : (slots : List Slot) (m : model.Store) (all : List Pairs) (i : ℕ) → Agrees slots m all → AreHoldings all → i < 384 → (slot_at slots i).readers < 2 ^ 32 - 1
+few_readers slots m all i a law inside =
+    let few = few_of_one all i (slot_at slots i).creation law in
+    let read = readers_out slots m all i inside a in
+    omega arith
+
+-- an entry that asks for a key
+abbrev pub asks_for : ℕ → Entry
+asks_for id = record { caller = 1; call = OnStore (GetAttributes id); mark = Plain; done = 0; faults = 0; hard = 0 }
 
 module _ {D A C : Type 0} (told : D → Option (List ℕ)) (may_leave : D → List ℕ → Type 0) (moment : D → ℕ) (left_since : D → ℕ → List ℕ → Type 0)
     (faults : D → ℕ) (held : A → Option HeldKeys) (hard : A → ℕ) (locations : A → List ℕ) (labels : C → List Label)
@@ -53,12 +81,22 @@ module _ {D A C : Type 0} (told : D → Option (List ℕ)) (may_leave : D → Li
   abbrev pub Ends : (model.Store → Type 0) → Type 0
   Ends P = (n : StandsHere told may_leave moment left_since faults held hard locations labels new start opening (h ++ e ∷ []) all) × P n.holds.model
 
-  -- its key was found
-  pub ends_found : (P : model.Store → Type 0) → IsReadingHere told may_leave moment left_since faults held hard locations labels old start h e id → (n : Brought P) → (P n.0.model → P (counted n.0.model)) →
-      IsTurn told may_leave moment left_since faults held hard locations labels new Plain e → Ends P
-  ends_found P is n later turn =
-      let ends = ends_quiet told may_leave moment left_since faults held hard locations labels only_now mid mid.slots Plain start opening h all all e n.0 n.0.slots n.0.holdings tt (λ k. tt) is.quiet turn in
-      (ends.0, subst P (sym ends.1) (later n.1))
+  -- its key was found, and is lent or not
+  pub ends_found : (slots : KeySlots) (more : List Pairs) (P : model.Store → Type 0) → IsReadingHere told may_leave moment left_since faults held hard locations labels old start h e id →
+      (n : HoldsHere told may_leave moment left_since faults held hard locations labels (IsTold (told mid.file.cells.disk) start (h ++ e ∷ [])) mid start opening h all) → P (counted n.model) → Agrees slots.table.slots n.model more → AreHoldings more →
+      IsTurn told may_leave moment left_since faults held hard locations labels (turned told may_leave moment left_since faults held hard locations labels mid slots) Plain e →
+      (after : StandsHere told may_leave moment left_since faults held hard locations labels (turned told may_leave moment left_since faults held hard locations labels mid slots) start opening (h ++ e ∷ []) more) × P after.holds.model
+  ends_found slots more P is n holds agrees holdings turn =
+      let ends = ends_quiet told may_leave moment left_since faults held hard locations labels only_now mid slots Plain start opening h all more e n agrees holdings tt (λ k. tt) is.quiet turn in
+      (ends.0, subst P (sym ends.1) holds)
+
+  -- a row refuses it
+  pub ends_refused : (rows : Option Key → Option Status) (status : Status) → IsPlain status → IsReadingHere told may_leave moment left_since faults held hard locations labels old start h e id →
+      (n : HoldsHere told may_leave moment left_since faults held hard locations labels (IsTold (told mid.file.cells.disk) start (h ++ e ∷ [])) mid start opening h all) → rows (map.get n.model.keys id) ≡ Some status →
+      IsTurn told may_leave moment left_since faults held hard locations labels new (mark_of status) e → Ends (IsRefused rows id status)
+  ends_refused rows status plain is n refused turn =
+      ends_found mid.slots all (IsRefused rows id status) is n (plain.1 rows id (counted n.model) refused) n.slots n.holdings
+      (subst (λ (mark : FaultMark). IsTurn told may_leave moment left_since faults held hard locations labels new mark e) plain.0 turn)
 
   -- its key is not there, or could not be read
   pub ends_unread : (rows : Option Key → Option Status) (why : Unread) → rows None ≡ Some InvalidHandle → SameTold →

@@ -17,7 +17,7 @@ use Rattle.store_model.specs.Sound.{IsSoundStore}
 use Rattle.store_model.specs.Laws.{may_change_keys}
 use Rattle.store_model.specs.Handles.{Service}
 use Rattle.store_model.specs.Replay.{Entry, outcome_of, replay}
-use Rattle.store_model.specs.Marks.{FaultCounts, id_read, reads_persistent, MayBeMarked, HasFault, IsCaused, AreAllowed, last_counts}
+use Rattle.store_model.specs.Marks.{FaultCounts, id_read, reads_persistent, IsCaused, AreAllowed, last_counts}
 use Rattle.store_core.specs.declared.store.Store.{Store}
 use Rattle.store_core.specs.Durability.{durable_keys, course_of, KeepsKeys}
 
@@ -114,6 +114,17 @@ module _ {D A C : Type 0} (told : D → Option (List ℕ)) (may_leave : D → Li
     abbrev pub Adds : Type 0
     Adds = (start : Service) (opening : Opening) (h : List Entry) (all : List Pairs) (e : Entry) →
         StandsFor old start opening h all → may_change_keys e.call ≡ false → IsEntry new Plain e → StandsFor new start opening (h ++ e ∷ []) all
+
+    -- one of whose model P holds afterwards
+    abbrev pub AddsAs : (model.Store → Type 0) → Type 0
+    AddsAs P = (start : Service) (opening : Opening) (h : List Entry) (all : List Pairs) (e : Entry) →
+        StandsFor old start opening h all → may_change_keys e.call ≡ false → IsEntry new Plain e → (n : StandsFor new start opening (h ++ e ∷ []) all) × P n.holds.model
+
+    -- and one in which a pair is used that is out
+    abbrev pub Steps : ℕ × ℕ → (model.Store → Type 0) → Type 0
+    Steps p P = (start : Service) (opening : Opening) (h : List Entry) (all : List Pairs) (e : Entry) →
+        StandsFor old start opening h all → 0 < named p.0 p.1 all → may_change_keys e.call ≡ false → IsEntry new Plain e →
+        (n : StandsFor new start opening (h ++ e ∷ []) all) × P n.holds.model
 
     -- a ranked turn that reads a key, of whose model P holds afterwards
     abbrev pub Reads : (id : ℕ) → FaultMark → (model.Store → Type 0) → Type 0

@@ -1,6 +1,7 @@
 -- What a turn that looks for a key finds.
-use Rattle.std.specs.Prelude.{◌≡◌, ℕ, ◌==◌, true, [], ◌∷◌, bit_and, Option, Some, None, Bool}
+use Rattle.std.specs.Prelude.{◌≡◌, ℕ, take, true, Option, Some, None}
 use Rattle.std.specs.FinMap as map
+use Rattle.psa_status.specs.Rows.{first_row}
 use Rattle.psa_status.specs.declared.Status.{Status}
 use Rattle.psa_status.specs.declared.Status.TheVariants.{InvalidHandle, StorageFailure, DataCorrupt}
 use Rattle.key_attributes.specs.declared.Attributes.{Attributes}
@@ -10,6 +11,7 @@ use Rattle.slot_table.specs.Lent as lent
 use Rattle.key_slots.specs.Standing.{SlotHasKey, slot_bytes}
 use Rattle.store_model.specs.Store as model
 use Rattle.store_model.specs.Store.{Key, is_persistent_key}
+use Rattle.store_model.specs.KeyUse.{export_rows}
 use Rattle.store_model.specs.Faults as fault
 use Rattle.store_model.specs.Faults.{FaultMark, Plain, Storage, Reading}
 use Rattle.store_core.specs.declared.reading.Unread.{Unread}
@@ -54,3 +56,7 @@ HasAttributes id attributes m = (key : Key) × (map.get m.keys id ≡ Some key) 
 abbrev pub there_rows : Option Key → Option Status
 there_rows None = Some InvalidHandle
 there_rows (Some key) = None
+
+-- the rows of EXPORT but for that of the room, which comes last
+abbrev pub export_refusal : Option Key → Option Status
+export_refusal found = first_row (take 2 (export_rows found 0))

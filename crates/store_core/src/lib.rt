@@ -1,6 +1,7 @@
 //! The store: keys in slots, in a file that a crash leaves whole, or in a device, whose turns are steps of the model.
 #![tactic(auto)]
 
+mod looks;
 mod reading;
 mod store;
 mod turns;

@@ -1,11 +1,15 @@
 //! Turns that change no key.
-ghost use Rattle.std.specs.Prelude.{◌≡◌, ◌<◌, ◌^◌, ◌+◌, ℕ, List, true, IfOk, IfErr, IfSome, IfNone};
+ghost use Rattle.std.specs.Prelude.{◌≡◌, ◌<◌, ◌^◌, ◌+◌, ℕ, List, true, false, Some, None, is_some, IfOk, IfErr, OnOk, OnErr};
+ghost use Rattle.std.specs.FinMap as map;
 ghost use Rattle.psa_status.specs.declared.Status.TheVariants.{InvalidHandle};
 ghost use Rattle.secret_bytes.specs.Buffer.{IsClear};
-ghost use Rattle.psa_status.specs.Rows.{first_row};
+ghost use Rattle.slot_table.specs.Slots.{holds_key, is_idle, slot_at};
+ghost use Rattle.key_slots.specs.Holdings.{Pairs};
+ghost use Rattle.key_slots.specs.Standing.{Agrees};
+ghost use Rattle.store_model.specs.Store as model;
 ghost use Rattle.store_model.specs.Sound.{HasNumber};
 ghost use Rattle.store_model.specs.Faults.{Plain};
-ghost use Rattle.store_core.specs.Represents.{Adds, Gives, HasOut, Reads, ReadsAndGives, Stands, Takes};
+ghost use Rattle.store_core.specs.Represents.{Adds, AddsAs, Gives, HasOut, IsDirectory, Reads, Stands, Steps, Takes};
 ghost use Rattle.store_core.specs.Uses.{HasAttributes, IsRefused, mark_of, there_rows};
 
 use crate::Store;
@@ -79,6 +83,10 @@ impl<D: Disk, A: Devices, C: Admission> Store<D, A, C> {
         requires few { self.old.ranked < 2 ^ 62 }
         requires out { HasOut D.contents D.may_leave D.moment D.left_since D.faults A.keys A.faults A.locations C.labels self.old (lease.now.slot, lease.now.creation + 1) }
         ensures adds { Adds D.contents D.may_leave D.moment D.left_since D.faults A.keys A.faults A.locations C.labels self.old self.new }
+        ensures alive { OnOk result (Steps D.contents D.may_leave D.moment D.left_since D.faults A.keys A.faults A.locations C.labels self.old self.new (lease.now.slot, lease.now.creation + 1)
+            (λ m. HasNumber m lease.now.creation)) }
+        ensures gone { OnErr result (Steps D.contents D.may_leave D.moment D.left_since D.faults A.keys A.faults A.locations C.labels self.old self.new (lease.now.slot, lease.now.creation + 1)
+            (λ m. HasNumber m lease.now.creation → ⊥)) }
         ensures status { IfErr result (λ status. status ≡ InvalidHandle) }
         ensures file { self.new.file ≡ self.old.file }
         ensures devices { self.new.devices ≡ self.old.devices }
@@ -114,5 +122,47 @@ impl<D: Disk, A: Devices, C: Admission> Store<D, A, C> {
             Ok(slot) => Ok(*self.slots.attributes(slot)),
             Err(unread) => Err(unread.status()),
         }
+    }
+
+    // Whether there is a key.
+    fn has(&self, id: KeyId) -> bool
+        ensures { (m : model.Store) (all : List Pairs) → Agrees self.now.slots.table.slots m all → IsDirectory self.now.file.cells.slots.items m →
+            is_some (map.get m.keys id.0) ≡ result }
+    {
+        if let Some(_slot) = self.slots.find(id) {
+            return true;
+        }
+        match self.file.find(id.0) {
+            Some(_cell) => true,
+            None => false,
+        }
+    }
+
+    /// Forgets a key in memory that is in the file too and that nobody reads. No device is called. Ranked.
+    pub fn purge(&mut self, id: KeyId) -> Result<(), Status>
+        requires few { self.old.ranked < 2 ^ 62 }
+        ensures there { OnOk result (AddsAs D.contents D.may_leave D.moment D.left_since D.faults A.keys A.faults A.locations C.labels self.old self.new
+            (λ m. there_rows (map.get m.keys id.0) ≡ None)) }
+        ensures missing { IfErr result (λ status. (status ≡ InvalidHandle) × AddsAs D.contents D.may_leave D.moment D.left_since D.faults A.keys A.faults A.locations C.labels self.old self.new
+            (λ m. there_rows (map.get m.keys id.0) ≡ Some status)) }
+        ensures wiped { OnOk result ((i : ℕ) → holds_key id.0 (slot_at self.new.slots.table.slots i) ≡ true → is_idle (slot_at self.new.slots.table.slots i) ≡ false) }
+        ensures file { self.new.file ≡ self.old.file }
+        ensures devices { self.new.devices ≡ self.old.devices }
+        ensures buffer { self.new.buffer ≡ self.old.buffer }
+        ensures opened { self.new.opened ≡ self.old.opened }
+    {
+        self.ranked += 1;
+        if !self.has(id) {
+            return Err(Status::InvalidHandle);
+        }
+        self.slots.purge(id);
+        Ok(())
+    }
+
+    /// The disk.
+    pub fn into_disk(self) -> D
+        ensures { result ≡ self.file.cells.disk }
+    {
+        self.file.into_disk()
     }
 }
