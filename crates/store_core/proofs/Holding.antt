@@ -1,0 +1,217 @@
+-- A store that holds keys, after a turn that changes none.
+use Rattle.std.proofs.Common.{◌≡◌, ◌⊎◌, ℕ, ◌+◌, ◌<◌, ◌≤◌, List, [], ◌∷◌, ◌++◌, length, true, false, Option, is_some, refl, sym, ◌∙◌, ap, subst, arith, inl, inr, ⊎_elim, length-append}
+use Rattle.disk_face.specs.Moments.{Within, KeepsPromise, FitsFrom}
+use Rattle.disk_face.proofs.Moments.{promise_goes_on, within_none, fits_whole, fits_least}
+use Rattle.policy_rules.specs.declared.narrowing.Label.{Label}
+use Rattle.driver_dispatch.specs.Held.{HeldKeys}
+use Rattle.key_file.specs.declared.file.KeyFile.{KeyFile}
+use Rattle.key_file.specs.Files.{Stored, Keys, Doubt, StandsForKeys, FitsKeys, FitsEitherKeys, Leads}
+use Rattle.key_file.proofs.Leading.{stands_fits, stays}
+use Rattle.secret_bytes.specs.Buffer.{Buffer}
+use Rattle.key_slots.specs.declared.slots.KeySlots.{KeySlots}
+use Rattle.key_slots.specs.Holdings.{Pairs, AreHoldings}
+use Rattle.key_slots.specs.Standing.{Agrees}
+use Rattle.key_slots.proofs.Agreeing.{quiet}
+use Rattle.store_model.specs.Store as model
+use Rattle.store_model.specs.Faults.{FaultMark, Plain}
+use Rattle.store_model.specs.Outcome.{counted}
+use Rattle.store_model.specs.Laws.{may_change_keys}
+use Rattle.store_model.specs.Handles.{Service}
+use Rattle.store_model.specs.Replay.{Entry, outcome_of, replay}
+use Rattle.store_model.specs.Marks.{FaultCounts, MayBeMarked, HasFault, IsCaused, AreAllowed, last_counts}
+use Rattle.store_model.proofs.Sound.{counted_sound}
+use Rattle.store_model.proofs.Others.{leaves_shared}
+use Rattle.store_model.proofs.Causes.{go_on, allowed_go_on}
+use Rattle.store_core.specs.declared.store.Store.{Store}
+use Rattle.store_core.specs.Durability.{Course, after, opened, course_of, durable_keys, FitsCourse}
+use Rattle.store_core.specs.Represents.{IsTold, IsDirectory, HoldsKeys, Opening, Holds, StandsFor, IsEntry, IsReading}
+use Rattle.store_core.proofs.Histories.{replay_push, counts_push, told_before, course_service, quiet_doubt, doubt_stays}
+
+-- calls after which a crash leaves the keys of now keep the promise of the same history
+pub promise_stays : (past since : ℕ → List ℕ → Type 0) (before now opening : ℕ) (start : Service) (h : List Entry) (P : List ℕ → Type 0) → KeepsPromise after FitsCourse (λ (e : Entry). e.done) past before opening (opened start) h →
+    Within before now past since P → ((image : List ℕ) → P image → FitsCourse (course_of start h) image) → KeepsPromise after FitsCourse (λ (e : Entry). e.done) since now opening (opened start) h
+promise_stays past since before now opening start h P p call here = record {
+  opened = omega (arith, p.opened, call.later);
+  entered = λ k lt. omega (arith, p.entered k lt, call.later);
+  since_opening = λ image left. either 0 image (omega arith) (λ old. p.since_opening image old) (call.each opening image p.opened left);
+  since_done = λ k lt image left. either (k + 1) image (omega arith) (λ old. p.since_done k lt image old) (call.each _ image (p.entered k lt) left);
+} where
+  either : {L : Type 0} (least : ℕ) (image : List ℕ) → least ≤ length h → (L → FitsFrom after FitsCourse (opened start) h least image) → (L ⊎ P image) → FitsFrom after FitsCourse (opened start) h least image
+  either least image few old (inl left) = old left
+  either least image few old (inr now) = fits_least after FitsCourse (opened start) h (length h) least image few (fits_whole after FitsCourse (opened start) h image (here image now))
+
+abbrev counts_of : ℕ → ℕ → FaultCounts
+counts_of n m = record { faults = n; hard = m }
+
+-- the same keys as a directory and a device have them
+same_directory : (slots : List _) (m : model.Store) → IsDirectory slots m → IsDirectory slots (counted m)
+same_directory slots m d = record { sized = d.sized; there = d.there; only = d.only; one = d.one }
+
+same_device : (held : Option HeldKeys) (m : model.Store) → HoldsKeys held m → HoldsKeys held (counted m)
+same_device held m d = record { there = d.there; new = λ handle le. d.new handle (omega (arith, le)) }
+
+module _ {D A C : Type 0} (told : D → Option (List ℕ)) (may_leave : D → List ℕ → Type 0) (moment : D → ℕ) (left_since : D → ℕ → List ℕ → Type 0)
+    (faults : D → ℕ) (held : A → Option HeldKeys) (hard : A → ℕ) (locations : A → List ℕ) (labels : C → List Label) where
+  -- the definitions over these
+  abbrev pub HoldsHere : Type 0 → Store D A C → Service → Opening → List Entry → List Pairs → Type 0
+  HoldsHere = Holds told may_leave moment left_since faults held hard locations labels
+
+  abbrev pub StandsHere : Store D A C → Service → Opening → List Entry → List Pairs → Type 0
+  StandsHere = StandsFor told may_leave moment left_since faults held hard locations labels
+
+  abbrev pub IsTurn : Store D A C → FaultMark → Entry → Type 0
+  IsTurn = IsEntry told may_leave moment left_since faults held hard locations labels
+
+  abbrev pub IsReadingHere : Store D A C → Service → List Entry → Entry → ℕ → Type 0
+  IsReadingHere = IsReading told may_leave moment left_since faults held hard locations labels
+
+  -- a store after its file was read
+  abbrev pub moved : Store D A C → KeyFile D → KeySlots → Buffer → Store D A C
+  moved store file slots buffer = record store { file = file; slots = slots; buffer = buffer }
+
+  -- and after a ranked turn
+  abbrev pub turned : Store D A C → KeySlots → Store D A C
+  turned store slots = record store { slots = slots; ranked = store.ranked + 1 }
+
+  -- a file that was read, or left alone
+  pub record IsReadOn (old new : KeyFile D) : Type 0 where
+    pub same : told new.cells.disk ≡ told old.cells.disk
+    pub slots : new.cells.slots ≡ old.cells.slots
+    pub keeps : (keys : Keys) (doubt : Doubt) → StandsForKeys told may_leave old.cells.disk old.cells.slots.items keys doubt →
+        Leads told may_leave moment left_since old.cells.disk new.cells.disk old.cells.slots.items new.cells.slots.items keys doubt keys doubt
+
+  pub left_alone : (file : KeyFile D) → IsReadOn file file
+  left_alone file = record {
+    same = refl;
+    slots = refl;
+    keeps = λ keys doubt s. stays told may_leave moment left_since file.cells.disk file.cells.slots.items keys keys doubt (λ id. refl) s;
+  }
+
+  module _ (old : Store D A C) (start : Service) (opening : Opening) (h : List Entry) where
+    abbrev tells : Type 0
+    tells = is_some (told old.file.cells.disk) ≡ true
+
+    -- what the keys of the model are, over a disk that tells
+    fits_now : (m : model.Store) → m ≡ (replay start h).store → (image : List ℕ) → FitsKeys (durable_keys m) (course_of start h).doubt image → FitsCourse (course_of start h) image
+    fits_now m is image fits =
+        subst (λ (x : model.Store). FitsKeys (durable_keys x) (course_of start h).doubt image) (is ∙ ap (λ (s : Service). s.store) (sym (course_service start h))) fits
+
+    -- no key changes, and no entry is added
+    pub goes_on : (file : KeyFile D) (slots : KeySlots) (buffer : Buffer) (all : List Pairs) (K : Type 0) → IsReadOn old.file file → (K → IsTold (told old.file.cells.disk) start h) →
+        (s : HoldsHere (IsTold (told old.file.cells.disk) start h) old start opening h all) → Agrees slots.table.slots s.model all →
+        (n : HoldsHere K (moved old file slots buffer) start opening h all) × (n.model ≡ s.model)
+    goes_on file slots buffer all K read known s agrees = (record {
+      model = s.model;
+      replayed = λ k. s.replayed (known k);
+      sound = s.sound;
+      labels_are = s.labels_are;
+      locations_are = s.locations_are;
+      has_file = s.has_file;
+      found = s.found;
+      calls = s.calls;
+      made = s.made;
+      ranked = s.ranked;
+      slots = agrees;
+      holdings = s.holdings;
+      directory = subst (λ (c : _). IsDirectory c.items s.model) (sym read.slots) s.directory;
+      device = s.device;
+      file = λ is. (leads is).stands;
+      promise = λ is. promise_stays (left_since old.file.cells.disk) (left_since file.cells.disk) (moment old.file.cells.disk) (moment file.cells.disk) opening.moment start h
+          (FitsEitherKeys (durable_keys s.model) (course_of start h).doubt (durable_keys s.model) (course_of start h).doubt) (s.promise (before is)) (leads is).within
+          (λ image fits. fits_now s.model (s.replayed (inl (before is))) image (⊎_elim (λ f. f) (λ f. f) fits));
+      caused = subst (λ (t : Option (List ℕ)). IsCaused (is_some t) opening.counts h) (sym read.same) s.caused;
+      allowed = λ t. s.allowed (subst (λ (o : Option (List ℕ)). IsTold o start h) read.same t);
+    }, refl) where
+      before : is_some (told file.cells.disk) ≡ true → tells
+      before is = ap is_some (sym read.same) ∙ is
+
+      leads : is_some (told file.cells.disk) ≡ true →
+          Leads told may_leave moment left_since old.file.cells.disk file.cells.disk old.file.cells.slots.items file.cells.slots.items (durable_keys s.model) (course_of start h).doubt (durable_keys s.model) (course_of start h).doubt
+      leads is = read.keeps (durable_keys s.model) (course_of start h).doubt (s.file (before is))
+
+    -- a turn without rank
+    pub unranked : (slots : KeySlots) (all more : List Pairs) (s : StandsHere old start opening h all) → Agrees slots.table.slots s.holds.model more → AreHoldings more →
+        StandsHere (record old { slots = slots }) start opening h more
+    unranked slots all more s agrees holdings = record {
+      holds = record {
+        model = s.holds.model;
+        replayed = s.holds.replayed;
+        sound = s.holds.sound;
+        labels_are = s.holds.labels_are;
+        locations_are = s.holds.locations_are;
+        has_file = s.holds.has_file;
+        found = s.holds.found;
+        calls = s.holds.calls;
+        made = s.holds.made;
+        ranked = s.holds.ranked;
+        slots = agrees;
+        holdings = holdings;
+        directory = s.holds.directory;
+        device = s.holds.device;
+        file = s.holds.file;
+        promise = s.holds.promise;
+        caused = s.holds.caused;
+        allowed = s.holds.allowed;
+      };
+      counts = s.counts;
+    }
+
+  -- A ranked turn ends whose request changes no key.
+  module _ (only_now : (disk : D) (image : List ℕ) → left_since disk (moment disk) image → may_leave disk image)
+      (old : Store D A C) (slots : KeySlots) (mark : FaultMark) (start : Service) (opening : Opening) (h : List Entry) (all more : List Pairs) (e : Entry) where
+    abbrev disk_here : D
+    disk_here = old.file.cells.disk
+
+    abbrev Known : Type 0
+    Known = IsTold (told disk_here) start (h ++ e ∷ [])
+
+    counted_now : may_change_keys e.call ≡ false → (m : model.Store) → m ≡ (replay start h).store → counted m ≡ (outcome_of (replay start h) e).service.store
+    counted_now still m is = ap counted is ∙ sym (leaves_shared (replay start h) e.caller e.call e.mark still)
+
+    -- the disk fits the course with the entry
+    fits_after : may_change_keys e.call ≡ false → (m : model.Store) → m ≡ (replay start h).store → StandsForKeys told may_leave disk_here old.file.cells.slots.items (durable_keys m) (course_of start h).doubt →
+        (image : List ℕ) → left_since disk_here (moment disk_here) image → FitsCourse (after e (course_of start h)) image
+    fits_after still m is stands image left =
+        let same : counted m ≡ (after e (course_of start h)).service.store = counted_now still m is ∙ ap (λ (s : Service). (outcome_of s e).service.store) (sym (course_service start h)) in
+        let fits = stands_fits told may_leave moment left_since disk_here old.file.cells.slots.items (durable_keys m) (course_of start h).doubt image stands (only_now disk_here image left) in
+        subst (λ (x : model.Store). FitsKeys (durable_keys x) (after e (course_of start h)).doubt image) same
+        (subst (λ (d : Doubt). FitsKeys (durable_keys m) d image) (sym (quiet_doubt e (course_of start h) still)) fits)
+
+    pub ends_quiet : (s : HoldsHere Known old start opening h all) → Agrees slots.table.slots s.model more → AreHoldings more → HasFault (is_some (told disk_here)) (last_counts opening.counts h) e mark →
+        (Known → MayBeMarked (replay start h) e.caller e.call mark) → may_change_keys e.call ≡ false → IsTurn (turned old slots) mark e →
+        (after : StandsHere (turned old slots) start opening (h ++ e ∷ []) more) × (after.holds.model ≡ counted s.model)
+    ends_quiet s agrees holdings fault may still is = (record { holds = holds; counts = counts_push opening.counts h e ∙ counted_here }, refl)
+      where
+        counted_here : counts_of e.faults e.hard ≡ counts_of (faults disk_here) (hard old.devices)
+        counted_here = ap (λ (n : ℕ). counts_of n e.hard) is.disk_faults ∙ ap (counts_of (faults disk_here)) is.device_faults
+
+        holds : HoldsHere Known (turned old slots) start opening (h ++ e ∷ []) more
+        holds = record {
+          model = counted s.model;
+          replayed = λ k. counted_now still s.model (s.replayed k) ∙ ap (λ (x : Service). x.store) (sym (replay_push start h e));
+          sound = counted_sound s.model s.sound;
+          labels_are = s.labels_are;
+          locations_are = s.locations_are;
+          has_file = s.has_file;
+          found = s.found;
+          calls = ap (λ (n : ℕ). n + 1) s.calls;
+          made = s.made;
+          ranked = omega (arith, s.ranked, length-append {A = Entry} h (e ∷ []));
+          slots = quiet slots.table.slots s.model (counted s.model) more agrees (record { keys = refl; given = omega arith });
+          holdings = holdings;
+          directory = same_directory old.file.cells.slots.items s.model s.directory;
+          device = same_device (held old.devices) s.model s.device;
+          file = λ tells. subst (StandsForKeys told may_leave disk_here old.file.cells.slots.items (durable_keys s.model)) (sym (doubt_stays start h e still)) (s.file tells);
+          promise = λ tells. promise_goes_on after FitsCourse (opened start) (λ (x : Entry). x.done) (left_since disk_here) (left_since disk_here) (moment disk_here) (moment disk_here) opening.moment h e (s.promise tells)
+              (within_none (moment disk_here) (left_since disk_here) _) (fits_after still s.model (s.replayed (inl tells)) (s.file tells)) is.done;
+          caused = go_on (is_some (told disk_here)) opening.counts h e s.caused (subst (HasFault (is_some (told disk_here)) (last_counts opening.counts h) e) (sym is.marked) fault);
+          allowed = λ k. allowed_go_on start h e (s.allowed (told_before (told disk_here) start h e k)) (subst (MayBeMarked (replay start h) e.caller e.call) (sym is.marked) (may k));
+        }
+
+  -- and one that leaves the file and the slots
+  pub counts_on : (only_now : (disk : D) (image : List ℕ) → left_since disk (moment disk) image → may_leave disk image) (old : Store D A C) (start : Service) (opening : Opening) (h : List Entry) (all : List Pairs) (e : Entry) →
+      may_change_keys e.call ≡ false → IsTurn (turned old old.slots) Plain e → StandsHere old start opening h all → StandsHere (turned old old.slots) start opening (h ++ e ∷ []) all
+  counts_on only_now old start opening h all e still is s =
+      let told_here = told old.file.cells.disk in
+      let n = (goes_on old start opening h old.file old.slots old.buffer all (IsTold told_here start (h ++ e ∷ [])) (left_alone old.file) (told_before told_here start h e) s.holds s.holds.slots).0 in
+      (ends_quiet only_now old old.slots Plain start opening h all all e n n.slots n.holdings tt (λ k. tt) still is).0

@@ -1,0 +1,115 @@
+-- What the directory says of the keys, and keys as a file keeps them.
+use Rattle.std.proofs.Common.{◌≡◌, ◌∙◌, ℕ, ◌*◌, ◌<◌, ◌≤◌, ◌==◌, Bool, true, false, cond, List, [], ◌∷◌, ◌++◌, length, refl, sym, ap, subst, arith, eq-eqb, nat_le, ◌&&◌, ◌||◌, not, Option, None, Some}
+use Rattle.std.proofs.lemmas.Bool.{false≢true, eqb-true}
+use Rattle.std.proofs.lemmas.Bool.Decides.{nat_tests}
+use Rattle.std.specs.Prelude.{Ok, bit_and}
+use Rattle.std.specs.FinMap as map
+use Rattle.psa_status.specs.declared.Status.{Status}
+use Rattle.psa_status.specs.declared.Status.TheVariants.{NotSupported, InvalidArgument}
+use Rattle.psa_status.specs.Rows.{Rows, first_row, unless}
+use Rattle.psa_status.proofs.Rows.{first_row-back, unless-ok}
+use Rattle.key_attributes.specs.declared.Attributes.{Attributes}
+use Rattle.key_attributes.specs.Checks.{persistence, implied_usage, size_rows, attribute_rows, is_lifetime, is_stated_id, filled, checked}
+use Rattle.key_record.specs.Record.{IsKept, is_usage}
+use Rattle.key_cells.specs.declared.slot.Slot as cell
+use Rattle.key_cells.specs.declared.slot.Slot.TheVariants.{Free, Open, Shut, Unsure}
+use Rattle.key_cells.specs.Contents.{HasNoKey, cell_slot, has_id, creation_of_slot}
+use Rattle.key_cells.specs.Body.{IsKeyOf}
+use Rattle.key_slots.specs.Standing.{IsVolatileKey}
+use Rattle.store_model.specs.Store as model
+use Rattle.store_model.specs.Store.{Key, is_volatile, is_opaque, is_persistent_key}
+use Rattle.store_model.specs.Creation.{identified}
+use Rattle.store_model.specs.Sound.{as_stated}
+use Rattle.store_core.specs.Represents.{IsDirectory}
+
+-- THE DIRECTORY
+
+-- a cell's key, which is persistent
+abbrev pub HasCellKey : model.Store → (id number : ℕ) → Type 0
+HasCellKey m id number = (key : Key) × (map.get m.keys id ≡ Some key) × (is_volatile key.attributes ≡ false) × (key.number ≡ number)
+
+pub key_of_cell : (slots : List cell.Slot) (m : model.Store) (id c : ℕ) → IsDirectory slots m → c < 512 → has_id id (cell_slot slots c) ≡ true → HasCellKey m id (creation_of_slot (cell_slot slots c))
+key_of_cell slots m id c d lt has = go (cell_slot slots c) refl has where
+  go : (slot : cell.Slot) → cell_slot slots c ≡ slot → has_id id slot ≡ true → HasCellKey m id (creation_of_slot slot)
+  go Free at is = absurd (false≢true is)
+  go (Open own number) at is = subst (λ (n : ℕ). HasCellKey m n number) (eqb-true own id is) (d.only c own number lt at)
+  go Shut at is = absurd (false≢true is)
+  go Unsure at is = absurd (false≢true is)
+
+pub is_persistent : (o : Option Key) (key : Key) → o ≡ Some key → is_volatile key.attributes ≡ false → is_persistent_key o ≡ true
+is_persistent o key is lasts = ap is_persistent_key is ∙ ap not lasts
+
+-- there is no key where no slot has a volatile one and no cell has one
+pub no_key : (slots : List cell.Slot) (m : model.Store) (id : ℕ) → IsDirectory slots m → HasNoKey slots id → (IsVolatileKey (map.get m.keys id) → ⊥) → map.get m.keys id ≡ None
+no_key slots m id d none lasts = go (map.get m.keys id) refl lasts where
+  in_cell : (key : Key) → map.get m.keys id ≡ Some key → (b : Bool) → is_volatile key.attributes ≡ b → (b ≡ true → ⊥) → ⊥
+  in_cell key is true volatile lasts = lasts refl
+  in_cell key is false persistent lasts =
+      let there = d.there id key is persistent in
+      let sized = d.sized in
+      let inside = there.1 in
+      false≢true (sym (none there.0 (omega arith)) ∙ (ap (has_id id) there.2 ∙ eq-eqb id id refl))
+
+  go : (o : Option Key) → map.get m.keys id ≡ o → (IsVolatileKey o → ⊥) → o ≡ None
+  go None is lasts = refl
+  go (Some key) is lasts = absurd (in_cell key is (is_volatile key.attributes) refl lasts)
+
+-- THE ATTRIBUTES OF A KEY THAT IS KEPT
+
+skip : (b : Bool) (s : Status) (o : Option Status) → b ≡ false → cond b (Some s) o ≡ o
+skip b s o isnt = ap (λ x. cond x (Some s) o) isnt
+
+and_false : (a b : Bool) → b ≡ false → (a && b) ≡ false
+and_false true b isnt = isnt
+and_false false b isnt = refl
+
+and_left : (a b : Bool) → (a && b) ≡ true → a ≡ true
+and_left true b is = refl
+and_left false b is = absurd (false≢true is)
+
+and_right : (a b : Bool) → (a && b) ≡ true → b ≡ true
+and_right true b is = is
+and_right false b is = absurd (false≢true is)
+
+between : (id : ℕ) → 1 ≤ id → id ≤ 0x3fffffff → (nat_le 1 id && nat_le id 0x3fffffff) ≡ true
+between id least most = grind (arith, nat_tests)
+
+module _ (a : Attributes) (bytes : List ℕ) (is : IsKeyOf a bytes) where
+  pub lasting : is_volatile a ≡ false
+  lasting = ap (λ n. persistence n == 0) is.kept.lifetime
+
+  pub local : is_opaque a ≡ false
+  local = ap (λ n. model.is_opaque (record a { lifetime = record { 0 = n } })) is.kept.lifetime
+
+  abbrev usage : ℕ
+  usage = a.policy.usage.0
+
+  module _ (driver : Bool) where
+    sizes : (first_row (size_rows a.key_type.0 (length bytes)) ≡ None) × (8 * length bytes ≡ a.bits)
+    sizes = unless-ok (first_row (size_rows a.key_type.0 (length bytes))) (8 * length bytes) a.bits is.kept.size
+
+    bits_fit : (not (a.bits == 0) && not (a.bits == 8 * length bytes)) ≡ false
+    bits_fit = and_false (not (a.bits == 0)) (not (a.bits == 8 * length bytes)) (ap not (eq-eqb a.bits (8 * length bytes) (sym sizes.1)))
+
+    rows_pass : first_row (attribute_rows a (length bytes) driver) ≡ None
+    rows_pass =
+        skip (not (is_lifetime a.lifetime.0 driver)) NotSupported _ (ap (λ n. not (is_lifetime n driver)) is.kept.lifetime)
+        ∙ skip (not (is_stated_id a.lifetime.0 a.id.0)) InvalidArgument _ (ap (λ n. not (is_stated_id n a.id.0)) is.kept.lifetime ∙ ap not (between a.id.0 is.named.0 is.named.1))
+        ∙ skip (not (bit_and usage 0xffff00f8 == 0)) InvalidArgument _ (ap not (and_left (bit_and usage 0xffff00f8 == 0) (implied_usage usage == usage) is.kept.usage))
+        ∙ first_row-back (size_rows a.key_type.0 (length bytes)) ((not (a.bits == 0) && not (a.bits == 8 * length bytes), InvalidArgument) ∷ []) sizes.0
+        ∙ skip (not (a.bits == 0) && not (a.bits == 8 * length bytes)) InvalidArgument None bits_fit
+
+    abbrev with_parts : ℕ → ℕ → Attributes
+    with_parts bits flags = record a { bits = bits; policy = record { usage = record { 0 = flags }; alg = a.policy.alg } }
+
+    filled_same : filled a (length bytes) ≡ a
+    filled_same =
+        ap (λ n. with_parts n (implied_usage usage)) sizes.1
+        ∙ ap (with_parts a.bits) (eqb-true (implied_usage usage) usage (and_right (bit_and usage 0xffff00f8 == 0) (implied_usage usage == usage) is.kept.usage))
+
+    checks : checked a (length bytes) driver ≡ Ok a
+    checks = ap (λ o. unless o (filled a (length bytes))) rows_pass ∙ ap (λ (x : Attributes). unless None x) filled_same
+
+    -- they come out of the checks as they are
+    pub kept_checked : checked (as_stated a) (length bytes) driver ≡ Ok (as_stated a)
+    kept_checked = subst (λ (x : Attributes). checked x (length bytes) driver ≡ Ok x) (sym (ap (λ b. cond b (identified a 0) a) lasting)) checks

@@ -1,0 +1,6 @@
+mod Histories
+mod Holding
+mod Kept
+mod Replaced
+mod Loading
+mod Refusing

@@ -1,0 +1,150 @@
+-- A key that was loaded from the file.
+use Rattle.std.proofs.Common.{◌≡◌, ◌⊎◌, ◌∙◌, ℕ, ◌+◌, ◌<◌, ◌≤◌, Bool, true, false, cond, List, [], ◌∷◌, ◌++◌, refl, sym, ap, subst, arith, inl, inr, Option, None, Some, is_some}
+use Rattle.std.proofs.lemmas.Bool.{false≢true}
+use Rattle.std.specs.Option.{option_and_then}
+use Rattle.std.specs.FinMap as map
+use Rattle.policy_rules.specs.declared.narrowing.Label.{Label}
+use Rattle.key_attributes.specs.declared.Attributes.{Attributes}
+use Rattle.secret_bytes.specs.Buffer.{Buffer}
+use Rattle.driver_dispatch.specs.Held.{HeldKeys}
+use Rattle.key_cells.specs.Contents.{cell_slot, has_id, creation_of_slot}
+use Rattle.key_cells.specs.Body.{IsKeyOf}
+use Rattle.key_file.specs.declared.file.KeyFile.{KeyFile}
+use Rattle.key_file.specs.Files.{Stored, stored}
+use Rattle.slot_table.specs.Slots.{Slot, NoKey}
+use Rattle.slot_table.specs.Changes.{full_slot}
+use Rattle.slot_table.proofs.AtSlots.{bytes-buffer_of}
+use Rattle.key_slots.specs.declared.slots.KeySlots.{KeySlots}
+use Rattle.key_slots.specs.Holdings.{Pairs, Gains}
+use Rattle.key_slots.specs.Standing.{Agrees, SlotHasKey, Puts}
+use Rattle.store_model.specs.Store as model
+use Rattle.store_model.specs.Store.{Key, is_opaque, is_persistent_key}
+use Rattle.store_model.specs.Handles.{Service}
+use Rattle.store_model.specs.Requests.{Request}
+use Rattle.store_model.specs.Replay.{Entry, replay}
+use Rattle.store_model.specs.Marks.{id_read, reads_persistent, IsCaused}
+use Rattle.store_core.specs.declared.store.Store.{Store}
+use Rattle.store_core.specs.Durability.{kept, durable_keys}
+use Rattle.store_core.specs.Represents.{IsTold, IsDirectory, Opening}
+use Rattle.store_core.proofs.Histories.{reads_last, told_before}
+use Rattle.store_core.proofs.Holding.{HoldsHere, IsReadingHere, IsReadOn, moved, goes_on}
+use Rattle.store_core.proofs.Kept.{HasCellKey, key_of_cell, is_persistent, local}
+use Rattle.store_core.proofs.Replaced.{replaced, put_here, sound_after, directory_after, device_after, agrees_after}
+
+-- a request reads a persistent key where that of its identifier is one
+pub reads_it : (service : Service) (caller : ℕ) (request : Request) (id : ℕ) (m : model.Store) → id_read service caller request ≡ Some id → m ≡ service.store →
+    reads_persistent service caller request ≡ is_persistent_key (map.get m.keys id)
+reads_it service caller request id m reads same =
+    ap (λ (o : Option ℕ). is_persistent_key (option_and_then (map.get service.store.keys) o)) reads ∙ ap (λ (s : model.Store). is_persistent_key (map.get s.keys id)) (sym same)
+
+-- over a disk that doesn't tell its bytes no more is told once a persistent key was read
+untold : (told : Option (List ℕ)) (start : Service) (h : List Entry) (e : Entry) (id : ℕ) (m : model.Store) → is_some told ≡ false → (IsTold told start h → id_read (replay start h) e.caller e.call ≡ Some id) →
+    (IsTold told start h → m ≡ (replay start h).store) → is_persistent_key (map.get m.keys id) ≡ true → IsTold told start (h ++ e ∷ []) → ⊥
+untold told start h e id m blind reads same persistent (inl tells) = false≢true (sym blind ∙ tells)
+untold told start h e id m blind reads same persistent (inr none) =
+    let known = told_before told start h e (inr none) in
+    false≢true (sym (reads_last start h e none) ∙ (reads_it (replay start h) e.caller e.call id m (reads known) (same known) ∙ persistent))
+
+-- a key was loaded with its number
+pub record IsLoaded (key : Key) (number : ℕ) (a : Attributes) (bytes : List ℕ) : Type 0 where
+  pub has_number : key.number ≡ number
+  pub has_attributes : key.attributes ≡ a
+  pub has_bytes : key.bytes ≡ bytes
+
+-- a store has the loaded key
+abbrev pub HasLoaded : model.Store → (id number : ℕ) → Attributes → List ℕ → Type 0
+HasLoaded m id number a bytes = (key : Key) × (map.get m.keys id ≡ Some key) × IsLoaded key number a bytes
+
+stored_same : (x y : Stored) → Some x ≡ Some y → x ≡ y
+stored_same x y e = cc
+
+file_key : (m : model.Store) (id number : ℕ) (a : Attributes) (bytes : List ℕ) → HasCellKey m id number → durable_keys m id ≡ Some (stored number a bytes) → HasLoaded m id number a bytes
+file_key m id number a bytes k filed =
+    let own = stored k.0.number k.0.attributes k.0.bytes in
+    let is : durable_keys m id ≡ Some own = ap kept k.1 ∙ ap (λ b. cond b None (Some own)) k.2 in
+    let same : own ≡ stored number a bytes = stored_same own (stored number a bytes) (sym is ∙ filed) in
+    (k.0, k.1, record { has_number = k.3; has_attributes = ap (λ (s : Stored). s.attributes) same; has_bytes = ap (λ (s : Stored). s.bytes) same })
+
+-- a slot that was filled so has the key
+pub filled_has : (slot : Slot) (key : Key) (number : ℕ) (a : Attributes) (bytes : List ℕ) → slot ≡ full_slot number a bytes → IsKeyOf a bytes → IsLoaded key number a bytes → SlotHasKey slot key
+filled_has slot key number a bytes filled is l = subst (λ (s : Slot). SlotHasKey s key) (sym filled) (record {
+  number = sym l.has_number;
+  attributes = sym l.has_attributes;
+  bytes = bytes-buffer_of bytes ∙ sym (ap (λ b. cond b [] key.bytes) (ap is_opaque l.has_attributes ∙ local a bytes is) ∙ l.has_bytes);
+})
+
+pub stays_put : (m : model.Store) (id : ℕ) (key : Key) → map.get m.keys id ≡ Some key → Puts m m id (Some key)
+stays_put m id key there = record { here = there; others = λ q other. refl; given = omega arith }
+
+-- one more caller has this pair, and nothing else
+pub gains_one : (all : List Pairs) (p : ℕ × ℕ) → Gains all ((p ∷ []) ∷ all) p
+gains_one all p = λ i n. omega arith
+
+module _ {D A C : Type 0} (told : D → Option (List ℕ)) (may_leave : D → List ℕ → Type 0) (moment : D → ℕ) (left_since : D → ℕ → List ℕ → Type 0)
+    (faults : D → ℕ) (held : A → Option HeldKeys) (hard : A → ℕ) (locations : A → List ℕ) (labels : C → List Label)
+    (old : Store D A C) (file : KeyFile D) (slots : KeySlots) (buffer : Buffer) (start : Service) (opening : Opening) (h : List Entry) (all : List Pairs) (e : Entry) where
+  abbrev told_here : Option (List ℕ)
+  told_here = told old.file.cells.disk
+
+  abbrev pub HoldsBefore : Type 0
+  HoldsBefore = HoldsHere told may_leave moment left_since faults held hard locations labels (IsTold told_here start h) old start opening h all
+
+  abbrev pub HoldsAfter : Type 0
+  HoldsAfter = HoldsHere told may_leave moment left_since faults held hard locations labels (IsTold (told file.cells.disk) start (h ++ e ∷ [])) (moved told may_leave moment left_since faults held hard locations labels old file slots buffer) start opening h all
+
+  known : told file.cells.disk ≡ told_here → IsTold (told file.cells.disk) start (h ++ e ∷ []) → IsTold told_here start (h ++ e ∷ [])
+  known same k = subst (λ (t : Option (List ℕ)). IsTold t start (h ++ e ∷ [])) same k
+
+  -- the store holds the keys that it held
+  pub brings : (P : model.Store → Type 0) → IsReadOn told may_leave moment left_since faults held hard locations labels old.file file → (s : HoldsBefore) → Agrees slots.table.slots s.model all → P s.model → (n : HoldsAfter) × P n.model
+  brings P read s agrees is =
+      let n = goes_on told may_leave moment left_since faults held hard locations labels old start opening h file slots buffer all (IsTold (told file.cells.disk) start (h ++ e ∷ [])) read
+      (λ k. told_before told_here start h e (known read.same k)) s agrees in
+      (n.0, subst P (sym n.1) is)
+
+  module _ (id c : ℕ) (a : Attributes) (bytes : List ℕ) where
+    abbrev number : ℕ
+    number = creation_of_slot (cell_slot old.file.cells.slots.items c)
+
+    abbrev IsFound : Type 0
+    IsFound = (n : HoldsAfter) × HasLoaded n.model id number a bytes
+
+    -- the store holds the key that was loaded, in its slot
+    pub loads : IsReadOn told may_leave moment left_since faults held hard locations labels old.file file → (s : HoldsBefore) →
+        IsReadingHere told may_leave moment left_since faults held hard locations labels old start h e id → c < 512 → has_id id (cell_slot old.file.cells.slots.items c) ≡ true → IsKeyOf a bytes → a.id.0 ≡ id →
+        (is_some told_here ≡ true → durable_keys s.model id ≡ Some (stored number a bytes)) → NoKey id old.slots.table.slots →
+        ((m : model.Store) → Agrees old.slots.table.slots m all → HasLoaded m id number a bytes → Agrees slots.table.slots m all) → IsFound
+    loads read s is lt has key named filed none fills = go (is_some told_here) refl where
+      own : HasCellKey s.model id number
+      own = key_of_cell old.file.cells.slots.items s.model id c s.directory lt has
+
+      blind_again : is_some told_here ≡ false → is_some (told file.cells.disk) ≡ true → ⊥
+      blind_again blind tells = false≢true (sym blind ∙ (ap is_some (sym read.same) ∙ tells))
+
+      go : (b : Bool) → is_some told_here ≡ b → IsFound
+      go true tells =
+          let k = file_key s.model id number a bytes own (filed tells) in
+          brings (λ m. HasLoaded m id number a bytes) read s (fills s.model s.slots k) k
+      go false blind =
+          let new : Key = record own.0 { attributes = a; bytes = bytes } in
+          let there : HasLoaded (replaced s.model id new) id number a bytes = (new, put_here s.model id new, record { has_number = own.3; has_attributes = refl; has_bytes = refl }) in
+          (record {
+            model = replaced s.model id new;
+            replayed = λ k. absurd (untold told_here start h e id s.model blind is.reads s.replayed (is_persistent (map.get s.model.keys id) own.0 own.1 own.2) (known read.same k));
+            sound = sound_after s.model id own.0 a bytes own.1 own.2 key named s.sound;
+            labels_are = s.labels_are;
+            locations_are = s.locations_are;
+            has_file = s.has_file;
+            found = s.found;
+            calls = s.calls;
+            made = s.made;
+            ranked = s.ranked;
+            slots = fills (replaced s.model id new) (agrees_after s.model id own.0 a bytes own.1 own.2 key named old.slots.table.slots all none s.slots) there;
+            holdings = s.holdings;
+            directory = subst (λ (l : _). IsDirectory l.items (replaced s.model id new)) (sym read.slots) (directory_after s.model id own.0 a bytes own.1 own.2 key named old.file.cells.slots.items s.directory);
+            device = device_after s.model id own.0 a bytes own.1 own.2 key named (held old.devices) s.device;
+            file = λ tells. absurd (blind_again blind tells);
+            promise = λ tells. absurd (blind_again blind tells);
+            caused = subst (λ (t : Option (List ℕ)). IsCaused (is_some t) opening.counts h) (sym read.same) s.caused;
+            allowed = λ t. s.allowed (subst (λ (o : Option (List ℕ)). IsTold o start h) read.same t);
+          }, there)

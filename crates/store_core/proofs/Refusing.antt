@@ -1,0 +1,83 @@
+-- A ranked turn that looked for a key.
+use Rattle.std.proofs.Common.{◌≡◌, ◌∙◌, ℕ, ◌<◌, Bool, true, false, List, [], ◌∷◌, ◌++◌, refl, sym, ap, subst, Option, None, Some, is_some}
+use Rattle.std.specs.Prelude.{Err, IsErrOf}
+use Rattle.std.specs.FinMap as map
+use Rattle.psa_status.specs.declared.Status.{Status}
+use Rattle.psa_status.specs.declared.Status.TheVariants.{InvalidHandle}
+use Rattle.psa_status.specs.Causes.{Rose}
+use Rattle.policy_rules.specs.declared.narrowing.Label.{Label}
+use Rattle.driver_dispatch.specs.Held.{HeldKeys}
+use Rattle.key_slots.specs.Holdings.{Pairs}
+use Rattle.store_model.specs.Store as model
+use Rattle.store_model.specs.Store.{Key, is_persistent_key}
+use Rattle.store_model.specs.Faults.{Plain}
+use Rattle.store_model.specs.Outcome.{counted}
+use Rattle.store_model.specs.Handles.{Service}
+use Rattle.store_model.specs.Replay.{Entry, replay}
+use Rattle.store_model.specs.Marks.{FaultCounts, last_counts, reads_persistent}
+use Rattle.store_core.specs.declared.store.Store.{Store}
+use Rattle.store_core.specs.declared.reading.Unread.{Unread}
+use Rattle.store_core.specs.declared.reading.Unread.TheVariants.{Missing, Disk, Corrupt}
+use Rattle.store_core.specs.Represents.{IsTold, Opening}
+use Rattle.store_core.specs.Uses.{IsRefused, mark_of, status_of}
+use Rattle.store_core.proofs.Histories.{told_before}
+use Rattle.store_core.proofs.Holding.{HoldsHere, StandsHere, IsTurn, IsReadingHere, turned, ends_quiet}
+use Rattle.store_core.proofs.Loading.{reads_it}
+
+-- a search ended so
+abbrev IsWhy : Unread → Unread → Type 0
+IsWhy why other = IsErrOf {T = ℕ} {E = Unread} (Err why) other
+
+module _ {D A C : Type 0} (told : D → Option (List ℕ)) (may_leave : D → List ℕ → Type 0) (moment : D → ℕ) (left_since : D → ℕ → List ℕ → Type 0)
+    (faults : D → ℕ) (held : A → Option HeldKeys) (hard : A → ℕ) (locations : A → List ℕ) (labels : C → List Label)
+    (only_now : (disk : D) (image : List ℕ) → left_since disk (moment disk) image → may_leave disk image)
+    (old mid : Store D A C) (start : Service) (opening : Opening) (h : List Entry) (all : List Pairs) (e : Entry) (id : ℕ) where
+  abbrev new : Store D A C
+  new = turned told may_leave moment left_since faults held hard locations labels mid mid.slots
+
+  -- what was brought
+  abbrev Brought : (model.Store → Type 0) → Type 0
+  Brought P = (n : HoldsHere told may_leave moment left_since faults held hard locations labels (IsTold (told mid.file.cells.disk) start (h ++ e ∷ [])) mid start opening h all) × P n.model
+
+  abbrev SameTold : Type 0
+  SameTold = told mid.file.cells.disk ≡ told old.file.cells.disk
+
+  -- the entry reads a persistent key
+  read_persistent : SameTold → IsReadingHere told may_leave moment left_since faults held hard locations labels old start h e id → Brought (λ m. is_persistent_key (map.get m.keys id) ≡ true) →
+      IsTold (told mid.file.cells.disk) start (h ++ e ∷ []) → reads_persistent (replay start h) e.caller e.call ≡ true
+  read_persistent same is n k =
+      let known = told_before (told old.file.cells.disk) start h e (subst (λ (t : Option (List ℕ)). IsTold t start (h ++ e ∷ [])) same k) in
+      reads_it (replay start h) e.caller e.call id n.0.model (is.reads known) (n.0.replayed k) ∙ n.1
+
+  -- the turn ends with what was brought
+  abbrev pub Ends : (model.Store → Type 0) → Type 0
+  Ends P = (n : StandsHere told may_leave moment left_since faults held hard locations labels new start opening (h ++ e ∷ []) all) × P n.holds.model
+
+  -- its key was found
+  pub ends_found : (P : model.Store → Type 0) → IsReadingHere told may_leave moment left_since faults held hard locations labels old start h e id → (n : Brought P) → (P n.0.model → P (counted n.0.model)) →
+      IsTurn told may_leave moment left_since faults held hard locations labels new Plain e → Ends P
+  ends_found P is n later turn =
+      let ends = ends_quiet told may_leave moment left_since faults held hard locations labels only_now mid mid.slots Plain start opening h all all e n.0 n.0.slots n.0.holdings tt (λ k. tt) is.quiet turn in
+      (ends.0, subst P (sym ends.1) (later n.1))
+
+  -- its key is not there, or could not be read
+  pub ends_unread : (rows : Option Key → Option Status) (why : Unread) → rows None ≡ Some InvalidHandle → SameTold →
+      StandsHere told may_leave moment left_since faults held hard locations labels old start opening h all → IsReadingHere told may_leave moment left_since faults held hard locations labels old start h e id →
+      (IsWhy why Missing → Brought (λ m. map.get m.keys id ≡ None)) → ((IsWhy why Missing → ⊥) → Brought (λ m. is_persistent_key (map.get m.keys id) ≡ true)) →
+      (IsWhy why Disk → Rose (faults old.file.cells.disk) (faults mid.file.cells.disk)) → (IsWhy why Corrupt → is_some (told mid.file.cells.disk) ≡ false) →
+      IsTurn told may_leave moment left_since faults held hard locations labels new (mark_of (status_of why)) e → Ends (IsRefused rows id (status_of why))
+  ends_unread rows Missing none same s is missing unread rose blind turn =
+      let n = missing refl in
+      let ends = ends_quiet told may_leave moment left_since faults held hard locations labels only_now mid mid.slots _ start opening h all all e n.0 n.0.slots n.0.holdings tt (λ k. tt) is.quiet turn in
+      (ends.0, subst (λ (m : model.Store). rows (map.get m.keys id) ≡ Some InvalidHandle) (sym ends.1) (ap rows n.1 ∙ none))
+  ends_unread rows Disk none same s is missing unread rose blind turn =
+      let n = unread (λ e. cc) in
+      let ends = ends_quiet told may_leave moment left_since faults held hard locations labels only_now mid mid.slots _ start opening h all all e n.0 n.0.slots n.0.holdings
+      (subst (Rose _) (sym turn.disk_faults) (subst (λ (f : ℕ). Rose f (faults mid.file.cells.disk)) (sym (ap (λ (c : FaultCounts). c.faults) s.counts)) (rose refl)))
+      (λ k. read_persistent same is n k) is.quiet turn in
+      (ends.0, subst (λ (m : model.Store). is_persistent_key (map.get m.keys id) ≡ true) (sym ends.1) n.1)
+  ends_unread rows Corrupt none same s is missing unread rose blind turn =
+      let n = unread (λ e. cc) in
+      let ends = ends_quiet told may_leave moment left_since faults held hard locations labels only_now mid mid.slots _ start opening h all all e n.0 n.0.slots n.0.holdings (blind refl)
+      (λ k. read_persistent same is n k) is.quiet turn in
+      (ends.0, subst (λ (m : model.Store). is_persistent_key (map.get m.keys id) ≡ true) (sym ends.1) n.1)

@@ -1,0 +1,170 @@
+-- A store of which one key that is kept in the file has other attributes and bytes.
+use Rattle.std.proofs.Common.{◌≡◌, ◌≢◌, ◌⊎◌, ◌∙◌, ℕ, ◌+◌, ◌<◌, ◌≤◌, ◌==◌, Bool, true, false, cond, nat_lt, List, [], ◌∷◌, length, refl, sym, ap, subst, arith, inl, inr, Option, None, Some}
+use Rattle.std.proofs.lemmas.Bool.{false≢true, eqb-true, cases_eq}
+use Rattle.std.proofs.lemmas.Bool.Decides.{nat_tests}
+use Rattle.std.specs.Ordering.{nat_cmp}
+use Rattle.std.proofs.lemmas.Cmp.{nat_cmp_total}
+use Rattle.std.specs.FinMap as map
+use Rattle.key_attributes.specs.declared.Attributes.{Attributes}
+use Rattle.key_cells.specs.declared.slot.Slot as cell
+use Rattle.key_cells.specs.declared.slot.Slot.TheVariants.{Open}
+use Rattle.key_cells.specs.Contents.{cell_slot}
+use Rattle.key_cells.specs.Body.{IsKeyOf}
+use Rattle.driver_dispatch.specs.Held.{HeldKeys}
+use Rattle.driver_dispatch.specs.Calls.{HoldsHandle}
+use Rattle.slot_table.specs.Slots.{Slot, slot_at, holds_key, NoKey}
+use Rattle.key_slots.specs.Holdings.{Pairs}
+use Rattle.key_slots.specs.Standing.{Agrees, IsGone}
+use Rattle.key_slots.proofs.Agreeing.{holds_its_key}
+use Rattle.store_model.specs.Store as model
+use Rattle.store_model.specs.Store.{Key, KeyMap, is_volatile, is_opaque, is_volatile_of}
+use Rattle.store_model.specs.Sound.{IsSoundKey, IsSoundStore}
+use Rattle.store_model.proofs.Sound.{put, taken}
+use Rattle.store_model.proofs.Live.{len_kept-insert}
+use Rattle.store_core.specs.Represents.{IsDirectory, HoldsKeys}
+use Rattle.store_core.proofs.Kept.{HasCellKey, lasting, local, kept_checked}
+
+-- as many keys are kept of the map
+put_twice : (b : Bool) (x : Option Key) (o : Option Key) → cond b x o ≡ cond b x (cond b None o)
+put_twice true x o = refl
+put_twice false x o = refl
+
+put_back : (b : Bool) (x o : Option Key) → (b ≡ true → o ≡ x) → o ≡ cond b x (cond b None o)
+put_back true x o is = is refl
+put_back false x o is = refl
+
+over_removed : (keys : KeyMap) (id : ℕ) (new : Key) → map.insert keys id new ≡ map.insert (map.remove keys id) id new
+over_removed keys id new = map.same_map nat_cmp_total map.nat_cmp-IsAntisymmetric _ _ (λ q.
+    put keys id new q ∙ put_twice (q == id) (Some new) (map.get keys q) ∙ sym (put (map.remove keys id) id new q ∙ ap (cond (q == id) (Some new)) (taken keys id q)))
+
+back_again : (keys : KeyMap) (id : ℕ) (key : Key) → map.get keys id ≡ Some key → keys ≡ map.insert (map.remove keys id) id key
+back_again keys id key is = map.same_map nat_cmp_total map.nat_cmp-IsAntisymmetric _ _ (λ q.
+    put_back (q == id) (Some key) (map.get keys q) (λ same. ap (map.get keys) (eqb-true q id same) ∙ is) ∙ sym (put (map.remove keys id) id key q ∙ ap (cond (q == id) (Some key)) (taken keys id q)))
+
+same_count : (p : ℕ → Bool) (keys : KeyMap) (id : ℕ) (key new : Key) → map.get keys id ≡ Some key → map.len (map.retain_keys (map.insert keys id new) p) ≡ map.len (map.retain_keys keys p)
+same_count p keys id key new is =
+    let left = map.remove keys id in
+    let none : map.get left id ≡ None = taken keys id id ∙ ap (λ b. cond b None (map.get keys id)) (same_number id) in
+    let count : KeyMap → ℕ = λ m. map.len (map.retain_keys m p) in
+    ap count (over_removed keys id new) ∙ len_kept-insert p left id new none ∙ sym (ap count (back_again keys id key is) ∙ len_kept-insert p left id key none)
+  where
+    same_number : (n : ℕ) → (n == n) ≡ true
+    same_number n = grind (arith, nat_tests)
+
+pub some_same : (x y : Key) → Some x ≡ Some y → x ≡ y
+some_same x y e = cc
+
+abbrev pub replaced : model.Store → ℕ → Key → model.Store
+replaced m id new = record m { keys = map.insert m.keys id new }
+
+-- what is found in it
+abbrev pub IsFoundIn : model.Store → (id : ℕ) → Key → (q : ℕ) → Key → Type 0
+IsFoundIn m id new q k = ((q ≡ id) × (new ≡ k)) ⊎ ((q ≢ id) × (map.get m.keys q ≡ Some k))
+
+module _ (m : model.Store) (id : ℕ) (new : Key) where
+  pub put_here : map.get (map.insert m.keys id new) id ≡ Some new
+  put_here = put m.keys id new id ∙ ap (λ b. cond b (Some new) (map.get m.keys id)) (same id)
+    where
+      same : (n : ℕ) → (n == n) ≡ true
+      same n = grind (arith, nat_tests)
+
+  pub put_other : (q : ℕ) → q ≢ id → map.get (map.insert m.keys id new) q ≡ map.get m.keys q
+  put_other q other = put m.keys id new q ∙ ap (λ b. cond b (Some new) (map.get m.keys q)) (apart q id other)
+    where
+      apart : (n k : ℕ) → n ≢ k → (n == k) ≡ false
+      apart n k differ = grind (arith, nat_tests)
+
+  found_in : (q : ℕ) (k : Key) → map.get (map.insert m.keys id new) q ≡ Some k → IsFoundIn m id new q k
+  found_in q k is = elim (cases_eq q id) [
+    | inl same ↦ inl (same, some_same new k (sym put_here ∙ (ap (map.get (map.insert m.keys id new)) (sym same) ∙ is)))
+    | inr other ↦ inr (other, sym (put_other q other) ∙ is)
+  ]
+
+-- A key that is kept in the file, and what was loaded of it.
+module _ (m : model.Store) (id : ℕ) (key : Key) (a : Attributes) (bytes : List ℕ) (there : map.get m.keys id ≡ Some key) (persistent : is_volatile key.attributes ≡ false) (is : IsKeyOf a bytes) (named : a.id.0 ≡ id) where
+  abbrev pub loaded : Key
+  loaded = record key { attributes = a; bytes = bytes }
+
+  abbrev pub after : model.Store
+  after = replaced m id loaded
+
+  key_after : (q : ℕ) (k : Key) → IsSoundStore m → IsFoundIn m id loaded q k → IsSoundKey after q k
+  key_after q k s (inl here) = subst (IsSoundKey after q) here.1 (record {
+    identifier = named ∙ sym here.0;
+    given = (s.keys id key there).given;
+    attributes = kept_checked a bytes is (model.has_secure_element m);
+    volatile = λ volatile. absurd (false≢true (sym (lasting a bytes is) ∙ volatile));
+  })
+  key_after q k s (inr old) = let was = s.keys q k old.1 in record {
+    identifier = was.identifier;
+    given = was.given;
+    attributes = was.attributes;
+    volatile = λ volatile. let v = was.volatile volatile in record { from_first = v.from_first; to_last = v.to_last; made = v.made };
+  }
+
+  apart : (q r : ℕ) (k l : Key) → IsSoundStore m → IsFoundIn m id loaded q k → IsFoundIn m id loaded r l → k.number ≡ l.number → q ≡ r
+  apart q r k l s (inl one) (inl two) same = one.0 ∙ sym two.0
+  apart q r k l s (inl one) (inr two) same = one.0 ∙ s.numbers id r key l there two.1 (ap (λ (x : Key). x.number) one.1 ∙ same)
+  apart q r k l s (inr one) (inl two) same = s.numbers q id k key one.1 there (same ∙ sym (ap (λ (x : Key). x.number) two.1)) ∙ sym two.0
+  apart q r k l s (inr one) (inr two) same = s.numbers q r k l one.1 two.1 same
+
+  pub sound_after : IsSoundStore m → IsSoundStore after
+  sound_after s = record {
+    keys = λ q k e. key_after q k s (found_in m id loaded q k e);
+    numbers = λ q r k l e f same. apart q r k l s (found_in m id loaded q k e) (found_in m id loaded r l f) same;
+    made = s.made;
+    live = λ c. subst (λ n. n ≤ 16) (sym (same_count (is_volatile_of c) m.keys id key loaded there)) (s.live c);
+    persistent = subst (λ n. n ≤ 512) (sym (same_count (λ i. nat_lt i 0x40000000) m.keys id key loaded there)) s.persistent;
+    callers = s.callers;
+  }
+
+  -- the directory has it
+  pub directory_after : (slots : List cell.Slot) → IsDirectory slots m → IsDirectory slots after
+  directory_after slots d = record {
+    sized = d.sized;
+    there = λ q k e lasts. in_cell q k (found_in m id loaded q k e) lasts;
+    only = λ c q number lt at. of_cell q number (cases_eq q id) (d.only c q number lt at);
+    one = d.one;
+  } where
+    in_cell : (q : ℕ) (k : Key) → IsFoundIn m id loaded q k → is_volatile k.attributes ≡ false → (c : ℕ) × (c < 512) × (cell_slot slots c ≡ Open q k.number)
+    in_cell q k (inl here) lasts = let c = d.there id key there persistent in (c.0, c.1, c.2 ∙ (ap (λ n. Open n key.number) (sym here.0) ∙ ap (λ (x : Key). Open q x.number) here.1))
+    in_cell q k (inr old) lasts = d.there q k old.1 lasts
+
+    of_cell : (q number : ℕ) → ((q ≡ id) ⊎ (q ≢ id)) → HasCellKey m q number → HasCellKey after q number
+    of_cell q number (inl same) k =
+        let own : k.0 ≡ key = some_same k.0 key (sym k.1 ∙ (ap (map.get m.keys) same ∙ there)) in
+        (loaded, ap (map.get after.keys) same ∙ put_here m id loaded, lasting a bytes is, sym (ap (λ (x : Key). x.number) own) ∙ k.3)
+    of_cell q number (inr other) k = (k.0, put_other m id loaded q other ∙ k.1, k.2, k.3)
+
+  -- a device hasn't it
+  pub device_after : (held : Option HeldKeys) → HoldsKeys held m → HoldsKeys held after
+  device_after held d = record {
+    there = λ q k e opaque. in_device q k (found_in m id loaded q k e) opaque;
+    new = d.new;
+  } where
+    in_device : (q : ℕ) (k : Key) → IsFoundIn m id loaded q k → is_opaque k.attributes ≡ true → HoldsHandle held k.number (λ h. h ≡ record { key_type = k.attributes.key_type.0; bytes = k.bytes })
+    in_device q k (inl here) opaque = absurd (false≢true (sym (local a bytes is) ∙ (ap (λ (x : Key). is_opaque x.attributes) here.1 ∙ opaque)))
+    in_device q k (inr old) opaque = d.there q k old.1 opaque
+
+  -- slots that haven't it agree
+  pub agrees_after : (slots : List Slot) (all : List Pairs) → NoKey id slots → Agrees slots m all → Agrees slots after all
+  agrees_after slots all none g = record {
+    each = λ i lt. let at = g.each i lt in record {
+      held = at.held;
+      full = λ full. let k = at.full full in
+          (k.0, put_other m id loaded (slot_at slots i).attributes.id.0 (λ same. false≢true (sym (none i) ∙ holds_its_key id (slot_at slots i) full same)) ∙ k.1, k.2);
+      pending = λ pending. let gone = at.pending pending in record {
+        given = gone.given;
+        absent = λ q k e number. not_it (slot_at slots i).creation q k gone (found_in m id loaded q k e) number;
+      };
+    };
+    beyond = g.beyond;
+    found = λ q k e volatile. in_slot q k (found_in m id loaded q k e) volatile;
+  } where
+    not_it : (number q : ℕ) (k : Key) → IsGone m number → IsFoundIn m id loaded q k → k.number ≡ number → ⊥
+    not_it number q k gone (inl here) is = gone.absent id key there (ap (λ (x : Key). x.number) here.1 ∙ is)
+    not_it number q k gone (inr old) is = gone.absent q k old.1 is
+
+    in_slot : (q : ℕ) (k : Key) → IsFoundIn m id loaded q k → is_volatile k.attributes ≡ true → (i : ℕ) × (i < 384) × (holds_key q (slot_at slots i) ≡ true)
+    in_slot q k (inl here) volatile = absurd (false≢true (sym (lasting a bytes is) ∙ (ap (λ (x : Key). is_volatile x.attributes) here.1 ∙ volatile)))
+    in_slot q k (inr old) volatile = g.found q k old.1 volatile

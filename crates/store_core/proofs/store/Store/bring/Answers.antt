@@ -1,0 +1,27 @@
+use Rattle.std.proofs.Common.{◌≡◌, None}
+use Rattle.std.specs.FinMap as map
+use Rattle.slot_table.specs.Slots.{slot_at}
+use Rattle.store_core.specs.Uses.{IsBrought}
+use Rattle.store_core.proofs.Holding.{left_alone}
+use Rattle.store_core.proofs.Kept.{no_key}
+use Rattle.store_core.proofs.Loading.{brings}
+use Rattle.store_core.proofs.store.Store.bring.Goals as goal
+
+pub returns-in-Some-clause-found : goal.returns-in-Some-clause-found
+returns-in-Some-clause-found g c = λ start opening h all e s is.
+    let d = g.D.Disk in
+    let v = g.A.Devices in
+    let old = c.args.self.now in
+    brings d.contents d.may_leave d.moment d.left_since d.faults v.keys v.faults v.locations g.C.Admission.labels old old.file old.slots old.buffer start opening h all e
+    (IsBrought c.args.id.0 (slot_at old.slots.table.slots c.in-Some.slot)) (left_alone d.contents d.may_leave d.moment d.left_since d.faults v.keys v.faults v.locations g.C.Admission.labels old.file) s.holds s.holds.slots
+    (c.in-Some.ensures.key s.holds.model all s.holds.slots)
+
+pub returns-in_default-find-clause-missing : goal.returns-in_default-find-clause-missing
+returns-in_default-find-clause-missing g c = λ is_missing start opening h all e s is.
+    let d = g.D.Disk in
+    let v = g.A.Devices in
+    let old = c.args.self.now in
+    let m = s.holds.model in
+    brings d.contents d.may_leave d.moment d.left_since d.faults v.keys v.faults v.locations g.C.Admission.labels old old.file old.slots old.buffer start opening h all e
+    (λ n. map.get n.keys c.args.id.0 ≡ None) (left_alone d.contents d.may_leave d.moment d.left_since d.faults v.keys v.faults v.locations g.C.Admission.labels old.file) s.holds s.holds.slots
+    (no_key old.file.cells.slots.items m c.args.id.0 s.holds.directory c.in_default-find.ensures (c.in_default.ensures.none m all s.holds.slots))

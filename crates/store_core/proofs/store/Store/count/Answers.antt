@@ -1,0 +1,9 @@
+use Rattle.store_core.proofs.Holding.{counts_on}
+use Rattle.store_core.proofs.store.Store.count.Goals as goal
+
+pub returns-clause-adds : goal.returns-clause-adds
+returns-clause-adds g c = λ start opening h all e s still is.
+    let d = g.D.Disk in
+    let v = g.A.Devices in
+    let old = c.args.self.now in
+    counts_on d.contents d.may_leave d.moment d.left_since d.faults v.keys v.faults v.locations g.C.Admission.labels g.met.D.Disk.only_now old start opening h all e still is s

@@ -1,0 +1,100 @@
+use Rattle.std.proofs.Common.{◌≡◌, true, refl, ◌<◌, length, ℕ, List, [], ◌∷◌, ◌∙◌, inl, sym, ap, subst, arith, Some}
+use Rattle.std.specs.FinMap as map
+use Rattle.key_cells.specs.Body.{IsKeyOf}
+use Rattle.key_cells.specs.Contents.{cell_slot, creation_of_slot}
+use Rattle.key_file.specs.Files.{stored}
+use Rattle.slot_table.specs.Slots.{slot_at}
+use Rattle.key_slots.specs.Holdings.{Pairs}
+use Rattle.key_slots.proofs.Pairs.{was_out}
+use Rattle.key_slots.proofs.Counting.{always_found}
+use Rattle.store_model.specs.Store.{is_persistent_key}
+use Rattle.store_core.specs.Durability.{durable_keys, course_of}
+use Rattle.store_core.proofs.Kept.{key_of_cell, is_persistent}
+use Rattle.store_core.proofs.Loading.{IsLoaded, brings, loads, filled_has, stays_put, gains_one}
+use Rattle.store_core.proofs.store.Store.load.Goals as goal
+
+pub reserve-filling-requires : goal.reserve-filling-requires
+reserve-filling-requires g c =
+    let slots = c.args.self.now.slots in
+    let s = c.requires.stands.4.holds in
+    always_found slots.table s.model c.requires.stands.3 slots.lawful s.slots s.holdings s.sound
+
+pub fill-slot-requires-clause-out : goal.fill-slot-requires-clause-out
+fill-slot-requires-clause-out g c =
+    let s = c.requires.stands.4.holds in
+    let all = c.requires.stands.3 in
+    let slot = c.reserve-filling.result.slot in
+    let more : List Pairs = ((slot, 0) ∷ []) ∷ all in
+    record { store = s.model; all = more; agrees = c.reserve-filling.ensures.gives s.model all more s.slots (gains_one all (slot, 0)); out = was_out more all slot 0 (gains_one all (slot, 0)) }
+
+pub give_up-requires : goal.give_up-requires
+give_up-requires g c =
+    let s = c.requires.stands.4.holds in
+    let all = c.requires.stands.3 in
+    let slot = c.reserve-filling.result.slot in
+    let more : List Pairs = ((slot, 0) ∷ []) ∷ all in
+    record { store = s.model; all = more; agrees = c.reserve-filling.ensures.gives s.model all more s.slots (gains_one all (slot, 0)); out = was_out more all slot 0 (gains_one all (slot, 0)) }
+
+pub returns-in-Ok-clause-found : goal.returns-in-Ok-clause-found
+returns-in-Ok-clause-found g c = λ start opening h all e s is.
+    let d = g.D.Disk in
+    let v = g.A.Devices in
+    let old = c.args.self.now in
+    let id = c.args.id.0 in
+    let a = c.in-Ok.attributes in
+    let bytes = c.as_slice.result.now in
+    let list = c.as_slice.ensures.list in
+    let slot = c.reserve-filling.result.slot in
+    let more : List Pairs = ((slot, 0) ∷ []) ∷ all in
+    let gains = gains_one all (slot, 0) in
+    let m = s.holds.model in
+    let key : IsKeyOf a bytes = subst (IsKeyOf a) (sym list) c.in-Ok.ensures.key in
+    let sized = s.holds.directory.sized in
+    let there = c.requires.there.within in
+    let numbered = c.creation-number.ensures in
+    let found = loads d.contents d.may_leave d.moment d.left_since d.faults v.keys v.faults v.locations g.C.Admission.labels old c.load.new.self c.fill-slot.new.self c.wipe.new.self start opening h all e id c.args.cell a bytes
+    (record { same = c.load.ensures.same; slots = c.load.ensures.slots; keeps = c.load.ensures.keeps }) s.holds is (omega arith) c.requires.there.here key c.in-Ok.ensures.named
+    (λ tells. subst (λ (b : List ℕ). durable_keys m id ≡ Some (stored (creation_of_slot (cell_slot old.file.cells.slots.items c.args.cell)) a b)) (sym list) (c.in-Ok.ensures.loaded (durable_keys m) (course_of start h).doubt (s.holds.file tells)))
+    c.requires.unknown
+    (λ n agrees l.
+    let is_loaded : IsLoaded l.0 c.creation-number.result a bytes = record { has_number = l.2.has_number ∙ sym numbered; has_attributes = l.2.has_attributes; has_bytes = l.2.has_bytes } in
+    let here = ap (map.get n.keys) c.in-Ok.ensures.named ∙ l.1 in
+    c.fill-slot.ensures.takes n n more all l.0 (c.reserve-filling.ensures.gives n all more agrees gains) gains (stays_put n a.id.0 l.0 here)
+    (filled_has _ l.0 c.creation-number.result a bytes refl key is_loaded) (inl here)) in
+    let l = found.1 in
+    (found.0, (l.0, l.1, filled_has (slot_at c.fill-slot.new.self.table.slots c.fill-slot.result) l.0 c.creation-number.result a bytes c.fill-slot.ensures.filled key
+    (record { has_number = l.2.has_number ∙ sym numbered; has_attributes = l.2.has_attributes; has_bytes = l.2.has_bytes })))
+
+pub returns-in-Disk-clause-unread : goal.returns-in-Disk-clause-unread
+returns-in-Disk-clause-unread g c = λ failed start opening h all e s is.
+    let d = g.D.Disk in
+    let v = g.A.Devices in
+    let old = c.args.self.now in
+    let slot = c.reserve-filling.result.slot in
+    let more : List Pairs = ((slot, 0) ∷ []) ∷ all in
+    let gains = gains_one all (slot, 0) in
+    let m = s.holds.model in
+    let sized = s.holds.directory.sized in
+    let there = c.requires.there.within in
+    let key = key_of_cell old.file.cells.slots.items m c.args.id.0 c.args.cell s.holds.directory (omega arith) c.requires.there.here in
+    brings d.contents d.may_leave d.moment d.left_since d.faults v.keys v.faults v.locations g.C.Admission.labels old c.load.new.self c.give_up.new.self c.load.new.out start opening h all e
+    (λ n. is_persistent_key (map.get n.keys c.args.id.0) ≡ true)
+    (record { same = c.load.ensures.same; slots = c.load.ensures.slots; keeps = c.load.ensures.keeps }) s.holds
+    (c.give_up.ensures m more all (c.reserve-filling.ensures.gives m all more s.holds.slots gains) gains) (is_persistent (map.get m.keys c.args.id.0) key.0 key.1 key.2)
+
+pub returns-in-Corrupt-clause-unread : goal.returns-in-Corrupt-clause-unread
+returns-in-Corrupt-clause-unread g c = λ failed start opening h all e s is.
+    let d = g.D.Disk in
+    let v = g.A.Devices in
+    let old = c.args.self.now in
+    let slot = c.reserve-filling.result.slot in
+    let more : List Pairs = ((slot, 0) ∷ []) ∷ all in
+    let gains = gains_one all (slot, 0) in
+    let m = s.holds.model in
+    let sized = s.holds.directory.sized in
+    let there = c.requires.there.within in
+    let key = key_of_cell old.file.cells.slots.items m c.args.id.0 c.args.cell s.holds.directory (omega arith) c.requires.there.here in
+    brings d.contents d.may_leave d.moment d.left_since d.faults v.keys v.faults v.locations g.C.Admission.labels old c.load.new.self c.give_up.new.self c.load.new.out start opening h all e
+    (λ n. is_persistent_key (map.get n.keys c.args.id.0) ≡ true)
+    (record { same = c.load.ensures.same; slots = c.load.ensures.slots; keeps = c.load.ensures.keeps }) s.holds
+    (c.give_up.ensures m more all (c.reserve-filling.ensures.gives m all more s.holds.slots gains) gains) (is_persistent (map.get m.keys c.args.id.0) key.0 key.1 key.2)

@@ -1,0 +1,16 @@
+use Rattle.key_slots.proofs.Counting.{always_found}
+use Rattle.store_core.proofs.Holding.{unranked}
+use Rattle.store_core.proofs.store.Store.reserve.Goals as goal
+
+pub reserve-requires : goal.reserve-requires
+reserve-requires g c =
+    let slots = c.args.self.now.slots in
+    let s = c.requires.stands.4.holds in
+    always_found slots.table s.model c.requires.stands.3 slots.lawful s.slots s.holdings s.sound
+
+pub returns-clause-gives : goal.returns-clause-gives
+returns-clause-gives g c = λ start opening h all more s gains law.
+    let d = g.D.Disk in
+    let v = g.A.Devices in
+    unranked d.contents d.may_leave d.moment d.left_since d.faults v.keys v.faults v.locations g.C.Admission.labels c.args.self.now start opening h c.reserve.new.self all more
+    s (c.reserve.ensures.gives s.holds.model all more s.holds.slots gains) law

@@ -1,0 +1,3 @@
+pub mod Durability
+pub mod Represents
+pub mod Uses

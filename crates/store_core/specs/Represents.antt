@@ -1,0 +1,143 @@
+-- What it is for a store to stand for a start, a history and what the callers have out; and what its turns make of these.
+use Rattle.std.specs.Prelude.{◌≡◌, ◌<◌, ◌≤◌, ◌⊎◌, ℕ, ◌+◌, true, false, List, [], ◌∷◌, ◌++◌, length, Option, Some, is_some}
+use Rattle.std.specs.FinMap as map
+use Rattle.key_cells.specs.declared.slot.Slot as cell
+use Rattle.key_cells.specs.declared.slot.Slot.TheVariants.{Open}
+use Rattle.key_cells.specs.Contents.{cell_slot}
+use Rattle.key_file.specs.Files.{StandsForKeys}
+use Rattle.key_slots.specs.Holdings.{Pairs, Gains, AreHoldings, named}
+use Rattle.key_slots.specs.Standing.{Agrees}
+use Rattle.policy_rules.specs.declared.narrowing.Label.{Label}
+use Rattle.driver_dispatch.specs.Held.{HeldKeys}
+use Rattle.driver_dispatch.specs.Calls.{HoldsHandle, Lacks}
+use Rattle.store_model.specs.Store as model
+use Rattle.store_model.specs.Store.{Key, is_volatile, is_opaque, count_persistent, live_volatile}
+use Rattle.store_model.specs.Faults.{FaultMark, Plain}
+use Rattle.store_model.specs.Sound.{IsSoundStore}
+use Rattle.store_model.specs.Laws.{may_change_keys}
+use Rattle.store_model.specs.Handles.{Service}
+use Rattle.store_model.specs.Replay.{Entry, outcome_of, replay}
+use Rattle.store_model.specs.Marks.{FaultCounts, id_read, reads_persistent, MayBeMarked, HasFault, IsCaused, AreAllowed, last_counts}
+use Rattle.store_core.specs.declared.store.Store.{Store}
+use Rattle.store_core.specs.Durability.{durable_keys, course_of, KeepsKeys}
+
+-- no entry reads a persistent key
+abbrev pub ReadsNone : Service → List Entry → Type 0
+ReadsNone service [] = Unit {0}
+ReadsNone service (e ∷ es) = (reads_persistent service e.caller e.call ≡ false) × ReadsNone (outcome_of service e).service es
+
+-- what a history makes of the keys is told: the disk tells its bytes, or no persistent key was read from it
+abbrev pub IsTold : Option (List ℕ) → Service → List Entry → Type 0
+IsTold told start h = (is_some told ≡ true) ⊎ ReadsNone start h
+
+-- each persistent key has a cell under its identifier and number, and no cell has another key
+pub record IsDirectory (slots : List cell.Slot) (m : model.Store) : Type 0 where
+  pub sized : length slots ≡ 512
+  pub there : (id : ℕ) (key : Key) → map.get m.keys id ≡ Some key → is_volatile key.attributes ≡ false →
+      (c : ℕ) × (c < 512) × (cell_slot slots c ≡ Open id key.number)
+  pub only : (c id number : ℕ) → c < 512 → cell_slot slots c ≡ Open id number →
+      (key : Key) × (map.get m.keys id ≡ Some key) × (is_volatile key.attributes ≡ false) × (key.number ≡ number)
+  pub one : (c other id number another : ℕ) → c < 512 → other < 512 → cell_slot slots c ≡ Open id number → cell_slot slots other ≡ Open id another → c ≡ other
+
+-- a device that tells its keys has each opaque key under its number, and no handle that wasn't given out
+pub record HoldsKeys (held : Option HeldKeys) (m : model.Store) : Type 0 where
+  pub there : (id : ℕ) (key : Key) → map.get m.keys id ≡ Some key → is_opaque key.attributes ≡ true →
+      HoldsHandle held key.number (λ h. h ≡ record { key_type = key.attributes.key_type.0; bytes = key.bytes })
+  pub new : (handle : ℕ) → m.found + m.calls ≤ handle → Lacks held handle
+
+-- what the opening saw: the disk's moment, and how often disk and devices had failed
+pub record Opening : Type 0 where
+  pub moment : ℕ
+  pub counts : FaultCounts
+
+module _ {D A C : Type 0} (told : D → Option (List ℕ)) (may_leave : D → List ℕ → Type 0) (moment : D → ℕ) (left_since : D → ℕ → List ℕ → Type 0)
+    (faults : D → ℕ) (held : A → Option HeldKeys) (hard : A → ℕ) (locations : A → List ℕ) (labels : C → List Label) where
+  -- whether what the history makes of the keys is told
+  abbrev pub Told : Store D A C → Service → List Entry → Type 0
+  Told store start h = IsTold (told store.file.cells.disk) start h
+
+  -- The store holds the keys of a model: its slots, its directory and its device have them, and its file those that are
+  -- durable. Where K holds, the model is the one-thread store after the history. Each crash since the opening leaves what is
+  -- promised, and no mark of the history is without its fault.
+  pub record Holds (K : Type 0) (store : Store D A C) (start : Service) (opening : Opening) (h : List Entry) (all : List Pairs) : Type 0 where
+    pub model : model.Store
+    pub replayed : K → model ≡ (replay start h).store
+    pub sound : IsSoundStore model
+    pub labels_are : model.settings.labels ≡ labels store.rules
+    pub locations_are : model.settings.locations ≡ locations store.devices
+    pub has_file : model.settings.has_file ≡ true
+    pub found : model.found ≡ store.found
+    pub calls : model.calls ≡ store.ranked
+    pub made : model.made ≡ store.made
+    pub ranked : store.ranked ≡ length h
+    pub slots : Agrees store.slots.table.slots model all
+    pub holdings : AreHoldings all
+    pub directory : IsDirectory store.file.cells.slots.items model
+    pub device : HoldsKeys (held store.devices) model
+    pub file : is_some (told store.file.cells.disk) ≡ true →
+        StandsForKeys told may_leave store.file.cells.disk store.file.cells.slots.items (durable_keys model) (course_of start h).doubt
+    pub promise : is_some (told store.file.cells.disk) ≡ true → KeepsKeys (left_since store.file.cells.disk) (moment store.file.cells.disk) opening.moment start h
+    pub caused : IsCaused (is_some (told store.file.cells.disk)) opening.counts h
+    pub allowed : Told store start h → AreAllowed start h
+
+  -- The store stands for a start, a history and holdings: it holds the keys of the one-thread store after the history, as far
+  -- as that is told, and no device was called since the last entry.
+  pub record StandsFor (store : Store D A C) (start : Service) (opening : Opening) (h : List Entry) (all : List Pairs) : Type 0 where
+    pub holds : Holds (Told store start h) store start opening h all
+    pub counts : last_counts opening.counts h ≡ record { faults = faults store.file.cells.disk; hard = hard store.devices }
+
+  -- an entry as a ranked turn leaves it: by one of sixteen callers, with its mark, the disk's moment and both counts
+  pub record IsEntry (store : Store D A C) (mark : FaultMark) (e : Entry) : Type 0 where
+    pub from_first : 1 ≤ e.caller
+    pub to_last : e.caller ≤ 16
+    pub marked : e.mark ≡ mark
+    pub done : e.done ≡ moment store.file.cells.disk
+    pub disk_faults : e.faults ≡ faults store.file.cells.disk
+    pub device_faults : e.hard ≡ hard store.devices
+
+  -- its request changes no key, and reads that of an identifier
+  pub record IsReading (store : Store D A C) (start : Service) (h : List Entry) (e : Entry) (id : ℕ) : Type 0 where
+    pub quiet : may_change_keys e.call ≡ false
+    pub reads : Told store start h → id_read (replay start h) e.caller e.call ≡ Some id
+
+  module _ (old new : Store D A C) where
+    -- A turn without rank gives a pair out, takes one back, or leaves all.
+    abbrev pub Gives : ℕ × ℕ → Type 0
+    Gives p = (start : Service) (opening : Opening) (h : List Entry) (all more : List Pairs) →
+        StandsFor old start opening h all → Gains all more p → AreHoldings more → StandsFor new start opening h more
+
+    abbrev pub Takes : ℕ × ℕ → Type 0
+    Takes p = (start : Service) (opening : Opening) (h : List Entry) (all less : List Pairs) →
+        StandsFor old start opening h all → Gains less all p → AreHoldings less → StandsFor new start opening h less
+
+    -- a ranked turn whose request changes no key and reads none
+    abbrev pub Adds : Type 0
+    Adds = (start : Service) (opening : Opening) (h : List Entry) (all : List Pairs) (e : Entry) →
+        StandsFor old start opening h all → may_change_keys e.call ≡ false → IsEntry new Plain e → StandsFor new start opening (h ++ e ∷ []) all
+
+    -- a ranked turn that reads a key, of whose model P holds afterwards
+    abbrev pub Reads : (id : ℕ) → FaultMark → (model.Store → Type 0) → Type 0
+    Reads id mark P = (start : Service) (opening : Opening) (h : List Entry) (all : List Pairs) (e : Entry) →
+        StandsFor old start opening h all → IsReading old start h e id → IsEntry new mark e →
+        (n : StandsFor new start opening (h ++ e ∷ []) all) × P n.holds.model
+
+    abbrev pub ReadsAndGives : (id : ℕ) → ℕ × ℕ → (model.Store → Type 0) → Type 0
+    ReadsAndGives id p P = (start : Service) (opening : Opening) (h : List Entry) (all more : List Pairs) (e : Entry) →
+        StandsFor old start opening h all → Gains all more p → AreHoldings more → IsReading old start h e id → IsEntry new Plain e →
+        (n : StandsFor new start opening (h ++ e ∷ []) more) × P n.holds.model
+
+  -- the store stands for something
+  abbrev pub Stands : Store D A C → Type 0
+  Stands store = (start : Service) × (opening : Opening) × (h : List Entry) × (all : List Pairs) × StandsFor store start opening h all
+
+  -- and a pair is out of it
+  abbrev pub HasOut : Store D A C → ℕ × ℕ → Type 0
+  HasOut store p = (start : Service) × (opening : Opening) × (h : List Entry) × (all : List Pairs) × StandsFor store start opening h all × (0 < named p.0 p.1 all)
+
+  module _ (old new : Store D A C) where
+    -- Within a ranked turn, a key was looked for: the store holds the keys that it held, as far as the history with the entry
+    -- that the turn ends with is told, and P holds of them.
+    abbrev pub Brings : (id : ℕ) → (model.Store → Type 0) → Type 0
+    Brings id P = (start : Service) (opening : Opening) (h : List Entry) (all : List Pairs) (e : Entry) →
+        StandsFor old start opening h all → IsReading old start h e id →
+        (n : Holds (Told new start (h ++ e ∷ [])) new start opening h all) × P n.model

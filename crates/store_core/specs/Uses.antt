@@ -1,0 +1,56 @@
+-- What a turn that looks for a key finds.
+use Rattle.std.specs.Prelude.{◌≡◌, ℕ, ◌==◌, true, [], ◌∷◌, bit_and, Option, Some, None, Bool}
+use Rattle.std.specs.FinMap as map
+use Rattle.psa_status.specs.declared.Status.{Status}
+use Rattle.psa_status.specs.declared.Status.TheVariants.{InvalidHandle, StorageFailure, DataCorrupt}
+use Rattle.key_attributes.specs.declared.Attributes.{Attributes}
+use Rattle.secret_bytes.specs.Buffer.{bytes_of}
+use Rattle.slot_table.specs.Slots.{Slot}
+use Rattle.slot_table.specs.Lent as lent
+use Rattle.key_slots.specs.Standing.{SlotHasKey, slot_bytes}
+use Rattle.store_model.specs.Store as model
+use Rattle.store_model.specs.Store.{Key, is_persistent_key}
+use Rattle.store_model.specs.Faults as fault
+use Rattle.store_model.specs.Faults.{FaultMark, Plain, Storage, Reading}
+use Rattle.store_core.specs.declared.reading.Unread.{Unread}
+use Rattle.store_core.specs.declared.reading.Unread.TheVariants.{Missing, Disk, Corrupt}
+
+-- what a call answers that didn't find its key
+abbrev pub status_of : Unread → Status
+status_of Missing = InvalidHandle
+status_of Disk = StorageFailure
+status_of Corrupt = DataCorrupt
+
+-- the mark of a turn that was refused so as it looked for a key
+abbrev pub mark_of : Status → FaultMark
+mark_of StorageFailure = Storage Reading
+mark_of DataCorrupt = fault.Corrupt
+mark_of _ = Plain
+
+-- a lease is of this key
+pub record IsOfKey (lease : lent.Reading) (key : Key) : Type 0 where
+  pub number : lease.creation ≡ key.number
+  pub bytes : bytes_of lease.buffer ≡ slot_bytes key
+
+-- the key of an identifier is lent, of which no row holds
+abbrev pub IsLent : (rows : Option Key → Option Status) → (id : ℕ) → lent.Reading → model.Store → Type 0
+IsLent rows id lease m = (key : Key) × (map.get m.keys id ≡ Some key) × (rows (Some key) ≡ None) × IsOfKey lease key
+
+-- the status is that of the first row, or, where the file failed, the key is a persistent one
+abbrev pub IsRefused : (rows : Option Key → Option Status) → (id : ℕ) → Status → model.Store → Type 0
+IsRefused rows id StorageFailure m = is_persistent_key (map.get m.keys id) ≡ true
+IsRefused rows id DataCorrupt m = is_persistent_key (map.get m.keys id) ≡ true
+IsRefused rows id status m = rows (map.get m.keys id) ≡ Some status
+
+-- the slot has the key of an identifier
+abbrev pub IsBrought : (id : ℕ) → Slot → model.Store → Type 0
+IsBrought id slot m = (key : Key) × (map.get m.keys id ≡ Some key) × SlotHasKey slot key
+
+-- these are the attributes of the key
+abbrev pub HasAttributes : (id : ℕ) → Attributes → model.Store → Type 0
+HasAttributes id attributes m = (key : Key) × (map.get m.keys id ≡ Some key) × (key.attributes ≡ attributes)
+
+-- the rows of a call that asks for a key alone
+abbrev pub there_rows : Option Key → Option Status
+there_rows None = Some InvalidHandle
+there_rows (Some key) = None

@@ -1,0 +1,8 @@
+//! The store: keys in slots, in a file that a crash leaves whole, or in a device, whose turns are steps of the model.
+#![tactic(auto)]
+
+mod reading;
+mod store;
+mod turns;
+
+pub use store::{Opened, Store};

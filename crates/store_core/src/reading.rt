@@ -1,0 +1,126 @@
+//! How a turn finds a key: in its slot, or else in the file, from where it is loaded into a slot.
+ghost use Rattle.std.specs.Prelude.{◌≡◌, ◌<◌, ◌≤◌, ℕ, List, true, false, None, is_some, IfOk, IfErr, IsErrOf, OnErr};
+ghost use Rattle.std.specs.FinMap as map;
+ghost use Rattle.secret_bytes.specs.Buffer.{IsClear};
+ghost use Rattle.psa_status.specs.Causes.{Rose};
+ghost use Rattle.key_cells.specs.Contents.{IsFirstWithKey};
+ghost use Rattle.slot_states.specs.declared.SlotState.TheVariants.{Full};
+ghost use Rattle.slot_table.specs.Slots.{slot_at, NoKey};
+ghost use Rattle.store_model.specs.Store.{is_persistent_key};
+ghost use Rattle.store_core.specs.Represents.{Brings, Stands};
+ghost use Rattle.store_core.specs.Uses.{IsBrought, status_of};
+ghost use Rattle.store_core.specs.declared.reading.Unread.TheVariants as unread;
+
+use crate::Store;
+use admission::Admission;
+use disk_face::Disk;
+use driver_dispatch::Devices;
+use key_attributes::KeyId;
+use key_cells::CellFault;
+use psa_status::Status;
+
+/// Why a key was not found: there is none, the file could not be read, or what was read is no record of it.
+#[derive(Clone, Copy, Debug, PartialEq, Eq, Drop)]
+pub enum Unread {
+    Missing,
+    Disk,
+    Corrupt,
+}
+
+impl Unread {
+    /// What a call answers.
+    pub fn status(self) -> Status
+        ensures { result ≡ status_of self }
+    {
+        match self {
+            Unread::Missing => Status::InvalidHandle,
+            Unread::Disk => Status::StorageFailure,
+            Unread::Corrupt => Status::DataCorrupt,
+        }
+    }
+}
+
+impl<D: Disk, A: Devices, C: Admission> Store<D, A, C> {
+    /// The slot of a key. One that is in the file alone is loaded. Where it can't be, the slot is given up.
+    pub(crate) fn bring(&mut self, id: KeyId) -> Result<u32, Unread>
+        requires stands { Stands D.contents D.may_leave D.moment D.left_since D.faults A.keys A.faults A.locations C.labels self.old }
+        requires size { D.size self.old.file.cells.disk ≡ 557120 }
+        requires clear { IsClear self.old.buffer }
+        ensures size { D.size self.new.file.cells.disk ≡ 557120 }
+        ensures clear { IsClear self.new.buffer }
+        ensures within { IfOk result (λ i. i < 384) }
+        ensures full { IfOk result (λ i. (slot_at self.new.slots.table.slots i).state ≡ Full) }
+        ensures found { IfOk result (λ i. Brings D.contents D.may_leave D.moment D.left_since D.faults A.keys A.faults A.locations C.labels self.old self.new id.0
+            (IsBrought id.0 (slot_at self.new.slots.table.slots i))) }
+        ensures missing { IsErrOf result unread.Missing → Brings D.contents D.may_leave D.moment D.left_since D.faults A.keys A.faults A.locations C.labels self.old self.new id.0
+            (λ m. map.get m.keys id.0 ≡ None) }
+        ensures unread { OnErr result ((IsErrOf result unread.Missing → ⊥) → Brings D.contents D.may_leave D.moment D.left_since D.faults A.keys A.faults A.locations C.labels self.old self.new id.0
+            (λ m. is_persistent_key (map.get m.keys id.0) ≡ true)) }
+        ensures disk { IsErrOf result unread.Disk → Rose (D.faults self.old.file.cells.disk) (D.faults self.new.file.cells.disk) }
+        ensures corrupt { IsErrOf result unread.Corrupt → is_some (D.contents self.new.file.cells.disk) ≡ false }
+        ensures same { D.contents self.new.file.cells.disk ≡ D.contents self.old.file.cells.disk }
+        ensures later { D.faults self.old.file.cells.disk ≤ D.faults self.new.file.cells.disk }
+        ensures devices { self.new.devices ≡ self.old.devices }
+        ensures rules { self.new.rules ≡ self.old.rules }
+        ensures made { self.new.made ≡ self.old.made }
+        ensures found_count { self.new.found ≡ self.old.found }
+        ensures ranked { self.new.ranked ≡ self.old.ranked }
+        ensures opened { self.new.opened ≡ self.old.opened }
+    {
+        if let Some(slot) = self.slots.find(id) {
+            return Ok(slot);
+        }
+        let Some(cell) = self.file.find(id.0) else {
+            return Err(Unread::Missing);
+        };
+        self.load(id, cell)
+    }
+
+    // Loads the key of a cell, which no slot has, into a slot. Where it can't be, the slot is given up.
+    fn load(&mut self, id: KeyId, cell: usize) -> Result<u32, Unread>
+        requires stands { Stands D.contents D.may_leave D.moment D.left_since D.faults A.keys A.faults A.locations C.labels self.old }
+        requires size { D.size self.old.file.cells.disk ≡ 557120 }
+        requires clear { IsClear self.old.buffer }
+        requires unknown { NoKey id.0 self.old.slots.table.slots }
+        requires there { IsFirstWithKey self.old.file.cells.slots.items id.0 cell }
+        ensures size { D.size self.new.file.cells.disk ≡ 557120 }
+        ensures clear { IsClear self.new.buffer }
+        ensures within { IfOk result (λ i. i < 384) }
+        ensures full { IfOk result (λ i. (slot_at self.new.slots.table.slots i).state ≡ Full) }
+        ensures found { IfOk result (λ i. Brings D.contents D.may_leave D.moment D.left_since D.faults A.keys A.faults A.locations C.labels self.old self.new id.0
+            (IsBrought id.0 (slot_at self.new.slots.table.slots i))) }
+        ensures missing { IsErrOf result unread.Missing → ⊥ }
+        ensures unread { OnErr result ((IsErrOf result unread.Missing → ⊥) → Brings D.contents D.may_leave D.moment D.left_since D.faults A.keys A.faults A.locations C.labels self.old self.new id.0
+            (λ m. is_persistent_key (map.get m.keys id.0) ≡ true)) }
+        ensures disk { IsErrOf result unread.Disk → Rose (D.faults self.old.file.cells.disk) (D.faults self.new.file.cells.disk) }
+        ensures corrupt { IsErrOf result unread.Corrupt → is_some (D.contents self.new.file.cells.disk) ≡ false }
+        ensures same { D.contents self.new.file.cells.disk ≡ D.contents self.old.file.cells.disk }
+        ensures later { D.faults self.old.file.cells.disk ≤ D.faults self.new.file.cells.disk }
+        ensures devices { self.new.devices ≡ self.old.devices }
+        ensures rules { self.new.rules ≡ self.old.rules }
+        ensures made { self.new.made ≡ self.old.made }
+        ensures found_count { self.new.found ≡ self.old.found }
+        ensures ranked { self.new.ranked ≡ self.old.ranked }
+        ensures opened { self.new.opened ≡ self.old.opened }
+    {
+        let filling = self.slots.reserve();
+        let number = self.file.creation(cell);
+        match self.file.load(id.0, cell, &mut self.buffer) {
+            Ok(attributes) => {
+                let slot = self
+                    .slots
+                    .fill(filling, number, &attributes, self.buffer.as_slice());
+                self.buffer.wipe();
+                Ok(slot)
+            }
+            Err(fault) => {
+                self.slots.give_up(filling);
+                match fault {
+                    CellFault::Disk => Err(Unread::Disk),
+                    CellFault::Corrupt => Err(Unread::Corrupt),
+                    CellFault::Full => Err(Unread::Disk),
+                }
+            }
+        }
+    }
+}

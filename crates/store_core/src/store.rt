@@ -1,0 +1,34 @@
+//! The store.
+use admission::Admission;
+use disk_face::Disk;
+use driver_dispatch::Devices;
+use key_file::KeyFile;
+use key_slots::KeySlots;
+use secret_bytes::Secret;
+use std::snapshot::Snapshot;
+
+/// Keys in slots, in a file and in a device, under rules.
+#[derive(Drop)]
+pub struct Store<D: Disk, A: Devices, C: Admission> {
+    pub file: KeyFile<D>,
+    pub slots: KeySlots,
+    pub devices: A,
+    pub rules: C,
+    /// How many volatile keys each caller has made, by its number.
+    pub made: [u32; 17],
+    /// How many keys were found at the opening.
+    pub found: u64,
+    /// How many ranked turns there were.
+    pub ranked: u64,
+    /// Where a key is read from the file. Clear between turns.
+    pub buffer: Secret,
+    /// What the opening saw.
+    pub opened: Opened<D, A>,
+}
+
+/// The disk and the devices as the opening left them. It has no bytes at run time.
+#[derive(Drop)]
+pub struct Opened<D, A> {
+    pub disk: Snapshot<D>,
+    pub devices: Snapshot<A>,
+}
