@@ -54,3 +54,15 @@ HasAttributes id attributes m = (key : Key) × (map.get m.keys id ≡ Some key) 
 abbrev pub there_rows : Option Key → Option Status
 there_rows None = Some InvalidHandle
 there_rows (Some key) = None
+
+-- the mark of a turn that didn't destroy its key for sure
+abbrev pub mark_undestroyed : NotDestroyed → FaultMark
+mark_undestroyed not.Missing = Plain
+mark_undestroyed (not.Disk closed_first) = Storage (Writing closed_first)
+mark_undestroyed not.Hardware = Hardware
+
+-- and what holds of the model before it
+abbrev pub IsUndestroyed : (id : ℕ) → NotDestroyed → model.Store → Type 0
+IsUndestroyed id not.Missing m = first_row (destroy_rows (map.get m.keys id) id) ≡ Some InvalidHandle
+IsUndestroyed id (not.Disk closed_first) m = is_persistent_key (map.get m.keys id) ≡ true
+IsUndestroyed id not.Hardware m = is_opaque_key (map.get m.keys id) ≡ true
