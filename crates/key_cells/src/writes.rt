@@ -40,6 +40,7 @@ impl<D: Disk> Cells<D> {
         ensures slots { settled_slots self.new.slots.items ≡ settled_slots self.old.slots.items }
         ensures free { StaysFree self.old.slots.items self.new.slots.items }
         ensures keeps { Keeps D.contents D.may_leave D.moment D.left_since self.old.disk self.new.disk self.old.slots.items self.new.slots.items }
+        ensures tells { StillTells (D.contents self.old.disk) (D.contents self.new.disk) }
         ensures cause { HasCause (D.faults self.old.disk) (D.faults self.new.disk) result }
         ensures fault { IfErr result (λ fault. fault ≡ CellFault.Disk) }
     {
@@ -64,6 +65,7 @@ impl<D: Disk> Cells<D> {
         ensures slots { settled_slots self.new.slots.items ≡ settled_slots self.old.slots.items }
         ensures free { StaysFree self.old.slots.items self.new.slots.items }
         ensures keeps { Keeps D.contents D.may_leave D.moment D.left_since self.old.disk self.new.disk self.old.slots.items self.new.slots.items }
+        ensures tells { StillTells (D.contents self.old.disk) (D.contents self.new.disk) }
         ensures cause { HasCause (D.faults self.old.disk) (D.faults self.new.disk) result }
         ensures fault { IfErr result (λ fault. fault ≡ CellFault.Disk) }
     {
@@ -89,6 +91,7 @@ impl<D: Disk> Cells<D> {
         ensures keeps { (contents : List Content) → content_at contents cell ≡ Doubtful body.now →
             StandsForContents D.contents D.may_leave self.old.disk self.old.slots.items contents →
             Moves D.contents D.may_leave D.moment D.left_since self.old.disk self.new.disk self.old.slots.items self.new.slots.items contents contents }
+        ensures tells { StillTells (D.contents self.old.disk) (D.contents self.new.disk) }
         ensures cause { HasCause (D.faults self.old.disk) (D.faults self.new.disk) result }
         ensures fault { IfErr result (λ fault. fault ≡ CellFault.Disk) }
     {
@@ -114,6 +117,7 @@ impl<D: Disk> Cells<D> {
             StandsForContents D.contents D.may_leave self.old.disk self.old.slots.items contents →
             Moves D.contents D.may_leave D.moment D.left_since self.old.disk self.new.disk self.old.slots.items self.new.slots.items contents (set contents cell (Present bytes))) }
         ensures failed { OnErr result (Keeps D.contents D.may_leave D.moment D.left_since self.old.disk self.new.disk self.old.slots.items self.new.slots.items) }
+        ensures tells { StillTells (D.contents self.old.disk) (D.contents self.new.disk) }
         ensures cause { HasCause (D.faults self.old.disk) (D.faults self.new.disk) result }
         ensures fault { IfErr result (λ fault. fault ≡ CellFault.Disk) }
     {

@@ -44,6 +44,14 @@ impl KeySlots {
         self.table.find(id)
     }
 
+    /// The creation number of the key of a full slot.
+    pub fn number(&self, slot: u32) -> u64
+        requires { (slot_at self.now.table.slots slot).state ≡ Full }
+        ensures { result ≡ (slot_at self.now.table.slots slot).creation }
+    {
+        self.table.creation(slot)
+    }
+
     /// The attributes of the key of a full slot.
     pub fn attributes(&self, slot: u32) -> &Attributes
         requires { (slot_at self.now.table.slots slot).state ≡ Full }

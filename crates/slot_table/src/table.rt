@@ -53,6 +53,14 @@ impl SlotTable {
         self.rows.find(id)
     }
 
+    /// The creation number of the key of a full slot.
+    pub fn creation(&self, slot: u32) -> u64
+        requires { (slot_at self.now.slots slot).state ≡ Full }
+        ensures { result ≡ (slot_at self.now.slots slot).creation }
+    {
+        self.rows.key(slot).creation
+    }
+
     /// The attributes of the key of a full slot.
     pub fn attributes(&self, slot: u32) -> &Attributes
         requires { (slot_at self.now.slots slot).state ≡ Full }

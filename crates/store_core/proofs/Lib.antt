@@ -4,3 +4,5 @@ mod Kept
 mod Replaced
 mod Loading
 mod Refusing
+mod Changing
+mod Removing

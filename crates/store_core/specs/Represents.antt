@@ -47,6 +47,10 @@ pub record HoldsKeys (held : Option HeldKeys) (m : model.Store) : Type 0 where
       HoldsHandle held key.number (λ h. h ≡ record { key_type = key.attributes.key_type.0; bytes = key.bytes })
   pub new : (handle : ℕ) → m.found + m.calls ≤ handle → Lacks held handle
 
+-- a store after one more ranked turn
+abbrev pub ranked_on : {D A C : Type 0} → Store D A C → Store D A C
+ranked_on store = record store { ranked = store.ranked + 1 }
+
 -- what the opening saw: the disk's moment, and how often disk and devices had failed
 pub record Opening : Type 0 where
   pub moment : ℕ

@@ -1,8 +1,10 @@
 //! The store: keys in slots, in a file that a crash leaves whole, or in a device, whose turns are steps of the model.
 #![tactic(auto)]
 
+mod destroying;
 mod reading;
 mod store;
 mod turns;
 
+pub use destroying::NotDestroyed;
 pub use store::{Opened, Store};
