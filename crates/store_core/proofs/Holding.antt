@@ -44,10 +44,10 @@ abbrev pub counts_of : ℕ → ℕ → FaultCounts
 counts_of n m = record { faults = n; hard = m }
 
 -- the same keys as a directory and a device have them
-same_directory : (slots : List _) (m : model.Store) → IsDirectory slots m → IsDirectory slots (counted m)
+pub same_directory : (slots : List _) (m : model.Store) → IsDirectory slots m → IsDirectory slots (counted m)
 same_directory slots m d = record { sized = d.sized; there = d.there; only = d.only; one = d.one }
 
-same_device : (held : Option HeldKeys) (m : model.Store) → HoldsKeys held m → HoldsKeys held (counted m)
+pub same_device : (held : Option HeldKeys) (m : model.Store) → HoldsKeys held m → HoldsKeys held (counted m)
 same_device held m d = record { there = d.there; new = λ handle le. d.new handle (omega (arith, le)) }
 
 module _ {D A C : Type 0} (told : D → Option (List ℕ)) (may_leave : D → List ℕ → Type 0) (moment : D → ℕ) (left_since : D → ℕ → List ℕ → Type 0)

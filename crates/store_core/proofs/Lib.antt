@@ -6,3 +6,4 @@ mod Loading
 mod Refusing
 mod Changing
 mod Removing
+mod Destroyed

@@ -170,19 +170,19 @@ module _ (m : model.Store) (id : ℕ) where
     held_apart held handle differ = map.get-remove nat_cmp_total held key.number handle ∙ ap (λ b. cond b None (held_key held handle)) (unsigned_tied handle key.number ∙ apart handle key.number differ)
 
     held_none : (held : HeldKeys) (handle : ℕ) → held_key held handle ≡ None → held_key (without_key key.number held) handle ≡ None
-    held_none held handle none = map.get-remove nat_cmp_total held key.number handle ∙ (ap (λ o. cond _ None o) none ∙ same _) where
-      same : (b : Bool) → cond b None (None {A = HeldKey}) ≡ None
-      same true = refl
-      same false = refl
+    held_none held handle none = elim (cases_eq handle key.number) [
+      | inl same ↦ map.get-remove nat_cmp_total held key.number handle ∙ ap (λ b. cond b None (held_key held handle)) (unsigned_tied handle key.number ∙ eq-eqb handle key.number same)
+      | inr differ ↦ held_apart held handle differ ∙ none
+    ]
 
     without : (held : Option HeldKeys) → IsSoundStore m → HoldsKeys held m → HoldsKeys (option_map (without_key key.number) held) gone
     without held s d = record {
-      there = λ q k is opaque. let old = was_there q k is in still held k.number (λ same. old.0 (s.numbers q id k key old.1 there same)) (d.there q k old.1 opaque);
+      there = λ q k is opaque. let old = was_there q k is in still _ held k.number (λ same. old.0 (s.numbers q id k key old.1 there same)) (d.there q k old.1 opaque);
       new = λ handle le. lacks held handle (d.new handle (omega (arith, le)));
     } where
-      still : {P : HeldKey → Type 0} (held : Option HeldKeys) (handle : ℕ) → handle ≢ key.number → HoldsHandle held handle P → HoldsHandle (option_map (without_key key.number) held) handle P
-      still None handle differ is = tt
-      still {P} (Some keys) handle differ is = subst (λ (o : Option HeldKey). IsSomeKey o P) (sym (held_apart keys handle differ)) is
+      still : (P : HeldKey → Type 0) (held : Option HeldKeys) (handle : ℕ) → handle ≢ key.number → HoldsHandle held handle P → HoldsHandle (option_map (without_key key.number) held) handle P
+      still P None handle differ is = tt
+      still P (Some keys) handle differ is = subst (λ (o : Option HeldKey). IsSomeKey o P) (sym (held_apart keys handle differ)) is
 
       lacks : (held : Option HeldKeys) (handle : ℕ) → Lacks held handle → Lacks (option_map (without_key key.number) held) handle
       lacks None handle is = tt

@@ -21,7 +21,6 @@ use admission::Admission;
 use disk_face::Disk;
 use driver_dispatch::Devices;
 use key_attributes::KeyId;
-use key_file::Unclosed;
 use key_slots::KeySlots;
 use psa_status::{Failed, Status};
 
@@ -108,7 +107,9 @@ impl<D: Disk, A: Devices, C: Admission> Store<D, A, C> {
         self.kept -= 1;
         match closed {
             Ok(()) => Ok(()),
-            Err(Unclosed { closed_first }) => Err(NotDestroyed::Disk { closed_first }),
+            Err(fault) => Err(NotDestroyed::Disk {
+                closed_first: fault.closed_first,
+            }),
         }
     }
 
