@@ -1,11 +1,11 @@
 -- A ranked turn that changes keys.
-use Rattle.std.proofs.Common.{◌≡◌, ◌⊎◌, ℕ, ◌+◌, ◌≤◌, List, [], ◌∷◌, ◌++◌, length, true, false, Option, is_some, refl, sym, ◌∙◌, ap, subst, arith, inl, inr, ⊎_elim, length-append, nat_lt}
+use Rattle.std.proofs.Common.{◌≡◌, ◌⊎◌, ℕ, ◌+◌, ◌≤◌, List, [], ◌∷◌, ◌++◌, true, Option, is_some, sym, ◌∙◌, ap, subst, arith, inl, inr, ⊎_elim, length-append}
 use Rattle.std.specs.Prelude.{slice_index}
 use Rattle.disk_face.specs.Moments.{Within}
 use Rattle.disk_face.proofs.Moments.{promise_goes_on}
 use Rattle.policy_rules.specs.declared.narrowing.Label.{Label}
 use Rattle.driver_dispatch.specs.Held.{HeldKeys}
-use Rattle.key_file.specs.Files.{Keys, Doubt, StandsForKeys, FitsKeys, FitsEitherKeys, Leads}
+use Rattle.key_file.specs.Files.{StandsForKeys, FitsKeys, Leads}
 use Rattle.key_file.proofs.Leading.{stands_fits}
 use Rattle.key_slots.specs.Holdings.{Pairs, AreHoldings}
 use Rattle.key_slots.specs.Standing.{Agrees}
@@ -14,7 +14,7 @@ use Rattle.store_model.specs.Store.{count_persistent, live_volatile}
 use Rattle.store_model.specs.Faults.{FaultMark}
 use Rattle.store_model.specs.Handles.{Service}
 use Rattle.store_model.specs.Replay.{Entry, outcome_of, replay}
-use Rattle.store_model.specs.Marks.{FaultCounts, MayBeMarked, HasFault, IsCaused, AreAllowed, last_counts}
+use Rattle.store_model.specs.Marks.{FaultCounts, MayBeMarked, HasFault, IsCaused, last_counts}
 use Rattle.store_model.specs.Sound.{IsSoundStore}
 use Rattle.store_model.proofs.Causes.{go_on, allowed_go_on}
 use Rattle.store_core.specs.declared.store.Store.{Store}

@@ -1,9 +1,9 @@
 -- Turns that destroy a key.
-use Rattle.std.proofs.Common.{◌≡◌, ◌≢◌, ◌⊎◌, ◌∙◌, ℕ, ◌+◌, ◌-◌, ◌*◌, ◌/◌, ◌^◌, ◌<◌, ◌≤◌, ◌==◌, ◌&&◌, ◌||◌, Bool, true, false, not, cond, nat_lt, List, [], ◌∷◌, ◌++◌, length, set, refl, sym, ap, subst, arith, inl, inr, eq-eqb, Option, None, Some, is_some}
+use Rattle.std.proofs.Common.{◌≡◌, ◌≢◌, ◌⊎◌, ◌∙◌, ℕ, ◌+◌, ◌-◌, ◌/◌, ◌^◌, ◌<◌, ◌≤◌, ◌==◌, ◌&&◌, ◌||◌, Bool, true, false, not, cond, nat_lt, List, [], ◌∷◌, ◌++◌, length, set, refl, sym, ap, subst, arith, inl, inr, eq-eqb, Option, None, Some, is_some}
 use Rattle.std.proofs.lemmas.Bool.{false≢true, eqb-true, cases_eq, cases_lt}
 use Rattle.std.proofs.lemmas.Bool.Decides.{nat_tests}
 use Rattle.std.proofs.lemmas.List.{get_or-set_same, get_or-set_other, get_or_past}
-use Rattle.std.specs.Prelude.{slice_index, slice_set, IsTrue, Ok, ⊤}
+use Rattle.std.specs.Prelude.{slice_index, slice_set, Ok, ⊤}
 use Rattle.std.specs.Option.{option_map, option_map_or}
 use Rattle.std.specs.FinMap as map
 use Rattle.psa_status.specs.declared.Status.{Status}
@@ -14,7 +14,7 @@ use Rattle.policy_rules.specs.declared.narrowing.Label.{Label}
 use Rattle.key_attributes.specs.declared.Attributes.{Attributes}
 use Rattle.key_attributes.specs.Checks.{persistence, location, is_lifetime, attribute_rows, checked, filled}
 use Rattle.driver_dispatch.specs.Held.{HeldKey, HeldKeys, held_key, without_key}
-use Rattle.driver_dispatch.specs.Calls.{HoldsHandle, IsSomeKey, has_element}
+use Rattle.driver_dispatch.specs.Calls.{HoldsHandle, IsSomeKey}
 use Rattle.key_cells.specs.declared.slot.Slot as cell
 use Rattle.key_cells.specs.declared.slot.Slot.TheVariants.{Free, Open, Shut, Unsure}
 use Rattle.key_cells.specs.Contents.{HasNoKey, cell_slot, has_id, creation_of_slot, settled_slots}
@@ -30,23 +30,23 @@ use Rattle.store_model.specs.Store as model
 use Rattle.store_model.specs.Store.{Key, KeyMap, is_volatile, is_opaque, is_volatile_of, live_volatile, count_persistent, has_secure_element, is_persistent_key, is_opaque_key, made_of}
 use Rattle.store_model.specs.Call.{Destroy}
 use Rattle.store_model.specs.KeyUse.{destroyed, destroy_rows}
-use Rattle.store_model.specs.Outcome.{Outcome, counted, decided}
-use Rattle.store_model.specs.Faults.{FaultMark, Plain, Storage, Hardware, Corrupt, Reading, Writing}
+use Rattle.store_model.specs.Outcome.{counted, decided}
+use Rattle.store_model.specs.Faults.{FaultMark, Plain, Storage, Hardware, Corrupt, Writing}
 use Rattle.store_model.specs.Handles.{Service}
 use Rattle.store_model.specs.Requests.{Request, OnStore, serve}
 use Rattle.store_model.specs.Replay.{Entry, outcome_of}
-use Rattle.store_model.specs.Marks.{FaultCounts, MayBeMarked, HasFault, key_changed}
+use Rattle.store_model.specs.Marks.{MayBeMarked, HasFault, key_changed}
 use Rattle.store_model.specs.Sound.{as_stated, IsSoundStore, IsVolatileOf}
 use Rattle.store_model.specs.Creation.{identified}
 use Rattle.store_model.proofs.Sound.{counted_sound, destroyed_sound, low_id, of_volatile}
 use Rattle.store_model.proofs.Tables.{none_holds}
 use Rattle.store_core.specs.declared.store.Store.{Store}
 use Rattle.store_core.specs.Durability.{Course, doubt_after, doubt_by, is_destruction, kept, durable_keys}
-use Rattle.store_core.specs.Represents.{IsDirectory, HoldsKeys, Opening, ranked_on}
+use Rattle.store_core.specs.Represents.{IsDirectory, Opening, ranked_on}
 use Rattle.store_core.proofs.Holding.{StandsHere, IsTurn, counts_of, same_directory, same_device}
-use Rattle.store_core.proofs.Kept.{HasCellKey, key_of_cell}
-use Rattle.store_core.proofs.Changing.{Turns, turns}
-use Rattle.store_core.proofs.Removing.{IsEmptied, one_less, nothing_removed, gone, takes_out, without_kept, kept_here, kept_same, directory_emptied, directory_stays, device_stays, device_loses}
+use Rattle.store_core.proofs.Kept.{key_of_cell}
+use Rattle.store_core.proofs.Changing.{turns}
+use Rattle.store_core.proofs.Removing.{one_less, nothing_removed, gone, takes_out, without_kept, kept_here, kept_same, directory_emptied, directory_stays, device_stays, device_loses}
 
 -- THE MODEL
 

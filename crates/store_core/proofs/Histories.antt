@@ -1,11 +1,11 @@
 -- A history with one more entry.
-use Rattle.std.proofs.Common.{◌≡◌, ℕ, List, [], ◌∷◌, ◌++◌, true, false, refl, sym, ◌∙◌, ap, inl, inr}
+use Rattle.std.proofs.Common.{◌≡◌, ℕ, List, [], ◌∷◌, ◌++◌, false, refl, sym, ◌∙◌, ap, inl, inr}
 use Rattle.std.proofs.lemmas.Bool.{false≢true}
 use Rattle.std.specs.Prelude.{Option, None}
 use Rattle.std.specs.Option.{option_map_or}
 use Rattle.disk_face.specs.Moments.{after_all}
 use Rattle.disk_face.proofs.Moments.{after_all_push}
-use Rattle.key_file.specs.Files.{Stored, Doubt}
+use Rattle.key_file.specs.Files.{Stored}
 use Rattle.store_model.specs.Store.{Key}
 use Rattle.store_model.specs.Call.{Destroy}
 use Rattle.store_model.specs.Handles.{Service, own_of, next_random}

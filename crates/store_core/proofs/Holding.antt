@@ -1,11 +1,11 @@
 -- A store that holds keys, after a turn that changes none.
-use Rattle.std.proofs.Common.{◌≡◌, ◌⊎◌, ℕ, ◌+◌, ◌<◌, ◌≤◌, List, [], ◌∷◌, ◌++◌, length, true, false, Option, is_some, refl, sym, ◌∙◌, ap, subst, arith, inl, inr, ⊎_elim, length-append}
+use Rattle.std.proofs.Common.{◌≡◌, ◌⊎◌, ℕ, ◌+◌, ◌≤◌, List, [], ◌∷◌, ◌++◌, length, true, false, Option, is_some, refl, sym, ◌∙◌, ap, subst, arith, inl, inr, ⊎_elim, length-append}
 use Rattle.disk_face.specs.Moments.{Within, KeepsPromise, FitsFrom}
 use Rattle.disk_face.proofs.Moments.{promise_goes_on, within_none, fits_whole, fits_least}
 use Rattle.policy_rules.specs.declared.narrowing.Label.{Label}
 use Rattle.driver_dispatch.specs.Held.{HeldKeys}
 use Rattle.key_file.specs.declared.file.KeyFile.{KeyFile}
-use Rattle.key_file.specs.Files.{Stored, Keys, Doubt, StandsForKeys, FitsKeys, FitsEitherKeys, Leads}
+use Rattle.key_file.specs.Files.{Keys, Doubt, StandsForKeys, FitsKeys, FitsEitherKeys, Leads}
 use Rattle.key_file.proofs.Leading.{stands_fits, stays}
 use Rattle.secret_bytes.specs.Buffer.{Buffer}
 use Rattle.key_slots.specs.declared.slots.KeySlots.{KeySlots}
@@ -18,12 +18,12 @@ use Rattle.store_model.specs.Outcome.{counted}
 use Rattle.store_model.specs.Laws.{may_change_keys}
 use Rattle.store_model.specs.Handles.{Service}
 use Rattle.store_model.specs.Replay.{Entry, outcome_of, replay}
-use Rattle.store_model.specs.Marks.{FaultCounts, MayBeMarked, HasFault, IsCaused, AreAllowed, last_counts}
+use Rattle.store_model.specs.Marks.{FaultCounts, MayBeMarked, HasFault, IsCaused, last_counts}
 use Rattle.store_model.proofs.Sound.{counted_sound}
 use Rattle.store_model.proofs.Others.{leaves_shared}
 use Rattle.store_model.proofs.Causes.{go_on, allowed_go_on}
 use Rattle.store_core.specs.declared.store.Store.{Store}
-use Rattle.store_core.specs.Durability.{Course, after, opened, course_of, durable_keys, FitsCourse}
+use Rattle.store_core.specs.Durability.{after, opened, course_of, durable_keys, FitsCourse}
 use Rattle.store_core.specs.Represents.{IsTold, IsDirectory, HoldsKeys, Opening, Holds, StandsFor, IsEntry, IsReading}
 use Rattle.store_core.proofs.Histories.{replay_push, counts_push, told_before, course_service, quiet_doubt, doubt_stays}
 
@@ -100,30 +100,33 @@ module _ {D A C : Type 0} (told : D → Option (List ℕ)) (may_leave : D → Li
     pub goes_on : (file : KeyFile D) (slots : KeySlots) (buffer : Buffer) (all : List Pairs) (K : Type 0) → IsReadOn old.file file → (K → IsTold (told old.file.cells.disk) start h) →
         (s : HoldsHere (IsTold (told old.file.cells.disk) start h) old start opening h all) → Agrees slots.table.slots s.model all →
         (n : HoldsHere K (moved old file slots buffer) start opening h all) × (n.model ≡ s.model)
-    goes_on file slots buffer all K read known s agrees = (record {
-      model = s.model;
-      replayed = λ k. s.replayed (known k);
-      sound = s.sound;
-      labels_are = s.labels_are;
-      locations_are = s.locations_are;
-      has_file = s.has_file;
-      found = s.found;
-      calls = s.calls;
-      made = s.made;
-      live = s.live;
-      kept = s.kept;
-      ranked = s.ranked;
-      slots = agrees;
-      holdings = s.holdings;
-      directory = subst (λ (c : _). IsDirectory c.items s.model) (sym read.slots) s.directory;
-      device = s.device;
-      file = λ is. (leads is).stands;
-      promise = λ is. promise_stays (left_since old.file.cells.disk) (left_since file.cells.disk) (moment old.file.cells.disk) (moment file.cells.disk) opening.moment start h
-          (FitsEitherKeys (durable_keys s.model) (course_of start h).doubt (durable_keys s.model) (course_of start h).doubt) (s.promise (before is)) (leads is).within
-          (λ image fits. fits_now s.model (s.replayed (inl (before is))) image (⊎_elim (λ f. f) (λ f. f) fits));
-      caused = subst (λ (t : Option (List ℕ)). IsCaused (is_some t) opening.counts h) (sym read.same) s.caused;
-      allowed = λ t. s.allowed (subst (λ (o : Option (List ℕ)). IsTold o start h) read.same t);
-    }, refl) where
+    goes_on file slots buffer all K read known s agrees = (
+      record {
+        model = s.model;
+        replayed = λ k. s.replayed (known k);
+        sound = s.sound;
+        labels_are = s.labels_are;
+        locations_are = s.locations_are;
+        has_file = s.has_file;
+        found = s.found;
+        calls = s.calls;
+        made = s.made;
+        live = s.live;
+        kept = s.kept;
+        ranked = s.ranked;
+        slots = agrees;
+        holdings = s.holdings;
+        directory = subst (λ (c : _). IsDirectory c.items s.model) (sym read.slots) s.directory;
+        device = s.device;
+        file = λ is. (leads is).stands;
+        promise = λ is. promise_stays (left_since old.file.cells.disk) (left_since file.cells.disk) (moment old.file.cells.disk) (moment file.cells.disk) opening.moment start h
+            (FitsEitherKeys (durable_keys s.model) (course_of start h).doubt (durable_keys s.model) (course_of start h).doubt) (s.promise (before is)) (leads is).within
+            (λ image fits. fits_now s.model (s.replayed (inl (before is))) image (⊎_elim (λ f. f) (λ f. f) fits));
+        caused = subst (λ (t : Option (List ℕ)). IsCaused (is_some t) opening.counts h) (sym read.same) s.caused;
+        allowed = λ t. s.allowed (subst (λ (o : Option (List ℕ)). IsTold o start h) read.same t);
+      },
+      refl,
+    ) where
       before : is_some (told file.cells.disk) ≡ true → tells
       before is = ap is_some (sym read.same) ∙ is
 

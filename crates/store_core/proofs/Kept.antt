@@ -1,16 +1,15 @@
 -- What the directory says of the keys, and keys as a file keeps them.
-use Rattle.std.proofs.Common.{◌≡◌, ◌∙◌, ℕ, ◌*◌, ◌<◌, ◌≤◌, ◌==◌, Bool, true, false, cond, List, [], ◌∷◌, ◌++◌, length, refl, sym, ap, subst, arith, eq-eqb, nat_le, ◌&&◌, ◌||◌, not, Option, None, Some}
+use Rattle.std.proofs.Common.{◌≡◌, ◌∙◌, ℕ, ◌*◌, ◌<◌, ◌≤◌, ◌==◌, Bool, true, false, cond, List, [], ◌∷◌, length, refl, sym, ap, subst, arith, eq-eqb, nat_le, ◌&&◌, not, Option, None, Some}
 use Rattle.std.proofs.lemmas.Bool.{false≢true, eqb-true}
 use Rattle.std.proofs.lemmas.Bool.Decides.{nat_tests}
 use Rattle.std.specs.Prelude.{Ok, bit_and}
 use Rattle.std.specs.FinMap as map
 use Rattle.psa_status.specs.declared.Status.{Status}
 use Rattle.psa_status.specs.declared.Status.TheVariants.{NotSupported, InvalidArgument}
-use Rattle.psa_status.specs.Rows.{Rows, first_row, unless}
+use Rattle.psa_status.specs.Rows.{first_row, unless}
 use Rattle.psa_status.proofs.Rows.{first_row-back, unless-ok}
 use Rattle.key_attributes.specs.declared.Attributes.{Attributes}
 use Rattle.key_attributes.specs.Checks.{persistence, implied_usage, size_rows, attribute_rows, is_lifetime, is_stated_id, filled, checked}
-use Rattle.key_record.specs.Record.{IsKept, is_usage}
 use Rattle.key_cells.specs.declared.slot.Slot as cell
 use Rattle.key_cells.specs.declared.slot.Slot.TheVariants.{Free, Open, Shut, Unsure}
 use Rattle.key_cells.specs.Contents.{HasNoKey, cell_slot, has_id, creation_of_slot}

@@ -1,5 +1,5 @@
 -- A key that was loaded from the file.
-use Rattle.std.proofs.Common.{◌≡◌, ◌⊎◌, ◌∙◌, ℕ, ◌+◌, ◌<◌, ◌≤◌, Bool, true, false, cond, List, [], ◌∷◌, ◌++◌, refl, sym, ap, subst, arith, inl, inr, Option, None, Some, is_some, nat_lt}
+use Rattle.std.proofs.Common.{◌≡◌, ◌∙◌, ℕ, ◌<◌, Bool, true, false, cond, List, [], ◌∷◌, ◌++◌, refl, sym, ap, subst, arith, inl, inr, Option, None, Some, is_some, nat_lt}
 use Rattle.std.proofs.lemmas.Bool.{false≢true}
 use Rattle.std.specs.Option.{option_and_then}
 use Rattle.std.specs.FinMap as map
@@ -127,26 +127,28 @@ module _ {D A C : Type 0} (told : D → Option (List ℕ)) (may_leave : D → Li
           brings (λ m. HasLoaded m id number a bytes) read s (fills s.model s.slots k) k
       go false blind =
           let new : Key = record own.0 { attributes = a; bytes = bytes } in
-          let there : HasLoaded (replaced s.model id new) id number a bytes = (new, put_here s.model id new, record { has_number = own.3; has_attributes = refl; has_bytes = refl }) in
-          (record {
-            model = replaced s.model id new;
-            replayed = λ k. absurd (untold told_here start h e id s.model blind is.reads s.replayed (is_persistent (map.get s.model.keys id) own.0 own.1 own.2) (known read.same k));
-            sound = sound_after s.model id own.0 a bytes own.1 own.2 key named s.sound;
-            labels_are = s.labels_are;
-            locations_are = s.locations_are;
-            has_file = s.has_file;
-            found = s.found;
-            calls = s.calls;
-            made = s.made;
-            live = λ c le. same_count (is_volatile_of c) s.model.keys id own.0 new own.1 ∙ s.live c le;
-            kept = same_count (λ i. nat_lt i 0x40000000) s.model.keys id own.0 new own.1 ∙ s.kept;
-            ranked = s.ranked;
-            slots = fills (replaced s.model id new) (agrees_after s.model id own.0 a bytes own.1 own.2 key named old.slots.table.slots all none s.slots) there;
-            holdings = s.holdings;
-            directory = subst (λ (l : _). IsDirectory l.items (replaced s.model id new)) (sym read.slots) (directory_after s.model id own.0 a bytes own.1 own.2 key named old.file.cells.slots.items s.directory);
-            device = device_after s.model id own.0 a bytes own.1 own.2 key named (held old.devices) s.device;
-            file = λ tells. absurd (blind_again blind tells);
-            promise = λ tells. absurd (blind_again blind tells);
-            caused = subst (λ (t : Option (List ℕ)). IsCaused (is_some t) opening.counts h) (sym read.same) s.caused;
-            allowed = λ t. s.allowed (subst (λ (o : Option (List ℕ)). IsTold o start h) read.same t);
-          }, there)
+          let there : HasLoaded (replaced s.model id new) id number a bytes = (new, put_here s.model id new, record { has_number = own.3; has_attributes = refl; has_bytes = refl }) in (
+            record {
+              model = replaced s.model id new;
+              replayed = λ k. absurd (untold told_here start h e id s.model blind is.reads s.replayed (is_persistent (map.get s.model.keys id) own.0 own.1 own.2) (known read.same k));
+              sound = sound_after s.model id own.0 a bytes own.1 own.2 key named s.sound;
+              labels_are = s.labels_are;
+              locations_are = s.locations_are;
+              has_file = s.has_file;
+              found = s.found;
+              calls = s.calls;
+              made = s.made;
+              live = λ c le. same_count (is_volatile_of c) s.model.keys id own.0 new own.1 ∙ s.live c le;
+              kept = same_count (λ i. nat_lt i 0x40000000) s.model.keys id own.0 new own.1 ∙ s.kept;
+              ranked = s.ranked;
+              slots = fills (replaced s.model id new) (agrees_after s.model id own.0 a bytes own.1 own.2 key named old.slots.table.slots all none s.slots) there;
+              holdings = s.holdings;
+              directory = subst (λ (l : _). IsDirectory l.items (replaced s.model id new)) (sym read.slots) (directory_after s.model id own.0 a bytes own.1 own.2 key named old.file.cells.slots.items s.directory);
+              device = device_after s.model id own.0 a bytes own.1 own.2 key named (held old.devices) s.device;
+              file = λ tells. absurd (blind_again blind tells);
+              promise = λ tells. absurd (blind_again blind tells);
+              caused = subst (λ (t : Option (List ℕ)). IsCaused (is_some t) opening.counts h) (sym read.same) s.caused;
+              allowed = λ t. s.allowed (subst (λ (o : Option (List ℕ)). IsTold o start h) read.same t);
+            },
+            there,
+          )

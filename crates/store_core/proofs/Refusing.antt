@@ -1,5 +1,5 @@
 -- A ranked turn that looked for a key.
-use Rattle.std.proofs.Common.{◌≡◌, ◌∙◌, ℕ, ◌<◌, Bool, true, false, List, [], ◌∷◌, ◌++◌, refl, sym, ap, subst, Option, None, Some, is_some}
+use Rattle.std.proofs.Common.{◌≡◌, ◌∙◌, ℕ, true, false, List, [], ◌∷◌, ◌++◌, refl, sym, ap, subst, Option, None, Some, is_some}
 use Rattle.std.specs.Prelude.{Err, IsErrOf}
 use Rattle.std.specs.FinMap as map
 use Rattle.psa_status.specs.declared.Status.{Status}
@@ -14,7 +14,7 @@ use Rattle.store_model.specs.Faults.{Plain}
 use Rattle.store_model.specs.Outcome.{counted}
 use Rattle.store_model.specs.Handles.{Service}
 use Rattle.store_model.specs.Replay.{Entry, replay}
-use Rattle.store_model.specs.Marks.{FaultCounts, last_counts, reads_persistent}
+use Rattle.store_model.specs.Marks.{FaultCounts, reads_persistent}
 use Rattle.store_core.specs.declared.store.Store.{Store}
 use Rattle.store_core.specs.declared.reading.Unread.{Unread}
 use Rattle.store_core.specs.declared.reading.Unread.TheVariants.{Missing, Disk, Corrupt}

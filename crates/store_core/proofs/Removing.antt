@@ -1,25 +1,23 @@
 -- A store of which one key is removed.
-use Rattle.std.proofs.Common.{◌≡◌, ◌≢◌, ◌⊎◌, ◌∙◌, ℕ, ◌+◌, ◌-◌, ◌<◌, ◌≤◌, ◌==◌, Bool, true, false, cond, nat_lt, List, [], ◌∷◌, length, set, refl, sym, ap, subst, arith, inl, inr, ⊎_elim, eq-eqb, Option, None, Some}
+use Rattle.std.proofs.Common.{◌≡◌, ◌≢◌, ◌⊎◌, ◌∙◌, ℕ, ◌+◌, ◌<◌, ◌==◌, Bool, true, false, cond, List, length, set, refl, sym, ap, subst, arith, inl, inr, eq-eqb, Option, None, Some}
 use Rattle.std.proofs.lemmas.Bool.{false≢true, eqb-true, cases_eq, cases_lt}
 use Rattle.std.proofs.lemmas.Bool.Decides.{nat_tests}
 use Rattle.std.proofs.lemmas.List.{get_or-set_same, get_or-set_other, get_or-map, get_or_past, length-map}
 use Rattle.std.specs.Option.{option_map}
-use Rattle.std.specs.Ordering.{nat_cmp}
 use Rattle.std.specs.Cmp.{unsigned_tied}
 use Rattle.std.proofs.lemmas.Cmp.{nat_cmp_total}
 use Rattle.std.specs.FinMap as map
 use Rattle.key_cells.specs.declared.slot.Slot as cell
 use Rattle.key_cells.specs.declared.slot.Slot.TheVariants.{Free, Open, Shut, Unsure}
-use Rattle.key_cells.specs.Contents.{cell_slot, has_id, settled_slot, settled_slots}
-use Rattle.key_file.specs.Files.{Stored, stored, Keys, IsPut}
+use Rattle.key_cells.specs.Contents.{cell_slot, settled_slot, settled_slots}
+use Rattle.key_file.specs.Files.{Stored, stored, IsPut}
 use Rattle.driver_dispatch.specs.Held.{HeldKey, HeldKeys, held_key, without_key}
 use Rattle.driver_dispatch.specs.Calls.{HoldsHandle, IsSomeKey, Lacks}
 use Rattle.key_slots.specs.Standing.{Puts}
 use Rattle.store_model.specs.Store as model
 use Rattle.store_model.specs.Store.{Key, KeyMap, is_volatile, is_opaque, is_volatile_of, live_volatile, count_persistent}
 use Rattle.store_model.specs.KeyUse.{destroyed}
-use Rattle.store_model.specs.Outcome.{counted}
-use Rattle.store_model.specs.Sound.{IsSoundKey, IsSoundStore}
+use Rattle.store_model.specs.Sound.{IsSoundStore}
 use Rattle.store_model.proofs.Sound.{taken, left}
 use Rattle.store_model.proofs.Live.{len_kept-insert}
 use Rattle.store_core.specs.Durability.{kept, durable_keys}

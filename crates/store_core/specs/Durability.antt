@@ -8,7 +8,7 @@ use Rattle.store_model.specs.Store.{Key, Store, is_volatile}
 use Rattle.store_model.specs.Call.{Destroy}
 use Rattle.store_model.specs.Faults.{FaultMark, Plain, Storage, Hardware, Corrupt, Reading, Writing}
 use Rattle.store_model.specs.Handles.{Service}
-use Rattle.store_model.specs.Requests.{Request, OnStore, OnHandle}
+use Rattle.store_model.specs.Requests.{Request, OnStore}
 use Rattle.store_model.specs.Replay.{Entry, outcome_of}
 use Rattle.store_model.specs.Marks.{key_changed}
 

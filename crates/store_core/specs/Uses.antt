@@ -1,8 +1,8 @@
 -- What a turn that looks for a key finds.
-use Rattle.std.specs.Prelude.{◌≡◌, ℕ, ◌==◌, true, [], ◌∷◌, bit_and, Option, Some, None, Bool}
+use Rattle.std.specs.Prelude.{◌≡◌, ℕ, true, Option, Some, None}
 use Rattle.std.specs.FinMap as map
 use Rattle.psa_status.specs.declared.Status.{Status}
-use Rattle.psa_status.specs.declared.Status.TheVariants.{InvalidHandle, StorageFailure, DataCorrupt}
+use Rattle.psa_status.specs.declared.Status.TheVariants.{InvalidHandle, StorageFailure, HardwareFailure, DataCorrupt}
 use Rattle.psa_status.specs.Rows.{first_row}
 use Rattle.key_attributes.specs.declared.Attributes.{Attributes}
 use Rattle.secret_bytes.specs.Buffer.{bytes_of}
@@ -59,7 +59,13 @@ abbrev pub there_rows : Option Key → Option Status
 there_rows None = Some InvalidHandle
 there_rows (Some key) = None
 
--- the mark of a turn that didn't destroy its key for sure
+-- what a call answers that didn't destroy its key for sure
+abbrev pub status_undestroyed : NotDestroyed → Status
+status_undestroyed undestroyed.Missing = InvalidHandle
+status_undestroyed (undestroyed.Disk closed_first) = StorageFailure
+status_undestroyed undestroyed.Hardware = HardwareFailure
+
+-- the mark of its turn
 abbrev pub mark_undestroyed : NotDestroyed → FaultMark
 mark_undestroyed undestroyed.Missing = Plain
 mark_undestroyed (undestroyed.Disk closed_first) = Storage (Writing closed_first)

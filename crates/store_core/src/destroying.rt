@@ -14,7 +14,7 @@ ghost use Rattle.store_model.specs.Store.{is_opaque};
 ghost use Rattle.store_model.specs.KeyUse.{destroy_rows};
 ghost use Rattle.store_model.specs.Faults.{Plain};
 ghost use Rattle.store_core.specs.Represents.{Destroys, Stands, ranked_on};
-ghost use Rattle.store_core.specs.Uses.{mark_undestroyed, IsUndestroyed};
+ghost use Rattle.store_core.specs.Uses.{mark_undestroyed, status_undestroyed, IsUndestroyed};
 
 use crate::Store;
 use admission::Admission;
@@ -35,7 +35,9 @@ pub enum NotDestroyed {
 
 impl NotDestroyed {
     /// What a call answers.
-    pub fn status(self) -> Status {
+    pub fn status(self) -> Status
+        ensures { result ≡ status_undestroyed self }
+    {
         match self {
             NotDestroyed::Missing => Status::InvalidHandle,
             NotDestroyed::Disk { .. } => Status::StorageFailure,

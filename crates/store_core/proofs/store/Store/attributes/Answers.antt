@@ -1,5 +1,4 @@
-use Rattle.std.proofs.Common.{◌≡◌, ◌∙◌, refl, sym, ap, Some}
-use Rattle.std.specs.FinMap as map
+use Rattle.std.proofs.Common.{◌∙◌, refl, sym}
 use Rattle.store_core.specs.Uses.{HasAttributes, there_rows}
 use Rattle.store_core.proofs.Refusing.{ends_found, ends_unread}
 use Rattle.store_core.proofs.store.Store.attributes.Goals as goal

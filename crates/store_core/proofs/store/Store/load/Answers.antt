@@ -1,4 +1,4 @@
-use Rattle.std.proofs.Common.{◌≡◌, true, refl, ◌<◌, length, ℕ, List, [], ◌∷◌, ◌∙◌, inl, sym, ap, subst, arith, Some}
+use Rattle.std.proofs.Common.{◌≡◌, true, refl, ℕ, List, [], ◌∷◌, ◌∙◌, inl, sym, ap, subst, arith, Some}
 use Rattle.std.specs.FinMap as map
 use Rattle.key_cells.specs.Body.{IsKeyOf}
 use Rattle.key_cells.specs.Contents.{cell_slot, creation_of_slot}
@@ -61,9 +61,15 @@ returns-in-Ok-clause-found g c = λ start opening h all e s is.
     let here = ap (map.get n.keys) c.in-Ok.ensures.named ∙ l.1 in
     c.fill-slot.ensures.takes n n more all l.0 (c.reserve-filling.ensures.gives n all more agrees gains) gains (stays_put n a.id.0 l.0 here)
     (filled_has _ l.0 c.creation-number.result a bytes refl key is_loaded) (inl here)) in
-    let l = found.1 in
-    (found.0, (l.0, l.1, filled_has (slot_at c.fill-slot.new.self.table.slots c.fill-slot.result) l.0 c.creation-number.result a bytes c.fill-slot.ensures.filled key
-    (record { has_number = l.2.has_number ∙ sym numbered; has_attributes = l.2.has_attributes; has_bytes = l.2.has_bytes })))
+    let l = found.1 in (
+      found.0,
+      (
+        l.0,
+        l.1,
+        filled_has (slot_at c.fill-slot.new.self.table.slots c.fill-slot.result) l.0 c.creation-number.result a bytes c.fill-slot.ensures.filled key
+            (record { has_number = l.2.has_number ∙ sym numbered; has_attributes = l.2.has_attributes; has_bytes = l.2.has_bytes }),
+      ),
+    )
 
 pub returns-in-Disk-clause-unread : goal.returns-in-Disk-clause-unread
 returns-in-Disk-clause-unread g c = λ failed start opening h all e s is.
