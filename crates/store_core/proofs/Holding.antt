@@ -40,14 +40,14 @@ promise_stays past since before now opening start h P p call here = record {
   either least image few old (inl left) = old left
   either least image few old (inr now) = fits_least after FitsCourse (opened start) h (length h) least image few (fits_whole after FitsCourse (opened start) h image (here image now))
 
-abbrev counts_of : ℕ → ℕ → FaultCounts
+abbrev pub counts_of : ℕ → ℕ → FaultCounts
 counts_of n m = record { faults = n; hard = m }
 
 -- the same keys as a directory and a device have them
-same_directory : (slots : List _) (m : model.Store) → IsDirectory slots m → IsDirectory slots (counted m)
+pub same_directory : (slots : List _) (m : model.Store) → IsDirectory slots m → IsDirectory slots (counted m)
 same_directory slots m d = record { sized = d.sized; there = d.there; only = d.only; one = d.one }
 
-same_device : (held : Option HeldKeys) (m : model.Store) → HoldsKeys held m → HoldsKeys held (counted m)
+pub same_device : (held : Option HeldKeys) (m : model.Store) → HoldsKeys held m → HoldsKeys held (counted m)
 same_device held m d = record { there = d.there; new = λ handle le. d.new handle (omega (arith, le)) }
 
 module _ {D A C : Type 0} (told : D → Option (List ℕ)) (may_leave : D → List ℕ → Type 0) (moment : D → ℕ) (left_since : D → ℕ → List ℕ → Type 0)
@@ -111,6 +111,8 @@ module _ {D A C : Type 0} (told : D → Option (List ℕ)) (may_leave : D → Li
         found = s.found;
         calls = s.calls;
         made = s.made;
+        live = s.live;
+        kept = s.kept;
         ranked = s.ranked;
         slots = agrees;
         holdings = s.holdings;
@@ -146,6 +148,8 @@ module _ {D A C : Type 0} (told : D → Option (List ℕ)) (may_leave : D → Li
         found = s.holds.found;
         calls = s.holds.calls;
         made = s.holds.made;
+        live = s.holds.live;
+        kept = s.holds.kept;
         ranked = s.holds.ranked;
         slots = agrees;
         holdings = holdings;
@@ -199,6 +203,8 @@ module _ {D A C : Type 0} (told : D → Option (List ℕ)) (may_leave : D → Li
           found = s.found;
           calls = ap (λ (n : ℕ). n + 1) s.calls;
           made = s.made;
+          live = s.live;
+          kept = s.kept;
           ranked = omega (arith, s.ranked, length-append {A = Entry} h (e ∷ []));
           slots = quiet slots.table.slots s.model (counted s.model) more agrees (record { keys = refl; given = omega arith });
           holdings = holdings;

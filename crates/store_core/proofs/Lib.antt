@@ -4,3 +4,6 @@ mod Kept
 mod Replaced
 mod Loading
 mod Refusing
+mod Changing
+mod Removing
+mod Destroyed

@@ -1,5 +1,5 @@
 -- A key that was loaded from the file.
-use Rattle.std.proofs.Common.{◌≡◌, ◌∙◌, ℕ, ◌<◌, Bool, true, false, cond, List, [], ◌∷◌, ◌++◌, refl, sym, ap, subst, arith, inl, inr, Option, None, Some, is_some}
+use Rattle.std.proofs.Common.{◌≡◌, ◌∙◌, ℕ, ◌<◌, Bool, true, false, cond, List, [], ◌∷◌, ◌++◌, refl, sym, ap, subst, arith, inl, inr, Option, None, Some, is_some, nat_lt}
 use Rattle.std.proofs.lemmas.Bool.{false≢true}
 use Rattle.std.specs.Option.{option_and_then}
 use Rattle.std.specs.FinMap as map
@@ -18,7 +18,7 @@ use Rattle.key_slots.specs.declared.slots.KeySlots.{KeySlots}
 use Rattle.key_slots.specs.Holdings.{Pairs, Gains}
 use Rattle.key_slots.specs.Standing.{Agrees, SlotHasKey, Puts}
 use Rattle.store_model.specs.Store as model
-use Rattle.store_model.specs.Store.{Key, is_opaque, is_persistent_key}
+use Rattle.store_model.specs.Store.{Key, is_opaque, is_persistent_key, is_volatile_of}
 use Rattle.store_model.specs.Handles.{Service}
 use Rattle.store_model.specs.Requests.{Request}
 use Rattle.store_model.specs.Replay.{Entry, replay}
@@ -29,7 +29,7 @@ use Rattle.store_core.specs.Represents.{IsTold, IsDirectory, Opening}
 use Rattle.store_core.proofs.Histories.{reads_last, told_before}
 use Rattle.store_core.proofs.Holding.{HoldsHere, IsReadingHere, IsReadOn, moved, goes_on}
 use Rattle.store_core.proofs.Kept.{HasCellKey, key_of_cell, is_persistent, local}
-use Rattle.store_core.proofs.Replaced.{replaced, put_here, sound_after, directory_after, device_after, agrees_after}
+use Rattle.store_core.proofs.Replaced.{replaced, same_count, put_here, sound_after, directory_after, device_after, agrees_after}
 
 -- a request reads a persistent key where that of its identifier is one
 pub reads_it : (service : Service) (caller : ℕ) (request : Request) (id : ℕ) (m : model.Store) → id_read service caller request ≡ Some id → m ≡ service.store →
@@ -138,6 +138,8 @@ module _ {D A C : Type 0} (told : D → Option (List ℕ)) (may_leave : D → Li
               found = s.found;
               calls = s.calls;
               made = s.made;
+              live = λ c le. same_count (is_volatile_of c) s.model.keys id own.0 new own.1 ∙ s.live c le;
+              kept = same_count (λ i. nat_lt i 0x40000000) s.model.keys id own.0 new own.1 ∙ s.kept;
               ranked = s.ranked;
               slots = fills (replaced s.model id new) (agrees_after s.model id own.0 a bytes own.1 own.2 key named old.slots.table.slots all none s.slots) there;
               holdings = s.holdings;

@@ -36,11 +36,11 @@ over_removed : (keys : KeyMap) (id : ℕ) (new : Key) → map.insert keys id new
 over_removed keys id new = map.same_map nat_cmp_total map.nat_cmp-IsAntisymmetric _ _ (λ q.
     put keys id new q ∙ put_twice (q == id) (Some new) (map.get keys q) ∙ sym (put (map.remove keys id) id new q ∙ ap (cond (q == id) (Some new)) (taken keys id q)))
 
-back_again : (keys : KeyMap) (id : ℕ) (key : Key) → map.get keys id ≡ Some key → keys ≡ map.insert (map.remove keys id) id key
+pub back_again : (keys : KeyMap) (id : ℕ) (key : Key) → map.get keys id ≡ Some key → keys ≡ map.insert (map.remove keys id) id key
 back_again keys id key is = map.same_map nat_cmp_total map.nat_cmp-IsAntisymmetric _ _ (λ q.
     put_back (q == id) (Some key) (map.get keys q) (λ same. ap (map.get keys) (eqb-true q id same) ∙ is) ∙ sym (put (map.remove keys id) id key q ∙ ap (cond (q == id) (Some key)) (taken keys id q)))
 
-same_count : (p : ℕ → Bool) (keys : KeyMap) (id : ℕ) (key new : Key) → map.get keys id ≡ Some key → map.len (map.retain_keys (map.insert keys id new) p) ≡ map.len (map.retain_keys keys p)
+pub same_count : (p : ℕ → Bool) (keys : KeyMap) (id : ℕ) (key new : Key) → map.get keys id ≡ Some key → map.len (map.retain_keys (map.insert keys id new) p) ≡ map.len (map.retain_keys keys p)
 same_count p keys id key new is =
     let left = map.remove keys id in
     let none : map.get left id ≡ None = taken keys id id ∙ ap (λ b. cond b None (map.get keys id)) (same_number id) in

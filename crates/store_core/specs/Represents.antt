@@ -1,5 +1,5 @@
 -- What it is for a store to stand for a start, a history and what the callers have out; and what its turns make of these.
-use Rattle.std.specs.Prelude.{◌≡◌, ◌<◌, ◌≤◌, ◌⊎◌, ℕ, ◌+◌, true, false, List, [], ◌∷◌, ◌++◌, length, Option, Some, is_some}
+use Rattle.std.specs.Prelude.{◌≡◌, ◌<◌, ◌≤◌, ◌⊎◌, ℕ, ◌+◌, true, false, List, [], ◌∷◌, ◌++◌, length, slice_index, Option, Some, is_some}
 use Rattle.std.specs.FinMap as map
 use Rattle.key_cells.specs.declared.slot.Slot as cell
 use Rattle.key_cells.specs.declared.slot.Slot.TheVariants.{Open}
@@ -12,7 +12,9 @@ use Rattle.driver_dispatch.specs.Held.{HeldKeys}
 use Rattle.driver_dispatch.specs.Calls.{HoldsHandle, Lacks}
 use Rattle.store_model.specs.Store as model
 use Rattle.store_model.specs.Store.{Key, is_volatile, is_opaque, count_persistent, live_volatile}
+use Rattle.store_model.specs.Call.{Destroy}
 use Rattle.store_model.specs.Faults.{FaultMark, Plain}
+use Rattle.store_model.specs.Requests.{OnStore}
 use Rattle.store_model.specs.Sound.{IsSoundStore}
 use Rattle.store_model.specs.Laws.{may_change_keys}
 use Rattle.store_model.specs.Handles.{Service}
@@ -45,6 +47,10 @@ pub record HoldsKeys (held : Option HeldKeys) (m : model.Store) : Type 0 where
       HoldsHandle held key.number (λ h. h ≡ record { key_type = key.attributes.key_type.0; bytes = key.bytes })
   pub new : (handle : ℕ) → m.found + m.calls ≤ handle → Lacks held handle
 
+-- a store after one more ranked turn
+abbrev pub ranked_on : {D A C : Type 0} → Store D A C → Store D A C
+ranked_on store = record store { ranked = store.ranked + 1 }
+
 -- what the opening saw: the disk's moment, and how often disk and devices had failed
 pub record Opening : Type 0 where
   pub moment : ℕ
@@ -69,6 +75,8 @@ module _ {D A C : Type 0} (told : D → Option (List ℕ)) (may_leave : D → Li
     pub found : model.found ≡ store.found
     pub calls : model.calls ≡ store.ranked
     pub made : model.made ≡ store.made
+    pub live : (caller : ℕ) → caller ≤ 16 → live_volatile model.keys caller ≡ slice_index store.live caller
+    pub kept : count_persistent model.keys ≡ store.kept
     pub ranked : store.ranked ≡ length h
     pub slots : Agrees store.slots.table.slots model all
     pub holdings : AreHoldings all
@@ -131,6 +139,12 @@ module _ {D A C : Type 0} (told : D → Option (List ℕ)) (may_leave : D → Li
     Reads id mark P = (start : Service) (opening : Opening) (h : List Entry) (all : List Pairs) (e : Entry) →
         StandsFor old start opening h all → IsReading old start h e id → IsEntry new mark e →
         (n : StandsFor new start opening (h ++ e ∷ []) all) × P n.holds.model
+
+    -- a ranked turn that is to destroy the key of an identifier, where P holds of the model before
+    abbrev pub Destroys : (id : ℕ) → FaultMark → (model.Store → Type 0) → Type 0
+    Destroys id mark P = (start : Service) (opening : Opening) (h : List Entry) (all : List Pairs) (e : Entry) →
+        (s : StandsFor old start opening h all) → e.call ≡ OnStore (Destroy id) → IsEntry new mark e →
+        StandsFor new start opening (h ++ e ∷ []) all × P s.holds.model
 
     abbrev pub ReadsAndGives : (id : ℕ) → ℕ × ℕ → (model.Store → Type 0) → Type 0
     ReadsAndGives id p P = (start : Service) (opening : Opening) (h : List Entry) (all more : List Pairs) (e : Entry) →

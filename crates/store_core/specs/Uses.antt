@@ -1,19 +1,21 @@
 -- What a turn that looks for a key finds.
 use Rattle.std.specs.Prelude.{◌≡◌, ℕ, take, true, Option, Some, None}
 use Rattle.std.specs.FinMap as map
-use Rattle.psa_status.specs.Rows.{first_row}
 use Rattle.psa_status.specs.declared.Status.{Status}
-use Rattle.psa_status.specs.declared.Status.TheVariants.{InvalidHandle, StorageFailure, DataCorrupt}
+use Rattle.psa_status.specs.declared.Status.TheVariants.{InvalidHandle, StorageFailure, HardwareFailure, DataCorrupt}
+use Rattle.psa_status.specs.Rows.{first_row}
 use Rattle.key_attributes.specs.declared.Attributes.{Attributes}
 use Rattle.secret_bytes.specs.Buffer.{bytes_of}
 use Rattle.slot_table.specs.Slots.{Slot}
 use Rattle.slot_table.specs.Lent as lent
 use Rattle.key_slots.specs.Standing.{SlotHasKey, slot_bytes}
 use Rattle.store_model.specs.Store as model
-use Rattle.store_model.specs.Store.{Key, is_persistent_key}
-use Rattle.store_model.specs.KeyUse.{export_rows}
+use Rattle.store_model.specs.Store.{Key, is_persistent_key, is_opaque_key}
 use Rattle.store_model.specs.Faults as fault
-use Rattle.store_model.specs.Faults.{FaultMark, Plain, Storage, Reading}
+use Rattle.store_model.specs.Faults.{FaultMark, Plain, Storage, Hardware, Reading, Writing}
+use Rattle.store_model.specs.KeyUse.{destroy_rows, export_rows}
+use Rattle.store_core.specs.declared.destroying.NotDestroyed.{NotDestroyed}
+use Rattle.store_core.specs.declared.destroying.NotDestroyed.TheVariants as undestroyed
 use Rattle.store_core.specs.declared.reading.Unread.{Unread}
 use Rattle.store_core.specs.declared.reading.Unread.TheVariants.{Missing, Disk, Corrupt}
 
@@ -60,3 +62,21 @@ there_rows (Some key) = None
 -- the rows of EXPORT but for that of the room, which comes last
 abbrev pub export_refusal : Option Key → Option Status
 export_refusal found = first_row (take 2 (export_rows found 0))
+
+-- what a call answers that didn't destroy its key for sure
+abbrev pub status_undestroyed : NotDestroyed → Status
+status_undestroyed undestroyed.Missing = InvalidHandle
+status_undestroyed (undestroyed.Disk closed_first) = StorageFailure
+status_undestroyed undestroyed.Hardware = HardwareFailure
+
+-- the mark of its turn
+abbrev pub mark_undestroyed : NotDestroyed → FaultMark
+mark_undestroyed undestroyed.Missing = Plain
+mark_undestroyed (undestroyed.Disk closed_first) = Storage (Writing closed_first)
+mark_undestroyed undestroyed.Hardware = Hardware
+
+-- and what holds of the model before it
+abbrev pub IsUndestroyed : (id : ℕ) → NotDestroyed → model.Store → Type 0
+IsUndestroyed id undestroyed.Missing m = first_row (destroy_rows (map.get m.keys id) id) ≡ Some InvalidHandle
+IsUndestroyed id (undestroyed.Disk closed_first) m = is_persistent_key (map.get m.keys id) ≡ true
+IsUndestroyed id undestroyed.Hardware m = is_opaque_key (map.get m.keys id) ≡ true

@@ -1,9 +1,11 @@
 //! The store: keys in slots, in a file that a crash leaves whole, or in a device, whose turns are steps of the model.
 #![tactic(auto)]
 
+mod destroying;
 mod looks;
 mod reading;
 mod store;
 mod turns;
 
+pub use destroying::NotDestroyed;
 pub use store::{Opened, Store};

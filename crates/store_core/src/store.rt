@@ -16,6 +16,10 @@ pub struct Store<D: Disk, A: Devices, C: Admission> {
     pub rules: C,
     /// How many volatile keys each caller has made, by its number.
     pub made: [u32; 17],
+    /// How many volatile keys of each caller are alive, by its number.
+    pub live: [u8; 17],
+    /// How many persistent keys there are.
+    pub kept: u32,
     /// How many keys were found at the opening.
     pub found: u64,
     /// How many ranked turns there were.

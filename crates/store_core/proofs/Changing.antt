@@ -1,0 +1,136 @@
+-- A ranked turn that changes keys.
+use Rattle.std.proofs.Common.{◌≡◌, ◌⊎◌, ℕ, ◌+◌, ◌≤◌, List, [], ◌∷◌, ◌++◌, true, Option, is_some, sym, ◌∙◌, ap, subst, arith, inl, inr, ⊎_elim, length-append}
+use Rattle.std.specs.Prelude.{slice_index}
+use Rattle.disk_face.specs.Moments.{Within}
+use Rattle.disk_face.proofs.Moments.{promise_goes_on}
+use Rattle.policy_rules.specs.declared.narrowing.Label.{Label}
+use Rattle.driver_dispatch.specs.Held.{HeldKeys}
+use Rattle.key_file.specs.Files.{StandsForKeys, FitsKeys, Leads}
+use Rattle.key_file.proofs.Leading.{stands_fits}
+use Rattle.key_slots.specs.Holdings.{Pairs, AreHoldings}
+use Rattle.key_slots.specs.Standing.{Agrees}
+use Rattle.store_model.specs.Store as model
+use Rattle.store_model.specs.Store.{count_persistent, live_volatile}
+use Rattle.store_model.specs.Faults.{FaultMark}
+use Rattle.store_model.specs.Handles.{Service}
+use Rattle.store_model.specs.Replay.{Entry, outcome_of, replay}
+use Rattle.store_model.specs.Marks.{FaultCounts, MayBeMarked, HasFault, IsCaused, last_counts}
+use Rattle.store_model.specs.Sound.{IsSoundStore}
+use Rattle.store_model.proofs.Causes.{go_on, allowed_go_on}
+use Rattle.store_core.specs.declared.store.Store.{Store}
+use Rattle.store_core.specs.Durability.{Course, after, opened, course_of, doubt_after, durable_keys, FitsCourse}
+use Rattle.store_core.specs.Represents.{IsTold, IsDirectory, HoldsKeys, Opening}
+use Rattle.store_core.proofs.Histories.{replay_push, counts_push, told_before, course_service, course_push}
+use Rattle.store_core.proofs.Holding.{HoldsHere, StandsHere, IsTurn, counts_of}
+
+-- what is told of one disk is told of another that tells as much
+retold : (old new : Option (List ℕ)) (start : Service) (h : List Entry) → is_some new ≡ is_some old → IsTold new start h → IsTold old start h
+retold old new start h same (inl tells) = inl (sym same ∙ tells)
+retold old new start h same (inr none) = inr none
+
+module _ {D A C : Type 0} (told : D → Option (List ℕ)) (may_leave : D → List ℕ → Type 0) (moment : D → ℕ) (left_since : D → ℕ → List ℕ → Type 0)
+    (faults : D → ℕ) (held : A → Option HeldKeys) (hard : A → ℕ) (locations : A → List ℕ) (labels : C → List Label) where
+  -- what a ranked turn makes of a store, and of the model that it holds
+  pub record Turns (old new : Store D A C) (all : List Pairs) (e : Entry) (mark : FaultMark) (m m' : model.Store) : Type 0 where
+    pub becomes : (service : Service) → m ≡ service.store → m' ≡ (outcome_of service e).service.store
+    pub sound : IsSoundStore m'
+    pub settings : m'.settings ≡ m.settings
+    pub rules : labels new.rules ≡ labels old.rules
+    pub devices : locations new.devices ≡ locations old.devices
+    pub found : m'.found ≡ new.found
+    pub calls : m'.calls ≡ new.ranked
+    pub made : m'.made ≡ new.made
+    pub live : (caller : ℕ) → caller ≤ 16 → live_volatile m'.keys caller ≡ slice_index new.live caller
+    pub kept : count_persistent m'.keys ≡ new.kept
+    pub ranked : new.ranked ≡ old.ranked + 1
+    pub slots : Agrees new.slots.table.slots m' all
+    pub holdings : AreHoldings all
+    pub directory : IsDirectory new.file.cells.slots.items m'
+    pub device : HoldsKeys (held new.devices) m'
+    pub tells : is_some (told new.file.cells.disk) ≡ is_some (told old.file.cells.disk)
+    pub leads : (s : Course) → m ≡ s.service.store → StandsForKeys told may_leave old.file.cells.disk old.file.cells.slots.items (durable_keys m) s.doubt →
+        Leads told may_leave moment left_since old.file.cells.disk new.file.cells.disk old.file.cells.slots.items new.file.cells.slots.items (durable_keys m) s.doubt (durable_keys m') (doubt_after e s)
+    pub fault : HasFault (is_some (told new.file.cells.disk)) (counts_of (faults old.file.cells.disk) (hard old.devices)) e mark
+    pub may : (service : Service) → m ≡ service.store → MayBeMarked service e.caller e.call mark
+
+  module _ (only_now : (disk : D) (image : List ℕ) → left_since disk (moment disk) image → may_leave disk image)
+      (old new : Store D A C) (start : Service) (opening : Opening) (h : List Entry) (all more : List Pairs) (e : Entry) (mark : FaultMark) (m' : model.Store)
+      (s : StandsHere told may_leave moment left_since faults held hard locations labels old start opening h all) (t : Turns old new more e mark s.holds.model m') where
+    abbrev m : model.Store
+    m = s.holds.model
+
+    abbrev past : D
+    past = old.file.cells.disk
+
+    abbrev now : D
+    now = new.file.cells.disk
+
+    abbrev course : Course
+    course = course_of start h
+
+    abbrev Known : Type 0
+    Known = IsTold (told now) start (h ++ e ∷ [])
+
+    before : Known → IsTold (told past) start h
+    before k = retold (told past) (told now) start h t.tells (told_before (told now) start h e k)
+
+    tells_before : is_some (told now) ≡ true → is_some (told past) ≡ true
+    tells_before is = sym t.tells ∙ is
+
+    module _ (is : is_some (told now) ≡ true) where
+      of_course : m ≡ course.service.store
+      of_course = s.holds.replayed (inl (tells_before is)) ∙ ap (λ (x : Service). x.store) (sym (course_service start h))
+
+      after_course : m' ≡ (after e course).service.store
+      after_course = t.becomes course.service of_course
+
+      leads_here : Leads told may_leave moment left_since past now old.file.cells.slots.items new.file.cells.slots.items (durable_keys m) course.doubt (durable_keys m') (doubt_after e course)
+      leads_here = t.leads course of_course (s.holds.file (tells_before is))
+
+      fits_old : (image : List ℕ) → FitsKeys (durable_keys m) course.doubt image → FitsCourse course image
+      fits_old image fits = subst (λ (x : model.Store). FitsKeys (durable_keys x) course.doubt image) of_course fits
+
+      fits_new : (image : List ℕ) → FitsKeys (durable_keys m') (doubt_after e course) image → FitsCourse (after e course) image
+      fits_new image fits = subst (λ (x : model.Store). FitsKeys (durable_keys x) (doubt_after e course) image) after_course fits
+
+      within_here : Within (moment past) (moment now) (left_since past) (left_since now) (λ image. FitsCourse course image ⊎ FitsCourse (after e course) image)
+      within_here = record {
+        later = leads_here.within.later;
+        each = λ at image le left. ⊎_elim (λ had. inl had) (λ fits. inr (⊎_elim (λ f. inl (fits_old image f)) (λ f. inr (fits_new image f)) fits)) (leads_here.within.each at image le left);
+      }
+
+      fits_now : (image : List ℕ) → left_since now (moment now) image → FitsCourse (after e course) image
+      fits_now image left =
+          fits_new image (stands_fits told may_leave moment left_since now new.file.cells.slots.items (durable_keys m') (doubt_after e course) image leads_here.stands (only_now now image left))
+
+    pub turns : IsTurn told may_leave moment left_since faults held hard locations labels new mark e → StandsHere told may_leave moment left_since faults held hard locations labels new start opening (h ++ e ∷ []) more
+    turns is = record { holds = holds; counts = counts_push opening.counts h e ∙ counted_here }
+      where
+        counted_here : counts_of e.faults e.hard ≡ counts_of (faults now) (hard new.devices)
+        counted_here = ap (λ (n : ℕ). counts_of n e.hard) is.disk_faults ∙ ap (counts_of (faults now)) is.device_faults
+
+        holds : HoldsHere told may_leave moment left_since faults held hard locations labels Known new start opening (h ++ e ∷ []) more
+        holds = record {
+          model = m';
+          replayed = λ k. t.becomes (replay start h) (s.holds.replayed (before k)) ∙ ap (λ (x : Service). x.store) (sym (replay_push start h e));
+          sound = t.sound;
+          labels_are = ap (λ (x : model.Settings). x.labels) t.settings ∙ (s.holds.labels_are ∙ sym t.rules);
+          locations_are = ap (λ (x : model.Settings). x.locations) t.settings ∙ (s.holds.locations_are ∙ sym t.devices);
+          has_file = ap (λ (x : model.Settings). x.has_file) t.settings ∙ s.holds.has_file;
+          found = t.found;
+          calls = t.calls;
+          made = t.made;
+          live = t.live;
+          kept = t.kept;
+          ranked = omega (arith, s.holds.ranked, t.ranked, length-append {A = Entry} h (e ∷ []));
+          slots = t.slots;
+          holdings = t.holdings;
+          directory = t.directory;
+          device = t.device;
+          file = λ tells. subst (StandsForKeys told may_leave now new.file.cells.slots.items (durable_keys m')) (sym (ap (λ (c : Course). c.doubt) (course_push start h e))) (leads_here tells).stands;
+          promise = λ tells. promise_goes_on after FitsCourse (opened start) (λ (x : Entry). x.done) (left_since past) (left_since now) (moment past) (moment now) opening.moment h e (s.holds.promise (tells_before tells))
+              (within_here tells) (fits_now tells) is.done;
+          caused = go_on (is_some (told now)) opening.counts h e (subst (λ b. IsCaused b opening.counts h) (sym t.tells) s.holds.caused)
+              (subst (HasFault (is_some (told now)) (last_counts opening.counts h) e) (sym is.marked) (subst (λ (c : FaultCounts). HasFault (is_some (told now)) c e mark) (sym s.counts) t.fault));
+          allowed = λ k. allowed_go_on start h e (s.holds.allowed (before k)) (subst (MayBeMarked (replay start h) e.caller e.call) (sym is.marked) (t.may (replay start h) (s.holds.replayed (before k))));
+        }

@@ -1,0 +1,61 @@
+use Rattle.std.proofs.Common.{◌<◌, arith, subst, sym}
+use Rattle.std.specs.FinMap as map
+use Rattle.psa_status.specs.Causes.{Rose}
+use Rattle.key_file.specs.Files.{Leads}
+use Rattle.store_model.specs.Faults.{Plain, Storage, Writing}
+use Rattle.store_core.proofs.Kept.{key_of_cell, is_persistent}
+use Rattle.store_core.proofs.Destroyed.{destroys_kept, fewer_kept, rows_there, undestroyed_doubt}
+use Rattle.store_core.proofs.store.Store.remove_kept.Goals as goal
+
+pub overflow_sub-self : goal.overflow_sub-self
+overflow_sub-self g c =
+    let s = c.requires.stands.4.holds in
+    let sized = s.directory.sized in
+    let there = c.requires.there.within in
+    let k = key_of_cell c.args.self.now.file.cells.slots.items s.model c.args.id.0 c.args.cell s.directory (omega arith) c.requires.there.here in
+    let fewer = fewer_kept s.model c.args.id.0 k.0 k.1 s.sound k.2 in
+    let was = s.kept in
+    omega arith
+
+pub returns-in-Ok-clause-destroyed : goal.returns-in-Ok-clause-destroyed
+returns-in-Ok-clause-destroyed g c = λ start opening h all e s call is.
+    let d = g.D.Disk in
+    let v = g.A.Devices in
+    let m = s.holds.model in
+    let ensures = c.in-Ok.ensures in
+    let sized = s.holds.directory.sized in
+    let there = c.requires.there.within in
+    let within : c.args.cell < 512 = omega arith in
+    let key = key_of_cell c.args.self.now.file.cells.slots.items m c.args.id.0 c.args.cell s.holds.directory within c.requires.there.here in (
+      destroys_kept d.contents d.may_leave d.moment d.left_since d.faults v.keys v.faults v.locations g.C.Admission.labels g.met.D.Disk.only_now c.args.self.now start opening h all e c.args.id.0 call c.destroy-closed.new.self c.destroy.new.self Plain c.args.cell s
+          (record { within = within; key = c.requires.there.here; sized = ensures.slots; missing = ensures.missing; tells = ensures.tells; leads = λ keys keys' doubt own stands there put. ensures.destroyed keys keys' doubt stands put })
+          c.destroy.ensures tt (λ service persistent. tt) is,
+      rows_there c.args.id.0 (map.get m.keys c.args.id.0) key.0 key.1,
+    )
+
+pub returns-in-Err-clause-failed : goal.returns-in-Err-clause-failed
+returns-in-Err-clause-failed g c = λ start opening h all e s call is.
+    let d = g.D.Disk in
+    let v = g.A.Devices in
+    let m = s.holds.model in
+    let old = c.args.self.now.file.cells in
+    let new = c.destroy-closed.new.self.cells in
+    let closed = c.in-Err.fault.closed_first in
+    let ensures = c.in-Err.ensures in
+    let sized = s.holds.directory.sized in
+    let there = c.requires.there.within in
+    let within : c.args.cell < 512 = omega arith in
+    let key = key_of_cell old.slots.items m c.args.id.0 c.args.cell s.holds.directory within c.requires.there.here in (
+      destroys_kept d.contents d.may_leave d.moment d.left_since d.faults v.keys v.faults v.locations g.C.Admission.labels g.met.D.Disk.only_now c.args.self.now start opening h all e c.args.id.0 call c.destroy-closed.new.self c.destroy.new.self (Storage (Writing closed)) c.args.cell s
+          (record {
+            within = within;
+            key = c.requires.there.here;
+            sized = ensures.slots;
+            missing = ensures.missing;
+            tells = ensures.tells;
+            leads = λ keys keys' doubt own stands there put. subst (Leads d.contents d.may_leave d.moment d.left_since old.disk new.disk old.slots.items new.slots.items keys doubt keys') (undestroyed_doubt closed own doubt)
+                (ensures.failed keys keys' doubt own stands there put);
+          })
+          c.destroy.ensures (subst (Rose (d.faults old.disk)) (sym is.disk_faults) ensures.cause.failed) (λ service persistent. persistent) is,
+      is_persistent (map.get m.keys c.args.id.0) key.0 key.1 key.2,
+    )

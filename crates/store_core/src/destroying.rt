@@ -1,0 +1,171 @@
+//! How a turn destroys a key.
+ghost use Rattle.std.specs.Prelude.{◌≡◌, ◌<◌, ◌≤◌, ◌^◌, ◌+◌, ◌/◌, ◌⊎◌, ℕ, List, true, false, None, Some, Bool, OnOk, OnErr, IfErr, IsErrOf, IsTrue, ⊤};
+ghost use Rattle.std.specs.Option.{option_map};
+ghost use Rattle.std.specs.FinMap as map;
+ghost use Rattle.psa_status.specs.declared.Status.TheVariants.{InvalidHandle};
+ghost use Rattle.psa_status.specs.Causes.{HasCause};
+ghost use Rattle.psa_status.specs.Rows.{first_row};
+ghost use Rattle.driver_dispatch.specs.Held.{without_key};
+ghost use Rattle.driver_dispatch.specs.Calls.{HoldsHandle, has_element};
+ghost use Rattle.key_cells.specs.Contents.{HasNoKey, IsFirstWithKey};
+ghost use Rattle.slot_states.specs.declared.SlotState.TheVariants.{Full};
+ghost use Rattle.slot_table.specs.Slots.{slot_at, holds_key};
+ghost use Rattle.store_model.specs.Store.{is_opaque};
+ghost use Rattle.store_model.specs.KeyUse.{destroy_rows};
+ghost use Rattle.store_model.specs.Faults.{Plain};
+ghost use Rattle.store_core.specs.Represents.{Destroys, Stands, ranked_on};
+ghost use Rattle.store_core.specs.Uses.{mark_undestroyed, status_undestroyed, IsUndestroyed};
+
+use crate::Store;
+use admission::Admission;
+use disk_face::Disk;
+use driver_dispatch::Devices;
+use key_attributes::KeyId;
+use key_slots::KeySlots;
+use psa_status::{Failed, Status};
+
+/// Why a key was not destroyed for sure: there is none; or the file or the device failed, and it is gone from the store all
+/// the same, but may be there again after a crash where the file failed.
+#[derive(Clone, Copy, Debug, PartialEq, Eq, Drop)]
+pub enum NotDestroyed {
+    Missing,
+    Disk { closed_first: bool },
+    Hardware,
+}
+
+impl NotDestroyed {
+    /// What a call answers.
+    pub fn status(self) -> Status
+        ensures { result ≡ status_undestroyed self }
+    {
+        match self {
+            NotDestroyed::Missing => Status::InvalidHandle,
+            NotDestroyed::Disk { .. } => Status::StorageFailure,
+            NotDestroyed::Hardware => Status::HardwareFailure,
+        }
+    }
+}
+
+impl<D: Disk, A: Devices, C: Admission> Store<D, A, C> {
+    /// Destroys a key. Destroying no key, by the identifier 0, succeeds. Ranked.
+    pub fn destroy(&mut self, id: KeyId) -> Result<(), NotDestroyed>
+        requires stands { Stands D.contents D.may_leave D.moment D.left_since D.faults A.keys A.faults A.locations C.labels self.old }
+        requires size { D.size self.old.file.cells.disk ≡ 557120 }
+        requires few { self.old.ranked < 2 ^ 62 }
+        ensures size { D.size self.new.file.cells.disk ≡ 557120 }
+        ensures destroyed { OnOk result (Destroys D.contents D.may_leave D.moment D.left_since D.faults A.keys A.faults A.locations C.labels self.old self.new id.0 Plain
+            (λ m. first_row (destroy_rows (map.get m.keys id.0) id.0) ≡ None)) }
+        ensures failed { IfErr result (λ why. Destroys D.contents D.may_leave D.moment D.left_since D.faults A.keys A.faults A.locations C.labels self.old self.new id.0 (mark_undestroyed why)
+            (IsUndestroyed id.0 why)) }
+        ensures buffer { self.new.buffer ≡ self.old.buffer }
+        ensures opened { self.new.opened ≡ self.old.opened }
+    {
+        let result = self.remove(id);
+        self.ranked += 1;
+        result
+    }
+
+    // Destroys a key, in all but the count of the turn.
+    fn remove(&mut self, id: KeyId) -> Result<(), NotDestroyed>
+        requires stands { Stands D.contents D.may_leave D.moment D.left_since D.faults A.keys A.faults A.locations C.labels self.old }
+        requires size { D.size self.old.file.cells.disk ≡ 557120 }
+        ensures size { D.size self.new.file.cells.disk ≡ 557120 }
+        ensures destroyed { OnOk result (Destroys D.contents D.may_leave D.moment D.left_since D.faults A.keys A.faults A.locations C.labels self.old (ranked_on self.new) id.0 Plain
+            (λ m. first_row (destroy_rows (map.get m.keys id.0) id.0) ≡ None)) }
+        ensures failed { IfErr result (λ why. Destroys D.contents D.may_leave D.moment D.left_since D.faults A.keys A.faults A.locations C.labels self.old (ranked_on self.new) id.0 (mark_undestroyed why)
+            (IsUndestroyed id.0 why)) }
+        ensures buffer { self.new.buffer ≡ self.old.buffer }
+        ensures ranked { self.new.ranked ≡ self.old.ranked }
+        ensures opened { self.new.opened ≡ self.old.opened }
+    {
+        if id.0 == 0 {
+            return Ok(());
+        }
+        if let Some(cell) = self.file.find(id.0) {
+            return self.remove_kept(id, cell);
+        }
+        let Some(slot) = self.slots.find(id) else {
+            return Err(NotDestroyed::Missing);
+        };
+        self.remove_volatile(id, slot)
+    }
+
+    // Destroys the key of a cell.
+    fn remove_kept(&mut self, id: KeyId, cell: usize) -> Result<(), NotDestroyed>
+        requires stands { Stands D.contents D.may_leave D.moment D.left_since D.faults A.keys A.faults A.locations C.labels self.old }
+        requires size { D.size self.old.file.cells.disk ≡ 557120 }
+        requires there { IsFirstWithKey self.old.file.cells.slots.items id.0 cell }
+        ensures size { D.size self.new.file.cells.disk ≡ 557120 }
+        ensures destroyed { OnOk result (Destroys D.contents D.may_leave D.moment D.left_since D.faults A.keys A.faults A.locations C.labels self.old (ranked_on self.new) id.0 Plain
+            (λ m. first_row (destroy_rows (map.get m.keys id.0) id.0) ≡ None)) }
+        ensures failed { IfErr result (λ why. Destroys D.contents D.may_leave D.moment D.left_since D.faults A.keys A.faults A.locations C.labels self.old (ranked_on self.new) id.0 (mark_undestroyed why)
+            (IsUndestroyed id.0 why)) }
+        ensures buffer { self.new.buffer ≡ self.old.buffer }
+        ensures ranked { self.new.ranked ≡ self.old.ranked }
+        ensures opened { self.new.opened ≡ self.old.opened }
+    {
+        let closed = self.file.destroy(id.0, cell);
+        self.slots.destroy(id);
+        self.kept -= 1;
+        match closed {
+            Ok(()) => Ok(()),
+            Err(fault) => Err(NotDestroyed::Disk {
+                closed_first: fault.closed_first,
+            }),
+        }
+    }
+
+    // Destroys the key of a slot that no cell has.
+    fn remove_volatile(&mut self, id: KeyId, slot: u32) -> Result<(), NotDestroyed>
+        requires stands { Stands D.contents D.may_leave D.moment D.left_since D.faults A.keys A.faults A.locations C.labels self.old }
+        requires size { D.size self.old.file.cells.disk ≡ 557120 }
+        requires absent { HasNoKey self.old.file.cells.slots.items id.0 }
+        requires within { slot < 384 }
+        requires full { (slot_at self.old.slots.table.slots slot).state ≡ Full }
+        requires there { holds_key id.0 (slot_at self.old.slots.table.slots slot) ≡ true }
+        ensures size { D.size self.new.file.cells.disk ≡ 557120 }
+        ensures destroyed { OnOk result (Destroys D.contents D.may_leave D.moment D.left_since D.faults A.keys A.faults A.locations C.labels self.old (ranked_on self.new) id.0 Plain
+            (λ m. first_row (destroy_rows (map.get m.keys id.0) id.0) ≡ None)) }
+        ensures failed { IfErr result (λ why. Destroys D.contents D.may_leave D.moment D.left_since D.faults A.keys A.faults A.locations C.labels self.old (ranked_on self.new) id.0 (mark_undestroyed why)
+            (IsUndestroyed id.0 why)) }
+        ensures buffer { self.new.buffer ≡ self.old.buffer }
+        ensures ranked { self.new.ranked ≡ self.old.ranked }
+        ensures opened { self.new.opened ≡ self.old.opened }
+    {
+        let caller = caller_of(id);
+        let forgotten = forget(&mut self.devices, &self.slots, slot);
+        self.slots.destroy(id);
+        self.live[caller] -= 1;
+        match forgotten {
+            Ok(()) => Ok(()),
+            Err(Failed) => Err(NotDestroyed::Hardware),
+        }
+    }
+}
+
+// The caller that made the volatile key of an identifier.
+fn caller_of(id: KeyId) -> usize
+    requires { 0x40000000 ≤ id.0 }
+    ensures { 1024 + result ≡ id.0 / 2 ^ 20 }
+{
+    (id.0 >> 20) as usize - 0x400
+}
+
+// The device forgets the key of a full slot, where it holds it. After a failure it may have it still.
+fn forget<A: Devices>(devices: &mut A, slots: &KeySlots, slot: u32) -> Result<(), Failed>
+    requires full { (slot_at slots.now.table.slots slot).state ≡ Full }
+    requires element { is_opaque (slot_at slots.now.table.slots slot).attributes ≡ true → IsTrue (has_element (A.locations devices.old)) }
+    requires held { is_opaque (slot_at slots.now.table.slots slot).attributes ≡ true → HoldsHandle (A.keys devices.old) (slot_at slots.now.table.slots slot).creation (λ key. ⊤) }
+    ensures forgotten { OnOk result (is_opaque (slot_at slots.now.table.slots slot).attributes ≡ true →
+        A.keys devices.new ≡ option_map (without_key (slot_at slots.now.table.slots slot).creation) (A.keys devices.old)) }
+    ensures keys { (A.keys devices.new ≡ A.keys devices.old) ⊎ (A.keys devices.new ≡ option_map (without_key (slot_at slots.now.table.slots slot).creation) (A.keys devices.old)) }
+    ensures opaque { OnErr result (is_opaque (slot_at slots.now.table.slots slot).attributes ≡ true) }
+    ensures locations { A.locations devices.new ≡ A.locations devices.old }
+    ensures cause { HasCause (A.faults devices.old) (A.faults devices.new) result }
+{
+    if slots.attributes(slot).lifetime.0 >> 8 != 1 {
+        return Ok(());
+    }
+    let number = slots.number(slot);
+    devices.destroy_key(number)
+}
