@@ -7,3 +7,4 @@ mod Refusing
 mod Changing
 mod Removing
 mod Destroyed
+mod Asked

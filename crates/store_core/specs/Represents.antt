@@ -7,6 +7,7 @@ use Rattle.key_cells.specs.Contents.{cell_slot}
 use Rattle.key_file.specs.Files.{StandsForKeys}
 use Rattle.key_slots.specs.Holdings.{Pairs, Gains, AreHoldings, named}
 use Rattle.key_slots.specs.Standing.{Agrees}
+use Rattle.key_attributes.specs.declared.Attributes.{Attributes}
 use Rattle.policy_rules.specs.declared.narrowing.Label.{Label}
 use Rattle.driver_dispatch.specs.Held.{HeldKeys}
 use Rattle.driver_dispatch.specs.Calls.{HoldsHandle, Lacks}
@@ -14,14 +15,15 @@ use Rattle.store_model.specs.Store as model
 use Rattle.store_model.specs.Store.{Key, is_volatile, is_opaque, count_persistent, live_volatile}
 use Rattle.store_model.specs.Call.{Destroy}
 use Rattle.store_model.specs.Faults.{FaultMark, Plain}
-use Rattle.store_model.specs.Requests.{OnStore}
+use Rattle.store_model.specs.Requests.{OnStore, plain_step}
+use Rattle.store_model.specs.Creation.{recorded_of, created_unless}
 use Rattle.store_model.specs.Sound.{IsSoundStore}
 use Rattle.store_model.specs.Laws.{may_change_keys}
 use Rattle.store_model.specs.Handles.{Service}
 use Rattle.store_model.specs.Replay.{Entry, outcome_of, replay}
 use Rattle.store_model.specs.Marks.{FaultCounts, id_read, reads_persistent, IsCaused, AreAllowed, last_counts}
 use Rattle.store_core.specs.declared.store.Store.{Store}
-use Rattle.store_core.specs.Durability.{durable_keys, course_of, KeepsKeys}
+use Rattle.store_core.specs.Durability.{durable_keys, course_of, is_destruction, KeepsKeys}
 
 -- no entry reads a persistent key
 abbrev pub ReadsNone : Service → List Entry → Type 0
@@ -108,6 +110,19 @@ module _ {D A C : Type 0} (told : D → Option (List ℕ)) (may_leave : D → Li
     pub quiet : may_change_keys e.call ≡ false
     pub reads : Told store start h → id_read (replay start h) e.caller e.call ≡ Some id
 
+  -- P holds of the model, whatever the store stands for
+  abbrev pub HoldsOf : Store D A C → (model.Store → Type 0) → Type 0
+  HoldsOf store P = (start : Service) (opening : Opening) (h : List Entry) (all : List Pairs) (s : StandsFor store start opening h all) → P s.holds.model
+
+  -- The request of an entry is to create a key: it destroys none, and without a mark it leaves and answers what the model's
+  -- creation does, of a key with these stated attributes and these bytes.
+  pub record IsCreating (store : Store D A C) (start : Service) (h : List Entry) (e : Entry) (a : Attributes) (bytes : List ℕ) : Type 0 where
+    pub keeps : is_destruction e.call ≡ false
+    pub leaves : Told store start h →
+        (plain_step (replay start h) e.caller e.call).service.store ≡ (created_unless (replay start h).store e.caller (recorded_of (replay start h).store e.caller a (length bytes)) bytes).store
+    pub answers : Told store start h →
+        (plain_step (replay start h) e.caller e.call).reply ≡ (created_unless (replay start h).store e.caller (recorded_of (replay start h).store e.caller a (length bytes)) bytes).reply
+
   module _ (old new : Store D A C) where
     -- A turn without rank gives a pair out, takes one back, or leaves all.
     abbrev pub Gives : ℕ × ℕ → Type 0
@@ -145,6 +160,13 @@ module _ {D A C : Type 0} (told : D → Option (List ℕ)) (may_leave : D → Li
     Destroys id mark P = (start : Service) (opening : Opening) (h : List Entry) (all : List Pairs) (e : Entry) →
         (s : StandsFor old start opening h all) → e.call ≡ OnStore (Destroy id) → IsEntry new mark e →
         StandsFor new start opening (h ++ e ∷ []) all × P s.holds.model
+
+    -- A ranked turn that is to create a caller's key in the slot of a filling, whose pair is taken back, where P holds of the
+    -- model before.
+    abbrev pub Creates : (caller : ℕ) → Attributes → List ℕ → ℕ × ℕ → FaultMark → (model.Store → Type 0) → Type 0
+    Creates caller a bytes p mark P = (start : Service) (opening : Opening) (h : List Entry) (all less : List Pairs) (e : Entry) →
+        (s : StandsFor old start opening h all) → Gains less all p → AreHoldings less → e.caller ≡ caller → IsCreating old start h e a bytes → IsEntry new mark e →
+        StandsFor new start opening (h ++ e ∷ []) less × P s.holds.model
 
     abbrev pub ReadsAndGives : (id : ℕ) → ℕ × ℕ → (model.Store → Type 0) → Type 0
     ReadsAndGives id p P = (start : Service) (opening : Opening) (h : List Entry) (all more : List Pairs) (e : Entry) →

@@ -4,6 +4,7 @@
 mod destroying;
 mod looks;
 mod reading;
+mod recording;
 mod store;
 mod turns;
 

@@ -125,7 +125,7 @@ impl<D: Disk, A: Devices, C: Admission> Store<D, A, C> {
     }
 
     // Whether there is a key.
-    fn has(&self, id: KeyId) -> bool
+    pub(crate) fn has(&self, id: KeyId) -> bool
         ensures { (m : model.Store) (all : List Pairs) → Agrees self.now.slots.table.slots m all → IsDirectory self.now.file.cells.slots.items m →
             is_some (map.get m.keys id.0) ≡ result }
     {

@@ -1,0 +1,104 @@
+-- What a creation records, as the store's counts have it.
+use Rattle.std.proofs.Common.{◌≡◌, ◌≢◌, ◌⊎◌, ◌∙◌, ℕ, ◌≤◌, ◌<◌, ◌^◌, ◌%◌, ◌==◌, ◌||◌, ◌&&◌, Bool, true, false, not, cond, nat_le, List, refl, ap, arith, inl, inr, eq-eqb, Option, Some, None, is_some}
+use Rattle.std.proofs.lemmas.Bool.Decides.{nat_tests}
+use Rattle.std.specs.Prelude.{Result, Ok, Err}
+use Rattle.std.specs.FinMap as map
+use Rattle.psa_status.specs.declared.Status.{Status}
+use Rattle.psa_status.specs.declared.Status.TheVariants.{NotSupported, KeyLimit, AlreadyExists, InsufficientStorage}
+use Rattle.psa_status.specs.Rows.{first_row, unless, ◌>>=◌}
+use Rattle.key_attributes.specs.declared.Attributes.{Attributes}
+use Rattle.key_attributes.specs.Checks.{checked}
+use Rattle.policy_rules.specs.Narrow.{after_rules}
+use Rattle.policy_rules.specs.declared.narrowing.Label.{Label}
+use Rattle.store_model.specs.Store as model
+use Rattle.store_model.specs.Store.{has_secure_element, is_volatile, live_volatile, made_of, count_persistent}
+use Rattle.store_model.specs.Creation.{recorded_of, room_for_key_rows}
+
+-- what is recorded where there is a file
+abbrev pub asked : model.Store → ℕ → Attributes → ℕ → Bool → List Label → Result Attributes Status
+asked m caller a n element labels = checked a n element >>= (λ filled. after_rules labels filled >>= (λ kept. unless (first_row (room_for_key_rows m caller kept)) kept))
+
+pub asks : (m : model.Store) (caller : ℕ) (a : Attributes) (n : ℕ) (element : Bool) (labels : List Label) → m.settings.has_file ≡ true → has_secure_element m ≡ element → m.settings.labels ≡ labels →
+    recorded_of m caller a n ≡ asked m caller a n element labels
+asks m caller a n element labels file driver rules =
+    ap (λ b. unless (cond b (Some NotSupported) None) a
+    >>= (λ stated. checked stated n (has_secure_element m) >>= (λ filled. after_rules m.settings.labels filled >>= (λ kept. unless (first_row (room_for_key_rows m caller kept)) kept)))) (passes (is_volatile a) m.settings.has_file file)
+    ∙ (ap (λ b. asked m caller a n b m.settings.labels) driver ∙ ap (asked m caller a n element) rules)
+  where
+    passes : (b f : Bool) → f ≡ true → not (b || f) ≡ false
+    passes true f is = refl
+    passes false f is = ap not is
+
+module _ (m : model.Store) (caller : ℕ) (a : Attributes) (n : ℕ) (element : Bool) (labels : List Label) where
+  pub unchecked : (status : Status) → checked a n element ≡ Err status → asked m caller a n element labels ≡ Err status
+  unchecked status is = ap (λ r. r >>= (λ filled. after_rules labels filled >>= (λ kept. unless (first_row (room_for_key_rows m caller kept)) kept))) is
+
+  module _ (filled : Attributes) (is : checked a n element ≡ Ok filled) where
+    passes : asked m caller a n element labels ≡ (after_rules labels filled >>= (λ kept. unless (first_row (room_for_key_rows m caller kept)) kept))
+    passes = ap (λ r. r >>= (λ filled. after_rules labels filled >>= (λ kept. unless (first_row (room_for_key_rows m caller kept)) kept))) is
+
+    pub unruled : (status : Status) → after_rules labels filled ≡ Err status → asked m caller a n element labels ≡ Err status
+    unruled status ruled = passes ∙ ap (λ r. r >>= (λ kept. unless (first_row (room_for_key_rows m caller kept)) kept)) ruled
+
+    pub by_room : (kept : Attributes) (o : Option Status) → after_rules labels filled ≡ Ok kept → first_row (room_for_key_rows m caller kept) ≡ o → asked m caller a n element labels ≡ unless o kept
+    by_room kept o ruled room = passes ∙ (ap (λ r. r >>= (λ kept. unless (first_row (room_for_key_rows m caller kept)) kept)) ruled ∙ ap (λ x. unless x kept) room)
+
+-- THE ROOM
+
+at_least : (least n : ℕ) → least ≤ n → nat_le least n ≡ true
+at_least least n is = grind (arith, nat_tests)
+
+below : (least n : ℕ) → n < least → nat_le least n ≡ false
+below least n is = grind (arith, nat_tests)
+
+apart : (n k : ℕ) → n ≢ k → (n == k) ≡ false
+apart n k differ = grind (arith, nat_tests)
+
+many : (live made : ℕ) → (16 ≤ live) ⊎ (2 ^ 20 ≤ made) → (nat_le 16 live || nat_le (2 ^ 20) made) ≡ true
+many live made (inl is) = ap (λ b. b || nat_le (2 ^ 20) made) (at_least 16 live is)
+many live made (inr is) = either (nat_le 16 live) (nat_le (2 ^ 20) made) (at_least (2 ^ 20) made is) where
+  either : (a b : Bool) → b ≡ true → (a || b) ≡ true
+  either true b is = refl
+  either false b is = is
+
+few : (live made : ℕ) → live < 16 → made < 2 ^ 20 → (nat_le 16 live || nat_le (2 ^ 20) made) ≡ false
+few live made alive all = ap (λ b. b || nat_le (2 ^ 20) made) (below 16 live alive) ∙ below (2 ^ 20) made all
+
+abbrev RowsAre : (volatile there limit full : Bool) → Option Status
+RowsAre volatile there limit full = cond (volatile && limit) (Some KeyLimit) (cond (not volatile && there) (Some AlreadyExists) (cond (not volatile && full) (Some InsufficientStorage) None))
+
+rows : (volatile there limit full v t l f : Bool) → volatile ≡ v → there ≡ t → limit ≡ l → full ≡ f → RowsAre volatile there limit full ≡ RowsAre v t l f
+rows volatile there limit full v t l f a b c d = ap (λ x. RowsAre x there limit full) a ∙ (ap (λ x. RowsAre v x limit full) b ∙ (ap (λ x. RowsAre v t x full) c ∙ ap (λ x. RowsAre v t l x) d))
+
+module _ (m : model.Store) (caller : ℕ) (a : Attributes) where
+  abbrev here : Option Status
+  here = first_row (room_for_key_rows m caller a)
+
+  abbrev there_is : Bool
+  there_is = is_some (map.get m.keys a.id.0)
+
+  abbrev limit_is : Bool
+  limit_is = nat_le 16 (live_volatile m.keys caller) || nat_le (2 ^ 20) (made_of m caller)
+
+  abbrev full_is : Bool
+  full_is = nat_le 512 (count_persistent m.keys)
+
+  pub limited : (live made : ℕ) → a.lifetime.0 % 2 ^ 8 ≡ 0 → live_volatile m.keys caller ≡ live → made_of m caller ≡ made → (16 ≤ live) ⊎ (2 ^ 20 ≤ made) → here ≡ Some KeyLimit
+  limited live made volatile lives makes is = rows (is_volatile a) there_is limit_is full_is true there_is true full_is (eq-eqb (a.lifetime.0 % 2 ^ 8) 0 volatile) refl
+      (ap (λ n. nat_le 16 n || nat_le (2 ^ 20) (made_of m caller)) lives ∙ (ap (λ n. nat_le 16 live || nat_le (2 ^ 20) n) makes ∙ many live made is)) refl
+
+  pub unlimited : (live made : ℕ) → a.lifetime.0 % 2 ^ 8 ≡ 0 → live_volatile m.keys caller ≡ live → made_of m caller ≡ made → live < 16 → made < 2 ^ 20 → here ≡ None
+  unlimited live made volatile lives makes alive all = rows (is_volatile a) there_is limit_is full_is true there_is false full_is (eq-eqb (a.lifetime.0 % 2 ^ 8) 0 volatile) refl
+      (ap (λ n. nat_le 16 n || nat_le (2 ^ 20) (made_of m caller)) lives ∙ (ap (λ n. nat_le 16 live || nat_le (2 ^ 20) n) makes ∙ few live made alive all)) refl
+
+  lasts : a.lifetime.0 % 2 ^ 8 ≢ 0 → is_volatile a ≡ false
+  lasts not = apart (a.lifetime.0 % 2 ^ 8) 0 not
+
+  pub exists : a.lifetime.0 % 2 ^ 8 ≢ 0 → there_is ≡ true → here ≡ Some AlreadyExists
+  exists not is = rows (is_volatile a) there_is limit_is full_is false true limit_is full_is (lasts not) is refl refl
+
+  pub crowded : (kept : ℕ) → a.lifetime.0 % 2 ^ 8 ≢ 0 → there_is ≡ false → count_persistent m.keys ≡ kept → 512 ≤ kept → here ≡ Some InsufficientStorage
+  crowded kept not none count is = rows (is_volatile a) there_is limit_is full_is false false limit_is true (lasts not) none refl (ap (nat_le 512) count ∙ at_least 512 kept is)
+
+  pub fits : (kept : ℕ) → a.lifetime.0 % 2 ^ 8 ≢ 0 → there_is ≡ false → count_persistent m.keys ≡ kept → kept < 512 → here ≡ None
+  fits kept not none count is = rows (is_volatile a) there_is limit_is full_is false false limit_is false (lasts not) none refl (ap (nat_le 512) count ∙ below 512 kept is)

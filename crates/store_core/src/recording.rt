@@ -1,0 +1,73 @@
+//! What a creation records.
+ghost use Rattle.std.specs.Prelude.{◌≡◌, ◌≤◌, Some, None, IfErr, OnOk};
+ghost use Rattle.psa_status.specs.Rows.{first_row};
+ghost use Rattle.store_model.specs.Creation.{recorded_of, room_for_key_rows};
+ghost use Rattle.store_core.specs.Represents.{HoldsOf};
+
+use crate::Store;
+use admission::Admission;
+use disk_face::Disk;
+use driver_dispatch::Devices;
+use key_attributes::{Attributes, check_attributes};
+use psa_status::Status;
+
+// How many volatile keys of a caller may be alive, how many it may make, and how many persistent keys there may be.
+const LIVE_LIMIT: u8 = 16;
+
+const MADE_LIMIT: u32 = 1 << 20;
+
+const KEPT_LIMIT: u32 = 512;
+
+impl<D: Disk, A: Devices, C: Admission> Store<D, A, C> {
+    // What a creation of a key of so many bytes records, or its first refusal.
+    pub(crate) fn recorded(
+        &self,
+        caller: u8,
+        attributes: &Attributes,
+        bytes: usize,
+    ) -> Result<Attributes, Status>
+        requires { caller ≤ 16 }
+        ensures value { HoldsOf D.contents D.may_leave D.moment D.left_since D.faults A.keys A.faults A.locations C.labels self.now
+            (λ m. result ≡ recorded_of m caller attributes.now bytes) }
+        ensures short { OnOk result (bytes ≤ 1024) }
+    {
+        let element = self.devices.has_secure_element();
+        let filled = match check_attributes(attributes, bytes, element) {
+            Ok(filled) => filled,
+            Err(status) => return Err(status),
+        };
+        let kept = match self.rules.apply(&filled) {
+            Ok(kept) => kept,
+            Err(status) => return Err(status),
+        };
+        match self.check_room(caller, &kept) {
+            Ok(()) => Ok(kept),
+            Err(status) => Err(status),
+        }
+    }
+
+    // Whether there is room for a caller's key with these attributes.
+    fn check_room(&self, caller: u8, attributes: &Attributes) -> Result<(), Status>
+        requires { caller ≤ 16 }
+        ensures free { OnOk result (HoldsOf D.contents D.may_leave D.moment D.left_since D.faults A.keys A.faults A.locations C.labels self.now
+            (λ m. first_row (room_for_key_rows m caller attributes.now) ≡ None)) }
+        ensures refused { IfErr result (λ status. HoldsOf D.contents D.may_leave D.moment D.left_since D.faults A.keys A.faults A.locations C.labels self.now
+            (λ m. first_row (room_for_key_rows m caller attributes.now) ≡ Some status)) }
+    {
+        if attributes.lifetime.0 % 256 == 0 {
+            let live = self.live[caller as usize];
+            let made = self.made[caller as usize];
+            if live >= LIVE_LIMIT || made >= MADE_LIMIT {
+                return Err(Status::KeyLimit);
+            }
+            return Ok(());
+        }
+        if self.has(attributes.id) {
+            return Err(Status::AlreadyExists);
+        }
+        if self.kept >= KEPT_LIMIT {
+            return Err(Status::InsufficientStorage);
+        }
+        Ok(())
+    }
+}
