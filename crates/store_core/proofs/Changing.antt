@@ -1,6 +1,6 @@
 -- A ranked turn that changes keys.
 use Rattle.std.proofs.Common.{◌≡◌, ◌⊎◌, ℕ, ◌+◌, ◌≤◌, List, [], ◌∷◌, ◌++◌, true, Option, is_some, sym, ◌∙◌, ap, subst, arith, inl, inr, ⊎_elim, length-append}
-use Rattle.std.specs.Prelude.{slice_index}
+use Rattle.std.specs.Prelude.{slice_index, ⊤}
 use Rattle.disk_face.specs.Moments.{Within}
 use Rattle.disk_face.proofs.Moments.{promise_goes_on}
 use Rattle.policy_rules.specs.declared.narrowing.Label.{Label}
@@ -21,7 +21,7 @@ use Rattle.store_core.specs.declared.store.Store.{Store}
 use Rattle.store_core.specs.Durability.{Course, after, opened, course_of, doubt_after, durable_keys, FitsCourse}
 use Rattle.store_core.specs.Represents.{IsTold, IsDirectory, HoldsKeys, Opening}
 use Rattle.store_core.proofs.Histories.{replay_push, counts_push, told_before, course_service, course_push}
-use Rattle.store_core.proofs.Holding.{HoldsHere, StandsHere, IsTurn, counts_of}
+use Rattle.store_core.proofs.Holding.{HoldsHere, StandsHere, IsTurn, counts_of, goes_on, left_alone}
 
 -- what is told of one disk is told of another that tells as much
 retold : (old new : Option (List ℕ)) (start : Service) (h : List Entry) → is_some new ≡ is_some old → IsTold new start h → IsTold old start h
@@ -30,14 +30,15 @@ retold old new start h same (inr none) = inr none
 
 module _ {D A C : Type 0} (told : D → Option (List ℕ)) (may_leave : D → List ℕ → Type 0) (moment : D → ℕ) (left_since : D → ℕ → List ℕ → Type 0)
     (faults : D → ℕ) (held : A → Option HeldKeys) (hard : A → ℕ) (locations : A → List ℕ) (labels : C → List Label) where
-  -- what a ranked turn makes of a store, and of the model that it holds
-  pub record Turns (old new : Store D A C) (all : List Pairs) (e : Entry) (mark : FaultMark) (m m' : model.Store) : Type 0 where
-    pub becomes : (service : Service) → m ≡ service.store → m' ≡ (outcome_of service e).service.store
+  -- what a ranked turn makes of a store, and of the model that it holds, where S holds of the service before it
+  pub record Turns (S : Service → Type 0) (old new : Store D A C) (all : List Pairs) (e : Entry) (mark : FaultMark) (before : FaultCounts) (m m' : model.Store) : Type 0 where
+    pub becomes : (service : Service) → S service → m ≡ service.store → m' ≡ (outcome_of service e).service.store
     pub sound : IsSoundStore m'
     pub settings : m'.settings ≡ m.settings
     pub rules : labels new.rules ≡ labels old.rules
     pub devices : locations new.devices ≡ locations old.devices
     pub found : m'.found ≡ new.found
+    pub few : new.found ≤ 512
     pub calls : m'.calls ≡ new.ranked
     pub made : m'.made ≡ new.made
     pub live : (caller : ℕ) → caller ≤ 16 → live_volatile m'.keys caller ≡ slice_index new.live caller
@@ -48,16 +49,17 @@ module _ {D A C : Type 0} (told : D → Option (List ℕ)) (may_leave : D → Li
     pub directory : IsDirectory new.file.cells.slots.items m'
     pub device : HoldsKeys (held new.devices) m'
     pub tells : is_some (told new.file.cells.disk) ≡ is_some (told old.file.cells.disk)
-    pub leads : (s : Course) → m ≡ s.service.store → StandsForKeys told may_leave old.file.cells.disk old.file.cells.slots.items (durable_keys m) s.doubt →
+    pub leads : (s : Course) → S s.service → m ≡ s.service.store → StandsForKeys told may_leave old.file.cells.disk old.file.cells.slots.items (durable_keys m) s.doubt →
         Leads told may_leave moment left_since old.file.cells.disk new.file.cells.disk old.file.cells.slots.items new.file.cells.slots.items (durable_keys m) s.doubt (durable_keys m') (doubt_after e s)
-    pub fault : HasFault (is_some (told new.file.cells.disk)) (counts_of (faults old.file.cells.disk) (hard old.devices)) e mark
-    pub may : (service : Service) → m ≡ service.store → MayBeMarked service e.caller e.call mark
+    pub fault : HasFault (is_some (told new.file.cells.disk)) before e mark
+    pub may : (service : Service) → S service → m ≡ service.store → MayBeMarked service e.caller e.call mark
 
   module _ (only_now : (disk : D) (image : List ℕ) → left_since disk (moment disk) image → may_leave disk image)
-      (old new : Store D A C) (start : Service) (opening : Opening) (h : List Entry) (all more : List Pairs) (e : Entry) (mark : FaultMark) (m' : model.Store)
-      (s : StandsHere told may_leave moment left_since faults held hard locations labels old start opening h all) (t : Turns old new more e mark s.holds.model m') where
+      (S : Service → Type 0) (old new : Store D A C) (start : Service) (opening : Opening) (h : List Entry) (all more : List Pairs) (e : Entry) (mark : FaultMark) (m' : model.Store)
+      (s : HoldsHere told may_leave moment left_since faults held hard locations labels (IsTold (told new.file.cells.disk) start (h ++ e ∷ [])) old start opening h all)
+      (holds_before : IsTold (told new.file.cells.disk) start (h ++ e ∷ []) → S (replay start h)) (t : Turns S old new more e mark (last_counts opening.counts h) s.model m') where
     abbrev m : model.Store
-    m = s.holds.model
+    m = s.model
 
     abbrev past : D
     past = old.file.cells.disk
@@ -79,13 +81,16 @@ module _ {D A C : Type 0} (told : D → Option (List ℕ)) (may_leave : D → Li
 
     module _ (is : is_some (told now) ≡ true) where
       of_course : m ≡ course.service.store
-      of_course = s.holds.replayed (inl (tells_before is)) ∙ ap (λ (x : Service). x.store) (sym (course_service start h))
+      of_course = s.replayed (inl is) ∙ ap (λ (x : Service). x.store) (sym (course_service start h))
+
+      before_course : S course.service
+      before_course = subst S (sym (course_service start h)) (holds_before (inl is))
 
       after_course : m' ≡ (after e course).service.store
-      after_course = t.becomes course.service of_course
+      after_course = t.becomes course.service before_course of_course
 
       leads_here : Leads told may_leave moment left_since past now old.file.cells.slots.items new.file.cells.slots.items (durable_keys m) course.doubt (durable_keys m') (doubt_after e course)
-      leads_here = t.leads course of_course (s.holds.file (tells_before is))
+      leads_here = t.leads course before_course of_course (s.file (tells_before is))
 
       fits_old : (image : List ℕ) → FitsKeys (durable_keys m) course.doubt image → FitsCourse course image
       fits_old image fits = subst (λ (x : model.Store). FitsKeys (durable_keys x) course.doubt image) of_course fits
@@ -112,25 +117,38 @@ module _ {D A C : Type 0} (told : D → Option (List ℕ)) (may_leave : D → Li
         holds : HoldsHere told may_leave moment left_since faults held hard locations labels Known new start opening (h ++ e ∷ []) more
         holds = record {
           model = m';
-          replayed = λ k. t.becomes (replay start h) (s.holds.replayed (before k)) ∙ ap (λ (x : Service). x.store) (sym (replay_push start h e));
+          replayed = λ k. t.becomes (replay start h) (holds_before k) (s.replayed k) ∙ ap (λ (x : Service). x.store) (sym (replay_push start h e));
           sound = t.sound;
-          labels_are = ap (λ (x : model.Settings). x.labels) t.settings ∙ (s.holds.labels_are ∙ sym t.rules);
-          locations_are = ap (λ (x : model.Settings). x.locations) t.settings ∙ (s.holds.locations_are ∙ sym t.devices);
-          has_file = ap (λ (x : model.Settings). x.has_file) t.settings ∙ s.holds.has_file;
+          labels_are = ap (λ (x : model.Settings). x.labels) t.settings ∙ (s.labels_are ∙ sym t.rules);
+          locations_are = ap (λ (x : model.Settings). x.locations) t.settings ∙ (s.locations_are ∙ sym t.devices);
+          has_file = ap (λ (x : model.Settings). x.has_file) t.settings ∙ s.has_file;
           found = t.found;
+          few = t.few;
           calls = t.calls;
           made = t.made;
           live = t.live;
           kept = t.kept;
-          ranked = omega (arith, s.holds.ranked, t.ranked, length-append {A = Entry} h (e ∷ []));
+          ranked = omega (arith, s.ranked, t.ranked, length-append {A = Entry} h (e ∷ []));
           slots = t.slots;
           holdings = t.holdings;
           directory = t.directory;
           device = t.device;
           file = λ tells. subst (StandsForKeys told may_leave now new.file.cells.slots.items (durable_keys m')) (sym (ap (λ (c : Course). c.doubt) (course_push start h e))) (leads_here tells).stands;
-          promise = λ tells. promise_goes_on after FitsCourse (opened start) (λ (x : Entry). x.done) (left_since past) (left_since now) (moment past) (moment now) opening.moment h e (s.holds.promise (tells_before tells))
+          promise = λ tells. promise_goes_on after FitsCourse (opened start) (λ (x : Entry). x.done) (left_since past) (left_since now) (moment past) (moment now) opening.moment h e (s.promise (tells_before tells))
               (within_here tells) (fits_now tells) is.done;
-          caused = go_on (is_some (told now)) opening.counts h e (subst (λ b. IsCaused b opening.counts h) (sym t.tells) s.holds.caused)
-              (subst (HasFault (is_some (told now)) (last_counts opening.counts h) e) (sym is.marked) (subst (λ (c : FaultCounts). HasFault (is_some (told now)) c e mark) (sym s.counts) t.fault));
-          allowed = λ k. allowed_go_on start h e (s.holds.allowed (before k)) (subst (MayBeMarked (replay start h) e.caller e.call) (sym is.marked) (t.may (replay start h) (s.holds.replayed (before k))));
+          caused = go_on (is_some (told now)) opening.counts h e (subst (λ b. IsCaused b opening.counts h) (sym t.tells) s.caused)
+              (subst (HasFault (is_some (told now)) (last_counts opening.counts h) e) (sym is.marked) t.fault);
+          allowed = λ k. allowed_go_on start h e (s.allowed (before k)) (subst (MayBeMarked (replay start h) e.caller e.call) (sym is.marked) (t.may (replay start h) (holds_before k) (s.replayed k)));
         }
+
+  -- a turn of a store that stands for something, whatever the service before it is
+  module _ (only_now : (disk : D) (image : List ℕ) → left_since disk (moment disk) image → may_leave disk image)
+      (old new : Store D A C) (start : Service) (opening : Opening) (h : List Entry) (all more : List Pairs) (e : Entry) (mark : FaultMark) (m' : model.Store)
+      (s : StandsHere told may_leave moment left_since faults held hard locations labels old start opening h all) where
+    pub turns_standing : Turns (λ service. ⊤) old new more e mark (counts_of (faults old.file.cells.disk) (hard old.devices)) s.holds.model m' →
+        IsTurn told may_leave moment left_since faults held hard locations labels new mark e → StandsHere told may_leave moment left_since faults held hard locations labels new start opening (h ++ e ∷ []) more
+    turns_standing t is =
+        let n = goes_on told may_leave moment left_since faults held hard locations labels old start opening h old.file old.slots old.buffer all (IsTold (told new.file.cells.disk) start (h ++ e ∷ []))
+            (left_alone told may_leave moment left_since faults held hard locations labels old.file) (λ k. retold (told old.file.cells.disk) (told new.file.cells.disk) start h t.tells (told_before (told new.file.cells.disk) start h e k)) s.holds s.holds.slots in
+        turns only_now (λ service. ⊤) old new start opening h all more e mark m' n.0 (λ k. tt)
+        (subst (λ (x : model.Store). Turns (λ service. ⊤) old new more e mark (last_counts opening.counts h) x m') (sym n.1) (subst (λ (c : FaultCounts). Turns (λ service. ⊤) old new more e mark c s.holds.model m') (sym s.counts) t)) is

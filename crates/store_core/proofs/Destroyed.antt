@@ -45,7 +45,7 @@ use Rattle.store_core.specs.Durability.{Course, doubt_after, doubt_by, is_destru
 use Rattle.store_core.specs.Represents.{IsDirectory, Opening, ranked_on}
 use Rattle.store_core.proofs.Holding.{StandsHere, IsTurn, counts_of, same_directory, same_device}
 use Rattle.store_core.proofs.Kept.{key_of_cell}
-use Rattle.store_core.proofs.Changing.{turns}
+use Rattle.store_core.proofs.Changing.{turns_standing}
 use Rattle.store_core.proofs.Removing.{one_less, nothing_removed, gone, takes_out, without_kept, kept_here, kept_same, directory_emptied, directory_stays, device_stays, device_loses}
 
 -- THE MODEL
@@ -281,13 +281,14 @@ module _ {D A C : Type 0} (told : D → Option (List ℕ)) (may_leave : D → Li
 
   -- there is no key to destroy
   pub nothing : (s : StandsOld) → map.get s.holds.model.keys id ≡ None → IsTurnTo (ranked_on old) Plain → StandsNew (ranked_on old)
-  nothing s none is = let m = s.holds.model in turns told may_leave moment left_since faults held hard locations labels only_now old (ranked_on old) start opening h all all e Plain (counted m) s (record {
-    becomes = λ service same. ap counted same ∙ sym (entry_stays e id call service is.marked (ap (λ (x : model.Store). map.get x.keys id) (sym same) ∙ none));
+  nothing s none is = let m = s.holds.model in turns_standing told may_leave moment left_since faults held hard locations labels only_now old (ranked_on old) start opening h all all e Plain (counted m) s (record {
+    becomes = λ service known same. ap counted same ∙ sym (entry_stays e id call service is.marked (ap (λ (x : model.Store). map.get x.keys id) (sym same) ∙ none));
     sound = counted_sound m s.holds.sound;
     settings = refl;
     rules = refl;
     devices = refl;
     found = s.holds.found;
+    few = s.holds.few;
     calls = ap (λ (n : ℕ). n + 1) s.holds.calls;
     made = s.holds.made;
     live = s.holds.live;
@@ -298,11 +299,11 @@ module _ {D A C : Type 0} (told : D → Option (List ℕ)) (may_leave : D → Li
     directory = same_directory cells m s.holds.directory;
     device = same_device (held old.devices) m s.holds.device;
     tells = refl;
-    leads = λ c same stands. subst (Leads told may_leave moment left_since disk disk cells cells (durable_keys m) c.doubt (durable_keys m))
+    leads = λ c known same stands. subst (Leads told may_leave moment left_since disk disk cells cells (durable_keys m) c.doubt (durable_keys m))
         (sym (doubt_here e id call c Plain None is.marked (ap (λ (x : model.Store). durable_keys x id) (sym same) ∙ ap kept none)))
         (stays told may_leave moment left_since disk cells (durable_keys m) (durable_keys m) c.doubt (λ q. refl) stands);
     fault = tt;
-    may = λ service same. tt;
+    may = λ service known same. tt;
   }) is
 
   -- what the slots make of a key that is taken out
@@ -336,13 +337,14 @@ module _ {D A C : Type 0} (told : D → Option (List ℕ)) (may_leave : D → Li
       let persistent = own.2 in
       let fewer = fewer_kept m id key there s.holds.sound persistent in
       let was = s.holds.kept in
-      turns told may_leave moment left_since faults held hard locations labels only_now old (unfiled file slots) start opening h all all e mark (gone m id) s (record {
-        becomes = λ service same. ap (λ (x : model.Store). gone x id) same ∙ sym (entry_removes e id call service key (ap (λ (x : model.Store). map.get x.keys id) (sym same) ∙ there));
+      turns_standing told may_leave moment left_since faults held hard locations labels only_now old (unfiled file slots) start opening h all all e mark (gone m id) s (record {
+        becomes = λ service known same. ap (λ (x : model.Store). gone x id) same ∙ sym (entry_removes e id call service key (ap (λ (x : model.Store). map.get x.keys id) (sym same) ∙ there));
         sound = destroyed_sound m id s.holds.sound;
         settings = refl;
         rules = refl;
         devices = refl;
         found = s.holds.found;
+    few = s.holds.few;
         calls = ap (λ (n : ℕ). n + 1) s.holds.calls;
         made = s.holds.made;
         live = λ caller le. as_many_live m id key there s.holds.sound persistent caller ∙ s.holds.live caller le;
@@ -353,11 +355,11 @@ module _ {D A C : Type 0} (told : D → Option (List ℕ)) (may_leave : D → Li
         directory = directory_emptied m id key there cells file.cells.slots.items c (creation_of_slot (cell_slot cells c)) (record { sized = f.sized; inside = f.within; settled = f.missing }) (opens_with (cell_slot cells c) id f.key) s.holds.directory;
         device = device_stays m id key there (held old.devices) s.holds.device;
         tells = f.tells;
-        leads = λ course same stands. subst (Leads told may_leave moment left_since disk file.cells.disk cells file.cells.slots.items (durable_keys m) course.doubt (durable_keys (gone m id)))
+        leads = λ course known same stands. subst (Leads told may_leave moment left_since disk file.cells.disk cells file.cells.slots.items (durable_keys m) course.doubt (durable_keys (gone m id)))
             (sym (doubt_here e id call course mark _ is.marked (ap (λ (x : model.Store). durable_keys x id) (sym same) ∙ kept_here m id key there false persistent)))
             (f.leads (durable_keys m) (durable_keys (gone m id)) course.doubt (stored key.number key.attributes key.bytes) stands (kept_here m id key there false persistent) (without_kept m id));
         fault = fault;
-        may = λ service same. may service (ap is_persistent_key (changes_it e id call service ∙ (ap (λ (x : model.Store). map.get x.keys id) (sym same) ∙ there)) ∙ ap not persistent);
+        may = λ service known same. may service (ap is_persistent_key (changes_it e id call service ∙ (ap (λ (x : model.Store). map.get x.keys id) (sym same) ∙ there)) ∙ ap not persistent);
       }) is
 
   -- a store without a volatile key of a caller
@@ -375,13 +377,14 @@ module _ {D A C : Type 0} (told : D → Option (List ℕ)) (may_leave : D → Li
       let key = k.key in
       let there = k.there in
       let volatile = k.volatile in
-      turns told may_leave moment left_since faults held hard locations labels only_now old (unslotted devices slots caller) start opening h all all e mark (gone m id) s (record {
-        becomes = λ service same. ap (λ (x : model.Store). gone x id) same ∙ sym (entry_removes e id call service key (ap (λ (x : model.Store). map.get x.keys id) (sym same) ∙ there));
+      turns_standing told may_leave moment left_since faults held hard locations labels only_now old (unslotted devices slots caller) start opening h all all e mark (gone m id) s (record {
+        becomes = λ service known same. ap (λ (x : model.Store). gone x id) same ∙ sym (entry_removes e id call service key (ap (λ (x : model.Store). map.get x.keys id) (sym same) ∙ there));
         sound = destroyed_sound m id s.holds.sound;
         settings = refl;
         rules = refl;
         devices = places;
         found = s.holds.found;
+    few = s.holds.few;
         calls = ap (λ (n : ℕ). n + 1) s.holds.calls;
         made = s.holds.made;
         live = live_after m id key there s.holds.sound volatile caller named old.live s.holds.live;
@@ -393,9 +396,9 @@ module _ {D A C : Type 0} (told : D → Option (List ℕ)) (may_leave : D → Li
         device = device_loses m id key there (held old.devices) (held devices) s.holds.sound
             (subst (λ (n : ℕ). (held devices ≡ held old.devices) ⊎ (held devices ≡ option_map (without_key n) (held old.devices))) k.has.number loses) s.holds.device;
         tells = refl;
-        leads = λ course same stands. subst (Leads told may_leave moment left_since disk disk cells cells (durable_keys m) course.doubt (durable_keys (gone m id)))
+        leads = λ course known same stands. subst (Leads told may_leave moment left_since disk disk cells cells (durable_keys m) course.doubt (durable_keys (gone m id)))
             (sym (doubt_here e id call course mark None is.marked (ap (λ (x : model.Store). durable_keys x id) (sym same) ∙ kept_here m id key there true volatile)))
             (stays told may_leave moment left_since disk cells (durable_keys m) (durable_keys (gone m id)) course.doubt (kept_same m id key there volatile) stands);
         fault = fault;
-        may = λ service same. may service (changes_it e id call service ∙ ap (λ (x : model.Store). map.get x.keys id) (sym same));
+        may = λ service known same. may service (changes_it e id call service ∙ ap (λ (x : model.Store). map.get x.keys id) (sym same));
       }) is

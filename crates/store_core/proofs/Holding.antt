@@ -109,6 +109,7 @@ module _ {D A C : Type 0} (told : D → Option (List ℕ)) (may_leave : D → Li
         locations_are = s.locations_are;
         has_file = s.has_file;
         found = s.found;
+        few = s.few;
         calls = s.calls;
         made = s.made;
         live = s.live;
@@ -146,6 +147,7 @@ module _ {D A C : Type 0} (told : D → Option (List ℕ)) (may_leave : D → Li
         locations_are = s.holds.locations_are;
         has_file = s.holds.has_file;
         found = s.holds.found;
+        few = s.holds.few;
         calls = s.holds.calls;
         made = s.holds.made;
         live = s.holds.live;
@@ -201,6 +203,7 @@ module _ {D A C : Type 0} (told : D → Option (List ℕ)) (may_leave : D → Li
           locations_are = s.locations_are;
           has_file = s.has_file;
           found = s.found;
+          few = s.few;
           calls = ap (λ (n : ℕ). n + 1) s.calls;
           made = s.made;
           live = s.live;

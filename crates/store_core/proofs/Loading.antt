@@ -136,6 +136,7 @@ module _ {D A C : Type 0} (told : D → Option (List ℕ)) (may_leave : D → Li
               locations_are = s.locations_are;
               has_file = s.has_file;
               found = s.found;
+              few = s.few;
               calls = s.calls;
               made = s.made;
               live = λ c le. same_count (is_volatile_of c) s.model.keys id own.0 new own.1 ∙ s.live c le;

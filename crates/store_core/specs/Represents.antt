@@ -75,6 +75,7 @@ module _ {D A C : Type 0} (told : D → Option (List ℕ)) (may_leave : D → Li
     pub locations_are : model.settings.locations ≡ locations store.devices
     pub has_file : model.settings.has_file ≡ true
     pub found : model.found ≡ store.found
+    pub few : store.found ≤ 512
     pub calls : model.calls ≡ store.ranked
     pub made : model.made ≡ store.made
     pub live : (caller : ℕ) → caller ≤ 16 → live_volatile model.keys caller ≡ slice_index store.live caller
@@ -114,15 +115,6 @@ module _ {D A C : Type 0} (told : D → Option (List ℕ)) (may_leave : D → Li
   abbrev pub HoldsOf : Store D A C → (model.Store → Type 0) → Type 0
   HoldsOf store P = (start : Service) (opening : Opening) (h : List Entry) (all : List Pairs) (s : StandsFor store start opening h all) → P s.holds.model
 
-  -- The request of an entry is to create a key: it destroys none, and without a mark it leaves and answers what the model's
-  -- creation does, of a key with these stated attributes and these bytes.
-  pub record IsCreating (store : Store D A C) (start : Service) (h : List Entry) (e : Entry) (a : Attributes) (bytes : List ℕ) : Type 0 where
-    pub keeps : is_destruction e.call ≡ false
-    pub leaves : Told store start h →
-        (plain_step (replay start h) e.caller e.call).service.store ≡ (created_unless (replay start h).store e.caller (recorded_of (replay start h).store e.caller a (length bytes)) bytes).store
-    pub answers : Told store start h →
-        (plain_step (replay start h) e.caller e.call).reply ≡ (created_unless (replay start h).store e.caller (recorded_of (replay start h).store e.caller a (length bytes)) bytes).reply
-
   module _ (old new : Store D A C) where
     -- A turn without rank gives a pair out, takes one back, or leaves all.
     abbrev pub Gives : ℕ × ℕ → Type 0
@@ -160,13 +152,6 @@ module _ {D A C : Type 0} (told : D → Option (List ℕ)) (may_leave : D → Li
     Destroys id mark P = (start : Service) (opening : Opening) (h : List Entry) (all : List Pairs) (e : Entry) →
         (s : StandsFor old start opening h all) → e.call ≡ OnStore (Destroy id) → IsEntry new mark e →
         StandsFor new start opening (h ++ e ∷ []) all × P s.holds.model
-
-    -- A ranked turn that is to create a caller's key in the slot of a filling, whose pair is taken back, where P holds of the
-    -- model before.
-    abbrev pub Creates : (caller : ℕ) → Attributes → List ℕ → ℕ × ℕ → FaultMark → (model.Store → Type 0) → Type 0
-    Creates caller a bytes p mark P = (start : Service) (opening : Opening) (h : List Entry) (all less : List Pairs) (e : Entry) →
-        (s : StandsFor old start opening h all) → Gains less all p → AreHoldings less → e.caller ≡ caller → IsCreating old start h e a bytes → IsEntry new mark e →
-        StandsFor new start opening (h ++ e ∷ []) less × P s.holds.model
 
     abbrev pub ReadsAndGives : (id : ℕ) → ℕ × ℕ → (model.Store → Type 0) → Type 0
     ReadsAndGives id p P = (start : Service) (opening : Opening) (h : List Entry) (all more : List Pairs) (e : Entry) →
