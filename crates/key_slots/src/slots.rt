@@ -1,7 +1,7 @@
 //! The slots of the store's keys.
 ghost use Rattle.std.specs.Prelude.{◌≡◌, ◌<◌, ◌≤◌, ◌-◌, ◌+◌, ◌^◌, ◌↔◌, ℕ, List, [], length, replicate, true, false, Some, None, IsTrue, IfOk, IfSome, IfNone, MatchOption};
 ghost use Rattle.std.specs.FinMap as map;
-ghost use Rattle.secret_bytes.specs.Buffer.{IsClear};
+ghost use Rattle.secret_bytes.specs.Buffer.{IsClear, bytes_of};
 ghost use Rattle.slot_states.specs.declared.SlotState.TheVariants.{Full};
 ghost use Rattle.slot_table.specs.Slots.{empty_slot, slot_at, holds_key, is_idle, NoKey, CanReserve, IsLawful};
 ghost use Rattle.slot_table.specs.Changes.{full_slot};
@@ -58,6 +58,15 @@ impl KeySlots {
         ensures { result.now ≡ (slot_at self.now.table.slots slot).attributes }
     {
         self.table.attributes(slot)
+    }
+
+    /// The bytes that a full slot has of its key.
+    pub fn bytes(&self, slot: u32) -> &[u8]
+        requires { (slot_at self.now.table.slots slot).state ≡ Full }
+        ensures list { result.now ≡ bytes_of (slot_at self.now.table.slots slot).buffer }
+        ensures short { length result.now ≤ 1024 }
+    {
+        self.table.bytes(slot)
     }
 
     /// Takes a slot for a key that is to come.

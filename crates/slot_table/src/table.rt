@@ -1,7 +1,7 @@
 //! The table of slots.
 ghost use Rattle.std.specs.Prelude.{◌≡◌, ◌<◌, ◌≤◌, ◌-◌, ◌+◌, ◌^◌, ◌↔◌, [], ◌∷◌, ◌++◌, length, find, slice_set, replicate, true, false, IsTrue, IfOk, MatchOption};
 ghost use Rattle.std.specs.Bool.{OnTrue, OnFalse};
-ghost use Rattle.secret_bytes.specs.Buffer.{IsClear};
+ghost use Rattle.secret_bytes.specs.Buffer.{IsClear, bytes_of};
 ghost use Rattle.slot_states.specs.declared.SlotState.TheVariants.{Full};
 ghost use Rattle.slot_table.specs.Slots.{empty_slot, filling_slot, slot_at, is_full, holds_key, is_idle, NoKey, NoneEmpty, IsEmptyAt, CanReserve, IsNext, IsLawful};
 ghost use Rattle.slot_table.specs.Changes.{full_slot, registered, left, destroyed_slot, recency_without};
@@ -67,6 +67,15 @@ impl SlotTable {
         ensures { result.now ≡ (slot_at self.now.slots slot).attributes }
     {
         &self.rows.key(slot).attributes
+    }
+
+    /// The bytes of the key of a full slot.
+    pub fn bytes(&self, slot: u32) -> &[u8]
+        requires { (slot_at self.now.slots slot).state ≡ Full }
+        ensures list { result.now ≡ bytes_of (slot_at self.now.slots slot).buffer }
+        ensures short { length result.now ≤ 1024 }
+    {
+        self.rows.key(slot).buffer.as_slice()
     }
 
     /// Whether a slot is empty, or has a persistent key that nobody reads.

@@ -45,7 +45,7 @@ nothing_removed keys id none = map.same_map nat_cmp_total map.nat_cmp-IsAntisymm
 
 -- THE DIRECTORY
 
-settled_opens : (slot : cell.Slot) (id number : ℕ) → settled_slot slot ≡ Open id number → slot ≡ Open id number
+pub settled_opens : (slot : cell.Slot) (id number : ℕ) → settled_slot slot ≡ Open id number → slot ≡ Open id number
 settled_opens Free id number is = cc
 settled_opens (Open own creation) id number is = is
 settled_opens Shut id number is = cc
@@ -54,7 +54,7 @@ settled_opens Unsure id number is = cc
 opens_settled : (slot : cell.Slot) (id number : ℕ) → slot ≡ Open id number → settled_slot slot ≡ Open id number
 opens_settled slot id number is = ap settled_slot is
 
-settled_at : (slots : List cell.Slot) (c : ℕ) → cell_slot (settled_slots slots) c ≡ settled_slot (cell_slot slots c)
+pub settled_at : (slots : List cell.Slot) (c : ℕ) → cell_slot (settled_slots slots) c ≡ settled_slot (cell_slot slots c)
 settled_at slots c = elim (cases_lt c (length slots)) [
   | inl lt ↦ get_or-map settled_slot slots c Free Free lt
   | inr past ↦ get_or_past (settled_slots slots) c Free (omega (arith, past, length-map slots settled_slot)) ∙ sym (ap settled_slot (get_or_past slots c Free past))

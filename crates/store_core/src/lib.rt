@@ -1,6 +1,8 @@
 //! The store: keys in slots, in a file that a crash leaves whole, or in a device, whose turns are steps of the model.
 #![tactic(auto)]
 
+mod copying;
+mod creating;
 mod destroying;
 mod looks;
 mod reading;
@@ -8,5 +10,7 @@ mod recording;
 mod store;
 mod turns;
 
+pub use copying::NotCopied;
+pub use creating::{NotMade, Unkept};
 pub use destroying::NotDestroyed;
 pub use store::{Opened, Store};

@@ -60,7 +60,7 @@ counted_sound store h = record {
 -- A CREATION
 
 -- what the rows of a creation's room say
-abbrev Room : (volatile : Bool) → (live made count : ℕ) → Option Key → Type 0
+abbrev pub Room : (volatile : Bool) → (live made count : ℕ) → Option Key → Type 0
 Room true live made count there = (live < 16) × (made < 2 ^ 20)
 Room false live made count there = (there ≡ None) × (count < 512)
 
@@ -158,12 +158,19 @@ module _ (store : Store) (caller : ℕ) (kept : Attributes) (bytes : List ℕ) (
   abbrev id_of : Bool → ℕ
   id_of volatile = cond volatile (next_volatile store caller) kept.id.0
 
-  abbrev RoomOf : Bool → Type 0
+  abbrev pub RoomOf : Bool → Type 0
   RoomOf volatile = Room volatile (live_volatile store.keys caller) (made_of store caller) (count_persistent store.keys) (map.get store.keys kept.id.0)
 
   no_key : (volatile : Bool) → RoomOf volatile → map.get store.keys (id_of volatile) ≡ None
   no_key true r = fresh_at store caller h r.1 _ refl
   no_key false r = r.0
+
+  -- no key has the new identifier
+  pub none_before : map.get store.keys id ≡ None
+  none_before = no_key (is_volatile kept) room
+
+  pub room_of : (volatile : Bool) → is_volatile kept ≡ volatile → RoomOf volatile
+  room_of volatile is = subst RoomOf is room
 
   abbrev made_then : Bool → ℕ → ℕ
   made_then volatile c = slice_index_or (cond volatile (slice_set store.made caller (made_of store caller + 1)) store.made) c 0

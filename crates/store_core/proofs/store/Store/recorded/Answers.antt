@@ -4,24 +4,24 @@ use Rattle.store_core.proofs.Asked.{asks, by_room}
 use Rattle.store_core.proofs.store.Store.recorded.Goals as goal
 
 pub returns-in-Ok-check_room-clause-value : goal.returns-in-Ok-check_room-clause-value
-returns-in-Ok-check_room-clause-value g c = λ start opening h all s.
-    let m = s.holds.model in
+returns-in-Ok-check_room-clause-value g c = λ start opening h all e s.
+    let m = s.model in
     let caller = c.args.caller in
     let a = c.args.attributes.now in
     let n = c.args.bytes in
     let element = c.has_secure_element-element.result in
     let labels = g.C.Admission.labels c.args.self.now.rules in
-    sym (asks m caller a n element labels s.holds.has_file (ap has_element s.holds.locations_are ∙ sym c.has_secure_element-element.ensures) s.holds.labels_are
-    ∙ by_room m caller a n element labels c.in-Ok.filled (sym c.in-Ok.ensures.value) c.in-Ok-apply.kept None (sym c.in-Ok-apply.ensures) (c.in-Ok-check_room.ensures.free start opening h all s))
+    sym (asks m caller a n element labels s.has_file (ap has_element s.locations_are ∙ sym c.has_secure_element-element.ensures) s.labels_are
+    ∙ by_room m caller a n element labels c.in-Ok.filled (sym c.in-Ok.ensures.value) c.in-Ok-apply.kept None (sym c.in-Ok-apply.ensures) (c.in-Ok-check_room.ensures.free start opening h all e s))
 
 pub returns-in-Err-check_room-clause-value : goal.returns-in-Err-check_room-clause-value
-returns-in-Err-check_room-clause-value g c = λ start opening h all s.
-    let m = s.holds.model in
+returns-in-Err-check_room-clause-value g c = λ start opening h all e s.
+    let m = s.model in
     let caller = c.args.caller in
     let a = c.args.attributes.now in
     let n = c.args.bytes in
     let element = c.has_secure_element-element.result in
     let labels = g.C.Admission.labels c.args.self.now.rules in
     let status = c.in-Err-check_room.status in
-    sym (asks m caller a n element labels s.holds.has_file (ap has_element s.holds.locations_are ∙ sym c.has_secure_element-element.ensures) s.holds.labels_are
-    ∙ by_room m caller a n element labels c.in-Ok.filled (sym c.in-Ok.ensures.value) c.in-Ok-apply.kept (Some status) (sym c.in-Ok-apply.ensures) (c.in-Err-check_room.ensures.refused start opening h all s))
+    sym (asks m caller a n element labels s.has_file (ap has_element s.locations_are ∙ sym c.has_secure_element-element.ensures) s.labels_are
+    ∙ by_room m caller a n element labels c.in-Ok.filled (sym c.in-Ok.ensures.value) c.in-Ok-apply.kept (Some status) (sym c.in-Ok-apply.ensures) (c.in-Err-check_room.ensures.refused start opening h all e s))

@@ -1,0 +1,188 @@
+-- What a turn that creates a key decides, and what it makes of the store.
+use Rattle.std.specs.Prelude.{◌≡◌, ◌<◌, ◌≤◌, ◌⊎◌, ◌+◌, ℕ, true, false, List, [], ◌∷◌, ◌++◌, length, Option, Some, None, Result, Ok, Err}
+use Rattle.std.specs.FinMap as map
+use Rattle.psa_status.specs.declared.Status.{Status}
+use Rattle.psa_status.specs.declared.Status.TheVariants.{InvalidHandle, StorageFailure, HardwareFailure}
+use Rattle.key_attributes.specs.declared.Attributes.{Attributes}
+use Rattle.policy_rules.specs.declared.narrowing.Label.{Label}
+use Rattle.driver_dispatch.specs.Held.{HeldKeys}
+use Rattle.driver_dispatch.specs.Calls.{HoldsHandle}
+use Rattle.secret_bytes.specs.Buffer.{bytes_of}
+use Rattle.slot_table.specs.Lent as lent
+use Rattle.key_slots.specs.Holdings.{Pairs, Gains, AreHoldings, named}
+use Rattle.store_model.specs.Store as model
+use Rattle.store_model.specs.Store.{is_volatile, is_opaque}
+use Rattle.store_model.specs.Faults.{FaultMark, Plain, Storage, Hardware, Writing}
+use Rattle.store_model.specs.Creation.{recorded_of, created, created_unless, new_id}
+use Rattle.store_model.specs.Copies.{recorded_copy}
+use Rattle.store_model.specs.KeyUse as key_use
+use Rattle.store_model.specs.Sound.{HasNumber}
+use Rattle.store_model.specs.Handles.{Service}
+use Rattle.store_model.specs.Requests.{plain_step}
+use Rattle.store_model.specs.Replay.{Entry, replay}
+use Rattle.store_model.specs.Marks.{FaultCounts, last_counts}
+use Rattle.store_core.specs.declared.store.Store.{Store}
+use Rattle.store_core.specs.declared.reading.Unread.{Unread}
+use Rattle.store_core.specs.declared.creating.Unkept.{Unkept}
+use Rattle.store_core.specs.declared.creating.Unkept.TheVariants as unkept
+use Rattle.store_core.specs.declared.creating.NotMade.{NotMade}
+use Rattle.store_core.specs.declared.creating.NotMade.TheVariants as unmade
+use Rattle.store_core.specs.declared.copying.NotCopied.{NotCopied}
+use Rattle.store_core.specs.declared.copying.NotCopied.TheVariants as uncopied
+use Rattle.store_core.specs.Durability.{is_destruction}
+use Rattle.store_core.specs.Represents.{Told, Holds, Opening, StandsFor, IsEntry, HasOut}
+use Rattle.store_core.specs.Uses.{status_of, mark_of, there_rows, IsRefused}
+
+-- WHAT IS DECIDED
+
+-- What a creation of a key with these stated attributes and so many bytes records, or its first refusal. That of an operation
+-- asks first whether the operation's key is there, by its creation number.
+abbrev pub RecordsStated : (lease : Option lent.Reading) → (caller : ℕ) → Attributes → (bytes : ℕ) → model.Store → Result Attributes Status → Type 0
+RecordsStated None caller a bytes m recorded = recorded ≡ recorded_of m caller a bytes
+RecordsStated (Some lease) caller a bytes m recorded =
+    (HasNumber m lease.creation × (recorded ≡ recorded_of m caller a bytes)) ⊎ ((HasNumber m lease.creation → ⊥) × (recorded ≡ Err InvalidHandle))
+
+-- and what a copy does
+abbrev pub RecordsCopy : (caller source : ℕ) → Attributes → model.Store → Result Attributes Status → Type 0
+RecordsCopy caller source stated m recorded = recorded ≡ recorded_copy m caller (map.get m.keys source) stated
+
+-- the bytes of the key of an identifier
+abbrev pub bytes_at : ℕ → model.Store → List ℕ
+bytes_at id m = key_use.bytes_of (map.get m.keys id)
+
+-- WHAT A CALL ANSWERS
+
+abbrev pub status_unkept : Unkept → Status
+status_unkept (unkept.Unwritten closed_first) = StorageFailure
+status_unkept unkept.Hardware = HardwareFailure
+
+abbrev pub mark_unkept : Unkept → FaultMark
+mark_unkept (unkept.Unwritten closed_first) = Storage (Writing closed_first)
+mark_unkept unkept.Hardware = Hardware
+
+-- the file fails at a persistent key alone, and the device at one that it is to hold
+abbrev pub IsUnkept : Attributes → Unkept → Type 0
+IsUnkept recorded (unkept.Unwritten closed_first) = is_volatile recorded ≡ false
+IsUnkept recorded unkept.Hardware = is_opaque recorded ≡ true
+
+abbrev pub status_unmade : NotMade → Status
+status_unmade (unmade.Refused status) = status
+status_unmade (unmade.Failed why) = status_unkept why
+
+abbrev pub mark_unmade : NotMade → FaultMark
+mark_unmade (unmade.Refused status) = Plain
+mark_unmade (unmade.Failed why) = mark_unkept why
+
+abbrev pub status_uncopied : NotCopied → Status
+status_uncopied (uncopied.Unread why) = status_of why
+status_uncopied (uncopied.NotMade why) = status_unmade why
+
+abbrev pub mark_uncopied : NotCopied → FaultMark
+mark_uncopied (uncopied.Unread why) = mark_of (status_of why)
+mark_uncopied (uncopied.NotMade why) = mark_unmade why
+
+module _ (records : model.Store → Result Attributes Status → Type 0) where
+  -- a key was made with what is recorded, and has this identifier
+  abbrev pub IsMade : (caller id : ℕ) → model.Store → Type 0
+  IsMade caller id m = (recorded : Attributes) × records m (Ok recorded) × (id ≡ new_id m caller recorded)
+
+  -- none was made: the creation is refused, or, where file or device failed, it isn't
+  abbrev pub IsUnmade : NotMade → model.Store → Type 0
+  IsUnmade (unmade.Refused status) m = records m (Err status)
+  IsUnmade (unmade.Failed why) m = (recorded : Attributes) × records m (Ok recorded) × IsUnkept recorded why
+
+  -- or the source could not be read
+  abbrev pub IsUncopied : (source : ℕ) → NotCopied → model.Store → Type 0
+  IsUncopied source (uncopied.Unread why) m = IsRefused there_rows source (status_of why) m
+  IsUncopied source (uncopied.NotMade why) m = IsUnmade why m
+
+-- a lease, where there is one, is out
+abbrev pub IsLent : Option lent.Reading → List Pairs → Type 0
+IsLent None all = Unit {0}
+IsLent (Some lease) all = 0 < named lease.slot (lease.creation + 1) all
+
+module _ {D A C : Type 0} (told : D → Option (List ℕ)) (may_leave : D → List ℕ → Type 0) (moment : D → ℕ) (left_since : D → ℕ → List ℕ → Type 0)
+    (faults : D → ℕ) (held : A → Option HeldKeys) (hard : A → ℕ) (locations : A → List ℕ) (labels : C → List Label) where
+  abbrev ToldHere : Store D A C → Service → List Entry → Type 0
+  ToldHere = Told told may_leave moment left_since faults held hard locations labels
+
+  abbrev HoldsHere : Type 0 → Store D A C → Service → Opening → List Entry → List Pairs → Type 0
+  HoldsHere = Holds told may_leave moment left_since faults held hard locations labels
+
+  abbrev StandsForHere : Store D A C → Service → Opening → List Entry → List Pairs → Type 0
+  StandsForHere = StandsFor told may_leave moment left_since faults held hard locations labels
+
+  abbrev IsEntryHere : Store D A C → FaultMark → Entry → Type 0
+  IsEntryHere = IsEntry told may_leave moment left_since faults held hard locations labels
+
+  -- a lease, where there is one, is out of the store
+  abbrev pub IsLentOut : Store D A C → Option lent.Reading → Type 0
+  IsLentOut store None = Unit {0}
+  IsLentOut store (Some lease) = HasOut told may_leave moment left_since faults held hard locations labels store (lease.slot, lease.creation + 1)
+
+  -- The request of an entry is to create a key. It destroys none, and where no device fails it leaves and answers what a
+  -- creation does that records so, of a key with these bytes.
+  pub record IsCreating (store : Store D A C) (start : Service) (h : List Entry) (e : Entry) (records : model.Store → Result Attributes Status → Type 0) (bytes : model.Store → List ℕ) : Type 0 where
+    pub keeps : is_destruction e.call ≡ false
+    pub leaves : ToldHere store start h → (recorded : Result Attributes Status) → records (replay start h).store recorded →
+        (plain_step (replay start h) e.caller e.call).service.store ≡ (created_unless (replay start h).store e.caller recorded (bytes (replay start h).store)).store
+    pub answers : ToldHere store start h → (recorded : Result Attributes Status) → records (replay start h).store recorded →
+        (plain_step (replay start h) e.caller e.call).reply ≡ (created_unless (replay start h).store e.caller recorded (bytes (replay start h).store)).reply
+
+  -- A ranked turn that is to create a caller's key in the slot of a filling, whose pair is taken back, where P holds of the
+  -- model before.
+  abbrev pub Creates : (old new : Store D A C) (caller : ℕ) → Option lent.Reading → (model.Store → Result Attributes Status → Type 0) → (model.Store → List ℕ) → ℕ × ℕ → FaultMark → (model.Store → Type 0) → Type 0
+  Creates old new caller lease records bytes p mark P = (start : Service) (opening : Opening) (h : List Entry) (all less : List Pairs) (e : Entry) →
+      (s : StandsForHere old start opening h all) → IsLent lease all → Gains less all p → AreHoldings less → e.caller ≡ caller →
+      IsCreating old start h e records bytes → IsEntryHere new mark e →
+      StandsForHere new start opening (h ++ e ∷ []) less × P s.holds.model
+
+  -- WITHIN A TURN
+
+  -- P holds of the model, whatever the store holds keys for
+  abbrev pub HoldsWithin : Store D A C → (model.Store → Type 0) → Type 0
+  HoldsWithin store P = (start : Service) (opening : Opening) (h : List Entry) (all : List Pairs) (e : Entry) →
+      (s : HoldsHere (ToldHere store start (h ++ e ∷ [])) store start opening h all) → P s.model
+
+  -- and where the lease is out
+  abbrev pub HoldsLent : Store D A C → Option lent.Reading → (model.Store → Type 0) → Type 0
+  HoldsLent store lease P = (start : Service) (opening : Opening) (h : List Entry) (all : List Pairs) (e : Entry) →
+      (s : HoldsHere (ToldHere store start (h ++ e ∷ [])) store start opening h all) → IsLent lease all → P s.model
+
+  -- the bytes of a new key are those in the buffer, or those of a key that the device has under a number
+  abbrev pub IsMaterial : Store D A C → Attributes → (source : Option ℕ) → List ℕ → Type 0
+  IsMaterial store recorded None bytes = bytes_of store.buffer ≡ bytes
+  IsMaterial store recorded (Some number) bytes = (is_opaque recorded ≡ true) × HoldsHandle (held store.devices) number (λ h. h ≡ record { key_type = recorded.key_type.0; bytes = bytes })
+
+  -- a store is about to make a key: the table of creations has decided what is recorded, and the bytes are there
+  pub record IsReady (store : Store D A C) (caller : ℕ) (recorded : Attributes) (source : Option ℕ) (start : Service) (opening : Opening) (h : List Entry) (all : List Pairs) (e : Entry) : Type 0 where
+    pub holds : HoldsHere (ToldHere store start (h ++ e ∷ [])) store start opening h all
+    pub bytes : List ℕ
+    pub material : IsMaterial store recorded source bytes
+    pub stated : Attributes
+    pub decided : recorded_of holds.model caller stated (length bytes) ≡ Ok recorded
+
+  -- and something stands so, out of which a pair is
+  abbrev pub IsSomeReady : Store D A C → (caller : ℕ) → Attributes → (source : Option ℕ) → ℕ × ℕ → Type 0
+  IsSomeReady store caller recorded source p =
+      (start : Service) × (opening : Opening) × (h : List Entry) × (all : List Pairs) × (e : Entry) × IsReady store caller recorded source start opening h all e × (0 < named p.0 p.1 all)
+
+  -- the request is to make this key
+  pub record IsMaking (store : Store D A C) (start : Service) (h : List Entry) (e : Entry) (recorded : Attributes) (bytes : List ℕ) : Type 0 where
+    pub keeps : is_destruction e.call ≡ false
+    pub leaves : ToldHere store start (h ++ e ∷ []) →
+        (plain_step (replay start h) e.caller e.call).service.store ≡ (created (replay start h).store e.caller recorded bytes).store
+    pub answers : ToldHere store start (h ++ e ∷ []) →
+        (plain_step (replay start h) e.caller e.call).reply ≡ (created (replay start h).store e.caller recorded bytes).reply
+
+  -- no device has failed less often than at the last entry
+  pub record IsSince (store : Store D A C) (counts : FaultCounts) : Type 0 where
+    pub faults_since : counts.faults ≤ faults store.file.cells.disk
+    pub hard_since : counts.hard ≤ hard store.devices
+
+  -- the turn ends with the key made, or not, and P holds of the model before
+  abbrev pub Enters : (old new : Store D A C) (caller : ℕ) → Attributes → (source : Option ℕ) → ℕ × ℕ → FaultMark → (model.Store → Type 0) → Type 0
+  Enters old new caller recorded source p mark P = (start : Service) (opening : Opening) (h : List Entry) (all less : List Pairs) (e : Entry) →
+      (r : IsReady old caller recorded source start opening h all e) → IsSince old (last_counts opening.counts h) → Gains less all p → AreHoldings less → e.caller ≡ caller →
+      IsMaking old start h e recorded r.bytes → IsEntryHere new mark e →
+      StandsForHere new start opening (h ++ e ∷ []) less × P r.holds.model

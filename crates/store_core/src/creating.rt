@@ -1,0 +1,333 @@
+//! How a turn creates a key.
+ghost use Rattle.std.specs.Prelude.{◌≡◌, ◌<◌, ◌≤◌, ◌^◌, ◌+◌, ℕ, List, length, slice_index, slice_set, true, false, ⊤, Some, None, IfOk, IfErr, IfSome, OnOk, IsTrue};
+ghost use Rattle.std.specs.Option.{option_map};
+ghost use Rattle.psa_status.specs.Causes.{HasCause};
+ghost use Rattle.key_attributes.specs.Checks.{is_key_type, permits_size};
+ghost use Rattle.driver_dispatch.specs.Held.{with_copy, with_held_key};
+ghost use Rattle.driver_dispatch.specs.Calls.{Changes, HoldsHandle, Lacks, has_element};
+ghost use Rattle.secret_bytes.specs.Buffer.{IsClear, bytes_of};
+ghost use Rattle.slot_table.specs.Slots.{NoKey};
+ghost use Rattle.slot_table.specs.Changes.{full_slot};
+ghost use Rattle.key_slots.specs.Holdings.{Pairs, Gains};
+ghost use Rattle.key_slots.specs.Standing.{Agrees, IsOut, IsThereOrNew, Puts, SlotHasKey};
+ghost use Rattle.store_model.specs.Store as model;
+ghost use Rattle.store_model.specs.Store.{Key, first_volatile, is_opaque, is_volatile};
+ghost use Rattle.store_model.specs.Creation.{identified, new_id};
+ghost use Rattle.store_model.specs.Faults.{Plain};
+ghost use Rattle.store_core.specs.Represents.{HasOut, ranked_on};
+ghost use Rattle.store_core.specs.Creations.{Creates, Enters, HoldsLent, IsLentOut, IsMade, IsSomeReady, IsUnkept, IsUnmade, RecordsStated, mark_unkept, mark_unmade, status_unkept, status_unmade};
+
+use crate::Store;
+use admission::Admission;
+use disk_face::Disk;
+use driver_dispatch::Devices;
+use key_attributes::{Attributes, KeyId};
+use key_file::MakeFault;
+use psa_status::{Failed, Status};
+use slot_table::{Filling, Lease};
+
+// The identifiers of volatile keys begin here, and each caller has so many.
+const FIRST_VOLATILE: u32 = 0x40000000;
+
+const VOLATILE_RANGE: u32 = 1 << 20;
+
+/// Why a key that was to be made is none: the file failed, and the key may be there after a crash where the cells in doubt
+/// had been closed; or the device did.
+#[derive(Clone, Copy, Debug, PartialEq, Eq, Drop)]
+pub enum Unkept {
+    Unwritten { closed_first: bool },
+    Hardware,
+}
+
+impl Unkept {
+    /// What a call answers.
+    pub fn status(self) -> Status
+        ensures { result ≡ status_unkept self }
+    {
+        match self {
+            Unkept::Unwritten { .. } => Status::StorageFailure,
+            Unkept::Hardware => Status::HardwareFailure,
+        }
+    }
+}
+
+/// Why no key was made: the creation is refused, or the file or the device failed.
+#[derive(Clone, Copy, Debug, PartialEq, Eq, Drop)]
+pub enum NotMade {
+    Refused(Status),
+    Failed(Unkept),
+}
+
+impl NotMade {
+    /// What a call answers.
+    pub fn status(self) -> Status
+        ensures { result ≡ status_unmade self }
+    {
+        match self {
+            NotMade::Refused(status) => status,
+            NotMade::Failed(why) => why.status(),
+        }
+    }
+}
+
+impl<D: Disk, A: Devices, C: Admission> Store<D, A, C> {
+    /// Makes a key of these bytes in the slot that waits for it, and answers its identifier. A creation by an operation comes
+    /// with the lease of the operation's key, and is refused where that is gone. The slot is given up where no key is made.
+    /// Ranked.
+    pub fn finish(
+        &mut self,
+        caller: u8,
+        filling: Filling,
+        attributes: &Attributes,
+        bytes: &[u8],
+        lease: Option<&Lease>,
+    ) -> Result<KeyId, NotMade>
+        requires first { 1 ≤ caller }
+        requires last { caller ≤ 16 }
+        requires out { HasOut D.contents D.may_leave D.moment D.left_since D.faults A.keys A.faults A.locations C.labels self.old (filling.slot, 0) }
+        requires lent { IsLentOut D.contents D.may_leave D.moment D.left_since D.faults A.keys A.faults A.locations C.labels self.old (option_map (λ l. l.now) lease) }
+        requires size { D.size self.old.file.cells.disk ≡ 557120 }
+        requires few { self.old.ranked < 2 ^ 62 }
+        ensures size { D.size self.new.file.cells.disk ≡ 557120 }
+        ensures clear { IsClear self.old.buffer → IsClear self.new.buffer }
+        ensures made { IfOk result (λ id. Creates D.contents D.may_leave D.moment D.left_since D.faults A.keys A.faults A.locations C.labels self.old self.new caller (option_map (λ l. l.now) lease.entry)
+            (RecordsStated (option_map (λ l. l.now) lease.entry) caller attributes.now (length bytes.now)) (λ m. bytes.now) (filling.slot, 0) Plain
+            (IsMade (RecordsStated (option_map (λ l. l.now) lease.entry) caller attributes.now (length bytes.now)) caller id.0)) }
+        ensures unmade { IfErr result (λ why. Creates D.contents D.may_leave D.moment D.left_since D.faults A.keys A.faults A.locations C.labels self.old self.new caller (option_map (λ l. l.now) lease.entry)
+            (RecordsStated (option_map (λ l. l.now) lease.entry) caller attributes.now (length bytes.now)) (λ m. bytes.now) (filling.slot, 0) (mark_unmade why)
+            (IsUnmade (RecordsStated (option_map (λ l. l.now) lease.entry) caller attributes.now (length bytes.now)) why)) }
+        ensures opened { self.new.opened ≡ self.old.opened }
+    {
+        let made = self.make(caller, filling, attributes, bytes, lease);
+        self.ranked += 1;
+        made
+    }
+
+    // Makes a key, in all but the count of the turn.
+    fn make(
+        &mut self,
+        caller: u8,
+        filling: Filling,
+        attributes: &Attributes,
+        bytes: &[u8],
+        lease: Option<&Lease>,
+    ) -> Result<KeyId, NotMade>
+        requires first { 1 ≤ caller }
+        requires last { caller ≤ 16 }
+        requires out { HasOut D.contents D.may_leave D.moment D.left_since D.faults A.keys A.faults A.locations C.labels self.old (filling.slot, 0) }
+        requires lent { IsLentOut D.contents D.may_leave D.moment D.left_since D.faults A.keys A.faults A.locations C.labels self.old (option_map (λ l. l.now) lease) }
+        requires size { D.size self.old.file.cells.disk ≡ 557120 }
+        requires few { self.old.ranked < 2 ^ 62 }
+        ensures size { D.size self.new.file.cells.disk ≡ 557120 }
+        ensures clear { IsClear self.old.buffer → IsClear self.new.buffer }
+        ensures made { IfOk result (λ id. Creates D.contents D.may_leave D.moment D.left_since D.faults A.keys A.faults A.locations C.labels self.old (ranked_on self.new) caller (option_map (λ l. l.now) lease.entry)
+            (RecordsStated (option_map (λ l. l.now) lease.entry) caller attributes.now (length bytes.now)) (λ m. bytes.now) (filling.slot, 0) Plain
+            (IsMade (RecordsStated (option_map (λ l. l.now) lease.entry) caller attributes.now (length bytes.now)) caller id.0)) }
+        ensures unmade { IfErr result (λ why. Creates D.contents D.may_leave D.moment D.left_since D.faults A.keys A.faults A.locations C.labels self.old (ranked_on self.new) caller (option_map (λ l. l.now) lease.entry)
+            (RecordsStated (option_map (λ l. l.now) lease.entry) caller attributes.now (length bytes.now)) (λ m. bytes.now) (filling.slot, 0) (mark_unmade why)
+            (IsUnmade (RecordsStated (option_map (λ l. l.now) lease.entry) caller attributes.now (length bytes.now)) why)) }
+        ensures ranked { self.new.ranked ≡ self.old.ranked }
+        ensures opened { self.new.opened ≡ self.old.opened }
+    {
+        match self.decide(caller, attributes, bytes.len(), lease) {
+            Ok(recorded) => {
+                self.buffer.fill_from(bytes);
+                let made = self.create(caller, filling, &recorded, None);
+                self.buffer.wipe();
+                match made {
+                    Ok(id) => Ok(id),
+                    Err(why) => Err(NotMade::Failed(why)),
+                }
+            }
+            Err(status) => {
+                self.slots.give_up(filling);
+                Err(NotMade::Refused(status))
+            }
+        }
+    }
+
+    // What the creation of a key of so many bytes records, or its first refusal, where the key of the lease is asked for first.
+    fn decide(
+        &self,
+        caller: u8,
+        attributes: &Attributes,
+        bytes: usize,
+        lease: Option<&Lease>,
+    ) -> Result<Attributes, Status>
+        requires last { caller ≤ 16 }
+        requires lent { IsLentOut D.contents D.may_leave D.moment D.left_since D.faults A.keys A.faults A.locations C.labels self.now (option_map (λ l. l.now) lease) }
+        ensures value { HoldsLent D.contents D.may_leave D.moment D.left_since D.faults A.keys A.faults A.locations C.labels self.now (option_map (λ l. l.now) lease.entry)
+            (λ m. RecordsStated (option_map (λ l. l.now) lease) caller attributes.now bytes m result) }
+        ensures short { OnOk result (bytes ≤ 1024) }
+    {
+        if let Some(lease) = lease {
+            if !self.slots.is_alive(lease) {
+                return Err(Status::InvalidHandle);
+            }
+        }
+        self.recorded(caller, attributes, bytes)
+    }
+
+    // Puts the key whose bytes are in the buffer, or which the device has under a number, into the slot that waits for it, and
+    // before that into the file or the device, where it is kept there. The buffer may be wiped.
+    pub(crate) fn create(
+        &mut self,
+        caller: u8,
+        filling: Filling,
+        recorded: &Attributes,
+        source: Option<u64>,
+    ) -> Result<KeyId, Unkept>
+        requires first { 1 ≤ caller }
+        requires last { caller ≤ 16 }
+        requires ready { IsSomeReady D.contents D.may_leave D.moment D.left_since D.faults A.keys A.faults A.locations C.labels self.old caller recorded.now source (filling.slot, 0) }
+        requires size { D.size self.old.file.cells.disk ≡ 557120 }
+        requires few { self.old.ranked < 2 ^ 62 }
+        ensures size { D.size self.new.file.cells.disk ≡ 557120 }
+        ensures made { IfOk result (λ id. Enters D.contents D.may_leave D.moment D.left_since D.faults A.keys A.faults A.locations C.labels self.old (ranked_on self.new) caller recorded.now source (filling.slot, 0) Plain
+            (λ m. id.0 ≡ new_id m caller recorded.now)) }
+        ensures unkept { IfErr result (λ why. Enters D.contents D.may_leave D.moment D.left_since D.faults A.keys A.faults A.locations C.labels self.old (ranked_on self.new) caller recorded.now source (filling.slot, 0) (mark_unkept why)
+            (λ m. IsUnkept recorded.now why)) }
+        ensures ranked { self.new.ranked ≡ self.old.ranked }
+        ensures opened { self.new.opened ≡ self.old.opened }
+    {
+        if recorded.lifetime.0 % 256 != 0 {
+            return self.create_kept(caller, filling, recorded, source);
+        }
+        if recorded.lifetime.0 / 256 == 1 {
+            return self.create_held(caller, filling, recorded, source);
+        }
+        let number = self.found + self.ranked;
+        Ok(self.add(caller, filling, number, recorded))
+    }
+
+    // Puts a key into the file, and then into its slot.
+    fn create_kept(
+        &mut self,
+        caller: u8,
+        filling: Filling,
+        recorded: &Attributes,
+        source: Option<u64>,
+    ) -> Result<KeyId, Unkept>
+        requires first { 1 ≤ caller }
+        requires last { caller ≤ 16 }
+        requires persistent { is_volatile recorded.now ≡ false }
+        requires ready { IsSomeReady D.contents D.may_leave D.moment D.left_since D.faults A.keys A.faults A.locations C.labels self.old caller recorded.now source (filling.slot, 0) }
+        requires size { D.size self.old.file.cells.disk ≡ 557120 }
+        requires few { self.old.ranked < 2 ^ 62 }
+        ensures size { D.size self.new.file.cells.disk ≡ 557120 }
+        ensures made { IfOk result (λ id. Enters D.contents D.may_leave D.moment D.left_since D.faults A.keys A.faults A.locations C.labels self.old (ranked_on self.new) caller recorded.now source (filling.slot, 0) Plain
+            (λ m. id.0 ≡ new_id m caller recorded.now)) }
+        ensures unkept { IfErr result (λ why. Enters D.contents D.may_leave D.moment D.left_since D.faults A.keys A.faults A.locations C.labels self.old (ranked_on self.new) caller recorded.now source (filling.slot, 0) (mark_unkept why)
+            (λ m. IsUnkept recorded.now why)) }
+        ensures ranked { self.new.ranked ≡ self.old.ranked }
+        ensures opened { self.new.opened ≡ self.old.opened }
+    {
+        let number = self.found + self.ranked;
+        let closed_first = match self.file.make(number, recorded, self.buffer.as_slice()) {
+            Ok(()) => {
+                self.slots.fill(filling, number, recorded, self.buffer.as_slice());
+                self.kept += 1;
+                return Ok(recorded.id);
+            }
+            Err(MakeFault::Disk { closed_first }) => closed_first,
+            Err(MakeFault::Full) => unreachable!(),
+        };
+        self.slots.give_up(filling);
+        Err(Unkept::Unwritten { closed_first })
+    }
+
+    // Puts a key into the device, and then into its slot, without its bytes.
+    fn create_held(
+        &mut self,
+        caller: u8,
+        filling: Filling,
+        recorded: &Attributes,
+        source: Option<u64>,
+    ) -> Result<KeyId, Unkept>
+        requires first { 1 ≤ caller }
+        requires last { caller ≤ 16 }
+        requires volatile { is_volatile recorded.now ≡ true }
+        requires opaque { is_opaque recorded.now ≡ true }
+        requires ready { IsSomeReady D.contents D.may_leave D.moment D.left_since D.faults A.keys A.faults A.locations C.labels self.old caller recorded.now source (filling.slot, 0) }
+        requires size { D.size self.old.file.cells.disk ≡ 557120 }
+        requires few { self.old.ranked < 2 ^ 62 }
+        ensures size { D.size self.new.file.cells.disk ≡ 557120 }
+        ensures made { IfOk result (λ id. Enters D.contents D.may_leave D.moment D.left_since D.faults A.keys A.faults A.locations C.labels self.old (ranked_on self.new) caller recorded.now source (filling.slot, 0) Plain
+            (λ m. id.0 ≡ new_id m caller recorded.now)) }
+        ensures unkept { IfErr result (λ why. Enters D.contents D.may_leave D.moment D.left_since D.faults A.keys A.faults A.locations C.labels self.old (ranked_on self.new) caller recorded.now source (filling.slot, 0) (mark_unkept why)
+            (λ m. IsUnkept recorded.now why)) }
+        ensures ranked { self.new.ranked ≡ self.old.ranked }
+        ensures opened { self.new.opened ≡ self.old.opened }
+    {
+        let number = self.found + self.ranked;
+        match give(&mut self.devices, number, recorded, source, self.buffer.as_slice()) {
+            Ok(()) => {
+                self.buffer.wipe();
+                Ok(self.add(caller, filling, number, recorded))
+            }
+            Err(Failed) => {
+                self.slots.give_up(filling);
+                Err(Unkept::Hardware)
+            }
+        }
+    }
+
+    // Puts a volatile key whose bytes are in the buffer into the slot that waits for it, under the caller's next identifier.
+    fn add(
+        &mut self,
+        caller: u8,
+        filling: Filling,
+        number: u64,
+        recorded: &Attributes,
+    ) -> KeyId
+        requires last { caller ≤ 16 }
+        requires out { IsOut self.old.slots.table.slots (filling.slot, 0) }
+        requires unknown { NoKey (first_volatile caller + slice_index self.old.made caller) self.old.slots.table.slots }
+        requires made { slice_index self.old.made caller < 2 ^ 20 }
+        requires live { slice_index self.old.live caller < 16 }
+        ensures id { result.0 ≡ first_volatile caller + slice_index self.old.made caller }
+        ensures fills { (old new : model.Store) (all less : List Pairs) (key : Key) → Agrees self.old.slots.table.slots old all → Gains less all (filling.slot, 0) →
+            Puts old new result.0 (Some key) → SlotHasKey (full_slot number (identified recorded.now result.0) (bytes_of self.old.buffer)) key → IsThereOrNew old result.0 key → Agrees self.new.slots.table.slots new less }
+        ensures rest { self.new ≡ record self.old { slots = self.new.slots;
+            made = slice_set self.old.made caller (slice_index self.old.made caller + 1); live = slice_set self.old.live caller (slice_index self.old.live caller + 1) } }
+    {
+        let made = self.made[caller as usize];
+        let id = KeyId(FIRST_VOLATILE + caller as u32 * VOLATILE_RANGE + made);
+        let attributes = Attributes {
+            lifetime: recorded.lifetime,
+            id,
+            key_type: recorded.key_type,
+            bits: recorded.bits,
+            policy: recorded.policy,
+        };
+        self.slots
+            .fill(filling, number, &attributes, self.buffer.as_slice());
+        self.made[caller as usize] = made + 1;
+        self.live[caller as usize] += 1;
+        id
+    }
+}
+
+// Gives the device a key under a new number: its bytes, or the key that the device has under another.
+fn give<A: Devices>(
+    devices: &mut A,
+    number: u64,
+    recorded: &Attributes,
+    source: Option<u64>,
+    bytes: &[u8],
+) -> Result<(), Failed>
+    requires element { IsTrue (has_element (A.locations devices.old)) }
+    requires new { Lacks (A.keys devices.old) number }
+    requires known { IsTrue (is_key_type recorded.now.key_type.0) }
+    requires size { source ≡ None → IsTrue (permits_size recorded.now.key_type.0 (length bytes.now)) }
+    requires held { IfSome source (λ from. HoldsHandle (A.keys devices.old) from (λ key. ⊤)) }
+    ensures given { source ≡ None → Changes (with_held_key number (record { key_type = recorded.now.key_type.0; bytes = bytes.now })) (A.keys devices.old) (A.keys devices.new) result }
+    ensures copied { IfSome source (λ from. Changes (with_copy from number) (A.keys devices.old) (A.keys devices.new) result) }
+    ensures locations { A.locations devices.new ≡ A.locations devices.old }
+    ensures cause { HasCause (A.faults devices.old) (A.faults devices.new) result }
+{
+    match source {
+        Some(from) => devices.copy_key(from, number),
+        None => devices.import_key(number, recorded.key_type, bytes),
+    }
+}
