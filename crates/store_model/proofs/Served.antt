@@ -10,7 +10,7 @@ use Rattle.store_model.specs.Operations.{InError}
 use Rattle.store_model.specs.Handles.{HandleOperation, Own, Service, Served, own_of, operation_of, with_own, with_operation, next_random}
 use Rattle.store_model.specs.HandleCalls.{HandleCall, is_setup}
 use Rattle.store_model.specs.Requests.{Request, OnStore, OnHandle, on_store, plain_step, failed_step, serve}
-use Rattle.store_model.specs.Laws.{handle_of, may_change_keys}
+use Rattle.store_model.specs.Laws.{handle_of}
 use Rattle.store_model.proofs.DrawnBytes.{length-random}
 use Rattle.store_model.proofs.Operations.{same_operation, same_service}
 use Rattle.store_model.proofs.StoreShape.{IsQuiet, refusal_quiet, spoiled_quiet, StoreCases, store_shape}

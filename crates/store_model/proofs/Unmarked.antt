@@ -1,6 +1,6 @@
 -- A request in whose turn no device failed answers no failed device's status.
-use Rattle.std.proofs.Common.{◌≡◌, ℕ, true, false, refl, sym, ◌∙◌}
-use Rattle.store_model.specs.Faults.{Plain, Storage, Hardware, Corrupt, is_of_fault}
+use Rattle.std.proofs.Common.{ℕ, refl, sym, ◌∙◌}
+use Rattle.store_model.specs.Faults.{Plain, Storage, Hardware, Corrupt}
 use Rattle.store_model.specs.Handles.{Service, own_of, next_random}
 use Rattle.store_model.specs.Requests.{Request, OnStore, OnHandle, plain_step}
 use Rattle.store_model.specs.Laws.{MarksAlone}

@@ -103,8 +103,7 @@ LeavesSettings =
 -- each key after a request was there before it, or the rules, applied once more, neither refuse it nor change it
 abbrev pub RulesAreFollowed : Type 0
 RulesAreFollowed =
-    (service : Service) (caller : ℕ) (request : Request) (mark : FaultMark) (id : ℕ) (key : Key) →
-    map.get (serve service caller request mark).service.store.keys id ≡ Some key →
+    (service : Service) (caller : ℕ) (request : Request) (mark : FaultMark) (id : ℕ) (key : Key) → map.get (serve service caller request mark).service.store.keys id ≡ Some key →
     (map.get service.store.keys id ≡ Some key) ⊎ (after_rules service.store.settings.labels key.attributes ≡ Ok key.attributes)
 
 -- a request answers the status of a failed device exactly where its mark says that one failed
