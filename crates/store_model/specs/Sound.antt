@@ -101,7 +101,7 @@ StaysSound =
     (service : Service) (caller : ℕ) (request : Request) (mark : FaultMark) → 1 ≤ caller → caller ≤ caller_count → IsSound service →
     IsSound (serve service caller request mark).service
 
--- a key stays as it is until a call destroys it, and then none has its identifier: no creation replaces a key, and no rule narrows one that is there
+-- a key stays as it is until a call destroys it, and then none has its identifier: no creation, and no rule, changes one
 abbrev pub KeysStay : Type 0
 KeysStay =
     (service : Service) (caller : ℕ) (request : Request) (mark : FaultMark) (id : ℕ) (key : Key) → IsSound service → map.get service.store.keys id ≡ Some key →
