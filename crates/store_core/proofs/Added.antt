@@ -23,7 +23,7 @@ use Rattle.store_model.specs.Store.{Key, KeyMap, is_volatile, is_opaque, is_vola
 use Rattle.store_model.specs.Outcome.{counted}
 use Rattle.store_model.specs.Creation.{created, new_id, new_key, identified, made_with}
 use Rattle.store_model.specs.Sound.{IsSoundStore}
-use Rattle.store_model.proofs.Sound.{put, of_volatile, none_before, room_of}
+use Rattle.store_model.proofs.Sound.{put, of_volatile, new_is_free, room_of}
 use Rattle.store_model.proofs.Recorded.{MayBeKept, IsStated, stated_id}
 use Rattle.store_model.proofs.Live.{len_kept-insert}
 use Rattle.store_core.specs.Durability.{kept, durable_keys}
@@ -46,7 +46,7 @@ module _ (m : model.Store) (caller : ℕ) (recorded : Attributes) (bytes : List 
   after = (created m caller recorded bytes).store
 
   pub none_here : map.get m.keys id ≡ None
-  none_here = none_before m caller recorded bytes first last sound may
+  none_here = new_is_free m caller recorded sound may.room
 
   pub put_here : map.get after.keys id ≡ Some new
   put_here = put m.keys id new id ∙ ap (λ b. cond b (Some new) (map.get m.keys id)) (eq-eqb id id refl)
@@ -110,10 +110,10 @@ module _ (m : model.Store) (caller : ℕ) (recorded : Attributes) (bytes : List 
     volatile_id = ap (λ b. cond b (model.next_volatile m caller) recorded.id.0) is
 
     pub few_live : live_volatile m.keys caller < 16
-    few_live = (room_of m caller recorded bytes first last sound may true is).0
+    few_live = (room_of m caller recorded true is may.room).0
 
     pub few_made : made_of m caller < 2 ^ 20
-    few_made = (room_of m caller recorded bytes first last sound may true is).1
+    few_made = (room_of m caller recorded true is may.room).1
 
     made_after : made_with m caller recorded ≡ slice_set m.made caller (made_of m caller + 1)
     made_after = ap (λ b. cond b (slice_set m.made caller (made_of m caller + 1)) m.made) is
@@ -150,7 +150,7 @@ module _ (m : model.Store) (caller : ℕ) (recorded : Attributes) (bytes : List 
     none_stated = ap (map.get m.keys) (sym (stated_here is)) ∙ none_here
 
     pub few_kept : count_persistent m.keys < 512
-    few_kept = (room_of m caller recorded bytes first last sound may false is).1
+    few_kept = (room_of m caller recorded false is may.room).1
 
     is_low : nat_lt id 0x40000000 ≡ true
     is_low = low id (stated_here is) (low_here is).1 where

@@ -55,10 +55,10 @@ quiet_reply service caller (OnStore call) quiet =
     store_shape service.store caller (next_random service caller) call (λ outcome. MakesNone outcome.reply) (λ n. length-random service.store.settings.seed caller (own_of service caller).drawn n) (record {
       counted_too = λ reply drawn is. is.quiet.no_key;
       created_too = λ kept bytes drawn changes creates. absurd (false≢true (sym quiet ∙ changes));
-      destroyed_too = λ id changes. absurd (false≢true (sym quiet ∙ changes));
+      destroyed_too = λ id is. absurd (false≢true (sym quiet ∙ ap may_change_keys is));
     })
 quiet_reply service caller (OnHandle handle call) quiet = shape service caller handle call (λ served. MakesNone served.reply) (record {
-  untouched_too = λ status may. λ after. refl;
+  untouched_too = λ may. λ after. refl;
   applied_too = λ after step. step.no_key;
   created_too = λ changes key w n kept derives. absurd (false≢true (sym quiet ∙ changes));
 })

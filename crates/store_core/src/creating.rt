@@ -157,7 +157,7 @@ impl<D: Disk, A: Devices, C: Admission> Store<D, A, C> {
         requires last { caller ≤ 16 }
         requires lent { IsLentOut D.contents D.may_leave D.moment D.left_since D.faults A.keys A.faults A.locations C.labels self.now (option_map (λ l. l.now) lease) }
         ensures value { HoldsLent D.contents D.may_leave D.moment D.left_since D.faults A.keys A.faults A.locations C.labels self.now (option_map (λ l. l.now) lease.entry)
-            (λ m. RecordsStated (option_map (λ l. l.now) lease) caller attributes.now bytes m result) }
+            (λ m. RecordsStated (option_map (λ l. l.now) lease.entry) caller attributes.now bytes m result) }
         ensures short { OnOk result (bytes ≤ 1024) }
     {
         if let Some(lease) = lease {

@@ -16,7 +16,7 @@ use Rattle.store_model.specs.Handles.{KeyCreation, Deriving, held_after}
 use Rattle.store_model.specs.Refusals.{left_by}
 use Rattle.store_model.proofs.Buffers.{refusal_leaves}
 use Rattle.store_model.specs.Sound.{IsSoundDerivation}
-use Rattle.store_model.proofs.Tables.{none_holds, refused_by}
+use Rattle.store_model.proofs.Tables.{NoFault, none_holds, refused_by, refuses_plainly}
 use Rattle.store_model.proofs.Steps.{IsStep, Loses, held_derivation, unless_step, goes_step}
 
 -- inputs
@@ -90,11 +90,12 @@ not_below m n h = grind (arith, nat_tests)
 
 module _ {call : HandleCall} (store : Store) (key : Option KeyCreation) where
   -- a refusal that leaves the derivation active
-  stays_step : (w next : DerivationWork) (status : Status) → held_derivation key next ≡ left_by call (held_derivation key w) status → (IsSoundDerivation w → IsSoundDerivation next) →
+  stays_step : (w next : DerivationWork) (status : Status) → NoFault status → held_derivation key next ≡ left_by call (held_derivation key w) status → (IsSoundDerivation w → IsSoundDerivation next) →
       IsStep call store (held_derivation key w) (held_after key Deriving (goes_on next (refusal status)))
-  stays_step w next status left sound = record {
+  stays_step w next status plain left sound = record {
     few = omega arith;
     undrawn = λ no. refl;
+    plain = plain;
     left = λ no. left;
     no_key = λ a. refl;
     buffer = refusal_leaves status;
@@ -103,7 +104,7 @@ module _ {call : HandleCall} (store : Store) (key : Option KeyCreation) where
 
   pub exhausted_step : (w : DerivationWork) → held_derivation key (record w { capacity = 0 }) ≡ left_by call (held_derivation key w) InsufficientData →
       IsStep call store (held_derivation key w) (held_after key Deriving (exhausted w))
-  exhausted_step w left = stays_step w (record w { capacity = 0 }) InsufficientData left (exhausted_sound w)
+  exhausted_step w left = stays_step w (record w { capacity = 0 }) InsufficientData refl left (exhausted_sound w)
 
   taken_step : (w : DerivationWork) (n : ℕ) (reply : Reply) (b : Bool) → nat_lt w.capacity n ≡ b →
       (nat_lt w.capacity n ≡ true → held_derivation key (record w { capacity = 0 }) ≡ left_by call (held_derivation key w) InsufficientData) →
@@ -118,12 +119,12 @@ module _ (store : Store) (key : Option KeyCreation) where
   compared_step w expected true less =
       goes_step store key Deriving w (without w (length expected)) done refl (λ a. refl) (without_sound w (length expected) (not_below w.capacity (length expected) less))
   compared_step w expected false less =
-      stays_step store key w (without w (length expected)) InvalidSignature refl
+      stays_step store key w (without w (length expected)) InvalidSignature refl refl
       (without_sound w (length expected) (not_below w.capacity (length expected) less))
 
   lowered_step : (w : DerivationWork) (n : ℕ) (b : Bool) → nat_lt w.capacity n ≡ b →
       IsStep (OnDerivation (SetCapacity n)) store (held_derivation key w) (held_after key Deriving (cond b (goes_on w (refusal InvalidArgument)) (goes_on (record w { capacity = n }) done)))
-  lowered_step w n true e = stays_step store key w w InvalidArgument refl (λ h. h)
+  lowered_step w n true e = stays_step store key w w InvalidArgument refl refl (λ h. h)
   lowered_step w n false e = goes_step store key Deriving w (record w { capacity = n }) done refl (λ a. refl) (lowered_sound w n (not_below w.capacity n e))
 
   -- a call on a derivation whose key is gone
@@ -139,17 +140,17 @@ module _ (store : Store) (key : Option KeyCreation) where
   derivation_is_step w GetCapacity = goes_step store key Deriving w w _ refl (λ a. refl) (λ h. h)
   derivation_is_step w (SetCapacity n) = lowered_step w n (nat_lt w.capacity n) refl
   derivation_is_step w (InputBytes step bytes) =
-      unless_step store key Deriving _ _ _ (λ status refused. refl) (λ e. goes_step store key Deriving w _ done refl (λ a. refl)
+      unless_step store key Deriving _ _ _ (refuses_plainly (input_bytes_rows w step bytes) refl) (λ status refused. refl) (λ e. goes_step store key Deriving w _ done refl (λ a. refl)
       (bytes_sound w bytes (step == salt_step) (step == info_step) (flipped (is_due w step) (none_holds (input_bytes_rows w step bytes) 1 e))))
   derivation_is_step w (InputInteger step value) =
-      unless_step store key Deriving _ _ _ (λ status refused. refl) (λ e. goes_step store key Deriving w _ done refl (λ a. refl) (cost_sound w value (none_holds (input_integer_rows w step value) 2 e)))
+      unless_step store key Deriving _ _ _ (refuses_plainly (input_integer_rows w step value) refl) (λ status refused. refl) (λ e. goes_step store key Deriving w _ done refl (λ a. refl) (cost_sound w value (none_holds (input_integer_rows w step value) 2 e)))
   derivation_is_step w (OutputBytes n) =
-      unless_step store key Deriving _ _ _ (refused_by (Loses (OnDerivation (OutputBytes n)) (held_derivation key w)) (output_rows w) (λ on. refl, tt))
+      unless_step store key Deriving _ _ _ (refuses_plainly (output_rows w) refl) (refused_by (Loses (OnDerivation (OutputBytes n)) (held_derivation key w)) (output_rows w) (λ on. refl, tt))
       (λ e. taken_step store key w n (given (next_derived w n)) (nat_lt w.capacity n) refl (λ less. refl)
       (λ less. goes_step store key Deriving w (without w n) (given (next_derived w n)) refl (λ a. refl) (without_sound w n (not_below w.capacity n less))))
   derivation_is_step w (VerifyBytes expected) =
       let same : Bool = bytes_eq expected (next_derived w (length expected)) in
-      unless_step store key Deriving _ _ _ (refused_by (Loses (OnDerivation (VerifyBytes expected)) (held_derivation key w)) (output_rows w) (λ on. refl, tt))
+      unless_step store key Deriving _ _ _ (refuses_plainly (output_rows w) refl) (refused_by (Loses (OnDerivation (VerifyBytes expected)) (held_derivation key w)) (output_rows w) (λ on. refl, tt))
       (λ e. taken_step store key w (length expected) (compared same) (nat_lt w.capacity (length expected)) refl
       (λ less. refl) (compared_step w expected same))
 

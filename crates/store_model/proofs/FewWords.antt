@@ -26,7 +26,7 @@ by_bytes service store caller other n own e h = drawn_most 256 service store cal
 none_drawn : (service : Service) (caller other : ℕ) (request : Request) → FailedCases service caller request (λ served. (own_of served.service other).drawn ≤ (own_of service other).drawn + 256)
 none_drawn service caller other request = record {
   counted_too = λ reply quiet. omega arith;
-  destroyed_too = λ reply quiet id changes. omega arith;
+  destroyed_too = λ reply quiet id is. omega arith;
   lost_too = λ reply quiet handle on. drawn_most 256 service (counted service.store) caller other (with_operation (own_of service caller) handle InError) (omega arith);
 }
 
@@ -35,11 +35,11 @@ draws service caller other (OnStore call) mark =
     on_store_shape service caller call mark (λ served. (own_of served.service other).drawn ≤ (own_of service other).drawn + 256) (record {
       counted_too = λ reply drawn is. by_bytes service (counted service.store) caller other drawn (with_drawn (own_of service caller) drawn) refl (let f = is.few in omega arith);
       created_too = λ kept bytes drawn changes made. by_bytes service (created service.store caller kept bytes).store caller other drawn (with_drawn (own_of service caller) drawn) refl made.few;
-      destroyed_too = λ id changes. by_bytes service (destroyed service.store id).store caller other 0 (with_drawn (own_of service caller) 0) refl (omega arith);
+      destroyed_too = λ id is. by_bytes service (destroyed service.store id).store caller other 0 (with_drawn (own_of service caller) 0) refl (omega arith);
     }) (none_drawn service caller other (OnStore call))
 draws service caller other (OnHandle handle call) mark =
     on_handle_shape service caller handle call mark (λ served. (own_of served.service other).drawn ≤ (own_of service other).drawn + 256) (record {
-      untouched_too = λ status may. omega arith;
+      untouched_too = λ may. omega arith;
       applied_too = λ after step. by_bytes service (counted service.store) caller other after.drawn (with_drawn (with_operation (own_of service caller) handle after.operation) after.drawn) refl (let f = step.few in omega arith);
       created_too = λ changes key w n kept made. drawn_most 256 service (created service.store caller kept (next_derived w n)).store caller other (with_operation (own_of service caller) handle (held_derivation key (without w n))) (omega arith);
     }) (none_drawn service caller other (OnHandle handle call))

@@ -26,7 +26,7 @@ failed_tracks service caller request made t =
     let source = source_of service.store request in
     record {
       counted_too = λ reply quiet. none_tracks (counted service.store) made source reply quiet.no_key (counted_tracks service.store made t);
-      destroyed_too = λ reply quiet id changes. none_tracks (destroyed service.store id).store made source reply quiet.no_key (destroyed_tracks service.store id made t);
+      destroyed_too = λ reply quiet id is. none_tracks (destroyed service.store id).store made source reply quiet.no_key (destroyed_tracks service.store id made t);
       lost_too = λ reply quiet handle on. none_tracks (counted service.store) made source reply quiet.no_key (counted_tracks service.store made t);
     }
 
@@ -37,7 +37,7 @@ request_tracks service caller (OnStore call) mark made sound t =
     on_store_shape service caller call mark (TracksServed made (source_of service.store (OnStore call)))
     (record { counted_too = cases.counted_too; created_too = cases.created_too; destroyed_too = cases.destroyed_too }) (failed_tracks service caller (OnStore call) made t)
 request_tracks service caller (OnHandle handle call) mark made sound t = on_handle_shape service caller handle call mark (TracksServed made None) (record {
-  untouched_too = λ status may. counted_tracks service.store made t;
+  untouched_too = λ may. counted_tracks service.store made t;
   applied_too = λ after step. none_tracks (counted service.store) made None after.reply step.no_key (counted_tracks service.store made t);
   created_too = λ changes key w n kept creates. created_tracks service.store caller kept (next_derived w n) None made sound.store t tt;
 }) (failed_tracks service caller (OnHandle handle call) made t)

@@ -42,7 +42,7 @@ store_left service caller call =
     (λ n. length-random service.store.settings.seed caller (own_of service caller).drawn n) (record {
       counted_too = λ reply drawn is no. undrawn service caller drawn (is.undrawn no);
       created_too = λ kept bytes drawn changes made no. absurd (no refl);
-      destroyed_too = λ id changes no. absurd (no refl);
+      destroyed_too = λ id is no. absurd (no refl);
     })
 
 -- ON A HANDLE
@@ -58,7 +58,7 @@ own_left : (service : Service) (caller handle : ℕ) (call : HandleCall) → ((s
     (serve service caller (OnHandle handle call) Plain).service ≡ left_all service caller (OnHandle handle call) (serve service caller (OnHandle handle call) Plain).reply.status
 own_left service caller handle call =
     shape service caller handle call (λ served. (served.reply.status ≡ Success → ⊥) → served.service ≡ left_all service caller (OnHandle handle call) served.reply.status) (record {
-      untouched_too = λ status same no. stays_put service caller handle (left_by call (operation_of service caller handle) status) same;
+      untouched_too = λ same no. stays_put service caller handle (left_by call (operation_of service caller handle) BadState) same;
       applied_too = λ after step no. applied_left service caller handle after.drawn after.operation _ (step.undrawn no) (step.left no);
       created_too = λ changes key w n kept made no. absurd (no refl);
     })
@@ -70,18 +70,18 @@ leaves_all service caller (OnHandle handle call) failed = own_left service calle
 -- BUFFERS
 
 failed_buffers : (service : Service) (caller : ℕ) (request : Request) → FailedCases service caller request (λ served. LeavesBuffer served.reply)
-failed_buffers service caller request = record { counted_too = λ reply quiet. quiet.buffer; destroyed_too = λ reply quiet id changes. quiet.buffer; lost_too = λ reply quiet handle on. quiet.buffer }
+failed_buffers service caller request = record { counted_too = λ reply quiet. quiet.buffer; destroyed_too = λ reply quiet id is. quiet.buffer; lost_too = λ reply quiet handle on. quiet.buffer }
 
 pub leaves_buffers : RefusalsLeaveBuffers
 leaves_buffers service caller (OnStore call) mark old refuses =
     on_store_shape service caller call mark (λ served. LeavesBuffer served.reply) (record {
       counted_too = λ reply drawn is. is.quiet.buffer;
       created_too = λ kept bytes drawn changes made fails. absurd (fails refl);
-      destroyed_too = λ id changes fails. absurd (fails refl);
+      destroyed_too = λ id is fails. absurd (fails refl);
     }) (failed_buffers service caller (OnStore call)) refuses old
 leaves_buffers service caller (OnHandle handle call) mark old refuses =
     on_handle_shape service caller handle call mark (λ served. LeavesBuffer served.reply) (record {
-      untouched_too = λ status same. refusal_leaves status;
+      untouched_too = λ same. refusal_leaves BadState;
       applied_too = λ after step. step.buffer;
       created_too = λ changes key w n kept made fails. absurd (fails refl);
     }) (failed_buffers service caller (OnHandle handle call)) refuses old

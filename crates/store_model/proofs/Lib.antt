@@ -1,4 +1,5 @@
 pub mod Tables
+pub mod Obeyed
 pub mod Buffers
 pub mod StoreShape
 pub mod Served
@@ -23,3 +24,5 @@ pub mod Found
 pub mod Sound
 pub mod Starts
 pub mod Causes
+pub mod KeysAfter
+pub mod Unmarked

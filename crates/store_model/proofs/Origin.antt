@@ -198,5 +198,5 @@ step_tracks store caller call made sound t = record {
   counted_too = λ reply drawn is. none_tracks (counted store) made (source_of store (OnStore call)) reply is.quiet.no_key (counted_tracks store made t);
   created_too = λ kept bytes drawn changes creates.
       created_tracks store caller kept bytes (source_of store (OnStore call)) made sound t (created_source store call kept made sound t (source_of store (OnStore call)) refl creates.source);
-  destroyed_too = λ id changes. destroyed_tracks store id made t;
+  destroyed_too = λ id is. destroyed_tracks store id made t;
 }

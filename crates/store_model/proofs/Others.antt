@@ -32,7 +32,7 @@ created_leaves store caller other kept bytes h = left_made (is_volatile kept) st
 failed_leaves : (service : Service) (caller other : ℕ) (request : Request) → (other ≡ caller → ⊥) → FailedCases service caller request (LeavesCaller service other)
 failed_leaves service caller other request h = record {
   counted_too = λ reply quiet. (refl, refl);
-  destroyed_too = λ reply quiet id changes. (refl, refl);
+  destroyed_too = λ reply quiet id is. (refl, refl);
   lost_too = λ reply quiet handle on. (other_own service (counted service.store) caller other (with_operation (own_of service caller) handle InError) h, refl);
 }
 
@@ -42,10 +42,10 @@ leaves_callers service caller other (OnStore call) mark h =
     on_store_shape service caller call mark (LeavesCaller service other) (record {
       counted_too = λ reply drawn is. (left (counted service.store) drawn, refl);
       created_too = λ kept bytes drawn changes made. (left (created service.store caller kept bytes).store drawn, created_leaves service.store caller other kept bytes h);
-      destroyed_too = λ id changes. (left (destroyed service.store id).store 0, refl);
+      destroyed_too = λ id is. (left (destroyed service.store id).store 0, refl);
     }) (failed_leaves service caller other (OnStore call) h)
 leaves_callers service caller other (OnHandle handle call) mark h = on_handle_shape service caller handle call mark (LeavesCaller service other) (record {
-  untouched_too = λ status may. (refl, refl);
+  untouched_too = λ may. (refl, refl);
   applied_too = λ after step. (other_own service (counted service.store) caller other (with_drawn (with_operation (own_of service caller) handle after.operation) after.drawn) h, refl);
   created_too = λ changes key w n kept made.
       let bytes : List ℕ = next_derived w n in (
@@ -62,7 +62,7 @@ LeavesHandle service caller other served = operation_of served.service caller ot
 failed_handles : (service : Service) (caller other : ℕ) (request : Request) → (handle_of request ≡ Some other → ⊥) → FailedCases service caller request (LeavesHandle service caller other)
 failed_handles service caller other request h = record {
   counted_too = λ reply quiet. refl;
-  destroyed_too = λ reply quiet id changes. refl;
+  destroyed_too = λ reply quiet id is. refl;
   lost_too = λ reply quiet handle on.
       other_handle service (counted service.store) caller handle other InError (with_operation (own_of service caller) handle InError) refl (λ e. h (on ∙ ap Some (sym e)));
 }
@@ -73,13 +73,13 @@ leaves_handles service caller other (OnStore call) mark h =
     on_store_shape service caller call mark (LeavesHandle service caller other) (record {
       counted_too = λ reply drawn is. left (counted service.store) drawn;
       created_too = λ kept bytes drawn changes made. left (created service.store caller kept bytes).store drawn;
-      destroyed_too = λ id changes. left (destroyed service.store id).store 0;
+      destroyed_too = λ id is. left (destroyed service.store id).store 0;
     }) (failed_handles service caller other (OnStore call) h)
 leaves_handles service caller other (OnHandle handle call) mark h =
     let left = λ (store : Store) (operation : HandleOperation) (n : ℕ).
     other_handle service store caller handle other operation (with_drawn (with_operation (own_of service caller) handle operation) n) refl (λ e. h (ap Some (sym e))) in
     on_handle_shape service caller handle call mark (LeavesHandle service caller other) (record {
-      untouched_too = λ status may. refl;
+      untouched_too = λ may. refl;
       applied_too = λ after step. left (counted service.store) after.operation after.drawn;
       created_too = λ changes key w n kept made.
           let operation : HandleOperation = held_derivation key (without w n) in
@@ -95,7 +95,7 @@ different false e f = cc
 failed_shared : (service : Service) (caller : ℕ) (request : Request) → may_change_keys request ≡ false → FailedCases service caller request (λ served. served.service.store ≡ counted service.store)
 failed_shared service caller request h = record {
   counted_too = λ reply quiet. refl;
-  destroyed_too = λ reply quiet id changes. absurd (different _ changes h);
+  destroyed_too = λ reply quiet id is. absurd (different _ (ap may_change_keys is) h);
   lost_too = λ reply quiet handle on. refl;
 }
 
@@ -103,10 +103,10 @@ pub leaves_shared : LeavesShared
 leaves_shared service caller (OnStore call) mark h = on_store_shape service caller call mark (λ served. served.service.store ≡ counted service.store) (record {
   counted_too = λ reply drawn is. refl;
   created_too = λ kept bytes drawn changes made. absurd (different _ changes h);
-  destroyed_too = λ id changes. absurd (different _ changes h);
+  destroyed_too = λ id is. absurd (different _ (ap may_change_keys is) h);
 }) (failed_shared service caller (OnStore call) h)
 leaves_shared service caller (OnHandle handle call) mark h = on_handle_shape service caller handle call mark (λ served. served.service.store ≡ counted service.store) (record {
-  untouched_too = λ status may. refl;
+  untouched_too = λ may. refl;
   applied_too = λ after step. refl;
   created_too = λ changes key w n kept made. absurd (different _ changes h);
 }) (failed_shared service caller (OnHandle handle call) h)
@@ -120,7 +120,7 @@ pub record Kept (before after : Store) : Type 0 where
 failed_keeps : (service : Service) (caller : ℕ) (request : Request) → FailedCases service caller request (λ served. Kept service.store served.service.store)
 failed_keeps service caller request = record {
   counted_too = λ reply quiet. record { settings = refl; found = refl; calls = refl };
-  destroyed_too = λ reply quiet id changes. record { settings = refl; found = refl; calls = refl };
+  destroyed_too = λ reply quiet id is. record { settings = refl; found = refl; calls = refl };
   lost_too = λ reply quiet handle on. record { settings = refl; found = refl; calls = refl };
 }
 
@@ -128,10 +128,10 @@ pub serve_keeps : (service : Service) (caller : ℕ) (request : Request) (mark :
 serve_keeps service caller (OnStore call) mark = on_store_shape service caller call mark (λ served. Kept service.store served.service.store) (record {
   counted_too = λ reply drawn is. record { settings = refl; found = refl; calls = refl };
   created_too = λ kept bytes drawn changes made. record { settings = refl; found = refl; calls = refl };
-  destroyed_too = λ id changes. record { settings = refl; found = refl; calls = refl };
+  destroyed_too = λ id is. record { settings = refl; found = refl; calls = refl };
 }) (failed_keeps service caller (OnStore call))
 serve_keeps service caller (OnHandle handle call) mark = on_handle_shape service caller handle call mark (λ served. Kept service.store served.service.store) (record {
-  untouched_too = λ status may. record { settings = refl; found = refl; calls = refl };
+  untouched_too = λ may. record { settings = refl; found = refl; calls = refl };
   applied_too = λ after step. record { settings = refl; found = refl; calls = refl };
   created_too = λ changes key w n kept made. record { settings = refl; found = refl; calls = refl };
 }) (failed_keeps service caller (OnHandle handle call))

@@ -20,6 +20,7 @@ use Rattle.store_model.specs.Store.{Store, has_secure_element, is_volatile}
 use Rattle.store_model.specs.Creation.{identified, file_rows, room_for_key_rows, recorded_of}
 use Rattle.store_model.specs.Sound.{as_stated}
 use Rattle.store_model.proofs.Filled.{filled-checked, only_usage-checked}
+use Rattle.store_model.proofs.Obeyed.{AreObeyed, rules_obeyed}
 use Rattle.store_model.proofs.Tables.{AllRows, none_holds, refused_by}
 
 -- ONE ANSWER AFTER ANOTHER
@@ -86,10 +87,11 @@ rules_refused P refused (label ∷ labels) a s e = verdict_refused P (narrowed l
 
 -- WHAT IS RECORDED
 
--- attributes that a new key of so many bytes may have, and for which there is room
+-- attributes that a new key of so many bytes may have, which obey the rules, and for which there is room
 pub record MayBeKept (store : Store) (caller : ℕ) (kept : Attributes) (n : ℕ) : Type 0 where
   pub checks : checked kept n (has_secure_element store) ≡ Ok kept
   pub room : first_row (room_for_key_rows store caller kept) ≡ None
+  pub rules : AreObeyed store.settings.labels kept
 
 -- what is recorded where these are stated
 pub record IsRecorded (store : Store) (caller : ℕ) (stated : Attributes) (n : ℕ) (kept : Attributes) : Type 0 where
@@ -110,7 +112,7 @@ recorded store caller a n kept e =
     let checks : checked two.0 n driver ≡ Ok two.0 = subst (λ x. checked x n driver ≡ Ok x) passed.1 (filled-checked one.0 n driver passed.0) in
     let from : two.0 ≡ filled a n = sym passed.1 ∙ ap (λ x. filled x n) (sym stated) in
     subst (IsRecorded store caller a n) last.1 (record {
-      may = record { checks = narrows.checks checks; room = last.0 };
+      may = record { checks = narrows.checks checks; room = last.0; rules = rules_obeyed labels two.0 three.0 three.1.0 };
       within = subst (λ (x : Attributes). IsWithin three.0.policy x.policy) from narrows.policy;
     })
 

@@ -10,7 +10,7 @@ use Rattle.store_model.specs.Operations.{InError}
 use Rattle.store_model.specs.Handles.{HandleOperation, Own, Service, Served, own_of, operation_of, with_own, with_operation, next_random}
 use Rattle.store_model.specs.HandleCalls.{HandleCall, is_setup}
 use Rattle.store_model.specs.Requests.{Request, OnStore, OnHandle, on_store, plain_step, failed_step, serve}
-use Rattle.store_model.specs.Laws.{handle_of, may_change_keys}
+use Rattle.store_model.specs.Laws.{handle_of}
 use Rattle.store_model.proofs.DrawnBytes.{length-random}
 use Rattle.store_model.proofs.Operations.{same_operation, same_service}
 use Rattle.store_model.proofs.StoreShape.{IsQuiet, refusal_quiet, spoiled_quiet, StoreCases, store_shape}
@@ -28,7 +28,7 @@ stays_put service caller handle operation e =
 -- is destroyed, or the operation of the request's handle in error.
 pub record FailedCases (service : Service) (caller : ℕ) (request : Request) (P : Served → Type 0) : Type 0 where
   pub counted_too : (reply : Reply) → IsQuiet reply → P (record { service = record service { store = counted service.store }; reply = reply })
-  pub destroyed_too : (reply : Reply) → IsQuiet reply → (id : ℕ) → may_change_keys request ≡ true → P (record { service = record service { store = (destroyed service.store id).store }; reply = reply })
+  pub destroyed_too : (reply : Reply) → IsQuiet reply → (id : ℕ) → request ≡ OnStore (Destroy id) → P (record { service = record service { store = (destroyed service.store id).store }; reply = reply })
   pub lost_too : (reply : Reply) → IsQuiet reply → (handle : ℕ) → handle_of request ≡ Some handle →
       P (record { service = with_own service (counted service.store) caller (with_operation (own_of service caller) handle InError); reply = reply })
 

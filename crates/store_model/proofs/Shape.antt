@@ -25,7 +25,8 @@ use Rattle.store_model.specs.Refusals.{is_active, is_ready, left_by}
 use Rattle.store_model.specs.Sound.{IsSoundStore, IsSoundUse, IsSoundWork, IsSoundHeld}
 use Rattle.store_model.specs.Requests.{OnHandle}
 use Rattle.store_model.specs.Laws.{may_change_keys}
-use Rattle.store_model.proofs.Tables.{none_holds}
+use Rattle.store_model.proofs.Tables.{NoFault, RefusesPlainly, none_holds, refuses_plainly}
+use Rattle.store_model.proofs.StoreShape.{used_plainly}
 use Rattle.store_model.proofs.Recorded.{MayBeKept, OfRefusals, then_ok, then_refused, unless_refused, recorded, recorded_refused}
 use Rattle.store_model.proofs.Buffers.{refusal_leaves}
 use Rattle.store_model.proofs.Steps.{IsStep, Loses, held_derivation, begun, fails_step, unless_step, alive_step, ends_step, hash_is_step, mac_is_step, cipher_is_step, aead_is_step}
@@ -40,7 +41,7 @@ pub record DerivesKey (service : Service) (caller handle : ℕ) (key : Option Ke
 
 -- what is to be shown of each kind of outcome of a call
 pub record CallCases (service : Service) (caller handle : ℕ) (call : HandleCall) (P : Served → Type 0) : Type 0 where
-  pub untouched_too : (status : Status) → left_by call (operation_of service caller handle) status ≡ operation_of service caller handle → P (untouched service status)
+  pub untouched_too : left_by call (operation_of service caller handle) BadState ≡ operation_of service caller handle → P (untouched service BadState)
   pub applied_too : (after : After Held) → IsStep call service.store (operation_of service caller handle) after → P (applied service caller handle after)
   pub created_too : may_change_keys (OnHandle handle call) ≡ true → (key : Option KeyCreation) (w : DerivationWork) (n : ℕ) (kept : Attributes) → DerivesKey service caller handle key w n kept → P (derived_key service caller handle key w n (Ok kept))
 
@@ -70,21 +71,22 @@ setup_left call sets Inactive status = ap (λ (b : Bool). cond b Inactive Inacti
 setup_left call sets InError status = ap (λ (b : Bool). cond b InError InError) (sym (sets InError))
 setup_left call sets (Active held) status = sym (otherwise (is_ready call (Active held)) _ (Active held) (sets (Active held)))
 
-stayed_step : (call : HandleCall) → SetsUp call → (store : Store) (operation : HandleOperation) (status : Status) → IsStep call store operation (stays operation status)
-stayed_step call sets store operation status = record {
+stayed_step : (call : HandleCall) → SetsUp call → (store : Store) (operation : HandleOperation) (status : Status) → NoFault status → IsStep call store operation (stays operation status)
+stayed_step call sets store operation status plain = record {
   few = omega arith;
   undrawn = λ no. refl;
+  plain = plain;
   left = λ no. setup_left call sets operation status;
   no_key = λ a. refl;
   buffer = refusal_leaves status;
   sound = λ s h. h;
 }
 
-set_up_step : (call : HandleCall) → SetsUp call → (store : Store) (before : HandleOperation) (refused : Option Status) (held : Held) → (IsSoundStore store → IsSoundHeld store held) → IsStep call store before (set_up before refused held)
-set_up_step call sets store Inactive None held sound = record { few = omega arith; undrawn = λ no. refl; left = λ no. absurd (no refl); no_key = λ a. refl; buffer = λ no. absurd (no refl); sound = λ s h. sound s }
-set_up_step call sets store Inactive (Some status) held sound = stayed_step call sets store Inactive status
-set_up_step call sets store InError refused held sound = stayed_step call sets store InError BadState
-set_up_step call sets store (Active other) refused held sound = stayed_step call sets store (Active other) BadState
+set_up_step : (call : HandleCall) → SetsUp call → (store : Store) (before : HandleOperation) (refused : Option Status) (held : Held) → RefusesPlainly refused → (IsSoundStore store → IsSoundHeld store held) → IsStep call store before (set_up before refused held)
+set_up_step call sets store Inactive None held plain sound = record { few = omega arith; undrawn = λ no. refl; plain = refl; left = λ no. absurd (no refl); no_key = λ a. refl; buffer = λ no. absurd (no refl); sound = λ s h. sound s }
+set_up_step call sets store Inactive (Some status) held plain sound = stayed_step call sets store Inactive status (plain status refl)
+set_up_step call sets store InError refused held plain sound = stayed_step call sets store InError BadState refl
+set_up_step call sets store (Active other) refused held plain sound = stayed_step call sets store (Active other) BadState refl
 
 keyed_step : (call : HandleCall) → SetsUp call → (store : Store) (before : HandleOperation) (class : Class) (usage alg id : ℕ) (work : List ℕ → Work) → ((key : List ℕ) → IsSoundWork (work key)) →
     let found : Option Key = map.get store.keys id in
@@ -92,7 +94,7 @@ keyed_step : (call : HandleCall) → SetsUp call → (store : Store) (before : H
 keyed_step call sets store before class usage alg id work sound =
     let found : Option Key = map.get store.keys id in
     set_up_step call sets store before (first_row (use_rows false class usage alg found)) (record { key = creation_of id found; work = work (bytes_of found) })
-    (λ s. record { key = creation_sound store id found refl s; work = sound (bytes_of found) })
+    (used_plainly false class usage alg found) (λ s. record { key = creation_sound store id found refl s; work = sound (bytes_of found) })
 
 -- STEPS
 
@@ -153,10 +155,14 @@ module _ (service : Service) (caller handle : ℕ) (call : HandleCall) (P : Serv
       (is_active (part_of part before) ≡ false → left_by call before BadState ≡ before) → (now : Operation W) → part_of part before ≡ now → P (stepped service caller handle embed now f)
   stepped_shape part embed own f lost steps idle (Active w) e =
       steps_shape embed w _ (held_as part embed own before w e) (alive_step service.store own_key embed (begun own_key embed w) (is_alive service.store own_key) (f w) (lost w) (steps w))
-  stepped_shape part embed own f lost steps idle Inactive e = cases.untouched_too BadState (idle (ap is_active e))
-  stepped_shape part embed own f lost steps idle InError e = cases.untouched_too BadState (idle (ap is_active e))
+  stepped_shape part embed own f lost steps idle Inactive e = cases.untouched_too (idle (ap is_active e))
+  stepped_shape part embed own f lost steps idle InError e = cases.untouched_too (idle (ap is_active e))
 
 -- A KEY AS THE SECRET
+
+input_plainly : (w : DerivationWork) (found : Option Key) (step : ℕ) → RefusesPlainly (first_row (input_key_rows w found step))
+input_plainly w None step = refuses_plainly (input_key_rows w None step) refl
+input_plainly w (Some key) step = refuses_plainly (input_key_rows w (Some key) step) refl
 
 module _ (service : Service) (caller handle step id : ℕ) (P : Served → Type 0) (cases : CallCases service caller handle (InputKey step id) P) where
   abbrev the_key : Option KeyCreation
@@ -170,6 +176,7 @@ module _ (service : Service) (caller handle step id : ℕ) (P : Served → Type 
   given_step w e = record {
     few = omega arith;
     undrawn = λ no. refl;
+    plain = refl;
     left = λ no. absurd (no refl);
     no_key = λ a. refl;
     buffer = λ no. absurd (no refl);
@@ -181,9 +188,9 @@ module _ (service : Service) (caller handle step id : ℕ) (P : Served → Type 
       let key : Option KeyCreation = creation_of id found_key in
       steps_shape service caller handle _ P cases Deriving w _ (held_as derivation_part Deriving own_derivation (operation_of service caller handle) w e)
       (alive_step service.store key Deriving (held_derivation the_key w) (is_alive service.store the_key) _ refl
-      (unless_step service.store key Deriving (held_derivation the_key w) (first_row (input_key_rows w found_key step)) (goes_on (with_key w (bytes_of found_key)) done) (λ status refused. refl) (given_step w)))
-  input_key_shape Inactive e = cases.untouched_too BadState (unready_left (InputKey step id) (operation_of service caller handle) (ap is_active e))
-  input_key_shape InError e = cases.untouched_too BadState (unready_left (InputKey step id) (operation_of service caller handle) (ap is_active e))
+      (unless_step service.store key Deriving (held_derivation the_key w) (first_row (input_key_rows w found_key step)) (goes_on (with_key w (bytes_of found_key)) done) (input_plainly w found_key step) (λ status refused. refl) (given_step w)))
+  input_key_shape Inactive e = cases.untouched_too (unready_left (InputKey step id) (operation_of service caller handle) (ap is_active e))
+  input_key_shape InError e = cases.untouched_too (unready_left (InputKey step id) (operation_of service caller handle) (ap is_active e))
 
 -- A KEY OF DERIVED BYTES
 
@@ -210,27 +217,27 @@ module _ (service : Service) (caller handle : ℕ) (a : Attributes) (P : Served 
   abbrev Underived : DerivationWork → Status → Type 0
   Underived w status = IsStep (OutputKey a) service.store (held_derivation used_key w) (held_after used_key Deriving (underived w status))
 
-  in_error : (w : DerivationWork) (status : Status) → Loses (OutputKey a) (held_derivation used_key w) status → IsStep (OutputKey a) service.store (held_derivation used_key w) (held_after used_key Deriving (fails status))
-  in_error w status lost = fails_step service.store used_key Deriving (held_derivation used_key w) status lost
+  in_error : (w : DerivationWork) (status : Status) → NoFault status → Loses (OutputKey a) (held_derivation used_key w) status → IsStep (OutputKey a) service.store (held_derivation used_key w) (held_after used_key Deriving (fails status))
+  in_error w status plain lost = fails_step service.store used_key Deriving (held_derivation used_key w) status plain lost
 
   refused_step : (w : DerivationWork) → OfRefusals (Underived w) (derived_key_of service.store caller used_key w a)
   refused_step w =
       then_refused (Underived w) (unless (first_row (rows_before w)) a) _
       (unless_refused (Underived w) (rows_before w) a (
-        λ on. in_error w InvalidHandle refl,
+        λ on. in_error w InvalidHandle refl refl,
         (
-          λ on. in_error w BadState refl,
+          λ on. in_error w BadState refl refl,
           (
-            λ on. in_error w InvalidArgument refl,
+            λ on. in_error w InvalidArgument refl refl,
             (
-              λ on. in_error w NotSupported refl,
-              (λ on. in_error w NotPermitted refl, (λ less. exhausted_step service.store used_key w refl, tt)),
+              λ on. in_error w NotSupported refl refl,
+              (λ on. in_error w NotPermitted refl refl, (λ less. exhausted_step service.store used_key w refl, tt)),
             ),
           ),
         ),
       ))
-      (λ stated. recorded_refused (Underived w) (in_error w NotSupported refl) (in_error w InvalidArgument refl) (in_error w NotPermitted refl) (in_error w KeyLimit refl) (in_error w AlreadyExists refl)
-      (in_error w InsufficientStorage refl) service.store caller stated (stated_bytes a))
+      (λ stated. recorded_refused (Underived w) (in_error w NotSupported refl refl) (in_error w InvalidArgument refl refl) (in_error w NotPermitted refl refl) (in_error w KeyLimit refl refl) (in_error w AlreadyExists refl refl)
+      (in_error w InsufficientStorage refl refl) service.store caller stated (stated_bytes a))
 
   derived_shape : (w : DerivationWork) → operation_of service caller handle ≡ held_derivation used_key w → (r : Result Attributes Status) → derived_key_of service.store caller used_key w a ≡ r →
       P (derived_key service caller handle used_key w (stated_bytes a) r)
@@ -239,14 +246,15 @@ module _ (service : Service) (caller handle : ℕ) (a : Attributes) (P : Served 
 
   output_key_shape : (now : Operation DerivationWork) → part_of derivation_part (operation_of service caller handle) ≡ now → P (output_key service caller handle now a)
   output_key_shape (Active w) e = derived_shape w (held_as derivation_part Deriving own_derivation (operation_of service caller handle) w e) _ refl
-  output_key_shape Inactive e = cases.untouched_too BadState (unready_left (OutputKey a) (operation_of service caller handle) (ap is_active e))
-  output_key_shape InError e = cases.untouched_too BadState (unready_left (OutputKey a) (operation_of service caller handle) (ap is_active e))
+  output_key_shape Inactive e = cases.untouched_too (unready_left (OutputKey a) (operation_of service caller handle) (ap is_active e))
+  output_key_shape InError e = cases.untouched_too (unready_left (OutputKey a) (operation_of service caller handle) (ap is_active e))
 
 -- ANY CALL
 
 pub shape : (service : Service) (caller handle : ℕ) (call : HandleCall) (P : Served → Type 0) → CallCases service caller handle call P → P (handle_step service caller handle call)
 shape service caller handle (HashSetup alg) P cases =
-    cases.applied_too _ (set_up_step (HashSetup alg) (λ o. refl) service.store _ (first_row (class_rows class.Hash alg)) (record { key = None; work = Hashing (hash_work alg) }) (λ s. record { key = tt; work = tt }))
+    cases.applied_too _ (set_up_step (HashSetup alg) (λ o. refl) service.store _ (first_row (class_rows class.Hash alg)) (record { key = None; work = Hashing (hash_work alg) })
+    (refuses_plainly (class_rows class.Hash alg) refl) (λ s. record { key = tt; work = tt }))
 shape service caller handle (MacSetup verifies id alg) P cases =
     cases.applied_too _ (keyed_step (MacSetup verifies id alg) (λ o. refl) service.store _ class.Mac (mac_usage verifies) alg id (λ key. Authenticating (mac_work verifies alg key)) (λ key. tt))
 shape service caller handle (CipherSetup encrypts id alg) P cases =
@@ -255,7 +263,7 @@ shape service caller handle (AeadSetup encrypts id alg) P cases =
     cases.applied_too _ (keyed_step (AeadSetup encrypts id alg) (λ o. refl) service.store _ class.Aead (cipher_usage encrypts) alg id (λ key. Sealing (aead_work encrypts alg key)) (λ key. tt))
 shape service caller handle (DerivationSetup alg) P cases =
     cases.applied_too _ (set_up_step (DerivationSetup alg) (λ o. refl) service.store _ (first_row (class_rows class.Derivation alg)) (record { key = None; work = Deriving (derivation_work alg) })
-    (λ s. record { key = tt; work = start_sound alg }))
+    (refuses_plainly (class_rows class.Derivation alg) refl) (λ s. record { key = tt; work = start_sound alg }))
 shape service caller handle (OnHash step) P cases =
     stepped_shape service caller handle _ P cases hash_part Hashing own_hash (λ w. hash_step w step) (λ w. refl) (λ w. hash_is_step service.store _ w step) (unready_left (OnHash step) _) _ refl
 shape service caller handle (OnMac step) P cases =

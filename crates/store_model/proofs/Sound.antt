@@ -8,6 +8,7 @@ use Rattle.std.proofs.lemmas.Cmp.{nat_cmp_total}
 use Rattle.std.proofs.lemmas.Bool.Decides.{nat_tests}
 use Rattle.std.proofs.lemmas.List.{get_or-set_same, get_or-set_other}
 use Rattle.std.proofs.Math.ListN.{length-set}
+use Rattle.psa_status.specs.Rows.{first_row}
 use Rattle.key_attributes.specs.declared.Attributes.{Attributes}
 use Rattle.key_attributes.specs.Checks.{checked}
 use Rattle.store_model.specs.Store.{Key, Store, made_of, has_secure_element, is_volatile, next_volatile, is_volatile_of, live_volatile, count_persistent}
@@ -111,6 +112,26 @@ fresh_at store caller h below (Some key) e = absurd (no_such (is_volatile key.at
         let same = k.identifier in
         omega arith
 
+-- there is room for a new key of either kind
+abbrev pub RoomFor : Store → ℕ → Attributes → Bool → Type 0
+RoomFor store caller kept volatile = Room volatile (live_volatile store.keys caller) (made_of store caller) (count_persistent store.keys) (map.get store.keys kept.id.0)
+
+room_for : (store : Store) (caller : ℕ) (kept : Attributes) → first_row (room_for_key_rows store caller kept) ≡ None → RoomFor store caller kept (is_volatile kept)
+room_for store caller kept h =
+    let rows = room_for_key_rows store caller kept in has_room (is_volatile kept) _ _ _ _ (none_holds rows 0 h) (none_holds rows 1 h) (none_holds rows 2 h)
+
+pub room_of : (store : Store) (caller : ℕ) (kept : Attributes) (volatile : Bool) → is_volatile kept ≡ volatile → first_row (room_for_key_rows store caller kept) ≡ None → RoomFor store caller kept volatile
+room_of store caller kept volatile is h = subst (RoomFor store caller kept) is (room_for store caller kept h)
+
+-- and no key has its identifier
+no_key : (store : Store) (caller : ℕ) (kept : Attributes) → IsSoundStore store → (volatile : Bool) → RoomFor store caller kept volatile →
+    map.get store.keys (cond volatile (next_volatile store caller) kept.id.0) ≡ None
+no_key store caller kept h true r = fresh_at store caller h r.1 _ refl
+no_key store caller kept h false r = r.0
+
+pub new_is_free : (store : Store) (caller : ℕ) (kept : Attributes) → IsSoundStore store → first_row (room_for_key_rows store caller kept) ≡ None → map.get store.keys (new_id store caller kept) ≡ None
+new_is_free store caller kept h e = no_key store caller kept h (is_volatile kept) (room_for store caller kept e)
+
 -- a count after one more where it counts
 few_step : (limit : ℕ) (b : Bool) (m n : ℕ) → m ≡ cond b (n + 1) n → n ≤ limit → (b ≡ true → n < limit) → m ≤ limit
 few_step limit true m n e h k = let below = k refl in omega arith
@@ -148,8 +169,8 @@ module _ (store : Store) (caller : ℕ) (kept : Attributes) (bytes : List ℕ) (
   inside : caller < length store.made
   inside = let l = h.callers in omega arith
 
-  room : Room (is_volatile kept) (live_volatile store.keys caller) (made_of store caller) (count_persistent store.keys) (map.get store.keys kept.id.0)
-  room = let rows = room_for_key_rows store caller kept in has_room (is_volatile kept) _ _ _ _ (none_holds rows 0 may.room) (none_holds rows 1 may.room) (none_holds rows 2 may.room)
+  room : RoomFor store caller kept (is_volatile kept)
+  room = room_for store caller kept may.room
 
   stated : IsStated (is_volatile kept) kept.id.0
   stated = stated_id kept (length bytes) (has_secure_element store) may.checks
@@ -157,20 +178,6 @@ module _ (store : Store) (caller : ℕ) (kept : Attributes) (bytes : List ℕ) (
   -- the new identifier, for either kind of key
   abbrev id_of : Bool → ℕ
   id_of volatile = cond volatile (next_volatile store caller) kept.id.0
-
-  abbrev pub RoomOf : Bool → Type 0
-  RoomOf volatile = Room volatile (live_volatile store.keys caller) (made_of store caller) (count_persistent store.keys) (map.get store.keys kept.id.0)
-
-  no_key : (volatile : Bool) → RoomOf volatile → map.get store.keys (id_of volatile) ≡ None
-  no_key true r = fresh_at store caller h r.1 _ refl
-  no_key false r = r.0
-
-  -- no key has the new identifier
-  pub none_before : map.get store.keys id ≡ None
-  none_before = no_key (is_volatile kept) room
-
-  pub room_of : (volatile : Bool) → is_volatile kept ≡ volatile → RoomOf volatile
-  room_of volatile is = subst RoomOf is room
 
   abbrev made_then : Bool → ℕ → ℕ
   made_then volatile c = slice_index_or (cond volatile (slice_set store.made caller (made_of store caller + 1)) store.made) c 0
@@ -182,7 +189,7 @@ module _ (store : Store) (caller : ℕ) (kept : Attributes) (bytes : List ℕ) (
       omega arith
   more_made false c = omega arith
 
-  few_made : (volatile : Bool) → RoomOf volatile → (c : ℕ) → made_then volatile c ≤ 2 ^ 20
+  few_made : (volatile : Bool) → RoomFor store caller kept volatile → (c : ℕ) → made_then volatile c ≤ 2 ^ 20
   few_made true r c =
       let e = one_more store.made caller c (made_of store caller + 1) inside (c == caller) refl in
       let b = at_most (c == caller) (made_of store c) (made_of store caller) r.1 (h.made c) in
@@ -193,12 +200,12 @@ module _ (store : Store) (caller : ℕ) (kept : Attributes) (bytes : List ℕ) (
   same_length true = length-set store.made caller (made_of store caller + 1)
   same_length false = refl
 
-  live_before : (volatile : Bool) → RoomOf volatile → IsStated volatile kept.id.0 → (c : ℕ) → is_volatile_of c (id_of volatile) ≡ true → live_volatile store.keys c < 16
+  live_before : (volatile : Bool) → RoomFor store caller kept volatile → IsStated volatile kept.id.0 → (c : ℕ) → is_volatile_of c (id_of volatile) ≡ true → live_volatile store.keys c < 16
   live_before true r s c t =
       same_caller (id_of true / 2 ^ 20) c caller (live_volatile store.keys c) (live_volatile store.keys caller) t (let l = r.1 in omega arith) (λ same. ap (live_volatile store.keys) same) r.0
   live_before false r s c t = absurd (of_volatile kept.id.0 c s.1 t)
 
-  persistent_before : (volatile : Bool) → RoomOf volatile → nat_lt (id_of volatile) 0x40000000 ≡ true → count_persistent store.keys < 512
+  persistent_before : (volatile : Bool) → RoomFor store caller kept volatile → nat_lt (id_of volatile) 0x40000000 ≡ true → count_persistent store.keys < 512
   persistent_before true r t = absurd (of_persistent caller (made_of store caller) t)
   persistent_before false r t = r.1
 
@@ -245,7 +252,7 @@ module _ (store : Store) (caller : ℕ) (kept : Attributes) (bytes : List ℕ) (
 
   pub created_sound : IsSoundStore (created store caller kept bytes).store
   created_sound =
-      let none = no_key (is_volatile kept) room in
+      let none = new_is_free store caller kept h may.room in
       record {
         keys = λ q key e. new_or_old q key (q == id) refl (sym (put store.keys id new q) ∙ e);
         numbers = λ q r key same e f g. apart q r key same (q == id) (r == id) refl refl (sym (put store.keys id new q) ∙ e) (sym (put store.keys id new r) ∙ f) g;

@@ -66,7 +66,7 @@ untouched_sound service h = store_sound service (counted service.store) (counted
 failed_sound : (service : Service) (caller : ℕ) (request : Request) → IsSound service → FailedCases service caller request (λ served. IsSound served.service)
 failed_sound service caller request h = record {
   counted_too = λ reply quiet. untouched_sound service h;
-  destroyed_too = λ reply quiet id changes. store_sound service (destroyed service.store id).store (destroyed_follows service.store id) (destroyed_sound service.store id h.store) h;
+  destroyed_too = λ reply quiet id is. store_sound service (destroyed service.store id).store (destroyed_follows service.store id) (destroyed_sound service.store id h.store) h;
   lost_too = λ reply quiet handle on. set_sound service (counted service.store) caller handle InError _ refl (counted_follows service.store) (counted_sound service.store h.store) h tt;
 }
 
@@ -86,10 +86,10 @@ stays service caller (OnStore call) mark first last h = on_store_shape service c
   counted_too = λ reply drawn is. kept_sound service (counted service.store) caller drawn (counted_follows service.store) (counted_sound service.store h.store) h;
   created_too = λ kept bytes drawn changes made. kept_sound service (created service.store caller kept bytes).store caller drawn (created_follows service.store caller kept bytes)
       (created_sound service.store caller kept bytes first last h.store made.may) h;
-  destroyed_too = λ id changes. kept_sound service (destroyed service.store id).store caller 0 (destroyed_follows service.store id) (destroyed_sound service.store id h.store) h;
+  destroyed_too = λ id is. kept_sound service (destroyed service.store id).store caller 0 (destroyed_follows service.store id) (destroyed_sound service.store id h.store) h;
 }) (failed_sound service caller (OnStore call) h)
 stays service caller (OnHandle handle call) mark first last h = on_handle_shape service caller handle call mark (λ served. IsSound served.service) (record {
-  untouched_too = λ status may. untouched_sound service h;
+  untouched_too = λ may. untouched_sound service h;
   applied_too = λ after step. set_sound service (counted service.store) caller handle after.operation _ refl (counted_follows service.store) (counted_sound service.store h.store) h
       (step.sound h.store (h.operations caller handle));
   created_too = λ changes key w n kept made. derived_sound service caller handle key w n kept first last h made;

@@ -1,29 +1,34 @@
 -- What a step of a family makes of a handle's operation.
-use Rattle.std.proofs.Common.{◌≡◌, ℕ, ◌≤◌, Bool, true, false, cond, List, refl, sym, arith}
-use Rattle.std.specs.Prelude.{Option, None, Some}
+use Rattle.std.proofs.Common.{◌≡◌, ℕ, ◌≤◌, Bool, true, false, not, cond, List, [], ◌∷◌, ◌++◌, length, refl, sym, ap, arith}
+use Rattle.std.specs.Prelude.{Option, None, Some, bytes_eq}
 use Rattle.psa_status.specs.declared.Status.{Status}
-use Rattle.psa_status.specs.declared.Status.TheVariants.{Success, InvalidHandle, InvalidPadding}
+use Rattle.psa_status.specs.declared.Status.TheVariants.{Success, InvalidHandle, InvalidPadding, InvalidSignature}
 use Rattle.store_model.specs.Store.{Store}
 use Rattle.store_model.specs.Call.{Reply}
 use Rattle.store_model.specs.Outcome.{given, done}
+use Rattle.store_model.specs.Faults.{is_of_fault}
+use Rattle.store_model.specs.Algorithms.{hash_of, hash_length_of, tag_bytes}
+use Rattle.store_model.specs.Rules.{room_rows}
 use Rattle.store_model.specs.Operations.{InError, Active, After, fails, ends, goes_on, unless_failed, with_live_key}
-use Rattle.store_model.specs.HashOperations.{HashWork, HashStep, HashUpdate, HashFinish, HashVerify, hash_step}
-use Rattle.store_model.specs.MacOperations.{MacWork, MacStep, MacUpdate, MacSignFinish, MacVerifyFinish, mac_step}
-use Rattle.store_model.specs.CipherOperations.{CipherWork, CipherStep, CipherGenerateIv, CipherSetIv, CipherUpdate, CipherFinish, cipher_step, last_part, last_length, whole_text}
+use Rattle.store_model.specs.HashOperations.{HashWork, HashStep, HashUpdate, HashFinish, HashVerify, hash_step, total_rows}
+use Rattle.store_model.specs.MacOperations.{MacWork, MacStep, MacUpdate, MacSignFinish, MacVerifyFinish, mac_step, sign_rows, verify_rows}
+use Rattle.store_model.specs.CipherOperations.{CipherWork, CipherStep, CipherGenerateIv, CipherSetIv, CipherUpdate, CipherFinish, cipher_step, generate_iv_rows, set_iv_rows, cipher_update_rows, cipher_finish_rows, last_part, last_length, whole_text}
 use Rattle.store_model.specs.Ciphers.{mode_of}
 use Rattle.store_model.specs.DerivationOperations.{DerivationWork}
-use Rattle.store_model.specs.AeadOperations.{AeadWork, AeadStep, AeadGenerateNonce, AeadSetNonce, AeadSetLengths, AeadUpdateAd, AeadUpdate, AeadFinish, AeadVerify, aead_step, nonce_length}
+use Rattle.store_model.specs.AeadOperations.{AeadWork, AeadStep, AeadGenerateNonce, AeadSetNonce, AeadSetLengths, AeadUpdateAd, AeadUpdate, AeadFinish, AeadVerify, aead_step, generate_nonce_rows, set_nonce_rows, set_lengths_rows, update_ad_rows, aead_update_rows, whole_rows, work_tag, nonce_length}
 use Rattle.store_model.specs.Handles.{KeyCreation, Work, Hashing, Authenticating, Ciphering, Sealing, Deriving, Held, HandleOperation, held_after}
 use Rattle.store_model.specs.HandleCalls.{HandleCall, OnHash, OnMac, OnCipher, OnAead}
 use Rattle.store_model.specs.Refusals.{left_by}
 use Rattle.store_model.proofs.Buffers.{LeavesBuffer, refusal_leaves, spoiled_leaves}
 use Rattle.store_model.specs.Sound.{IsSoundStore, IsSoundWork, IsSoundOperation}
+use Rattle.store_model.proofs.Tables.{NoFault, RefusesPlainly, refuses_plainly}
 use Rattle.store_model.proofs.StoreShape.{MakesNone}
 
 -- what a call on a handle makes of its operation, where it creates no key
 pub record IsStep (call : HandleCall) (store : Store) (before : HandleOperation) (after : After Held) : Type 0 where
   pub few : after.drawn ≤ 16
   pub undrawn : (after.reply.status ≡ Success → ⊥) → after.drawn ≡ 0
+  pub plain : NoFault after.reply.status
   pub left : (after.reply.status ≡ Success → ⊥) → after.operation ≡ left_by call before after.reply.status
   pub no_key : MakesNone after.reply
   pub buffer : LeavesBuffer after.reply
@@ -41,25 +46,26 @@ abbrev pub Loses : HandleCall → HandleOperation → Status → Type 0
 Loses call before status = left_by call before status ≡ InError
 
 module _ {W : Type 0} {call : HandleCall} (store : Store) (key : Option KeyCreation) (embed : W → Work) where
-  pub fails_step : (before : HandleOperation) (status : Status) → Loses call before status → IsStep call store before (held_after key embed (fails status))
-  fails_step before status lost = record {
+  pub fails_step : (before : HandleOperation) (status : Status) → NoFault status → Loses call before status → IsStep call store before (held_after key embed (fails status))
+  fails_step before status plain lost = record {
     few = omega arith;
     undrawn = λ no. refl;
+    plain = plain;
     left = λ no. sym lost;
     no_key = λ after. refl;
     buffer = refusal_leaves status;
     sound = λ s h. tt;
   }
 
-  pub unless_step : (before : HandleOperation) (o : Option Status) (after : After W) → ((status : Status) → o ≡ Some status → Loses call before status) →
+  pub unless_step : (before : HandleOperation) (o : Option Status) (after : After W) → RefusesPlainly o → ((status : Status) → o ≡ Some status → Loses call before status) →
       (o ≡ None → IsStep call store before (held_after key embed after)) → IsStep call store before (held_after key embed (unless_failed o after))
-  unless_step before None after lost h = h refl
-  unless_step before (Some status) after lost h = fails_step before status (lost status refl)
+  unless_step before None after plain lost h = h refl
+  unless_step before (Some status) after plain lost h = fails_step before status (plain status refl) (lost status refl)
 
   pub alive_step : (before : HandleOperation) (b : Bool) (after : After W) → Loses call before InvalidHandle → IsStep call store before (held_after key embed after) →
       IsStep call store before (held_after key embed (with_live_key b after))
   alive_step before true after lost h = h
-  alive_step before false after lost h = fails_step before InvalidHandle lost
+  alive_step before false after lost h = fails_step before InvalidHandle refl lost
 
   -- a success with which the operation goes on
   pub draws_step : (w next : W) (reply : Reply) (n : ℕ) → n ≤ 16 → reply.status ≡ Success → MakesNone reply → (IsSoundWork (embed w) → IsSoundWork (embed next)) →
@@ -67,6 +73,7 @@ module _ {W : Type 0} {call : HandleCall} (store : Store) (key : Option KeyCreat
   draws_step w next reply n few success none sound = record {
     few = few;
     undrawn = λ no. absurd (no success);
+    plain = ap is_of_fault success;
     left = λ no. absurd (no success);
     no_key = none;
     buffer = λ no. absurd (no success);
@@ -82,6 +89,7 @@ module _ {W : Type 0} {call : HandleCall} (store : Store) (key : Option KeyCreat
   ends_step before reply success none = record {
     few = omega arith;
     undrawn = λ no. absurd (no success);
+    plain = ap is_of_fault success;
     left = λ no. absurd (no success);
     no_key = none;
     buffer = λ no. absurd (no success);
@@ -96,20 +104,21 @@ short_nonce false false false = omega arith
 
 module _ (store : Store) (key : Option KeyCreation) where
   pub hash_is_step : (w : HashWork) (step : HashStep) → IsStep (OnHash step) store (begun key Hashing w) (held_after key Hashing (hash_step w step))
-  hash_is_step w (HashUpdate input) = unless_step store key Hashing _ _ _ (λ status refused. refl) (λ e. goes_step store key Hashing w _ done refl (λ a. refl) (λ h. tt))
-  hash_is_step w (HashFinish room) = unless_step store key Hashing _ _ _ (λ status refused. refl) (λ e. ends_step store key Hashing _ (given _) refl (λ a. refl))
-  hash_is_step w (HashVerify hash) = unless_step store key Hashing _ _ _ (λ status refused. refl) (λ e. ends_step store key Hashing _ done refl (λ a. refl))
+  hash_is_step w (HashUpdate input) = unless_step store key Hashing _ _ _ (refuses_plainly (total_rows (length w.message) (length input)) refl) (λ status refused. refl) (λ e. goes_step store key Hashing w _ done refl (λ a. refl) (λ h. tt))
+  hash_is_step w (HashFinish room) = unless_step store key Hashing _ _ _ (refuses_plainly (room_rows (hash_length_of w.alg) room) refl) (λ status refused. refl) (λ e. ends_step store key Hashing _ (given _) refl (λ a. refl))
+  hash_is_step w (HashVerify hash) = unless_step store key Hashing _ _ _ (refuses_plainly ((not (bytes_eq hash (hash_of w.alg w.message)), InvalidSignature) ∷ []) refl) (λ status refused. refl) (λ e. ends_step store key Hashing _ done refl (λ a. refl))
 
   pub mac_is_step : (w : MacWork) (step : MacStep) → IsStep (OnMac step) store (begun key Authenticating w) (held_after key Authenticating (mac_step w step))
-  mac_is_step w (MacUpdate input) = unless_step store key Authenticating _ _ _ (λ status refused. refl) (λ e. goes_step store key Authenticating w _ done refl (λ a. refl) (λ h. tt))
-  mac_is_step w (MacSignFinish room) = unless_step store key Authenticating _ _ _ (λ status refused. refl) (λ e. ends_step store key Authenticating _ (given _) refl (λ a. refl))
-  mac_is_step w (MacVerifyFinish mac) = unless_step store key Authenticating _ _ _ (λ status refused. refl) (λ e. ends_step store key Authenticating _ done refl (λ a. refl))
+  mac_is_step w (MacUpdate input) = unless_step store key Authenticating _ _ _ (refuses_plainly (total_rows (length w.message) (length input)) refl) (λ status refused. refl) (λ e. goes_step store key Authenticating w _ done refl (λ a. refl) (λ h. tt))
+  mac_is_step w (MacSignFinish room) = unless_step store key Authenticating _ _ _ (refuses_plainly (sign_rows w room) refl) (λ status refused. refl) (λ e. ends_step store key Authenticating _ (given _) refl (λ a. refl))
+  mac_is_step w (MacVerifyFinish mac) = unless_step store key Authenticating _ _ _ (refuses_plainly (verify_rows w mac) refl) (λ status refused. refl) (λ e. ends_step store key Authenticating _ done refl (λ a. refl))
 
   last_is_step : (w : CipherWork) (room : ℕ) (o : Option (List ℕ)) → IsStep (OnCipher (CipherFinish room)) store (begun key Ciphering w) (held_after key Ciphering (last_part w o))
   last_is_step w room (Some text) = ends_step store key Ciphering _ _ refl (λ a. refl)
   last_is_step w room None = record {
     few = omega arith;
     undrawn = λ no. refl;
+    plain = refl;
     left = λ no. refl;
     no_key = λ a. refl;
     buffer = spoiled_leaves InvalidPadding (last_length (mode_of w.alg)) refl;
@@ -118,17 +127,17 @@ module _ (store : Store) (key : Option KeyCreation) where
 
   pub cipher_is_step : (random : List ℕ) (w : CipherWork) (step : CipherStep) → IsStep (OnCipher step) store (begun key Ciphering w) (held_after key Ciphering (cipher_step random w step))
   cipher_is_step random w (CipherGenerateIv room) =
-      unless_step store key Ciphering _ _ _ (λ status refused. refl) (λ e. draws_step store key Ciphering w _ (given random) 16 (omega arith) refl (λ a. refl) (λ h. tt))
-  cipher_is_step random w (CipherSetIv iv) = unless_step store key Ciphering _ _ _ (λ status refused. refl) (λ e. goes_step store key Ciphering w _ done refl (λ a. refl) (λ h. tt))
-  cipher_is_step random w (CipherUpdate input room) = unless_step store key Ciphering _ _ _ (λ status refused. refl) (λ e. goes_step store key Ciphering w _ (given _) refl (λ a. refl) (λ h. tt))
-  cipher_is_step random w (CipherFinish room) = unless_step store key Ciphering _ _ _ (λ status refused. refl) (λ e. last_is_step w room (whole_text w))
+      unless_step store key Ciphering _ _ _ (refuses_plainly (generate_iv_rows w room) refl) (λ status refused. refl) (λ e. draws_step store key Ciphering w _ (given random) 16 (omega arith) refl (λ a. refl) (λ h. tt))
+  cipher_is_step random w (CipherSetIv iv) = unless_step store key Ciphering _ _ _ (refuses_plainly (set_iv_rows w iv) refl) (λ status refused. refl) (λ e. goes_step store key Ciphering w _ done refl (λ a. refl) (λ h. tt))
+  cipher_is_step random w (CipherUpdate input room) = unless_step store key Ciphering _ _ _ (refuses_plainly (cipher_update_rows w input room) refl) (λ status refused. refl) (λ e. goes_step store key Ciphering w _ (given _) refl (λ a. refl) (λ h. tt))
+  cipher_is_step random w (CipherFinish room) = unless_step store key Ciphering _ _ _ (refuses_plainly (cipher_finish_rows w room) refl) (λ status refused. refl) (λ e. last_is_step w room (whole_text w))
 
   pub aead_is_step : (random : List ℕ) (w : AeadWork) (step : AeadStep) → IsStep (OnAead step) store (begun key Sealing w) (held_after key Sealing (aead_step random w step))
   aead_is_step random w (AeadGenerateNonce room) =
-      unless_step store key Sealing _ _ _ (λ status refused. refl) (λ e. draws_step store key Sealing w _ (given _) (nonce_length w) (short_nonce _ _ _) refl (λ a. refl) (λ h. tt))
-  aead_is_step random w (AeadSetNonce nonce) = unless_step store key Sealing _ _ _ (λ status refused. refl) (λ e. goes_step store key Sealing w _ done refl (λ a. refl) (λ h. tt))
-  aead_is_step random w (AeadSetLengths ad payload) = unless_step store key Sealing _ _ _ (λ status refused. refl) (λ e. goes_step store key Sealing w _ done refl (λ a. refl) (λ h. tt))
-  aead_is_step random w (AeadUpdateAd input) = unless_step store key Sealing _ _ _ (λ status refused. refl) (λ e. goes_step store key Sealing w _ done refl (λ a. refl) (λ h. tt))
-  aead_is_step random w (AeadUpdate input room) = unless_step store key Sealing _ _ _ (λ status refused. refl) (λ e. goes_step store key Sealing w _ (given _) refl (λ a. refl) (λ h. tt))
-  aead_is_step random w (AeadFinish room) = unless_step store key Sealing _ _ _ (λ status refused. refl) (λ e. ends_step store key Sealing _ (given _) refl (λ a. refl))
-  aead_is_step random w (AeadVerify tag) = unless_step store key Sealing _ _ _ (λ status refused. refl) (λ e. ends_step store key Sealing _ done refl (λ a. refl))
+      unless_step store key Sealing _ _ _ (refuses_plainly (generate_nonce_rows w room) refl) (λ status refused. refl) (λ e. draws_step store key Sealing w _ (given _) (nonce_length w) (short_nonce _ _ _) refl (λ a. refl) (λ h. tt))
+  aead_is_step random w (AeadSetNonce nonce) = unless_step store key Sealing _ _ _ (refuses_plainly (set_nonce_rows w nonce) refl) (λ status refused. refl) (λ e. goes_step store key Sealing w _ done refl (λ a. refl) (λ h. tt))
+  aead_is_step random w (AeadSetLengths ad payload) = unless_step store key Sealing _ _ _ (refuses_plainly (set_lengths_rows w ad payload) refl) (λ status refused. refl) (λ e. goes_step store key Sealing w _ done refl (λ a. refl) (λ h. tt))
+  aead_is_step random w (AeadUpdateAd input) = unless_step store key Sealing _ _ _ (refuses_plainly (update_ad_rows w input) refl) (λ status refused. refl) (λ e. goes_step store key Sealing w _ done refl (λ a. refl) (λ h. tt))
+  aead_is_step random w (AeadUpdate input room) = unless_step store key Sealing _ _ _ (refuses_plainly (aead_update_rows w input room) refl) (λ status refused. refl) (λ e. goes_step store key Sealing w _ (given _) refl (λ a. refl) (λ h. tt))
+  aead_is_step random w (AeadFinish room) = unless_step store key Sealing _ _ _ (refuses_plainly (whole_rows w w.encrypts ++ room_rows (tag_bytes w.alg) room) refl) (λ status refused. refl) (λ e. ends_step store key Sealing _ (given _) refl (λ a. refl))
+  aead_is_step random w (AeadVerify tag) = unless_step store key Sealing _ _ _ (refuses_plainly (whole_rows w (not w.encrypts) ++ (not (bytes_eq tag (work_tag w)), InvalidSignature) ∷ []) refl) (λ status refused. refl) (λ e. ends_step store key Sealing _ done refl (λ a. refl))

@@ -1,8 +1,9 @@
 -- Tables of refusals of which no row holds.
-use Rattle.std.proofs.Common.{◌≡◌, ℕ, zero, suc, Bool, true, false, cond, [], ◌∷◌, refl, subst}
+use Rattle.std.proofs.Common.{◌≡◌, ℕ, zero, suc, Bool, true, false, cond, not, ◌&&◌, [], ◌∷◌, refl, subst}
 use Rattle.std.specs.Prelude.{Option, Some, None}
 use Rattle.psa_status.specs.declared.Status.{Status}
 use Rattle.psa_status.specs.Rows.{Rows, first_row}
+use Rattle.store_model.specs.Faults.{is_of_fault}
 
 -- whether a row of a table holds
 abbrev pub holds_at : Rows → ℕ → Bool
@@ -36,3 +37,29 @@ one_or_later P false s o here later status e = later status e
 pub refused_by : (P : Status → Type 0) (rows : Rows) → AllRows P rows → (status : Status) → first_row rows ≡ Some status → P status
 refused_by P [] all status e = cc
 refused_by P (row ∷ rows) all status e = one_or_later P row.0 row.1 (first_row rows) all.0 (refused_by P rows all.1) status e
+
+-- STATUSES OF FAILED DEVICES
+
+-- a status that no failed device gives
+abbrev pub NoFault : Status → Type 0
+NoFault status = is_of_fault status ≡ false
+
+-- whether no row has the status of a failed device
+abbrev pub has_no_fault : Rows → Bool
+has_no_fault [] = true
+has_no_fault (row ∷ rows) = not (is_of_fault row.1) && has_no_fault rows
+
+both : (b c : Bool) → (not b && c) ≡ true → (b ≡ false) × (c ≡ true)
+both true c h = cc
+both false c h = (refl, h)
+
+no_fault_rows : (rows : Rows) → has_no_fault rows ≡ true → AllRows NoFault rows
+no_fault_rows [] h = tt
+no_fault_rows (row ∷ rows) h = let one = both (is_of_fault row.1) (has_no_fault rows) h in (λ on. one.0, no_fault_rows rows one.1)
+
+-- a refusal, where there is one, isn't that of a failed device
+abbrev pub RefusesPlainly : Option Status → Type 0
+RefusesPlainly o = (status : Status) → o ≡ Some status → NoFault status
+
+pub refuses_plainly : (rows : Rows) → has_no_fault rows ≡ true → RefusesPlainly (first_row rows)
+refuses_plainly rows h = refused_by NoFault rows (no_fault_rows rows h)

@@ -1,5 +1,6 @@
 -- What is noted of a call in whose turn a device failed.
-use Rattle.std.specs.Prelude.{Bool}
+use Rattle.std.specs.Prelude.{Bool, true, false}
+use Rattle.psa_status.specs.declared.Status.{Status}
 use Rattle.psa_status.specs.declared.Status.TheVariants.{StorageFailure, HardwareFailure, DataCorrupt}
 use Rattle.store_model.specs.Call.{Reply}
 use Rattle.store_model.specs.Outcome.{refusal, spoiled}
@@ -24,3 +25,10 @@ marked_reply Plain reply = reply
 marked_reply (Storage access) reply = refusal StorageFailure
 marked_reply Hardware reply = spoiled HardwareFailure reply.needed
 marked_reply Corrupt reply = refusal DataCorrupt
+
+-- the statuses of failed devices
+abbrev pub is_of_fault : Status → Bool
+is_of_fault StorageFailure = true
+is_of_fault HardwareFailure = true
+is_of_fault DataCorrupt = true
+is_of_fault _ = false

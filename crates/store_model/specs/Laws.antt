@@ -1,9 +1,11 @@
 -- Laws of every request.
-use Rattle.std.specs.Prelude.{◌≡◌, ◌≤◌, ◌+◌, ℕ, Bool, false, true, Option, None, Some, List, [], ◌∷◌, ◌++◌, replicate, drop, if◌then◌else◌}
+use Rattle.std.specs.Prelude.{◌≡◌, ◌≤◌, ◌↔◌, ◌⊎◌, ◌+◌, ℕ, Bool, false, true, Option, None, Some, Ok, List, [], ◌∷◌, ◌++◌, replicate, drop, if◌then◌else◌}
+use Rattle.std.specs.FinMap as map
 use Rattle.psa_status.specs.declared.Status.{Status}
 use Rattle.psa_status.specs.declared.Status.TheVariants.{Success, BadState}
-use Rattle.store_model.specs.Store.{Store, made_of}
-use Rattle.store_model.specs.Faults.{FaultMark, Plain}
+use Rattle.policy_rules.specs.Narrow.{after_rules}
+use Rattle.store_model.specs.Store.{Key, Store, made_of}
+use Rattle.store_model.specs.Faults.{FaultMark, Plain, is_of_fault}
 use Rattle.store_model.specs.Outcome.{counted}
 use Rattle.store_model.specs.Handles.{HandleOperation, Service, Served, own_of, operation_of, with_own, with_operation, untouched}
 use Rattle.store_model.specs.Call.{Import, Destroy, Copy, Generate, Reply, buffer_after}
@@ -97,6 +99,18 @@ LeavesSettings =
     (service : Service) (caller : ℕ) (request : Request) (mark : FaultMark) →
     let after : Store = (serve service caller request mark).service.store in
     (after.settings ≡ service.store.settings) × (after.found ≡ service.store.found)
+
+-- each key after a request was there before it, or the rules, applied once more, neither refuse it nor change it
+abbrev pub RulesAreFollowed : Type 0
+RulesAreFollowed =
+    (service : Service) (caller : ℕ) (request : Request) (mark : FaultMark) (id : ℕ) (key : Key) → map.get (serve service caller request mark).service.store.keys id ≡ Some key →
+    (map.get service.store.keys id ≡ Some key) ⊎ (after_rules service.store.settings.labels key.attributes ≡ Ok key.attributes)
+
+-- a request answers the status of a failed device exactly where its mark says that one failed
+abbrev pub MarksAlone : Type 0
+MarksAlone =
+    (service : Service) (caller : ℕ) (request : Request) (mark : FaultMark) →
+    (is_of_fault (serve service caller request mark).reply.status ≡ true) ↔ (mark ≡ Plain → ⊥)
 
 -- a history whose marks are caused, or allowed, goes on so with one more entry whose mark is
 abbrev pub CausesGoOn : Type 0

@@ -1,5 +1,5 @@
 -- What holds of each service that requests lead to.
-use Rattle.std.specs.Prelude.{◌≡◌, ◌≤◌, ◌<◌, ◌↔◌, ℕ, ◌+◌, ◌^◌, ◌==◌, true, false, List, [], ◌∷◌, length, find, Option, None, Some, is_some, Ok, if◌then◌else◌}
+use Rattle.std.specs.Prelude.{◌≡◌, ◌≤◌, ◌<◌, ◌↔◌, ◌⊎◌, ℕ, ◌+◌, ◌^◌, ◌==◌, true, false, List, [], ◌∷◌, length, find, Option, None, Some, is_some, Ok, if◌then◌else◌}
 use Rattle.std.specs.FinMap as map
 use Rattle.key_attributes.specs.declared.Attributes.{Attributes}
 use Rattle.key_attributes.specs.Checks.{checked}
@@ -9,7 +9,8 @@ use Rattle.store_model.specs.Creation.{identified}
 use Rattle.store_model.specs.Operations.{Active}
 use Rattle.store_model.specs.DerivationOperations.{DerivationWork, full_capacity, is_hkdf}
 use Rattle.store_model.specs.Handles.{KeyCreation, Work, Deriving, Held, HandleOperation, Service, handle_count, service_start, own_of, operation_of, key_of_operation, is_alive}
-use Rattle.store_model.specs.Requests.{Request, serve}
+use Rattle.store_model.specs.Call.{Destroy}
+use Rattle.store_model.specs.Requests.{Request, OnStore, serve}
 
 -- THE STORE
 
@@ -99,6 +100,13 @@ abbrev pub StaysSound : Type 0
 StaysSound =
     (service : Service) (caller : ℕ) (request : Request) (mark : FaultMark) → 1 ≤ caller → caller ≤ caller_count → IsSound service →
     IsSound (serve service caller request mark).service
+
+-- a key stays as it is until a call destroys it, and then none has its identifier: no creation, and no rule, changes one
+abbrev pub KeysStay : Type 0
+KeysStay =
+    (service : Service) (caller : ℕ) (request : Request) (mark : FaultMark) (id : ℕ) (key : Key) → IsSound service → map.get service.store.keys id ≡ Some key →
+    let after : Store = (serve service caller request mark).service.store in
+    (map.get after.keys id ≡ Some key) ⊎ ((request ≡ OnStore (Destroy id)) × (map.get after.keys id ≡ None))
 
 -- some key has this creation number
 abbrev pub HasNumber : Store → ℕ → Type 0

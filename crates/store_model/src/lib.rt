@@ -1,9 +1,9 @@
 //! The one-thread key store, its calls and its replies: definitions, which stand in `specs/`, and laws of them.
 #![tactic(auto)]
 
-ghost use Rattle.store_model.specs.Laws.{AllowedGoOn, CausesGoOn, CountsOnce, DrawsFewWords, LeavesOtherCallers, LeavesOtherHandles, LeavesSettings, LeavesShared, RefusalsLeaveAll, RefusalsLeaveBuffers, RefusedSetupsLeaveAll, UnreadyHandlesStay};
+ghost use Rattle.store_model.specs.Laws.{AllowedGoOn, CausesGoOn, CountsOnce, DrawsFewWords, LeavesOtherCallers, LeavesOtherHandles, LeavesSettings, LeavesShared, MarksAlone, RefusalsLeaveAll, RefusalsLeaveBuffers, RefusedSetupsLeaveAll, RulesAreFollowed, UnreadyHandlesStay};
 ghost use Rattle.store_model.specs.Origin.{CopiesGainNothing, NoneFoundAtStart};
-ghost use Rattle.store_model.specs.Sound.{AliveByNumber, StartsSound, StaysSound};
+ghost use Rattle.store_model.specs.Sound.{AliveByNumber, KeysStay, StartsSound, StaysSound};
 
 /// A request of one caller leaves what is every other caller's own.
 pub fn leaves_other_callers()
@@ -43,6 +43,24 @@ pub fn refusals_leave_all()
 pub fn stays_sound()
     ensures starts { StartsSound }
     ensures stays { StaysSound }
+{}
+
+/// A key of a sound service stays as it is until a call destroys it: no creation replaces a key, and no rule narrows one that
+/// is there.
+pub fn keys_stay()
+    ensures { KeysStay }
+{}
+
+/// What a request creates obeys each rule of the settings: applied once more, in their order, the rules would neither refuse
+/// it nor change it.
+pub fn rules_are_followed()
+    ensures { RulesAreFollowed }
+{}
+
+/// STORAGE_FAILURE, HARDWARE_FAILURE and DATA_CORRUPT come of marks alone: a request answers one of them exactly where its
+/// mark says that a device failed.
+pub fn marks_alone()
+    ensures { MarksAlone }
 {}
 
 /// The key that an operation was given is still there exactly where some key has its creation number.

@@ -1,0 +1,117 @@
+-- The keys after a request: each stays until it is destroyed, and each new one obeys the rules.
+use Rattle.std.proofs.Common.{◌≡◌, ℕ, Bool, true, false, cond, List, refl, sym, ap, ◌∙◌, subst, arith, ◌⊎◌, inl, inr}
+use Rattle.std.specs.Prelude.{Option, None, Some, Ok, ◌==◌}
+use Rattle.std.specs.FinMap as map
+use Rattle.std.proofs.lemmas.Bool.Decides.{nat_tests}
+use Rattle.psa_status.specs.Rows.{first_row}
+use Rattle.key_attributes.specs.declared.Attributes.{Attributes}
+use Rattle.policy_rules.specs.Narrow.{after_rules}
+use Rattle.store_model.specs.Store.{Key, Store}
+use Rattle.store_model.specs.Call.{Destroy}
+use Rattle.store_model.specs.Creation.{created, identified, new_id, new_key, room_for_key_rows}
+use Rattle.store_model.specs.KeyUse.{destroyed}
+use Rattle.store_model.specs.DerivationOperations.{next_derived}
+use Rattle.store_model.specs.Handles.{Service, Served}
+use Rattle.store_model.specs.Requests.{Request, OnStore, OnHandle}
+use Rattle.store_model.specs.Sound.{IsSoundStore, KeysStay}
+use Rattle.store_model.specs.Laws.{RulesAreFollowed}
+use Rattle.store_model.proofs.Obeyed.{AreObeyed, obeyed_again, identified_obeyed}
+use Rattle.store_model.proofs.Sound.{put, taken, left, new_is_free}
+use Rattle.store_model.proofs.Served.{FailedCases, on_store_shape, on_handle_shape}
+
+-- EACH STAYS
+
+-- a key is still what the map has, or the request was its destruction, and the map has none
+abbrev StaysIn : Request → ℕ → Key → Option Key → Type 0
+StaysIn request q key now = (now ≡ Some key) ⊎ ((request ≡ OnStore (Destroy q)) × (now ≡ None))
+
+beside_new : (store : Store) (id q : ℕ) (new key : Key) (b : Bool) → (q == id) ≡ b → map.get store.keys id ≡ None → map.get store.keys q ≡ Some key → cond b (Some new) (map.get store.keys q) ≡ Some key
+beside_new store id q new key true t free e =
+    let at : id ≡ q = grind (arith, nat_tests) in
+    let clash = sym e ∙ ap (map.get store.keys) (sym at) ∙ free in
+    cc
+beside_new store id q new key false t free e = e
+
+stays_created : (store : Store) (caller : ℕ) (kept : Attributes) (bytes : List ℕ) (q : ℕ) (key : Key) → IsSoundStore store → first_row (room_for_key_rows store caller kept) ≡ None →
+    map.get store.keys q ≡ Some key → map.get (created store caller kept bytes).store.keys q ≡ Some key
+stays_created store caller kept bytes q key sound room e =
+    let id : ℕ = new_id store caller kept in
+    let new : Key = new_key store caller id kept bytes in
+    put store.keys id new q ∙ beside_new store id q new key (q == id) refl (new_is_free store caller kept sound room) e
+
+beside_destroyed : (request : Request) (id q : ℕ) (key : Key) (there : Option Key) (b : Bool) → (q == id) ≡ b → request ≡ OnStore (Destroy id) → there ≡ Some key → StaysIn request q key (cond b None there)
+beside_destroyed request id q key there true t is e = let at : id ≡ q = grind (arith, nat_tests) in inr (is ∙ ap (λ (n : ℕ). OnStore (Destroy n)) at, refl)
+beside_destroyed request id q key there false t is e = inl e
+
+stays_destroyed : (store : Store) (request : Request) (id q : ℕ) (key : Key) → request ≡ OnStore (Destroy id) → map.get store.keys q ≡ Some key →
+    StaysIn request q key (map.get (destroyed store id).store.keys q)
+stays_destroyed store request id q key is e =
+    subst (StaysIn request q key) (sym (taken store.keys id q)) (beside_destroyed request id q key (map.get store.keys q) (q == id) refl is e)
+
+abbrev StaysServed : Request → ℕ → Key → Served → Type 0
+StaysServed request q key served = StaysIn request q key (map.get served.service.store.keys q)
+
+failed_stays : (service : Service) (caller : ℕ) (request : Request) (q : ℕ) (key : Key) → map.get service.store.keys q ≡ Some key → FailedCases service caller request (StaysServed request q key)
+failed_stays service caller request q key e = record {
+  counted_too = λ reply quiet. inl e;
+  destroyed_too = λ reply quiet id is. stays_destroyed service.store request id q key is e;
+  lost_too = λ reply quiet handle on. inl e;
+}
+
+pub keys_stay : KeysStay
+keys_stay service caller (OnStore call) mark q key sound e = on_store_shape service caller call mark (StaysServed (OnStore call) q key) (record {
+  counted_too = λ reply drawn is. inl e;
+  created_too = λ kept bytes drawn changes made. inl (stays_created service.store caller kept bytes q key sound.store made.may.room e);
+  destroyed_too = λ id is. stays_destroyed service.store (OnStore call) id q key is e;
+}) (failed_stays service caller (OnStore call) q key e)
+keys_stay service caller (OnHandle handle call) mark q key sound e = on_handle_shape service caller handle call mark (StaysServed (OnHandle handle call) q key) (record {
+  untouched_too = λ may. inl e;
+  applied_too = λ after step. inl e;
+  created_too = λ changes held w n kept made. inl (stays_created service.store caller kept (next_derived w n) q key sound.store made.may.room e);
+}) (failed_stays service caller (OnHandle handle call) q key e)
+
+-- NEW ONES OBEY
+
+-- what the map has is what it had, or obeys the rules
+abbrev ObeysOrWas : Store → ℕ → Key → Store → Type 0
+ObeysOrWas before q key after =
+    map.get after.keys q ≡ Some key → (map.get before.keys q ≡ Some key) ⊎ (after_rules before.settings.labels key.attributes ≡ Ok key.attributes)
+
+new_or_was : (store : Store) (kept : Attributes) (id q : ℕ) (new key : Key) → new.attributes ≡ identified kept id → AreObeyed store.settings.labels kept → (b : Bool) → cond b (Some new) (map.get store.keys q) ≡ Some key →
+    (map.get store.keys q ≡ Some key) ⊎ (after_rules store.settings.labels key.attributes ≡ Ok key.attributes)
+new_or_was store kept id q new key same obeyed true e =
+    let is : new ≡ key = cc in
+    let labels = store.settings.labels in
+    inr (subst (λ (a : Attributes). after_rules labels a ≡ Ok a) (sym same ∙ ap (λ (k : Key). k.attributes) is) (obeyed_again labels (identified kept id) (identified_obeyed labels kept id obeyed)))
+new_or_was store kept id q new key same obeyed false e = inl e
+
+created_obeys : (store : Store) (caller : ℕ) (kept : Attributes) (bytes : List ℕ) (q : ℕ) (key : Key) → AreObeyed store.settings.labels kept → ObeysOrWas store q key (created store caller kept bytes).store
+created_obeys store caller kept bytes q key obeyed e =
+    let id : ℕ = new_id store caller kept in
+    let new : Key = new_key store caller id kept bytes in
+    new_or_was store kept id q new key refl obeyed (q == id) (sym (put store.keys id new q) ∙ e)
+
+destroyed_was : (store : Store) (id q : ℕ) (key : Key) → ObeysOrWas store q key (destroyed store id).store
+destroyed_was store id q key e = inl (left (q == id) _ key (sym (taken store.keys id q) ∙ e))
+
+abbrev ObeysServed : Service → ℕ → Key → Served → Type 0
+ObeysServed service q key served = ObeysOrWas service.store q key served.service.store
+
+failed_was : (service : Service) (caller : ℕ) (request : Request) (q : ℕ) (key : Key) → FailedCases service caller request (ObeysServed service q key)
+failed_was service caller request q key = record {
+  counted_too = λ reply quiet e. inl e;
+  destroyed_too = λ reply quiet id is. destroyed_was service.store id q key;
+  lost_too = λ reply quiet handle on e. inl e;
+}
+
+pub rules_followed : RulesAreFollowed
+rules_followed service caller (OnStore call) mark q key = on_store_shape service caller call mark (ObeysServed service q key) (record {
+  counted_too = λ reply drawn is e. inl e;
+  created_too = λ kept bytes drawn changes made. created_obeys service.store caller kept bytes q key made.may.rules;
+  destroyed_too = λ id is. destroyed_was service.store id q key;
+}) (failed_was service caller (OnStore call) q key)
+rules_followed service caller (OnHandle handle call) mark q key = on_handle_shape service caller handle call mark (ObeysServed service q key) (record {
+  untouched_too = λ may e. inl e;
+  applied_too = λ after step e. inl e;
+  created_too = λ changes held w n kept made. created_obeys service.store caller kept (next_derived w n) q key made.may.rules;
+}) (failed_was service caller (OnHandle handle call) q key)

@@ -1,0 +1,27 @@
+-- A request in whose turn no device failed answers no failed device's status.
+use Rattle.std.proofs.Common.{ℕ, refl, sym, ◌∙◌}
+use Rattle.store_model.specs.Faults.{Plain, Storage, Hardware, Corrupt}
+use Rattle.store_model.specs.Handles.{Service, own_of, next_random}
+use Rattle.store_model.specs.Requests.{Request, OnStore, OnHandle, plain_step}
+use Rattle.store_model.specs.Laws.{MarksAlone}
+use Rattle.store_model.proofs.DrawnBytes.{length-random}
+use Rattle.store_model.proofs.Tables.{NoFault}
+use Rattle.store_model.proofs.StoreShape.{store_shape}
+use Rattle.store_model.proofs.Shape.{shape}
+
+pub answers_plainly : (service : Service) (caller : ℕ) (request : Request) → NoFault (plain_step service caller request).reply.status
+answers_plainly service caller (OnStore call) =
+    store_shape service.store caller (next_random service caller) call (λ outcome. NoFault outcome.reply.status)
+    (λ n. length-random service.store.settings.seed caller (own_of service caller).drawn n) (record {
+      counted_too = λ reply drawn is. is.plain;
+      created_too = λ kept bytes drawn changes made. refl;
+      destroyed_too = λ id is. refl;
+    })
+answers_plainly service caller (OnHandle handle call) =
+    shape service caller handle call (λ served. NoFault served.reply.status) (record { untouched_too = λ may. refl; applied_too = λ after step. step.plain; created_too = λ changes key w n kept made. refl })
+
+pub marks_alone : MarksAlone
+marks_alone service caller request Plain = (λ told is. let clash = sym told ∙ answers_plainly service caller request in cc, λ no. absurd (no refl))
+marks_alone service caller request (Storage access) = (λ told is. cc, λ no. refl)
+marks_alone service caller request Hardware = (λ told is. cc, λ no. refl)
+marks_alone service caller request Corrupt = (λ told is. cc, λ no. refl)
