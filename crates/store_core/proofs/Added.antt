@@ -216,7 +216,7 @@ module _ (m : model.Store) (caller : ℕ) (recorded : Attributes) (bytes : List 
       number_in Unsure = 0
 
     -- an open cell is the new key's, or was there
-    IsOpenCell : (x q n : ℕ) → Type 0
+    abbrev IsOpenCell : (x q n : ℕ) → Type 0
     IsOpenCell x q n = ((x ≡ c) × (q ≡ recorded.id.0) × (n ≡ m.found + m.calls)) ⊎ ((x ≢ c) × (cell_slot slots x ≡ Open q n))
 
     open_cell : (x q n : ℕ) → cell_slot slots' x ≡ Open q n → IsOpenCell x q n

@@ -21,10 +21,10 @@ use Rattle.store_core.specs.declared.store.Store.{Store}
 use Rattle.store_core.specs.Durability.{Course, after, opened, course_of, doubt_after, durable_keys, FitsCourse}
 use Rattle.store_core.specs.Represents.{IsTold, IsDirectory, HoldsKeys, Opening}
 use Rattle.store_core.proofs.Histories.{replay_push, counts_push, told_before, course_service, course_push}
-use Rattle.store_core.proofs.Holding.{HoldsHere, StandsHere, IsTurn, counts_of, goes_on, left_alone}
+use Rattle.store_core.proofs.Holding.{HoldsHere, StandsHere, IsTurn, counts_of}
 
 -- what is told of one disk is told of another that tells as much
-retold : (old new : Option (List ℕ)) (start : Service) (h : List Entry) → is_some new ≡ is_some old → IsTold new start h → IsTold old start h
+pub retold : (old new : Option (List ℕ)) (start : Service) (h : List Entry) → is_some new ≡ is_some old → IsTold new start h → IsTold old start h
 retold old new start h same (inl tells) = inl (sym same ∙ tells)
 retold old new start h same (inr none) = inr none
 
@@ -55,8 +55,8 @@ module _ {D A C : Type 0} (told : D → Option (List ℕ)) (may_leave : D → Li
     pub may : (service : Service) → S service → m ≡ service.store → MayBeMarked service e.caller e.call mark
 
   module _ (only_now : (disk : D) (image : List ℕ) → left_since disk (moment disk) image → may_leave disk image)
-      (S : Service → Type 0) (old new : Store D A C) (start : Service) (opening : Opening) (h : List Entry) (all more : List Pairs) (e : Entry) (mark : FaultMark) (m' : model.Store)
-      (s : HoldsHere told may_leave moment left_since faults held hard locations labels (IsTold (told new.file.cells.disk) start (h ++ e ∷ [])) old start opening h all)
+      (S : Service → Type 0) (K : Type 0) (old new : Store D A C) (start : Service) (opening : Opening) (h : List Entry) (all more : List Pairs) (e : Entry) (mark : FaultMark) (m' : model.Store)
+      (s : HoldsHere told may_leave moment left_since faults held hard locations labels K old start opening h all) (know : IsTold (told new.file.cells.disk) start (h ++ e ∷ []) → K)
       (holds_before : IsTold (told new.file.cells.disk) start (h ++ e ∷ []) → S (replay start h)) (t : Turns S old new more e mark (last_counts opening.counts h) s.model m') where
     abbrev m : model.Store
     m = s.model
@@ -81,7 +81,7 @@ module _ {D A C : Type 0} (told : D → Option (List ℕ)) (may_leave : D → Li
 
     module _ (is : is_some (told now) ≡ true) where
       of_course : m ≡ course.service.store
-      of_course = s.replayed (inl is) ∙ ap (λ (x : Service). x.store) (sym (course_service start h))
+      of_course = s.replayed (know (inl is)) ∙ ap (λ (x : Service). x.store) (sym (course_service start h))
 
       before_course : S course.service
       before_course = subst S (sym (course_service start h)) (holds_before (inl is))
@@ -117,7 +117,7 @@ module _ {D A C : Type 0} (told : D → Option (List ℕ)) (may_leave : D → Li
         holds : HoldsHere told may_leave moment left_since faults held hard locations labels Known new start opening (h ++ e ∷ []) more
         holds = record {
           model = m';
-          replayed = λ k. t.becomes (replay start h) (holds_before k) (s.replayed k) ∙ ap (λ (x : Service). x.store) (sym (replay_push start h e));
+          replayed = λ k. t.becomes (replay start h) (holds_before k) (s.replayed (know k)) ∙ ap (λ (x : Service). x.store) (sym (replay_push start h e));
           sound = t.sound;
           labels_are = ap (λ (x : model.Settings). x.labels) t.settings ∙ (s.labels_are ∙ sym t.rules);
           locations_are = ap (λ (x : model.Settings). x.locations) t.settings ∙ (s.locations_are ∙ sym t.devices);
@@ -138,7 +138,7 @@ module _ {D A C : Type 0} (told : D → Option (List ℕ)) (may_leave : D → Li
               (within_here tells) (fits_now tells) is.done;
           caused = go_on (is_some (told now)) opening.counts h e (subst (λ b. IsCaused b opening.counts h) (sym t.tells) s.caused)
               (subst (HasFault (is_some (told now)) (last_counts opening.counts h) e) (sym is.marked) t.fault);
-          allowed = λ k. allowed_go_on start h e (s.allowed (before k)) (subst (MayBeMarked (replay start h) e.caller e.call) (sym is.marked) (t.may (replay start h) (holds_before k) (s.replayed k)));
+          allowed = λ k. allowed_go_on start h e (s.allowed (before k)) (subst (MayBeMarked (replay start h) e.caller e.call) (sym is.marked) (t.may (replay start h) (holds_before k) (s.replayed (know k))));
         }
 
   -- a turn of a store that stands for something, whatever the service before it is
@@ -148,7 +148,6 @@ module _ {D A C : Type 0} (told : D → Option (List ℕ)) (may_leave : D → Li
     pub turns_standing : Turns (λ service. ⊤) old new more e mark (counts_of (faults old.file.cells.disk) (hard old.devices)) s.holds.model m' →
         IsTurn told may_leave moment left_since faults held hard locations labels new mark e → StandsHere told may_leave moment left_since faults held hard locations labels new start opening (h ++ e ∷ []) more
     turns_standing t is =
-        let n = goes_on told may_leave moment left_since faults held hard locations labels old start opening h old.file old.slots old.buffer all (IsTold (told new.file.cells.disk) start (h ++ e ∷ []))
-            (left_alone told may_leave moment left_since faults held hard locations labels old.file) (λ k. retold (told old.file.cells.disk) (told new.file.cells.disk) start h t.tells (told_before (told new.file.cells.disk) start h e k)) s.holds s.holds.slots in
-        turns only_now (λ service. ⊤) old new start opening h all more e mark m' n.0 (λ k. tt)
-        (subst (λ (x : model.Store). Turns (λ service. ⊤) old new more e mark (last_counts opening.counts h) x m') (sym n.1) (subst (λ (c : FaultCounts). Turns (λ service. ⊤) old new more e mark c s.holds.model m') (sym s.counts) t)) is
+        turns only_now (λ service. ⊤) (IsTold (told old.file.cells.disk) start h) old new start opening h all more e mark m' s.holds
+        (λ k. retold (told old.file.cells.disk) (told new.file.cells.disk) start h t.tells (told_before (told new.file.cells.disk) start h e k)) (λ k. tt)
+        (subst (λ (c : FaultCounts). Turns (λ service. ⊤) old new more e mark c s.holds.model m') (sym s.counts) t) is

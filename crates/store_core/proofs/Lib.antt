@@ -9,3 +9,4 @@ mod Removing
 mod Destroyed
 mod Asked
 mod Added
+mod Makes

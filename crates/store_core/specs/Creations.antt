@@ -122,19 +122,20 @@ module _ {D A C : Type 0} (told : D → Option (List ℕ)) (may_leave : D → Li
 
   -- The request of an entry is to create a key. It destroys none, and where no device fails it leaves and answers what a
   -- creation does that records so, of a key with these bytes.
-  pub record IsCreating (store : Store D A C) (start : Service) (h : List Entry) (e : Entry) (records : model.Store → Result Attributes Status → Type 0) (bytes : model.Store → List ℕ) : Type 0 where
+  pub record IsCreating (store : Store D A C) (start : Service) (h : List Entry) (e : Entry) (caller : ℕ) (records : model.Store → Result Attributes Status → Type 0) (bytes : model.Store → List ℕ) : Type 0 where
+    pub by : e.caller ≡ caller
     pub keeps : is_destruction e.call ≡ false
     pub leaves : ToldHere store start h → (recorded : Result Attributes Status) → records (replay start h).store recorded →
-        (plain_step (replay start h) e.caller e.call).service.store ≡ (created_unless (replay start h).store e.caller recorded (bytes (replay start h).store)).store
+        (plain_step (replay start h) e.caller e.call).service.store ≡ (created_unless (replay start h).store caller recorded (bytes (replay start h).store)).store
     pub answers : ToldHere store start h → (recorded : Result Attributes Status) → records (replay start h).store recorded →
-        (plain_step (replay start h) e.caller e.call).reply ≡ (created_unless (replay start h).store e.caller recorded (bytes (replay start h).store)).reply
+        (plain_step (replay start h) e.caller e.call).reply ≡ (created_unless (replay start h).store caller recorded (bytes (replay start h).store)).reply
 
   -- A ranked turn that is to create a caller's key in the slot of a filling, whose pair is taken back, where P holds of the
   -- model before.
   abbrev pub Creates : (old new : Store D A C) (caller : ℕ) → Option lent.Reading → (model.Store → Result Attributes Status → Type 0) → (model.Store → List ℕ) → ℕ × ℕ → FaultMark → (model.Store → Type 0) → Type 0
   Creates old new caller lease records bytes p mark P = (start : Service) (opening : Opening) (h : List Entry) (all less : List Pairs) (e : Entry) →
-      (s : StandsForHere old start opening h all) → IsLent lease all → Gains less all p → AreHoldings less → e.caller ≡ caller →
-      IsCreating old start h e records bytes → IsEntryHere new mark e →
+      (s : StandsForHere old start opening h all) → IsLent lease all → Gains less all p → AreHoldings less →
+      IsCreating old start h e caller records bytes → IsEntryHere new mark e →
       StandsForHere new start opening (h ++ e ∷ []) less × P s.holds.model
 
   -- WITHIN A TURN
@@ -168,12 +169,13 @@ module _ {D A C : Type 0} (told : D → Option (List ℕ)) (may_leave : D → Li
       (start : Service) × (opening : Opening) × (h : List Entry) × (all : List Pairs) × (e : Entry) × IsReady store caller recorded source start opening h all e × (0 < named p.0 p.1 all)
 
   -- the request is to make this key
-  pub record IsMaking (store : Store D A C) (start : Service) (h : List Entry) (e : Entry) (recorded : Attributes) (bytes : List ℕ) : Type 0 where
+  pub record IsMaking (store : Store D A C) (start : Service) (h : List Entry) (e : Entry) (caller : ℕ) (recorded : Attributes) (bytes : List ℕ) : Type 0 where
+    pub by : e.caller ≡ caller
     pub keeps : is_destruction e.call ≡ false
     pub leaves : ToldHere store start (h ++ e ∷ []) →
-        (plain_step (replay start h) e.caller e.call).service.store ≡ (created (replay start h).store e.caller recorded bytes).store
+        (plain_step (replay start h) e.caller e.call).service.store ≡ (created (replay start h).store caller recorded bytes).store
     pub answers : ToldHere store start (h ++ e ∷ []) →
-        (plain_step (replay start h) e.caller e.call).reply ≡ (created (replay start h).store e.caller recorded bytes).reply
+        (plain_step (replay start h) e.caller e.call).reply ≡ (created (replay start h).store caller recorded bytes).reply
 
   -- no device has failed less often than at the last entry
   pub record IsSince (store : Store D A C) (counts : FaultCounts) : Type 0 where
@@ -183,6 +185,6 @@ module _ {D A C : Type 0} (told : D → Option (List ℕ)) (may_leave : D → Li
   -- the turn ends with the key made, or not, and P holds of the model before
   abbrev pub Enters : (old new : Store D A C) (caller : ℕ) → Attributes → (source : Option ℕ) → ℕ × ℕ → FaultMark → (model.Store → Type 0) → Type 0
   Enters old new caller recorded source p mark P = (start : Service) (opening : Opening) (h : List Entry) (all less : List Pairs) (e : Entry) →
-      (r : IsReady old caller recorded source start opening h all e) → IsSince old (last_counts opening.counts h) → Gains less all p → AreHoldings less → e.caller ≡ caller →
-      IsMaking old start h e recorded r.bytes → IsEntryHere new mark e →
+      (r : IsReady old caller recorded source start opening h all e) → IsSince old (last_counts opening.counts h) → Gains less all p → AreHoldings less →
+      IsMaking old start h e caller recorded r.bytes → IsEntryHere new mark e →
       StandsForHere new start opening (h ++ e ∷ []) less × P r.holds.model

@@ -1,0 +1,211 @@
+-- A ranked turn that creates a key.
+use Rattle.std.proofs.Common.{◌≡◌, ◌≢◌, ◌⊎◌, ◌∙◌, ℕ, ◌+◌, ◌-◌, ◌^◌, ◌<◌, ◌≤◌, ◌||◌, Bool, true, false, not, cond, min, List, [], ◌∷◌, ◌++◌, length, refl, sym, ap, subst, arith, inl, inr, Option, None, Some, is_some}
+use Rattle.std.proofs.lemmas.Bool.{false≢true}
+use Rattle.std.specs.Prelude.{slice_index, Ok, Err, Result}
+use Rattle.std.specs.Option.{option_map_or}
+use Rattle.std.specs.FinMap as map
+use Rattle.psa_status.specs.declared.Status.{Status}
+use Rattle.psa_status.specs.Causes.{Rose}
+use Rattle.policy_rules.specs.declared.narrowing.Label.{Label}
+use Rattle.key_attributes.specs.declared.Attributes.{Attributes}
+use Rattle.driver_dispatch.specs.Held.{HeldKeys}
+use Rattle.key_file.specs.Files.{Stored, stored, Keys, Doubt, StandsForKeys, Leads}
+use Rattle.key_file.proofs.Leading.{stays}
+use Rattle.key_slots.specs.Holdings.{Pairs, AreHoldings}
+use Rattle.key_slots.specs.Standing.{Agrees}
+use Rattle.key_slots.proofs.Agreeing.{quiet}
+use Rattle.store_model.specs.Store as model
+use Rattle.store_model.specs.Store.{Key, is_volatile, is_opaque, is_persistent_key, is_opaque_key, live_volatile, count_persistent}
+use Rattle.store_model.specs.Call.{Call, Reply, Destroy}
+use Rattle.store_model.specs.Outcome.{counted, refused, refusal}
+use Rattle.store_model.specs.Creation.{created, created_unless, new_id, new_key}
+use Rattle.store_model.specs.Faults.{FaultMark, Plain, Storage, Hardware, Corrupt, Reading, Writing}
+use Rattle.store_model.specs.Handles.{Service, Served}
+use Rattle.store_model.specs.HandleCalls.{HandleCall}
+use Rattle.store_model.specs.Requests.{Request, OnStore, OnHandle, plain_step, failed_step, serve}
+use Rattle.store_model.specs.Replay.{Entry, outcome_of, replay}
+use Rattle.store_model.specs.Marks.{FaultCounts, MayBeMarked, HasFault, asks_device, key_changed, key_answered, last_counts}
+use Rattle.store_model.specs.Sound.{IsSoundStore}
+use Rattle.store_model.proofs.Sound.{counted_sound, created_sound}
+use Rattle.store_model.proofs.Recorded.{MayBeKept}
+use Rattle.store_core.specs.declared.store.Store.{Store}
+use Rattle.store_core.specs.Durability.{Course, doubt_after, doubt_by, is_destruction, kept, durable_keys}
+use Rattle.store_core.specs.Represents.{IsTold, IsDirectory, HoldsKeys, Opening}
+use Rattle.store_core.proofs.Holding.{HoldsHere, StandsHere, IsTurn, same_directory, same_device}
+use Rattle.store_core.proofs.Changing.{Turns, turns, retold}
+use Rattle.store_core.proofs.Added.{put_here}
+
+-- THE REQUEST
+
+-- where no device fails, an entry makes this key of a caller
+pub record IsMakingAt (e : Entry) (caller : ℕ) (recorded : Attributes) (bytes : List ℕ) (service : Service) : Type 0 where
+  pub leaves : (plain_step service e.caller e.call).service.store ≡ (created service.store caller recorded bytes).store
+  pub answers : (plain_step service e.caller e.call).reply ≡ (created service.store caller recorded bytes).reply
+
+-- or is refused
+pub record IsRefusedAt (e : Entry) (status : Status) (service : Service) : Type 0 where
+  pub leaves : (plain_step service e.caller e.call).service.store ≡ counted service.store
+  pub answers : (plain_step service e.caller e.call).reply ≡ refusal status
+
+-- what a request that destroys no key changes is what it answers
+answered_key : (service : Service) (caller : ℕ) (request : Request) → is_destruction request ≡ false →
+    key_changed service caller request ≡ key_answered (plain_step service caller request).service.store (plain_step service caller request).reply.output
+answered_key service caller (OnStore (Destroy id)) keeps = absurd (false≢true (sym keeps))
+answered_key service caller request keeps = refl
+
+-- and where a device fails it leaves the keys
+failed_counts : (service : Service) (caller : ℕ) (request : Request) → is_destruction request ≡ false → (failed_step service caller request).store ≡ counted service.store
+failed_counts service caller (OnStore (Destroy id)) keeps = absurd (false≢true (sym keeps))
+failed_counts service caller (OnStore call) keeps = refl
+failed_counts service caller (OnHandle handle call) keeps = refl
+
+abbrev pub IsFailure : FaultMark → Type 0
+IsFailure Plain = ⊥
+IsFailure (Storage access) = Unit {0}
+IsFailure Hardware = Unit {0}
+IsFailure Corrupt = Unit {0}
+
+pub marked_counts : (service : Service) (caller : ℕ) (request : Request) (mark : FaultMark) → IsFailure mark → is_destruction request ≡ false → (serve service caller request mark).service.store ≡ counted service.store
+marked_counts service caller request Plain failed keeps = absurd failed
+marked_counts service caller request (Storage access) failed keeps = failed_counts service caller request keeps
+marked_counts service caller request Hardware failed keeps = failed_counts service caller request keeps
+marked_counts service caller request Corrupt failed keeps = failed_counts service caller request keeps
+
+module _ (e : Entry) (keeps : is_destruction e.call ≡ false) where
+  pub plain_counts : (service : Service) → e.mark ≡ Plain → (outcome_of service e).service.store ≡ (plain_step service e.caller e.call).service.store
+  plain_counts service plain = ap (λ (mark : FaultMark). (serve service e.caller e.call mark).service.store) plain
+
+  -- the key of a doubt is that which the entry answers
+  pub doubted : (s : Course) (mark : FaultMark) (o : Option Key) (kept_is : Option Stored) → e.mark ≡ mark → key_changed s.service e.caller e.call ≡ o → kept o ≡ kept_is →
+      doubt_after e s ≡ option_map_or (λ (key : Stored). doubt_by mark false key s.doubt) kept_is s.doubt
+  doubted s mark o kept_is marked changed is =
+      ap (λ b. option_map_or (λ (key : Stored). doubt_by e.mark b key s.doubt) (kept (key_changed s.service e.caller e.call)) s.doubt) keeps
+      ∙ (ap (λ (x : FaultMark). option_map_or (λ (key : Stored). doubt_by x false key s.doubt) (kept (key_changed s.service e.caller e.call)) s.doubt) marked
+      ∙ ap (λ (x : Option Stored). option_map_or (λ (key : Stored). doubt_by mark false key s.doubt) x s.doubt) (ap kept changed ∙ is))
+
+  module _ (caller : ℕ) (recorded : Attributes) (bytes : List ℕ) where
+    abbrev made_of_it : model.Store → model.Store
+    made_of_it m = (created m caller recorded bytes).store
+
+    -- the key that changes is the new one
+    pub changes_new : (service : Service) → IsMakingAt e caller recorded bytes service → key_changed service e.caller e.call ≡ map.get (made_of_it service.store).keys (new_id service.store caller recorded)
+    changes_new service is =
+        answered_key service e.caller e.call keeps ∙ (ap (λ (m : model.Store). key_answered m (plain_step service e.caller e.call).reply.output) is.leaves
+        ∙ ap (λ (r : Reply). key_answered (made_of_it service.store) r.output) is.answers)
+
+  -- a refusal changes none
+  pub changes_none : (status : Status) (service : Service) → IsRefusedAt e status service → key_changed service e.caller e.call ≡ None
+  changes_none status service is = answered_key service e.caller e.call keeps ∙ ap (λ (r : Reply). key_answered (plain_step service e.caller e.call).service.store r.output) is.answers
+
+-- A count that rose since a later one rose since an earlier one.
+pub rose_since : (before past now : ℕ) → before ≤ past → Rose past now → Rose before now
+rose_since before past now le rose = least before past now le rose where
+  least : (b p n : ℕ) → b ≤ p → min (p + 1) (2 ^ 64 - 1) ≤ n → min (b + 1) (2 ^ 64 - 1) ≤ n
+  least b p n le at = omega (arith, le, at)
+
+module _ {D A C : Type 0} (told : D → Option (List ℕ)) (may_leave : D → List ℕ → Type 0) (moment : D → ℕ) (left_since : D → ℕ → List ℕ → Type 0)
+    (faults : D → ℕ) (held : A → Option HeldKeys) (hard : A → ℕ) (locations : A → List ℕ) (labels : C → List Label)
+    (only_now : (disk : D) (image : List ℕ) → left_since disk (moment disk) image → may_leave disk image)
+    (old new : Store D A C) (start : Service) (opening : Opening) (h : List Entry) (all less : List Pairs) (e : Entry) where
+  abbrev disk : D
+  disk = old.file.cells.disk
+
+  abbrev HoldsOld : Type 0
+  HoldsOld = HoldsHere told may_leave moment left_since faults held hard locations labels (IsTold (told disk) start (h ++ e ∷ [])) old start opening h all
+
+  abbrev StandsNew : Type 0
+  StandsNew = StandsHere told may_leave moment left_since faults held hard locations labels new start opening (h ++ e ∷ []) less
+
+  abbrev IsTurnTo : FaultMark → Type 0
+  IsTurnTo mark = IsTurn told may_leave moment left_since faults held hard locations labels new mark e
+
+  -- what a turn leaves of a store, whatever key it makes
+  pub record IsSameBut (m' : model.Store) : Type 0 where
+    pub rules : labels new.rules ≡ labels old.rules
+    pub devices : locations new.devices ≡ locations old.devices
+    pub found : new.found ≡ old.found
+    pub made : m'.made ≡ new.made
+    pub live : (caller : ℕ) → caller ≤ 16 → live_volatile m'.keys caller ≡ slice_index new.live caller
+    pub kept : count_persistent m'.keys ≡ new.kept
+    pub ranked : new.ranked ≡ old.ranked + 1
+    pub slots : Agrees new.slots.table.slots m' less
+    pub directory : IsDirectory new.file.cells.slots.items m'
+    pub device : HoldsKeys (held new.devices) m'
+    pub tells : is_some (told new.file.cells.disk) ≡ is_some (told disk)
+
+  -- a key was made
+  pub makes : (caller : ℕ) (recorded : Attributes) (bytes : List ℕ) (s : HoldsOld) → 1 ≤ caller → caller ≤ 16 → MayBeKept s.model caller recorded (length bytes) → is_destruction e.call ≡ false →
+      (IsTold (told disk) start (h ++ e ∷ []) → IsMakingAt e caller recorded bytes (replay start h)) → AreHoldings less → IsSameBut (created s.model caller recorded bytes).store →
+      ((doubt : Doubt) → StandsForKeys told may_leave disk old.file.cells.slots.items (durable_keys s.model) doubt →
+        Leads told may_leave moment left_since disk new.file.cells.disk old.file.cells.slots.items new.file.cells.slots.items (durable_keys s.model) doubt (durable_keys (created s.model caller recorded bytes).store)
+        (cond (is_volatile recorded) doubt [])) →
+      IsTurnTo Plain → StandsNew
+  makes caller recorded bytes s first last may keeps making holdings same leads is =
+      turns told may_leave moment left_since faults held hard locations labels only_now (IsMakingAt e caller recorded bytes) (IsTold (told disk) start (h ++ e ∷ [])) old new start opening h all less e Plain (created s.model caller recorded bytes).store s
+      (retold (told disk) (told new.file.cells.disk) start (h ++ e ∷ []) same.tells) (λ k. making (retold (told disk) (told new.file.cells.disk) start (h ++ e ∷ []) same.tells k)) (record {
+        becomes = λ service known at. ap (λ (x : model.Store). (created x caller recorded bytes).store) at ∙ sym (plain_counts e keeps service is.marked ∙ known.leaves);
+        sound = created_sound s.model caller recorded bytes first last s.sound may;
+        settings = refl;
+        rules = same.rules;
+        devices = same.devices;
+        found = s.found ∙ sym same.found;
+        few = subst (λ n. n ≤ 512) (sym same.found) s.few;
+        calls = ap (λ (n : ℕ). n + 1) s.calls ∙ sym same.ranked;
+        made = same.made;
+        live = same.live;
+        kept = same.kept;
+        ranked = same.ranked;
+        slots = same.slots;
+        holdings = holdings;
+        directory = same.directory;
+        device = same.device;
+        tells = same.tells;
+        leads = λ c known at stands. subst (Leads told may_leave moment left_since disk new.file.cells.disk old.file.cells.slots.items new.file.cells.slots.items (durable_keys s.model) c.doubt (durable_keys (created s.model caller recorded bytes).store))
+            (sym (doubt_is c known at)) (leads c.doubt stands);
+        fault = tt;
+        may = λ service known at. tt;
+      }) is
+    where
+      own : Key
+      own = new_key s.model caller (new_id s.model caller recorded) recorded bytes
+
+      doubt_is : (c : Course) → IsMakingAt e caller recorded bytes c.service → s.model ≡ c.service.store → doubt_after e c ≡ cond (is_volatile recorded) c.doubt []
+      doubt_is c known at = doubted e keeps c Plain (Some own) (kept (Some own)) is.marked
+          (changes_new e keeps caller recorded bytes c.service known ∙ (ap (λ (x : model.Store). map.get (created x caller recorded bytes).store.keys (new_id x caller recorded)) (sym at) ∙ put_here s.model caller recorded bytes first last s.sound may)) refl
+          ∙ by_kind (is_volatile recorded)
+        where
+          by_kind : (b : Bool) → option_map_or (λ (key : Stored). doubt_by Plain false key c.doubt) (cond b None (Some (stored own.number own.attributes own.bytes))) c.doubt ≡ cond b c.doubt []
+          by_kind true = refl
+          by_kind false = refl
+
+  -- none was made
+  pub unmade : (S : Service → Type 0) (mark : FaultMark) (s : HoldsOld) → is_destruction e.call ≡ false → (IsTold (told disk) start (h ++ e ∷ []) → S (replay start h)) → AreHoldings less → IsSameBut (counted s.model) →
+      ((service : Service) → S service → (outcome_of service e).service.store ≡ counted service.store) →
+      ((c : Course) → S c.service → s.model ≡ c.service.store → StandsForKeys told may_leave disk old.file.cells.slots.items (durable_keys s.model) c.doubt →
+        Leads told may_leave moment left_since disk new.file.cells.disk old.file.cells.slots.items new.file.cells.slots.items (durable_keys s.model) c.doubt (durable_keys s.model) (doubt_after e c)) →
+      HasFault (is_some (told new.file.cells.disk)) (last_counts opening.counts h) e mark → ((service : Service) → S service → s.model ≡ service.store → MayBeMarked service e.caller e.call mark) →
+      IsTurnTo mark → StandsNew
+  unmade S mark s keeps before holdings same counts leads fault may is =
+      turns told may_leave moment left_since faults held hard locations labels only_now S (IsTold (told disk) start (h ++ e ∷ [])) old new start opening h all less e mark (counted s.model) s
+      (retold (told disk) (told new.file.cells.disk) start (h ++ e ∷ []) same.tells) (λ k. before (retold (told disk) (told new.file.cells.disk) start (h ++ e ∷ []) same.tells k)) (record {
+        becomes = λ service known at. ap counted at ∙ sym (counts service known);
+        sound = counted_sound s.model s.sound;
+        settings = refl;
+        rules = same.rules;
+        devices = same.devices;
+        found = s.found ∙ sym same.found;
+        few = subst (λ n. n ≤ 512) (sym same.found) s.few;
+        calls = ap (λ (n : ℕ). n + 1) s.calls ∙ sym same.ranked;
+        made = same.made;
+        live = same.live;
+        kept = same.kept;
+        ranked = same.ranked;
+        slots = same.slots;
+        holdings = holdings;
+        directory = same.directory;
+        device = same.device;
+        tells = same.tells;
+        leads = leads;
+        fault = fault;
+        may = may;
+      }) is
