@@ -8,3 +8,7 @@ mod Changing
 mod Removing
 mod Destroyed
 mod Asked
+mod FoundMap
+mod OpenCells
+mod Openings
+mod Started

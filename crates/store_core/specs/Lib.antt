@@ -1,3 +1,4 @@
 pub mod Durability
 pub mod Represents
+pub mod Start
 pub mod Uses

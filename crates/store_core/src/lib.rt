@@ -2,11 +2,15 @@
 #![tactic(auto)]
 
 mod destroying;
+mod laws;
 mod looks;
+mod opening;
 mod reading;
 mod recording;
 mod store;
 mod turns;
 
 pub use destroying::NotDestroyed;
+pub use laws::the_start_is_the_disks;
+pub use opening::Unopened;
 pub use store::{Opened, Store};
