@@ -80,8 +80,7 @@ finds_none p (k ∷ ks) each = ap (λ b. cond b (Some k) (find p ks)) (each 0 k 
 pub are_found : (store : Store) (found : List OpenedKey) → AreKept found → HasEachOnce found → AreFoundKeys store found
 are_found store [] kept once = tt
 are_found store (k ∷ ks) kept once =
-    let is : IsKeyOf k.attributes k.bytes = kept.each 0 k refl in
-    (
+    let is : IsKeyOf k.attributes k.bytes = kept.each 0 k refl in (
       lasting k.attributes k.bytes is,
       kept_checked k.attributes k.bytes is (has_secure_element store),
       finds_none (λ other. id_of other == id_of k) ks (λ i key e. ne_eqb (id_of key) (id_of k) (other_id k ks once i key e)),

@@ -133,8 +133,7 @@ module _ (told : Option (List ℕ)) (slots : List cell.Slot) (sized : length slo
             (λ same.
             let here : Open o.id o.number ≡ Open id n = sym o.is ∙ (ap (cell_slot slots) (sym same) ∙ e) in
             let ids : o.id ≡ id = cc in
-            let numbers : o.number ≡ n = cc in
-            (
+            let numbers : o.number ≡ n = cc in (
               has.key,
               ap (slice_get (below.found ++ has.key ∷ [])) (sym numbers ∙ number) ∙ at_end below.found has.key,
               subst (λ (x : ℕ). IsCellKey told x id has.key) (sym same) (subst (λ (x : ℕ). IsCellKey told count x has.key) ids has.is),
@@ -159,8 +158,7 @@ module _ (told : Option (List ℕ)) (slots : List cell.Slot) (sized : length slo
   -- there are keys that were opened
   pub some_opened : (found : List OpenedKey) × AreOpened told slots found
   some_opened =
-      let all = found_below 512 (omega arith) in
-      (
+      let all = found_below 512 (omega arith) in (
         all.found,
         record {
           count = all.counts ∙ ap (count_by is_open) (take_all 512 slots (omega arith));

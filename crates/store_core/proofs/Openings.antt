@@ -51,7 +51,7 @@ cell_in slots (byte ∷ rest) now are c id number lt is =
     let f : Finds (Open id number) (gate c image) (body c image) = subst (λ (s : cell.Slot). Finds s (gate c image) (body c image)) is (are.found.each c lt) in
     let there : content_at (found_in image) c ≡ Present (body c image) = content_there c image lt ∙ ap (λ (g : List ℕ). content_of g (body c image)) f.0 in
     let shown : Shows (Open id number) (Present (body c image)) (gate c now) (body c now) =
-        subst (λ x. Shows (Open id number) x (gate c now) (body c now)) there (subst (λ (s : cell.Slot). Shows s (content_at (found_in image) c) (gate c now) (body c now)) is (are.sound.each c lt)) in
+    subst (λ x. Shows (Open id number) x (gate c now) (body c now)) there (subst (λ (s : cell.Slot). Shows s (content_at (found_in image) c) (gate c now) (body c now)) is (are.sound.each c lt)) in
     record { opened = f.0; holds = f.1; same = shown.1 }
 
 -- some key of an identifier, for a disk that doesn't tell

@@ -155,8 +155,7 @@ module _ {D A C : Type 0} (told : D → Option (List ℕ)) (may_leave : D → Li
     -- there is a start
     pub starts : (settings : Settings) → settings.labels ≡ labels store.rules → settings.locations ≡ locations store.devices → settings.has_file ≡ true → (start : Service) × Start store.opened start
     starts settings labels_are locations_are has_file =
-        let keys = some_opened (told disk) slots new.file.sized new.file.numbered (cell_key slots (told first) (told disk) (may_leave disk) new.file.named new.file.tells new.file.found sounds reads) in
-        (
+        let keys = some_opened (told disk) slots new.file.sized new.file.numbered (cell_key slots (told first) (told disk) (may_leave disk) new.file.named new.file.tells new.file.found sounds reads) in (
           service_start settings keys.0,
           record {
             settings = settings;

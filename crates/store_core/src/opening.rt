@@ -18,6 +18,7 @@ use driver_dispatch::Devices;
 use key_cells::OpenFault;
 use key_file::KeyFile;
 use key_slots::KeySlots;
+use psa_status::Memory;
 use secret_bytes::Secret;
 use std::alloc::Global;
 use std::snapshot::Snapshot;
@@ -28,6 +29,16 @@ pub struct Unopened<D: Disk, A: Devices> {
     pub disk: D,
     pub devices: A,
     pub fault: OpenFault,
+}
+
+// Empty slots, and a clear buffer.
+fn new_rooms(alloc: Global) -> Result<(KeySlots, Secret), Memory>
+    ensures slots { IfOk result (λ rooms. rooms.0.table.slots ≡ replicate 384 empty_slot) }
+    ensures buffer { IfOk result (λ rooms. IsClear rooms.1) }
+{
+    let slots = KeySlots::new(alloc)?;
+    let buffer = Secret::new(alloc)?;
+    Ok((slots, buffer))
 }
 
 impl<D: Disk, A: Devices, C: Admission> Store<D, A, C> {
@@ -61,18 +72,8 @@ impl<D: Disk, A: Devices, C: Admission> Store<D, A, C> {
         ensures refused { IfErr result (λ unopened. IsRefused D.contents D.may_leave D.moment D.left_since D.faults disk unopened.disk unopened.fault) }
         ensures returned { IfErr result (λ unopened. unopened.devices ≡ devices) }
     {
-        let slots = match KeySlots::new(alloc) {
-            Ok(slots) => slots,
-            Err(_) => {
-                return Err(Unopened {
-                    disk,
-                    devices,
-                    fault: OpenFault::Memory,
-                });
-            }
-        };
-        let buffer = match Secret::new(alloc) {
-            Ok(buffer) => buffer,
+        let (slots, buffer) = match new_rooms(alloc) {
+            Ok(rooms) => rooms,
             Err(_) => {
                 return Err(Unopened {
                     disk,
