@@ -1,26 +1,26 @@
 -- What an opening finds, as keys of the one-thread store.
-use Rattle.std.proofs.Common.{◌≡◌, ◌≢◌, ◌∙◌, ℕ, zero, suc, ◌+◌, ◌<◌, ◌≤◌, ◌==◌, Bool, true, false, cond, List, [], ◌∷◌, length, take, drop, replicate, get_or, is_some, refl, sym, ap, subst, arith, Option, None, Some, IfSome}
+use Rattle.std.proofs.Common.{◌≡◌, ◌∙◌, ℕ, suc, ◌+◌, ◌<◌, ◌≤◌, true, cond, List, [], ◌∷◌, length, take, drop, is_some, refl, sym, ap, subst, arith, Option, None, Some, IfSome}
 use Rattle.std.proofs.lemmas.Bool.{false≢true, eqb-true}
 use Rattle.std.proofs.lemmas.List.{get_or-replicate, length-take, length-drop}
-use Rattle.std.specs.Prelude.{slice_get, ◌↔◌}
+use Rattle.std.specs.Prelude.{slice_get}
 use Rattle.std.specs.FinMap as map
 use Rattle.key_attributes.specs.declared.Attributes.{Attributes}
 use Rattle.key_cells.specs.declared.slot.Slot as cell
 use Rattle.key_cells.specs.declared.slot.Slot.TheVariants.{Free, Open, Shut, Unsure}
-use Rattle.key_cells.specs.Layout.{place, part, gate, body, opened_gate}
-use Rattle.key_cells.specs.Contents.{Sound, Shows, Present, cell_slot, content_at, has_id, is_open, creation_of_slot}
+use Rattle.key_cells.specs.Layout.{place, gate, body, opened_gate}
+use Rattle.key_cells.specs.Contents.{Sound, Shows, Present, cell_slot, content_at, has_id, creation_of_slot}
 use Rattle.key_cells.specs.Body.{IsPersistent, IsKeyOf, HoldsKey, HoldsId}
 use Rattle.key_cells.specs.Image.{HasKey}
-use Rattle.key_cells.specs.Opening.{IsFoundIn, Finds, IsNumbered, HasOneEach, IsNamed, found_in, content_of}
+use Rattle.key_cells.specs.Opening.{IsFoundIn, Finds, IsNumbered, IsNamed, found_in, content_of}
 use Rattle.key_cells.proofs.CellsRead.{content_there}
 use Rattle.key_cells.proofs.Bodies.{of_one_key}
 use Rattle.key_file.specs.Files.{Stored, stored, AreFound}
-use Rattle.store_model.specs.Store.{Key, OpenedKey, Settings, start_of, is_volatile}
+use Rattle.store_model.specs.Store.{Key, OpenedKey, Settings, start_of}
 use Rattle.store_core.specs.Durability.{kept, durable_keys}
 use Rattle.store_core.specs.Start.{AreOpened}
-use Rattle.store_core.proofs.FoundMap.{HasEachOnce, AreKept, id_of, numbered, found_at, at_found}
+use Rattle.store_core.proofs.FoundMap.{HasEachOnce, id_of, found_at, at_found}
 use Rattle.store_core.proofs.Kept.{lasting}
-use Rattle.store_core.proofs.OpenCells.{IsPlaced, HasCellKey, placed, has_own, open_slot}
+use Rattle.store_core.proofs.OpenCells.{IsPlaced, HasCellKey, placed, has_own}
 
 -- THE CELLS OF THE IMAGE THAT WAS OPENED, AND OF WHAT IS READ AFTERWARDS
 

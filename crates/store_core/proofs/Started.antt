@@ -1,5 +1,5 @@
 -- A store that was opened stands for a start, before any call.
-use Rattle.std.proofs.Common.{◌≡◌, ◌∙◌, ℕ, zero, suc, ◌+◌, ◌<◌, ◌≤◌, ◌==◌, Bool, true, false, cond, List, [], ◌∷◌, length, take, replicate, count_by, is_some, refl, sym, ap, subst, arith, Option, None, Some, IfSome}
+use Rattle.std.proofs.Common.{◌≡◌, ◌∙◌, ℕ, zero, suc, ◌+◌, ◌≤◌, Bool, true, false, List, [], length, replicate, count_by, is_some, refl, sym, ap, subst, arith, Option, None, Some, IfSome}
 use Rattle.std.proofs.lemmas.Bool.{false≢true}
 use Rattle.std.proofs.lemmas.Bool.Decides.{nat_tests}
 use Rattle.std.proofs.lemmas.List.Sums.{count_by-le-length}
@@ -9,13 +9,12 @@ use Rattle.std.specs.Prelude.{slice_get, slice_index, slice_index_or, nat_lt, �
 use Rattle.std.specs.FinMap as map
 use Rattle.key_attributes.specs.declared.Attributes.{Attributes}
 use Rattle.policy_rules.specs.declared.narrowing.Label.{Label}
-use Rattle.disk_face.specs.Moments.{FitsFrom}
 use Rattle.key_cells.specs.declared.slot.Slot as cell
 use Rattle.key_cells.specs.declared.slot.Slot.TheVariants.{Open}
 use Rattle.key_cells.specs.declared.reading.OpenFault.TheVariants.{Memory}
-use Rattle.key_cells.specs.Contents.{StandsForContents, Sound, cell_slot, has_id, is_open}
+use Rattle.key_cells.specs.Contents.{StandsForContents, Sound, cell_slot, is_open}
 use Rattle.key_cells.specs.Image.{HasKey}
-use Rattle.key_cells.specs.Opening.{IsFoundIn, IsNumbered, HasOneEach, found_in}
+use Rattle.key_cells.specs.Opening.{IsNumbered, HasOneEach, found_in}
 use Rattle.key_cells.specs.Opened.{IsOpened, IsRefused}
 use Rattle.key_cells.proofs.CellsRead.{for_told, some_weaker}
 use Rattle.key_cells.proofs.Opened.{calm_none, refused_calm}
@@ -31,19 +30,18 @@ use Rattle.driver_dispatch.specs.Calls.{Lacks}
 use Rattle.store_model.specs.Store as model
 use Rattle.store_model.specs.Store.{Key, OpenedKey, Settings, start_of, is_volatile_of, is_volatile, is_opaque}
 use Rattle.store_model.specs.Handles.{Service, service_start}
-use Rattle.store_model.specs.Sound.{IsSoundStore, AreFoundKeys}
 use Rattle.store_model.proofs.Sound.{of_volatile}
 use Rattle.store_model.proofs.Starts.{store_starts}
 use Rattle.key_file.specs.declared.file.KeyFile.{KeyFile}
 use Rattle.store_core.specs.declared.store.Store.{Store}
 use Rattle.store_core.specs.declared.store.Opened.{Opened}
-use Rattle.store_core.specs.Durability.{opened, durable_keys, FitsCourse, KeepsKeys}
-use Rattle.store_core.specs.Represents.{IsDirectory, HoldsKeys, Opening, Holds, StandsFor}
+use Rattle.store_core.specs.Durability.{durable_keys, KeepsKeys}
+use Rattle.store_core.specs.Represents.{IsDirectory, HoldsKeys, Opening, StandsFor}
 use Rattle.store_core.specs.Start.{AreOpened, IsStart, opening_of}
 use Rattle.store_core.proofs.FoundMap.{HasEachOnce, AreKept, id_of, numbered, found_at, at_found, are_found, counted}
 use Rattle.store_core.proofs.Kept.{lasting, local}
 use Rattle.store_core.proofs.OpenCells.{placed, are_kept, each_once, has_own, some_opened}
-use Rattle.store_core.proofs.Openings.{AreTold, told_twice, cell_key, key_found, found_key, durable_found}
+use Rattle.store_core.proofs.Openings.{told_twice, cell_key, key_found, found_key, durable_found}
 
 zero_at : (n c : ℕ) → ◌≡◌ {A = ℕ} (slice_index_or (replicate n 0) c 0) 0
 zero_at zero c = refl

@@ -1,4 +1,4 @@
-use Rattle.std.proofs.Common.{◌≡◌, ◌∙◌, refl, sym, ap, subst, true, replicate, count_by}
+use Rattle.std.proofs.Common.{◌∙◌, refl, sym, ap, subst, true, replicate, count_by}
 use Rattle.key_cells.specs.Contents.{is_open}
 use Rattle.key_cells.specs.Opened.{IsOpened}
 use Rattle.key_file.specs.declared.file.KeyFile.{KeyFile}
