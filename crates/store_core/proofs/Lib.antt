@@ -10,3 +10,7 @@ mod Destroyed
 mod Asked
 mod Added
 mod Makes
+mod FoundMap
+mod OpenCells
+mod Openings
+mod Started

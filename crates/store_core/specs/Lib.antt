@@ -1,4 +1,5 @@
 pub mod Durability
 pub mod Represents
+pub mod Start
 pub mod Uses
 pub mod Creations

@@ -4,7 +4,9 @@
 mod copying;
 mod creating;
 mod destroying;
+mod laws;
 mod looks;
+mod opening;
 mod reading;
 mod recording;
 mod store;
@@ -13,4 +15,6 @@ mod turns;
 pub use copying::NotCopied;
 pub use creating::{NotMade, Unkept};
 pub use destroying::NotDestroyed;
+pub use laws::the_start_is_the_disks;
+pub use opening::Unopened;
 pub use store::{Opened, Store};

@@ -27,12 +27,13 @@ pub struct Store<D: Disk, A: Devices, C: Admission> {
     /// Where a key is read from the file. Clear between turns.
     pub buffer: Secret,
     /// What the opening saw.
-    pub opened: Opened<D, A>,
+    pub opened: Opened<D, A, C>,
 }
 
-/// The disk and the devices as the opening left them. It has no bytes at run time.
+/// The file, the devices and the rules as the opening left them. It has no bytes at run time.
 #[derive(Drop)]
-pub struct Opened<D, A> {
-    pub disk: Snapshot<D>,
+pub struct Opened<D: Disk, A: Devices, C: Admission> {
+    pub file: Snapshot<KeyFile<D>>,
     pub devices: Snapshot<A>,
+    pub rules: Snapshot<C>,
 }

@@ -1,0 +1,196 @@
+-- What an opening finds, as keys of the one-thread store.
+use Rattle.std.proofs.Common.{◌≡◌, ◌∙◌, ℕ, suc, ◌+◌, ◌<◌, ◌≤◌, true, cond, List, [], ◌∷◌, length, take, drop, is_some, refl, sym, ap, subst, arith, Option, None, Some, IfSome}
+use Rattle.std.proofs.lemmas.Bool.{false≢true, eqb-true}
+use Rattle.std.proofs.lemmas.List.{get_or-replicate, length-take, length-drop}
+use Rattle.std.specs.Prelude.{slice_get}
+use Rattle.std.specs.FinMap as map
+use Rattle.key_attributes.specs.declared.Attributes.{Attributes}
+use Rattle.key_cells.specs.declared.slot.Slot as cell
+use Rattle.key_cells.specs.declared.slot.Slot.TheVariants.{Free, Open, Shut, Unsure}
+use Rattle.key_cells.specs.Layout.{place, gate, body, opened_gate}
+use Rattle.key_cells.specs.Contents.{Sound, Shows, Present, cell_slot, content_at, has_id, creation_of_slot}
+use Rattle.key_cells.specs.Body.{IsPersistent, IsKeyOf, HoldsKey, HoldsId}
+use Rattle.key_cells.specs.Image.{HasKey}
+use Rattle.key_cells.specs.Opening.{IsFoundIn, Finds, IsNumbered, IsNamed, found_in, content_of}
+use Rattle.key_cells.proofs.CellsRead.{content_there}
+use Rattle.key_cells.proofs.Bodies.{of_one_key}
+use Rattle.key_file.specs.Files.{Stored, stored, AreFound}
+use Rattle.store_model.specs.Store.{Key, OpenedKey, Settings, start_of}
+use Rattle.store_core.specs.Durability.{kept, durable_keys}
+use Rattle.store_core.specs.Start.{AreOpened}
+use Rattle.store_core.proofs.FoundMap.{HasEachOnce, id_of, found_at, at_found}
+use Rattle.store_core.proofs.Kept.{lasting}
+use Rattle.store_core.proofs.OpenCells.{IsPlaced, HasCellKey, placed, has_own}
+
+-- THE CELLS OF THE IMAGE THAT WAS OPENED, AND OF WHAT IS READ AFTERWARDS
+
+pub record AreTold (slots : List cell.Slot) (image now : List ℕ) : Type 0 where
+  pub found : IsFoundIn image slots
+  pub sound : Sound slots (found_in image) now
+
+-- what a disk told before an opening and tells after it
+pub told_twice : (slots : List cell.Slot) (L : List ℕ → Type 0) (before now : Option (List ℕ)) → is_some now ≡ is_some before → IfSome before (λ image. IsFoundIn image slots) →
+    IfSome before (λ image. (read : List ℕ) → L read → Sound slots (found_in image) read) → IfSome now L →
+    (P : Option (List ℕ) → Option (List ℕ) → Type 0) → P None None → ((image read : List ℕ) → AreTold slots image read → P (Some image) (Some read)) → P before now
+told_twice slots L None None tells found sound left P none some = none
+told_twice slots L None (Some read) tells found sound left P none some = absurd (false≢true (sym tells))
+told_twice slots L (Some image) None tells found sound left P none some = absurd (false≢true tells)
+told_twice slots L (Some image) (Some read) tells found sound left P none some = some image read (record { found = found; sound = sound read left })
+
+pub record IsCellIn (image now : List ℕ) (c id : ℕ) : Type 0 where
+  pub opened : gate c image ≡ opened_gate
+  pub holds : HoldsId id (body c image)
+  pub same : body c now ≡ body c image
+
+pub cell_in : (slots : List cell.Slot) (image now : List ℕ) → AreTold slots image now → (c id number : ℕ) → c < 512 → cell_slot slots c ≡ Open id number → IsCellIn image now c id
+cell_in slots [] now are c id number lt is =
+    let free : cell_slot slots c ≡ Free = ap (λ (l : List cell.Slot). cell_slot l c) are.found ∙ get_or-replicate 512 c Free Free lt in
+    absurd (cc)
+cell_in slots (byte ∷ rest) now are c id number lt is =
+    let image : List ℕ = byte ∷ rest in
+    let f : Finds (Open id number) (gate c image) (body c image) = subst (λ (s : cell.Slot). Finds s (gate c image) (body c image)) is (are.found.each c lt) in
+    let there : content_at (found_in image) c ≡ Present (body c image) = content_there c image lt ∙ ap (λ (g : List ℕ). content_of g (body c image)) f.0 in
+    let shown : Shows (Open id number) (Present (body c image)) (gate c now) (body c now) =
+    subst (λ x. Shows (Open id number) x (gate c now) (body c now)) there (subst (λ (s : cell.Slot). Shows s (content_at (found_in image) c) (gate c now) (body c now)) is (are.sound.each c lt)) in
+    record { opened = f.0; holds = f.1; same = shown.1 }
+
+-- some key of an identifier, for a disk that doesn't tell
+any_key : ℕ → OpenedKey
+any_key id = record {
+  attributes = record { lifetime = record { 0 = 1 }; id = record { 0 = id }; key_type = record { 0 = 0x1001 }; bits = 8; policy = record { usage = record { 0 = 0 }; alg = 0 } };
+  bytes = 0 ∷ [];
+}
+
+any_of_id : (c id : ℕ) → IsPersistent id → HasCellKey None c id
+unfolding any_key
+any_of_id c id named = record {
+  key = any_key id;
+  is = record {
+    named = refl;
+    kept = record { kept = record { lifetime = refl; size = refl; some = omega arith; short = omega arith; usage = refl; type_fits = omega arith; usage_fits = omega arith; alg_fits = omega arith }; named = named };
+    holds = tt;
+  };
+}
+
+pub cell_key : (slots : List cell.Slot) (before now : Option (List ℕ)) (L : List ℕ → Type 0) → IsNamed 512 slots → is_some now ≡ is_some before → IfSome before (λ image. IsFoundIn image slots) →
+    IfSome before (λ image. (read : List ℕ) → L read → Sound slots (found_in image) read) → IfSome now L →
+    (c id number : ℕ) → c < 512 → cell_slot slots c ≡ Open id number → HasCellKey now c id
+cell_key slots before now L named tells found sound left c id number lt is =
+    told_twice slots L before now tells found sound left (λ x y. HasCellKey y c id)
+    (any_of_id c id (named id c lt (has_own (cell_slot slots c) id number is)))
+    (λ image read are.
+    let here = cell_in slots image read are c id number lt is in
+    let a = here.holds.0 in
+    let bytes = here.holds.1 in
+    let holds : HoldsKey a bytes (body c image) = here.holds.2 in
+    record {
+      key = record { attributes = a; bytes = bytes };
+      is = record { named = here.holds.3; kept = holds.is_key; holds = subst (λ (b : List ℕ). HoldsKey a bytes b) (sym here.same) holds };
+    })
+
+-- EXACTLY THE KEYS OF THE IMAGE
+
+nothing_there : (c : ℕ) → gate c [] ≡ opened_gate → ⊥
+nothing_there c is =
+    let n : length (gate c []) ≡ 1 = ap length is in
+    let rest : List ℕ = drop (place c) [] in
+    let short : length rest ≤ 0 = omega (arith, length-drop {A = ℕ} (place c) []) in
+    let few : length (take 1 rest) ≤ length rest = omega (arith, length-take {A = ℕ} 1 rest) in
+    omega arith
+
+-- an open cell of the image is one of the directory
+pub record IsListed (slots : List cell.Slot) (c : ℕ) : Type 0 where
+  pub id : ℕ
+  pub number : ℕ
+  pub is : cell_slot slots c ≡ Open id number
+
+listed : (slots : List cell.Slot) (image now : List ℕ) → AreTold slots image now → (c : ℕ) → c < 512 → gate c image ≡ opened_gate → IsListed slots c
+listed slots [] now are c lt opened = absurd (nothing_there c opened)
+listed slots (byte ∷ rest) now are c lt opened = of (cell_slot slots c) refl (are.found.each c lt)
+  where
+    of : (s : cell.Slot) → cell_slot slots c ≡ s → Finds s (gate c (byte ∷ rest)) (body c (byte ∷ rest)) → IsListed slots c
+    of Free is f = absurd (f opened)
+    of (Open id number) is f = record { id = id; number = number; is = is }
+    of Shut is f = absurd f
+    of Unsure is f = absurd f
+
+abbrev opened_key : Attributes → List ℕ → OpenedKey
+opened_key a bytes = record { attributes = a; bytes = bytes }
+
+same_key : (a b : Attributes) (bytes other : List ℕ) → (a ≡ b) × (bytes ≡ other) → opened_key a bytes ≡ opened_key b other
+same_key a b bytes other same = ap (λ (x : Attributes). opened_key x bytes) same.0 ∙ ap (opened_key b) same.1
+
+module _ (slots : List cell.Slot) (image now : List ℕ) (are : AreTold slots image now) (sized : length slots ≡ 512) (numbered_by : IsNumbered 512 slots) (found : List OpenedKey) (keys : AreOpened (Some now) slots found) where
+  pub key_found : (a : Attributes) (bytes : List ℕ) → HasKey a bytes image → (number : ℕ) × (slice_get found number ≡ Some (opened_key a bytes))
+  key_found a bytes has =
+      let c = has.0 in
+      let l = listed slots image now are c has.1 has.2 in
+      let k = keys.each c l.id l.number has.1 l.is in
+      let here = cell_in slots image now are c l.id l.number has.1 l.is in
+      let holds : HoldsKey k.0.attributes k.0.bytes (body c image) = subst (λ (b : List ℕ). HoldsKey k.0.attributes k.0.bytes b) here.same k.4 in
+      (l.number, k.1 ∙ ap (λ (x : OpenedKey). Some x) (same_key k.0.attributes a k.0.bytes bytes (of_one_key k.0.attributes a k.0.bytes bytes (body c image) holds has.3)))
+
+  in_image : (n : ℕ) (key : OpenedKey) → (p : IsPlaced (Some now) slots n key) → HoldsKey key.attributes key.bytes (body p.at image)
+  in_image n key p = subst (λ (b : List ℕ). HoldsKey key.attributes key.bytes b) (cell_in slots image now are p.at (id_of key) n p.within p.slot).same p.holds
+
+  pub found_key : (a : Attributes) (bytes : List ℕ) → (number : ℕ) × (slice_get found number ≡ Some (opened_key a bytes)) → HasKey a bytes image
+  found_key a bytes at =
+      let p = placed (Some now) slots found sized numbered_by keys at.0 (opened_key a bytes) at.1 in
+      (p.at, p.within, (cell_in slots image now are p.at (id_of (opened_key a bytes)) at.0 p.within p.slot).opened, in_image at.0 (opened_key a bytes) p)
+
+  -- THE DURABLE KEYS OF A START
+
+  module _ (settings : Settings) (once : HasEachOnce found) where
+    durable : (n : ℕ) (key : OpenedKey) → slice_get found n ≡ Some key → IsKeyOf key.attributes key.bytes → durable_keys (start_of settings found) (id_of key) ≡ Some (stored n key.attributes key.bytes)
+    durable n key e is =
+        ap kept (at_found 0 found once n key e)
+        ∙ ap (λ b. cond b None (Some (stored (0 + n) key.attributes key.bytes))) (lasting key.attributes key.bytes is)
+        ∙ ap (λ (m : ℕ). Some (stored m key.attributes key.bytes)) (omega arith)
+
+    abbrev IsInCell : (id : ℕ) (key : Stored) → Type 0
+    IsInCell id key = (c : ℕ) × (c < 512) × (has_id id (cell_slot slots c) ≡ true) × HoldsKey key.attributes key.bytes (body c image) × (key.creation ≡ creation_of_slot (cell_slot slots c))
+
+    in_cell : (id : ℕ) (key : Stored) → durable_keys (start_of settings found) id ≡ Some key → IsInCell id key
+    in_cell id key e = of (map.get (start_of settings found).keys id) refl e
+      where
+        of : (o : Option Key) → map.get (start_of settings found).keys id ≡ o → kept o ≡ Some key → IsInCell id key
+        of None at e = absurd (cc)
+        of (Some k) at e =
+            let f = found_at 0 found id k at in
+            let p = placed (Some now) slots found sized numbered_by keys f.place f.from f.there in
+            let is : Some (stored f.place f.from.attributes f.from.bytes) ≡ Some key = sym (durable f.place f.from f.there p.kept) ∙ (ap (durable_keys (start_of settings found)) f.named ∙ (ap kept at ∙ e)) in
+            let same : stored f.place f.from.attributes f.from.bytes ≡ key = cc in
+            subst (IsInCell id) same
+            (p.at, p.within, subst (λ (x : ℕ). has_id x (cell_slot slots p.at) ≡ true) f.named (has_own (cell_slot slots p.at) (id_of f.from) f.place p.slot), in_image f.place f.from p, sym (ap creation_of_slot p.slot))
+
+    pub durable_found : AreFound image slots (durable_keys (start_of settings found))
+    durable_found = record {
+      there = in_cell;
+      all = λ id c lt has. of id c lt (cell_slot slots c) refl has;
+    }
+      where
+        of : (id c : ℕ) → c < 512 → (s : cell.Slot) → cell_slot slots c ≡ s → has_id id s ≡ true → (key : Stored) × (durable_keys (start_of settings found) id ≡ Some key)
+        of id c lt Free is has = absurd (false≢true has)
+        of id c lt (Open own number) is has =
+            let k = keys.each c own number lt is in
+            (stored number k.0.attributes k.0.bytes, ap (durable_keys (start_of settings found)) (sym (k.2 ∙ eqb-true own id has)) ∙ durable number k.0 k.1 k.3)
+        of id c lt Shut is has = absurd (false≢true has)
+        of id c lt Unsure is has = absurd (false≢true has)
+
+-- TWO STARTS
+
+same_places : (xs ys : List OpenedKey) → length xs ≡ length ys → ((i : ℕ) (x y : OpenedKey) → slice_get xs i ≡ Some x → slice_get ys i ≡ Some y → x ≡ y) → xs ≡ ys
+same_places [] [] same each = refl
+same_places [] (y ∷ ys) same each = absurd (omega arith)
+same_places (x ∷ xs) [] same each = absurd (omega arith)
+same_places (x ∷ xs) (y ∷ ys) same each =
+    ap (λ (k : OpenedKey). k ∷ xs) (each 0 x y refl refl) ∙ ap (λ (l : List OpenedKey). y ∷ l) (same_places xs ys (omega arith) (λ i k l e f. each (suc i) k l e f))
+
+pub one_start : (image : List ℕ) (slots : List cell.Slot) (found other : List OpenedKey) → length slots ≡ 512 → IsNumbered 512 slots → AreOpened (Some image) slots found → AreOpened (Some image) slots other → found ≡ other
+one_start image slots found other sized numbered_by are are' =
+    same_places found other (are.count ∙ sym are'.count) (λ i x y e f.
+    let p = placed (Some image) slots found sized numbered_by are i x e in
+    let k = are'.each p.at (id_of x) i p.within p.slot in
+    let same : Some k.0 ≡ Some y = sym k.1 ∙ f in
+    let is : k.0 ≡ y = cc in
+    same_key x.attributes k.0.attributes x.bytes k.0.bytes (of_one_key x.attributes k.0.attributes x.bytes k.0.bytes (body p.at image) p.holds k.4) ∙ is)

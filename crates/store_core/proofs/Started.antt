@@ -1,0 +1,265 @@
+-- A store that was opened stands for a start, before any call.
+use Rattle.std.proofs.Common.{◌≡◌, ◌∙◌, ℕ, zero, suc, ◌+◌, ◌≤◌, Bool, true, false, List, [], length, replicate, count_by, is_some, refl, sym, ap, subst, arith, Option, None, Some, IfSome}
+use Rattle.std.proofs.lemmas.Bool.{false≢true}
+use Rattle.std.proofs.lemmas.Bool.Decides.{nat_tests}
+use Rattle.std.proofs.lemmas.List.Sums.{count_by-le-length}
+use Rattle.std.proofs.lemmas.List.{length-replicate}
+use Rattle.std.proofs.lemmas.List.Elements.{All-replicate}
+use Rattle.std.specs.Prelude.{slice_get, slice_index, slice_index_or, nat_lt, ◌↔◌}
+use Rattle.std.specs.FinMap as map
+use Rattle.key_attributes.specs.declared.Attributes.{Attributes}
+use Rattle.policy_rules.specs.declared.narrowing.Label.{Label}
+use Rattle.key_cells.specs.declared.slot.Slot as cell
+use Rattle.key_cells.specs.declared.slot.Slot.TheVariants.{Open}
+use Rattle.key_cells.specs.declared.reading.OpenFault.TheVariants.{Memory}
+use Rattle.key_cells.specs.Contents.{StandsForContents, Sound, cell_slot, is_open}
+use Rattle.key_cells.specs.Image.{HasKey}
+use Rattle.key_cells.specs.Opening.{IsNumbered, HasOneEach, found_in}
+use Rattle.key_cells.specs.Opened.{IsOpened, IsRefused}
+use Rattle.key_cells.proofs.CellsRead.{for_told, some_weaker}
+use Rattle.key_cells.proofs.Opened.{calm_none, refused_calm}
+use Rattle.key_file.specs.Files.{Keys, AreFound, StandsForKeys}
+use Rattle.key_file.proofs.Founding.{found_stands}
+use Rattle.key_file.proofs.Leading.{stands_fits}
+use Rattle.slot_table.specs.Slots.{empty_slot}
+use Rattle.key_slots.specs.Holdings.{Pairs, IsHolding, AreHoldings}
+use Rattle.key_slots.specs.Standing.{Agrees, IsVolatileKey}
+use Rattle.key_slots.proofs.Agreeing.{empty_ones}
+use Rattle.driver_dispatch.specs.Held.{HeldKeys}
+use Rattle.driver_dispatch.specs.Calls.{Lacks}
+use Rattle.store_model.specs.Store as model
+use Rattle.store_model.specs.Store.{Key, OpenedKey, Settings, start_of, is_volatile_of, is_volatile, is_opaque}
+use Rattle.store_model.specs.Handles.{Service, service_start}
+use Rattle.store_model.proofs.Sound.{of_volatile}
+use Rattle.store_model.proofs.Starts.{store_starts}
+use Rattle.key_file.specs.declared.file.KeyFile.{KeyFile}
+use Rattle.store_core.specs.declared.store.Store.{Store}
+use Rattle.store_core.specs.declared.store.Opened.{Opened}
+use Rattle.store_core.specs.Durability.{durable_keys, KeepsKeys}
+use Rattle.store_core.specs.Represents.{IsDirectory, HoldsKeys, Opening, StandsFor}
+use Rattle.store_core.specs.Start.{AreOpened, IsStart, opening_of}
+use Rattle.store_core.proofs.FoundMap.{HasEachOnce, AreKept, id_of, numbered, found_at, at_found, are_found, counted}
+use Rattle.store_core.proofs.Kept.{lasting, local}
+use Rattle.store_core.proofs.OpenCells.{placed, are_kept, each_once, has_own, some_opened}
+use Rattle.store_core.proofs.Openings.{told_twice, cell_key, key_found, found_key, durable_found}
+
+zero_at : (n c : ℕ) → ◌≡◌ {A = ℕ} (slice_index_or (replicate n 0) c 0) 0
+zero_at zero c = refl
+zero_at (suc n) zero = refl
+zero_at (suc n) (suc c) = zero_at n c
+
+-- callers that have nothing out
+none_out : (callers : ℕ) → callers ≤ 16 → AreHoldings (replicate callers [])
+none_out callers few = record {
+  callers = omega (arith, length-replicate {A = Pairs} callers []);
+  each = All-replicate IsHolding callers [] (record { leases = omega arith; fillings = omega arith });
+}
+
+-- KEYS THAT WERE OPENED, AS THE MODEL'S
+
+module _ (told : Option (List ℕ)) (slots : List cell.Slot) (found : List OpenedKey) (settings : Settings) (kept : AreKept found) (once : HasEachOnce found) where
+  abbrev first : model.Store
+  first = start_of settings found
+
+  pub none_volatile : (id : ℕ) → IsVolatileKey (map.get first.keys id) → ⊥
+  none_volatile id = of (map.get first.keys id) refl
+    where
+      of : (o : Option Key) → map.get first.keys id ≡ o → IsVolatileKey o → ⊥
+      of None at is = is
+      of (Some key) at is =
+          let f = found_at 0 found id key at in
+          false≢true (sym (lasting f.from.attributes f.from.bytes (kept.each f.place f.from f.there)) ∙ (ap (λ (k : Key). is_volatile k.attributes) (sym f.is) ∙ is))
+
+  none_opaque : (id : ℕ) (key : Key) → map.get first.keys id ≡ Some key → is_opaque key.attributes ≡ true → ⊥
+  none_opaque id key at is =
+      let f = found_at 0 found id key at in
+      false≢true (sym (local f.from.attributes f.from.bytes (kept.each f.place f.from f.there)) ∙ (ap (λ (k : Key). is_opaque k.attributes) (sym f.is) ∙ is))
+
+  pub device_starts : (held : Option HeldKeys) → ((handle : ℕ) → Lacks held handle) → HoldsKeys held first
+  device_starts held lacks = record { there = λ id key at is. absurd (none_opaque id key at is); new = λ handle le. lacks handle }
+
+  low : (i : ℕ) (key : OpenedKey) → slice_get found i ≡ Some key → id_of key ≤ 0x3fffffff
+  low i key e = (kept.each i key e).named.1
+
+  not_of : (c id : ℕ) → id ≤ 0x3fffffff → (b : Bool) → is_volatile_of c id ≡ b → b ≡ false
+  not_of c id few true is = absurd (of_volatile id c few is)
+  not_of c id few false is = refl
+
+  pub none_live : (c : ℕ) → model.live_volatile first.keys c ≡ 0
+  none_live c = counted (is_volatile_of c) false 0 found once (λ i key e. not_of c (id_of key) (low i key e) (is_volatile_of c (id_of key)) refl)
+
+  below : (n : ℕ) → n ≤ 0x3fffffff → nat_lt n 0x40000000 ≡ true
+  below n le = grind (arith, nat_tests)
+
+  pub all_persistent : model.count_persistent first.keys ≡ length found
+  all_persistent = counted (λ id. nat_lt id 0x40000000) true 0 found once (λ i key e. below (id_of key) (low i key e))
+
+  -- a directory of so many numbered cells has these keys
+  module _ (sized : length slots ≡ 512) (numbered_by : IsNumbered 512 slots) (one : HasOneEach 512 slots) (are : AreOpened told slots found) where
+    directory_starts : IsDirectory slots first
+    directory_starts = record {
+      sized = sized;
+      there = λ id key at is.
+          let f = found_at 0 found id key at in
+          let p = placed told slots found sized numbered_by are f.place f.from f.there in
+          let number : f.place ≡ key.number = omega arith ∙ ap (λ (k : Key). k.number) (sym f.is) in
+          (p.at, p.within, p.slot ∙ (ap (λ (x : ℕ). Open x f.place) f.named ∙ ap (Open id) number));
+      only = λ c id number lt is.
+          let k = are.each c id number lt is in
+          let at : map.get first.keys id ≡ Some (numbered (0 + number) k.0) = ap (map.get first.keys) (sym k.2) ∙ at_found 0 found once number k.0 k.1 in
+          (numbered (0 + number) k.0, at, lasting k.0.attributes k.0.bytes k.3, omega arith);
+      one = λ c other id number another lt lt' is is'. one id c other lt lt' (has_own (cell_slot slots c) id number is) (has_own (cell_slot slots other) id another is');
+    }
+
+    few_found : length found ≤ 512
+    few_found = omega (arith, are.count, count_by-le-length is_open slots, sized)
+
+-- A STORE THAT WAS OPENED
+
+module _ {D A C : Type 0} (told : D → Option (List ℕ)) (may_leave : D → List ℕ → Type 0) (moment : D → ℕ) (left_since : D → ℕ → List ℕ → Type 0)
+    (faults : D → ℕ) (held : A → Option HeldKeys) (hard : A → ℕ) (locations : A → List ℕ) (labels : C → List Label) where
+  abbrev Start : Opened D A C → Service → Type 0
+  Start = IsStart told moment faults hard locations labels
+
+  abbrev opening : Opened D A C → Opening
+  opening = opening_of told moment faults hard locations labels
+
+  -- a store as it is made of a file that was opened
+  pub record IsNew (first : D) (store : Store D A C) : Type 0 where
+    pub file : IsOpened told may_leave moment left_since first store.file.cells.disk store.file.cells.slots.items
+    pub slots : store.slots.table.slots ≡ replicate 384 empty_slot
+    pub made : store.made ≡ replicate 17 0
+    pub live : store.live ≡ replicate 17 0
+    pub kept : store.kept ≡ count_by is_open store.file.cells.slots.items
+    pub found : store.found ≡ count_by is_open store.file.cells.slots.items
+    pub ranked : store.ranked ≡ 0
+    pub saw_file : store.opened.file.value ≡ store.file
+    pub saw_devices : store.opened.devices.value ≡ store.devices
+    pub saw_rules : store.opened.rules.value ≡ store.rules
+
+  module _ (first : D) (store : Store D A C) (new : IsNew first store) (reads : IfSome (told store.file.cells.disk) (may_leave store.file.cells.disk)) where
+    abbrev disk : D
+    disk = store.file.cells.disk
+
+    abbrev slots : List cell.Slot
+    slots = store.file.cells.slots.items
+
+    keys_of : (start : Service) → (s : Start store.opened start) → AreOpened (told disk) slots s.found
+    keys_of start s = subst (λ (f : KeyFile D). AreOpened (told f.cells.disk) f.cells.slots.items s.found) new.saw_file s.keys
+
+    sounds : IfSome (told first) (λ image. (read : List ℕ) → may_leave disk read → Sound slots (found_in image) read)
+    sounds = some_weaker (told first) (λ image. StandsForContents told may_leave disk slots (found_in image)) (λ image. (read : List ℕ) → may_leave disk read → Sound slots (found_in image) read) (λ image s. s.each) new.file.stands
+
+    -- there is a start
+    pub starts : (settings : Settings) → settings.labels ≡ labels store.rules → settings.locations ≡ locations store.devices → settings.has_file ≡ true → (start : Service) × Start store.opened start
+    starts settings labels_are locations_are has_file =
+        let keys = some_opened (told disk) slots new.file.sized new.file.numbered (cell_key slots (told first) (told disk) (may_leave disk) new.file.named new.file.tells new.file.found sounds reads) in (
+          service_start settings keys.0,
+          record {
+            settings = settings;
+            found = keys.0;
+            is = refl;
+            labels_are = labels_are ∙ ap labels (sym new.saw_rules);
+            locations_are = locations_are ∙ ap locations (sym new.saw_devices);
+            has_file = has_file;
+            keys = subst (λ (f : KeyFile D). AreOpened (told f.cells.disk) f.cells.slots.items keys.0) (sym new.saw_file) keys.1;
+          },
+        )
+
+    -- and its keys are those of the image
+    abbrev HasThose : List OpenedKey → List ℕ → Type 0
+    HasThose found image = (a : Attributes) (bytes : List ℕ) → HasKey a bytes image ↔ ((number : ℕ) × (slice_get found number ≡ Some (record { attributes = a; bytes = bytes })))
+
+    those : (found : List OpenedKey) → AreOpened (told disk) slots found → IfSome (told first) (HasThose found)
+    those found are =
+        told_twice slots (may_leave disk) (told first) (told disk) new.file.tells new.file.found sounds reads (λ before now. AreOpened now slots found → IfSome before (HasThose found))
+        (λ keys. tt)
+        (λ image read are keys a bytes. (
+          key_found slots image read are new.file.sized new.file.numbered found keys a bytes,
+          found_key slots image read are new.file.sized new.file.numbered found keys a bytes,
+        ))
+        are
+
+    pub exactly : IfSome (told first) (λ image. (start : Service) (s : Start store.opened start) (a : Attributes) (bytes : List ℕ) → HasKey a bytes image ↔ ((number : ℕ) × (slice_get s.found number ≡ Some (record { attributes = a; bytes = bytes }))))
+    exactly = of (told first) (λ found are. those found are)
+      where
+        of : (o : Option (List ℕ)) → ((found : List OpenedKey) → AreOpened (told disk) slots found → IfSome o (HasThose found)) → IfSome o (λ image. (start : Service) (s : Start store.opened start) → HasThose s.found image)
+        of None each = tt
+        of (Some image) each = λ start s. each s.found (keys_of start s)
+
+    -- THE HISTORY WITHOUT AN ENTRY
+
+    with_those : (keys : Keys) (o : Option (List ℕ)) → IfSome o (λ image. (k : Keys) → AreFound image slots k → StandsForKeys told may_leave disk slots k []) → IfSome o (λ image. AreFound image slots keys) → is_some o ≡ true →
+        StandsForKeys told may_leave disk slots keys []
+    with_those keys None each are tells = absurd (false≢true tells)
+    with_those keys (Some image) each are tells = each keys are
+
+    found_durable : (settings : Settings) (found : List OpenedKey) → AreOpened (told disk) slots found → HasEachOnce found → IfSome (told first) (λ image. AreFound image slots (durable_keys (start_of settings found)))
+    found_durable settings found are once =
+        told_twice slots (may_leave disk) (told first) (told disk) new.file.tells new.file.found sounds reads (λ before now. AreOpened now slots found → IfSome before (λ image. AreFound image slots (durable_keys (start_of settings found))))
+        (λ keys. tt)
+        (λ image read are keys. durable_found slots image read are new.file.sized new.file.numbered found keys settings once)
+        are
+
+    file_starts : (settings : Settings) (found : List OpenedKey) → AreOpened (told disk) slots found → HasEachOnce found → is_some (told disk) ≡ true → StandsForKeys told may_leave disk slots (durable_keys (start_of settings found)) []
+    file_starts settings found are once tells =
+        with_those (durable_keys (start_of settings found)) (told first) (found_stands told may_leave moment left_since first disk slots new.file) (found_durable settings found are once) (sym new.file.tells ∙ tells)
+
+    same_moment : moment store.opened.file.value.cells.disk ≡ moment disk
+    same_moment = ap (λ (f : KeyFile D). moment f.cells.disk) new.saw_file
+
+    promise_starts : (start : Service) → ((image : List ℕ) → left_since disk (moment disk) image → may_leave disk image) → StandsForKeys told may_leave disk slots (durable_keys start.store) [] →
+        KeepsKeys (left_since disk) (moment disk) (opening store.opened).moment start []
+    promise_starts start only_now s = record {
+      opened = (let same = same_moment in omega arith);
+      entered = λ k lt. absurd (omega arith);
+      since_opening = λ image left. (0, omega arith, omega arith, stands_fits told may_leave moment left_since disk slots (durable_keys start.store) [] image s (only_now image (subst (λ (t : ℕ). left_since disk t image) same_moment left)));
+      since_done = λ k lt. absurd (omega arith);
+    }
+
+    -- it stands for each start
+    pub stands : ((handle : ℕ) → Lacks (held store.devices) handle) → ((image : List ℕ) → left_since disk (moment disk) image → may_leave disk image) → (start : Service) (callers : ℕ) → Start store.opened start → callers ≤ 16 →
+        StandsFor told may_leave moment left_since faults held hard locations labels store start (opening store.opened) [] (replicate callers [])
+    stands lacks only_now start callers s few =
+        let found : List OpenedKey = s.found in
+        let settings : Settings = s.settings in
+        let m : model.Store = start_of settings found in
+        let sized = new.file.sized in
+        let numbered_by = new.file.numbered in
+        let are : AreOpened (told disk) slots found = keys_of start s in
+        let kept : AreKept found = are_kept (told disk) slots found sized numbered_by are in
+        let once : HasEachOnce found = each_once (told disk) slots found sized numbered_by are new.file.one in
+        let few_keys : length found ≤ 512 = few_found (told disk) slots found settings kept once sized numbered_by new.file.one are in
+        let file : is_some (told disk) ≡ true → StandsForKeys told may_leave disk slots (durable_keys m) [] = file_starts settings found are once in
+        let store_is : m ≡ start.store = ap (λ (x : Service). x.store) (sym s.is) in
+        record {
+          holds = record {
+            model = m;
+            replayed = λ k. store_is;
+            sound = store_starts settings found (are_found m found kept once) few_keys;
+            labels_are = s.labels_are ∙ ap labels new.saw_rules;
+            locations_are = s.locations_are ∙ ap locations new.saw_devices;
+            has_file = s.has_file;
+            found = are.count ∙ sym new.found;
+            few = omega (arith, new.found, count_by-le-length is_open slots, new.file.sized);
+            calls = sym new.ranked;
+            made = sym new.made;
+            live = λ caller le. none_live (told disk) slots found settings kept once caller ∙ sym (ap (λ (l : List ℕ). slice_index l caller) new.live ∙ zero_at 17 caller);
+            kept = all_persistent (told disk) slots found settings kept once ∙ (are.count ∙ sym new.kept);
+            ranked = new.ranked;
+            slots = subst (λ l. Agrees l m (replicate callers [])) (sym new.slots) (empty_ones m callers (none_volatile (told disk) slots found settings kept once));
+            holdings = none_out callers few;
+            directory = directory_starts (told disk) slots found settings kept once sized numbered_by new.file.one are;
+            device = device_starts (told disk) slots found settings kept once (held store.devices) lacks;
+            file = file;
+            promise = λ tells. promise_starts start only_now (subst (λ (x : model.Store). StandsForKeys told may_leave disk slots (durable_keys x) []) store_is (file tells));
+            caused = tt;
+            allowed = λ t. tt;
+          };
+          counts = ap (λ (f : KeyFile D). record { faults = faults f.cells.disk; hard = hard store.opened.devices.value }) new.saw_file ∙ ap (λ (v : A). record { faults = faults disk; hard = hard v }) new.saw_devices;
+        }
+
+  -- an opening that had no memory left the disk as it was
+  pub without_memory : (first : D) → IsRefused told may_leave moment left_since faults first first Memory
+  without_memory first =
+      refused_calm told may_leave moment left_since faults first first Memory (calm_none told may_leave moment left_since faults first) (for_told (told first) _ (λ image is. tt)) (λ h. absurd h) (λ h. absurd h)
