@@ -216,7 +216,7 @@ lifetime_stated a n driver is = of_not (is_lifetime a.lifetime.0 driver)
     of_not false is = absurd (false≢true (sym is))
 
 -- only a secure element that is there has a key
-needs_element : (p l : ℕ) (driver : Bool) → (l == 1) ≡ true → ((p == 0 && (l == 0 || (l == 1 && driver))) || (p == 1 && l == 0)) ≡ true → driver ≡ true
+pub needs_element : (p l : ℕ) (driver : Bool) → (l == 1) ≡ true → ((p == 0 && (l == 0 || (l == 1 && driver))) || (p == 1 && l == 0)) ≡ true → driver ≡ true
 needs_element p l driver at is = go driver (p == 0) (p == 1) (l == 0) (l == 1) at (zero l at) is where
   zero : (l : ℕ) → (l == 1) ≡ true → (l == 0) ≡ false
   zero l at = grind (arith, nat_tests)

@@ -9,7 +9,9 @@ mod Removing
 mod Destroyed
 mod Asked
 mod Added
+mod Checked
 mod Makes
+mod MakesKept
 mod FoundMap
 mod OpenCells
 mod Openings

@@ -60,6 +60,17 @@ settled_at slots c = elim (cases_lt c (length slots)) [
   | inr past ↦ get_or_past (settled_slots slots) c Free (omega (arith, past, length-map slots settled_slot)) ∙ sym (ap settled_slot (get_or_past slots c Free past))
 ]
 
+-- a directory that differs in cells in doubt alone has the same keys
+pub directory_settled : (slots slots' : List cell.Slot) (m : model.Store) → length slots' ≡ 512 → settled_slots slots' ≡ settled_slots slots → IsDirectory slots m → IsDirectory slots' m
+directory_settled slots slots' m sized same d = record {
+  sized = sized;
+  there = λ q k is lasts. let c = d.there q k is lasts in (c.0, c.1, opens slots slots' c.0 q k.number same c.2);
+  only = λ c q n lt at. d.only c q n lt (opens slots' slots c q n (sym same) at);
+  one = λ c other q n another lt less at also. d.one c other q n another lt less (opens slots' slots c q n (sym same) at) (opens slots' slots other q another (sym same) also);
+} where
+  opens : (before now : List cell.Slot) (c q n : ℕ) → settled_slots now ≡ settled_slots before → cell_slot before c ≡ Open q n → cell_slot now c ≡ Open q n
+  opens before now c q n same at = settled_opens (cell_slot now c) q n (sym (settled_at now c) ∙ (ap (λ (l : List cell.Slot). cell_slot l c) same ∙ (settled_at before c ∙ ap settled_slot at)))
+
 -- a cell is empty, and the others have the keys that they had
 pub record IsEmptied (slots slots' : List cell.Slot) (c : ℕ) : Type 0 where
   pub sized : length slots' ≡ 512

@@ -21,7 +21,7 @@ use crate::Store;
 use admission::Admission;
 use disk_face::Disk;
 use driver_dispatch::Devices;
-use key_attributes::{Attributes, KeyId};
+use key_attributes::{Attributes, KeyId, KeyType};
 use key_file::MakeFault;
 use psa_status::{Failed, Status};
 use slot_table::{Filling, Lease};
@@ -132,7 +132,7 @@ impl<D: Disk, A: Devices, C: Admission> Store<D, A, C> {
         match self.decide(caller, attributes, bytes.len(), lease) {
             Ok(recorded) => {
                 self.buffer.fill_from(bytes);
-                let made = self.create(caller, filling, &recorded, None);
+                let made = self.create(caller, filling, recorded, None);
                 self.buffer.wipe();
                 match made {
                     Ok(id) => Ok(id),
@@ -174,19 +174,19 @@ impl<D: Disk, A: Devices, C: Admission> Store<D, A, C> {
         &mut self,
         caller: u8,
         filling: Filling,
-        recorded: &Attributes,
+        recorded: Attributes,
         source: Option<u64>,
     ) -> Result<KeyId, Unkept>
         requires first { 1 ≤ caller }
         requires last { caller ≤ 16 }
-        requires ready { IsSomeReady D.contents D.may_leave D.moment D.left_since D.faults A.keys A.faults A.locations C.labels self.old caller recorded.now source (filling.slot, 0) }
+        requires ready { IsSomeReady D.contents D.may_leave D.moment D.left_since D.faults A.keys A.faults A.locations C.labels self.old caller recorded source (filling.slot, 0) }
         requires size { D.size self.old.file.cells.disk ≡ 557120 }
         requires few { self.old.ranked < 2 ^ 62 }
         ensures size { D.size self.new.file.cells.disk ≡ 557120 }
-        ensures made { IfOk result (λ id. Enters D.contents D.may_leave D.moment D.left_since D.faults A.keys A.faults A.locations C.labels self.old (ranked_on self.new) caller recorded.now source (filling.slot, 0) Plain
-            (λ m. id.0 ≡ new_id m caller recorded.now)) }
-        ensures unkept { IfErr result (λ why. Enters D.contents D.may_leave D.moment D.left_since D.faults A.keys A.faults A.locations C.labels self.old (ranked_on self.new) caller recorded.now source (filling.slot, 0) (mark_unkept why)
-            (λ m. IsUnkept recorded.now why)) }
+        ensures made { IfOk result (λ id. Enters D.contents D.may_leave D.moment D.left_since D.faults A.keys A.faults A.locations C.labels self.old (ranked_on self.new) caller recorded source (filling.slot, 0) Plain
+            (λ m. id.0 ≡ new_id m caller recorded)) }
+        ensures unkept { IfErr result (λ why. Enters D.contents D.may_leave D.moment D.left_since D.faults A.keys A.faults A.locations C.labels self.old (ranked_on self.new) caller recorded source (filling.slot, 0) (mark_unkept why)
+            (λ m. IsUnkept recorded why)) }
         ensures ranked { self.new.ranked ≡ self.old.ranked }
         ensures opened { self.new.opened ≡ self.old.opened }
     {
@@ -205,27 +205,28 @@ impl<D: Disk, A: Devices, C: Admission> Store<D, A, C> {
         &mut self,
         caller: u8,
         filling: Filling,
-        recorded: &Attributes,
+        recorded: Attributes,
         source: Option<u64>,
     ) -> Result<KeyId, Unkept>
         requires first { 1 ≤ caller }
         requires last { caller ≤ 16 }
-        requires persistent { is_volatile recorded.now ≡ false }
-        requires ready { IsSomeReady D.contents D.may_leave D.moment D.left_since D.faults A.keys A.faults A.locations C.labels self.old caller recorded.now source (filling.slot, 0) }
+        requires persistent { is_volatile recorded ≡ false }
+        requires ready { IsSomeReady D.contents D.may_leave D.moment D.left_since D.faults A.keys A.faults A.locations C.labels self.old caller recorded source (filling.slot, 0) }
         requires size { D.size self.old.file.cells.disk ≡ 557120 }
         requires few { self.old.ranked < 2 ^ 62 }
         ensures size { D.size self.new.file.cells.disk ≡ 557120 }
-        ensures made { IfOk result (λ id. Enters D.contents D.may_leave D.moment D.left_since D.faults A.keys A.faults A.locations C.labels self.old (ranked_on self.new) caller recorded.now source (filling.slot, 0) Plain
-            (λ m. id.0 ≡ new_id m caller recorded.now)) }
-        ensures unkept { IfErr result (λ why. Enters D.contents D.may_leave D.moment D.left_since D.faults A.keys A.faults A.locations C.labels self.old (ranked_on self.new) caller recorded.now source (filling.slot, 0) (mark_unkept why)
-            (λ m. IsUnkept recorded.now why)) }
+        ensures made { IfOk result (λ id. Enters D.contents D.may_leave D.moment D.left_since D.faults A.keys A.faults A.locations C.labels self.old (ranked_on self.new) caller recorded source (filling.slot, 0) Plain
+            (λ m. id.0 ≡ new_id m caller recorded)) }
+        ensures unkept { IfErr result (λ why. Enters D.contents D.may_leave D.moment D.left_since D.faults A.keys A.faults A.locations C.labels self.old (ranked_on self.new) caller recorded source (filling.slot, 0) (mark_unkept why)
+            (λ m. IsUnkept recorded why)) }
         ensures ranked { self.new.ranked ≡ self.old.ranked }
         ensures opened { self.new.opened ≡ self.old.opened }
     {
         let number = self.found + self.ranked;
-        let closed_first = match self.file.make(number, recorded, self.buffer.as_slice()) {
+        read_numbers(&recorded);
+        let closed_first = match self.file.make(number, &recorded, self.buffer.as_slice()) {
             Ok(()) => {
-                self.slots.fill(filling, number, recorded, self.buffer.as_slice());
+                self.slots.fill(filling, number, &recorded, self.buffer.as_slice());
                 self.kept += 1;
                 return Ok(recorded.id);
             }
@@ -241,26 +242,26 @@ impl<D: Disk, A: Devices, C: Admission> Store<D, A, C> {
         &mut self,
         caller: u8,
         filling: Filling,
-        recorded: &Attributes,
+        recorded: Attributes,
         source: Option<u64>,
     ) -> Result<KeyId, Unkept>
         requires first { 1 ≤ caller }
         requires last { caller ≤ 16 }
-        requires volatile { is_volatile recorded.now ≡ true }
-        requires opaque { is_opaque recorded.now ≡ true }
-        requires ready { IsSomeReady D.contents D.may_leave D.moment D.left_since D.faults A.keys A.faults A.locations C.labels self.old caller recorded.now source (filling.slot, 0) }
+        requires volatile { is_volatile recorded ≡ true }
+        requires opaque { is_opaque recorded ≡ true }
+        requires ready { IsSomeReady D.contents D.may_leave D.moment D.left_since D.faults A.keys A.faults A.locations C.labels self.old caller recorded source (filling.slot, 0) }
         requires size { D.size self.old.file.cells.disk ≡ 557120 }
         requires few { self.old.ranked < 2 ^ 62 }
         ensures size { D.size self.new.file.cells.disk ≡ 557120 }
-        ensures made { IfOk result (λ id. Enters D.contents D.may_leave D.moment D.left_since D.faults A.keys A.faults A.locations C.labels self.old (ranked_on self.new) caller recorded.now source (filling.slot, 0) Plain
-            (λ m. id.0 ≡ new_id m caller recorded.now)) }
-        ensures unkept { IfErr result (λ why. Enters D.contents D.may_leave D.moment D.left_since D.faults A.keys A.faults A.locations C.labels self.old (ranked_on self.new) caller recorded.now source (filling.slot, 0) (mark_unkept why)
-            (λ m. IsUnkept recorded.now why)) }
+        ensures made { IfOk result (λ id. Enters D.contents D.may_leave D.moment D.left_since D.faults A.keys A.faults A.locations C.labels self.old (ranked_on self.new) caller recorded source (filling.slot, 0) Plain
+            (λ m. id.0 ≡ new_id m caller recorded)) }
+        ensures unkept { IfErr result (λ why. Enters D.contents D.may_leave D.moment D.left_since D.faults A.keys A.faults A.locations C.labels self.old (ranked_on self.new) caller recorded source (filling.slot, 0) (mark_unkept why)
+            (λ m. IsUnkept recorded why)) }
         ensures ranked { self.new.ranked ≡ self.old.ranked }
         ensures opened { self.new.opened ≡ self.old.opened }
     {
         let number = self.found + self.ranked;
-        match give(&mut self.devices, number, recorded, source, self.buffer.as_slice()) {
+        match give(&mut self.devices, number, recorded.key_type, source, self.buffer.as_slice()) {
             Ok(()) => {
                 self.buffer.wipe();
                 Ok(self.add(caller, filling, number, recorded))
@@ -278,7 +279,7 @@ impl<D: Disk, A: Devices, C: Admission> Store<D, A, C> {
         caller: u8,
         filling: Filling,
         number: u64,
-        recorded: &Attributes,
+        recorded: Attributes,
     ) -> KeyId
         requires last { caller ≤ 16 }
         requires out { IsOut self.old.slots.table.slots (filling.slot, 0) }
@@ -287,7 +288,7 @@ impl<D: Disk, A: Devices, C: Admission> Store<D, A, C> {
         requires live { slice_index self.old.live caller < 16 }
         ensures id { result.0 ≡ first_volatile caller + slice_index self.old.made caller }
         ensures fills { (old new : model.Store) (all less : List Pairs) (key : Key) → Agrees self.old.slots.table.slots old all → Gains less all (filling.slot, 0) →
-            Puts old new result.0 (Some key) → SlotHasKey (full_slot number (identified recorded.now result.0) (bytes_of self.old.buffer)) key → IsThereOrNew old result.0 key → Agrees self.new.slots.table.slots new less }
+            Puts old new result.0 (Some key) → SlotHasKey (full_slot number (identified recorded result.0) (bytes_of self.old.buffer)) key → IsThereOrNew old result.0 key → Agrees self.new.slots.table.slots new less }
         ensures rest { self.new ≡ record self.old { slots = self.new.slots;
             made = slice_set self.old.made caller (slice_index self.old.made caller + 1); live = slice_set self.old.live caller (slice_index self.old.live caller + 1) } }
     {
@@ -312,22 +313,33 @@ impl<D: Disk, A: Devices, C: Admission> Store<D, A, C> {
 fn give<A: Devices>(
     devices: &mut A,
     number: u64,
-    recorded: &Attributes,
+    key_type: KeyType,
     source: Option<u64>,
     bytes: &[u8],
 ) -> Result<(), Failed>
     requires element { IsTrue (has_element (A.locations devices.old)) }
     requires new { Lacks (A.keys devices.old) number }
-    requires known { IsTrue (is_key_type recorded.now.key_type.0) }
-    requires size { source ≡ None → IsTrue (permits_size recorded.now.key_type.0 (length bytes.now)) }
+    requires known { IsTrue (is_key_type key_type.0) }
+    requires size { source ≡ None → IsTrue (permits_size key_type.0 (length bytes.now)) }
     requires held { IfSome source (λ from. HoldsHandle (A.keys devices.old) from (λ key. ⊤)) }
-    ensures given { source ≡ None → Changes (with_held_key number (record { key_type = recorded.now.key_type.0; bytes = bytes.now })) (A.keys devices.old) (A.keys devices.new) result }
+    ensures given { source ≡ None → Changes (with_held_key number (record { key_type = key_type.0; bytes = bytes.now })) (A.keys devices.old) (A.keys devices.new) result }
     ensures copied { IfSome source (λ from. Changes (with_copy from number) (A.keys devices.old) (A.keys devices.new) result) }
     ensures locations { A.locations devices.new ≡ A.locations devices.old }
     ensures cause { HasCause (A.faults devices.old) (A.faults devices.new) result }
 {
     match source {
         Some(from) => devices.copy_key(from, number),
-        None => devices.import_key(number, recorded.key_type, bytes),
+        None => devices.import_key(number, key_type, bytes),
     }
+}
+
+// Reads the numbers of attributes: the checker knows the range of a number once it is read.
+fn read_numbers(attributes: &Attributes)
+    ensures key_type { attributes.now.key_type.0 < 2 ^ 16 }
+    ensures usage { attributes.now.policy.usage.0 < 2 ^ 32 }
+    ensures alg { attributes.now.policy.alg < 2 ^ 32 }
+{
+    let _key_type = attributes.key_type.0;
+    let _usage = attributes.policy.usage.0;
+    let _alg = attributes.policy.alg;
 }

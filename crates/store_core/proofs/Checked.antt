@@ -1,0 +1,166 @@
+-- What the table of creations has decided of a key that is to be made.
+use Rattle.std.proofs.Common.{◌≡◌, ◌≢◌, ◌∙◌, ℕ, ◌*◌, ◌/◌, ◌%◌, ◌^◌, ◌<◌, ◌≤◌, ◌==◌, ◌&&◌, ◌||◌, Bool, true, false, not, cond, nat_le, nat_lt, List, length, refl, sym, ap, subst, arith, Option, None, Some, is_some}
+use Rattle.std.proofs.lemmas.Bool.{false≢true, eqb-true}
+use Rattle.std.proofs.lemmas.Bool.Decides.{nat_tests}
+use Rattle.std.proofs.lemmas.Cmp.{ranked}
+use Rattle.std.specs.declared.cmp.Ordering.TheVariants.{Equal}
+use Rattle.std.specs.Prelude.{Ok, bit_and}
+use Rattle.std.specs.FinMap as map
+use Rattle.psa_status.specs.declared.Status.{Status}
+use Rattle.psa_status.specs.declared.Status.TheVariants.{NotSupported, InvalidArgument}
+use Rattle.psa_status.specs.Rows.{first_row, unless}
+use Rattle.psa_status.proofs.Rows.{unless-ok}
+use Rattle.key_attributes.specs.declared.Attributes.{Attributes}
+use Rattle.key_attributes.specs.Checks.{persistence, location, is_lifetime, is_key_type, permits_size, size_rows, implied_usage, attribute_rows, filled, checked}
+use Rattle.key_cells.specs.declared.slot.Slot as cell
+use Rattle.key_cells.specs.declared.slot.Slot.TheVariants.{Free, Open, Shut, Unsure}
+use Rattle.key_cells.specs.Contents.{HasNoKey, IsFull, cell_slot, has_id, is_open, creation_of_slot}
+use Rattle.key_cells.specs.Body.{IsKeyOf}
+use Rattle.slot_table.specs.Slots.{Slot, slot_at, holds_key, NoKey}
+use Rattle.slot_table.proofs.AtSlots.{full_within, key_is_full}
+use Rattle.key_slots.specs.Holdings.{Pairs}
+use Rattle.key_slots.specs.Standing.{Agrees}
+use Rattle.key_slots.proofs.Agreeing.{key_of_slot}
+use Rattle.key_slots.proofs.Sums.{total, total-least, into_map}
+use Rattle.store_model.specs.Store as model
+use Rattle.store_model.specs.Store.{Key, is_volatile, is_opaque, has_secure_element, count_persistent}
+use Rattle.store_model.specs.Sound.{IsSoundStore}
+use Rattle.store_model.proofs.Sound.{low_id}
+use Rattle.store_model.proofs.Tables.{none_holds}
+use Rattle.store_model.proofs.Recorded.{IsStated, stated_id}
+use Rattle.store_core.specs.Represents.{IsDirectory}
+use Rattle.store_core.proofs.Kept.{key_of_cell}
+use Rattle.store_core.proofs.Destroyed.{needs_element}
+
+of_not : (b : Bool) → not b ≡ false → b ≡ true
+of_not true is = refl
+of_not false is = absurd (false≢true (sym is))
+
+both : (a b : Bool) → a ≡ true → b ≡ true → (a && b) ≡ true
+both a b one other = ap (λ x. x && b) one ∙ other
+
+-- THE ATTRIBUTES
+
+kept_lifetime : (l : ℕ) (driver : Bool) → (l % 2 ^ 8 == 0) ≡ false → is_lifetime l driver ≡ true → l ≡ 1
+kept_lifetime l driver lasts is = at (l % 2 ^ 8 == 0) (l / 2 ^ 8 == 0 || (l / 2 ^ 8 == 1 && driver)) (l % 2 ^ 8 == 1) (l / 2 ^ 8 == 0) lasts is refl refl where
+  at : (a x b z : Bool) → a ≡ false → ((a && x) || (b && z)) ≡ true → (l % 2 ^ 8 == 1) ≡ b → (l / 2 ^ 8 == 0) ≡ z → l ≡ 1
+  at true x b z none is one zero = absurd (false≢true (sym none))
+  at false x true true none is one zero = let low = eqb-true (l % 2 ^ 8) 1 one in let high = eqb-true (l / 2 ^ 8) 0 zero in omega arith
+  at false x true false none is one zero = absurd (false≢true is)
+  at false x false z none is one zero = absurd (false≢true is)
+
+some_bytes : (key_type n : ℕ) → permits_size key_type n ≡ true → 1 ≤ n
+some_bytes key_type n is = grind (arith, nat_tests)
+
+few_bytes : (key_type n : ℕ) → permits_size key_type n ≡ true → n ≤ 1024
+few_bytes key_type n is = grind (arith, nat_tests)
+
+module _ (a : Attributes) (bytes : List ℕ) (driver : Bool) (checks : checked a (length bytes) driver ≡ Ok a) where
+  abbrev passed : (first_row (attribute_rows a (length bytes) driver) ≡ None) × (filled a (length bytes) ≡ a)
+  passed = unless-ok (first_row (attribute_rows a (length bytes) driver)) (filled a (length bytes)) a checks
+
+  pub known_type : is_key_type a.key_type.0 ≡ true
+  known_type = of_not (is_key_type a.key_type.0) (none_holds (attribute_rows a (length bytes) driver) 3 passed.0)
+
+  pub known_size : permits_size a.key_type.0 (length bytes) ≡ true
+  known_size = of_not (permits_size a.key_type.0 (length bytes)) (none_holds (attribute_rows a (length bytes) driver) 4 passed.0)
+
+  pub lifetime_is : is_lifetime a.lifetime.0 driver ≡ true
+  lifetime_is = of_not (is_lifetime a.lifetime.0 driver) (none_holds (attribute_rows a (length bytes) driver) 0 passed.0)
+
+  -- only where there is a secure element is a key its own
+  pub element_is : is_opaque a ≡ true → driver ≡ true
+  element_is opaque = needs_element (persistence a.lifetime.0) (location a.lifetime.0) driver opaque lifetime_is
+
+  -- what is kept in a file is local
+  pub kept_local : is_volatile a ≡ false → is_opaque a ≡ false
+  kept_local lasts = ap (λ n. n / 2 ^ 8 == 1) (kept_lifetime a.lifetime.0 driver lasts lifetime_is)
+
+  pub key_of_checked : is_volatile a ≡ false → a.key_type.0 < 2 ^ 16 → a.policy.usage.0 < 2 ^ 32 → a.policy.alg < 2 ^ 32 → IsKeyOf a bytes
+  key_of_checked lasts type_fits usage_fits alg_fits = record {
+    kept = record {
+      lifetime = kept_lifetime a.lifetime.0 driver lasts lifetime_is;
+      size = ap (λ o. unless o (8 * length bytes)) sizes ∙ ap Ok (ap (λ (x : Attributes). x.bits) passed.1);
+      some = some_bytes a.key_type.0 (length bytes) known_size;
+      short = few_bytes a.key_type.0 (length bytes) known_size;
+      usage = both (bit_and a.policy.usage.0 0xffff00f8 == 0) (implied_usage a.policy.usage.0 == a.policy.usage.0)
+          (of_not (bit_and a.policy.usage.0 0xffff00f8 == 0) (none_holds (attribute_rows a (length bytes) driver) 2 passed.0)) (same_usage (implied_usage a.policy.usage.0) a.policy.usage.0 (ap (λ (x : Attributes). x.policy.usage.0) passed.1));
+      type_fits = type_fits;
+      usage_fits = usage_fits;
+      alg_fits = alg_fits;
+    };
+    named = subst (λ b. IsStated b a.id.0) lasts (stated_id a (length bytes) driver checks);
+  } where
+    same_usage : (x y : ℕ) → x ≡ y → (x == y) ≡ true
+    same_usage x y is = grind (arith, nat_tests)
+
+    sizes : first_row (size_rows a.key_type.0 (length bytes)) ≡ None
+    sizes = ap (λ b. cond (not b) (Some NotSupported) (cond (not (permits_size a.key_type.0 (length bytes))) (Some InvalidArgument) None)) known_type
+        ∙ ap (λ b. cond (not b) (Some InvalidArgument) None) known_size
+
+-- A KEY THAT ISN'T THERE
+
+none_some : (key : Key) → None ≡ Some key → ⊥
+none_some key e = cc
+
+not_true : (b : Bool) → (b ≡ true → ⊥) → b ≡ false
+not_true true never = absurd (never refl)
+not_true false never = refl
+
+-- no cell has it
+pub in_no_cell : (slots : List cell.Slot) (m : model.Store) (id : ℕ) → IsDirectory slots m → map.get m.keys id ≡ None → HasNoKey slots id
+in_no_cell slots m id d none c lt = not_true (has_id id (cell_slot slots c)) (λ has.
+    let sized = d.sized in
+    let key = key_of_cell slots m id c d (omega arith) has in
+    none_some key.0 (sym none ∙ key.1))
+
+-- and no slot
+pub in_no_slot : (slots : List Slot) (m : model.Store) (all : List Pairs) (id : ℕ) → length slots ≡ 384 → Agrees slots m all → map.get m.keys id ≡ None → NoKey id slots
+in_no_slot slots m all id sized agrees none i = not_true (holds_key id (slot_at slots i)) (λ has.
+    let key = key_of_slot slots m all id i agrees (inside i has) has in
+    none_some key.0 (sym none ∙ key.1)) where
+  inside : (i : ℕ) → holds_key id (slot_at slots i) ≡ true → i < 384
+  inside i has = subst (λ n. i < n) sized (full_within slots i (key_is_full id (slot_at slots i) has))
+
+-- A FULL DIRECTORY
+
+abbrev id_in : cell.Slot → ℕ
+id_in Free = 0
+id_in (Open id number) = id
+id_in Shut = 0
+id_in Unsure = 0
+
+opens_so : (slot : cell.Slot) → is_open slot ≡ true → slot ≡ Open (id_in slot) (creation_of_slot slot)
+opens_so Free is = absurd (false≢true is)
+opens_so (Open id number) is = refl
+opens_so Shut is = absurd (false≢true is)
+opens_so Unsure is = absurd (false≢true is)
+
+abbrev is_low : ℕ → Bool
+is_low n = nat_lt n 0x40000000
+
+low : (n : ℕ) → n ≤ 0x3fffffff → is_low n ≡ true
+low n most = grind (arith, nat_tests)
+
+-- where each cell has a key there are as many persistent keys as cells
+pub full_counts : (slots : List cell.Slot) (m : model.Store) → IsDirectory slots m → IsSoundStore m → IsFull slots → 512 ≤ count_persistent m.keys
+full_counts slots m d sound full =
+    let fit = into_map (map.retain_keys m.keys is_low) (λ c. id_in (cell_slot slots c)) (λ c. is_open (cell_slot slots c)) 512 has one in
+    let least = total-least (λ c. cond (is_open (cell_slot slots c)) 1 0) 512 (λ c lt. let sized = d.sized in subst (λ b. 1 ≤ cond b 1 0) (sym (full c (omega arith))) (omega arith)) in
+    omega arith where
+  kept : (q : ℕ) → map.get (map.retain_keys m.keys is_low) q ≡ cond (is_low q) (map.get m.keys q) None
+  kept q = map.get-retain_keys m.keys is_low q (λ x tied. ap is_low (sym (ranked q x Equal (sym tied))))
+
+  has : (c : ℕ) → c < 512 → is_open (cell_slot slots c) ≡ true → is_some (map.get (map.retain_keys m.keys is_low) (id_in (cell_slot slots c))) ≡ true
+  has c lt is =
+      let id = id_in (cell_slot slots c) in
+      let key = d.only c id (creation_of_slot (cell_slot slots c)) lt (opens_so (cell_slot slots c) is) in
+      let k = sound.keys id key.0 key.1 in
+      let most = (low_id key.0.attributes (length key.0.bytes) (has_secure_element m) k.attributes key.2).1 in
+      let named = k.identifier in
+      ap is_some (kept id ∙ (ap (λ b. cond b (map.get m.keys id) None) (low id (omega arith)) ∙ key.1))
+
+  one : (c other : ℕ) → c < 512 → other < 512 → is_open (cell_slot slots c) ≡ true → is_open (cell_slot slots other) ≡ true → id_in (cell_slot slots c) ≡ id_in (cell_slot slots other) → c ≡ other
+  one c other lt less is also same =
+      d.one c other (id_in (cell_slot slots other)) (creation_of_slot (cell_slot slots c)) (creation_of_slot (cell_slot slots other)) lt less
+      (opens_so (cell_slot slots c) is ∙ ap (λ n. Open n (creation_of_slot (cell_slot slots c))) same) (opens_so (cell_slot slots other) also)

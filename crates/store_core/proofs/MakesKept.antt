@@ -1,0 +1,208 @@
+-- A ranked turn that creates a key of the file.
+use Rattle.std.proofs.Common.{◌≡◌, ◌≢◌, ◌⊎◌, ◌∙◌, ℕ, ◌+◌, ◌^◌, ◌<◌, ◌≤◌, Bool, true, false, not, cond, List, [], ◌∷◌, ◌++◌, length, set, refl, sym, ap, subst, arith, Option, None, Some, is_some}
+use Rattle.std.proofs.lemmas.Bool.{false≢true}
+use Rattle.std.specs.FinMap as map
+use Rattle.psa_status.specs.Causes.{Rose}
+use Rattle.policy_rules.specs.declared.narrowing.Label.{Label}
+use Rattle.key_attributes.specs.declared.Attributes.{Attributes}
+use Rattle.driver_dispatch.specs.Held.{HeldKeys}
+use Rattle.secret_bytes.specs.Buffer.{bytes_of}
+use Rattle.key_cells.specs.declared.slot.Slot as cell
+use Rattle.key_cells.specs.declared.slot.Slot.TheVariants.{Open}
+use Rattle.key_cells.specs.Contents.{HasNoKey, IsFull, IsFirstWithoutKey, cell_slot, settled_slots, settled_slot}
+use Rattle.key_cells.specs.Body.{IsKeyOf}
+use Rattle.key_file.specs.declared.file.KeyFile.{KeyFile}
+use Rattle.key_file.specs.Files.{Stored, stored, Keys, Doubt, StandsForKeys, Leads, IsPut, doubt_unmade}
+use Rattle.key_file.specs.declared.file.MakeFault.TheVariants.{Disk}
+use Rattle.slot_table.specs.Slots.{NoKey}
+use Rattle.slot_table.specs.Changes.{full_slot}
+use Rattle.key_slots.specs.declared.slots.KeySlots.{KeySlots}
+use Rattle.key_slots.specs.Holdings.{Pairs, Gains, AreHoldings}
+use Rattle.key_slots.specs.Standing.{Agrees, Puts, SlotHasKey, IsThereOrNew}
+use Rattle.key_slots.proofs.Agreeing.{quiet}
+use Rattle.store_model.specs.Store as model
+use Rattle.store_model.specs.Store.{Key, is_volatile, is_opaque, is_persistent_key, has_secure_element}
+use Rattle.store_model.specs.Outcome.{counted}
+use Rattle.store_model.specs.Creation.{created, new_id, new_key, identified}
+use Rattle.store_model.specs.Faults.{FaultMark, Plain, Storage, Writing}
+use Rattle.store_model.specs.Handles.{Service}
+use Rattle.store_model.specs.Requests.{serve}
+use Rattle.store_model.specs.Replay.{Entry, outcome_of, replay}
+use Rattle.store_model.specs.Marks.{FaultCounts, key_changed, last_counts}
+use Rattle.store_model.proofs.Recorded.{MayBeKept, recorded}
+use Rattle.store_core.specs.declared.store.Store.{Store}
+use Rattle.store_core.specs.Durability.{Course, durable_keys, doubt_after, doubt_by, kept}
+use Rattle.store_core.specs.Represents.{Opening, Told, ranked_on}
+use Rattle.store_core.specs.Creations.{IsReady, IsMaterial, IsMaking, IsSince}
+use Rattle.store_core.proofs.Holding.{StandsHere, IsTurn, same_directory, same_device}
+use Rattle.store_core.proofs.Removing.{directory_settled}
+use Rattle.store_core.proofs.Added.{none_stated, few_kept, puts, is_new, named_as_stated, stated_here, local_fills, put_here, put_kept, persistent_kept, directory_placed, as_many_live, one_more_kept, made_same, device_same}
+use Rattle.store_core.proofs.Checked.{key_of_checked, kept_local, in_no_cell, in_no_slot, full_counts}
+use Rattle.store_core.proofs.Makes.{IsMakingAt, makes, unmade, marked_counts, doubted, changes_new, rose_since}
+
+module _ {D A C : Type 0} (told : D → Option (List ℕ)) (may_leave : D → List ℕ → Type 0) (moment : D → ℕ) (left_since : D → ℕ → List ℕ → Type 0)
+    (faults : D → ℕ) (held : A → Option HeldKeys) (hard : A → ℕ) (locations : A → List ℕ) (labels : C → List Label)
+    (old : Store D A C) (caller : ℕ) (a : Attributes) (source : Option ℕ) (start : Service) (opening : Opening) (h : List Entry) (all : List Pairs) (e : Entry)
+    (r : IsReady told may_leave moment left_since faults held hard locations labels old caller a source start opening h all e) where
+  abbrev m : model.Store
+  m = r.holds.model
+
+  abbrev cells : List cell.Slot
+  cells = old.file.cells.slots.items
+
+  abbrev disk : D
+  disk = old.file.cells.disk
+
+  pub ready_may : MayBeKept m caller a (length r.bytes)
+  ready_may = (recorded m caller r.stated (length r.bytes) a r.decided).may
+
+  -- the bytes of a local key are in the buffer
+  pub in_buffer : is_opaque a ≡ false → bytes_of old.buffer ≡ r.bytes
+  in_buffer local = go source r.material where
+    go : (s : Option ℕ) → IsMaterial told may_leave moment left_since faults held hard locations labels old a s r.bytes → bytes_of old.buffer ≡ r.bytes
+    go None is = is
+    go (Some number) is = absurd (false≢true (sym local ∙ is.0))
+
+  module _ (first : 1 ≤ caller) (last : caller ≤ 16) (persistent : is_volatile a ≡ false) where
+    local : is_opaque a ≡ false
+    local = kept_local a r.bytes (has_secure_element m) ready_may.checks persistent
+
+    pub ready_key : a.key_type.0 < 2 ^ 16 → a.policy.usage.0 < 2 ^ 32 → a.policy.alg < 2 ^ 32 → IsKeyOf a (bytes_of old.buffer)
+    ready_key type_fits usage_fits alg_fits = subst (IsKeyOf a) (sym (in_buffer local)) (key_of_checked a r.bytes (has_secure_element m) ready_may.checks persistent type_fits usage_fits alg_fits)
+
+    none_there : map.get m.keys a.id.0 ≡ None
+    none_there = none_stated m caller a r.bytes first last r.holds.sound ready_may persistent
+
+    pub ready_cells : HasNoKey cells a.id.0
+    ready_cells = in_no_cell cells m a.id.0 r.holds.directory none_there
+
+    pub ready_slots : length old.slots.table.slots ≡ 384 → NoKey a.id.0 old.slots.table.slots
+    ready_slots sized = in_no_slot old.slots.table.slots m all a.id.0 sized r.holds.slots none_there
+
+    pub ready_room : IsFull cells → ⊥
+    ready_room full =
+        let many = full_counts cells m r.holds.directory r.holds.sound full in
+        let few = few_kept m caller a r.bytes first last r.holds.sound ready_may persistent in
+        omega arith
+
+    module _ (only_now : (d : D) (image : List ℕ) → left_since d (moment d) image → may_leave d image)
+        (file : KeyFile D) (slots : KeySlots) (less : List Pairs) (making : IsMaking told may_leave moment left_since faults held hard locations labels old start h e caller a r.bytes) (holdings : AreHoldings less) where
+      abbrev number : ℕ
+      number = old.found + old.ranked
+
+      number_is : number ≡ m.found + m.calls
+      number_is = let found = r.holds.found in let calls = r.holds.calls in omega arith
+
+      bytes_are : bytes_of old.buffer ≡ r.bytes
+      bytes_are = in_buffer local
+
+      abbrev after : model.Store
+      after = (created m caller a r.bytes).store
+
+      abbrev own : Key
+      own = new_key m caller (new_id m caller a) a r.bytes
+
+      is_making : Told told may_leave moment left_since faults held hard locations labels old start (h ++ e ∷ []) → IsMakingAt e caller a r.bytes (replay start h)
+      is_making k = record { leaves = making.leaves k; answers = making.answers k }
+
+      -- the key as the slots and the file take it
+      pub stated_puts : Puts m after a.id.0 (Some own)
+      stated_puts = subst (λ n. Puts m after n (Some own)) (stated_here m caller a r.bytes first last r.holds.sound ready_may persistent) (puts m caller a r.bytes first last r.holds.sound ready_may)
+
+      pub stated_new : IsThereOrNew m a.id.0 own
+      stated_new = subst (λ n. IsThereOrNew m n own) (stated_here m caller a r.bytes first last r.holds.sound ready_may persistent) (is_new m caller a r.bytes first last r.holds.sound ready_may)
+
+      pub stated_fills : SlotHasKey (full_slot number a (bytes_of old.buffer)) own
+      stated_fills =
+          subst (λ n. SlotHasKey (full_slot n a (bytes_of old.buffer)) own) (sym number_is)
+          (subst (λ (b : List ℕ). SlotHasKey (full_slot (m.found + m.calls) a b) own) (sym bytes_are)
+          (subst (λ (x : Attributes). SlotHasKey (full_slot (m.found + m.calls) x r.bytes) own) (named_as_stated m caller a r.bytes first last r.holds.sound ready_may persistent)
+          (local_fills m caller a r.bytes first last r.holds.sound ready_may local)))
+
+      abbrev Leading : Keys → Doubt → Keys → Doubt → Type 0
+      Leading keys doubt keys' doubt' = Leads told may_leave moment left_since disk file.cells.disk cells file.cells.slots.items keys doubt keys' doubt'
+
+      -- what the file makes of a new key
+      pub record IsFiled : Type 0 where
+        pub c : ℕ
+        pub without : IsFirstWithoutKey cells c
+        pub placed : file.cells.slots.items ≡ set (settled_slots cells) c (Open a.id.0 number)
+        pub sized : length file.cells.slots.items ≡ 512
+        pub tells : is_some (told file.cells.disk) ≡ is_some (told disk)
+        pub leads : (keys keys' : Keys) (doubt : Doubt) → StandsForKeys told may_leave disk cells keys doubt → IsPut keys keys' a.id.0 (Some (stored number a (bytes_of old.buffer))) → Leading keys doubt keys' []
+
+      kept_own : kept (Some own) ≡ Some (stored number a (bytes_of old.buffer))
+      kept_own = persistent_kept m caller a r.bytes first last r.holds.sound ready_may persistent
+          ∙ (ap (λ (x : Attributes). Some (stored (m.found + m.calls) x r.bytes)) (named_as_stated m caller a r.bytes first last r.holds.sound ready_may persistent)
+          ∙ (ap (λ n. Some (stored n a r.bytes)) (sym number_is) ∙ ap (λ (b : List ℕ). Some (stored number a b)) (sym bytes_are)))
+
+      put_stated : IsPut (durable_keys m) (durable_keys after) a.id.0 (Some (stored number a (bytes_of old.buffer)))
+      put_stated = subst (λ (k : Option Stored). IsPut (durable_keys m) (durable_keys after) a.id.0 k) kept_own
+          (subst (λ n. IsPut (durable_keys m) (durable_keys after) n (kept (Some own))) (stated_here m caller a r.bytes first last r.holds.sound ready_may persistent) (put_kept m caller a r.bytes first last r.holds.sound ready_may))
+
+      abbrev pub with_kept : Store D A C
+      with_kept = record old { file = file; slots = slots; kept = old.kept + 1; ranked = old.ranked + 1 }
+
+      pub makes_kept : IsFiled → Agrees slots.table.slots after less →
+          IsTurn told may_leave moment left_since faults held hard locations labels with_kept Plain e → StandsHere told may_leave moment left_since faults held hard locations labels with_kept start opening (h ++ e ∷ []) less
+      makes_kept f agrees is = makes told may_leave moment left_since faults held hard locations labels only_now old with_kept start opening h all less e caller a r.bytes r.holds first last ready_may making.keeps is_making holdings (record {
+        rules = refl;
+        devices = refl;
+        found = refl;
+        made = made_same m caller a r.bytes first last r.holds.sound ready_may persistent ∙ r.holds.made;
+        live = λ c le. as_many_live m caller a r.bytes first last r.holds.sound ready_may persistent c ∙ r.holds.live c le;
+        kept = one_more_kept m caller a r.bytes first last r.holds.sound ready_may persistent ∙ ap (λ n. n + 1) r.holds.kept;
+        ranked = refl;
+        slots = agrees;
+        directory = directory_placed m caller a r.bytes first last r.holds.sound ready_may cells file.cells.slots.items f.c persistent r.holds.directory f.without f.sized
+            (f.placed ∙ ap (λ n. set (settled_slots cells) f.c (Open a.id.0 n)) number_is);
+        device = device_same m caller a r.bytes first last r.holds.sound ready_may (held old.devices) local r.holds.device;
+        tells = f.tells;
+      }) (λ doubt stands. subst (λ b. Leading (durable_keys m) doubt (durable_keys after) (cond b doubt [])) (sym persistent) (f.leads (durable_keys m) (durable_keys after) doubt stands put_stated)) is
+
+      -- what the file makes of one that it failed to make
+      pub record IsUnfiled (closed_first : Bool) : Type 0 where
+        pub settled : settled_slots file.cells.slots.items ≡ settled_slots cells
+        pub sized : length file.cells.slots.items ≡ 512
+        pub tells : is_some (told file.cells.disk) ≡ is_some (told disk)
+        pub leads : (keys : Keys) (doubt : Doubt) → StandsForKeys told may_leave disk cells keys doubt → Leading keys doubt keys (doubt_unmade (Disk closed_first) a (bytes_of old.buffer) doubt)
+        pub rose : Rose (faults disk) (faults file.cells.disk)
+
+      abbrev pub with_none : Store D A C
+      with_none = record old { file = file; slots = slots; ranked = old.ranked + 1 }
+
+      pub fails_kept : (closed_first : Bool) → IsUnfiled closed_first → Agrees slots.table.slots m less → IsSince told may_leave moment left_since faults held hard locations labels old (last_counts opening.counts h) →
+          IsTurn told may_leave moment left_since faults held hard locations labels with_none (Storage (Writing closed_first)) e → StandsHere told may_leave moment left_since faults held hard locations labels with_none start opening (h ++ e ∷ []) less
+      fails_kept closed_first f agrees since is = unmade told may_leave moment left_since faults held hard locations labels only_now old with_none start opening h all less e (IsMakingAt e caller a r.bytes) (Storage (Writing closed_first)) r.holds making.keeps is_making holdings (record {
+        rules = refl;
+        devices = refl;
+        found = refl;
+        made = r.holds.made;
+        live = r.holds.live;
+        kept = r.holds.kept;
+        ranked = refl;
+        slots = quiet slots.table.slots m (counted m) less agrees (record { keys = refl; given = omega arith });
+        directory = same_directory file.cells.slots.items m (directory_settled cells file.cells.slots.items m f.sized f.settled r.holds.directory);
+        device = same_device (held old.devices) m r.holds.device;
+        tells = f.tells;
+      }) (λ service known. marked_outcome service is.marked)
+          (λ c known at stands. subst (Leading (durable_keys m) c.doubt (durable_keys m)) (sym (doubt_is c known at)) (f.leads (durable_keys m) c.doubt stands))
+          (rose_since (last_counts opening.counts h).faults (faults disk) e.faults since.faults_since (subst (Rose (faults disk)) (sym is.disk_faults) f.rose))
+          (λ service known at. is_persistent_changed service known at) is
+        where
+          marked_outcome : (service : Service) → e.mark ≡ Storage (Writing closed_first) → (outcome_of service e).service.store ≡ counted service.store
+          marked_outcome service marked = ap (λ (x : FaultMark). (serve service e.caller e.call x).service.store) marked ∙ marked_counts service e.caller e.call (Storage (Writing closed_first)) tt making.keeps
+
+          changed : (service : Service) → IsMakingAt e caller a r.bytes service → m ≡ service.store → key_changed service e.caller e.call ≡ Some own
+          changed service known at =
+              changes_new e making.keeps caller a r.bytes service known ∙ (ap (λ (x : model.Store). map.get (created x caller a r.bytes).store.keys (new_id x caller a)) (sym at) ∙ put_here m caller a r.bytes first last r.holds.sound ready_may)
+
+          is_persistent_changed : (service : Service) → IsMakingAt e caller a r.bytes service → m ≡ service.store → is_persistent_key (key_changed service e.caller e.call) ≡ true
+          is_persistent_changed service known at = ap is_persistent_key (changed service known at) ∙ ap not persistent
+
+          doubt_of : (b : Bool) (doubt : Doubt) → doubt_by (Storage (Writing b)) false (stored number a (bytes_of old.buffer)) doubt ≡ doubt_unmade (Disk b) a (bytes_of old.buffer) doubt
+          doubt_of true doubt = refl
+          doubt_of false doubt = refl
+
+          doubt_is : (c : Course) → IsMakingAt e caller a r.bytes c.service → m ≡ c.service.store → doubt_after e c ≡ doubt_unmade (Disk closed_first) a (bytes_of old.buffer) c.doubt
+          doubt_is c known at = doubted e making.keeps c (Storage (Writing closed_first)) (Some own) (Some (stored number a (bytes_of old.buffer))) is.marked (changed c.service known at) kept_own ∙ doubt_of closed_first c.doubt
