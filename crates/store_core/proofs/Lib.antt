@@ -12,6 +12,7 @@ mod Added
 mod Checked
 mod Makes
 mod MakesKept
+mod MakesVolatile
 mod FoundMap
 mod OpenCells
 mod Openings

@@ -287,6 +287,7 @@ impl<D: Disk, A: Devices, C: Admission> Store<D, A, C> {
         requires made { slice_index self.old.made caller < 2 ^ 20 }
         requires live { slice_index self.old.live caller < 16 }
         ensures id { result.0 ≡ first_volatile caller + slice_index self.old.made caller }
+        ensures sized { length self.old.live ≡ 17 }
         ensures fills { (old new : model.Store) (all less : List Pairs) (key : Key) → Agrees self.old.slots.table.slots old all → Gains less all (filling.slot, 0) →
             Puts old new result.0 (Some key) → SlotHasKey (full_slot number (identified recorded result.0) (bytes_of self.old.buffer)) key → IsThereOrNew old result.0 key → Agrees self.new.slots.table.slots new less }
         ensures rest { self.new ≡ record self.old { slots = self.new.slots;
