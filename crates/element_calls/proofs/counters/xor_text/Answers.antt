@@ -24,7 +24,7 @@ pieces-preserved g c = record {
   text =
       holds_both (g.A.Devices.keys c.args.devices.now) c.args.handle _ _ _ c.pieces.invariant.text
       (subst (λ keys. HoldsHandle keys c.args.handle (λ key. c.xor_piece.new.piece ≡ ctr_xor (aes_encrypt key.bytes) (number_block c.pieces.counter) (take (c.min-end.result - 256 * c.pieces.n) (drop (256 * c.pieces.n) c.pieces.text))))
-          c.pieces.invariant.same c.in_ok-xor_piece.ensures.text)
+      c.pieces.invariant.same c.in_ok-xor_piece.ensures.text)
       (λ key before now.
       next_piece key.bytes (block_number c.args.iv.now) c.pieces.counter c.pieces.n c.min-end.result c.args.text.now c.pieces.text c.xor_piece.new.piece (omega (arith, c.pieces.auto.counter-fits)) c.pieces.invariant.counter
       (omega (arith, c.div_ceil-n-end.ensures)) c.pieces.auto.text c.min-end.ensures before now);
