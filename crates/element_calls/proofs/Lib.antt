@@ -4,3 +4,4 @@ pub mod Streams
 pub mod Holding
 pub mod Counting
 pub mod Answering
+pub mod Replying

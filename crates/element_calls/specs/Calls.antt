@@ -1,5 +1,5 @@
 -- The calls that the secure element computes, as calls of the model.
-use Rattle.std.specs.Prelude.{ℕ, ◌+◌, ◌-◌, ◌<◌, List, [], length, take}
+use Rattle.std.specs.Prelude.{ℕ, ◌+◌, ◌-◌, ◌<◌, true, false, List, [], length, take}
 use Rattle.psa_status.specs.Rows.{Rows}
 use Rattle.alg_encoding.specs.declared.table.Class.{Class}
 use Rattle.alg_encoding.specs.declared.table.Class.TheVariants.{Mac, Cipher}
@@ -7,6 +7,7 @@ use Rattle.store_model.specs.Algorithms.{tag_bytes}
 use Rattle.store_model.specs.Call as model
 use Rattle.store_model.specs.Ciphers.{Ctr, decrypt_rows, decrypted_reply, encrypt_rows, encrypted}
 use Rattle.store_model.specs.Macs.{compute_rows, mac_reply, verified_reply, verify_rows}
+use Rattle.store_model.specs.Rules.{cipher_usage, mac_usage}
 use Rattle.element_calls.specs.declared.calls.ElementCall.{ElementCall}
 use Rattle.element_calls.specs.declared.calls.ElementCall.TheVariants.{MacCompute, MacVerify, CtrEncrypt, CtrDecrypt}
 
@@ -25,6 +26,13 @@ class_asked (MacCompute alg input) = Mac
 class_asked (MacVerify alg input mac) = Mac
 class_asked (CtrEncrypt iv input) = Cipher
 class_asked (CtrDecrypt input) = Cipher
+
+-- the flag that the key's policy must have
+abbrev pub usage_asked : ElementCall → ℕ
+usage_asked (MacCompute alg input) = mac_usage false
+usage_asked (MacVerify alg input mac) = mac_usage true
+usage_asked (CtrEncrypt iv input) = cipher_usage true
+usage_asked (CtrDecrypt input) = cipher_usage false
 
 -- the model's call on the key of an identifier, with an output buffer of so many bytes
 abbrev pub model_call : ElementCall → (id room : ℕ) → model.Call

@@ -6,6 +6,8 @@ mod checking;
 mod computing;
 mod counters;
 mod filling;
+mod laws;
 
 pub use calls::{ElementCall, NotComputed};
 pub use computing::compute;
+pub use laws::replies_are_the_models;
