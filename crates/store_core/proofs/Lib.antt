@@ -8,3 +8,4 @@ mod Changing
 mod Removing
 mod Destroyed
 mod Asked
+mod ByElement

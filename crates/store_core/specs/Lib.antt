@@ -1,3 +1,4 @@
 pub mod Durability
 pub mod Represents
 pub mod Uses
+pub mod Opaque
