@@ -1,15 +1,15 @@
 -- What the model replies to a call, and what its answer is.
-use Rattle.std.proofs.Common.{◌≡◌, ℕ, ◌+◌, ◌-◌, ◌≤◌, Bool, true, false, List, [], ◌∷◌, ◌++◌, length, take, drop, replicate, refl, sym, ap, ap₂, ◌∙◌, subst, arith, cond}
-use Rattle.std.specs.Prelude.{Option, None, Some, Result, Ok, Err, bytes_eq, if◌then◌else◌, MatchOption, not}
+use Rattle.std.proofs.Common.{◌≡◌, ℕ, ◌-◌, Bool, true, false, List, [], ◌∷◌, ◌++◌, length, drop, replicate, refl, sym, ap, ap₂, ◌∙◌, subst, arith, cond}
+use Rattle.std.specs.Prelude.{Option, None, Some, Result, Ok, Err, if◌then◌else◌, MatchOption, not}
 use Rattle.std.proofs.lemmas.List.{append-nil, drop_at, length-replicate}
 use Rattle.psa_status.specs.declared.Status.{Status}
 use Rattle.psa_status.specs.declared.Status.TheVariants.{Success, HardwareFailure, InvalidSignature, InvalidArgument}
 use Rattle.psa_status.specs.Rows.{first_row, unless}
-use Rattle.psa_status.proofs.Rows.{unless-ok, unless-err}
+use Rattle.psa_status.proofs.Rows.{unless-ok}
 use Rattle.driver_dispatch.specs.Held.{HeldKey, HeldKeys}
 use Rattle.driver_dispatch.specs.Calls.{HoldsHandle}
-use Rattle.store_model.specs.Call.{Reply, Bytes, Nothing, buffer_after, buffer_bytes}
-use Rattle.store_model.specs.Outcome.{Computed, computed_unless, done, given, refusal, replies, reply_unless, spoiled}
+use Rattle.store_model.specs.Call.{Reply, Bytes, buffer_after}
+use Rattle.store_model.specs.Outcome.{Computed, computed_unless, done, given, refusal, reply_unless, spoiled}
 use Rattle.element_calls.specs.declared.calls.ElementCall.{ElementCall}
 use Rattle.element_calls.specs.declared.calls.ElementCall.TheVariants.{MacCompute, MacVerify, CtrEncrypt, CtrDecrypt}
 use Rattle.element_calls.specs.declared.calls.NotComputed.{NotComputed}

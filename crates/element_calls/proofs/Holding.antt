@@ -1,5 +1,5 @@
 -- Facts about the key under a handle, where the device tells it.
-use Rattle.std.proofs.Common.{◌≡◌, ℕ, refl, sym, ap, ◌∙◌, subst, IsTrue}
+use Rattle.std.proofs.Common.{◌≡◌, ℕ, refl, subst, IsTrue}
 use Rattle.std.specs.Prelude.{Option, None, Some, Result, Ok, Err, OnOk}
 use Rattle.driver_dispatch.specs.Held.{HeldKey, HeldKeys, held_key}
 use Rattle.driver_dispatch.specs.Calls.{HoldsHandle, IsSomeKey}

@@ -1,5 +1,5 @@
 -- The model's replies to calls that the element computes.
-use Rattle.std.proofs.Common.{◌≡◌, ℕ, Bool, true, false, List, [], ◌∷◌, ◌++◌, length, refl, sym, ap, ap₂, ◌∙◌, cond}
+use Rattle.std.proofs.Common.{◌≡◌, ℕ, Bool, true, false, List, ◌++◌, length, refl, sym, ap, ◌∙◌, cond}
 use Rattle.std.specs.Prelude.{Option, None, Some, not, bytes_eq, nat_lt, ◌&&◌, ◌-◌, take, drop}
 use Rattle.std.specs.Option.{option_and_then}
 use Rattle.store_model.specs.Rules.{total_limit}
@@ -16,11 +16,11 @@ use Rattle.store_model.specs.KeyUse.{bytes_of}
 use Rattle.store_model.specs.Outcome.{Computed, computed_unless, done, given, replies, reply_unless}
 use Rattle.store_model.specs.Handles.{Service, next_random}
 use Rattle.store_model.specs.Requests.{OnStore, plain_step}
-use Rattle.store_model.specs.Marks.{asks_device, computed_with, is_of_computed}
+use Rattle.store_model.specs.Marks.{computed_with, is_of_computed}
 use Rattle.element_calls.specs.declared.calls.ElementCall.{ElementCall}
 use Rattle.element_calls.specs.declared.calls.ElementCall.TheVariants.{MacCompute, MacVerify, CtrEncrypt, CtrDecrypt}
 use Rattle.element_calls.specs.Calls.{element_reply, model_call, rows_before}
-use Rattle.element_calls.specs.Replies.{AsksDevice, HasDrawn, RepliesAreTheModels, all_rows, key_rows, reply_on}
+use Rattle.element_calls.specs.Replies.{AsksDevice, RepliesAreTheModels, key_rows}
 
 -- a refusal, or the reply that is computed
 one_reply : (o : Option Status) (c : Computed) → (computed_unless o c).reply ≡ reply_unless o c.reply

@@ -1,50 +1,45 @@
 -- Turns in which the secure element computes.
-use Rattle.std.proofs.Common.{◌≡◌, ◌∙◌, ℕ, ◌≤◌, Bool, true, false, List, [], ◌∷◌, ◌++◌, length, drop, refl, sym, ap, ap₂, subst, cond, IsTrue, arith}
+use Rattle.std.proofs.Common.{◌≡◌, ◌∙◌, ℕ, Bool, true, false, List, [], ◌∷◌, ◌++◌, length, refl, sym, ap, subst, cond, IsTrue, arith}
 use Rattle.std.specs.Prelude.{Option, None, Some, is_some, IsErrOf, Result, Ok, Err, MatchOption, not, ◌&&◌, ◌||◌, ◌==◌}
 use Rattle.std.specs.FinMap as map
-use Rattle.std.proofs.lemmas.Bool.{false≢true}
 use Rattle.psa_status.specs.declared.Status.{Status}
-use Rattle.psa_status.specs.declared.Status.TheVariants.{InvalidArgument, InvalidSignature, NotPermitted, NotSupported}
 use Rattle.psa_status.specs.Causes.{Rose}
-use Rattle.psa_status.specs.Rows.{Rows, first_row, unless}
+use Rattle.psa_status.specs.Rows.{first_row, unless}
 use Rattle.psa_status.proofs.Rows.{first_row-back, first_row-front, unless-ok}
 use Rattle.alg_encoding.specs.declared.table.Class.{Class}
 use Rattle.key_attributes.specs.declared.Attributes.{Attributes}
-use Rattle.key_attributes.specs.Checks.{attribute_rows, checked, filled, is_lifetime, location, persistence}
+use Rattle.key_attributes.specs.Checks.{attribute_rows, checked, filled, location, persistence}
 use Rattle.policy_rules.specs.declared.narrowing.Label.{Label}
 use Rattle.driver_dispatch.specs.Held.{HeldKey, HeldKeys, held_key}
 use Rattle.driver_dispatch.specs.Calls.{HoldsHandle, IsSomeKey}
-use Rattle.slot_table.specs.Slots.{Slot, slot_at}
-use Rattle.key_slots.specs.declared.slots.KeySlots.{KeySlots}
 use Rattle.key_slots.specs.Holdings.{Pairs}
-use Rattle.key_slots.specs.Standing.{IsVolatileKey, SlotHasKey}
+use Rattle.key_slots.specs.Standing.{IsVolatileKey}
 use Rattle.store_model.specs.Store as model
 use Rattle.store_model.specs.Store.{Key, has_secure_element, is_opaque, is_opaque_key, is_volatile}
-use Rattle.store_model.specs.Call.{Call, Reply, buffer_after}
+use Rattle.store_model.specs.Call.{Call, buffer_after}
 use Rattle.store_model.specs.Creation.{identified}
-use Rattle.store_model.specs.Faults.{FaultMark, Plain, Hardware, marked_reply}
+use Rattle.store_model.specs.Faults.{FaultMark, Hardware, marked_reply}
 use Rattle.store_model.specs.Handles.{Service}
-use Rattle.store_model.specs.KeyUse.{bytes_of}
 use Rattle.store_model.specs.Laws.{may_change_keys}
-use Rattle.store_model.specs.Marks.{FaultCounts, HasFault, MayBeMarked, asks_device, last_counts}
+use Rattle.store_model.specs.Marks.{FaultCounts, HasFault, MayBeMarked, last_counts}
 use Rattle.store_model.specs.Outcome.{counted, refusal, reply_unless}
 use Rattle.store_model.specs.Replay.{Entry, replay}
 use Rattle.store_model.specs.Requests.{OnStore}
-use Rattle.store_model.specs.Rules.{class_rows, fits_type, use_rows}
-use Rattle.store_model.specs.Sound.{IsSoundStore, as_stated}
-use Rattle.store_model.proofs.Tables.{none_holds, refused_by}
+use Rattle.store_model.specs.Rules.{fits_type, use_rows}
+use Rattle.store_model.specs.Sound.{IsSoundStore}
+use Rattle.store_model.proofs.Tables.{none_holds}
 use Rattle.std.proofs.lemmas.Bool.Decides.{nat_tests}
 use Rattle.element_calls.specs.declared.calls.ElementCall.{ElementCall}
 use Rattle.element_calls.specs.declared.calls.ElementCall.TheVariants.{MacCompute, MacVerify, CtrEncrypt, CtrDecrypt}
 use Rattle.element_calls.specs.declared.calls.NotComputed.{NotComputed}
 use Rattle.element_calls.specs.declared.calls.NotComputed.TheVariants.{Refused, Failed}
 use Rattle.element_calls.specs.Answers.{AnswersCall, IsComputed, IsOfElement, mark_computed, reply_to}
-use Rattle.element_calls.specs.Calls.{algorithm_asked, class_asked, element_reply, model_call, needed_by, rows_before, usage_asked}
+use Rattle.element_calls.specs.Calls.{algorithm_asked, class_asked, element_reply, model_call, rows_before, usage_asked}
 use Rattle.element_calls.specs.Replies.{all_rows, key_rows, reply_on}
 use Rattle.element_calls.proofs.Replying.{asks}
 use Rattle.store_core.specs.declared.store.Store.{Store}
 use Rattle.store_core.specs.Opaque.{IsAnswered}
-use Rattle.store_core.specs.Represents.{Holds, HoldsKeys, IsTold, Opening}
+use Rattle.store_core.specs.Represents.{HoldsKeys, IsTold, Opening}
 use Rattle.store_core.proofs.Histories.{told_before}
 use Rattle.store_core.proofs.Holding.{HoldsHere, StandsHere, IsTurn, turned, goes_on, left_alone, ends_quiet}
 

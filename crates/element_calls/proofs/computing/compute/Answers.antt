@@ -1,8 +1,7 @@
-use Rattle.std.proofs.Common.{◌≡◌, sym, ◌∙◌, ap, subst, length, replicate, arith}
+use Rattle.std.proofs.Common.{◌≡◌, sym, ◌∙◌, ap, subst, replicate, arith}
 use Rattle.std.proofs.lemmas.List.{length-take}
 use Rattle.driver_dispatch.specs.Calls.{HoldsHandle}
 use Rattle.element_calls.specs.Given.{agrees_by}
-use Rattle.psa_status.specs.Rows.{first_row}
 use Rattle.psa_status.proofs.Rows.{unless-err}
 use Rattle.element_calls.proofs.Answering.{differed, failed, gave, refused}
 use Rattle.element_calls.proofs.computing.compute.Goals as goal

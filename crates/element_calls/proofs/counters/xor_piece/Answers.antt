@@ -1,8 +1,7 @@
-use Rattle.std.proofs.Common.{◌≡◌, ◌+◌, ◌*◌, ◌/◌, ℕ, List, length, sym, ap, ◌∙◌, arith}
+use Rattle.std.proofs.Common.{ap, ◌∙◌, arith}
 use Rattle.crypto_specs.specs.Aes.{aes_encrypt}
 use Rattle.crypto_specs.specs.Bytes.{xor_bytes}
-use Rattle.crypto_specs.specs.Modes.{block_count, ctr_xor, key_stream, number_block}
-use Rattle.driver_dispatch.specs.Calls.{HoldsHandle}
+use Rattle.crypto_specs.specs.Modes.{ctr_xor, key_stream, number_block}
 use Rattle.element_calls.proofs.Holding.{holds_as, on_ok_as}
 use Rattle.element_calls.proofs.counters.xor_piece.Goals as goal
 

@@ -1,4 +1,4 @@
-use Rattle.std.proofs.Common.{◌≡◌, ◌+◌, ◌-◌, ◌*◌, ℕ, List, length, take, drop, subst, sym, ap, ◌∙◌, arith, rules}
+use Rattle.std.proofs.Common.{◌≡◌, ◌-◌, ◌*◌, take, drop, subst, ◌∙◌, arith, rules}
 use Rattle.crypto_specs.specs.Aes.{aes_encrypt}
 use Rattle.driver_dispatch.specs.Calls.{HoldsHandle}
 use Rattle.crypto_specs.specs.Modes.{block_number, ctr_xor, number_block}

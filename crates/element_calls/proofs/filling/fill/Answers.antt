@@ -1,4 +1,4 @@
-use Rattle.std.proofs.Common.{◌≡◌, ap}
+use Rattle.std.proofs.Common.{ap}
 use Rattle.element_calls.specs.Calls.{algorithm_asked}
 use Rattle.element_calls.proofs.Holding.{holds_as, is_aes}
 use Rattle.element_calls.proofs.filling.fill.Goals as goal

@@ -1,5 +1,4 @@
 use Rattle.std.proofs.Common.{◌≡◌, ◌∙◌, length, Some, Err, IsTrue, refl, sym, ap, subst}
-use Rattle.std.specs.FinMap as map
 use Rattle.psa_status.specs.Causes.{Rose}
 use Rattle.psa_status.specs.Rows.{first_row}
 use Rattle.psa_status.proofs.Rows.{unless-ok, unless-err}
@@ -8,7 +7,7 @@ use Rattle.store_model.specs.Faults.{Plain}
 use Rattle.store_model.specs.Marks.{FaultCounts, last_counts}
 use Rattle.store_model.specs.Outcome.{counted}
 use Rattle.store_model.specs.Rules.{fits_type}
-use Rattle.store_model.specs.Store.{is_opaque, is_opaque_key}
+use Rattle.store_model.specs.Store.{is_opaque_key}
 use Rattle.element_calls.specs.Answers.{mark_computed}
 use Rattle.element_calls.specs.Calls.{algorithm_asked, model_call}
 use Rattle.element_calls.specs.declared.calls.NotComputed.TheVariants.{Refused}
