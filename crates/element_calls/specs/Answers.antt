@@ -43,6 +43,11 @@ IsOfServed (Ok n) = ⊤
 IsOfServed (Err (Refused status)) = status ≡ InvalidSignature
 IsOfServed (Err Failed) = ⊥
 
+-- and a refusal for which the device wasn't asked
+abbrev pub IsRefusedBefore : Result ℕ NotComputed → Type 0
+IsRefusedBefore (Err (Refused status)) = status ≡ InvalidSignature → ⊥
+IsRefusedBefore _ = ⊥
+
 -- the model's reply with the mark of the answer
 abbrev pub reply_to : ElementCall → Result ℕ NotComputed → (key : List ℕ) → (room : ℕ) → Reply
 reply_to call result key room = marked_reply (mark_computed result) (element_reply call key room)

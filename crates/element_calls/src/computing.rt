@@ -1,12 +1,11 @@
 // A call that the element computes.
-ghost use Rattle.std.specs.Prelude.{◌≡◌, ◌≤◌, true, is_some, IsTrue, IsErrOf, length};
+ghost use Rattle.std.specs.Prelude.{◌≡◌, ◌≤◌, IsTrue, IsErrOf};
 ghost use Rattle.psa_status.specs.Causes.{Rose};
-ghost use Rattle.psa_status.specs.Rows.{first_row};
 ghost use Rattle.algorithm_facts.specs.Names.{IsOfClass};
 ghost use Rattle.driver_dispatch.specs.Calls.{HoldsHandle, has_element};
 ghost use Rattle.store_model.specs.Rules.{fits_type};
-ghost use Rattle.element_calls.specs.Answers.{IsComputed, IsOfServed};
-ghost use Rattle.element_calls.specs.Calls.{AsksElement, algorithm_asked, class_asked, rows_before};
+ghost use Rattle.element_calls.specs.Answers.{IsComputed, IsOfServed, IsRefusedBefore};
+ghost use Rattle.element_calls.specs.Calls.{AsksElement, algorithm_asked, class_asked};
 ghost use Rattle.element_calls.specs.declared.calls.NotComputed.TheVariants as not;
 
 use crate::filling::fill;
@@ -27,7 +26,7 @@ pub fn compute<A: Devices>(
     requires algorithm { IsOfClass (class_asked call.now) (algorithm_asked call.now) }
     requires fits { HoldsHandle (A.keys devices.old) handle (λ key. IsTrue (fits_type (algorithm_asked call.now) key.key_type)) }
     ensures computed { IsComputed (A.keys devices.old) handle call.now out.old out.new result }
-    ensures unasked { is_some (first_row (rows_before call.now (length out.old))) ≡ true → devices.new ≡ devices.old }
+    ensures unasked { IsRefusedBefore result → devices.new ≡ devices.old }
     ensures served { IsOfServed result → AsksElement call.now → Rose (A.served devices.old) (A.served devices.new) }
     ensures keys { A.keys devices.new ≡ A.keys devices.old }
     ensures locations { A.locations devices.new ≡ A.locations devices.old }

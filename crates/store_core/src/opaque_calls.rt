@@ -3,7 +3,7 @@ ghost use Rattle.std.specs.Prelude.{◌≡◌, ◌<◌, ◌^◌, ◌+◌, true, 
 ghost use Rattle.std.specs.FinMap as map;
 ghost use Rattle.psa_status.specs.Causes.{Rose};
 ghost use Rattle.store_model.specs.Store.{is_opaque_key};
-ghost use Rattle.element_calls.specs.Answers.{IsOfServed, mark_computed};
+ghost use Rattle.element_calls.specs.Answers.{IsOfServed, IsRefusedBefore, mark_computed};
 ghost use Rattle.element_calls.specs.Calls.{AsksElement, model_call};
 ghost use Rattle.element_calls.specs.declared.calls.NotComputed.TheVariants as not;
 ghost use Rattle.store_core.specs.Opaque.{IsAnswered, Makes};
@@ -45,6 +45,7 @@ impl<D: Disk, A: Devices, C: Admission> Store<D, A, C> {
         ensures made { Makes D.contents D.may_leave D.moment D.left_since D.faults A.keys A.faults A.locations C.labels self.old self.new
             (model_call call.now id.0 (length out.old)) (mark_computed result) (IsAnswered (A.keys self.old.devices) id.0 call.now out.old out.new result) }
         ensures served { IsOfServed result → AsksElement call.now → Rose (A.served self.old.devices) (A.served self.new.devices) }
+        ensures unasked { IsRefusedBefore result → self.new.devices ≡ self.old.devices }
         ensures failed { IsErrOf result not.Failed → Rose (A.faults self.old.devices) (A.faults self.new.devices) }
         ensures file { self.new.file ≡ self.old.file }
         ensures slots { self.new.slots ≡ self.old.slots }
