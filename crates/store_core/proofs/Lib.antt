@@ -17,3 +17,4 @@ mod FoundMap
 mod OpenCells
 mod Openings
 mod Started
+mod ByElement

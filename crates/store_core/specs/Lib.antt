@@ -3,3 +3,4 @@ pub mod Represents
 pub mod Start
 pub mod Uses
 pub mod Creations
+pub mod Opaque

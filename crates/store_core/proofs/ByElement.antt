@@ -1,0 +1,258 @@
+-- Turns in which the secure element computes.
+use Rattle.std.proofs.Common.{◌≡◌, ◌∙◌, ℕ, Bool, true, false, List, [], ◌∷◌, ◌++◌, length, refl, sym, ap, subst, cond, IsTrue, arith}
+use Rattle.std.specs.Prelude.{Option, None, Some, is_some, IsErrOf, Result, Ok, Err, MatchOption, not, ◌&&◌, ◌||◌, ◌==◌}
+use Rattle.std.specs.FinMap as map
+use Rattle.psa_status.specs.declared.Status.{Status}
+use Rattle.psa_status.specs.Causes.{Rose}
+use Rattle.psa_status.specs.Rows.{first_row, unless}
+use Rattle.psa_status.proofs.Rows.{first_row-back, first_row-front, unless-ok}
+use Rattle.alg_encoding.specs.declared.table.Class.{Class}
+use Rattle.key_attributes.specs.declared.Attributes.{Attributes}
+use Rattle.key_attributes.specs.Checks.{attribute_rows, checked, filled, location, persistence}
+use Rattle.policy_rules.specs.declared.narrowing.Label.{Label}
+use Rattle.driver_dispatch.specs.Held.{HeldKey, HeldKeys, held_key}
+use Rattle.driver_dispatch.specs.Calls.{HoldsHandle, IsSomeKey}
+use Rattle.key_slots.specs.Holdings.{Pairs}
+use Rattle.key_slots.specs.Standing.{IsVolatileKey}
+use Rattle.store_model.specs.Store as model
+use Rattle.store_model.specs.Store.{Key, has_secure_element, is_opaque, is_opaque_key, is_volatile}
+use Rattle.store_model.specs.Call.{Call, buffer_after}
+use Rattle.store_model.specs.Creation.{identified}
+use Rattle.store_model.specs.Faults.{FaultMark, Hardware, marked_reply}
+use Rattle.store_model.specs.Handles.{Service}
+use Rattle.store_model.specs.Laws.{may_change_keys}
+use Rattle.store_model.specs.Marks.{FaultCounts, HasFault, MayBeMarked, last_counts}
+use Rattle.store_model.specs.Outcome.{counted, refusal, reply_unless}
+use Rattle.store_model.specs.Replay.{Entry, replay}
+use Rattle.store_model.specs.Requests.{OnStore}
+use Rattle.store_model.specs.Rules.{fits_type, use_rows}
+use Rattle.store_model.specs.Sound.{IsSoundStore}
+use Rattle.store_model.proofs.Tables.{none_holds}
+use Rattle.std.proofs.lemmas.Bool.Decides.{nat_tests}
+use Rattle.element_calls.specs.declared.calls.ElementCall.{ElementCall}
+use Rattle.element_calls.specs.declared.calls.ElementCall.TheVariants.{MacCompute, MacVerify, CtrEncrypt, CtrDecrypt}
+use Rattle.element_calls.specs.declared.calls.NotComputed.{NotComputed}
+use Rattle.element_calls.specs.declared.calls.NotComputed.TheVariants.{Refused, Failed}
+use Rattle.element_calls.specs.Answers.{AnswersCall, IsComputed, IsOfElement, mark_computed, reply_to}
+use Rattle.element_calls.specs.Calls.{algorithm_asked, class_asked, element_reply, model_call, rows_before, usage_asked}
+use Rattle.element_calls.specs.Replies.{all_rows, key_rows, reply_on}
+use Rattle.element_calls.proofs.Replying.{asks}
+use Rattle.store_core.specs.declared.store.Store.{Store}
+use Rattle.store_core.specs.Opaque.{IsAnswered}
+use Rattle.store_core.specs.Represents.{HoldsKeys, IsTold, Opening}
+use Rattle.store_core.proofs.Histories.{told_before}
+use Rattle.store_core.proofs.Holding.{HoldsHere, StandsHere, IsTurn, turned, goes_on, left_alone, ends_quiet}
+
+-- THE KEY
+
+-- a call that the element computes changes no key
+pub keeps_keys : (call : ElementCall) (id room : ℕ) → may_change_keys (OnStore (model_call call id room)) ≡ false
+keeps_keys (MacCompute alg input) id room = refl
+keeps_keys (MacVerify alg input mac) id room = refl
+keeps_keys (CtrEncrypt iv input) id room = refl
+keeps_keys (CtrDecrypt input) id room = refl
+
+-- it is volatile
+stays_local : (volatile none one lasts driver : Bool) → volatile ≡ false → none ≡ false → not ((volatile && (none || (one && driver))) || (lasts && none)) ≡ false → ⊥
+stays_local true none one lasts driver a b e = cc
+stays_local false true one lasts driver a b e = cc
+stays_local false false one true driver a b e = cc
+stays_local false false one false driver a b e = cc
+
+elsewhere : (l : ℕ) → (l == 1) ≡ true → (l == 0) ≡ false
+elsewhere l is = grind (arith, nat_tests)
+
+pub opaque_is_volatile : (m : model.Store) (id : ℕ) (key : Key) → map.get m.keys id ≡ Some key → IsSoundStore m → is_opaque key.attributes ≡ true → is_volatile key.attributes ≡ true
+opaque_is_volatile m id key there sound opaque = by_persistence (is_volatile key.attributes) refl
+  where
+    by_persistence : (b : Bool) → is_volatile key.attributes ≡ b → is_volatile key.attributes ≡ true
+    by_persistence true volatile = volatile
+    by_persistence false lasts =
+        let a : Attributes = key.attributes in
+        let n : ℕ = length key.bytes in
+        let driver : Bool = has_secure_element m in
+        let check = subst (λ (x : Attributes). checked x n driver ≡ Ok x) (ap (λ b. cond b (identified a 0) a) lasts) (sound.keys id key there).attributes in
+        let row = none_holds (attribute_rows a n driver) 0 (unless-ok (first_row (attribute_rows a n driver)) (filled a n) a check).0 in
+        absurd (stays_local (persistence a.lifetime.0 == 0) (location a.lifetime.0 == 0) (location a.lifetime.0 == 1) (persistence a.lifetime.0 == 1) driver lasts (elsewhere (location a.lifetime.0) opaque) row)
+
+-- so it has a slot
+pub has_slot : (m : model.Store) (id : ℕ) → IsSoundStore m → is_opaque_key (map.get m.keys id) ≡ true → IsVolatileKey (map.get m.keys id)
+has_slot m id sound opaque = by_key (map.get m.keys id) refl opaque
+  where
+    by_key : (o : Option Key) → map.get m.keys id ≡ o → is_opaque_key o ≡ true → IsVolatileKey o
+    by_key None there opaque = cc
+    by_key (Some key) there opaque = opaque_is_volatile m id key there sound opaque
+
+-- a key of which no slot has a volatile one isn't the element's
+pub not_opaque : (m : model.Store) (id : ℕ) → IsSoundStore m → (IsVolatileKey (map.get m.keys id) → ⊥) → is_opaque_key (map.get m.keys id) ≡ false
+not_opaque m id sound none = by_test (is_opaque_key (map.get m.keys id)) refl
+  where
+    by_test : (b : Bool) → is_opaque_key (map.get m.keys id) ≡ b → is_opaque_key (map.get m.keys id) ≡ false
+    by_test true opaque = absurd (none (has_slot m id sound opaque))
+    by_test false local = local
+
+-- WHAT THE KEY'S ROWS LEAVE OPEN
+
+of_not : (b : Bool) → not b ≡ false → b ≡ true
+of_not true e = refl
+of_not false e = cc
+
+module _ (call : ElementCall) (key : Key) (none : first_row (key_rows call (Some key)) ≡ None) where
+  pub type_fits : IsTrue (fits_type (algorithm_asked call) key.attributes.key_type.0)
+  type_fits = of_not (fits_type (algorithm_asked call) key.attributes.key_type.0) (none_holds (key_rows call (Some key)) 3 none)
+
+-- THE ANSWER
+
+some_is : (o : Option HeldKey) (P : HeldKey → Type 0) (k : HeldKey) → IsSomeKey o P → IsSomeKey o (λ h. h ≡ k) → P k
+some_is None P k p is = absurd p
+some_is (Some key) P k p is = subst P is p
+
+-- what holds of the key under a handle, where the device tells it
+told_key : (held : Option HeldKeys) (handle : ℕ) (P : HeldKey → Type 0) (k : HeldKey) → HoldsHandle held handle P → HoldsHandle held handle (λ h. h ≡ k) → is_some held ≡ true → P k
+told_key None handle P k p is tells = cc
+told_key (Some held) handle P k p is tells = some_is (held_key held handle) P k p is
+
+pub holds_type : (held : Option HeldKeys) (handle : ℕ) (k : HeldKey) (P : HeldKey → Type 0) → HoldsHandle held handle (λ h. h ≡ k) → P k → HoldsHandle held handle P
+holds_type None handle k P is p = tt
+holds_type (Some held) handle k P is p = some (held_key held handle) is
+  where
+    some : (o : Option HeldKey) → IsSomeKey o (λ h. h ≡ k) → IsSomeKey o P
+    some None is = is
+    some (Some key) is = subst P (sym is) p
+
+abbrev pub held_of : Key → HeldKey
+held_of key = record { key_type = key.attributes.key_type.0; bytes = key.bytes }
+
+-- what the element computed is the answer
+pub answered : (held : Option HeldKeys) (id : ℕ) (call : ElementCall) (old new : List ℕ) (result : Result ℕ NotComputed) (m : model.Store) (key : Key) (handle : ℕ) →
+    map.get m.keys id ≡ Some key → HoldsHandle held handle (λ h. h ≡ held_of key) → first_row (key_rows call (Some key)) ≡ None →
+    IsComputed held handle call old new result → IsAnswered held id call old new result m
+answered held id call old new result m key handle there is none computed =
+    let room : ℕ = length old in
+    let rows : first_row (rows_before call room) ≡ first_row (all_rows call room (map.get m.keys id)) =
+    sym (first_row-back (key_rows call (Some key)) (rows_before call room) none) ∙ ap (λ found. first_row (all_rows call room found)) (sym there) in
+    let reply : reply_to call result key.bytes room ≡ marked_reply (mark_computed result) (reply_on call room (map.get m.keys id)) =
+    ap (marked_reply (mark_computed result)) (ap (λ o. reply_unless o (element_reply call key.bytes room)) (sym none) ∙ ap (reply_on call room) (sym there)) in
+    record {
+      decided = subst (λ o. MatchOption o (IsOfElement call result) (λ status. result ≡ Err (Refused status))) rows computed.decided;
+      reply = λ tells. subst (AnswersCall call result) reply (told_key held handle (λ k. AnswersCall call result (reply_to call result k.bytes room)) (held_of key) computed.reply is tells);
+      buffer = λ tells. told_key held handle (λ k. new ≡ buffer_after old (reply_to call result k.bytes room)) (held_of key) computed.buffer is tells ∙ ap (buffer_after old) reply;
+      spoilt = λ failed. computed.spoilt key.bytes failed ∙ ap (buffer_after old) reply;
+      kept = computed.kept;
+      rest = computed.rest;
+    }
+
+-- a row of the key refuses
+pub unused : (held : Option HeldKeys) (id : ℕ) (call : ElementCall) (old : List ℕ) (m : model.Store) (key : Key) (status : Status) →
+    map.get m.keys id ≡ Some key → first_row (key_rows call (Some key)) ≡ Some status → IsAnswered held id call old old (Err (Refused status)) m
+unused held id call old m key status there refused =
+    let room : ℕ = length old in
+    let result : Result ℕ NotComputed = Err (Refused status) in
+    let rows : Some status ≡ first_row (all_rows call room (map.get m.keys id)) =
+    sym (first_row-front (key_rows call (Some key)) (rows_before call room) status refused) ∙ ap (λ found. first_row (all_rows call room found)) (sym there) in
+    let reply : refusal status ≡ reply_on call room (map.get m.keys id) =
+    ap (λ o. reply_unless o (element_reply call key.bytes room)) (sym refused) ∙ ap (reply_on call room) (sym there) in
+    record {
+      decided = subst (λ o. MatchOption o (IsOfElement call result) (λ status. result ≡ Err (Refused status))) rows refl;
+      reply = λ tells. subst (AnswersCall call result) reply (refl, refl);
+      buffer = λ tells. ap (buffer_after old) reply;
+      spoilt = λ failed. cc;
+      kept = λ status e. refl;
+      rest = refl;
+    }
+
+-- THE TURN
+
+module _ {D A C : Type 0} (told : D → Option (List ℕ)) (may_leave : D → List ℕ → Type 0) (moment : D → ℕ) (left_since : D → ℕ → List ℕ → Type 0)
+    (faults : D → ℕ) (held : A → Option HeldKeys) (hard : A → ℕ) (locations : A → List ℕ) (labels : C → List Label)
+    (only_now : (disk : D) (image : List ℕ) → left_since disk (moment disk) image → may_leave disk image)
+    (old : Store D A C) (devices : A) (start : Service) (opening : Opening) (h : List Entry) (all : List Pairs) (e : Entry) where
+  -- with what a device is that computed
+  abbrev pub computed_by : Store D A C
+  computed_by = record old { devices = devices }
+
+  abbrev pub new : Store D A C
+  new = turned told may_leave moment left_since faults held hard locations labels computed_by old.slots
+
+  abbrev Known : Type 0
+  Known = IsTold (told old.file.cells.disk) start (h ++ e ∷ [])
+
+  device_computed : (s : HoldsHere told may_leave moment left_since faults held hard locations labels Known old start opening h all) →
+      held devices ≡ held old.devices → locations devices ≡ locations old.devices →
+      (n : HoldsHere told may_leave moment left_since faults held hard locations labels Known computed_by start opening h all) × (n.model ≡ s.model)
+  device_computed s same there = (
+    record {
+      model = s.model;
+      replayed = s.replayed;
+      sound = s.sound;
+      labels_are = s.labels_are;
+      locations_are = s.locations_are ∙ sym there;
+      has_file = s.has_file;
+      found = s.found;
+      calls = s.calls;
+      made = s.made;
+      live = s.live;
+      kept = s.kept;
+      ranked = s.ranked;
+      slots = s.slots;
+      holdings = s.holdings;
+      directory = s.directory;
+      device = subst (λ keys. HoldsKeys keys s.model) (sym same) s.device;
+      file = s.file;
+      promise = s.promise;
+      caused = s.caused;
+      allowed = s.allowed;
+    },
+    refl,
+  )
+
+  -- a turn ends in which the element was asked or not
+  pub ends_computed : (call : Call) (mark : FaultMark) (P : model.Store → Type 0) → (s : StandsHere told may_leave moment left_since faults held hard locations labels old start opening h all) →
+      e.call ≡ OnStore call → may_change_keys (OnStore call) ≡ false → held devices ≡ held old.devices → locations devices ≡ locations old.devices →
+      HasFault (is_some (told old.file.cells.disk)) (last_counts opening.counts h) e mark →
+      ((service : Service) → service.store ≡ s.holds.model → MayBeMarked service e.caller (OnStore call) mark) → P (counted s.holds.model) →
+      IsTurn told may_leave moment left_since faults held hard locations labels new mark e →
+      (n : StandsHere told may_leave moment left_since faults held hard locations labels new start opening (h ++ e ∷ []) all) × P n.holds.model
+  ends_computed call mark P s is still same there fault may holds turn =
+      let told_here = told old.file.cells.disk in
+      let n = goes_on told may_leave moment left_since faults held hard locations labels old start opening h old.file old.slots old.buffer all Known
+      (left_alone told may_leave moment left_since faults held hard locations labels old.file) (told_before told_here start h e) s.holds s.holds.slots in
+      let d = device_computed n.0 same there in
+      let model_is : d.0.model ≡ s.holds.model = d.1 ∙ n.1 in
+      let ends = ends_quiet told may_leave moment left_since faults held hard locations labels only_now computed_by old.slots mark start opening h all all e d.0 d.0.slots d.0.holdings fault
+      (λ k. subst (λ request. MayBeMarked (replay start h) e.caller request mark) (sym is) (may (replay start h) (sym (d.0.replayed k) ∙ model_is)))
+      (ap may_change_keys is ∙ still) turn in
+      (ends.0, subst P (sym (ends.1 ∙ ap counted model_is)) holds)
+
+-- the element failed
+pub may_fail : (service : Service) (caller id room : ℕ) (call : ElementCall) → is_opaque_key (map.get service.store.keys id) ≡ true → first_row (all_rows call room (map.get service.store.keys id)) ≡ None →
+    MayBeMarked service caller (OnStore (model_call call id room)) Hardware
+may_fail service caller id room call opaque none = either _ _ (asks service caller id room call opaque none)
+  where
+    either : (a b : Bool) → b ≡ true → (a || b) ≡ true
+    either true b e = refl
+    either false b e = e
+
+-- a failure comes only where no row refused
+pub unrefused : (o : Option Status) (P : Type 0) (result : Result ℕ NotComputed) → result ≡ Err Failed → MatchOption o P (λ status. result ≡ Err (Refused status)) → o ≡ None
+unrefused None P result failed decided = refl
+unrefused (Some status) P result failed decided = cc
+
+pub fault_of : (result : Result ℕ NotComputed) (tells : Bool) (before : FaultCounts) (e : Entry) → (IsErrOf result Failed → Rose before.hard e.hard) → HasFault tells before e (mark_computed result)
+fault_of (Ok n) tells before e rose = tt
+fault_of (Err (Refused status)) tells before e rose = tt
+fault_of (Err Failed) tells before e rose = rose refl
+
+pub mark_may : (held : Option HeldKeys) (id : ℕ) (call : ElementCall) (old new : List ℕ) (result : Result ℕ NotComputed) (m : model.Store) → IsAnswered held id call old new result m →
+    is_opaque_key (map.get m.keys id) ≡ true → (service : Service) (caller : ℕ) → service.store ≡ m → MayBeMarked service caller (OnStore (model_call call id (length old))) (mark_computed result)
+mark_may held id call old new (Ok n) m answer opaque service caller is = tt
+mark_may held id call old new (Err (Refused status)) m answer opaque service caller is = tt
+mark_may held id call old new (Err Failed) m answer opaque service caller is =
+    let none = unrefused (first_row (all_rows call (length old) (map.get m.keys id))) (IsOfElement call (Err Failed)) (Err Failed) refl answer.decided in
+    may_fail service caller id (length old) call (subst (λ (x : model.Store). is_opaque_key (map.get x.keys id) ≡ true) (sym is) opaque)
+    (subst (λ (x : model.Store). first_row (all_rows call (length old) (map.get x.keys id)) ≡ None) (sym is) none)
+
+-- what was checked are the key's rows
+pub checked_rows : (call : ElementCall) (key : Key) (class : Class) (usage alg : ℕ) (result : Result (Unit {0}) Status) → class ≡ class_asked call → usage ≡ usage_asked call → alg ≡ algorithm_asked call →
+    result ≡ unless (first_row (use_rows true class usage alg (Some key))) tt → result ≡ unless (first_row (key_rows call (Some key))) tt
+checked_rows call key class usage alg result c u a is = is ∙ (λ i. unless (first_row (use_rows true (c i) (u i) (a i) (Some key))) tt)

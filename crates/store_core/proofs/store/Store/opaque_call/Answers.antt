@@ -1,0 +1,88 @@
+use Rattle.std.proofs.Common.{◌≡◌, ◌∙◌, length, Some, Err, IsTrue, refl, sym, ap, subst}
+use Rattle.psa_status.specs.Causes.{Rose}
+use Rattle.psa_status.specs.Rows.{first_row}
+use Rattle.psa_status.proofs.Rows.{unless-ok, unless-err}
+use Rattle.driver_dispatch.specs.Calls.{HoldsHandle, has_element}
+use Rattle.store_model.specs.Faults.{Plain}
+use Rattle.store_model.specs.Marks.{FaultCounts, last_counts}
+use Rattle.store_model.specs.Outcome.{counted}
+use Rattle.store_model.specs.Rules.{fits_type}
+use Rattle.store_model.specs.Store.{is_opaque_key}
+use Rattle.element_calls.specs.Answers.{mark_computed}
+use Rattle.element_calls.specs.Calls.{algorithm_asked, model_call}
+use Rattle.element_calls.specs.declared.calls.NotComputed.TheVariants.{Refused}
+use Rattle.element_calls.specs.Replies.{key_rows}
+use Rattle.store_core.specs.Opaque.{IsAnswered}
+use Rattle.store_core.proofs.ByElement.{answered, checked_rows, ends_computed, fault_of, has_slot, held_of, holds_type, keeps_keys, mark_may, type_fits, unused}
+use Rattle.store_core.proofs.Destroyed.{element_there}
+use Rattle.store_core.proofs.store.Store.opaque_call.Goals as goal
+
+pub unreachable-requires : goal.unreachable-requires
+unreachable-requires g c =
+    let at = c.requires.stands in
+    let s = at.4 in
+    c.in_default.ensures.none s.holds.model at.3 s.holds.slots (has_slot s.holds.model c.args.id.0 s.holds.sound (c.requires.opaque at.0 at.1 at.2 at.3 s))
+
+pub compute-requires-clause-element : goal.compute-requires-clause-element
+compute-requires-clause-element g c κs within =
+    let at = c.requires.stands in
+    let s = at.4 in
+    let k = c.in-Some.ensures.key s.holds.model at.3 s.holds.slots in
+    let own = sym (ap is_opaque_key k.1) ∙ c.requires.opaque at.0 at.1 at.2 at.3 s in
+    ap has_element (sym s.holds.locations_are) ∙ element_there s.holds.model c.args.id.0 k.0 k.1 s.holds.sound own
+
+pub compute-requires-clause-fits : goal.compute-requires-clause-fits
+compute-requires-clause-fits g c κs within =
+    let held = g.A.Devices.keys c.args.self.now.devices in
+    let at = c.requires.stands in
+    let s = at.4 in
+    let k = c.in-Some.ensures.key s.holds.model at.3 s.holds.slots in
+    let own = sym (ap is_opaque_key k.1) ∙ c.requires.opaque at.0 at.1 at.2 at.3 s in
+    let rows = checked_rows c.args.call.now k.0 c.class.result c.usage.result.0 c.algorithm.result.0 c.check_use.result c.class.ensures c.usage.ensures c.algorithm.ensures
+    (c.check_use.ensures k.0 (sym k.2.attributes ∙ sym c.attributes-attributes.ensures)) in
+    let none = (unless-ok (first_row (key_rows c.args.call.now (Some k.0))) tt c.in-Ok.field-0 (sym rows ∙ c.in-Ok.is)).0 in
+    subst (λ n. HoldsHandle held n (λ key. IsTrue (fits_type (algorithm_asked c.args.call.now) key.key_type))) (sym (c.number.ensures ∙ k.2.number))
+    (holds_type held k.0.number (held_of k.0) _ (s.holds.device.there c.args.id.0 k.0 k.1 own) (type_fits c.args.call.now k.0 none))
+
+pub returns-in-Ok-clause-made : goal.returns-in-Ok-clause-made
+returns-in-Ok-clause-made g c = λ start opening h all e s is turn.
+    let d = g.D.Disk in
+    let v = g.A.Devices in
+    let old = c.args.self.now in
+    let held = v.keys old.devices in
+    let m = s.holds.model in
+    let call = c.args.call.now in
+    let id = c.args.id.0 in
+    let k = c.in-Some.ensures.key m all s.holds.slots in
+    let opaque = c.requires.opaque start opening h all s in
+    let own = sym (ap is_opaque_key k.1) ∙ opaque in
+    let rows = checked_rows call k.0 c.class.result c.usage.result.0 c.algorithm.result.0 c.check_use.result c.class.ensures c.usage.ensures c.algorithm.ensures
+    (c.check_use.ensures k.0 (sym k.2.attributes ∙ sym c.attributes-attributes.ensures)) in
+    let none = (unless-ok (first_row (key_rows call (Some k.0))) tt c.in-Ok.field-0 (sym rows ∙ c.in-Ok.is)).0 in
+    let there = subst (λ n. HoldsHandle held n (λ h. h ≡ held_of k.0)) (sym (c.number.ensures ∙ k.2.number)) (s.holds.device.there id k.0 k.1 own) in
+    let answer = answered held id call c.args.out.now c.compute.new.out c.compute.result (counted m) k.0 c.number.result k.1 there none c.compute.ensures.computed in
+    let decided = answered held id call c.args.out.now c.compute.new.out c.compute.result m k.0 c.number.result k.1 there none c.compute.ensures.computed in
+    ends_computed d.contents d.may_leave d.moment d.left_since d.faults v.keys v.faults v.locations g.C.Admission.labels g.met.D.Disk.only_now old c.compute.new.devices start opening h all e
+    (model_call call id (length c.args.out.now)) (mark_computed c.compute.result) (IsAnswered held id call c.args.out.now c.compute.new.out c.compute.result) s is (keeps_keys call id (length c.args.out.now))
+    c.compute.ensures.keys c.compute.ensures.locations
+    (fault_of c.compute.result _ (last_counts opening.counts h) e (λ failed.
+    subst (Rose (last_counts opening.counts h).hard) (sym turn.device_faults) (subst (λ n. Rose n (v.faults c.compute.new.devices)) (sym (ap (λ (x : FaultCounts). x.hard) s.counts)) (c.compute.ensures.failed failed))))
+    (λ service same. mark_may held id call c.args.out.now c.compute.new.out c.compute.result m decided opaque service e.caller same) answer turn
+
+pub returns-in-Err-clause-made : goal.returns-in-Err-clause-made
+returns-in-Err-clause-made g c = λ start opening h all e s is turn.
+    let d = g.D.Disk in
+    let v = g.A.Devices in
+    let old = c.args.self.now in
+    let held = v.keys old.devices in
+    let m = s.holds.model in
+    let call = c.args.call.now in
+    let id = c.args.id.0 in
+    let out = c.args.out.now in
+    let k = c.in-Some.ensures.key m all s.holds.slots in
+    let rows = checked_rows call k.0 c.class.result c.usage.result.0 c.algorithm.result.0 c.check_use.result c.class.ensures c.usage.ensures c.algorithm.ensures
+    (c.check_use.ensures k.0 (sym k.2.attributes ∙ sym c.attributes-attributes.ensures)) in
+    let refused = unless-err (first_row (key_rows call (Some k.0))) tt c.in-Err.status (sym rows ∙ c.in-Err.is) in
+    ends_computed d.contents d.may_leave d.moment d.left_since d.faults v.keys v.faults v.locations g.C.Admission.labels g.met.D.Disk.only_now old old.devices start opening h all e
+    (model_call call id (length out)) Plain (IsAnswered held id call out out (Err (Refused c.in-Err.status))) s is (keeps_keys call id (length out)) refl refl tt (λ service same. tt)
+    (unused held id call out (counted m) k.0 c.in-Err.status k.1 refused) turn

@@ -1,0 +1,41 @@
+-- Turns in which the secure element computes.
+use Rattle.std.specs.Prelude.{ℕ, ◌≡◌, true, List, [], ◌∷◌, ◌++◌, length, drop, Option, is_some, Result, Err, MatchOption}
+use Rattle.std.specs.FinMap as map
+use Rattle.psa_status.specs.declared.Status.{Status}
+use Rattle.psa_status.specs.Rows.{first_row}
+use Rattle.policy_rules.specs.declared.narrowing.Label.{Label}
+use Rattle.driver_dispatch.specs.Held.{HeldKeys}
+use Rattle.key_slots.specs.Holdings.{Pairs}
+use Rattle.store_model.specs.Store as model
+use Rattle.store_model.specs.Call.{Call, buffer_after}
+use Rattle.store_model.specs.Faults.{FaultMark, marked_reply}
+use Rattle.store_model.specs.Handles.{Service}
+use Rattle.store_model.specs.Replay.{Entry}
+use Rattle.store_model.specs.Requests.{OnStore}
+use Rattle.element_calls.specs.declared.calls.ElementCall.{ElementCall}
+use Rattle.element_calls.specs.declared.calls.NotComputed.{NotComputed}
+use Rattle.element_calls.specs.declared.calls.NotComputed.TheVariants.{Refused, Failed}
+use Rattle.element_calls.specs.Answers.{AnswersCall, IsOfElement, mark_computed}
+use Rattle.element_calls.specs.Calls.{needed_by}
+use Rattle.element_calls.specs.Replies.{all_rows, reply_on}
+use Rattle.store_core.specs.declared.store.Store.{Store}
+use Rattle.store_core.specs.Represents.{IsEntry, Opening, StandsFor}
+
+-- What a call answers, and what it makes of its output buffer, by what the model has at its key's identifier. Over a device
+-- that doesn't tell its keys, what the element computes is whatever it is.
+pub record IsAnswered (held : Option HeldKeys) (id : ℕ) (call : ElementCall) (old new : List ℕ) (result : Result ℕ NotComputed) (m : model.Store) : Type 0 where
+  pub decided : MatchOption (first_row (all_rows call (length old) (map.get m.keys id))) (IsOfElement call result) (λ status. result ≡ Err (Refused status))
+  pub reply : is_some held ≡ true → AnswersCall call result (marked_reply (mark_computed result) (reply_on call (length old) (map.get m.keys id)))
+  pub buffer : is_some held ≡ true → new ≡ buffer_after old (marked_reply (mark_computed result) (reply_on call (length old) (map.get m.keys id)))
+  pub spoilt : result ≡ Err Failed → new ≡ buffer_after old (marked_reply (mark_computed result) (reply_on call (length old) (map.get m.keys id)))
+  pub kept : (status : Status) → result ≡ Err (Refused status) → new ≡ old
+  pub rest : drop (needed_by call) new ≡ drop (needed_by call) old
+
+module _ {D A C : Type 0} (told : D → Option (List ℕ)) (may_leave : D → List ℕ → Type 0) (moment : D → ℕ) (left_since : D → ℕ → List ℕ → Type 0)
+    (faults : D → ℕ) (held : A → Option HeldKeys) (hard : A → ℕ) (locations : A → List ℕ) (labels : C → List Label) (old new : Store D A C) where
+  -- a ranked turn that makes a call of the model, of whose model P holds afterwards
+  abbrev pub Makes : Call → FaultMark → (model.Store → Type 0) → Type 0
+  Makes call mark P = (start : Service) (opening : Opening) (h : List Entry) (all : List Pairs) (e : Entry) →
+      StandsFor told may_leave moment left_since faults held hard locations labels old start opening h all → e.call ≡ OnStore call →
+      IsEntry told may_leave moment left_since faults held hard locations labels new mark e →
+      (n : StandsFor told may_leave moment left_since faults held hard locations labels new start opening (h ++ e ∷ []) all) × P n.holds.model

@@ -1,0 +1,67 @@
+//! Turns in which the secure element computes with its keys.
+ghost use Rattle.std.specs.Prelude.{◌≡◌, ◌<◌, ◌^◌, ◌+◌, true, length, IsErrOf};
+ghost use Rattle.std.specs.FinMap as map;
+ghost use Rattle.psa_status.specs.Causes.{Rose};
+ghost use Rattle.store_model.specs.Store.{is_opaque_key};
+ghost use Rattle.element_calls.specs.Answers.{IsOfServed, IsRefusedBefore, mark_computed};
+ghost use Rattle.element_calls.specs.Calls.{AsksElement, model_call};
+ghost use Rattle.element_calls.specs.declared.calls.NotComputed.TheVariants as not;
+ghost use Rattle.store_core.specs.Opaque.{IsAnswered, Makes};
+ghost use Rattle.store_core.specs.Represents.{HoldsOf, Stands};
+
+use crate::Store;
+use crate::check_use::check_use;
+use admission::Admission;
+use disk_face::Disk;
+use driver_dispatch::Devices;
+use element_calls::{ElementCall, NotComputed, compute};
+use key_attributes::KeyId;
+
+impl<D: Disk, A: Devices, C: Admission> Store<D, A, C> {
+    /// Whether a key is the secure element's. No rank, and no device is called.
+    pub fn is_opaque(&self, id: KeyId) -> bool
+        ensures { HoldsOf D.contents D.may_leave D.moment D.left_since D.faults A.keys A.faults A.locations C.labels self.now
+            (λ m. is_opaque_key (map.get m.keys id.0) ≡ result) }
+    {
+        match self.slots.find(id) {
+            Some(slot) => self.slots.attributes(slot).lifetime.0 >> 8 == 1,
+            None => false,
+        }
+    }
+
+    /// Has the secure element compute a call with its key, and answers how many bytes it wrote to the front of an output
+    /// buffer. `Failed` where the element failed: zeros then stand in place of what was needed. Any other refusal leaves the
+    /// buffer. Ranked.
+    pub fn opaque_call(
+        &mut self,
+        id: KeyId,
+        call: &ElementCall,
+        out: &mut [u8],
+    ) -> Result<usize, NotComputed>
+        requires stands { Stands D.contents D.may_leave D.moment D.left_since D.faults A.keys A.faults A.locations C.labels self.old }
+        requires few { self.old.ranked < 2 ^ 62 }
+        requires opaque { HoldsOf D.contents D.may_leave D.moment D.left_since D.faults A.keys A.faults A.locations C.labels self.old
+            (λ m. is_opaque_key (map.get m.keys id.0) ≡ true) }
+        ensures made { Makes D.contents D.may_leave D.moment D.left_since D.faults A.keys A.faults A.locations C.labels self.old self.new
+            (model_call call.now id.0 (length out.old)) (mark_computed result) (IsAnswered (A.keys self.old.devices) id.0 call.now out.old out.new result) }
+        ensures served { IsOfServed result → AsksElement call.now → Rose (A.served self.old.devices) (A.served self.new.devices) }
+        ensures unasked { IsRefusedBefore result → self.new.devices ≡ self.old.devices }
+        ensures failed { IsErrOf result not.Failed → Rose (A.faults self.old.devices) (A.faults self.new.devices) }
+        ensures file { self.new.file ≡ self.old.file }
+        ensures slots { self.new.slots ≡ self.old.slots }
+        ensures rules { self.new.rules ≡ self.old.rules }
+        ensures keys { A.keys self.new.devices ≡ A.keys self.old.devices }
+        ensures buffer { self.new.buffer ≡ self.old.buffer }
+        ensures opened { self.new.opened ≡ self.old.opened }
+    {
+        self.ranked += 1;
+        let Some(slot) = self.slots.find(id) else {
+            unreachable!();
+        };
+        let attributes = self.slots.attributes(slot);
+        match check_use(call.class(), call.usage(), call.algorithm(), attributes) {
+            Ok(()) => compute(&mut self.devices, self.slots.number(slot), call, out),
+            Err(status) => Err(NotComputed::Refused(status)),
+        }
+    }
+}
