@@ -1,5 +1,5 @@
 -- What the table of creations has decided of a key that is to be made.
-use Rattle.std.proofs.Common.{◌≡◌, ◌≢◌, ◌∙◌, ℕ, ◌*◌, ◌/◌, ◌%◌, ◌^◌, ◌<◌, ◌≤◌, ◌==◌, ◌&&◌, ◌||◌, Bool, true, false, not, cond, nat_le, nat_lt, List, length, refl, sym, ap, subst, arith, Option, None, Some, is_some}
+use Rattle.std.proofs.Common.{◌≡◌, ◌≢◌, ◌∙◌, ℕ, ◌*◌, ◌/◌, ◌%◌, ◌^◌, ◌<◌, ◌≤◌, ◌==◌, ◌&&◌, ◌||◌, Bool, true, false, not, cond, nat_le, nat_lt, List, length, refl, sym, ap, subst, arith, eq-eqb, Option, None, Some, is_some}
 use Rattle.std.proofs.lemmas.Bool.{false≢true, eqb-true}
 use Rattle.std.proofs.lemmas.Bool.Decides.{nat_tests}
 use Rattle.std.proofs.lemmas.Cmp.{ranked}
@@ -39,7 +39,23 @@ of_not false is = absurd (false≢true (sym is))
 both : (a b : Bool) → a ≡ true → b ≡ true → (a && b) ≡ true
 both a b one other = ap (λ x. x && b) one ∙ other
 
+apart : (n k : ℕ) → n ≢ k → (n == k) ≡ false
+apart n k differ = grind (arith, nat_tests)
+
 -- THE ATTRIBUTES
+
+-- a lifetime as the code looks at it
+pub volatile_by : (a : Attributes) → a.lifetime.0 % 2 ^ 8 ≡ 0 → is_volatile a ≡ true
+volatile_by a is = eq-eqb (a.lifetime.0 % 2 ^ 8) 0 is
+
+pub lasting_by : (a : Attributes) → a.lifetime.0 % 2 ^ 8 ≢ 0 → is_volatile a ≡ false
+lasting_by a is = apart (a.lifetime.0 % 2 ^ 8) 0 is
+
+pub opaque_by : (a : Attributes) → a.lifetime.0 / 2 ^ 8 ≡ 1 → is_opaque a ≡ true
+opaque_by a is = eq-eqb (a.lifetime.0 / 2 ^ 8) 1 is
+
+pub local_by : (a : Attributes) → a.lifetime.0 / 2 ^ 8 ≢ 1 → is_opaque a ≡ false
+local_by a is = apart (a.lifetime.0 / 2 ^ 8) 1 is
 
 kept_lifetime : (l : ℕ) (driver : Bool) → (l % 2 ^ 8 == 0) ≡ false → is_lifetime l driver ≡ true → l ≡ 1
 kept_lifetime l driver lasts is = at (l % 2 ^ 8 == 0) (l / 2 ^ 8 == 0 || (l / 2 ^ 8 == 1 && driver)) (l % 2 ^ 8 == 1) (l / 2 ^ 8 == 0) lasts is refl refl where
