@@ -160,10 +160,11 @@ impl<D: Disk, A: Devices, C: Admission> Store<D, A, C> {
             (λ m. RecordsStated (option_map (λ l. l.now) lease.entry) caller attributes.now bytes m result) }
         ensures short { OnOk result (bytes ≤ 1024) }
     {
-        if let Some(lease) = lease {
-            if !self.slots.is_alive(lease) {
-                return Err(Status::InvalidHandle);
-            }
+        let Some(lease) = lease else {
+            return self.recorded(caller, attributes, bytes);
+        };
+        if !self.slots.is_alive(lease) {
+            return Err(Status::InvalidHandle);
         }
         self.recorded(caller, attributes, bytes)
     }

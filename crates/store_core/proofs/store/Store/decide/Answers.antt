@@ -1,2 +1,24 @@
-use Rattle.std.proofs.Common.{◌≡◌, ◌∙◌, ℕ, List, refl, sym, ap, subst, arith}
+use Rattle.std.proofs.Common.{◌≡◌, ◌∙◌, ◌+◌, ◌<◌, ℕ, List, refl, sym, ap, subst, arith, inl, inr, Option, Some}
+use Rattle.std.proofs.lemmas.Bool.{false≢true}
+use Rattle.std.specs.Option.{option_map}
+use Rattle.key_slots.specs.Holdings.{named}
+use Rattle.store_core.specs.Creations.{IsLent, IsLentOut, RecordsStated}
 use Rattle.store_core.proofs.store.Store.decide.Goals as goal
+
+pub is_alive-requires : goal.is_alive-requires
+is_alive-requires g c =
+    let d = g.D.Disk in
+    let v = g.A.Devices in
+    let out = subst (λ (o : Option _). IsLentOut d.contents d.may_leave d.moment d.left_since d.faults v.keys v.faults v.locations g.C.Admission.labels c.args.self.now (option_map (λ l. l.now) o)) c.in-Some.is c.requires.lent in
+    let s = out.4.holds in
+    record { store = s.model; all = out.3; agrees = s.slots; out = out.5 }
+
+pub returns-in_default-clause-value : goal.returns-in_default-clause-value
+returns-in_default-clause-value g c = λ start opening h all e s lent.
+    subst (λ (o : Option _). RecordsStated (option_map (λ l. l.now) o) c.args.caller c.args.attributes.now c.args.bytes s.model c.recorded.result) (sym c.in_default.is) (c.recorded.ensures.value start opening h all e s)
+
+pub returns-clause-value : goal.returns-clause-value
+returns-clause-value g c = λ start opening h all e s lent.
+    let out = subst (λ (o : Option _). IsLent (option_map (λ l. l.now) o) all) c.in-Some.is lent in
+    subst (λ (o : Option _). RecordsStated (option_map (λ l. l.now) o) c.args.caller c.args.attributes.now c.args.bytes s.model c.recorded-2.result) (sym c.in-Some.is)
+    (inl ((c.if-not-is_alive.ensures s.model all s.slots out).0 refl, c.recorded-2.ensures.value start opening h all e s))
