@@ -13,6 +13,7 @@ mod Checked
 mod Makes
 mod MakesKept
 mod MakesVolatile
+mod Finishing
 mod FoundMap
 mod OpenCells
 mod Openings

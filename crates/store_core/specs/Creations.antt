@@ -30,7 +30,7 @@ use Rattle.store_core.specs.declared.creating.NotMade.TheVariants as unmade
 use Rattle.store_core.specs.declared.copying.NotCopied.{NotCopied}
 use Rattle.store_core.specs.declared.copying.NotCopied.TheVariants as uncopied
 use Rattle.store_core.specs.Durability.{is_destruction}
-use Rattle.store_core.specs.Represents.{Told, Holds, Opening, StandsFor, IsEntry, HasOut}
+use Rattle.store_core.specs.Represents.{Told, Holds, Opening, StandsFor, IsEntry}
 use Rattle.store_core.specs.Uses.{status_of, mark_of, there_rows, IsRefused}
 
 -- WHAT IS DECIDED
@@ -115,10 +115,12 @@ module _ {D A C : Type 0} (told : D → Option (List ℕ)) (may_leave : D → Li
   abbrev IsEntryHere : Store D A C → FaultMark → Entry → Type 0
   IsEntryHere = IsEntry told may_leave moment left_since faults held hard locations labels
 
-  -- a lease, where there is one, is out of the store
-  abbrev pub IsLentOut : Store D A C → Option lent.Reading → Type 0
-  IsLentOut store None = Unit {0}
-  IsLentOut store (Some lease) = HasOut told may_leave moment left_since faults held hard locations labels store (lease.slot, lease.creation + 1)
+  -- the store stands for something, of which the lease is out, where there is one; and a pair is
+  abbrev pub StandsLent : Store D A C → Option lent.Reading → Type 0
+  StandsLent store lease = (start : Service) × (opening : Opening) × (h : List Entry) × (all : List Pairs) × StandsForHere store start opening h all × IsLent lease all
+
+  abbrev pub HasOutBeside : Store D A C → ℕ × ℕ → Option lent.Reading → Type 0
+  HasOutBeside store p lease = (start : Service) × (opening : Opening) × (h : List Entry) × (all : List Pairs) × StandsForHere store start opening h all × (0 < named p.0 p.1 all) × IsLent lease all
 
   -- The request of an entry is to create a key. It destroys none, and where no device fails it leaves and answers what a
   -- creation does that records so, of a key with these bytes.

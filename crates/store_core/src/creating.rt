@@ -14,8 +14,8 @@ ghost use Rattle.store_model.specs.Store as model;
 ghost use Rattle.store_model.specs.Store.{Key, first_volatile, is_opaque, is_volatile};
 ghost use Rattle.store_model.specs.Creation.{identified, new_id};
 ghost use Rattle.store_model.specs.Faults.{Plain};
-ghost use Rattle.store_core.specs.Represents.{HasOut, ranked_on};
-ghost use Rattle.store_core.specs.Creations.{Creates, Enters, HoldsLent, IsLentOut, IsMade, IsSomeReady, IsUnkept, IsUnmade, RecordsStated, mark_unkept, mark_unmade, status_unkept, status_unmade};
+ghost use Rattle.store_core.specs.Represents.{ranked_on};
+ghost use Rattle.store_core.specs.Creations.{Creates, Enters, HasOutBeside, HoldsLent, IsMade, IsSomeReady, IsUnkept, IsUnmade, RecordsStated, StandsLent, mark_unkept, mark_unmade, status_unkept, status_unmade};
 
 use crate::Store;
 use admission::Admission;
@@ -84,8 +84,7 @@ impl<D: Disk, A: Devices, C: Admission> Store<D, A, C> {
     ) -> Result<KeyId, NotMade>
         requires first { 1 ≤ caller }
         requires last { caller ≤ 16 }
-        requires out { HasOut D.contents D.may_leave D.moment D.left_since D.faults A.keys A.faults A.locations C.labels self.old (filling.slot, 0) }
-        requires lent { IsLentOut D.contents D.may_leave D.moment D.left_since D.faults A.keys A.faults A.locations C.labels self.old (option_map (λ l. l.now) lease) }
+        requires out { HasOutBeside D.contents D.may_leave D.moment D.left_since D.faults A.keys A.faults A.locations C.labels self.old (filling.slot, 0) (option_map (λ l. l.now) lease) }
         requires size { D.size self.old.file.cells.disk ≡ 557120 }
         requires few { self.old.ranked < 2 ^ 62 }
         ensures size { D.size self.new.file.cells.disk ≡ 557120 }
@@ -114,8 +113,7 @@ impl<D: Disk, A: Devices, C: Admission> Store<D, A, C> {
     ) -> Result<KeyId, NotMade>
         requires first { 1 ≤ caller }
         requires last { caller ≤ 16 }
-        requires out { HasOut D.contents D.may_leave D.moment D.left_since D.faults A.keys A.faults A.locations C.labels self.old (filling.slot, 0) }
-        requires lent { IsLentOut D.contents D.may_leave D.moment D.left_since D.faults A.keys A.faults A.locations C.labels self.old (option_map (λ l. l.now) lease) }
+        requires out { HasOutBeside D.contents D.may_leave D.moment D.left_since D.faults A.keys A.faults A.locations C.labels self.old (filling.slot, 0) (option_map (λ l. l.now) lease) }
         requires size { D.size self.old.file.cells.disk ≡ 557120 }
         requires few { self.old.ranked < 2 ^ 62 }
         ensures size { D.size self.new.file.cells.disk ≡ 557120 }
@@ -155,7 +153,7 @@ impl<D: Disk, A: Devices, C: Admission> Store<D, A, C> {
         lease: Option<&Lease>,
     ) -> Result<Attributes, Status>
         requires last { caller ≤ 16 }
-        requires lent { IsLentOut D.contents D.may_leave D.moment D.left_since D.faults A.keys A.faults A.locations C.labels self.now (option_map (λ l. l.now) lease) }
+        requires lent { StandsLent D.contents D.may_leave D.moment D.left_since D.faults A.keys A.faults A.locations C.labels self.now (option_map (λ l. l.now) lease) }
         ensures value { HoldsLent D.contents D.may_leave D.moment D.left_since D.faults A.keys A.faults A.locations C.labels self.now (option_map (λ l. l.now) lease.entry)
             (λ m. RecordsStated (option_map (λ l. l.now) lease.entry) caller attributes.now bytes m result) }
         ensures short { OnOk result (bytes ≤ 1024) }

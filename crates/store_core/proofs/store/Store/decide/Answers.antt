@@ -2,16 +2,14 @@ use Rattle.std.proofs.Common.{◌≡◌, ◌∙◌, ◌+◌, ◌<◌, ℕ, List,
 use Rattle.std.proofs.lemmas.Bool.{false≢true}
 use Rattle.std.specs.Option.{option_map}
 use Rattle.key_slots.specs.Holdings.{named}
-use Rattle.store_core.specs.Creations.{IsLent, IsLentOut, RecordsStated}
+use Rattle.store_core.specs.Creations.{IsLent, RecordsStated}
 use Rattle.store_core.proofs.store.Store.decide.Goals as goal
 
 pub is_alive-requires : goal.is_alive-requires
 is_alive-requires g c =
-    let d = g.D.Disk in
-    let v = g.A.Devices in
-    let out = subst (λ (o : Option _). IsLentOut d.contents d.may_leave d.moment d.left_since d.faults v.keys v.faults v.locations g.C.Admission.labels c.args.self.now (option_map (λ l. l.now) o)) c.in-Some.is c.requires.lent in
-    let s = out.4.holds in
-    record { store = s.model; all = out.3; agrees = s.slots; out = out.5 }
+    let own = c.requires.lent in
+    let s = own.4.holds in
+    record { store = s.model; all = own.3; agrees = s.slots; out = subst (λ (o : Option _). IsLent (option_map (λ l. l.now) o) own.3) c.in-Some.is own.5 }
 
 pub returns-in_default-clause-value : goal.returns-in_default-clause-value
 returns-in_default-clause-value g c = λ start opening h all e s lent.
