@@ -1,7 +1,6 @@
 use Rattle.std.proofs.Common.{◌≡◌, ◌++◌, ℕ, List, refl, ap, ◌∙◌, append_assoc}
 use Rattle.std.specs.Prelude.{codes}
 use Rattle.std.specs.Fmt.{decimal}
-use Rattle.psa_status.specs.Status.{status_name}
 use Rattle.script_lang.specs.Replies.{reply_text, bytes_text}
 use Rattle.script_lang.proofs.replies.push_reply.Goals as goal
 
