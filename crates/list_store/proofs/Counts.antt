@@ -1,19 +1,14 @@
--- How many keys there are, and that there is room for one more.
-use Rattle.std.proofs.Common.{◌≡◌, ℕ, ◌+◌, ◌*◌, ◌/◌, ◌^◌, ◌<◌, ◌≤◌, Bool, true, false, cond, List, [], ◌∷◌, map, length, suc, zero, refl, ap, arith, subst, inl, inr}
-use Rattle.std.specs.Prelude.{◌==◌, nat_le, ◌&&◌, not, count_by, slice_index_or, slice_set}
+-- How many keys there are, that there is room for one more, and that the counts follow the list.
+use Rattle.std.proofs.Common.{◌≡◌, ℕ, ◌+◌, ◌-◌, ◌*◌, ◌/◌, ◌^◌, ◌<◌, ◌≤◌, Bool, true, false, cond, List, [], ◌∷◌, map, length, suc, zero, refl, ap, sym, ◌∙◌, arith, subst, inl, inr}
+use Rattle.std.specs.Prelude.{◌==◌, nat_le, ◌&&◌, not, slice_index, slice_index_or, slice_set}
 use Rattle.std.specs.List.{AllByRecursion, position_or_len}
+use Rattle.std.proofs.lemmas.Bool.{cases_eq}
 use Rattle.std.proofs.lemmas.Bool.Decides.{nat_tests}
-use Rattle.std.proofs.lemmas.List.Recursion.{is_count_by}
+use Rattle.std.proofs.lemmas.Grind.{common_steps}
+use Rattle.store_model.specs.Store.{is_volatile_of}
 use Rattle.list_store.specs.declared.entries.Entry.{Entry}
 use Rattle.list_store.specs.Entries.{entry_id, IsFreeOrMade, AreKeys, counted, live_in}
-
-pub counted-is : {X : Type 0} (p : X → Bool) (xs : List X) → counted p xs ≡ count_by p xs
-counted-is p xs = is_count_by (counted p) p refl (λ x xs. refl) xs
-
--- the identifiers are counted as the entries are
-pub counted-ids : (p : ℕ → Bool) (es : List Entry) → counted p (map entry_id es) ≡ counted (λ e. p (entry_id e)) es
-counted-ids p [] = refl
-counted-ids p (e ∷ es) = ap (λ n. cond (p (entry_id e)) (1 + n) n) (counted-ids p es)
+use Rattle.list_store.proofs.Maps.{not_of}
 
 set_step : (a b : Bool) (m n : ℕ) → cond a (1 + m) m + cond b 1 0 ≡ cond b (1 + m) m + cond a 1 0
 set_step true true m n = refl
@@ -96,3 +91,77 @@ pub room_for : (made : List ℕ) (es : List Entry) (caller : ℕ) → AreKeys ma
 room_for made es caller keys size first last less =
     let few : used es < length es = omega (arith, up_to_all made es keys.each, below es caller keys.few first less 16 last, size) in
     omega (arith, has_free es few, size)
+
+-- a caller's count after one more of its keys, or one less
+
+held : (n : ℕ) (b : Bool) → b ≡ false → n ≡ n + cond b 1 0
+held n true e = cc
+held n false e = omega arith
+
+one_more : (m n : ℕ) (b : Bool) → m ≡ n + 1 → b ≡ true → m ≡ n + cond b 1 0
+one_more m n true h e = h
+one_more m n false h e = cc
+
+group_is : (q caller other : ℕ) → q ≡ 1024 + caller → other ≡ caller → (q == 1024 + other) ≡ true
+group_is q caller other h e = grind (arith, nat_tests)
+
+group_not : (q caller other : ℕ) → q ≡ 1024 + caller → (other ≡ caller → ⊥) → (q == 1024 + other) ≡ false
+group_not q caller other h e = grind (arith, nat_tests)
+
+written : (live : List ℕ) (caller other n : ℕ) → caller < length live → other ≡ caller → slice_index (slice_set live caller n) other ≡ n
+written live caller other n h e = grind (arith, common_steps)
+
+unwritten : (live : List ℕ) (caller other n : ℕ) → (other ≡ caller → ⊥) → slice_index (slice_set live caller n) other ≡ slice_index live other
+unwritten live caller other n h = grind (arith, common_steps)
+
+count_risen : (live : List ℕ) (caller other q : ℕ) → caller < length live → q ≡ 1024 + caller →
+    slice_index (slice_set live caller (slice_index live caller + 1)) other ≡ slice_index live other + cond (q == 1024 + other) 1 0
+count_risen live caller other q h group = elim (cases_eq other caller) [
+  | inl same ↦ one_more _ _ _ (written live caller other _ h same ∙ ap (λ c. slice_index live c + 1) (sym same)) (group_is q caller other group same)
+  | inr differ ↦ unwritten live caller other _ differ ∙ held _ _ (group_not q caller other group differ)
+]
+
+count_fallen : (live : List ℕ) (caller other q : ℕ) → caller < length live → 1 ≤ slice_index live caller → q ≡ 1024 + caller →
+    slice_index live other ≡ slice_index (slice_set live caller (slice_index live caller - 1)) other + cond (q == 1024 + other) 1 0
+count_fallen live caller other q h some group = elim (cases_eq other caller) [
+  | inl same ↦ one_more _ _ _ (let now = written live caller other (slice_index live caller - 1) h same in let here : slice_index live other ≡ slice_index live caller = ap (slice_index live) same in omega arith) (group_is q caller other group same)
+  | inr differ ↦ sym (unwritten live caller other _ differ) ∙ held _ _ (group_not q caller other group differ)
+]
+
+filled : (b c : Bool) (m n : ℕ) → m + cond c 1 0 ≡ n + cond b 1 0 → c ≡ false → m ≡ n + cond b 1 0
+filled b true m n h e = cc
+filled b false m n h e = omega arith
+
+freed : (b c : Bool) (m n : ℕ) → m + cond c 1 0 ≡ n + cond b 1 0 → b ≡ false → n ≡ m + cond c 1 0
+freed true c m n h e = cc
+freed false c m n h e = omega arith
+
+-- a free place gets a key of the caller
+pub live_risen : (live : List ℕ) (es : List Entry) (caller place other : ℕ) (e d : Entry) → caller < length live → place < length es →
+    entry_id (slice_index_or es place d) ≡ 0 → entry_id e / 2 ^ 20 ≡ 1024 + caller → slice_index live other ≡ live_in other es →
+    slice_index (slice_set live caller (slice_index live caller + 1)) other ≡ live_in other (slice_set es place e)
+live_risen live es caller place other e d h at free group is =
+    let there = filled (is_volatile_of other (entry_id e)) (is_volatile_of other (entry_id (slice_index_or es place d))) _ _
+    (counted-set (λ x. is_volatile_of other (entry_id x)) es place e d at) (not_of other _ free) in
+    count_risen live caller other (entry_id e / 2 ^ 20) h group ∙ ap (λ n. n + cond (is_volatile_of other (entry_id e)) 1 0) is ∙ sym there
+
+-- a key of the caller is one of its live keys
+pub one_there : (es : List Entry) (caller place : ℕ) (e d : Entry) → place < length es → entry_id e ≡ 0 → entry_id (slice_index_or es place d) / 2 ^ 20 ≡ 1024 + caller →
+    live_in caller es ≡ live_in caller (slice_set es place e) + 1
+one_there es caller place e d at free group =
+    freed (is_volatile_of caller (entry_id e)) (is_volatile_of caller (entry_id (slice_index_or es place d))) _ _
+    (counted-set (λ x. is_volatile_of caller (entry_id x)) es place e d at) (not_of caller _ free)
+    ∙ ap (λ b. live_in caller (slice_set es place e) + cond b 1 0) (group_is _ caller caller group refl)
+
+-- the place of a key of the caller becomes free
+pub live_fallen : (live : List ℕ) (es : List Entry) (caller place other : ℕ) (e d : Entry) → caller < length live → 1 ≤ slice_index live caller → place < length es →
+    entry_id e ≡ 0 → entry_id (slice_index_or es place d) / 2 ^ 20 ≡ 1024 + caller → slice_index live other ≡ live_in other es →
+    slice_index (slice_set live caller (slice_index live caller - 1)) other ≡ live_in other (slice_set es place e)
+live_fallen live es caller place other e d h some at free group is =
+    let there = freed (is_volatile_of other (entry_id e)) (is_volatile_of other (entry_id (slice_index_or es place d))) _ _
+    (counted-set (λ x. is_volatile_of other (entry_id x)) es place e d at) (not_of other _ free) in
+    let fallen = count_fallen live caller other (entry_id (slice_index_or es place d) / 2 ^ 20) h some group in
+    same_left _ _ _ (sym fallen ∙ is ∙ there)
+  where
+    same_left : (m n k : ℕ) → m + k ≡ n + k → m ≡ n
+    same_left m n k h = omega arith

@@ -1,6 +1,6 @@
 -- A key's place that becomes free is a destruction of the model.
-use Rattle.std.proofs.Common.{◌≡◌, ℕ, ◌+◌, ◌<◌, ◌≤◌, Bool, true, false, cond, List, map, length, refl, sym, ap, ◌∙◌, arith, subst, inl}
-use Rattle.std.specs.Prelude.{Option, None, Some, ◌==◌, not, ◌&&◌, is_some, slice_index_or, slice_set}
+use Rattle.std.proofs.Common.{◌≡◌, ℕ, ◌+◌, ◌-◌, ◌<◌, ◌≤◌, Bool, true, false, cond, List, map, length, refl, sym, ap, ◌∙◌, arith, subst, inl}
+use Rattle.std.specs.Prelude.{Option, None, Some, ◌==◌, not, ◌&&◌, is_some, slice_index, slice_index_or, slice_set}
 use Rattle.std.specs.FinMap as finite
 use Rattle.std.proofs.Math.ListN.{length-set}
 use Rattle.std.proofs.lemmas.List.{map-set}
@@ -13,8 +13,8 @@ use Rattle.store_model.specs.KeyUse.{destroyed, step_destroy}
 use Rattle.list_store.specs.declared.entries.Entry.{Entry}
 use Rattle.list_store.specs.declared.store.Store.TheInside.{Inside}
 use Rattle.list_store.specs.Inside.{store_of, IsStore}
-use Rattle.list_store.specs.Entries.{entry_id, key_map, IsFree, IsFreeOrMade, AreKeys}
-use Rattle.list_store.proofs.Counts.{counted-set}
+use Rattle.list_store.specs.Entries.{entry_id, key_map, IsFree, IsMade, IsFreeOrMade, AreKeys}
+use Rattle.list_store.proofs.Counts.{counted-set, live_fallen, one_there}
 use Rattle.list_store.proofs.Places.{all_set, distinct_freed}
 use Rattle.list_store.proofs.Maps.{key_map-freed, key_map-zero, not_of}
 
@@ -65,13 +65,25 @@ keys_freed made es place e d keys free at = record {
       (counted-set (λ x. is_volatile_of caller (entry_id x)) es place e d at) (not_of caller (entry_id e) free.none) (keys.few caller);
 }
 
-pub store_freed : (i j : Inside) (place : ℕ) (e d : Entry) → IsStore i → IsFree e → place < length i.keys.items →
-    j.ids.items ≡ slice_set i.ids.items place 0 → j.keys.items ≡ slice_set i.keys.items place e → j.made ≡ i.made → IsStore j
-store_freed i j place e d ok free at ids keys made = record {
+-- the creator of a key at a place has a count, which is above 0
+pub creator_there : (i : Inside) (place : ℕ) (e d : Entry) → IsStore i → IsMade i.made (slice_index_or i.keys.items place d) → entry_id e ≡ 0 → place < length i.keys.items →
+    let creator = (slice_index_or i.keys.items place d).creator in (creator < 17) × (1 ≤ slice_index i.live creator)
+creator_there i place e d ok there none at =
+    let last : (slice_index_or i.keys.items place d).creator ≤ 16 = omega (arith, there.creator, there.to_last) in
+    (omega arith, omega (arith, ok.live (slice_index_or i.keys.items place d).creator last, one_there i.keys.items (slice_index_or i.keys.items place d).creator place e d at none there.creator))
+
+pub store_freed : (i j : Inside) (place : ℕ) (e d : Entry) → IsStore i → IsMade i.made (slice_index_or i.keys.items place d) → IsFree e → place < length i.keys.items →
+    j.ids.items ≡ slice_set i.ids.items place 0 → j.keys.items ≡ slice_set i.keys.items place e →
+    j.live ≡ (let creator = (slice_index_or i.keys.items place d).creator in slice_set i.live creator (slice_index i.live creator - 1)) → j.made ≡ i.made → IsStore j
+store_freed i j place e d ok there free at ids keys live made = record {
   keys = rw (keys, made) (keys_freed i.made i.keys.items place e d ok.keys free at);
   ids = ids ∙ ap (λ l. slice_set l place 0) ok.ids ∙ ap (slice_set (map entry_id i.keys.items) place) (sym free.none) ∙ sym (map-set entry_id i.keys.items place e) ∙ ap (map entry_id) (sym keys);
   room = ap length keys ∙ length-set i.keys.items place e ∙ ok.room;
   callers = ap length made ∙ ok.callers;
+  counts = ap length live ∙ length-set i.live _ _ ∙ ok.counts;
+  live = λ other within.
+      let creator = creator_there i place e d ok there free.none at in
+      rw (keys, live) (live_fallen i.live i.keys.items (slice_index_or i.keys.items place d).creator place other e d (omega (arith, creator.0, ok.counts)) creator.1 at free.none there.creator (ok.live other within));
 }
 
 pub destroyed_at : (i : Inside) (place id : ℕ) (e d : Entry) → IsStore i → (id == 0) ≡ false → place < length i.keys.items → entry_id (slice_index_or i.keys.items place d) ≡ id → IsFree e →

@@ -127,7 +127,7 @@ risen made c j h = grind (arith, common_steps)
 still_made : (made : List ℕ) (c : ℕ) → c < length made → (e : Entry) → IsFreeOrMade made e → IsFreeOrMade (slice_set made c (slice_index made c + 1)) e
 still_made made c h e (inl f) = inl f
 still_made made c h e (inr m) =
-    inr (record { from_first = m.from_first; to_last = m.to_last; earlier = omega (arith, m.earlier, risen made c (entry_id e / 2 ^ 20 - 1024) h); kept = m.kept })
+    inr (record { from_first = m.from_first; to_last = m.to_last; creator = m.creator; earlier = omega (arith, m.earlier, risen made c (entry_id e / 2 ^ 20 - 1024) h); kept = m.kept })
 
 pub each_set : (made : List ℕ) (c : ℕ) (es : List Entry) (i : ℕ) (e : Entry) → c < length made → AllByRecursion (IsFreeOrMade made) es → IsMade (slice_set made c (slice_index made c + 1)) e →
     AllByRecursion (IsFreeOrMade (slice_set made c (slice_index made c + 1))) (slice_set es i e)

@@ -1,6 +1,6 @@
 -- A turn on the list is a step of the model.
-use Rattle.std.proofs.Common.{◌≡◌, ℕ, ◌+◌, ◌-◌, ◌/◌, ◌%◌, ◌^◌, ◌<◌, ◌≤◌, Bool, true, false, cond, List, [], ◌∷◌, map, replicate, length, take, refl, sym, ap, ◌∙◌, arith, subst, zero-add, inl, inr}
-use Rattle.std.specs.Prelude.{Option, None, Some, ◌==◌, nat_le, ◌||◌, slice_index, slice_index_or, slice_set, count_by}
+use Rattle.std.proofs.Common.{◌≡◌, ℕ, ◌+◌, ◌-◌, ◌/◌, ◌%◌, ◌^◌, ◌<◌, ◌≤◌, Bool, true, false, cond, List, [], ◌∷◌, map, replicate, length, take, suc, zero, refl, sym, ap, ◌∙◌, arith, subst, zero-add, inl, inr}
+use Rattle.std.specs.Prelude.{Option, None, Some, ◌==◌, nat_le, ◌||◌, slice_index, slice_index_or, slice_set}
 use Rattle.std.specs.Option.{option_map}
 use Rattle.std.specs.List.{AllByRecursion, position, position_or_len}
 use Rattle.std.specs.FinMap as finite
@@ -18,7 +18,7 @@ use Rattle.list_store.specs.declared.entries.Entry.{Entry}
 use Rattle.list_store.specs.declared.store.Store.TheInside.{Inside}
 use Rattle.list_store.specs.Inside.{store_of, IsStore}
 use Rattle.list_store.specs.Entries.{entry_id, key_of, key_map, IsMade, IsFree, IsFreeOrMade, IsKept, IsRecorded, AreDistinct, AreKeys, live_in}
-use Rattle.list_store.proofs.Counts.{counted-is, counted-ids, counted-set}
+use Rattle.list_store.proofs.Counts.{counted-set, live_risen}
 use Rattle.list_store.proofs.Places.{entry_at, found, not_found, found_id, all_at, all_weaker, distinct_set, each_set, fresh, written}
 use Rattle.list_store.proofs.Maps.{get-key_map, key_map-set, live_is, no_pairs, not_of}
 
@@ -32,12 +32,14 @@ no_entry = record {
   buffer = [];
 }
 
+pub no_entry_free : entry_id no_entry ≡ 0
+unfolding no_entry
+no_entry_free = refl
+
 -- how many live keys of a caller there are, and how many it has made
 
-pub live_count : (i : Inside) (caller : ℕ) → IsStore i → live_volatile (key_map i.keys.items) caller ≡ count_by (λ id. is_volatile_of caller id) i.ids.items
-live_count i caller ok =
-    live_is caller i.keys.items ok.keys.distinct ∙ sym (counted-ids (λ id. is_volatile_of caller id) i.keys.items)
-    ∙ counted-is (λ id. is_volatile_of caller id) (map entry_id i.keys.items) ∙ ap (count_by (λ id. is_volatile_of caller id)) (sym ok.ids)
+live_count : (i : Inside) (caller : ℕ) → IsStore i → caller ≤ 16 → live_volatile (key_map i.keys.items) caller ≡ slice_index i.live caller
+live_count i caller ok last = live_is caller i.keys.items ok.keys.distinct ∙ sym (ok.live caller last)
 
 -- the rows of a volatile key are the limits that the code looks at
 limit_only : (store : model.Store) (caller : ℕ) (a : Attributes) → a.lifetime.0 ≡ 0 →
@@ -45,9 +47,9 @@ limit_only : (store : model.Store) (caller : ℕ) (a : Attributes) → a.lifetim
 limit_only store caller a e = ap (λ l. first_row (room_for_key_rows store caller (record a { lifetime = record { 0 = l } }))) e
 
 pub limits : (i : Inside) (store : model.Store) (caller : ℕ) (a : Attributes) → store_of i ≡ store → IsStore i → caller ≤ 16 → a.lifetime.0 ≡ 0 →
-    first_row (room_for_key_rows store caller a) ≡ cond (nat_le 16 (count_by (λ id. is_volatile_of caller id) i.ids.items) || nat_le (2 ^ 20) (slice_index i.made caller)) (Some KeyLimit) None
+    first_row (room_for_key_rows store caller a) ≡ cond (nat_le 16 (slice_index i.live caller) || nat_le (2 ^ 20) (slice_index i.made caller)) (Some KeyLimit) None
 limits i store caller a view ok last e =
-    let live = live_count i caller ok in
+    let live = live_count i caller ok last in
     ap (λ s. first_row (room_for_key_rows s caller a)) (sym view) ∙ limit_only (store_of i) caller a e
     ∙ (λ j. cond (nat_le 16 (live j) || nat_le (2 ^ 20) (slice_index i.made caller)) (Some KeyLimit) None)
 
@@ -86,14 +88,15 @@ same_caller q other caller m n t e same h =
 
 pub keys_set : (made : List ℕ) (es : List Entry) (caller place : ℕ) (e d : Entry) → AreKeys made es →
     1 ≤ caller → caller ≤ 16 → length made ≡ 17 → slice_index made caller < 2 ^ 20 → live_in caller es < 16 → place < length es →
-    entry_id e ≡ first_volatile caller + slice_index made caller → IsKept e.attributes e.length →
+    entry_id e ≡ first_volatile caller + slice_index made caller → e.creator ≡ caller → IsKept e.attributes e.length →
     AreKeys (slice_set made caller (slice_index made caller + 1)) (slice_set es place e)
-keys_set made es caller place e d keys first last size room few at id kept =
+keys_set made es caller place e d keys first last size room few at id creator kept =
     let group : entry_id e / 2 ^ 20 ≡ 1024 + caller = omega arith in
     let number : entry_id e % 2 ^ 20 ≡ slice_index made caller = omega arith in
     let new : IsMade (slice_set made caller (slice_index made caller + 1)) e = record {
       from_first = omega arith;
       to_last = omega arith;
+      creator = group ∙ ap (λ c. 1024 + c) (sym creator);
       earlier = omega (arith, written made caller (entry_id e / 2 ^ 20 - 1024) (slice_index made caller + 1) (omega arith) (omega arith));
       kept = kept;
     } in
@@ -106,14 +109,18 @@ keys_set made es caller place e d keys first last size room few at id kept =
     }
 
 pub store_kept : (i j : Inside) (caller place : ℕ) (e d : Entry) → IsStore i → 1 ≤ caller → caller ≤ 16 → slice_index i.made caller < 2 ^ 20 → live_in caller i.keys.items < 16 → place < 256 →
-    entry_id e ≡ first_volatile caller + slice_index i.made caller → IsKept e.attributes e.length →
-    j.ids.items ≡ slice_set i.ids.items place (entry_id e) → j.keys.items ≡ slice_set i.keys.items place e → j.made ≡ slice_set i.made caller (slice_index i.made caller + 1) →
+    place ≡ position_or_len (λ id. id == 0) (map entry_id i.keys.items) → entry_id e ≡ first_volatile caller + slice_index i.made caller → e.creator ≡ caller → IsKept e.attributes e.length →
+    j.ids.items ≡ slice_set i.ids.items place (entry_id e) → j.keys.items ≡ slice_set i.keys.items place e →
+    j.live ≡ slice_set i.live caller (slice_index i.live caller + 1) → j.made ≡ slice_set i.made caller (slice_index i.made caller + 1) →
     IsStore j
-store_kept i j caller place e d ok first last room few at id kept ids keys made = record {
-  keys = rw (keys, made) (keys_set i.made i.keys.items caller place e d ok.keys first last ok.callers room few (omega (arith, ok.room)) id kept);
+store_kept i j caller place e d ok first last room few at free id creator kept ids keys live made = record {
+  keys = rw (keys, made) (keys_set i.made i.keys.items caller place e d ok.keys first last ok.callers room few (omega (arith, ok.room)) id creator kept);
   ids = ids ∙ ap (λ l. slice_set l place (entry_id e)) ok.ids ∙ sym (map-set entry_id i.keys.items place e) ∙ ap (map entry_id) (sym keys);
   room = ap length keys ∙ length-set i.keys.items place e ∙ ok.room;
   callers = ap length made ∙ length-set i.made caller _ ∙ ok.callers;
+  counts = ap length live ∙ length-set i.live caller _ ∙ ok.counts;
+  live = λ other within. rw (keys, live) (live_risen i.live i.keys.items caller place other e d (omega (arith, ok.counts)) (omega (arith, ok.room))
+      (place_is_free i.keys.items place d free (omega (arith, ok.room))) (omega arith) (ok.live other within));
 }
 
 -- the new key is the model's
@@ -226,6 +233,14 @@ live_none caller (e ∷ es) h = none (is_volatile_of caller (entry_id e)) (not_o
 distinct_free : (es : List Entry) → AllByRecursion IsFree es → AreDistinct es
 distinct_free [] h = tt
 distinct_free (e ∷ es) h = (inl h.0.none, distinct_free es h.1)
+
+zeros_at : (n k : ℕ) → slice_index (replicate n 0) k ≡ 0
+zeros_at zero k = refl
+zeros_at (suc n) zero = refl
+zeros_at (suc n) (suc k) = zeros_at n k
+
+pub counts_free : (caller : ℕ) (es : List Entry) → AllByRecursion IsFree es → slice_index (replicate 17 0) caller ≡ live_in caller es
+counts_free caller es h = zeros_at 17 caller ∙ sym (live_none caller es h)
 
 pub keys_free : (made : List ℕ) (es : List Entry) → AllByRecursion IsFree es → AreKeys made es
 keys_free made es h = record {

@@ -40,6 +40,7 @@ pub record IsRecorded (store : Store) (caller : ℕ) (a : Attributes) (bytes : �
 pub record IsMade (made : List ℕ) (e : Entry) : Type 0 where
   pub from_first : 1025 ≤ entry_id e / 2 ^ 20
   pub to_last : entry_id e / 2 ^ 20 ≤ 1040
+  pub creator : entry_id e / 2 ^ 20 ≡ 1024 + e.creator
   pub earlier : entry_id e % 2 ^ 20 < slice_index made (entry_id e / 2 ^ 20 - 1024)
   pub kept : IsKept e.attributes e.length
 

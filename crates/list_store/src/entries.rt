@@ -1,7 +1,6 @@
 // The list of keys, as functions over slices.
-ghost use Rattle.std.specs.Prelude.{◌≡◌, ◌≤◌, ◌<◌, ◌==◌, ℕ, count_by, length, take, replicate, Some, None, IfOk, All, if◌then◌else◌};
+ghost use Rattle.std.specs.Prelude.{◌≡◌, ◌≤◌, ◌<◌, ◌==◌, ℕ, length, take, replicate, Some, None, IfOk, All, if◌then◌else◌};
 ghost use Rattle.std.specs.List.{position, position_or_len};
-ghost use Rattle.store_model.specs.Store.{is_volatile_of};
 ghost use Rattle.store_model.specs.Call.{buffer_after};
 ghost use Rattle.store_model.specs.KeyUse.{export_reply};
 ghost use Rattle.service_calls.specs.Answers.{AnswersLength};
@@ -12,7 +11,7 @@ use psa_status::{Memory, Status};
 use std::alloc::Global;
 
 /// A caller has no more live volatile keys than this.
-pub const LIVE_LIMIT: usize = 16;
+pub const LIVE_LIMIT: u8 = 16;
 
 // A volatile key's identifier ends with so many bits, which count the caller's creations. The caller's number stands
 // before them.
@@ -23,8 +22,6 @@ pub const MADE_LIMIT: u32 = 1 << MADE_BITS;
 
 /// The identifiers of volatile keys begin here.
 pub const FIRST_VOLATILE: u32 = 0x4000_0000;
-
-const VOLATILE_FRONT: u32 = FIRST_VOLATILE >> MADE_BITS;
 
 /// The place of a key. It is free where the attributes have the identifier 0.
 #[derive(Clone, Copy, Drop)]
@@ -76,15 +73,6 @@ pub fn new_ids(alloc: Global, count: usize) -> Result<Vec<u32>, Memory>
         Ok(ids) => Ok(ids),
         Err(_) => Err(Memory),
     }
-}
-
-/// How many of the identifiers are of volatile keys of a caller.
-pub fn live(ids: &[u32], caller: u8) -> usize
-    ensures { result ≡ count_by (λ id. is_volatile_of caller id) ids.now }
-{
-    ids.iter()
-        .filter(|id| **id >> MADE_BITS == VOLATILE_FRONT + caller as u32)
-        .count()
 }
 
 /// The place of the key that has this identifier. With 0, the first free place.

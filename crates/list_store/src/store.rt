@@ -14,19 +14,20 @@ ghost use Rattle.list_store.specs.Uses.{IsFound};
 
 use crate::entries::{
     Entry, FIRST_VOLATILE, LIVE_LIMIT, MADE_LIMIT, buffered, copy_out, free_entry, free_place,
-    key_place, live, new_ids, new_keys,
+    key_place, new_ids, new_keys,
 };
 use key_attributes::{Attributes, KeyId, check_attributes};
 use psa_status::{Memory, Status};
 use std::alloc::Global;
 use std::marker::Model;
 
-/// The keys, how many each caller has made, and how many calls were made. The keys' identifiers stand also in a list of
-/// their own, which is what look-ups read.
+/// The keys, how many each caller has, how many it has made, and how many calls were made. The keys' identifiers stand
+/// also in a list of their own, which is what look-ups read.
 #[derive(Drop)]
 pub struct Store {
     ids: Vec<u32>,
     keys: Vec<Entry>,
+    live: [u8; 17],
     made: [u32; 17],
     pub(crate) calls: u64,
 }
@@ -56,6 +57,7 @@ impl Store {
         Ok(Store {
             ids,
             keys,
+            live: [0; 17],
             made: [0; 17],
             calls: 0,
         })
@@ -155,7 +157,7 @@ impl Store {
         ensures { (a : Attributes) → a.lifetime.0 ≡ 0 →
             first_row (room_for_key_rows self.now caller a) ≡ (if result then Some KeyLimit else None) }
     {
-        live(&self.ids, caller) >= LIVE_LIMIT || self.made[caller as usize] >= MADE_LIMIT
+        self.live[caller as usize] >= LIVE_LIMIT || self.made[caller as usize] >= MADE_LIMIT
     }
 
     // Adds a key with these recorded attributes.
@@ -186,6 +188,7 @@ impl Store {
             buffer: buffered(bytes),
         };
         self.ids[place] = id.0;
+        self.live[caller as usize] += 1;
         self.made[caller as usize] = made + 1;
         id
     }
@@ -234,6 +237,8 @@ impl Store {
         let Some(place) = key_place(&self.ids, key) else {
             return Err(Status::InvalidHandle);
         };
+        let creator = self.keys[place].creator as usize;
+        self.live[creator] -= 1;
         self.keys[place] = free_entry();
         self.ids[place] = 0;
         Ok(())

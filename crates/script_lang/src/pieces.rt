@@ -2,6 +2,7 @@
 ghost use Rattle.std.specs.Prelude.{◌≡◌, ◌==◌, ◌∷◌, ◌<◌, [], length, position, option_map, MatchOption, IfSome};
 ghost use Rattle.script_lang.specs.Pieces.{pieces, words, cut_of, without_return, text_lines};
 
+use memchr::memchr;
 use std::marker::Model;
 
 /// Where the first separator stands.
@@ -9,7 +10,7 @@ fn place_of(text: &[u8], separator: u8) -> Option<usize>
     ensures place { result ≡ position (λ b. b == separator) text.now }
     ensures within { IfSome result (λ i. i < length text.now) }
 {
-    text.iter().position(|b| *b == separator)
+    memchr(separator, text)
 }
 
 /// The text before the first separator and the text after it.

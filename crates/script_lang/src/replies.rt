@@ -1,10 +1,15 @@
 // The text of replies.
 ghost use Rattle.std.specs.Prelude.{◌≡◌, ◌++◌, OnOk, OnErr};
+ghost use Rattle.std.specs.Fmt.{decimal};
 ghost use Rattle.script_lang.specs.Replies.{reply_text, bytes_text};
 
 use crate::script::ByteList;
+use itoa::Buffer;
 use psa_status::{Memory, Status};
 use std::alloc::{AllocError, Global};
+
+/// The room for the text of a reply. Where its bytes need more, the text grows.
+const LINE_ROOM: usize = 64;
 
 /// What a call answered, and where it stands.
 #[derive(Drop)]
@@ -30,16 +35,23 @@ fn push_bytes(alloc: Global, out: &mut Vec<u8>, bytes: &[u8]) -> Result<(), Allo
     out.extend_from_slice(text.as_str().as_bytes())
 }
 
+fn push_number(out: &mut Vec<u8>, number: u64) -> Result<(), AllocError>
+    ensures { OnOk result (out.new.items ≡ out.old.items ++ decimal number) }
+{
+    out.extend_from_slice(Buffer::new().format(number).as_bytes())
+}
+
 #[tactic(auto, unfolding(crate::specs::Replies::reply_text))]
 fn push_reply(alloc: Global, out: &mut Vec<u8>, line: &ReplyLine) -> Result<(), AllocError>
     ensures { OnOk result (out.new.items ≡ out.old.items ++ reply_text line.now) }
 {
-    let session = line.session;
-    let number = line.number;
-    let rank = line.rank;
-    let name = line.status.name();
-    let front = format!(in alloc; "{session}.{number} @{rank} {name}")?;
-    out.extend_from_slice(front.as_str().as_bytes())?;
+    push_number(out, line.session as u64)?;
+    out.extend_from_slice(b".")?;
+    push_number(out, line.number as u64)?;
+    out.extend_from_slice(b" @")?;
+    push_number(out, line.rank)?;
+    out.extend_from_slice(b" ")?;
+    out.extend_from_slice(line.status.name().as_bytes())?;
     push_bytes(alloc, out, line.bytes.as_slice())?;
     out.push(b'\n')?;
     Ok(())
@@ -50,7 +62,9 @@ pub fn write_reply(alloc: Global, line: &ReplyLine, out: &mut Vec<u8>) -> Result
     ensures ok { OnOk result (out.new.items ≡ out.old.items ++ reply_text line.now) }
     ensures err { OnErr result (out.new.items ≡ out.old.items) }
 {
-    let mut text = Vec::new(alloc);
+    let Ok(mut text) = Vec::with_capacity(alloc, LINE_ROOM) else {
+        return Err(Memory);
+    };
     if push_reply(alloc, &mut text, line).is_err() {
         return Err(Memory);
     }

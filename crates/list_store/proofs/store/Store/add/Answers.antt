@@ -49,8 +49,8 @@ invariant_of-self c =
     let room = room_for c.self.inside.made c.self.inside.keys.items c.args.caller c.self.invariant.keys c.self.invariant.room c.requires.first c.requires.last below.0 in
     let at = place_is _ _ c.free_place-place.result c.free_place-place.ensures (c.deref.ensures.value ∙ c.self.invariant.ids) in
     let kept = c.requires.recorded.kept in
-    store_kept c.self.inside _ c.args.caller c.free_place-place.result _ no_entry c.self.invariant c.requires.first c.requires.last below.1 below.0 (omega (arith, room, at))
-    refl (record { lifetime = kept.lifetime; short = kept.short; sized = kept.sized }) refl refl refl
+    store_kept c.self.inside _ c.args.caller c.free_place-place.result _ no_entry c.self.invariant c.requires.first c.requires.last below.1 below.0 (omega (arith, room, at)) at
+    refl refl (record { lifetime = kept.lifetime; short = kept.short; sized = kept.sized }) refl refl refl refl
 
 pub returns-clause-store : goal.returns-clause-store
 returns-clause-store c =

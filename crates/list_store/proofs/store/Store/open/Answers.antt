@@ -1,7 +1,7 @@
 use Rattle.std.proofs.Common.{refl, ◌∙◌}
 use Rattle.std.proofs.lemmas.List.Elements.{recursion_from_All}
 use Rattle.list_store.specs.Entries.{IsFree}
-use Rattle.list_store.proofs.Turns.{keys_free, ids_free, empty_store}
+use Rattle.list_store.proofs.Turns.{keys_free, counts_free, ids_free, empty_store}
 use Rattle.list_store.proofs.store.Store.open.Goals as goal
 
 pub invariant_of-result : goal.invariant_of-result
@@ -12,6 +12,8 @@ invariant_of-result c =
       ids = c.in_ok-ids.ensures ∙ ids_free c.in_ok-keys.keys.items 256 free c.in_ok-keys.ensures.0;
       room = c.in_ok-keys.ensures.0;
       callers = refl;
+      counts = refl;
+      live = λ caller last. counts_free caller c.in_ok-keys.keys.items free;
     }
 
 pub returns : goal.returns
