@@ -1,5 +1,5 @@
 -- Turns that finish a creation: what was decided of it, and how the turn ends.
-use Rattle.std.proofs.Common.{◌≡◌, ◌⊎◌, ◌∙◌, ℕ, ◌+◌, ◌≤◌, List, [], ◌∷◌, ◌++◌, length, refl, sym, ap, subst, arith, inl, inr, Option, None, Some}
+use Rattle.std.proofs.Common.{◌≡◌, ◌⊎◌, ◌∙◌, ℕ, ◌+◌, ◌≤◌, List, [], ◌∷◌, ◌++◌, length, refl, sym, ap, subst, arith, inl, inr, Option, None, Some, is_some, true, false}
 use Rattle.std.specs.Prelude.{Ok, Err, Result}
 use Rattle.psa_status.specs.declared.Status.{Status}
 use Rattle.psa_status.specs.declared.Status.TheVariants.{InvalidHandle}
@@ -8,7 +8,8 @@ use Rattle.key_attributes.specs.declared.Attributes.{Attributes}
 use Rattle.driver_dispatch.specs.Held.{HeldKeys}
 use Rattle.secret_bytes.specs.Buffer.{Buffer, bytes_of}
 use Rattle.slot_table.specs.Lent as lent
-use Rattle.key_file.specs.Files.{Leads}
+use Rattle.std.specs.Option.{option_map_or}
+use Rattle.key_file.specs.Files.{Stored, Doubt, Leads}
 use Rattle.key_file.proofs.Leading.{stays}
 use Rattle.key_slots.specs.declared.slots.KeySlots.{KeySlots}
 use Rattle.key_slots.specs.Holdings.{Pairs, Gains, AreHoldings}
@@ -17,17 +18,18 @@ use Rattle.key_slots.proofs.Agreeing.{quiet}
 use Rattle.store_model.specs.Store as model
 use Rattle.store_model.specs.Outcome.{counted}
 use Rattle.store_model.specs.Creation.{recorded_of, created_unless}
-use Rattle.store_model.specs.Faults.{FaultMark, Plain}
+use Rattle.store_model.specs.Faults.{FaultMark, Plain, Storage, Hardware, Corrupt, Reading, Writing}
 use Rattle.store_model.specs.Handles.{Service}
-use Rattle.store_model.specs.Replay.{Entry, replay}
-use Rattle.store_model.specs.Marks.{FaultCounts, last_counts}
+use Rattle.store_model.specs.Replay.{Entry, outcome_of, replay}
+use Rattle.store_model.specs.Requests.{serve}
+use Rattle.store_model.specs.Marks.{FaultCounts, MayBeMarked, HasFault, key_changed, reads_persistent, last_counts}
 use Rattle.store_core.specs.declared.store.Store.{Store}
-use Rattle.store_core.specs.Durability.{Course, durable_keys, doubt_after}
+use Rattle.store_core.specs.Durability.{Course, durable_keys, doubt_after, doubt_by, is_destruction, kept}
 use Rattle.store_core.specs.Represents.{IsTold, Opening, Told}
 use Rattle.store_core.specs.Creations.{RecordsStated, IsCreating, IsMaking, IsSince}
 use Rattle.store_core.proofs.Histories.{told_before}
 use Rattle.store_core.proofs.Holding.{HoldsHere, StandsHere, IsTurn, goes_on, left_alone, same_directory, same_device, counts_of}
-use Rattle.store_core.proofs.Makes.{IsRefusedAt, unmade, plain_counts, doubted, changes_none}
+use Rattle.store_core.proofs.Makes.{IsFailure, IsRefusedAt, unmade, marked_counts, plain_counts, doubted, changes_none}
 
 -- what is recorded of stated attributes, where nothing refuses it
 pub stated_ok : (lease : Option lent.Reading) (caller : ℕ) (a : Attributes) (n : ℕ) (m : model.Store) (recorded : Attributes) → RecordsStated lease caller a n m (Ok recorded) → recorded_of m caller a n ≡ Ok recorded
@@ -36,6 +38,14 @@ stated_ok (Some lease) caller a n m recorded (inl is) = sym is.1
 stated_ok (Some lease) caller a n m recorded (inr is) = absurd (apart recorded is.1) where
   apart : (x : Attributes) → Ok x ≡ Err InvalidHandle → ⊥
   apart x same = cc
+
+-- the mark of a source that could not be read
+abbrev pub IsReadFault : FaultMark → Type 0
+IsReadFault (Storage Reading) = Unit {0}
+IsReadFault Corrupt = Unit {0}
+IsReadFault Plain = ⊥
+IsReadFault Hardware = ⊥
+IsReadFault (Storage (Writing closed_first)) = ⊥
 
 module _ {D A C : Type 0} (told : D → Option (List ℕ)) (may_leave : D → List ℕ → Type 0) (moment : D → ℕ) (left_since : D → ℕ → List ℕ → Type 0)
     (faults : D → ℕ) (held : A → Option HeldKeys) (hard : A → ℕ) (locations : A → List ℕ) (labels : C → List Label) where
@@ -83,20 +93,29 @@ module _ {D A C : Type 0} (told : D → Option (List ℕ)) (may_leave : D → Li
     bytes_are : IsTold (told mid.file.cells.disk) start (h ++ e ∷ []) → bytes (replay start h).store ≡ b
     bytes_are k = ap bytes (sym (replayed k)) ∙ is
 
-  -- A refused creation: its slot is given up.
+  -- or is refused
+  pub refused_at : (old : Store D A C) (start : Service) (h : List Entry) (e : Entry) (caller : ℕ) (records : model.Store → Result Attributes Status → Type 0) (bytes : model.Store → List ℕ) (m : model.Store) (status : Status) →
+      IsCreating told may_leave moment left_since faults held hard locations labels old start h e caller records bytes → (IsTold (told old.file.cells.disk) start (h ++ e ∷ []) → m ≡ (replay start h).store) →
+      records m (Err status) → IsTold (told old.file.cells.disk) start (h ++ e ∷ []) → IsRefusedAt e status (replay start h)
+  refused_at old start h e caller records bytes m status creating replayed decided k =
+      let before = told_before (told old.file.cells.disk) start h e k in
+      let of_replay = subst (λ (x : model.Store). records x (Err status)) (replayed k) decided in
+      record { leaves = creating.leaves before (Err status) of_replay; answers = creating.answers before (Err status) of_replay }
+
+  -- A creation that makes no key: its slot is given up.
   module _ (only_now : (disk : D) (image : List ℕ) → left_since disk (moment disk) image → may_leave disk image)
-      (old mid : Store D A C) (slots : KeySlots) (start : Service) (opening : Opening) (h : List Entry) (all less : List Pairs) (e : Entry) (caller : ℕ)
-      (records : model.Store → Result Attributes Status → Type 0) (bytes : model.Store → List ℕ) (status : Status) where
+      (mid : Store D A C) (slots : KeySlots) (start : Service) (opening : Opening) (h : List Entry) (all less : List Pairs) (e : Entry) (keeps : is_destruction e.call ≡ false) where
     abbrev pub given_up : Store D A C
     given_up = record mid { slots = slots; ranked = mid.ranked + 1 }
 
     abbrev disk : D
     disk = mid.file.cells.disk
 
-    pub refuses : (s : HoldsWith mid start opening h all e) → told mid.file.cells.disk ≡ told old.file.cells.disk → IsCreating told may_leave moment left_since faults held hard locations labels old start h e caller records bytes → records s.model (Err status) →
-        Agrees slots.table.slots s.model less → AreHoldings less → IsTurn told may_leave moment left_since faults held hard locations labels given_up Plain e →
-        StandsHere told may_leave moment left_since faults held hard locations labels given_up start opening (h ++ e ∷ []) less
-    refuses s same creating decided agrees law is = unmade told may_leave moment left_since faults held hard locations labels only_now mid given_up start opening h all less e (IsRefusedAt e status) Plain s creating.keeps refused_at law (record {
+    pub gives_up : (S : Service → Type 0) (mark : FaultMark) (s : HoldsWith mid start opening h all e) → (IsTold (told disk) start (h ++ e ∷ []) → S (replay start h)) → Agrees slots.table.slots s.model less → AreHoldings less →
+        ((service : Service) → S service → (outcome_of service e).service.store ≡ counted service.store) → ((c : Course) → S c.service → doubt_after e c ≡ c.doubt) →
+        HasFault (is_some (told disk)) (last_counts opening.counts h) e mark → ((service : Service) → S service → s.model ≡ service.store → MayBeMarked service e.caller e.call mark) →
+        IsTurn told may_leave moment left_since faults held hard locations labels given_up mark e → StandsHere told may_leave moment left_since faults held hard locations labels given_up start opening (h ++ e ∷ []) less
+    gives_up S mark s before agrees law counts doubts fault may is = unmade told may_leave moment left_since faults held hard locations labels only_now mid given_up start opening h all less e S mark s keeps before law (record {
       rules = refl;
       devices = refl;
       found = refl;
@@ -108,19 +127,48 @@ module _ {D A C : Type 0} (told : D → Option (List ℕ)) (may_leave : D → Li
       directory = same_directory mid.file.cells.slots.items s.model s.directory;
       device = same_device (held mid.devices) s.model s.device;
       tells = refl;
-    }) (λ service known. plain_counts e creating.keeps service is.marked ∙ known.leaves)
-        (λ c known at stands. subst (Leads told may_leave moment left_since disk disk mid.file.cells.slots.items mid.file.cells.slots.items (durable_keys s.model) c.doubt (durable_keys s.model)) (sym (doubt_is c known))
+    }) counts
+        (λ c known at stands. subst (Leads told may_leave moment left_since disk disk mid.file.cells.slots.items mid.file.cells.slots.items (durable_keys s.model) c.doubt (durable_keys s.model)) (sym (doubts c known))
         (stays told may_leave moment left_since disk mid.file.cells.slots.items (durable_keys s.model) (durable_keys s.model) c.doubt (λ q. refl) stands))
-        tt (λ service known at. tt) is
-      where
-        before : IsTold (told disk) start (h ++ e ∷ []) → IsTold (told old.file.cells.disk) start h
-        before k = subst (λ (t : Option (List ℕ)). IsTold t start h) same (told_before (told disk) start h e k)
+        fault may is
 
-        of_replay : IsTold (told disk) start (h ++ e ∷ []) → records (replay start h).store (Err status)
-        of_replay k = subst (λ (x : model.Store). records x (Err status)) (s.replayed k) decided
+    -- since it is refused
+    pub refuses : (status : Status) (s : HoldsWith mid start opening h all e) → (IsTold (told disk) start (h ++ e ∷ []) → IsRefusedAt e status (replay start h)) → Agrees slots.table.slots s.model less → AreHoldings less →
+        IsTurn told may_leave moment left_since faults held hard locations labels given_up Plain e → StandsHere told may_leave moment left_since faults held hard locations labels given_up start opening (h ++ e ∷ []) less
+    refuses status s refused agrees law is = gives_up (IsRefusedAt e status) Plain s refused agrees law (λ service known. plain_counts e keeps service is.marked ∙ known.leaves)
+        (λ c known. doubted e keeps c Plain None None is.marked (changes_none e keeps status c.service known) refl) tt (λ service known at. tt) is
 
-        refused_at : IsTold (told disk) start (h ++ e ∷ []) → IsRefusedAt e status (replay start h)
-        refused_at k = record { leaves = creating.leaves (before k) (Err status) (of_replay k); answers = creating.answers (before k) (Err status) (of_replay k) }
+    abbrev Reads : Service → Type 0
+    Reads service = reads_persistent service e.caller e.call ≡ true
 
-        doubt_is : (c : Course) → IsRefusedAt e status c.service → doubt_after e c ≡ c.doubt
-        doubt_is c known = doubted e creating.keeps c Plain None None is.marked (changes_none e creating.keeps status c.service known) refl
+    same_doubt : (mark : FaultMark) → IsReadFault mark → (o : Option Stored) (doubt : Doubt) → option_map_or (λ (key : Stored). doubt_by mark false key doubt) o doubt ≡ doubt
+    same_doubt (Storage Reading) is None doubt = refl
+    same_doubt (Storage Reading) is (Some key) doubt = refl
+    same_doubt Corrupt is None doubt = refl
+    same_doubt Corrupt is (Some key) doubt = refl
+    same_doubt Plain is o doubt = absurd is
+    same_doubt Hardware is o doubt = absurd is
+    same_doubt (Storage (Writing closed_first)) is o doubt = absurd is
+
+    failing : (mark : FaultMark) → IsReadFault mark → IsFailure mark
+    failing (Storage Reading) is = tt
+    failing Corrupt is = tt
+    failing Plain is = is
+    failing Hardware is = tt
+    failing (Storage (Writing closed_first)) is = tt
+
+    may_read : (mark : FaultMark) → IsReadFault mark → (service : Service) → Reads service → MayBeMarked service e.caller e.call mark
+    may_read (Storage Reading) is service reads = reads
+    may_read Corrupt is service reads = reads
+    may_read Plain is service reads = tt
+    may_read Hardware is service reads = absurd is
+    may_read (Storage (Writing closed_first)) is service reads = absurd is
+
+    -- or since its source could not be read
+    pub unread : (mark : FaultMark) → IsReadFault mark → (s : HoldsWith mid start opening h all e) → (IsTold (told disk) start (h ++ e ∷ []) → Reads (replay start h)) → Agrees slots.table.slots s.model less → AreHoldings less →
+        HasFault (is_some (told disk)) (last_counts opening.counts h) e mark →
+        IsTurn told may_leave moment left_since faults held hard locations labels given_up mark e → StandsHere told may_leave moment left_since faults held hard locations labels given_up start opening (h ++ e ∷ []) less
+    unread mark kind s reads agrees law fault is = gives_up Reads mark s reads agrees law
+        (λ service known. ap (λ (x : FaultMark). (serve service e.caller e.call x).service.store) is.marked ∙ marked_counts service e.caller e.call mark (failing mark kind) keeps)
+        (λ c known. doubted e keeps c mark (key_changed c.service e.caller e.call) (kept (key_changed c.service e.caller e.call)) is.marked refl refl ∙ same_doubt mark kind (kept (key_changed c.service e.caller e.call)) c.doubt)
+        fault (λ service known at. may_read mark kind service known) is

@@ -165,6 +165,36 @@ module _ {D A C : Type 0} (told : D → Option (List ℕ)) (may_leave : D → Li
       counts = s.counts;
     }
 
+  -- another buffer
+  pub with_buffer : (K : Type 0) (old : Store D A C) (buffer : Buffer) (start : Service) (opening : Opening) (h : List Entry) (all : List Pairs) → (s : HoldsHere K old start opening h all) →
+      (n : HoldsHere K (record old { buffer = buffer }) start opening h all) × (n.model ≡ s.model)
+  with_buffer K old buffer start opening h all s = (
+    record {
+      model = s.model;
+      replayed = s.replayed;
+      sound = s.sound;
+      labels_are = s.labels_are;
+      locations_are = s.locations_are;
+      has_file = s.has_file;
+      found = s.found;
+      few = s.few;
+      calls = s.calls;
+      made = s.made;
+      live = s.live;
+      kept = s.kept;
+      ranked = s.ranked;
+      slots = s.slots;
+      holdings = s.holdings;
+      directory = s.directory;
+      device = s.device;
+      file = s.file;
+      promise = s.promise;
+      caused = s.caused;
+      allowed = s.allowed;
+    },
+    refl,
+  )
+
   -- A ranked turn ends whose request changes no key.
   module _ (only_now : (disk : D) (image : List ℕ) → left_since disk (moment disk) image → may_leave disk image)
       (old : Store D A C) (slots : KeySlots) (mark : FaultMark) (start : Service) (opening : Opening) (h : List Entry) (all more : List Pairs) (e : Entry) where

@@ -14,6 +14,7 @@ mod Makes
 mod MakesKept
 mod MakesVolatile
 mod Finishing
+mod Copied
 mod FoundMap
 mod OpenCells
 mod Openings

@@ -111,10 +111,10 @@ module _ {D A C : Type 0} (told : D → Option (List ℕ)) (may_leave : D → Li
 
     -- the store holds the key that was loaded, in its slot
     pub loads : IsReadOn told may_leave moment left_since faults held hard locations labels old.file file → (s : HoldsBefore) →
-        IsReadingHere told may_leave moment left_since faults held hard locations labels old start h e id → c < 512 → has_id id (cell_slot old.file.cells.slots.items c) ≡ true → IsKeyOf a bytes → a.id.0 ≡ id →
+        (IsTold told_here start h → id_read (replay start h) e.caller e.call ≡ Some id) → c < 512 → has_id id (cell_slot old.file.cells.slots.items c) ≡ true → IsKeyOf a bytes → a.id.0 ≡ id →
         (is_some told_here ≡ true → durable_keys s.model id ≡ Some (stored number a bytes)) → NoKey id old.slots.table.slots →
         ((m : model.Store) → Agrees old.slots.table.slots m all → HasLoaded m id number a bytes → Agrees slots.table.slots m all) → IsFound
-    loads read s is lt has key named filed none fills = go (is_some told_here) refl where
+    loads read s reads lt has key named filed none fills = go (is_some told_here) refl where
       own : HasCellKey s.model id number
       own = key_of_cell old.file.cells.slots.items s.model id c s.directory lt has
 
@@ -130,7 +130,7 @@ module _ {D A C : Type 0} (told : D → Option (List ℕ)) (may_leave : D → Li
           let there : HasLoaded (replaced s.model id new) id number a bytes = (new, put_here s.model id new, record { has_number = own.3; has_attributes = refl; has_bytes = refl }) in (
             record {
               model = replaced s.model id new;
-              replayed = λ k. absurd (untold told_here start h e id s.model blind is.reads s.replayed (is_persistent (map.get s.model.keys id) own.0 own.1 own.2) (known read.same k));
+              replayed = λ k. absurd (untold told_here start h e id s.model blind reads s.replayed (is_persistent (map.get s.model.keys id) own.0 own.1 own.2) (known read.same k));
               sound = sound_after s.model id own.0 a bytes own.1 own.2 key named s.sound;
               labels_are = s.labels_are;
               locations_are = s.locations_are;

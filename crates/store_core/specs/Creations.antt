@@ -3,6 +3,7 @@ use Rattle.std.specs.Prelude.{◌≡◌, ◌<◌, ◌≤◌, ◌⊎◌, ◌+◌,
 use Rattle.std.specs.FinMap as map
 use Rattle.psa_status.specs.declared.Status.{Status}
 use Rattle.psa_status.specs.declared.Status.TheVariants.{InvalidHandle, StorageFailure, HardwareFailure}
+use Rattle.psa_status.specs.Rows.{◌>>=◌}
 use Rattle.key_attributes.specs.declared.Attributes.{Attributes}
 use Rattle.policy_rules.specs.declared.narrowing.Label.{Label}
 use Rattle.driver_dispatch.specs.Held.{HeldKeys}
@@ -15,10 +16,10 @@ use Rattle.store_model.specs.Store.{is_volatile, is_opaque}
 use Rattle.store_model.specs.Faults.{FaultMark, Plain, Storage, Hardware, Writing}
 use Rattle.store_model.specs.Creation.{recorded_of, created, created_unless, new_id}
 use Rattle.store_model.specs.Copies.{recorded_copy}
-use Rattle.store_model.specs.KeyUse as key_use
 use Rattle.store_model.specs.Sound.{HasNumber}
 use Rattle.store_model.specs.Handles.{Service}
-use Rattle.store_model.specs.Requests.{plain_step}
+use Rattle.store_model.specs.Call.{Copy}
+use Rattle.store_model.specs.Requests.{OnStore, plain_step}
 use Rattle.store_model.specs.Replay.{Entry, replay}
 use Rattle.store_model.specs.Marks.{FaultCounts, last_counts}
 use Rattle.store_core.specs.declared.store.Store.{Store}
@@ -46,9 +47,9 @@ RecordsStated (Some lease) caller a bytes m recorded =
 abbrev pub RecordsCopy : (caller source : ℕ) → Attributes → model.Store → Result Attributes Status → Type 0
 RecordsCopy caller source stated m recorded = recorded ≡ recorded_copy m caller (map.get m.keys source) stated
 
--- the bytes of the key of an identifier
-abbrev pub bytes_at : ℕ → model.Store → List ℕ
-bytes_at id m = key_use.bytes_of (map.get m.keys id)
+-- what is recorded of a copy's attributes, or its first refusal
+abbrev pub recorded_after : model.Store → (caller bytes : ℕ) → Result Attributes Status → Result Attributes Status
+recorded_after m caller bytes copy = copy >>= (λ a. recorded_of m caller a bytes)
 
 -- WHAT A CALL ANSWERS
 
@@ -190,3 +191,10 @@ module _ {D A C : Type 0} (told : D → Option (List ℕ)) (may_leave : D → Li
       (r : IsReady old caller recorded source start opening h all e) → IsSince old (last_counts opening.counts h) → Gains less all p → AreHoldings less →
       IsMaking old start h e caller recorded r.bytes → IsEntryHere new mark e →
       StandsForHere new start opening (h ++ e ∷ []) less × P r.holds.model
+
+  -- A ranked turn that is to copy a key for a caller, into the slot of a filling, whose pair is taken back. P holds of the
+  -- one-thread store before it, as far as that is told with its source read.
+  abbrev pub Copies : (old new : Store D A C) (caller source : ℕ) → Attributes → ℕ × ℕ → FaultMark → (model.Store → Type 0) → Type 0
+  Copies old new caller source stated p mark P = (start : Service) (opening : Opening) (h : List Entry) (all less : List Pairs) (e : Entry) →
+      StandsForHere old start opening h all → Gains less all p → AreHoldings less → e.caller ≡ caller → e.call ≡ OnStore (Copy source stated) → IsEntryHere new mark e →
+      StandsForHere new start opening (h ++ e ∷ []) less × (m : model.Store) × (ToldHere new start (h ++ e ∷ []) → m ≡ (replay start h).store) × P m

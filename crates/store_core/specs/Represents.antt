@@ -171,5 +171,5 @@ module _ {D A C : Type 0} (told : D → Option (List ℕ)) (may_leave : D → Li
     -- that the turn ends with is told, and P holds of them.
     abbrev pub Brings : (id : ℕ) → (model.Store → Type 0) → Type 0
     Brings id P = (start : Service) (opening : Opening) (h : List Entry) (all : List Pairs) (e : Entry) →
-        StandsFor old start opening h all → IsReading old start h e id →
+        StandsFor old start opening h all → (Told old start h → id_read (replay start h) e.caller e.call ≡ Some id) →
         (n : Holds (Told new start (h ++ e ∷ [])) new start opening h all) × P n.model

@@ -1,10 +1,27 @@
 //! How a turn copies a key.
-ghost use Rattle.std.specs.Prelude.{◌≡◌};
-ghost use Rattle.store_core.specs.Creations.{status_uncopied};
+ghost use Rattle.std.specs.Prelude.{◌≡◌, ◌<◌, ◌≤◌, ◌^◌, ◌/◌, ℕ, length, Some, None, if◌then◌else◌, IfOk, IfErr};
+ghost use Rattle.std.specs.FinMap as map;
+ghost use Rattle.secret_bytes.specs.Buffer.{IsClear};
+ghost use Rattle.slot_states.specs.declared.SlotState.TheVariants.{Full};
+ghost use Rattle.slot_table.specs.Slots.{slot_at};
+ghost use Rattle.key_slots.specs.Standing.{SlotHasKey};
+ghost use Rattle.store_model.specs.Store as model;
+ghost use Rattle.store_model.specs.Store.{Key, is_opaque};
+ghost use Rattle.store_model.specs.Copies.{differs, recorded_copy};
+ghost use Rattle.store_model.specs.Faults.{Plain};
+ghost use Rattle.store_core.specs.Represents.{HasOut, ranked_on};
+ghost use Rattle.store_core.specs.Creations.{Copies, HoldsWithin, IsMade, IsUncopied, RecordsCopy, mark_uncopied, recorded_after, status_uncopied};
 
+use crate::Store;
 use crate::creating::NotMade;
 use crate::reading::Unread;
+use admission::Admission;
+use disk_face::Disk;
+use driver_dispatch::Devices;
+use key_attributes::{Attributes, KeyId, Usage};
+use policy_rules::meet;
 use psa_status::Status;
+use slot_table::Filling;
 
 /// Why no key was copied: the source was not found, or no key was made of it.
 #[derive(Clone, Copy, Debug, PartialEq, Eq, Drop)]
@@ -21,6 +38,149 @@ impl NotCopied {
         match self {
             NotCopied::Unread(why) => why.status(),
             NotCopied::NotMade(why) => why.status(),
+        }
+    }
+}
+
+// Whether a number is stated and isn't the source's.
+fn differs(stated: u16, own: u16) -> bool
+    ensures { result ≡ differs stated own }
+{
+    stated != 0 && stated != own
+}
+
+// The attributes of a copy, as a creation is asked to record them, or the first refusal that the source and the stated
+// attributes decide.
+fn copied(source: &Attributes, stated: &Attributes) -> Result<Attributes, Status>
+    ensures { (m : model.Store) (caller : ℕ) (key : Key) → key.attributes ≡ source.now →
+        recorded_copy m caller (Some key) stated.now ≡ recorded_after m caller (length key.bytes) result }
+{
+    if source.policy.usage.0 & Usage::COPY.0 == 0 {
+        return Err(Status::NotPermitted);
+    }
+    if differs(stated.key_type.0, source.key_type.0) || differs(stated.bits, source.bits) {
+        return Err(Status::InvalidArgument);
+    }
+    if stated.lifetime.0 / 256 != source.lifetime.0 / 256 {
+        return Err(Status::NotSupported);
+    }
+    let Some(policy) = meet(&source.policy, &stated.policy) else {
+        return Err(Status::InvalidArgument);
+    };
+    Ok(Attributes {
+        lifetime: stated.lifetime,
+        id: stated.id,
+        key_type: source.key_type,
+        bits: source.bits,
+        policy,
+    })
+}
+
+impl<D: Disk, A: Devices, C: Admission> Store<D, A, C> {
+    /// Makes a key of a source's bytes, with what both its policy and the stated one permit, in the slot that waits for it, and
+    /// answers its identifier. A key of the secure element is copied there. The slot is given up where no key is made. Ranked.
+    pub fn copy(
+        &mut self,
+        caller: u8,
+        filling: Filling,
+        source: KeyId,
+        attributes: &Attributes,
+    ) -> Result<KeyId, NotCopied>
+        requires first { 1 ≤ caller }
+        requires last { caller ≤ 16 }
+        requires out { HasOut D.contents D.may_leave D.moment D.left_since D.faults A.keys A.faults A.locations C.labels self.old (filling.slot, 0) }
+        requires size { D.size self.old.file.cells.disk ≡ 557120 }
+        requires clear { IsClear self.old.buffer }
+        requires few { self.old.ranked < 2 ^ 62 }
+        ensures size { D.size self.new.file.cells.disk ≡ 557120 }
+        ensures clear { IsClear self.new.buffer }
+        ensures made { IfOk result (λ id. Copies D.contents D.may_leave D.moment D.left_since D.faults A.keys A.faults A.locations C.labels self.old self.new caller source.0 attributes.now (filling.slot, 0) Plain
+            (IsMade (RecordsCopy caller source.0 attributes.now) caller id.0)) }
+        ensures uncopied { IfErr result (λ why. Copies D.contents D.may_leave D.moment D.left_since D.faults A.keys A.faults A.locations C.labels self.old self.new caller source.0 attributes.now (filling.slot, 0) (mark_uncopied why)
+            (IsUncopied (RecordsCopy caller source.0 attributes.now) source.0 why)) }
+        ensures opened { self.new.opened ≡ self.old.opened }
+    {
+        let made = self.make_copy(caller, filling, source, attributes);
+        self.ranked += 1;
+        made
+    }
+
+    // Copies a key, in all but the count of the turn.
+    fn make_copy(
+        &mut self,
+        caller: u8,
+        filling: Filling,
+        source: KeyId,
+        attributes: &Attributes,
+    ) -> Result<KeyId, NotCopied>
+        requires first { 1 ≤ caller }
+        requires last { caller ≤ 16 }
+        requires out { HasOut D.contents D.may_leave D.moment D.left_since D.faults A.keys A.faults A.locations C.labels self.old (filling.slot, 0) }
+        requires size { D.size self.old.file.cells.disk ≡ 557120 }
+        requires clear { IsClear self.old.buffer }
+        requires few { self.old.ranked < 2 ^ 62 }
+        ensures size { D.size self.new.file.cells.disk ≡ 557120 }
+        ensures clear { IsClear self.new.buffer }
+        ensures made { IfOk result (λ id. Copies D.contents D.may_leave D.moment D.left_since D.faults A.keys A.faults A.locations C.labels self.old (ranked_on self.new) caller source.0 attributes.now (filling.slot, 0) Plain
+            (IsMade (RecordsCopy caller source.0 attributes.now) caller id.0)) }
+        ensures uncopied { IfErr result (λ why. Copies D.contents D.may_leave D.moment D.left_since D.faults A.keys A.faults A.locations C.labels self.old (ranked_on self.new) caller source.0 attributes.now (filling.slot, 0) (mark_uncopied why)
+            (IsUncopied (RecordsCopy caller source.0 attributes.now) source.0 why)) }
+        ensures ranked { self.new.ranked ≡ self.old.ranked }
+        ensures opened { self.new.opened ≡ self.old.opened }
+    {
+        let slot = match self.bring(source) {
+            Ok(slot) => slot,
+            Err(why) => {
+                self.slots.give_up(filling);
+                return Err(NotCopied::Unread(why));
+            }
+        };
+        let recorded = match self.decide_copy(caller, slot, attributes) {
+            Ok(recorded) => recorded,
+            Err(status) => {
+                self.slots.give_up(filling);
+                return Err(NotCopied::NotMade(NotMade::Refused(status)));
+            }
+        };
+        self.buffer.fill_from(self.slots.bytes(slot));
+        let held = self.held_number(slot);
+        let made = self.create(caller, filling, recorded, held);
+        self.buffer.wipe();
+        match made {
+            Ok(id) => Ok(id),
+            Err(why) => Err(NotCopied::NotMade(NotMade::Failed(why))),
+        }
+    }
+
+    // What a copy of a slot's key records, or its first refusal.
+    fn decide_copy(
+        &self,
+        caller: u8,
+        slot: u32,
+        attributes: &Attributes,
+    ) -> Result<Attributes, Status>
+        requires last { caller ≤ 16 }
+        requires full { (slot_at self.now.slots.table.slots slot).state ≡ Full }
+        ensures value { HoldsWithin D.contents D.may_leave D.moment D.left_since D.faults A.keys A.faults A.locations C.labels self.now
+            (λ m. (id : ℕ) (key : Key) → map.get m.keys id ≡ Some key → SlotHasKey (slot_at self.now.slots.table.slots slot) key → result ≡ recorded_copy m caller (Some key) attributes.now) }
+    {
+        let source = self.slots.attributes(slot);
+        let bytes = source.bits as usize / 8;
+        match copied(source, attributes) {
+            Ok(copy) => self.recorded(caller, &copy, bytes),
+            Err(status) => Err(status),
+        }
+    }
+
+    // The number under which the secure element has the key of a slot, where it is the element's.
+    fn held_number(&self, slot: u32) -> Option<u64>
+        requires full { (slot_at self.now.slots.table.slots slot).state ≡ Full }
+        ensures { result ≡ (if is_opaque (slot_at self.now.slots.table.slots slot).attributes then Some (slot_at self.now.slots.table.slots slot).creation else None) }
+    {
+        if self.slots.attributes(slot).lifetime.0 / 256 == 1 {
+            Some(self.slots.number(slot))
+        } else {
+            None
         }
     }
 }

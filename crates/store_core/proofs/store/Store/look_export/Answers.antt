@@ -9,14 +9,14 @@ use Rattle.store_core.proofs.store.Store.look_export.Goals as goal
 pub lend-requires-clause-few : goal.lend-requires-clause-few
 lend-requires-clause-few g c =
     let at = c.requires.stands in
-    let n = (c.in-Ok.ensures.found at.0 at.1 at.2 at.3 (asks_for c.args.id.0) at.4 (record { quiet = refl; reads = λ t. refl })).0 in
+    let n = (c.in-Ok.ensures.found at.0 at.1 at.2 at.3 (asks_for c.args.id.0) at.4 (λ t. refl)).0 in
     few_readers c.bring-brought.new.self.slots.table.slots n.model at.3 c.in-Ok.slot n.slots n.holdings c.in-Ok.ensures.within
 
 pub returns-in-Ok-check_export-clause-lent : goal.returns-in-Ok-check_export-clause-lent
 returns-in-Ok-check_export-clause-lent g c = λ start opening h all more e s gains law is turn.
     let d = g.D.Disk in
     let v = g.A.Devices in
-    let n = c.in-Ok.ensures.found start opening h all e s is in
+    let n = c.in-Ok.ensures.found start opening h all e s is.reads in
     let k = n.1 in
     let lease = c.lend.ensures.lease in
     let own = subst (λ (i : ℕ). Gains all more (i, c.lend.result.creation + 1)) (ap (λ (l : lent.Reading). l.slot) lease) gains in
@@ -30,7 +30,7 @@ pub returns-in-Err-check_export-clause-refused : goal.returns-in-Err-check_expor
 returns-in-Err-check_export-clause-refused g c = λ start opening h all e s is turn.
     let d = g.D.Disk in
     let v = g.A.Devices in
-    let n = c.in-Ok.ensures.found start opening h all e s is in
+    let n = c.in-Ok.ensures.found start opening h all e s is.reads in
     let k = n.1 in
     let refused = c.in-Err-check_export.ensures.refused k.0 (sym k.2.attributes ∙ sym c.attributes.ensures) in
     ends_refused d.contents d.may_leave d.moment d.left_since d.faults v.keys v.faults v.locations g.C.Admission.labels g.met.D.Disk.only_now c.args.self.now c.bring-brought.new.self start opening h all e c.args.id.0
@@ -42,4 +42,4 @@ returns-in-Err-clause-refused g c = rw c.status.ensures (λ start opening h all 
     let v = g.A.Devices in
     let b = c.in-Err.ensures in
     ends_unread d.contents d.may_leave d.moment d.left_since d.faults v.keys v.faults v.locations g.C.Admission.labels g.met.D.Disk.only_now c.args.self.now c.bring-brought.new.self start opening h all e c.args.id.0
-    export_refusal c.in-Err.unread refl b.same s is (λ why. b.missing why start opening h all e s is) (λ why. b.unread why start opening h all e s is) b.disk b.corrupt turn)
+    export_refusal c.in-Err.unread refl b.same s is (λ why. b.missing why start opening h all e s is.reads) (λ why. b.unread why start opening h all e s is.reads) b.disk b.corrupt turn)

@@ -1,0 +1,116 @@
+-- What a copy records of its source.
+use Rattle.std.proofs.Common.{◌≡◌, ◌≢◌, ◌∙◌, ℕ, ◌+◌, ◌*◌, ◌/◌, ◌^◌, ◌==◌, ◌&&◌, Bool, true, false, not, cond, List, [], ◌∷◌, ◌++◌, length, refl, sym, ap, subst, arith, Option, None, Some, is_some}
+use Rattle.std.proofs.lemmas.Bool.{false≢true, eqb-true}
+use Rattle.std.specs.Prelude.{Ok, Err, IfOk, Result, ok_or, if◌then◌else◌}
+use Rattle.std.specs.FinMap as map
+use Rattle.psa_status.specs.declared.Status.{Status}
+use Rattle.psa_status.specs.declared.Status.TheVariants.{InvalidArgument}
+use Rattle.psa_status.specs.Rows.{first_row, unless, ◌>>=◌}
+use Rattle.psa_status.proofs.Rows.{unless-ok}
+use Rattle.key_attributes.specs.declared.Attributes.{Attributes}
+use Rattle.key_attributes.specs.Checks.{location, attribute_rows, filled, checked}
+use Rattle.policy_rules.specs.declared.narrowing.Label.{Label}
+use Rattle.policy_rules.specs.declared.narrowing.Label.TheVariants.{NoExport, NoCopy, NoEcb, Aes256}
+use Rattle.policy_rules.specs.declared.narrowing.Verdict.{Verdict}
+use Rattle.policy_rules.specs.declared.narrowing.Verdict.TheVariants.{Keep, Refuse}
+use Rattle.policy_rules.specs.Narrow.{narrowed, after_verdict, after_rules}
+use Rattle.policy_rules.specs.Policy.{meet_of}
+use Rattle.store_model.specs.Store as model
+use Rattle.store_model.specs.Store.{Key, is_volatile, is_opaque, has_secure_element}
+use Rattle.store_model.specs.Creation.{identified, file_rows, room_for_key_rows, recorded_of}
+use Rattle.store_model.specs.Copies.{source_rows, copy_attributes, recorded_copy}
+use Rattle.store_model.specs.Sound.{as_stated, IsSoundKey}
+use Rattle.store_model.proofs.Recorded.{then_ok}
+use Rattle.store_model.proofs.Tables.{none_holds}
+
+-- THE LENGTH OF A KEY
+
+same_bits : (a : Attributes) (b : Bool) → (cond b (identified a 0) a).bits ≡ a.bits
+same_bits a true = refl
+same_bits a false = refl
+
+pub bytes_by_bits : (m : model.Store) (id : ℕ) (key : Key) → IsSoundKey m id key → length key.bytes ≡ key.attributes.bits / 8
+bytes_by_bits m id key sound =
+    let a = as_stated key.attributes in
+    let is = (unless-ok (first_row (attribute_rows a (length key.bytes) (has_secure_element m))) (filled a (length key.bytes)) a sound.attributes).1 in
+    let bits : 8 * length key.bytes ≡ key.attributes.bits = ap (λ (x : Attributes). x.bits) is ∙ same_bits key.attributes (is_volatile key.attributes) in
+    omega arith
+
+-- WHAT THE TABLE OF CREATIONS KEEPS
+
+record IsAlike (a b : Attributes) : Type 0 where
+  key_type : b.key_type ≡ a.key_type
+  lifetime : b.lifetime ≡ a.lifetime
+
+abbrev IsAlikeIn : Attributes → Verdict → Type 0
+IsAlikeIn a (Keep kept) = IsAlike a kept
+IsAlikeIn a Refuse = Unit {0}
+
+alike_or_refused : (b : Bool) (a : Attributes) → IsAlikeIn a (cond b Refuse (Keep a))
+alike_or_refused true a = tt
+alike_or_refused false a = record { key_type = refl; lifetime = refl }
+
+narrowed_alike : (label : Label) (a : Attributes) → IsAlikeIn a (narrowed label a)
+narrowed_alike NoExport a = record { key_type = refl; lifetime = refl }
+narrowed_alike NoCopy a = record { key_type = refl; lifetime = refl }
+narrowed_alike NoEcb a = alike_or_refused (a.policy.alg == 0x04404400) a
+narrowed_alike Aes256 a = alike_or_refused (a.key_type.0 == 0x2400 && not (a.bits == 256)) a
+
+then_alike : (a kept : Attributes) (r : Result Attributes Status) → IsAlike a kept → IfOk r (IsAlike kept) → IfOk r (IsAlike a)
+then_alike a kept (Ok last) first h = record { key_type = h.key_type ∙ first.key_type; lifetime = h.lifetime ∙ first.lifetime }
+then_alike a kept (Err s) first h = tt
+
+verdict_alike : (a : Attributes) (v : Verdict) (next : Attributes → Result Attributes Status) → IsAlikeIn a v → ((kept : Attributes) → IfOk (next kept) (IsAlike kept)) → IfOk (after_verdict v next) (IsAlike a)
+verdict_alike a (Keep kept) next first h = then_alike a kept (next kept) first (h kept)
+verdict_alike a Refuse next first h = tt
+
+rules_alike : (labels : List Label) (a : Attributes) → IfOk (after_rules labels a) (IsAlike a)
+rules_alike [] a = record { key_type = refl; lifetime = refl }
+rules_alike (label ∷ labels) a = verdict_alike a (narrowed label a) (after_rules labels) (narrowed_alike label a) (rules_alike labels)
+
+recorded_alike : (m : model.Store) (caller : ℕ) (a : Attributes) (n : ℕ) (recorded : Attributes) → recorded_of m caller a n ≡ Ok recorded → IsAlike a recorded
+recorded_alike m caller a n recorded e =
+    let driver = has_secure_element m in
+    let labels = m.settings.labels in
+    let one = then_ok (unless (first_row (file_rows m a)) a) _ recorded e in
+    let stated : a ≡ one.0 = (unless-ok (first_row (file_rows m a)) a one.0 one.1.0).1 in
+    let two = then_ok (checked one.0 n driver) _ recorded one.1.1 in
+    let passed : filled one.0 n ≡ two.0 = (unless-ok (first_row (attribute_rows one.0 n driver)) (filled one.0 n) two.0 two.1.0).1 in
+    let three = then_ok (after_rules labels two.0) _ recorded two.1.1 in
+    let last : three.0 ≡ recorded = (unless-ok (first_row (room_for_key_rows m caller three.0)) three.0 recorded three.1.1).1 in
+    let from : filled a n ≡ two.0 = ap (λ x. filled x n) stated ∙ passed in
+    let alike : IsAlike two.0 three.0 = subst (λ r. IfOk r (IsAlike two.0)) three.1.0 (rules_alike labels two.0) in
+    subst (IsAlike a) last (record {
+      key_type = alike.key_type ∙ ap (λ (x : Attributes). x.key_type) (sym from);
+      lifetime = alike.lifetime ∙ ap (λ (x : Attributes). x.lifetime) (sym from);
+    })
+
+-- A COPY
+
+pub record IsCopied (m : model.Store) (caller : ℕ) (key : Key) (recorded : Attributes) : Type 0 where
+  pub copy : Attributes
+  pub decided : recorded_of m caller copy (length key.bytes) ≡ Ok recorded
+  pub key_type : recorded.key_type ≡ key.attributes.key_type
+  pub opaque : is_opaque recorded ≡ is_opaque key.attributes
+
+same_number : (n k : ℕ) → not (n == k) ≡ false → n ≡ k
+same_number n k is = eqb-true n k (of_not (n == k) is) where
+  of_not : (b : Bool) → not b ≡ false → b ≡ true
+  of_not true is = refl
+  of_not false is = absurd (false≢true (sym is))
+
+pub copies : (m : model.Store) (caller : ℕ) (key : Key) (stated recorded : Attributes) → recorded_copy m caller (Some key) stated ≡ Ok recorded → IsCopied m caller key recorded
+copies m caller key stated recorded e =
+    let rows = source_rows key.attributes stated in
+    let one = then_ok (unless (first_row rows) key.attributes) _ recorded e in
+    let passed = unless-ok (first_row rows) key.attributes one.0 one.1.0 in
+    let two = then_ok (ok_or (meet_of one.0.policy stated.policy) InvalidArgument) _ recorded one.1.1 in
+    let copy = copy_attributes one.0 stated two.0 in
+    let alike = recorded_alike m caller copy (length key.bytes) recorded two.1.1 in
+    let near : location stated.lifetime.0 ≡ location key.attributes.lifetime.0 = same_number (location stated.lifetime.0) (location key.attributes.lifetime.0) (none_holds rows 2 passed.0) in
+    record {
+      copy = copy;
+      decided = two.1.1;
+      key_type = alike.key_type ∙ ap (λ (x : Attributes). x.key_type) (sym passed.1);
+      opaque = ap (λ (l : _). location l.0 == 1) alike.lifetime ∙ ap (λ n. n == 1) near;
+    }
