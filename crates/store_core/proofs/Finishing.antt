@@ -74,6 +74,13 @@ module _ {D A C : Type 0} (told : D → Option (List ℕ)) (may_leave : D → Li
     hard_since = (let same = ap (λ (c : FaultCounts). c.hard) s.counts in omega arith);
   }
 
+  pub since_later : (old mid : Store D A C) (counts : FaultCounts) → counts ≡ counts_of (faults old.file.cells.disk) (hard old.devices) → faults old.file.cells.disk ≤ faults mid.file.cells.disk → mid.devices ≡ old.devices →
+      IsSince told may_leave moment left_since faults held hard locations labels mid counts
+  since_later old mid counts is later same = record {
+    faults_since = (let at = ap (λ (c : FaultCounts). c.faults) is in omega arith);
+    hard_since = (let at = ap (λ (c : FaultCounts). c.hard) is in let here = ap hard same in omega arith);
+  }
+
   -- the request makes the key that was decided
   pub is_making : (old mid : Store D A C) (start : Service) (h : List Entry) (e : Entry) (caller : ℕ) (records : model.Store → Result Attributes Status → Type 0) (bytes : model.Store → List ℕ) (m : model.Store) (recorded : Attributes) (b : List ℕ) →
       told mid.file.cells.disk ≡ told old.file.cells.disk → IsCreating told may_leave moment left_since faults held hard locations labels old start h e caller records bytes → (IsTold (told mid.file.cells.disk) start (h ++ e ∷ []) → m ≡ (replay start h).store) →

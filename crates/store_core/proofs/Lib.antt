@@ -15,6 +15,7 @@ mod MakesKept
 mod MakesVolatile
 mod Finishing
 mod Copied
+mod CopyTurn
 mod FoundMap
 mod OpenCells
 mod Openings

@@ -2,6 +2,7 @@
 ghost use Rattle.std.specs.Prelude.{◌≡◌, ◌<◌, ◌≤◌, ◌^◌, ◌+◌, ℕ, List, length, slice_index, slice_set, true, false, ⊤, Some, None, IfOk, IfErr, IfSome, OnOk, IsTrue};
 ghost use Rattle.std.specs.Option.{option_map};
 ghost use Rattle.psa_status.specs.Causes.{HasCause};
+ghost use Rattle.disk_face.specs.Disk.{StillTells};
 ghost use Rattle.key_attributes.specs.Checks.{is_key_type, permits_size};
 ghost use Rattle.driver_dispatch.specs.Held.{with_copy, with_held_key};
 ghost use Rattle.driver_dispatch.specs.Calls.{Changes, HoldsHandle, Lacks, has_element};
@@ -186,6 +187,7 @@ impl<D: Disk, A: Devices, C: Admission> Store<D, A, C> {
             (λ m. id.0 ≡ new_id m caller recorded)) }
         ensures unkept { IfErr result (λ why. Enters D.contents D.may_leave D.moment D.left_since D.faults A.keys A.faults A.locations C.labels self.old (ranked_on self.new) caller recorded source (filling.slot, 0) (mark_unkept why)
             (λ m. IsUnkept recorded why)) }
+        ensures tells { StillTells (D.contents self.old.file.cells.disk) (D.contents self.new.file.cells.disk) }
         ensures ranked { self.new.ranked ≡ self.old.ranked }
         ensures opened { self.new.opened ≡ self.old.opened }
     {
@@ -218,6 +220,7 @@ impl<D: Disk, A: Devices, C: Admission> Store<D, A, C> {
             (λ m. id.0 ≡ new_id m caller recorded)) }
         ensures unkept { IfErr result (λ why. Enters D.contents D.may_leave D.moment D.left_since D.faults A.keys A.faults A.locations C.labels self.old (ranked_on self.new) caller recorded source (filling.slot, 0) (mark_unkept why)
             (λ m. IsUnkept recorded why)) }
+        ensures tells { StillTells (D.contents self.old.file.cells.disk) (D.contents self.new.file.cells.disk) }
         ensures ranked { self.new.ranked ≡ self.old.ranked }
         ensures opened { self.new.opened ≡ self.old.opened }
     {
@@ -256,6 +259,7 @@ impl<D: Disk, A: Devices, C: Admission> Store<D, A, C> {
             (λ m. id.0 ≡ new_id m caller recorded)) }
         ensures unkept { IfErr result (λ why. Enters D.contents D.may_leave D.moment D.left_since D.faults A.keys A.faults A.locations C.labels self.old (ranked_on self.new) caller recorded source (filling.slot, 0) (mark_unkept why)
             (λ m. IsUnkept recorded why)) }
+        ensures tells { StillTells (D.contents self.old.file.cells.disk) (D.contents self.new.file.cells.disk) }
         ensures ranked { self.new.ranked ≡ self.old.ranked }
         ensures opened { self.new.opened ≡ self.old.opened }
     {

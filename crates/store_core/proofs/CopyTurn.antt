@@ -1,0 +1,119 @@
+-- A turn that copies a key.
+use Rattle.std.proofs.Common.{◌≡◌, ◌∙◌, ℕ, ◌+◌, ◌==◌, Bool, true, false, cond, List, [], ◌∷◌, ◌++◌, length, refl, sym, ap, subst, arith, Option, None, Some, is_some}
+use Rattle.std.proofs.lemmas.Bool.{false≢true}
+use Rattle.std.specs.Prelude.{Ok, Err, Result, if◌then◌else◌}
+use Rattle.std.specs.FinMap as map
+use Rattle.psa_status.specs.declared.Status.{Status}
+use Rattle.policy_rules.specs.declared.narrowing.Label.{Label}
+use Rattle.key_attributes.specs.declared.Attributes.{Attributes}
+use Rattle.driver_dispatch.specs.Held.{HeldKey, HeldKeys}
+use Rattle.driver_dispatch.specs.Calls.{HoldsHandle}
+use Rattle.secret_bytes.specs.Buffer.{Buffer, bytes_of, buffer_of}
+use Rattle.slot_table.specs.Slots.{Slot}
+use Rattle.slot_table.proofs.AtSlots.{bytes-buffer_of}
+use Rattle.key_slots.specs.Holdings.{Pairs}
+use Rattle.key_slots.specs.Standing.{SlotHasKey, slot_bytes}
+use Rattle.store_model.specs.Store as model
+use Rattle.store_model.specs.Store.{Key, is_opaque, is_persistent_key}
+use Rattle.store_model.specs.Call.{Copy, Reply}
+use Rattle.store_model.specs.Outcome.{Outcome, counted, refused, refusal}
+use Rattle.store_model.specs.KeyUse as key_use
+use Rattle.store_model.specs.Creation.{created, created_unless, recorded_of}
+use Rattle.store_model.specs.Copies.{recorded_copy, step_copy}
+use Rattle.store_model.specs.Handles.{Service}
+use Rattle.store_model.specs.Requests.{Request, OnStore, plain_step}
+use Rattle.store_model.specs.Replay.{Entry, replay}
+use Rattle.store_model.specs.Marks.{id_read, reads_persistent}
+use Rattle.store_core.specs.declared.store.Store.{Store}
+use Rattle.store_core.specs.Durability.{is_destruction}
+use Rattle.store_core.specs.Represents.{IsTold, Opening}
+use Rattle.store_core.specs.Creations.{IsMaterial, IsMaking, IsReady}
+use Rattle.store_core.proofs.Holding.{HoldsHere, with_buffer}
+use Rattle.store_core.proofs.Loading.{reads_it}
+use Rattle.store_core.proofs.Makes.{IsRefusedAt}
+use Rattle.store_core.proofs.Copied.{copies}
+
+-- the bytes of the key of an identifier
+abbrev pub bytes_at : model.Store → ℕ → List ℕ
+bytes_at m id = key_use.bytes_of (map.get m.keys id)
+
+-- what a copy records of it
+abbrev pub copied_at : model.Store → (caller source : ℕ) → Attributes → Result Attributes Status
+copied_at m caller source stated = recorded_copy m caller (map.get m.keys source) stated
+
+module _ (e : Entry) (caller source : ℕ) (stated : Attributes) (by : e.caller ≡ caller) (call : e.call ≡ OnStore (Copy source stated)) where
+  pub keeps : is_destruction e.call ≡ false
+  keeps = ap is_destruction call
+
+  pub reads_source : (service : Service) → id_read service e.caller e.call ≡ Some source
+  reads_source service = ap (id_read service e.caller) call
+
+  copy_store : (service : Service) → (plain_step service e.caller e.call).service.store ≡ (created_unless service.store caller (copied_at service.store caller source stated) (bytes_at service.store source)).store
+  copy_store service = ap (λ (r : Request). (plain_step service e.caller r).service.store) call ∙ ap (λ c. (step_copy service.store c source stated).store) by
+
+  copy_reply : (service : Service) → (plain_step service e.caller e.call).reply ≡ (created_unless service.store caller (copied_at service.store caller source stated) (bytes_at service.store source)).reply
+  copy_reply service = ap (λ (r : Request). (plain_step service e.caller r).reply) call ∙ ap (λ c. (step_copy service.store c source stated).reply) by
+
+  -- the outcome by a store that is the service's
+  outcome_is : {X : Type 0} (f : Outcome → X) (service : Service) (m : model.Store) (recorded : Result Attributes Status) (bytes : List ℕ) → m ≡ service.store → copied_at m caller source stated ≡ recorded → bytes_at m source ≡ bytes →
+      f (created_unless service.store caller (copied_at service.store caller source stated) (bytes_at service.store source)) ≡ f (created_unless service.store caller recorded bytes)
+  outcome_is f service m recorded bytes same decided own =
+      ap (λ (r : Result Attributes Status). f (created_unless service.store caller r (bytes_at service.store source))) (ap (λ (x : model.Store). copied_at x caller source stated) (sym same) ∙ decided)
+      ∙ ap (λ (b : List ℕ). f (created_unless service.store caller recorded b)) (ap (λ (x : model.Store). bytes_at x source) (sym same) ∙ own)
+
+  pub refused_copy : (service : Service) (m : model.Store) (status : Status) → m ≡ service.store → copied_at m caller source stated ≡ Err status → IsRefusedAt e status service
+  refused_copy service m status same decided = record {
+    leaves = copy_store service ∙ outcome_is (λ (o : Outcome). o.store) service m (Err status) (bytes_at m source) same decided refl;
+    answers = copy_reply service ∙ outcome_is (λ (o : Outcome). o.reply) service m (Err status) (bytes_at m source) same decided refl;
+  }
+
+  module _ {D A C : Type 0} (told : D → Option (List ℕ)) (may_leave : D → List ℕ → Type 0) (moment : D → ℕ) (left_since : D → ℕ → List ℕ → Type 0)
+      (faults : D → ℕ) (held : A → Option HeldKeys) (hard : A → ℕ) (locations : A → List ℕ) (labels : C → List Label)
+      (mid : Store D A C) (start : Service) (opening : Opening) (h : List Entry) (all : List Pairs)
+      (n : HoldsHere told may_leave moment left_since faults held hard locations labels (IsTold (told mid.file.cells.disk) start (h ++ e ∷ [])) mid start opening h all) where
+    pub reads_kept : is_persistent_key (map.get n.model.keys source) ≡ true → IsTold (told mid.file.cells.disk) start (h ++ e ∷ []) → reads_persistent (replay start h) e.caller e.call ≡ true
+    reads_kept is k = reads_it (replay start h) e.caller e.call source n.model (reads_source (replay start h)) (n.replayed k) ∙ is
+
+    pub refused_here : (status : Status) → copied_at n.model caller source stated ≡ Err status → IsTold (told mid.file.cells.disk) start (h ++ e ∷ []) → IsRefusedAt e status (replay start h)
+    refused_here status decided k = refused_copy (replay start h) n.model status (n.replayed k) decided
+
+    -- THE COPY OF A SLOT'S KEY
+
+    module _ (slot : Slot) (key : Key) (there : map.get n.model.keys source ≡ Some key) (has : SlotHasKey slot key) (recorded : Attributes) (decided : Ok recorded ≡ recorded_copy n.model caller (Some key) stated)
+        (buffer : Buffer) (filled : buffer ≡ buffer_of (bytes_of slot.buffer)) where
+      abbrev pub material_of : Option ℕ
+      material_of = if is_opaque slot.attributes then Some slot.creation else None
+
+      abbrev pub filled_store : Store D A C
+      filled_store = record mid { buffer = buffer }
+
+      pub decided_here : copied_at n.model caller source stated ≡ Ok recorded
+      decided_here = ap (λ (o : Option Key). recorded_copy n.model caller o stated) there ∙ sym decided
+
+      pub material : IsMaterial told may_leave moment left_since faults held hard locations labels filled_store recorded material_of key.bytes
+      material = go (is_opaque slot.attributes) (ap is_opaque has.attributes) where
+        own : is_opaque recorded ≡ is_opaque key.attributes
+        own = (copies n.model caller key stated recorded (sym decided)).opaque
+
+        go : (b : Bool) → b ≡ is_opaque key.attributes → IsMaterial told may_leave moment left_since faults held hard locations labels filled_store recorded (cond b (Some slot.creation) None) key.bytes
+        go true is = (
+          own ∙ sym is,
+          subst (λ number. HoldsHandle (held mid.devices) number (λ h. h ≡ record { key_type = recorded.key_type.0; bytes = key.bytes })) (sym has.number)
+              (subst (λ t. HoldsHandle (held mid.devices) key.number (λ h. h ≡ record { key_type = t; bytes = key.bytes })) (sym (ap (λ (t : _). t.0) (copies n.model caller key stated recorded (sym decided)).key_type))
+              (n.device.there source key there (sym is))),
+        )
+        go false is = ap bytes_of filled ∙ (bytes-buffer_of (bytes_of slot.buffer) ∙ (has.bytes ∙ ap (λ b. cond b [] key.bytes) (sym is)))
+
+      abbrev pub ready : IsReady told may_leave moment left_since faults held hard locations labels filled_store caller recorded material_of start opening h all e
+      ready =
+          let c = copies n.model caller key stated recorded (sym decided) in
+          let f = with_buffer told may_leave moment left_since faults held hard locations labels (IsTold (told mid.file.cells.disk) start (h ++ e ∷ [])) mid buffer start opening h all n in
+          record { holds = f.0; bytes = key.bytes; material = material; stated = c.copy; decided = subst (λ (m : model.Store). recorded_of m caller c.copy (length key.bytes) ≡ Ok recorded) (sym f.1) c.decided }
+
+      pub making : IsMaking told may_leave moment left_since faults held hard locations labels filled_store start h e caller recorded key.bytes
+      making = record {
+        by = by;
+        keeps = keeps;
+        leaves = λ k. copy_store (replay start h) ∙ outcome_is (λ (o : Outcome). o.store) (replay start h) n.model (Ok recorded) key.bytes (n.replayed k) decided_here (ap key_use.bytes_of there);
+        answers = λ k. copy_reply (replay start h) ∙ outcome_is (λ (o : Outcome). o.reply) (replay start h) n.model (Ok recorded) key.bytes (n.replayed k) decided_here (ap key_use.bytes_of there);
+      }

@@ -1,0 +1,110 @@
+use Rattle.std.proofs.Common.{◌≡◌, ◌∙◌, ◌+◌, ℕ, List, [], ◌∷◌, ◌++◌, refl, sym, ap, subst, arith, Option, None, Some}
+use Rattle.std.specs.Prelude.{Ok, Err}
+use Rattle.std.specs.FinMap as map
+use Rattle.secret_bytes.specs.Buffer.{bytes_of, buffer_of}
+use Rattle.slot_table.specs.Slots.{slot_at}
+use Rattle.store_model.specs.Store as model
+use Rattle.store_model.specs.Call.{Copy}
+use Rattle.store_model.specs.Store.{Key}
+use Rattle.store_model.specs.Copies.{recorded_copy}
+use Rattle.store_model.specs.Creation.{new_id}
+use Rattle.store_model.specs.Requests.{OnStore}
+use Rattle.store_model.specs.Replay.{Entry, replay}
+use Rattle.store_model.specs.Marks.{last_counts}
+use Rattle.store_model.specs.Faults.{Plain}
+use Rattle.store_core.specs.declared.store.Store.{Store}
+use Rattle.store_core.specs.Represents.{IsTold, ranked_on}
+use Rattle.store_core.specs.Creations.{Enters, IsReady, IsUnkept, mark_unkept}
+use Rattle.store_core.proofs.Changing.{retold}
+use Rattle.store_core.proofs.Holding.{IsTurn, with_buffer}
+use Rattle.store_core.proofs.Finishing.{rebuffered, refuses, since_later, unread}
+use Rattle.store_core.proofs.CopyTurn.{reads_source, keeps, reads_kept, refused_here, material_of, ready, making, decided_here}
+use Rattle.store_core.proofs.store.Store.make_copy.Goals as goal
+
+pub returns-in-Ok-made-clause-made : goal.returns-in-Ok-made-clause-made
+returns-in-Ok-made-clause-made g c = λ start opening h all less e s gains law by call is.
+    let d = g.D.Disk in
+    let v = g.A.Devices in
+    let old = c.args.self.now in
+    let mid = c.bring.new.self in
+    let caller = c.args.caller in
+    let source = c.args.source.0 in
+    let stated = c.args.attributes.now in
+    let slot = slot_at mid.slots.table.slots c.in-Ok.slot in
+    let brought = c.in-Ok.ensures.found start opening h all e s (λ k. reads_source e caller source stated by call (replay start h)) in
+    let n = brought.0 in
+    let key = brought.1.0 in
+    let there = brought.1.1 in
+    let has = brought.1.2 in
+    let a = c.in-Ok-decide_copy.recorded in
+    let decided = c.in-Ok-decide_copy.ensures.value start opening h all e n source key there has in
+    let buffer = c.fill_from.new.self in
+    let full : buffer ≡ buffer_of (bytes_of slot.buffer) = c.fill_from.ensures ∙ ap buffer_of c.bytes.ensures.list in
+    let filled : Store _ _ _ = record mid { buffer = buffer } in
+    let new = ranked_on c.create-made.new.self in
+    let held : Option ℕ = material_of e caller source stated by call d.contents d.may_leave d.moment d.left_since d.faults v.keys v.faults v.locations g.C.Admission.labels mid start opening h all n slot key there has a decided buffer full in
+    let enters = subst (λ (o : Option ℕ). Enters d.contents d.may_leave d.moment d.left_since d.faults v.keys v.faults v.locations g.C.Admission.labels filled new caller a o (c.args.filling.slot, 0) Plain (λ m. c.in-Ok-made.id.0 ≡ new_id m caller a)) c.held_number-held.ensures c.in-Ok-made.ensures.made in
+    let turn : IsTurn d.contents d.may_leave d.moment d.left_since d.faults v.keys v.faults v.locations g.C.Admission.labels new Plain e = record { from_first = is.from_first; to_last = is.to_last; marked = is.marked; done = is.done; disk_faults = is.disk_faults; device_faults = is.device_faults } in
+    let entered = enters start opening h all less e (ready e caller source stated by call d.contents d.may_leave d.moment d.left_since d.faults v.keys v.faults v.locations g.C.Admission.labels mid start opening h all n slot key there has a decided buffer full) (since_later d.contents d.may_leave d.moment d.left_since d.faults v.keys v.faults v.locations g.C.Admission.labels old filled (last_counts opening.counts h) s.counts c.in-Ok.ensures.later c.in-Ok.ensures.devices) gains law (making e caller source stated by call d.contents d.may_leave d.moment d.left_since d.faults v.keys v.faults v.locations g.C.Admission.labels mid start opening h all n slot key there has a decided buffer full) turn in
+    let tells = c.create-made.ensures.tells in (
+      rebuffered d.contents d.may_leave d.moment d.left_since d.faults v.keys v.faults v.locations g.C.Admission.labels new c.wipe.new.self start opening (h ++ e ∷ []) less entered.0,
+      n.model,
+      (λ k. n.replayed (retold (d.contents mid.file.cells.disk) (d.contents c.create-made.new.self.file.cells.disk) start (h ++ e ∷ []) tells k)),
+      (a, sym (decided_here e caller source stated by call d.contents d.may_leave d.moment d.left_since d.faults v.keys v.faults v.locations g.C.Admission.labels mid start opening h all n slot key there has a decided buffer full), entered.1 ∙ ap (λ (m : model.Store). new_id m caller a) (with_buffer d.contents d.may_leave d.moment d.left_since d.faults v.keys v.faults v.locations g.C.Admission.labels (IsTold (d.contents mid.file.cells.disk) start (h ++ e ∷ [])) mid buffer start opening h all n).1),
+    )
+
+pub returns-in-Err-made-clause-uncopied : goal.returns-in-Err-made-clause-uncopied
+returns-in-Err-made-clause-uncopied g c = λ start opening h all less e s gains law by call is.
+    let d = g.D.Disk in
+    let v = g.A.Devices in
+    let old = c.args.self.now in
+    let mid = c.bring.new.self in
+    let caller = c.args.caller in
+    let source = c.args.source.0 in
+    let stated = c.args.attributes.now in
+    let slot = slot_at mid.slots.table.slots c.in-Ok.slot in
+    let brought = c.in-Ok.ensures.found start opening h all e s (λ k. reads_source e caller source stated by call (replay start h)) in
+    let n = brought.0 in
+    let key = brought.1.0 in
+    let there = brought.1.1 in
+    let has = brought.1.2 in
+    let a = c.in-Ok-decide_copy.recorded in
+    let decided = c.in-Ok-decide_copy.ensures.value start opening h all e n source key there has in
+    let buffer = c.fill_from.new.self in
+    let full : buffer ≡ buffer_of (bytes_of slot.buffer) = c.fill_from.ensures ∙ ap buffer_of c.bytes.ensures.list in
+    let filled : Store _ _ _ = record mid { buffer = buffer } in
+    let new = ranked_on c.create-made.new.self in
+    let held : Option ℕ = material_of e caller source stated by call d.contents d.may_leave d.moment d.left_since d.faults v.keys v.faults v.locations g.C.Admission.labels mid start opening h all n slot key there has a decided buffer full in
+    let enters = subst (λ (o : Option ℕ). Enters d.contents d.may_leave d.moment d.left_since d.faults v.keys v.faults v.locations g.C.Admission.labels filled new caller a o (c.args.filling.slot, 0) (mark_unkept c.in-Err-made.why) (λ m. IsUnkept a c.in-Err-made.why)) c.held_number-held.ensures c.in-Err-made.ensures.unkept in
+    let turn : IsTurn d.contents d.may_leave d.moment d.left_since d.faults v.keys v.faults v.locations g.C.Admission.labels new (mark_unkept c.in-Err-made.why) e = record { from_first = is.from_first; to_last = is.to_last; marked = is.marked; done = is.done; disk_faults = is.disk_faults; device_faults = is.device_faults } in
+    let entered = enters start opening h all less e (ready e caller source stated by call d.contents d.may_leave d.moment d.left_since d.faults v.keys v.faults v.locations g.C.Admission.labels mid start opening h all n slot key there has a decided buffer full) (since_later d.contents d.may_leave d.moment d.left_since d.faults v.keys v.faults v.locations g.C.Admission.labels old filled (last_counts opening.counts h) s.counts c.in-Ok.ensures.later c.in-Ok.ensures.devices) gains law (making e caller source stated by call d.contents d.may_leave d.moment d.left_since d.faults v.keys v.faults v.locations g.C.Admission.labels mid start opening h all n slot key there has a decided buffer full) turn in
+    let tells = c.create-made.ensures.tells in (
+      rebuffered d.contents d.may_leave d.moment d.left_since d.faults v.keys v.faults v.locations g.C.Admission.labels new c.wipe.new.self start opening (h ++ e ∷ []) less entered.0,
+      n.model,
+      (λ k. n.replayed (retold (d.contents mid.file.cells.disk) (d.contents c.create-made.new.self.file.cells.disk) start (h ++ e ∷ []) tells k)),
+      (a, sym (decided_here e caller source stated by call d.contents d.may_leave d.moment d.left_since d.faults v.keys v.faults v.locations g.C.Admission.labels mid start opening h all n slot key there has a decided buffer full), entered.1),
+    )
+
+pub returns-in-Err-decide_copy-clause-uncopied : goal.returns-in-Err-decide_copy-clause-uncopied
+returns-in-Err-decide_copy-clause-uncopied g c = λ start opening h all less e s gains law by call is.
+    let d = g.D.Disk in
+    let v = g.A.Devices in
+    let old = c.args.self.now in
+    let mid = c.bring.new.self in
+    let caller = c.args.caller in
+    let source = c.args.source.0 in
+    let stated = c.args.attributes.now in
+    let slot = slot_at mid.slots.table.slots c.in-Ok.slot in
+    let brought = c.in-Ok.ensures.found start opening h all e s (λ k. reads_source e caller source stated by call (replay start h)) in
+    let n = brought.0 in
+    let key = brought.1.0 in
+    let there = brought.1.1 in
+    let has = brought.1.2 in
+    let status = c.in-Err-decide_copy.status in
+    let decided = ap (λ (o : Option Key). recorded_copy n.model caller o stated) there ∙ sym (c.in-Err-decide_copy.ensures.value start opening h all e n source key there has) in (
+      refuses d.contents d.may_leave d.moment d.left_since d.faults v.keys v.faults v.locations g.C.Admission.labels g.met.D.Disk.only_now mid c.give_up-in-Err-decide_copy.new.self start opening h all less e (keeps e caller source stated by call) status n (refused_here e caller source stated by call d.contents d.may_leave d.moment d.left_since d.faults v.keys v.faults v.locations g.C.Admission.labels mid start opening h all n status decided)
+          (c.give_up-in-Err-decide_copy.ensures n.model all less n.slots gains) law is,
+      n.model,
+      n.replayed,
+      sym decided,
+    )
