@@ -1,9 +1,11 @@
 -- A turn that copies a key.
 use Rattle.std.proofs.Common.{◌≡◌, ◌∙◌, ℕ, ◌+◌, ◌==◌, Bool, true, false, cond, List, [], ◌∷◌, ◌++◌, length, refl, sym, ap, subst, arith, Option, None, Some, is_some}
 use Rattle.std.proofs.lemmas.Bool.{false≢true}
-use Rattle.std.specs.Prelude.{Ok, Err, Result, if◌then◌else◌}
+use Rattle.std.specs.Prelude.{Ok, Err, IsErrOf, Result, if◌then◌else◌}
 use Rattle.std.specs.FinMap as map
 use Rattle.psa_status.specs.declared.Status.{Status}
+use Rattle.psa_status.specs.declared.Status.TheVariants.{InvalidHandle}
+use Rattle.psa_status.specs.Causes.{Rose}
 use Rattle.policy_rules.specs.declared.narrowing.Label.{Label}
 use Rattle.key_attributes.specs.declared.Attributes.{Attributes}
 use Rattle.driver_dispatch.specs.Held.{HeldKey, HeldKeys}
@@ -11,8 +13,9 @@ use Rattle.driver_dispatch.specs.Calls.{HoldsHandle}
 use Rattle.secret_bytes.specs.Buffer.{Buffer, bytes_of, buffer_of}
 use Rattle.slot_table.specs.Slots.{Slot}
 use Rattle.slot_table.proofs.AtSlots.{bytes-buffer_of}
-use Rattle.key_slots.specs.Holdings.{Pairs}
-use Rattle.key_slots.specs.Standing.{SlotHasKey, slot_bytes}
+use Rattle.key_slots.specs.declared.slots.KeySlots.{KeySlots}
+use Rattle.key_slots.specs.Holdings.{Pairs, AreHoldings}
+use Rattle.key_slots.specs.Standing.{Agrees, SlotHasKey}
 use Rattle.store_model.specs.Store as model
 use Rattle.store_model.specs.Store.{Key, is_opaque, is_persistent_key}
 use Rattle.store_model.specs.Call.{Copy, Reply}
@@ -23,15 +26,21 @@ use Rattle.store_model.specs.Copies.{recorded_copy, step_copy}
 use Rattle.store_model.specs.Handles.{Service}
 use Rattle.store_model.specs.Requests.{Request, OnStore, plain_step}
 use Rattle.store_model.specs.Replay.{Entry, replay}
-use Rattle.store_model.specs.Marks.{id_read, reads_persistent}
+use Rattle.store_model.specs.Marks.{FaultCounts, id_read, reads_persistent}
+use Rattle.store_model.specs.Faults as fault
+use Rattle.store_model.specs.Faults.{Storage, Reading}
 use Rattle.store_core.specs.declared.store.Store.{Store}
+use Rattle.store_core.specs.declared.reading.Unread.{Unread}
+use Rattle.store_core.specs.declared.reading.Unread.TheVariants.{Missing, Disk, Corrupt}
 use Rattle.store_core.specs.Durability.{is_destruction}
+use Rattle.store_core.specs.Uses.{IsRefused, mark_of, status_of, there_rows}
 use Rattle.store_core.specs.Represents.{IsTold, Opening}
 use Rattle.store_core.specs.Creations.{IsMaterial, IsMaking, IsReady}
-use Rattle.store_core.proofs.Holding.{HoldsHere, with_buffer}
+use Rattle.store_core.proofs.Holding.{HoldsHere, StandsHere, IsTurn, with_buffer}
 use Rattle.store_core.proofs.Loading.{reads_it}
 use Rattle.store_core.proofs.Makes.{IsRefusedAt}
 use Rattle.store_core.proofs.Copied.{copies}
+use Rattle.store_core.proofs.Finishing.{refuses, unread}
 
 -- the bytes of the key of an identifier
 abbrev pub bytes_at : model.Store → ℕ → List ℕ
@@ -117,3 +126,56 @@ module _ (e : Entry) (caller source : ℕ) (stated : Attributes) (by : e.caller 
         leaves = λ k. copy_store (replay start h) ∙ outcome_is (λ (o : Outcome). o.store) (replay start h) n.model (Ok recorded) key.bytes (n.replayed k) decided_here (ap key_use.bytes_of there);
         answers = λ k. copy_reply (replay start h) ∙ outcome_is (λ (o : Outcome). o.reply) (replay start h) n.model (Ok recorded) key.bytes (n.replayed k) decided_here (ap key_use.bytes_of there);
       }
+
+-- A SOURCE THAT WASN'T FOUND
+
+abbrev IsWhy : Unread → Unread → Type 0
+IsWhy why other = IsErrOf {T = ℕ} {E = Unread} (Err why) other
+
+pub either : (why : Unread) (X : Type 0) → (IsWhy why Missing → X) → ((IsWhy why Missing → ⊥) → X) → X
+either Missing X missing unread = missing refl
+either Disk X missing unread = unread (λ e. cc)
+either Corrupt X missing unread = unread (λ e. cc)
+
+module _ {D A C : Type 0} (told : D → Option (List ℕ)) (may_leave : D → List ℕ → Type 0) (moment : D → ℕ) (left_since : D → ℕ → List ℕ → Type 0)
+    (faults : D → ℕ) (held : A → Option HeldKeys) (hard : A → ℕ) (locations : A → List ℕ) (labels : C → List Label)
+    (only_now : (disk : D) (image : List ℕ) → left_since disk (moment disk) image → may_leave disk image)
+    (old mid : Store D A C) (slots : KeySlots) (start : Service) (opening : Opening) (h : List Entry) (all less : List Pairs) (e : Entry) (caller source : ℕ) (stated : Attributes) (by : e.caller ≡ caller) (call : e.call ≡ OnStore (Copy source stated))
+    (s : StandsHere told may_leave moment left_since faults held hard locations labels old start opening h all) (agrees : (m : model.Store) → Agrees mid.slots.table.slots m all → Agrees slots.table.slots m less) (law : AreHoldings less) where
+  abbrev Brought : (model.Store → Type 0) → Type 0
+  Brought P = (n : HoldsHere told may_leave moment left_since faults held hard locations labels (IsTold (told mid.file.cells.disk) start (h ++ e ∷ [])) mid start opening h all) × P n.model
+
+  abbrev ended : Store D A C
+  ended = record mid { slots = slots; ranked = mid.ranked + 1 }
+
+  abbrev Ends : (model.Store → Type 0) → Type 0
+  Ends P = StandsHere told may_leave moment left_since faults held hard locations labels ended start opening (h ++ e ∷ []) less × (m : model.Store) × (IsTold (told mid.file.cells.disk) start (h ++ e ∷ []) → m ≡ (replay start h).store) × P m
+
+  pub uncopied : (why : Unread) → (IsWhy why Missing → Brought (λ m. map.get m.keys source ≡ None)) → ((IsWhy why Missing → ⊥) → Brought (λ m. is_persistent_key (map.get m.keys source) ≡ true)) →
+      (IsWhy why Disk → Rose (faults old.file.cells.disk) (faults mid.file.cells.disk)) → (IsWhy why Corrupt → is_some (told mid.file.cells.disk) ≡ false) →
+      IsTurn told may_leave moment left_since faults held hard locations labels ended (mark_of (status_of why)) e → Ends (IsRefused there_rows source (status_of why))
+  uncopied Missing missing not_read rose blind is =
+      let n = missing refl in (
+        refuses told may_leave moment left_since faults held hard locations labels only_now mid slots start opening h all less e (keeps e caller source stated by call) InvalidHandle n.0
+            (refused_here e caller source stated by call told may_leave moment left_since faults held hard locations labels mid start opening h all n.0 InvalidHandle (ap (λ (o : Option Key). recorded_copy n.0.model caller o stated) n.1)) (agrees n.0.model n.0.slots) law is,
+        n.0.model,
+        n.0.replayed,
+        ap there_rows n.1,
+      )
+  uncopied Disk missing not_read rose blind is =
+      let n = not_read (λ e. cc) in (
+        unread told may_leave moment left_since faults held hard locations labels only_now mid slots start opening h all less e (keeps e caller source stated by call) (Storage Reading) tt n.0
+            (reads_kept e caller source stated by call told may_leave moment left_since faults held hard locations labels mid start opening h all n.0 n.1) (agrees n.0.model n.0.slots) law
+            (subst (Rose _) (sym is.disk_faults) (subst (λ (f : ℕ). Rose f (faults mid.file.cells.disk)) (sym (ap (λ (c : FaultCounts). c.faults) s.counts)) (rose refl))) is,
+        n.0.model,
+        n.0.replayed,
+        n.1,
+      )
+  uncopied Corrupt missing not_read rose blind is =
+      let n = not_read (λ e. cc) in (
+        unread told may_leave moment left_since faults held hard locations labels only_now mid slots start opening h all less e (keeps e caller source stated by call) fault.Corrupt tt n.0
+            (reads_kept e caller source stated by call told may_leave moment left_since faults held hard locations labels mid start opening h all n.0 n.1) (agrees n.0.model n.0.slots) law (blind refl) is,
+        n.0.model,
+        n.0.replayed,
+        n.1,
+      )

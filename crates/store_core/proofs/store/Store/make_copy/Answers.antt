@@ -3,6 +3,7 @@ use Rattle.std.specs.Prelude.{Ok, Err}
 use Rattle.std.specs.FinMap as map
 use Rattle.secret_bytes.specs.Buffer.{bytes_of, buffer_of}
 use Rattle.slot_table.specs.Slots.{slot_at}
+use Rattle.key_slots.specs.Standing.{IsOut}
 use Rattle.store_model.specs.Store as model
 use Rattle.store_model.specs.Call.{Copy}
 use Rattle.store_model.specs.Store.{Key}
@@ -17,8 +18,9 @@ use Rattle.store_core.specs.Represents.{IsTold, ranked_on}
 use Rattle.store_core.specs.Creations.{Enters, IsReady, IsUnkept, mark_unkept}
 use Rattle.store_core.proofs.Changing.{retold}
 use Rattle.store_core.proofs.Holding.{IsTurn, with_buffer}
+use Rattle.store_core.proofs.Refusing.{asks_for}
 use Rattle.store_core.proofs.Finishing.{rebuffered, refuses, since_later, unread}
-use Rattle.store_core.proofs.CopyTurn.{reads_source, keeps, reads_kept, refused_here, material_of, ready, making, decided_here}
+use Rattle.store_core.proofs.CopyTurn.{reads_source, keeps, reads_kept, refused_here, material_of, ready, making, decided_here, either, uncopied}
 use Rattle.store_core.proofs.store.Store.make_copy.Goals as goal
 
 pub returns-in-Ok-made-clause-made : goal.returns-in-Ok-made-clause-made
@@ -108,3 +110,55 @@ returns-in-Err-decide_copy-clause-uncopied g c = λ start opening h all less e s
       n.replayed,
       sym decided,
     )
+
+pub returns-in-Err-clause-uncopied : goal.returns-in-Err-clause-uncopied
+returns-in-Err-clause-uncopied g c = λ start opening h all less e s gains law by call is.
+    let d = g.D.Disk in
+    let v = g.A.Devices in
+    let old = c.args.self.now in
+    let mid = c.bring.new.self in
+    let source = c.args.source.0 in
+    let b = c.in-Err.ensures in
+    let reads = reads_source e c.args.caller source c.args.attributes.now by call (replay start h) in
+    uncopied d.contents d.may_leave d.moment d.left_since d.faults v.keys v.faults v.locations g.C.Admission.labels g.met.D.Disk.only_now old mid c.give_up.new.self start opening h all less e c.args.caller source c.args.attributes.now by call s (λ m agrees. c.give_up.ensures m all less agrees gains) law c.in-Err.why
+    (λ why. b.missing why start opening h all e s (λ k. reads)) (λ why. b.unread why start opening h all e s (λ k. reads)) b.disk b.corrupt is
+
+pub give_up-requires : goal.give_up-requires
+give_up-requires g c =
+    let own = c.requires.out in
+    let e = asks_for c.args.source.0 in
+    let b = c.in-Err.ensures in
+    either c.in-Err.why (IsOut c.bring.new.self.slots.table.slots (c.args.filling.slot, 0))
+    (λ why. let n = (b.missing why own.0 own.1 own.2 own.3 e own.4 (λ k. refl)).0 in record { store = n.model; all = own.3; agrees = n.slots; out = own.5 })
+    (λ why. let n = (b.unread why own.0 own.1 own.2 own.3 e own.4 (λ k. refl)).0 in record { store = n.model; all = own.3; agrees = n.slots; out = own.5 })
+
+pub give_up-requires-in-Err-decide_copy : goal.give_up-requires-in-Err-decide_copy
+give_up-requires-in-Err-decide_copy g c =
+    let own = c.requires.out in
+    let n = (c.in-Ok.ensures.found own.0 own.1 own.2 own.3 (asks_for c.args.source.0) own.4 (λ k. refl)).0 in
+    record { store = n.model; all = own.3; agrees = n.slots; out = own.5 }
+
+pub create-made-requires-clause-ready : goal.create-made-requires-clause-ready
+create-made-requires-clause-ready g c = λ κs lives.
+    let d = g.D.Disk in
+    let v = g.A.Devices in
+    let old = c.args.self.now in
+    let mid = c.bring.new.self in
+    let source = c.args.source.0 in
+    let caller = c.args.caller in
+    let stated = c.args.attributes.now in
+    let own = c.requires.out in
+    let e : Entry = record { caller = caller; call = OnStore (Copy source stated); mark = Plain; done = 0; faults = 0; hard = 0 } in
+    let slot = slot_at mid.slots.table.slots c.in-Ok.slot in
+    let brought = c.in-Ok.ensures.found own.0 own.1 own.2 own.3 e own.4 (λ k. refl) in
+    let n = brought.0 in
+    let key = brought.1.0 in
+    let there = brought.1.1 in
+    let has = brought.1.2 in
+    let a = c.in-Ok-decide_copy.recorded in
+    let decided = c.in-Ok-decide_copy.ensures.value own.0 own.1 own.2 own.3 e n source key there has in
+    let buffer = c.fill_from.new.self in
+    let full : buffer ≡ buffer_of (bytes_of slot.buffer) = c.fill_from.ensures ∙ ap buffer_of c.bytes.ensures.list in
+    let r = subst (λ (o : Option ℕ). IsReady d.contents d.may_leave d.moment d.left_since d.faults v.keys v.faults v.locations g.C.Admission.labels (record mid { buffer = buffer }) caller a o own.0 own.1 own.2 own.3 e) (sym c.held_number-held.ensures)
+        (ready e caller source stated refl refl d.contents d.may_leave d.moment d.left_since d.faults v.keys v.faults v.locations g.C.Admission.labels mid own.0 own.1 own.2 own.3 n slot key there has a decided buffer full) in
+    (own.0, own.1, own.2, own.3, e, r, own.5)
