@@ -1,7 +1,6 @@
 -- A key as the secret of a derivation, by whether the algorithm's number is concrete.
 use Rattle.std.proofs.Common.{◌≡◌, ℕ, Bool, true, false, cond, refl, ap}
 use Rattle.std.specs.Prelude.{Option, Some}
-use Rattle.psa_status.specs.declared.Status.{Status}
 use Rattle.psa_status.specs.Rows.{first_row}
 use Rattle.alg_encoding.specs.Encoding.{IsConcrete, is_concrete}
 use Rattle.store_model.specs.Store.{Key}

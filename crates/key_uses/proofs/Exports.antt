@@ -2,7 +2,7 @@
 use Rattle.std.proofs.Common.{◌≡◌, ℕ, Bool, true, false, cond, length, refl}
 use Rattle.std.specs.Prelude.{◌==◌, bit_and, Option, Some, None}
 use Rattle.psa_status.specs.declared.Status.{Status}
-use Rattle.psa_status.specs.declared.Status.TheVariants.{NotPermitted, NotSupported, BufferTooSmall}
+use Rattle.psa_status.specs.declared.Status.TheVariants.{NotPermitted, NotSupported}
 use Rattle.psa_status.specs.Rows.{first_row}
 use Rattle.store_model.specs.Store.{Key, is_opaque}
 use Rattle.store_model.specs.KeyUse.{export_rows}

@@ -1,5 +1,5 @@
 -- The refusals of a key's uses that the model's tables don't have by themselves, and what a key that may be used is.
-use Rattle.std.specs.Prelude.{ℕ, ◌≡◌, false, List, take, if◌then◌else◌, Option, Some, None}
+use Rattle.std.specs.Prelude.{ℕ, ◌≡◌, ◌≤◌, false, List, length, take, if◌then◌else◌, Option, Some, None}
 use Rattle.psa_status.specs.declared.Status.{Status}
 use Rattle.psa_status.specs.declared.Status.TheVariants.{NotPermitted, InvalidHandle}
 use Rattle.psa_status.specs.Rows.{first_row}
@@ -26,9 +26,11 @@ pattern_refusal (Some key) = NotPermitted
 abbrev pub derivation_refusal : (step alg : ℕ) → Option Key → Option Status
 derivation_refusal step alg found = if is_concrete alg then first_row (derivation_key_rows found step alg) else Some (pattern_refusal found)
 
--- the number names an algorithm of the class, and the bytes are a key for it: HMAC's are any, and all others' an AES key
+-- the number names an algorithm of the class, and the bytes are a key for it: HMAC's are any 1,024 or fewer, and all others' an
+-- AES key
 pub record IsKeyFor (class : Class) (alg : ℕ) (bytes : List ℕ) : Type 0 where
   pub algorithm : IsOfClass class alg
+  pub short : length bytes ≤ 1024
   pub aes : is_hmac alg ≡ false → IsKey bytes
   pub cmac : base_of alg ≡ cmac_base → IsKey bytes
   pub cipher : class ≡ Cipher → IsKey bytes

@@ -1,5 +1,5 @@
 -- What a key is looked for.
-use Rattle.std.specs.Prelude.{ℕ, false, List, Option}
+use Rattle.std.specs.Prelude.{ℕ, ◌≤◌, false, List, length, Option}
 use Rattle.psa_status.specs.declared.Status.{Status}
 use Rattle.psa_status.specs.Rows.{first_row}
 use Rattle.store_model.specs.Store.{Key}
@@ -17,4 +17,4 @@ use_refusal (Derivation step alg) found = derivation_refusal step alg.0 found
 -- what the bytes of a key are that may be used so
 abbrev pub FitsUse : KeyUse → List ℕ → Type 0
 FitsUse (Algorithm class usage alg) bytes = IsKeyFor class alg.0 bytes
-FitsUse _ bytes = Unit {0}
+FitsUse _ bytes = length bytes ≤ 1024

@@ -1,10 +1,10 @@
 -- What a look-up gives, from the entry that was found.
-use Rattle.std.proofs.Common.{◌≡◌, ◌≤◌, ℕ, ◌/◌, ◌^◌, Bool, true, false, cond, List, length, take, length-take, refl, sym, ap, ◌∙◌, arith}
+use Rattle.std.proofs.Common.{◌≡◌, ◌≤◌, ℕ, ◌/◌, ◌^◌, Bool, false, List, length, take, length-take, sym, ap, ◌∙◌, arith}
 use Rattle.std.specs.Prelude.{Option, Some, None, ◌==◌}
 use Rattle.psa_status.specs.declared.Status.{Status}
 use Rattle.psa_status.specs.Rows.{first_row}
 use Rattle.alg_encoding.specs.declared.table.Class.{Class}
-use Rattle.store_model.specs.Store.{Key, is_opaque}
+use Rattle.store_model.specs.Store.{Key}
 use Rattle.store_model.specs.KeyUse.{bytes_of}
 use Rattle.store_model.specs.Rules.{use_rows}
 use Rattle.alg_encoding.specs.Encoding.{IsConcrete}
