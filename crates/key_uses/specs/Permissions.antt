@@ -26,8 +26,7 @@ pattern_refusal (Some key) = NotPermitted
 abbrev pub derivation_refusal : (step alg : ℕ) → Option Key → Option Status
 derivation_refusal step alg found = if is_concrete alg then first_row (derivation_key_rows found step alg) else Some (pattern_refusal found)
 
--- the number names an algorithm of the class, and the bytes are a key for it: HMAC's are any 1,024 or fewer, and all others' an
--- AES key
+-- the number names an algorithm of the class, and the bytes are a key for it: an AES key for each but HMAC
 pub record IsKeyFor (class : Class) (alg : ℕ) (bytes : List ℕ) : Type 0 where
   pub algorithm : IsOfClass class alg
   pub short : length bytes ≤ 1024

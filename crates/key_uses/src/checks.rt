@@ -49,7 +49,8 @@ fn fits_type(algorithm: Algorithm, key_type: KeyType) -> bool
 }
 
 /// The refusal of a key with these attributes in a call of a class with an algorithm, where a device that has the key
-/// computes such calls. Bytes that such a key can have are then a key for the algorithm.
+/// computes such calls: `NotSupported` or `InvalidArgument` by the number, `NotPermitted` by the policy, `InvalidArgument`
+/// by the type. Bytes that a key which isn't refused can have are a key for the algorithm.
 pub fn check_use(
     class: Class,
     usage: Usage,

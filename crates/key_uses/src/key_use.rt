@@ -29,7 +29,7 @@ pub enum KeyUse {
 }
 
 impl KeyUse {
-    /// The first refusal of a key with these attributes. Bytes that such a key can have are then fit for the use.
+    /// The first refusal of a key with these attributes. Bytes that a key which isn't refused can have are fit for the use.
     pub fn check(&self, attributes: &Attributes) -> Result<(), Status>
         ensures refusal { (key : Key) → key.attributes ≡ attributes.now → result ≡ unless (use_refusal self.now (Some key)) tt }
         ensures fits { OnOk result ((bytes : List ℕ) → IsTrue (permits_size attributes.now.key_type.0 (length bytes)) → FitsUse self.now bytes) }

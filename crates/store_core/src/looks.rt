@@ -16,7 +16,9 @@ use secret_bytes::Secret;
 use slot_table::Lease;
 
 impl<D: Disk, A: Devices, C: Admission> Store<D, A, C> {
-    /// Lends a key's bytes for what the key is looked for, in a clear spare, which comes back where that is refused. Ranked.
+    /// Lends a key's bytes for what the key is looked for, in a clear spare, which comes back where that is refused:
+    /// `InvalidHandle` where there is no key, `StorageFailure` or `DataCorrupt` where the file has it and can't be read, and
+    /// else the use's first refusal. Ranked.
     pub fn look(
         &mut self,
         id: KeyId,
