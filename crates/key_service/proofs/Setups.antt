@@ -95,7 +95,7 @@ still_inactive before after key is all = subst AreInactive (sym is) (record { ha
 keyed_is : (store : Store) (operation : HandleOperation) (class : Class) (usage alg id : ℕ) (work : List ℕ → Work) (bytes : List ℕ) (number : ℕ) → IsLookedUp class usage alg id (finite.get store.keys id) bytes number →
     set_up operation None (record { key = Some (record { id = id; number = number }); work = work bytes }) ≡ keyed store operation class usage alg id work
 keyed_is store operation class usage alg id work bytes number look =
-    let rows = sym (look.usable.permitted false) in
+    let rows = sym (look.permitted false) in
     let key = sym look.key.creation in
     let there = sym look.key.there in
     λ i. set_up operation (rows i) (record { key = key i; work = work (there i) })

@@ -7,6 +7,7 @@ ghost use Rattle.service_calls.specs.Answers.{AnswersLength};
 ghost use Rattle.list_store.specs.Entries.{key_of, IsFree, IsKept};
 
 use key_attributes::{Attributes, KeyId, KeyType, LONGEST_KEY, Lifetime, Policy, Usage};
+use key_uses::KeyUse;
 use psa_status::{Memory, Status};
 use std::alloc::Global;
 
@@ -116,9 +117,7 @@ pub fn copy_out(entry: &Entry, out: &mut [u8]) -> Result<usize, Status>
     ensures reply { AnswersLength result (export_reply (Some (key_of entry.now)) (length out.old)) }
     ensures buffer { out.new ≡ buffer_after out.old (export_reply (Some (key_of entry.now)) (length out.old)) }
 {
-    if entry.attributes.policy.usage.0 & Usage::EXPORT.0 == 0 {
-        return Err(Status::NotPermitted);
-    }
+    KeyUse::Export.check(&entry.attributes)?;
     if out.len() < entry.length {
         return Err(Status::BufferTooSmall);
     }

@@ -1,22 +1,18 @@
 // Calls that use a key with an algorithm.
-ghost use Rattle.std.specs.Prelude.{◌≡◌, ◌≤◌, ℕ, IfOk, MatchResult, Some, Err, length};
+ghost use Rattle.std.specs.Prelude.{◌≡◌, ◌≤◌, IfOk, MatchResult, Some, length};
 ghost use Rattle.std.specs.Result.{result_err};
 ghost use Rattle.std.specs.FinMap as finite;
-ghost use Rattle.psa_status.specs.declared.Status.TheVariants.{NotPermitted};
-ghost use Rattle.psa_status.specs.Rows.{first_row, unless};
+ghost use Rattle.psa_status.specs.Rows.{first_row};
 ghost use Rattle.alg_encoding.specs.Encoding.{IsConcrete};
-ghost use Rattle.store_model.specs.Algorithms.{is_hmac};
 ghost use Rattle.store_model.specs.Handles.{is_alive};
-ghost use Rattle.store_model.specs.HandleCalls.{derivation_key_rows, fits_step};
-ghost use Rattle.store_model.specs.Rules.{class_number, class_rows, fits_type};
-ghost use Rattle.algorithm_facts.specs.Parse.{is_hmac_in};
-ghost use Rattle.list_store.specs.Uses.{IsLookedUp, IsRefused, IsDerivationKey, IsUsedAs, derivation_permission_rows, pattern_refusal, permission_rows};
+ghost use Rattle.store_model.specs.HandleCalls.{derivation_key_rows};
+ghost use Rattle.key_uses.specs.Permissions.{pattern_refusal};
+ghost use Rattle.list_store.specs.Uses.{IsLookedUp, IsRefused, IsDerivationKey};
 
 use crate::Store;
 use alg_encoding::{Alg, Class};
-use algorithm_facts::{Algorithm, steps};
-use key_attributes::{Attributes, KeyId, KeyType, Usage};
-use policy_rules::permits;
+use key_attributes::{KeyId, Usage};
+use key_uses::KeyUse;
 use psa_status::Status;
 
 /// What a look-up gives of a key: its bytes, and its creation number, which no other key has.
@@ -24,60 +20,6 @@ use psa_status::Status;
 pub struct Found<'a> {
     pub bytes: &'a [u8],
     pub number: u64,
-}
-
-// Whether keys of this type are for this algorithm.
-fn fits_type(algorithm: Algorithm, key_type: KeyType) -> bool
-    ensures { (alg : ℕ) → is_hmac alg ≡ is_hmac_in algorithm → result ≡ fits_type alg key_type.0 }
-{
-    let wanted = if algorithm.is_hmac() {
-        KeyType::HMAC
-    } else {
-        KeyType::AES
-    };
-    key_type == wanted
-}
-
-// The algorithm with which a key that has these attributes is used, or the refusal of the use.
-fn check_use(
-    class: Class,
-    usage: Usage,
-    alg: Alg,
-    attributes: &Attributes,
-) -> Result<Algorithm, Status>
-    ensures refusal { result_err result ≡ first_row (permission_rows class usage.0 alg.0 attributes.now) }
-    ensures algorithm { IfOk result (λ algorithm. IsUsedAs class alg.0 algorithm) }
-{
-    let algorithm = Algorithm::of_class(class, alg)?;
-    if !permits(&attributes.policy, usage, alg) {
-        return Err(Status::NotPermitted);
-    }
-    if !fits_type(algorithm, attributes.key_type) {
-        return Err(Status::InvalidArgument);
-    }
-    Ok(algorithm)
-}
-
-// Whether keys of this type are for this step of a derivation.
-fn fits_step(step: u16, key_type: KeyType) -> bool
-    ensures { result ≡ fits_step step key_type.0 }
-{
-    key_type == KeyType::DERIVE || (step != steps::SECRET && key_type == KeyType::PASSWORD)
-}
-
-// The refusal of a key that has these attributes as the secret of a derivation. A number that isn't concrete is
-// permitted by no policy.
-fn check_derivation(step: u16, alg: Alg, attributes: &Attributes) -> Result<(), Status>
-    ensures concrete { IsConcrete alg.0 → result ≡ unless (first_row (derivation_permission_rows step alg.0 attributes.now)) tt }
-    ensures pattern { (IsConcrete alg.0 → ⊥) → result ≡ Err NotPermitted }
-{
-    if !alg.is_concrete() || !permits(&attributes.policy, Usage::DERIVE, alg) {
-        return Err(Status::NotPermitted);
-    }
-    if !fits_step(step, attributes.key_type) {
-        return Err(Status::InvalidArgument);
-    }
-    Ok(())
 }
 
 impl Store {
@@ -96,7 +38,7 @@ impl Store {
         let Some(entry) = self.entry(key) else {
             return Err(Status::InvalidHandle);
         };
-        check_use(class, usage, alg, &entry.attributes)?;
+        KeyUse::Algorithm { class, usage, alg }.check(&entry.attributes)?;
         Ok(Found {
             bytes: &entry.buffer[..entry.length],
             number: entry.number,
@@ -114,7 +56,7 @@ impl Store {
         let Some(entry) = self.entry(key) else {
             return Err(Status::InvalidHandle);
         };
-        check_derivation(step, alg, &entry.attributes)?;
+        KeyUse::Derivation { step, alg }.check(&entry.attributes)?;
         Ok(Found {
             bytes: &entry.buffer[..entry.length],
             number: entry.number,

@@ -4,6 +4,7 @@ mod Kept
 mod Replaced
 mod Loading
 mod Refusing
+mod Lending
 mod Changing
 mod Removing
 mod Destroyed

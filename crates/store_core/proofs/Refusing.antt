@@ -1,5 +1,5 @@
 -- A ranked turn that looked for a key.
-use Rattle.std.proofs.Common.{◌≡◌, ◌∙◌, ℕ, ◌<◌, ◌-◌, ◌^◌, arith, take, true, false, List, [], ◌∷◌, ◌++◌, refl, sym, ap, subst, Option, None, Some, is_some}
+use Rattle.std.proofs.Common.{◌≡◌, ◌∙◌, ℕ, ◌<◌, ◌-◌, ◌^◌, arith, true, false, List, [], ◌∷◌, ◌++◌, refl, sym, ap, subst, Option, None, Some, is_some}
 use Rattle.std.specs.Prelude.{Err, IsErrOf}
 use Rattle.std.specs.FinMap as map
 use Rattle.psa_status.specs.declared.Status.{Status}
@@ -17,18 +17,19 @@ use Rattle.store_model.specs.Store as model
 use Rattle.store_model.specs.Store.{Key, is_persistent_key}
 use Rattle.store_model.specs.Call.{GetAttributes}
 use Rattle.store_model.specs.Faults.{FaultMark, Plain}
-use Rattle.store_model.specs.KeyUse.{export_rows}
 use Rattle.store_model.specs.Requests.{OnStore}
-use Rattle.store_model.proofs.Tables.{refused_by}
 use Rattle.store_model.specs.Outcome.{counted}
 use Rattle.store_model.specs.Handles.{Service}
 use Rattle.store_model.specs.Replay.{Entry, replay}
 use Rattle.store_model.specs.Marks.{FaultCounts, reads_persistent}
+use Rattle.key_uses.specs.declared.key_use.KeyUse.{KeyUse}
+use Rattle.key_uses.specs.Uses.{use_refusal}
+use Rattle.key_uses.proofs.Refusals.{refused_so}
 use Rattle.store_core.specs.declared.store.Store.{Store}
 use Rattle.store_core.specs.declared.reading.Unread.{Unread}
 use Rattle.store_core.specs.declared.reading.Unread.TheVariants.{Missing, Disk, Corrupt}
 use Rattle.store_core.specs.Represents.{IsTold, Opening}
-use Rattle.store_core.specs.Uses.{IsRefused, export_refusal, mark_of, status_of}
+use Rattle.store_core.specs.Uses.{IsRefused, mark_of, status_of}
 use Rattle.store_core.proofs.Histories.{told_before}
 use Rattle.store_core.proofs.Holding.{HoldsHere, StandsHere, IsTurn, IsReadingHere, turned, ends_quiet}
 use Rattle.store_core.proofs.Loading.{reads_it}
@@ -41,9 +42,8 @@ IsWhy why other = IsErrOf {T = ℕ} {E = Unread} (Err why) other
 abbrev pub IsPlain : Status → Type 0
 IsPlain status = (mark_of status ≡ Plain) × ((rows : Option Key → Option Status) (id : ℕ) (m : model.Store) → rows (map.get m.keys id) ≡ Some status → IsRefused rows id status m)
 
-pub export_plain : (found : Option Key) (status : Status) → export_refusal found ≡ Some status → IsPlain status
-export_plain None status refused = refused_by IsPlain (take 2 (export_rows None 0)) ((λ on. (refl, λ rows id m is. is)), tt) status refused
-export_plain (Some key) status refused = refused_by IsPlain (take 2 (export_rows (Some key) 0)) ((λ on. (refl, λ rows id m is. is)), ((λ on. (refl, λ rows id m is. is)), tt)) status refused
+pub use_plain : (wanted : KeyUse) (found : Option Key) (status : Status) → use_refusal wanted found ≡ Some status → IsPlain status
+use_plain = refused_so IsPlain (refl, λ rows id m is. is) (refl, λ rows id m is. is) (refl, λ rows id m is. is) (refl, λ rows id m is. is)
 
 -- few read a slot
 pub few_readers : (slots : List Slot) (m : model.Store) (all : List Pairs) (i : ℕ) → Agrees slots m all → AreHoldings all → i < 384 → (slot_at slots i).readers < 2 ^ 32 - 1

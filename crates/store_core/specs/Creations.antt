@@ -3,7 +3,6 @@ use Rattle.std.specs.Prelude.{◌≡◌, ◌<◌, ◌≤◌, ◌⊎◌, ◌+◌,
 use Rattle.std.specs.FinMap as map
 use Rattle.psa_status.specs.declared.Status.{Status}
 use Rattle.psa_status.specs.declared.Status.TheVariants.{InvalidHandle, StorageFailure, HardwareFailure}
-use Rattle.psa_status.specs.Rows.{◌>>=◌}
 use Rattle.key_attributes.specs.declared.Attributes.{Attributes}
 use Rattle.policy_rules.specs.declared.narrowing.Label.{Label}
 use Rattle.driver_dispatch.specs.Held.{HeldKeys}
@@ -46,10 +45,6 @@ RecordsStated (Some lease) caller a bytes m recorded =
 -- and what a copy does
 abbrev pub RecordsCopy : (caller source : ℕ) → Attributes → model.Store → Result Attributes Status → Type 0
 RecordsCopy caller source stated m recorded = recorded ≡ recorded_copy m caller (map.get m.keys source) stated
-
--- what is recorded of a copy's attributes, or its first refusal
-abbrev pub recorded_after : model.Store → (caller bytes : ℕ) → Result Attributes Status → Result Attributes Status
-recorded_after m caller bytes copy = copy >>= (λ a. recorded_of m caller a bytes)
 
 -- WHAT A CALL ANSWERS
 

@@ -1,5 +1,5 @@
 -- What a turn that looks for a key finds.
-use Rattle.std.specs.Prelude.{◌≡◌, ℕ, take, true, Option, Some, None}
+use Rattle.std.specs.Prelude.{◌≡◌, ℕ, true, Option, Some, None}
 use Rattle.std.specs.FinMap as map
 use Rattle.psa_status.specs.declared.Status.{Status}
 use Rattle.psa_status.specs.declared.Status.TheVariants.{InvalidHandle, StorageFailure, HardwareFailure, DataCorrupt}
@@ -8,12 +8,12 @@ use Rattle.key_attributes.specs.declared.Attributes.{Attributes}
 use Rattle.secret_bytes.specs.Buffer.{bytes_of}
 use Rattle.slot_table.specs.Slots.{Slot}
 use Rattle.slot_table.specs.Lent as lent
-use Rattle.key_slots.specs.Standing.{SlotHasKey, slot_bytes}
+use Rattle.key_slots.specs.Standing.{SlotHasKey}
 use Rattle.store_model.specs.Store as model
 use Rattle.store_model.specs.Store.{Key, is_persistent_key, is_opaque_key}
 use Rattle.store_model.specs.Faults as fault
 use Rattle.store_model.specs.Faults.{FaultMark, Plain, Storage, Hardware, Reading, Writing}
-use Rattle.store_model.specs.KeyUse.{destroy_rows, export_rows}
+use Rattle.store_model.specs.KeyUse.{destroy_rows}
 use Rattle.store_core.specs.declared.destroying.NotDestroyed.{NotDestroyed}
 use Rattle.store_core.specs.declared.destroying.NotDestroyed.TheVariants as undestroyed
 use Rattle.store_core.specs.declared.reading.Unread.{Unread}
@@ -31,10 +31,10 @@ mark_of StorageFailure = Storage Reading
 mark_of DataCorrupt = fault.Corrupt
 mark_of _ = Plain
 
--- a lease is of this key
+-- a lease is of this key, and has its bytes
 pub record IsOfKey (lease : lent.Reading) (key : Key) : Type 0 where
   pub number : lease.creation ≡ key.number
-  pub bytes : bytes_of lease.buffer ≡ slot_bytes key
+  pub bytes : bytes_of lease.buffer ≡ key.bytes
 
 -- the key of an identifier is lent, of which no row holds
 abbrev pub IsLent : (rows : Option Key → Option Status) → (id : ℕ) → lent.Reading → model.Store → Type 0
@@ -58,10 +58,6 @@ HasAttributes id attributes m = (key : Key) × (map.get m.keys id ≡ Some key) 
 abbrev pub there_rows : Option Key → Option Status
 there_rows None = Some InvalidHandle
 there_rows (Some key) = None
-
--- the rows of EXPORT but for that of the room, which comes last
-abbrev pub export_refusal : Option Key → Option Status
-export_refusal found = first_row (take 2 (export_rows found 0))
 
 -- what a call answers that didn't destroy its key for sure
 abbrev pub status_undestroyed : NotDestroyed → Status

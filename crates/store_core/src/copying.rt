@@ -1,5 +1,5 @@
 //! How a turn copies a key.
-ghost use Rattle.std.specs.Prelude.{◌≡◌, ◌<◌, ◌≤◌, ◌^◌, ◌/◌, ℕ, length, Some, None, if◌then◌else◌, IfOk, IfErr};
+ghost use Rattle.std.specs.Prelude.{◌≡◌, ◌<◌, ◌≤◌, ◌^◌, ℕ, Some, None, if◌then◌else◌, IfOk, IfErr};
 ghost use Rattle.std.specs.FinMap as map;
 ghost use Rattle.secret_bytes.specs.Buffer.{IsClear};
 ghost use Rattle.slot_states.specs.declared.SlotState.TheVariants.{Full};
@@ -7,10 +7,10 @@ ghost use Rattle.slot_table.specs.Slots.{slot_at};
 ghost use Rattle.key_slots.specs.Standing.{SlotHasKey};
 ghost use Rattle.store_model.specs.Store as model;
 ghost use Rattle.store_model.specs.Store.{Key, is_opaque};
-ghost use Rattle.store_model.specs.Copies.{differs, recorded_copy};
+ghost use Rattle.store_model.specs.Copies.{recorded_copy};
 ghost use Rattle.store_model.specs.Faults.{Plain};
 ghost use Rattle.store_core.specs.Represents.{HasOut, ranked_on};
-ghost use Rattle.store_core.specs.Creations.{Copies, HoldsWithin, IsMade, IsUncopied, RecordsCopy, mark_uncopied, recorded_after, status_uncopied};
+ghost use Rattle.store_core.specs.Creations.{Copies, HoldsWithin, IsMade, IsUncopied, RecordsCopy, mark_uncopied, status_uncopied};
 
 use crate::Store;
 use crate::creating::NotMade;
@@ -18,8 +18,8 @@ use crate::reading::Unread;
 use admission::Admission;
 use disk_face::Disk;
 use driver_dispatch::Devices;
-use key_attributes::{Attributes, KeyId, Usage};
-use policy_rules::meet;
+use key_attributes::{Attributes, KeyId};
+use key_uses::copied_attributes;
 use psa_status::Status;
 use slot_table::Filling;
 
@@ -40,40 +40,6 @@ impl NotCopied {
             NotCopied::NotMade(why) => why.status(),
         }
     }
-}
-
-// Whether a number is stated and isn't the source's.
-fn differs(stated: u16, own: u16) -> bool
-    ensures { result ≡ differs stated own }
-{
-    stated != 0 && stated != own
-}
-
-// The attributes of a copy, as a creation is asked to record them, or the first refusal that the source and the stated
-// attributes decide.
-fn copied(source: &Attributes, stated: &Attributes) -> Result<Attributes, Status>
-    ensures { (m : model.Store) (caller : ℕ) (key : Key) → key.attributes ≡ source.now →
-        recorded_copy m caller (Some key) stated.now ≡ recorded_after m caller (length key.bytes) result }
-{
-    if source.policy.usage.0 & Usage::COPY.0 == 0 {
-        return Err(Status::NotPermitted);
-    }
-    if differs(stated.key_type.0, source.key_type.0) || differs(stated.bits, source.bits) {
-        return Err(Status::InvalidArgument);
-    }
-    if stated.lifetime.0 / 256 != source.lifetime.0 / 256 {
-        return Err(Status::NotSupported);
-    }
-    let Some(policy) = meet(&source.policy, &stated.policy) else {
-        return Err(Status::InvalidArgument);
-    };
-    Ok(Attributes {
-        lifetime: stated.lifetime,
-        id: stated.id,
-        key_type: source.key_type,
-        bits: source.bits,
-        policy,
-    })
 }
 
 impl<D: Disk, A: Devices, C: Admission> Store<D, A, C> {
@@ -166,7 +132,7 @@ impl<D: Disk, A: Devices, C: Admission> Store<D, A, C> {
     {
         let source = self.slots.attributes(slot);
         let bytes = source.bits as usize / 8;
-        match copied(source, attributes) {
+        match copied_attributes(source, attributes) {
             Ok(copy) => self.recorded(caller, &copy, bytes),
             Err(status) => Err(status),
         }

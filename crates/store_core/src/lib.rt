@@ -1,7 +1,6 @@
 //! The store: keys in slots, in a file that a crash leaves whole, or in a device, whose turns are steps of the model.
 #![tactic(auto)]
 
-mod check_use;
 mod copying;
 mod creating;
 mod destroying;

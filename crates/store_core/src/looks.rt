@@ -1,37 +1,30 @@
-//! Turns that lend a key.
-ghost use Rattle.std.specs.Prelude.{◌≡◌, ◌<◌, ◌^◌, ◌+◌, Some, None, IfOk, IfErr, OnOk};
-ghost use Rattle.secret_bytes.specs.Buffer.{IsClear};
-ghost use Rattle.store_model.specs.Store.{Key};
-ghost use Rattle.store_model.specs.Faults.{Plain};
+//! The turn that lends a key.
+ghost use Rattle.std.specs.Prelude.{◌≡◌, ◌<◌, ◌^◌, ◌+◌, IfOk, IfErr};
+ghost use Rattle.secret_bytes.specs.Buffer.{IsClear, bytes_of};
+ghost use Rattle.key_uses.specs.Uses.{FitsUse, use_refusal};
 ghost use Rattle.store_core.specs.Represents.{Reads, ReadsAndGives, Stands};
-ghost use Rattle.store_core.specs.Uses.{IsLent, IsRefused, export_refusal, mark_of};
+ghost use Rattle.store_core.specs.Uses.{IsLent, IsRefused, mark_of};
 
 use crate::Store;
 use admission::Admission;
 use disk_face::Disk;
 use driver_dispatch::Devices;
-use key_attributes::{Attributes, KeyId, Usage};
+use key_attributes::KeyId;
+use key_uses::KeyUse;
 use psa_status::Status;
 use secret_bytes::Secret;
 use slot_table::Lease;
 
-// Whether a key may be exported, if there is room for it.
-fn check_export(attributes: &Attributes) -> Result<(), Status>
-    ensures free { OnOk result ((key : Key) → key.attributes ≡ attributes.now → export_refusal (Some key) ≡ None) }
-    ensures refused { IfErr result (λ status. (key : Key) → key.attributes ≡ attributes.now → export_refusal (Some key) ≡ Some status) }
-{
-    if attributes.policy.usage.0 & Usage::EXPORT.0 == 0 {
-        return Err(Status::NotPermitted);
-    }
-    if attributes.lifetime.0 / 256 == 1 {
-        return Err(Status::NotSupported);
-    }
-    Ok(())
-}
-
 impl<D: Disk, A: Devices, C: Admission> Store<D, A, C> {
-    /// Lends a key's bytes to be exported, in a clear spare, which comes back where that is refused. Ranked.
-    pub fn look_export(&mut self, id: KeyId, spare: Secret) -> Result<Lease, (Status, Secret)>
+    /// Lends a key's bytes for what the key is looked for, in a clear spare, which comes back where that is refused:
+    /// `InvalidHandle` where there is no key, `StorageFailure` or `DataCorrupt` where the file has it and can't be read, and
+    /// else the use's first refusal. Ranked.
+    pub fn look(
+        &mut self,
+        id: KeyId,
+        wanted: KeyUse,
+        spare: Secret,
+    ) -> Result<Lease, (Status, Secret)>
         requires stands { Stands D.contents D.may_leave D.moment D.left_since D.faults A.keys A.faults A.locations C.labels self.old }
         requires size { D.size self.old.file.cells.disk ≡ 557120 }
         requires clear { IsClear self.old.buffer }
@@ -40,9 +33,10 @@ impl<D: Disk, A: Devices, C: Admission> Store<D, A, C> {
         ensures size { D.size self.new.file.cells.disk ≡ 557120 }
         ensures clear { IsClear self.new.buffer }
         ensures lent { IfOk result (λ lease. ReadsAndGives D.contents D.may_leave D.moment D.left_since D.faults A.keys A.faults A.locations C.labels self.old self.new id.0 (lease.slot, lease.creation + 1)
-            (IsLent export_refusal id.0 lease)) }
+            (IsLent (use_refusal wanted) id.0 lease)) }
+        ensures fits { IfOk result (λ lease. FitsUse wanted (bytes_of lease.buffer)) }
         ensures refused { IfErr result (λ refused. Reads D.contents D.may_leave D.moment D.left_since D.faults A.keys A.faults A.locations C.labels self.old self.new id.0 (mark_of refused.0)
-            (IsRefused export_refusal id.0 refused.0)) }
+            (IsRefused (use_refusal wanted) id.0 refused.0)) }
         ensures spare { IfErr result (λ refused. IsClear refused.1) }
         ensures devices { self.new.devices ≡ self.old.devices }
         ensures opened { self.new.opened ≡ self.old.opened }
@@ -50,7 +44,7 @@ impl<D: Disk, A: Devices, C: Admission> Store<D, A, C> {
         let brought = self.bring(id);
         self.ranked += 1;
         match brought {
-            Ok(slot) => match check_export(self.slots.attributes(slot)) {
+            Ok(slot) => match wanted.check(self.slots.attributes(slot)) {
                 Ok(()) => Ok(self.slots.lend(slot, spare)),
                 Err(status) => Err((status, spare)),
             },

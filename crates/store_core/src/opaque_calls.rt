@@ -10,12 +10,12 @@ ghost use Rattle.store_core.specs.Opaque.{IsAnswered, Makes};
 ghost use Rattle.store_core.specs.Represents.{HoldsOf, Stands};
 
 use crate::Store;
-use crate::check_use::check_use;
 use admission::Admission;
 use disk_face::Disk;
 use driver_dispatch::Devices;
 use element_calls::{ElementCall, NotComputed, compute};
 use key_attributes::KeyId;
+use key_uses::check_use;
 
 impl<D: Disk, A: Devices, C: Admission> Store<D, A, C> {
     /// Whether a key is the secure element's. No rank, and no device is called.

@@ -39,7 +39,7 @@ compute-requires-clause-fits g c κs within =
     let k = c.in-Some.ensures.key s.holds.model at.3 s.holds.slots in
     let own = sym (ap is_opaque_key k.1) ∙ c.requires.opaque at.0 at.1 at.2 at.3 s in
     let rows = checked_rows c.args.call.now k.0 c.class.result c.usage.result.0 c.algorithm.result.0 c.check_use.result c.class.ensures c.usage.ensures c.algorithm.ensures
-    (c.check_use.ensures k.0 (sym k.2.attributes ∙ sym c.attributes-attributes.ensures)) in
+    (c.check_use.ensures.refusal k.0 (sym k.2.attributes ∙ sym c.attributes-attributes.ensures)) in
     let none = (unless-ok (first_row (key_rows c.args.call.now (Some k.0))) tt c.in-Ok.field-0 (sym rows ∙ c.in-Ok.is)).0 in
     subst (λ n. HoldsHandle held n (λ key. IsTrue (fits_type (algorithm_asked c.args.call.now) key.key_type))) (sym (c.number.ensures ∙ k.2.number))
     (holds_type held k.0.number (held_of k.0) _ (s.holds.device.there c.args.id.0 k.0 k.1 own) (type_fits c.args.call.now k.0 none))
@@ -57,7 +57,7 @@ returns-in-Ok-clause-made g c = λ start opening h all e s is turn.
     let opaque = c.requires.opaque start opening h all s in
     let own = sym (ap is_opaque_key k.1) ∙ opaque in
     let rows = checked_rows call k.0 c.class.result c.usage.result.0 c.algorithm.result.0 c.check_use.result c.class.ensures c.usage.ensures c.algorithm.ensures
-    (c.check_use.ensures k.0 (sym k.2.attributes ∙ sym c.attributes-attributes.ensures)) in
+    (c.check_use.ensures.refusal k.0 (sym k.2.attributes ∙ sym c.attributes-attributes.ensures)) in
     let none = (unless-ok (first_row (key_rows call (Some k.0))) tt c.in-Ok.field-0 (sym rows ∙ c.in-Ok.is)).0 in
     let there = subst (λ n. HoldsHandle held n (λ h. h ≡ held_of k.0)) (sym (c.number.ensures ∙ k.2.number)) (s.holds.device.there id k.0 k.1 own) in
     let answer = answered held id call c.args.out.now c.compute.new.out c.compute.result (counted m) k.0 c.number.result k.1 there none c.compute.ensures.computed in
@@ -81,7 +81,7 @@ returns-in-Err-clause-made g c = λ start opening h all e s is turn.
     let out = c.args.out.now in
     let k = c.in-Some.ensures.key m all s.holds.slots in
     let rows = checked_rows call k.0 c.class.result c.usage.result.0 c.algorithm.result.0 c.check_use.result c.class.ensures c.usage.ensures c.algorithm.ensures
-    (c.check_use.ensures k.0 (sym k.2.attributes ∙ sym c.attributes-attributes.ensures)) in
+    (c.check_use.ensures.refusal k.0 (sym k.2.attributes ∙ sym c.attributes-attributes.ensures)) in
     let refused = unless-err (first_row (key_rows call (Some k.0))) tt c.in-Err.status (sym rows ∙ c.in-Err.is) in
     ends_computed d.contents d.may_leave d.moment d.left_since d.faults v.keys v.faults v.locations g.C.Admission.labels g.met.D.Disk.only_now old old.devices start opening h all e
     (model_call call id (length out)) Plain (IsAnswered held id call out out (Err (Refused c.in-Err.status))) s is (keeps_keys call id (length out)) refl refl tt (λ service same. tt)

@@ -1,0 +1,4 @@
+pub mod Devices
+pub mod Exports
+pub mod Derivations
+pub mod Refusals

@@ -1,0 +1,3 @@
+pub mod Permissions
+pub mod Uses
+pub mod Copies
