@@ -22,8 +22,9 @@ impl Store {
         ensures value { result ≡ recorded_copy self.now caller (Some (key_of source.now)) stated.now }
         ensures recorded { IfOk result (λ recorded. IsRecorded self.now caller recorded source.now.length) }
     {
+        let bytes = &source.buffer[..source.length];
         match copied_attributes(&source.attributes, stated) {
-            Ok(copy) => self.recorded(caller, &copy, source.length),
+            Ok(copy) => self.recorded(caller, &copy, bytes.len()),
             Err(status) => Err(status),
         }
     }
