@@ -189,6 +189,7 @@ module _ {D A C : Type 0} (told : D → Option (List ℕ)) (may_leave : D → Li
       locations_are = s.locations_are ∙ sym there;
       has_file = s.has_file;
       found = s.found;
+      few = s.few;
       calls = s.calls;
       made = s.made;
       live = s.live;
