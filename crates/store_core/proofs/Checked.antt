@@ -135,8 +135,8 @@ pub in_no_slot : (slots : List Slot) (m : model.Store) (all : List Pairs) (id : 
 in_no_slot slots m all id sized agrees none i = not_true (holds_key id (slot_at slots i)) (λ has.
     let key = key_of_slot slots m all id i agrees (inside i has) has in
     none_some key.0 (sym none ∙ key.1)) where
-  inside : (i : ℕ) → holds_key id (slot_at slots i) ≡ true → i < 384
-  inside i has = subst (λ n. i < n) sized (full_within slots i (key_is_full id (slot_at slots i) has))
+      inside : (i : ℕ) → holds_key id (slot_at slots i) ≡ true → i < 384
+      inside i has = subst (λ n. i < n) sized (full_within slots i (key_is_full id (slot_at slots i) has))
 
 -- A FULL DIRECTORY
 
@@ -164,19 +164,19 @@ full_counts slots m d sound full =
     let fit = into_map (map.retain_keys m.keys is_low) (λ c. id_in (cell_slot slots c)) (λ c. is_open (cell_slot slots c)) 512 has one in
     let least = total-least (λ c. cond (is_open (cell_slot slots c)) 1 0) 512 (λ c lt. let sized = d.sized in subst (λ b. 1 ≤ cond b 1 0) (sym (full c (omega arith))) (omega arith)) in
     omega arith where
-  kept : (q : ℕ) → map.get (map.retain_keys m.keys is_low) q ≡ cond (is_low q) (map.get m.keys q) None
-  kept q = map.get-retain_keys m.keys is_low q (λ x tied. ap is_low (sym (ranked q x Equal (sym tied))))
+      kept : (q : ℕ) → map.get (map.retain_keys m.keys is_low) q ≡ cond (is_low q) (map.get m.keys q) None
+      kept q = map.get-retain_keys m.keys is_low q (λ x tied. ap is_low (sym (ranked q x Equal (sym tied))))
 
-  has : (c : ℕ) → c < 512 → is_open (cell_slot slots c) ≡ true → is_some (map.get (map.retain_keys m.keys is_low) (id_in (cell_slot slots c))) ≡ true
-  has c lt is =
-      let id = id_in (cell_slot slots c) in
-      let key = d.only c id (creation_of_slot (cell_slot slots c)) lt (opens_so (cell_slot slots c) is) in
-      let k = sound.keys id key.0 key.1 in
-      let most = (low_id key.0.attributes (length key.0.bytes) (has_secure_element m) k.attributes key.2).1 in
-      let named = k.identifier in
-      ap is_some (kept id ∙ (ap (λ b. cond b (map.get m.keys id) None) (low id (omega arith)) ∙ key.1))
+      has : (c : ℕ) → c < 512 → is_open (cell_slot slots c) ≡ true → is_some (map.get (map.retain_keys m.keys is_low) (id_in (cell_slot slots c))) ≡ true
+      has c lt is =
+          let id = id_in (cell_slot slots c) in
+          let key = d.only c id (creation_of_slot (cell_slot slots c)) lt (opens_so (cell_slot slots c) is) in
+          let k = sound.keys id key.0 key.1 in
+          let most = (low_id key.0.attributes (length key.0.bytes) (has_secure_element m) k.attributes key.2).1 in
+          let named = k.identifier in
+          ap is_some (kept id ∙ (ap (λ b. cond b (map.get m.keys id) None) (low id (omega arith)) ∙ key.1))
 
-  one : (c other : ℕ) → c < 512 → other < 512 → is_open (cell_slot slots c) ≡ true → is_open (cell_slot slots other) ≡ true → id_in (cell_slot slots c) ≡ id_in (cell_slot slots other) → c ≡ other
-  one c other lt less is also same =
-      d.one c other (id_in (cell_slot slots other)) (creation_of_slot (cell_slot slots c)) (creation_of_slot (cell_slot slots other)) lt less
-      (opens_so (cell_slot slots c) is ∙ ap (λ n. Open n (creation_of_slot (cell_slot slots c))) same) (opens_so (cell_slot slots other) also)
+      one : (c other : ℕ) → c < 512 → other < 512 → is_open (cell_slot slots c) ≡ true → is_open (cell_slot slots other) ≡ true → id_in (cell_slot slots c) ≡ id_in (cell_slot slots other) → c ≡ other
+      one c other lt less is also same =
+          d.one c other (id_in (cell_slot slots other)) (creation_of_slot (cell_slot slots c)) (creation_of_slot (cell_slot slots other)) lt less
+          (opens_so (cell_slot slots c) is ∙ ap (λ n. Open n (creation_of_slot (cell_slot slots c))) same) (opens_so (cell_slot slots other) also)

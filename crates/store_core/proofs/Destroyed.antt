@@ -344,7 +344,7 @@ module _ {D A C : Type 0} (told : D → Option (List ℕ)) (may_leave : D → Li
         rules = refl;
         devices = refl;
         found = s.holds.found;
-    few = s.holds.few;
+        few = s.holds.few;
         calls = ap (λ (n : ℕ). n + 1) s.holds.calls;
         made = s.holds.made;
         live = λ caller le. as_many_live m id key there s.holds.sound persistent caller ∙ s.holds.live caller le;
@@ -384,7 +384,7 @@ module _ {D A C : Type 0} (told : D → Option (List ℕ)) (may_leave : D → Li
         rules = refl;
         devices = places;
         found = s.holds.found;
-    few = s.holds.few;
+        few = s.holds.few;
         calls = ap (λ (n : ℕ). n + 1) s.holds.calls;
         made = s.holds.made;
         live = live_after m id key there s.holds.sound volatile caller named old.live s.holds.live;

@@ -137,8 +137,8 @@ module _ {D A C : Type 0} (told : D → Option (List ℕ)) (may_leave : D → Li
   pub makes : (caller : ℕ) (recorded : Attributes) (bytes : List ℕ) (s : HoldsOld) → 1 ≤ caller → caller ≤ 16 → MayBeKept s.model caller recorded (length bytes) → is_destruction e.call ≡ false →
       (IsTold (told disk) start (h ++ e ∷ []) → IsMakingAt e caller recorded bytes (replay start h)) → AreHoldings less → IsSameBut (created s.model caller recorded bytes).store →
       ((doubt : Doubt) → StandsForKeys told may_leave disk old.file.cells.slots.items (durable_keys s.model) doubt →
-        Leads told may_leave moment left_since disk new.file.cells.disk old.file.cells.slots.items new.file.cells.slots.items (durable_keys s.model) doubt (durable_keys (created s.model caller recorded bytes).store)
-        (cond (is_volatile recorded) doubt [])) →
+      Leads told may_leave moment left_since disk new.file.cells.disk old.file.cells.slots.items new.file.cells.slots.items (durable_keys s.model) doubt (durable_keys (created s.model caller recorded bytes).store)
+      (cond (is_volatile recorded) doubt [])) →
       IsTurnTo Plain → StandsNew
   makes caller recorded bytes s first last may keeps making holdings same leads is =
       turns told may_leave moment left_since faults held hard locations labels only_now (IsMakingAt e caller recorded bytes) (IsTold (told disk) start (h ++ e ∷ [])) old new start opening h all less e Plain (created s.model caller recorded bytes).store s
@@ -182,7 +182,7 @@ module _ {D A C : Type 0} (told : D → Option (List ℕ)) (may_leave : D → Li
   pub unmade : (S : Service → Type 0) (mark : FaultMark) (s : HoldsOld) → is_destruction e.call ≡ false → (IsTold (told disk) start (h ++ e ∷ []) → S (replay start h)) → AreHoldings less → IsSameBut (counted s.model) →
       ((service : Service) → S service → (outcome_of service e).service.store ≡ counted service.store) →
       ((c : Course) → S c.service → s.model ≡ c.service.store → StandsForKeys told may_leave disk old.file.cells.slots.items (durable_keys s.model) c.doubt →
-        Leads told may_leave moment left_since disk new.file.cells.disk old.file.cells.slots.items new.file.cells.slots.items (durable_keys s.model) c.doubt (durable_keys s.model) (doubt_after e c)) →
+      Leads told may_leave moment left_since disk new.file.cells.disk old.file.cells.slots.items new.file.cells.slots.items (durable_keys s.model) c.doubt (durable_keys s.model) (doubt_after e c)) →
       HasFault (is_some (told new.file.cells.disk)) (last_counts opening.counts h) e mark → ((service : Service) → S service → s.model ≡ service.store → MayBeMarked service e.caller e.call mark) →
       IsTurnTo mark → StandsNew
   unmade S mark s keeps before holdings same counts leads fault may is =

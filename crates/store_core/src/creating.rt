@@ -228,7 +228,8 @@ impl<D: Disk, A: Devices, C: Admission> Store<D, A, C> {
         read_numbers(&recorded);
         let closed_first = match self.file.make(number, &recorded, self.buffer.as_slice()) {
             Ok(()) => {
-                self.slots.fill(filling, number, &recorded, self.buffer.as_slice());
+                self.slots
+                    .fill(filling, number, &recorded, self.buffer.as_slice());
                 self.kept += 1;
                 return Ok(recorded.id);
             }
@@ -264,7 +265,13 @@ impl<D: Disk, A: Devices, C: Admission> Store<D, A, C> {
         ensures opened { self.new.opened ≡ self.old.opened }
     {
         let number = self.found + self.ranked;
-        match give(&mut self.devices, number, recorded.key_type, source, self.buffer.as_slice()) {
+        match give(
+            &mut self.devices,
+            number,
+            recorded.key_type,
+            source,
+            self.buffer.as_slice(),
+        ) {
             Ok(()) => {
                 self.buffer.wipe();
                 Ok(self.add(caller, filling, number, recorded))
@@ -277,13 +284,7 @@ impl<D: Disk, A: Devices, C: Admission> Store<D, A, C> {
     }
 
     // Puts a volatile key whose bytes are in the buffer into the slot that waits for it, under the caller's next identifier.
-    fn add(
-        &mut self,
-        caller: u8,
-        filling: Filling,
-        number: u64,
-        recorded: Attributes,
-    ) -> KeyId
+    fn add(&mut self, caller: u8, filling: Filling, number: u64, recorded: Attributes) -> KeyId
         requires last { caller ≤ 16 }
         requires out { IsOut self.old.slots.table.slots (filling.slot, 0) }
         requires unknown { NoKey (first_volatile caller + slice_index self.old.made caller) self.old.slots.table.slots }
@@ -293,8 +294,11 @@ impl<D: Disk, A: Devices, C: Admission> Store<D, A, C> {
         ensures sized { length self.old.live ≡ 17 }
         ensures fills { (old new : model.Store) (all less : List Pairs) (key : Key) → Agrees self.old.slots.table.slots old all → Gains less all (filling.slot, 0) →
             Puts old new result.0 (Some key) → SlotHasKey (full_slot number (identified recorded result.0) (bytes_of self.old.buffer)) key → IsThereOrNew old result.0 key → Agrees self.new.slots.table.slots new less }
-        ensures rest { self.new ≡ record self.old { slots = self.new.slots;
-            made = slice_set self.old.made caller (slice_index self.old.made caller + 1); live = slice_set self.old.live caller (slice_index self.old.live caller + 1) } }
+        ensures rest { self.new ≡ record self.old {
+          slots = self.new.slots;
+          made = slice_set self.old.made caller (slice_index self.old.made caller + 1);
+          live = slice_set self.old.live caller (slice_index self.old.live caller + 1);
+        } }
     {
         let made = self.made[caller as usize];
         let id = KeyId(FIRST_VOLATILE + caller as u32 * VOLATILE_RANGE + made);

@@ -51,8 +51,8 @@ returns-clause-made g c = λ start opening h all less e r since gains law making
     let id = c.add.ensures.id in
     let rest = c.add.ensures.rest in
     let agrees = c.add.ensures.fills m after all less own r.holds.slots gains (subst (λ n. Puts m after n (Some own)) (sym id) (next_puts d.contents d.may_leave d.moment d.left_since d.faults v.keys v.faults v.locations g.C.Admission.labels old caller a c.args.source start opening h all e r first last volatile))
-        (subst (λ n. SlotHasKey (full_slot (old.found + old.ranked) (identified a n) (bytes_of old.buffer)) own) (sym id) (local_takes d.contents d.may_leave d.moment d.left_since d.faults v.keys v.faults v.locations g.C.Admission.labels old caller a c.args.source start opening h all e r first last volatile local))
-        (subst (λ n. IsThereOrNew m n own) (sym id) (next_new d.contents d.may_leave d.moment d.left_since d.faults v.keys v.faults v.locations g.C.Admission.labels old caller a c.args.source start opening h all e r first last volatile)) in (
+    (subst (λ n. SlotHasKey (full_slot (old.found + old.ranked) (identified a n) (bytes_of old.buffer)) own) (sym id) (local_takes d.contents d.may_leave d.moment d.left_since d.faults v.keys v.faults v.locations g.C.Admission.labels old caller a c.args.source start opening h all e r first last volatile local))
+    (subst (λ n. IsThereOrNew m n own) (sym id) (next_new d.contents d.may_leave d.moment d.left_since d.faults v.keys v.faults v.locations g.C.Admission.labels old caller a c.args.source start opening h all e r first last volatile)) in (
       subst (λ (s : Store _ _ _). StandsHere d.contents d.may_leave d.moment d.left_since d.faults v.keys v.faults v.locations g.C.Admission.labels (ranked_on s) start opening (h ++ e ∷ []) less) (sym rest)
           (makes_volatile d.contents d.may_leave d.moment d.left_since d.faults v.keys v.faults v.locations g.C.Admission.labels old caller a c.args.source start opening h all e r first last volatile g.met.D.Disk.only_now old.devices c.add.new.self.slots old.buffer less making law c.add.ensures.sized refl
           (local_device d.contents d.may_leave d.moment d.left_since d.faults v.keys v.faults v.locations g.C.Admission.labels old caller a c.args.source start opening h all e r first last volatile g.met.D.Disk.only_now old.devices c.add.new.self.slots old.buffer less making law local refl) agrees

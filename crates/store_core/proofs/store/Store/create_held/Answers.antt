@@ -88,9 +88,9 @@ returns-in-Ok-clause-made g c = λ start opening h all less e r since gains law 
     let empty : bytes_of c.wipe.new.self ≡ [] = ap (λ n. take n c.wipe.new.self.bytes) c.wipe.ensures.none in
     let taken = is_taken d.contents d.may_leave d.moment d.left_since d.faults v.keys v.faults v.locations g.C.Admission.labels old caller a c.args.source start opening h all e r first last volatile (v.keys c.give.new.devices) c.as_slice.result.now c.as_slice.ensures.list c.in-Ok.ensures.given c.in-Ok.ensures.copied in
     let agrees = c.add.ensures.fills m after all less own r.holds.slots gains (subst (λ n. Puts m after n (Some own)) (sym id) (next_puts d.contents d.may_leave d.moment d.left_since d.faults v.keys v.faults v.locations g.C.Admission.labels old caller a c.args.source start opening h all e r first last volatile))
-        (subst (λ n. SlotHasKey (full_slot (old.found + old.ranked) (identified a n) (bytes_of c.wipe.new.self)) own) (sym id)
-        (subst (λ (b : List ℕ). SlotHasKey (full_slot (old.found + old.ranked) (identified a (first_volatile caller + slice_index old.made caller)) b) own) (sym empty) (opaque_takes d.contents d.may_leave d.moment d.left_since d.faults v.keys v.faults v.locations g.C.Admission.labels old caller a c.args.source start opening h all e r first last volatile c.requires.opaque)))
-        (subst (λ n. IsThereOrNew m n own) (sym id) (next_new d.contents d.may_leave d.moment d.left_since d.faults v.keys v.faults v.locations g.C.Admission.labels old caller a c.args.source start opening h all e r first last volatile)) in (
+    (subst (λ n. SlotHasKey (full_slot (old.found + old.ranked) (identified a n) (bytes_of c.wipe.new.self)) own) (sym id)
+    (subst (λ (b : List ℕ). SlotHasKey (full_slot (old.found + old.ranked) (identified a (first_volatile caller + slice_index old.made caller)) b) own) (sym empty) (opaque_takes d.contents d.may_leave d.moment d.left_since d.faults v.keys v.faults v.locations g.C.Admission.labels old caller a c.args.source start opening h all e r first last volatile c.requires.opaque)))
+    (subst (λ n. IsThereOrNew m n own) (sym id) (next_new d.contents d.may_leave d.moment d.left_since d.faults v.keys v.faults v.locations g.C.Admission.labels old caller a c.args.source start opening h all e r first last volatile)) in (
       subst (λ (s : Store _ _ _). StandsHere d.contents d.may_leave d.moment d.left_since d.faults v.keys v.faults v.locations g.C.Admission.labels (ranked_on s) start opening (h ++ e ∷ []) less) (sym rest)
           (makes_volatile d.contents d.may_leave d.moment d.left_since d.faults v.keys v.faults v.locations g.C.Admission.labels old caller a c.args.source start opening h all e r first last volatile g.met.D.Disk.only_now c.give.new.devices c.add.new.self.slots c.wipe.new.self less making law c.add.ensures.sized c.in-Ok.ensures.locations
           (taken_device d.contents d.may_leave d.moment d.left_since d.faults v.keys v.faults v.locations g.C.Admission.labels old caller a c.args.source start opening h all e r first last volatile g.met.D.Disk.only_now c.give.new.devices c.add.new.self.slots c.wipe.new.self less making law taken) agrees

@@ -32,10 +32,10 @@ create-made-requires-clause-ready g c = λ κs within_lives.
     let n = within d.contents d.may_leave d.moment d.left_since d.faults v.keys v.faults v.locations g.C.Admission.labels old c.fill_from.new.self own.0 own.1 own.2 own.3 e own.4 in
     let before = within d.contents d.may_leave d.moment d.left_since d.faults v.keys v.faults v.locations g.C.Admission.labels old old.buffer own.0 own.1 own.2 own.3 e own.4 in
     let records : RecordsStated leased caller c.args.attributes.now (length bytes) n.0.model (Ok a) =
-        subst (λ (m : model.Store). RecordsStated leased caller c.args.attributes.now (length bytes) m (Ok a)) (before.1 ∙ sym n.1) (c.in-Ok.ensures.value own.0 own.1 own.2 own.3 e before.0 own.6) in
+    subst (λ (m : model.Store). RecordsStated leased caller c.args.attributes.now (length bytes) m (Ok a)) (before.1 ∙ sym n.1) (c.in-Ok.ensures.value own.0 own.1 own.2 own.3 e before.0 own.6) in
     let material : bytes_of c.fill_from.new.self ≡ bytes = ap (λ (b : Buffer). bytes_of b) c.fill_from.ensures ∙ bytes-buffer_of bytes in
     let r : IsReady d.contents d.may_leave d.moment d.left_since d.faults v.keys v.faults v.locations g.C.Admission.labels mid caller a None own.0 own.1 own.2 own.3 e =
-        record { holds = n.0; bytes = bytes; material = material; stated = c.args.attributes.now; decided = stated_ok leased caller c.args.attributes.now (length bytes) n.0.model a records } in
+    record { holds = n.0; bytes = bytes; material = material; stated = c.args.attributes.now; decided = stated_ok leased caller c.args.attributes.now (length bytes) n.0.model a records } in
     (own.0, own.1, own.2, own.3, e, r, own.5)
 
 pub returns-in-Ok-made-clause-made : goal.returns-in-Ok-made-clause-made
@@ -52,10 +52,10 @@ returns-in-Ok-made-clause-made g c = λ start opening h all less e s lent gains 
     let n = within d.contents d.may_leave d.moment d.left_since d.faults v.keys v.faults v.locations g.C.Admission.labels old c.fill_from.new.self start opening h all e s in
     let before = within d.contents d.may_leave d.moment d.left_since d.faults v.keys v.faults v.locations g.C.Admission.labels old old.buffer start opening h all e s in
     let records : RecordsStated leased caller c.args.attributes.now (length bytes) n.0.model (Ok a) =
-        subst (λ (m : model.Store). RecordsStated leased caller c.args.attributes.now (length bytes) m (Ok a)) (before.1 ∙ sym n.1) (decided start opening h all e before.0 lent) in
+    subst (λ (m : model.Store). RecordsStated leased caller c.args.attributes.now (length bytes) m (Ok a)) (before.1 ∙ sym n.1) (decided start opening h all e before.0 lent) in
     let material : bytes_of c.fill_from.new.self ≡ bytes = ap (λ (b : Buffer). bytes_of b) c.fill_from.ensures ∙ bytes-buffer_of bytes in
     let r : IsReady d.contents d.may_leave d.moment d.left_since d.faults v.keys v.faults v.locations g.C.Admission.labels mid caller a None start opening h all e =
-        record { holds = n.0; bytes = bytes; material = material; stated = c.args.attributes.now; decided = stated_ok leased caller c.args.attributes.now (length bytes) n.0.model a records } in
+    record { holds = n.0; bytes = bytes; material = material; stated = c.args.attributes.now; decided = stated_ok leased caller c.args.attributes.now (length bytes) n.0.model a records } in
     let making = is_making d.contents d.may_leave d.moment d.left_since d.faults v.keys v.faults v.locations g.C.Admission.labels old mid start h e caller (RecordsStated leased caller c.args.attributes.now (length bytes)) (λ m. bytes) n.0.model a bytes refl creating n.0.replayed records refl in
     let turn : IsTurn d.contents d.may_leave d.moment d.left_since d.faults v.keys v.faults v.locations g.C.Admission.labels (ranked_on c.create-made.new.self) Plain e = record { from_first = is.from_first; to_last = is.to_last; marked = is.marked; done = is.done; disk_faults = is.disk_faults; device_faults = is.device_faults } in
     let entered = c.in-Ok-made.ensures.made start opening h all less e r (since_stands d.contents d.may_leave d.moment d.left_since d.faults v.keys v.faults v.locations g.C.Admission.labels old c.fill_from.new.self start opening h all s) gains law making turn in (
@@ -77,10 +77,10 @@ returns-in-Err-made-clause-unmade g c = λ start opening h all less e s lent gai
     let n = within d.contents d.may_leave d.moment d.left_since d.faults v.keys v.faults v.locations g.C.Admission.labels old c.fill_from.new.self start opening h all e s in
     let before = within d.contents d.may_leave d.moment d.left_since d.faults v.keys v.faults v.locations g.C.Admission.labels old old.buffer start opening h all e s in
     let records : RecordsStated leased caller c.args.attributes.now (length bytes) n.0.model (Ok a) =
-        subst (λ (m : model.Store). RecordsStated leased caller c.args.attributes.now (length bytes) m (Ok a)) (before.1 ∙ sym n.1) (decided start opening h all e before.0 lent) in
+    subst (λ (m : model.Store). RecordsStated leased caller c.args.attributes.now (length bytes) m (Ok a)) (before.1 ∙ sym n.1) (decided start opening h all e before.0 lent) in
     let material : bytes_of c.fill_from.new.self ≡ bytes = ap (λ (b : Buffer). bytes_of b) c.fill_from.ensures ∙ bytes-buffer_of bytes in
     let r : IsReady d.contents d.may_leave d.moment d.left_since d.faults v.keys v.faults v.locations g.C.Admission.labels mid caller a None start opening h all e =
-        record { holds = n.0; bytes = bytes; material = material; stated = c.args.attributes.now; decided = stated_ok leased caller c.args.attributes.now (length bytes) n.0.model a records } in
+    record { holds = n.0; bytes = bytes; material = material; stated = c.args.attributes.now; decided = stated_ok leased caller c.args.attributes.now (length bytes) n.0.model a records } in
     let making = is_making d.contents d.may_leave d.moment d.left_since d.faults v.keys v.faults v.locations g.C.Admission.labels old mid start h e caller (RecordsStated leased caller c.args.attributes.now (length bytes)) (λ m. bytes) n.0.model a bytes refl creating n.0.replayed records refl in
     let turn : IsTurn d.contents d.may_leave d.moment d.left_since d.faults v.keys v.faults v.locations g.C.Admission.labels (ranked_on c.create-made.new.self) (mark_unkept c.in-Err-made.why) e = record { from_first = is.from_first; to_last = is.to_last; marked = is.marked; done = is.done; disk_faults = is.disk_faults; device_faults = is.device_faults } in
     let entered = c.in-Err-made.ensures.unkept start opening h all less e r (since_stands d.contents d.may_leave d.moment d.left_since d.faults v.keys v.faults v.locations g.C.Admission.labels old c.fill_from.new.self start opening h all s) gains law making turn in (

@@ -160,5 +160,5 @@ create-made-requires-clause-ready g c = λ κs lives.
     let buffer = c.fill_from.new.self in
     let full : buffer ≡ buffer_of (bytes_of slot.buffer) = c.fill_from.ensures ∙ ap buffer_of c.bytes.ensures.list in
     let r = subst (λ (o : Option ℕ). IsReady d.contents d.may_leave d.moment d.left_since d.faults v.keys v.faults v.locations g.C.Admission.labels (record mid { buffer = buffer }) caller a o own.0 own.1 own.2 own.3 e) (sym c.held_number-held.ensures)
-        (ready e caller source stated refl refl d.contents d.may_leave d.moment d.left_since d.faults v.keys v.faults v.locations g.C.Admission.labels mid own.0 own.1 own.2 own.3 n slot key there has a decided buffer full) in
+    (ready e caller source stated refl refl d.contents d.may_leave d.moment d.left_since d.faults v.keys v.faults v.locations g.C.Admission.labels mid own.0 own.1 own.2 own.3 n slot key there has a decided buffer full) in
     (own.0, own.1, own.2, own.3, e, r, own.5)
