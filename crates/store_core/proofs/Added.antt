@@ -1,6 +1,6 @@
 -- A store with one key more.
 use Rattle.std.proofs.Common.{◌≡◌, ◌≢◌, ◌⊎◌, ◌∙◌, ℕ, ◌+◌, ◌*◌, ◌/◌, ◌^◌, ◌<◌, ◌≤◌, ◌==◌, Bool, true, false, cond, nat_lt, List, [], length, set, refl, sym, ap, subst, arith, inl, inr, eq-eqb, Option, None, Some}
-use Rattle.std.proofs.lemmas.Bool.{false≢true, eqb-true, cases_eq, cases_lt}
+use Rattle.std.proofs.lemmas.Bool.{false≢true, eqb-true, cases_eq}
 use Rattle.std.proofs.lemmas.Bool.Decides.{nat_tests}
 use Rattle.std.proofs.lemmas.List.{get_or-set_same, get_or-set_other, length-map}
 use Rattle.std.proofs.lemmas.Cmp.{nat_cmp_total}
@@ -14,10 +14,10 @@ use Rattle.driver_dispatch.specs.Calls.{HoldsHandle, IsSomeKey, Lacks}
 use Rattle.key_cells.specs.declared.slot.Slot as cell
 use Rattle.key_cells.specs.declared.slot.Slot.TheVariants.{Free, Open, Shut, Unsure}
 use Rattle.key_cells.specs.Contents.{cell_slot, is_open, settled_slots, settled_slot, IsFirstWithoutKey}
-use Rattle.key_file.specs.Files.{Stored, stored, IsPut}
+use Rattle.key_file.specs.Files.{stored, IsPut}
 use Rattle.slot_table.proofs.AtSlots.{bytes-buffer_of}
 use Rattle.slot_table.specs.Changes.{full_slot}
-use Rattle.key_slots.specs.Standing.{Puts, SlotHasKey, IsThereOrNew, slot_bytes}
+use Rattle.key_slots.specs.Standing.{Puts, SlotHasKey, IsThereOrNew}
 use Rattle.store_model.specs.Store as model
 use Rattle.store_model.specs.Store.{Key, KeyMap, is_volatile, is_opaque, is_volatile_of, made_of, live_volatile, count_persistent}
 use Rattle.store_model.specs.Outcome.{counted}

@@ -1,12 +1,11 @@
 -- What the table of creations has decided of a key that is to be made.
-use Rattle.std.proofs.Common.{◌≡◌, ◌≢◌, ◌∙◌, ℕ, ◌*◌, ◌/◌, ◌%◌, ◌^◌, ◌<◌, ◌≤◌, ◌==◌, ◌&&◌, ◌||◌, Bool, true, false, not, cond, nat_le, nat_lt, List, length, refl, sym, ap, subst, arith, eq-eqb, Option, None, Some, is_some}
+use Rattle.std.proofs.Common.{◌≡◌, ◌≢◌, ◌∙◌, ℕ, ◌*◌, ◌/◌, ◌%◌, ◌^◌, ◌<◌, ◌≤◌, ◌==◌, ◌&&◌, ◌||◌, Bool, true, false, not, cond, nat_lt, List, length, refl, sym, ap, subst, arith, eq-eqb, None, Some, is_some}
 use Rattle.std.proofs.lemmas.Bool.{false≢true, eqb-true}
 use Rattle.std.proofs.lemmas.Bool.Decides.{nat_tests}
 use Rattle.std.proofs.lemmas.Cmp.{ranked}
 use Rattle.std.specs.declared.cmp.Ordering.TheVariants.{Equal}
 use Rattle.std.specs.Prelude.{Ok, bit_and}
 use Rattle.std.specs.FinMap as map
-use Rattle.psa_status.specs.declared.Status.{Status}
 use Rattle.psa_status.specs.declared.Status.TheVariants.{NotSupported, InvalidArgument}
 use Rattle.psa_status.specs.Rows.{first_row, unless}
 use Rattle.psa_status.proofs.Rows.{unless-ok}
@@ -21,7 +20,7 @@ use Rattle.slot_table.proofs.AtSlots.{full_within, key_is_full}
 use Rattle.key_slots.specs.Holdings.{Pairs}
 use Rattle.key_slots.specs.Standing.{Agrees}
 use Rattle.key_slots.proofs.Agreeing.{key_of_slot}
-use Rattle.key_slots.proofs.Sums.{total, total-least, into_map}
+use Rattle.key_slots.proofs.Sums.{total-least, into_map}
 use Rattle.store_model.specs.Store as model
 use Rattle.store_model.specs.Store.{Key, is_volatile, is_opaque, has_secure_element, count_persistent}
 use Rattle.store_model.specs.Sound.{IsSoundStore}

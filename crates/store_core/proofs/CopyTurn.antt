@@ -1,6 +1,5 @@
 -- A turn that copies a key.
-use Rattle.std.proofs.Common.{◌≡◌, ◌∙◌, ℕ, ◌+◌, ◌==◌, Bool, true, false, cond, List, [], ◌∷◌, ◌++◌, length, refl, sym, ap, subst, arith, Option, None, Some, is_some}
-use Rattle.std.proofs.lemmas.Bool.{false≢true}
+use Rattle.std.proofs.Common.{◌≡◌, ◌∙◌, ℕ, ◌+◌, Bool, true, false, cond, List, [], ◌∷◌, ◌++◌, length, refl, sym, ap, subst, Option, None, Some, is_some}
 use Rattle.std.specs.Prelude.{Ok, Err, IsErrOf, Result, if◌then◌else◌}
 use Rattle.std.specs.FinMap as map
 use Rattle.psa_status.specs.declared.Status.{Status}
@@ -8,7 +7,7 @@ use Rattle.psa_status.specs.declared.Status.TheVariants.{InvalidHandle}
 use Rattle.psa_status.specs.Causes.{Rose}
 use Rattle.policy_rules.specs.declared.narrowing.Label.{Label}
 use Rattle.key_attributes.specs.declared.Attributes.{Attributes}
-use Rattle.driver_dispatch.specs.Held.{HeldKey, HeldKeys}
+use Rattle.driver_dispatch.specs.Held.{HeldKeys}
 use Rattle.driver_dispatch.specs.Calls.{HoldsHandle}
 use Rattle.secret_bytes.specs.Buffer.{Buffer, bytes_of, buffer_of}
 use Rattle.slot_table.specs.Slots.{Slot}
@@ -18,10 +17,10 @@ use Rattle.key_slots.specs.Holdings.{Pairs, AreHoldings}
 use Rattle.key_slots.specs.Standing.{Agrees, SlotHasKey}
 use Rattle.store_model.specs.Store as model
 use Rattle.store_model.specs.Store.{Key, is_opaque, is_persistent_key}
-use Rattle.store_model.specs.Call.{Copy, Reply}
-use Rattle.store_model.specs.Outcome.{Outcome, counted, refused, refusal}
+use Rattle.store_model.specs.Call.{Copy}
+use Rattle.store_model.specs.Outcome.{Outcome}
 use Rattle.store_model.specs.KeyUse as key_use
-use Rattle.store_model.specs.Creation.{created, created_unless, recorded_of}
+use Rattle.store_model.specs.Creation.{created_unless, recorded_of}
 use Rattle.store_model.specs.Copies.{recorded_copy, step_copy}
 use Rattle.store_model.specs.Handles.{Service}
 use Rattle.store_model.specs.Requests.{Request, OnStore, plain_step}

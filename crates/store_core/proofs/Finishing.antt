@@ -1,18 +1,18 @@
 -- Turns that finish a creation: what was decided of it, and how the turn ends.
-use Rattle.std.proofs.Common.{◌≡◌, ◌⊎◌, ◌∙◌, ℕ, ◌+◌, ◌≤◌, List, [], ◌∷◌, ◌++◌, length, refl, sym, ap, subst, arith, inl, inr, Option, None, Some, is_some, true, false}
+use Rattle.std.proofs.Common.{◌≡◌, ◌∙◌, ℕ, ◌+◌, ◌≤◌, List, [], ◌∷◌, ◌++◌, refl, sym, ap, subst, arith, inl, inr, Option, None, Some, is_some, true, false}
 use Rattle.std.specs.Prelude.{Ok, Err, Result}
 use Rattle.psa_status.specs.declared.Status.{Status}
 use Rattle.psa_status.specs.declared.Status.TheVariants.{InvalidHandle}
 use Rattle.policy_rules.specs.declared.narrowing.Label.{Label}
 use Rattle.key_attributes.specs.declared.Attributes.{Attributes}
 use Rattle.driver_dispatch.specs.Held.{HeldKeys}
-use Rattle.secret_bytes.specs.Buffer.{Buffer, bytes_of}
+use Rattle.secret_bytes.specs.Buffer.{Buffer}
 use Rattle.slot_table.specs.Lent as lent
 use Rattle.std.specs.Option.{option_map_or}
 use Rattle.key_file.specs.Files.{Stored, Doubt, Leads}
 use Rattle.key_file.proofs.Leading.{stays}
 use Rattle.key_slots.specs.declared.slots.KeySlots.{KeySlots}
-use Rattle.key_slots.specs.Holdings.{Pairs, Gains, AreHoldings}
+use Rattle.key_slots.specs.Holdings.{Pairs, AreHoldings}
 use Rattle.key_slots.specs.Standing.{Agrees}
 use Rattle.key_slots.proofs.Agreeing.{quiet}
 use Rattle.store_model.specs.Store as model
@@ -25,7 +25,7 @@ use Rattle.store_model.specs.Requests.{serve}
 use Rattle.store_model.specs.Marks.{FaultCounts, MayBeMarked, HasFault, key_changed, reads_persistent, last_counts}
 use Rattle.store_core.specs.declared.store.Store.{Store}
 use Rattle.store_core.specs.Durability.{Course, durable_keys, doubt_after, doubt_by, is_destruction, kept}
-use Rattle.store_core.specs.Represents.{IsTold, Opening, Told}
+use Rattle.store_core.specs.Represents.{IsTold, Opening}
 use Rattle.store_core.specs.Creations.{RecordsStated, IsCreating, IsMaking, IsSince}
 use Rattle.store_core.proofs.Histories.{told_before}
 use Rattle.store_core.proofs.Holding.{HoldsHere, StandsHere, IsTurn, goes_on, left_alone, same_directory, same_device, counts_of}

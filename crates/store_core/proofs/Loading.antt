@@ -27,7 +27,7 @@ use Rattle.store_core.specs.declared.store.Store.{Store}
 use Rattle.store_core.specs.Durability.{kept, durable_keys}
 use Rattle.store_core.specs.Represents.{IsTold, IsDirectory, Opening}
 use Rattle.store_core.proofs.Histories.{reads_last, told_before}
-use Rattle.store_core.proofs.Holding.{HoldsHere, IsReadingHere, IsReadOn, moved, goes_on}
+use Rattle.store_core.proofs.Holding.{HoldsHere, IsReadOn, moved, goes_on}
 use Rattle.store_core.proofs.Kept.{HasCellKey, key_of_cell, is_persistent, local}
 use Rattle.store_core.proofs.Replaced.{replaced, same_count, put_here, sound_after, directory_after, device_after, agrees_after}
 

@@ -1,7 +1,7 @@
 -- A ranked turn that creates a key.
-use Rattle.std.proofs.Common.{◌≡◌, ◌≢◌, ◌⊎◌, ◌∙◌, ℕ, ◌+◌, ◌-◌, ◌^◌, ◌<◌, ◌≤◌, ◌||◌, Bool, true, false, not, cond, min, List, [], ◌∷◌, ◌++◌, length, refl, sym, ap, subst, arith, inl, inr, Option, None, Some, is_some}
+use Rattle.std.proofs.Common.{◌≡◌, ◌∙◌, ℕ, ◌+◌, ◌-◌, ◌^◌, ◌≤◌, Bool, true, false, cond, min, List, [], ◌∷◌, ◌++◌, length, refl, sym, ap, subst, arith, Option, None, Some, is_some}
 use Rattle.std.proofs.lemmas.Bool.{false≢true}
-use Rattle.std.specs.Prelude.{slice_index, Ok, Err, Result}
+use Rattle.std.specs.Prelude.{slice_index}
 use Rattle.std.specs.Option.{option_map_or}
 use Rattle.std.specs.FinMap as map
 use Rattle.psa_status.specs.declared.Status.{Status}
@@ -9,30 +9,26 @@ use Rattle.psa_status.specs.Causes.{Rose}
 use Rattle.policy_rules.specs.declared.narrowing.Label.{Label}
 use Rattle.key_attributes.specs.declared.Attributes.{Attributes}
 use Rattle.driver_dispatch.specs.Held.{HeldKeys}
-use Rattle.key_file.specs.Files.{Stored, stored, Keys, Doubt, StandsForKeys, Leads}
-use Rattle.key_file.proofs.Leading.{stays}
+use Rattle.key_file.specs.Files.{Stored, stored, Doubt, StandsForKeys, Leads}
 use Rattle.key_slots.specs.Holdings.{Pairs, AreHoldings}
 use Rattle.key_slots.specs.Standing.{Agrees}
-use Rattle.key_slots.proofs.Agreeing.{quiet}
 use Rattle.store_model.specs.Store as model
 use Rattle.store_model.specs.Store.{Key, is_volatile, is_opaque, is_persistent_key, is_opaque_key, live_volatile, count_persistent}
-use Rattle.store_model.specs.Call.{Call, Reply, Destroy}
-use Rattle.store_model.specs.Outcome.{counted, refused, refusal}
-use Rattle.store_model.specs.Creation.{created, created_unless, new_id, new_key}
-use Rattle.store_model.specs.Faults.{FaultMark, Plain, Storage, Hardware, Corrupt, Reading, Writing}
-use Rattle.store_model.specs.Handles.{Service, Served}
-use Rattle.store_model.specs.HandleCalls.{HandleCall}
+use Rattle.store_model.specs.Call.{Reply, Destroy}
+use Rattle.store_model.specs.Outcome.{counted, refusal}
+use Rattle.store_model.specs.Creation.{created, new_id, new_key}
+use Rattle.store_model.specs.Faults.{FaultMark, Plain, Storage, Hardware, Corrupt}
+use Rattle.store_model.specs.Handles.{Service}
 use Rattle.store_model.specs.Requests.{Request, OnStore, OnHandle, plain_step, failed_step, serve}
 use Rattle.store_model.specs.Replay.{Entry, outcome_of, replay}
-use Rattle.store_model.specs.Marks.{FaultCounts, MayBeMarked, HasFault, asks_device, key_changed, key_answered, last_counts}
-use Rattle.store_model.specs.Sound.{IsSoundStore}
+use Rattle.store_model.specs.Marks.{MayBeMarked, HasFault, key_changed, key_answered, last_counts}
 use Rattle.store_model.proofs.Sound.{counted_sound, created_sound}
 use Rattle.store_model.proofs.Recorded.{MayBeKept}
 use Rattle.store_core.specs.declared.store.Store.{Store}
 use Rattle.store_core.specs.Durability.{Course, doubt_after, doubt_by, is_destruction, kept, durable_keys}
 use Rattle.store_core.specs.Represents.{IsTold, IsDirectory, HoldsKeys, Opening}
-use Rattle.store_core.proofs.Holding.{HoldsHere, StandsHere, IsTurn, same_directory, same_device}
-use Rattle.store_core.proofs.Changing.{Turns, turns, retold}
+use Rattle.store_core.proofs.Holding.{HoldsHere, StandsHere, IsTurn}
+use Rattle.store_core.proofs.Changing.{turns, retold}
 use Rattle.store_core.proofs.Added.{put_here}
 
 -- THE REQUEST

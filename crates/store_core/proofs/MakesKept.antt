@@ -1,5 +1,5 @@
 -- A ranked turn that creates a key of the file.
-use Rattle.std.proofs.Common.{◌≡◌, ◌≢◌, ◌⊎◌, ◌∙◌, ℕ, ◌+◌, ◌^◌, ◌<◌, ◌≤◌, Bool, true, false, not, cond, List, [], ◌∷◌, ◌++◌, length, set, refl, sym, ap, subst, arith, Option, None, Some, is_some}
+use Rattle.std.proofs.Common.{◌≡◌, ◌∙◌, ℕ, ◌+◌, ◌^◌, ◌<◌, ◌≤◌, Bool, true, false, not, cond, List, [], ◌∷◌, ◌++◌, length, set, refl, sym, ap, subst, arith, Option, None, Some, is_some}
 use Rattle.std.proofs.lemmas.Bool.{false≢true}
 use Rattle.std.specs.FinMap as map
 use Rattle.psa_status.specs.Causes.{Rose}
@@ -9,7 +9,7 @@ use Rattle.driver_dispatch.specs.Held.{HeldKeys}
 use Rattle.secret_bytes.specs.Buffer.{bytes_of}
 use Rattle.key_cells.specs.declared.slot.Slot as cell
 use Rattle.key_cells.specs.declared.slot.Slot.TheVariants.{Open}
-use Rattle.key_cells.specs.Contents.{HasNoKey, IsFull, IsFirstWithoutKey, cell_slot, settled_slots, settled_slot}
+use Rattle.key_cells.specs.Contents.{HasNoKey, IsFull, IsFirstWithoutKey, settled_slots}
 use Rattle.key_cells.specs.Body.{IsKeyOf}
 use Rattle.key_file.specs.declared.file.KeyFile.{KeyFile}
 use Rattle.key_file.specs.Files.{Stored, stored, Keys, Doubt, StandsForKeys, Leads, IsPut, doubt_unmade}
@@ -17,22 +17,22 @@ use Rattle.key_file.specs.declared.file.MakeFault.TheVariants.{Disk}
 use Rattle.slot_table.specs.Slots.{NoKey}
 use Rattle.slot_table.specs.Changes.{full_slot}
 use Rattle.key_slots.specs.declared.slots.KeySlots.{KeySlots}
-use Rattle.key_slots.specs.Holdings.{Pairs, Gains, AreHoldings}
+use Rattle.key_slots.specs.Holdings.{Pairs, AreHoldings}
 use Rattle.key_slots.specs.Standing.{Agrees, Puts, SlotHasKey, IsThereOrNew}
 use Rattle.key_slots.proofs.Agreeing.{quiet}
 use Rattle.store_model.specs.Store as model
 use Rattle.store_model.specs.Store.{Key, is_volatile, is_opaque, is_persistent_key, has_secure_element}
 use Rattle.store_model.specs.Outcome.{counted}
-use Rattle.store_model.specs.Creation.{created, new_id, new_key, identified}
+use Rattle.store_model.specs.Creation.{created, new_id, new_key}
 use Rattle.store_model.specs.Faults.{FaultMark, Plain, Storage, Writing}
 use Rattle.store_model.specs.Handles.{Service}
 use Rattle.store_model.specs.Requests.{serve}
 use Rattle.store_model.specs.Replay.{Entry, outcome_of, replay}
-use Rattle.store_model.specs.Marks.{FaultCounts, key_changed, last_counts}
+use Rattle.store_model.specs.Marks.{key_changed, last_counts}
 use Rattle.store_model.proofs.Recorded.{MayBeKept, recorded}
 use Rattle.store_core.specs.declared.store.Store.{Store}
 use Rattle.store_core.specs.Durability.{Course, durable_keys, doubt_after, doubt_by, kept}
-use Rattle.store_core.specs.Represents.{Opening, Told, ranked_on}
+use Rattle.store_core.specs.Represents.{Opening, Told}
 use Rattle.store_core.specs.Creations.{IsReady, IsMaterial, IsMaking, IsSince}
 use Rattle.store_core.proofs.Holding.{StandsHere, IsTurn, same_directory, same_device}
 use Rattle.store_core.proofs.Removing.{directory_settled}

@@ -1,6 +1,5 @@
 -- A ranked turn that creates a volatile key, in memory or in the device.
-use Rattle.std.proofs.Common.{◌≡◌, ◌≢◌, ◌⊎◌, ◌∙◌, ℕ, ◌+◌, ◌||◌, ◌^◌, ◌<◌, ◌≤◌, Bool, true, false, not, cond, List, [], ◌∷◌, ◌++◌, length, refl, sym, ap, subst, arith, inl, Option, None, Some, is_some}
-use Rattle.std.proofs.lemmas.Bool.{false≢true}
+use Rattle.std.proofs.Common.{◌≡◌, ◌⊎◌, ◌∙◌, ℕ, ◌+◌, ◌||◌, ◌^◌, ◌<◌, ◌≤◌, true, false, cond, List, [], ◌∷◌, ◌++◌, length, refl, sym, ap, subst, arith, Option, None, Some}
 use Rattle.std.specs.Prelude.{slice_index, slice_set, ⊤, IfSome}
 use Rattle.std.specs.Option.{option_map}
 use Rattle.std.specs.FinMap as map
@@ -12,7 +11,7 @@ use Rattle.driver_dispatch.specs.Held.{HeldKey, HeldKeys, with_held_key, with_co
 use Rattle.driver_dispatch.specs.Held as held_keys
 use Rattle.driver_dispatch.specs.Calls.{HoldsHandle, IsSomeKey, Lacks, has_element}
 use Rattle.secret_bytes.specs.Buffer.{Buffer, bytes_of}
-use Rattle.key_file.specs.Files.{Stored, stored, Doubt, StandsForKeys, Leads}
+use Rattle.key_file.specs.Files.{stored, Doubt, Leads}
 use Rattle.key_file.proofs.Leading.{stays}
 use Rattle.slot_table.specs.Slots.{NoKey}
 use Rattle.slot_table.specs.Changes.{full_slot}
@@ -27,14 +26,14 @@ use Rattle.store_model.specs.Creation.{created, new_id, new_key, identified}
 use Rattle.store_model.specs.Faults.{FaultMark, Plain, Hardware}
 use Rattle.store_model.specs.Handles.{Service}
 use Rattle.store_model.specs.Requests.{serve}
-use Rattle.store_model.specs.Replay.{Entry, outcome_of, replay}
-use Rattle.store_model.specs.Marks.{FaultCounts, asks_device, key_changed, last_counts}
+use Rattle.store_model.specs.Replay.{Entry, replay}
+use Rattle.store_model.specs.Marks.{asks_device, key_changed, last_counts}
 use Rattle.store_model.proofs.Recorded.{MayBeKept}
 use Rattle.store_core.specs.declared.store.Store.{Store}
-use Rattle.store_core.specs.Durability.{Course, durable_keys, doubt_after, doubt_by, kept}
+use Rattle.store_core.specs.Durability.{Course, durable_keys, doubt_after}
 use Rattle.store_core.specs.Represents.{HoldsKeys, Opening, Told}
 use Rattle.store_core.specs.Creations.{IsReady, IsMaterial, IsMaking, IsSince}
-use Rattle.store_core.proofs.Holding.{StandsHere, IsTurn, same_directory, same_device}
+use Rattle.store_core.proofs.Holding.{StandsHere, IsTurn, same_directory}
 use Rattle.store_core.proofs.Added.{none_here, puts, is_new, put_here, volatile_id, few_live, few_made, made_here, live_here, volatile_kept, as_many_kept, directory_same, device_same, device_gains, device_failed, local_fills, opaque_fills}
 use Rattle.store_core.proofs.Checked.{known_type, known_size, element_is, in_no_slot}
 use Rattle.store_core.proofs.Destroyed.{holds_some}

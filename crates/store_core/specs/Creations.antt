@@ -22,7 +22,6 @@ use Rattle.store_model.specs.Requests.{OnStore, plain_step}
 use Rattle.store_model.specs.Replay.{Entry, replay}
 use Rattle.store_model.specs.Marks.{FaultCounts, last_counts}
 use Rattle.store_core.specs.declared.store.Store.{Store}
-use Rattle.store_core.specs.declared.reading.Unread.{Unread}
 use Rattle.store_core.specs.declared.creating.Unkept.{Unkept}
 use Rattle.store_core.specs.declared.creating.Unkept.TheVariants as unkept
 use Rattle.store_core.specs.declared.creating.NotMade.{NotMade}

@@ -7,7 +7,6 @@ use Rattle.key_cells.specs.Contents.{cell_slot}
 use Rattle.key_file.specs.Files.{StandsForKeys}
 use Rattle.key_slots.specs.Holdings.{Pairs, Gains, AreHoldings, named}
 use Rattle.key_slots.specs.Standing.{Agrees}
-use Rattle.key_attributes.specs.declared.Attributes.{Attributes}
 use Rattle.policy_rules.specs.declared.narrowing.Label.{Label}
 use Rattle.driver_dispatch.specs.Held.{HeldKeys}
 use Rattle.driver_dispatch.specs.Calls.{HoldsHandle, Lacks}
@@ -15,15 +14,14 @@ use Rattle.store_model.specs.Store as model
 use Rattle.store_model.specs.Store.{Key, is_volatile, is_opaque, count_persistent, live_volatile}
 use Rattle.store_model.specs.Call.{Destroy}
 use Rattle.store_model.specs.Faults.{FaultMark, Plain}
-use Rattle.store_model.specs.Requests.{OnStore, plain_step}
-use Rattle.store_model.specs.Creation.{recorded_of, created_unless}
+use Rattle.store_model.specs.Requests.{OnStore}
 use Rattle.store_model.specs.Sound.{IsSoundStore}
 use Rattle.store_model.specs.Laws.{may_change_keys}
 use Rattle.store_model.specs.Handles.{Service}
 use Rattle.store_model.specs.Replay.{Entry, outcome_of, replay}
 use Rattle.store_model.specs.Marks.{FaultCounts, id_read, reads_persistent, IsCaused, AreAllowed, last_counts}
 use Rattle.store_core.specs.declared.store.Store.{Store}
-use Rattle.store_core.specs.Durability.{durable_keys, course_of, is_destruction, KeepsKeys}
+use Rattle.store_core.specs.Durability.{durable_keys, course_of, KeepsKeys}
 
 -- no entry reads a persistent key
 abbrev pub ReadsNone : Service → List Entry → Type 0

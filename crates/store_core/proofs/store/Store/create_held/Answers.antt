@@ -1,4 +1,4 @@
-use Rattle.std.proofs.Common.{◌≡◌, ◌∙◌, ◌+◌, ℕ, List, length, refl, sym, ap, subst, arith, true, None, Some, [], ◌∷◌, ◌++◌}
+use Rattle.std.proofs.Common.{◌≡◌, ◌∙◌, ◌+◌, ℕ, List, length, sym, ap, subst, Some, [], ◌∷◌, ◌++◌}
 use Rattle.std.specs.Prelude.{take, slice_index}
 use Rattle.key_attributes.specs.Checks.{permits_size}
 use Rattle.secret_bytes.specs.Buffer.{bytes_of}

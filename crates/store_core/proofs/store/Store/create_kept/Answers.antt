@@ -1,4 +1,4 @@
-use Rattle.std.proofs.Common.{◌≡◌, ◌∙◌, ◌+◌, ℕ, List, Some, refl, sym, ap, subst, arith}
+use Rattle.std.proofs.Common.{◌+◌, ℕ, List, Some, sym, ap, subst}
 use Rattle.std.specs.Prelude.{Err}
 use Rattle.key_cells.specs.Body.{IsKeyOf}
 use Rattle.key_file.specs.Files.{stored, IsPut, Leads, doubt_unmade}

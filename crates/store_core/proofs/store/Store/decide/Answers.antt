@@ -1,7 +1,5 @@
-use Rattle.std.proofs.Common.{◌≡◌, ◌∙◌, ◌+◌, ◌<◌, ℕ, List, refl, sym, ap, subst, arith, inl, inr, Option, Some}
-use Rattle.std.proofs.lemmas.Bool.{false≢true}
+use Rattle.std.proofs.Common.{refl, sym, subst, inl, Option}
 use Rattle.std.specs.Option.{option_map}
-use Rattle.key_slots.specs.Holdings.{named}
 use Rattle.store_core.specs.Creations.{IsLent, RecordsStated}
 use Rattle.store_core.proofs.store.Store.decide.Goals as goal
 

@@ -1,4 +1,4 @@
-use Rattle.std.proofs.Common.{◌≡◌, ◌∙◌, ◌/◌, ℕ, length, refl, sym, ap}
+use Rattle.std.proofs.Common.{◌∙◌, ◌/◌, sym, ap}
 use Rattle.key_attributes.specs.declared.Attributes.{Attributes}
 use Rattle.store_model.specs.Creation.{recorded_of}
 use Rattle.store_core.proofs.Copied.{bytes_by_bits}

@@ -1,10 +1,9 @@
-use Rattle.std.proofs.Common.{◌≡◌, ◌∙◌, ◌+◌, ◌<◌, ℕ, List, [], ◌∷◌, ◌++◌, length, refl, sym, ap, subst, Option, None, Some}
+use Rattle.std.proofs.Common.{◌≡◌, ◌∙◌, [], ◌∷◌, ◌++◌, length, refl, sym, ap, subst, Option, None}
 use Rattle.std.specs.Prelude.{Ok, Err}
 use Rattle.std.specs.Option.{option_map}
 use Rattle.secret_bytes.specs.Buffer.{Buffer, bytes_of}
 use Rattle.slot_table.specs.Lent.{Reading}
 use Rattle.slot_table.proofs.AtSlots.{bytes-buffer_of}
-use Rattle.key_slots.specs.Holdings.{named}
 use Rattle.key_slots.specs.Standing.{Agrees}
 use Rattle.store_model.specs.Store as model
 use Rattle.store_model.specs.Creation.{new_id}

@@ -1,6 +1,4 @@
-use Rattle.std.proofs.Common.{◌≡◌, ◌∙◌, ◌+◌, ℕ, List, [], ◌∷◌, ◌++◌, refl, sym, ap, subst, arith, Option, None, Some}
-use Rattle.std.specs.Prelude.{Ok, Err}
-use Rattle.std.specs.FinMap as map
+use Rattle.std.proofs.Common.{◌≡◌, ◌∙◌, ℕ, [], ◌∷◌, ◌++◌, refl, sym, ap, subst, Option}
 use Rattle.secret_bytes.specs.Buffer.{bytes_of, buffer_of}
 use Rattle.slot_table.specs.Slots.{slot_at}
 use Rattle.key_slots.specs.Standing.{IsOut}
@@ -19,8 +17,8 @@ use Rattle.store_core.specs.Creations.{Enters, IsReady, IsUnkept, mark_unkept}
 use Rattle.store_core.proofs.Changing.{retold}
 use Rattle.store_core.proofs.Holding.{IsTurn, with_buffer}
 use Rattle.store_core.proofs.Refusing.{asks_for}
-use Rattle.store_core.proofs.Finishing.{rebuffered, refuses, since_later, unread}
-use Rattle.store_core.proofs.CopyTurn.{reads_source, keeps, reads_kept, refused_here, material_of, ready, making, decided_here, either, uncopied}
+use Rattle.store_core.proofs.Finishing.{rebuffered, refuses, since_later}
+use Rattle.store_core.proofs.CopyTurn.{reads_source, keeps, refused_here, material_of, ready, making, decided_here, either, uncopied}
 use Rattle.store_core.proofs.store.Store.make_copy.Goals as goal
 
 pub returns-in-Ok-made-clause-made : goal.returns-in-Ok-made-clause-made
