@@ -246,9 +246,9 @@ fault_of (Err Failed) tells before e rose = rose refl
 
 pub mark_may : (held : Option HeldKeys) (id : ℕ) (call : ElementCall) (old new : List ℕ) (result : Result ℕ NotComputed) (m : model.Store) → IsAnswered held id call old new result m →
     is_opaque_key (map.get m.keys id) ≡ true → (service : Service) (caller : ℕ) → service.store ≡ m → MayBeMarked service caller (OnStore (model_call call id (length old))) (mark_computed result)
-mark_may held id call old new (Ok n) m answer opaque service caller is = tt
-mark_may held id call old new (Err (Refused status)) m answer opaque service caller is = tt
-mark_may held id call old new (Err Failed) m answer opaque service caller is =
+mark_may held id call old now (Ok n) m answer opaque service caller is = tt
+mark_may held id call old now (Err (Refused status)) m answer opaque service caller is = tt
+mark_may held id call old now (Err Failed) m answer opaque service caller is =
     let none = unrefused (first_row (all_rows call (length old) (map.get m.keys id))) (IsOfElement call (Err Failed)) (Err Failed) refl answer.decided in
     may_fail service caller id (length old) call (subst (λ (x : model.Store). is_opaque_key (map.get x.keys id) ≡ true) (sym is) opaque)
     (subst (λ (x : model.Store). first_row (all_rows call (length old) (map.get x.keys id)) ≡ None) (sym is) none)

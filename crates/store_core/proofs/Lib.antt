@@ -22,3 +22,4 @@ mod OpenCells
 mod Openings
 mod Started
 mod ByElement
+mod Wiped

@@ -8,6 +8,7 @@ mod laws;
 mod looks;
 mod opaque_calls;
 mod opening;
+mod promises;
 mod reading;
 mod recording;
 mod store;

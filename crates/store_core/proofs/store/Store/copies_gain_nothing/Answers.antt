@@ -1,0 +1,9 @@
+use Rattle.std.proofs.Common.{sym, subst}
+use Rattle.store_model.specs.Store as model
+use Rattle.store_model.specs.Origin.{GainsNothing, found_made, made_after}
+use Rattle.store_model.proofs.GainNothing.{gain_nothing}
+use Rattle.store_core.proofs.store.Store.copies_gain_nothing.Goals as goal
+
+pub returns : goal.returns
+returns g c = λ start opening h all s sound callers told.
+    subst (λ (m : model.Store). GainsNothing (made_after start h (found_made start.store)) m) (sym (s.holds.replayed told)) (gain_nothing start h sound callers)

@@ -1,0 +1,6 @@
+use Rattle.std.proofs.Common.{sym}
+use Rattle.key_slots.proofs.Agreeing.{readers_out}
+use Rattle.store_core.proofs.store.Store.readers_are_leases.Goals as goal
+
+pub returns : goal.returns
+returns g c = λ start opening h all s i lt. sym (readers_out c.args.self.now.slots.table.slots s.holds.model all i lt s.holds.slots)

@@ -1,0 +1,63 @@
+//! What a store promises that stands for a start, a history and holdings, as the contracts of methods that do nothing.
+ghost use Rattle.std.specs.Prelude.{◌≡◌, ◌⊎◌, ◌<◌, ◌≤◌, ◌+◌, ℕ, List, length, true, is_some};
+ghost use Rattle.std.specs.List.{AllByRecursion};
+ghost use Rattle.disk_face.specs.Moments.{done_at};
+ghost use Rattle.key_cells.specs.declared.slot.Slot.TheVariants.{Free};
+ghost use Rattle.key_cells.specs.Contents.{HasZeros, cell_slot};
+ghost use Rattle.slot_table.specs.Slots.{empty_slot, filling_slot, slot_at};
+ghost use Rattle.key_slots.specs.Holdings.{Pairs, named};
+ghost use Rattle.store_model.specs.Sound.{HasNumber, IsSound};
+ghost use Rattle.store_model.specs.Handles.{Service};
+ghost use Rattle.store_model.specs.Replay.{Entry};
+ghost use Rattle.store_model.specs.Origin.{GainsNothing, IsCaller, found_made, made_after};
+ghost use Rattle.store_core.specs.Durability.{FitsPrefix};
+ghost use Rattle.store_core.specs.Represents.{IsTold, Opening, StandsFor};
+
+use crate::Store;
+use admission::Admission;
+use disk_face::Disk;
+use driver_dispatch::Devices;
+
+impl<D: Disk, A: Devices, C: Admission> Store<D, A, C> {
+    /// Over a disk that tells its bytes, a crash since the opening has left the keys of some prefix of the history, and one
+    /// since a call was done those of a prefix that holds the call.
+    pub fn a_crash_leaves_a_prefix(&self)
+        ensures opening { (start : Service) (opening : Opening) (h : List Entry) (all : List Pairs) → StandsFor D.contents D.may_leave D.moment D.left_since D.faults A.keys A.faults A.locations C.labels self.now start opening h all →
+            is_some (D.contents self.now.file.cells.disk) ≡ true → (image : List ℕ) → D.left_since self.now.file.cells.disk opening.moment image →
+            (count : ℕ) × (count ≤ length h) × FitsPrefix image start h count }
+        ensures done { (start : Service) (opening : Opening) (h : List Entry) (all : List Pairs) → StandsFor D.contents D.may_leave D.moment D.left_since D.faults A.keys A.faults A.locations C.labels self.now start opening h all →
+            is_some (D.contents self.now.file.cells.disk) ≡ true → (k : ℕ) → k < length h → (image : List ℕ) → D.left_since self.now.file.cells.disk (done_at (λ (e : Entry). e.done) h k) image →
+            (count : ℕ) × (k < count) × (count ≤ length h) × FitsPrefix image start h count }
+    {}
+
+    /// A crash leaves zeros in each cell that is free, as after a destruction that succeeded.
+    pub fn a_free_cell_is_zeros(&self)
+        ensures { (start : Service) (opening : Opening) (h : List Entry) (all : List Pairs) → StandsFor D.contents D.may_leave D.moment D.left_since D.faults A.keys A.faults A.locations C.labels self.now start opening h all →
+            is_some (D.contents self.now.file.cells.disk) ≡ true → (cell : ℕ) → cell < 512 → cell_slot self.now.file.cells.slots.items cell ≡ Free → (image : List ℕ) → D.may_leave self.now.file.cells.disk image → HasZeros cell image }
+    {}
+
+    /// A slot has as many readers as the callers have leases of its key.
+    pub fn readers_are_leases(&self)
+        ensures { (start : Service) (opening : Opening) (h : List Entry) (all : List Pairs) → StandsFor D.contents D.may_leave D.moment D.left_since D.faults A.keys A.faults A.locations C.labels self.now start opening h all →
+            (i : ℕ) → i < 384 → (slot_at self.now.slots.table.slots i).readers ≡ named i ((slot_at self.now.slots.table.slots i).creation + 1) all }
+    {}
+
+    /// A slot keeps the key of a lease that is out.
+    pub fn a_lease_keeps_its_key(&self)
+        ensures { (start : Service) (opening : Opening) (h : List Entry) (all : List Pairs) → StandsFor D.contents D.may_leave D.moment D.left_since D.faults A.keys A.faults A.locations C.labels self.now start opening h all →
+            (i number : ℕ) → 0 < named i (number + 1) all → (slot_at self.now.slots.table.slots i).creation ≡ number }
+    {}
+
+    /// A key that is destroyed, and of which no lease is out, is in no slot: what stands under its number is wiped.
+    pub fn a_destroyed_key_is_wiped(&self)
+        ensures { (start : Service) (opening : Opening) (h : List Entry) (all : List Pairs) (s : StandsFor D.contents D.may_leave D.moment D.left_since D.faults A.keys A.faults A.locations C.labels self.now start opening h all) →
+            (number : ℕ) → (HasNumber s.holds.model number → ⊥) → ((i : ℕ) → named i (number + 1) all ≡ 0) → (i : ℕ) → i < 384 → (slot_at self.now.slots.table.slots i).creation ≡ number →
+            (slot_at self.now.slots.table.slots i ≡ empty_slot) ⊎ (slot_at self.now.slots.table.slots i ≡ filling_slot) }
+    {}
+
+    /// No chain of copies gains a flag or an algorithm, under whatever rules.
+    pub fn copies_gain_nothing(&self)
+        ensures { (start : Service) (opening : Opening) (h : List Entry) (all : List Pairs) (s : StandsFor D.contents D.may_leave D.moment D.left_since D.faults A.keys A.faults A.locations C.labels self.now start opening h all) →
+            IsSound start → AllByRecursion IsCaller h → IsTold (D.contents self.now.file.cells.disk) start h → GainsNothing (made_after start h (found_made start.store)) s.holds.model }
+    {}
+}
