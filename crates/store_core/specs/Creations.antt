@@ -92,9 +92,9 @@ module _ (records : model.Store → Result Attributes Status → Type 0) where
   IsUncopied source (uncopied.NotMade why) m = IsUnmade why m
 
 -- a lease, where there is one, is out
-abbrev pub IsLent : Option lent.Reading → List Pairs → Type 0
-IsLent None all = Unit {0}
-IsLent (Some lease) all = 0 < named lease.slot (lease.creation + 1) all
+abbrev pub IsAmong : Option lent.Reading → List Pairs → Type 0
+IsAmong None all = Unit {0}
+IsAmong (Some lease) all = 0 < named lease.slot (lease.creation + 1) all
 
 module _ {D A C : Type 0} (told : D → Option (List ℕ)) (may_leave : D → List ℕ → Type 0) (moment : D → ℕ) (left_since : D → ℕ → List ℕ → Type 0)
     (faults : D → ℕ) (held : A → Option HeldKeys) (hard : A → ℕ) (locations : A → List ℕ) (labels : C → List Label) where
@@ -112,10 +112,10 @@ module _ {D A C : Type 0} (told : D → Option (List ℕ)) (may_leave : D → Li
 
   -- the store stands for something, of which the lease is out, where there is one; and a pair is
   abbrev pub StandsLent : Store D A C → Option lent.Reading → Type 0
-  StandsLent store lease = (start : Service) × (opening : Opening) × (h : List Entry) × (all : List Pairs) × StandsForHere store start opening h all × IsLent lease all
+  StandsLent store lease = (start : Service) × (opening : Opening) × (h : List Entry) × (all : List Pairs) × StandsForHere store start opening h all × IsAmong lease all
 
   abbrev pub HasOutBeside : Store D A C → ℕ × ℕ → Option lent.Reading → Type 0
-  HasOutBeside store p lease = (start : Service) × (opening : Opening) × (h : List Entry) × (all : List Pairs) × StandsForHere store start opening h all × (0 < named p.0 p.1 all) × IsLent lease all
+  HasOutBeside store p lease = (start : Service) × (opening : Opening) × (h : List Entry) × (all : List Pairs) × StandsForHere store start opening h all × (0 < named p.0 p.1 all) × IsAmong lease all
 
   -- The request of an entry is to create a key. It destroys none, and where no device fails it leaves and answers what a
   -- creation does that records so, of a key with these bytes.
@@ -131,7 +131,7 @@ module _ {D A C : Type 0} (told : D → Option (List ℕ)) (may_leave : D → Li
   -- model before.
   abbrev pub Creates : (old new : Store D A C) (caller : ℕ) → Option lent.Reading → (model.Store → Result Attributes Status → Type 0) → (model.Store → List ℕ) → ℕ × ℕ → FaultMark → (model.Store → Type 0) → Type 0
   Creates old new caller lease records bytes p mark P = (start : Service) (opening : Opening) (h : List Entry) (all less : List Pairs) (e : Entry) →
-      (s : StandsForHere old start opening h all) → IsLent lease all → Gains less all p → AreHoldings less →
+      (s : StandsForHere old start opening h all) → IsAmong lease all → Gains less all p → AreHoldings less →
       IsCreating old start h e caller records bytes → IsEntryHere new mark e →
       StandsForHere new start opening (h ++ e ∷ []) less × P s.holds.model
 
@@ -145,7 +145,7 @@ module _ {D A C : Type 0} (told : D → Option (List ℕ)) (may_leave : D → Li
   -- and where the lease is out
   abbrev pub HoldsLent : Store D A C → Option lent.Reading → (model.Store → Type 0) → Type 0
   HoldsLent store lease P = (start : Service) (opening : Opening) (h : List Entry) (all : List Pairs) (e : Entry) →
-      (s : HoldsHere (ToldHere store start (h ++ e ∷ [])) store start opening h all) → IsLent lease all → P s.model
+      (s : HoldsHere (ToldHere store start (h ++ e ∷ [])) store start opening h all) → IsAmong lease all → P s.model
 
   -- the bytes of a new key are those in the buffer, or those of a key that the device has under a number
   abbrev pub IsMaterial : Store D A C → Attributes → (source : Option ℕ) → List ℕ → Type 0
