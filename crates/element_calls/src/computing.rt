@@ -6,7 +6,7 @@ ghost use Rattle.driver_dispatch.specs.Calls.{HoldsHandle, has_element};
 ghost use Rattle.store_model.specs.Rules.{fits_type};
 ghost use Rattle.element_calls.specs.Answers.{IsComputed, IsOfServed, IsRefusedBefore};
 ghost use Rattle.element_calls.specs.Calls.{AsksElement, algorithm_asked, class_asked};
-ghost use Rattle.element_calls.specs.declared.calls.NotComputed.TheVariants as not;
+ghost use Rattle.element_calls.specs.declared.calls.NotComputed.TheVariants as uncomputed;
 
 use crate::filling::fill;
 use crate::{ElementCall, NotComputed};
@@ -31,7 +31,7 @@ pub fn compute<A: Devices>(
     ensures keys { A.keys devices.new ≡ A.keys devices.old }
     ensures locations { A.locations devices.new ≡ A.locations devices.old }
     ensures later { A.faults devices.old ≤ A.faults devices.new }
-    ensures failed { IsErrOf result not.Failed → Rose (A.faults devices.old) (A.faults devices.new) }
+    ensures failed { IsErrOf result uncomputed.Failed → Rose (A.faults devices.old) (A.faults devices.new) }
 {
     let needed = match call.check(out.len()) {
         Ok(needed) => needed,
