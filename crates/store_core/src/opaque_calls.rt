@@ -5,7 +5,7 @@ ghost use Rattle.psa_status.specs.Causes.{Rose};
 ghost use Rattle.store_model.specs.Store.{is_opaque_key};
 ghost use Rattle.element_calls.specs.Answers.{IsOfServed, IsRefusedBefore, mark_computed};
 ghost use Rattle.element_calls.specs.Calls.{AsksElement, model_call};
-ghost use Rattle.element_calls.specs.declared.calls.NotComputed.TheVariants as not;
+ghost use Rattle.element_calls.specs.declared.calls.NotComputed.TheVariants as uncomputed;
 ghost use Rattle.store_core.specs.Opaque.{IsAnswered, Makes};
 ghost use Rattle.store_core.specs.Represents.{HoldsOf, Stands};
 
@@ -46,7 +46,7 @@ impl<D: Disk, A: Devices, C: Admission> Store<D, A, C> {
             (model_call call.now id.0 (length out.old)) (mark_computed result) (IsAnswered (A.keys self.old.devices) id.0 call.now out.old out.new result) }
         ensures served { IsOfServed result → AsksElement call.now → Rose (A.served self.old.devices) (A.served self.new.devices) }
         ensures unasked { IsRefusedBefore result → self.new.devices ≡ self.old.devices }
-        ensures failed { IsErrOf result not.Failed → Rose (A.faults self.old.devices) (A.faults self.new.devices) }
+        ensures failed { IsErrOf result uncomputed.Failed → Rose (A.faults self.old.devices) (A.faults self.new.devices) }
         ensures file { self.new.file ≡ self.old.file }
         ensures slots { self.new.slots ≡ self.old.slots }
         ensures rules { self.new.rules ≡ self.old.rules }
