@@ -22,10 +22,18 @@ IsFillingOf slot i s = (i ≡ slot) × (s.state ≡ Filling)
 abbrev pub IsLastOf : (slot i : ℕ) → Slot → Type 0
 IsLastOf slot i s = (i ≡ slot) × (is_last s ≡ true)
 
--- it is empty, or has a persistent key that nobody reads
+-- a slot is empty, or has a persistent key that nobody reads
 abbrev pub IsEmptyOrIdle : Slot → Type 0
 IsEmptyOrIdle s = (is_empty_state s.state ≡ true) ⊎ (is_idle s ≡ true)
+
+-- it is this slot, and it can be taken for another key
+abbrev pub IsTakenOf : (slot i : ℕ) → Slot → Type 0
+IsTakenOf slot i s = (i ≡ slot) × IsEmptyOrIdle s
 
 -- it has the key of this identifier, which is persistent and which nobody reads
 abbrev pub IsIdleOf : (id : ℕ) → Slot → Type 0
 IsIdleOf id s = (holds_key id s ≡ true) × (is_idle s ≡ true)
+
+-- one slot at most ends, which could be taken for another key
+abbrev pub TakesOne : (old new : List Slot) → Type 0
+TakesOne old new = (slot : ℕ) × EndsOnly old new (IsTakenOf slot)

@@ -9,7 +9,7 @@ ghost use Rattle.store_model.specs.Store.{Key, Store};
 ghost use Rattle.store_model.specs.Sound.{HasNumber, IsSoundStore};
 ghost use Rattle.key_slots.specs.Holdings.{Pairs, Gains, named};
 ghost use Rattle.key_slots.specs.Standing.{Agrees, SlotHasKey, IsOut, IsThereOrNew, IsVolatileKey, Puts};
-ghost use Rattle.key_slots.specs.Wiping.{EndsOnly, IsEmptyOrIdle, IsFillingOf, IsIdleOf, IsLastOf};
+ghost use Rattle.key_slots.specs.Wiping.{EndsOnly, IsEmptyOrIdle, IsFillingOf, IsIdleOf, IsLastOf, IsTakenOf};
 
 use key_attributes::{Attributes, KeyId};
 use psa_status::Memory;
@@ -76,7 +76,7 @@ impl KeySlots {
         ensures gives { (store : Store) (all more : List Pairs) → Agrees self.old.table.slots store all → Gains all more (result.slot, 0) →
             Agrees self.new.table.slots store more }
         ensures fewer { (id : ℕ) → NoKey id self.old.table.slots → NoKey id self.new.table.slots }
-        ensures wipes { EndsOnly self.old.table.slots self.new.table.slots (λ i s. i ≡ result.slot) }
+        ensures wipes { EndsOnly self.old.table.slots self.new.table.slots (IsTakenOf result.slot) }
         ensures taken { IsEmptyOrIdle (slot_at self.old.table.slots result.slot) }
         ensures waiting { slot_at self.new.table.slots result.slot ≡ filling_slot }
     {
