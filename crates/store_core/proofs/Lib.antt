@@ -23,3 +23,4 @@ mod Openings
 mod Started
 mod ByElement
 mod Wiped
+mod Ending

@@ -10,6 +10,8 @@ ghost use Rattle.driver_dispatch.specs.Calls.{HoldsHandle, has_element};
 ghost use Rattle.key_cells.specs.Contents.{HasNoKey, IsFirstWithKey};
 ghost use Rattle.slot_states.specs.declared.SlotState.TheVariants.{Full};
 ghost use Rattle.slot_table.specs.Slots.{slot_at, holds_key};
+ghost use Rattle.slot_table.specs.Changes.{destroyed_slot};
+ghost use Rattle.key_slots.specs.Wiping.{EndsOnly};
 ghost use Rattle.store_model.specs.Store.{is_opaque};
 ghost use Rattle.store_model.specs.KeyUse.{destroy_rows};
 ghost use Rattle.store_model.specs.Faults.{Plain};
@@ -47,7 +49,8 @@ impl NotDestroyed {
 }
 
 impl<D: Disk, A: Devices, C: Admission> Store<D, A, C> {
-    /// Destroys a key. Destroying no key, by the identifier 0, succeeds. Ranked.
+    /// Destroys a key. Its slot is wiped where nobody reads it, and else waits for its last reader. Destroying no key, by the
+    /// identifier 0, succeeds. Ranked.
     pub fn destroy(&mut self, id: KeyId) -> Result<(), NotDestroyed>
         requires stands { Stands D.contents D.may_leave D.moment D.left_since D.faults A.keys A.faults A.locations C.labels self.old }
         requires size { D.size self.old.file.cells.disk ≡ 557120 }
@@ -57,6 +60,8 @@ impl<D: Disk, A: Devices, C: Admission> Store<D, A, C> {
             (λ m. first_row (destroy_rows (map.get m.keys id.0) id.0) ≡ None)) }
         ensures failed { IfErr result (λ why. Destroys D.contents D.may_leave D.moment D.left_since D.faults A.keys A.faults A.locations C.labels self.old self.new id.0 (mark_undestroyed why)
             (IsUndestroyed id.0 why)) }
+        ensures wipes { EndsOnly self.old.slots.table.slots self.new.slots.table.slots (λ i s. holds_key id.0 s ≡ true) }
+        ensures ended { (i : ℕ) → holds_key id.0 (slot_at self.old.slots.table.slots i) ≡ true → slot_at self.new.slots.table.slots i ≡ destroyed_slot (slot_at self.old.slots.table.slots i) }
         ensures buffer { self.new.buffer ≡ self.old.buffer }
         ensures opened { self.new.opened ≡ self.old.opened }
     {
@@ -74,6 +79,8 @@ impl<D: Disk, A: Devices, C: Admission> Store<D, A, C> {
             (λ m. first_row (destroy_rows (map.get m.keys id.0) id.0) ≡ None)) }
         ensures failed { IfErr result (λ why. Destroys D.contents D.may_leave D.moment D.left_since D.faults A.keys A.faults A.locations C.labels self.old (ranked_on self.new) id.0 (mark_undestroyed why)
             (IsUndestroyed id.0 why)) }
+        ensures wipes { EndsOnly self.old.slots.table.slots self.new.slots.table.slots (λ i s. holds_key id.0 s ≡ true) }
+        ensures ended { (i : ℕ) → holds_key id.0 (slot_at self.old.slots.table.slots i) ≡ true → slot_at self.new.slots.table.slots i ≡ destroyed_slot (slot_at self.old.slots.table.slots i) }
         ensures buffer { self.new.buffer ≡ self.old.buffer }
         ensures ranked { self.new.ranked ≡ self.old.ranked }
         ensures opened { self.new.opened ≡ self.old.opened }
@@ -100,6 +107,8 @@ impl<D: Disk, A: Devices, C: Admission> Store<D, A, C> {
             (λ m. first_row (destroy_rows (map.get m.keys id.0) id.0) ≡ None)) }
         ensures failed { IfErr result (λ why. Destroys D.contents D.may_leave D.moment D.left_since D.faults A.keys A.faults A.locations C.labels self.old (ranked_on self.new) id.0 (mark_undestroyed why)
             (IsUndestroyed id.0 why)) }
+        ensures wipes { EndsOnly self.old.slots.table.slots self.new.slots.table.slots (λ i s. holds_key id.0 s ≡ true) }
+        ensures ended { (i : ℕ) → holds_key id.0 (slot_at self.old.slots.table.slots i) ≡ true → slot_at self.new.slots.table.slots i ≡ destroyed_slot (slot_at self.old.slots.table.slots i) }
         ensures buffer { self.new.buffer ≡ self.old.buffer }
         ensures ranked { self.new.ranked ≡ self.old.ranked }
         ensures opened { self.new.opened ≡ self.old.opened }
@@ -128,6 +137,8 @@ impl<D: Disk, A: Devices, C: Admission> Store<D, A, C> {
             (λ m. first_row (destroy_rows (map.get m.keys id.0) id.0) ≡ None)) }
         ensures failed { IfErr result (λ why. Destroys D.contents D.may_leave D.moment D.left_since D.faults A.keys A.faults A.locations C.labels self.old (ranked_on self.new) id.0 (mark_undestroyed why)
             (IsUndestroyed id.0 why)) }
+        ensures wipes { EndsOnly self.old.slots.table.slots self.new.slots.table.slots (λ i s. holds_key id.0 s ≡ true) }
+        ensures ended { (i : ℕ) → holds_key id.0 (slot_at self.old.slots.table.slots i) ≡ true → slot_at self.new.slots.table.slots i ≡ destroyed_slot (slot_at self.old.slots.table.slots i) }
         ensures buffer { self.new.buffer ≡ self.old.buffer }
         ensures ranked { self.new.ranked ≡ self.old.ranked }
         ensures opened { self.new.opened ≡ self.old.opened }

@@ -98,6 +98,6 @@ returns-clause-unkept g c = rw c.in-Err-Disk.closed_first-is (λ start opening h
                 (subst (λ (f : MakeFault). Leads d.contents d.may_leave d.moment d.left_since old.file.cells.disk c.make.new.self.cells.disk old.file.cells.slots.items c.make.new.self.cells.slots.items keys doubt keys (doubt_unmade f a c.as_slice.result.now doubt)) c.in-Err-Disk.field-0-is (ensures.failed keys doubt stands));
             rose = ensures.cause closed failed;
           })
-          (c.give_up.ensures r.holds.model all less r.holds.slots gains) since is,
+          (c.give_up.ensures.takes r.holds.model all less r.holds.slots gains) since is,
       c.requires.persistent,
     ))

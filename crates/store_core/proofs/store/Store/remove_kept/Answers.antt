@@ -29,7 +29,7 @@ returns-in-Ok-clause-destroyed g c = λ start opening h all e s call is.
     let key = key_of_cell c.args.self.now.file.cells.slots.items m c.args.id.0 c.args.cell s.holds.directory within c.requires.there.here in (
       destroys_kept d.contents d.may_leave d.moment d.left_since d.faults v.keys v.faults v.locations g.C.Admission.labels g.met.D.Disk.only_now c.args.self.now start opening h all e c.args.id.0 call c.destroy-closed.new.self c.destroy.new.self Plain c.args.cell s
           (record { within = within; key = c.requires.there.here; sized = ensures.slots; missing = ensures.missing; tells = ensures.tells; leads = λ keys keys' doubt own stands there put. ensures.destroyed keys keys' doubt stands put })
-          c.destroy.ensures tt (λ service persistent. tt) is,
+          c.destroy.ensures.forgets tt (λ service persistent. tt) is,
       rows_there c.args.id.0 (map.get m.keys c.args.id.0) key.0 key.1,
     )
 
@@ -56,6 +56,6 @@ returns-in-Err-clause-failed g c = λ start opening h all e s call is.
             leads = λ keys keys' doubt own stands there put. subst (Leads d.contents d.may_leave d.moment d.left_since old.disk new.disk old.slots.items new.slots.items keys doubt keys') (undestroyed_doubt closed own doubt)
                 (ensures.failed keys keys' doubt own stands there put);
           })
-          c.destroy.ensures (subst (Rose (d.faults old.disk)) (sym is.disk_faults) ensures.cause.failed) (λ service persistent. persistent) is,
+          c.destroy.ensures.forgets (subst (Rose (d.faults old.disk)) (sym is.disk_faults) ensures.cause.failed) (λ service persistent. persistent) is,
       is_persistent (map.get m.keys c.args.id.0) key.0 key.1 key.2,
     )
