@@ -24,3 +24,4 @@ mod Started
 mod ByElement
 mod Wiped
 mod Ending
+mod Zeroed

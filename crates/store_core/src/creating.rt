@@ -17,6 +17,7 @@ ghost use Rattle.store_model.specs.Store.{Key, first_volatile, is_opaque, is_vol
 ghost use Rattle.store_model.specs.Creation.{identified, new_id};
 ghost use Rattle.store_model.specs.Faults.{Plain};
 ghost use Rattle.store_core.specs.Represents.{ranked_on};
+ghost use Rattle.store_core.specs.Zeros.{FileStaysZeros, StaysZeros};
 ghost use Rattle.store_core.specs.Creations.{Creates, Enters, HasOutBeside, HoldsLent, IsMade, IsSomeReady, IsUnkept, IsUnmade, RecordsStated, StandsLent, mark_unkept, mark_unmade, status_unkept, status_unmade};
 
 use crate::Store;
@@ -99,6 +100,7 @@ impl<D: Disk, A: Devices, C: Admission> Store<D, A, C> {
             (IsUnmade (RecordsStated (option_map (λ l. l.now) lease.entry) caller attributes.now (length bytes.now)) why)) }
         ensures wipes { EndsOnly self.old.slots.table.slots self.new.slots.table.slots (IsFillingOf filling.slot) }
         ensures emptied { OnErr result (slot_at self.new.slots.table.slots filling.slot ≡ empty_slot) }
+        ensures zeros { StaysZeros D.contents D.may_leave D.moment D.left_since D.faults A.keys A.faults A.locations C.labels self.old self.new }
         ensures opened { self.new.opened ≡ self.old.opened }
     {
         let made = self.make(caller, filling, attributes, bytes, lease);
@@ -130,6 +132,7 @@ impl<D: Disk, A: Devices, C: Admission> Store<D, A, C> {
             (IsUnmade (RecordsStated (option_map (λ l. l.now) lease.entry) caller attributes.now (length bytes.now)) why)) }
         ensures wipes { EndsOnly self.old.slots.table.slots self.new.slots.table.slots (IsFillingOf filling.slot) }
         ensures emptied { OnErr result (slot_at self.new.slots.table.slots filling.slot ≡ empty_slot) }
+        ensures zeros { FileStaysZeros D.contents D.may_leave D.moment D.left_since self.old.file self.new.file }
         ensures ranked { self.new.ranked ≡ self.old.ranked }
         ensures opened { self.new.opened ≡ self.old.opened }
     {
@@ -194,6 +197,7 @@ impl<D: Disk, A: Devices, C: Admission> Store<D, A, C> {
             (λ m. IsUnkept recorded why)) }
         ensures wipes { EndsOnly self.old.slots.table.slots self.new.slots.table.slots (IsFillingOf filling.slot) }
         ensures emptied { OnErr result (slot_at self.new.slots.table.slots filling.slot ≡ empty_slot) }
+        ensures zeros { FileStaysZeros D.contents D.may_leave D.moment D.left_since self.old.file self.new.file }
         ensures tells { StillTells (D.contents self.old.file.cells.disk) (D.contents self.new.file.cells.disk) }
         ensures ranked { self.new.ranked ≡ self.old.ranked }
         ensures opened { self.new.opened ≡ self.old.opened }
@@ -229,6 +233,7 @@ impl<D: Disk, A: Devices, C: Admission> Store<D, A, C> {
             (λ m. IsUnkept recorded why)) }
         ensures wipes { EndsOnly self.old.slots.table.slots self.new.slots.table.slots (IsFillingOf filling.slot) }
         ensures emptied { OnErr result (slot_at self.new.slots.table.slots filling.slot ≡ empty_slot) }
+        ensures zeros { FileStaysZeros D.contents D.may_leave D.moment D.left_since self.old.file self.new.file }
         ensures tells { StillTells (D.contents self.old.file.cells.disk) (D.contents self.new.file.cells.disk) }
         ensures ranked { self.new.ranked ≡ self.old.ranked }
         ensures opened { self.new.opened ≡ self.old.opened }
@@ -271,6 +276,7 @@ impl<D: Disk, A: Devices, C: Admission> Store<D, A, C> {
             (λ m. IsUnkept recorded why)) }
         ensures wipes { EndsOnly self.old.slots.table.slots self.new.slots.table.slots (IsFillingOf filling.slot) }
         ensures emptied { OnErr result (slot_at self.new.slots.table.slots filling.slot ≡ empty_slot) }
+        ensures zeros { FileStaysZeros D.contents D.may_leave D.moment D.left_since self.old.file self.new.file }
         ensures tells { StillTells (D.contents self.old.file.cells.disk) (D.contents self.new.file.cells.disk) }
         ensures ranked { self.new.ranked ≡ self.old.ranked }
         ensures opened { self.new.opened ≡ self.old.opened }

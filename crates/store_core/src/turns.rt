@@ -12,6 +12,7 @@ ghost use Rattle.store_model.specs.Sound.{HasNumber};
 ghost use Rattle.store_model.specs.Faults.{Plain};
 ghost use Rattle.store_core.specs.Represents.{Adds, AddsAs, Gives, HasOut, IsDirectory, Reads, Stands, Steps, Takes};
 ghost use Rattle.store_core.specs.Uses.{HasAttributes, IsRefused, mark_of, there_rows};
+ghost use Rattle.store_core.specs.Zeros.{StaysZeros};
 
 use crate::Store;
 use admission::Admission;
@@ -125,6 +126,7 @@ impl<D: Disk, A: Devices, C: Admission> Store<D, A, C> {
         ensures refused { IfErr result (λ status. Reads D.contents D.may_leave D.moment D.left_since D.faults A.keys A.faults A.locations C.labels self.old self.new id.0 (mark_of status)
             (IsRefused there_rows id.0 status)) }
         ensures wipes { TakesOne self.old.slots.table.slots self.new.slots.table.slots }
+        ensures zeros { StaysZeros D.contents D.may_leave D.moment D.left_since D.faults A.keys A.faults A.locations C.labels self.old self.new }
         ensures devices { self.new.devices ≡ self.old.devices }
         ensures opened { self.new.opened ≡ self.old.opened }
     {

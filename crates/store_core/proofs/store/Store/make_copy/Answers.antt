@@ -20,6 +20,7 @@ use Rattle.store_core.proofs.Refusing.{asks_for}
 use Rattle.store_core.proofs.Finishing.{rebuffered, refuses, since_later}
 use Rattle.store_core.proofs.CopyTurn.{reads_source, keeps, refused_here, material_of, ready, making, decided_here, either, uncopied}
 use Rattle.store_core.proofs.Ending.{copy_ends}
+use Rattle.store_core.proofs.Zeroed.{read_first}
 use Rattle.store_core.proofs.store.Store.make_copy.Goals as goal
 
 pub returns-in-Ok-made-clause-made : goal.returns-in-Ok-made-clause-made
@@ -177,3 +178,13 @@ returns-in-Err-decide_copy-clause-wipes g c =
 pub returns-in-Err-clause-wipes : goal.returns-in-Err-clause-wipes
 returns-in-Err-clause-wipes g c =
     copy_ends c.args.self.now.slots.table.slots c.bring.new.self.slots.table.slots c.give_up.new.self.table.slots c.args.filling.slot c.bring.ensures.wipes c.give_up.ensures.wipes
+
+pub returns-in-Ok-made-clause-zeros : goal.returns-in-Ok-made-clause-zeros
+returns-in-Ok-made-clause-zeros g c =
+    let d = g.D.Disk in
+    read_first d.contents d.may_leave d.moment d.left_since c.args.self.now.file c.bring.new.self.file c.create-made.new.self.file c.bring.ensures.directory c.bring.ensures.keeps c.create-made.ensures.zeros
+
+pub returns-in-Err-made-clause-zeros : goal.returns-in-Err-made-clause-zeros
+returns-in-Err-made-clause-zeros g c =
+    let d = g.D.Disk in
+    read_first d.contents d.may_leave d.moment d.left_since c.args.self.now.file c.bring.new.self.file c.create-made.new.self.file c.bring.ensures.directory c.bring.ensures.keeps c.create-made.ensures.zeros
