@@ -3,12 +3,13 @@ ghost use Rattle.std.specs.Prelude.{◌≡◌, ◌<◌, ◌≤◌, ◌-◌, ◌+
 ghost use Rattle.std.specs.FinMap as map;
 ghost use Rattle.secret_bytes.specs.Buffer.{IsClear, bytes_of};
 ghost use Rattle.slot_states.specs.declared.SlotState.TheVariants.{Full};
-ghost use Rattle.slot_table.specs.Slots.{empty_slot, slot_at, holds_key, is_idle, NoKey, CanReserve, IsLawful};
-ghost use Rattle.slot_table.specs.Changes.{full_slot};
+ghost use Rattle.slot_table.specs.Slots.{empty_slot, filling_slot, slot_at, holds_key, is_idle, is_last, NoKey, CanReserve, IsLawful};
+ghost use Rattle.slot_table.specs.Changes.{destroyed_slot, full_slot};
 ghost use Rattle.store_model.specs.Store.{Key, Store};
 ghost use Rattle.store_model.specs.Sound.{HasNumber, IsSoundStore};
 ghost use Rattle.key_slots.specs.Holdings.{Pairs, Gains, named};
 ghost use Rattle.key_slots.specs.Standing.{Agrees, SlotHasKey, IsOut, IsThereOrNew, IsVolatileKey, Puts};
+ghost use Rattle.key_slots.specs.Wiping.{EndsOnly, IsEmptyOrIdle, IsFillingOf, IsIdleOf, IsLastOf, IsTakenOf};
 
 use key_attributes::{Attributes, KeyId};
 use psa_status::Memory;
@@ -69,12 +70,15 @@ impl KeySlots {
         self.table.bytes(slot)
     }
 
-    /// Takes a slot for a key that is to come.
+    /// Takes a slot for a key that is to come: one that is empty, or has a persistent key which nobody reads. It is wiped.
     pub fn reserve(&mut self) -> Filling
         requires { CanReserve self.old.table.slots }
         ensures gives { (store : Store) (all more : List Pairs) → Agrees self.old.table.slots store all → Gains all more (result.slot, 0) →
             Agrees self.new.table.slots store more }
         ensures fewer { (id : ℕ) → NoKey id self.old.table.slots → NoKey id self.new.table.slots }
+        ensures wipes { EndsOnly self.old.table.slots self.new.table.slots (IsTakenOf result.slot) }
+        ensures taken { IsEmptyOrIdle (slot_at self.old.table.slots result.slot) }
+        ensures waiting { slot_at self.new.table.slots result.slot ≡ filling_slot }
     {
         self.table.reserve()
     }
@@ -82,8 +86,10 @@ impl KeySlots {
     /// Gives up a slot that waits for its key.
     pub fn give_up(&mut self, filling: Filling)
         requires { IsOut self.old.table.slots (filling.slot, 0) }
-        ensures { (store : Store) (all less : List Pairs) → Agrees self.old.table.slots store all → Gains less all (filling.slot, 0) →
+        ensures takes { (store : Store) (all less : List Pairs) → Agrees self.old.table.slots store all → Gains less all (filling.slot, 0) →
             Agrees self.new.table.slots store less }
+        ensures wipes { EndsOnly self.old.table.slots self.new.table.slots (IsFillingOf filling.slot) }
+        ensures emptied { slot_at self.new.table.slots filling.slot ≡ empty_slot }
     {
         self.table.drop_filling(filling);
     }
@@ -105,6 +111,7 @@ impl KeySlots {
         ensures takes { (old new : Store) (all less : List Pairs) (key : Key) → Agrees self.old.table.slots old all → Gains less all (filling.slot, 0) →
             Puts old new attributes.now.id.0 (Some key) → SlotHasKey (full_slot number attributes.now bytes.now) key → IsThereOrNew old attributes.now.id.0 key →
             Agrees self.new.table.slots new less }
+        ensures wipes { EndsOnly self.old.table.slots self.new.table.slots (IsFillingOf filling.slot) }
     {
         self.table.finish(filling, number, attributes, bytes)
     }
@@ -117,16 +124,19 @@ impl KeySlots {
         ensures lease { result ≡ record { slot = slot; creation = (slot_at self.old.table.slots slot).creation; buffer = (slot_at self.old.table.slots slot).buffer } }
         ensures gives { (store : Store) (all more : List Pairs) → Agrees self.old.table.slots store all → Gains all more (slot, result.creation + 1) →
             Agrees self.new.table.slots store more }
+        ensures wipes { EndsOnly self.old.table.slots self.new.table.slots (λ i s. ⊥) }
     {
         self.table.register(slot, spare)
     }
 
-    /// Takes a lease back, and answers the spare, which is clear.
+    /// Takes a lease back, and answers the spare, which is clear. The last lease of a destroyed key empties its slot.
     pub fn take_back(&mut self, lease: Lease) -> Secret
         requires { IsOut self.old.table.slots (lease.slot, lease.creation + 1) }
         ensures clear { IsClear result }
         ensures takes { (store : Store) (all less : List Pairs) → Agrees self.old.table.slots store all → Gains less all (lease.slot, lease.creation + 1) →
             Agrees self.new.table.slots store less }
+        ensures wipes { EndsOnly self.old.table.slots self.new.table.slots (IsLastOf lease.slot) }
+        ensures emptied { is_last (slot_at self.old.table.slots lease.slot) ≡ true → slot_at self.new.table.slots lease.slot ≡ empty_slot }
     {
         self.table.leave(lease)
     }
@@ -142,7 +152,9 @@ impl KeySlots {
 
     /// Forgets a key that was destroyed. Where it is read, its slot waits for its last reader.
     pub fn destroy(&mut self, id: KeyId)
-        ensures { (old new : Store) (all : List Pairs) → Agrees self.old.table.slots old all → IsSoundStore old → Puts old new id.0 None → Agrees self.new.table.slots new all }
+        ensures forgets { (old new : Store) (all : List Pairs) → Agrees self.old.table.slots old all → IsSoundStore old → Puts old new id.0 None → Agrees self.new.table.slots new all }
+        ensures wipes { EndsOnly self.old.table.slots self.new.table.slots (λ i s. holds_key id.0 s ≡ true) }
+        ensures ended { (i : ℕ) → holds_key id.0 (slot_at self.old.table.slots i) ≡ true → slot_at self.new.table.slots i ≡ destroyed_slot (slot_at self.old.table.slots i) }
     {
         if let Some(slot) = self.table.find(id) {
             self.table.mark(slot);
@@ -154,6 +166,8 @@ impl KeySlots {
         ensures stays { (store : Store) (all : List Pairs) → Agrees self.old.table.slots store all → Agrees self.new.table.slots store all }
         ensures wiped { (i : ℕ) → holds_key id.0 (slot_at self.new.table.slots i) ≡ true → is_idle (slot_at self.new.table.slots i) ≡ false }
         ensures others { (i : ℕ) → holds_key id.0 (slot_at self.old.table.slots i) ≡ false → slot_at self.new.table.slots i ≡ slot_at self.old.table.slots i }
+        ensures wipes { EndsOnly self.old.table.slots self.new.table.slots (λ i s. IsIdleOf id.0 s) }
+        ensures emptied { (i : ℕ) → IsIdleOf id.0 (slot_at self.old.table.slots i) → slot_at self.new.table.slots i ≡ empty_slot }
     {
         if let Some(slot) = self.table.find(id) {
             self.table.purge(slot);

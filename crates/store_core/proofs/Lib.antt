@@ -23,3 +23,5 @@ mod Openings
 mod Started
 mod ByElement
 mod Wiped
+mod Ending
+mod Zeroed

@@ -4,3 +4,4 @@ pub mod Start
 pub mod Uses
 pub mod Creations
 pub mod Opaque
+pub mod Zeros

@@ -1,15 +1,17 @@
 //! How a turn copies a key.
-ghost use Rattle.std.specs.Prelude.{◌≡◌, ◌<◌, ◌≤◌, ◌^◌, ℕ, Some, None, if◌then◌else◌, IfOk, IfErr};
+ghost use Rattle.std.specs.Prelude.{◌≡◌, ◌⊎◌, ◌<◌, ◌≤◌, ◌^◌, ℕ, Some, None, if◌then◌else◌, IfOk, IfErr, OnErr};
 ghost use Rattle.std.specs.FinMap as map;
 ghost use Rattle.secret_bytes.specs.Buffer.{IsClear};
 ghost use Rattle.slot_states.specs.declared.SlotState.TheVariants.{Full};
-ghost use Rattle.slot_table.specs.Slots.{slot_at};
+ghost use Rattle.slot_table.specs.Slots.{empty_slot, slot_at};
 ghost use Rattle.key_slots.specs.Standing.{SlotHasKey};
+ghost use Rattle.key_slots.specs.Wiping.{EndsOnly, IsFillingOf, IsTakenOf};
 ghost use Rattle.store_model.specs.Store as model;
 ghost use Rattle.store_model.specs.Store.{Key, is_opaque};
 ghost use Rattle.store_model.specs.Copies.{recorded_copy};
 ghost use Rattle.store_model.specs.Faults.{Plain};
 ghost use Rattle.store_core.specs.Represents.{HasOut, ranked_on};
+ghost use Rattle.store_core.specs.Zeros.{FileStaysZeros, StaysZeros};
 ghost use Rattle.store_core.specs.Creations.{Copies, HoldsWithin, IsMade, IsUncopied, RecordsCopy, mark_uncopied, status_uncopied};
 
 use crate::Store;
@@ -64,6 +66,9 @@ impl<D: Disk, A: Devices, C: Admission> Store<D, A, C> {
             (IsMade (RecordsCopy caller source.0 attributes.now) caller id.0)) }
         ensures uncopied { IfErr result (λ why. Copies D.contents D.may_leave D.moment D.left_since D.faults A.keys A.faults A.locations C.labels self.old self.new caller source.0 attributes.now (filling.slot, 0) (mark_uncopied why)
             (IsUncopied (RecordsCopy caller source.0 attributes.now) source.0 why)) }
+        ensures wipes { (slot : ℕ) × EndsOnly self.old.slots.table.slots self.new.slots.table.slots (λ i s. IsFillingOf filling.slot i s ⊎ IsTakenOf slot i s) }
+        ensures emptied { OnErr result (slot_at self.new.slots.table.slots filling.slot ≡ empty_slot) }
+        ensures zeros { StaysZeros D.contents D.may_leave D.moment D.left_since D.faults A.keys A.faults A.locations C.labels self.old self.new }
         ensures opened { self.new.opened ≡ self.old.opened }
     {
         let made = self.make_copy(caller, filling, source, attributes);
@@ -91,6 +96,9 @@ impl<D: Disk, A: Devices, C: Admission> Store<D, A, C> {
             (IsMade (RecordsCopy caller source.0 attributes.now) caller id.0)) }
         ensures uncopied { IfErr result (λ why. Copies D.contents D.may_leave D.moment D.left_since D.faults A.keys A.faults A.locations C.labels self.old (ranked_on self.new) caller source.0 attributes.now (filling.slot, 0) (mark_uncopied why)
             (IsUncopied (RecordsCopy caller source.0 attributes.now) source.0 why)) }
+        ensures wipes { (slot : ℕ) × EndsOnly self.old.slots.table.slots self.new.slots.table.slots (λ i s. IsFillingOf filling.slot i s ⊎ IsTakenOf slot i s) }
+        ensures emptied { OnErr result (slot_at self.new.slots.table.slots filling.slot ≡ empty_slot) }
+        ensures zeros { FileStaysZeros D.contents D.may_leave D.moment D.left_since self.old.file self.new.file }
         ensures ranked { self.new.ranked ≡ self.old.ranked }
         ensures opened { self.new.opened ≡ self.old.opened }
     {

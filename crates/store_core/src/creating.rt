@@ -1,5 +1,5 @@
 //! How a turn creates a key.
-ghost use Rattle.std.specs.Prelude.{◌≡◌, ◌<◌, ◌≤◌, ◌^◌, ◌+◌, ℕ, List, length, slice_index, slice_set, true, false, ⊤, Some, None, IfOk, IfErr, IfSome, OnOk, IsTrue};
+ghost use Rattle.std.specs.Prelude.{◌≡◌, ◌<◌, ◌≤◌, ◌^◌, ◌+◌, ℕ, List, length, slice_index, slice_set, true, false, ⊤, Some, None, IfOk, IfErr, IfSome, OnOk, OnErr, IsTrue};
 ghost use Rattle.std.specs.Option.{option_map};
 ghost use Rattle.psa_status.specs.Causes.{HasCause};
 ghost use Rattle.disk_face.specs.Disk.{StillTells};
@@ -7,15 +7,17 @@ ghost use Rattle.key_attributes.specs.Checks.{is_key_type, permits_size};
 ghost use Rattle.driver_dispatch.specs.Held.{with_copy, with_held_key};
 ghost use Rattle.driver_dispatch.specs.Calls.{Changes, HoldsHandle, Lacks, has_element};
 ghost use Rattle.secret_bytes.specs.Buffer.{IsClear, bytes_of};
-ghost use Rattle.slot_table.specs.Slots.{NoKey};
+ghost use Rattle.slot_table.specs.Slots.{NoKey, empty_slot, slot_at};
 ghost use Rattle.slot_table.specs.Changes.{full_slot};
 ghost use Rattle.key_slots.specs.Holdings.{Pairs, Gains};
 ghost use Rattle.key_slots.specs.Standing.{Agrees, IsOut, IsThereOrNew, Puts, SlotHasKey};
+ghost use Rattle.key_slots.specs.Wiping.{EndsOnly, IsFillingOf};
 ghost use Rattle.store_model.specs.Store as model;
 ghost use Rattle.store_model.specs.Store.{Key, first_volatile, is_opaque, is_volatile};
 ghost use Rattle.store_model.specs.Creation.{identified, new_id};
 ghost use Rattle.store_model.specs.Faults.{Plain};
 ghost use Rattle.store_core.specs.Represents.{ranked_on};
+ghost use Rattle.store_core.specs.Zeros.{FileStaysZeros, StaysZeros};
 ghost use Rattle.store_core.specs.Creations.{Creates, Enters, HasOutBeside, HoldsLent, IsMade, IsSomeReady, IsUnkept, IsUnmade, RecordsStated, StandsLent, mark_unkept, mark_unmade, status_unkept, status_unmade};
 
 use crate::Store;
@@ -96,6 +98,9 @@ impl<D: Disk, A: Devices, C: Admission> Store<D, A, C> {
         ensures unmade { IfErr result (λ why. Creates D.contents D.may_leave D.moment D.left_since D.faults A.keys A.faults A.locations C.labels self.old self.new caller (option_map (λ l. l.now) lease.entry)
             (RecordsStated (option_map (λ l. l.now) lease.entry) caller attributes.now (length bytes.now)) (λ m. bytes.now) (filling.slot, 0) (mark_unmade why)
             (IsUnmade (RecordsStated (option_map (λ l. l.now) lease.entry) caller attributes.now (length bytes.now)) why)) }
+        ensures wipes { EndsOnly self.old.slots.table.slots self.new.slots.table.slots (IsFillingOf filling.slot) }
+        ensures emptied { OnErr result (slot_at self.new.slots.table.slots filling.slot ≡ empty_slot) }
+        ensures zeros { StaysZeros D.contents D.may_leave D.moment D.left_since D.faults A.keys A.faults A.locations C.labels self.old self.new }
         ensures opened { self.new.opened ≡ self.old.opened }
     {
         let made = self.make(caller, filling, attributes, bytes, lease);
@@ -125,6 +130,9 @@ impl<D: Disk, A: Devices, C: Admission> Store<D, A, C> {
         ensures unmade { IfErr result (λ why. Creates D.contents D.may_leave D.moment D.left_since D.faults A.keys A.faults A.locations C.labels self.old (ranked_on self.new) caller (option_map (λ l. l.now) lease.entry)
             (RecordsStated (option_map (λ l. l.now) lease.entry) caller attributes.now (length bytes.now)) (λ m. bytes.now) (filling.slot, 0) (mark_unmade why)
             (IsUnmade (RecordsStated (option_map (λ l. l.now) lease.entry) caller attributes.now (length bytes.now)) why)) }
+        ensures wipes { EndsOnly self.old.slots.table.slots self.new.slots.table.slots (IsFillingOf filling.slot) }
+        ensures emptied { OnErr result (slot_at self.new.slots.table.slots filling.slot ≡ empty_slot) }
+        ensures zeros { FileStaysZeros D.contents D.may_leave D.moment D.left_since self.old.file self.new.file }
         ensures ranked { self.new.ranked ≡ self.old.ranked }
         ensures opened { self.new.opened ≡ self.old.opened }
     {
@@ -187,6 +195,9 @@ impl<D: Disk, A: Devices, C: Admission> Store<D, A, C> {
             (λ m. id.0 ≡ new_id m caller recorded)) }
         ensures unkept { IfErr result (λ why. Enters D.contents D.may_leave D.moment D.left_since D.faults A.keys A.faults A.locations C.labels self.old (ranked_on self.new) caller recorded source (filling.slot, 0) (mark_unkept why)
             (λ m. IsUnkept recorded why)) }
+        ensures wipes { EndsOnly self.old.slots.table.slots self.new.slots.table.slots (IsFillingOf filling.slot) }
+        ensures emptied { OnErr result (slot_at self.new.slots.table.slots filling.slot ≡ empty_slot) }
+        ensures zeros { FileStaysZeros D.contents D.may_leave D.moment D.left_since self.old.file self.new.file }
         ensures tells { StillTells (D.contents self.old.file.cells.disk) (D.contents self.new.file.cells.disk) }
         ensures ranked { self.new.ranked ≡ self.old.ranked }
         ensures opened { self.new.opened ≡ self.old.opened }
@@ -220,6 +231,9 @@ impl<D: Disk, A: Devices, C: Admission> Store<D, A, C> {
             (λ m. id.0 ≡ new_id m caller recorded)) }
         ensures unkept { IfErr result (λ why. Enters D.contents D.may_leave D.moment D.left_since D.faults A.keys A.faults A.locations C.labels self.old (ranked_on self.new) caller recorded source (filling.slot, 0) (mark_unkept why)
             (λ m. IsUnkept recorded why)) }
+        ensures wipes { EndsOnly self.old.slots.table.slots self.new.slots.table.slots (IsFillingOf filling.slot) }
+        ensures emptied { OnErr result (slot_at self.new.slots.table.slots filling.slot ≡ empty_slot) }
+        ensures zeros { FileStaysZeros D.contents D.may_leave D.moment D.left_since self.old.file self.new.file }
         ensures tells { StillTells (D.contents self.old.file.cells.disk) (D.contents self.new.file.cells.disk) }
         ensures ranked { self.new.ranked ≡ self.old.ranked }
         ensures opened { self.new.opened ≡ self.old.opened }
@@ -260,6 +274,9 @@ impl<D: Disk, A: Devices, C: Admission> Store<D, A, C> {
             (λ m. id.0 ≡ new_id m caller recorded)) }
         ensures unkept { IfErr result (λ why. Enters D.contents D.may_leave D.moment D.left_since D.faults A.keys A.faults A.locations C.labels self.old (ranked_on self.new) caller recorded source (filling.slot, 0) (mark_unkept why)
             (λ m. IsUnkept recorded why)) }
+        ensures wipes { EndsOnly self.old.slots.table.slots self.new.slots.table.slots (IsFillingOf filling.slot) }
+        ensures emptied { OnErr result (slot_at self.new.slots.table.slots filling.slot ≡ empty_slot) }
+        ensures zeros { FileStaysZeros D.contents D.may_leave D.moment D.left_since self.old.file self.new.file }
         ensures tells { StillTells (D.contents self.old.file.cells.disk) (D.contents self.new.file.cells.disk) }
         ensures ranked { self.new.ranked ≡ self.old.ranked }
         ensures opened { self.new.opened ≡ self.old.opened }
@@ -294,6 +311,7 @@ impl<D: Disk, A: Devices, C: Admission> Store<D, A, C> {
         ensures sized { length self.old.live ≡ 17 }
         ensures fills { (old new : model.Store) (all less : List Pairs) (key : Key) → Agrees self.old.slots.table.slots old all → Gains less all (filling.slot, 0) →
             Puts old new result.0 (Some key) → SlotHasKey (full_slot number (identified recorded result.0) (bytes_of self.old.buffer)) key → IsThereOrNew old result.0 key → Agrees self.new.slots.table.slots new less }
+        ensures wipes { EndsOnly self.old.slots.table.slots self.new.slots.table.slots (IsFillingOf filling.slot) }
         ensures rest { self.new ≡ record self.old {
           slots = self.new.slots;
           made = slice_set self.old.made caller (slice_index self.old.made caller + 1);

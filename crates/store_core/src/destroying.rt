@@ -7,14 +7,18 @@ ghost use Rattle.psa_status.specs.Causes.{HasCause};
 ghost use Rattle.psa_status.specs.Rows.{first_row};
 ghost use Rattle.driver_dispatch.specs.Held.{without_key};
 ghost use Rattle.driver_dispatch.specs.Calls.{HoldsHandle, has_element};
-ghost use Rattle.key_cells.specs.Contents.{HasNoKey, IsFirstWithKey};
+ghost use Rattle.key_cells.specs.declared.slot.Slot.TheVariants.{Free};
+ghost use Rattle.key_cells.specs.Contents.{HasNoKey, IsFirstWithKey, cell_slot, has_id};
 ghost use Rattle.slot_states.specs.declared.SlotState.TheVariants.{Full};
 ghost use Rattle.slot_table.specs.Slots.{slot_at, holds_key};
+ghost use Rattle.slot_table.specs.Changes.{destroyed_slot};
+ghost use Rattle.key_slots.specs.Wiping.{EndsOnly};
 ghost use Rattle.store_model.specs.Store.{is_opaque};
 ghost use Rattle.store_model.specs.KeyUse.{destroy_rows};
 ghost use Rattle.store_model.specs.Faults.{Plain};
 ghost use Rattle.store_core.specs.Represents.{Destroys, Stands, ranked_on};
 ghost use Rattle.store_core.specs.Uses.{mark_undestroyed, status_undestroyed, IsUndestroyed};
+ghost use Rattle.store_core.specs.Zeros.{FileStaysZeros, StaysZeros};
 
 use crate::Store;
 use admission::Admission;
@@ -47,7 +51,8 @@ impl NotDestroyed {
 }
 
 impl<D: Disk, A: Devices, C: Admission> Store<D, A, C> {
-    /// Destroys a key. Destroying no key, by the identifier 0, succeeds. Ranked.
+    /// Destroys a key. Its slot is wiped where nobody reads it, and else waits for its last reader. On success its cell is free,
+    /// and so all zeros. Destroying no key, by the identifier 0, succeeds. Ranked.
     pub fn destroy(&mut self, id: KeyId) -> Result<(), NotDestroyed>
         requires stands { Stands D.contents D.may_leave D.moment D.left_since D.faults A.keys A.faults A.locations C.labels self.old }
         requires size { D.size self.old.file.cells.disk ≡ 557120 }
@@ -57,6 +62,10 @@ impl<D: Disk, A: Devices, C: Admission> Store<D, A, C> {
             (λ m. first_row (destroy_rows (map.get m.keys id.0) id.0) ≡ None)) }
         ensures failed { IfErr result (λ why. Destroys D.contents D.may_leave D.moment D.left_since D.faults A.keys A.faults A.locations C.labels self.old self.new id.0 (mark_undestroyed why)
             (IsUndestroyed id.0 why)) }
+        ensures wipes { EndsOnly self.old.slots.table.slots self.new.slots.table.slots (λ i s. holds_key id.0 s ≡ true) }
+        ensures ended { (i : ℕ) → holds_key id.0 (slot_at self.old.slots.table.slots i) ≡ true → slot_at self.new.slots.table.slots i ≡ destroyed_slot (slot_at self.old.slots.table.slots i) }
+        ensures freed { OnOk result ((cell : ℕ) → cell < 512 → has_id id.0 (cell_slot self.old.file.cells.slots.items cell) ≡ true → cell_slot self.new.file.cells.slots.items cell ≡ Free) }
+        ensures zeros { StaysZeros D.contents D.may_leave D.moment D.left_since D.faults A.keys A.faults A.locations C.labels self.old self.new }
         ensures buffer { self.new.buffer ≡ self.old.buffer }
         ensures opened { self.new.opened ≡ self.old.opened }
     {
@@ -74,6 +83,10 @@ impl<D: Disk, A: Devices, C: Admission> Store<D, A, C> {
             (λ m. first_row (destroy_rows (map.get m.keys id.0) id.0) ≡ None)) }
         ensures failed { IfErr result (λ why. Destroys D.contents D.may_leave D.moment D.left_since D.faults A.keys A.faults A.locations C.labels self.old (ranked_on self.new) id.0 (mark_undestroyed why)
             (IsUndestroyed id.0 why)) }
+        ensures wipes { EndsOnly self.old.slots.table.slots self.new.slots.table.slots (λ i s. holds_key id.0 s ≡ true) }
+        ensures ended { (i : ℕ) → holds_key id.0 (slot_at self.old.slots.table.slots i) ≡ true → slot_at self.new.slots.table.slots i ≡ destroyed_slot (slot_at self.old.slots.table.slots i) }
+        ensures freed { OnOk result ((cell : ℕ) → cell < 512 → has_id id.0 (cell_slot self.old.file.cells.slots.items cell) ≡ true → cell_slot self.new.file.cells.slots.items cell ≡ Free) }
+        ensures zeros { FileStaysZeros D.contents D.may_leave D.moment D.left_since self.old.file self.new.file }
         ensures buffer { self.new.buffer ≡ self.old.buffer }
         ensures ranked { self.new.ranked ≡ self.old.ranked }
         ensures opened { self.new.opened ≡ self.old.opened }
@@ -100,6 +113,10 @@ impl<D: Disk, A: Devices, C: Admission> Store<D, A, C> {
             (λ m. first_row (destroy_rows (map.get m.keys id.0) id.0) ≡ None)) }
         ensures failed { IfErr result (λ why. Destroys D.contents D.may_leave D.moment D.left_since D.faults A.keys A.faults A.locations C.labels self.old (ranked_on self.new) id.0 (mark_undestroyed why)
             (IsUndestroyed id.0 why)) }
+        ensures wipes { EndsOnly self.old.slots.table.slots self.new.slots.table.slots (λ i s. holds_key id.0 s ≡ true) }
+        ensures ended { (i : ℕ) → holds_key id.0 (slot_at self.old.slots.table.slots i) ≡ true → slot_at self.new.slots.table.slots i ≡ destroyed_slot (slot_at self.old.slots.table.slots i) }
+        ensures freed { OnOk result ((cell : ℕ) → cell < 512 → has_id id.0 (cell_slot self.old.file.cells.slots.items cell) ≡ true → cell_slot self.new.file.cells.slots.items cell ≡ Free) }
+        ensures zeros { FileStaysZeros D.contents D.may_leave D.moment D.left_since self.old.file self.new.file }
         ensures buffer { self.new.buffer ≡ self.old.buffer }
         ensures ranked { self.new.ranked ≡ self.old.ranked }
         ensures opened { self.new.opened ≡ self.old.opened }
@@ -128,6 +145,9 @@ impl<D: Disk, A: Devices, C: Admission> Store<D, A, C> {
             (λ m. first_row (destroy_rows (map.get m.keys id.0) id.0) ≡ None)) }
         ensures failed { IfErr result (λ why. Destroys D.contents D.may_leave D.moment D.left_since D.faults A.keys A.faults A.locations C.labels self.old (ranked_on self.new) id.0 (mark_undestroyed why)
             (IsUndestroyed id.0 why)) }
+        ensures wipes { EndsOnly self.old.slots.table.slots self.new.slots.table.slots (λ i s. holds_key id.0 s ≡ true) }
+        ensures ended { (i : ℕ) → holds_key id.0 (slot_at self.old.slots.table.slots i) ≡ true → slot_at self.new.slots.table.slots i ≡ destroyed_slot (slot_at self.old.slots.table.slots i) }
+        ensures file { self.new.file ≡ self.old.file }
         ensures buffer { self.new.buffer ≡ self.old.buffer }
         ensures ranked { self.new.ranked ≡ self.old.ranked }
         ensures opened { self.new.opened ≡ self.old.opened }

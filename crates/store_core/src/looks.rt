@@ -1,9 +1,11 @@
 //! The turn that lends a key.
 ghost use Rattle.std.specs.Prelude.{◌≡◌, ◌<◌, ◌^◌, ◌+◌, IfOk, IfErr};
 ghost use Rattle.secret_bytes.specs.Buffer.{IsClear, bytes_of};
+ghost use Rattle.key_slots.specs.Wiping.{TakesOne};
 ghost use Rattle.key_uses.specs.Uses.{FitsUse, use_refusal};
 ghost use Rattle.store_core.specs.Represents.{Reads, ReadsAndGives, Stands};
 ghost use Rattle.store_core.specs.Uses.{IsLent, IsRefused, mark_of};
+ghost use Rattle.store_core.specs.Zeros.{StaysZeros};
 
 use crate::Store;
 use admission::Admission;
@@ -38,6 +40,8 @@ impl<D: Disk, A: Devices, C: Admission> Store<D, A, C> {
         ensures refused { IfErr result (λ refused. Reads D.contents D.may_leave D.moment D.left_since D.faults A.keys A.faults A.locations C.labels self.old self.new id.0 (mark_of refused.0)
             (IsRefused (use_refusal wanted) id.0 refused.0)) }
         ensures spare { IfErr result (λ refused. IsClear refused.1) }
+        ensures wipes { TakesOne self.old.slots.table.slots self.new.slots.table.slots }
+        ensures zeros { StaysZeros D.contents D.may_leave D.moment D.left_since D.faults A.keys A.faults A.locations C.labels self.old self.new }
         ensures devices { self.new.devices ≡ self.old.devices }
         ensures opened { self.new.opened ≡ self.old.opened }
     {

@@ -4,8 +4,10 @@ ghost use Rattle.std.specs.FinMap as map;
 ghost use Rattle.secret_bytes.specs.Buffer.{IsClear};
 ghost use Rattle.psa_status.specs.Causes.{Rose};
 ghost use Rattle.key_cells.specs.Contents.{IsFirstWithKey};
+ghost use Rattle.key_file.specs.Files.{Doubt, Keys, Leads, StandsForKeys};
 ghost use Rattle.slot_states.specs.declared.SlotState.TheVariants.{Full};
 ghost use Rattle.slot_table.specs.Slots.{slot_at, NoKey};
+ghost use Rattle.key_slots.specs.Wiping.{TakesOne};
 ghost use Rattle.store_model.specs.Store.{is_persistent_key};
 ghost use Rattle.store_core.specs.Represents.{Brings, Stands};
 ghost use Rattle.store_core.specs.Uses.{IsBrought, status_of};
@@ -60,6 +62,10 @@ impl<D: Disk, A: Devices, C: Admission> Store<D, A, C> {
         ensures corrupt { IsErrOf result unread.Corrupt → is_some (D.contents self.new.file.cells.disk) ≡ false }
         ensures same { D.contents self.new.file.cells.disk ≡ D.contents self.old.file.cells.disk }
         ensures later { D.faults self.old.file.cells.disk ≤ D.faults self.new.file.cells.disk }
+        ensures wipes { TakesOne self.old.slots.table.slots self.new.slots.table.slots }
+        ensures directory { self.new.file.cells.slots ≡ self.old.file.cells.slots }
+        ensures keeps { (keys : Keys) (doubt : Doubt) → StandsForKeys D.contents D.may_leave self.old.file.cells.disk self.old.file.cells.slots.items keys doubt →
+            Leads D.contents D.may_leave D.moment D.left_since self.old.file.cells.disk self.new.file.cells.disk self.old.file.cells.slots.items self.new.file.cells.slots.items keys doubt keys doubt }
         ensures devices { self.new.devices ≡ self.old.devices }
         ensures rules { self.new.rules ≡ self.old.rules }
         ensures made { self.new.made ≡ self.old.made }
@@ -96,6 +102,10 @@ impl<D: Disk, A: Devices, C: Admission> Store<D, A, C> {
         ensures corrupt { IsErrOf result unread.Corrupt → is_some (D.contents self.new.file.cells.disk) ≡ false }
         ensures same { D.contents self.new.file.cells.disk ≡ D.contents self.old.file.cells.disk }
         ensures later { D.faults self.old.file.cells.disk ≤ D.faults self.new.file.cells.disk }
+        ensures wipes { TakesOne self.old.slots.table.slots self.new.slots.table.slots }
+        ensures directory { self.new.file.cells.slots ≡ self.old.file.cells.slots }
+        ensures keeps { (keys : Keys) (doubt : Doubt) → StandsForKeys D.contents D.may_leave self.old.file.cells.disk self.old.file.cells.slots.items keys doubt →
+            Leads D.contents D.may_leave D.moment D.left_since self.old.file.cells.disk self.new.file.cells.disk self.old.file.cells.slots.items self.new.file.cells.slots.items keys doubt keys doubt }
         ensures devices { self.new.devices ≡ self.old.devices }
         ensures rules { self.new.rules ≡ self.old.rules }
         ensures made { self.new.made ≡ self.old.made }

@@ -3,14 +3,16 @@ ghost use Rattle.std.specs.Prelude.{◌≡◌, ◌<◌, ◌^◌, ◌+◌, ℕ, L
 ghost use Rattle.std.specs.FinMap as map;
 ghost use Rattle.psa_status.specs.declared.Status.TheVariants.{InvalidHandle};
 ghost use Rattle.secret_bytes.specs.Buffer.{IsClear};
-ghost use Rattle.slot_table.specs.Slots.{holds_key, is_idle, slot_at};
+ghost use Rattle.slot_table.specs.Slots.{empty_slot, filling_slot, holds_key, is_idle, is_last, slot_at};
 ghost use Rattle.key_slots.specs.Holdings.{Pairs};
 ghost use Rattle.key_slots.specs.Standing.{Agrees};
+ghost use Rattle.key_slots.specs.Wiping.{EndsOnly, IsEmptyOrIdle, IsFillingOf, IsIdleOf, IsLastOf, IsTakenOf, TakesOne};
 ghost use Rattle.store_model.specs.Store as model;
 ghost use Rattle.store_model.specs.Sound.{HasNumber};
 ghost use Rattle.store_model.specs.Faults.{Plain};
 ghost use Rattle.store_core.specs.Represents.{Adds, AddsAs, Gives, HasOut, IsDirectory, Reads, Stands, Steps, Takes};
 ghost use Rattle.store_core.specs.Uses.{HasAttributes, IsRefused, mark_of, there_rows};
+ghost use Rattle.store_core.specs.Zeros.{StaysZeros};
 
 use crate::Store;
 use admission::Admission;
@@ -22,10 +24,14 @@ use secret_bytes::Secret;
 use slot_table::{Filling, Lease};
 
 impl<D: Disk, A: Devices, C: Admission> Store<D, A, C> {
-    /// Takes a slot for a key that is to be made. There always is one. No rank.
+    /// Takes a slot for a key that is to be made, and wipes it: one that is empty, or has a persistent key which nobody reads.
+    /// There always is one. No rank.
     pub fn reserve(&mut self) -> Filling
         requires stands { Stands D.contents D.may_leave D.moment D.left_since D.faults A.keys A.faults A.locations C.labels self.old }
         ensures gives { Gives D.contents D.may_leave D.moment D.left_since D.faults A.keys A.faults A.locations C.labels self.old self.new (result.slot, 0) }
+        ensures wipes { EndsOnly self.old.slots.table.slots self.new.slots.table.slots (IsTakenOf result.slot) }
+        ensures taken { IsEmptyOrIdle (slot_at self.old.slots.table.slots result.slot) }
+        ensures waiting { slot_at self.new.slots.table.slots result.slot ≡ filling_slot }
         ensures file { self.new.file ≡ self.old.file }
         ensures devices { self.new.devices ≡ self.old.devices }
         ensures buffer { self.new.buffer ≡ self.old.buffer }
@@ -38,6 +44,8 @@ impl<D: Disk, A: Devices, C: Admission> Store<D, A, C> {
     pub fn give_up(&mut self, filling: Filling)
         requires out { HasOut D.contents D.may_leave D.moment D.left_since D.faults A.keys A.faults A.locations C.labels self.old (filling.slot, 0) }
         ensures takes { Takes D.contents D.may_leave D.moment D.left_since D.faults A.keys A.faults A.locations C.labels self.old self.new (filling.slot, 0) }
+        ensures wipes { EndsOnly self.old.slots.table.slots self.new.slots.table.slots (IsFillingOf filling.slot) }
+        ensures emptied { slot_at self.new.slots.table.slots filling.slot ≡ empty_slot }
         ensures file { self.new.file ≡ self.old.file }
         ensures devices { self.new.devices ≡ self.old.devices }
         ensures buffer { self.new.buffer ≡ self.old.buffer }
@@ -46,11 +54,13 @@ impl<D: Disk, A: Devices, C: Admission> Store<D, A, C> {
         self.slots.give_up(filling);
     }
 
-    /// Takes a lease back, and answers its spare, which is clear. No rank.
+    /// Takes a lease back, and answers its spare, which is clear. The last lease of a destroyed key wipes its slot. No rank.
     pub fn leave(&mut self, lease: Lease) -> Secret
         requires out { HasOut D.contents D.may_leave D.moment D.left_since D.faults A.keys A.faults A.locations C.labels self.old (lease.slot, lease.creation + 1) }
         ensures takes { Takes D.contents D.may_leave D.moment D.left_since D.faults A.keys A.faults A.locations C.labels self.old self.new (lease.slot, lease.creation + 1) }
         ensures clear { IsClear result }
+        ensures wipes { EndsOnly self.old.slots.table.slots self.new.slots.table.slots (IsLastOf lease.slot) }
+        ensures emptied { is_last (slot_at self.old.slots.table.slots lease.slot) ≡ true → slot_at self.new.slots.table.slots lease.slot ≡ empty_slot }
         ensures file { self.new.file ≡ self.old.file }
         ensures devices { self.new.devices ≡ self.old.devices }
         ensures buffer { self.new.buffer ≡ self.old.buffer }
@@ -70,6 +80,7 @@ impl<D: Disk, A: Devices, C: Admission> Store<D, A, C> {
     pub fn count(&mut self)
         requires few { self.old.ranked < 2 ^ 62 }
         ensures adds { Adds D.contents D.may_leave D.moment D.left_since D.faults A.keys A.faults A.locations C.labels self.old self.new }
+        ensures slots { self.new.slots ≡ self.old.slots }
         ensures file { self.new.file ≡ self.old.file }
         ensures devices { self.new.devices ≡ self.old.devices }
         ensures buffer { self.new.buffer ≡ self.old.buffer }
@@ -88,6 +99,7 @@ impl<D: Disk, A: Devices, C: Admission> Store<D, A, C> {
         ensures gone { OnErr result (Steps D.contents D.may_leave D.moment D.left_since D.faults A.keys A.faults A.locations C.labels self.old self.new (lease.now.slot, lease.now.creation + 1)
             (λ m. HasNumber m lease.now.creation → ⊥)) }
         ensures status { IfErr result (λ status. status ≡ InvalidHandle) }
+        ensures slots { self.new.slots ≡ self.old.slots }
         ensures file { self.new.file ≡ self.old.file }
         ensures devices { self.new.devices ≡ self.old.devices }
         ensures buffer { self.new.buffer ≡ self.old.buffer }
@@ -113,6 +125,8 @@ impl<D: Disk, A: Devices, C: Admission> Store<D, A, C> {
             (HasAttributes id.0 attributes)) }
         ensures refused { IfErr result (λ status. Reads D.contents D.may_leave D.moment D.left_since D.faults A.keys A.faults A.locations C.labels self.old self.new id.0 (mark_of status)
             (IsRefused there_rows id.0 status)) }
+        ensures wipes { TakesOne self.old.slots.table.slots self.new.slots.table.slots }
+        ensures zeros { StaysZeros D.contents D.may_leave D.moment D.left_since D.faults A.keys A.faults A.locations C.labels self.old self.new }
         ensures devices { self.new.devices ≡ self.old.devices }
         ensures opened { self.new.opened ≡ self.old.opened }
     {
@@ -146,6 +160,8 @@ impl<D: Disk, A: Devices, C: Admission> Store<D, A, C> {
         ensures missing { IfErr result (λ status. (status ≡ InvalidHandle) × AddsAs D.contents D.may_leave D.moment D.left_since D.faults A.keys A.faults A.locations C.labels self.old self.new
             (λ m. there_rows (map.get m.keys id.0) ≡ Some status)) }
         ensures wiped { OnOk result ((i : ℕ) → holds_key id.0 (slot_at self.new.slots.table.slots i) ≡ true → is_idle (slot_at self.new.slots.table.slots i) ≡ false) }
+        ensures wipes { EndsOnly self.old.slots.table.slots self.new.slots.table.slots (λ i s. IsIdleOf id.0 s) }
+        ensures emptied { OnOk result ((i : ℕ) → IsIdleOf id.0 (slot_at self.old.slots.table.slots i) → slot_at self.new.slots.table.slots i ≡ empty_slot) }
         ensures file { self.new.file ≡ self.old.file }
         ensures devices { self.new.devices ≡ self.old.devices }
         ensures buffer { self.new.buffer ≡ self.old.buffer }

@@ -110,6 +110,6 @@ returns-in-Err-clause-unkept g c = λ start opening h all less e r since gains l
     let volatile = c.requires.volatile in
     let ensures = c.in-Err.ensures in (
       fails_volatile d.contents d.may_leave d.moment d.left_since d.faults v.keys v.faults v.locations g.C.Admission.labels old caller a c.args.source start opening h all e r first last volatile g.met.D.Disk.only_now c.give.new.devices c.give_up.new.self old.buffer less making law c.requires.opaque ensures.locations
-          (is_either d.contents d.may_leave d.moment d.left_since d.faults v.keys v.faults v.locations g.C.Admission.labels old caller a c.args.source start opening h all e r first last volatile (v.keys c.give.new.devices) c.as_slice.result.now c.as_slice.ensures.list ensures.given ensures.copied) ensures.cause.failed (c.give_up.ensures r.holds.model all less r.holds.slots gains) since is,
+          (is_either d.contents d.may_leave d.moment d.left_since d.faults v.keys v.faults v.locations g.C.Admission.labels old caller a c.args.source start opening h all e r first last volatile (v.keys c.give.new.devices) c.as_slice.result.now c.as_slice.ensures.list ensures.given ensures.copied) ensures.cause.failed (c.give_up.ensures.takes r.holds.model all less r.holds.slots gains) since is,
       c.requires.opaque,
     )

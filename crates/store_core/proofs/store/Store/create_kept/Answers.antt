@@ -9,6 +9,8 @@ use Rattle.key_slots.specs.Standing.{SlotHasKey}
 use Rattle.store_model.specs.Creation.{created, new_id, new_key}
 use Rattle.store_core.proofs.MakesKept.{ready_key, ready_cells, ready_slots, ready_room, stated_puts, stated_new, stated_fills, ready_may, makes_kept, fails_kept}
 use Rattle.store_core.proofs.Added.{stated_here}
+use Rattle.std.proofs.Common.{refl}
+use Rattle.store_core.proofs.Zeroed.{keys_put}
 use Rattle.store_core.proofs.store.Store.create_kept.Goals as goal
 
 pub make-requires-clause-key : goal.make-requires-clause-key
@@ -98,6 +100,14 @@ returns-clause-unkept g c = rw c.in-Err-Disk.closed_first-is (λ start opening h
                 (subst (λ (f : MakeFault). Leads d.contents d.may_leave d.moment d.left_since old.file.cells.disk c.make.new.self.cells.disk old.file.cells.slots.items c.make.new.self.cells.slots.items keys doubt keys (doubt_unmade f a c.as_slice.result.now doubt)) c.in-Err-Disk.field-0-is (ensures.failed keys doubt stands));
             rose = ensures.cause closed failed;
           })
-          (c.give_up.ensures r.holds.model all less r.holds.slots gains) since is,
+          (c.give_up.ensures.takes r.holds.model all less r.holds.slots gains) since is,
       c.requires.persistent,
     ))
+
+pub returns-in-Ok-clause-zeros : goal.returns-in-Ok-clause-zeros
+returns-in-Ok-clause-zeros g c = λ keys doubt stands.
+    let key = stored (c.args.self.now.found + c.args.self.now.ranked) c.args.recorded c.as_slice.result.now in
+    (c.in-Ok.ensures.made keys (keys_put keys c.args.recorded.id.0 (Some key)) doubt stands (λ other. refl)).zeros
+
+pub returns-clause-zeros : goal.returns-clause-zeros
+returns-clause-zeros g c = λ keys doubt stands. (c.in-Err-Disk.ensures.failed keys doubt stands).zeros

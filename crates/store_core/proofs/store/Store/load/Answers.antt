@@ -11,6 +11,7 @@ use Rattle.store_model.specs.Store.{is_persistent_key}
 use Rattle.store_core.specs.Durability.{durable_keys, course_of}
 use Rattle.store_core.proofs.Kept.{key_of_cell, is_persistent}
 use Rattle.store_core.proofs.Loading.{IsLoaded, brings, loads, filled_has, stays_put, gains_one}
+use Rattle.store_core.proofs.Ending.{load_ends}
 use Rattle.store_core.proofs.store.Store.load.Goals as goal
 
 pub reserve-filling-requires : goal.reserve-filling-requires
@@ -86,7 +87,7 @@ returns-in-Disk-clause-unread g c = λ failed start opening h all e s is.
     brings d.contents d.may_leave d.moment d.left_since d.faults v.keys v.faults v.locations g.C.Admission.labels old c.load.new.self c.give_up.new.self c.load.new.out start opening h all e
     (λ n. is_persistent_key (map.get n.keys c.args.id.0) ≡ true)
     (record { same = c.load.ensures.same; slots = c.load.ensures.slots; keeps = c.load.ensures.keeps }) s.holds
-    (c.give_up.ensures m more all (c.reserve-filling.ensures.gives m all more s.holds.slots gains) gains) (is_persistent (map.get m.keys c.args.id.0) key.0 key.1 key.2)
+    (c.give_up.ensures.takes m more all (c.reserve-filling.ensures.gives m all more s.holds.slots gains) gains) (is_persistent (map.get m.keys c.args.id.0) key.0 key.1 key.2)
 
 pub returns-in-Corrupt-clause-unread : goal.returns-in-Corrupt-clause-unread
 returns-in-Corrupt-clause-unread g c = λ failed start opening h all e s is.
@@ -103,4 +104,19 @@ returns-in-Corrupt-clause-unread g c = λ failed start opening h all e s is.
     brings d.contents d.may_leave d.moment d.left_since d.faults v.keys v.faults v.locations g.C.Admission.labels old c.load.new.self c.give_up.new.self c.load.new.out start opening h all e
     (λ n. is_persistent_key (map.get n.keys c.args.id.0) ≡ true)
     (record { same = c.load.ensures.same; slots = c.load.ensures.slots; keeps = c.load.ensures.keeps }) s.holds
-    (c.give_up.ensures m more all (c.reserve-filling.ensures.gives m all more s.holds.slots gains) gains) (is_persistent (map.get m.keys c.args.id.0) key.0 key.1 key.2)
+    (c.give_up.ensures.takes m more all (c.reserve-filling.ensures.gives m all more s.holds.slots gains) gains) (is_persistent (map.get m.keys c.args.id.0) key.0 key.1 key.2)
+
+pub returns-in-Ok-clause-wipes : goal.returns-in-Ok-clause-wipes
+returns-in-Ok-clause-wipes g c =
+    let taken = c.reserve-filling.ensures in
+    load_ends c.args.self.now.slots.table.slots c.reserve-filling.new.self.table.slots c.fill-slot.new.self.table.slots c.reserve-filling.result.slot taken.taken taken.wipes c.fill-slot.ensures.wipes
+
+pub returns-in-Disk-clause-wipes : goal.returns-in-Disk-clause-wipes
+returns-in-Disk-clause-wipes g c =
+    let taken = c.reserve-filling.ensures in
+    load_ends c.args.self.now.slots.table.slots c.reserve-filling.new.self.table.slots c.give_up.new.self.table.slots c.reserve-filling.result.slot taken.taken taken.wipes c.give_up.ensures.wipes
+
+pub returns-in-Corrupt-clause-wipes : goal.returns-in-Corrupt-clause-wipes
+returns-in-Corrupt-clause-wipes g c =
+    let taken = c.reserve-filling.ensures in
+    load_ends c.args.self.now.slots.table.slots c.reserve-filling.new.self.table.slots c.give_up.new.self.table.slots c.reserve-filling.result.slot taken.taken taken.wipes c.give_up.ensures.wipes

@@ -11,6 +11,7 @@ use Rattle.key_uses.proofs.Refusals.{missing}
 use Rattle.store_core.specs.Uses.{IsLent}
 use Rattle.store_core.proofs.Lending.{has_bytes, sized}
 use Rattle.store_core.proofs.Refusing.{asks_for, ends_found, ends_refused, ends_unread, few_readers, use_plain}
+use Rattle.store_core.proofs.Ending.{look_ends}
 use Rattle.store_core.proofs.store.Store.look.Goals as goal
 
 pub lend-requires-clause-few : goal.lend-requires-clause-few
@@ -63,3 +64,7 @@ returns-in-Err-clause-refused g c = rw c.status.ensures (λ start opening h all 
     let b = c.in-Err.ensures in
     ends_unread d.contents d.may_leave d.moment d.left_since d.faults v.keys v.faults v.locations g.C.Admission.labels g.met.D.Disk.only_now c.args.self.now c.bring-brought.new.self start opening h all e c.args.id.0
     (use_refusal c.args.wanted) c.in-Err.unread (missing c.args.wanted) b.same s is (λ why. b.missing why start opening h all e s is.reads) (λ why. b.unread why start opening h all e s is.reads) b.disk b.corrupt turn)
+
+pub returns-in-Ok-check-clause-wipes : goal.returns-in-Ok-check-clause-wipes
+returns-in-Ok-check-clause-wipes g c =
+    look_ends c.args.self.now.slots.table.slots c.bring-brought.new.self.slots.table.slots c.lend.new.self.table.slots c.bring-brought.ensures.wipes c.lend.ensures.wipes

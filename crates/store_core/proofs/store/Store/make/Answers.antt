@@ -100,6 +100,6 @@ returns-in-Err-clause-unmade g c = λ start opening h all less e s lent gains la
     let records = c.in-Err.ensures.value start opening h all e n.0 lent in (
       refuses d.contents d.may_leave d.moment d.left_since d.faults v.keys v.faults v.locations g.C.Admission.labels g.met.D.Disk.only_now old c.give_up.new.self start opening h all less e creating.keeps status n.0
           (refused_at d.contents d.may_leave d.moment d.left_since d.faults v.keys v.faults v.locations g.C.Admission.labels old start h e caller (RecordsStated leased caller c.args.attributes.now (length bytes)) (λ m. bytes) n.0.model status creating n.0.replayed records)
-          (subst (λ (m : model.Store). Agrees c.give_up.new.self.table.slots m less) (sym n.1) (c.give_up.ensures s.holds.model all less s.holds.slots gains)) law is,
+          (subst (λ (m : model.Store). Agrees c.give_up.new.self.table.slots m less) (sym n.1) (c.give_up.ensures.takes s.holds.model all less s.holds.slots gains)) law is,
       subst (λ (m : model.Store). RecordsStated leased caller c.args.attributes.now (length bytes) m (Err status)) n.1 records,
     )

@@ -19,6 +19,8 @@ use Rattle.store_core.proofs.Holding.{IsTurn, with_buffer}
 use Rattle.store_core.proofs.Refusing.{asks_for}
 use Rattle.store_core.proofs.Finishing.{rebuffered, refuses, since_later}
 use Rattle.store_core.proofs.CopyTurn.{reads_source, keeps, refused_here, material_of, ready, making, decided_here, either, uncopied}
+use Rattle.store_core.proofs.Ending.{copy_ends}
+use Rattle.store_core.proofs.Zeroed.{read_first}
 use Rattle.store_core.proofs.store.Store.make_copy.Goals as goal
 
 pub returns-in-Ok-made-clause-made : goal.returns-in-Ok-made-clause-made
@@ -103,7 +105,7 @@ returns-in-Err-decide_copy-clause-uncopied g c = λ start opening h all less e s
     let status = c.in-Err-decide_copy.status in
     let decided = ap (λ (o : Option Key). recorded_copy n.model caller o stated) there ∙ sym (c.in-Err-decide_copy.ensures.value start opening h all e n source key there has) in (
       refuses d.contents d.may_leave d.moment d.left_since d.faults v.keys v.faults v.locations g.C.Admission.labels g.met.D.Disk.only_now mid c.give_up-in-Err-decide_copy.new.self start opening h all less e (keeps e caller source stated by call) status n (refused_here e caller source stated by call d.contents d.may_leave d.moment d.left_since d.faults v.keys v.faults v.locations g.C.Admission.labels mid start opening h all n status decided)
-          (c.give_up-in-Err-decide_copy.ensures n.model all less n.slots gains) law is,
+          (c.give_up-in-Err-decide_copy.ensures.takes n.model all less n.slots gains) law is,
       n.model,
       n.replayed,
       sym decided,
@@ -118,7 +120,7 @@ returns-in-Err-clause-uncopied g c = λ start opening h all less e s gains law b
     let source = c.args.source.0 in
     let b = c.in-Err.ensures in
     let reads = reads_source e c.args.caller source c.args.attributes.now by call (replay start h) in
-    uncopied d.contents d.may_leave d.moment d.left_since d.faults v.keys v.faults v.locations g.C.Admission.labels g.met.D.Disk.only_now old mid c.give_up.new.self start opening h all less e c.args.caller source c.args.attributes.now by call s (λ m agrees. c.give_up.ensures m all less agrees gains) law c.in-Err.why
+    uncopied d.contents d.may_leave d.moment d.left_since d.faults v.keys v.faults v.locations g.C.Admission.labels g.met.D.Disk.only_now old mid c.give_up.new.self start opening h all less e c.args.caller source c.args.attributes.now by call s (λ m agrees. c.give_up.ensures.takes m all less agrees gains) law c.in-Err.why
     (λ why. b.missing why start opening h all e s (λ k. reads)) (λ why. b.unread why start opening h all e s (λ k. reads)) b.disk b.corrupt is
 
 pub give_up-requires : goal.give_up-requires
@@ -160,3 +162,29 @@ create-made-requires-clause-ready g c = λ κs lives.
     let r = subst (λ (o : Option ℕ). IsReady d.contents d.may_leave d.moment d.left_since d.faults v.keys v.faults v.locations g.C.Admission.labels (record mid { buffer = buffer }) caller a o own.0 own.1 own.2 own.3 e) (sym c.held_number-held.ensures)
     (ready e caller source stated refl refl d.contents d.may_leave d.moment d.left_since d.faults v.keys v.faults v.locations g.C.Admission.labels mid own.0 own.1 own.2 own.3 n slot key there has a decided buffer full) in
     (own.0, own.1, own.2, own.3, e, r, own.5)
+
+pub returns-in-Ok-made-clause-wipes : goal.returns-in-Ok-made-clause-wipes
+returns-in-Ok-made-clause-wipes g c =
+    copy_ends c.args.self.now.slots.table.slots c.bring.new.self.slots.table.slots c.create-made.new.self.slots.table.slots c.args.filling.slot c.bring.ensures.wipes c.create-made.ensures.wipes
+
+pub returns-in-Err-made-clause-wipes : goal.returns-in-Err-made-clause-wipes
+returns-in-Err-made-clause-wipes g c =
+    copy_ends c.args.self.now.slots.table.slots c.bring.new.self.slots.table.slots c.create-made.new.self.slots.table.slots c.args.filling.slot c.bring.ensures.wipes c.create-made.ensures.wipes
+
+pub returns-in-Err-decide_copy-clause-wipes : goal.returns-in-Err-decide_copy-clause-wipes
+returns-in-Err-decide_copy-clause-wipes g c =
+    copy_ends c.args.self.now.slots.table.slots c.bring.new.self.slots.table.slots c.give_up-in-Err-decide_copy.new.self.table.slots c.args.filling.slot c.bring.ensures.wipes c.give_up-in-Err-decide_copy.ensures.wipes
+
+pub returns-in-Err-clause-wipes : goal.returns-in-Err-clause-wipes
+returns-in-Err-clause-wipes g c =
+    copy_ends c.args.self.now.slots.table.slots c.bring.new.self.slots.table.slots c.give_up.new.self.table.slots c.args.filling.slot c.bring.ensures.wipes c.give_up.ensures.wipes
+
+pub returns-in-Ok-made-clause-zeros : goal.returns-in-Ok-made-clause-zeros
+returns-in-Ok-made-clause-zeros g c =
+    let d = g.D.Disk in
+    read_first d.contents d.may_leave d.moment d.left_since c.args.self.now.file c.bring.new.self.file c.create-made.new.self.file c.bring.ensures.directory c.bring.ensures.keeps c.create-made.ensures.zeros
+
+pub returns-in-Err-made-clause-zeros : goal.returns-in-Err-made-clause-zeros
+returns-in-Err-made-clause-zeros g c =
+    let d = g.D.Disk in
+    read_first d.contents d.may_leave d.moment d.left_since c.args.self.now.file c.bring.new.self.file c.create-made.new.self.file c.bring.ensures.directory c.bring.ensures.keeps c.create-made.ensures.zeros

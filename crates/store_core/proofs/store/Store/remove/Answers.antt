@@ -1,6 +1,8 @@
 use Rattle.std.specs.FinMap as map
 use Rattle.store_core.proofs.Kept.{no_key}
 use Rattle.store_core.proofs.Destroyed.{nothing, none_at_zero, rows_zero, rows_missing}
+use Rattle.store_core.proofs.Ending.{lacks_key}
+use Rattle.store_core.proofs.Zeroed.{lacks_cell}
 use Rattle.store_core.proofs.store.Store.remove.Goals as goal
 
 pub returns-then-id-eq0-clause-destroyed : goal.returns-then-id-eq0-clause-destroyed
@@ -22,3 +24,14 @@ returns-in_default-find-clause-failed g c = λ start opening h all e s call is.
       nothing d.contents d.may_leave d.moment d.left_since d.faults v.keys v.faults v.locations g.C.Admission.labels g.met.D.Disk.only_now c.args.self.now start opening h all e c.args.id.0 call s none is,
       rows_missing c.args.id.0 (map.get m.keys c.args.id.0) c.if-id-eq0.false none,
     )
+
+pub returns-then-id-eq0-clause-ended : goal.returns-then-id-eq0-clause-ended
+returns-then-id-eq0-clause-ended g c = λ i has.
+    let slots = c.args.self.now.slots in
+    let s = c.requires.stands.4.holds in
+    absurd (lacks_key slots.table s.model c.requires.stands.3 c.args.id.0 slots.lawful s.slots (none_at_zero s.model c.args.id.0 s.sound c.if-id-eq0.true) i has)
+
+pub returns-then-id-eq0-clause-freed : goal.returns-then-id-eq0-clause-freed
+returns-then-id-eq0-clause-freed g c = λ cell within has.
+    let s = c.requires.stands.4.holds in
+    absurd (lacks_cell c.args.self.now.file.cells.slots.items s.model c.args.id.0 s.directory (none_at_zero s.model c.args.id.0 s.sound c.if-id-eq0.true) cell within has)

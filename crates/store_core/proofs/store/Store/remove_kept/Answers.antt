@@ -5,6 +5,9 @@ use Rattle.key_file.specs.Files.{Leads}
 use Rattle.store_model.specs.Faults.{Plain, Storage, Writing}
 use Rattle.store_core.proofs.Kept.{key_of_cell, is_persistent}
 use Rattle.store_core.proofs.Destroyed.{destroys_kept, fewer_kept, rows_there, undestroyed_doubt}
+use Rattle.std.proofs.Common.{refl, None}
+use Rattle.key_file.proofs.Leading as file
+use Rattle.store_core.proofs.Zeroed.{keys_put, freed}
 use Rattle.store_core.proofs.store.Store.remove_kept.Goals as goal
 
 pub overflow_sub-self : goal.overflow_sub-self
@@ -29,7 +32,7 @@ returns-in-Ok-clause-destroyed g c = λ start opening h all e s call is.
     let key = key_of_cell c.args.self.now.file.cells.slots.items m c.args.id.0 c.args.cell s.holds.directory within c.requires.there.here in (
       destroys_kept d.contents d.may_leave d.moment d.left_since d.faults v.keys v.faults v.locations g.C.Admission.labels g.met.D.Disk.only_now c.args.self.now start opening h all e c.args.id.0 call c.destroy-closed.new.self c.destroy.new.self Plain c.args.cell s
           (record { within = within; key = c.requires.there.here; sized = ensures.slots; missing = ensures.missing; tells = ensures.tells; leads = λ keys keys' doubt own stands there put. ensures.destroyed keys keys' doubt stands put })
-          c.destroy.ensures tt (λ service persistent. tt) is,
+          c.destroy.ensures.forgets tt (λ service persistent. tt) is,
       rows_there c.args.id.0 (map.get m.keys c.args.id.0) key.0 key.1,
     )
 
@@ -56,6 +59,25 @@ returns-in-Err-clause-failed g c = λ start opening h all e s call is.
             leads = λ keys keys' doubt own stands there put. subst (Leads d.contents d.may_leave d.moment d.left_since old.disk new.disk old.slots.items new.slots.items keys doubt keys') (undestroyed_doubt closed own doubt)
                 (ensures.failed keys keys' doubt own stands there put);
           })
-          c.destroy.ensures (subst (Rose (d.faults old.disk)) (sym is.disk_faults) ensures.cause.failed) (λ service persistent. persistent) is,
+          c.destroy.ensures.forgets (subst (Rose (d.faults old.disk)) (sym is.disk_faults) ensures.cause.failed) (λ service persistent. persistent) is,
       is_persistent (map.get m.keys c.args.id.0) key.0 key.1 key.2,
     )
+
+pub returns-in-Ok-clause-zeros : goal.returns-in-Ok-clause-zeros
+returns-in-Ok-clause-zeros g c = λ keys doubt stands. (c.in-Ok.ensures.destroyed keys (keys_put keys c.args.id.0 None) doubt stands (λ other. refl)).zeros
+
+pub returns-in-Err-clause-zeros : goal.returns-in-Err-clause-zeros
+returns-in-Err-clause-zeros g c = λ keys doubt stands.
+    let d = g.D.Disk in
+    let old = c.args.self.now.file.cells in
+    let sized = c.requires.stands.4.holds.directory.sized in
+    let there = c.requires.there.within in
+    let k = file.key_of_cell d.contents d.may_leave d.moment d.left_since old.disk old.slots.items keys doubt c.args.id.0 c.args.cell (omega arith) c.requires.there.here stands in
+    (c.in-Err.ensures.failed keys (keys_put keys c.args.id.0 None) doubt k.0 stands k.1 (λ other. refl)).zeros
+
+pub returns-in-Ok-clause-freed : goal.returns-in-Ok-clause-freed
+returns-in-Ok-clause-freed g c =
+    let s = c.requires.stands.4.holds in
+    let sized = s.directory.sized in
+    let there = c.requires.there.within in
+    freed c.args.self.now.file.cells.slots.items c.destroy-closed.new.self.cells.slots.items s.model c.args.id.0 c.args.cell s.directory (omega arith) c.requires.there.here c.in-Ok.ensures.gone

@@ -1,0 +1,61 @@
+-- Cells that stay zeros over the calls of a turn.
+use Rattle.std.proofs.Common.{◌≡◌, ◌∙◌, ℕ, ◌<◌, ◌==◌, cond, true, List, Option, None, Some, length, refl, sym, ap, subst, set}
+use Rattle.std.proofs.lemmas.Bool.{false≢true, eqb-true}
+use Rattle.std.proofs.lemmas.List.{get_or-set_same, length-map}
+use Rattle.disk_face.proofs.Moments.{within_both}
+use Rattle.key_cells.specs.declared.slot.Slot as cell
+use Rattle.key_cells.specs.declared.slot.Slot.TheVariants.{Free, Open, Shut, Unsure}
+use Rattle.key_cells.specs.Contents.{HasZeros, cell_slot, has_id, settled_slot, settled_slots}
+use Rattle.key_file.specs.declared.file.KeyFile.{KeyFile}
+use Rattle.key_file.specs.Files.{Stored, Keys, Doubt, StandsForKeys, Leads}
+use Rattle.key_file.proofs.Leading.{stays}
+use Rattle.std.specs.FinMap as finmap
+use Rattle.store_model.specs.Store as model
+use Rattle.store_model.specs.Store.{Key}
+use Rattle.store_core.specs.Represents.{IsDirectory}
+use Rattle.store_core.specs.Zeros.{FileStaysZeros}
+
+-- keys with another at one identifier
+abbrev pub keys_put : Keys → ℕ → Option Stored → Keys
+keys_put keys id key = λ other. cond (other == id) key (keys other)
+
+module _ {D : Type 0} (told : D → Option (List ℕ)) (may_leave : D → List ℕ → Type 0) (moment : D → ℕ) (left_since : D → ℕ → List ℕ → Type 0) where
+  -- no call
+  pub uncalled : (file : KeyFile D) → FileStaysZeros told may_leave moment left_since file file
+  uncalled file = λ keys doubt s. (stays told may_leave moment left_since file.cells.disk file.cells.slots.items keys keys doubt (λ id. refl) s).zeros
+
+  -- a file that was read, and then changed
+  pub read_first : (old mid new : KeyFile D) → mid.cells.slots ≡ old.cells.slots →
+      ((keys : Keys) (doubt : Doubt) → StandsForKeys told may_leave old.cells.disk old.cells.slots.items keys doubt → Leads told may_leave moment left_since old.cells.disk mid.cells.disk old.cells.slots.items mid.cells.slots.items keys doubt keys doubt) →
+      FileStaysZeros told may_leave moment left_since mid new → FileStaysZeros told may_leave moment left_since old new
+  read_first old mid new same keeps then = λ keys doubt s c lt free still.
+      let read = keeps keys doubt s in
+      let between : cell_slot mid.cells.slots.items c ≡ Free = ap (λ (d : _). cell_slot d.items c) same ∙ free in
+      within_both (moment old.cells.disk) (moment mid.cells.disk) (moment new.cells.disk) (left_since old.cells.disk) (left_since mid.cells.disk) (left_since new.cells.disk) (HasZeros c) (HasZeros c) (HasZeros c)
+      (read.zeros c lt free between) (then keys doubt read.stands c lt between still) (λ image z. z) (λ image z. z)
+
+-- a cell that has an identifier is open
+open_of : (id : ℕ) (slot : cell.Slot) → has_id id slot ≡ true → (number : ℕ) × (slot ≡ Open id number)
+open_of id Free has = absurd (false≢true has)
+open_of id (Open own number) has = (number, ap (λ (n : ℕ). Open n number) (eqb-true own id has))
+open_of id Shut has = absurd (false≢true has)
+open_of id Unsure has = absurd (false≢true has)
+
+-- the cells that have a destroyed key's identifier are free
+pub freed : (slots slots' : List cell.Slot) (m : model.Store) (id at : ℕ) → IsDirectory slots m → at < 512 → has_id id (cell_slot slots at) ≡ true → slots' ≡ set (settled_slots slots) at Free →
+    (c : ℕ) → c < 512 → has_id id (cell_slot slots c) ≡ true → cell_slot slots' c ≡ Free
+freed slots slots' m id at d within has gone c lt had =
+    let a = open_of id (cell_slot slots at) has in
+    let o = open_of id (cell_slot slots c) had in
+    let same : c ≡ at = d.one c at id o.0 a.0 lt within o.1 a.1 in
+    let long : at < length (settled_slots slots) = subst (λ n. at < n) (sym (length-map slots settled_slot ∙ d.sized)) within in
+    ap (λ ss. cell_slot ss c) gone ∙ (ap (cell_slot (set (settled_slots slots) at Free)) same ∙ get_or-set_same (settled_slots slots) at Free Free long)
+
+-- and no cell has an identifier that the model lacks
+pub lacks_cell : (slots : List cell.Slot) (m : model.Store) (id : ℕ) → IsDirectory slots m → finmap.get m.keys id ≡ None → (c : ℕ) → c < 512 → has_id id (cell_slot slots c) ≡ true → ⊥
+lacks_cell slots m id d none c lt has =
+    let o = open_of id (cell_slot slots c) has in
+    let k = d.only c id o.0 lt o.1 in
+    apart k.0 (sym none ∙ k.1) where
+      apart : (key : Key) → None ≡ Some key → ⊥
+      apart key same = cc

@@ -1,0 +1,29 @@
+-- What stays zeros: the cells that are free.
+use Rattle.std.specs.Prelude.{◌≡◌, ◌<◌, ℕ, true, List, Option, is_some}
+use Rattle.disk_face.specs.Moments.{Within}
+use Rattle.key_cells.specs.declared.slot.Slot.TheVariants.{Free}
+use Rattle.key_cells.specs.Contents.{HasZeros, cell_slot}
+use Rattle.key_file.specs.declared.file.KeyFile.{KeyFile}
+use Rattle.key_file.specs.Files.{Keys, Doubt, StandsForKeys}
+use Rattle.key_slots.specs.Holdings.{Pairs}
+use Rattle.policy_rules.specs.declared.narrowing.Label.{Label}
+use Rattle.driver_dispatch.specs.Held.{HeldKeys}
+use Rattle.store_model.specs.Handles.{Service}
+use Rattle.store_model.specs.Replay.{Entry}
+use Rattle.store_core.specs.declared.store.Store.{Store}
+use Rattle.store_core.specs.Represents.{Opening, StandsFor}
+
+-- a cell that is free before calls and after them is all zeros in every image that a crash within them leaves
+abbrev pub LeavesZeros : {D : Type 0} (moment : D → ℕ) (left_since : D → ℕ → List ℕ → Type 0) (old new : KeyFile D) → Type 0
+LeavesZeros moment left_since old new = (cell : ℕ) → cell < 512 → cell_slot old.cells.slots.items cell ≡ Free → cell_slot new.cells.slots.items cell ≡ Free →
+    Within (moment old.cells.disk) (moment new.cells.disk) (left_since old.cells.disk) (left_since new.cells.disk) (HasZeros cell)
+
+-- so it is in a file that stands for some keys
+abbrev pub FileStaysZeros : {D : Type 0} (told : D → Option (List ℕ)) (may_leave : D → List ℕ → Type 0) (moment : D → ℕ) (left_since : D → ℕ → List ℕ → Type 0) (old new : KeyFile D) → Type 0
+FileStaysZeros told may_leave moment left_since old new = (keys : Keys) (doubt : Doubt) → StandsForKeys told may_leave old.cells.disk old.cells.slots.items keys doubt → LeavesZeros moment left_since old new
+
+-- and in the file of a store that stands for some history, where the disk tells its bytes
+abbrev pub StaysZeros : {D A C : Type 0} (told : D → Option (List ℕ)) (may_leave : D → List ℕ → Type 0) (moment : D → ℕ) (left_since : D → ℕ → List ℕ → Type 0)
+    (faults : D → ℕ) (held : A → Option HeldKeys) (hard : A → ℕ) (locations : A → List ℕ) (labels : C → List Label) (old new : Store D A C) → Type 0
+StaysZeros told may_leave moment left_since faults held hard locations labels old new = (start : Service) (opening : Opening) (h : List Entry) (all : List Pairs) →
+    StandsFor told may_leave moment left_since faults held hard locations labels old start opening h all → is_some (told old.file.cells.disk) ≡ true → LeavesZeros moment left_since old.file new.file
