@@ -1,0 +1,123 @@
+// What is done with a store over a disk in memory, and how often.
+ghost use Rattle.std.specs.Prelude.{◌≡◌, ◌≤◌, Some};
+ghost use Rattle.driver_dispatch.specs.Held.{no_keys};
+
+use admission::{Admission, Rules};
+use disk_face::{Disk, Fails, MemoryDisk};
+use driver_dispatch::{Devices, Drivers};
+use key_attributes::{Attributes, KeyId, KeyType, Lifetime, Policy, Usage};
+use std::alloc::Global;
+use store_trials::Keeper;
+
+const KEY: [u8; 32] = [0xa5; 32];
+
+// The attributes of a persistent key that may be exported.
+fn exportable(id: u32) -> Attributes {
+    Attributes {
+        lifetime: Lifetime(1),
+        id: KeyId(id),
+        key_type: KeyType::RAW_DATA,
+        bits: 0,
+        policy: Policy {
+            usage: Usage::EXPORT,
+            alg: 0,
+        },
+    }
+}
+
+/// What is done with a store, once it is opened.
+#[derive(Clone, Copy, Debug, PartialEq, Eq, Drop)]
+pub enum Task {
+    /// Nothing more.
+    Open,
+    /// Making 512 keys.
+    Fill,
+    /// Exporting the keys from 1 to 600, where they are there.
+    ExportAll,
+    /// Exporting the last key so often, which is in memory after the first time.
+    Look { turns: usize },
+    /// Exporting it so often, from the file each time.
+    Load { turns: usize },
+}
+
+// The store of a disk over devices that hold no key.
+fn opened<A: Devices, C: Admission>(
+    alloc: Global,
+    disk: MemoryDisk,
+    devices: A,
+    rules: C,
+) -> Option<Keeper<MemoryDisk, A, C>>
+    requires { A.keys devices ≡ Some no_keys }
+{
+    Keeper::open(alloc, disk, devices, rules).ok()
+}
+
+fn fill<D: Disk, A: Devices, C: Admission>(store: &mut Keeper<D, A, C>) -> Option<u32> {
+    for id in 1..513u32 {
+        store.import(&exportable(id), &KEY)?.ok()?;
+    }
+    Some(512)
+}
+
+fn export_all<D: Disk, A: Devices, C: Admission>(store: &mut Keeper<D, A, C>) -> u32
+    ensures { result ≤ 600 }
+{
+    let mut exported = 0;
+    for id in 1..601u32 {
+        if store.gives(KeyId(id), &KEY) == Some(Ok(true)) {
+            exported += 1;
+        }
+    }
+    exported
+}
+
+// How many keys there were at the last turn: one, or none where a turn found none.
+fn export<D: Disk, A: Devices, C: Admission>(
+    store: &mut Keeper<D, A, C>,
+    turns: usize,
+    purged: bool,
+) -> Option<u32> {
+    'exports: for _ in 0..turns {
+        if purged {
+            store.purge(KeyId(512))?.ok()?;
+        }
+        if !store.gives(KeyId(512), &KEY)?.ok()? {
+            return None;
+        }
+    }
+    Some(1)
+}
+
+fn done<A: Devices, C: Admission>(
+    alloc: Global,
+    disk: MemoryDisk,
+    task: Task,
+    devices: A,
+    rules: C,
+) -> Option<(u32, MemoryDisk)>
+    requires { A.keys devices ≡ Some no_keys }
+{
+    let mut store = opened(alloc, disk, devices, rules)?;
+    let keys = match task {
+        Task::Open => 0,
+        Task::Fill => fill(&mut store)?,
+        Task::ExportAll => export_all(&mut store),
+        Task::Look { turns } => export(&mut store, turns, false)?,
+        Task::Load { turns } => export(&mut store, turns, true)?,
+    };
+    Some((keys, store.into_disk()))
+}
+
+/// Opens the store of a disk without devices and rules, does this with it, and hands the disk back. How many keys it had to do
+/// with. `None` where a call is refused.
+pub fn do_task(alloc: Global, disk: MemoryDisk, task: Task) -> Option<(u32, MemoryDisk)> {
+    let rules = Rules::pick(Vec::new(alloc), &[]);
+    done(alloc, disk, task, Drivers::new(Vec::new(alloc)), rules)
+}
+
+/// The disk of a store of 512 keys.
+pub fn full_disk(alloc: Global) -> Option<MemoryDisk> {
+    let disk = MemoryDisk::new(alloc, Vec::new(alloc), Fails::From(u64::MAX)).ok()?;
+    let (_made, disk) = do_task(alloc, disk, Task::Fill)?;
+    Some(disk)
+}
