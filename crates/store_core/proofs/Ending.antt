@@ -1,15 +1,16 @@
 -- Which slots the calls within a turn end.
-use Rattle.std.proofs.Common.{◌≡◌, ◌⊎◌, ℕ, List, true, Some, None, inl, inr, sym, subst, ◌∙◌, arith}
+use Rattle.std.proofs.Common.{◌≡◌, ◌⊎◌, ⊎_elim, ℕ, List, true, Some, None, inl, inr, ap, sym, subst, ◌∙◌, arith}
 use Rattle.std.specs.FinMap as map
-use Rattle.slot_table.specs.Slots.{Slot, Table, slot_at, holds_key, IsLawful}
+use Rattle.slot_table.specs.Slots.{Slot, Table, empty_slot, slot_at, holds_key, IsLawful, IsLawfulSlot}
 use Rattle.slot_table.proofs.AtSlots.{full_within, key_is_full}
 use Rattle.key_slots.specs.Holdings.{Pairs}
 use Rattle.key_slots.specs.Standing.{Agrees}
-use Rattle.key_slots.specs.Wiping.{EndsOnly, IsEmptyOrIdle, IsFillingOf, IsTakenOf, TakesOne}
+use Rattle.key_slots.specs.Wiping.{Keeps, EndsOnly, IsEmptyOrIdle, IsFillingOf, IsTakenOf, TakesOne}
 use Rattle.key_slots.proofs.Agreeing.{key_of_slot}
-use Rattle.key_slots.proofs.Wiping.{ends_then}
+use Rattle.key_slots.proofs.Wiping.{ends_then, keeps_all}
 use Rattle.store_model.specs.Store as model
 use Rattle.store_model.specs.Store.{Key}
+use Rattle.store_core.specs.Uses.{KeepsOrEmpties}
 
 -- a load takes a slot, and fills it or gives it up
 pub load_ends : (old mid new : List Slot) (slot : ℕ) → IsEmptyOrIdle (slot_at old slot) → EndsOnly old mid (IsTakenOf slot) → EndsOnly mid new (IsFillingOf slot) → TakesOne old new
@@ -39,3 +40,35 @@ lacks_key t m all id law agrees none i has =
     apart k.0 (sym none ∙ k.1) where
       apart : (key : Key) → None ≡ Some key → ⊥
       apart key same = cc
+
+-- no slot changes
+pub empties_none : (slots : List Slot) → KeepsOrEmpties slots slots
+empties_none slots = λ i lt. inl (keeps_all (slot_at slots i))
+
+-- a load takes a slot, and gives it up
+pub load_empties : (old mid new : List Slot) (slot : ℕ) → EndsOnly old mid (IsTakenOf slot) → EndsOnly mid new (IsFillingOf slot) → slot_at new slot ≡ empty_slot → KeepsOrEmpties old new
+load_empties old mid new slot first then emptied = λ i lt.
+    ⊎_elim
+    (λ kept. inl kept)
+    (λ (same : i ≡ slot). inr (ap (slot_at new) same ∙ emptied))
+    (ends_then old mid new (IsTakenOf slot) (IsFillingOf slot) (λ k s. k ≡ slot) first then (λ k ended. ended.0) (λ k kept ended. ended.0) i lt)
+
+-- a slot that keeps what it has is empty where it was
+still_empty : (old new : Slot) → IsLawfulSlot new → Keeps old new → old ≡ empty_slot → new ≡ empty_slot
+still_empty old new law kept empty = law.empty (kept.state ∙ ap (λ (s : Slot). s.state) empty)
+
+-- a source could not be read, and the slot that waited for its copy is given up
+pub copy_empties : (old mid : List Slot) (new : Table) (slot : ℕ) → IsLawful new → KeepsOrEmpties old mid → EndsOnly mid new.slots (IsFillingOf slot) → slot_at new.slots slot ≡ empty_slot → KeepsOrEmpties old new.slots
+copy_empties old mid new slot law first then emptied = λ i lt.
+    ⊎_elim
+    (λ (kept : Keeps (slot_at mid i) (slot_at new.slots i)). ⊎_elim
+    (λ (before : Keeps (slot_at old i) (slot_at mid i)). inl (record {
+      state = kept.state ∙ before.state;
+      creation = kept.creation ∙ before.creation;
+      attributes = kept.attributes ∙ before.attributes;
+      buffer = kept.buffer ∙ before.buffer;
+    }))
+    (λ (empty : slot_at mid i ≡ empty_slot). inr (still_empty (slot_at mid i) (slot_at new.slots i) (law.each i) kept empty))
+    (first i lt))
+    (λ (ended : IsFillingOf slot i (slot_at mid i)). inr (ap (slot_at new.slots) ended.0 ∙ emptied))
+    (then i lt)

@@ -25,3 +25,5 @@ mod ByElement
 mod Wiped
 mod Ending
 mod Zeroed
+mod Forgotten
+mod Missing

@@ -91,6 +91,11 @@ module _ (records : model.Store → Result Attributes Status → Type 0) where
   IsUncopied source (uncopied.Unread why) m = IsRefused there_rows source (status_of why) m
   IsUncopied source (uncopied.NotMade why) m = IsUnmade why m
 
+-- where the source could not be read
+abbrev pub OnUnread : NotCopied → Type 0 → Type 0
+OnUnread (uncopied.Unread why) P = P
+OnUnread (uncopied.NotMade why) P = Unit {0}
+
 -- a lease, where there is one, is out
 abbrev pub IsAmong : Option lent.Reading → List Pairs → Type 0
 IsAmong None all = Unit {0}

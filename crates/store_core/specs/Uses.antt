@@ -1,16 +1,19 @@
--- What a turn that looks for a key finds.
-use Rattle.std.specs.Prelude.{◌≡◌, ℕ, true, Option, Some, None}
+-- What a turn that looks for a key finds, and what it leaves.
+use Rattle.std.specs.Prelude.{◌≡◌, ◌<◌, ◌⊎◌, ℕ, true, List, Option, Some, None, if◌then◌else◌}
+use Rattle.std.specs.Option.{option_map}
 use Rattle.std.specs.FinMap as map
 use Rattle.psa_status.specs.declared.Status.{Status}
 use Rattle.psa_status.specs.declared.Status.TheVariants.{InvalidHandle, StorageFailure, HardwareFailure, DataCorrupt}
 use Rattle.psa_status.specs.Rows.{first_row}
 use Rattle.key_attributes.specs.declared.Attributes.{Attributes}
 use Rattle.secret_bytes.specs.Buffer.{bytes_of}
-use Rattle.slot_table.specs.Slots.{Slot}
+use Rattle.driver_dispatch.specs.Held.{HeldKeys, without_key}
+use Rattle.slot_table.specs.Slots.{Slot, empty_slot, slot_at}
 use Rattle.slot_table.specs.Lent as lent
 use Rattle.key_slots.specs.Standing.{SlotHasKey}
+use Rattle.key_slots.specs.Wiping.{Keeps}
 use Rattle.store_model.specs.Store as model
-use Rattle.store_model.specs.Store.{Key, is_persistent_key, is_opaque_key}
+use Rattle.store_model.specs.Store.{Key, is_opaque, is_persistent_key, is_opaque_key}
 use Rattle.store_model.specs.Faults as fault
 use Rattle.store_model.specs.Faults.{FaultMark, Plain, Storage, Hardware, Reading, Writing}
 use Rattle.store_model.specs.KeyUse.{destroy_rows}
@@ -59,6 +62,10 @@ abbrev pub there_rows : Option Key → Option Status
 there_rows None = Some InvalidHandle
 there_rows (Some key) = None
 
+-- each slot keeps what it has, or is empty afterwards
+abbrev pub KeepsOrEmpties : (old new : List Slot) → Type 0
+KeepsOrEmpties old new = (i : ℕ) → i < 384 → Keeps (slot_at old i) (slot_at new i) ⊎ (slot_at new i ≡ empty_slot)
+
 -- what a call answers that didn't destroy its key for sure
 abbrev pub status_undestroyed : NotDestroyed → Status
 status_undestroyed undestroyed.Missing = InvalidHandle
@@ -76,3 +83,7 @@ abbrev pub IsUndestroyed : (id : ℕ) → NotDestroyed → model.Store → Type 
 IsUndestroyed id undestroyed.Missing m = first_row (destroy_rows (map.get m.keys id) id) ≡ Some InvalidHandle
 IsUndestroyed id (undestroyed.Disk closed_first) m = is_persistent_key (map.get m.keys id) ≡ true
 IsUndestroyed id undestroyed.Hardware m = is_opaque_key (map.get m.keys id) ≡ true
+
+-- A device that tells its keys has lost the key of a slot, where it is the element's, and else has what it had.
+abbrev pub IsForgotten : Slot → (old new : Option HeldKeys) → Type 0
+IsForgotten slot old new = new ≡ (if is_opaque slot.attributes then option_map (without_key slot.creation) old else old)

@@ -1,5 +1,5 @@
 -- What stays zeros: the cells that are free.
-use Rattle.std.specs.Prelude.{◌≡◌, ◌<◌, ℕ, true, List, Option, is_some}
+use Rattle.std.specs.Prelude.{◌≡◌, ◌<◌, ℕ, true, List, [], ◌∷◌, Option, is_some}
 use Rattle.disk_face.specs.Moments.{Within}
 use Rattle.key_cells.specs.declared.slot.Slot.TheVariants.{Free}
 use Rattle.key_cells.specs.Contents.{HasZeros, cell_slot}
@@ -11,7 +11,7 @@ use Rattle.driver_dispatch.specs.Held.{HeldKeys}
 use Rattle.store_model.specs.Handles.{Service}
 use Rattle.store_model.specs.Replay.{Entry}
 use Rattle.store_core.specs.declared.store.Store.{Store}
-use Rattle.store_core.specs.Represents.{Opening, StandsFor}
+use Rattle.store_core.specs.Represents.{Opening, Stands, StandsFor}
 
 -- a cell that is free before calls and after them is all zeros in every image that a crash within them leaves
 abbrev pub LeavesZeros : {D : Type 0} (moment : D → ℕ) (left_since : D → ℕ → List ℕ → Type 0) (old new : KeyFile D) → Type 0
@@ -27,3 +27,24 @@ abbrev pub StaysZeros : {D A C : Type 0} (told : D → Option (List ℕ)) (may_l
     (faults : D → ℕ) (held : A → Option HeldKeys) (hard : A → ℕ) (locations : A → List ℕ) (labels : C → List Label) (old new : Store D A C) → Type 0
 StaysZeros told may_leave moment left_since faults held hard locations labels old new = (start : Service) (opening : Opening) (h : List Entry) (all : List Pairs) →
     StandsFor told may_leave moment left_since faults held hard locations labels old start opening h all → is_some (told old.file.cells.disk) ≡ true → LeavesZeros moment left_since old.file new.file
+
+-- OVER MANY TURNS
+
+-- the last of some stores, one after another
+abbrev pub last_store : {D A C : Type 0} → Store D A C → List (Store D A C) → Store D A C
+last_store store [] = store
+last_store store (next ∷ rest) = last_store next rest
+
+module _ {D A C : Type 0} (told : D → Option (List ℕ)) (may_leave : D → List ℕ → Type 0) (moment : D → ℕ) (left_since : D → ℕ → List ℕ → Type 0)
+    (faults : D → ℕ) (held : A → Option HeldKeys) (hard : A → ℕ) (locations : A → List ℕ) (labels : C → List Label) where
+  -- a turn of a store that stands for some history, over a disk that tells its bytes, ends with this cell free
+  pub record LeavesFree (cell : ℕ) (old new : Store D A C) : Type 0 where
+    pub stands : Stands told may_leave moment left_since faults held hard locations labels old
+    pub tells : is_some (told old.file.cells.disk) ≡ true
+    pub zeros : StaysZeros told may_leave moment left_since faults held hard locations labels old new
+    pub free : cell_slot new.file.cells.slots.items cell ≡ Free
+
+  -- and so does each of some turns, one after another
+  abbrev pub StaysFree : (cell : ℕ) → Store D A C → List (Store D A C) → Type 0
+  StaysFree cell store [] = Unit {0}
+  StaysFree cell store (next ∷ rest) = LeavesFree cell store next × StaysFree cell next rest

@@ -12,7 +12,8 @@ ghost use Rattle.store_model.specs.Copies.{recorded_copy};
 ghost use Rattle.store_model.specs.Faults.{Plain};
 ghost use Rattle.store_core.specs.Represents.{HasOut, ranked_on};
 ghost use Rattle.store_core.specs.Zeros.{FileStaysZeros, StaysZeros};
-ghost use Rattle.store_core.specs.Creations.{Copies, HoldsWithin, IsMade, IsUncopied, RecordsCopy, mark_uncopied, status_uncopied};
+ghost use Rattle.store_core.specs.Uses.{KeepsOrEmpties};
+ghost use Rattle.store_core.specs.Creations.{Copies, HoldsWithin, IsMade, IsUncopied, OnUnread, RecordsCopy, mark_uncopied, status_uncopied};
 
 use crate::Store;
 use crate::creating::NotMade;
@@ -68,6 +69,7 @@ impl<D: Disk, A: Devices, C: Admission> Store<D, A, C> {
             (IsUncopied (RecordsCopy caller source.0 attributes.now) source.0 why)) }
         ensures wipes { (slot : ℕ) × EndsOnly self.old.slots.table.slots self.new.slots.table.slots (λ i s. IsFillingOf filling.slot i s ⊎ IsTakenOf slot i s) }
         ensures emptied { OnErr result (slot_at self.new.slots.table.slots filling.slot ≡ empty_slot) }
+        ensures unread { IfErr result (λ why. OnUnread why (KeepsOrEmpties self.old.slots.table.slots self.new.slots.table.slots)) }
         ensures zeros { StaysZeros D.contents D.may_leave D.moment D.left_since D.faults A.keys A.faults A.locations C.labels self.old self.new }
         ensures opened { self.new.opened ≡ self.old.opened }
     {
@@ -98,6 +100,7 @@ impl<D: Disk, A: Devices, C: Admission> Store<D, A, C> {
             (IsUncopied (RecordsCopy caller source.0 attributes.now) source.0 why)) }
         ensures wipes { (slot : ℕ) × EndsOnly self.old.slots.table.slots self.new.slots.table.slots (λ i s. IsFillingOf filling.slot i s ⊎ IsTakenOf slot i s) }
         ensures emptied { OnErr result (slot_at self.new.slots.table.slots filling.slot ≡ empty_slot) }
+        ensures unread { IfErr result (λ why. OnUnread why (KeepsOrEmpties self.old.slots.table.slots self.new.slots.table.slots)) }
         ensures zeros { FileStaysZeros D.contents D.may_leave D.moment D.left_since self.old.file self.new.file }
         ensures ranked { self.new.ranked ≡ self.old.ranked }
         ensures opened { self.new.opened ≡ self.old.opened }

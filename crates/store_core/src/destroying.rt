@@ -17,7 +17,7 @@ ghost use Rattle.store_model.specs.Store.{is_opaque};
 ghost use Rattle.store_model.specs.KeyUse.{destroy_rows};
 ghost use Rattle.store_model.specs.Faults.{Plain};
 ghost use Rattle.store_core.specs.Represents.{Destroys, Stands, ranked_on};
-ghost use Rattle.store_core.specs.Uses.{mark_undestroyed, status_undestroyed, IsUndestroyed};
+ghost use Rattle.store_core.specs.Uses.{IsForgotten, IsUndestroyed, mark_undestroyed, status_undestroyed};
 ghost use Rattle.store_core.specs.Zeros.{FileStaysZeros, StaysZeros};
 
 use crate::Store;
@@ -52,7 +52,7 @@ impl NotDestroyed {
 
 impl<D: Disk, A: Devices, C: Admission> Store<D, A, C> {
     /// Destroys a key. Its slot is wiped where nobody reads it, and else waits for its last reader. On success its cell is free,
-    /// and so all zeros. Destroying no key, by the identifier 0, succeeds. Ranked.
+    /// and so all zeros, and the secure element has the key no more. Destroying no key, by the identifier 0, succeeds. Ranked.
     pub fn destroy(&mut self, id: KeyId) -> Result<(), NotDestroyed>
         requires stands { Stands D.contents D.may_leave D.moment D.left_since D.faults A.keys A.faults A.locations C.labels self.old }
         requires size { D.size self.old.file.cells.disk ≡ 557120 }
@@ -64,6 +64,7 @@ impl<D: Disk, A: Devices, C: Admission> Store<D, A, C> {
             (IsUndestroyed id.0 why)) }
         ensures wipes { EndsOnly self.old.slots.table.slots self.new.slots.table.slots (λ i s. holds_key id.0 s ≡ true) }
         ensures ended { (i : ℕ) → holds_key id.0 (slot_at self.old.slots.table.slots i) ≡ true → slot_at self.new.slots.table.slots i ≡ destroyed_slot (slot_at self.old.slots.table.slots i) }
+        ensures forgotten { OnOk result ((i : ℕ) → i < 384 → holds_key id.0 (slot_at self.old.slots.table.slots i) ≡ true → IsForgotten (slot_at self.old.slots.table.slots i) (A.keys self.old.devices) (A.keys self.new.devices)) }
         ensures freed { OnOk result ((cell : ℕ) → cell < 512 → has_id id.0 (cell_slot self.old.file.cells.slots.items cell) ≡ true → cell_slot self.new.file.cells.slots.items cell ≡ Free) }
         ensures zeros { StaysZeros D.contents D.may_leave D.moment D.left_since D.faults A.keys A.faults A.locations C.labels self.old self.new }
         ensures buffer { self.new.buffer ≡ self.old.buffer }
@@ -85,6 +86,7 @@ impl<D: Disk, A: Devices, C: Admission> Store<D, A, C> {
             (IsUndestroyed id.0 why)) }
         ensures wipes { EndsOnly self.old.slots.table.slots self.new.slots.table.slots (λ i s. holds_key id.0 s ≡ true) }
         ensures ended { (i : ℕ) → holds_key id.0 (slot_at self.old.slots.table.slots i) ≡ true → slot_at self.new.slots.table.slots i ≡ destroyed_slot (slot_at self.old.slots.table.slots i) }
+        ensures forgotten { OnOk result ((i : ℕ) → i < 384 → holds_key id.0 (slot_at self.old.slots.table.slots i) ≡ true → IsForgotten (slot_at self.old.slots.table.slots i) (A.keys self.old.devices) (A.keys self.new.devices)) }
         ensures freed { OnOk result ((cell : ℕ) → cell < 512 → has_id id.0 (cell_slot self.old.file.cells.slots.items cell) ≡ true → cell_slot self.new.file.cells.slots.items cell ≡ Free) }
         ensures zeros { FileStaysZeros D.contents D.may_leave D.moment D.left_since self.old.file self.new.file }
         ensures buffer { self.new.buffer ≡ self.old.buffer }
@@ -115,6 +117,7 @@ impl<D: Disk, A: Devices, C: Admission> Store<D, A, C> {
             (IsUndestroyed id.0 why)) }
         ensures wipes { EndsOnly self.old.slots.table.slots self.new.slots.table.slots (λ i s. holds_key id.0 s ≡ true) }
         ensures ended { (i : ℕ) → holds_key id.0 (slot_at self.old.slots.table.slots i) ≡ true → slot_at self.new.slots.table.slots i ≡ destroyed_slot (slot_at self.old.slots.table.slots i) }
+        ensures forgotten { OnOk result ((i : ℕ) → i < 384 → holds_key id.0 (slot_at self.old.slots.table.slots i) ≡ true → IsForgotten (slot_at self.old.slots.table.slots i) (A.keys self.old.devices) (A.keys self.new.devices)) }
         ensures freed { OnOk result ((cell : ℕ) → cell < 512 → has_id id.0 (cell_slot self.old.file.cells.slots.items cell) ≡ true → cell_slot self.new.file.cells.slots.items cell ≡ Free) }
         ensures zeros { FileStaysZeros D.contents D.may_leave D.moment D.left_since self.old.file self.new.file }
         ensures buffer { self.new.buffer ≡ self.old.buffer }
@@ -147,6 +150,7 @@ impl<D: Disk, A: Devices, C: Admission> Store<D, A, C> {
             (IsUndestroyed id.0 why)) }
         ensures wipes { EndsOnly self.old.slots.table.slots self.new.slots.table.slots (λ i s. holds_key id.0 s ≡ true) }
         ensures ended { (i : ℕ) → holds_key id.0 (slot_at self.old.slots.table.slots i) ≡ true → slot_at self.new.slots.table.slots i ≡ destroyed_slot (slot_at self.old.slots.table.slots i) }
+        ensures forgotten { OnOk result ((i : ℕ) → i < 384 → holds_key id.0 (slot_at self.old.slots.table.slots i) ≡ true → IsForgotten (slot_at self.old.slots.table.slots i) (A.keys self.old.devices) (A.keys self.new.devices)) }
         ensures file { self.new.file ≡ self.old.file }
         ensures buffer { self.new.buffer ≡ self.old.buffer }
         ensures ranked { self.new.ranked ≡ self.old.ranked }
@@ -176,8 +180,7 @@ fn forget<A: Devices>(devices: &mut A, slots: &KeySlots, slot: u32) -> Result<()
     requires full { (slot_at slots.now.table.slots slot).state ≡ Full }
     requires element { is_opaque (slot_at slots.now.table.slots slot).attributes ≡ true → IsTrue (has_element (A.locations devices.old)) }
     requires held { is_opaque (slot_at slots.now.table.slots slot).attributes ≡ true → HoldsHandle (A.keys devices.old) (slot_at slots.now.table.slots slot).creation (λ key. ⊤) }
-    ensures forgotten { OnOk result (is_opaque (slot_at slots.now.table.slots slot).attributes ≡ true →
-        A.keys devices.new ≡ option_map (without_key (slot_at slots.now.table.slots slot).creation) (A.keys devices.old)) }
+    ensures forgotten { OnOk result (IsForgotten (slot_at slots.now.table.slots slot) (A.keys devices.old) (A.keys devices.new)) }
     ensures keys { (A.keys devices.new ≡ A.keys devices.old) ⊎ (A.keys devices.new ≡ option_map (without_key (slot_at slots.now.table.slots slot).creation) (A.keys devices.old)) }
     ensures opaque { OnErr result (is_opaque (slot_at slots.now.table.slots slot).attributes ≡ true) }
     ensures locations { A.locations devices.new ≡ A.locations devices.old }

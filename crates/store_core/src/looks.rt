@@ -1,10 +1,12 @@
 //! The turn that lends a key.
 ghost use Rattle.std.specs.Prelude.{◌≡◌, ◌<◌, ◌^◌, ◌+◌, IfOk, IfErr};
+ghost use Rattle.psa_status.specs.declared.Status.TheVariants.{InvalidHandle};
 ghost use Rattle.secret_bytes.specs.Buffer.{IsClear, bytes_of};
 ghost use Rattle.key_slots.specs.Wiping.{TakesOne};
 ghost use Rattle.key_uses.specs.Uses.{FitsUse, use_refusal};
+ghost use Rattle.store_model.specs.Faults.{Plain};
 ghost use Rattle.store_core.specs.Represents.{Reads, ReadsAndGives, Stands};
-ghost use Rattle.store_core.specs.Uses.{IsLent, IsRefused, mark_of};
+ghost use Rattle.store_core.specs.Uses.{IsLent, IsRefused, KeepsOrEmpties, mark_of};
 ghost use Rattle.store_core.specs.Zeros.{StaysZeros};
 
 use crate::Store;
@@ -19,8 +21,8 @@ use slot_table::Lease;
 
 impl<D: Disk, A: Devices, C: Admission> Store<D, A, C> {
     /// Lends a key's bytes for what the key is looked for, in a clear spare, which comes back where that is refused:
-    /// `InvalidHandle` where there is no key, `StorageFailure` or `DataCorrupt` where the file has it and can't be read, and
-    /// else the use's first refusal. Ranked.
+    /// `InvalidHandle` where there is no key, `StorageFailure` or `DataCorrupt` where the file has it and can't be read, whose
+    /// slot is then empty, and else the use's first refusal. Ranked.
     pub fn look(
         &mut self,
         id: KeyId,
@@ -41,6 +43,8 @@ impl<D: Disk, A: Devices, C: Admission> Store<D, A, C> {
             (IsRefused (use_refusal wanted) id.0 refused.0)) }
         ensures spare { IfErr result (λ refused. IsClear refused.1) }
         ensures wipes { TakesOne self.old.slots.table.slots self.new.slots.table.slots }
+        ensures unmoved { IfErr result (λ refused. refused.0 ≡ InvalidHandle → self.new.slots ≡ self.old.slots) }
+        ensures emptied { IfErr result (λ refused. (mark_of refused.0 ≡ Plain → ⊥) → KeepsOrEmpties self.old.slots.table.slots self.new.slots.table.slots) }
         ensures zeros { StaysZeros D.contents D.may_leave D.moment D.left_since D.faults A.keys A.faults A.locations C.labels self.old self.new }
         ensures devices { self.new.devices ≡ self.old.devices }
         ensures opened { self.new.opened ≡ self.old.opened }

@@ -1,7 +1,7 @@
 //! What a store promises that stands for a start, a history and holdings, as the contracts of methods that do nothing.
 ghost use Rattle.std.specs.Prelude.{◌≡◌, ◌⊎◌, ◌<◌, ◌≤◌, ◌+◌, ℕ, List, length, true, is_some};
 ghost use Rattle.std.specs.List.{AllByRecursion};
-ghost use Rattle.disk_face.specs.Moments.{done_at};
+ghost use Rattle.disk_face.specs.Moments.{Within, done_at};
 ghost use Rattle.key_cells.specs.declared.slot.Slot.TheVariants.{Free};
 ghost use Rattle.key_cells.specs.Contents.{HasZeros, cell_slot};
 ghost use Rattle.slot_table.specs.Slots.{empty_slot, filling_slot, slot_at};
@@ -11,7 +11,9 @@ ghost use Rattle.store_model.specs.Handles.{Service};
 ghost use Rattle.store_model.specs.Replay.{Entry};
 ghost use Rattle.store_model.specs.Origin.{GainsNothing, IsCaller, found_made, made_after};
 ghost use Rattle.store_core.specs.Durability.{FitsPrefix};
-ghost use Rattle.store_core.specs.Represents.{IsTold, Opening, StandsFor};
+ghost use Rattle.store_core.specs.declared.store.Store as store;
+ghost use Rattle.store_core.specs.Represents.{IsTold, Opening, Stands, StandsFor};
+ghost use Rattle.store_core.specs.Zeros.{StaysFree, StaysZeros, last_store};
 
 use crate::Store;
 use admission::Admission;
@@ -34,6 +36,24 @@ impl<D: Disk, A: Devices, C: Admission> Store<D, A, C> {
     pub fn a_free_cell_is_zeros(&self)
         ensures { (start : Service) (opening : Opening) (h : List Entry) (all : List Pairs) → StandsFor D.contents D.may_leave D.moment D.left_since D.faults A.keys A.faults A.locations C.labels self.now start opening h all →
             is_some (D.contents self.now.file.cells.disk) ≡ true → (cell : ℕ) → cell < 512 → cell_slot self.now.file.cells.slots.items cell ≡ Free → (image : List ℕ) → D.may_leave self.now.file.cells.disk image → HasZeros cell image }
+    {}
+
+    /// A cell that is free, as after a destruction that succeeded, stays all zeros over any turns that leave it free, until a
+    /// creation takes it: a crash since the first of these, whenever it comes, leaves zeros there.
+    pub fn a_freed_cell_stays_zeros(&self)
+        ensures within { (turns : List (store.Store D A C)) (cell : ℕ) → cell < 512 → cell_slot self.now.file.cells.slots.items cell ≡ Free →
+            StaysFree D.contents D.may_leave D.moment D.left_since D.faults A.keys A.faults A.locations C.labels cell self.now turns →
+            Within (D.moment self.now.file.cells.disk) (D.moment (last_store self.now turns).file.cells.disk) (D.left_since self.now.file.cells.disk) (D.left_since (last_store self.now turns).file.cells.disk) (HasZeros cell) }
+        ensures zeros { (turns : List (store.Store D A C)) (cell : ℕ) → cell < 512 → cell_slot self.now.file.cells.slots.items cell ≡ Free →
+            Stands D.contents D.may_leave D.moment D.left_since D.faults A.keys A.faults A.locations C.labels self.now → is_some (D.contents self.now.file.cells.disk) ≡ true →
+            StaysFree D.contents D.may_leave D.moment D.left_since D.faults A.keys A.faults A.locations C.labels cell self.now turns →
+            (image : List ℕ) → D.left_since (last_store self.now turns).file.cells.disk (D.moment self.now.file.cells.disk) image → HasZeros cell image }
+    {}
+
+    /// A turn that leaves the file as it is leaves its free cells zeros.
+    pub fn an_unchanged_file_stays_zeros(&self)
+        ensures { (next : store.Store D A C) → next.file ≡ self.now.file →
+            StaysZeros D.contents D.may_leave D.moment D.left_since D.faults A.keys A.faults A.locations C.labels self.now next }
     {}
 
     /// A slot has as many readers as the callers have leases of its key.

@@ -10,7 +10,7 @@ ghost use Rattle.slot_table.specs.Slots.{slot_at, NoKey};
 ghost use Rattle.key_slots.specs.Wiping.{TakesOne};
 ghost use Rattle.store_model.specs.Store.{is_persistent_key};
 ghost use Rattle.store_core.specs.Represents.{Brings, Stands};
-ghost use Rattle.store_core.specs.Uses.{IsBrought, status_of};
+ghost use Rattle.store_core.specs.Uses.{IsBrought, KeepsOrEmpties, status_of};
 ghost use Rattle.store_core.specs.declared.reading.Unread.TheVariants as unread;
 
 use crate::Store;
@@ -63,6 +63,8 @@ impl<D: Disk, A: Devices, C: Admission> Store<D, A, C> {
         ensures same { D.contents self.new.file.cells.disk ≡ D.contents self.old.file.cells.disk }
         ensures later { D.faults self.old.file.cells.disk ≤ D.faults self.new.file.cells.disk }
         ensures wipes { TakesOne self.old.slots.table.slots self.new.slots.table.slots }
+        ensures unmoved { IsErrOf result unread.Missing → self.new.slots ≡ self.old.slots }
+        ensures emptied { OnErr result (KeepsOrEmpties self.old.slots.table.slots self.new.slots.table.slots) }
         ensures directory { self.new.file.cells.slots ≡ self.old.file.cells.slots }
         ensures keeps { (keys : Keys) (doubt : Doubt) → StandsForKeys D.contents D.may_leave self.old.file.cells.disk self.old.file.cells.slots.items keys doubt →
             Leads D.contents D.may_leave D.moment D.left_since self.old.file.cells.disk self.new.file.cells.disk self.old.file.cells.slots.items self.new.file.cells.slots.items keys doubt keys doubt }
@@ -103,6 +105,7 @@ impl<D: Disk, A: Devices, C: Admission> Store<D, A, C> {
         ensures same { D.contents self.new.file.cells.disk ≡ D.contents self.old.file.cells.disk }
         ensures later { D.faults self.old.file.cells.disk ≤ D.faults self.new.file.cells.disk }
         ensures wipes { TakesOne self.old.slots.table.slots self.new.slots.table.slots }
+        ensures emptied { OnErr result (KeepsOrEmpties self.old.slots.table.slots self.new.slots.table.slots) }
         ensures directory { self.new.file.cells.slots ≡ self.old.file.cells.slots }
         ensures keeps { (keys : Keys) (doubt : Doubt) → StandsForKeys D.contents D.may_leave self.old.file.cells.disk self.old.file.cells.slots.items keys doubt →
             Leads D.contents D.may_leave D.moment D.left_since self.old.file.cells.disk self.new.file.cells.disk self.old.file.cells.slots.items self.new.file.cells.slots.items keys doubt keys doubt }

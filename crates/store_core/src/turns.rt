@@ -11,7 +11,7 @@ ghost use Rattle.store_model.specs.Store as model;
 ghost use Rattle.store_model.specs.Sound.{HasNumber};
 ghost use Rattle.store_model.specs.Faults.{Plain};
 ghost use Rattle.store_core.specs.Represents.{Adds, AddsAs, Gives, HasOut, IsDirectory, Reads, Stands, Steps, Takes};
-ghost use Rattle.store_core.specs.Uses.{HasAttributes, IsRefused, mark_of, there_rows};
+ghost use Rattle.store_core.specs.Uses.{HasAttributes, IsRefused, KeepsOrEmpties, mark_of, there_rows};
 ghost use Rattle.store_core.specs.Zeros.{StaysZeros};
 
 use crate::Store;
@@ -113,7 +113,8 @@ impl<D: Disk, A: Devices, C: Admission> Store<D, A, C> {
         }
     }
 
-    /// What is known of a key beside its bytes. Ranked.
+    /// What is known of a key beside its bytes; `InvalidHandle` where there is no key, and `StorageFailure` or `DataCorrupt` where
+    /// the file has it and can't be read, whose slot is then empty. Ranked.
     pub fn attributes(&mut self, id: KeyId) -> Result<Attributes, Status>
         requires stands { Stands D.contents D.may_leave D.moment D.left_since D.faults A.keys A.faults A.locations C.labels self.old }
         requires size { D.size self.old.file.cells.disk ≡ 557120 }
@@ -126,6 +127,8 @@ impl<D: Disk, A: Devices, C: Admission> Store<D, A, C> {
         ensures refused { IfErr result (λ status. Reads D.contents D.may_leave D.moment D.left_since D.faults A.keys A.faults A.locations C.labels self.old self.new id.0 (mark_of status)
             (IsRefused there_rows id.0 status)) }
         ensures wipes { TakesOne self.old.slots.table.slots self.new.slots.table.slots }
+        ensures unmoved { IfErr result (λ status. status ≡ InvalidHandle → self.new.slots ≡ self.old.slots) }
+        ensures emptied { OnErr result (KeepsOrEmpties self.old.slots.table.slots self.new.slots.table.slots) }
         ensures zeros { StaysZeros D.contents D.may_leave D.moment D.left_since D.faults A.keys A.faults A.locations C.labels self.old self.new }
         ensures devices { self.new.devices ≡ self.old.devices }
         ensures opened { self.new.opened ≡ self.old.opened }

@@ -1,6 +1,7 @@
 use Rattle.std.proofs.Common.{◌∙◌, refl, sym}
 use Rattle.store_core.specs.Uses.{HasAttributes, there_rows}
 use Rattle.store_core.proofs.Refusing.{ends_found, ends_unread}
+use Rattle.store_core.proofs.Missing.{is_missing_why}
 use Rattle.store_core.proofs.store.Store.attributes.Goals as goal
 
 pub returns-in-Ok-clause-known : goal.returns-in-Ok-clause-known
@@ -19,3 +20,6 @@ returns-in-Err-clause-refused g c = rw c.status.ensures (λ start opening h all 
     let b = c.in-Err.ensures in
     ends_unread d.contents d.may_leave d.moment d.left_since d.faults v.keys v.faults v.locations g.C.Admission.labels g.met.D.Disk.only_now c.args.self.now c.bring-brought.new.self start opening h all e c.args.id.0
     there_rows c.in-Err.unread refl b.same s is (λ why. b.missing why start opening h all e s is.reads) (λ why. b.unread why start opening h all e s is.reads) b.disk b.corrupt turn)
+
+pub returns-in-Err-clause-unmoved : goal.returns-in-Err-clause-unmoved
+returns-in-Err-clause-unmoved g c = λ missing. c.in-Err.ensures.unmoved (is_missing_why c.in-Err.unread (sym c.status.ensures ∙ missing))

@@ -5,6 +5,7 @@ use Rattle.store_core.specs.Uses.{IsBrought}
 use Rattle.store_core.proofs.Holding.{left_alone}
 use Rattle.store_core.proofs.Kept.{no_key}
 use Rattle.store_core.proofs.Loading.{brings}
+use Rattle.store_core.proofs.Ending.{empties_none}
 use Rattle.store_core.proofs.store.Store.bring.Goals as goal
 
 pub returns-in-Some-clause-found : goal.returns-in-Some-clause-found
@@ -25,3 +26,6 @@ returns-in_default-find-clause-missing g c = λ is_missing start opening h all e
     brings d.contents d.may_leave d.moment d.left_since d.faults v.keys v.faults v.locations g.C.Admission.labels old old.file old.slots old.buffer start opening h all e
     (λ n. map.get n.keys c.args.id.0 ≡ None) (left_alone d.contents d.may_leave d.moment d.left_since d.faults v.keys v.faults v.locations g.C.Admission.labels old.file) s.holds s.holds.slots
     (no_key old.file.cells.slots.items m c.args.id.0 s.holds.directory c.in_default-find.ensures (c.in_default.ensures.none m all s.holds.slots))
+
+pub returns-in_default-find-clause-emptied : goal.returns-in_default-find-clause-emptied
+returns-in_default-find-clause-emptied g c = empties_none c.args.self.now.slots.table.slots

@@ -11,7 +11,7 @@ use Rattle.store_model.specs.Store.{is_persistent_key}
 use Rattle.store_core.specs.Durability.{durable_keys, course_of}
 use Rattle.store_core.proofs.Kept.{key_of_cell, is_persistent}
 use Rattle.store_core.proofs.Loading.{IsLoaded, brings, loads, filled_has, stays_put, gains_one}
-use Rattle.store_core.proofs.Ending.{load_ends}
+use Rattle.store_core.proofs.Ending.{load_ends, load_empties}
 use Rattle.store_core.proofs.store.Store.load.Goals as goal
 
 pub reserve-filling-requires : goal.reserve-filling-requires
@@ -120,3 +120,11 @@ pub returns-in-Corrupt-clause-wipes : goal.returns-in-Corrupt-clause-wipes
 returns-in-Corrupt-clause-wipes g c =
     let taken = c.reserve-filling.ensures in
     load_ends c.args.self.now.slots.table.slots c.reserve-filling.new.self.table.slots c.give_up.new.self.table.slots c.reserve-filling.result.slot taken.taken taken.wipes c.give_up.ensures.wipes
+
+pub returns-in-Disk-clause-emptied : goal.returns-in-Disk-clause-emptied
+returns-in-Disk-clause-emptied g c =
+    load_empties c.args.self.now.slots.table.slots c.reserve-filling.new.self.table.slots c.give_up.new.self.table.slots c.reserve-filling.result.slot c.reserve-filling.ensures.wipes c.give_up.ensures.wipes c.give_up.ensures.emptied
+
+pub returns-in-Corrupt-clause-emptied : goal.returns-in-Corrupt-clause-emptied
+returns-in-Corrupt-clause-emptied g c =
+    load_empties c.args.self.now.slots.table.slots c.reserve-filling.new.self.table.slots c.give_up.new.self.table.slots c.reserve-filling.result.slot c.reserve-filling.ensures.wipes c.give_up.ensures.wipes c.give_up.ensures.emptied

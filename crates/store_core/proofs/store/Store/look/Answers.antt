@@ -11,6 +11,7 @@ use Rattle.key_uses.proofs.Refusals.{missing}
 use Rattle.store_core.specs.Uses.{IsLent}
 use Rattle.store_core.proofs.Lending.{has_bytes, sized}
 use Rattle.store_core.proofs.Refusing.{asks_for, ends_found, ends_refused, ends_unread, few_readers, use_plain}
+use Rattle.store_core.proofs.Missing.{is_missing_why, is_other}
 use Rattle.store_core.proofs.Ending.{look_ends}
 use Rattle.store_core.proofs.store.Store.look.Goals as goal
 
@@ -68,3 +69,23 @@ returns-in-Err-clause-refused g c = rw c.status.ensures (λ start opening h all 
 pub returns-in-Ok-check-clause-wipes : goal.returns-in-Ok-check-clause-wipes
 returns-in-Ok-check-clause-wipes g c =
     look_ends c.args.self.now.slots.table.slots c.bring-brought.new.self.slots.table.slots c.lend.new.self.table.slots c.bring-brought.ensures.wipes c.lend.ensures.wipes
+
+pub returns-in-Err-check-clause-emptied : goal.returns-in-Err-check-clause-emptied
+returns-in-Err-check-clause-emptied g c = λ fault.
+    let at = c.requires.stands in
+    let k = (c.in-Ok.ensures.found at.0 at.1 at.2 at.3 (asks_for c.args.id.0) at.4 (λ t. refl)).1 in
+    let refused = unless-err _ _ _ (sym (c.in-Err-check.ensures.refusal k.0 (sym k.2.attributes ∙ sym c.attributes.ensures))) in
+    absurd (fault (use_plain c.args.wanted (Some k.0) _ refused).0)
+
+pub returns-in-Err-clause-emptied : goal.returns-in-Err-clause-emptied
+returns-in-Err-clause-emptied g c = λ fault. c.in-Err.ensures.emptied
+
+pub returns-in-Err-check-clause-unmoved : goal.returns-in-Err-check-clause-unmoved
+returns-in-Err-check-clause-unmoved g c = λ missing.
+    let at = c.requires.stands in
+    let k = (c.in-Ok.ensures.found at.0 at.1 at.2 at.3 (asks_for c.args.id.0) at.4 (λ t. refl)).1 in
+    let refused = unless-err _ _ _ (sym (c.in-Err-check.ensures.refusal k.0 (sym k.2.attributes ∙ sym c.attributes.ensures))) in
+    absurd (is_other c.args.wanted k.0 _ refused missing)
+
+pub returns-in-Err-clause-unmoved : goal.returns-in-Err-clause-unmoved
+returns-in-Err-clause-unmoved g c = λ missing. c.in-Err.ensures.unmoved (is_missing_why c.in-Err.unread (sym c.status.ensures ∙ missing))

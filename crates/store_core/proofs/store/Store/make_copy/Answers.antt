@@ -19,7 +19,7 @@ use Rattle.store_core.proofs.Holding.{IsTurn, with_buffer}
 use Rattle.store_core.proofs.Refusing.{asks_for}
 use Rattle.store_core.proofs.Finishing.{rebuffered, refuses, since_later}
 use Rattle.store_core.proofs.CopyTurn.{reads_source, keeps, refused_here, material_of, ready, making, decided_here, either, uncopied}
-use Rattle.store_core.proofs.Ending.{copy_ends}
+use Rattle.store_core.proofs.Ending.{copy_ends, copy_empties}
 use Rattle.store_core.proofs.Zeroed.{read_first}
 use Rattle.store_core.proofs.store.Store.make_copy.Goals as goal
 
@@ -188,3 +188,7 @@ pub returns-in-Err-made-clause-zeros : goal.returns-in-Err-made-clause-zeros
 returns-in-Err-made-clause-zeros g c =
     let d = g.D.Disk in
     read_first d.contents d.may_leave d.moment d.left_since c.args.self.now.file c.bring.new.self.file c.create-made.new.self.file c.bring.ensures.directory c.bring.ensures.keeps c.create-made.ensures.zeros
+
+pub returns-in-Err-clause-unread : goal.returns-in-Err-clause-unread
+returns-in-Err-clause-unread g c =
+    copy_empties c.args.self.now.slots.table.slots c.bring.new.self.slots.table.slots c.give_up.new.self.table c.args.filling.slot c.give_up.new.self.lawful c.in-Err.ensures.emptied c.give_up.ensures.wipes c.give_up.ensures.emptied

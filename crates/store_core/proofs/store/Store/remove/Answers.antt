@@ -35,3 +35,9 @@ pub returns-then-id-eq0-clause-freed : goal.returns-then-id-eq0-clause-freed
 returns-then-id-eq0-clause-freed g c = λ cell within has.
     let s = c.requires.stands.4.holds in
     absurd (lacks_cell c.args.self.now.file.cells.slots.items s.model c.args.id.0 s.directory (none_at_zero s.model c.args.id.0 s.sound c.if-id-eq0.true) cell within has)
+
+pub returns-then-id-eq0-clause-forgotten : goal.returns-then-id-eq0-clause-forgotten
+returns-then-id-eq0-clause-forgotten g c = λ i lt has.
+    let slots = c.args.self.now.slots in
+    let s = c.requires.stands.4.holds in
+    absurd (lacks_key slots.table s.model c.requires.stands.3 c.args.id.0 slots.lawful s.slots (none_at_zero s.model c.args.id.0 s.sound c.if-id-eq0.true) i has)

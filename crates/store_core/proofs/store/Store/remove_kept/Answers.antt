@@ -8,6 +8,7 @@ use Rattle.store_core.proofs.Destroyed.{destroys_kept, fewer_kept, rows_there, u
 use Rattle.std.proofs.Common.{refl, None}
 use Rattle.key_file.proofs.Leading as file
 use Rattle.store_core.proofs.Zeroed.{keys_put, freed}
+use Rattle.store_core.proofs.Forgotten.{kept_forgotten}
 use Rattle.store_core.proofs.store.Store.remove_kept.Goals as goal
 
 pub overflow_sub-self : goal.overflow_sub-self
@@ -81,3 +82,11 @@ returns-in-Ok-clause-freed g c =
     let sized = s.directory.sized in
     let there = c.requires.there.within in
     freed c.args.self.now.file.cells.slots.items c.destroy-closed.new.self.cells.slots.items s.model c.args.id.0 c.args.cell s.directory (omega arith) c.requires.there.here c.in-Ok.ensures.gone
+
+pub returns-in-Ok-clause-forgotten : goal.returns-in-Ok-clause-forgotten
+returns-in-Ok-clause-forgotten g c = λ i lt has.
+    let s = c.requires.stands.4.holds in
+    let old = c.args.self.now in
+    let sized = s.directory.sized in
+    let there = c.requires.there.within in
+    kept_forgotten old.file.cells.slots.items old.slots.table.slots s.model c.requires.stands.3 c.args.id.0 c.args.cell i (g.A.Devices.keys old.devices) s.directory s.sound s.slots (omega arith) c.requires.there.here lt has

@@ -8,6 +8,7 @@ use Rattle.store_model.specs.Store.{is_opaque, is_opaque_key}
 use Rattle.store_model.specs.Faults.{Plain, Hardware}
 use Rattle.store_model.specs.Marks.{asks_device}
 use Rattle.store_core.proofs.Destroyed.{destroys_volatile, slot_key, high_here, of_creator, fewer_live, element_there, holds_some, rows_there}
+use Rattle.store_core.proofs.Forgotten.{slot_forgotten}
 use Rattle.store_core.proofs.store.Store.remove_volatile.Goals as goal
 
 pub caller_of-caller-requires : goal.caller_of-caller-requires
@@ -88,3 +89,9 @@ returns-in-Err-clause-failed g c = λ start opening h all e s call is.
           (λ service same. ap (λ b. b || asks_device service e.caller e.call) (ap is_opaque_key same ∙ opaque)) is,
       opaque,
     )
+
+pub returns-in-Ok-clause-forgotten : goal.returns-in-Ok-clause-forgotten
+returns-in-Ok-clause-forgotten g c = λ i lt has.
+    let v = g.A.Devices in
+    let old = c.args.self.now in
+    slot_forgotten old.slots.table c.args.id.0 c.args.slot i (v.keys old.devices) (v.keys c.forget-forgotten.new.devices) old.slots.lawful c.requires.there has c.in-Ok.ensures.forgotten

@@ -1,0 +1,20 @@
+use Rattle.store_core.proofs.Wiped.{shows_free}
+use Rattle.store_core.proofs.Zeroed.{stays_zeros, left_zeros}
+use Rattle.store_core.specs.Zeros.{last_store}
+use Rattle.store_core.proofs.store.Store.a_freed_cell_stays_zeros.Goals as goal
+
+pub returns-clause-within : goal.returns-clause-within
+returns-clause-within g c = λ turns cell lt free stays.
+    let d = g.D.Disk in
+    let v = g.A.Devices in
+    stays_zeros d.contents d.may_leave d.moment d.left_since d.faults v.keys v.faults v.locations g.C.Admission.labels cell lt c.args.self.now turns free stays
+
+pub returns-clause-zeros : goal.returns-clause-zeros
+returns-clause-zeros g c = λ turns cell lt free stands tells stays.
+    let d = g.D.Disk in
+    let v = g.A.Devices in
+    let first = c.args.self.now in
+    let f = stands.4.holds.file tells in
+    left_zeros d.contents d.may_leave d.moment d.left_since d.faults v.keys v.faults v.locations g.C.Admission.labels cell lt first (last_store first turns)
+    (λ image left. shows_free _ _ _ _ free ((f.stands.each image (g.met.D.Disk.only_now first.file.cells.disk image left)).each cell lt))
+    (stays_zeros d.contents d.may_leave d.moment d.left_since d.faults v.keys v.faults v.locations g.C.Admission.labels cell lt first turns free stays)
