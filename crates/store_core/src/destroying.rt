@@ -1,7 +1,8 @@
 //! How a turn destroys a key.
-ghost use Rattle.std.specs.Prelude.{◌≡◌, ◌<◌, ◌≤◌, ◌^◌, ◌+◌, ◌/◌, ◌⊎◌, ℕ, List, true, false, None, Some, Bool, OnOk, OnErr, IfErr, IsErrOf, IsTrue, ⊤};
+ghost use Rattle.std.specs.Prelude.{◌≡◌, ◌<◌, ◌≤◌, ◌^◌, ◌+◌, ◌/◌, ◌⊎◌, ℕ, List, true, false, None, Some, Bool, OnOk, OnErr, IfErr, IsErrOf, IsTrue, ⊤, is_some};
 ghost use Rattle.std.specs.Option.{option_map};
 ghost use Rattle.std.specs.FinMap as map;
+ghost use Rattle.disk_face.specs.Disk.{StillTells};
 ghost use Rattle.psa_status.specs.declared.Status.TheVariants.{InvalidHandle};
 ghost use Rattle.psa_status.specs.Causes.{HasCause};
 ghost use Rattle.psa_status.specs.Rows.{first_row};
@@ -68,6 +69,8 @@ impl<D: Disk, A: Devices, C: Admission> Store<D, A, C> {
         ensures unasked { NoKey id.0 self.old.slots.table.slots → self.new.devices ≡ self.old.devices }
         ensures freed { OnOk result ((cell : ℕ) → cell < 512 → has_id id.0 (cell_slot self.old.file.cells.slots.items cell) ≡ true → cell_slot self.new.file.cells.slots.items cell ≡ Free) }
         ensures zeros { StaysZeros D.contents D.may_leave D.moment D.left_since D.faults A.keys A.faults A.locations C.labels self.old self.new }
+        ensures tells { StillTells (D.contents self.old.file.cells.disk) (D.contents self.new.file.cells.disk) }
+        ensures knows { is_some (A.keys self.new.devices) ≡ is_some (A.keys self.old.devices) }
         ensures buffer { self.new.buffer ≡ self.old.buffer }
         ensures opened { self.new.opened ≡ self.old.opened }
     {
@@ -91,6 +94,8 @@ impl<D: Disk, A: Devices, C: Admission> Store<D, A, C> {
         ensures unasked { NoKey id.0 self.old.slots.table.slots → self.new.devices ≡ self.old.devices }
         ensures freed { OnOk result ((cell : ℕ) → cell < 512 → has_id id.0 (cell_slot self.old.file.cells.slots.items cell) ≡ true → cell_slot self.new.file.cells.slots.items cell ≡ Free) }
         ensures zeros { FileStaysZeros D.contents D.may_leave D.moment D.left_since self.old.file self.new.file }
+        ensures tells { StillTells (D.contents self.old.file.cells.disk) (D.contents self.new.file.cells.disk) }
+        ensures knows { is_some (A.keys self.new.devices) ≡ is_some (A.keys self.old.devices) }
         ensures buffer { self.new.buffer ≡ self.old.buffer }
         ensures ranked { self.new.ranked ≡ self.old.ranked }
         ensures opened { self.new.opened ≡ self.old.opened }
@@ -123,6 +128,8 @@ impl<D: Disk, A: Devices, C: Admission> Store<D, A, C> {
         ensures devices { self.new.devices ≡ self.old.devices }
         ensures freed { OnOk result ((cell : ℕ) → cell < 512 → has_id id.0 (cell_slot self.old.file.cells.slots.items cell) ≡ true → cell_slot self.new.file.cells.slots.items cell ≡ Free) }
         ensures zeros { FileStaysZeros D.contents D.may_leave D.moment D.left_since self.old.file self.new.file }
+        ensures tells { StillTells (D.contents self.old.file.cells.disk) (D.contents self.new.file.cells.disk) }
+        ensures knows { is_some (A.keys self.new.devices) ≡ is_some (A.keys self.old.devices) }
         ensures buffer { self.new.buffer ≡ self.old.buffer }
         ensures ranked { self.new.ranked ≡ self.old.ranked }
         ensures opened { self.new.opened ≡ self.old.opened }
@@ -155,6 +162,7 @@ impl<D: Disk, A: Devices, C: Admission> Store<D, A, C> {
         ensures ended { (i : ℕ) → holds_key id.0 (slot_at self.old.slots.table.slots i) ≡ true → slot_at self.new.slots.table.slots i ≡ destroyed_slot (slot_at self.old.slots.table.slots i) }
         ensures forgotten { OnOk result ((i : ℕ) → i < 384 → holds_key id.0 (slot_at self.old.slots.table.slots i) ≡ true → IsForgotten (slot_at self.old.slots.table.slots i) (A.keys self.old.devices) (A.keys self.new.devices)) }
         ensures file { self.new.file ≡ self.old.file }
+        ensures knows { is_some (A.keys self.new.devices) ≡ is_some (A.keys self.old.devices) }
         ensures buffer { self.new.buffer ≡ self.old.buffer }
         ensures ranked { self.new.ranked ≡ self.old.ranked }
         ensures opened { self.new.opened ≡ self.old.opened }

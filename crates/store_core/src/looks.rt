@@ -1,6 +1,7 @@
 //! The turn that lends a key.
 ghost use Rattle.std.specs.Prelude.{◌≡◌, ◌<◌, ◌^◌, ◌+◌, IfOk, IfErr};
 ghost use Rattle.psa_status.specs.declared.Status.TheVariants.{InvalidHandle};
+ghost use Rattle.disk_face.specs.Disk.{StillTells};
 ghost use Rattle.secret_bytes.specs.Buffer.{IsClear, bytes_of};
 ghost use Rattle.key_slots.specs.Wiping.{TakesOne};
 ghost use Rattle.key_uses.specs.Uses.{FitsUse, use_refusal};
@@ -46,6 +47,7 @@ impl<D: Disk, A: Devices, C: Admission> Store<D, A, C> {
         ensures unmoved { IfErr result (λ refused. refused.0 ≡ InvalidHandle → self.new.slots ≡ self.old.slots) }
         ensures emptied { IfErr result (λ refused. (mark_of refused.0 ≡ Plain → ⊥) → KeepsOrEmpties self.old.slots.table.slots self.new.slots.table.slots) }
         ensures zeros { StaysZeros D.contents D.may_leave D.moment D.left_since D.faults A.keys A.faults A.locations C.labels self.old self.new }
+        ensures tells { StillTells (D.contents self.old.file.cells.disk) (D.contents self.new.file.cells.disk) }
         ensures devices { self.new.devices ≡ self.old.devices }
         ensures opened { self.new.opened ≡ self.old.opened }
     {

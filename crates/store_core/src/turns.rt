@@ -1,6 +1,7 @@
 //! Turns that change no key.
 ghost use Rattle.std.specs.Prelude.{◌≡◌, ◌<◌, ◌^◌, ◌+◌, ℕ, List, true, false, Some, None, is_some, IfOk, IfErr, OnOk, OnErr};
 ghost use Rattle.std.specs.FinMap as map;
+ghost use Rattle.disk_face.specs.Disk.{StillTells};
 ghost use Rattle.psa_status.specs.declared.Status.TheVariants.{InvalidHandle};
 ghost use Rattle.secret_bytes.specs.Buffer.{IsClear};
 ghost use Rattle.slot_table.specs.Slots.{empty_slot, filling_slot, holds_key, is_idle, is_last, slot_at};
@@ -130,6 +131,7 @@ impl<D: Disk, A: Devices, C: Admission> Store<D, A, C> {
         ensures unmoved { IfErr result (λ status. status ≡ InvalidHandle → self.new.slots ≡ self.old.slots) }
         ensures emptied { OnErr result (KeepsOrEmpties self.old.slots.table.slots self.new.slots.table.slots) }
         ensures zeros { StaysZeros D.contents D.may_leave D.moment D.left_since D.faults A.keys A.faults A.locations C.labels self.old self.new }
+        ensures tells { StillTells (D.contents self.old.file.cells.disk) (D.contents self.new.file.cells.disk) }
         ensures devices { self.new.devices ≡ self.old.devices }
         ensures opened { self.new.opened ≡ self.old.opened }
     {

@@ -1,0 +1,170 @@
+-- A caller's pass between two turns, and what a turn adds to what it knows.
+use Rattle.std.specs.Prelude.{◌≡◌, ◌<◌, ◌≤◌, ◌^◌, ℕ, ◌+◌, ◌==◌, ◌&&◌, cond, nat_lt, count_by, List, [], ◌∷◌, ◌++◌, length, Option, Some, None, is_some, Err}
+use Rattle.atomic_table.specs.Seated.{TableId}
+use Rattle.atomic_table.specs.declared.shared.Seat.{Seat}
+use Rattle.turn_history.specs.declared.pass.View.{View}
+use Rattle.turn_history.specs.History.{entries_of, calls_by, StartsWith}
+use Rattle.turn_history.specs.Holdings.{own_of}
+use Rattle.turn_history.specs.Views.{IsInTurn, IsOutside, OwnCalls}
+use Rattle.policy_rules.specs.declared.narrowing.Label.{Label}
+use Rattle.slot_table.specs.Lent as lent
+use Rattle.key_slots.specs.Holdings.{Pairs, IsHolding}
+use Rattle.element_calls.specs.Answers.{mark_computed}
+use Rattle.store_model.specs.Store as model
+use Rattle.store_model.specs.Faults.{FaultMark, Plain}
+use Rattle.store_model.specs.Handles.{Service}
+use Rattle.store_model.specs.Requests.{Request}
+use Rattle.store_model.specs.Replay.{Entry, replay}
+use Rattle.store_model.specs.Marks.{AreAllowed, IsCaused, id_read}
+use Rattle.store_core.specs.declared.store.Opened.{Opened}
+use Rattle.store_core.specs.declared.store.Store.{Store}
+use Rattle.store_core.specs.Represents.{IsTold}
+use Rattle.store_core.specs.Start.{IsStart, opening_of}
+use Rattle.store_core.specs.Uses.{mark_of, mark_undestroyed}
+use Rattle.store_core.specs.Creations.{mark_uncopied, mark_unmade}
+use Rattle.shared_store.specs.declared.changes.Change.{Change}
+use Rattle.shared_store.specs.declared.changes.Change.TheVariants.{Nothing, Lends, TakesLease, Reserves, TakesFilling}
+use Rattle.shared_store.specs.declared.changes.Met.{Met}
+use Rattle.shared_store.specs.declared.changes.Met.TheVariants as met
+use Rattle.shared_store.specs.Standing.{caller_of}
+
+-- WHAT A CALLER HAS OUT
+
+-- a lease by its slot and its creation number plus 1
+abbrev pub lease_pair : lent.Reading → ℕ × ℕ
+lease_pair lease = (lease.slot, lease.creation + 1)
+
+-- a filling by its slot and 0
+abbrev pub filling_pair : lent.Reserved → ℕ × ℕ
+filling_pair filling = (filling.slot, 0)
+
+-- some pairs without the first that is this one
+abbrev pub without : ℕ × ℕ → Pairs → Pairs
+without p [] = []
+without p (q ∷ qs) = cond (p.0 == q.0 && p.1 == q.1) qs (q ∷ without p qs)
+
+abbrev pub changed : Change → Pairs → Pairs
+changed Nothing own = own
+changed (Lends lease) own = lease_pair lease.value ∷ own
+changed (TakesLease lease) own = without (lease_pair lease.value) own
+changed (Reserves filling) own = filling_pair filling.value ∷ own
+changed (TakesFilling filling) own = without (filling_pair filling.value) own
+
+-- there is room for one more lease, or for a filling
+abbrev pub HasRoomForLease : Pairs → Type 0
+HasRoomForLease own = count_by (λ p. nat_lt 0 p.1) own < 5
+
+abbrev pub HasNoFilling : Pairs → Type 0
+HasNoFilling own = count_by (λ p. p.1 == 0) own ≡ 0
+
+-- MARKS
+
+abbrev pub mark_met : Met → FaultMark
+mark_met met.Nothing = Plain
+mark_met (met.Unread status) = mark_of status
+mark_met (met.Unmade why) = mark_unmade why
+mark_met (met.Uncopied why) = mark_uncopied why
+mark_met (met.Undestroyed why) = mark_undestroyed why
+mark_met (met.Uncomputed why) = mark_computed (Err why)
+
+-- what a turn that leaves the store so adds to the history
+abbrev pub entry_of : {D A C : Type 0} → (moment faults : D → ℕ) → (hard : A → ℕ) → Store D A C → (caller : ℕ) → Request → FaultMark → Entry
+entry_of moment faults hard store caller call mark = record {
+  caller = caller;
+  call = call;
+  mark = mark;
+  done = moment store.file.cells.disk;
+  faults = faults store.file.cells.disk;
+  hard = hard store.devices;
+}
+
+-- PASSES
+
+-- a history that begins as a pass has seen it, in which no further call is the pass's
+pub record GoesOn {B : Type 0} (v : View Entry B) (h : List Entry) : Type 0 where
+  pub since : StartsWith h (entries_of v.seen)
+  pub calls : calls_by caller_of v.number h ≡ v.calls
+
+-- one turn was spent
+pub record IsOneTurnOn {B : Type 0} (v w : View Entry B) : Type 0 where
+  pub number : w.number ≡ v.number
+  pub weight : w.weight ≡ v.weight
+  pub turns_left : w.turns_left + 1 ≡ v.turns_left
+  pub prefix : StartsWith w.seen v.seen
+
+-- and it added no entry of the pass's, which then has these pairs out
+pub record IsLater {B : Type 0} (v w : View Entry B) (own : Pairs) : Type 0 where
+  pub on : IsOneTurnOn v w
+  pub calls : w.calls ≡ v.calls
+  pub holding : w.holding ≡ own
+
+-- it added an entry of this call with this mark, after the history `before`, at the place r
+pub record IsEntered {B : Type 0} (v w : View Entry B) (call : Request) (mark : FaultMark) (r : ℕ) (own : Pairs) (before : List Entry) (e : Entry) : Type 0 where
+  pub on : IsOneTurnOn v w
+  pub goes_on : GoesOn v before
+  pub seen : entries_of w.seen ≡ before ++ e ∷ []
+  pub rank : r ≡ length before
+  pub by : e.caller ≡ v.number
+  pub call_is : e.call ≡ call
+  pub mark_is : e.mark ≡ mark
+  pub calls : w.calls ≡ v.calls ++ e ∷ []
+  pub holding : w.holding ≡ own
+
+module _ {D A C : Type 0} (told : D → Option (List ℕ)) (moment : D → ℕ) (faults : D → ℕ) (hard : A → ℕ) (locations : A → List ℕ) (labels : C → List Label) where
+  abbrev pub IsStartOf : Opened D A C → Service → Type 0
+  IsStartOf = IsStart told moment faults hard locations labels
+
+  -- what a history makes of the keys is told
+  abbrev pub ToldBy : Opened D A C → Service → List Entry → Type 0
+  ToldBy opened start h = IsTold (told opened.file.value.cells.disk) start h
+
+  -- each mark of a history stands where it may, and has its fault since the entry before it, or since the opening
+  pub record IsLegal (opened : Opened D A C) (h : List Entry) : Type 0 where
+    pub caused : IsCaused (is_some (told opened.file.value.cells.disk)) (opening_of told moment faults hard locations labels opened).counts h
+    pub allowed : (start : Service) → IsStartOf opened start → ToldBy opened start h → AreAllowed start h
+
+  module _ {V : Type 0} (lock : TableId) (opened : Opened D A C) where
+    -- a pass of this lock outside any turn
+    pub record IsAt (p : Seat (Option V) (View Entry (Opened D A C))) : Type 0 where
+      pub table : p.table_id ≡ lock
+      pub outside : IsOutside p.me
+      pub based : p.me.0.base ≡ Some opened
+      pub first : 1 ≤ p.me.0.number
+      pub calls : OwnCalls caller_of p.me.0
+      pub holding : IsHolding p.me.0.holding
+      pub legal : IsLegal opened (entries_of p.me.0.seen)
+
+    -- a pass in its turn, v as it was before
+    pub record IsBegun (v : View Entry (Opened D A C)) (p : Seat (Option V) (View Entry (Opened D A C))) (entries : ℕ) : Type 0 where
+      pub table : p.table_id ≡ lock
+      pub in_turn : IsInTurn p.me
+      pub on : IsOneTurnOn v p.me.0
+      pub based : p.me.0.base ≡ Some opened
+      pub first : 1 ≤ p.me.0.number
+      pub same_calls : p.me.0.calls ≡ v.calls
+      pub same_holding : p.me.0.holding ≡ v.holding
+      pub calls : OwnCalls caller_of p.me.0
+      pub own : own_of p.me.0.holdings p.me.0.number ≡ p.me.0.holding
+      pub inside : p.me.0.number ≤ length p.me.0.holdings
+      pub few : length p.me.0.seen < 2 ^ 62
+      pub entries_are : entries ≡ length (entries_of p.me.0.seen)
+
+  -- the request reads the key of an identifier, in whatever history it is entered after what the pass has seen
+  abbrev pub ReadsKey : Opened D A C → View Entry (Opened D A C) → Request → ℕ → Type 0
+  ReadsKey opened v call id = (start : Service) → IsStartOf opened start → (h : List Entry) → GoesOn v h → ToldBy opened start h → id_read (replay start h) v.number call ≡ Some id
+
+  -- P holds of the one-thread store before an entry, or after it, from each start and as far as that is told
+  abbrev pub DecidesBefore : Opened D A C → (model.Store → Type 0) → List Entry → Entry → Type 0
+  DecidesBefore opened P before e = (start : Service) → IsStartOf opened start →
+      (m : model.Store) × (ToldBy opened start (before ++ e ∷ []) → m ≡ (replay start before).store) × P m
+
+  abbrev pub DecidesAfter : Opened D A C → (model.Store → Type 0) → List Entry → Entry → Type 0
+  DecidesAfter opened P before e = (start : Service) → IsStartOf opened start →
+      (m : model.Store) × (ToldBy opened start (before ++ e ∷ []) → m ≡ (replay start (before ++ e ∷ [])).store) × P m
+
+-- a ranked turn: its entry, and what was decided there
+pub record IsRanked {B : Type 0} (v w : View Entry B) (call : Request) (mark : FaultMark) (r : ℕ) (own : Pairs) (Decided : List Entry → Entry → Type 0) : Type 0 where
+  pub before : List Entry
+  pub entry : Entry
+  pub entered : IsEntered v w call mark r own before entry
+  pub decided : Decided before entry

@@ -1,0 +1,12 @@
+//! The store under the lock with its history: each turn of the store by a shared reference, with its place in the one
+//! history of all callers.
+#![tactic(auto)]
+
+mod changes;
+mod ends;
+mod held;
+mod leases;
+mod plain_turns;
+
+pub use changes::{Change, Met};
+pub use held::{Entry, Held, SharedStore};
