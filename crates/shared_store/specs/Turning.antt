@@ -1,5 +1,5 @@
 -- A caller's pass between two turns, and what a turn adds to what it knows.
-use Rattle.std.specs.Prelude.{◌≡◌, ◌<◌, ◌≤◌, ◌^◌, ℕ, ◌+◌, ◌==◌, ◌&&◌, cond, nat_lt, count_by, List, [], ◌∷◌, ◌++◌, length, Option, Some, None, is_some, Err}
+use Rattle.std.specs.Prelude.{◌≡◌, ◌<◌, ◌≤◌, ◌^◌, ℕ, ◌+◌, ◌==◌, ◌&&◌, false, cond, Result, nat_lt, count_by, List, [], ◌∷◌, ◌++◌, length, Option, Some, None, is_some, Err}
 use Rattle.atomic_table.specs.Seated.{TableId}
 use Rattle.atomic_table.specs.declared.shared.Seat.{Seat}
 use Rattle.turn_history.specs.declared.pass.View.{View}
@@ -8,18 +8,22 @@ use Rattle.turn_history.specs.Holdings.{own_of}
 use Rattle.turn_history.specs.Views.{IsInTurn, IsOutside, OwnCalls}
 use Rattle.policy_rules.specs.declared.narrowing.Label.{Label}
 use Rattle.slot_table.specs.Lent as lent
-use Rattle.key_slots.specs.Holdings.{Pairs, IsHolding}
+use Rattle.key_attributes.specs.declared.Attributes.{Attributes}
+use Rattle.psa_status.specs.declared.Status.{Status}
+use Rattle.key_slots.specs.Holdings.{Pairs, IsHolding, names}
 use Rattle.element_calls.specs.Answers.{mark_computed}
 use Rattle.store_model.specs.Store as model
 use Rattle.store_model.specs.Faults.{FaultMark, Plain}
 use Rattle.store_model.specs.Handles.{Service}
-use Rattle.store_model.specs.Requests.{Request}
+use Rattle.store_model.specs.Creation.{created_unless}
+use Rattle.store_model.specs.Requests.{Request, plain_step}
 use Rattle.store_model.specs.Replay.{Entry, replay}
 use Rattle.store_model.specs.Marks.{AreAllowed, IsCaused, id_read}
 use Rattle.store_core.specs.declared.store.Opened.{Opened}
 use Rattle.store_core.specs.declared.store.Store.{Store}
 use Rattle.store_core.specs.Represents.{IsTold}
 use Rattle.store_core.specs.Start.{IsStart, opening_of}
+use Rattle.store_core.specs.Durability.{is_destruction}
 use Rattle.store_core.specs.Uses.{mark_of, mark_undestroyed}
 use Rattle.store_core.specs.Creations.{mark_uncopied, mark_unmade}
 use Rattle.shared_store.specs.declared.changes.Change.{Change}
@@ -168,3 +172,20 @@ pub record IsRanked {B : Type 0} (v w : View Entry B) (call : Request) (mark : F
   pub entry : Entry
   pub entered : IsEntered v w call mark r own before entry
   pub decided : Decided before entry
+
+-- a lease, where there is one, is among these pairs
+abbrev pub IsOwn : Option lent.Reading → Pairs → Type 0
+IsOwn None own = Unit {0}
+IsOwn (Some lease) own = 0 < names lease.slot (lease.creation + 1) own
+
+-- The request is to create a key of these bytes for a caller, the pass's, in whatever history it is entered. It destroys none, and
+-- leaves and answers what a creation does that records so.
+pub record CreatesKey {D A C : Type 0} (told : D → Option (List ℕ)) (moment : D → ℕ) (faults : D → ℕ) (hard : A → ℕ) (locations : A → List ℕ) (labels : C → List Label)
+    (opened : Opened D A C) (v : View Entry (Opened D A C)) (caller : ℕ) (call : Request) (records : model.Store → Result Attributes Status → Type 0) (bytes : List ℕ) : Type 0 where
+  pub keeps : is_destruction call ≡ false
+  pub leaves : (start : Service) → IsStartOf told moment faults hard locations labels opened start → (h : List Entry) → GoesOn v h → ToldBy told moment faults hard locations labels opened start h →
+      (recorded : Result Attributes Status) → records (replay start h).store recorded →
+      (plain_step (replay start h) caller call).service.store ≡ (created_unless (replay start h).store caller recorded bytes).store
+  pub answers : (start : Service) → IsStartOf told moment faults hard locations labels opened start → (h : List Entry) → GoesOn v h → ToldBy told moment faults hard locations labels opened start h →
+      (recorded : Result Attributes Status) → records (replay start h).store recorded →
+      (plain_step (replay start h) caller call).reply ≡ (created_unless (replay start h).store caller recorded bytes).reply

@@ -43,16 +43,16 @@ impl<D: Disk, A: Devices, C: Admission> SharedStore<D, A, C> {
         call: &Call<'_>,
         room: usize,
         met: Met,
-        change: Change,
+        change: &Change,
     ) -> u64
         requires begun { IsBegun D.contents D.moment D.faults A.faults A.locations C.labels self.now.lock.table.shared.table_id self.now.lock.table.shared.key.value.value.store.opened before.value.me.0 pass.old turn.entries }
-        requires names { (N.entry ≡ Some (entry_of D.moment D.faults A.faults turn.value.store pass.old.me.0.number (model_request call.now room) (mark_met met))) × (N.holding ≡ changed change pass.old.me.0.holding) }
+        requires names { (N.entry ≡ Some (entry_of D.moment D.faults A.faults turn.value.store pass.old.me.0.number (model_request call.now room) (mark_met met))) × (N.holding ≡ changed change.now pass.old.me.0.holding) }
         requires stands { Stands D.contents D.may_leave D.moment D.left_since D.faults D.size A.keys A.faults A.locations C.labels turn.value.store
             (entries_of pass.old.me.0.seen ++ entry_of D.moment D.faults A.faults turn.value.store pass.old.me.0.number (model_request call.now room) (mark_met met) ∷ [])
-            (with_own pass.old.me.0.holdings pass.old.me.0.number (changed change pass.old.me.0.holding)) }
+            (with_own pass.old.me.0.holdings pass.old.me.0.number (changed change.now pass.old.me.0.holding)) }
         requires opened { turn.value.store.opened ≡ self.now.lock.table.shared.key.value.value.store.opened }
         ensures at { IsAt D.contents D.moment D.faults A.faults A.locations C.labels self.now.lock.table.shared.table_id self.now.lock.table.shared.key.value.value.store.opened pass.new }
-        ensures entered { IsEntered before.value.me.0 pass.new.me.0 (model_request call.now room) (mark_met met) result (changed change before.value.me.0.holding)
+        ensures entered { IsEntered before.value.me.0 pass.new.me.0 (model_request call.now room) (mark_met met) result (changed change.now before.value.me.0.holding)
             (entries_of pass.old.me.0.seen) (entry_of D.moment D.faults A.faults turn.value.store pass.old.me.0.number (model_request call.now room) (mark_met met)) }
     {
         let _ = (before, call, room, met, change);
@@ -68,15 +68,15 @@ impl<D: Disk, A: Devices, C: Admission> SharedStore<D, A, C> {
         pass: &mut Pass<Held<D, A, C>>,
         turn: Turn<Held<D, A, C>>,
         before: Snapshot<Pass<Held<D, A, C>>>,
-        change: Change,
+        change: &Change,
     )
         requires begun { IsBegun D.contents D.moment D.faults A.faults A.locations C.labels self.now.lock.table.shared.table_id self.now.lock.table.shared.key.value.value.store.opened before.value.me.0 pass.old turn.entries }
-        requires names { (N.entry ≡ None) × (N.holding ≡ changed change pass.old.me.0.holding) }
+        requires names { (N.entry ≡ None) × (N.holding ≡ changed change.now pass.old.me.0.holding) }
         requires stands { Stands D.contents D.may_leave D.moment D.left_since D.faults D.size A.keys A.faults A.locations C.labels turn.value.store (entries_of pass.old.me.0.seen)
-            (with_own pass.old.me.0.holdings pass.old.me.0.number (changed change pass.old.me.0.holding)) }
+            (with_own pass.old.me.0.holdings pass.old.me.0.number (changed change.now pass.old.me.0.holding)) }
         requires opened { turn.value.store.opened ≡ self.now.lock.table.shared.key.value.value.store.opened }
         ensures at { IsAt D.contents D.moment D.faults A.faults A.locations C.labels self.now.lock.table.shared.table_id self.now.lock.table.shared.key.value.value.store.opened pass.new }
-        ensures later { IsLater before.value.me.0 pass.new.me.0 (changed change before.value.me.0.holding) }
+        ensures later { IsLater before.value.me.0 pass.new.me.0 (changed change.now before.value.me.0.holding) }
     {
         let _ = (before, change);
         self.lock.leave::<N>(pass, turn);

@@ -42,7 +42,7 @@ impl<D: Disk, A: Devices, C: Admission> Historic for Held<D, A, C> {
     ghost base = { λ v. v.store.opened };
 
     fn entries(&self) -> u64 {
-        self.store.ranked()
+        self.store.ranked
     }
 }
 

@@ -64,7 +64,7 @@ impl<D: Disk, A: Devices, C: Admission> SharedStore<D, A, C> {
                     call,
                     room,
                     Met::Nothing,
-                    change,
+                    &change,
                 );
                 (rank, Ok(lease))
             }
@@ -76,7 +76,7 @@ impl<D: Disk, A: Devices, C: Admission> SharedStore<D, A, C> {
                     call,
                     room,
                     Met::Unread(status),
-                    Change::Nothing,
+                    &Change::Nothing,
                 );
                 (rank, Err((status, spare)))
             }
@@ -96,7 +96,7 @@ impl<D: Disk, A: Devices, C: Admission> SharedStore<D, A, C> {
         let change = Change::TakesLease(Snapshot::of(&lease));
         let mut turn = self.enter(rt, pass);
         let spare = turn.value().store.leave(lease);
-        self.leave_unranked::<Brand>(pass, turn, before, change);
+        self.leave_unranked::<Brand>(pass, turn, before, &change);
         spare
     }
 }

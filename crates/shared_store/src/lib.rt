@@ -3,8 +3,10 @@
 #![tactic(auto)]
 
 mod changes;
+mod creations;
 mod ends;
 mod held;
+mod keys;
 mod leases;
 mod plain_turns;
 

@@ -49,7 +49,7 @@ impl<D: Disk, A: Devices, C: Admission> SharedStore<D, A, C> {
             call,
             room,
             Met::Nothing,
-            Change::Nothing,
+            &Change::Nothing,
         )
     }
 
@@ -84,7 +84,7 @@ impl<D: Disk, A: Devices, C: Admission> SharedStore<D, A, C> {
             call,
             room,
             Met::Nothing,
-            Change::Nothing,
+            &Change::Nothing,
         );
         (rank, stepped)
     }

@@ -1,4 +1,4 @@
-mod Histories
+pub mod Histories
 mod Holding
 mod Kept
 mod Replaced

@@ -1,0 +1,4 @@
+pub mod Owning
+pub mod Passing
+pub mod Renewing
+pub mod Turns
