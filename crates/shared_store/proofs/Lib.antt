@@ -2,3 +2,4 @@ pub mod Owning
 pub mod Passing
 pub mod Renewing
 pub mod Turns
+pub mod Computing

@@ -18,18 +18,19 @@ use Rattle.store_model.specs.Store as model
 use Rattle.store_model.specs.Faults.{FaultMark, Plain}
 use Rattle.store_model.specs.Handles.{Service}
 use Rattle.store_model.specs.Laws.{may_change_keys}
-use Rattle.store_model.specs.Call.{Copy, Destroy}
+use Rattle.store_model.specs.Call.{Call, Copy, Destroy}
 use Rattle.store_model.specs.Creation.{created_unless}
 use Rattle.store_model.specs.Requests.{Request, OnStore, plain_step}
 use Rattle.store_model.specs.Replay.{Entry, replay}
 use Rattle.store_core.specs.declared.store.Opened.{Opened}
 use Rattle.store_core.specs.declared.store.Store.{Store}
 use Rattle.store_core.specs.Creations.{Copies, Creates, HasOutBeside, IsAmong}
+use Rattle.store_core.specs.Opaque.{Makes}
 use Rattle.store_core.proofs.Histories.{told_before}
-use Rattle.store_core.specs.Represents.{Adds, AddsAs, Destroys, Gives, HasOut, IsEntry, IsTold, Opening, Reads, ReadsAndGives, Stands, StandsFor, Steps, Takes}
+use Rattle.store_core.specs.Represents.{Adds, AddsAs, Destroys, Gives, HasOut, HoldsOf, IsEntry, IsTold, Opening, Reads, ReadsAndGives, Stands, StandsFor, Steps, Takes}
 use Rattle.store_core.specs.Start.{opening_of}
 use Rattle.shared_store.specs.Standing as shared
-use Rattle.shared_store.specs.Turning.{CreatesKey, DecidesAfter, DecidesBefore, IsBegun, IsEntered, IsOwn, IsRanked, IsStartOf, ReadsKey, ToldBy, entry_of, without}
+use Rattle.shared_store.specs.Turning.{CreatesKey, DecidesAfter, DecidesBefore, IsBegun, IsEntered, IsEnteredAfter, IsOwn, IsRanked, IsStartOf, ReadsKey, ToldBy, entry_of, without}
 use Rattle.shared_store.proofs.Owning.{fewer, gains, loses, splits, with_holding}
 use Rattle.shared_store.proofs.Passing.{goes_on}
 use Rattle.shared_store.proofs.Renewing.{decides_after, holdings, is_entry, reading, renewed, told_now, told_then}
@@ -167,6 +168,10 @@ module _ {D A C : Type 0} (told : D → Option (List ℕ)) (may_leave : D → Li
         decides_after told may_leave moment left_since faults size held hard locations labels new opened P seen (entry new call mark) pairs (k.opened ∙ same) then.tells
         (λ start is. subst (λ o. (n : For new start (As o) (seen ++ entry new call mark ∷ []) pairs) × P n.holds.model) same (led start (subst (λ o. From o start) (sym same) is)))
 
+    -- and so to one of which Q holds, where P gives that
+    pub led_weaker : (new : Store D A C) (call : Request) (mark : FaultMark) (pairs : List Pairs) (P Q : model.Store → Type 0) → Led new call mark pairs P → ((m : model.Store) → P m → Q m) → Led new call mark pairs Q
+    led_weaker new call mark pairs P Q led weaker start is = let n = led start is in (n.0, weaker n.0.holds.model n.1)
+
     pub counts : (new : Store D A C) (call : Request) → Adds told may_leave moment left_since faults held hard locations labels old new → may_change_keys call ≡ false → Led new call Plain (with own) (λ m. Unit {0})
     counts new call adds quiet start is = (adds start (As old.opened) seen (with own) (entry new call Plain) (subst (For old start (As old.opened) seen) kept (s.each start is)) quiet (entered new call Plain), tt)
 
@@ -188,6 +193,10 @@ module _ {D A C : Type 0} (told : D → Option (List ℕ)) (may_leave : D → Li
     reads_and_gives new call id pair P read holding quiet asks start is = read start (As old.opened) seen all (with (pair ∷ own)) (entry new call Plain) (s.each start is) (given pair) (with_holding all p.me.0.number (pair ∷ own) holding are)
         (reading told may_leave moment left_since faults size held hard locations labels lock opened v p entries b old start call Plain new id same s.tells (subst (λ o. From o start) same is) quiet asks) (entered new call Plain)
 
+    pub makes : (new : Store D A C) (asked : Call) (call : Request) (mark : FaultMark) (P : model.Store → Type 0) → Makes told may_leave moment left_since faults held hard locations labels old new asked mark P →
+        call ≡ OnStore asked → Led new call mark (with own) P
+    makes new asked call mark P made is_call start is = made start (As old.opened) seen (with own) (entry new call mark) (subst (For old start (As old.opened) seen) kept (s.each start is)) is_call (entered new call mark)
+
     -- a ranked turn that leads on from every start, where P held of the one-thread store before it
     abbrev pub LedBefore : Store D A C → Request → FaultMark → List Pairs → (model.Store → Type 0) → Type 0
     LedBefore new call mark pairs P = (start : Service) → From old.opened start → For new start (As old.opened) (seen ++ entry new call mark ∷ []) pairs
@@ -206,6 +215,11 @@ module _ {D A C : Type 0} (told : D → Option (List ℕ)) (may_leave : D → Li
     was : (start : Service) (e : Entry) (from : For old start (As old.opened) seen all) → ToldBy told moment faults hard locations labels old.opened start (seen ++ e ∷ []) → from.holds.model ≡ (replay start seen).store
     was start e from known = from.holds.replayed (told_now told may_leave moment left_since faults size held hard locations labels old start seen s.tells
         (told_before (told old.opened.file.value.cells.disk) start seen e known))
+
+    -- what holds of the store's model now was so before any entry
+    pub decided_now : (P : model.Store → Type 0) (e : Entry) → HoldsOf told may_leave moment left_since faults held hard locations labels old P → DecidesBefore told moment faults hard locations labels opened P seen e
+    decided_now P e holds start is = let from = s.each start (subst (λ o. From o start) (sym same) is) in
+        (from.holds.model, λ known. was start e from (subst (λ o. ToldBy told moment faults hard locations labels o start (seen ++ e ∷ [])) (sym same) known), holds start (As old.opened) seen all from)
 
     pub destroys : (new : Store D A C) (call : Request) (id : ℕ) (mark : FaultMark) (P : model.Store → Type 0) → Destroys told may_leave moment left_since faults held hard locations labels old new id mark P →
         call ≡ OnStore (Destroy id) → LedBefore new call mark (with own) P
@@ -244,6 +258,10 @@ module _ {D A C : Type 0} (told : D → Option (List ℕ)) (may_leave : D → Li
         (n.0, n.1, λ known. n.2 (⊎_elim (λ (e : is_some (told old.opened.file.value.cells.disk) ≡ true). inl (k.tells ∙ (s.tells ∙ e))) (λ none. inr none) known), n.3)
 
 -- a ranked turn, by its entry and what was decided there
+pub entered_after : {B : Type 0} {v w : View Entry B} {call : Request} {mark : FaultMark} {r : ℕ} {own : Pairs} {before : List Entry} {e : Entry} {Decided : List Entry → Entry → Type 0} →
+    IsEntered v w call mark r own before e → Decided before e → IsEnteredAfter v w call mark r own before Decided
+entered_after {e = e} entered decided = record { entry = e; entered = entered; decided = decided }
+
 pub ranked : {B : Type 0} {v w : View Entry B} {call : Request} {mark : FaultMark} {r : ℕ} {own : Pairs} {before : List Entry} {e : Entry} {Decided : List Entry → Entry → Type 0} →
     IsEntered v w call mark r own before e → Decided before e → IsRanked v w call mark r own Decided
-ranked {before = before} {e = e} entered decided = record { before = before; entry = e; entered = entered; decided = decided }
+ranked {before = before} entered decided = record { before = before; after = entered_after entered decided }

@@ -1,2 +1,4 @@
 pub mod Standing
 pub mod Turning
+pub mod Elements
+pub mod Closed

@@ -166,12 +166,16 @@ module _ {D A C : Type 0} (told : D → Option (List ℕ)) (moment : D → ℕ) 
   DecidesAfter opened P before e = (start : Service) → IsStartOf opened start →
       (m : model.Store) × (ToldBy opened start (before ++ e ∷ []) → m ≡ (replay start (before ++ e ∷ [])).store) × P m
 
--- a ranked turn: its entry, and what was decided there
-pub record IsRanked {B : Type 0} (v w : View Entry B) (call : Request) (mark : FaultMark) (r : ℕ) (own : Pairs) (Decided : List Entry → Entry → Type 0) : Type 0 where
-  pub before : List Entry
+-- a ranked turn after a history: its entry, and what was decided there
+pub record IsEnteredAfter {B : Type 0} (v w : View Entry B) (call : Request) (mark : FaultMark) (r : ℕ) (own : Pairs) (before : List Entry) (Decided : List Entry → Entry → Type 0) : Type 0 where
   pub entry : Entry
   pub entered : IsEntered v w call mark r own before entry
   pub decided : Decided before entry
+
+-- a ranked turn
+pub record IsRanked {B : Type 0} (v w : View Entry B) (call : Request) (mark : FaultMark) (r : ℕ) (own : Pairs) (Decided : List Entry → Entry → Type 0) : Type 0 where
+  pub before : List Entry
+  pub after : IsEnteredAfter v w call mark r own before Decided
 
 -- a lease, where there is one, is among these pairs
 abbrev pub IsOwn : Option lent.Reading → Pairs → Type 0

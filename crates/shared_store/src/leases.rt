@@ -1,13 +1,15 @@
 //! Turns that lend a key, and take it back.
 ghost use Rattle.std.specs.Prelude.{◌≡◌, ◌<◌, ◌+◌, ◌∷◌, false, IfOk, IfErr};
 ghost use Rattle.secret_bytes.specs.Buffer.{IsClear, bytes_of};
-ghost use Rattle.key_slots.specs.Holdings.{names};
+ghost use Rattle.turn_history.specs.History.{entries_of};
+ghost use Rattle.key_slots.specs.Holdings.{IsHolding, names};
 ghost use Rattle.key_uses.specs.Uses.{FitsUse, use_refusal};
 ghost use Rattle.service_calls.specs.Meanings.{model_request};
 ghost use Rattle.store_model.specs.Faults.{Plain};
 ghost use Rattle.store_model.specs.Laws.{may_change_keys};
 ghost use Rattle.store_core.specs.Uses.{IsLent, IsRefused, mark_of};
-ghost use Rattle.shared_store.specs.Turning.{DecidesAfter, HasRoomForLease, IsAt, IsLater, IsRanked, ReadsKey, lease_pair, without};
+ghost use Rattle.shared_store.specs.Standing.{Stands};
+ghost use Rattle.shared_store.specs.Turning.{DecidesAfter, HasRoomForLease, IsAt, IsBegun, IsEnteredAfter, IsLater, IsRanked, ReadsKey, lease_pair, without};
 
 use crate::changes::{Change, Met};
 use crate::held::{Held, SharedStore};
@@ -23,7 +25,7 @@ use slot_table::Lease;
 use std::marker::Brand;
 use std::snapshot::Snapshot;
 use std::sync::Wait;
-use turn_history::Pass;
+use turn_history::{Pass, Turn};
 
 impl<D: Disk, A: Devices, C: Admission> SharedStore<D, A, C> {
     /// Lends the bytes of the key that a call reads, in a clear spare, or answers the call's first refusal, with the spare.
@@ -53,7 +55,38 @@ impl<D: Disk, A: Devices, C: Admission> SharedStore<D, A, C> {
         ensures spare { IfErr result.1 (λ refused. IsClear refused.1) }
     {
         let before = Snapshot::of(pass);
-        let mut turn = self.enter(rt, pass);
+        let turn = self.enter(rt, pass);
+        self.look_in(pass, turn, before, call, room, id, wanted, spare)
+    }
+
+    // The same in a turn that has begun.
+    pub(crate) fn look_in(
+        &self,
+        pass: &mut Pass<Held<D, A, C>>,
+        mut turn: Turn<Held<D, A, C>>,
+        before: Snapshot<Pass<Held<D, A, C>>>,
+        call: &Call<'_>,
+        room: usize,
+        id: KeyId,
+        wanted: KeyUse,
+        spare: Secret,
+    ) -> (u64, Result<Lease, (Status, Secret)>)
+        requires begun { IsBegun D.contents D.moment D.faults A.faults A.locations C.labels self.now.lock.table.shared.table_id self.now.lock.table.shared.key.value.value.store.opened before.value.me.0 pass.old turn.entries }
+        requires stands { Stands D.contents D.may_leave D.moment D.left_since D.faults D.size A.keys A.faults A.locations C.labels turn.value.store (entries_of pass.old.me.0.seen) pass.old.me.0.holdings }
+        requires opened { turn.value.store.opened ≡ self.now.lock.table.shared.key.value.value.store.opened }
+        requires holding { IsHolding before.value.me.0.holding }
+        requires space { HasRoomForLease before.value.me.0.holding }
+        requires spare { IsClear spare }
+        requires quiet { may_change_keys (model_request call.now room) ≡ false }
+        requires reads { ReadsKey D.contents D.moment D.faults A.faults A.locations C.labels self.now.lock.table.shared.key.value.value.store.opened before.value.me.0 (model_request call.now room) id.0 }
+        ensures at { IsAt D.contents D.moment D.faults A.faults A.locations C.labels self.now.lock.table.shared.table_id self.now.lock.table.shared.key.value.value.store.opened pass.new }
+        ensures lent { IfOk result.1 (λ lease. IsEnteredAfter before.value.me.0 pass.new.me.0 (model_request call.now room) Plain result.0 (lease_pair lease ∷ before.value.me.0.holding) (entries_of pass.old.me.0.seen)
+            (DecidesAfter D.contents D.moment D.faults A.faults A.locations C.labels self.now.lock.table.shared.key.value.value.store.opened (IsLent (use_refusal wanted) id.0 lease))) }
+        ensures fits { IfOk result.1 (λ lease. FitsUse wanted (bytes_of lease.buffer)) }
+        ensures refused { IfErr result.1 (λ refused. IsEnteredAfter before.value.me.0 pass.new.me.0 (model_request call.now room) (mark_of refused.0) result.0 before.value.me.0.holding (entries_of pass.old.me.0.seen)
+            (DecidesAfter D.contents D.moment D.faults A.faults A.locations C.labels self.now.lock.table.shared.key.value.value.store.opened (IsRefused (use_refusal wanted) id.0 refused.0))) }
+        ensures spare { IfErr result.1 (λ refused. IsClear refused.1) }
+    {
         match turn.value().store.look(id, wanted, spare) {
             Ok(lease) => {
                 let change = Change::Lends(Snapshot::of(&lease));

@@ -4,11 +4,15 @@
 
 mod changes;
 mod creations;
+mod elements;
 mod ends;
 mod held;
 mod keys;
 mod leases;
+mod opening;
 mod plain_turns;
 
 pub use changes::{Change, Met};
+pub use elements::Looked;
 pub use held::{Entry, Held, SharedStore};
+pub use opening::{Shared, end};

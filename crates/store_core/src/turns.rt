@@ -180,10 +180,10 @@ impl<D: Disk, A: Devices, C: Admission> Store<D, A, C> {
         Ok(())
     }
 
-    /// The disk.
-    pub fn into_disk(self) -> D
-        ensures { result ≡ self.file.cells.disk }
+    /// The disk and the devices.
+    pub fn into_disk(self) -> (D, A)
+        ensures { result ≡ (self.file.cells.disk, self.devices) }
     {
-        self.file.into_disk()
+        (self.file.into_disk(), self.devices)
     }
 }

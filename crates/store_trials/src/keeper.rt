@@ -82,6 +82,6 @@ impl<D: Disk, A: Devices, C: Admission> Keeper<D, A, C> {
 
     /// The disk.
     pub fn into_disk(self) -> D {
-        self.store.into_disk()
+        self.store.into_disk().0
     }
 }

@@ -1,7 +1,7 @@
 use Rattle.std.proofs.Common.{Some}
 use Rattle.service_calls.specs.Meanings.{model_request}
 use Rattle.shared_store.specs.Turning.{changed, entry_of, mark_met}
-use Rattle.shared_store.proofs.held.SharedStore.look.Given as goal
+use Rattle.shared_store.proofs.held.SharedStore.look_in.Given as goal
 
 -- the call is the entry of its turn
 abbrev pub ghosts-leave_ranked : goal.ghosts-leave_ranked

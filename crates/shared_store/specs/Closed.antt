@@ -1,0 +1,38 @@
+-- Passes that are new, and what is known once all are handed in.
+use Rattle.std.specs.Prelude.{◌≡◌, ◌<◌, ◌≤◌, ℕ, true, List, [], All, length, slice_index_or, Option, is_some}
+use Rattle.atomic_table.specs.Seated.{TableId}
+use Rattle.atomic_table.specs.declared.shared.Seat.{Seat}
+use Rattle.turn_history.specs.declared.pass.Account.{Account}
+use Rattle.turn_history.specs.declared.pass.View.{View}
+use Rattle.turn_history.specs.History.{entries_of, calls_by, StartsWith}
+use Rattle.policy_rules.specs.declared.narrowing.Label.{Label}
+use Rattle.driver_dispatch.specs.Held.{HeldKeys}
+use Rattle.store_model.specs.Handles.{Service}
+use Rattle.store_model.specs.Replay.{Entry}
+use Rattle.store_model.specs.Marks.{last_counts}
+use Rattle.store_core.specs.declared.store.Opened.{Opened}
+use Rattle.store_core.specs.Durability.{KeepsKeys}
+use Rattle.store_core.specs.Start.{opening_of}
+use Rattle.shared_store.specs.Standing.{caller_of}
+use Rattle.shared_store.specs.Turning.{IsAt, IsLegal, IsStartOf}
+
+-- each of these passes is of this lock, and outside any turn
+abbrev pub AreAt : {V D A C : Type 0} (told : D → Option (List ℕ)) (moment : D → ℕ) (faults : D → ℕ) (hard : A → ℕ) (locations : A → List ℕ) (labels : C → List Label)
+    (lock : TableId) (opened : Opened D A C) → List (Seat (Option V) (View Entry (Opened D A C))) → Type 0
+AreAt told moment faults hard locations labels lock opened passes = (k : ℕ) (p : _) → k < length passes → IsAt told moment faults hard locations labels lock opened (slice_index_or passes k p)
+
+-- There is one history. The passes that were handed in have seen beginnings of it, and their calls are their numbers' entries in
+-- it. Each of its marks stands where it may and has its fault; the last entry's counts are those of the disk and the devices
+-- that come back. Over a disk that told its bytes as it was opened, a crash since then has left the keys of a prefix, and one
+-- since a call was done those of a prefix that holds it.
+pub record IsClosed {D A C : Type 0} (told : D → Option (List ℕ)) (may_leave : D → List ℕ → Type 0) (moment : D → ℕ) (left_since : D → ℕ → List ℕ → Type 0)
+    (faults : D → ℕ) (held : A → Option HeldKeys) (hard : A → ℕ) (locations : A → List ℕ) (labels : C → List Label)
+    (opened : Opened D A C) (disk : D) (devices : A) (accounts : List (Account Entry)) : Type 0 where
+  pub turns : List (Option Entry)
+  pub signed : All (λ (e : Entry). (0 < e.caller) × (e.caller ≤ 16)) (entries_of turns)
+  pub seen : All (λ (a : Account Entry). StartsWith turns a.seen) accounts
+  pub called : All (λ (a : Account Entry). 0 < a.number → calls_by caller_of a.number (entries_of turns) ≡ a.calls) accounts
+  pub legal : IsLegal told moment faults hard locations labels opened (entries_of turns)
+  pub counts : last_counts (opening_of told moment faults hard locations labels opened).counts (entries_of turns) ≡ record { faults = faults disk; hard = hard devices }
+  pub promise : is_some (told opened.file.value.cells.disk) ≡ true → (start : Service) → IsStartOf told moment faults hard locations labels opened start →
+      KeepsKeys (left_since disk) (moment disk) (opening_of told moment faults hard locations labels opened).moment start (entries_of turns)

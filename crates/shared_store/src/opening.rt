@@ -1,0 +1,82 @@
+//! How the store under its lock is opened, and how it ends.
+ghost use Rattle.std.specs.Prelude.{◌≡◌, ◌≤◌, ◌<◌, ◌↔◌, ◌⊎◌, ℕ, List, IfOk, IfErr, IfSome, slice_get};
+ghost use Rattle.key_attributes.specs.declared.Attributes.{Attributes};
+ghost use Rattle.key_cells.specs.declared.slot.Slot as cell;
+ghost use Rattle.key_cells.specs.declared.reading.OpenFault.TheVariants as fault;
+ghost use Rattle.key_cells.specs.Image.{HasKey};
+ghost use Rattle.key_cells.specs.Opened.{IsOpened, IsRefused};
+ghost use Rattle.driver_dispatch.specs.Calls.{Lacks};
+ghost use Rattle.turn_history.specs.Passes.{AreNew};
+ghost use Rattle.store_model.specs.Handles.{Service};
+ghost use Rattle.store_core.specs.Start.{IsStart};
+ghost use Rattle.shared_store.specs.Closed.{AreAt, IsClosed};
+
+use crate::held::{Held, SharedStore};
+use admission::Admission;
+use disk_face::Disk;
+use driver_dispatch::Devices;
+use key_cells::OpenFault;
+use std::alloc::Global;
+use store_core::{Store, Unopened};
+use turn_history::{Ending, HistoryLock, Pass, Refused};
+
+/// A store under its lock, and the passes of its callers, by their numbers from 1 on.
+pub type Shared<D, A, C> = (SharedStore<D, A, C>, Vec<Pass<Held<D, A, C>>>);
+
+impl<D: Disk, A: Devices, C: Admission> SharedStore<D, A, C> {
+    /// Opens the store of a disk, or makes one on a disk of length 0, for sixteen callers. Where it isn't opened the disk and
+    /// the devices come back; `Memory` too where there is no room for the lock, and then the disk is as the opening left it.
+    pub fn open(
+        alloc: Global,
+        disk: D,
+        devices: A,
+        rules: C,
+    ) -> Result<Shared<D, A, C>, Unopened<D, A>>
+        requires empty { (handle : ℕ) → Lacks (A.keys devices) handle }
+        ensures passes { IfOk result (λ made. AreNew made.0.lock.table.shared.table_id made.0.lock.table.shared.key.value.value.store.opened 16 made.1.items) }
+        ensures at { IfOk result (λ made. AreAt D.contents D.moment D.faults A.faults A.locations C.labels made.0.lock.table.shared.table_id made.0.lock.table.shared.key.value.value.store.opened made.1.items) }
+        ensures starts { IfOk result (λ made. (start : Service) × IsStart D.contents D.moment D.faults A.faults A.locations C.labels made.0.lock.table.shared.key.value.value.store.opened start) }
+        ensures keys { IfOk result (λ made. IfSome (D.contents disk) (λ image. (start : Service) (s : IsStart D.contents D.moment D.faults A.faults A.locations C.labels made.0.lock.table.shared.key.value.value.store.opened start) (a : Attributes) (bytes : List ℕ) →
+            HasKey a bytes image ↔ ((number : ℕ) × (slice_get s.found number ≡ Some (record { attributes = a; bytes = bytes }))))) }
+        ensures opened { IfOk result (λ made. IsOpened D.contents D.may_leave D.moment D.left_since disk made.0.lock.table.shared.key.value.value.store.opened.file.value.cells.disk made.0.lock.table.shared.key.value.value.store.opened.file.value.cells.slots.items) }
+        ensures later { IfOk result (λ made. D.faults disk ≤ D.faults made.0.lock.table.shared.key.value.value.store.opened.file.value.cells.disk) }
+        ensures devices { IfOk result (λ made. made.0.lock.table.shared.key.value.value.store.opened.devices.value ≡ devices) }
+        ensures rules { IfOk result (λ made. made.0.lock.table.shared.key.value.value.store.opened.rules.value ≡ rules) }
+        ensures refused { IfErr result (λ unopened. IsRefused D.contents D.may_leave D.moment D.left_since D.faults disk unopened.disk unopened.fault
+            ⊎ ((unopened.fault ≡ fault.Memory) × ((slots : List cell.Slot) × IsOpened D.contents D.may_leave D.moment D.left_since disk unopened.disk slots))) }
+        ensures returned { IfErr result (λ unopened. unopened.devices ≡ devices) }
+    {
+        let store = Store::open(alloc, disk, devices, rules)?;
+        match HistoryLock::new(alloc, Held { store }, 16) {
+            Ok((lock, passes)) => Ok((SharedStore { lock }, passes)),
+            Err(Refused { value }) => {
+                let Held { store } = value;
+                let (disk, devices) = store.into_disk();
+                Err(Unopened {
+                    disk,
+                    devices,
+                    fault: OpenFault::Memory,
+                })
+            }
+        }
+    }
+
+    /// An end for which no pass was handed in.
+    pub fn start_ending(self) -> Ending<Held<D, A, C>>
+        ensures lock { result.lock ≡ self.lock }
+        ensures nothing { (result.last.me.0.accounts ≡ []) × (result.last.me.0.weight ≡ 0) }
+    {
+        let SharedStore { lock } = self;
+        lock.start_ending()
+    }
+}
+
+/// The disk and the devices of a store, once all passes are handed in.
+pub fn end<D: Disk, A: Devices, C: Admission>(ending: Ending<Held<D, A, C>>) -> (D, A)
+    requires sixteen { ending.lock.table.shared.key.passes ≡ 16 }
+    requires whole { ending.last.me.0.weight ≡ 16 }
+    ensures closed { IsClosed D.contents D.may_leave D.moment D.left_since D.faults A.keys A.faults A.locations C.labels ending.lock.table.shared.key.value.value.store.opened result.0 result.1 ending.last.me.0.accounts }
+{
+    let Held { store } = ending.end();
+    store.into_disk()
+}
