@@ -3,3 +3,4 @@ pub mod Passing
 pub mod Renewing
 pub mod Turns
 pub mod Computing
+pub mod Closing

@@ -1,5 +1,5 @@
 //! How the store under its lock is opened, and how it ends.
-ghost use Rattle.std.specs.Prelude.{◌≡◌, ◌≤◌, ◌<◌, ◌↔◌, ◌⊎◌, ℕ, List, IfOk, IfErr, IfSome, slice_get};
+ghost use Rattle.std.specs.Prelude.{◌≡◌, ◌≤◌, ◌<◌, ◌↔◌, ◌⊎◌, ℕ, List, [], IfOk, IfErr, IfSome, slice_get};
 ghost use Rattle.key_attributes.specs.declared.Attributes.{Attributes};
 ghost use Rattle.key_cells.specs.declared.slot.Slot as cell;
 ghost use Rattle.key_cells.specs.declared.reading.OpenFault.TheVariants as fault;

@@ -1,0 +1,42 @@
+-- What is known once all passes are handed in.
+use Rattle.std.proofs.Common.{◌≡◌, ℕ, ◌<◌, ◌≤◌, true, List, All, sym, ap, ◌∙◌, subst, Option, is_some}
+use Rattle.turn_history.specs.declared.pass.Account.{Account}
+use Rattle.turn_history.specs.History.{entries_of, calls_by, StartsWith}
+use Rattle.policy_rules.specs.declared.narrowing.Label.{Label}
+use Rattle.driver_dispatch.specs.Held.{HeldKeys}
+use Rattle.key_slots.specs.Holdings.{Pairs}
+use Rattle.store_model.specs.Replay.{Entry}
+use Rattle.store_model.specs.Marks.{last_counts}
+use Rattle.store_core.specs.declared.store.Opened.{Opened}
+use Rattle.store_core.specs.declared.store.Store.{Store}
+use Rattle.store_core.specs.Durability.{KeepsKeys}
+use Rattle.store_core.specs.Start.{opening_of}
+use Rattle.shared_store.specs.Closed.{IsClosed}
+use Rattle.shared_store.specs.Standing.{Stands, caller_of}
+use Rattle.shared_store.specs.Turning.{IsLegal, IsStartOf}
+use Rattle.shared_store.proofs.Renewing.{legal}
+
+module _ {D A C : Type 0} (told : D → Option (List ℕ)) (may_leave : D → List ℕ → Type 0) (moment : D → ℕ) (left_since : D → ℕ → List ℕ → Type 0)
+    (faults : D → ℕ) (size : D → ℕ) (held : A → Option HeldKeys) (hard : A → ℕ) (locations : A → List ℕ) (labels : C → List Label) where
+  closed_here : (store : Store D A C) (turns : List (Option Entry)) (all : List Pairs) (accounts : List (Account Entry)) → Stands told may_leave moment left_since faults size held hard locations labels store (entries_of turns) all →
+      All (λ (e : Entry). (0 < e.caller) × (e.caller ≤ 16)) (entries_of turns) → All (λ (a : Account Entry). StartsWith turns a.seen) accounts →
+      All (λ (a : Account Entry). 0 < a.number → calls_by caller_of a.number (entries_of turns) ≡ a.calls) accounts →
+      IsClosed told may_leave moment left_since faults held hard locations labels store.opened store.file.cells.disk store.devices accounts
+  closed_here store turns all accounts s signed seen called = record {
+    turns = turns;
+    signed = signed;
+    seen = seen;
+    called = called;
+    legal = legal told may_leave moment left_since faults size held hard locations labels store (entries_of turns) all s;
+    counts = (s.each s.start s.starts).counts;
+    promise = λ tells start is. (s.each start is).holds.promise (s.tells ∙ tells);
+  }
+
+  pub closed : (store : Store D A C) (opened : Opened D A C) (passes : ℕ) (turns : List (Option Entry)) (all : List Pairs) (accounts : List (Account Entry)) → store.opened ≡ opened → passes ≡ 16 →
+      Stands told may_leave moment left_since faults size held hard locations labels store (entries_of turns) all →
+      All (λ (e : Entry). (0 < e.caller) × (e.caller ≤ passes)) (entries_of turns) → All (λ (a : Account Entry). StartsWith turns a.seen) accounts →
+      All (λ (a : Account Entry). 0 < a.number → calls_by caller_of a.number (entries_of turns) ≡ a.calls) accounts →
+      IsClosed told may_leave moment left_since faults held hard locations labels opened store.file.cells.disk store.devices accounts
+  closed store opened passes turns all accounts same sixteen s signed seen called =
+      subst (λ o. IsClosed told may_leave moment left_since faults held hard locations labels o store.file.cells.disk store.devices accounts) same
+      (closed_here store turns all accounts s (subst (λ n. All (λ (e : Entry). (0 < e.caller) × (e.caller ≤ n)) (entries_of turns)) sixteen signed) seen called)

@@ -1,0 +1,25 @@
+use Rattle.std.proofs.Common.{◌≡◌, ◌↔◌, ℕ, List, ap, sym, subst, arith, Some, IfSome, is_some}
+use Rattle.std.specs.Prelude.{slice_get}
+use Rattle.key_attributes.specs.declared.Attributes.{Attributes}
+use Rattle.key_cells.specs.Image.{HasKey}
+use Rattle.store_model.specs.Handles.{Service}
+use Rattle.store_core.specs.Start.{IsStart}
+use Rattle.shared_store.proofs.held.SharedStore.open.Goals as goal
+
+pub new-requires-clause-stands : goal.new-requires-clause-stands
+new-requires-clause-stands g c = let e = c.in_ok-store.ensures in record {
+  start = e.starts.0;
+  starts = e.starts.1;
+  each = λ start is. e.stands start 16 is (omega arith);
+  sized = e.size;
+  clear = e.clear;
+  tells = ap (λ f. is_some (g.D.Disk.contents f.cells.disk)) (sym e.saw_file);
+  knows = ap (λ d. is_some (g.A.Devices.keys d)) (sym e.saw_devices);
+}
+
+pub returns-in-Ok-clause-starts : goal.returns-in-Ok-clause-starts
+returns-in-Ok-clause-starts g c = subst (λ o. (start : Service) × IsStart g.D.Disk.contents g.D.Disk.moment g.D.Disk.faults g.A.Devices.faults g.A.Devices.locations g.C.Admission.labels o start) (sym c.in-Ok.ensures.lock.1) c.in_ok-store.ensures.starts
+
+pub returns-in-Ok-clause-keys : goal.returns-in-Ok-clause-keys
+returns-in-Ok-clause-keys g c = subst (λ o. IfSome (g.D.Disk.contents c.args.disk) (λ image. (start : Service) (s : IsStart g.D.Disk.contents g.D.Disk.moment g.D.Disk.faults g.A.Devices.faults g.A.Devices.locations g.C.Admission.labels o start) (a : Attributes) (bytes : List ℕ) →
+    HasKey a bytes image ↔ ((number : ℕ) × (slice_get s.found number ≡ Some (record { attributes = a; bytes = bytes }))))) (sym c.in-Ok.ensures.lock.1) c.in_ok-store.ensures.keys
