@@ -1,19 +1,15 @@
 -- What is known once all passes are handed in.
-use Rattle.std.proofs.Common.{◌≡◌, ℕ, ◌<◌, ◌≤◌, true, List, All, sym, ap, ◌∙◌, subst, Option, is_some}
+use Rattle.std.proofs.Common.{◌≡◌, ℕ, ◌<◌, ◌≤◌, List, All, ◌∙◌, subst, Option}
 use Rattle.turn_history.specs.declared.pass.Account.{Account}
 use Rattle.turn_history.specs.History.{entries_of, calls_by, StartsWith}
 use Rattle.policy_rules.specs.declared.narrowing.Label.{Label}
 use Rattle.driver_dispatch.specs.Held.{HeldKeys}
 use Rattle.key_slots.specs.Holdings.{Pairs}
 use Rattle.store_model.specs.Replay.{Entry}
-use Rattle.store_model.specs.Marks.{last_counts}
 use Rattle.store_core.specs.declared.store.Opened.{Opened}
 use Rattle.store_core.specs.declared.store.Store.{Store}
-use Rattle.store_core.specs.Durability.{KeepsKeys}
-use Rattle.store_core.specs.Start.{opening_of}
 use Rattle.shared_store.specs.Closed.{IsClosed}
 use Rattle.shared_store.specs.Standing.{Stands, caller_of}
-use Rattle.shared_store.specs.Turning.{IsLegal, IsStartOf}
 use Rattle.shared_store.proofs.Renewing.{legal}
 
 module _ {D A C : Type 0} (told : D → Option (List ℕ)) (may_leave : D → List ℕ → Type 0) (moment : D → ℕ) (left_since : D → ℕ → List ℕ → Type 0)

@@ -1,5 +1,5 @@
 -- The store before a turn and after it, and what was decided between.
-use Rattle.std.proofs.Common.{◌≡◌, ◌⊎◌, ℕ, ◌+◌, ◌<◌, ◌≤◌, true, false, List, [], ◌∷◌, ◌++◌, length, refl, sym, ap, ◌∙◌, subst, inl, inr, ⊎_elim, arith, Option, Some, None, is_some}
+use Rattle.std.proofs.Common.{◌≡◌, ℕ, ◌≤◌, true, false, List, [], ◌∷◌, ◌++◌, refl, sym, ap, ◌∙◌, subst, inl, inr, ⊎_elim, arith, Option, is_some}
 use Rattle.secret_bytes.specs.Buffer.{IsClear}
 use Rattle.atomic_table.specs.Seated.{TableId}
 use Rattle.atomic_table.specs.declared.shared.Seat.{Seat}
@@ -20,7 +20,7 @@ use Rattle.store_model.specs.Marks.{IsCaused, id_read}
 use Rattle.store_core.specs.declared.store.Opened.{Opened}
 use Rattle.store_core.specs.declared.store.Store.{Store}
 use Rattle.store_core.specs.Represents.{IsEntry, IsReading, IsTold, Opening, StandsFor}
-use Rattle.store_core.specs.Start.{IsStart, opening_of}
+use Rattle.store_core.specs.Start.{opening_of}
 use Rattle.store_core.proofs.Histories.{told_before}
 use Rattle.shared_store.specs.Standing.{Stands, caller_of}
 use Rattle.shared_store.specs.Turning.{DecidesAfter, DecidesBefore, IsAt, IsBegun, IsLegal, IsStartOf, ReadsKey, ToldBy, entry_of}

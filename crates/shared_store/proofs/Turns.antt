@@ -1,5 +1,5 @@
 -- A turn of the store, between a pass's beginning of its turn and the end.
-use Rattle.std.proofs.Common.{◌≡◌, ◌⊎◌, ℕ, zero, suc, ◌+◌, ◌-◌, ◌^◌, ◌<◌, ◌≤◌, true, false, List, [], ◌∷◌, ◌++◌, length, get_or, refl, sym, ap, ◌∙◌, subst, inl, inr, ⊎_elim, arith, Option, Some, None, is_some}
+use Rattle.std.proofs.Common.{◌≡◌, ℕ, zero, suc, ◌+◌, ◌-◌, ◌^◌, ◌<◌, ◌≤◌, true, false, List, [], ◌∷◌, ◌++◌, length, get_or, sym, ap, ◌∙◌, subst, inl, inr, ⊎_elim, arith, Option, Some, None, is_some}
 use Rattle.std.specs.Prelude.{Result}
 use Rattle.secret_bytes.specs.Buffer.{IsClear}
 use Rattle.atomic_table.specs.Seated.{TableId}
