@@ -9,12 +9,12 @@ use Rattle.store_model.specs.Replay.{Entry}
 use Rattle.store_core.specs.declared.store.Opened.{Opened}
 use Rattle.store_core.specs.declared.store.Store.{Store}
 use Rattle.shared_store.specs.Closed.{IsClosed}
-use Rattle.shared_store.specs.Standing.{Stands, caller_of}
+use Rattle.shared_store.specs.Standing.{HoldsHistory, caller_of}
 use Rattle.shared_store.proofs.Renewing.{legal}
 
 module _ {D A C : Type 0} (told : D → Option (List ℕ)) (may_leave : D → List ℕ → Type 0) (moment : D → ℕ) (left_since : D → ℕ → List ℕ → Type 0)
     (faults : D → ℕ) (size : D → ℕ) (held : A → Option HeldKeys) (hard : A → ℕ) (locations : A → List ℕ) (labels : C → List Label) where
-  closed_here : (store : Store D A C) (turns : List (Option Entry)) (all : List Pairs) (accounts : List (Account Entry)) → Stands told may_leave moment left_since faults size held hard locations labels store (entries_of turns) all →
+  closed_here : (store : Store D A C) (turns : List (Option Entry)) (all : List Pairs) (accounts : List (Account Entry)) → HoldsHistory told may_leave moment left_since faults size held hard locations labels store (entries_of turns) all →
       All (λ (e : Entry). (0 < e.caller) × (e.caller ≤ 16)) (entries_of turns) → All (λ (a : Account Entry). StartsWith turns a.seen) accounts →
       All (λ (a : Account Entry). 0 < a.number → calls_by caller_of a.number (entries_of turns) ≡ a.calls) accounts →
       IsClosed told may_leave moment left_since faults held hard locations labels store.opened store.file.cells.disk store.devices accounts
@@ -29,7 +29,7 @@ module _ {D A C : Type 0} (told : D → Option (List ℕ)) (may_leave : D → Li
   }
 
   pub closed : (store : Store D A C) (opened : Opened D A C) (passes : ℕ) (turns : List (Option Entry)) (all : List Pairs) (accounts : List (Account Entry)) → store.opened ≡ opened → passes ≡ 16 →
-      Stands told may_leave moment left_since faults size held hard locations labels store (entries_of turns) all →
+      HoldsHistory told may_leave moment left_since faults size held hard locations labels store (entries_of turns) all →
       All (λ (e : Entry). (0 < e.caller) × (e.caller ≤ passes)) (entries_of turns) → All (λ (a : Account Entry). StartsWith turns a.seen) accounts →
       All (λ (a : Account Entry). 0 < a.number → calls_by caller_of a.number (entries_of turns) ≡ a.calls) accounts →
       IsClosed told may_leave moment left_since faults held hard locations labels opened store.file.cells.disk store.devices accounts

@@ -9,7 +9,7 @@ use Rattle.store_model.specs.Faults.{FaultMark}
 use Rattle.store_model.specs.Requests.{Request}
 use Rattle.store_model.specs.Replay.{Entry}
 use Rattle.shared_store.specs.Standing.{caller_of}
-use Rattle.shared_store.specs.Turning.{GoesOn, IsEntered, IsLater, IsOneTurnOn}
+use Rattle.shared_store.specs.Turning.{GoesOn, IsEntered, IsLater, SpendsOneTurn}
 
 one_entry : (e : Option Entry) → entries_of (e ∷ []) ≡ option_list e
 one_entry None = refl
@@ -25,14 +25,14 @@ module _ {B : Type 0} where
   with_entry w u e own is = ap (λ (x : View Entry B). entries_of x.seen) is ∙ (entries-append w.seen (e ∷ []) ∙ ap (λ l. entries_of w.seen ++ l) (one_entry e))
 
   -- what a pass finds in its turn goes on from what it had seen
-  pub goes_on : (v w : View Entry B) → IsOneTurnOn v w → w.calls ≡ v.calls → 1 ≤ w.number → OwnCalls caller_of w → GoesOn v (entries_of w.seen)
+  pub goes_on : (v w : View Entry B) → SpendsOneTurn v w → w.calls ≡ v.calls → 1 ≤ w.number → OwnCalls caller_of w → GoesOn v (entries_of w.seen)
   goes_on v w on calls first own = record {
     since = (entries_of on.prefix.0, ap entries_of on.prefix.1 ∙ entries-append v.seen on.prefix.0);
     calls = ap (λ n. calls_by caller_of n (entries_of w.seen)) (sym on.number) ∙ (own (omega arith) ∙ calls);
   }
 
   -- the turn is spent
-  pub after_one : (v w u : View Entry B) (e : Option Entry) (own : Pairs) → IsOneTurnOn v w → u ≡ after_turn w e own → IsOneTurnOn v u
+  pub after_one : (v w u : View Entry B) (e : Option Entry) (own : Pairs) → SpendsOneTurn v w → u ≡ after_turn w e own → SpendsOneTurn v u
   after_one v w u e own on is = record {
     number = ap (λ (x : View Entry B). x.number) is ∙ on.number;
     weight = ap (λ (x : View Entry B). x.weight) is ∙ on.weight;
@@ -40,14 +40,14 @@ module _ {B : Type 0} where
     prefix = subst (λ l. StartsWith l v.seen) (sym (ap (λ (x : View Entry B). x.seen) is)) (begins_longer w.seen v.seen (e ∷ []) on.prefix);
   }
 
-  pub later : (v w u : View Entry B) (own : Pairs) → IsOneTurnOn v w → w.calls ≡ v.calls → u ≡ after_turn w None own → IsLater v u own
+  pub later : (v w u : View Entry B) (own : Pairs) → SpendsOneTurn v w → w.calls ≡ v.calls → u ≡ after_turn w None own → IsLater v u own
   later v w u own on calls is = record {
     on = after_one v w u None own on is;
     calls = ap (λ (x : View Entry B). x.calls) is ∙ (nothing_more w.calls ∙ calls);
     holding = ap (λ (x : View Entry B). x.holding) is;
   }
 
-  pub entered : (v w u : View Entry B) (call : Request) (mark : FaultMark) (r : ℕ) (own : Pairs) (e : Entry) → IsOneTurnOn v w → w.calls ≡ v.calls → 1 ≤ w.number → OwnCalls caller_of w →
+  pub entered : (v w u : View Entry B) (call : Request) (mark : FaultMark) (r : ℕ) (own : Pairs) (e : Entry) → SpendsOneTurn v w → w.calls ≡ v.calls → 1 ≤ w.number → OwnCalls caller_of w →
       u ≡ after_turn w (Some e) own → r ≡ length (entries_of w.seen) → e.caller ≡ w.number → e.call ≡ call → e.mark ≡ mark → IsEntered v u call mark r own (entries_of w.seen) e
   entered v w u call mark r own e on calls first mine is rank by called marked = record {
     on = after_one v w u (Some e) own on is;

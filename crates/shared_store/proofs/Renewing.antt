@@ -22,15 +22,15 @@ use Rattle.store_core.specs.declared.store.Store.{Store}
 use Rattle.store_core.specs.Represents.{IsEntry, IsReading, IsTold, Opening, StandsFor}
 use Rattle.store_core.specs.Start.{opening_of}
 use Rattle.store_core.proofs.Histories.{told_before}
-use Rattle.shared_store.specs.Standing.{Stands, caller_of}
-use Rattle.shared_store.specs.Turning.{DecidesAfter, DecidesBefore, IsAt, IsBegun, IsLegal, IsStartOf, ReadsKey, ToldBy, entry_of}
+use Rattle.shared_store.specs.Standing.{HoldsHistory, caller_of}
+use Rattle.shared_store.specs.Turning.{DecidesAfter, DecidesBefore, IsAt, IsBegun, IsLegal, IsStartOf, ReadsKey, ToldBy, turn_entry}
 use Rattle.shared_store.proofs.Owning.{holding_of}
 use Rattle.shared_store.proofs.Passing.{goes_on, nothing_more, with_entry}
 
 module _ {D A C : Type 0} (told : D → Option (List ℕ)) (may_leave : D → List ℕ → Type 0) (moment : D → ℕ) (left_since : D → ℕ → List ℕ → Type 0)
     (faults : D → ℕ) (size : D → ℕ) (held : A → Option HeldKeys) (hard : A → ℕ) (locations : A → List ℕ) (labels : C → List Label) where
   abbrev Here : Store D A C → List Entry → List Pairs → Type 0
-  Here = Stands told may_leave moment left_since faults size held hard locations labels
+  Here = HoldsHistory told may_leave moment left_since faults size held hard locations labels
 
   abbrev For : Store D A C → Service → Opening → List Entry → List Pairs → Type 0
   For = StandsFor told may_leave moment left_since faults held hard locations labels
@@ -79,7 +79,7 @@ module _ {D A C : Type 0} (told : D → Option (List ℕ)) (may_leave : D → Li
 
   -- the entry of a turn
   pub is_entry : (store : Store D A C) (n : ℕ) (call : Request) (mark : FaultMark) → 1 ≤ n → n ≤ 16 →
-      IsEntry told may_leave moment left_since faults held hard locations labels store mark (entry_of moment faults hard store n call mark)
+      IsEntry told may_leave moment left_since faults held hard locations labels store mark (turn_entry moment faults hard store n call mark)
   is_entry store n call mark first last = record { from_first = first; to_last = last; marked = refl; done = refl; disk_faults = refl; device_faults = refl }
 
   -- what holds of the store's model after an entry holds of the one-thread store's
@@ -119,7 +119,7 @@ module _ {D A C : Type 0} (told : D → Option (List ℕ)) (may_leave : D → Li
     -- a request that reads a key reads it in the turn
     pub reading : (store : Store D A C) (start : Service) (call : Request) (mark : FaultMark) (at : Store D A C) (id : ℕ) → store.opened ≡ opened → is_some (told store.file.cells.disk) ≡ is_some (told store.opened.file.value.cells.disk) →
         From opened start → may_change_keys call ≡ false → ReadsKey told moment faults hard locations labels opened v call id →
-        IsReading told may_leave moment left_since faults held hard locations labels store start (entries_of p.me.0.seen) (entry_of moment faults hard at p.me.0.number call mark) id
+        IsReading told may_leave moment left_since faults held hard locations labels store start (entries_of p.me.0.seen) (turn_entry moment faults hard at p.me.0.number call mark) id
     reading store start call mark at id same tells is quiet reads = record {
       quiet = quiet;
       reads = λ known. ap (λ n. id_read (replay start (entries_of p.me.0.seen)) n call) b.on.number ∙

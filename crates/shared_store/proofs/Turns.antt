@@ -30,7 +30,7 @@ use Rattle.store_core.proofs.Histories.{told_before}
 use Rattle.store_core.specs.Represents.{Adds, AddsAs, Destroys, Gives, HasOut, HoldsOf, IsEntry, IsTold, Opening, Reads, ReadsAndGives, Stands, StandsFor, Steps, Takes}
 use Rattle.store_core.specs.Start.{opening_of}
 use Rattle.shared_store.specs.Standing as shared
-use Rattle.shared_store.specs.Turning.{CreatesKey, DecidesAfter, DecidesBefore, IsBegun, IsEntered, IsEnteredAfter, IsOwn, IsRanked, IsStartOf, ReadsKey, ToldBy, entry_of, without}
+use Rattle.shared_store.specs.Turning.{CreatesKey, DecidesAfter, DecidesBefore, IsBegun, IsEntered, IsEnteredAfter, IsOwn, IsRanked, IsStartOf, ReadsKey, ToldBy, turn_entry, without_pair}
 use Rattle.shared_store.proofs.Owning.{fewer, gains, loses, splits, with_holding}
 use Rattle.shared_store.proofs.Passing.{goes_on}
 use Rattle.shared_store.proofs.Renewing.{decides_after, holdings, is_entry, reading, renewed, told_now, told_then}
@@ -49,7 +49,7 @@ entries_fewer (Some e ∷ turns) = let r = entries_fewer turns in omega arith
 module _ {D A C : Type 0} (told : D → Option (List ℕ)) (may_leave : D → List ℕ → Type 0) (moment : D → ℕ) (left_since : D → ℕ → List ℕ → Type 0)
     (faults : D → ℕ) (size : D → ℕ) (held : A → Option HeldKeys) (hard : A → ℕ) (locations : A → List ℕ) (labels : C → List Label) where
   abbrev Here : Store D A C → List Entry → List Pairs → Type 0
-  Here = shared.Stands told may_leave moment left_since faults size held hard locations labels
+  Here = shared.HoldsHistory told may_leave moment left_since faults size held hard locations labels
 
   abbrev For : Store D A C → Service → Opening → List Entry → List Pairs → Type 0
   For = StandsFor told may_leave moment left_since faults held hard locations labels
@@ -125,7 +125,7 @@ module _ {D A C : Type 0} (told : D → Option (List ℕ)) (may_leave : D → Li
     pub is_last : (caller : ℕ) → caller ≡ v.number → caller ≤ 16
     is_last caller is = let n = b.on.number in let z = b.inside in let y = are.callers in omega arith
 
-    taken : (pair : ℕ × ℕ) → 0 < names pair.0 pair.1 v.holding → Gains (with (without pair own)) all pair
+    taken : (pair : ℕ × ℕ) → 0 < names pair.0 pair.1 v.holding → Gains (with (without_pair pair own)) all pair
     taken pair some = loses all p.me.0.number own b.first b.inside b.own pair (splits pair own (subst (λ o. 0 < names pair.0 pair.1 o) (sym b.same_holding) some))
 
     given : (pair : ℕ × ℕ) → Gains all (with (pair ∷ own)) pair
@@ -138,14 +138,14 @@ module _ {D A C : Type 0} (told : D → Option (List ℕ)) (may_leave : D → Li
         (λ start is. gives start (As old.opened) seen all (with (pair ∷ own)) (s.each start is) (given pair) (with_holding all p.me.0.number (pair ∷ own) holding are))
 
     pub after_taking : (new : Store D A C) (pair : ℕ × ℕ) → IsSteady old new → IsHolding v.holding → 0 < names pair.0 pair.1 v.holding → Takes told may_leave moment left_since faults held hard locations labels old new pair →
-        Here new seen (with (without pair own))
+        Here new seen (with (without_pair pair own))
     after_taking new pair k holding some takes =
-        renewed told may_leave moment left_since faults size held hard locations labels old new seen seen all (with (without pair own)) s k.opened k.sized k.clear k.tells k.knows
-        (λ start is. takes start (As old.opened) seen all (with (without pair own)) (s.each start is) (taken pair some) (with_holding all p.me.0.number (without pair own) (fewer pair own (mine holding)) are))
+        renewed told may_leave moment left_since faults size held hard locations labels old new seen seen all (with (without_pair pair own)) s k.opened k.sized k.clear k.tells k.knows
+        (λ start is. takes start (As old.opened) seen all (with (without_pair pair own)) (s.each start is) (taken pair some) (with_holding all p.me.0.number (without_pair pair own) (fewer pair own (mine holding)) are))
 
     -- the entry of a ranked turn
     abbrev entry : Store D A C → Request → FaultMark → Entry
-    entry new call mark = entry_of moment faults hard new p.me.0.number call mark
+    entry new call mark = turn_entry moment faults hard new p.me.0.number call mark
 
     entered : (new : Store D A C) (call : Request) (mark : FaultMark) → IsEntry told may_leave moment left_since faults held hard locations labels new mark (entry new call mark)
     entered new call mark = is_entry told may_leave moment left_since faults size held hard locations labels new p.me.0.number call mark b.first (let z = b.inside in let y = are.callers in omega arith)
@@ -229,14 +229,14 @@ module _ {D A C : Type 0} (told : D → Option (List ℕ)) (may_leave : D → Li
 
     pub creates : (new : Store D A C) (call : Request) (caller : ℕ) (lease : Option lent.Reading) (records : model.Store → Result Attributes Status → Type 0) (bytes : List ℕ) (pair : ℕ × ℕ) (mark : FaultMark) (P : model.Store → Type 0) →
         Creates told may_leave moment left_since faults held hard locations labels old new caller lease records (λ m. bytes) pair mark P → IsHolding v.holding → 0 < names pair.0 pair.1 v.holding → IsOwn lease v.holding → caller ≡ v.number →
-        CreatesKey told moment faults hard locations labels opened v caller call records bytes → LedBefore new call mark (with (without pair own)) P
+        CreatesKey told moment faults hard locations labels opened v caller call records bytes → LedBefore new call mark (with (without_pair pair own)) P
     creates new call caller lease records bytes pair mark P created holding some own_lease is_caller makes start is = let from = s.each start is in
         let number : p.me.0.number ≡ caller = b.on.number ∙ sym is_caller in
         let goes = goes_on v p.me.0 b.on b.same_calls b.first b.calls in
         let is_start : From opened start = subst (λ o. From o start) same is in
         let then : IsTold (told old.file.cells.disk) start seen → ToldBy told moment faults hard locations labels opened start seen = λ known. subst (λ o. ToldBy told moment faults hard locations labels o start seen) same
         (told_then told may_leave moment left_since faults size held hard locations labels old start seen s.tells known) in
-        let n = created start (As old.opened) seen all (with (without pair own)) (entry new call mark) from (among lease own_lease) (taken pair some) (with_holding all p.me.0.number (without pair own) (fewer pair own (mine holding)) are) (record {
+        let n = created start (As old.opened) seen all (with (without_pair pair own)) (entry new call mark) from (among lease own_lease) (taken pair some) (with_holding all p.me.0.number (without_pair pair own) (fewer pair own (mine holding)) are) (record {
           by = number;
           keeps = makes.keeps;
           leaves = λ known recorded is_recorded. subst (λ k. (plain_step (replay start seen) k call).service.store ≡ (created_unless (replay start seen).store caller recorded bytes).store) (sym number)
@@ -251,9 +251,9 @@ module _ {D A C : Type 0} (told : D → Option (List ℕ)) (may_leave : D → Li
 
     pub copies : (new : Store D A C) (call : Request) (caller source : ℕ) (stated : Attributes) (pair : ℕ × ℕ) (mark : FaultMark) (P : model.Store → Type 0) → IsSteady old new →
         Copies told may_leave moment left_since faults held hard locations labels old new caller source stated pair mark P → IsHolding v.holding → 0 < names pair.0 pair.1 v.holding → caller ≡ v.number →
-        call ≡ OnStore (Copy source stated) → LedBefore new call mark (with (without pair own)) P
+        call ≡ OnStore (Copy source stated) → LedBefore new call mark (with (without_pair pair own)) P
     copies new call caller source stated pair mark P k copied holding some is_caller is_call start is =
-        let n = copied start (As old.opened) seen all (with (without pair own)) (entry new call mark) (s.each start is) (taken pair some) (with_holding all p.me.0.number (without pair own) (fewer pair own (mine holding)) are)
+        let n = copied start (As old.opened) seen all (with (without_pair pair own)) (entry new call mark) (s.each start is) (taken pair some) (with_holding all p.me.0.number (without_pair pair own) (fewer pair own (mine holding)) are)
         (b.on.number ∙ sym is_caller) is_call (entered new call mark) in
         (n.0, n.1, λ known. n.2 (⊎_elim (λ (e : is_some (told old.opened.file.value.cells.disk) ≡ true). inl (k.tells ∙ (s.tells ∙ e))) (λ none. inr none) known), n.3)
 

@@ -22,7 +22,7 @@ caller_of e = e.caller
 
 -- The store stands for the history from each start that its opening permits, and there is such a start. Between two turns the
 -- disk has its size and the buffer is clear; disk and devices tell what they told at the opening.
-pub record Stands {D A C : Type 0} (told : D → Option (List ℕ)) (may_leave : D → List ℕ → Type 0) (moment : D → ℕ) (left_since : D → ℕ → List ℕ → Type 0)
+pub record HoldsHistory {D A C : Type 0} (told : D → Option (List ℕ)) (may_leave : D → List ℕ → Type 0) (moment : D → ℕ) (left_since : D → ℕ → List ℕ → Type 0)
     (faults : D → ℕ) (size : D → ℕ) (held : A → Option HeldKeys) (hard : A → ℕ) (locations : A → List ℕ) (labels : C → List Label)
     (store : Store D A C) (h : List Entry) (all : List Pairs) : Type 0 where
   pub start : Service

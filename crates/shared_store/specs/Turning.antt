@@ -43,16 +43,16 @@ abbrev pub filling_pair : lent.Reserved → ℕ × ℕ
 filling_pair filling = (filling.slot, 0)
 
 -- some pairs without the first that is this one
-abbrev pub without : ℕ × ℕ → Pairs → Pairs
-without p [] = []
-without p (q ∷ qs) = cond (p.0 == q.0 && p.1 == q.1) qs (q ∷ without p qs)
+abbrev pub without_pair : ℕ × ℕ → Pairs → Pairs
+without_pair p [] = []
+without_pair p (q ∷ qs) = cond (p.0 == q.0 && p.1 == q.1) qs (q ∷ without_pair p qs)
 
-abbrev pub changed : Change → Pairs → Pairs
-changed Nothing own = own
-changed (Lends lease) own = lease_pair lease.value ∷ own
-changed (TakesLease lease) own = without (lease_pair lease.value) own
-changed (Reserves filling) own = filling_pair filling.value ∷ own
-changed (TakesFilling filling) own = without (filling_pair filling.value) own
+abbrev pub after_change : Change → Pairs → Pairs
+after_change Nothing own = own
+after_change (Lends lease) own = lease_pair lease.value ∷ own
+after_change (TakesLease lease) own = without_pair (lease_pair lease.value) own
+after_change (Reserves filling) own = filling_pair filling.value ∷ own
+after_change (TakesFilling filling) own = without_pair (filling_pair filling.value) own
 
 -- there is room for one more lease, or for a filling
 abbrev pub HasRoomForLease : Pairs → Type 0
@@ -72,8 +72,8 @@ mark_met (met.Undestroyed why) = mark_undestroyed why
 mark_met (met.Uncomputed why) = mark_computed (Err why)
 
 -- what a turn that leaves the store so adds to the history
-abbrev pub entry_of : {D A C : Type 0} → (moment faults : D → ℕ) → (hard : A → ℕ) → Store D A C → (caller : ℕ) → Request → FaultMark → Entry
-entry_of moment faults hard store caller call mark = record {
+abbrev pub turn_entry : {D A C : Type 0} → (moment faults : D → ℕ) → (hard : A → ℕ) → Store D A C → (caller : ℕ) → Request → FaultMark → Entry
+turn_entry moment faults hard store caller call mark = record {
   caller = caller;
   call = call;
   mark = mark;
@@ -90,7 +90,7 @@ pub record GoesOn {B : Type 0} (v : View Entry B) (h : List Entry) : Type 0 wher
   pub calls : calls_by caller_of v.number h ≡ v.calls
 
 -- one turn was spent
-pub record IsOneTurnOn {B : Type 0} (v w : View Entry B) : Type 0 where
+pub record SpendsOneTurn {B : Type 0} (v w : View Entry B) : Type 0 where
   pub number : w.number ≡ v.number
   pub weight : w.weight ≡ v.weight
   pub turns_left : w.turns_left + 1 ≡ v.turns_left
@@ -98,13 +98,13 @@ pub record IsOneTurnOn {B : Type 0} (v w : View Entry B) : Type 0 where
 
 -- and it added no entry of the pass's, which then has these pairs out
 pub record IsLater {B : Type 0} (v w : View Entry B) (own : Pairs) : Type 0 where
-  pub on : IsOneTurnOn v w
+  pub on : SpendsOneTurn v w
   pub calls : w.calls ≡ v.calls
   pub holding : w.holding ≡ own
 
 -- it added an entry of this call with this mark, after the history `before`, at the place r
 pub record IsEntered {B : Type 0} (v w : View Entry B) (call : Request) (mark : FaultMark) (r : ℕ) (own : Pairs) (before : List Entry) (e : Entry) : Type 0 where
-  pub on : IsOneTurnOn v w
+  pub on : SpendsOneTurn v w
   pub goes_on : GoesOn v before
   pub seen : entries_of w.seen ≡ before ++ e ∷ []
   pub rank : r ≡ length before
@@ -142,7 +142,7 @@ module _ {D A C : Type 0} (told : D → Option (List ℕ)) (moment : D → ℕ) 
     pub record IsBegun (v : View Entry (Opened D A C)) (p : Seat (Option V) (View Entry (Opened D A C))) (entries : ℕ) : Type 0 where
       pub table : p.table_id ≡ lock
       pub in_turn : IsInTurn p.me
-      pub on : IsOneTurnOn v p.me.0
+      pub on : SpendsOneTurn v p.me.0
       pub based : p.me.0.base ≡ Some opened
       pub first : 1 ≤ p.me.0.number
       pub same_calls : p.me.0.calls ≡ v.calls

@@ -7,7 +7,7 @@ ghost use Rattle.store_model.specs.Call as model;
 ghost use Rattle.store_model.specs.Faults.{Plain};
 ghost use Rattle.store_model.specs.Requests.{OnStore};
 ghost use Rattle.store_core.specs.Creations.{IsMade, IsUncopied, IsUnmade, RecordsCopy, RecordsStated, mark_uncopied, mark_unmade};
-ghost use Rattle.shared_store.specs.Turning.{CreatesKey, DecidesBefore, HasNoFilling, IsAt, IsLater, IsOwn, IsRanked, filling_pair, without};
+ghost use Rattle.shared_store.specs.Turning.{CreatesKey, DecidesBefore, HasNoFilling, IsAt, IsLater, IsOwn, IsRanked, filling_pair, without_pair};
 
 use crate::changes::{Change, Met};
 use crate::held::{Held, SharedStore};
@@ -46,7 +46,7 @@ impl<D: Disk, A: Devices, C: Admission> SharedStore<D, A, C> {
         requires left { 0 < pass.old.me.0.turns_left }
         requires out { 0 < names filling.slot 0 pass.old.me.0.holding }
         ensures at { IsAt D.contents D.moment D.faults A.faults A.locations C.labels self.now.lock.table.shared.table_id self.now.lock.table.shared.key.value.value.store.opened pass.new }
-        ensures later { IsLater pass.old.me.0 pass.new.me.0 (without (filling_pair filling) pass.old.me.0.holding) }
+        ensures later { IsLater pass.old.me.0 pass.new.me.0 (without_pair (filling_pair filling) pass.old.me.0.holding) }
     {
         let before = Snapshot::of(pass);
         let change = Change::TakesFilling(Snapshot::of(&filling));
@@ -77,9 +77,9 @@ impl<D: Disk, A: Devices, C: Admission> SharedStore<D, A, C> {
         requires lent { IsOwn (option_map (λ l. l.now) lease) pass.old.me.0.holding }
         requires creates { CreatesKey D.contents D.moment D.faults A.faults A.locations C.labels self.now.lock.table.shared.key.value.value.store.opened pass.old.me.0 caller (model_request call.now room) (RecordsStated (option_map (λ l. l.now) lease) caller attributes.now (length bytes.now)) bytes.now }
         ensures at { IsAt D.contents D.moment D.faults A.faults A.locations C.labels self.now.lock.table.shared.table_id self.now.lock.table.shared.key.value.value.store.opened pass.new }
-        ensures made { IfOk result.1 (λ id. IsRanked pass.old.me.0 pass.new.me.0 (model_request call.now room) Plain result.0 (without (filling_pair filling) pass.old.me.0.holding)
+        ensures made { IfOk result.1 (λ id. IsRanked pass.old.me.0 pass.new.me.0 (model_request call.now room) Plain result.0 (without_pair (filling_pair filling) pass.old.me.0.holding)
             (DecidesBefore D.contents D.moment D.faults A.faults A.locations C.labels self.now.lock.table.shared.key.value.value.store.opened (IsMade (RecordsStated (option_map (λ l. l.now) lease.entry) caller attributes.now (length bytes.now)) caller id.0))) }
-        ensures unmade { IfErr result.1 (λ why. IsRanked pass.old.me.0 pass.new.me.0 (model_request call.now room) (mark_unmade why) result.0 (without (filling_pair filling) pass.old.me.0.holding)
+        ensures unmade { IfErr result.1 (λ why. IsRanked pass.old.me.0 pass.new.me.0 (model_request call.now room) (mark_unmade why) result.0 (without_pair (filling_pair filling) pass.old.me.0.holding)
             (DecidesBefore D.contents D.moment D.faults A.faults A.locations C.labels self.now.lock.table.shared.key.value.value.store.opened (IsUnmade (RecordsStated (option_map (λ l. l.now) lease.entry) caller attributes.now (length bytes.now)) why))) }
     {
         let before = Snapshot::of(pass);
@@ -121,9 +121,9 @@ impl<D: Disk, A: Devices, C: Admission> SharedStore<D, A, C> {
         requires out { 0 < names filling.slot 0 pass.old.me.0.holding }
         requires copies { model_request call.now room ≡ OnStore (model.Copy source.0 attributes.now) }
         ensures at { IsAt D.contents D.moment D.faults A.faults A.locations C.labels self.now.lock.table.shared.table_id self.now.lock.table.shared.key.value.value.store.opened pass.new }
-        ensures made { IfOk result.1 (λ id. IsRanked pass.old.me.0 pass.new.me.0 (model_request call.now room) Plain result.0 (without (filling_pair filling) pass.old.me.0.holding)
+        ensures made { IfOk result.1 (λ id. IsRanked pass.old.me.0 pass.new.me.0 (model_request call.now room) Plain result.0 (without_pair (filling_pair filling) pass.old.me.0.holding)
             (DecidesBefore D.contents D.moment D.faults A.faults A.locations C.labels self.now.lock.table.shared.key.value.value.store.opened (IsMade (RecordsCopy caller source.0 attributes.now) caller id.0))) }
-        ensures uncopied { IfErr result.1 (λ why. IsRanked pass.old.me.0 pass.new.me.0 (model_request call.now room) (mark_uncopied why) result.0 (without (filling_pair filling) pass.old.me.0.holding)
+        ensures uncopied { IfErr result.1 (λ why. IsRanked pass.old.me.0 pass.new.me.0 (model_request call.now room) (mark_uncopied why) result.0 (without_pair (filling_pair filling) pass.old.me.0.holding)
             (DecidesBefore D.contents D.moment D.faults A.faults A.locations C.labels self.now.lock.table.shared.key.value.value.store.opened (IsUncopied (RecordsCopy caller source.0 attributes.now) source.0 why))) }
     {
         let before = Snapshot::of(pass);

@@ -33,11 +33,11 @@ impl<D: Disk, A: Devices, C: Admission> Historic for Held<D, A, C> {
 
     type Base = Opened<D, A, C>;
 
-    ghost use Rattle.shared_store.specs.Standing.{Stands, caller_of};
+    ghost use Rattle.shared_store.specs.Standing.{HoldsHistory, caller_of};
 
     ghost by = { caller_of };
 
-    ghost stands = { λ v. Stands D.contents D.may_leave D.moment D.left_since D.faults D.size A.keys A.faults A.locations C.labels v.store };
+    ghost stands = { λ v. HoldsHistory D.contents D.may_leave D.moment D.left_since D.faults D.size A.keys A.faults A.locations C.labels v.store };
 
     ghost base = { λ v. v.store.opened };
 

@@ -8,8 +8,8 @@ ghost use Rattle.service_calls.specs.Meanings.{model_request};
 ghost use Rattle.store_model.specs.Faults.{Plain};
 ghost use Rattle.store_model.specs.Laws.{may_change_keys};
 ghost use Rattle.store_core.specs.Uses.{IsLent, IsRefused, mark_of};
-ghost use Rattle.shared_store.specs.Standing.{Stands};
-ghost use Rattle.shared_store.specs.Turning.{DecidesAfter, HasRoomForLease, IsAt, IsBegun, IsEnteredAfter, IsLater, IsRanked, ReadsKey, lease_pair, without};
+ghost use Rattle.shared_store.specs.Standing.{HoldsHistory};
+ghost use Rattle.shared_store.specs.Turning.{DecidesAfter, HasRoomForLease, IsAt, IsBegun, IsEnteredAfter, IsLater, IsRanked, ReadsKey, lease_pair, without_pair};
 
 use crate::changes::{Change, Met};
 use crate::held::{Held, SharedStore};
@@ -72,7 +72,7 @@ impl<D: Disk, A: Devices, C: Admission> SharedStore<D, A, C> {
         spare: Secret,
     ) -> (u64, Result<Lease, (Status, Secret)>)
         requires begun { IsBegun D.contents D.moment D.faults A.faults A.locations C.labels self.now.lock.table.shared.table_id self.now.lock.table.shared.key.value.value.store.opened before.value.me.0 pass.old turn.entries }
-        requires stands { Stands D.contents D.may_leave D.moment D.left_since D.faults D.size A.keys A.faults A.locations C.labels turn.value.store (entries_of pass.old.me.0.seen) pass.old.me.0.holdings }
+        requires stands { HoldsHistory D.contents D.may_leave D.moment D.left_since D.faults D.size A.keys A.faults A.locations C.labels turn.value.store (entries_of pass.old.me.0.seen) pass.old.me.0.holdings }
         requires opened { turn.value.store.opened ≡ self.now.lock.table.shared.key.value.value.store.opened }
         requires holding { IsHolding before.value.me.0.holding }
         requires space { HasRoomForLease before.value.me.0.holding }
@@ -122,7 +122,7 @@ impl<D: Disk, A: Devices, C: Admission> SharedStore<D, A, C> {
         requires left { 0 < pass.old.me.0.turns_left }
         requires out { 0 < names lease.slot (lease.creation + 1) pass.old.me.0.holding }
         ensures at { IsAt D.contents D.moment D.faults A.faults A.locations C.labels self.now.lock.table.shared.table_id self.now.lock.table.shared.key.value.value.store.opened pass.new }
-        ensures later { IsLater pass.old.me.0 pass.new.me.0 (without (lease_pair lease) pass.old.me.0.holding) }
+        ensures later { IsLater pass.old.me.0 pass.new.me.0 (without_pair (lease_pair lease) pass.old.me.0.holding) }
         ensures clear { IsClear result }
     {
         let before = Snapshot::of(pass);

@@ -10,19 +10,19 @@ use Rattle.store_model.specs.Faults.{Plain}
 use Rattle.store_model.specs.Store.{is_opaque_key}
 use Rattle.store_core.specs.Opaque.{IsAnswered}
 use Rattle.store_core.specs.Represents.{HoldsOf}
-use Rattle.shared_store.specs.Standing.{Stands}
+use Rattle.shared_store.specs.Standing.{HoldsHistory}
 use Rattle.shared_store.proofs.Computing.{as_known}
 use Rattle.shared_store.proofs.Turns.{IsSteady, entered_after, few, led_decides, led_stands, led_weaker, makes, stands_some}
 use Rattle.shared_store.proofs.held.SharedStore.compute_in.Goals as goal
 
 pub opaque_call-requires-clause-stands : goal.opaque_call-requires-clause-stands
 opaque_call-requires-clause-stands g c κs within =
-    let s = subst (λ v. Stands g.D.Disk.contents g.D.Disk.may_leave g.D.Disk.moment g.D.Disk.left_since g.D.Disk.faults g.D.Disk.size g.A.Devices.keys g.A.Devices.faults g.A.Devices.locations g.C.Admission.labels v.store (entries_of c.args.pass.now.me.0.seen) c.args.pass.now.me.0.holdings) (sym c.value.ensures.value) c.requires.stands in
+    let s = subst (λ v. HoldsHistory g.D.Disk.contents g.D.Disk.may_leave g.D.Disk.moment g.D.Disk.left_since g.D.Disk.faults g.D.Disk.size g.A.Devices.keys g.A.Devices.faults g.A.Devices.locations g.C.Admission.labels v.store (entries_of c.args.pass.now.me.0.seen) c.args.pass.now.me.0.holdings) (sym c.value.ensures.value) c.requires.stands in
     stands_some g.D.Disk.contents g.D.Disk.may_leave g.D.Disk.moment g.D.Disk.left_since g.D.Disk.faults g.D.Disk.size g.A.Devices.keys g.A.Devices.faults g.A.Devices.locations g.C.Admission.labels c.value.result.now.store (entries_of c.args.pass.now.me.0.seen) c.args.pass.now.me.0.holdings s
 
 pub opaque_call-requires-clause-few : goal.opaque_call-requires-clause-few
 opaque_call-requires-clause-few g c κs within =
-    let s = subst (λ v. Stands g.D.Disk.contents g.D.Disk.may_leave g.D.Disk.moment g.D.Disk.left_since g.D.Disk.faults g.D.Disk.size g.A.Devices.keys g.A.Devices.faults g.A.Devices.locations g.C.Admission.labels v.store (entries_of c.args.pass.now.me.0.seen) c.args.pass.now.me.0.holdings) (sym c.value.ensures.value) c.requires.stands in
+    let s = subst (λ v. HoldsHistory g.D.Disk.contents g.D.Disk.may_leave g.D.Disk.moment g.D.Disk.left_since g.D.Disk.faults g.D.Disk.size g.A.Devices.keys g.A.Devices.faults g.A.Devices.locations g.C.Admission.labels v.store (entries_of c.args.pass.now.me.0.seen) c.args.pass.now.me.0.holdings) (sym c.value.ensures.value) c.requires.stands in
     few g.D.Disk.contents g.D.Disk.may_leave g.D.Disk.moment g.D.Disk.left_since g.D.Disk.faults g.D.Disk.size g.A.Devices.keys g.A.Devices.faults g.A.Devices.locations g.C.Admission.labels c.args.self.now.lock.table.shared.table_id c.args.self.now.lock.table.shared.key.value.value.store.opened c.args.before.value.me.0 c.args.pass.now c.args.turn.entries c.requires.begun c.value.result.now.store (ap (λ v. v.store.opened) c.value.ensures.value ∙ c.requires.opened) s
 
 pub opaque_call-requires-clause-opaque : goal.opaque_call-requires-clause-opaque
@@ -31,7 +31,7 @@ opaque_call-requires-clause-opaque g c κs within =
 
 pub leave_ranked-rank-requires-clause-stands : goal.leave_ranked-rank-requires-clause-stands
 leave_ranked-rank-requires-clause-stands g c κs within =
-    let s = subst (λ v. Stands g.D.Disk.contents g.D.Disk.may_leave g.D.Disk.moment g.D.Disk.left_since g.D.Disk.faults g.D.Disk.size g.A.Devices.keys g.A.Devices.faults g.A.Devices.locations g.C.Admission.labels v.store (entries_of c.args.pass.now.me.0.seen) c.args.pass.now.me.0.holdings) (sym c.value.ensures.value) c.requires.stands in
+    let s = subst (λ v. HoldsHistory g.D.Disk.contents g.D.Disk.may_leave g.D.Disk.moment g.D.Disk.left_since g.D.Disk.faults g.D.Disk.size g.A.Devices.keys g.A.Devices.faults g.A.Devices.locations g.C.Admission.labels v.store (entries_of c.args.pass.now.me.0.seen) c.args.pass.now.me.0.holdings) (sym c.value.ensures.value) c.requires.stands in
     let l = c.opaque_call.ensures in
     let k : IsSteady g.D.Disk.contents g.D.Disk.may_leave g.D.Disk.moment g.D.Disk.left_since g.D.Disk.faults g.D.Disk.size g.A.Devices.keys g.A.Devices.faults g.A.Devices.locations g.C.Admission.labels c.value.result.now.store c.opaque_call.new.self = record {
       opened = l.opened;
@@ -49,7 +49,7 @@ leave_ranked-rank-requires-clause-stands g c κs within =
 
 pub returns-in-Ok-clause-computed : goal.returns-in-Ok-clause-computed
 returns-in-Ok-clause-computed g c =
-    let s = subst (λ v. Stands g.D.Disk.contents g.D.Disk.may_leave g.D.Disk.moment g.D.Disk.left_since g.D.Disk.faults g.D.Disk.size g.A.Devices.keys g.A.Devices.faults g.A.Devices.locations g.C.Admission.labels v.store (entries_of c.args.pass.now.me.0.seen) c.args.pass.now.me.0.holdings) (sym c.value.ensures.value) c.requires.stands in
+    let s = subst (λ v. HoldsHistory g.D.Disk.contents g.D.Disk.may_leave g.D.Disk.moment g.D.Disk.left_since g.D.Disk.faults g.D.Disk.size g.A.Devices.keys g.A.Devices.faults g.A.Devices.locations g.C.Admission.labels v.store (entries_of c.args.pass.now.me.0.seen) c.args.pass.now.me.0.holdings) (sym c.value.ensures.value) c.requires.stands in
     let l = c.opaque_call.ensures in
     let k : IsSteady g.D.Disk.contents g.D.Disk.may_leave g.D.Disk.moment g.D.Disk.left_since g.D.Disk.faults g.D.Disk.size g.A.Devices.keys g.A.Devices.faults g.A.Devices.locations g.C.Admission.labels c.value.result.now.store c.opaque_call.new.self = record {
       opened = l.opened;
@@ -67,7 +67,7 @@ returns-in-Ok-clause-computed g c =
 
 pub leave_ranked-rank-requires-in-Err-clause-stands : goal.leave_ranked-rank-requires-in-Err-clause-stands
 leave_ranked-rank-requires-in-Err-clause-stands g c κs within =
-    let s = subst (λ v. Stands g.D.Disk.contents g.D.Disk.may_leave g.D.Disk.moment g.D.Disk.left_since g.D.Disk.faults g.D.Disk.size g.A.Devices.keys g.A.Devices.faults g.A.Devices.locations g.C.Admission.labels v.store (entries_of c.args.pass.now.me.0.seen) c.args.pass.now.me.0.holdings) (sym c.value.ensures.value) c.requires.stands in
+    let s = subst (λ v. HoldsHistory g.D.Disk.contents g.D.Disk.may_leave g.D.Disk.moment g.D.Disk.left_since g.D.Disk.faults g.D.Disk.size g.A.Devices.keys g.A.Devices.faults g.A.Devices.locations g.C.Admission.labels v.store (entries_of c.args.pass.now.me.0.seen) c.args.pass.now.me.0.holdings) (sym c.value.ensures.value) c.requires.stands in
     let l = c.opaque_call.ensures in
     let k : IsSteady g.D.Disk.contents g.D.Disk.may_leave g.D.Disk.moment g.D.Disk.left_since g.D.Disk.faults g.D.Disk.size g.A.Devices.keys g.A.Devices.faults g.A.Devices.locations g.C.Admission.labels c.value.result.now.store c.opaque_call.new.self = record {
       opened = l.opened;
@@ -85,7 +85,7 @@ leave_ranked-rank-requires-in-Err-clause-stands g c κs within =
 
 pub returns-clause-computed : goal.returns-clause-computed
 returns-clause-computed g c =
-    let s = subst (λ v. Stands g.D.Disk.contents g.D.Disk.may_leave g.D.Disk.moment g.D.Disk.left_since g.D.Disk.faults g.D.Disk.size g.A.Devices.keys g.A.Devices.faults g.A.Devices.locations g.C.Admission.labels v.store (entries_of c.args.pass.now.me.0.seen) c.args.pass.now.me.0.holdings) (sym c.value.ensures.value) c.requires.stands in
+    let s = subst (λ v. HoldsHistory g.D.Disk.contents g.D.Disk.may_leave g.D.Disk.moment g.D.Disk.left_since g.D.Disk.faults g.D.Disk.size g.A.Devices.keys g.A.Devices.faults g.A.Devices.locations g.C.Admission.labels v.store (entries_of c.args.pass.now.me.0.seen) c.args.pass.now.me.0.holdings) (sym c.value.ensures.value) c.requires.stands in
     let l = c.opaque_call.ensures in
     let k : IsSteady g.D.Disk.contents g.D.Disk.may_leave g.D.Disk.moment g.D.Disk.left_since g.D.Disk.faults g.D.Disk.size g.A.Devices.keys g.A.Devices.faults g.A.Devices.locations g.C.Admission.labels c.value.result.now.store c.opaque_call.new.self = record {
       opened = l.opened;

@@ -2,7 +2,7 @@ use Rattle.std.proofs.Common.{◌∙◌, ap, None}
 use Rattle.turn_history.specs.History.{entries_of}
 use Rattle.turn_history.specs.Holdings.{with_own}
 use Rattle.turn_history.specs.Views.{after_turn}
-use Rattle.shared_store.specs.Turning.{changed}
+use Rattle.shared_store.specs.Turning.{after_change}
 use Rattle.shared_store.proofs.Passing.{later}
 use Rattle.shared_store.proofs.Renewing.{at_after, with_nothing}
 use Rattle.shared_store.proofs.held.SharedStore.leave_unranked.Goals as goal
@@ -12,12 +12,12 @@ leave-requires-clause-value g c =
     let w = c.args.pass.now.me.0 in
     rw (c.requires.names.0, c.requires.names.1)
     (with_nothing g.D.Disk.contents g.D.Disk.may_leave g.D.Disk.moment g.D.Disk.left_since g.D.Disk.faults g.D.Disk.size g.A.Devices.keys g.A.Devices.faults g.A.Devices.locations g.C.Admission.labels c.args.turn.value.store
-    (entries_of w.seen) (with_own w.holdings w.number (changed c.args.change.now w.holding)) c.requires.stands)
+    (entries_of w.seen) (with_own w.holdings w.number (after_change c.args.change.now w.holding)) c.requires.stands)
 
 pub returns-clause-at : goal.returns-clause-at
 returns-clause-at g c =
     let w = c.args.pass.now.me.0 in
-    let own = changed c.args.change.now w.holding in
+    let own = after_change c.args.change.now w.holding in
     let me = rw (c.requires.names.0, c.requires.names.1) at c.leave.ensures.pass in
     at_after g.D.Disk.contents g.D.Disk.may_leave g.D.Disk.moment g.D.Disk.left_since g.D.Disk.faults g.D.Disk.size g.A.Devices.keys g.A.Devices.faults g.A.Devices.locations g.C.Admission.labels
     c.args.self.now.lock.table.shared.table_id c.args.self.now.lock.table.shared.key.value.value.store.opened c.args.before.value.me.0 c.args.pass.now c.args.turn.entries c.requires.begun
@@ -30,5 +30,5 @@ returns-clause-later g c =
     let w = c.args.pass.now.me.0 in
     let b = c.requires.begun in
     let me = rw (c.requires.names.0, c.requires.names.1) at c.leave.ensures.pass in
-    later c.args.before.value.me.0 w c.leave.new.pass.me.0 (changed c.args.change.now c.args.before.value.me.0.holding) b.on b.same_calls
-    (ap (λ m. m.0) me ∙ ap (λ h. after_turn w None (changed c.args.change.now h)) b.same_holding)
+    later c.args.before.value.me.0 w c.leave.new.pass.me.0 (after_change c.args.change.now c.args.before.value.me.0.holding) b.on b.same_calls
+    (ap (λ m. m.0) me ∙ ap (λ h. after_turn w None (after_change c.args.change.now h)) b.same_holding)

@@ -3,7 +3,7 @@ use Rattle.turn_history.specs.History.{entries_of}
 use Rattle.turn_history.specs.Holdings.{with_own}
 use Rattle.service_calls.specs.Meanings.{model_request}
 use Rattle.store_model.specs.Faults.{Plain}
-use Rattle.shared_store.specs.Standing.{Stands}
+use Rattle.shared_store.specs.Standing.{HoldsHistory}
 use Rattle.std.specs.Prelude.{is_some}
 use Rattle.key_slots.specs.Holdings.{IsHolding}
 use Rattle.key_uses.specs.Uses.{use_refusal}
@@ -15,17 +15,17 @@ use Rattle.shared_store.proofs.held.SharedStore.look_in.Goals as goal
 
 pub look-requires-clause-stands : goal.look-requires-clause-stands
 look-requires-clause-stands g c κs within =
-    let s = subst (λ v. Stands g.D.Disk.contents g.D.Disk.may_leave g.D.Disk.moment g.D.Disk.left_since g.D.Disk.faults g.D.Disk.size g.A.Devices.keys g.A.Devices.faults g.A.Devices.locations g.C.Admission.labels v.store (entries_of c.args.pass.now.me.0.seen) c.args.pass.now.me.0.holdings) (sym c.value.ensures.value) c.requires.stands in
+    let s = subst (λ v. HoldsHistory g.D.Disk.contents g.D.Disk.may_leave g.D.Disk.moment g.D.Disk.left_since g.D.Disk.faults g.D.Disk.size g.A.Devices.keys g.A.Devices.faults g.A.Devices.locations g.C.Admission.labels v.store (entries_of c.args.pass.now.me.0.seen) c.args.pass.now.me.0.holdings) (sym c.value.ensures.value) c.requires.stands in
     stands_some g.D.Disk.contents g.D.Disk.may_leave g.D.Disk.moment g.D.Disk.left_since g.D.Disk.faults g.D.Disk.size g.A.Devices.keys g.A.Devices.faults g.A.Devices.locations g.C.Admission.labels c.value.result.now.store (entries_of c.args.pass.now.me.0.seen) c.args.pass.now.me.0.holdings s
 
 pub look-requires-clause-few : goal.look-requires-clause-few
 look-requires-clause-few g c κs within =
-    let s = subst (λ v. Stands g.D.Disk.contents g.D.Disk.may_leave g.D.Disk.moment g.D.Disk.left_since g.D.Disk.faults g.D.Disk.size g.A.Devices.keys g.A.Devices.faults g.A.Devices.locations g.C.Admission.labels v.store (entries_of c.args.pass.now.me.0.seen) c.args.pass.now.me.0.holdings) (sym c.value.ensures.value) c.requires.stands in
+    let s = subst (λ v. HoldsHistory g.D.Disk.contents g.D.Disk.may_leave g.D.Disk.moment g.D.Disk.left_since g.D.Disk.faults g.D.Disk.size g.A.Devices.keys g.A.Devices.faults g.A.Devices.locations g.C.Admission.labels v.store (entries_of c.args.pass.now.me.0.seen) c.args.pass.now.me.0.holdings) (sym c.value.ensures.value) c.requires.stands in
     few g.D.Disk.contents g.D.Disk.may_leave g.D.Disk.moment g.D.Disk.left_since g.D.Disk.faults g.D.Disk.size g.A.Devices.keys g.A.Devices.faults g.A.Devices.locations g.C.Admission.labels c.args.self.now.lock.table.shared.table_id c.args.self.now.lock.table.shared.key.value.value.store.opened c.args.before.value.me.0 c.args.pass.now c.args.turn.entries c.requires.begun c.value.result.now.store (ap (λ v. v.store.opened) c.value.ensures.value ∙ c.requires.opened) s
 
 pub leave_ranked-rank-requires-clause-stands : goal.leave_ranked-rank-requires-clause-stands
 leave_ranked-rank-requires-clause-stands g c κs within =
-    let s = subst (λ v. Stands g.D.Disk.contents g.D.Disk.may_leave g.D.Disk.moment g.D.Disk.left_since g.D.Disk.faults g.D.Disk.size g.A.Devices.keys g.A.Devices.faults g.A.Devices.locations g.C.Admission.labels v.store (entries_of c.args.pass.now.me.0.seen) c.args.pass.now.me.0.holdings) (sym c.value.ensures.value) c.requires.stands in
+    let s = subst (λ v. HoldsHistory g.D.Disk.contents g.D.Disk.may_leave g.D.Disk.moment g.D.Disk.left_since g.D.Disk.faults g.D.Disk.size g.A.Devices.keys g.A.Devices.faults g.A.Devices.locations g.C.Admission.labels v.store (entries_of c.args.pass.now.me.0.seen) c.args.pass.now.me.0.holdings) (sym c.value.ensures.value) c.requires.stands in
     let l = c.in-Ok.ensures in
     let k : IsSteady g.D.Disk.contents g.D.Disk.may_leave g.D.Disk.moment g.D.Disk.left_since g.D.Disk.faults g.D.Disk.size g.A.Devices.keys g.A.Devices.faults g.A.Devices.locations g.C.Admission.labels c.value.result.now.store c.look.new.self = record { opened = l.opened; sized = l.size; clear = l.clear; tells = l.tells; knows = ap (λ d. is_some (g.A.Devices.keys d)) l.devices } in
     rw c.of.ensures
@@ -34,7 +34,7 @@ leave_ranked-rank-requires-clause-stands g c κs within =
 
 pub leave_ranked-rank-requires-in-Err-clause-stands : goal.leave_ranked-rank-requires-in-Err-clause-stands
 leave_ranked-rank-requires-in-Err-clause-stands g c κs within =
-    let s = subst (λ v. Stands g.D.Disk.contents g.D.Disk.may_leave g.D.Disk.moment g.D.Disk.left_since g.D.Disk.faults g.D.Disk.size g.A.Devices.keys g.A.Devices.faults g.A.Devices.locations g.C.Admission.labels v.store (entries_of c.args.pass.now.me.0.seen) c.args.pass.now.me.0.holdings) (sym c.value.ensures.value) c.requires.stands in
+    let s = subst (λ v. HoldsHistory g.D.Disk.contents g.D.Disk.may_leave g.D.Disk.moment g.D.Disk.left_since g.D.Disk.faults g.D.Disk.size g.A.Devices.keys g.A.Devices.faults g.A.Devices.locations g.C.Admission.labels v.store (entries_of c.args.pass.now.me.0.seen) c.args.pass.now.me.0.holdings) (sym c.value.ensures.value) c.requires.stands in
     let l = c.in-Err.ensures in
     let k : IsSteady g.D.Disk.contents g.D.Disk.may_leave g.D.Disk.moment g.D.Disk.left_since g.D.Disk.faults g.D.Disk.size g.A.Devices.keys g.A.Devices.faults g.A.Devices.locations g.C.Admission.labels c.value.result.now.store c.look.new.self = record { opened = l.opened; sized = l.size; clear = l.clear; tells = l.tells; knows = ap (λ d. is_some (g.A.Devices.keys d)) l.devices } in
     led_stands g.D.Disk.contents g.D.Disk.may_leave g.D.Disk.moment g.D.Disk.left_since g.D.Disk.faults g.D.Disk.size g.A.Devices.keys g.A.Devices.faults g.A.Devices.locations g.C.Admission.labels c.args.self.now.lock.table.shared.table_id c.args.self.now.lock.table.shared.key.value.value.store.opened c.args.before.value.me.0 c.args.pass.now c.args.turn.entries c.requires.begun c.value.result.now.store (ap (λ v. v.store.opened) c.value.ensures.value ∙ c.requires.opened) s c.look.new.self (model_request c.args.call.now c.args.room) (mark_of c.in-Err.status) (with_own c.args.pass.now.me.0.holdings c.args.pass.now.me.0.number c.args.pass.now.me.0.holding) (IsRefused (use_refusal c.args.wanted) c.args.id.0 c.in-Err.status) k
@@ -42,7 +42,7 @@ leave_ranked-rank-requires-in-Err-clause-stands g c κs within =
 
 pub returns-in-Ok-clause-lent : goal.returns-in-Ok-clause-lent
 returns-in-Ok-clause-lent g c =
-    let s = subst (λ v. Stands g.D.Disk.contents g.D.Disk.may_leave g.D.Disk.moment g.D.Disk.left_since g.D.Disk.faults g.D.Disk.size g.A.Devices.keys g.A.Devices.faults g.A.Devices.locations g.C.Admission.labels v.store (entries_of c.args.pass.now.me.0.seen) c.args.pass.now.me.0.holdings) (sym c.value.ensures.value) c.requires.stands in
+    let s = subst (λ v. HoldsHistory g.D.Disk.contents g.D.Disk.may_leave g.D.Disk.moment g.D.Disk.left_since g.D.Disk.faults g.D.Disk.size g.A.Devices.keys g.A.Devices.faults g.A.Devices.locations g.C.Admission.labels v.store (entries_of c.args.pass.now.me.0.seen) c.args.pass.now.me.0.holdings) (sym c.value.ensures.value) c.requires.stands in
     let l = c.in-Ok.ensures in
     let k : IsSteady g.D.Disk.contents g.D.Disk.may_leave g.D.Disk.moment g.D.Disk.left_since g.D.Disk.faults g.D.Disk.size g.A.Devices.keys g.A.Devices.faults g.A.Devices.locations g.C.Admission.labels c.value.result.now.store c.look.new.self = record { opened = l.opened; sized = l.size; clear = l.clear; tells = l.tells; knows = ap (λ d. is_some (g.A.Devices.keys d)) l.devices } in
     entered_after (rw c.of.ensures at c.leave_ranked-rank.ensures.entered)
@@ -51,7 +51,7 @@ returns-in-Ok-clause-lent g c =
 
 pub returns-in-Err-clause-refused : goal.returns-in-Err-clause-refused
 returns-in-Err-clause-refused g c =
-    let s = subst (λ v. Stands g.D.Disk.contents g.D.Disk.may_leave g.D.Disk.moment g.D.Disk.left_since g.D.Disk.faults g.D.Disk.size g.A.Devices.keys g.A.Devices.faults g.A.Devices.locations g.C.Admission.labels v.store (entries_of c.args.pass.now.me.0.seen) c.args.pass.now.me.0.holdings) (sym c.value.ensures.value) c.requires.stands in
+    let s = subst (λ v. HoldsHistory g.D.Disk.contents g.D.Disk.may_leave g.D.Disk.moment g.D.Disk.left_since g.D.Disk.faults g.D.Disk.size g.A.Devices.keys g.A.Devices.faults g.A.Devices.locations g.C.Admission.labels v.store (entries_of c.args.pass.now.me.0.seen) c.args.pass.now.me.0.holdings) (sym c.value.ensures.value) c.requires.stands in
     let l = c.in-Err.ensures in
     let k : IsSteady g.D.Disk.contents g.D.Disk.may_leave g.D.Disk.moment g.D.Disk.left_since g.D.Disk.faults g.D.Disk.size g.A.Devices.keys g.A.Devices.faults g.A.Devices.locations g.C.Admission.labels c.value.result.now.store c.look.new.self = record { opened = l.opened; sized = l.size; clear = l.clear; tells = l.tells; knows = ap (λ d. is_some (g.A.Devices.keys d)) l.devices } in
     entered_after c.leave_ranked-rank-in-Err.ensures.entered

@@ -3,7 +3,7 @@ use Rattle.turn_history.specs.History.{entries_of}
 use Rattle.turn_history.specs.Holdings.{with_own}
 use Rattle.service_calls.specs.Meanings.{model_request}
 use Rattle.store_model.specs.Faults.{Plain}
-use Rattle.shared_store.specs.Standing.{Stands}
+use Rattle.shared_store.specs.Standing.{HoldsHistory}
 use Rattle.std.proofs.Common.{◌≡◌, Some, None}
 use Rattle.std.specs.FinMap as map
 use Rattle.store_core.specs.Uses.{there_rows}
@@ -12,12 +12,12 @@ use Rattle.shared_store.proofs.held.SharedStore.purge.Goals as goal
 
 pub purge-requires-clause-few : goal.purge-requires-clause-few
 purge-requires-clause-few g c κs within =
-    let s = subst (λ v. Stands g.D.Disk.contents g.D.Disk.may_leave g.D.Disk.moment g.D.Disk.left_since g.D.Disk.faults g.D.Disk.size g.A.Devices.keys g.A.Devices.faults g.A.Devices.locations g.C.Admission.labels v.store (entries_of c.enter-turn.new.pass.me.0.seen) c.enter-turn.new.pass.me.0.holdings) (sym c.value.ensures.value) c.enter-turn.ensures.stands in
+    let s = subst (λ v. HoldsHistory g.D.Disk.contents g.D.Disk.may_leave g.D.Disk.moment g.D.Disk.left_since g.D.Disk.faults g.D.Disk.size g.A.Devices.keys g.A.Devices.faults g.A.Devices.locations g.C.Admission.labels v.store (entries_of c.enter-turn.new.pass.me.0.seen) c.enter-turn.new.pass.me.0.holdings) (sym c.value.ensures.value) c.enter-turn.ensures.stands in
     few g.D.Disk.contents g.D.Disk.may_leave g.D.Disk.moment g.D.Disk.left_since g.D.Disk.faults g.D.Disk.size g.A.Devices.keys g.A.Devices.faults g.A.Devices.locations g.C.Admission.labels c.args.self.now.lock.table.shared.table_id c.args.self.now.lock.table.shared.key.value.value.store.opened c.args.pass.now.me.0 c.enter-turn.new.pass c.enter-turn.result.entries c.enter-turn.ensures.begun c.value.result.now.store (ap (λ v. v.store.opened) c.value.ensures.value ∙ c.enter-turn.ensures.opened) s
 
 pub leave_ranked-rank-requires-clause-stands : goal.leave_ranked-rank-requires-clause-stands
 leave_ranked-rank-requires-clause-stands g c κs within =
-    let s = subst (λ v. Stands g.D.Disk.contents g.D.Disk.may_leave g.D.Disk.moment g.D.Disk.left_since g.D.Disk.faults g.D.Disk.size g.A.Devices.keys g.A.Devices.faults g.A.Devices.locations g.C.Admission.labels v.store (entries_of c.enter-turn.new.pass.me.0.seen) c.enter-turn.new.pass.me.0.holdings) (sym c.value.ensures.value) c.enter-turn.ensures.stands in
+    let s = subst (λ v. HoldsHistory g.D.Disk.contents g.D.Disk.may_leave g.D.Disk.moment g.D.Disk.left_since g.D.Disk.faults g.D.Disk.size g.A.Devices.keys g.A.Devices.faults g.A.Devices.locations g.C.Admission.labels v.store (entries_of c.enter-turn.new.pass.me.0.seen) c.enter-turn.new.pass.me.0.holdings) (sym c.value.ensures.value) c.enter-turn.ensures.stands in
     let l = c.in-Ok.ensures in
     let k : IsSteady g.D.Disk.contents g.D.Disk.may_leave g.D.Disk.moment g.D.Disk.left_since g.D.Disk.faults g.D.Disk.size g.A.Devices.keys g.A.Devices.faults g.A.Devices.locations g.C.Admission.labels c.value.result.now.store c.purge.new.self = steady g.D.Disk.contents g.D.Disk.may_leave g.D.Disk.moment g.D.Disk.left_since g.D.Disk.faults g.D.Disk.size g.A.Devices.keys g.A.Devices.faults g.A.Devices.locations g.C.Admission.labels c.value.result.now.store c.purge.new.self (entries_of c.enter-turn.new.pass.me.0.seen) c.enter-turn.new.pass.me.0.holdings s l.opened l.file l.devices l.buffer in
     (led_stands g.D.Disk.contents g.D.Disk.may_leave g.D.Disk.moment g.D.Disk.left_since g.D.Disk.faults g.D.Disk.size g.A.Devices.keys g.A.Devices.faults g.A.Devices.locations g.C.Admission.labels c.args.self.now.lock.table.shared.table_id c.args.self.now.lock.table.shared.key.value.value.store.opened c.args.pass.now.me.0 c.enter-turn.new.pass c.enter-turn.result.entries c.enter-turn.ensures.begun c.value.result.now.store (ap (λ v. v.store.opened) c.value.ensures.value ∙ c.enter-turn.ensures.opened) s c.purge.new.self (model_request c.args.call.now c.args.room) Plain (with_own c.enter-turn.new.pass.me.0.holdings c.enter-turn.new.pass.me.0.number c.enter-turn.new.pass.me.0.holding) (λ m. there_rows (map.get m.keys c.args.id.0) ≡ None) k
@@ -25,7 +25,7 @@ leave_ranked-rank-requires-clause-stands g c κs within =
 
 pub returns-in-Ok-clause-there : goal.returns-in-Ok-clause-there
 returns-in-Ok-clause-there g c =
-    let s = subst (λ v. Stands g.D.Disk.contents g.D.Disk.may_leave g.D.Disk.moment g.D.Disk.left_since g.D.Disk.faults g.D.Disk.size g.A.Devices.keys g.A.Devices.faults g.A.Devices.locations g.C.Admission.labels v.store (entries_of c.enter-turn.new.pass.me.0.seen) c.enter-turn.new.pass.me.0.holdings) (sym c.value.ensures.value) c.enter-turn.ensures.stands in
+    let s = subst (λ v. HoldsHistory g.D.Disk.contents g.D.Disk.may_leave g.D.Disk.moment g.D.Disk.left_since g.D.Disk.faults g.D.Disk.size g.A.Devices.keys g.A.Devices.faults g.A.Devices.locations g.C.Admission.labels v.store (entries_of c.enter-turn.new.pass.me.0.seen) c.enter-turn.new.pass.me.0.holdings) (sym c.value.ensures.value) c.enter-turn.ensures.stands in
     let l = c.in-Ok.ensures in
     let k : IsSteady g.D.Disk.contents g.D.Disk.may_leave g.D.Disk.moment g.D.Disk.left_since g.D.Disk.faults g.D.Disk.size g.A.Devices.keys g.A.Devices.faults g.A.Devices.locations g.C.Admission.labels c.value.result.now.store c.purge.new.self = steady g.D.Disk.contents g.D.Disk.may_leave g.D.Disk.moment g.D.Disk.left_since g.D.Disk.faults g.D.Disk.size g.A.Devices.keys g.A.Devices.faults g.A.Devices.locations g.C.Admission.labels c.value.result.now.store c.purge.new.self (entries_of c.enter-turn.new.pass.me.0.seen) c.enter-turn.new.pass.me.0.holdings s l.opened l.file l.devices l.buffer in
     ranked (rw c.of-before.ensures at c.leave_ranked-rank.ensures.entered)
@@ -34,7 +34,7 @@ returns-in-Ok-clause-there g c =
 
 pub leave_ranked-rank-requires-in-Err-clause-stands : goal.leave_ranked-rank-requires-in-Err-clause-stands
 leave_ranked-rank-requires-in-Err-clause-stands g c κs within =
-    let s = subst (λ v. Stands g.D.Disk.contents g.D.Disk.may_leave g.D.Disk.moment g.D.Disk.left_since g.D.Disk.faults g.D.Disk.size g.A.Devices.keys g.A.Devices.faults g.A.Devices.locations g.C.Admission.labels v.store (entries_of c.enter-turn.new.pass.me.0.seen) c.enter-turn.new.pass.me.0.holdings) (sym c.value.ensures.value) c.enter-turn.ensures.stands in
+    let s = subst (λ v. HoldsHistory g.D.Disk.contents g.D.Disk.may_leave g.D.Disk.moment g.D.Disk.left_since g.D.Disk.faults g.D.Disk.size g.A.Devices.keys g.A.Devices.faults g.A.Devices.locations g.C.Admission.labels v.store (entries_of c.enter-turn.new.pass.me.0.seen) c.enter-turn.new.pass.me.0.holdings) (sym c.value.ensures.value) c.enter-turn.ensures.stands in
     let l = c.in-Err.ensures in
     let k : IsSteady g.D.Disk.contents g.D.Disk.may_leave g.D.Disk.moment g.D.Disk.left_since g.D.Disk.faults g.D.Disk.size g.A.Devices.keys g.A.Devices.faults g.A.Devices.locations g.C.Admission.labels c.value.result.now.store c.purge.new.self = steady g.D.Disk.contents g.D.Disk.may_leave g.D.Disk.moment g.D.Disk.left_since g.D.Disk.faults g.D.Disk.size g.A.Devices.keys g.A.Devices.faults g.A.Devices.locations g.C.Admission.labels c.value.result.now.store c.purge.new.self (entries_of c.enter-turn.new.pass.me.0.seen) c.enter-turn.new.pass.me.0.holdings s l.opened l.file l.devices l.buffer in
     (led_stands g.D.Disk.contents g.D.Disk.may_leave g.D.Disk.moment g.D.Disk.left_since g.D.Disk.faults g.D.Disk.size g.A.Devices.keys g.A.Devices.faults g.A.Devices.locations g.C.Admission.labels c.args.self.now.lock.table.shared.table_id c.args.self.now.lock.table.shared.key.value.value.store.opened c.args.pass.now.me.0 c.enter-turn.new.pass c.enter-turn.result.entries c.enter-turn.ensures.begun c.value.result.now.store (ap (λ v. v.store.opened) c.value.ensures.value ∙ c.enter-turn.ensures.opened) s c.purge.new.self (model_request c.args.call.now c.args.room) Plain (with_own c.enter-turn.new.pass.me.0.holdings c.enter-turn.new.pass.me.0.number c.enter-turn.new.pass.me.0.holding) (λ m. there_rows (map.get m.keys c.args.id.0) ≡ Some c.in-Err.status) k
@@ -42,7 +42,7 @@ leave_ranked-rank-requires-in-Err-clause-stands g c κs within =
 
 pub returns-clause-missing : goal.returns-clause-missing
 returns-clause-missing g c =
-    let s = subst (λ v. Stands g.D.Disk.contents g.D.Disk.may_leave g.D.Disk.moment g.D.Disk.left_since g.D.Disk.faults g.D.Disk.size g.A.Devices.keys g.A.Devices.faults g.A.Devices.locations g.C.Admission.labels v.store (entries_of c.enter-turn.new.pass.me.0.seen) c.enter-turn.new.pass.me.0.holdings) (sym c.value.ensures.value) c.enter-turn.ensures.stands in
+    let s = subst (λ v. HoldsHistory g.D.Disk.contents g.D.Disk.may_leave g.D.Disk.moment g.D.Disk.left_since g.D.Disk.faults g.D.Disk.size g.A.Devices.keys g.A.Devices.faults g.A.Devices.locations g.C.Admission.labels v.store (entries_of c.enter-turn.new.pass.me.0.seen) c.enter-turn.new.pass.me.0.holdings) (sym c.value.ensures.value) c.enter-turn.ensures.stands in
     let l = c.in-Err.ensures in
     let k : IsSteady g.D.Disk.contents g.D.Disk.may_leave g.D.Disk.moment g.D.Disk.left_since g.D.Disk.faults g.D.Disk.size g.A.Devices.keys g.A.Devices.faults g.A.Devices.locations g.C.Admission.labels c.value.result.now.store c.purge.new.self = steady g.D.Disk.contents g.D.Disk.may_leave g.D.Disk.moment g.D.Disk.left_since g.D.Disk.faults g.D.Disk.size g.A.Devices.keys g.A.Devices.faults g.A.Devices.locations g.C.Admission.labels c.value.result.now.store c.purge.new.self (entries_of c.enter-turn.new.pass.me.0.seen) c.enter-turn.new.pass.me.0.holdings s l.opened l.file l.devices l.buffer in (
       l.missing.0,
