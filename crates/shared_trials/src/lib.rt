@@ -1,0 +1,5 @@
+//! Trials of the store under its lock.
+#![tactic(auto)]
+
+#[cfg(test)]
+mod tests;
