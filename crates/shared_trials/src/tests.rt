@@ -1,7 +1,8 @@
-ghost use Rattle.std.specs.Prelude.{◌≡◌, ◌<◌, ℕ, [], Some};
+ghost use Rattle.std.specs.Prelude.{◌≡◌, ◌<◌, [], IfOk, Some};
 ghost use Rattle.driver_dispatch.specs.Held.{no_keys};
 ghost use Rattle.turn_history.specs.Passes.{AreNew};
 ghost use Rattle.shared_store.specs.Turning.{IsAt};
+ghost use Rattle.shared_store.specs.Closed.{AreAt};
 
 use admission::{Admission, Rules};
 use alg_encoding::Alg;
@@ -11,13 +12,38 @@ use key_attributes::{Attributes, KeyId, KeyType, Lifetime, Policy, Usage};
 use key_uses::KeyUse;
 use secret_bytes::Secret;
 use service_calls::{Call, StoreCall};
-use shared_store::{Held, SharedStore, end};
+use shared_store::{Held, Shared, SharedStore, end};
 use std::alloc::Global;
 use std::process::Abort;
 use std::sync::Wait;
 use std::test::Fail;
 use store_core::NotDestroyed;
 use turn_history::Pass;
+
+// A disk of length 0 that never fails.
+fn new_disk(alloc: Global) -> Result<MemoryDisk, Fail> {
+    match MemoryDisk::new(alloc, Vec::new(alloc), Fails::From(u64::MAX)) {
+        Ok(disk) => Ok(disk),
+        Err(_) => Err("memory")?,
+    }
+}
+
+// Opens the store of a disk over devices that hold no key.
+fn open<D: Disk + Drop, A: Devices, C: Admission>(
+    alloc: Global,
+    disk: D,
+    devices: A,
+    rules: C,
+) -> Result<Shared<D, A, C>, Fail>
+    requires { A.keys devices ≡ Some no_keys }
+    ensures new { IfOk result (λ made. AreNew made.0.lock.table.shared.table_id made.0.lock.table.shared.key.value.value.store.opened 16 made.1.items) }
+    ensures at { IfOk result (λ made. AreAt D.contents D.moment D.faults A.faults A.locations C.labels made.0.lock.table.shared.table_id made.0.lock.table.shared.key.value.value.store.opened made.1.items) }
+{
+    match SharedStore::open(alloc, disk, devices, rules) {
+        Ok(made) => Ok(made),
+        Err(_unopened) => Err("open")?,
+    }
+}
 
 // Counts two hash calls, which are the first of a history.
 fn count_two<R: Abort + Wait, D: Disk, A: Devices, C: Admission>(
@@ -36,6 +62,29 @@ fn count_two<R: Abort + Wait, D: Disk, A: Devices, C: Admission>(
     assert_eq!(rt; shared.count(rt, pass, &call, 32), 1);
 }
 
+fn open_and_count<R: Abort + Wait, D: Disk + Drop, A: Devices, C: Admission>(
+    rt: &R,
+    alloc: Global,
+    disk: D,
+    devices: A,
+    rules: C,
+) -> Result<(), Fail>
+    requires { A.keys devices ≡ Some no_keys }
+{
+    let (shared, mut passes) = open(alloc, disk, devices, rules)?;
+    assert_eq!(rt; passes.len(), 16);
+    count_two(rt, &shared, &mut passes[0]);
+    Ok(())
+}
+
+#[test]
+fn opens_with_ample_memory(rt: HostRuntime) -> Result<(), Fail> {
+    let alloc = rt.alloc();
+    let devices = Drivers::new(Vec::new(alloc));
+    let rules = Rules::pick(Vec::new(alloc), &[]);
+    open_and_count(&rt, alloc, new_disk(alloc)?, devices, rules)
+}
+
 // A volatile key that may be exported.
 const RAW_DATA: Attributes = Attributes {
     lifetime: Lifetime(0),
@@ -48,7 +97,7 @@ const RAW_DATA: Attributes = Attributes {
     },
 };
 
-// Makes the first key of a store, reads it and destroys it, by the first pass. Nothing is out before, nor afterwards.
+// Makes a key, reads it and destroys it, in the first turns of a store.
 fn make_read_and_destroy<R: Abort + Wait, D: Disk, A: Devices, C: Admission>(
     rt: &R,
     alloc: Global,
@@ -84,48 +133,21 @@ fn make_read_and_destroy<R: Abort + Wait, D: Disk, A: Devices, C: Admission>(
     shared.give_back(rt, pass, lease);
     let destroy = Call::OnStore(StoreCall::Destroy(id));
     assert_eq!(rt; shared.destroy(rt, pass, &destroy, 0, id), (2, Ok(())));
-    assert_eq!(rt;
-        shared.destroy(rt, pass, &destroy, 0, id),
-        (3, Err(NotDestroyed::Missing))
-    );
+    let missing = Err(NotDestroyed::Missing);
+    assert_eq!(rt; shared.destroy(rt, pass, &destroy, 0, id), (3, missing));
     Ok(())
 }
 
-// Opens the store of a new disk, which gives sixteen passes, and has the first make two turns.
-fn open_and_count<R: Abort + Wait, A: Devices, C: Admission>(
+fn open_and_make<R: Abort + Wait, D: Disk + Drop, A: Devices, C: Admission>(
     rt: &R,
     alloc: Global,
+    disk: D,
     devices: A,
     rules: C,
 ) -> Result<(), Fail>
     requires { A.keys devices ≡ Some no_keys }
 {
-    let Ok(disk) = MemoryDisk::new(alloc, Vec::new(alloc), Fails::From(u64::MAX)) else {
-        return Err("disk")?;
-    };
-    let Ok((shared, mut passes)) = SharedStore::open(alloc, disk, devices, rules) else {
-        return Err("open")?;
-    };
-    assert_eq!(rt; passes.len(), 16);
-    count_two(rt, &shared, &mut passes[0]);
-    Ok(())
-}
-
-fn open_and_make<R: Abort + Wait, A: Devices, C: Admission>(
-    rt: &R,
-    alloc: Global,
-    devices: A,
-    rules: C,
-) -> Result<(), Fail>
-    requires { A.keys devices ≡ Some no_keys }
-{
-    let Ok(disk) = MemoryDisk::new(alloc, Vec::new(alloc), Fails::From(u64::MAX)) else {
-        return Err("disk")?;
-    };
-    let Ok((shared, mut passes)) = SharedStore::open(alloc, disk, devices, rules) else {
-        return Err("open")?;
-    };
-    assert_eq!(rt; passes.len(), 16);
+    let (shared, mut passes) = open(alloc, disk, devices, rules)?;
     make_read_and_destroy(rt, alloc, &shared, &mut passes[0])
 }
 
@@ -134,15 +156,7 @@ fn a_key_is_made_read_and_destroyed(rt: HostRuntime) -> Result<(), Fail> {
     let alloc = rt.alloc();
     let devices = Drivers::new(Vec::new(alloc));
     let rules = Rules::pick(Vec::new(alloc), &[]);
-    open_and_make(&rt, alloc, devices, rules)
-}
-
-#[test]
-fn opens_with_ample_memory(rt: HostRuntime) -> Result<(), Fail> {
-    let alloc = rt.alloc();
-    let devices = Drivers::new(Vec::new(alloc));
-    let rules = Rules::pick(Vec::new(alloc), &[]);
-    open_and_count(&rt, alloc, devices, rules)
+    open_and_make(&rt, alloc, new_disk(alloc)?, devices, rules)
 }
 
 // Hands all passes in, and gives the disk back.
@@ -159,22 +173,16 @@ fn end_all<D: Disk, A: Devices, C: Admission>(
     end(ending).0
 }
 
-fn open_and_end<R: Abort, A: Devices, C: Admission>(
-    rt: &R,
+fn open_and_end<D: Disk + Drop, A: Devices, C: Admission>(
     alloc: Global,
+    disk: D,
     devices: A,
     rules: C,
-) -> Result<(), Fail>
+) -> Result<D, Fail>
     requires { A.keys devices ≡ Some no_keys }
 {
-    let Ok(disk) = MemoryDisk::new(alloc, Vec::new(alloc), Fails::From(u64::MAX)) else {
-        return Err("disk")?;
-    };
-    let Ok((shared, passes)) = SharedStore::open(alloc, disk, devices, rules) else {
-        return Err("open")?;
-    };
-    assert_eq!(rt; end_all(shared, passes).bytes().len(), 557_120);
-    Ok(())
+    let (shared, passes) = open(alloc, disk, devices, rules)?;
+    Ok(end_all(shared, passes))
 }
 
 #[test]
@@ -182,5 +190,7 @@ fn gives_the_disk_back(rt: HostRuntime) -> Result<(), Fail> {
     let alloc = rt.alloc();
     let devices = Drivers::new(Vec::new(alloc));
     let rules = Rules::pick(Vec::new(alloc), &[]);
-    open_and_end(&rt, alloc, devices, rules)
+    let disk = open_and_end(alloc, new_disk(alloc)?, devices, rules)?;
+    assert_eq!(&rt; disk.bytes().len(), 557_120);
+    Ok(())
 }
