@@ -1,5 +1,5 @@
 -- New passes can be handed in.
-use Rattle.std.proofs.Common.{◌≡◌, ℕ, List, All, ap, Option}
+use Rattle.std.proofs.Common.{ℕ, List, All, ap, Option}
 use Rattle.atomic_table.specs.Seated.{TableId}
 use Rattle.atomic_table.specs.declared.shared.Seat.{Seat}
 use Rattle.turn_history.specs.declared.pass.View.{View}
