@@ -105,7 +105,7 @@ fn done<A: Devices, C: Admission>(
         Task::Look { turns } => export(&mut store, turns, false)?,
         Task::Load { turns } => export(&mut store, turns, true)?,
     };
-    Some((keys, store.into_disk().0))
+    Some((keys, store.into_disk()))
 }
 
 /// Opens the store of a disk without devices and rules, does this with it, and hands the disk back. How many keys it had to do
