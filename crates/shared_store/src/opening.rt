@@ -24,13 +24,15 @@ use turn_history::{Ending, HistoryLock, Pass, Refused};
 pub type Shared<D, A, C> = (SharedStore<D, A, C>, Vec<Pass<Held<D, A, C>>>);
 
 impl<D: Disk, A: Devices, C: Admission> SharedStore<D, A, C> {
-    /// Opens the store of a disk, or makes one on a disk of length 0, for sixteen callers. Where it isn't opened the disk and
+    /// Opens the store of a disk, or makes one on a disk of length 0, for sixteen callers whose
+    /// random words have this seed. Where it isn't opened the disk and
     /// the devices come back; `Memory` too where there is no room for the lock, and then the disk is as the opening left it.
     pub fn open(
         alloc: Global,
         disk: D,
         devices: A,
         rules: C,
+        seed: &[u8; 32],
     ) -> Result<Shared<D, A, C>, Unopened<D, A>>
         requires empty { (handle : ℕ) → Lacks (A.keys devices) handle }
         ensures passes { IfOk result (λ made. AreNew made.0.lock.table.shared.table_id made.0.lock.table.shared.key.value.value.store.opened 16 made.1.items) }
@@ -41,12 +43,13 @@ impl<D: Disk, A: Devices, C: Admission> SharedStore<D, A, C> {
         ensures opened { IfOk result (λ made. IsOpened D.contents D.may_leave D.moment D.left_since disk made.0.lock.table.shared.key.value.value.store.opened.file.value.cells.disk made.0.lock.table.shared.key.value.value.store.opened.file.value.cells.slots.items) }
         ensures later { IfOk result (λ made. D.faults disk ≤ D.faults made.0.lock.table.shared.key.value.value.store.opened.file.value.cells.disk) }
         ensures devices { IfOk result (λ made. made.0.lock.table.shared.key.value.value.store.opened.devices.value ≡ devices) }
+        ensures seed { IfOk result (λ made. made.0.lock.table.shared.key.value.value.store.opened.seed.value ≡ seed.now) }
         ensures rules { IfOk result (λ made. made.0.lock.table.shared.key.value.value.store.opened.rules.value ≡ rules) }
         ensures refused { IfErr result (λ unopened. IsRefused D.contents D.may_leave D.moment D.left_since D.faults disk unopened.disk unopened.fault
             ⊎ ((unopened.fault ≡ fault.Memory) × ((slots : List cell.Slot) × IsOpened D.contents D.may_leave D.moment D.left_since disk unopened.disk slots))) }
         ensures returned { IfErr result (λ unopened. unopened.devices ≡ devices) }
     {
-        let store = Store::open(alloc, disk, devices, rules)?;
+        let store = Store::open(alloc, disk, devices, rules, seed)?;
         match HistoryLock::new(alloc, Held { store }, 16) {
             Ok((lock, passes)) => Ok((SharedStore { lock }, passes)),
             Err(Refused { value }) => {

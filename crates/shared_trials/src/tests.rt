@@ -39,7 +39,7 @@ fn open<D: Disk + Drop, A: Devices, C: Admission>(
     ensures new { IfOk result (λ made. AreNew made.0.lock.table.shared.table_id made.0.lock.table.shared.key.value.value.store.opened 16 made.1.items) }
     ensures at { IfOk result (λ made. AreAt D.contents D.moment D.faults A.faults A.locations C.labels made.0.lock.table.shared.table_id made.0.lock.table.shared.key.value.value.store.opened made.1.items) }
 {
-    match SharedStore::open(alloc, disk, devices, rules) {
+    match SharedStore::open(alloc, disk, devices, rules, &[0; 32]) {
         Ok(made) => Ok(made),
         Err(_unopened) => Err("open")?,
     }

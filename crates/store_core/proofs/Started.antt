@@ -151,14 +151,15 @@ module _ {D A C : Type 0} (told : D → Option (List ℕ)) (may_leave : D → Li
     sounds = some_weaker (told first) (λ image. StandsForContents told may_leave disk slots (found_in image)) (λ image. (read : List ℕ) → may_leave disk read → Sound slots (found_in image) read) (λ image s. s.each) new.file.stands
 
     -- there is a start
-    pub starts : (settings : Settings) → settings.labels ≡ labels store.rules → settings.locations ≡ locations store.devices → settings.has_file ≡ true → (start : Service) × Start store.opened start
-    starts settings labels_are locations_are has_file =
+    pub starts : (settings : Settings) → settings.seed ≡ store.opened.seed.value → settings.labels ≡ labels store.rules → settings.locations ≡ locations store.devices → settings.has_file ≡ true → (start : Service) × Start store.opened start
+    starts settings seed_is labels_are locations_are has_file =
         let keys = some_opened (told disk) slots new.file.sized new.file.numbered (cell_key slots (told first) (told disk) (may_leave disk) new.file.named new.file.tells new.file.found sounds reads) in (
           service_start settings keys.0,
           record {
             settings = settings;
             found = keys.0;
             is = refl;
+            seed_is = seed_is;
             labels_are = labels_are ∙ ap labels (sym new.saw_rules);
             locations_are = locations_are ∙ ap locations (sym new.saw_devices);
             has_file = has_file;

@@ -24,6 +24,7 @@ module _ {D A C : Type 0} (told : D → Option (List ℕ)) (moment : D → ℕ) 
     pub settings : Settings
     pub found : List OpenedKey
     pub is : start ≡ service_start settings found
+    pub seed_is : settings.seed ≡ opened.seed.value
     pub labels_are : settings.labels ≡ labels opened.rules.value
     pub locations_are : settings.locations ≡ locations opened.devices.value
     pub has_file : settings.has_file ≡ true

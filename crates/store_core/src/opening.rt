@@ -42,8 +42,8 @@ fn new_rooms(alloc: Global) -> Result<(KeySlots, Secret), Memory>
 }
 
 impl<D: Disk, A: Devices, C: Admission> Store<D, A, C> {
-    /// Opens the store of a disk, or makes one on a disk of length 0. The keys are those of the disk, and no call was made
-    /// yet. `Memory` where there is no room for the slots, for the buffer or for the directory: for the former two it comes
+    /// Opens the store of a disk, or makes one on a disk of length 0, for callers whose random words have this seed. The keys
+    /// are those of the disk, and no call was made yet. `Memory` where there is no room for the slots, for the buffer or for the directory: for the former two it comes
     /// before the disk is called. `Disk` only where the disk's faults rose; `NotAStore` and `DamagedCell` for what the disk
     /// has, and then nothing is written to it. Where the store isn't opened the disk and the devices come back.
     pub fn open(
@@ -51,6 +51,7 @@ impl<D: Disk, A: Devices, C: Admission> Store<D, A, C> {
         disk: D,
         devices: A,
         rules: C,
+        seed: &[u8; 32],
     ) -> Result<Store<D, A, C>, Unopened<D, A>>
         requires empty { (handle : ℕ) → Lacks (A.keys devices) handle }
         ensures stands { IfOk result (λ store. (start : Service) (callers : ℕ) → IsStart D.contents D.moment D.faults A.faults A.locations C.labels store.opened start → callers ≤ 16 →
@@ -69,6 +70,7 @@ impl<D: Disk, A: Devices, C: Admission> Store<D, A, C> {
         ensures saw_file { IfOk result (λ store. store.opened.file.value ≡ store.file) }
         ensures saw_devices { IfOk result (λ store. store.opened.devices.value ≡ store.devices) }
         ensures saw_rules { IfOk result (λ store. store.opened.rules.value ≡ store.rules) }
+        ensures saw_seed { IfOk result (λ store. store.opened.seed.value ≡ seed.now) }
         ensures refused { IfErr result (λ unopened. IsRefused D.contents D.may_leave D.moment D.left_since D.faults disk unopened.disk unopened.fault) }
         ensures returned { IfErr result (λ unopened. unopened.devices ≡ devices) }
     {
@@ -83,7 +85,7 @@ impl<D: Disk, A: Devices, C: Admission> Store<D, A, C> {
             }
         };
         match KeyFile::open(alloc, disk) {
-            Ok(file) => Ok(Store::with_file(file, slots, devices, rules, buffer)),
+            Ok(file) => Ok(Store::with_file(file, slots, devices, rules, buffer, seed)),
             Err(refused) => Err(Unopened {
                 disk: refused.0,
                 devices,
@@ -99,6 +101,7 @@ impl<D: Disk, A: Devices, C: Admission> Store<D, A, C> {
         devices: A,
         rules: C,
         buffer: Secret,
+        seed: &[u8; 32],
     ) -> Store<D, A, C>
         requires sized { length file.cells.slots.items ≡ 512 }
         ensures file { result.file ≡ file }
@@ -114,12 +117,14 @@ impl<D: Disk, A: Devices, C: Admission> Store<D, A, C> {
         ensures saw_file { result.opened.file.value ≡ file }
         ensures saw_devices { result.opened.devices.value ≡ devices }
         ensures saw_rules { result.opened.rules.value ≡ rules }
+        ensures saw_seed { result.opened.seed.value ≡ seed.now }
     {
         let count = file.count();
         let opened = Opened {
             file: Snapshot::of(&file),
             devices: Snapshot::of(&devices),
             rules: Snapshot::of(&rules),
+            seed: Snapshot::of(seed),
         };
         Store {
             file,

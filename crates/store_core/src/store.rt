@@ -30,10 +30,12 @@ pub struct Store<D: Disk, A: Devices, C: Admission> {
     pub opened: Opened<D, A, C>,
 }
 
-/// The file, the devices and the rules as the opening left them. It has no bytes at run time.
+/// The file, the devices and the rules as the opening left them, and the seed of the callers' random words. It has no bytes at
+/// run time.
 #[derive(Drop)]
 pub struct Opened<D: Disk, A: Devices, C: Admission> {
     pub file: Snapshot<KeyFile<D>>,
     pub devices: Snapshot<A>,
     pub rules: Snapshot<C>,
+    pub seed: Snapshot<[u8; 32]>,
 }

@@ -54,7 +54,7 @@ impl<D: Disk, A: Devices, C: Admission> Keeper<D, A, C> {
                 fault: OpenFault::Memory,
             });
         };
-        match Store::open(alloc, disk, devices, rules) {
+        match Store::open(alloc, disk, devices, rules, &[0; 32]) {
             Ok(store) => Ok(Keeper {
                 store,
                 spare: Some(spare),

@@ -1,4 +1,4 @@
-use Rattle.std.proofs.Common.{◌∙◌, refl, sym, ap, subst, true, replicate, count_by}
+use Rattle.std.proofs.Common.{◌∙◌, refl, sym, ap, subst, true, count_by}
 use Rattle.key_cells.specs.Contents.{is_open}
 use Rattle.key_cells.specs.Opened.{IsOpened}
 use Rattle.key_file.specs.declared.file.KeyFile.{KeyFile}
@@ -41,7 +41,7 @@ returns-in-Ok-open-clause-starts g c =
     let v = g.A.Devices in
     let store = c.with_file.result in
     starts d.contents d.may_leave d.moment d.left_since d.faults v.keys v.faults v.locations g.C.Admission.labels c.args.disk store (is_new g c) (g.met.D.Disk.read_is_image store.file.cells.disk)
-    (record { seed = replicate 32 0; labels = g.C.Admission.labels store.rules; locations = v.locations store.devices; has_file = true }) refl refl refl
+    (record { seed = store.opened.seed.value; labels = g.C.Admission.labels store.rules; locations = v.locations store.devices; has_file = true }) refl refl refl refl
 
 pub returns-in-Ok-open-clause-keys : goal.returns-in-Ok-open-clause-keys
 returns-in-Ok-open-clause-keys g c =
