@@ -17,7 +17,7 @@ module _ {D A C : Type 0} (told : D → Option (List ℕ)) (may_leave : D → Li
   closed_here : (store : Store D A C) (turns : List (Option Entry)) (all : List Pairs) (accounts : List (Account Entry)) → HoldsHistory told may_leave moment left_since faults size held hard locations labels store (entries_of turns) all →
       All (λ (e : Entry). (0 < e.caller) × (e.caller ≤ 16)) (entries_of turns) → All (λ (a : Account Entry). StartsWith turns a.seen) accounts →
       All (λ (a : Account Entry). 0 < a.number → calls_by caller_of a.number (entries_of turns) ≡ a.calls) accounts →
-      IsClosed told may_leave moment left_since faults held hard locations labels store.opened store.file.cells.disk store.devices accounts
+      IsClosed told moment left_since faults hard locations labels store.opened store.file.cells.disk store.devices accounts
   closed_here store turns all accounts s signed seen called = record {
     turns = turns;
     signed = signed;
@@ -25,6 +25,7 @@ module _ {D A C : Type 0} (told : D → Option (List ℕ)) (may_leave : D → Li
     called = called;
     legal = legal told may_leave moment left_since faults size held hard locations labels store (entries_of turns) all s;
     counts = (s.each s.start s.starts).counts;
+    tells = s.tells;
     promise = λ tells start is. (s.each start is).holds.promise (s.tells ∙ tells);
   }
 
@@ -32,7 +33,7 @@ module _ {D A C : Type 0} (told : D → Option (List ℕ)) (may_leave : D → Li
       HoldsHistory told may_leave moment left_since faults size held hard locations labels store (entries_of turns) all →
       All (λ (e : Entry). (0 < e.caller) × (e.caller ≤ passes)) (entries_of turns) → All (λ (a : Account Entry). StartsWith turns a.seen) accounts →
       All (λ (a : Account Entry). 0 < a.number → calls_by caller_of a.number (entries_of turns) ≡ a.calls) accounts →
-      IsClosed told may_leave moment left_since faults held hard locations labels opened store.file.cells.disk store.devices accounts
+      IsClosed told moment left_since faults hard locations labels opened store.file.cells.disk store.devices accounts
   closed store opened passes turns all accounts same sixteen s signed seen called =
-      subst (λ o. IsClosed told may_leave moment left_since faults held hard locations labels o store.file.cells.disk store.devices accounts) same
+      subst (λ o. IsClosed told moment left_since faults hard locations labels o store.file.cells.disk store.devices accounts) same
       (closed_here store turns all accounts s (subst (λ n. All (λ (e : Entry). (0 < e.caller) × (e.caller ≤ n)) (entries_of turns)) sixteen signed) seen called)

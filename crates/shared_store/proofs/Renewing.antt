@@ -1,5 +1,6 @@
 -- The store before a turn and after it, and what was decided between.
 use Rattle.std.proofs.Common.{◌≡◌, ℕ, ◌≤◌, true, false, List, [], ◌∷◌, ◌++◌, refl, sym, ap, ◌∙◌, subst, inl, inr, ⊎_elim, arith, Option, is_some}
+use Rattle.std.specs.List.{AllByRecursion}
 use Rattle.secret_bytes.specs.Buffer.{IsClear}
 use Rattle.atomic_table.specs.Seated.{TableId}
 use Rattle.atomic_table.specs.declared.shared.Seat.{Seat}
@@ -14,6 +15,7 @@ use Rattle.store_model.specs.Store as model
 use Rattle.store_model.specs.Faults.{FaultMark}
 use Rattle.store_model.specs.Handles.{Service}
 use Rattle.store_model.specs.Laws.{may_change_keys}
+use Rattle.store_model.specs.Origin.{IsCaller}
 use Rattle.store_model.specs.Requests.{Request}
 use Rattle.store_model.specs.Replay.{Entry, replay}
 use Rattle.store_model.specs.Marks.{IsCaused, id_read}
@@ -52,6 +54,7 @@ module _ {D A C : Type 0} (told : D → Option (List ℕ)) (may_leave : D → Li
 
   pub legal : (store : Store D A C) (h : List Entry) (all : List Pairs) → Here store h all → IsLegal told moment faults hard locations labels store.opened h
   legal store h all s = record {
+    signed = s.signed;
     caused = subst (λ b. IsCaused b (As store.opened).counts h) s.tells (s.each s.start s.starts).holds.caused;
     allowed = λ start is known. (s.each start is).holds.allowed (told_now store start h s.tells known);
   }
@@ -64,13 +67,14 @@ module _ {D A C : Type 0} (told : D → Option (List ℕ)) (may_leave : D → Li
   with_nothing store h all s = subst (λ l. Here store l all) (sym (nothing_more h)) s
 
   -- a turn that leaves what the opening saw, and leads on from every start
-  pub renewed : (old new : Store D A C) (h h' : List Entry) (all all' : List Pairs) → Here old h all → new.opened ≡ old.opened → size new.file.cells.disk ≡ 557120 → IsClear new.buffer →
+  pub renewed : (old new : Store D A C) (h h' : List Entry) (all all' : List Pairs) → Here old h all → AllByRecursion IsCaller h' → new.opened ≡ old.opened → size new.file.cells.disk ≡ 557120 → IsClear new.buffer →
       is_some (told new.file.cells.disk) ≡ is_some (told old.file.cells.disk) → is_some (held new.devices) ≡ is_some (held old.devices) →
       ((start : Service) → From old.opened start → For new start (As old.opened) h' all') → Here new h' all'
-  renewed old new h h' all all' s same sized clear tells knows next = record {
+  renewed old new h h' all all' s signed same sized clear tells knows next = record {
     start = s.start;
     starts = subst (λ o. From o s.start) (sym same) s.starts;
     each = λ start is. subst (λ o. For new start (As o) h' all') (sym same) (next start (subst (λ o. From o start) same is));
+    signed = signed;
     sized = sized;
     clear = clear;
     tells = tells ∙ (s.tells ∙ sym (ap (λ o. is_some (told o.file.value.cells.disk)) same));
@@ -101,10 +105,10 @@ module _ {D A C : Type 0} (told : D → Option (List ℕ)) (may_leave : D → Li
   )
 
   module _ {V : Type 0} (lock : TableId) (opened : Opened D A C) (v : View Entry (Opened D A C)) (p : Seat (Option V) (View Entry (Opened D A C))) (entries : ℕ)
-      (b : IsBegun told moment faults hard locations labels lock opened v p entries) where
+      (b : IsBegun lock opened v p entries) where
     -- the pass after its turn
     pub at_after : (q : Seat (Option V) (View Entry (Opened D A C))) (e : Option Entry) (own : Pairs) (store : Store D A C) → q.table_id ≡ p.table_id → q.me ≡ (after_turn p.me.0 e own, []) → OwnCalls caller_of q.me.0 →
-        store.opened ≡ opened → Here store (entries_of p.me.0.seen ++ option_list e) (with_own p.me.0.holdings p.me.0.number own) → IsAt told moment faults hard locations labels lock opened q
+        store.opened ≡ opened → Here store (entries_of p.me.0.seen ++ option_list e) (with_own p.me.0.holdings p.me.0.number own) → IsAt lock opened q
     at_after q e own store table me calls same s = let is : q.me.0 ≡ after_turn p.me.0 e own = ap (λ m. m.0) me in record {
       table = table ∙ b.table;
       outside = (ap (λ (x : View Entry (Opened D A C)). x.ticket) is, ap (λ (x : View Entry (Opened D A C)). x.in_turn) is, ap (λ m. m.1) me);
@@ -112,16 +116,20 @@ module _ {D A C : Type 0} (told : D → Option (List ℕ)) (may_leave : D → Li
       first = let z = ap (λ (x : View Entry (Opened D A C)). x.number) is in let y = b.first in omega arith;
       calls = calls;
       holding = subst (λ (x : View Entry (Opened D A C)). IsHolding x.holding) (sym is) (holding_of p.me.0.holdings p.me.0.number own b.first b.inside (holdings store (entries_of p.me.0.seen ++ option_list e) (with_own p.me.0.holdings p.me.0.number own) s));
-      legal = subst (IsLegal told moment faults hard locations labels opened) (sym (with_entry p.me.0 q.me.0 e own is))
-          (subst (λ o. IsLegal told moment faults hard locations labels o (entries_of p.me.0.seen ++ option_list e)) same (legal store (entries_of p.me.0.seen ++ option_list e) (with_own p.me.0.holdings p.me.0.number own) s));
     }
 
+    -- and the history that it has then seen
+    pub legal_after : (q : Seat (Option V) (View Entry (Opened D A C))) (e : Option Entry) (own : Pairs) (store : Store D A C) → q.me ≡ (after_turn p.me.0 e own, []) → store.opened ≡ opened →
+        Here store (entries_of p.me.0.seen ++ option_list e) (with_own p.me.0.holdings p.me.0.number own) → IsLegal told moment faults hard locations labels opened (entries_of q.me.0.seen)
+    legal_after q e own store me same s = subst (IsLegal told moment faults hard locations labels opened) (sym (with_entry p.me.0 q.me.0 e own (ap (λ m. m.0) me)))
+        (subst (λ o. IsLegal told moment faults hard locations labels o (entries_of p.me.0.seen ++ option_list e)) same (legal store (entries_of p.me.0.seen ++ option_list e) (with_own p.me.0.holdings p.me.0.number own) s))
+
     -- a request that reads a key reads it in the turn
-    pub reading : (store : Store D A C) (start : Service) (call : Request) (mark : FaultMark) (at : Store D A C) (id : ℕ) → store.opened ≡ opened → is_some (told store.file.cells.disk) ≡ is_some (told store.opened.file.value.cells.disk) →
+    pub reading : (store : Store D A C) (start : Service) (call : Request) (mark : FaultMark) (at : Store D A C) (id : ℕ) → AllByRecursion IsCaller (entries_of p.me.0.seen) → store.opened ≡ opened → is_some (told store.file.cells.disk) ≡ is_some (told store.opened.file.value.cells.disk) →
         From opened start → may_change_keys call ≡ false → ReadsKey told moment faults hard locations labels opened v call id →
         IsReading told may_leave moment left_since faults held hard locations labels store start (entries_of p.me.0.seen) (turn_entry moment faults hard at p.me.0.number call mark) id
-    reading store start call mark at id same tells is quiet reads = record {
+    reading store start call mark at id signed same tells is quiet reads = record {
       quiet = quiet;
       reads = λ known. ap (λ n. id_read (replay start (entries_of p.me.0.seen)) n call) b.on.number ∙
-          reads start is (entries_of p.me.0.seen) (goes_on v p.me.0 b.on b.same_calls b.first b.calls) (subst (λ o. ToldBy told moment faults hard locations labels o start (entries_of p.me.0.seen)) same (told_then store start (entries_of p.me.0.seen) tells known));
+          reads start is (entries_of p.me.0.seen) (goes_on v p.me.0 b.on b.same_calls b.first b.calls signed) (subst (λ o. ToldBy told moment faults hard locations labels o start (entries_of p.me.0.seen)) same (told_then store start (entries_of p.me.0.seen) tells known));
     }

@@ -1,6 +1,7 @@
 -- A turn of the store, between a pass's beginning of its turn and the end.
 use Rattle.std.proofs.Common.{◌≡◌, ℕ, zero, suc, ◌+◌, ◌-◌, ◌^◌, ◌<◌, ◌≤◌, true, false, List, [], ◌∷◌, ◌++◌, length, get_or, sym, ap, ◌∙◌, subst, inl, inr, ⊎_elim, arith, Option, Some, None, is_some}
 use Rattle.std.specs.Prelude.{Result}
+use Rattle.std.specs.List.{AllByRecursion}
 use Rattle.secret_bytes.specs.Buffer.{IsClear}
 use Rattle.atomic_table.specs.Seated.{TableId}
 use Rattle.atomic_table.specs.declared.shared.Seat.{Seat}
@@ -21,6 +22,7 @@ use Rattle.store_model.specs.Laws.{may_change_keys}
 use Rattle.store_model.specs.Call.{Call, Copy, Destroy}
 use Rattle.store_model.specs.Creation.{created_unless}
 use Rattle.store_model.specs.Requests.{Request, OnStore, plain_step}
+use Rattle.store_model.specs.Origin.{IsCaller}
 use Rattle.store_model.specs.Replay.{Entry, replay}
 use Rattle.store_core.specs.declared.store.Opened.{Opened}
 use Rattle.store_core.specs.declared.store.Store.{Store}
@@ -32,7 +34,7 @@ use Rattle.store_core.specs.Start.{opening_of}
 use Rattle.shared_store.specs.Standing as shared
 use Rattle.shared_store.specs.Turning.{CreatesKey, DecidesAfter, DecidesBefore, IsBegun, IsEntered, IsEnteredAfter, IsOwn, IsRanked, IsStartOf, ReadsKey, ToldBy, turn_entry, without_pair}
 use Rattle.shared_store.proofs.Owning.{fewer, gains, loses, splits, with_holding}
-use Rattle.shared_store.proofs.Passing.{goes_on}
+use Rattle.shared_store.proofs.Passing.{goes_on, signed_push}
 use Rattle.shared_store.proofs.Renewing.{decides_after, holdings, is_entry, reading, renewed, told_now, told_then}
 
 -- a pair of one caller is one of all
@@ -82,7 +84,7 @@ module _ {D A C : Type 0} (told : D → Option (List ℕ)) (may_leave : D → Li
   stands_some store h all s = (s.start, As store.opened, h, all, s.each s.start s.starts)
 
   module _ {V : Type 0} (lock : TableId) (opened : Opened D A C) (v : View Entry (Opened D A C)) (p : Seat (Option V) (View Entry (Opened D A C))) (entries : ℕ)
-      (b : IsBegun told moment faults hard locations labels lock opened v p entries) (old : Store D A C) (same : old.opened ≡ opened)
+      (b : IsBegun lock opened v p entries) (old : Store D A C) (same : old.opened ≡ opened)
       (s : Here old (entries_of p.me.0.seen) p.me.0.holdings) where
     abbrev seen : List Entry
     seen = entries_of p.me.0.seen
@@ -134,13 +136,13 @@ module _ {D A C : Type 0} (told : D → Option (List ℕ)) (may_leave : D → Li
     -- turns without rank
     pub after_giving : (new : Store D A C) (pair : ℕ × ℕ) → IsSteady old new → IsHolding (pair ∷ own) → Gives told may_leave moment left_since faults held hard locations labels old new pair → Here new seen (with (pair ∷ own))
     after_giving new pair k holding gives =
-        renewed told may_leave moment left_since faults size held hard locations labels old new seen seen all (with (pair ∷ own)) s k.opened k.sized k.clear k.tells k.knows
+        renewed told may_leave moment left_since faults size held hard locations labels old new seen seen all (with (pair ∷ own)) s s.signed k.opened k.sized k.clear k.tells k.knows
         (λ start is. gives start (As old.opened) seen all (with (pair ∷ own)) (s.each start is) (given pair) (with_holding all p.me.0.number (pair ∷ own) holding are))
 
     pub after_taking : (new : Store D A C) (pair : ℕ × ℕ) → IsSteady old new → IsHolding v.holding → 0 < names pair.0 pair.1 v.holding → Takes told may_leave moment left_since faults held hard locations labels old new pair →
         Here new seen (with (without_pair pair own))
     after_taking new pair k holding some takes =
-        renewed told may_leave moment left_since faults size held hard locations labels old new seen seen all (with (without_pair pair own)) s k.opened k.sized k.clear k.tells k.knows
+        renewed told may_leave moment left_since faults size held hard locations labels old new seen seen all (with (without_pair pair own)) s s.signed k.opened k.sized k.clear k.tells k.knows
         (λ start is. takes start (As old.opened) seen all (with (without_pair pair own)) (s.each start is) (taken pair some) (with_holding all p.me.0.number (without_pair pair own) (fewer pair own (mine holding)) are))
 
     -- the entry of a ranked turn
@@ -149,6 +151,10 @@ module _ {D A C : Type 0} (told : D → Option (List ℕ)) (may_leave : D → Li
 
     entered : (new : Store D A C) (call : Request) (mark : FaultMark) → IsEntry told may_leave moment left_since faults held hard locations labels new mark (entry new call mark)
     entered new call mark = is_entry told may_leave moment left_since faults size held hard locations labels new p.me.0.number call mark b.first (let z = b.inside in let y = are.callers in omega arith)
+
+    -- the history is still signed by callers
+    signs : (new : Store D A C) (call : Request) (mark : FaultMark) → AllByRecursion IsCaller (seen ++ entry new call mark ∷ [])
+    signs new call mark = signed_push seen (entry new call mark) s.signed (b.first, (let z = b.inside in let y = are.callers in omega arith))
 
     kept : all ≡ with own
     kept = sym (keeps_own all p.me.0.number own b.own)
@@ -159,7 +165,7 @@ module _ {D A C : Type 0} (told : D → Option (List ℕ)) (may_leave : D → Li
 
     pub led_stands : (new : Store D A C) (call : Request) (mark : FaultMark) (pairs : List Pairs) (P : model.Store → Type 0) → IsSteady old new → Led new call mark pairs P → Here new (seen ++ entry new call mark ∷ []) pairs
     led_stands new call mark pairs P k led =
-        renewed told may_leave moment left_since faults size held hard locations labels old new seen (seen ++ entry new call mark ∷ []) all pairs s k.opened k.sized k.clear k.tells k.knows (λ start is. (led start is).0)
+        renewed told may_leave moment left_since faults size held hard locations labels old new seen (seen ++ entry new call mark ∷ []) all pairs s (signs new call mark) k.opened k.sized k.clear k.tells k.knows (λ start is. (led start is).0)
 
     pub led_decides : (new : Store D A C) (call : Request) (mark : FaultMark) (pairs : List Pairs) (P : model.Store → Type 0) → IsSteady old new → Led new call mark pairs P →
         DecidesAfter told moment faults hard locations labels opened P seen (entry new call mark)
@@ -186,12 +192,12 @@ module _ {D A C : Type 0} (told : D → Option (List ℕ)) (may_leave : D → Li
     pub reads : (new : Store D A C) (call : Request) (id : ℕ) (mark : FaultMark) (P : model.Store → Type 0) → Reads told may_leave moment left_since faults held hard locations labels old new id mark P →
         may_change_keys call ≡ false → ReadsKey told moment faults hard locations labels opened v call id → Led new call mark (with own) P
     reads new call id mark P read quiet asks start is = read start (As old.opened) seen (with own) (entry new call mark) (subst (For old start (As old.opened) seen) kept (s.each start is))
-        (reading told may_leave moment left_since faults size held hard locations labels lock opened v p entries b old start call mark new id same s.tells (subst (λ o. From o start) same is) quiet asks) (entered new call mark)
+        (reading told may_leave moment left_since faults size held hard locations labels lock opened v p entries b old start call mark new id s.signed same s.tells (subst (λ o. From o start) same is) quiet asks) (entered new call mark)
 
     pub reads_and_gives : (new : Store D A C) (call : Request) (id : ℕ) (pair : ℕ × ℕ) (P : model.Store → Type 0) → ReadsAndGives told may_leave moment left_since faults held hard locations labels old new id pair P →
         IsHolding (pair ∷ own) → may_change_keys call ≡ false → ReadsKey told moment faults hard locations labels opened v call id → Led new call Plain (with (pair ∷ own)) P
     reads_and_gives new call id pair P read holding quiet asks start is = read start (As old.opened) seen all (with (pair ∷ own)) (entry new call Plain) (s.each start is) (given pair) (with_holding all p.me.0.number (pair ∷ own) holding are)
-        (reading told may_leave moment left_since faults size held hard locations labels lock opened v p entries b old start call Plain new id same s.tells (subst (λ o. From o start) same is) quiet asks) (entered new call Plain)
+        (reading told may_leave moment left_since faults size held hard locations labels lock opened v p entries b old start call Plain new id s.signed same s.tells (subst (λ o. From o start) same is) quiet asks) (entered new call Plain)
 
     pub makes : (new : Store D A C) (asked : Call) (call : Request) (mark : FaultMark) (P : model.Store → Type 0) → Makes told may_leave moment left_since faults held hard locations labels old new asked mark P →
         call ≡ OnStore asked → Led new call mark (with own) P
@@ -204,7 +210,7 @@ module _ {D A C : Type 0} (told : D → Option (List ℕ)) (may_leave : D → Li
 
     pub before_stands : (new : Store D A C) (call : Request) (mark : FaultMark) (pairs : List Pairs) (P : model.Store → Type 0) → IsSteady old new → LedBefore new call mark pairs P → Here new (seen ++ entry new call mark ∷ []) pairs
     before_stands new call mark pairs P k led =
-        renewed told may_leave moment left_since faults size held hard locations labels old new seen (seen ++ entry new call mark ∷ []) all pairs s k.opened k.sized k.clear k.tells k.knows (λ start is. (led start is).0)
+        renewed told may_leave moment left_since faults size held hard locations labels old new seen (seen ++ entry new call mark ∷ []) all pairs s (signs new call mark) k.opened k.sized k.clear k.tells k.knows (λ start is. (led start is).0)
 
     pub before_decides : (new : Store D A C) (call : Request) (mark : FaultMark) (pairs : List Pairs) (P : model.Store → Type 0) → LedBefore new call mark pairs P →
         DecidesBefore told moment faults hard locations labels opened P seen (entry new call mark)
@@ -232,7 +238,7 @@ module _ {D A C : Type 0} (told : D → Option (List ℕ)) (may_leave : D → Li
         CreatesKey told moment faults hard locations labels opened v caller call records bytes → LedBefore new call mark (with (without_pair pair own)) P
     creates new call caller lease records bytes pair mark P created holding some own_lease is_caller makes start is = let from = s.each start is in
         let number : p.me.0.number ≡ caller = b.on.number ∙ sym is_caller in
-        let goes = goes_on v p.me.0 b.on b.same_calls b.first b.calls in
+        let goes = goes_on v p.me.0 b.on b.same_calls b.first b.calls s.signed in
         let is_start : From opened start = subst (λ o. From o start) same is in
         let then : IsTold (told old.file.cells.disk) start seen → ToldBy told moment faults hard locations labels opened start seen = λ known. subst (λ o. ToldBy told moment faults hard locations labels o start seen) same
         (told_then told may_leave moment left_since faults size held hard locations labels old start seen s.tells known) in

@@ -17,16 +17,15 @@ use Rattle.shared_store.specs.Standing.{caller_of}
 use Rattle.shared_store.specs.Turning.{IsAt, IsLegal, IsStartOf}
 
 -- each of these passes is of this lock, and outside any turn
-abbrev pub AreAt : {V D A C : Type 0} (told : D → Option (List ℕ)) (moment : D → ℕ) (faults : D → ℕ) (hard : A → ℕ) (locations : A → List ℕ) (labels : C → List Label)
-    (lock : TableId) (opened : Opened D A C) → List (Seat (Option V) (View Entry (Opened D A C))) → Type 0
-AreAt told moment faults hard locations labels lock opened passes = (k : ℕ) (p : _) → k < length passes → IsAt told moment faults hard locations labels lock opened (slice_index_or passes k p)
+abbrev pub AreAt : {V D A C : Type 0} (lock : TableId) (opened : Opened D A C) → List (Seat (Option V) (View Entry (Opened D A C))) → Type 0
+AreAt lock opened passes = (k : ℕ) (p : _) → k < length passes → IsAt lock opened (slice_index_or passes k p)
 
 -- There is one history. The passes that were handed in have seen beginnings of it, and their calls are their numbers' entries in
 -- it. Each of its marks stands where it may and has its fault; the last entry's counts are those of the disk and the devices
--- that come back. Over a disk that told its bytes as it was opened, a crash since then has left the keys of a prefix, and one
+-- that come back, and the disk tells its bytes where it told them as it was opened. Over a disk that told its bytes as it was opened, a crash since then has left the keys of a prefix, and one
 -- since a call was done those of a prefix that holds it.
-pub record IsClosed {D A C : Type 0} (told : D → Option (List ℕ)) (may_leave : D → List ℕ → Type 0) (moment : D → ℕ) (left_since : D → ℕ → List ℕ → Type 0)
-    (faults : D → ℕ) (held : A → Option HeldKeys) (hard : A → ℕ) (locations : A → List ℕ) (labels : C → List Label)
+pub record IsClosed {D A C : Type 0} (told : D → Option (List ℕ)) (moment : D → ℕ) (left_since : D → ℕ → List ℕ → Type 0)
+    (faults : D → ℕ) (hard : A → ℕ) (locations : A → List ℕ) (labels : C → List Label)
     (opened : Opened D A C) (disk : D) (devices : A) (accounts : List (Account Entry)) : Type 0 where
   pub turns : List (Option Entry)
   pub signed : All (λ (e : Entry). (0 < e.caller) × (e.caller ≤ 16)) (entries_of turns)
@@ -34,5 +33,6 @@ pub record IsClosed {D A C : Type 0} (told : D → Option (List ℕ)) (may_leave
   pub called : All (λ (a : Account Entry). 0 < a.number → calls_by caller_of a.number (entries_of turns) ≡ a.calls) accounts
   pub legal : IsLegal told moment faults hard locations labels opened (entries_of turns)
   pub counts : last_counts (opening_of told moment faults hard locations labels opened).counts (entries_of turns) ≡ record { faults = faults disk; hard = hard devices }
+  pub tells : is_some (told disk) ≡ is_some (told opened.file.value.cells.disk)
   pub promise : is_some (told opened.file.value.cells.disk) ≡ true → (start : Service) → IsStartOf told moment faults hard locations labels opened start →
       KeepsKeys (left_since disk) (moment disk) (opening_of told moment faults hard locations labels opened).moment start (entries_of turns)

@@ -1,4 +1,5 @@
 -- A caller's pass between two turns, and what a turn adds to what it knows.
+use Rattle.std.specs.List.{AllByRecursion}
 use Rattle.std.specs.Prelude.{◌≡◌, ◌<◌, ◌≤◌, ◌^◌, ℕ, ◌+◌, ◌==◌, ◌&&◌, false, cond, Result, nat_lt, count_by, List, [], ◌∷◌, ◌++◌, length, Option, Some, None, is_some, Err}
 use Rattle.atomic_table.specs.Seated.{TableId}
 use Rattle.atomic_table.specs.declared.shared.Seat.{Seat}
@@ -16,6 +17,7 @@ use Rattle.store_model.specs.Store as model
 use Rattle.store_model.specs.Faults.{FaultMark, Plain}
 use Rattle.store_model.specs.Handles.{Service}
 use Rattle.store_model.specs.Creation.{created_unless}
+use Rattle.store_model.specs.Origin.{IsCaller}
 use Rattle.store_model.specs.Requests.{Request, plain_step}
 use Rattle.store_model.specs.Replay.{Entry, replay}
 use Rattle.store_model.specs.Marks.{AreAllowed, IsCaused, id_read}
@@ -84,10 +86,11 @@ turn_entry moment faults hard store caller call mark = record {
 
 -- PASSES
 
--- a history that begins as a pass has seen it, in which no further call is the pass's
+-- a history of calls by sixteen callers that begins as a pass has seen it, in which no further call is the pass's
 pub record GoesOn {B : Type 0} (v : View Entry B) (h : List Entry) : Type 0 where
   pub since : StartsWith h (entries_of v.seen)
   pub calls : calls_by caller_of v.number h ≡ v.calls
+  pub signed : AllByRecursion IsCaller h
 
 -- one turn was spent
 pub record SpendsOneTurn {B : Type 0} (v w : View Entry B) : Type 0 where
@@ -114,6 +117,31 @@ pub record IsEntered {B : Type 0} (v w : View Entry B) (call : Request) (mark : 
   pub calls : w.calls ≡ v.calls ++ e ∷ []
   pub holding : w.holding ≡ own
 
+module _ {V D A C : Type 0} (lock : TableId) (opened : Opened D A C) where
+  -- a pass of this lock outside any turn
+  pub record IsAt (p : Seat (Option V) (View Entry (Opened D A C))) : Type 0 where
+    pub table : p.table_id ≡ lock
+    pub outside : IsOutside p.me
+    pub based : p.me.0.base ≡ Some opened
+    pub first : 1 ≤ p.me.0.number
+    pub calls : OwnCalls caller_of p.me.0
+    pub holding : IsHolding p.me.0.holding
+
+  -- a pass in its turn, v as it was before
+  pub record IsBegun (v : View Entry (Opened D A C)) (p : Seat (Option V) (View Entry (Opened D A C))) (entries : ℕ) : Type 0 where
+    pub table : p.table_id ≡ lock
+    pub in_turn : IsInTurn p.me
+    pub on : SpendsOneTurn v p.me.0
+    pub based : p.me.0.base ≡ Some opened
+    pub first : 1 ≤ p.me.0.number
+    pub same_calls : p.me.0.calls ≡ v.calls
+    pub same_holding : p.me.0.holding ≡ v.holding
+    pub calls : OwnCalls caller_of p.me.0
+    pub own : own_of p.me.0.holdings p.me.0.number ≡ p.me.0.holding
+    pub inside : p.me.0.number ≤ length p.me.0.holdings
+    pub few : length p.me.0.seen < 2 ^ 62
+    pub entries_are : entries ≡ length (entries_of p.me.0.seen)
+
 module _ {D A C : Type 0} (told : D → Option (List ℕ)) (moment : D → ℕ) (faults : D → ℕ) (hard : A → ℕ) (locations : A → List ℕ) (labels : C → List Label) where
   abbrev pub IsStartOf : Opened D A C → Service → Type 0
   IsStartOf = IsStart told moment faults hard locations labels
@@ -122,36 +150,12 @@ module _ {D A C : Type 0} (told : D → Option (List ℕ)) (moment : D → ℕ) 
   abbrev pub ToldBy : Opened D A C → Service → List Entry → Type 0
   ToldBy opened start h = IsTold (told opened.file.value.cells.disk) start h
 
-  -- each mark of a history stands where it may, and has its fault since the entry before it, or since the opening
+  -- a history is of calls by sixteen callers, and each of its marks stands where it may, and has its fault since the entry before
+  -- it, or since the opening
   pub record IsLegal (opened : Opened D A C) (h : List Entry) : Type 0 where
+    pub signed : AllByRecursion IsCaller h
     pub caused : IsCaused (is_some (told opened.file.value.cells.disk)) (opening_of told moment faults hard locations labels opened).counts h
     pub allowed : (start : Service) → IsStartOf opened start → ToldBy opened start h → AreAllowed start h
-
-  module _ {V : Type 0} (lock : TableId) (opened : Opened D A C) where
-    -- a pass of this lock outside any turn
-    pub record IsAt (p : Seat (Option V) (View Entry (Opened D A C))) : Type 0 where
-      pub table : p.table_id ≡ lock
-      pub outside : IsOutside p.me
-      pub based : p.me.0.base ≡ Some opened
-      pub first : 1 ≤ p.me.0.number
-      pub calls : OwnCalls caller_of p.me.0
-      pub holding : IsHolding p.me.0.holding
-      pub legal : IsLegal opened (entries_of p.me.0.seen)
-
-    -- a pass in its turn, v as it was before
-    pub record IsBegun (v : View Entry (Opened D A C)) (p : Seat (Option V) (View Entry (Opened D A C))) (entries : ℕ) : Type 0 where
-      pub table : p.table_id ≡ lock
-      pub in_turn : IsInTurn p.me
-      pub on : SpendsOneTurn v p.me.0
-      pub based : p.me.0.base ≡ Some opened
-      pub first : 1 ≤ p.me.0.number
-      pub same_calls : p.me.0.calls ≡ v.calls
-      pub same_holding : p.me.0.holding ≡ v.holding
-      pub calls : OwnCalls caller_of p.me.0
-      pub own : own_of p.me.0.holdings p.me.0.number ≡ p.me.0.holding
-      pub inside : p.me.0.number ≤ length p.me.0.holdings
-      pub few : length p.me.0.seen < 2 ^ 62
-      pub entries_are : entries ≡ length (entries_of p.me.0.seen)
 
   -- the request reads the key of an identifier, in whatever history it is entered after what the pass has seen
   abbrev pub ReadsKey : Opened D A C → View Entry (Opened D A C) → Request → ℕ → Type 0

@@ -1,6 +1,7 @@
 //! Turns that ask for a key, destroy it, or forget it in memory.
 ghost use Rattle.std.specs.Prelude.{◌≡◌, ◌<◌, false, Some, None, IfOk, IfErr, OnOk};
 ghost use Rattle.std.specs.FinMap as map;
+ghost use Rattle.turn_history.specs.History.{entries_of};
 ghost use Rattle.psa_status.specs.declared.Status.TheVariants.{InvalidHandle};
 ghost use Rattle.psa_status.specs.Rows.{first_row};
 ghost use Rattle.service_calls.specs.Meanings.{model_request};
@@ -10,7 +11,7 @@ ghost use Rattle.store_model.specs.KeyUse.{destroy_rows};
 ghost use Rattle.store_model.specs.Laws.{may_change_keys};
 ghost use Rattle.store_model.specs.Requests.{OnStore};
 ghost use Rattle.store_core.specs.Uses.{HasAttributes, IsRefused, IsUndestroyed, mark_of, mark_undestroyed, there_rows};
-ghost use Rattle.shared_store.specs.Turning.{DecidesAfter, DecidesBefore, IsAt, IsRanked, ReadsKey};
+ghost use Rattle.shared_store.specs.Turning.{DecidesAfter, DecidesBefore, IsAt, IsLegal, IsRanked, ReadsKey};
 
 use crate::changes::{Change, Met};
 use crate::held::{Held, SharedStore};
@@ -36,11 +37,12 @@ impl<D: Disk, A: Devices, C: Admission> SharedStore<D, A, C> {
         room: usize,
         id: KeyId,
     ) -> (u64, Result<Attributes, Status>)
-        requires at { IsAt D.contents D.moment D.faults A.faults A.locations C.labels self.now.lock.table.shared.table_id self.now.lock.table.shared.key.value.value.store.opened pass.old }
+        requires at { IsAt self.now.lock.table.shared.table_id self.now.lock.table.shared.key.value.value.store.opened pass.old }
         requires left { 0 < pass.old.me.0.turns_left }
         requires quiet { may_change_keys (model_request call.now room) ≡ false }
         requires reads { ReadsKey D.contents D.moment D.faults A.faults A.locations C.labels self.now.lock.table.shared.key.value.value.store.opened pass.old.me.0 (model_request call.now room) id.0 }
-        ensures at { IsAt D.contents D.moment D.faults A.faults A.locations C.labels self.now.lock.table.shared.table_id self.now.lock.table.shared.key.value.value.store.opened pass.new }
+        ensures at { IsAt self.now.lock.table.shared.table_id self.now.lock.table.shared.key.value.value.store.opened pass.new }
+        ensures legal { IsLegal D.contents D.moment D.faults A.faults A.locations C.labels self.now.lock.table.shared.key.value.value.store.opened (entries_of pass.new.me.0.seen) }
         ensures known { IfOk result.1 (λ attributes. IsRanked pass.old.me.0 pass.new.me.0 (model_request call.now room) Plain result.0 pass.old.me.0.holding
             (DecidesAfter D.contents D.moment D.faults A.faults A.locations C.labels self.now.lock.table.shared.key.value.value.store.opened (HasAttributes id.0 attributes))) }
         ensures refused { IfErr result.1 (λ status. IsRanked pass.old.me.0 pass.new.me.0 (model_request call.now room) (mark_of status) result.0 pass.old.me.0.holding
@@ -72,10 +74,11 @@ impl<D: Disk, A: Devices, C: Admission> SharedStore<D, A, C> {
         room: usize,
         id: KeyId,
     ) -> (u64, Result<(), NotDestroyed>)
-        requires at { IsAt D.contents D.moment D.faults A.faults A.locations C.labels self.now.lock.table.shared.table_id self.now.lock.table.shared.key.value.value.store.opened pass.old }
+        requires at { IsAt self.now.lock.table.shared.table_id self.now.lock.table.shared.key.value.value.store.opened pass.old }
         requires left { 0 < pass.old.me.0.turns_left }
         requires destroys { model_request call.now room ≡ OnStore (model.Destroy id.0) }
-        ensures at { IsAt D.contents D.moment D.faults A.faults A.locations C.labels self.now.lock.table.shared.table_id self.now.lock.table.shared.key.value.value.store.opened pass.new }
+        ensures at { IsAt self.now.lock.table.shared.table_id self.now.lock.table.shared.key.value.value.store.opened pass.new }
+        ensures legal { IsLegal D.contents D.moment D.faults A.faults A.locations C.labels self.now.lock.table.shared.key.value.value.store.opened (entries_of pass.new.me.0.seen) }
         ensures destroyed { OnOk result.1 (IsRanked pass.old.me.0 pass.new.me.0 (model_request call.now room) Plain result.0 pass.old.me.0.holding
             (DecidesBefore D.contents D.moment D.faults A.faults A.locations C.labels self.now.lock.table.shared.key.value.value.store.opened (λ m. first_row (destroy_rows (map.get m.keys id.0) id.0) ≡ None))) }
         ensures failed { IfErr result.1 (λ why. IsRanked pass.old.me.0 pass.new.me.0 (model_request call.now room) (mark_undestroyed why) result.0 pass.old.me.0.holding
@@ -107,10 +110,11 @@ impl<D: Disk, A: Devices, C: Admission> SharedStore<D, A, C> {
         room: usize,
         id: KeyId,
     ) -> (u64, Result<(), Status>)
-        requires at { IsAt D.contents D.moment D.faults A.faults A.locations C.labels self.now.lock.table.shared.table_id self.now.lock.table.shared.key.value.value.store.opened pass.old }
+        requires at { IsAt self.now.lock.table.shared.table_id self.now.lock.table.shared.key.value.value.store.opened pass.old }
         requires left { 0 < pass.old.me.0.turns_left }
         requires quiet { may_change_keys (model_request call.now room) ≡ false }
-        ensures at { IsAt D.contents D.moment D.faults A.faults A.locations C.labels self.now.lock.table.shared.table_id self.now.lock.table.shared.key.value.value.store.opened pass.new }
+        ensures at { IsAt self.now.lock.table.shared.table_id self.now.lock.table.shared.key.value.value.store.opened pass.new }
+        ensures legal { IsLegal D.contents D.moment D.faults A.faults A.locations C.labels self.now.lock.table.shared.key.value.value.store.opened (entries_of pass.new.me.0.seen) }
         ensures there { OnOk result.1 (IsRanked pass.old.me.0 pass.new.me.0 (model_request call.now room) Plain result.0 pass.old.me.0.holding
             (DecidesAfter D.contents D.moment D.faults A.faults A.locations C.labels self.now.lock.table.shared.key.value.value.store.opened (λ m. there_rows (map.get m.keys id.0) ≡ None))) }
         ensures missing { IfErr result.1 (λ status. (status ≡ InvalidHandle) × IsRanked pass.old.me.0 pass.new.me.0 (model_request call.now room) Plain result.0 pass.old.me.0.holding

@@ -36,7 +36,7 @@ impl<D: Disk, A: Devices, C: Admission> SharedStore<D, A, C> {
     ) -> Result<Shared<D, A, C>, Unopened<D, A>>
         requires empty { (handle : ℕ) → Lacks (A.keys devices) handle }
         ensures passes { IfOk result (λ made. AreNew made.0.lock.table.shared.table_id made.0.lock.table.shared.key.value.value.store.opened 16 made.1.items) }
-        ensures at { IfOk result (λ made. AreAt D.contents D.moment D.faults A.faults A.locations C.labels made.0.lock.table.shared.table_id made.0.lock.table.shared.key.value.value.store.opened made.1.items) }
+        ensures at { IfOk result (λ made. AreAt made.0.lock.table.shared.table_id made.0.lock.table.shared.key.value.value.store.opened made.1.items) }
         ensures starts { IfOk result (λ made. (start : Service) × IsStart D.contents D.moment D.faults A.faults A.locations C.labels made.0.lock.table.shared.key.value.value.store.opened start) }
         ensures keys { IfOk result (λ made. IfSome (D.contents disk) (λ image. (start : Service) (s : IsStart D.contents D.moment D.faults A.faults A.locations C.labels made.0.lock.table.shared.key.value.value.store.opened start) (a : Attributes) (bytes : List ℕ) →
             HasKey a bytes image ↔ ((number : ℕ) × (slice_get s.found number ≡ Some (record { attributes = a; bytes = bytes }))))) }
@@ -46,7 +46,7 @@ impl<D: Disk, A: Devices, C: Admission> SharedStore<D, A, C> {
         ensures seed { IfOk result (λ made. made.0.lock.table.shared.key.value.value.store.opened.seed.value ≡ seed.now) }
         ensures rules { IfOk result (λ made. made.0.lock.table.shared.key.value.value.store.opened.rules.value ≡ rules) }
         ensures refused { IfErr result (λ unopened. IsRefused D.contents D.may_leave D.moment D.left_since D.faults disk unopened.disk unopened.fault
-            ⊎ ((unopened.fault ≡ fault.Memory) × ((slots : List cell.Slot) × IsOpened D.contents D.may_leave D.moment D.left_since disk unopened.disk slots))) }
+            ⊎ ((unopened.fault ≡ fault.Memory) × ((slots : List cell.Slot) × IsOpened D.contents D.may_leave D.moment D.left_since disk unopened.disk slots) × (D.faults disk ≤ D.faults unopened.disk))) }
         ensures returned { IfErr result (λ unopened. unopened.devices ≡ devices) }
     {
         let store = Store::open(alloc, disk, devices, rules, seed)?;
@@ -78,7 +78,7 @@ impl<D: Disk, A: Devices, C: Admission> SharedStore<D, A, C> {
 pub fn end<D: Disk, A: Devices, C: Admission>(ending: Ending<Held<D, A, C>>) -> (D, A)
     requires sixteen { ending.lock.table.shared.key.passes ≡ 16 }
     requires whole { ending.last.me.0.weight ≡ 16 }
-    ensures closed { IsClosed D.contents D.may_leave D.moment D.left_since D.faults A.keys A.faults A.locations C.labels ending.lock.table.shared.key.value.value.store.opened result.0 result.1 ending.last.me.0.accounts }
+    ensures closed { IsClosed D.contents D.moment D.left_since D.faults A.faults A.locations C.labels ending.lock.table.shared.key.value.value.store.opened result.0 result.1 ending.last.me.0.accounts }
 {
     let Held { store } = ending.end();
     store.into_disk()

@@ -1,6 +1,7 @@
 //! Ranked turns that leave what the caller has out of the store.
 ghost use Rattle.std.specs.Prelude.{◌≡◌, ◌<◌, ◌+◌, true, false, IfOk, IfErr, OnOk, OnErr};
 ghost use Rattle.std.specs.FinMap as map;
+ghost use Rattle.turn_history.specs.History.{entries_of};
 ghost use Rattle.psa_status.specs.declared.Status.TheVariants.{InvalidHandle};
 ghost use Rattle.key_slots.specs.Holdings.{names};
 ghost use Rattle.service_calls.specs.Meanings.{model_request};
@@ -8,7 +9,7 @@ ghost use Rattle.store_model.specs.Faults.{Plain};
 ghost use Rattle.store_model.specs.Laws.{may_change_keys};
 ghost use Rattle.store_model.specs.Sound.{HasNumber};
 ghost use Rattle.store_core.specs.Uses.{HasAttributes, IsRefused, mark_of, there_rows};
-ghost use Rattle.shared_store.specs.Turning.{DecidesAfter, IsAt, IsRanked, ReadsKey};
+ghost use Rattle.shared_store.specs.Turning.{DecidesAfter, IsAt, IsLegal, IsRanked, ReadsKey};
 
 use crate::changes::{Change, Met};
 use crate::held::{Held, SharedStore};
@@ -33,10 +34,11 @@ impl<D: Disk, A: Devices, C: Admission> SharedStore<D, A, C> {
         call: &Call<'_>,
         room: usize,
     ) -> u64
-        requires at { IsAt D.contents D.moment D.faults A.faults A.locations C.labels self.now.lock.table.shared.table_id self.now.lock.table.shared.key.value.value.store.opened pass.old }
+        requires at { IsAt self.now.lock.table.shared.table_id self.now.lock.table.shared.key.value.value.store.opened pass.old }
         requires left { 0 < pass.old.me.0.turns_left }
         requires quiet { may_change_keys (model_request call.now room) ≡ false }
-        ensures at { IsAt D.contents D.moment D.faults A.faults A.locations C.labels self.now.lock.table.shared.table_id self.now.lock.table.shared.key.value.value.store.opened pass.new }
+        ensures at { IsAt self.now.lock.table.shared.table_id self.now.lock.table.shared.key.value.value.store.opened pass.new }
+        ensures legal { IsLegal D.contents D.moment D.faults A.faults A.locations C.labels self.now.lock.table.shared.key.value.value.store.opened (entries_of pass.new.me.0.seen) }
         ensures counted { IsRanked pass.old.me.0 pass.new.me.0 (model_request call.now room) Plain result pass.old.me.0.holding (λ before e. Unit {0}) }
     {
         let before = Snapshot::of(pass);
@@ -63,11 +65,12 @@ impl<D: Disk, A: Devices, C: Admission> SharedStore<D, A, C> {
         room: usize,
         lease: &Lease,
     ) -> (u64, Result<(), Status>)
-        requires at { IsAt D.contents D.moment D.faults A.faults A.locations C.labels self.now.lock.table.shared.table_id self.now.lock.table.shared.key.value.value.store.opened pass.old }
+        requires at { IsAt self.now.lock.table.shared.table_id self.now.lock.table.shared.key.value.value.store.opened pass.old }
         requires left { 0 < pass.old.me.0.turns_left }
         requires out { 0 < names lease.now.slot (lease.now.creation + 1) pass.old.me.0.holding }
         requires quiet { may_change_keys (model_request call.now room) ≡ false }
-        ensures at { IsAt D.contents D.moment D.faults A.faults A.locations C.labels self.now.lock.table.shared.table_id self.now.lock.table.shared.key.value.value.store.opened pass.new }
+        ensures at { IsAt self.now.lock.table.shared.table_id self.now.lock.table.shared.key.value.value.store.opened pass.new }
+        ensures legal { IsLegal D.contents D.moment D.faults A.faults A.locations C.labels self.now.lock.table.shared.key.value.value.store.opened (entries_of pass.new.me.0.seen) }
         ensures alive { OnOk result.1 (IsRanked pass.old.me.0 pass.new.me.0 (model_request call.now room) Plain result.0 pass.old.me.0.holding
             (DecidesAfter D.contents D.moment D.faults A.faults A.locations C.labels self.now.lock.table.shared.key.value.value.store.opened (λ m. HasNumber m lease.now.creation))) }
         ensures gone { OnErr result.1 (IsRanked pass.old.me.0 pass.new.me.0 (model_request call.now room) Plain result.0 pass.old.me.0.holding

@@ -37,7 +37,7 @@ fn open<D: Disk + Drop, A: Devices, C: Admission>(
 ) -> Result<Shared<D, A, C>, Fail>
     requires { A.keys devices ≡ Some no_keys }
     ensures new { IfOk result (λ made. AreNew made.0.lock.table.shared.table_id made.0.lock.table.shared.key.value.value.store.opened 16 made.1.items) }
-    ensures at { IfOk result (λ made. AreAt D.contents D.moment D.faults A.faults A.locations C.labels made.0.lock.table.shared.table_id made.0.lock.table.shared.key.value.value.store.opened made.1.items) }
+    ensures at { IfOk result (λ made. AreAt made.0.lock.table.shared.table_id made.0.lock.table.shared.key.value.value.store.opened made.1.items) }
 {
     match SharedStore::open(alloc, disk, devices, rules, &[0; 32]) {
         Ok(made) => Ok(made),
@@ -51,7 +51,7 @@ fn count_two<R: Abort + Wait, D: Disk, A: Devices, C: Admission>(
     shared: &SharedStore<D, A, C>,
     pass: &mut Pass<Held<D, A, C>>,
 )
-    requires at { IsAt D.contents D.moment D.faults A.faults A.locations C.labels shared.now.lock.table.shared.table_id shared.now.lock.table.shared.key.value.value.store.opened pass.old }
+    requires at { IsAt shared.now.lock.table.shared.table_id shared.now.lock.table.shared.key.value.value.store.opened pass.old }
     requires left { 1 < pass.old.me.0.turns_left }
 {
     let call = Call::OnStore(StoreCall::HashCompute {
@@ -104,7 +104,7 @@ fn make_read_and_destroy<R: Abort + Wait, D: Disk, A: Devices, C: Admission>(
     shared: &SharedStore<D, A, C>,
     pass: &mut Pass<Held<D, A, C>>,
 ) -> Result<(), Fail>
-    requires at { IsAt D.contents D.moment D.faults A.faults A.locations C.labels shared.now.lock.table.shared.table_id shared.now.lock.table.shared.key.value.value.store.opened pass.old }
+    requires at { IsAt shared.now.lock.table.shared.table_id shared.now.lock.table.shared.key.value.value.store.opened pass.old }
     requires left { 5 < pass.old.me.0.turns_left }
     requires first { pass.old.me.0.number ≡ 1 }
     requires nothing { pass.old.me.0.holding ≡ [] }
