@@ -40,7 +40,7 @@ use Rattle.element_calls.proofs.Replying.{asks}
 use Rattle.store_core.specs.declared.store.Store.{Store}
 use Rattle.store_core.specs.Opaque.{IsAnswered}
 use Rattle.store_core.specs.Represents.{HoldsKeys, IsTold, Opening}
-use Rattle.store_core.proofs.Histories.{told_before}
+use Rattle.store_core.proofs.Histories.{told_before, quiet_leaves}
 use Rattle.store_core.proofs.Holding.{HoldsHere, StandsHere, IsTurn, turned, goes_on, left_alone, ends_quiet}
 
 -- THE KEY
@@ -222,7 +222,7 @@ module _ {D A C : Type 0} (told : D → Option (List ℕ)) (may_leave : D → Li
       let model_is : d.0.model ≡ s.holds.model = d.1 ∙ n.1 in
       let ends = ends_quiet told may_leave moment left_since faults held hard locations labels only_now computed_by old.slots mark start opening h all all e d.0 d.0.slots d.0.holdings fault
       (λ k. subst (λ request. MayBeMarked (replay start h) e.caller request mark) (sym is) (may (replay start h) (sym (d.0.replayed k) ∙ model_is)))
-      (ap may_change_keys is ∙ still) turn in
+      (quiet_leaves told may_leave moment left_since faults held hard locations labels computed_by start h e (ap may_change_keys is ∙ still)) turn in
       (ends.0, subst P (sym (ends.1 ∙ ap counted model_is)) holds)
 
 -- the element failed

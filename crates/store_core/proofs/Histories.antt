@@ -1,23 +1,34 @@
 -- A history with one more entry.
-use Rattle.std.proofs.Common.{◌≡◌, ℕ, List, [], ◌∷◌, ◌++◌, false, refl, sym, ◌∙◌, ap, inl, inr}
+use Rattle.std.proofs.Common.{◌≡◌, ℕ, Bool, true, false, List, [], ◌∷◌, ◌++◌, refl, sym, ◌∙◌, ap, subst, inl, inr}
 use Rattle.std.proofs.lemmas.Bool.{false≢true}
-use Rattle.std.specs.Prelude.{Option, None}
+use Rattle.std.specs.Prelude.{Option, None, Some, not, ◌&&◌, ◌==◌}
 use Rattle.std.specs.Option.{option_map_or}
+use Rattle.std.specs.FinMap as map
+use Rattle.psa_status.specs.declared.Status.TheVariants.{Success, InvalidHandle}
+use Rattle.psa_status.specs.Rows.{first_row}
 use Rattle.disk_face.specs.Moments.{after_all}
 use Rattle.disk_face.proofs.Moments.{after_all_push}
 use Rattle.key_file.specs.Files.{Stored}
-use Rattle.store_model.specs.Store.{Key}
-use Rattle.store_model.specs.Call.{Destroy}
+use Rattle.policy_rules.specs.declared.narrowing.Label.{Label}
+use Rattle.driver_dispatch.specs.Held.{HeldKeys}
+use Rattle.store_model.specs.Store.{Key, Store}
+use Rattle.store_model.specs.Call.{Destroy, Reply}
+use Rattle.store_model.specs.Faults.{FaultMark, Plain}
+use Rattle.store_model.specs.Outcome.{counted, decided}
+use Rattle.store_model.specs.KeyUse.{destroyed, destroy_rows}
 use Rattle.store_model.specs.Handles.{Service, own_of, next_random}
-use Rattle.store_model.specs.Requests.{Request, OnStore, OnHandle, plain_step}
+use Rattle.store_model.specs.Requests.{Request, OnStore, OnHandle, plain_step, serve}
 use Rattle.store_model.specs.Laws.{may_change_keys}
 use Rattle.store_model.specs.Replay.{Entry, outcome_of, replay}
 use Rattle.store_model.specs.Marks.{FaultCounts, key_changed, reads_persistent, last_counts}
 use Rattle.store_model.proofs.DrawnBytes.{length-random}
 use Rattle.store_model.proofs.StoreShape.{MakesNone, store_shape}
 use Rattle.store_model.proofs.Shape.{shape}
+use Rattle.store_model.proofs.Others.{leaves_shared}
+use Rattle.store_model.proofs.LeftAll.{leaves_all}
+use Rattle.store_core.specs.declared.store.Store as core
 use Rattle.store_core.specs.Durability.{Course, after, opened, course_of, doubt_after, doubt_by, is_destruction, kept, FitsCourse}
-use Rattle.store_core.specs.Represents.{ReadsNone, IsTold}
+use Rattle.store_core.specs.Represents.{ReadsNone, IsTold, LeavesKeys}
 
 pub replay_push : (service : Service) (h : List Entry) (e : Entry) → replay service (h ++ e ∷ []) ≡ (outcome_of (replay service h) e).service
 replay_push service [] e = refl
@@ -68,12 +79,74 @@ changes_none : (service : Service) (caller : ℕ) (request : Request) → may_ch
 changes_none service caller (OnStore (Destroy id)) quiet = absurd (false≢true (sym quiet))
 changes_none service caller request quiet = quiet_reply service caller request quiet (plain_step service caller request).service.store
 
--- and leaves the doubt
-pub quiet_doubt : (e : Entry) (s : Course) → may_change_keys e.call ≡ false → doubt_after e s ≡ s.doubt
-quiet_doubt e s quiet = ap (λ (o : Option Key). option_map_or (λ (key : Stored). doubt_by e.mark (is_destruction e.call) key s.doubt) (kept o) s.doubt) (changes_none s.service e.caller e.call quiet)
+-- one that changes none leaves the doubt
+pub quiet_doubt : (e : Entry) (s : Course) → key_changed s.service e.caller e.call ≡ None → doubt_after e s ≡ s.doubt
+quiet_doubt e s none = ap (λ (o : Option Key). option_map_or (λ (key : Stored). doubt_by e.mark (is_destruction e.call) key s.doubt) (kept o) s.doubt) none
 
 pub course_push : (start : Service) (h : List Entry) (e : Entry) → course_of start (h ++ e ∷ []) ≡ after e (course_of start h)
 course_push start h e = after_all_push after FitsCourse (opened start) h e (opened start)
 
-pub doubt_stays : (start : Service) (h : List Entry) (e : Entry) → may_change_keys e.call ≡ false → (course_of start (h ++ e ∷ [])).doubt ≡ (course_of start h).doubt
-doubt_stays start h e quiet = ap (λ (s : Course). s.doubt) (course_push start h e) ∙ quiet_doubt e (course_of start h) quiet
+-- so it does in the course of a history
+pub course_doubt : (start : Service) (h : List Entry) (e : Entry) → key_changed (replay start h) e.caller e.call ≡ None → doubt_after e (course_of start h) ≡ (course_of start h).doubt
+course_doubt start h e none = quiet_doubt e (course_of start h) (ap (λ (s : Service). key_changed s e.caller e.call) (course_service start h) ∙ none)
+
+pub doubt_stays : (start : Service) (h : List Entry) (e : Entry) → key_changed (replay start h) e.caller e.call ≡ None → (course_of start (h ++ e ∷ [])).doubt ≡ (course_of start h).doubt
+doubt_stays start h e none = ap (λ (s : Course). s.doubt) (course_push start h e) ∙ course_doubt start h e none
+
+-- REFUSALS
+
+abbrev IsRefusal : Reply → Type 0
+IsRefusal reply = reply.status ≡ Success → ⊥
+
+refused_reply : (service : Service) (caller : ℕ) (request : Request) → IsRefusal (plain_step service caller request).reply → MakesNone (plain_step service caller request).reply
+refused_reply service caller (OnStore call) =
+    store_shape service.store caller (next_random service caller) call (λ outcome. IsRefusal outcome.reply → MakesNone outcome.reply) (λ n. length-random service.store.settings.seed caller (own_of service caller).drawn n) (record {
+      counted_too = λ reply drawn is fails. is.quiet.no_key;
+      created_too = λ kept bytes drawn changes creates fails. absurd (fails refl);
+      destroyed_too = λ id is fails. absurd (fails refl);
+    })
+refused_reply service caller (OnHandle handle call) = shape service caller handle call (λ served. IsRefusal served.reply → MakesNone served.reply) (record {
+  untouched_too = λ may fails. λ after. refl;
+  applied_too = λ after step fails. step.no_key;
+  created_too = λ changes key w n kept derives fails. absurd (fails refl);
+})
+
+-- where a destruction is refused there is no key
+undestroyed : (store : Store) (id : ℕ) (found : Option Key) → IsRefusal (decided store (first_row (destroy_rows found id)) (destroyed store id)).reply → found ≡ None
+undestroyed store id None fails = refl
+undestroyed store id (Some key) fails = absurd (fails (granted (not (id == 0)))) where
+  granted : (b : Bool) → (decided store (first_row ((b && false, InvalidHandle) ∷ [])) (destroyed store id)).reply.status ≡ Success
+  granted true = refl
+  granted false = refl
+
+-- a refused request changes no key
+refused_changes : (service : Service) (caller : ℕ) (request : Request) → IsRefusal (plain_step service caller request).reply → key_changed service caller request ≡ None
+refused_changes service caller (OnStore (Destroy id)) fails = undestroyed service.store id (map.get service.store.keys id) fails
+refused_changes service caller request fails = refused_reply service caller request fails (plain_step service caller request).service.store
+
+-- and leaves the store but for the count
+refused_counts : (service : Service) (caller : ℕ) (request : Request) → IsRefusal (plain_step service caller request).reply → (plain_step service caller request).service.store ≡ counted service.store
+refused_counts service caller (OnStore call) fails = ap (λ (s : Service). s.store) (leaves_all service caller (OnStore call) fails)
+refused_counts service caller (OnHandle handle call) fails = ap (λ (s : Service). s.store) (leaves_all service caller (OnHandle handle call) fails)
+
+-- REQUESTS THAT LEAVE ALL KEYS
+
+module _ {D A C : Type 0} (told : D → Option (List ℕ)) (may_leave : D → List ℕ → Type 0) (moment : D → ℕ) (left_since : D → ℕ → List ℕ → Type 0)
+    (faults : D → ℕ) (held : A → Option HeldKeys) (hard : A → ℕ) (locations : A → List ℕ) (labels : C → List Label) (store : core.Store D A C) (start : Service) (h : List Entry) (e : Entry) where
+  abbrev Leaves : Type 0
+  Leaves = LeavesKeys told may_leave moment left_since faults held hard locations labels store start h e
+
+  -- one that may change no key
+  pub quiet_leaves : may_change_keys e.call ≡ false → Leaves
+  quiet_leaves quiet = record {
+    counted_only = λ t. leaves_shared (replay start h) e.caller e.call e.mark quiet;
+    changes_none = λ t. changes_none (replay start h) e.caller e.call quiet;
+  }
+
+  -- and one that is refused though no device failed
+  pub refused_leaves : e.mark ≡ Plain → (IsTold (told store.file.cells.disk) start (h ++ e ∷ []) → IsRefusal (plain_step (replay start h) e.caller e.call).reply) → Leaves
+  refused_leaves plain refused = record {
+    counted_only = λ t.
+        subst (λ (mark : FaultMark). (serve (replay start h) e.caller e.call mark).service.store ≡ counted (replay start h).store) (sym plain) (refused_counts (replay start h) e.caller e.call (refused t));
+    changes_none = λ t. refused_changes (replay start h) e.caller e.call (refused t);
+  }

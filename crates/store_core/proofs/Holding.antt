@@ -1,4 +1,4 @@
--- A store that holds keys, after a turn that changes none.
+-- A store that holds keys, after a turn that leaves all.
 use Rattle.std.proofs.Common.{◌≡◌, ◌⊎◌, ℕ, ◌+◌, ◌≤◌, List, [], ◌∷◌, ◌++◌, length, true, false, Option, is_some, refl, sym, ◌∙◌, ap, subst, arith, inl, inr, ⊎_elim, length-append}
 use Rattle.disk_face.specs.Moments.{Within, KeepsPromise, FitsFrom}
 use Rattle.disk_face.proofs.Moments.{promise_goes_on, within_none, fits_whole, fits_least}
@@ -15,17 +15,15 @@ use Rattle.key_slots.proofs.Agreeing.{quiet}
 use Rattle.store_model.specs.Store as model
 use Rattle.store_model.specs.Faults.{FaultMark, Plain}
 use Rattle.store_model.specs.Outcome.{counted}
-use Rattle.store_model.specs.Laws.{may_change_keys}
 use Rattle.store_model.specs.Handles.{Service}
 use Rattle.store_model.specs.Replay.{Entry, outcome_of, replay}
 use Rattle.store_model.specs.Marks.{FaultCounts, MayBeMarked, HasFault, IsCaused, last_counts}
 use Rattle.store_model.proofs.Sound.{counted_sound}
-use Rattle.store_model.proofs.Others.{leaves_shared}
 use Rattle.store_model.proofs.Causes.{go_on, allowed_go_on}
 use Rattle.store_core.specs.declared.store.Store.{Store}
 use Rattle.store_core.specs.Durability.{after, opened, course_of, durable_keys, FitsCourse}
-use Rattle.store_core.specs.Represents.{IsTold, IsDirectory, HoldsKeys, Opening, Holds, StandsFor, IsEntry, IsReading}
-use Rattle.store_core.proofs.Histories.{replay_push, counts_push, told_before, course_service, quiet_doubt, doubt_stays}
+use Rattle.store_core.specs.Represents.{IsTold, IsDirectory, HoldsKeys, Opening, Holds, StandsFor, IsEntry, LeavesKeys, IsReading}
+use Rattle.store_core.proofs.Histories.{replay_push, counts_push, told_before, course_service, course_doubt, doubt_stays}
 
 -- calls after which a crash leaves the keys of now keep the promise of the same history
 pub promise_stays : (past since : ℕ → List ℕ → Type 0) (before now opening : ℕ) (start : Service) (h : List Entry) (P : List ℕ → Type 0) → KeepsPromise after FitsCourse (λ (e : Entry). e.done) past before opening (opened start) h →
@@ -61,6 +59,9 @@ module _ {D A C : Type 0} (told : D → Option (List ℕ)) (may_leave : D → Li
 
   abbrev pub IsTurn : Store D A C → FaultMark → Entry → Type 0
   IsTurn = IsEntry told may_leave moment left_since faults held hard locations labels
+
+  abbrev pub LeavesHere : Store D A C → Service → List Entry → Entry → Type 0
+  LeavesHere = LeavesKeys told may_leave moment left_since faults held hard locations labels
 
   abbrev pub IsReadingHere : Store D A C → Service → List Entry → Entry → ℕ → Type 0
   IsReadingHere = IsReading told may_leave moment left_since faults held hard locations labels
@@ -195,7 +196,7 @@ module _ {D A C : Type 0} (told : D → Option (List ℕ)) (may_leave : D → Li
     refl,
   )
 
-  -- A ranked turn ends whose request changes no key.
+  -- A ranked turn ends whose request leaves all keys.
   module _ (only_now : (disk : D) (image : List ℕ) → left_since disk (moment disk) image → may_leave disk image)
       (old : Store D A C) (slots : KeySlots) (mark : FaultMark) (start : Service) (opening : Opening) (h : List Entry) (all more : List Pairs) (e : Entry) where
     abbrev disk_here : D
@@ -204,20 +205,20 @@ module _ {D A C : Type 0} (told : D → Option (List ℕ)) (may_leave : D → Li
     abbrev Known : Type 0
     Known = IsTold (told disk_here) start (h ++ e ∷ [])
 
-    counted_now : may_change_keys e.call ≡ false → (m : model.Store) → m ≡ (replay start h).store → counted m ≡ (outcome_of (replay start h) e).service.store
-    counted_now still m is = ap counted is ∙ sym (leaves_shared (replay start h) e.caller e.call e.mark still)
+    counted_now : LeavesHere old start h e → Known → (m : model.Store) → m ≡ (replay start h).store → counted m ≡ (outcome_of (replay start h) e).service.store
+    counted_now still known m is = ap counted is ∙ sym (still.counted_only known)
 
     -- the disk fits the course with the entry
-    fits_after : may_change_keys e.call ≡ false → (m : model.Store) → m ≡ (replay start h).store → StandsForKeys told may_leave disk_here old.file.cells.slots.items (durable_keys m) (course_of start h).doubt →
+    fits_after : LeavesHere old start h e → Known → (m : model.Store) → m ≡ (replay start h).store → StandsForKeys told may_leave disk_here old.file.cells.slots.items (durable_keys m) (course_of start h).doubt →
         (image : List ℕ) → left_since disk_here (moment disk_here) image → FitsCourse (after e (course_of start h)) image
-    fits_after still m is stands image left =
-        let same : counted m ≡ (after e (course_of start h)).service.store = counted_now still m is ∙ ap (λ (s : Service). (outcome_of s e).service.store) (sym (course_service start h)) in
+    fits_after still known m is stands image left =
+        let same : counted m ≡ (after e (course_of start h)).service.store = counted_now still known m is ∙ ap (λ (s : Service). (outcome_of s e).service.store) (sym (course_service start h)) in
         let fits = stands_fits told may_leave moment left_since disk_here old.file.cells.slots.items (durable_keys m) (course_of start h).doubt image stands (only_now disk_here image left) in
         subst (λ (x : model.Store). FitsKeys (durable_keys x) (after e (course_of start h)).doubt image) same
-        (subst (λ (d : Doubt). FitsKeys (durable_keys m) d image) (sym (quiet_doubt e (course_of start h) still)) fits)
+        (subst (λ (d : Doubt). FitsKeys (durable_keys m) d image) (sym (course_doubt start h e (still.changes_none known))) fits)
 
     pub ends_quiet : (s : HoldsHere Known old start opening h all) → Agrees slots.table.slots s.model more → AreHoldings more → HasFault (is_some (told disk_here)) (last_counts opening.counts h) e mark →
-        (Known → MayBeMarked (replay start h) e.caller e.call mark) → may_change_keys e.call ≡ false → IsTurn (turned old slots) mark e →
+        (Known → MayBeMarked (replay start h) e.caller e.call mark) → LeavesHere old start h e → IsTurn (turned old slots) mark e →
         (after : StandsHere (turned old slots) start opening (h ++ e ∷ []) more) × (after.holds.model ≡ counted s.model)
     ends_quiet s agrees holdings fault may still is = (record { holds = holds; counts = counts_push opening.counts h e ∙ counted_here }, refl)
       where
@@ -227,7 +228,7 @@ module _ {D A C : Type 0} (told : D → Option (List ℕ)) (may_leave : D → Li
         holds : HoldsHere Known (turned old slots) start opening (h ++ e ∷ []) more
         holds = record {
           model = counted s.model;
-          replayed = λ k. counted_now still s.model (s.replayed k) ∙ ap (λ (x : Service). x.store) (sym (replay_push start h e));
+          replayed = λ k. counted_now still k s.model (s.replayed k) ∙ ap (λ (x : Service). x.store) (sym (replay_push start h e));
           sound = counted_sound s.model s.sound;
           labels_are = s.labels_are;
           locations_are = s.locations_are;
@@ -243,16 +244,16 @@ module _ {D A C : Type 0} (told : D → Option (List ℕ)) (may_leave : D → Li
           holdings = holdings;
           directory = same_directory old.file.cells.slots.items s.model s.directory;
           device = same_device (held old.devices) s.model s.device;
-          file = λ tells. subst (StandsForKeys told may_leave disk_here old.file.cells.slots.items (durable_keys s.model)) (sym (doubt_stays start h e still)) (s.file tells);
+          file = λ tells. subst (StandsForKeys told may_leave disk_here old.file.cells.slots.items (durable_keys s.model)) (sym (doubt_stays start h e (still.changes_none (inl tells)))) (s.file tells);
           promise = λ tells. promise_goes_on after FitsCourse (opened start) (λ (x : Entry). x.done) (left_since disk_here) (left_since disk_here) (moment disk_here) (moment disk_here) opening.moment h e (s.promise tells)
-              (within_none (moment disk_here) (left_since disk_here) _) (fits_after still s.model (s.replayed (inl tells)) (s.file tells)) is.done;
+              (within_none (moment disk_here) (left_since disk_here) _) (fits_after still (inl tells) s.model (s.replayed (inl tells)) (s.file tells)) is.done;
           caused = go_on (is_some (told disk_here)) opening.counts h e s.caused (subst (HasFault (is_some (told disk_here)) (last_counts opening.counts h) e) (sym is.marked) fault);
           allowed = λ k. allowed_go_on start h e (s.allowed (told_before (told disk_here) start h e k)) (subst (MayBeMarked (replay start h) e.caller e.call) (sym is.marked) (may k));
         }
 
   -- and one that leaves the file
   pub counts_on : (only_now : (disk : D) (image : List ℕ) → left_since disk (moment disk) image → may_leave disk image) (old : Store D A C) (slots : KeySlots) (start : Service) (opening : Opening) (h : List Entry) (all : List Pairs) (e : Entry) →
-      (s : StandsHere old start opening h all) → Agrees slots.table.slots s.holds.model all → may_change_keys e.call ≡ false → IsTurn (turned old slots) Plain e →
+      (s : StandsHere old start opening h all) → Agrees slots.table.slots s.holds.model all → LeavesHere old start h e → IsTurn (turned old slots) Plain e →
       (n : StandsHere (turned old slots) start opening (h ++ e ∷ []) all) × (n.holds.model ≡ counted s.holds.model)
   counts_on only_now old slots start opening h all e s agrees still is =
       let told_here = told old.file.cells.disk in

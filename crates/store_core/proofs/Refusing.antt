@@ -30,7 +30,7 @@ use Rattle.store_core.specs.declared.reading.Unread.{Unread}
 use Rattle.store_core.specs.declared.reading.Unread.TheVariants.{Missing, Disk, Corrupt}
 use Rattle.store_core.specs.Represents.{IsTold, Opening}
 use Rattle.store_core.specs.Uses.{IsRefused, mark_of, status_of}
-use Rattle.store_core.proofs.Histories.{told_before}
+use Rattle.store_core.proofs.Histories.{told_before, quiet_leaves}
 use Rattle.store_core.proofs.Holding.{HoldsHere, StandsHere, IsTurn, IsReadingHere, turned, ends_quiet}
 use Rattle.store_core.proofs.Loading.{reads_it}
 
@@ -87,7 +87,7 @@ module _ {D A C : Type 0} (told : D → Option (List ℕ)) (may_leave : D → Li
       IsTurn told may_leave moment left_since faults held hard locations labels (turned told may_leave moment left_since faults held hard locations labels mid slots) Plain e →
       (after : StandsHere told may_leave moment left_since faults held hard locations labels (turned told may_leave moment left_since faults held hard locations labels mid slots) start opening (h ++ e ∷ []) more) × P after.holds.model
   ends_found slots more P is n holds agrees holdings turn =
-      let ends = ends_quiet told may_leave moment left_since faults held hard locations labels only_now mid slots Plain start opening h all more e n agrees holdings tt (λ k. tt) is.quiet turn in
+      let ends = ends_quiet told may_leave moment left_since faults held hard locations labels only_now mid slots Plain start opening h all more e n agrees holdings tt (λ k. tt) (quiet_leaves told may_leave moment left_since faults held hard locations labels mid start h e is.quiet) turn in
       (ends.0, subst P (sym ends.1) holds)
 
   -- a row refuses it
@@ -106,16 +106,16 @@ module _ {D A C : Type 0} (told : D → Option (List ℕ)) (may_leave : D → Li
       IsTurn told may_leave moment left_since faults held hard locations labels new (mark_of (status_of why)) e → Ends (IsRefused rows id (status_of why))
   ends_unread rows Missing none same s is missing unread rose blind turn =
       let n = missing refl in
-      let ends = ends_quiet told may_leave moment left_since faults held hard locations labels only_now mid mid.slots _ start opening h all all e n.0 n.0.slots n.0.holdings tt (λ k. tt) is.quiet turn in
+      let ends = ends_quiet told may_leave moment left_since faults held hard locations labels only_now mid mid.slots _ start opening h all all e n.0 n.0.slots n.0.holdings tt (λ k. tt) (quiet_leaves told may_leave moment left_since faults held hard locations labels mid start h e is.quiet) turn in
       (ends.0, subst (λ (m : model.Store). rows (map.get m.keys id) ≡ Some InvalidHandle) (sym ends.1) (ap rows n.1 ∙ none))
   ends_unread rows Disk none same s is missing unread rose blind turn =
       let n = unread (λ e. cc) in
       let ends = ends_quiet told may_leave moment left_since faults held hard locations labels only_now mid mid.slots _ start opening h all all e n.0 n.0.slots n.0.holdings
       (subst (Rose _) (sym turn.disk_faults) (subst (λ (f : ℕ). Rose f (faults mid.file.cells.disk)) (sym (ap (λ (c : FaultCounts). c.faults) s.counts)) (rose refl)))
-      (λ k. read_persistent same is n k) is.quiet turn in
+      (λ k. read_persistent same is n k) (quiet_leaves told may_leave moment left_since faults held hard locations labels mid start h e is.quiet) turn in
       (ends.0, subst (λ (m : model.Store). is_persistent_key (map.get m.keys id) ≡ true) (sym ends.1) n.1)
   ends_unread rows Corrupt none same s is missing unread rose blind turn =
       let n = unread (λ e. cc) in
       let ends = ends_quiet told may_leave moment left_since faults held hard locations labels only_now mid mid.slots _ start opening h all all e n.0 n.0.slots n.0.holdings (blind refl)
-      (λ k. read_persistent same is n k) is.quiet turn in
+      (λ k. read_persistent same is n k) (quiet_leaves told may_leave moment left_since faults held hard locations labels mid start h e is.quiet) turn in
       (ends.0, subst (λ (m : model.Store). is_persistent_key (map.get m.keys id) ≡ true) (sym ends.1) n.1)

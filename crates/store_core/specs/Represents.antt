@@ -1,5 +1,5 @@
 -- What it is for a store to stand for a start, a history and what the callers have out; and what its turns make of these.
-use Rattle.std.specs.Prelude.{◌≡◌, ◌<◌, ◌≤◌, ◌⊎◌, ℕ, ◌+◌, true, false, List, [], ◌∷◌, ◌++◌, length, slice_index, Option, Some, is_some}
+use Rattle.std.specs.Prelude.{◌≡◌, ◌<◌, ◌≤◌, ◌⊎◌, ℕ, ◌+◌, true, false, List, [], ◌∷◌, ◌++◌, length, slice_index, Option, None, Some, is_some}
 use Rattle.std.specs.FinMap as map
 use Rattle.key_cells.specs.declared.slot.Slot as cell
 use Rattle.key_cells.specs.declared.slot.Slot.TheVariants.{Open}
@@ -14,12 +14,13 @@ use Rattle.store_model.specs.Store as model
 use Rattle.store_model.specs.Store.{Key, is_volatile, is_opaque, count_persistent, live_volatile}
 use Rattle.store_model.specs.Call.{Destroy}
 use Rattle.store_model.specs.Faults.{FaultMark, Plain}
+use Rattle.store_model.specs.Outcome.{counted}
 use Rattle.store_model.specs.Requests.{OnStore}
 use Rattle.store_model.specs.Sound.{IsSoundStore}
 use Rattle.store_model.specs.Laws.{may_change_keys}
 use Rattle.store_model.specs.Handles.{Service}
 use Rattle.store_model.specs.Replay.{Entry, outcome_of, replay}
-use Rattle.store_model.specs.Marks.{FaultCounts, id_read, reads_persistent, IsCaused, AreAllowed, last_counts}
+use Rattle.store_model.specs.Marks.{FaultCounts, key_changed, id_read, reads_persistent, IsCaused, AreAllowed, last_counts}
 use Rattle.store_core.specs.declared.store.Store.{Store}
 use Rattle.store_core.specs.Durability.{durable_keys, course_of, KeepsKeys}
 
@@ -104,6 +105,12 @@ module _ {D A C : Type 0} (told : D → Option (List ℕ)) (may_leave : D → Li
     pub disk_faults : e.faults ≡ faults store.file.cells.disk
     pub device_faults : e.hard ≡ hard store.devices
 
+  -- The request of an entry leaves all keys: as far as that is told, the one-thread store is as it was but for the count of
+  -- calls, and no key is made or destroyed.
+  pub record LeavesKeys (store : Store D A C) (start : Service) (h : List Entry) (e : Entry) : Type 0 where
+    pub counted_only : Told store start (h ++ e ∷ []) → (outcome_of (replay start h) e).service.store ≡ counted (replay start h).store
+    pub changes_none : Told store start (h ++ e ∷ []) → key_changed (replay start h) e.caller e.call ≡ None
+
   -- its request changes no key, and reads that of an identifier
   pub record IsReading (store : Store D A C) (start : Service) (h : List Entry) (e : Entry) (id : ℕ) : Type 0 where
     pub quiet : may_change_keys e.call ≡ false
@@ -123,20 +130,20 @@ module _ {D A C : Type 0} (told : D → Option (List ℕ)) (may_leave : D → Li
     Takes p = (start : Service) (opening : Opening) (h : List Entry) (all less : List Pairs) →
         StandsFor old start opening h all → Gains less all p → AreHoldings less → StandsFor new start opening h less
 
-    -- a ranked turn whose request changes no key and reads none
+    -- a ranked turn whose request leaves all keys and reads none
     abbrev pub Adds : Type 0
     Adds = (start : Service) (opening : Opening) (h : List Entry) (all : List Pairs) (e : Entry) →
-        StandsFor old start opening h all → may_change_keys e.call ≡ false → IsEntry new Plain e → StandsFor new start opening (h ++ e ∷ []) all
+        StandsFor old start opening h all → LeavesKeys old start h e → IsEntry new Plain e → StandsFor new start opening (h ++ e ∷ []) all
 
     -- one of whose model P holds afterwards
     abbrev pub AddsAs : (model.Store → Type 0) → Type 0
     AddsAs P = (start : Service) (opening : Opening) (h : List Entry) (all : List Pairs) (e : Entry) →
-        StandsFor old start opening h all → may_change_keys e.call ≡ false → IsEntry new Plain e → (n : StandsFor new start opening (h ++ e ∷ []) all) × P n.holds.model
+        StandsFor old start opening h all → LeavesKeys old start h e → IsEntry new Plain e → (n : StandsFor new start opening (h ++ e ∷ []) all) × P n.holds.model
 
     -- and one in which a pair is used that is out
     abbrev pub Steps : ℕ × ℕ → (model.Store → Type 0) → Type 0
     Steps p P = (start : Service) (opening : Opening) (h : List Entry) (all : List Pairs) (e : Entry) →
-        StandsFor old start opening h all → 0 < named p.0 p.1 all → may_change_keys e.call ≡ false → IsEntry new Plain e →
+        StandsFor old start opening h all → 0 < named p.0 p.1 all → LeavesKeys old start h e → IsEntry new Plain e →
         (n : StandsFor new start opening (h ++ e ∷ []) all) × P n.holds.model
 
     -- a ranked turn that reads a key, of whose model P holds afterwards

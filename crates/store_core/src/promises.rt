@@ -1,18 +1,22 @@
 //! What a store promises that stands for a start, a history and holdings, as the contracts of methods that do nothing.
-ghost use Rattle.std.specs.Prelude.{◌≡◌, ◌⊎◌, ◌<◌, ◌≤◌, ◌+◌, ℕ, List, length, true, is_some};
+ghost use Rattle.std.specs.Prelude.{◌≡◌, ◌⊎◌, ◌<◌, ◌≤◌, ◌+◌, ℕ, List, [], ◌∷◌, ◌++◌, length, true, false, is_some};
 ghost use Rattle.std.specs.List.{AllByRecursion};
 ghost use Rattle.disk_face.specs.Moments.{Within, done_at};
+ghost use Rattle.psa_status.specs.declared.Status.TheVariants.{Success};
 ghost use Rattle.key_cells.specs.declared.slot.Slot.TheVariants.{Free};
 ghost use Rattle.key_cells.specs.Contents.{HasZeros, cell_slot};
 ghost use Rattle.slot_table.specs.Slots.{empty_slot, filling_slot, slot_at};
 ghost use Rattle.key_slots.specs.Holdings.{Pairs, named};
 ghost use Rattle.store_model.specs.Sound.{HasNumber, IsSound};
 ghost use Rattle.store_model.specs.Handles.{Service};
-ghost use Rattle.store_model.specs.Replay.{Entry};
+ghost use Rattle.store_model.specs.Faults.{Plain};
+ghost use Rattle.store_model.specs.Requests.{plain_step};
+ghost use Rattle.store_model.specs.Laws.{may_change_keys};
+ghost use Rattle.store_model.specs.Replay.{Entry, replay};
 ghost use Rattle.store_model.specs.Origin.{GainsNothing, IsCaller, found_made, made_after};
 ghost use Rattle.store_core.specs.Durability.{FitsPrefix};
 ghost use Rattle.store_core.specs.declared.store.Store as store;
-ghost use Rattle.store_core.specs.Represents.{IsTold, Opening, Stands, StandsFor};
+ghost use Rattle.store_core.specs.Represents.{IsTold, LeavesKeys, Opening, Stands, StandsFor};
 ghost use Rattle.store_core.specs.Zeros.{StaysFree, StaysZeros, last_store};
 
 use crate::Store;
@@ -73,6 +77,19 @@ impl<D: Disk, A: Devices, C: Admission> Store<D, A, C> {
         ensures { (start : Service) (opening : Opening) (h : List Entry) (all : List Pairs) (s : StandsFor D.contents D.may_leave D.moment D.left_since D.faults A.keys A.faults A.locations C.labels self.now start opening h all) →
             (number : ℕ) → (HasNumber s.holds.model number → ⊥) → ((i : ℕ) → named i (number + 1) all ≡ 0) → (i : ℕ) → i < 384 → (slot_at self.now.slots.table.slots i).creation ≡ number →
             (slot_at self.now.slots.table.slots i ≡ empty_slot) ⊎ (slot_at self.now.slots.table.slots i ≡ filling_slot) }
+    {}
+
+    /// A request that may change no key leaves all.
+    pub fn a_quiet_request_leaves_keys(&self)
+        ensures { (start : Service) (h : List Entry) (e : Entry) → may_change_keys e.call ≡ false →
+            LeavesKeys D.contents D.may_leave D.moment D.left_since D.faults A.keys A.faults A.locations C.labels self.now start h e }
+    {}
+
+    /// A request that is refused though no device failed leaves all keys, whatever it asked for.
+    pub fn a_refused_request_leaves_keys(&self)
+        ensures { (start : Service) (h : List Entry) (e : Entry) → e.mark ≡ Plain →
+            (IsTold (D.contents self.now.file.cells.disk) start (h ++ e ∷ []) → (plain_step (replay start h) e.caller e.call).reply.status ≡ Success → ⊥) →
+            LeavesKeys D.contents D.may_leave D.moment D.left_since D.faults A.keys A.faults A.locations C.labels self.now start h e }
     {}
 
     /// No chain of copies gains a flag or an algorithm, under whatever rules.

@@ -1,0 +1,8 @@
+use Rattle.store_core.proofs.Histories.{refused_leaves}
+use Rattle.store_core.proofs.store.Store.a_refused_request_leaves_keys.Goals as goal
+
+pub returns : goal.returns
+returns g c = λ start h e plain refused.
+    let d = g.D.Disk in
+    let v = g.A.Devices in
+    refused_leaves d.contents d.may_leave d.moment d.left_since d.faults v.keys v.faults v.locations g.C.Admission.labels c.args.self.now start h e plain refused
