@@ -22,6 +22,7 @@ use Rattle.store_core.specs.Creations.{Creates, HasOutBeside, IsCreating, Record
 use Rattle.store_core.specs.Uses.{IsRefused, mark_of}
 use Rattle.store_model.specs.Store.{Key}
 use Rattle.store_core.specs.Opaque.{Makes}
+use Rattle.store_core.proofs.Histories.{quiet_leaves}
 use Rattle.store_trials.specs.Keeping.{GivesLease, Keeps, StaysOut, first_has}
 use Rattle.store_trials.proofs.Outs.{are_one, hold, lease_beside, filling_alone, first_gains, is_out}
 
@@ -92,11 +93,12 @@ module _ {D A C : Type 0} (told : D → Option (List ℕ)) (may_leave : D → Li
       pub added : (P : model.Store → Type 0) → AddsAs told may_leave moment left_since faults held hard locations labels old new P → KeepsHere old all → KeepsHere new all
       added P adds k =
           let e = entry 1 (OnStore (GetAttributes 0)) Plain in
+          let leaves = quiet_leaves told may_leave moment left_since faults held hard locations labels old k.start k.h e refl in
           record {
             start = k.start;
             opening = k.opening;
             h = k.h ++ e ∷ [];
-            stands = (adds k.start k.opening k.h all e k.stands refl (is_entry 1 (OnStore (GetAttributes 0)) Plain (omega arith) (omega arith))).0;
+            stands = (adds k.start k.opening k.h all e k.stands leaves (is_entry 1 (OnStore (GetAttributes 0)) Plain (omega arith) (omega arith))).0;
             sized = sized;
             clear = clear;
           }
@@ -104,11 +106,12 @@ module _ {D A C : Type 0} (told : D → Option (List ℕ)) (may_leave : D → Li
       pub stepped : Adds told may_leave moment left_since faults held hard locations labels old new → KeepsHere old all → KeepsHere new all
       stepped adds k =
           let e = entry 1 (OnStore (GetAttributes 0)) Plain in
+          let leaves = quiet_leaves told may_leave moment left_since faults held hard locations labels old k.start k.h e refl in
           record {
             start = k.start;
             opening = k.opening;
             h = k.h ++ e ∷ [];
-            stands = adds k.start k.opening k.h all e k.stands refl (is_entry 1 (OnStore (GetAttributes 0)) Plain (omega arith) (omega arith));
+            stands = adds k.start k.opening k.h all e k.stands leaves (is_entry 1 (OnStore (GetAttributes 0)) Plain (omega arith) (omega arith));
             sized = sized;
             clear = clear;
           }
