@@ -1,5 +1,5 @@
 -- A turn of the store, between a pass's beginning of its turn and the end.
-use Rattle.std.proofs.Common.{◌≡◌, ℕ, zero, suc, ◌+◌, ◌-◌, ◌^◌, ◌<◌, ◌≤◌, true, false, List, [], ◌∷◌, ◌++◌, length, get_or, sym, ap, ◌∙◌, subst, inl, inr, ⊎_elim, arith, Option, Some, None, is_some}
+use Rattle.std.proofs.Common.{◌≡◌, ℕ, zero, suc, ◌+◌, ◌-◌, ◌^◌, ◌<◌, ◌≤◌, true, false, List, [], ◌∷◌, ◌++◌, length, get_or, refl, sym, ap, ◌∙◌, subst, inl, inr, ⊎_elim, arith, Option, Some, None, is_some}
 use Rattle.std.specs.Prelude.{Result}
 use Rattle.std.specs.List.{AllByRecursion}
 use Rattle.secret_bytes.specs.Buffer.{IsClear}
@@ -13,6 +13,7 @@ use Rattle.policy_rules.specs.declared.narrowing.Label.{Label}
 use Rattle.driver_dispatch.specs.Held.{HeldKeys}
 use Rattle.key_attributes.specs.declared.Attributes.{Attributes}
 use Rattle.psa_status.specs.declared.Status.{Status}
+use Rattle.psa_status.specs.declared.Status.TheVariants.{Success}
 use Rattle.slot_table.specs.Lent as lent
 use Rattle.key_slots.specs.Holdings.{Pairs, AreHoldings, IsHolding, Gains, named, names}
 use Rattle.store_model.specs.Store as model
@@ -28,11 +29,11 @@ use Rattle.store_core.specs.declared.store.Opened.{Opened}
 use Rattle.store_core.specs.declared.store.Store.{Store}
 use Rattle.store_core.specs.Creations.{Copies, Creates, HasOutBeside, IsAmong}
 use Rattle.store_core.specs.Opaque.{Makes}
-use Rattle.store_core.proofs.Histories.{told_before}
-use Rattle.store_core.specs.Represents.{Adds, AddsAs, Destroys, Gives, HasOut, HoldsOf, IsEntry, IsTold, Opening, Reads, ReadsAndGives, Stands, StandsFor, Steps, Takes}
+use Rattle.store_core.proofs.Histories.{quiet_leaves, refused_leaves, told_before}
+use Rattle.store_core.specs.Represents.{Adds, AddsAs, Destroys, Gives, HasOut, HoldsOf, IsEntry, IsTold, LeavesKeys, Opening, Reads, ReadsAndGives, Stands, StandsFor, Steps, Takes}
 use Rattle.store_core.specs.Start.{opening_of}
 use Rattle.shared_store.specs.Standing as shared
-use Rattle.shared_store.specs.Turning.{CreatesKey, DecidesAfter, DecidesBefore, IsBegun, IsEntered, IsEnteredAfter, IsOwn, IsRanked, IsStartOf, ReadsKey, ToldBy, turn_entry, without_pair}
+use Rattle.shared_store.specs.Turning.{CreatesKey, DecidesAfter, DecidesBefore, IsBegun, IsEntered, IsEnteredAfter, IsOwn, IsRanked, IsStartOf, LeavesAllKeys, ReadsKey, ToldBy, turn_entry, without_pair}
 use Rattle.shared_store.proofs.Owning.{fewer, gains, loses, splits, with_holding}
 use Rattle.shared_store.proofs.Passing.{goes_on, signed_push}
 use Rattle.shared_store.proofs.Renewing.{decides_after, holdings, is_entry, reading, renewed, told_now, told_then}
@@ -178,16 +179,28 @@ module _ {D A C : Type 0} (told : D → Option (List ℕ)) (may_leave : D → Li
     pub led_weaker : (new : Store D A C) (call : Request) (mark : FaultMark) (pairs : List Pairs) (P Q : model.Store → Type 0) → Led new call mark pairs P → ((m : model.Store) → P m → Q m) → Led new call mark pairs Q
     led_weaker new call mark pairs P Q led weaker start is = let n = led start is in (n.0, weaker n.0.holds.model n.1)
 
-    pub counts : (new : Store D A C) (call : Request) → Adds told may_leave moment left_since faults held hard locations labels old new → may_change_keys call ≡ false → Led new call Plain (with own) (λ m. Unit {0})
-    counts new call adds quiet start is = (adds start (As old.opened) seen (with own) (entry new call Plain) (subst (For old start (As old.opened) seen) kept (s.each start is)) quiet (entered new call Plain), tt)
+    -- the request leaves all keys in the turn
+    leaves : (new : Store D A C) (call : Request) (start : Service) → From old.opened start → LeavesAllKeys told moment faults hard locations labels opened v call →
+        LeavesKeys told may_leave moment left_since faults held hard locations labels old start seen (entry new call Plain)
+    leaves new call start is either = ⊎_elim
+        (λ (quiet : may_change_keys call ≡ false). quiet_leaves told may_leave moment left_since faults held hard locations labels old start seen (entry new call Plain) quiet)
+        (λ refused. refused_leaves told may_leave moment left_since faults held hard locations labels old start seen (entry new call Plain) refl (λ known succeeds.
+        refused start (subst (λ o. From o start) same is) seen (goes_on v p.me.0 b.on b.same_calls b.first b.calls s.signed)
+        (subst (λ o. ToldBy told moment faults hard locations labels o start seen) same
+        (told_then told may_leave moment left_since faults size held hard locations labels old start seen s.tells (told_before (told old.file.cells.disk) start seen (entry new call Plain) known)))
+        (subst (λ n. (plain_step (replay start seen) n call).reply.status ≡ Success) b.on.number succeeds)))
+        either
 
-    pub counts_as : (new : Store D A C) (call : Request) (P : model.Store → Type 0) → AddsAs told may_leave moment left_since faults held hard locations labels old new P → may_change_keys call ≡ false → Led new call Plain (with own) P
-    counts_as new call P adds quiet start is = adds start (As old.opened) seen (with own) (entry new call Plain) (subst (For old start (As old.opened) seen) kept (s.each start is)) quiet (entered new call Plain)
+    pub counts : (new : Store D A C) (call : Request) → Adds told may_leave moment left_since faults held hard locations labels old new → LeavesAllKeys told moment faults hard locations labels opened v call → Led new call Plain (with own) (λ m. Unit {0})
+    counts new call adds quiet start is = (adds start (As old.opened) seen (with own) (entry new call Plain) (subst (For old start (As old.opened) seen) kept (s.each start is)) (leaves new call start is quiet) (entered new call Plain), tt)
 
-    pub steps : (new : Store D A C) (call : Request) (pair : ℕ × ℕ) (P : model.Store → Type 0) → Steps told may_leave moment left_since faults held hard locations labels old new pair P → 0 < names pair.0 pair.1 v.holding → may_change_keys call ≡ false →
+    pub counts_as : (new : Store D A C) (call : Request) (P : model.Store → Type 0) → AddsAs told may_leave moment left_since faults held hard locations labels old new P → LeavesAllKeys told moment faults hard locations labels opened v call → Led new call Plain (with own) P
+    counts_as new call P adds quiet start is = adds start (As old.opened) seen (with own) (entry new call Plain) (subst (For old start (As old.opened) seen) kept (s.each start is)) (leaves new call start is quiet) (entered new call Plain)
+
+    pub steps : (new : Store D A C) (call : Request) (pair : ℕ × ℕ) (P : model.Store → Type 0) → Steps told may_leave moment left_since faults held hard locations labels old new pair P → 0 < names pair.0 pair.1 v.holding → LeavesAllKeys told moment faults hard locations labels opened v call →
         Led new call Plain (with own) P
     steps new call pair P stepped some quiet start is = stepped start (As old.opened) seen (with own) (entry new call Plain) (subst (For old start (As old.opened) seen) kept (s.each start is))
-        (subst (λ pairs. 0 < named pair.0 pair.1 pairs) kept (has pair some)) quiet (entered new call Plain)
+        (subst (λ pairs. 0 < named pair.0 pair.1 pairs) kept (has pair some)) (leaves new call start is quiet) (entered new call Plain)
 
     pub reads : (new : Store D A C) (call : Request) (id : ℕ) (mark : FaultMark) (P : model.Store → Type 0) → Reads told may_leave moment left_since faults held hard locations labels old new id mark P →
         may_change_keys call ≡ false → ReadsKey told moment faults hard locations labels opened v call id → Led new call mark (with own) P

@@ -1,6 +1,6 @@
 -- A caller's pass between two turns, and what a turn adds to what it knows.
 use Rattle.std.specs.List.{AllByRecursion}
-use Rattle.std.specs.Prelude.{◌≡◌, ◌<◌, ◌≤◌, ◌^◌, ℕ, ◌+◌, ◌==◌, ◌&&◌, false, cond, Result, nat_lt, count_by, List, [], ◌∷◌, ◌++◌, length, Option, Some, None, is_some, Err}
+use Rattle.std.specs.Prelude.{◌≡◌, ◌⊎◌, ◌<◌, ◌≤◌, ◌^◌, ℕ, ◌+◌, ◌==◌, ◌&&◌, false, cond, Result, nat_lt, count_by, List, [], ◌∷◌, ◌++◌, length, Option, Some, None, is_some, Err}
 use Rattle.atomic_table.specs.Seated.{TableId}
 use Rattle.atomic_table.specs.declared.shared.Seat.{Seat}
 use Rattle.turn_history.specs.declared.pass.View.{View}
@@ -11,12 +11,14 @@ use Rattle.policy_rules.specs.declared.narrowing.Label.{Label}
 use Rattle.slot_table.specs.Lent as lent
 use Rattle.key_attributes.specs.declared.Attributes.{Attributes}
 use Rattle.psa_status.specs.declared.Status.{Status}
+use Rattle.psa_status.specs.declared.Status.TheVariants.{Success}
 use Rattle.key_slots.specs.Holdings.{Pairs, IsHolding, names}
 use Rattle.element_calls.specs.Answers.{mark_computed}
 use Rattle.store_model.specs.Store as model
 use Rattle.store_model.specs.Faults.{FaultMark, Plain}
 use Rattle.store_model.specs.Handles.{Service}
 use Rattle.store_model.specs.Creation.{created_unless}
+use Rattle.store_model.specs.Laws.{may_change_keys}
 use Rattle.store_model.specs.Origin.{IsCaller}
 use Rattle.store_model.specs.Requests.{Request, plain_step}
 use Rattle.store_model.specs.Replay.{Entry, replay}
@@ -160,6 +162,11 @@ module _ {D A C : Type 0} (told : D → Option (List ℕ)) (moment : D → ℕ) 
   -- the request reads the key of an identifier, in whatever history it is entered after what the pass has seen
   abbrev pub ReadsKey : Opened D A C → View Entry (Opened D A C) → Request → ℕ → Type 0
   ReadsKey opened v call id = (start : Service) → IsStartOf opened start → (h : List Entry) → GoesOn v h → ToldBy opened start h → id_read (replay start h) v.number call ≡ Some id
+
+  -- the request leaves all keys, in whatever history it is entered after what the pass has seen: it may change none, or is refused
+  abbrev pub LeavesAllKeys : Opened D A C → View Entry (Opened D A C) → Request → Type 0
+  LeavesAllKeys opened v call = (may_change_keys call ≡ false)
+      ⊎ ((start : Service) → IsStartOf opened start → (h : List Entry) → GoesOn v h → ToldBy opened start h → (plain_step (replay start h) v.number call).reply.status ≡ Success → ⊥)
 
   -- P holds of the one-thread store before an entry, or after it, from each start and as far as that is told
   abbrev pub DecidesBefore : Opened D A C → (model.Store → Type 0) → List Entry → Entry → Type 0

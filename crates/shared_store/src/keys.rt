@@ -11,7 +11,7 @@ ghost use Rattle.store_model.specs.KeyUse.{destroy_rows};
 ghost use Rattle.store_model.specs.Laws.{may_change_keys};
 ghost use Rattle.store_model.specs.Requests.{OnStore};
 ghost use Rattle.store_core.specs.Uses.{HasAttributes, IsRefused, IsUndestroyed, mark_of, mark_undestroyed, there_rows};
-ghost use Rattle.shared_store.specs.Turning.{DecidesAfter, DecidesBefore, IsAt, IsLegal, IsRanked, ReadsKey};
+ghost use Rattle.shared_store.specs.Turning.{DecidesAfter, DecidesBefore, IsAt, IsLegal, IsRanked, LeavesAllKeys, ReadsKey};
 
 use crate::changes::{Change, Met};
 use crate::held::{Held, SharedStore};
@@ -112,7 +112,7 @@ impl<D: Disk, A: Devices, C: Admission> SharedStore<D, A, C> {
     ) -> (u64, Result<(), Status>)
         requires at { IsAt self.now.lock.table.shared.table_id self.now.lock.table.shared.key.value.value.store.opened pass.old }
         requires left { 0 < pass.old.me.0.turns_left }
-        requires quiet { may_change_keys (model_request call.now room) ≡ false }
+        requires leaves { LeavesAllKeys D.contents D.moment D.faults A.faults A.locations C.labels self.now.lock.table.shared.key.value.value.store.opened pass.old.me.0 (model_request call.now room) }
         ensures at { IsAt self.now.lock.table.shared.table_id self.now.lock.table.shared.key.value.value.store.opened pass.new }
         ensures legal { IsLegal D.contents D.moment D.faults A.faults A.locations C.labels self.now.lock.table.shared.key.value.value.store.opened (entries_of pass.new.me.0.seen) }
         ensures there { OnOk result.1 (IsRanked pass.old.me.0 pass.new.me.0 (model_request call.now room) Plain result.0 pass.old.me.0.holding

@@ -6,10 +6,9 @@ ghost use Rattle.psa_status.specs.declared.Status.TheVariants.{InvalidHandle};
 ghost use Rattle.key_slots.specs.Holdings.{names};
 ghost use Rattle.service_calls.specs.Meanings.{model_request};
 ghost use Rattle.store_model.specs.Faults.{Plain};
-ghost use Rattle.store_model.specs.Laws.{may_change_keys};
 ghost use Rattle.store_model.specs.Sound.{HasNumber};
 ghost use Rattle.store_core.specs.Uses.{HasAttributes, IsRefused, mark_of, there_rows};
-ghost use Rattle.shared_store.specs.Turning.{DecidesAfter, IsAt, IsLegal, IsRanked, ReadsKey};
+ghost use Rattle.shared_store.specs.Turning.{DecidesAfter, IsAt, IsLegal, IsRanked, LeavesAllKeys, ReadsKey};
 
 use crate::changes::{Change, Met};
 use crate::held::{Held, SharedStore};
@@ -36,7 +35,7 @@ impl<D: Disk, A: Devices, C: Admission> SharedStore<D, A, C> {
     ) -> u64
         requires at { IsAt self.now.lock.table.shared.table_id self.now.lock.table.shared.key.value.value.store.opened pass.old }
         requires left { 0 < pass.old.me.0.turns_left }
-        requires quiet { may_change_keys (model_request call.now room) ≡ false }
+        requires leaves { LeavesAllKeys D.contents D.moment D.faults A.faults A.locations C.labels self.now.lock.table.shared.key.value.value.store.opened pass.old.me.0 (model_request call.now room) }
         ensures at { IsAt self.now.lock.table.shared.table_id self.now.lock.table.shared.key.value.value.store.opened pass.new }
         ensures legal { IsLegal D.contents D.moment D.faults A.faults A.locations C.labels self.now.lock.table.shared.key.value.value.store.opened (entries_of pass.new.me.0.seen) }
         ensures counted { IsRanked pass.old.me.0 pass.new.me.0 (model_request call.now room) Plain result pass.old.me.0.holding (λ before e. Unit {0}) }
@@ -68,7 +67,7 @@ impl<D: Disk, A: Devices, C: Admission> SharedStore<D, A, C> {
         requires at { IsAt self.now.lock.table.shared.table_id self.now.lock.table.shared.key.value.value.store.opened pass.old }
         requires left { 0 < pass.old.me.0.turns_left }
         requires out { 0 < names lease.now.slot (lease.now.creation + 1) pass.old.me.0.holding }
-        requires quiet { may_change_keys (model_request call.now room) ≡ false }
+        requires leaves { LeavesAllKeys D.contents D.moment D.faults A.faults A.locations C.labels self.now.lock.table.shared.key.value.value.store.opened pass.old.me.0 (model_request call.now room) }
         ensures at { IsAt self.now.lock.table.shared.table_id self.now.lock.table.shared.key.value.value.store.opened pass.new }
         ensures legal { IsLegal D.contents D.moment D.faults A.faults A.locations C.labels self.now.lock.table.shared.key.value.value.store.opened (entries_of pass.new.me.0.seen) }
         ensures alive { OnOk result.1 (IsRanked pass.old.me.0 pass.new.me.0 (model_request call.now room) Plain result.0 pass.old.me.0.holding

@@ -1,8 +1,9 @@
-use Rattle.std.proofs.Common.{◌≡◌, ◌∙◌, ◌∷◌, ap, refl, sym, subst, false, length}
+use Rattle.std.proofs.Common.{◌≡◌, ◌∙◌, ◌∷◌, ap, refl, sym, subst, true, false, length}
 use Rattle.std.proofs.lemmas.Result.{IfErr-at_err, IfOk-at_ok}
 use Rattle.std.specs.FinMap as map
 use Rattle.secret_bytes.specs.Buffer.{IsClear, bytes_of}
 use Rattle.turn_history.specs.History.{entries_of}
+use Rattle.element_calls.specs.Answers.{mark_computed}
 use Rattle.key_uses.specs.Uses.{FitsUse, use_refusal}
 use Rattle.service_calls.specs.Meanings.{model_request}
 use Rattle.store_model.specs.Faults.{Plain}
@@ -12,6 +13,13 @@ use Rattle.shared_store.specs.Standing.{HoldsHistory}
 use Rattle.shared_store.specs.Turning.{DecidesAfter, IsEntered, IsEnteredAfter, lease_pair}
 use Rattle.shared_store.proofs.Turns.{decided_now, ranked}
 use Rattle.shared_store.proofs.held.SharedStore.look_or_compute.Goals as goal
+
+pub returns-then-is_opaque-clause-looked : goal.returns-then-is_opaque-clause-looked
+returns-then-is_opaque-clause-looked g c =
+    let s = subst (λ v. HoldsHistory g.D.Disk.contents g.D.Disk.may_leave g.D.Disk.moment g.D.Disk.left_since g.D.Disk.faults g.D.Disk.size g.A.Devices.keys g.A.Devices.faults g.A.Devices.locations g.C.Admission.labels v.store (entries_of c.enter-turn.new.pass.me.0.seen) c.enter-turn.new.pass.me.0.holdings) (sym c.value.ensures.value) c.enter-turn.ensures.stands in
+    let found = c.compute_in-rank.ensures.computed in
+    let opaque = decided_now g.D.Disk.contents g.D.Disk.may_leave g.D.Disk.moment g.D.Disk.left_since g.D.Disk.faults g.D.Disk.size g.A.Devices.keys g.A.Devices.faults g.A.Devices.locations g.C.Admission.labels c.args.self.now.lock.table.shared.table_id c.args.self.now.lock.table.shared.key.value.value.store.opened c.args.pass.now.me.0 c.enter-turn.new.pass c.enter-turn.result.entries c.enter-turn.ensures.begun c.value.result.now.store (ap (λ v. v.store.opened) c.value.ensures.value ∙ c.enter-turn.ensures.opened) s (λ m. is_opaque_key (map.get m.keys c.args.id.0) ≡ true) found.entry (rw c.if-is_opaque.true at c.is_opaque.ensures) in
+    (c.requires.spare, ranked (subst (λ q. IsEntered q.me.0 c.compute_in-rank.new.pass.me.0 (model_request c.args.call.now (length c.args.out.now)) (mark_computed c.compute_in-rank.result.1) c.compute_in-rank.result.0 q.me.0.holding (entries_of c.enter-turn.new.pass.me.0.seen) found.entry) c.of-before.ensures found.entered) (found.decided, opaque))
 
 pub returns-in-Ok-clause-looked : goal.returns-in-Ok-clause-looked
 returns-in-Ok-clause-looked g c =
