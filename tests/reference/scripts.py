@@ -18,7 +18,7 @@ WHOLE_CALLS = {
     "mac": ["mac_compute", "mac_verify"],
     "cipher": ["cipher_encrypt", "cipher_decrypt"],
     "aead": ["aead_encrypt", "aead_decrypt"],
-    "derivation": ["attributes", "export", "destroy"],
+    "derivation": ["attributes", "export", "purge", "destroy"],
 }
 UNDOING = {
     "hash_compare": "hash_compute",

@@ -118,6 +118,10 @@ class Service:
             del self.keys[self.key(fields).identifier]
         return b""
 
+    def purge(self, session, fields):
+        self.key(fields)
+        return b""
+
     def attributes(self, session, fields):
         key = self.key(fields)
         parts = ((0, 4), (key.identifier, 4), (key.key_type, 2), (key.bits, 2), (key.usage, 4), (key.algorithm, 4))

@@ -1,6 +1,7 @@
 // The state of an operation, and how its phase changes.
 ghost use Rattle.std.specs.Prelude.{◌≡◌};
 ghost use Rattle.store_model.specs.Operations.{Inactive, Operation, is_inactive};
+ghost use Rattle.operation_phase.specs.Turns.{is_active};
 ghost use Rattle.store_model.specs.AeadOperations.{AeadWork};
 ghost use Rattle.aead_states.specs.Holding.{IsAeadOperation, IsClearAead};
 
@@ -30,6 +31,13 @@ impl AeadState {
         ensures { (op : Operation AeadWork) → IsAeadOperation self.now op → result ≡ is_inactive op }
     {
         self.state.is_inactive()
+    }
+
+    /// Whether the operation is active.
+    pub fn is_active(&self) -> bool
+        ensures { (op : Operation AeadWork) → IsAeadOperation self.now op → result ≡ is_active op }
+    {
+        self.state.is_active()
     }
 
     /// Forgets everything: the operation is inactive.

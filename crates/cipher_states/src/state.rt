@@ -26,7 +26,7 @@ pub struct CipherState {
 
 impl CipherState {
     ghost use Rattle.cipher_states.specs.States.{IsCipherOperation, IsClearCipher};
-    ghost use Rattle.operation_phase.specs.Turns.{on_active};
+    ghost use Rattle.operation_phase.specs.Turns.{is_active, on_active};
     ghost use Rattle.cipher_states.specs.Setups.{cipher_setup};
 
     /// An inactive operation.
@@ -43,6 +43,13 @@ impl CipherState {
         ensures { (op : Operation CipherWork) → IsCipherOperation self.now op → result ≡ is_inactive op }
     {
         self.state.is_inactive()
+    }
+
+    /// Whether the operation is active.
+    pub fn is_active(&self) -> bool
+        ensures { (op : Operation CipherWork) → IsCipherOperation self.now op → result ≡ is_active op }
+    {
+        self.state.is_active()
     }
 
     /// Forgets everything: the operation is inactive.

@@ -1,9 +1,9 @@
 -- What begins a derivation, and its part of the steps that look at the store's keys.
-use Rattle.std.specs.Prelude.{ℕ, List, Option, Some}
+use Rattle.std.specs.Prelude.{ℕ, nat_lt, List, [], ◌∷◌, ◌++◌, Option, Some}
 use Rattle.key_attributes.specs.declared.Attributes.{Attributes}
 use Rattle.alg_encoding.specs.declared.table.Class.TheVariants.{Derivation}
 use Rattle.psa_status.specs.declared.Status.{Status}
-use Rattle.psa_status.specs.declared.Status.TheVariants.{BadState}
+use Rattle.psa_status.specs.declared.Status.TheVariants.{BadState, InsufficientData}
 use Rattle.psa_status.specs.Rows.{first_row}
 use Rattle.store_model.specs.Rules.{class_rows}
 use Rattle.store_model.specs.Outcome.{given, done}
@@ -28,3 +28,8 @@ key_given w step key = unless_failed (first_row (key_step_rows w step)) (goes_on
 abbrev pub key_step_refusal : Operation DerivationWork → ℕ → Option Status
 key_step_refusal (Active w) step = first_row (key_step_rows w step)
 key_step_refusal _ step = Some BadState
+
+-- what output_key refuses of a derivation whose key is still there, before the table of creations, of any operation
+abbrev pub output_key_refusal : Operation DerivationWork → Attributes → Option Status
+output_key_refusal (Active w) a = first_row (output_key_rows w a ++ (nat_lt w.capacity (stated_bytes a), InsufficientData) ∷ [])
+output_key_refusal _ a = Some BadState

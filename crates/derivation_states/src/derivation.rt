@@ -1,8 +1,9 @@
 // What a derivation runs.
-ghost use Rattle.std.specs.Prelude.{◌≡◌, ◌≤◌, ◌+◌, Some, IfOk, OnOk, length};
+ghost use Rattle.std.specs.Prelude.{◌≡◌, ◌≤◌, ◌+◌, ◌++◌, ◌∷◌, [], nat_lt, Some, IfOk, OnOk, length};
 ghost use Rattle.std.specs.Result.{result_err};
+ghost use Rattle.psa_status.specs.declared.Status.TheVariants.{InsufficientData};
 ghost use Rattle.psa_status.specs.Rows.{first_row, unless};
-ghost use Rattle.store_model.specs.DerivationOperations.{DerivationWork, input_bytes_rows, input_integer_rows, key_step_rows, output_key_rows, output_rows, with_key};
+ghost use Rattle.store_model.specs.DerivationOperations.{DerivationWork, input_bytes_rows, input_integer_rows, key_step_rows, output_key_rows, output_rows, stated_bytes, with_key};
 ghost use Rattle.derivation_states.specs.Inputs.{stands_at};
 ghost use Rattle.derivation_states.specs.States.{HoldsRunning, IsClearRunning};
 
@@ -108,6 +109,18 @@ impl RunningDerivation {
         }
         if !self.inputs.by_key {
             return Err(Status::NotPermitted);
+        }
+        Ok(())
+    }
+
+    // The refusal of a key with these attributes.
+    pub(crate) fn check_derived_key(&self, attributes: &Attributes) -> Result<(), Status>
+        ensures { (w : DerivationWork) → HoldsRunning self.now w →
+            result ≡ unless (first_row (output_key_rows w attributes.now ++ (nat_lt w.capacity (stated_bytes attributes.now), InsufficientData) ∷ [])) tt }
+    {
+        self.check_key_output(attributes)?;
+        if u64::from(attributes.bits / 8) > self.output.capacity {
+            return Err(Status::InsufficientData);
         }
         Ok(())
     }

@@ -37,8 +37,8 @@ pub struct DerivationState {
 
 impl DerivationState {
     ghost use Rattle.derivation_states.specs.States.{IsClearDerivation, IsDerivationOperation};
-    ghost use Rattle.operation_phase.specs.Turns.{loses_key, on_active};
-    ghost use Rattle.derivation_states.specs.KeySteps.{derivation_setup, derived_key, key_given, key_step_refusal};
+    ghost use Rattle.operation_phase.specs.Turns.{is_active, loses_key, on_active};
+    ghost use Rattle.derivation_states.specs.KeySteps.{derivation_setup, derived_key, key_given, key_step_refusal, output_key_refusal};
 
     /// An inactive derivation; `Memory` where there is no room for its buffers.
     pub fn new(alloc: Global) -> Result<DerivationState, Memory>
@@ -55,6 +55,13 @@ impl DerivationState {
         ensures { (op : Operation DerivationWork) → IsDerivationOperation self.now op → result ≡ is_inactive op }
     {
         self.state.is_inactive()
+    }
+
+    /// Whether it is active.
+    pub fn is_active(&self) -> bool
+        ensures { (op : Operation DerivationWork) → IsDerivationOperation self.now op → result ≡ is_active op }
+    {
+        self.state.is_active()
     }
 
     /// Forgets the derivation: it is inactive, and all buffers are zeros.
@@ -195,6 +202,17 @@ impl DerivationState {
         work.output.check_capacity(out.len())?;
         work.output.fill(&work.inputs, out);
         Ok(out.len())
+    }
+
+    /// What `key_derivation_output_key` would refuse.
+    pub fn output_key_refusal(&self, attributes: &Attributes) -> Option<Status>
+        ensures { (op : Operation DerivationWork) → IsDerivationOperation self.now op
+            → result ≡ output_key_refusal op attributes.now }
+    {
+        match self.state.phase.check_active() {
+            Ok(()) => self.state.work.check_derived_key(attributes).err(),
+            Err(status) => Some(status),
+        }
     }
 
     /// Takes the bytes of a key with these attributes, whose bits are stated. The first 1,025 of them are written to the

@@ -73,6 +73,7 @@ pub fn on_store(
             &attributes,
         )),
         StoreCall::Destroy(key) => plain(store.destroy(key)),
+        StoreCall::Purge(key) => plain(store.purge(key)),
         StoreCall::GetAttributes(key) => description(store.attributes(key)),
         StoreCall::Export(key) => bytes(store.export_key(key, out)),
         StoreCall::HashCompute { alg, input } => bytes(compute_hash(store, alg, input, out)),

@@ -7,7 +7,7 @@ ghost use Rattle.store_model.specs.Store as model;
 ghost use Rattle.store_model.specs.Call.{buffer_after};
 ghost use Rattle.store_model.specs.Copies.{step_copy};
 ghost use Rattle.store_model.specs.Creation.{room_for_key_rows, recorded_of, new_id, created, step_import};
-ghost use Rattle.store_model.specs.KeyUse.{step_attributes, step_destroy, step_export};
+ghost use Rattle.store_model.specs.KeyUse.{step_attributes, step_destroy, step_export, step_purge};
 ghost use Rattle.service_calls.specs.Answers.{id_reply, AnswersLength, attributes_answer, plain_reply};
 ghost use Rattle.list_store.specs.Entries.{IsRecorded};
 ghost use Rattle.list_store.specs.Uses.{IsFound};
@@ -222,6 +222,20 @@ impl Store {
         let attributes = entry.attributes;
         self.count();
         Ok(attributes)
+    }
+
+    /// Asks for a key, which stays in memory: nothing else keeps it.
+    pub fn purge(&mut self, key: KeyId) -> Result<(), Status>
+        requires turns { self.old.calls < 2 ^ 62 }
+        ensures store { self.new ≡ (step_purge self.old key.0).store }
+        ensures reply { plain_reply result ≡ (step_purge self.old key.0).reply }
+    {
+        let there = self.entry(key).is_some();
+        self.count();
+        if !there {
+            return Err(Status::InvalidHandle);
+        }
+        Ok(())
     }
 
     /// Removes a key, and wipes its bytes. Destroying the identifier 0 succeeds.

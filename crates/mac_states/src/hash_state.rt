@@ -6,7 +6,7 @@ ghost use Rattle.store_model.specs.Operations.{Operation, Inactive, is_inactive}
 ghost use Rattle.store_model.specs.HashOperations.{HashFinish, HashUpdate, HashVerify, HashWork, hash_step};
 ghost use Rattle.operation_phase.specs.declared.Phase.TheVariants as phase;
 ghost use Rattle.mac_states.specs.HashStates.{IsClearHash, IsHashOperation};
-ghost use Rattle.operation_phase.specs.Turns.{on_active};
+ghost use Rattle.operation_phase.specs.Turns.{is_active, on_active};
 ghost use Rattle.mac_states.specs.Setups.{hash_setup};
 
 use crate::running_hash::RunningHash;
@@ -37,6 +37,13 @@ impl HashOpState {
         ensures { (op : Operation HashWork) → IsHashOperation self.now op → result ≡ is_inactive op }
     {
         self.state.is_inactive()
+    }
+
+    /// Whether the operation is active.
+    pub fn is_active(&self) -> bool
+        ensures { (op : Operation HashWork) → IsHashOperation self.now op → result ≡ is_active op }
+    {
+        self.state.is_active()
     }
 
     /// Forgets everything: the operation is inactive.

@@ -10,7 +10,7 @@ ghost use Rattle.store_model.specs.MacOperations.{MacSignFinish, MacUpdate, MacV
 ghost use Rattle.alg_encoding.specs.declared.table.Class.TheVariants.{Mac};
 ghost use Rattle.algorithm_facts.specs.Names.{IsOfClass};
 ghost use Rattle.mac_states.specs.MacStates.{IsClearMac, IsMacOperation};
-ghost use Rattle.operation_phase.specs.Turns.{on_active};
+ghost use Rattle.operation_phase.specs.Turns.{is_active, on_active};
 ghost use Rattle.mac_states.specs.Setups.{mac_setup};
 
 use crate::running_mac::RunningMac;
@@ -40,6 +40,13 @@ impl MacState {
         ensures { (op : Operation MacWork) → IsMacOperation self.now op → result ≡ is_inactive op }
     {
         self.state.is_inactive()
+    }
+
+    /// Whether the operation is active.
+    pub fn is_active(&self) -> bool
+        ensures { (op : Operation MacWork) → IsMacOperation self.now op → result ≡ is_active op }
+    {
+        self.state.is_active()
     }
 
     /// Forgets everything: the operation is inactive.

@@ -32,7 +32,7 @@ pub struct OperationState<W> {
 
 impl<W: Work + Drop> OperationState<W> {
     ghost use Rattle.operation_phase.specs.States.{IsOperation};
-    ghost use Rattle.operation_phase.specs.Turns.{loses_key};
+    ghost use Rattle.operation_phase.specs.Turns.{is_active, loses_key};
 
     /// An inactive operation.
     pub fn new(work: W) -> OperationState<W>
@@ -51,6 +51,14 @@ impl<W: Work + Drop> OperationState<W> {
             result ≡ is_inactive op }
     {
         self.phase == Phase::Inactive
+    }
+
+    /// Whether it is active.
+    pub fn is_active(&self) -> bool
+        ensures { (op : Operation W.Said) → IsOperation W.is_clear W.holds self.now op →
+            result ≡ is_active op }
+    {
+        self.phase == Phase::Active
     }
 
     /// Goes on in this phase. What isn't active any more forgets everything.

@@ -39,6 +39,7 @@ rows =
     ∷ row (codes "generate") (command.Key key.Generate) (kind.Name ∷ []) (field.Type ∷ field.Bits ∷ field.Usage ∷ field.Alg ∷ []) (field.Life ∷ field.Id ∷ [])
     ∷ row (codes "copy") (command.Key key.Copy) (kind.Name ∷ kind.Key ∷ []) (field.Usage ∷ field.Alg ∷ []) (field.Type ∷ field.Bits ∷ field.Life ∷ field.Id ∷ [])
     ∷ row (codes "destroy") (command.Key key.Destroy) (kind.Key ∷ []) [] []
+    ∷ row (codes "purge") (command.Key key.Purge) (kind.Key ∷ []) [] []
     ∷ row (codes "attributes") (command.Key key.Attributes) (kind.Key ∷ []) [] []
     ∷ row (codes "export") (command.Key key.Export) (kind.Key ∷ []) [] (field.Room ∷ [])
     ∷ row (codes "hash_compute") (command.SinglePart single.HashCompute) [] (field.Alg ∷ field.Data ∷ []) (field.Room ∷ [])
@@ -104,6 +105,7 @@ key_call key.Import id fs = store.Import (attributes_at fs) (data_at fs)
 key_call key.Generate id fs = store.Generate (attributes_at fs)
 key_call key.Copy id fs = store.Copy id (attributes_at fs)
 key_call key.Destroy id fs = store.Destroy id
+key_call key.Purge id fs = store.Purge id
 key_call key.Attributes id fs = store.GetAttributes id
 key_call key.Export id fs = store.Export id (room_at fs)
 

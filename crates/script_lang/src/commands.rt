@@ -64,6 +64,7 @@ const ROWS: &[Row] = rows![
     b"generate", Command::Key(KeyCommand::Generate), [Name], [Type, Bits, Usage, Alg], [Life, Id];
     b"copy", Command::Key(KeyCommand::Copy), [Name, Key], [Usage, Alg], [Type, Bits, Life, Id];
     b"destroy", Command::Key(KeyCommand::Destroy), [Key], [], [];
+    b"purge", Command::Key(KeyCommand::Purge), [Key], [], [];
     b"attributes", Command::Key(KeyCommand::Attributes), [Key], [], [];
     b"export", Command::Key(KeyCommand::Export), [Key], [], [Room];
     b"hash_compute", Command::SinglePart(SinglePartCommand::HashCompute), [], [Alg, Data], [Room];

@@ -16,6 +16,7 @@ pub enum KeyCommand {
     Generate,
     Copy,
     Destroy,
+    Purge,
     Attributes,
     Export,
 }
@@ -49,6 +50,7 @@ impl KeyCommand {
                 attributes: fields.attributes(),
             },
             KeyCommand::Destroy => StoreCall::Destroy(key),
+            KeyCommand::Purge => StoreCall::Purge(key),
             KeyCommand::Attributes => StoreCall::GetAttributes(key),
             KeyCommand::Export => StoreCall::Export(key),
         }

@@ -91,6 +91,7 @@ model_store_call (store.Import attributes bytes) room = on_store.Import attribut
 model_store_call (store.Generate attributes) room = on_store.Generate attributes
 model_store_call (store.Copy source attributes) room = on_store.Copy source.0 attributes
 model_store_call (store.Destroy key) room = on_store.Destroy key.0
+model_store_call (store.Purge key) room = on_store.Purge key.0
 model_store_call (store.GetAttributes key) room = on_store.GetAttributes key.0
 model_store_call (store.Export key) room = on_store.Export key.0 room
 model_store_call (store.HashCompute alg input) room = on_store.HashCompute alg.0 input.now room

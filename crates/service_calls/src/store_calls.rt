@@ -15,6 +15,7 @@ pub enum StoreCall<'a> {
         attributes: Attributes,
     },
     Destroy(KeyId),
+    Purge(KeyId),
     GetAttributes(KeyId),
     Export(KeyId),
     HashCompute {
