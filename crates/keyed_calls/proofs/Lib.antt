@@ -1,0 +1,4 @@
+pub mod Uses
+pub mod Models
+pub mod Keys
+pub mod Draws

@@ -1,0 +1,4 @@
+pub mod Keyed
+pub mod Elements
+pub mod Hashing
+pub mod Laws

@@ -1,0 +1,88 @@
+// Calls in one part that the secure element computes.
+ghost use Rattle.std.specs.Prelude.{◌≡◌, ℕ, IfSome, is_some};
+ghost use Rattle.store_model.specs.Call.{Reply};
+ghost use Rattle.key_uses.specs.declared.key_use.KeyUse.{KeyUse};
+ghost use Rattle.service_calls.specs.Answered.{AnswersReply};
+ghost use Rattle.service_calls.specs.Meanings.{model_store_call};
+ghost use Rattle.element_calls.specs.Answers.{AnswersCall};
+ghost use Rattle.element_calls.specs.Calls.{model_call};
+ghost use Rattle.element_calls.specs.Replies.{HasDrawn};
+ghost use Rattle.keyed_calls.specs.Elements.{IsElementCall, has_vector, is_of_element, takes_vector};
+ghost use Rattle.keyed_calls.specs.Keyed.{wanted_by};
+
+use alg_encoding::Alg;
+use element_calls::{ElementCall, NotComputed};
+use psa_status::Status;
+use service_calls::{Output, StoreCall};
+
+const CTR: Alg = Alg(0x04c0_1000);
+
+/// Whether a call takes a fresh initialisation vector, which it draws where it succeeds.
+pub fn takes_vector(call: &StoreCall<'_>) -> bool
+    ensures { result ≡ takes_vector call.now }
+{
+    match *call {
+        StoreCall::CipherEncrypt { .. } => true,
+        _ => false,
+    }
+}
+
+/// A call as the secure element computes it, on a fresh initialisation vector of these bytes where it takes one; `None` where
+/// the element computes no such call.
+pub fn element_call<'a>(call: &StoreCall<'a>, vector: &'a [u8; 16]) -> Option<ElementCall<'a>>
+    ensures is { is_some result ≡ is_of_element call.now }
+    ensures call { IfSome result (λ element. IsElementCall call.now element) }
+    ensures model { IfSome result (λ element. (id room : ℕ) (wanted : KeyUse) → wanted_by call.now ≡ Some (id, wanted) →
+        model_store_call call.now room ≡ model_call element id room) }
+    ensures vector { IfSome result (λ element. HasDrawn element vector.now) }
+    ensures draws { IfSome result (λ element. has_vector element ≡ takes_vector call.now) }
+{
+    match *call {
+        StoreCall::MacCompute { alg, input, .. } => Some(ElementCall::MacCompute { alg, input }),
+        StoreCall::MacVerify {
+            alg,
+            input,
+            mac,
+            ..
+        } => Some(ElementCall::MacVerify { alg, input, mac }),
+        StoreCall::CipherEncrypt { alg, input, .. } => {
+            if alg != CTR {
+                return None;
+            }
+            Some(ElementCall::CtrEncrypt { iv: vector, input })
+        }
+        StoreCall::CipherDecrypt { alg, input, .. } => {
+            if alg != CTR {
+                return None;
+            }
+            Some(ElementCall::CtrDecrypt { input })
+        }
+        StoreCall::Import { .. }
+        | StoreCall::Generate(..)
+        | StoreCall::Copy { .. }
+        | StoreCall::Destroy(..)
+        | StoreCall::Purge(..)
+        | StoreCall::GetAttributes(..)
+        | StoreCall::Export(..)
+        | StoreCall::HashCompute { .. }
+        | StoreCall::HashCompare { .. }
+        | StoreCall::AeadEncrypt { .. }
+        | StoreCall::AeadDecrypt { .. } => None,
+    }
+}
+
+/// What a call answers that the secure element computed, or for which it failed.
+pub fn computed_output(
+    call: &StoreCall<'_>,
+    computed: Result<usize, NotComputed>,
+) -> Result<Output, Status>
+    ensures { (element : ElementCall) (reply : Reply) → IsElementCall call.now element → AnswersCall element computed reply → AnswersReply result reply }
+{
+    match computed {
+        Ok(length) => match *call {
+            StoreCall::MacVerify { .. } => Ok(Output::Done),
+            _ => Ok(Output::Bytes(length)),
+        },
+        Err(why) => Err(why.status()),
+    }
+}
