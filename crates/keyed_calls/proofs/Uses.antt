@@ -1,6 +1,6 @@
 -- The refusals of a key's use, on a key that the secure element doesn't hold or doesn't compute with.
 use Rattle.std.proofs.Common.{◌≡◌, ℕ, Bool, true, false, List, length, cond, refl}
-use Rattle.std.specs.Prelude.{◌==◌, Option, Some, None, if◌then◌else◌}
+use Rattle.std.specs.Prelude.{◌==◌, bit_and, Option, Some, None, if◌then◌else◌}
 use Rattle.psa_status.specs.declared.Status.{Status}
 use Rattle.psa_status.specs.declared.Status.TheVariants.{NotPermitted, NotSupported}
 use Rattle.psa_status.specs.Rows.{first_row}
@@ -14,7 +14,6 @@ use Rattle.store_model.specs.Outcome.{computed_unless, given, replies, reply_unl
 use Rattle.store_model.specs.Rules.{room_rows, use_rows}
 use Rattle.key_uses.specs.Permissions.{export_refusal}
 use Rattle.key_uses.proofs.Devices.{local_alike}
-use Rattle.key_uses.proofs.Exports.{unflagged}
 use Rattle.element_calls.specs.Calls.{ctr}
 use Rattle.keyed_calls.specs.Keyed.{exported_reply}
 
@@ -47,4 +46,4 @@ by_rows false false last reply = refl
 -- EXPORT: the row of the room comes last
 pub export_is : (found : Option Key) (room : ℕ) → replies (export_reply found room) ≡ computed_unless (export_refusal found) (replies (exported_reply (bytes_of found) room))
 export_is None room = refl
-export_is (Some key) room = by_rows (unflagged key room) (is_opaque key.attributes) (first_row (room_rows (length key.bytes) room)) (given key.bytes)
+export_is (Some key) room = by_rows (bit_and key.attributes.policy.usage.0 1 == 0) (is_opaque key.attributes) (first_row (room_rows (length key.bytes) room)) (given key.bytes)
