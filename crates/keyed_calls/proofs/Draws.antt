@@ -1,10 +1,10 @@
 -- What calls with a key draw.
-use Rattle.std.proofs.Common.{◌≡◌, ◌≤◌, ◌+◌, ℕ, Bool, true, false, List, ◌∷◌, [], ◌++◌, ◌||◌, ◌&&◌, not, length, refl, arith}
-use Rattle.std.specs.Prelude.{Option, Some, None, is_some, nat_lt, ◌==◌, ◌%◌}
+use Rattle.std.proofs.Common.{◌≡◌, ◌≤◌, ◌+◌, ℕ, Bool, true, List, ◌++◌, length, refl, arith}
+use Rattle.std.specs.Prelude.{Option, Some, None}
 use Rattle.std.specs.FinMap as map
 use Rattle.psa_status.specs.declared.Status.{Status}
 use Rattle.psa_status.specs.declared.Status.TheVariants.{Success}
-use Rattle.psa_status.specs.Rows.{Rows, first_row}
+use Rattle.psa_status.specs.Rows.{first_row}
 use Rattle.alg_encoding.specs.declared.table.Class.{Class}
 use Rattle.alg_encoding.specs.declared.table.Class.TheVariants.{Cipher}
 use Rattle.random_streams.specs.RandomWords.{RandomStream, drawn_from, words_used}

@@ -1,6 +1,6 @@
 -- Which key a call in one part reads.
-use Rattle.std.proofs.Common.{◌≡◌, ℕ, true, false, refl, ap}
-use Rattle.std.specs.Prelude.{Option, Some, None}
+use Rattle.std.proofs.Common.{◌≡◌, ℕ, refl, ap}
+use Rattle.std.specs.Prelude.{Some}
 use Rattle.std.specs.Option.{option_map}
 use Rattle.key_uses.specs.declared.key_use.KeyUse.{KeyUse}
 use Rattle.service_calls.specs.declared.store_calls.StoreCall.TheVariants.{Import, Generate, Copy, Destroy, Purge, GetAttributes, Export, HashCompute, HashCompare, MacCompute, MacVerify, CipherEncrypt, CipherDecrypt, AeadEncrypt, AeadDecrypt}

@@ -1,6 +1,6 @@
 -- Calls in one part are the model's.
-use Rattle.std.proofs.Common.{◌≡◌, ℕ, true, false, refl, sym, ap, subst}
-use Rattle.std.specs.Prelude.{Option, Some, None}
+use Rattle.std.proofs.Common.{◌≡◌, ℕ, true, false, refl, ap, subst}
+use Rattle.std.specs.Prelude.{Option, Some}
 use Rattle.std.specs.FinMap as map
 use Rattle.psa_status.specs.declared.Status.{Status}
 use Rattle.store_model.specs.Store.{Key, Store, is_opaque_key}

@@ -1,5 +1,5 @@
 -- The refusals of a key's use, on a key that the secure element doesn't hold or doesn't compute with.
-use Rattle.std.proofs.Common.{◌≡◌, ℕ, Bool, true, false, List, length, cond, refl}
+use Rattle.std.proofs.Common.{◌≡◌, ℕ, Bool, true, false, length, cond, refl}
 use Rattle.std.specs.Prelude.{◌==◌, bit_and, Option, Some, None, if◌then◌else◌}
 use Rattle.psa_status.specs.declared.Status.{Status}
 use Rattle.psa_status.specs.declared.Status.TheVariants.{NotPermitted, NotSupported}

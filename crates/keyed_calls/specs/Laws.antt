@@ -1,5 +1,5 @@
 -- What the calls that are computed here are in the model.
-use Rattle.std.specs.Prelude.{◌≡◌, ◌≤◌, ℕ, true, false, List, Option, Some, None, is_some}
+use Rattle.std.specs.Prelude.{◌≡◌, ◌≤◌, ℕ, true, false, List, Some, None, is_some}
 use Rattle.std.specs.FinMap as map
 use Rattle.psa_status.specs.declared.Status.TheVariants.{Success}
 use Rattle.store_model.specs.Store.{Store, is_opaque_key}
