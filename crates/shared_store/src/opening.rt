@@ -8,6 +8,7 @@ ghost use Rattle.key_cells.specs.Opened.{IsOpened, IsRefused};
 ghost use Rattle.driver_dispatch.specs.Calls.{Lacks};
 ghost use Rattle.turn_history.specs.Passes.{AreNew};
 ghost use Rattle.store_model.specs.Handles.{Service};
+ghost use Rattle.store_model.specs.Sound.{IsSoundStore};
 ghost use Rattle.store_core.specs.Start.{IsStart};
 ghost use Rattle.shared_store.specs.Closed.{AreAt, IsClosed};
 
@@ -38,6 +39,7 @@ impl<D: Disk, A: Devices, C: Admission> SharedStore<D, A, C> {
         ensures passes { IfOk result (λ made. AreNew made.0.lock.table.shared.table_id made.0.lock.table.shared.key.value.value.store.opened 16 made.1.items) }
         ensures at { IfOk result (λ made. AreAt made.0.lock.table.shared.table_id made.0.lock.table.shared.key.value.value.store.opened made.1.items) }
         ensures starts { IfOk result (λ made. (start : Service) × IsStart D.contents D.moment D.faults A.faults A.locations C.labels made.0.lock.table.shared.key.value.value.store.opened start) }
+        ensures sound { IfOk result (λ made. (start : Service) → IsStart D.contents D.moment D.faults A.faults A.locations C.labels made.0.lock.table.shared.key.value.value.store.opened start → IsSoundStore start.store) }
         ensures keys { IfOk result (λ made. IfSome (D.contents disk) (λ image. (start : Service) (s : IsStart D.contents D.moment D.faults A.faults A.locations C.labels made.0.lock.table.shared.key.value.value.store.opened start) (a : Attributes) (bytes : List ℕ) →
             HasKey a bytes image ↔ ((number : ℕ) × (slice_get s.found number ≡ Some (record { attributes = a; bytes = bytes }))))) }
         ensures opened { IfOk result (λ made. IsOpened D.contents D.may_leave D.moment D.left_since disk made.0.lock.table.shared.key.value.value.store.opened.file.value.cells.disk made.0.lock.table.shared.key.value.value.store.opened.file.value.cells.slots.items) }

@@ -1,8 +1,9 @@
-use Rattle.std.proofs.Common.{◌≡◌, ◌↔◌, ℕ, List, ap, sym, subst, arith, Some, IfSome, is_some}
+use Rattle.std.proofs.Common.{◌≡◌, ◌↔◌, ℕ, List, [], ap, sym, subst, inr, arith, Some, IfSome, is_some}
 use Rattle.std.specs.Prelude.{slice_get}
 use Rattle.key_attributes.specs.declared.Attributes.{Attributes}
 use Rattle.key_cells.specs.Image.{HasKey}
 use Rattle.store_model.specs.Handles.{Service}
+use Rattle.store_model.specs.Sound.{IsSoundStore}
 use Rattle.store_core.specs.Start.{IsStart}
 use Rattle.shared_store.proofs.held.SharedStore.open.Goals as goal
 
@@ -20,6 +21,11 @@ new-requires-clause-stands g c = let e = c.in_ok-store.ensures in record {
 
 pub returns-in-Ok-clause-starts : goal.returns-in-Ok-clause-starts
 returns-in-Ok-clause-starts g c = subst (λ o. (start : Service) × IsStart g.D.Disk.contents g.D.Disk.moment g.D.Disk.faults g.A.Devices.faults g.A.Devices.locations g.C.Admission.labels o start) (sym c.in-Ok.ensures.lock.1) c.in_ok-store.ensures.starts
+
+-- nothing was read before the first call: each start is the model of what the store stands for
+pub returns-in-Ok-clause-sound : goal.returns-in-Ok-clause-sound
+returns-in-Ok-clause-sound g c = subst (λ o. (start : Service) → IsStart g.D.Disk.contents g.D.Disk.moment g.D.Disk.faults g.A.Devices.faults g.A.Devices.locations g.C.Admission.labels o start → IsSoundStore start.store) (sym c.in-Ok.ensures.lock.1)
+    (λ start is. let holds = (c.in_ok-store.ensures.stands start 16 is (omega arith)).holds in subst IsSoundStore (holds.replayed (inr tt)) holds.sound)
 
 pub returns-in-Ok-clause-keys : goal.returns-in-Ok-clause-keys
 returns-in-Ok-clause-keys g c = subst (λ o. IfSome (g.D.Disk.contents c.args.disk) (λ image. (start : Service) (s : IsStart g.D.Disk.contents g.D.Disk.moment g.D.Disk.faults g.A.Devices.faults g.A.Devices.locations g.C.Admission.labels o start) (a : Attributes) (bytes : List ℕ) →
