@@ -22,6 +22,7 @@ use Rattle.store_model.specs.Marks.{IsCaused, id_read}
 use Rattle.store_core.specs.declared.store.Opened.{Opened}
 use Rattle.store_core.specs.declared.store.Store.{Store}
 use Rattle.store_core.specs.Represents.{IsEntry, IsReading, IsTold, Opening, StandsFor}
+use Rattle.store_core.specs.Rising.{AreRising}
 use Rattle.store_core.specs.Start.{opening_of}
 use Rattle.store_core.proofs.Histories.{told_before}
 use Rattle.shared_store.specs.Standing.{HoldsHistory, caller_of}
@@ -43,6 +44,10 @@ module _ {D A C : Type 0} (told : D → Option (List ℕ)) (may_leave : D → Li
   abbrev As : Opened D A C → Opening
   As = opening_of told moment faults hard locations labels
 
+  -- in a history neither counts nor moments fall from an opening on
+  abbrev Rises : Opened D A C → List Entry → Type 0
+  Rises opened h = AreRising (is_some (told opened.file.value.cells.disk)) (As opened) h
+
   -- what was told at the opening is told now, and the other way round
   pub told_now : (store : Store D A C) (start : Service) (h : List Entry) → is_some (told store.file.cells.disk) ≡ is_some (told store.opened.file.value.cells.disk) →
       ToldBy told moment faults hard locations labels store.opened start h → IsTold (told store.file.cells.disk) start h
@@ -56,6 +61,7 @@ module _ {D A C : Type 0} (told : D → Option (List ℕ)) (may_leave : D → Li
   legal store h all s = record {
     signed = s.signed;
     caused = subst (λ b. IsCaused b (As store.opened).counts h) s.tells (s.each s.start s.starts).holds.caused;
+    rising = s.rising;
     allowed = λ start is known. (s.each start is).holds.allowed (told_now store start h s.tells known);
   }
 
@@ -67,14 +73,15 @@ module _ {D A C : Type 0} (told : D → Option (List ℕ)) (may_leave : D → Li
   with_nothing store h all s = subst (λ l. Here store l all) (sym (nothing_more h)) s
 
   -- a turn that leaves what the opening saw, and leads on from every start
-  pub renewed : (old new : Store D A C) (h h' : List Entry) (all all' : List Pairs) → Here old h all → AllByRecursion IsCaller h' → new.opened ≡ old.opened → size new.file.cells.disk ≡ 557120 → IsClear new.buffer →
+  pub renewed : (old new : Store D A C) (h h' : List Entry) (all all' : List Pairs) → Here old h all → AllByRecursion IsCaller h' → Rises old.opened h' → new.opened ≡ old.opened → size new.file.cells.disk ≡ 557120 → IsClear new.buffer →
       is_some (told new.file.cells.disk) ≡ is_some (told old.file.cells.disk) → is_some (held new.devices) ≡ is_some (held old.devices) →
       ((start : Service) → From old.opened start → For new start (As old.opened) h' all') → Here new h' all'
-  renewed old new h h' all all' s signed same sized clear tells knows next = record {
+  renewed old new h h' all all' s signed rising same sized clear tells knows next = record {
     start = s.start;
     starts = subst (λ o. From o s.start) (sym same) s.starts;
     each = λ start is. subst (λ o. For new start (As o) h' all') (sym same) (next start (subst (λ o. From o start) same is));
     signed = signed;
+    rising = subst (λ o. Rises o h') (sym same) rising;
     sized = sized;
     clear = clear;
     tells = tells ∙ (s.tells ∙ sym (ap (λ o. is_some (told o.file.value.cells.disk)) same));

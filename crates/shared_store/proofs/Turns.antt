@@ -25,12 +25,15 @@ use Rattle.store_model.specs.Creation.{created_unless}
 use Rattle.store_model.specs.Requests.{Request, OnStore, plain_step}
 use Rattle.store_model.specs.Origin.{IsCaller}
 use Rattle.store_model.specs.Replay.{Entry, replay}
+use Rattle.store_model.specs.Marks.{FaultCounts}
 use Rattle.store_core.specs.declared.store.Opened.{Opened}
 use Rattle.store_core.specs.declared.store.Store.{Store}
 use Rattle.store_core.specs.Creations.{Copies, Creates, HasOutBeside, IsAmong}
 use Rattle.store_core.specs.Opaque.{Makes}
 use Rattle.store_core.proofs.Histories.{quiet_leaves, refused_leaves, told_before}
+use Rattle.store_core.proofs.Rises.{rising_push}
 use Rattle.store_core.specs.Represents.{Adds, AddsAs, Destroys, Gives, HasOut, HoldsOf, IsEntry, IsTold, LeavesKeys, Opening, Reads, ReadsAndGives, Stands, StandsFor, Steps, Takes}
+use Rattle.store_core.specs.Rising.{AreRising, NoFewerFaults}
 use Rattle.store_core.specs.Start.{opening_of}
 use Rattle.shared_store.specs.Standing as shared
 use Rattle.shared_store.specs.Turning.{CreatesKey, DecidesAfter, DecidesBefore, IsBegun, IsEntered, IsEnteredAfter, IsOwn, IsRanked, IsStartOf, LeavesAllKeys, ReadsKey, ToldBy, turn_entry, without_pair}
@@ -70,6 +73,7 @@ module _ {D A C : Type 0} (told : D → Option (List ℕ)) (may_leave : D → Li
     pub clear : IsClear new.buffer
     pub tells : is_some (told new.file.cells.disk) ≡ is_some (told old.file.cells.disk)
     pub knows : is_some (held new.devices) ≡ is_some (held old.devices)
+    pub later : NoFewerFaults faults hard old new
 
   -- so does one that calls no device
   pub steady : (old new : Store D A C) (h : List Entry) (all : List Pairs) → Here old h all → new.opened ≡ old.opened → new.file ≡ old.file → new.devices ≡ old.devices → new.buffer ≡ old.buffer → IsSteady old new
@@ -79,6 +83,10 @@ module _ {D A C : Type 0} (told : D → Option (List ℕ)) (may_leave : D → Li
     clear = subst IsClear (sym buffer) s.clear;
     tells = ap (λ f. is_some (told f.cells.disk)) file;
     knows = ap (λ d. is_some (held d)) devices;
+    later = record {
+      disk = subst (λ f. faults old.file.cells.disk ≤ faults f.cells.disk) (sym file) (omega arith);
+      devices = subst (λ d. hard old.devices ≤ hard d) (sym devices) (omega arith);
+    };
   }
 
   pub stands_some : (store : Store D A C) (h : List Entry) (all : List Pairs) → Here store h all → Stands told may_leave moment left_since faults held hard locations labels store
@@ -137,13 +145,13 @@ module _ {D A C : Type 0} (told : D → Option (List ℕ)) (may_leave : D → Li
     -- turns without rank
     pub after_giving : (new : Store D A C) (pair : ℕ × ℕ) → IsSteady old new → IsHolding (pair ∷ own) → Gives told may_leave moment left_since faults held hard locations labels old new pair → Here new seen (with (pair ∷ own))
     after_giving new pair k holding gives =
-        renewed told may_leave moment left_since faults size held hard locations labels old new seen seen all (with (pair ∷ own)) s s.signed k.opened k.sized k.clear k.tells k.knows
+        renewed told may_leave moment left_since faults size held hard locations labels old new seen seen all (with (pair ∷ own)) s s.signed s.rising k.opened k.sized k.clear k.tells k.knows
         (λ start is. gives start (As old.opened) seen all (with (pair ∷ own)) (s.each start is) (given pair) (with_holding all p.me.0.number (pair ∷ own) holding are))
 
     pub after_taking : (new : Store D A C) (pair : ℕ × ℕ) → IsSteady old new → IsHolding v.holding → 0 < names pair.0 pair.1 v.holding → Takes told may_leave moment left_since faults held hard locations labels old new pair →
         Here new seen (with (without_pair pair own))
     after_taking new pair k holding some takes =
-        renewed told may_leave moment left_since faults size held hard locations labels old new seen seen all (with (without_pair pair own)) s s.signed k.opened k.sized k.clear k.tells k.knows
+        renewed told may_leave moment left_since faults size held hard locations labels old new seen seen all (with (without_pair pair own)) s s.signed s.rising k.opened k.sized k.clear k.tells k.knows
         (λ start is. takes start (As old.opened) seen all (with (without_pair pair own)) (s.each start is) (taken pair some) (with_holding all p.me.0.number (without_pair pair own) (fewer pair own (mine holding)) are))
 
     -- the entry of a ranked turn
@@ -157,6 +165,18 @@ module _ {D A C : Type 0} (told : D → Option (List ℕ)) (may_leave : D → Li
     signs : (new : Store D A C) (call : Request) (mark : FaultMark) → AllByRecursion IsCaller (seen ++ entry new call mark ∷ [])
     signs new call mark = signed_push seen (entry new call mark) s.signed (b.first, (let z = b.inside in let y = are.callers in omega arith))
 
+    -- its counts are those of disk and devices now, and its moment is the disk's
+    rises : (new : Store D A C) (call : Request) (mark : FaultMark) (pairs : List Pairs) → IsSteady old new → For new s.start (As old.opened) (seen ++ entry new call mark ∷ []) pairs →
+        AreRising (is_some (told old.opened.file.value.cells.disk)) (As old.opened) (seen ++ entry new call mark ∷ [])
+    rises new call mark pairs k n =
+        let counts = sym (s.each s.start s.starts).counts in
+        let tells : is_some (told old.opened.file.value.cells.disk) ≡ true → is_some (told new.file.cells.disk) ≡ true = λ is. k.tells ∙ (s.tells ∙ is) in
+        rising_push (is_some (told old.opened.file.value.cells.disk)) (As old.opened) seen (entry new call mark) s.rising
+        (subst (λ (c : FaultCounts). c.faults ≤ faults new.file.cells.disk) counts k.later.disk)
+        (subst (λ (c : FaultCounts). c.hard ≤ hard new.devices) counts k.later.devices)
+        (λ is. (n.holds.promise (tells is)).opened)
+        (λ is. (n.holds.promise (tells is)).entered)
+
     kept : all ≡ with own
     kept = sym (keeps_own all p.me.0.number own b.own)
 
@@ -166,7 +186,7 @@ module _ {D A C : Type 0} (told : D → Option (List ℕ)) (may_leave : D → Li
 
     pub led_stands : (new : Store D A C) (call : Request) (mark : FaultMark) (pairs : List Pairs) (P : model.Store → Type 0) → IsSteady old new → Led new call mark pairs P → Here new (seen ++ entry new call mark ∷ []) pairs
     led_stands new call mark pairs P k led =
-        renewed told may_leave moment left_since faults size held hard locations labels old new seen (seen ++ entry new call mark ∷ []) all pairs s (signs new call mark) k.opened k.sized k.clear k.tells k.knows (λ start is. (led start is).0)
+        renewed told may_leave moment left_since faults size held hard locations labels old new seen (seen ++ entry new call mark ∷ []) all pairs s (signs new call mark) (rises new call mark pairs k (led s.start s.starts).0) k.opened k.sized k.clear k.tells k.knows (λ start is. (led start is).0)
 
     pub led_decides : (new : Store D A C) (call : Request) (mark : FaultMark) (pairs : List Pairs) (P : model.Store → Type 0) → IsSteady old new → Led new call mark pairs P →
         DecidesAfter told moment faults hard locations labels opened P seen (entry new call mark)
@@ -223,7 +243,7 @@ module _ {D A C : Type 0} (told : D → Option (List ℕ)) (may_leave : D → Li
 
     pub before_stands : (new : Store D A C) (call : Request) (mark : FaultMark) (pairs : List Pairs) (P : model.Store → Type 0) → IsSteady old new → LedBefore new call mark pairs P → Here new (seen ++ entry new call mark ∷ []) pairs
     before_stands new call mark pairs P k led =
-        renewed told may_leave moment left_since faults size held hard locations labels old new seen (seen ++ entry new call mark ∷ []) all pairs s (signs new call mark) k.opened k.sized k.clear k.tells k.knows (λ start is. (led start is).0)
+        renewed told may_leave moment left_since faults size held hard locations labels old new seen (seen ++ entry new call mark ∷ []) all pairs s (signs new call mark) (rises new call mark pairs k (led s.start s.starts).0) k.opened k.sized k.clear k.tells k.knows (λ start is. (led start is).0)
 
     pub before_decides : (new : Store D A C) (call : Request) (mark : FaultMark) (pairs : List Pairs) (P : model.Store → Type 0) → LedBefore new call mark pairs P →
         DecidesBefore told moment faults hard locations labels opened P seen (entry new call mark)

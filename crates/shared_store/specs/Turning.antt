@@ -26,6 +26,7 @@ use Rattle.store_model.specs.Marks.{AreAllowed, IsCaused, id_read}
 use Rattle.store_core.specs.declared.store.Opened.{Opened}
 use Rattle.store_core.specs.declared.store.Store.{Store}
 use Rattle.store_core.specs.Represents.{IsTold}
+use Rattle.store_core.specs.Rising.{AreRising}
 use Rattle.store_core.specs.Start.{IsStart, opening_of}
 use Rattle.store_core.specs.Durability.{is_destruction}
 use Rattle.store_core.specs.Uses.{mark_of, mark_undestroyed}
@@ -152,11 +153,13 @@ module _ {D A C : Type 0} (told : D → Option (List ℕ)) (moment : D → ℕ) 
   abbrev pub ToldBy : Opened D A C → Service → List Entry → Type 0
   ToldBy opened start h = IsTold (told opened.file.value.cells.disk) start h
 
-  -- a history is of calls by sixteen callers, and each of its marks stands where it may, and has its fault since the entry before
-  -- it, or since the opening
+  -- A history is of calls by sixteen callers. Each of its marks stands where it may, and has its fault since the entry before
+  -- it, or since the opening. Neither the counts of faults nor, over a disk that tells its bytes, the moments fall from entry
+  -- to entry.
   pub record IsLegal (opened : Opened D A C) (h : List Entry) : Type 0 where
     pub signed : AllByRecursion IsCaller h
     pub caused : IsCaused (is_some (told opened.file.value.cells.disk)) (opening_of told moment faults hard locations labels opened).counts h
+    pub rising : AreRising (is_some (told opened.file.value.cells.disk)) (opening_of told moment faults hard locations labels opened) h
     pub allowed : (start : Service) → IsStartOf opened start → ToldBy opened start h → AreAllowed start h
 
   -- the request reads the key of an identifier, in whatever history it is entered after what the pass has seen

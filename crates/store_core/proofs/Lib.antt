@@ -1,4 +1,5 @@
 pub mod Histories
+pub mod Rises
 mod Holding
 mod Kept
 mod Replaced

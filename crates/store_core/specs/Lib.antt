@@ -1,5 +1,6 @@
 pub mod Durability
 pub mod Represents
+pub mod Rising
 pub mod Start
 pub mod Uses
 pub mod Creations

@@ -12,6 +12,7 @@ ghost use Rattle.store_model.specs.Store.{Key, is_opaque};
 ghost use Rattle.store_model.specs.Copies.{recorded_copy};
 ghost use Rattle.store_model.specs.Faults.{Plain};
 ghost use Rattle.store_core.specs.Represents.{HasOut, ranked_on};
+ghost use Rattle.store_core.specs.Rising.{NoFewerFaults};
 ghost use Rattle.store_core.specs.Zeros.{FileStaysZeros, StaysZeros};
 ghost use Rattle.store_core.specs.Uses.{KeepsOrEmpties};
 ghost use Rattle.store_core.specs.Creations.{Copies, HoldsWithin, IsMade, IsUncopied, OnUnread, RecordsCopy, mark_uncopied, status_uncopied};
@@ -72,6 +73,7 @@ impl<D: Disk, A: Devices, C: Admission> Store<D, A, C> {
         ensures emptied { OnErr result (slot_at self.new.slots.table.slots filling.slot ≡ empty_slot) }
         ensures unread { IfErr result (λ why. OnUnread why (KeepsOrEmpties self.old.slots.table.slots self.new.slots.table.slots)) }
         ensures zeros { StaysZeros D.contents D.may_leave D.moment D.left_since D.faults A.keys A.faults A.locations C.labels self.old self.new }
+        ensures later { NoFewerFaults D.faults A.faults self.old self.new }
         ensures tells { StillTells (D.contents self.old.file.cells.disk) (D.contents self.new.file.cells.disk) }
         ensures knows { is_some (A.keys self.new.devices) ≡ is_some (A.keys self.old.devices) }
         ensures opened { self.new.opened ≡ self.old.opened }
@@ -105,6 +107,7 @@ impl<D: Disk, A: Devices, C: Admission> Store<D, A, C> {
         ensures emptied { OnErr result (slot_at self.new.slots.table.slots filling.slot ≡ empty_slot) }
         ensures unread { IfErr result (λ why. OnUnread why (KeepsOrEmpties self.old.slots.table.slots self.new.slots.table.slots)) }
         ensures zeros { FileStaysZeros D.contents D.may_leave D.moment D.left_since self.old.file self.new.file }
+        ensures later { NoFewerFaults D.faults A.faults self.old self.new }
         ensures tells { StillTells (D.contents self.old.file.cells.disk) (D.contents self.new.file.cells.disk) }
         ensures knows { is_some (A.keys self.new.devices) ≡ is_some (A.keys self.old.devices) }
         ensures ranked { self.new.ranked ≡ self.old.ranked }

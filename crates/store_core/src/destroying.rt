@@ -18,6 +18,7 @@ ghost use Rattle.store_model.specs.Store.{is_opaque};
 ghost use Rattle.store_model.specs.KeyUse.{destroy_rows};
 ghost use Rattle.store_model.specs.Faults.{Plain};
 ghost use Rattle.store_core.specs.Represents.{Destroys, Stands, ranked_on};
+ghost use Rattle.store_core.specs.Rising.{NoFewerFaults};
 ghost use Rattle.store_core.specs.Uses.{IsForgotten, IsUndestroyed, mark_undestroyed, status_undestroyed};
 ghost use Rattle.store_core.specs.Zeros.{FileStaysZeros, StaysZeros};
 
@@ -69,6 +70,7 @@ impl<D: Disk, A: Devices, C: Admission> Store<D, A, C> {
         ensures unasked { NoKey id.0 self.old.slots.table.slots → self.new.devices ≡ self.old.devices }
         ensures freed { OnOk result ((cell : ℕ) → cell < 512 → has_id id.0 (cell_slot self.old.file.cells.slots.items cell) ≡ true → cell_slot self.new.file.cells.slots.items cell ≡ Free) }
         ensures zeros { StaysZeros D.contents D.may_leave D.moment D.left_since D.faults A.keys A.faults A.locations C.labels self.old self.new }
+        ensures later { NoFewerFaults D.faults A.faults self.old self.new }
         ensures tells { StillTells (D.contents self.old.file.cells.disk) (D.contents self.new.file.cells.disk) }
         ensures knows { is_some (A.keys self.new.devices) ≡ is_some (A.keys self.old.devices) }
         ensures buffer { self.new.buffer ≡ self.old.buffer }
@@ -94,6 +96,7 @@ impl<D: Disk, A: Devices, C: Admission> Store<D, A, C> {
         ensures unasked { NoKey id.0 self.old.slots.table.slots → self.new.devices ≡ self.old.devices }
         ensures freed { OnOk result ((cell : ℕ) → cell < 512 → has_id id.0 (cell_slot self.old.file.cells.slots.items cell) ≡ true → cell_slot self.new.file.cells.slots.items cell ≡ Free) }
         ensures zeros { FileStaysZeros D.contents D.may_leave D.moment D.left_since self.old.file self.new.file }
+        ensures later { NoFewerFaults D.faults A.faults self.old self.new }
         ensures tells { StillTells (D.contents self.old.file.cells.disk) (D.contents self.new.file.cells.disk) }
         ensures knows { is_some (A.keys self.new.devices) ≡ is_some (A.keys self.old.devices) }
         ensures buffer { self.new.buffer ≡ self.old.buffer }
@@ -128,6 +131,7 @@ impl<D: Disk, A: Devices, C: Admission> Store<D, A, C> {
         ensures devices { self.new.devices ≡ self.old.devices }
         ensures freed { OnOk result ((cell : ℕ) → cell < 512 → has_id id.0 (cell_slot self.old.file.cells.slots.items cell) ≡ true → cell_slot self.new.file.cells.slots.items cell ≡ Free) }
         ensures zeros { FileStaysZeros D.contents D.may_leave D.moment D.left_since self.old.file self.new.file }
+        ensures later { NoFewerFaults D.faults A.faults self.old self.new }
         ensures tells { StillTells (D.contents self.old.file.cells.disk) (D.contents self.new.file.cells.disk) }
         ensures knows { is_some (A.keys self.new.devices) ≡ is_some (A.keys self.old.devices) }
         ensures buffer { self.new.buffer ≡ self.old.buffer }
@@ -161,6 +165,7 @@ impl<D: Disk, A: Devices, C: Admission> Store<D, A, C> {
         ensures wipes { EndsOnly self.old.slots.table.slots self.new.slots.table.slots (λ i s. holds_key id.0 s ≡ true) }
         ensures ended { (i : ℕ) → holds_key id.0 (slot_at self.old.slots.table.slots i) ≡ true → slot_at self.new.slots.table.slots i ≡ destroyed_slot (slot_at self.old.slots.table.slots i) }
         ensures forgotten { OnOk result ((i : ℕ) → i < 384 → holds_key id.0 (slot_at self.old.slots.table.slots i) ≡ true → IsForgotten (slot_at self.old.slots.table.slots i) (A.keys self.old.devices) (A.keys self.new.devices)) }
+        ensures later { NoFewerFaults D.faults A.faults self.old self.new }
         ensures file { self.new.file ≡ self.old.file }
         ensures knows { is_some (A.keys self.new.devices) ≡ is_some (A.keys self.old.devices) }
         ensures buffer { self.new.buffer ≡ self.old.buffer }

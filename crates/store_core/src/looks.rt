@@ -7,6 +7,7 @@ ghost use Rattle.key_slots.specs.Wiping.{TakesOne};
 ghost use Rattle.key_uses.specs.Uses.{FitsUse, use_refusal};
 ghost use Rattle.store_model.specs.Faults.{Plain};
 ghost use Rattle.store_core.specs.Represents.{Reads, ReadsAndGives, Stands};
+ghost use Rattle.store_core.specs.Rising.{NoFewerFaults};
 ghost use Rattle.store_core.specs.Uses.{IsLent, IsRefused, KeepsOrEmpties, mark_of};
 ghost use Rattle.store_core.specs.Zeros.{StaysZeros};
 
@@ -47,6 +48,7 @@ impl<D: Disk, A: Devices, C: Admission> Store<D, A, C> {
         ensures unmoved { IfErr result (λ refused. refused.0 ≡ InvalidHandle → self.new.slots ≡ self.old.slots) }
         ensures emptied { IfErr result (λ refused. (mark_of refused.0 ≡ Plain → ⊥) → KeepsOrEmpties self.old.slots.table.slots self.new.slots.table.slots) }
         ensures zeros { StaysZeros D.contents D.may_leave D.moment D.left_since D.faults A.keys A.faults A.locations C.labels self.old self.new }
+        ensures later { NoFewerFaults D.faults A.faults self.old self.new }
         ensures tells { StillTells (D.contents self.old.file.cells.disk) (D.contents self.new.file.cells.disk) }
         ensures devices { self.new.devices ≡ self.old.devices }
         ensures opened { self.new.opened ≡ self.old.opened }

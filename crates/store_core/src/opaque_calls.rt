@@ -8,6 +8,7 @@ ghost use Rattle.element_calls.specs.Calls.{AsksElement, model_call};
 ghost use Rattle.element_calls.specs.declared.calls.NotComputed.TheVariants as uncomputed;
 ghost use Rattle.store_core.specs.Opaque.{IsAnswered, Makes};
 ghost use Rattle.store_core.specs.Represents.{HoldsOf, Stands};
+ghost use Rattle.store_core.specs.Rising.{NoFewerFaults};
 
 use crate::Store;
 use admission::Admission;
@@ -47,6 +48,7 @@ impl<D: Disk, A: Devices, C: Admission> Store<D, A, C> {
         ensures served { IsOfServed result → AsksElement call.now → Rose (A.served self.old.devices) (A.served self.new.devices) }
         ensures unasked { IsRefusedBefore result → self.new.devices ≡ self.old.devices }
         ensures failed { IsErrOf result uncomputed.Failed → Rose (A.faults self.old.devices) (A.faults self.new.devices) }
+        ensures later { NoFewerFaults D.faults A.faults self.old self.new }
         ensures file { self.new.file ≡ self.old.file }
         ensures slots { self.new.slots ≡ self.old.slots }
         ensures rules { self.new.rules ≡ self.old.rules }

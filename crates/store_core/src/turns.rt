@@ -12,6 +12,7 @@ ghost use Rattle.store_model.specs.Store as model;
 ghost use Rattle.store_model.specs.Sound.{HasNumber};
 ghost use Rattle.store_model.specs.Faults.{Plain};
 ghost use Rattle.store_core.specs.Represents.{Adds, AddsAs, Gives, HasOut, IsDirectory, Reads, Stands, Steps, Takes};
+ghost use Rattle.store_core.specs.Rising.{NoFewerFaults};
 ghost use Rattle.store_core.specs.Uses.{HasAttributes, IsRefused, KeepsOrEmpties, mark_of, there_rows};
 ghost use Rattle.store_core.specs.Zeros.{StaysZeros};
 
@@ -131,6 +132,7 @@ impl<D: Disk, A: Devices, C: Admission> Store<D, A, C> {
         ensures unmoved { IfErr result (λ status. status ≡ InvalidHandle → self.new.slots ≡ self.old.slots) }
         ensures emptied { OnErr result (KeepsOrEmpties self.old.slots.table.slots self.new.slots.table.slots) }
         ensures zeros { StaysZeros D.contents D.may_leave D.moment D.left_since D.faults A.keys A.faults A.locations C.labels self.old self.new }
+        ensures later { NoFewerFaults D.faults A.faults self.old self.new }
         ensures tells { StillTells (D.contents self.old.file.cells.disk) (D.contents self.new.file.cells.disk) }
         ensures devices { self.new.devices ≡ self.old.devices }
         ensures opened { self.new.opened ≡ self.old.opened }

@@ -39,6 +39,7 @@ leave_ranked-rank-requires-clause-stands g c κs within =
       clear = subst IsClear (sym l.buffer) s.clear;
       tells = ap (λ f. is_some (g.D.Disk.contents f.cells.disk)) l.file;
       knows = ap (λ h. is_some h) l.keys;
+      later = l.later;
     } in
     let asked = model_call c.args.element.now c.args.id.0 (length c.args.out.now) in
     let made = makes g.D.Disk.contents g.D.Disk.may_leave g.D.Disk.moment g.D.Disk.left_since g.D.Disk.faults g.D.Disk.size g.A.Devices.keys g.A.Devices.faults g.A.Devices.locations g.C.Admission.labels c.args.self.now.lock.table.shared.table_id c.args.self.now.lock.table.shared.key.value.value.store.opened c.args.before.value.me.0 c.args.pass.now c.args.turn.entries c.requires.begun c.value.result.now.store (ap (λ v. v.store.opened) c.value.ensures.value ∙ c.requires.opened) s c.opaque_call.new.self asked (model_request c.args.call.now (length c.args.out.now)) Plain (IsAnswered (g.A.Devices.keys c.value.result.now.store.devices) c.args.id.0 c.args.element.now c.args.out.now c.opaque_call.new.out (Ok c.in-Ok.length)) c.in-Ok.ensures.made c.requires.computes in
@@ -57,6 +58,7 @@ returns-in-Ok-clause-computed g c =
       clear = subst IsClear (sym l.buffer) s.clear;
       tells = ap (λ f. is_some (g.D.Disk.contents f.cells.disk)) l.file;
       knows = ap (λ h. is_some h) l.keys;
+      later = l.later;
     } in
     let asked = model_call c.args.element.now c.args.id.0 (length c.args.out.now) in
     let made = makes g.D.Disk.contents g.D.Disk.may_leave g.D.Disk.moment g.D.Disk.left_since g.D.Disk.faults g.D.Disk.size g.A.Devices.keys g.A.Devices.faults g.A.Devices.locations g.C.Admission.labels c.args.self.now.lock.table.shared.table_id c.args.self.now.lock.table.shared.key.value.value.store.opened c.args.before.value.me.0 c.args.pass.now c.args.turn.entries c.requires.begun c.value.result.now.store (ap (λ v. v.store.opened) c.value.ensures.value ∙ c.requires.opened) s c.opaque_call.new.self asked (model_request c.args.call.now (length c.args.out.now)) Plain (IsAnswered (g.A.Devices.keys c.value.result.now.store.devices) c.args.id.0 c.args.element.now c.args.out.now c.opaque_call.new.out (Ok c.in-Ok.length)) c.in-Ok.ensures.made c.requires.computes in
@@ -75,6 +77,7 @@ leave_ranked-rank-requires-in-Err-clause-stands g c κs within =
       clear = subst IsClear (sym l.buffer) s.clear;
       tells = ap (λ f. is_some (g.D.Disk.contents f.cells.disk)) l.file;
       knows = ap (λ h. is_some h) l.keys;
+      later = l.later;
     } in
     let asked = model_call c.args.element.now c.args.id.0 (length c.args.out.now) in
     let made = makes g.D.Disk.contents g.D.Disk.may_leave g.D.Disk.moment g.D.Disk.left_since g.D.Disk.faults g.D.Disk.size g.A.Devices.keys g.A.Devices.faults g.A.Devices.locations g.C.Admission.labels c.args.self.now.lock.table.shared.table_id c.args.self.now.lock.table.shared.key.value.value.store.opened c.args.before.value.me.0 c.args.pass.now c.args.turn.entries c.requires.begun c.value.result.now.store (ap (λ v. v.store.opened) c.value.ensures.value ∙ c.requires.opened) s c.opaque_call.new.self asked (model_request c.args.call.now (length c.args.out.now)) (mark_computed (Err c.in-Err.why)) (IsAnswered (g.A.Devices.keys c.value.result.now.store.devices) c.args.id.0 c.args.element.now c.args.out.now c.opaque_call.new.out (Err c.in-Err.why)) c.in-Err.ensures.made c.requires.computes in
@@ -93,6 +96,7 @@ returns-clause-computed g c =
       clear = subst IsClear (sym l.buffer) s.clear;
       tells = ap (λ f. is_some (g.D.Disk.contents f.cells.disk)) l.file;
       knows = ap (λ h. is_some h) l.keys;
+      later = l.later;
     } in
     let asked = model_call c.args.element.now c.args.id.0 (length c.args.out.now) in
     let made = makes g.D.Disk.contents g.D.Disk.may_leave g.D.Disk.moment g.D.Disk.left_since g.D.Disk.faults g.D.Disk.size g.A.Devices.keys g.A.Devices.faults g.A.Devices.locations g.C.Admission.labels c.args.self.now.lock.table.shared.table_id c.args.self.now.lock.table.shared.key.value.value.store.opened c.args.before.value.me.0 c.args.pass.now c.args.turn.entries c.requires.begun c.value.result.now.store (ap (λ v. v.store.opened) c.value.ensures.value ∙ c.requires.opened) s c.opaque_call.new.self asked (model_request c.args.call.now (length c.args.out.now)) (mark_computed (Err c.in-Err.why)) (IsAnswered (g.A.Devices.keys c.value.result.now.store.devices) c.args.id.0 c.args.element.now c.args.out.now c.opaque_call.new.out (Err c.in-Err.why)) c.in-Err.ensures.made c.requires.computes in

@@ -27,7 +27,7 @@ pub leave_ranked-rank-requires-clause-stands : goal.leave_ranked-rank-requires-c
 leave_ranked-rank-requires-clause-stands g c κs within =
     let s = subst (λ v. HoldsHistory g.D.Disk.contents g.D.Disk.may_leave g.D.Disk.moment g.D.Disk.left_since g.D.Disk.faults g.D.Disk.size g.A.Devices.keys g.A.Devices.faults g.A.Devices.locations g.C.Admission.labels v.store (entries_of c.enter-turn.new.pass.me.0.seen) c.enter-turn.new.pass.me.0.holdings) (sym c.value.ensures.value) c.enter-turn.ensures.stands in
     let l = c.in-Ok.ensures in
-    let k : IsSteady g.D.Disk.contents g.D.Disk.may_leave g.D.Disk.moment g.D.Disk.left_since g.D.Disk.faults g.D.Disk.size g.A.Devices.keys g.A.Devices.faults g.A.Devices.locations g.C.Admission.labels c.value.result.now.store c.destroy.new.self = record { opened = l.opened; sized = l.size; clear = subst IsClear (sym l.buffer) s.clear; tells = l.tells; knows = l.knows } in
+    let k : IsSteady g.D.Disk.contents g.D.Disk.may_leave g.D.Disk.moment g.D.Disk.left_since g.D.Disk.faults g.D.Disk.size g.A.Devices.keys g.A.Devices.faults g.A.Devices.locations g.C.Admission.labels c.value.result.now.store c.destroy.new.self = record { opened = l.opened; sized = l.size; clear = subst IsClear (sym l.buffer) s.clear; tells = l.tells; knows = l.knows; later = l.later } in
     (before_stands g.D.Disk.contents g.D.Disk.may_leave g.D.Disk.moment g.D.Disk.left_since g.D.Disk.faults g.D.Disk.size g.A.Devices.keys g.A.Devices.faults g.A.Devices.locations g.C.Admission.labels c.args.self.now.lock.table.shared.table_id c.args.self.now.lock.table.shared.key.value.value.store.opened c.args.pass.now.me.0 c.enter-turn.new.pass c.enter-turn.result.entries c.enter-turn.ensures.begun c.value.result.now.store (ap (λ v. v.store.opened) c.value.ensures.value ∙ c.enter-turn.ensures.opened) s c.destroy.new.self (model_request c.args.call.now c.args.room) Plain (with_own c.enter-turn.new.pass.me.0.holdings c.enter-turn.new.pass.me.0.number c.enter-turn.new.pass.me.0.holding) (λ m. first_row (destroy_rows (map.get m.keys c.args.id.0) c.args.id.0) ≡ None) k
     (destroys g.D.Disk.contents g.D.Disk.may_leave g.D.Disk.moment g.D.Disk.left_since g.D.Disk.faults g.D.Disk.size g.A.Devices.keys g.A.Devices.faults g.A.Devices.locations g.C.Admission.labels c.args.self.now.lock.table.shared.table_id c.args.self.now.lock.table.shared.key.value.value.store.opened c.args.pass.now.me.0 c.enter-turn.new.pass c.enter-turn.result.entries c.enter-turn.ensures.begun c.value.result.now.store (ap (λ v. v.store.opened) c.value.ensures.value ∙ c.enter-turn.ensures.opened) s c.destroy.new.self (model_request c.args.call.now c.args.room) c.args.id.0 Plain (λ m. first_row (destroy_rows (map.get m.keys c.args.id.0) c.args.id.0) ≡ None) l.destroyed c.requires.destroys))
 
@@ -35,7 +35,7 @@ pub returns-in-Ok-clause-destroyed : goal.returns-in-Ok-clause-destroyed
 returns-in-Ok-clause-destroyed g c =
     let s = subst (λ v. HoldsHistory g.D.Disk.contents g.D.Disk.may_leave g.D.Disk.moment g.D.Disk.left_since g.D.Disk.faults g.D.Disk.size g.A.Devices.keys g.A.Devices.faults g.A.Devices.locations g.C.Admission.labels v.store (entries_of c.enter-turn.new.pass.me.0.seen) c.enter-turn.new.pass.me.0.holdings) (sym c.value.ensures.value) c.enter-turn.ensures.stands in
     let l = c.in-Ok.ensures in
-    let k : IsSteady g.D.Disk.contents g.D.Disk.may_leave g.D.Disk.moment g.D.Disk.left_since g.D.Disk.faults g.D.Disk.size g.A.Devices.keys g.A.Devices.faults g.A.Devices.locations g.C.Admission.labels c.value.result.now.store c.destroy.new.self = record { opened = l.opened; sized = l.size; clear = subst IsClear (sym l.buffer) s.clear; tells = l.tells; knows = l.knows } in
+    let k : IsSteady g.D.Disk.contents g.D.Disk.may_leave g.D.Disk.moment g.D.Disk.left_since g.D.Disk.faults g.D.Disk.size g.A.Devices.keys g.A.Devices.faults g.A.Devices.locations g.C.Admission.labels c.value.result.now.store c.destroy.new.self = record { opened = l.opened; sized = l.size; clear = subst IsClear (sym l.buffer) s.clear; tells = l.tells; knows = l.knows; later = l.later } in
     ranked (rw c.of-before.ensures at c.leave_ranked-rank.ensures.entered)
     (before_decides g.D.Disk.contents g.D.Disk.may_leave g.D.Disk.moment g.D.Disk.left_since g.D.Disk.faults g.D.Disk.size g.A.Devices.keys g.A.Devices.faults g.A.Devices.locations g.C.Admission.labels c.args.self.now.lock.table.shared.table_id c.args.self.now.lock.table.shared.key.value.value.store.opened c.args.pass.now.me.0 c.enter-turn.new.pass c.enter-turn.result.entries c.enter-turn.ensures.begun c.value.result.now.store (ap (λ v. v.store.opened) c.value.ensures.value ∙ c.enter-turn.ensures.opened) s c.destroy.new.self (model_request c.args.call.now c.args.room) Plain (with_own c.enter-turn.new.pass.me.0.holdings c.enter-turn.new.pass.me.0.number c.enter-turn.new.pass.me.0.holding) (λ m. first_row (destroy_rows (map.get m.keys c.args.id.0) c.args.id.0) ≡ None)
     (destroys g.D.Disk.contents g.D.Disk.may_leave g.D.Disk.moment g.D.Disk.left_since g.D.Disk.faults g.D.Disk.size g.A.Devices.keys g.A.Devices.faults g.A.Devices.locations g.C.Admission.labels c.args.self.now.lock.table.shared.table_id c.args.self.now.lock.table.shared.key.value.value.store.opened c.args.pass.now.me.0 c.enter-turn.new.pass c.enter-turn.result.entries c.enter-turn.ensures.begun c.value.result.now.store (ap (λ v. v.store.opened) c.value.ensures.value ∙ c.enter-turn.ensures.opened) s c.destroy.new.self (model_request c.args.call.now c.args.room) c.args.id.0 Plain (λ m. first_row (destroy_rows (map.get m.keys c.args.id.0) c.args.id.0) ≡ None) l.destroyed c.requires.destroys))
@@ -44,7 +44,7 @@ pub leave_ranked-rank-requires-in-Err-clause-stands : goal.leave_ranked-rank-req
 leave_ranked-rank-requires-in-Err-clause-stands g c κs within =
     let s = subst (λ v. HoldsHistory g.D.Disk.contents g.D.Disk.may_leave g.D.Disk.moment g.D.Disk.left_since g.D.Disk.faults g.D.Disk.size g.A.Devices.keys g.A.Devices.faults g.A.Devices.locations g.C.Admission.labels v.store (entries_of c.enter-turn.new.pass.me.0.seen) c.enter-turn.new.pass.me.0.holdings) (sym c.value.ensures.value) c.enter-turn.ensures.stands in
     let l = c.in-Err.ensures in
-    let k : IsSteady g.D.Disk.contents g.D.Disk.may_leave g.D.Disk.moment g.D.Disk.left_since g.D.Disk.faults g.D.Disk.size g.A.Devices.keys g.A.Devices.faults g.A.Devices.locations g.C.Admission.labels c.value.result.now.store c.destroy.new.self = record { opened = l.opened; sized = l.size; clear = subst IsClear (sym l.buffer) s.clear; tells = l.tells; knows = l.knows } in
+    let k : IsSteady g.D.Disk.contents g.D.Disk.may_leave g.D.Disk.moment g.D.Disk.left_since g.D.Disk.faults g.D.Disk.size g.A.Devices.keys g.A.Devices.faults g.A.Devices.locations g.C.Admission.labels c.value.result.now.store c.destroy.new.self = record { opened = l.opened; sized = l.size; clear = subst IsClear (sym l.buffer) s.clear; tells = l.tells; knows = l.knows; later = l.later } in
     (before_stands g.D.Disk.contents g.D.Disk.may_leave g.D.Disk.moment g.D.Disk.left_since g.D.Disk.faults g.D.Disk.size g.A.Devices.keys g.A.Devices.faults g.A.Devices.locations g.C.Admission.labels c.args.self.now.lock.table.shared.table_id c.args.self.now.lock.table.shared.key.value.value.store.opened c.args.pass.now.me.0 c.enter-turn.new.pass c.enter-turn.result.entries c.enter-turn.ensures.begun c.value.result.now.store (ap (λ v. v.store.opened) c.value.ensures.value ∙ c.enter-turn.ensures.opened) s c.destroy.new.self (model_request c.args.call.now c.args.room) (mark_undestroyed c.in-Err.why) (with_own c.enter-turn.new.pass.me.0.holdings c.enter-turn.new.pass.me.0.number c.enter-turn.new.pass.me.0.holding) (IsUndestroyed c.args.id.0 c.in-Err.why) k
     (destroys g.D.Disk.contents g.D.Disk.may_leave g.D.Disk.moment g.D.Disk.left_since g.D.Disk.faults g.D.Disk.size g.A.Devices.keys g.A.Devices.faults g.A.Devices.locations g.C.Admission.labels c.args.self.now.lock.table.shared.table_id c.args.self.now.lock.table.shared.key.value.value.store.opened c.args.pass.now.me.0 c.enter-turn.new.pass c.enter-turn.result.entries c.enter-turn.ensures.begun c.value.result.now.store (ap (λ v. v.store.opened) c.value.ensures.value ∙ c.enter-turn.ensures.opened) s c.destroy.new.self (model_request c.args.call.now c.args.room) c.args.id.0 (mark_undestroyed c.in-Err.why) (IsUndestroyed c.args.id.0 c.in-Err.why) l.failed c.requires.destroys))
 
@@ -52,7 +52,7 @@ pub returns-clause-failed : goal.returns-clause-failed
 returns-clause-failed g c =
     let s = subst (λ v. HoldsHistory g.D.Disk.contents g.D.Disk.may_leave g.D.Disk.moment g.D.Disk.left_since g.D.Disk.faults g.D.Disk.size g.A.Devices.keys g.A.Devices.faults g.A.Devices.locations g.C.Admission.labels v.store (entries_of c.enter-turn.new.pass.me.0.seen) c.enter-turn.new.pass.me.0.holdings) (sym c.value.ensures.value) c.enter-turn.ensures.stands in
     let l = c.in-Err.ensures in
-    let k : IsSteady g.D.Disk.contents g.D.Disk.may_leave g.D.Disk.moment g.D.Disk.left_since g.D.Disk.faults g.D.Disk.size g.A.Devices.keys g.A.Devices.faults g.A.Devices.locations g.C.Admission.labels c.value.result.now.store c.destroy.new.self = record { opened = l.opened; sized = l.size; clear = subst IsClear (sym l.buffer) s.clear; tells = l.tells; knows = l.knows } in
+    let k : IsSteady g.D.Disk.contents g.D.Disk.may_leave g.D.Disk.moment g.D.Disk.left_since g.D.Disk.faults g.D.Disk.size g.A.Devices.keys g.A.Devices.faults g.A.Devices.locations g.C.Admission.labels c.value.result.now.store c.destroy.new.self = record { opened = l.opened; sized = l.size; clear = subst IsClear (sym l.buffer) s.clear; tells = l.tells; knows = l.knows; later = l.later } in
     ranked (rw c.of-before.ensures at c.leave_ranked-rank-in-Err.ensures.entered)
     (before_decides g.D.Disk.contents g.D.Disk.may_leave g.D.Disk.moment g.D.Disk.left_since g.D.Disk.faults g.D.Disk.size g.A.Devices.keys g.A.Devices.faults g.A.Devices.locations g.C.Admission.labels c.args.self.now.lock.table.shared.table_id c.args.self.now.lock.table.shared.key.value.value.store.opened c.args.pass.now.me.0 c.enter-turn.new.pass c.enter-turn.result.entries c.enter-turn.ensures.begun c.value.result.now.store (ap (λ v. v.store.opened) c.value.ensures.value ∙ c.enter-turn.ensures.opened) s c.destroy.new.self (model_request c.args.call.now c.args.room) (mark_undestroyed c.in-Err.why) (with_own c.enter-turn.new.pass.me.0.holdings c.enter-turn.new.pass.me.0.number c.enter-turn.new.pass.me.0.holding) (IsUndestroyed c.args.id.0 c.in-Err.why)
     (destroys g.D.Disk.contents g.D.Disk.may_leave g.D.Disk.moment g.D.Disk.left_since g.D.Disk.faults g.D.Disk.size g.A.Devices.keys g.A.Devices.faults g.A.Devices.locations g.C.Admission.labels c.args.self.now.lock.table.shared.table_id c.args.self.now.lock.table.shared.key.value.value.store.opened c.args.pass.now.me.0 c.enter-turn.new.pass c.enter-turn.result.entries c.enter-turn.ensures.begun c.value.result.now.store (ap (λ v. v.store.opened) c.value.ensures.value ∙ c.enter-turn.ensures.opened) s c.destroy.new.self (model_request c.args.call.now c.args.room) c.args.id.0 (mark_undestroyed c.in-Err.why) (IsUndestroyed c.args.id.0 c.in-Err.why) l.failed c.requires.destroys))

@@ -13,6 +13,7 @@ new-requires-clause-stands g c = let e = c.in_ok-store.ensures in record {
   starts = e.starts.1;
   each = λ start is. e.stands start 16 is (omega arith);
   signed = tt;
+  rising = tt;
   sized = e.size;
   clear = e.clear;
   tells = ap (λ f. is_some (g.D.Disk.contents f.cells.disk)) (sym e.saw_file);

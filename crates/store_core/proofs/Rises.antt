@@ -1,0 +1,15 @@
+-- Histories whose counts and moments never fall.
+use Rattle.std.proofs.Common.{◌≡◌, ◌≤◌, ◌+◌, ◌<◌, ℕ, suc, Bool, true, List, [], ◌∷◌, ◌++◌, length, refl, ap, subst, sym, arith}
+use Rattle.disk_face.specs.Moments.{done_at}
+use Rattle.store_model.specs.Replay.{Entry}
+use Rattle.store_model.specs.Marks.{last_counts}
+use Rattle.store_core.specs.Represents.{Opening}
+use Rattle.store_core.specs.Rising.{AreRising, left_by}
+
+-- one entry more, whose moment is the last of the longer history
+pub rising_push : (tells : Bool) (before : Opening) (h : List Entry) (e : Entry) → AreRising tells before h →
+    (last_counts before.counts h).faults ≤ e.faults → (last_counts before.counts h).hard ≤ e.hard →
+    (tells ≡ true → before.moment ≤ e.done) → (tells ≡ true → (k : ℕ) → k < length (h ++ e ∷ []) → done_at (λ (x : Entry). x.done) (h ++ e ∷ []) k ≤ e.done) → AreRising tells before (h ++ e ∷ [])
+rising_push tells before [] e rising faults hard opened done = (record { faults = faults; hard = hard; done = opened }, tt)
+rising_push tells before (x ∷ h) e rising faults hard opened done =
+    (rising.0, rising_push tells (left_by x) h e rising.1 faults hard (λ told. done told 0 (omega arith)) (λ told k lt. done told (suc k) (omega arith)))

@@ -1,0 +1,25 @@
+-- What never falls: how often the disk and the devices have failed, and the disk's moments.
+use Rattle.std.specs.Prelude.{◌≡◌, ◌≤◌, ℕ, Bool, true, List, [], ◌∷◌}
+use Rattle.store_model.specs.Replay.{Entry}
+use Rattle.store_core.specs.declared.store.Store.{Store}
+use Rattle.store_core.specs.Represents.{Opening}
+
+-- calls of a store, after which neither the disk nor the devices have failed less often
+pub record NoFewerFaults {D A C : Type 0} (faults : D → ℕ) (hard : A → ℕ) (old new : Store D A C) : Type 0 where
+  pub disk : faults old.file.cells.disk ≤ faults new.file.cells.disk
+  pub devices : hard old.devices ≤ hard new.devices
+
+-- what an entry says of disk and devices, for the entry after it
+abbrev pub left_by : Entry → Opening
+left_by e = record { moment = e.done; counts = record { faults = e.faults; hard = e.hard } }
+
+-- an entry that comes later: its counts are not below those before it, nor is its moment, where the disk tells its bytes
+pub record IsLaterThan (tells : Bool) (before : Opening) (e : Entry) : Type 0 where
+  pub faults : before.counts.faults ≤ e.faults
+  pub hard : before.counts.hard ≤ e.hard
+  pub done : tells ≡ true → before.moment ≤ e.done
+
+-- each entry of a history comes later than the one before it, and the first than the opening
+abbrev pub AreRising : (tells : Bool) → Opening → List Entry → Type 0
+AreRising tells before [] = Unit {0}
+AreRising tells before (e ∷ es) = IsLaterThan tells before e × AreRising tells (left_by e) es
