@@ -6,7 +6,6 @@ use Rattle.turn_history.specs.declared.pass.Account.{Account}
 use Rattle.turn_history.specs.declared.pass.View.{View}
 use Rattle.turn_history.specs.History.{entries_of, calls_by, StartsWith}
 use Rattle.policy_rules.specs.declared.narrowing.Label.{Label}
-use Rattle.driver_dispatch.specs.Held.{HeldKeys}
 use Rattle.store_model.specs.Handles.{Service}
 use Rattle.store_model.specs.Replay.{Entry}
 use Rattle.store_model.specs.Marks.{last_counts}
@@ -22,8 +21,8 @@ AreAt lock opened passes = (k : ℕ) (p : _) → k < length passes → IsAt lock
 
 -- There is one history. The passes that were handed in have seen beginnings of it, and their calls are their numbers' entries in
 -- it. Each of its marks stands where it may and has its fault; the last entry's counts are those of the disk and the devices
--- that come back, and the disk tells its bytes where it told them as it was opened. Over a disk that told its bytes as it was opened, a crash since then has left the keys of a prefix, and one
--- since a call was done those of a prefix that holds it.
+-- that come back. The disk tells its bytes where it told them as it was opened, and then a crash since has left the keys of a
+-- prefix, and one since a call was done those of a prefix that holds it.
 pub record IsClosed {D A C : Type 0} (told : D → Option (List ℕ)) (moment : D → ℕ) (left_since : D → ℕ → List ℕ → Type 0)
     (faults : D → ℕ) (hard : A → ℕ) (locations : A → List ℕ) (labels : C → List Label)
     (opened : Opened D A C) (disk : D) (devices : A) (accounts : List (Account Entry)) : Type 0 where

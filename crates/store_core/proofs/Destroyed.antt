@@ -1,33 +1,26 @@
--- Turns that destroy a key.
-use Rattle.std.proofs.Common.{◌≡◌, ◌≢◌, ◌⊎◌, ◌∙◌, ℕ, ◌+◌, ◌-◌, ◌/◌, ◌^◌, ◌<◌, ◌≤◌, ◌==◌, ◌&&◌, ◌||◌, Bool, true, false, not, cond, nat_lt, List, [], ◌∷◌, ◌++◌, length, set, refl, sym, ap, subst, arith, inl, inr, eq-eqb, Option, None, Some, is_some}
+-- The one-thread store and the devices without a key that is destroyed.
+use Rattle.std.proofs.Common.{◌≡◌, ◌≢◌, ◌∙◌, ℕ, ◌+◌, ◌-◌, ◌/◌, ◌^◌, ◌<◌, ◌≤◌, ◌==◌, ◌&&◌, ◌||◌, Bool, true, false, not, cond, nat_lt, List, length, refl, sym, ap, arith, inl, inr, eq-eqb, Option, None, Some}
 use Rattle.std.proofs.lemmas.Bool.{false≢true, eqb-true, cases_eq, cases_lt}
 use Rattle.std.proofs.lemmas.Bool.Decides.{nat_tests}
 use Rattle.std.proofs.lemmas.List.{get_or-set_same, get_or-set_other, get_or_past}
 use Rattle.std.specs.Prelude.{slice_index, slice_set, Ok, ⊤}
-use Rattle.std.specs.Option.{option_map, option_map_or}
+use Rattle.std.specs.Option.{option_map_or}
 use Rattle.std.specs.FinMap as map
 use Rattle.psa_status.specs.declared.Status.{Status}
 use Rattle.psa_status.specs.declared.Status.TheVariants.{InvalidHandle}
 use Rattle.psa_status.specs.Rows.{first_row}
 use Rattle.psa_status.proofs.Rows.{unless-ok}
-use Rattle.policy_rules.specs.declared.narrowing.Label.{Label}
 use Rattle.key_attributes.specs.declared.Attributes.{Attributes}
 use Rattle.key_attributes.specs.Checks.{persistence, location, is_lifetime, attribute_rows, checked, filled}
-use Rattle.driver_dispatch.specs.Held.{HeldKey, HeldKeys, held_key, without_key}
+use Rattle.driver_dispatch.specs.Held.{HeldKey, HeldKeys, held_key}
 use Rattle.driver_dispatch.specs.Calls.{HoldsHandle, IsSomeKey}
 use Rattle.key_cells.specs.declared.slot.Slot as cell
 use Rattle.key_cells.specs.declared.slot.Slot.TheVariants.{Free, Open, Shut, Unsure}
-use Rattle.key_cells.specs.Contents.{HasNoKey, cell_slot, has_id, creation_of_slot, settled_slots}
-use Rattle.key_file.specs.declared.file.KeyFile.{KeyFile}
-use Rattle.key_file.specs.Files.{Stored, stored, Keys, Doubt, StandsForKeys, Leads, IsPut, doubt_undestroyed}
-use Rattle.key_file.proofs.Leading.{stays}
-use Rattle.slot_table.specs.Slots.{Slot, slot_at, holds_key}
-use Rattle.key_slots.specs.declared.slots.KeySlots.{KeySlots}
-use Rattle.key_slots.specs.Holdings.{Pairs}
-use Rattle.key_slots.specs.Standing.{Agrees, SlotHasKey, Puts}
-use Rattle.key_slots.proofs.Agreeing.{quiet, key_of_slot}
+use Rattle.key_cells.specs.Contents.{HasNoKey, has_id, creation_of_slot}
+use Rattle.key_file.specs.Files.{Stored, Doubt, doubt_undestroyed}
+use Rattle.slot_table.specs.Slots.{Slot}
 use Rattle.store_model.specs.Store as model
-use Rattle.store_model.specs.Store.{Key, KeyMap, is_volatile, is_opaque, is_volatile_of, live_volatile, count_persistent, has_secure_element, is_persistent_key, is_opaque_key, made_of}
+use Rattle.store_model.specs.Store.{Key, KeyMap, is_volatile, is_opaque, is_volatile_of, live_volatile, count_persistent, has_secure_element}
 use Rattle.store_model.specs.Call.{Destroy}
 use Rattle.store_model.specs.KeyUse.{destroyed, destroy_rows}
 use Rattle.store_model.specs.Outcome.{counted, decided}
@@ -35,18 +28,15 @@ use Rattle.store_model.specs.Faults.{FaultMark, Plain, Storage, Hardware, Corrup
 use Rattle.store_model.specs.Handles.{Service}
 use Rattle.store_model.specs.Requests.{Request, OnStore, serve}
 use Rattle.store_model.specs.Replay.{Entry, outcome_of}
-use Rattle.store_model.specs.Marks.{MayBeMarked, HasFault, key_changed}
+use Rattle.store_model.specs.Marks.{key_changed}
 use Rattle.store_model.specs.Sound.{as_stated, IsSoundStore, IsVolatileOf}
 use Rattle.store_model.specs.Creation.{identified}
-use Rattle.store_model.proofs.Sound.{counted_sound, destroyed_sound, low_id, of_volatile}
+use Rattle.store_model.proofs.Sound.{low_id, of_volatile}
 use Rattle.store_model.proofs.Tables.{none_holds}
 use Rattle.store_core.specs.declared.store.Store.{Store}
-use Rattle.store_core.specs.Durability.{Course, doubt_after, doubt_by, is_destruction, kept, durable_keys}
-use Rattle.store_core.specs.Represents.{IsDirectory, Opening, ranked_on}
-use Rattle.store_core.proofs.Holding.{StandsHere, IsTurn, counts_of, same_directory, same_device}
-use Rattle.store_core.proofs.Kept.{key_of_cell}
-use Rattle.store_core.proofs.Changing.{turns_standing}
-use Rattle.store_core.proofs.Removing.{one_less, nothing_removed, gone, takes_out, without_kept, kept_here, kept_same, directory_emptied, directory_stays, device_stays, device_loses}
+use Rattle.store_core.specs.Durability.{Course, doubt_after, doubt_by, is_destruction, kept}
+use Rattle.store_core.specs.Represents.{IsDirectory}
+use Rattle.store_core.proofs.Removing.{one_less, nothing_removed, gone}
 
 -- THE MODEL
 
@@ -246,159 +236,3 @@ holds_some (Some held) handle P is = some (held_key held handle) is where
   some : (o : Option HeldKey) → IsSomeKey o P → IsSomeKey o (λ key. ⊤)
   some None is = is
   some (Some key) is = tt
-
--- THE KEY OF A SLOT THAT NO CELL HAS
-
-pub record IsInSlot (m : model.Store) (id : ℕ) (slot : Slot) : Type 0 where
-  pub key : Key
-  pub there : map.get m.keys id ≡ Some key
-  pub volatile : is_volatile key.attributes ≡ true
-  pub has : SlotHasKey slot key
-
-pub slot_key : (cells : List cell.Slot) (slots : List Slot) (m : model.Store) (all : List Pairs) (id i : ℕ) → IsDirectory cells m → HasNoKey cells id → Agrees slots m all → i < 384 → holds_key id (slot_at slots i) ≡ true → IsInSlot m id (slot_at slots i)
-slot_key cells slots m all id i d none agrees lt holds =
-    let k = key_of_slot slots m all id i agrees lt holds in
-    record { key = k.0; there = k.1; volatile = in_no_cell cells m id k.0 d none k.1; has = k.2 }
-
-module _ {D A C : Type 0} (told : D → Option (List ℕ)) (may_leave : D → List ℕ → Type 0) (moment : D → ℕ) (left_since : D → ℕ → List ℕ → Type 0)
-    (faults : D → ℕ) (held : A → Option HeldKeys) (hard : A → ℕ) (locations : A → List ℕ) (labels : C → List Label)
-    (only_now : (disk : D) (image : List ℕ) → left_since disk (moment disk) image → may_leave disk image)
-    (old : Store D A C) (start : Service) (opening : Opening) (h : List Entry) (all : List Pairs) (e : Entry) (id : ℕ) (call : e.call ≡ OnStore (Destroy id)) where
-  abbrev disk : D
-  disk = old.file.cells.disk
-
-  abbrev cells : List cell.Slot
-  cells = old.file.cells.slots.items
-
-  abbrev StandsOld : Type 0
-  StandsOld = StandsHere told may_leave moment left_since faults held hard locations labels old start opening h all
-
-  abbrev StandsNew : Store D A C → Type 0
-  StandsNew new = StandsHere told may_leave moment left_since faults held hard locations labels new start opening (h ++ e ∷ []) all
-
-  abbrev IsTurnTo : Store D A C → FaultMark → Type 0
-  IsTurnTo new mark = IsTurn told may_leave moment left_since faults held hard locations labels new mark e
-
-  -- there is no key to destroy
-  pub nothing : (s : StandsOld) → map.get s.holds.model.keys id ≡ None → IsTurnTo (ranked_on old) Plain → StandsNew (ranked_on old)
-  nothing s none is = let m = s.holds.model in turns_standing told may_leave moment left_since faults held hard locations labels only_now old (ranked_on old) start opening h all all e Plain (counted m) s (record {
-    becomes = λ service known same. ap counted same ∙ sym (entry_stays e id call service is.marked (ap (λ (x : model.Store). map.get x.keys id) (sym same) ∙ none));
-    sound = counted_sound m s.holds.sound;
-    settings = refl;
-    rules = refl;
-    devices = refl;
-    found = s.holds.found;
-    few = s.holds.few;
-    calls = ap (λ (n : ℕ). n + 1) s.holds.calls;
-    made = s.holds.made;
-    live = s.holds.live;
-    kept = s.holds.kept;
-    ranked = refl;
-    slots = quiet old.slots.table.slots m (counted m) all s.holds.slots (record { keys = refl; given = omega arith });
-    holdings = s.holds.holdings;
-    directory = same_directory cells m s.holds.directory;
-    device = same_device (held old.devices) m s.holds.device;
-    tells = refl;
-    leads = λ c known same stands. subst (Leads told may_leave moment left_since disk disk cells cells (durable_keys m) c.doubt (durable_keys m))
-        (sym (doubt_here e id call c Plain None is.marked (ap (λ (x : model.Store). durable_keys x id) (sym same) ∙ ap kept none)))
-        (stays told may_leave moment left_since disk cells (durable_keys m) (durable_keys m) c.doubt (λ q. refl) stands);
-    fault = tt;
-    may = λ service known same. tt;
-  }) is
-
-  -- what the slots make of a key that is taken out
-  abbrev pub Forgets : KeySlots → Type 0
-  Forgets slots = (m m' : model.Store) (all : List Pairs) → Agrees old.slots.table.slots m all → IsSoundStore m → Puts m m' id None → Agrees slots.table.slots m' all
-
-  -- what the file makes of a key that it destroys
-  pub record IsUnfiled (file : KeyFile D) (mark : FaultMark) (c : ℕ) : Type 0 where
-    pub within : c < 512
-    pub key : has_id id (cell_slot cells c) ≡ true
-    pub sized : length file.cells.slots.items ≡ 512
-    pub missing : settled_slots file.cells.slots.items ≡ set (settled_slots cells) c Free
-    pub tells : is_some (told file.cells.disk) ≡ is_some (told disk)
-    pub leads : (keys keys' : Keys) (doubt : Doubt) (key : Stored) → StandsForKeys told may_leave disk cells keys doubt → keys id ≡ Some key → IsPut keys keys' id None →
-        Leads told may_leave moment left_since disk file.cells.disk cells file.cells.slots.items keys doubt keys' (doubt_by mark true key doubt)
-
-  -- a store without a key of its file
-  abbrev pub unfiled : KeyFile D → KeySlots → Store D A C
-  unfiled file slots = record old { file = file; slots = slots; kept = old.kept - 1; ranked = old.ranked + 1 }
-
-  -- the key of a cell is destroyed
-  pub destroys_kept : (file : KeyFile D) (slots : KeySlots) (mark : FaultMark) (c : ℕ) (s : StandsOld) → IsUnfiled file mark c → Forgets slots →
-      HasFault (is_some (told file.cells.disk)) (counts_of (faults disk) (hard old.devices)) e mark →
-      ((service : Service) → is_persistent_key (key_changed service e.caller e.call) ≡ true → MayBeMarked service e.caller e.call mark) →
-      IsTurnTo (unfiled file slots) mark → StandsNew (unfiled file slots)
-  destroys_kept file slots mark c s f forgets fault may is =
-      let m = s.holds.model in
-      let own = key_of_cell cells m id c s.holds.directory f.within f.key in
-      let key = own.0 in
-      let there = own.1 in
-      let persistent = own.2 in
-      let fewer = fewer_kept m id key there s.holds.sound persistent in
-      let was = s.holds.kept in
-      turns_standing told may_leave moment left_since faults held hard locations labels only_now old (unfiled file slots) start opening h all all e mark (gone m id) s (record {
-        becomes = λ service known same. ap (λ (x : model.Store). gone x id) same ∙ sym (entry_removes e id call service key (ap (λ (x : model.Store). map.get x.keys id) (sym same) ∙ there));
-        sound = destroyed_sound m id s.holds.sound;
-        settings = refl;
-        rules = refl;
-        devices = refl;
-        found = s.holds.found;
-        few = s.holds.few;
-        calls = ap (λ (n : ℕ). n + 1) s.holds.calls;
-        made = s.holds.made;
-        live = λ caller le. as_many_live m id key there s.holds.sound persistent caller ∙ s.holds.live caller le;
-        kept = omega (arith, fewer, was);
-        ranked = refl;
-        slots = forgets m (gone m id) all s.holds.slots s.holds.sound (takes_out m id);
-        holdings = s.holds.holdings;
-        directory = directory_emptied m id key there cells file.cells.slots.items c (creation_of_slot (cell_slot cells c)) (record { sized = f.sized; inside = f.within; settled = f.missing }) (opens_with (cell_slot cells c) id f.key) s.holds.directory;
-        device = device_stays m id key there (held old.devices) s.holds.device;
-        tells = f.tells;
-        leads = λ course known same stands. subst (Leads told may_leave moment left_since disk file.cells.disk cells file.cells.slots.items (durable_keys m) course.doubt (durable_keys (gone m id)))
-            (sym (doubt_here e id call course mark _ is.marked (ap (λ (x : model.Store). durable_keys x id) (sym same) ∙ kept_here m id key there false persistent)))
-            (f.leads (durable_keys m) (durable_keys (gone m id)) course.doubt (stored key.number key.attributes key.bytes) stands (kept_here m id key there false persistent) (without_kept m id));
-        fault = fault;
-        may = λ service known same. may service (ap is_persistent_key (changes_it e id call service ∙ (ap (λ (x : model.Store). map.get x.keys id) (sym same) ∙ there)) ∙ ap not persistent);
-      }) is
-
-  -- a store without a volatile key of a caller
-  abbrev pub unslotted : A → KeySlots → (caller : ℕ) → Store D A C
-  unslotted devices slots caller = record old { slots = slots; devices = devices; live = slice_set old.live caller (slice_index old.live caller - 1); ranked = old.ranked + 1 }
-
-  -- the key of a slot that no cell has is destroyed
-  pub destroys_volatile : (devices : A) (slots : KeySlots) (caller : ℕ) (mark : FaultMark) (slot : Slot) (s : StandsOld) → IsInSlot s.holds.model id slot → Forgets slots →
-      1024 + caller ≡ id / 2 ^ 20 → locations devices ≡ locations old.devices → ((held devices ≡ held old.devices) ⊎ (held devices ≡ option_map (without_key slot.creation) (held old.devices))) →
-      HasFault (is_some (told disk)) (counts_of (faults disk) (hard old.devices)) e mark →
-      ((service : Service) → key_changed service e.caller e.call ≡ map.get s.holds.model.keys id → MayBeMarked service e.caller e.call mark) →
-      IsTurnTo (unslotted devices slots caller) mark → StandsNew (unslotted devices slots caller)
-  destroys_volatile devices slots caller mark slot s k forgets named places loses fault may is =
-      let m = s.holds.model in
-      let key = k.key in
-      let there = k.there in
-      let volatile = k.volatile in
-      turns_standing told may_leave moment left_since faults held hard locations labels only_now old (unslotted devices slots caller) start opening h all all e mark (gone m id) s (record {
-        becomes = λ service known same. ap (λ (x : model.Store). gone x id) same ∙ sym (entry_removes e id call service key (ap (λ (x : model.Store). map.get x.keys id) (sym same) ∙ there));
-        sound = destroyed_sound m id s.holds.sound;
-        settings = refl;
-        rules = refl;
-        devices = places;
-        found = s.holds.found;
-        few = s.holds.few;
-        calls = ap (λ (n : ℕ). n + 1) s.holds.calls;
-        made = s.holds.made;
-        live = live_after m id key there s.holds.sound volatile caller named old.live s.holds.live;
-        kept = as_many_kept m id key there s.holds.sound volatile ∙ s.holds.kept;
-        ranked = refl;
-        slots = forgets m (gone m id) all s.holds.slots s.holds.sound (takes_out m id);
-        holdings = s.holds.holdings;
-        directory = directory_stays m id key there cells volatile s.holds.directory;
-        device = device_loses m id key there (held old.devices) (held devices) s.holds.sound
-            (subst (λ (n : ℕ). (held devices ≡ held old.devices) ⊎ (held devices ≡ option_map (without_key n) (held old.devices))) k.has.number loses) s.holds.device;
-        tells = refl;
-        leads = λ course known same stands. subst (Leads told may_leave moment left_since disk disk cells cells (durable_keys m) course.doubt (durable_keys (gone m id)))
-            (sym (doubt_here e id call course mark None is.marked (ap (λ (x : model.Store). durable_keys x id) (sym same) ∙ kept_here m id key there true volatile)))
-            (stays told may_leave moment left_since disk cells (durable_keys m) (durable_keys (gone m id)) course.doubt (kept_same m id key there volatile) stands);
-        fault = fault;
-        may = λ service known same. may service (changes_it e id call service ∙ ap (λ (x : model.Store). map.get x.keys id) (sym same));
-      }) is

@@ -9,6 +9,7 @@ mod Lending
 mod Changing
 mod Removing
 mod Destroyed
+mod DestroyTurn
 mod Asked
 mod Added
 mod Checked

@@ -1,6 +1,7 @@
 use Rattle.std.specs.FinMap as map
 use Rattle.store_core.proofs.Kept.{no_key}
-use Rattle.store_core.proofs.Destroyed.{nothing, none_at_zero, rows_zero, rows_missing}
+use Rattle.store_core.proofs.Destroyed.{none_at_zero, rows_zero, rows_missing}
+use Rattle.store_core.proofs.DestroyTurn.{nothing}
 use Rattle.store_core.proofs.Ending.{lacks_key}
 use Rattle.store_core.proofs.Zeroed.{lacks_cell}
 use Rattle.store_core.proofs.store.Store.remove.Goals as goal

@@ -4,7 +4,8 @@ use Rattle.psa_status.specs.Causes.{Rose}
 use Rattle.key_file.specs.Files.{Leads}
 use Rattle.store_model.specs.Faults.{Plain, Storage, Writing}
 use Rattle.store_core.proofs.Kept.{key_of_cell, is_persistent}
-use Rattle.store_core.proofs.Destroyed.{destroys_kept, fewer_kept, rows_there, undestroyed_doubt}
+use Rattle.store_core.proofs.Destroyed.{fewer_kept, rows_there, undestroyed_doubt}
+use Rattle.store_core.proofs.DestroyTurn.{destroys_kept}
 use Rattle.std.proofs.Common.{refl, None}
 use Rattle.key_file.proofs.Leading as file
 use Rattle.store_core.proofs.Zeroed.{keys_put, freed}

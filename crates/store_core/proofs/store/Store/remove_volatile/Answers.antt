@@ -7,7 +7,8 @@ use Rattle.slot_table.specs.Slots.{slot_at}
 use Rattle.store_model.specs.Store.{is_opaque, is_opaque_key}
 use Rattle.store_model.specs.Faults.{Plain, Hardware}
 use Rattle.store_model.specs.Marks.{asks_device}
-use Rattle.store_core.proofs.Destroyed.{destroys_volatile, slot_key, high_here, of_creator, fewer_live, element_there, holds_some, rows_there}
+use Rattle.store_core.proofs.Destroyed.{high_here, of_creator, fewer_live, element_there, holds_some, rows_there}
+use Rattle.store_core.proofs.DestroyTurn.{destroys_volatile, slot_key}
 use Rattle.store_core.proofs.Forgotten.{slot_forgotten}
 use Rattle.store_core.proofs.store.Store.remove_volatile.Goals as goal
 
