@@ -1,19 +1,24 @@
 -- What is known once all passes are handed in.
-use Rattle.std.proofs.Common.{◌≡◌, ℕ, ◌<◌, ◌≤◌, List, All, ◌∙◌, subst, Option}
+use Rattle.std.proofs.Common.{◌≡◌, ℕ, ◌<◌, ◌≤◌, List, All, ◌∙◌, subst, inl, Option}
 use Rattle.turn_history.specs.declared.pass.Account.{Account}
 use Rattle.turn_history.specs.History.{entries_of, calls_by, StartsWith}
 use Rattle.policy_rules.specs.declared.narrowing.Label.{Label}
 use Rattle.driver_dispatch.specs.Held.{HeldKeys}
 use Rattle.key_slots.specs.Holdings.{Pairs}
+use Rattle.store_model.specs.Store as model
 use Rattle.store_model.specs.Replay.{Entry}
 use Rattle.store_core.specs.declared.store.Opened.{Opened}
 use Rattle.store_core.specs.declared.store.Store.{Store}
+use Rattle.store_core.specs.Durability.{course_of, durable_keys}
+use Rattle.store_core.specs.Zeros.{HasKeyOrZeros}
+use Rattle.store_core.proofs.Sure.{sure_cells}
 use Rattle.shared_store.specs.Closed.{IsClosed}
 use Rattle.shared_store.specs.Standing.{HoldsHistory, caller_of}
 use Rattle.shared_store.proofs.Renewing.{legal}
 
 module _ {D A C : Type 0} (told : D → Option (List ℕ)) (may_leave : D → List ℕ → Type 0) (moment : D → ℕ) (left_since : D → ℕ → List ℕ → Type 0)
-    (faults : D → ℕ) (size : D → ℕ) (held : A → Option HeldKeys) (hard : A → ℕ) (locations : A → List ℕ) (labels : C → List Label) where
+    (faults : D → ℕ) (size : D → ℕ) (held : A → Option HeldKeys) (hard : A → ℕ) (locations : A → List ℕ) (labels : C → List Label)
+    (only_now : (disk : D) (image : List ℕ) → left_since disk (moment disk) image → may_leave disk image) where
   closed_here : (store : Store D A C) (turns : List (Option Entry)) (all : List Pairs) (accounts : List (Account Entry)) → HoldsHistory told may_leave moment left_since faults size held hard locations labels store (entries_of turns) all →
       All (λ (e : Entry). (0 < e.caller) × (e.caller ≤ 16)) (entries_of turns) → All (λ (a : Account Entry). StartsWith turns a.seen) accounts →
       All (λ (a : Account Entry). 0 < a.number → calls_by caller_of a.number (entries_of turns) ≡ a.calls) accounts →
@@ -27,6 +32,12 @@ module _ {D A C : Type 0} (told : D → Option (List ℕ)) (may_leave : D → Li
     counts = (s.each s.start s.starts).counts;
     tells = s.tells;
     promise = λ tells start is. (s.each start is).holds.promise (s.tells ∙ tells);
+    cells = λ tells start is none image left cell lt.
+        let disk = store.file.cells.disk in
+        let holds = (s.each start is).holds in
+        let now = s.tells ∙ tells in
+        subst (λ (m : model.Store). HasKeyOrZeros (durable_keys m) cell image) (holds.replayed (inl now))
+        (sure_cells told may_leave disk store.file.cells.slots.items (durable_keys holds.model) (course_of start (entries_of turns)).doubt (holds.file now) (holds.sure now none) image (only_now disk image left) cell lt);
   }
 
   pub closed : (store : Store D A C) (opened : Opened D A C) (passes : ℕ) (turns : List (Option Entry)) (all : List Pairs) (accounts : List (Account Entry)) → store.opened ≡ opened → passes ≡ 16 →

@@ -1,5 +1,5 @@
 -- Passes that are new, and what is known once all are handed in.
-use Rattle.std.specs.Prelude.{◌≡◌, ◌<◌, ◌≤◌, ℕ, true, List, All, length, slice_index_or, Option, is_some}
+use Rattle.std.specs.Prelude.{◌≡◌, ◌<◌, ◌≤◌, ℕ, true, List, [], All, length, slice_index_or, Option, is_some}
 use Rattle.atomic_table.specs.Seated.{TableId}
 use Rattle.atomic_table.specs.declared.shared.Seat.{Seat}
 use Rattle.turn_history.specs.declared.pass.Account.{Account}
@@ -7,11 +7,12 @@ use Rattle.turn_history.specs.declared.pass.View.{View}
 use Rattle.turn_history.specs.History.{entries_of, calls_by, StartsWith}
 use Rattle.policy_rules.specs.declared.narrowing.Label.{Label}
 use Rattle.store_model.specs.Handles.{Service}
-use Rattle.store_model.specs.Replay.{Entry}
+use Rattle.store_model.specs.Replay.{Entry, replay}
 use Rattle.store_model.specs.Marks.{last_counts}
 use Rattle.store_core.specs.declared.store.Opened.{Opened}
-use Rattle.store_core.specs.Durability.{KeepsKeys}
+use Rattle.store_core.specs.Durability.{KeepsKeys, course_of, durable_keys}
 use Rattle.store_core.specs.Start.{opening_of}
+use Rattle.store_core.specs.Zeros.{HasKeyOrZeros}
 use Rattle.shared_store.specs.Standing.{caller_of}
 use Rattle.shared_store.specs.Turning.{IsAt, IsLegal, IsStartOf}
 
@@ -22,7 +23,8 @@ AreAt lock opened passes = (k : ℕ) (p : _) → k < length passes → IsAt lock
 -- There is one history. The passes that were handed in have seen beginnings of it, and their calls are their numbers' entries in
 -- it. Each of its marks stands where it may and has its fault; the last entry's counts are those of the disk and the devices
 -- that come back. The disk tells its bytes where it told them as it was opened, and then a crash since has left the keys of a
--- prefix, and one since a call was done those of a prefix that holds it.
+-- prefix, and one since a call was done those of a prefix that holds it. A crash now leaves in each cell a persistent key of the
+-- one-thread store after the history, or zeros, where no key is in doubt.
 pub record IsClosed {D A C : Type 0} (told : D → Option (List ℕ)) (moment : D → ℕ) (left_since : D → ℕ → List ℕ → Type 0)
     (faults : D → ℕ) (hard : A → ℕ) (locations : A → List ℕ) (labels : C → List Label)
     (opened : Opened D A C) (disk : D) (devices : A) (accounts : List (Account Entry)) : Type 0 where
@@ -35,3 +37,5 @@ pub record IsClosed {D A C : Type 0} (told : D → Option (List ℕ)) (moment : 
   pub tells : is_some (told disk) ≡ is_some (told opened.file.value.cells.disk)
   pub promise : is_some (told opened.file.value.cells.disk) ≡ true → (start : Service) → IsStartOf told moment faults hard locations labels opened start →
       KeepsKeys (left_since disk) (moment disk) (opening_of told moment faults hard locations labels opened).moment start (entries_of turns)
+  pub cells : is_some (told opened.file.value.cells.disk) ≡ true → (start : Service) → IsStartOf told moment faults hard locations labels opened start → (course_of start (entries_of turns)).doubt ≡ [] →
+      (image : List ℕ) → left_since disk (moment disk) image → (cell : ℕ) → cell < 512 → HasKeyOrZeros (durable_keys (replay start (entries_of turns)).store) cell image

@@ -200,6 +200,7 @@ module _ {D A C : Type 0} (told : D → Option (List ℕ)) (may_leave : D → Li
       directory = s.directory;
       device = subst (λ keys. HoldsKeys keys s.model) (sym same) s.device;
       file = s.file;
+      sure = s.sure;
       promise = s.promise;
       caused = s.caused;
       allowed = s.allowed;

@@ -5,6 +5,7 @@ use Rattle.disk_face.specs.Moments.{Within}
 use Rattle.disk_face.proofs.Moments.{promise_goes_on}
 use Rattle.policy_rules.specs.declared.narrowing.Label.{Label}
 use Rattle.driver_dispatch.specs.Held.{HeldKeys}
+use Rattle.key_cells.specs.Contents.{IsSure}
 use Rattle.key_file.specs.Files.{StandsForKeys, FitsKeys, Leads}
 use Rattle.key_file.proofs.Leading.{stands_fits}
 use Rattle.key_slots.specs.Holdings.{Pairs, AreHoldings}
@@ -51,6 +52,8 @@ module _ {D A C : Type 0} (told : D → Option (List ℕ)) (may_leave : D → Li
     pub tells : is_some (told new.file.cells.disk) ≡ is_some (told old.file.cells.disk)
     pub leads : (s : Course) → S s.service → m ≡ s.service.store → StandsForKeys told may_leave old.file.cells.disk old.file.cells.slots.items (durable_keys m) s.doubt →
         Leads told may_leave moment left_since old.file.cells.disk new.file.cells.disk old.file.cells.slots.items new.file.cells.slots.items (durable_keys m) s.doubt (durable_keys m') (doubt_after e s)
+    -- where nothing is in doubt afterwards, no cell is
+    pub settles : (s : Course) → S s.service → m ≡ s.service.store → (s.doubt ≡ [] → IsSure old.file.cells.slots.items) → doubt_after e s ≡ [] → IsSure new.file.cells.slots.items
     pub fault : HasFault (is_some (told new.file.cells.disk)) before e mark
     pub may : (service : Service) → S service → m ≡ service.store → MayBeMarked service e.caller e.call mark
 
@@ -134,6 +137,7 @@ module _ {D A C : Type 0} (told : D → Option (List ℕ)) (may_leave : D → Li
           directory = t.directory;
           device = t.device;
           file = λ tells. subst (StandsForKeys told may_leave now new.file.cells.slots.items (durable_keys m')) (sym (ap (λ (c : Course). c.doubt) (course_push start h e))) (leads_here tells).stands;
+          sure = λ tells none. t.settles course (before_course tells) (of_course tells) (s.sure (tells_before tells)) (sym (ap (λ (c : Course). c.doubt) (course_push start h e)) ∙ none);
           promise = λ tells. promise_goes_on after FitsCourse (opened start) (λ (x : Entry). x.done) (left_since past) (left_since now) (moment past) (moment now) opening.moment h e (s.promise (tells_before tells))
               (within_here tells) (fits_now tells) is.done;
           caused = go_on (is_some (told now)) opening.counts h e (subst (λ b. IsCaused b opening.counts h) (sym t.tells) s.caused)

@@ -7,7 +7,7 @@ use Rattle.policy_rules.specs.declared.narrowing.Label.{Label}
 use Rattle.driver_dispatch.specs.Held.{HeldKeys, without_key}
 use Rattle.key_cells.specs.declared.slot.Slot as cell
 use Rattle.key_cells.specs.declared.slot.Slot.TheVariants.{Free}
-use Rattle.key_cells.specs.Contents.{HasNoKey, cell_slot, has_id, creation_of_slot, settled_slots}
+use Rattle.key_cells.specs.Contents.{HasNoKey, IsSure, cell_slot, has_id, creation_of_slot, settled_slots}
 use Rattle.key_file.specs.declared.file.KeyFile.{KeyFile}
 use Rattle.key_file.specs.Files.{Stored, stored, Keys, Doubt, StandsForKeys, Leads, IsPut}
 use Rattle.key_file.proofs.Leading.{stays}
@@ -92,6 +92,7 @@ module _ {D A C : Type 0} (told : D → Option (List ℕ)) (may_leave : D → Li
     leads = λ c known same stands. subst (Leads told may_leave moment left_since disk disk cells cells (durable_keys m) c.doubt (durable_keys m))
         (sym (doubt_here e id call c Plain None is.marked (ap (λ (x : model.Store). durable_keys x id) (sym same) ∙ ap kept none)))
         (stays told may_leave moment left_since disk cells (durable_keys m) (durable_keys m) c.doubt (λ q. refl) stands);
+    settles = λ c known same sure empty. sure (sym (doubt_here e id call c Plain None is.marked (ap (λ (x : model.Store). durable_keys x id) (sym same) ∙ ap kept none)) ∙ empty);
     fault = tt;
     may = λ service known same. tt;
   }) is
@@ -109,6 +110,7 @@ module _ {D A C : Type 0} (told : D → Option (List ℕ)) (may_leave : D → Li
     pub tells : is_some (told file.cells.disk) ≡ is_some (told disk)
     pub leads : (keys keys' : Keys) (doubt : Doubt) (key : Stored) → StandsForKeys told may_leave disk cells keys doubt → keys id ≡ Some key → IsPut keys keys' id None →
         Leads told may_leave moment left_since disk file.cells.disk cells file.cells.slots.items keys doubt keys' (doubt_by mark true key doubt)
+    pub settles : (key : Stored) (doubt : Doubt) → doubt_by mark true key doubt ≡ [] → IsSure file.cells.slots.items
 
   -- a store without a key of its file
   abbrev pub unfiled : KeyFile D → KeySlots → Store D A C
@@ -148,6 +150,8 @@ module _ {D A C : Type 0} (told : D → Option (List ℕ)) (may_leave : D → Li
         leads = λ course known same stands. subst (Leads told may_leave moment left_since disk file.cells.disk cells file.cells.slots.items (durable_keys m) course.doubt (durable_keys (gone m id)))
             (sym (doubt_here e id call course mark _ is.marked (ap (λ (x : model.Store). durable_keys x id) (sym same) ∙ kept_here m id key there false persistent)))
             (f.leads (durable_keys m) (durable_keys (gone m id)) course.doubt (stored key.number key.attributes key.bytes) stands (kept_here m id key there false persistent) (without_kept m id));
+        settles = λ course known same sure none. f.settles (stored key.number key.attributes key.bytes) course.doubt
+            (sym (doubt_here e id call course mark _ is.marked (ap (λ (x : model.Store). durable_keys x id) (sym same) ∙ kept_here m id key there false persistent)) ∙ none);
         fault = fault;
         may = λ service known same. may service (ap is_persistent_key (changes_it e id call service ∙ (ap (λ (x : model.Store). map.get x.keys id) (sym same) ∙ there)) ∙ ap not persistent);
       }) is
@@ -189,6 +193,7 @@ module _ {D A C : Type 0} (told : D → Option (List ℕ)) (may_leave : D → Li
         leads = λ course known same stands. subst (Leads told may_leave moment left_since disk disk cells cells (durable_keys m) course.doubt (durable_keys (gone m id)))
             (sym (doubt_here e id call course mark None is.marked (ap (λ (x : model.Store). durable_keys x id) (sym same) ∙ kept_here m id key there true volatile)))
             (stays told may_leave moment left_since disk cells (durable_keys m) (durable_keys (gone m id)) course.doubt (kept_same m id key there volatile) stands);
+        settles = λ course known same sure none. sure (sym (doubt_here e id call course mark None is.marked (ap (λ (x : model.Store). durable_keys x id) (sym same) ∙ kept_here m id key there true volatile)) ∙ none);
         fault = fault;
         may = λ service known same. may service (changes_it e id call service ∙ ap (λ (x : model.Store). map.get x.keys id) (sym same));
       }) is

@@ -1,5 +1,5 @@
 -- The one-thread store and the devices without a key that is destroyed.
-use Rattle.std.proofs.Common.{◌≡◌, ◌≢◌, ◌∙◌, ℕ, ◌+◌, ◌-◌, ◌/◌, ◌^◌, ◌<◌, ◌≤◌, ◌==◌, ◌&&◌, ◌||◌, Bool, true, false, not, cond, nat_lt, List, length, refl, sym, ap, arith, inl, inr, eq-eqb, Option, None, Some}
+use Rattle.std.proofs.Common.{◌≡◌, ◌≢◌, ◌∙◌, ℕ, ◌+◌, ◌-◌, ◌/◌, ◌^◌, ◌<◌, ◌≤◌, ◌==◌, ◌&&◌, ◌||◌, Bool, true, false, not, cond, nat_lt, List, [], length, refl, sym, ap, arith, inl, inr, eq-eqb, Option, None, Some}
 use Rattle.std.proofs.lemmas.Bool.{false≢true, eqb-true, cases_eq, cases_lt}
 use Rattle.std.proofs.lemmas.Bool.Decides.{nat_tests}
 use Rattle.std.proofs.lemmas.List.{get_or-set_same, get_or-set_other, get_or_past}
@@ -91,6 +91,10 @@ module _ (e : Entry) (id : ℕ) (call : e.call ≡ OnStore (Destroy id)) where
 pub undestroyed_doubt : (closed_first : Bool) (key : Stored) (doubt : Doubt) → doubt_undestroyed closed_first key.attributes key.bytes doubt ≡ doubt_by (Storage (Writing closed_first)) true key doubt
 undestroyed_doubt true key doubt = refl
 undestroyed_doubt false key doubt = refl
+
+pub still_doubted : (closed_first : Bool) (key : Stored) (doubt : Doubt) → doubt_by (Storage (Writing closed_first)) true key doubt ≡ [] → ⊥
+still_doubted true key doubt none = cc
+still_doubted false key doubt none = cc
 
 -- KEYS BY THEIR IDENTIFIERS
 

@@ -137,6 +137,7 @@ module _ {D A C : Type 0} (told : D → Option (List ℕ)) (may_leave : D → Li
     }) counts
         (λ c known at stands. subst (Leads told may_leave moment left_since disk disk mid.file.cells.slots.items mid.file.cells.slots.items (durable_keys s.model) c.doubt (durable_keys s.model)) (sym (doubts c known))
         (stays told may_leave moment left_since disk mid.file.cells.slots.items (durable_keys s.model) (durable_keys s.model) c.doubt (λ q. refl) stands))
+        (λ c known at sure none. sure (sym (doubts c known) ∙ none))
         fault may is
 
     -- since it is refused

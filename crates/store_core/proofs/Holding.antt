@@ -4,6 +4,7 @@ use Rattle.disk_face.specs.Moments.{Within, KeepsPromise, FitsFrom}
 use Rattle.disk_face.proofs.Moments.{promise_goes_on, within_none, fits_whole, fits_least}
 use Rattle.policy_rules.specs.declared.narrowing.Label.{Label}
 use Rattle.driver_dispatch.specs.Held.{HeldKeys}
+use Rattle.key_cells.specs.Contents.{IsSure}
 use Rattle.key_file.specs.declared.file.KeyFile.{KeyFile}
 use Rattle.key_file.specs.Files.{Keys, Doubt, StandsForKeys, FitsKeys, FitsEitherKeys, Leads}
 use Rattle.key_file.proofs.Leading.{stands_fits, stays}
@@ -121,6 +122,7 @@ module _ {D A C : Type 0} (told : D → Option (List ℕ)) (may_leave : D → Li
         directory = subst (λ (c : _). IsDirectory c.items s.model) (sym read.slots) s.directory;
         device = s.device;
         file = λ is. (leads is).stands;
+        sure = λ is none. subst (λ (c : _). IsSure c.items) (sym read.slots) (s.sure (before is) none);
         promise = λ is. promise_stays (left_since old.file.cells.disk) (left_since file.cells.disk) (moment old.file.cells.disk) (moment file.cells.disk) opening.moment start h
             (FitsEitherKeys (durable_keys s.model) (course_of start h).doubt (durable_keys s.model) (course_of start h).doubt) (s.promise (before is)) (leads is).within
             (λ image fits. fits_now s.model (s.replayed (inl (before is))) image (⊎_elim (λ f. f) (λ f. f) fits));
@@ -159,6 +161,7 @@ module _ {D A C : Type 0} (told : D → Option (List ℕ)) (may_leave : D → Li
         directory = s.holds.directory;
         device = s.holds.device;
         file = s.holds.file;
+        sure = s.holds.sure;
         promise = s.holds.promise;
         caused = s.holds.caused;
         allowed = s.holds.allowed;
@@ -189,6 +192,7 @@ module _ {D A C : Type 0} (told : D → Option (List ℕ)) (may_leave : D → Li
       directory = s.directory;
       device = s.device;
       file = s.file;
+      sure = s.sure;
       promise = s.promise;
       caused = s.caused;
       allowed = s.allowed;
@@ -245,6 +249,7 @@ module _ {D A C : Type 0} (told : D → Option (List ℕ)) (may_leave : D → Li
           directory = same_directory old.file.cells.slots.items s.model s.directory;
           device = same_device (held old.devices) s.model s.device;
           file = λ tells. subst (StandsForKeys told may_leave disk_here old.file.cells.slots.items (durable_keys s.model)) (sym (doubt_stays start h e (still.changes_none (inl tells)))) (s.file tells);
+          sure = λ tells none. s.sure tells (sym (doubt_stays start h e (still.changes_none (inl tells))) ∙ none);
           promise = λ tells. promise_goes_on after FitsCourse (opened start) (λ (x : Entry). x.done) (left_since disk_here) (left_since disk_here) (moment disk_here) (moment disk_here) opening.moment h e (s.promise tells)
               (within_none (moment disk_here) (left_since disk_here) _) (fits_after still (inl tells) s.model (s.replayed (inl tells)) (s.file tells)) is.done;
           caused = go_on (is_some (told disk_here)) opening.counts h e s.caused (subst (HasFault (is_some (told disk_here)) (last_counts opening.counts h) e) (sym is.marked) fault);

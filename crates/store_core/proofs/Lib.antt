@@ -1,5 +1,6 @@
 pub mod Histories
 pub mod Rises
+pub mod Sure
 mod Holding
 mod Kept
 mod Replaced

@@ -147,6 +147,7 @@ module _ {D A C : Type 0} (told : D → Option (List ℕ)) (may_leave : D → Li
               directory = subst (λ (l : _). IsDirectory l.items (replaced s.model id new)) (sym read.slots) (directory_after s.model id own.0 a bytes own.1 own.2 key named old.file.cells.slots.items s.directory);
               device = device_after s.model id own.0 a bytes own.1 own.2 key named (held old.devices) s.device;
               file = λ tells. absurd (blind_again blind tells);
+              sure = λ tells none. absurd (blind_again blind tells);
               promise = λ tells. absurd (blind_again blind tells);
               caused = subst (λ (t : Option (List ℕ)). IsCaused (is_some t) opening.counts h) (sym read.same) s.caused;
               allowed = λ t. s.allowed (subst (λ (o : Option (List ℕ)). IsTold o start h) read.same t);

@@ -9,6 +9,7 @@ use Rattle.psa_status.specs.Causes.{Rose}
 use Rattle.policy_rules.specs.declared.narrowing.Label.{Label}
 use Rattle.key_attributes.specs.declared.Attributes.{Attributes}
 use Rattle.driver_dispatch.specs.Held.{HeldKeys}
+use Rattle.key_cells.specs.Contents.{IsSure}
 use Rattle.key_file.specs.Files.{Stored, stored, Doubt, StandsForKeys, Leads}
 use Rattle.key_slots.specs.Holdings.{Pairs, AreHoldings}
 use Rattle.key_slots.specs.Standing.{Agrees}
@@ -135,8 +136,9 @@ module _ {D A C : Type 0} (told : D → Option (List ℕ)) (may_leave : D → Li
       ((doubt : Doubt) → StandsForKeys told may_leave disk old.file.cells.slots.items (durable_keys s.model) doubt →
       Leads told may_leave moment left_since disk new.file.cells.disk old.file.cells.slots.items new.file.cells.slots.items (durable_keys s.model) doubt (durable_keys (created s.model caller recorded bytes).store)
       (cond (is_volatile recorded) doubt [])) →
+      ((doubt : Doubt) → (doubt ≡ [] → IsSure old.file.cells.slots.items) → cond (is_volatile recorded) doubt [] ≡ [] → IsSure new.file.cells.slots.items) →
       IsTurnTo Plain → StandsNew
-  makes caller recorded bytes s first last may keeps making holdings same leads is =
+  makes caller recorded bytes s first last may keeps making holdings same leads settles is =
       turns told may_leave moment left_since faults held hard locations labels only_now (IsMakingAt e caller recorded bytes) (IsTold (told disk) start (h ++ e ∷ [])) old new start opening h all less e Plain (created s.model caller recorded bytes).store s
       (retold (told disk) (told new.file.cells.disk) start (h ++ e ∷ []) same.tells) (λ k. making (retold (told disk) (told new.file.cells.disk) start (h ++ e ∷ []) same.tells k)) (record {
         becomes = λ service known at. ap (λ (x : model.Store). (created x caller recorded bytes).store) at ∙ sym (plain_counts e keeps service is.marked ∙ known.leaves);
@@ -158,6 +160,7 @@ module _ {D A C : Type 0} (told : D → Option (List ℕ)) (may_leave : D → Li
         tells = same.tells;
         leads = λ c known at stands. subst (Leads told may_leave moment left_since disk new.file.cells.disk old.file.cells.slots.items new.file.cells.slots.items (durable_keys s.model) c.doubt (durable_keys (created s.model caller recorded bytes).store))
             (sym (doubt_is c known at)) (leads c.doubt stands);
+        settles = λ c known at sure none. settles c.doubt sure (sym (doubt_is c known at) ∙ none);
         fault = tt;
         may = λ service known at. tt;
       }) is
@@ -179,9 +182,10 @@ module _ {D A C : Type 0} (told : D → Option (List ℕ)) (may_leave : D → Li
       ((service : Service) → S service → (outcome_of service e).service.store ≡ counted service.store) →
       ((c : Course) → S c.service → s.model ≡ c.service.store → StandsForKeys told may_leave disk old.file.cells.slots.items (durable_keys s.model) c.doubt →
       Leads told may_leave moment left_since disk new.file.cells.disk old.file.cells.slots.items new.file.cells.slots.items (durable_keys s.model) c.doubt (durable_keys s.model) (doubt_after e c)) →
+      ((c : Course) → S c.service → s.model ≡ c.service.store → (c.doubt ≡ [] → IsSure old.file.cells.slots.items) → doubt_after e c ≡ [] → IsSure new.file.cells.slots.items) →
       HasFault (is_some (told new.file.cells.disk)) (last_counts opening.counts h) e mark → ((service : Service) → S service → s.model ≡ service.store → MayBeMarked service e.caller e.call mark) →
       IsTurnTo mark → StandsNew
-  unmade S mark s keeps before holdings same counts leads fault may is =
+  unmade S mark s keeps before holdings same counts leads settles fault may is =
       turns told may_leave moment left_since faults held hard locations labels only_now S (IsTold (told disk) start (h ++ e ∷ [])) old new start opening h all less e mark (counted s.model) s
       (retold (told disk) (told new.file.cells.disk) start (h ++ e ∷ []) same.tells) (λ k. before (retold (told disk) (told new.file.cells.disk) start (h ++ e ∷ []) same.tells k)) (record {
         becomes = λ service known at. ap counted at ∙ sym (counts service known);
@@ -202,6 +206,7 @@ module _ {D A C : Type 0} (told : D → Option (List ℕ)) (may_leave : D → Li
         device = same.device;
         tells = same.tells;
         leads = leads;
+        settles = settles;
         fault = fault;
         may = may;
       }) is

@@ -9,7 +9,7 @@ use Rattle.driver_dispatch.specs.Held.{HeldKeys}
 use Rattle.secret_bytes.specs.Buffer.{bytes_of}
 use Rattle.key_cells.specs.declared.slot.Slot as cell
 use Rattle.key_cells.specs.declared.slot.Slot.TheVariants.{Open}
-use Rattle.key_cells.specs.Contents.{HasNoKey, IsFull, IsFirstWithoutKey, settled_slots}
+use Rattle.key_cells.specs.Contents.{HasNoKey, IsFull, IsFirstWithoutKey, IsSure, settled_slots}
 use Rattle.key_cells.specs.Body.{IsKeyOf}
 use Rattle.key_file.specs.declared.file.KeyFile.{KeyFile}
 use Rattle.key_file.specs.Files.{Stored, stored, Keys, Doubt, StandsForKeys, Leads, IsPut, doubt_unmade}
@@ -35,6 +35,7 @@ use Rattle.store_core.specs.Durability.{Course, durable_keys, doubt_after, doubt
 use Rattle.store_core.specs.Represents.{Opening, Told}
 use Rattle.store_core.specs.Creations.{IsReady, IsMaterial, IsMaking, IsSince}
 use Rattle.store_core.proofs.Holding.{StandsHere, IsTurn, same_directory, same_device}
+use Rattle.store_core.proofs.Sure.{set_sure}
 use Rattle.store_core.proofs.Removing.{directory_settled}
 use Rattle.store_core.proofs.Added.{none_stated, few_kept, puts, is_new, named_as_stated, stated_here, local_fills, put_here, put_kept, persistent_kept, directory_placed, as_many_live, one_more_kept, made_same, device_same}
 use Rattle.store_core.proofs.Checked.{key_of_checked, kept_local, in_no_cell, in_no_slot, full_counts}
@@ -158,7 +159,8 @@ module _ {D A C : Type 0} (told : D → Option (List ℕ)) (may_leave : D → Li
             (f.placed ∙ ap (λ n. set (settled_slots cells) f.c (Open a.id.0 n)) number_is);
         device = device_same m caller a r.bytes first last r.holds.sound ready_may (held old.devices) local r.holds.device;
         tells = f.tells;
-      }) (λ doubt stands. subst (λ b. Leading (durable_keys m) doubt (durable_keys after) (cond b doubt [])) (sym persistent) (f.leads (durable_keys m) (durable_keys after) doubt stands put_stated)) is
+      }) (λ doubt stands. subst (λ b. Leading (durable_keys m) doubt (durable_keys after) (cond b doubt [])) (sym persistent) (f.leads (durable_keys m) (durable_keys after) doubt stands put_stated))
+          (λ doubt sure none. set_sure cells file.cells.slots.items f.c (Open a.id.0 number) refl f.placed) is
 
       -- what the file makes of one that it failed to make
       pub record IsUnfiled (closed_first : Bool) : Type 0 where
@@ -166,6 +168,7 @@ module _ {D A C : Type 0} (told : D → Option (List ℕ)) (may_leave : D → Li
         pub sized : length file.cells.slots.items ≡ 512
         pub tells : is_some (told file.cells.disk) ≡ is_some (told disk)
         pub leads : (keys : Keys) (doubt : Doubt) → StandsForKeys told may_leave disk cells keys doubt → Leading keys doubt keys (doubt_unmade (Disk closed_first) a (bytes_of old.buffer) doubt)
+        pub unclosed : closed_first ≡ false → IsSure cells → ⊥
         pub rose : Rose (faults disk) (faults file.cells.disk)
 
       abbrev pub with_none : Store D A C
@@ -187,6 +190,7 @@ module _ {D A C : Type 0} (told : D → Option (List ℕ)) (may_leave : D → Li
         tells = f.tells;
       }) (λ service known. marked_outcome service is.marked)
           (λ c known at stands. subst (Leading (durable_keys m) c.doubt (durable_keys m)) (sym (doubt_is c known at)) (f.leads (durable_keys m) c.doubt stands))
+          (λ c known at sure none. absurd (in_doubt closed_first c.doubt f.unclosed sure (sym (doubt_is c known at) ∙ none)))
           (rose_since (last_counts opening.counts h).faults (faults disk) e.faults since.faults_since (subst (Rose (faults disk)) (sym is.disk_faults) f.rose))
           (λ service known at. is_persistent_changed service known at) is
         where
@@ -203,6 +207,11 @@ module _ {D A C : Type 0} (told : D → Option (List ℕ)) (may_leave : D → Li
           doubt_of : (b : Bool) (doubt : Doubt) → doubt_by (Storage (Writing b)) false (stored number a (bytes_of old.buffer)) doubt ≡ doubt_unmade (Disk b) a (bytes_of old.buffer) doubt
           doubt_of true doubt = refl
           doubt_of false doubt = refl
+
+          -- it is in doubt itself, or a key was before
+          in_doubt : (b : Bool) (doubt : Doubt) → (b ≡ false → IsSure cells → ⊥) → (doubt ≡ [] → IsSure cells) → doubt_unmade (Disk b) a (bytes_of old.buffer) doubt ≡ [] → ⊥
+          in_doubt true doubt unclosed sure none = cc
+          in_doubt false doubt unclosed sure none = unclosed refl (sure none)
 
           doubt_is : (c : Course) → IsMakingAt e caller a r.bytes c.service → m ≡ c.service.store → doubt_after e c ≡ doubt_unmade (Disk closed_first) a (bytes_of old.buffer) c.doubt
           doubt_is c known at = doubted e making.keeps c (Storage (Writing closed_first)) (Some own) (Some (stored number a (bytes_of old.buffer))) is.marked (changed c.service known at) kept_own ∙ doubt_of closed_first c.doubt

@@ -192,7 +192,8 @@ module _ {D A C : Type 0} (told : D → Option (List ℕ)) (may_leave : D → Li
       device = device;
       tells = refl;
     }) (λ doubt stands. subst (λ b. Leading doubt after (cond b doubt [])) (sym volatile)
-        (stays told may_leave moment left_since disk old.file.cells.slots.items (durable_keys m) (durable_keys after) doubt (volatile_kept m caller a r.bytes first last r.holds.sound may volatile) stands)) is
+        (stays told may_leave moment left_since disk old.file.cells.slots.items (durable_keys m) (durable_keys after) doubt (volatile_kept m caller a r.bytes first last r.holds.sound may volatile) stands))
+        (λ doubt sure none. sure (subst (λ b. cond b doubt [] ≡ []) volatile none)) is
 
     -- a key that no device is to hold
     pub local_device : is_opaque a ≡ false → held devices ≡ held old.devices → HoldsKeys (held devices) after
@@ -225,6 +226,7 @@ module _ {D A C : Type 0} (told : D → Option (List ℕ)) (may_leave : D → Li
       tells = refl;
     }) (λ service known. ap (λ (x : FaultMark). (serve service e.caller e.call x).service.store) is.marked ∙ marked_counts service e.caller e.call Hardware tt making.keeps)
         (λ c known at stands. subst (Leading c.doubt m) (sym (doubt_is c known at)) (stays told may_leave moment left_since disk old.file.cells.slots.items (durable_keys m) (durable_keys m) c.doubt (λ q. refl) stands))
+        (λ c known at sure none. sure (sym (doubt_is c known at) ∙ none))
         (rose_since (last_counts opening.counts h).hard (hard old.devices) e.hard since.hard_since (subst (Rose (hard old.devices)) (sym is.device_faults) rose))
         (λ service known at. ap (λ b. b || asks_device service e.caller e.call) (ap is_opaque_key (changed service known at) ∙ opaque)) is
       where

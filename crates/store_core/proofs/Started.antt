@@ -41,6 +41,7 @@ use Rattle.store_core.specs.Start.{AreOpened, IsStart, opening_of}
 use Rattle.store_core.proofs.FoundMap.{HasEachOnce, AreKept, id_of, numbered, found_at, at_found, are_found, counted}
 use Rattle.store_core.proofs.Kept.{lasting, local}
 use Rattle.store_core.proofs.OpenCells.{placed, are_kept, each_once, has_own, some_opened}
+use Rattle.store_core.proofs.Sure.{opened_sure}
 use Rattle.store_core.proofs.Openings.{told_twice, cell_key, key_found, found_key, durable_found}
 
 zero_at : (n c : ℕ) → ◌≡◌ {A = ℕ} (slice_index_or (replicate n 0) c 0) 0
@@ -253,6 +254,7 @@ module _ {D A C : Type 0} (told : D → Option (List ℕ)) (may_leave : D → Li
             directory = directory_starts (told disk) slots found settings kept once sized numbered_by new.file.one are;
             device = device_starts (told disk) slots found settings kept once (held store.devices) lacks;
             file = file;
+            sure = λ tells none. opened_sure (told first) slots sized new.file.found (sym new.file.tells ∙ tells);
             promise = λ tells. promise_starts start only_now (subst (λ (x : model.Store). StandsForKeys told may_leave disk slots (durable_keys x) []) store_is (file tells));
             caused = tt;
             allowed = λ t. tt;

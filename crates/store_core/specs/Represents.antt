@@ -3,7 +3,7 @@ use Rattle.std.specs.Prelude.{◌≡◌, ◌<◌, ◌≤◌, ◌⊎◌, ℕ, ◌
 use Rattle.std.specs.FinMap as map
 use Rattle.key_cells.specs.declared.slot.Slot as cell
 use Rattle.key_cells.specs.declared.slot.Slot.TheVariants.{Open}
-use Rattle.key_cells.specs.Contents.{cell_slot}
+use Rattle.key_cells.specs.Contents.{cell_slot, IsSure}
 use Rattle.key_file.specs.Files.{StandsForKeys}
 use Rattle.key_slots.specs.Holdings.{Pairs, Gains, AreHoldings, named}
 use Rattle.key_slots.specs.Standing.{Agrees}
@@ -64,8 +64,8 @@ module _ {D A C : Type 0} (told : D → Option (List ℕ)) (may_leave : D → Li
   Told store start h = IsTold (told store.file.cells.disk) start h
 
   -- The store holds the keys of a model: its slots, its directory and its device have them, and its file those that are
-  -- durable. Where K holds, the model is the one-thread store after the history. Each crash since the opening leaves what is
-  -- promised, and no mark of the history is without its fault.
+  -- durable. Where K holds, the model is the one-thread store after the history. Where no key is in doubt, no cell is. Each
+  -- crash since the opening leaves what is promised, and no mark of the history is without its fault.
   pub record Holds (K : Type 0) (store : Store D A C) (start : Service) (opening : Opening) (h : List Entry) (all : List Pairs) : Type 0 where
     pub model : model.Store
     pub replayed : K → model ≡ (replay start h).store
@@ -86,6 +86,7 @@ module _ {D A C : Type 0} (told : D → Option (List ℕ)) (may_leave : D → Li
     pub device : HoldsKeys (held store.devices) model
     pub file : is_some (told store.file.cells.disk) ≡ true →
         StandsForKeys told may_leave store.file.cells.disk store.file.cells.slots.items (durable_keys model) (course_of start h).doubt
+    pub sure : is_some (told store.file.cells.disk) ≡ true → (course_of start h).doubt ≡ [] → IsSure store.file.cells.slots.items
     pub promise : is_some (told store.file.cells.disk) ≡ true → KeepsKeys (left_since store.file.cells.disk) (moment store.file.cells.disk) opening.moment start h
     pub caused : IsCaused (is_some (told store.file.cells.disk)) opening.counts h
     pub allowed : Told store start h → AreAllowed start h

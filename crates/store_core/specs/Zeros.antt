@@ -1,10 +1,12 @@
--- What stays zeros: the cells that are free.
-use Rattle.std.specs.Prelude.{◌≡◌, ◌<◌, ℕ, true, List, [], ◌∷◌, Option, is_some}
+-- What is zeros in a file: the cells that are free, and so all that have no key where nothing is in doubt.
+use Rattle.std.specs.Prelude.{◌≡◌, ◌<◌, ◌⊎◌, ℕ, true, List, [], ◌∷◌, Option, Some, is_some}
 use Rattle.disk_face.specs.Moments.{Within}
 use Rattle.key_cells.specs.declared.slot.Slot.TheVariants.{Free}
+use Rattle.key_cells.specs.Layout.{gate, body, opened_gate}
 use Rattle.key_cells.specs.Contents.{HasZeros, cell_slot}
+use Rattle.key_cells.specs.Body.{HoldsKey}
 use Rattle.key_file.specs.declared.file.KeyFile.{KeyFile}
-use Rattle.key_file.specs.Files.{Keys, Doubt, StandsForKeys}
+use Rattle.key_file.specs.Files.{Stored, Keys, Doubt, StandsForKeys}
 use Rattle.key_slots.specs.Holdings.{Pairs}
 use Rattle.policy_rules.specs.declared.narrowing.Label.{Label}
 use Rattle.driver_dispatch.specs.Held.{HeldKeys}
@@ -12,6 +14,10 @@ use Rattle.store_model.specs.Handles.{Service}
 use Rattle.store_model.specs.Replay.{Entry}
 use Rattle.store_core.specs.declared.store.Store.{Store}
 use Rattle.store_core.specs.Represents.{Opening, Stands, StandsFor}
+
+-- a cell of an image has one of these keys, or is all zeros
+abbrev pub HasKeyOrZeros : Keys → ℕ → List ℕ → Type 0
+HasKeyOrZeros keys cell image = ((id : ℕ) × (key : Stored) × (keys id ≡ Some key) × (gate cell image ≡ opened_gate) × HoldsKey key.attributes key.bytes (body cell image)) ⊎ HasZeros cell image
 
 -- a cell that is free before calls and after them is all zeros in every image that a crash within them leaves
 abbrev pub LeavesZeros : {D : Type 0} (moment : D → ℕ) (left_since : D → ℕ → List ℕ → Type 0) (old new : KeyFile D) → Type 0

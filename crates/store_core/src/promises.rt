@@ -14,10 +14,10 @@ ghost use Rattle.store_model.specs.Requests.{plain_step};
 ghost use Rattle.store_model.specs.Laws.{may_change_keys};
 ghost use Rattle.store_model.specs.Replay.{Entry, replay};
 ghost use Rattle.store_model.specs.Origin.{GainsNothing, IsCaller, found_made, made_after};
-ghost use Rattle.store_core.specs.Durability.{FitsPrefix};
+ghost use Rattle.store_core.specs.Durability.{FitsPrefix, course_of, durable_keys};
 ghost use Rattle.store_core.specs.declared.store.Store as store;
 ghost use Rattle.store_core.specs.Represents.{IsTold, LeavesKeys, Opening, Stands, StandsFor};
-ghost use Rattle.store_core.specs.Zeros.{StaysFree, StaysZeros, last_store};
+ghost use Rattle.store_core.specs.Zeros.{HasKeyOrZeros, StaysFree, StaysZeros, last_store};
 
 use crate::Store;
 use admission::Admission;
@@ -40,6 +40,13 @@ impl<D: Disk, A: Devices, C: Admission> Store<D, A, C> {
     pub fn a_free_cell_is_zeros(&self)
         ensures { (start : Service) (opening : Opening) (h : List Entry) (all : List Pairs) → StandsFor D.contents D.may_leave D.moment D.left_since D.faults A.keys A.faults A.locations C.labels self.now start opening h all →
             is_some (D.contents self.now.file.cells.disk) ≡ true → (cell : ℕ) → cell < 512 → cell_slot self.now.file.cells.slots.items cell ≡ Free → (image : List ℕ) → D.may_leave self.now.file.cells.disk image → HasZeros cell image }
+    {}
+
+    /// Where no key is in doubt, as after a write that succeeded, a crash leaves in each cell a key of the file, or zeros: of a
+    /// destroyed key there is nothing.
+    pub fn a_cell_has_a_key_or_zeros(&self)
+        ensures { (start : Service) (opening : Opening) (h : List Entry) (all : List Pairs) (s : StandsFor D.contents D.may_leave D.moment D.left_since D.faults A.keys A.faults A.locations C.labels self.now start opening h all) →
+            is_some (D.contents self.now.file.cells.disk) ≡ true → (course_of start h).doubt ≡ [] → (image : List ℕ) → D.may_leave self.now.file.cells.disk image → (cell : ℕ) → cell < 512 → HasKeyOrZeros (durable_keys s.holds.model) cell image }
     {}
 
     /// A cell that is free, as after a destruction that succeeded, stays all zeros over any turns that leave it free, until a

@@ -4,7 +4,9 @@ use Rattle.psa_status.specs.Causes.{Rose}
 use Rattle.key_file.specs.Files.{Leads}
 use Rattle.store_model.specs.Faults.{Plain, Storage, Writing}
 use Rattle.store_core.proofs.Kept.{key_of_cell, is_persistent}
-use Rattle.store_core.proofs.Destroyed.{fewer_kept, rows_there, undestroyed_doubt}
+use Rattle.store_core.proofs.Destroyed.{fewer_kept, rows_there, still_doubted, undestroyed_doubt}
+use Rattle.store_core.proofs.Sure.{set_sure}
+use Rattle.key_cells.specs.declared.slot.Slot.TheVariants.{Free}
 use Rattle.store_core.proofs.DestroyTurn.{destroys_kept}
 use Rattle.std.proofs.Common.{refl, None}
 use Rattle.key_file.proofs.Leading as file
@@ -33,7 +35,7 @@ returns-in-Ok-clause-destroyed g c = λ start opening h all e s call is.
     let within : c.args.cell < 512 = omega arith in
     let key = key_of_cell c.args.self.now.file.cells.slots.items m c.args.id.0 c.args.cell s.holds.directory within c.requires.there.here in (
       destroys_kept d.contents d.may_leave d.moment d.left_since d.faults v.keys v.faults v.locations g.C.Admission.labels g.met.D.Disk.only_now c.args.self.now start opening h all e c.args.id.0 call c.destroy-closed.new.self c.destroy.new.self Plain c.args.cell s
-          (record { within = within; key = c.requires.there.here; sized = ensures.slots; missing = ensures.missing; tells = ensures.tells; leads = λ keys keys' doubt own stands there put. ensures.destroyed keys keys' doubt stands put })
+          (record { within = within; key = c.requires.there.here; sized = ensures.slots; missing = ensures.missing; tells = ensures.tells; leads = λ keys keys' doubt own stands there put. ensures.destroyed keys keys' doubt stands put; settles = λ own doubt none. set_sure c.args.self.now.file.cells.slots.items c.destroy-closed.new.self.cells.slots.items c.args.cell Free refl ensures.gone })
           c.destroy.ensures.forgets tt (λ service persistent. tt) is,
       rows_there c.args.id.0 (map.get m.keys c.args.id.0) key.0 key.1,
     )
@@ -60,6 +62,7 @@ returns-in-Err-clause-failed g c = λ start opening h all e s call is.
             tells = ensures.tells;
             leads = λ keys keys' doubt own stands there put. subst (Leads d.contents d.may_leave d.moment d.left_since old.disk new.disk old.slots.items new.slots.items keys doubt keys') (undestroyed_doubt closed own doubt)
                 (ensures.failed keys keys' doubt own stands there put);
+            settles = λ own doubt none. absurd (still_doubted closed own doubt none);
           })
           c.destroy.ensures.forgets (subst (Rose (d.faults old.disk)) (sym is.disk_faults) ensures.cause.failed) (λ service persistent. persistent) is,
       is_persistent (map.get m.keys c.args.id.0) key.0 key.1 key.2,
