@@ -19,7 +19,6 @@ use Rattle.key_slots.proofs.Agreeing.{quiet, key_of_slot}
 use Rattle.store_model.specs.Store as model
 use Rattle.store_model.specs.Store.{Key, is_volatile, is_persistent_key}
 use Rattle.store_model.specs.Call.{Destroy}
-use Rattle.store_model.specs.KeyUse.{destroyed}
 use Rattle.store_model.specs.Outcome.{counted}
 use Rattle.store_model.specs.Faults.{FaultMark, Plain}
 use Rattle.store_model.specs.Handles.{Service}

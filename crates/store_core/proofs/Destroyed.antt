@@ -18,7 +18,6 @@ use Rattle.key_cells.specs.declared.slot.Slot as cell
 use Rattle.key_cells.specs.declared.slot.Slot.TheVariants.{Free, Open, Shut, Unsure}
 use Rattle.key_cells.specs.Contents.{HasNoKey, has_id, creation_of_slot}
 use Rattle.key_file.specs.Files.{Stored, Doubt, doubt_undestroyed}
-use Rattle.slot_table.specs.Slots.{Slot}
 use Rattle.store_model.specs.Store as model
 use Rattle.store_model.specs.Store.{Key, KeyMap, is_volatile, is_opaque, is_volatile_of, live_volatile, count_persistent, has_secure_element}
 use Rattle.store_model.specs.Call.{Destroy}
@@ -33,7 +32,6 @@ use Rattle.store_model.specs.Sound.{as_stated, IsSoundStore, IsVolatileOf}
 use Rattle.store_model.specs.Creation.{identified}
 use Rattle.store_model.proofs.Sound.{low_id, of_volatile}
 use Rattle.store_model.proofs.Tables.{none_holds}
-use Rattle.store_core.specs.declared.store.Store.{Store}
 use Rattle.store_core.specs.Durability.{Course, doubt_after, doubt_by, is_destruction, kept}
 use Rattle.store_core.specs.Represents.{IsDirectory}
 use Rattle.store_core.proofs.Removing.{one_less, nothing_removed, gone}

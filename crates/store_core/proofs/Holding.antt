@@ -1,5 +1,5 @@
 -- A store that holds keys, after a turn that leaves all.
-use Rattle.std.proofs.Common.{◌≡◌, ◌⊎◌, ℕ, ◌+◌, ◌≤◌, List, [], ◌∷◌, ◌++◌, length, true, false, Option, is_some, refl, sym, ◌∙◌, ap, subst, arith, inl, inr, ⊎_elim, length-append}
+use Rattle.std.proofs.Common.{◌≡◌, ◌⊎◌, ℕ, ◌+◌, ◌≤◌, List, [], ◌∷◌, ◌++◌, length, true, Option, is_some, refl, sym, ◌∙◌, ap, subst, arith, inl, inr, ⊎_elim, length-append}
 use Rattle.disk_face.specs.Moments.{Within, KeepsPromise, FitsFrom}
 use Rattle.disk_face.proofs.Moments.{promise_goes_on, within_none, fits_whole, fits_least}
 use Rattle.policy_rules.specs.declared.narrowing.Label.{Label}

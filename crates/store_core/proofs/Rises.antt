@@ -1,5 +1,5 @@
 -- Histories whose counts and moments never fall.
-use Rattle.std.proofs.Common.{◌≡◌, ◌≤◌, ◌+◌, ◌<◌, ℕ, suc, Bool, true, List, [], ◌∷◌, ◌++◌, length, refl, ap, subst, sym, arith}
+use Rattle.std.proofs.Common.{◌≡◌, ◌≤◌, ◌<◌, ℕ, suc, Bool, true, List, [], ◌∷◌, ◌++◌, length, arith}
 use Rattle.disk_face.specs.Moments.{done_at}
 use Rattle.store_model.specs.Replay.{Entry}
 use Rattle.store_model.specs.Marks.{last_counts}

@@ -1,4 +1,4 @@
-use Rattle.std.proofs.Common.{◌≡◌, ◌↔◌, ℕ, List, [], ap, sym, subst, inr, arith, Some, IfSome, is_some}
+use Rattle.std.proofs.Common.{◌≡◌, ◌↔◌, ℕ, List, ap, sym, subst, inr, arith, Some, IfSome, is_some}
 use Rattle.std.specs.Prelude.{slice_get}
 use Rattle.key_attributes.specs.declared.Attributes.{Attributes}
 use Rattle.key_cells.specs.Image.{HasKey}
