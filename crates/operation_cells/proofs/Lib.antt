@@ -1,0 +1,9 @@
+pub mod Families
+pub mod Steps
+pub mod Fresh
+pub mod Deriving
+pub mod KeyInputs
+pub mod KeyOutputs
+pub mod Served
+pub mod ServedInputs
+pub mod ServedOutputs

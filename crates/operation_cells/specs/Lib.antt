@@ -1,0 +1,10 @@
+pub mod Families
+pub mod Derivations
+pub mod States
+pub mod Cells
+pub mod Draws
+pub mod Setups
+pub mod Steps
+pub mod KeyInputs
+pub mod KeyOutputs
+pub mod Laws
