@@ -4,6 +4,7 @@ use Rattle.std.specs.Prelude.{Option}
 use Rattle.store_model.specs.Operations.{Operation, Inactive, InError, Active}
 use Rattle.store_model.specs.Handles.{KeyCreation, HandleOperation, held_with, part_of}
 use Rattle.operation_phase.specs.Turns.{is_active}
+use Rattle.alg_encoding.specs.declared.algorithm.Alg.{Alg}
 use Rattle.mac_states.specs.declared.hash_state.HashOpState.{HashOpState}
 use Rattle.mac_states.specs.declared.mac_state.MacState.{MacState}
 use Rattle.cipher_states.specs.declared.state.CipherState.{CipherState}
@@ -71,10 +72,11 @@ put_aead s state = record { others = still }
     still Aeads own n h = absurd (n refl)
     still _ own n h = h
 
-pub put_derivation : (s : FamilyStates) (state : DerivationState) → Keeps Derivations s (record s { derivation = state })
-put_derivation s state = record { others = still }
+-- a derivation's beside its algorithm
+pub put_derivation : (s : FamilyStates) (state : DerivationState) (alg : Alg) → Keeps Derivations s (record s { derivation = state; alg = alg })
+put_derivation s state alg = record { others = still }
   where
-    still : (g : Family) (own : Operation (WorkOf g)) → (g ≡ Derivations → ⊥) → StandsIn g s own → StandsIn g (record s { derivation = state }) own
+    still : (g : Family) (own : Operation (WorkOf g)) → (g ≡ Derivations → ⊥) → StandsIn g s own → StandsIn g (record s { derivation = state; alg = alg }) own
     still Derivations own n h = absurd (n refl)
     still _ own n h = h
 

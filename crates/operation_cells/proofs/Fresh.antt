@@ -55,7 +55,8 @@ pub set_up_are : (f : Family) (s t : FamilyStates) (refused : Option Status) (wo
 set_up_are f s t refused work keeps all is has =
     subst (λ (a : After Held). AreStates t None a.operation) (sym (held_set_up None (embed_of f) refused work)) (set_up_of f s t None (set_up Inactive refused work).operation keeps all is has)
 
-pub set_up_reply : {W : Type 0} (refused : Option Status) (key : Option KeyCreation) (embed : W → Work) (work : W) → (set_up Inactive refused work).reply ≡ (set_up Inactive refused (record { key = key; work = embed work })).reply
+pub set_up_reply : {W : Type 0} (refused : Option Status) (key : Option KeyCreation) (embed : W → Work) (work : W) →
+    (set_up Inactive refused work).reply ≡ (set_up {W = Held} Inactive refused (record { key = key; work = embed work })).reply
 set_up_reply refused key embed work = sym (ap (λ (a : After Held). a.reply) (held_set_up key embed refused work))
 
 -- OVER
@@ -81,7 +82,7 @@ over s key operation h e =
 
 -- each state of such an operation stands for one that isn't active
 
-own_active : {W : Type 0} (key : Option KeyCreation) (embed : W → Work) (own : Operation W) → is_active (held_with key embed own) ≡ is_active own
+pub own_active : {W : Type 0} (key : Option KeyCreation) (embed : W → Work) (own : Operation W) → is_active (held_with key embed own) ≡ is_active own
 own_active key embed Inactive = refl
 own_active key embed InError = refl
 own_active key embed (Active w) = refl

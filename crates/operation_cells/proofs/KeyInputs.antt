@@ -15,16 +15,18 @@ use Rattle.slot_table.specs.Lent.{Reading}
 use Rattle.store_model.specs.Outcome.{done}
 use Rattle.store_model.specs.Operations.{Operation, Inactive, InError, Active, After, goes_on, unless_failed}
 use Rattle.store_model.specs.DerivationOperations.{DerivationWork, is_secret_due, key_step, key_step_rows, with_key}
-use Rattle.store_model.specs.Handles.{HandleOperation, KeyCreation, derivation_part, key_of_operation, part_of}
+use Rattle.secret_bytes.specs.Buffer.{bytes_of}
+use Rattle.store_model.specs.Handles.{Deriving, HandleOperation, KeyCreation, derivation_part, key_of_operation, part_of}
 use Rattle.operation_phase.specs.Turns.{by_key, on_active}
 use Rattle.operation_cells.specs.Families.{Derivations}
-use Rattle.operation_cells.specs.States.{MayHave, StandsIn}
+use Rattle.operation_cells.specs.States.{AreStates, MayHave, StandsIn}
 use Rattle.operation_cells.specs.Cells.{IsOperation}
 use Rattle.operation_cells.specs.KeyInputs.{RefusesKeyAt, TakesKeyAt}
 use Rattle.operation_cells.specs.declared.states.FamilyStates.{FamilyStates}
 use Rattle.operation_cells.specs.declared.cell.Cell.{Cell}
 use Rattle.operation_cells.proofs.Deriving.{goes_with, key_stays, unless_goes}
 use Rattle.operation_cells.proofs.Families.{Keeps, View, Busy, Idle, keeps_all, put_derivation, view}
+use Rattle.operation_cells.proofs.Leases.{leased_as}
 use Rattle.operation_cells.proofs.Steps.{Took, answers, seen}
 
 -- what the derivations' state says of a step, before a key is looked at, and what the handle does
@@ -108,3 +110,29 @@ refusing_with step s state alive operation code = record {
   state = λ own seen is. goes_with s.alg.0 alive state own (refusing step) (λ v. unless_goes v (first_row (key_step_rows v step)) (goes_on v done) (refl, λ h. h)) is.algorithm (code own seen is.state);
   key = refusing_key step;
 }
+
+-- A KEY THAT IS TAKEN
+
+same_work : (v w : DerivationWork) → Active v ≡ Active w → v ≡ w
+same_work v w e = cc
+
+pub taken : (c d : Cell) (state : DerivationState) (operation : HandleOperation) (w : DerivationWork) (key : KeyCreation) (step : ℕ) (reading : Reading) →
+    d.states ≡ record c.states { derivation = state } → d.lease ≡ Some reading → key.number ≡ reading.creation → part_of derivation_part operation ≡ Active w →
+    (v : DerivationWork) × (part_of derivation_part operation ≡ Active v) × (first_row (key_step_rows v step) ≡ None) →
+    ((own : Operation DerivationWork) → IsDerivationOperation c.states.derivation own → IsDerivationOperation state (on_active own (λ v. key_given v step (bytes_of reading.buffer))).operation) →
+    IsOperation c operation → IsOperation d (Active (record { key = Some key; work = Deriving (with_key w (bytes_of reading.buffer)) }))
+taken c d state operation w key step reading same kept number derives takes code h =
+    let next : DerivationWork = with_key w (bytes_of reading.buffer) in
+    let due : first_row (key_step_rows w step) ≡ None = subst (λ v. first_row (key_step_rows v step) ≡ None) (same_work takes.0 w (sym takes.1 ∙ derives)) takes.2 in
+    let found = seen Derivations c.states (record c.states { derivation = state }) h.key operation (put_derivation c.states state c.states.alg) h.are w derives in
+    let has : IsDerivationOperation state (Active next) = subst (λ o. IsDerivationOperation state (unless_failed o (goes_on next done)).operation) due (code (Active w) found.is.state) in
+    leased_as d (Active (record { key = Some key; work = Deriving next })) reading key kept number
+    (subst (λ s. AreStates s (Some key) (Active (record { key = Some key; work = Deriving next }))) (sym same)
+    (found.put (Some key) (Active next) (record { state = has; algorithm = found.is.algorithm }) (λ e. refl)))
+
+-- the derivation fails
+pub failed : (c : Cell) (state : DerivationState) (operation : HandleOperation) (w : DerivationWork) → part_of derivation_part operation ≡ Active w → IsDerivationOperation state InError → IsOperation c operation →
+    IsOperation (record c { states = record c.states { derivation = state } }) InError
+failed c state operation w derives is h =
+    let found = seen Derivations c.states (record c.states { derivation = state }) h.key operation (put_derivation c.states state c.states.alg) h.are w derives in
+    record { key = h.key; leased = h.leased; are = found.put h.key InError (record { state = is; algorithm = tt }) tt }

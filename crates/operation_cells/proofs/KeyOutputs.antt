@@ -10,18 +10,22 @@ use Rattle.key_attributes.specs.Checks.{location}
 use Rattle.derivation_states.specs.KeySteps.{derived_key, output_key_refusal}
 use Rattle.derivation_states.specs.Replies.{AnswersFront}
 use Rattle.derivation_states.specs.States.{IsDerivationOperation}
+use Rattle.derivation_states.specs.declared.DerivationState.{DerivationState}
 use Rattle.store_model.specs.Call.{Reply, Bytes, Nothing}
 use Rattle.store_model.specs.Outcome.{refusal, given}
 use Rattle.store_model.specs.Operations.{Operation, Inactive, InError, Active, After, goes_on, unless_failed}
 use Rattle.store_model.specs.DerivationOperations.{DerivationWork, exhausted, next_derived, output_key_rows, stated_bytes, taken_from, without}
-use Rattle.store_model.specs.Handles.{HandleOperation, KeyCreation, derivation_part, part_of}
-use Rattle.operation_phase.specs.Turns.{is_active, on_active}
+use Rattle.store_model.specs.Handles.{Deriving, HandleOperation, KeyCreation, derivation_part, key_of_operation, part_of}
+use Rattle.operation_phase.specs.Turns.{by_key, is_active, on_active}
 use Rattle.operation_cells.specs.Families.{Derivations}
 use Rattle.operation_cells.specs.Cells.{IsOperation}
+use Rattle.operation_cells.specs.States.{AreStates, MayHave}
 use Rattle.operation_cells.specs.KeyOutputs.{IsDerivedKey}
 use Rattle.operation_cells.specs.declared.states.FamilyStates.{FamilyStates}
 use Rattle.operation_cells.specs.declared.cell.Cell.{Cell}
-use Rattle.operation_cells.proofs.Families.{View, Busy, Idle, keeps_all, view}
+use Rattle.operation_cells.proofs.Deriving.{derived_goes, goes_with, key_stays}
+use Rattle.operation_cells.proofs.Families.{View, Busy, Idle, keeps_all, put_derivation, view}
+use Rattle.operation_cells.proofs.Steps.{Took, answers, seen}
 
 -- what the derivation may give
 
@@ -129,3 +133,53 @@ pub refusal_is : (c : Cell) (operation : HandleOperation) (a : Attributes) (refu
     ((own : Operation DerivationWork) → IsDerivationOperation c.states.derivation own → refused ≡ output_key_refusal own a) → refused ≡ output_key_refusal (part_of derivation_part operation) a
 refusal_is c operation a refused h code =
     refusal_by c.states h.key operation a refused (view Derivations c.states c.states h.key operation (keeps_all Derivations c.states) h.are) code
+
+-- THE STEP
+
+pub deriving_key : (a : Attributes) (key : Option KeyCreation) (w : DerivationWork) → MayHave Derivations key (Active w) → MayHave Derivations key (derived_key w a).operation
+deriving_key a key w has = key_stays (λ v. derived_key v a) (λ v. derived_goes v a) key w has
+
+pub deriving_with : (a : Attributes) (s : FamilyStates) (state : DerivationState) (alive : Bool) (operation : HandleOperation) →
+    ((own : Operation DerivationWork) → IsDerivationOperation s.derivation own → IsDerivationOperation state (by_key alive own (λ w. derived_key w a)).operation) →
+    Took Derivations s (record s { derivation = state }) operation alive (λ w. derived_key w a)
+deriving_with a s state alive operation code = record {
+  state = λ own seen is. goes_with s.alg.0 alive state own (λ w. derived_key w a) (λ v. derived_goes v a) is.algorithm (code own is.state);
+  key = deriving_key a;
+}
+
+-- bytes for a refused key
+pub refused_not_given : (c : Cell) (a : Attributes) (count : ℕ) (old out : List ℕ) → (operation : HandleOperation) × IsOperation c operation →
+    ((operation : HandleOperation) → IsOperation c operation → output_key_refusal (part_of derivation_part operation) a ≡ None → ⊥) →
+    ((own : Operation DerivationWork) → IsDerivationOperation c.states.derivation own → AnswersFront 1025 (Ok count) old out (on_active own (λ w. derived_key w a)).reply) → ⊥
+refused_not_given c a count old out some refused code =
+    let stands = answers Derivations c some.0 true (λ w. derived_key w a) some.1 in
+    refused_unanswered stands.own a count old out
+    (λ w e none. refused some.0 some.1 (ap (λ o. output_key_refusal o a) (stands.seen w e) ∙ none)) (code stands.own stands.is.state)
+
+-- a refusal of a key that isn't refused
+pub due_not_refused : (c : Cell) (a : Attributes) (status : Status) (old out : List ℕ) → (operation : HandleOperation) × IsOperation c operation →
+    ((operation : HandleOperation) → IsOperation c operation → output_key_refusal (part_of derivation_part operation) a ≡ None) →
+    ((own : Operation DerivationWork) → IsDerivationOperation c.states.derivation own → AnswersFront 1025 (Err status) old out (on_active own (λ w. derived_key w a)).reply) → ⊥
+due_not_refused c a status old out some due code =
+    let work = due_work (part_of derivation_part some.0) a (due some.0 some.1) in
+    let found = seen Derivations c.states c.states some.1.key some.0 (keeps_all Derivations c.states) some.1.are work.0 work.1 in
+    due_answered work.0 a status old out work.2 (code (Active work.0) found.is.state)
+
+-- the bytes of a key that isn't refused
+pub derived : (c : Cell) (state : DerivationState) (a : Attributes) (count : ℕ) (old out : List ℕ) (operation : HandleOperation) (w : DerivationWork) → IsOperation c operation → part_of derivation_part operation ≡ Active w →
+    output_key_refusal (part_of derivation_part operation) a ≡ None →
+    ((own : Operation DerivationWork) → IsDerivationOperation c.states.derivation own → IsDerivationOperation state (on_active own (λ v. derived_key v a)).operation) →
+    ((own : Operation DerivationWork) → IsDerivationOperation c.states.derivation own → AnswersFront 1025 (Ok count) old out (on_active own (λ v. derived_key v a)).reply) →
+    IsOperation (record c { states = record c.states { derivation = state } }) (Active (record { key = key_of_operation operation; work = Deriving (without w (stated_bytes a)) }))
+    × IsDerivedKey w a count out
+derived c state a count old out operation w h derives none code given =
+    let due = due_of w a (sym (ap (λ o. output_key_refusal o a) derives) ∙ none) in
+    let found = seen Derivations c.states (record c.states { derivation = state }) h.key operation (put_derivation c.states state c.states.alg) h.are w derives in
+    let next : DerivationWork = without w (stated_bytes a) in
+    let has : IsDerivationOperation state (Active next) = subst (λ (x : After DerivationWork). IsDerivationOperation state x.operation) (derived_is w a due) (code (Active w) found.is.state) in
+    let are : AreStates (record c.states { derivation = state }) h.key (Active (record { key = h.key; work = Deriving next })) =
+        found.put h.key (Active next) (record { state = has; algorithm = found.is.algorithm }) found.has in (
+      subst (λ k. IsOperation (record c { states = record c.states { derivation = state } }) (Active (record { key = k; work = Deriving next }))) (sym found.key_is)
+      (record { key = h.key; leased = h.leased; are = are }),
+      key_of w a count old out due (given (Active w) found.is.state),
+    )

@@ -1,6 +1,9 @@
 pub mod Families
 pub mod Steps
 pub mod Fresh
+pub mod Leases
+pub mod Told
+pub mod Ended
 pub mod Deriving
 pub mod KeyInputs
 pub mod KeyOutputs

@@ -40,13 +40,13 @@ impl FamilyStates {
     }
 
     // Sets up an operation with the bytes of its key, which are for it: no state refuses them.
-    fn begin_with(&mut self, setup: Setup, key: &[u8])
+    fn begin_with(&mut self, setup: Setup, key: &[u8]) -> Result<(), Status>
         requires keyed { is_some (setup_use setup) ≡ true }
         requires fits { (id : KeyId) (wanted : KeyUse) → setup_use setup ≡ Some (id, wanted) → FitsUse wanted key.now }
         ensures { (creation : KeyCreation) → AreInactive self.old →
             AreStates self.new (Some creation) (begun_with setup creation key.now) }
     {
-        let _ = match setup {
+        match setup {
             Setup::MacSign { alg, .. } => self.mac.mac_sign_setup(key, alg),
             Setup::MacVerify { alg, .. } => self.mac.mac_verify_setup(key, alg),
             Setup::CipherEncrypt { alg, .. } => self.cipher.cipher_encrypt_setup(key, alg),
@@ -54,7 +54,7 @@ impl FamilyStates {
             Setup::AeadEncrypt { alg, .. } => self.aead.aead_encrypt_setup(key, alg),
             Setup::AeadDecrypt { alg, .. } => self.aead.aead_decrypt_setup(key, alg),
             Setup::Hash(_) | Setup::Derivation(_) => unreachable!(),
-        };
+        }
     }
 }
 
@@ -84,7 +84,7 @@ impl Cell {
             IsOperation self.new (begun_with setup key (bytes_of lease.buffer)) }
         ensures lease { self.new.lease ≡ Some lease }
     {
-        self.states.begin_with(setup, lease.as_slice());
+        let _ = self.states.begin_with(setup, lease.as_slice());
         self.keep(lease);
     }
 
