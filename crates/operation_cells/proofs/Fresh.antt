@@ -7,6 +7,11 @@ use Rattle.store_model.specs.Call.{Reply}
 use Rattle.store_model.specs.Operations.{Operation, Inactive, InError, Active, After, is_inactive, set_up}
 use Rattle.store_model.specs.Handles.{Held, HandleOperation, KeyCreation, Work, held_after, held_with}
 use Rattle.operation_phase.specs.Turns.{is_active}
+use Rattle.mac_states.specs.HashStates.{IsHashOperation}
+use Rattle.mac_states.specs.MacStates.{IsMacOperation}
+use Rattle.cipher_states.specs.States.{IsCipherOperation}
+use Rattle.aead_states.specs.Holding.{IsAeadOperation}
+use Rattle.derivation_states.specs.States.{IsDerivationOperation}
 use Rattle.operation_cells.specs.Families.{Family, Hashes, Macs, Ciphers, Aeads, Derivations, WorkOf, embed_of}
 use Rattle.operation_cells.specs.States.{AreInactive, AreStates, IsOperationOf, MayHave, StandsIn}
 use Rattle.operation_cells.specs.Cells.{IsOperation}
@@ -22,6 +27,13 @@ may_be_inactive Macs = tt
 may_be_inactive Ciphers = tt
 may_be_inactive Aeads = tt
 may_be_inactive Derivations = tt
+
+pub all_of : (s : FamilyStates) → IsHashOperation s.hash Inactive → IsMacOperation s.mac Inactive → IsCipherOperation s.cipher Inactive → IsAeadOperation s.aead Inactive → IsDerivationOperation s.derivation Inactive → AreInactive s
+all_of s hash mac cipher aead derivation Hashes = hash
+all_of s hash mac cipher aead derivation Macs = mac
+all_of s hash mac cipher aead derivation Ciphers = cipher
+all_of s hash mac cipher aead derivation Aeads = aead
+all_of s hash mac cipher aead derivation Derivations = record { state = derivation; algorithm = tt }
 
 -- any family's
 pub all_are : (s : FamilyStates) → AreInactive s → AreStates s None Inactive

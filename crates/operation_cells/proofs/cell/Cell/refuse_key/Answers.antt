@@ -7,6 +7,7 @@ use Rattle.derivation_states.specs.States.{IsDerivationOperation}
 use Rattle.operation_cells.specs.Cells.{IsOperation}
 use Rattle.operation_cells.specs.Families.{Derivations}
 use Rattle.operation_cells.specs.KeyInputs.{key_refused}
+use Rattle.operation_cells.specs.declared.cell.Cell.{Cell}
 use Rattle.operation_cells.proofs.Families.{put_derivation}
 use Rattle.operation_cells.proofs.KeyInputs.{refused_own, refusing, refusing_with}
 use Rattle.operation_cells.proofs.Steps.{step_is, step_reply}
@@ -15,8 +16,9 @@ use Rattle.operation_cells.proofs.cell.Cell.refuse_key.Goals as goal
 pub returns-then-not-alive-clause-state : goal.returns-then-not-alive-clause-state
 returns-then-not-alive-clause-state c = λ operation h.
     let s = c.args.self.now.states in
-    subst (λ b. IsOperation _ (key_refused b operation c.args.step).operation) (sym c.if-not-alive.true)
-    (step_is Derivations c.args.self.now _ operation false (refusing c.args.step) refl (put_derivation s c.lose_key.new.self s.alg)
+    let d : Cell = record c.args.self.now { states = record s { derivation = c.lose_key.new.self } } in
+    subst (λ b. IsOperation d (key_refused b operation c.args.step).operation) (sym c.if-not-alive.true)
+    (step_is Derivations c.args.self.now d operation false (refusing c.args.step) refl (put_derivation s c.lose_key.new.self s.alg)
     (refusing_with c.args.step s c.lose_key.new.self false operation (λ own seen is. c.lose_key.ensures.state own is)) h)
 
 pub returns-then-not-alive-clause-reply : goal.returns-then-not-alive-clause-reply
@@ -28,8 +30,9 @@ pub returns-clause-state : goal.returns-clause-state
 returns-clause-state c = λ operation h.
     let s = c.args.self.now.states in
     let t = c.key_derivation_input_key.new.self in
-    subst (λ b. IsOperation _ (key_refused b operation c.args.step).operation) (sym c.if-not-alive.false)
-    (step_is Derivations c.args.self.now _ operation true (refusing c.args.step) refl (put_derivation s t s.alg)
+    let d : Cell = record c.args.self.now { states = record s { derivation = t } } in
+    subst (λ b. IsOperation d (key_refused b operation c.args.step).operation) (sym c.if-not-alive.false)
+    (step_is Derivations c.args.self.now d operation true (refusing c.args.step) refl (put_derivation s t s.alg)
     (refusing_with c.args.step s t true operation
     (λ own seen is. subst (λ (a : After DerivationWork). IsDerivationOperation t a.operation) (refused_own operation own c.args.step (c.requires operation h) seen) (c.key_derivation_input_key.ensures.state own is))) h)
 

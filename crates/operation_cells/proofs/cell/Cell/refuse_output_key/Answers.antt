@@ -6,6 +6,7 @@ use Rattle.derivation_states.specs.KeySteps.{derived_key}
 use Rattle.operation_cells.specs.Cells.{IsOperation}
 use Rattle.operation_cells.specs.Families.{Derivations}
 use Rattle.operation_cells.specs.KeyOutputs.{derived_key_refused}
+use Rattle.operation_cells.specs.declared.cell.Cell.{Cell}
 use Rattle.operation_cells.proofs.Families.{put_derivation}
 use Rattle.operation_cells.proofs.KeyOutputs.{deriving_with, refused_not_given}
 use Rattle.operation_cells.proofs.Steps.{step_is, step_reply}
@@ -14,8 +15,9 @@ use Rattle.operation_cells.proofs.cell.Cell.refuse_output_key.Goals as goal
 pub returns-then-not-alive-clause-state : goal.returns-then-not-alive-clause-state
 returns-then-not-alive-clause-state c = λ operation h.
     let s = c.args.self.now.states in
-    subst (λ b. IsOperation _ (derived_key_refused b operation c.args.attributes.now).operation) (sym c.if-not-alive.true)
-    (step_is Derivations c.args.self.now _ operation false (λ w. derived_key w c.args.attributes.now) refl (put_derivation s c.lose_key.new.self s.alg)
+    let d : Cell = record c.args.self.now { states = record s { derivation = c.lose_key.new.self } } in
+    subst (λ b. IsOperation d (derived_key_refused b operation c.args.attributes.now).operation) (sym c.if-not-alive.true)
+    (step_is Derivations c.args.self.now d operation false (λ w. derived_key w c.args.attributes.now) refl (put_derivation s c.lose_key.new.self s.alg)
     (deriving_with c.args.attributes.now s c.lose_key.new.self false operation c.lose_key.ensures.state) h)
 
 pub returns-then-not-alive-clause-reply : goal.returns-then-not-alive-clause-reply
@@ -23,18 +25,19 @@ returns-then-not-alive-clause-reply c = λ operation h.
     subst (λ b. refusal c.lose_key.result ≡ (derived_key_refused b operation c.args.attributes.now).reply) (sym c.if-not-alive.true)
     (step_reply Derivations c.args.self.now operation false (λ w. derived_key w c.args.attributes.now) (λ r. refusal c.lose_key.result ≡ r) (λ own seen is. c.lose_key.ensures.reply own is.state) h)
 
-pub unreachable-requires : goal.unreachable-in-Ok
+pub unreachable-requires : goal.unreachable-requires
 unreachable-requires c = refused_not_given c.args.self.now c.args.attributes.now c.in-Ok.field-0 _ _ c.requires.some c.requires.refused c.in-Ok.ensures.key
 
-pub returns-clause-state : goal.returns-in-Err-clause-state
+pub returns-clause-state : goal.returns-clause-state
 returns-clause-state c = λ operation h.
     let s = c.args.self.now.states in
     let t = c.key_derivation_output_key.new.self in
-    subst (λ b. IsOperation _ (derived_key_refused b operation c.args.attributes.now).operation) (sym c.if-not-alive.false)
-    (step_is Derivations c.args.self.now _ operation true (λ w. derived_key w c.args.attributes.now) refl (put_derivation s t s.alg)
+    let d : Cell = record c.args.self.now { states = record s { derivation = t } } in
+    subst (λ b. IsOperation d (derived_key_refused b operation c.args.attributes.now).operation) (sym c.if-not-alive.false)
+    (step_is Derivations c.args.self.now d operation true (λ w. derived_key w c.args.attributes.now) refl (put_derivation s t s.alg)
     (deriving_with c.args.attributes.now s t true operation c.key_derivation_output_key.ensures.state) h)
 
-pub returns-clause-reply : goal.returns-in-Err-clause-reply
+pub returns-clause-reply : goal.returns-clause-reply
 returns-clause-reply c = λ operation h.
     subst (λ b. refusal c.in-Err.status ≡ (derived_key_refused b operation c.args.attributes.now).reply) (sym c.if-not-alive.false)
     (step_reply Derivations c.args.self.now operation true (λ w. derived_key w c.args.attributes.now) (λ r. refusal c.in-Err.status ≡ r) (λ own seen is. sym (c.in-Err.ensures.key own is.state).0) h)

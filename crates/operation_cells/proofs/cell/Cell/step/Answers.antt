@@ -12,6 +12,7 @@ use Rattle.store_model.specs.Operations.{After}
 use Rattle.operation_cells.specs.Cells.{IsOperation}
 use Rattle.operation_cells.specs.Families.{Hashes, Macs, Ciphers, Aeads, Derivations}
 use Rattle.operation_cells.specs.Steps.{stepped_by}
+use Rattle.operation_cells.specs.declared.cell.Cell.{Cell}
 use Rattle.operation_cells.proofs.Deriving.{step_key, steps_with}
 use Rattle.operation_cells.proofs.Families.{put_hash, put_mac, put_cipher, put_aead, put_derivation}
 use Rattle.operation_cells.proofs.Steps.{step_is, step_reply, step_drawn}
@@ -19,10 +20,11 @@ use Rattle.operation_cells.proofs.cell.Cell.step.Goals as goal
 
 pub returns-in-Hash-clause-state : goal.returns-in-Hash-clause-state
 returns-in-Hash-clause-state c = λ operation h.
+    let d : Cell = record c.args.self.now { states = record c.args.self.now.states { hash = c.turn.new.state } } in
     let random = next_bytes c.args.stream.now 16 in
     let step : HashWork → After HashWork = λ w. hash_step w (model_hash_step c.in-Hash.step (length c.args.out.now)) in
-    subst (λ s. IsOperation _ (stepped_by c.args.alive random operation (model_step s (length c.args.out.now))).operation) (sym c.in-Hash.is)
-    (step_is Hashes c.args.self.now _ operation c.args.alive step refl (put_hash c.args.self.now.states c.turn.new.state)
+    subst (λ s. IsOperation d (stepped_by c.args.alive random operation (model_step s (length c.args.out.now))).operation) (sym c.in-Hash.is)
+    (step_is Hashes c.args.self.now d operation c.args.alive step refl (put_hash c.args.self.now.states c.turn.new.state)
     (record { state = λ own seen is. c.turn.ensures.state own is; key = λ k w may. may }) h)
 
 pub returns-in-Hash-clause-reply : goal.returns-in-Hash-clause-reply
@@ -48,10 +50,11 @@ returns-in-Hash-clause-stream c = λ operation h.
 
 pub returns-in-Mac-clause-state : goal.returns-in-Mac-clause-state
 returns-in-Mac-clause-state c = λ operation h.
+    let d : Cell = record c.args.self.now { states = record c.args.self.now.states { mac = c.turn-in-Mac.new.state } } in
     let random = next_bytes c.args.stream.now 16 in
     let step : MacWork → After MacWork = λ w. mac_step w (model_mac_step c.in-Mac.step (length c.args.out.now)) in
-    subst (λ s. IsOperation _ (stepped_by c.args.alive random operation (model_step s (length c.args.out.now))).operation) (sym c.in-Mac.is)
-    (step_is Macs c.args.self.now _ operation c.args.alive step refl (put_mac c.args.self.now.states c.turn-in-Mac.new.state)
+    subst (λ s. IsOperation d (stepped_by c.args.alive random operation (model_step s (length c.args.out.now))).operation) (sym c.in-Mac.is)
+    (step_is Macs c.args.self.now d operation c.args.alive step refl (put_mac c.args.self.now.states c.turn-in-Mac.new.state)
     (record { state = λ own seen is. c.turn-in-Mac.ensures.state own is; key = λ k w may. may }) h)
 
 pub returns-in-Mac-clause-reply : goal.returns-in-Mac-clause-reply
@@ -77,10 +80,11 @@ returns-in-Mac-clause-stream c = λ operation h.
 
 pub returns-in-Cipher-clause-state : goal.returns-in-Cipher-clause-state
 returns-in-Cipher-clause-state c = λ operation h.
+    let d : Cell = record c.args.self.now { states = record c.args.self.now.states { cipher = c.turn-in-Cipher.new.state } } in
     let random = next_bytes c.args.stream.now 16 in
     let step : CipherWork → After CipherWork = λ w. cipher_step random w (model_cipher_step c.in-Cipher.step (length c.args.out.now)) in
-    subst (λ s. IsOperation _ (stepped_by c.args.alive random operation (model_step s (length c.args.out.now))).operation) (sym c.in-Cipher.is)
-    (step_is Ciphers c.args.self.now _ operation c.args.alive step refl (put_cipher c.args.self.now.states c.turn-in-Cipher.new.state)
+    subst (λ s. IsOperation d (stepped_by c.args.alive random operation (model_step s (length c.args.out.now))).operation) (sym c.in-Cipher.is)
+    (step_is Ciphers c.args.self.now d operation c.args.alive step refl (put_cipher c.args.self.now.states c.turn-in-Cipher.new.state)
     (record { state = λ own seen is. c.turn-in-Cipher.ensures.state own is; key = λ k w may. may }) h)
 
 pub returns-in-Cipher-clause-reply : goal.returns-in-Cipher-clause-reply
@@ -106,10 +110,11 @@ returns-in-Cipher-clause-stream c = λ operation h.
 
 pub returns-in-Aead-clause-state : goal.returns-in-Aead-clause-state
 returns-in-Aead-clause-state c = λ operation h.
+    let d : Cell = record c.args.self.now { states = record c.args.self.now.states { aead = c.turn-in-Aead.new.state } } in
     let random = next_bytes c.args.stream.now 16 in
     let step : AeadWork → After AeadWork = λ w. aead_step random w (model_aead_step c.in-Aead.step (length c.args.out.now)) in
-    subst (λ s. IsOperation _ (stepped_by c.args.alive random operation (model_step s (length c.args.out.now))).operation) (sym c.in-Aead.is)
-    (step_is Aeads c.args.self.now _ operation c.args.alive step refl (put_aead c.args.self.now.states c.turn-in-Aead.new.state)
+    subst (λ s. IsOperation d (stepped_by c.args.alive random operation (model_step s (length c.args.out.now))).operation) (sym c.in-Aead.is)
+    (step_is Aeads c.args.self.now d operation c.args.alive step refl (put_aead c.args.self.now.states c.turn-in-Aead.new.state)
     (record { state = λ own seen is. c.turn-in-Aead.ensures.state own is; key = λ k w may. may }) h)
 
 pub returns-in-Aead-clause-reply : goal.returns-in-Aead-clause-reply
@@ -135,10 +140,11 @@ returns-in-Aead-clause-stream c = λ operation h.
 
 pub returns-in-Derivation-clause-state : goal.returns-in-Derivation-clause-state
 returns-in-Derivation-clause-state c = λ operation h.
+    let d : Cell = record c.args.self.now { states = record c.args.self.now.states { derivation = c.turn-in-Derivation.new.state } } in
     let random = next_bytes c.args.stream.now 16 in
     let step : DerivationWork → After DerivationWork = λ w. derivation_step w (model_derivation_step c.in-Derivation.step (length c.args.out.now)) in
-    subst (λ s. IsOperation _ (stepped_by c.args.alive random operation (model_step s (length c.args.out.now))).operation) (sym c.in-Derivation.is)
-    (step_is Derivations c.args.self.now _ operation c.args.alive step refl (put_derivation c.args.self.now.states c.turn-in-Derivation.new.state c.args.self.now.states.alg)
+    subst (λ s. IsOperation d (stepped_by c.args.alive random operation (model_step s (length c.args.out.now))).operation) (sym c.in-Derivation.is)
+    (step_is Derivations c.args.self.now d operation c.args.alive step refl (put_derivation c.args.self.now.states c.turn-in-Derivation.new.state c.args.self.now.states.alg)
     (record {
       state = λ own seen is. steps_with c.args.self.now.states.alg.0 c.args.alive c.args.self.now.states.derivation c.turn-in-Derivation.new.state (model_derivation_step c.in-Derivation.step (length c.args.out.now)) c.turn-in-Derivation.ensures.state own is;
       key = step_key (model_derivation_step c.in-Derivation.step (length c.args.out.now));

@@ -1,4 +1,4 @@
-use Rattle.std.proofs.Common.{refl, sym, ap, subst}
+use Rattle.std.proofs.Common.{true, false, refl, sym, ap, subst}
 use Rattle.std.specs.Prelude.{Some}
 use Rattle.store_model.specs.Operations.{Active, Inactive}
 use Rattle.store_model.specs.MacOperations.{mac_work}
@@ -7,6 +7,7 @@ use Rattle.store_model.specs.AeadOperations.{aead_work}
 use Rattle.operation_cells.specs.Families.{Macs, Ciphers, Aeads}
 use Rattle.operation_cells.specs.Setups.{begun_with, setup_use}
 use Rattle.operation_cells.specs.States.{AreStates}
+use Rattle.operation_cells.specs.declared.states.FamilyStates.{FamilyStates}
 use Rattle.operation_cells.proofs.Families.{put_mac, put_cipher, put_aead}
 use Rattle.operation_cells.proofs.Fresh.{set_up_of}
 use Rattle.operation_cells.proofs.states.FamilyStates.begin_with.Goals as goal
@@ -20,8 +21,9 @@ mac_sign_setup-requires-clause-aes c = (c.requires.fits _ _ (ap setup_use c.in-M
 pub returns-in-MacSign : goal.returns-in-MacSign
 returns-in-MacSign c = λ key all.
     let s = c.args.self.now in
-    subst (λ setup. AreStates _ (Some key) (begun_with setup key c.args.key.now)) (sym c.in-MacSign.is)
-    (set_up_of Macs s _ (Some key) (Active (mac_work false c.in-MacSign.alg.0 c.args.key.now)) (put_mac s c.mac_sign_setup.new.self) all (c.mac_sign_setup.ensures.state Inactive (all Macs)) tt)
+    let t : FamilyStates = record s { mac = c.mac_sign_setup.new.self } in
+    subst (λ setup. AreStates t (Some key) (begun_with setup key c.args.key.now)) (sym c.in-MacSign.is)
+    (set_up_of Macs s t (Some key) (Active (mac_work false c.in-MacSign.alg.0 c.args.key.now)) (put_mac s c.mac_sign_setup.new.self) all (c.mac_sign_setup.ensures.state Inactive (all Macs)) tt)
 
 pub mac_verify_setup-requires-clause-algorithm : goal.mac_verify_setup-requires-clause-algorithm
 mac_verify_setup-requires-clause-algorithm c = (c.requires.fits _ _ (ap setup_use c.in-MacVerify.is)).algorithm
@@ -32,8 +34,9 @@ mac_verify_setup-requires-clause-aes c = (c.requires.fits _ _ (ap setup_use c.in
 pub returns-in-MacVerify : goal.returns-in-MacVerify
 returns-in-MacVerify c = λ key all.
     let s = c.args.self.now in
-    subst (λ setup. AreStates _ (Some key) (begun_with setup key c.args.key.now)) (sym c.in-MacVerify.is)
-    (set_up_of Macs s _ (Some key) (Active (mac_work true c.in-MacVerify.alg.0 c.args.key.now)) (put_mac s c.mac_verify_setup.new.self) all (c.mac_verify_setup.ensures.state Inactive (all Macs)) tt)
+    let t : FamilyStates = record s { mac = c.mac_verify_setup.new.self } in
+    subst (λ setup. AreStates t (Some key) (begun_with setup key c.args.key.now)) (sym c.in-MacVerify.is)
+    (set_up_of Macs s t (Some key) (Active (mac_work true c.in-MacVerify.alg.0 c.args.key.now)) (put_mac s c.mac_verify_setup.new.self) all (c.mac_verify_setup.ensures.state Inactive (all Macs)) tt)
 
 pub cipher_encrypt_setup-requires-clause-algorithm : goal.cipher_encrypt_setup-requires-clause-algorithm
 cipher_encrypt_setup-requires-clause-algorithm c = (c.requires.fits _ _ (ap setup_use c.in-CipherEncrypt.is)).algorithm
@@ -44,8 +47,9 @@ cipher_encrypt_setup-requires-clause-key c = (c.requires.fits _ _ (ap setup_use 
 pub returns-in-CipherEncrypt : goal.returns-in-CipherEncrypt
 returns-in-CipherEncrypt c = λ key all.
     let s = c.args.self.now in
-    subst (λ setup. AreStates _ (Some key) (begun_with setup key c.args.key.now)) (sym c.in-CipherEncrypt.is)
-    (set_up_of Ciphers s _ (Some key) (Active (cipher_work true c.in-CipherEncrypt.alg.0 c.args.key.now)) (put_cipher s c.cipher_encrypt_setup.new.self) all (c.cipher_encrypt_setup.ensures.state Inactive (all Ciphers)) tt)
+    let t : FamilyStates = record s { cipher = c.cipher_encrypt_setup.new.self } in
+    subst (λ setup. AreStates t (Some key) (begun_with setup key c.args.key.now)) (sym c.in-CipherEncrypt.is)
+    (set_up_of Ciphers s t (Some key) (Active (cipher_work true c.in-CipherEncrypt.alg.0 c.args.key.now)) (put_cipher s c.cipher_encrypt_setup.new.self) all (c.cipher_encrypt_setup.ensures.state Inactive (all Ciphers)) tt)
 
 pub cipher_decrypt_setup-requires-clause-algorithm : goal.cipher_decrypt_setup-requires-clause-algorithm
 cipher_decrypt_setup-requires-clause-algorithm c = (c.requires.fits _ _ (ap setup_use c.in-CipherDecrypt.is)).algorithm
@@ -56,8 +60,9 @@ cipher_decrypt_setup-requires-clause-key c = (c.requires.fits _ _ (ap setup_use 
 pub returns-in-CipherDecrypt : goal.returns-in-CipherDecrypt
 returns-in-CipherDecrypt c = λ key all.
     let s = c.args.self.now in
-    subst (λ setup. AreStates _ (Some key) (begun_with setup key c.args.key.now)) (sym c.in-CipherDecrypt.is)
-    (set_up_of Ciphers s _ (Some key) (Active (cipher_work false c.in-CipherDecrypt.alg.0 c.args.key.now)) (put_cipher s c.cipher_decrypt_setup.new.self) all (c.cipher_decrypt_setup.ensures.state Inactive (all Ciphers)) tt)
+    let t : FamilyStates = record s { cipher = c.cipher_decrypt_setup.new.self } in
+    subst (λ setup. AreStates t (Some key) (begun_with setup key c.args.key.now)) (sym c.in-CipherDecrypt.is)
+    (set_up_of Ciphers s t (Some key) (Active (cipher_work false c.in-CipherDecrypt.alg.0 c.args.key.now)) (put_cipher s c.cipher_decrypt_setup.new.self) all (c.cipher_decrypt_setup.ensures.state Inactive (all Ciphers)) tt)
 
 pub aead_encrypt_setup-requires-clause-algorithm : goal.aead_encrypt_setup-requires-clause-algorithm
 aead_encrypt_setup-requires-clause-algorithm c = (c.requires.fits _ _ (ap setup_use c.in-AeadEncrypt.is)).algorithm
@@ -68,8 +73,9 @@ aead_encrypt_setup-requires-clause-key c = (c.requires.fits _ _ (ap setup_use c.
 pub returns-in-AeadEncrypt : goal.returns-in-AeadEncrypt
 returns-in-AeadEncrypt c = λ key all.
     let s = c.args.self.now in
-    subst (λ setup. AreStates _ (Some key) (begun_with setup key c.args.key.now)) (sym c.in-AeadEncrypt.is)
-    (set_up_of Aeads s _ (Some key) (Active (aead_work true c.in-AeadEncrypt.alg.0 c.args.key.now)) (put_aead s c.aead_encrypt_setup.new.self) all (c.aead_encrypt_setup.ensures.state Inactive (all Aeads)) tt)
+    let t : FamilyStates = record s { aead = c.aead_encrypt_setup.new.self } in
+    subst (λ setup. AreStates t (Some key) (begun_with setup key c.args.key.now)) (sym c.in-AeadEncrypt.is)
+    (set_up_of Aeads s t (Some key) (Active (aead_work true c.in-AeadEncrypt.alg.0 c.args.key.now)) (put_aead s c.aead_encrypt_setup.new.self) all (c.aead_encrypt_setup.ensures.state Inactive (all Aeads)) tt)
 
 pub aead_decrypt_setup-requires-clause-algorithm : goal.aead_decrypt_setup-requires-clause-algorithm
 aead_decrypt_setup-requires-clause-algorithm c = (c.requires.fits _ _ (ap setup_use c.in-AeadDecrypt.is)).algorithm
@@ -80,5 +86,6 @@ aead_decrypt_setup-requires-clause-key c = (c.requires.fits _ _ (ap setup_use c.
 pub returns-in-AeadDecrypt : goal.returns-in-AeadDecrypt
 returns-in-AeadDecrypt c = λ key all.
     let s = c.args.self.now in
-    subst (λ setup. AreStates _ (Some key) (begun_with setup key c.args.key.now)) (sym c.in-AeadDecrypt.is)
-    (set_up_of Aeads s _ (Some key) (Active (aead_work false c.in-AeadDecrypt.alg.0 c.args.key.now)) (put_aead s c.aead_decrypt_setup.new.self) all (c.aead_decrypt_setup.ensures.state Inactive (all Aeads)) tt)
+    let t : FamilyStates = record s { aead = c.aead_decrypt_setup.new.self } in
+    subst (λ setup. AreStates t (Some key) (begun_with setup key c.args.key.now)) (sym c.in-AeadDecrypt.is)
+    (set_up_of Aeads s t (Some key) (Active (aead_work false c.in-AeadDecrypt.alg.0 c.args.key.now)) (put_aead s c.aead_decrypt_setup.new.self) all (c.aead_decrypt_setup.ensures.state Inactive (all Aeads)) tt)
