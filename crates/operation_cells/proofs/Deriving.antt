@@ -1,5 +1,5 @@
 -- What a step of a derivation keeps: its algorithm, and its secret once that is there.
-use Rattle.std.proofs.Common.{◌≡◌, ℕ, Bool, true, false, not, ◌&&◌, cond, refl, sym, ◌∙◌}
+use Rattle.std.proofs.Common.{◌≡◌, ℕ, Bool, true, false, not, ◌&&◌, cond, refl, ◌∙◌}
 use Rattle.std.specs.Prelude.{List, Option, Some, None, nat_lt, ◌==◌, bytes_eq, length, is_some, [], ◌∷◌, ◌++◌}
 use Rattle.psa_status.specs.declared.Status.{Status}
 use Rattle.psa_status.specs.declared.Status.TheVariants.{InvalidArgument}

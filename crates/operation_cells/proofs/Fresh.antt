@@ -1,9 +1,7 @@
 -- Inactive states, and an operation that was set up.
-use Rattle.std.proofs.Common.{◌≡◌, ◌⊎◌, inl, inr, true, false, refl, sym, ap, ◌∙◌, subst}
-use Rattle.std.specs.Prelude.{Option, Some, None, is_some}
-use Rattle.std.specs.Option.{option_map}
+use Rattle.std.proofs.Common.{◌≡◌, inl, inr, false, refl, sym, ap, ◌∙◌, subst}
+use Rattle.std.specs.Prelude.{Option, Some, None}
 use Rattle.psa_status.specs.declared.Status.{Status}
-use Rattle.store_model.specs.Call.{Reply}
 use Rattle.store_model.specs.Operations.{Operation, Inactive, InError, Active, After, is_inactive, set_up}
 use Rattle.store_model.specs.Handles.{Held, HandleOperation, KeyCreation, Work, held_after, held_with}
 use Rattle.operation_phase.specs.Turns.{is_active}
@@ -13,10 +11,8 @@ use Rattle.cipher_states.specs.States.{IsCipherOperation}
 use Rattle.aead_states.specs.Holding.{IsAeadOperation}
 use Rattle.derivation_states.specs.States.{IsDerivationOperation}
 use Rattle.operation_cells.specs.Families.{Family, Hashes, Macs, Ciphers, Aeads, Derivations, WorkOf, embed_of}
-use Rattle.operation_cells.specs.States.{AreInactive, AreStates, IsOperationOf, MayHave, StandsIn}
-use Rattle.operation_cells.specs.Cells.{IsOperation}
+use Rattle.operation_cells.specs.States.{AreInactive, AreStates, MayHave, StandsIn}
 use Rattle.operation_cells.specs.declared.states.FamilyStates.{FamilyStates}
-use Rattle.operation_cells.specs.declared.cell.Cell.{Cell}
 use Rattle.operation_cells.proofs.Families.{Keeps, which}
 
 -- ALL INACTIVE

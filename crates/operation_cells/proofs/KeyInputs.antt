@@ -1,12 +1,11 @@
 -- A key as the secret of a cell's derivation.
-use Rattle.std.proofs.Common.{◌≡◌, ℕ, List, Bool, true, false, not, ◌&&◌, [], ◌∷◌, refl, sym, ap, ◌∙◌, subst}
+use Rattle.std.proofs.Common.{◌≡◌, ℕ, Bool, true, false, not, ◌&&◌, [], ◌∷◌, refl, sym, ap, ◌∙◌, subst}
 use Rattle.std.specs.Prelude.{Option, Some, None, is_some, ◌==◌}
 use Rattle.std.specs.Option.{option_map}
 use Rattle.psa_status.specs.declared.Status.{Status}
 use Rattle.psa_status.specs.declared.Status.TheVariants.{BadState, InvalidArgument}
 use Rattle.psa_status.specs.Rows.{first_row}
 use Rattle.alg_encoding.specs.Encoding.{IsConcrete}
-use Rattle.key_uses.specs.declared.key_use.KeyUse.{KeyUse}
 use Rattle.key_uses.specs.declared.key_use.KeyUse.TheVariants.{Derivation}
 use Rattle.derivation_states.specs.KeySteps.{key_given, key_step_refusal}
 use Rattle.derivation_states.specs.States.{IsDerivationOperation}
@@ -14,20 +13,20 @@ use Rattle.derivation_states.specs.declared.DerivationState.{DerivationState}
 use Rattle.slot_table.specs.Lent.{Reading}
 use Rattle.store_model.specs.Outcome.{done}
 use Rattle.store_model.specs.Operations.{Operation, Inactive, InError, Active, After, goes_on, unless_failed}
-use Rattle.store_model.specs.DerivationOperations.{DerivationWork, is_secret_due, key_step, key_step_rows, with_key}
+use Rattle.store_model.specs.DerivationOperations.{DerivationWork, key_step, key_step_rows, with_key}
 use Rattle.secret_bytes.specs.Buffer.{bytes_of}
-use Rattle.store_model.specs.Handles.{Deriving, HandleOperation, KeyCreation, derivation_part, key_of_operation, part_of}
+use Rattle.store_model.specs.Handles.{Deriving, HandleOperation, KeyCreation, derivation_part, part_of}
 use Rattle.operation_phase.specs.Turns.{by_key, on_active}
 use Rattle.operation_cells.specs.Families.{Derivations}
-use Rattle.operation_cells.specs.States.{AreStates, MayHave, StandsIn}
+use Rattle.operation_cells.specs.States.{AreStates, MayHave}
 use Rattle.operation_cells.specs.Cells.{IsOperation}
 use Rattle.operation_cells.specs.KeyInputs.{RefusesKeyAt, TakesKeyAt}
 use Rattle.operation_cells.specs.declared.states.FamilyStates.{FamilyStates}
 use Rattle.operation_cells.specs.declared.cell.Cell.{Cell}
 use Rattle.operation_cells.proofs.Deriving.{goes_with, key_stays, unless_goes}
-use Rattle.operation_cells.proofs.Families.{Keeps, View, Busy, Idle, keeps_all, put_derivation, view}
+use Rattle.operation_cells.proofs.Families.{keeps_all, put_derivation}
 use Rattle.operation_cells.proofs.Leases.{leased_as}
-use Rattle.operation_cells.proofs.Steps.{Took, answers, seen}
+use Rattle.operation_cells.proofs.Steps.{Took, answers, same_work, seen}
 
 -- what the derivations' state says of a step, before a key is looked at, and what the handle does
 abbrev pub Tells : Cell → (step : ℕ) → Option Status → Type 0
@@ -112,9 +111,6 @@ refusing_with step s state alive operation code = record {
 }
 
 -- A KEY THAT IS TAKEN
-
-same_work : (v w : DerivationWork) → Active v ≡ Active w → v ≡ w
-same_work v w e = cc
 
 pub taken : (c d : Cell) (state : DerivationState) (operation : HandleOperation) (w : DerivationWork) (key : KeyCreation) (step : ℕ) (reading : Reading) →
     d.states ≡ record c.states { derivation = state } → d.lease ≡ Some reading → key.number ≡ reading.creation → part_of derivation_part operation ≡ Active w →

@@ -1,6 +1,6 @@
 -- A key of a cell's derived bytes.
 use Rattle.std.proofs.Common.{◌≡◌, ℕ, Bool, true, false, not, ◌||◌, cond, List, [], ◌∷◌, ◌++◌, refl, sym, ap, ◌∙◌, subst}
-use Rattle.std.specs.Prelude.{Option, Some, None, Ok, Err, Result, nat_lt, ◌==◌, is_some, ◌%◌}
+use Rattle.std.specs.Prelude.{Option, Some, None, Ok, Err, nat_lt, ◌==◌, is_some, ◌%◌}
 use Rattle.psa_status.specs.declared.Status.{Status}
 use Rattle.psa_status.specs.declared.Status.TheVariants.{Success, BadState, InvalidArgument, NotSupported, NotPermitted, InsufficientData}
 use Rattle.psa_status.specs.Rows.{first_row}
@@ -178,8 +178,8 @@ derived c state a count old out operation w h derives none code given =
     let next : DerivationWork = without w (stated_bytes a) in
     let has : IsDerivationOperation state (Active next) = subst (λ (x : After DerivationWork). IsDerivationOperation state x.operation) (derived_is w a due) (code (Active w) found.is.state) in
     let are : AreStates (record c.states { derivation = state }) h.key (Active (record { key = h.key; work = Deriving next })) =
-        found.put h.key (Active next) (record { state = has; algorithm = found.is.algorithm }) found.has in (
+    found.put h.key (Active next) (record { state = has; algorithm = found.is.algorithm }) found.has in (
       subst (λ k. IsOperation (record c { states = record c.states { derivation = state } }) (Active (record { key = k; work = Deriving next }))) (sym found.key_is)
-      (record { key = h.key; leased = h.leased; are = are }),
+          (record { key = h.key; leased = h.leased; are = are }),
       key_of w a count old out due (given (Active w) found.is.state),
     )

@@ -1,6 +1,6 @@
 -- What a cell stands for, with a lease and without.
-use Rattle.std.proofs.Common.{◌≡◌, true, false, refl, sym, ap, ◌∙◌, subst}
-use Rattle.std.specs.Prelude.{List, ℕ, Option, Some, None}
+use Rattle.std.proofs.Common.{◌≡◌, false, sym, ap, ◌∙◌, subst}
+use Rattle.std.specs.Prelude.{Option, Some, None}
 use Rattle.std.specs.Option.{option_map}
 use Rattle.slot_table.specs.Lent.{Reading}
 use Rattle.secret_bytes.specs.Buffer.{bytes_of}
@@ -11,7 +11,6 @@ use Rattle.service_calls.specs.declared.handle_calls.Setup.{Setup}
 use Rattle.operation_cells.specs.States.{AreInactive, AreStates}
 use Rattle.operation_cells.specs.Cells.{IsOperation}
 use Rattle.operation_cells.specs.Setups.{begun_with, set_up_without_key}
-use Rattle.operation_cells.specs.declared.states.FamilyStates.{FamilyStates}
 use Rattle.operation_cells.specs.declared.cell.Cell.{Cell}
 use Rattle.operation_cells.proofs.Fresh.{all_are, all_inactive, over}
 

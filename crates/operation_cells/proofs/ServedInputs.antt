@@ -1,27 +1,27 @@
 -- A key as the secret of a handle's derivation, as the service serves it.
-use Rattle.std.proofs.Common.{◌≡◌, ℕ, Bool, true, false, refl, sym, ap, ◌∙◌, subst}
+use Rattle.std.proofs.Common.{◌≡◌, ℕ, Bool, true, false, refl, sym, ap, ◌∙◌}
 use Rattle.std.specs.Prelude.{Option, Some, None, cond}
 use Rattle.std.specs.FinMap as map
 use Rattle.psa_status.specs.declared.Status.{Status}
 use Rattle.psa_status.specs.declared.Status.TheVariants.{BadState}
 use Rattle.psa_status.specs.Rows.{first_row}
 use Rattle.psa_status.proofs.Rows.{first_row-front, first_row-back}
-use Rattle.alg_encoding.specs.Encoding.{IsConcrete, is_concrete}
+use Rattle.alg_encoding.specs.Encoding.{is_concrete}
 use Rattle.key_uses.specs.declared.key_use.KeyUse.{KeyUse}
-use Rattle.key_uses.specs.declared.key_use.KeyUse.TheVariants.{Derivation}
-use Rattle.key_uses.specs.Permissions.{derivation_refusal, pattern_refusal}
+use Rattle.key_uses.specs.Permissions.{pattern_refusal}
 use Rattle.key_uses.specs.Uses.{use_refusal}
 use Rattle.store_model.specs.Store.{Key}
 use Rattle.store_model.specs.Outcome.{done}
 use Rattle.store_model.specs.KeyUse.{bytes_of}
 use Rattle.store_model.specs.Operations.{Operation, Inactive, InError, Active, fails, goes_on, unless_failed, with_live_key}
 use Rattle.store_model.specs.DerivationOperations.{DerivationWork, key_step_rows, with_key}
-use Rattle.store_model.specs.Handles.{Deriving, HandleOperation, Held, KeyCreation, Service, Served, applied, derivation_part, held_after, is_alive, key_of_operation, operation_of, part_of}
+use Rattle.store_model.specs.Handles.{Deriving, HandleOperation, KeyCreation, Service, Served, applied, derivation_part, held_after, is_alive, key_of_operation, operation_of, part_of}
 use Rattle.store_model.specs.HandleCalls.{creation_of, derivation_key_rows, input_key, input_key_rows}
-use Rattle.operation_cells.specs.KeyInputs.{RefusesKeyAt, TakesKeyAt}
+use Rattle.operation_cells.specs.KeyInputs.{TakesKeyAt}
 use Rattle.operation_cells.specs.Steps.{on_part}
 use Rattle.operation_cells.specs.Laws.{KeyInputsAreTheModels, has_live_key}
 use Rattle.operation_cells.proofs.Served.{untouched_is}
+use Rattle.operation_cells.proofs.Steps.{same_work}
 
 -- what comes of a key, by whether the one before is alive and by the first row
 abbrev input_by : Service → (caller handle : ℕ) → DerivationWork → Option Key → (id : ℕ) → Bool → Option Status → Served
@@ -73,9 +73,6 @@ looked_at service caller handle step id wanted h =
     ∙ ap (λ k. input_by service caller handle h.w found id (is_alive service.store k) (first_row (input_key_rows h.w found step))) h.no_key
     ∙ ap (input_by service caller handle h.w found id true)
     (first_row-back (key_step_rows h.w step) (derivation_key_rows found step h.w.alg) h.due ∙ sym (refusal_is (operation_of service caller handle) step wanted found h))
-
-same_work : (v w : DerivationWork) → Active v ≡ Active w → v ≡ w
-same_work v w e = cc
 
 pub inputs : KeyInputsAreTheModels
 inputs = record {

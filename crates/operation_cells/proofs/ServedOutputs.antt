@@ -12,7 +12,7 @@ use Rattle.store_model.specs.Outcome.{given}
 use Rattle.store_model.specs.Creation.{recorded_of}
 use Rattle.store_model.specs.Operations.{Operation, Inactive, InError, Active, After, fails, goes_on, unless_failed, with_live_key}
 use Rattle.store_model.specs.DerivationOperations.{DerivationWork, exhausted, next_derived, output_key_rows, stated_bytes, taken_from, without}
-use Rattle.store_model.specs.Handles.{Deriving, KeyCreation, Service, Served, applied, derivation_part, held_after, key_of_operation, operation_of, part_of}
+use Rattle.store_model.specs.Handles.{Deriving, Service, Served, applied, derivation_part, held_after, key_of_operation, operation_of, part_of}
 use Rattle.store_model.specs.HandleCalls as calls
 use Rattle.store_model.specs.HandleCalls.{output_key, underived}
 use Rattle.operation_cells.specs.Steps.{on_part}

@@ -69,7 +69,8 @@ busy_is f key operation alive step w whole =
 sees_work : (f : Family) (key : Option KeyCreation) (operation : HandleOperation) (w : WorkOf f) → operation ≡ Active (record { key = key; work = embed_of f w }) → part_of (part_for f) operation ≡ Active w
 sees_work f key operation w whole = ap (part_of (part_for f)) whole ∙ own_part f w
 
-same_work : {W : Type 0} (v w : W) → Active v ≡ Active w → v ≡ w
+-- the work is one
+pub same_work : {W : Type 0} (v w : W) → Active v ≡ Active w → v ≡ w
 same_work v w e = cc
 
 step_by : (f : Family) (s t : FamilyStates) (key : Option KeyCreation) (operation : HandleOperation) (alive : Bool) (step : WorkOf f → After (WorkOf f)) → Took f s t operation alive step →

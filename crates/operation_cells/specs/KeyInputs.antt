@@ -1,5 +1,5 @@
 -- A key as the secret or the password of a derivation.
-use Rattle.std.specs.Prelude.{ℕ, ◌≡◌, Bool, Option, None}
+use Rattle.std.specs.Prelude.{ℕ, ◌≡◌, Bool, None}
 use Rattle.psa_status.specs.Rows.{first_row}
 use Rattle.alg_encoding.specs.Encoding.{IsConcrete}
 use Rattle.key_uses.specs.declared.key_use.KeyUse.{KeyUse}

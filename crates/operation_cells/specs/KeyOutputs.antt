@@ -1,5 +1,5 @@
 -- A key of derived bytes.
-use Rattle.std.specs.Prelude.{ℕ, ◌≡◌, Bool, false, nat_lt, min, List, length, take, Option, None}
+use Rattle.std.specs.Prelude.{ℕ, ◌≡◌, Bool, false, nat_lt, min, List, length, take, None}
 use Rattle.psa_status.specs.Rows.{first_row}
 use Rattle.key_attributes.specs.declared.Attributes.{Attributes}
 use Rattle.derivation_states.specs.KeySteps.{derived_key}

@@ -1,5 +1,5 @@
 -- Laws of operations, and how their calls are those of the model's service.
-use Rattle.std.specs.Prelude.{ℕ, ◌≡◌, Bool, true, false, Option, Some, None}
+use Rattle.std.specs.Prelude.{ℕ, ◌≡◌, Bool, true, false, Some, None}
 use Rattle.std.specs.FinMap as map
 use Rattle.psa_status.specs.declared.Status.{Status}
 use Rattle.psa_status.specs.declared.Status.TheVariants.{InvalidHandle}
@@ -12,7 +12,7 @@ use Rattle.store_model.specs.Creation.{recorded_of}
 use Rattle.store_model.specs.KeyUse.{bytes_of}
 use Rattle.store_model.specs.Operations.{Active, fails, goes_on}
 use Rattle.store_model.specs.DerivationOperations.{DerivationWork, stated_bytes, with_key}
-use Rattle.store_model.specs.Handles.{Held, HandleOperation, Deriving, Service, applied, derivation_part, is_alive, key_of_operation, operation_of, part_of}
+use Rattle.store_model.specs.Handles.{HandleOperation, Deriving, Service, applied, derivation_part, is_alive, key_of_operation, operation_of, part_of}
 use Rattle.store_model.specs.HandleCalls.{InputKey, OutputKey, creation_of, derived_key, handle_step, random_of}
 use Rattle.service_calls.specs.Meanings.{model_setup, model_step}
 use Rattle.service_calls.specs.declared.handle_calls.Setup.{Setup}

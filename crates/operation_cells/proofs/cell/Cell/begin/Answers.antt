@@ -1,6 +1,4 @@
 use Rattle.std.proofs.Common.{refl, sym, ◌∙◌, ap}
-use Rattle.store_model.specs.Operations.{After}
-use Rattle.store_model.specs.Handles.{Held}
 use Rattle.operation_cells.specs.Setups.{set_up_without_key}
 use Rattle.operation_cells.proofs.Fresh.{all_inactive}
 use Rattle.operation_cells.proofs.Leases.{begun}

@@ -1,6 +1,4 @@
 use Rattle.std.proofs.Common.{◌≡◌, true, false, refl, sym, subst}
-use Rattle.store_model.specs.Operations.{After}
-use Rattle.store_model.specs.DerivationOperations.{DerivationWork}
 use Rattle.store_model.specs.Outcome.{refusal}
 use Rattle.derivation_states.specs.KeySteps.{derived_key}
 use Rattle.operation_cells.specs.Cells.{IsOperation}

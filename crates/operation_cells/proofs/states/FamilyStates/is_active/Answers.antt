@@ -1,5 +1,5 @@
 use Rattle.std.proofs.Common.{◌≡◌, true, false, sym, ◌∙◌, subst}
-use Rattle.operation_cells.specs.Families.{Hashes, Macs, Ciphers, Aeads, Derivations}
+use Rattle.operation_cells.specs.Families.{Hashes, Macs, Ciphers, Aeads}
 use Rattle.operation_cells.proofs.Told.{TellsActive, one_active, last_active}
 use Rattle.operation_cells.proofs.states.FamilyStates.is_active.Goals as goal
 use Rattle.operation_cells.proofs.states.FamilyStates.is_active.Goals.{then-is_active, else-is_active, then-is_active-2, else-is_active-2, then-is_active-3, else-is_active-3}
