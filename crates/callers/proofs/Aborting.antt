@@ -1,0 +1,70 @@
+-- A caller after an abort.
+use Rattle.std.proofs.Common.{◌≡◌, ℕ, ◌+◌, ◌-◌, ◌*◌, ◌≤◌, Bool, true, false, not, List, refl, sym, ap, ◌∙◌, arith, Option}
+use Rattle.std.proofs.lemmas.Bool.{false≢true}
+use Rattle.turn_history.specs.History.{entries_of}
+use Rattle.turn_history.specs.Views.{TURNS}
+use Rattle.random_streams.specs.RandomWords.{RandomStream, drawn_from, words_used}
+use Rattle.slot_table.specs.Lent.{Reading}
+use Rattle.store_model.specs.Faults.{Plain}
+use Rattle.store_model.specs.HandleCalls.{Abort}
+use Rattle.store_model.specs.Operations.{Inactive, ends, is_inactive}
+use Rattle.store_model.specs.Outcome.{done}
+use Rattle.store_model.specs.Handles.{HandleOperation, applied}
+use Rattle.store_model.specs.Requests.{Request, OnHandle}
+use Rattle.store_model.specs.Replay.{Entry, outcome_of, replay}
+use Rattle.service_calls.specs.declared.output.Output.TheVariants.{Done}
+use Rattle.shared_store.specs.Turning.{IsAt, IsEntered}
+use Rattle.std.specs.Prelude.{Ok}
+use Rattle.callers.specs.Called.{IsAnswered, KnowsBefore, Legal}
+use Rattle.callers.specs.Handles.{AreOperations, IsChanged, busy, operation_at, with_operation_at}
+use Rattle.callers.specs.Parts.{IsBack}
+use Rattle.callers.specs.Ready.{IsReady}
+use Rattle.callers.specs.Worlds.{World}
+use Rattle.callers.specs.declared.caller.Caller.{Caller}
+use Rattle.callers.proofs.CellLists.{busy_put, once}
+use Rattle.callers.proofs.Handling.{few_turns, handled_answered, handled_ready, spent_by}
+use Rattle.callers.proofs.Readying.{outcome_is}
+
+undrawn : (s : RandomStream) → s ≡ drawn_from s 0
+undrawn s = ap (λ p. record s { place = p }) (let z : s.place ≡ s.place + words_used 0 = omega arith in z)
+
+module _ {D A C : Type 0} (w : World D A C) (n : ℕ) (old settled new : Caller D A C) (r : IsReady w n old) (request : Request) (rank : ℕ) (before : List Entry) (e : Entry)
+    (i : IsEntered old.pass.me.0 settled.pass.me.0 request Plain rank old.pass.me.0.holding before e)
+    (handle : ℕ) (lease : Option Reading) (change : IsChanged old.handles.cells.items settled.handles.cells.items r.operations handle Inactive lease) (back : IsBack lease settled new)
+    (first : 1 ≤ handle) (last : handle ≤ 4) (asks : request ≡ OnHandle handle Abort) where
+  aborts : KnowsBefore w (λ service. outcome_of service e ≡ applied service old.number handle (ends done)) before e
+  aborts start is tells = outcome_is (replay start before) e old.number (OnHandle handle Abort) Plain (i.by ∙ r.number) (i.call_is ∙ asks) i.mark_is
+
+  pub aborted_ready : (is_inactive (operation_at r.operations handle) ≡ true → 4 ≤ n) → IsAt w.lock w.opened new.pass → Legal w (entries_of new.pass.me.0.seen) → settled.number ≡ old.number → settled.spares ≡ old.spares →
+      settled.stream ≡ old.stream → settled.spent ≡ old.spent → IsReady w 0 new
+  aborted_ready pays at legal number spares stream spent =
+      handled_ready w n old settled new r request Plain rank before e i handle Inactive lease change back (ends done) refl first last aborts 0 at legal number spares (stream ∙ undrawn old.stream)
+      (enough (is_inactive (operation_at r.operations handle)) refl) (let a = r.words in let p = ap (λ s. s.place) stream in omega arith) (let a = r.spent in omega arith)
+    where
+      enough : (b : Bool) → is_inactive (operation_at r.operations handle) ≡ b → TURNS + 2 * busy (with_operation_at r.operations handle Inactive) + 0 + spent_by w n old settled new r request Plain rank before e i handle Inactive lease change lease ≤ old.pass.me.0.turns_left + 4 * settled.spent
+      enough true found =
+          let put = busy_put r.operations (handle - 1) Inactive (let z = r.stand.count in omega arith) in let k = ap (λ x. once (not x)) found in let t = r.turns in let z = pays found in
+          let f = few_turns w n old settled new r request Plain rank before e i handle Inactive lease change lease in omega arith
+      enough false found =
+          let put = busy_put r.operations (handle - 1) Inactive (let z = r.stand.count in omega arith) in let k = ap (λ x. once (not x)) found in let t = r.turns in
+          let f = few_turns w n old settled new r request Plain rank before e i handle Inactive lease change lease in omega arith
+
+  pub aborted_answered : (buffer : List ℕ) → IsAnswered w old.pass.me.0 new.pass.me.0 request rank (Ok Done) buffer buffer
+  aborted_answered buffer = handled_answered w n old settled new r request Plain rank before e i handle Inactive lease change back (ends done) refl first last aborts (Ok Done) buffer buffer refl refl
+
+by_finding : (b : Bool) (P : Type 0) → (b ≡ true → P) → (b ≡ false → P) → P
+by_finding true P found other = found refl
+by_finding false P found other = other refl
+
+-- by whether the operation was inactive, and the abort has counted
+pub aborted : {D A C : Type 0} (w : World D A C) (old settled new : Caller D A C) (r : IsReady w 0 old) (request : Request) (rank : ℕ) (before : List Entry) (e : Entry) (handle : ℕ) (lease : Option Reading) →
+    ((operations : List HandleOperation) → AreOperations old.handles.cells.items operations → is_inactive (operation_at operations handle) ≡ true → IsReady w 4 old) →
+    IsEntered old.pass.me.0 settled.pass.me.0 request Plain rank old.pass.me.0.holding before e →
+    ((operations : List HandleOperation) → AreOperations old.handles.cells.items operations → IsChanged old.handles.cells.items settled.handles.cells.items operations handle Inactive lease) → IsBack lease settled new →
+    1 ≤ handle → handle ≤ 4 → request ≡ OnHandle handle Abort → IsAt w.lock w.opened new.pass → Legal w (entries_of new.pass.me.0.seen) → settled.number ≡ old.number → settled.spares ≡ old.spares →
+    settled.stream ≡ old.stream → settled.spent ≡ old.spent → IsReady w 0 new
+aborted w old settled new r request rank before e handle lease counted i changed back first last asks at legal number spares stream spent =
+    by_finding (is_inactive (operation_at r.operations handle)) (IsReady w 0 new)
+    (λ found. let more = counted r.operations r.stand found in
+    aborted_ready w 4 old settled new more request rank before e i handle lease (changed more.operations more.stand) back first last asks (λ again. omega arith) at legal number spares stream spent)
+    (λ found. aborted_ready w 0 old settled new r request rank before e i handle lease (changed r.operations r.stand) back first last asks (λ again. absurd (false≢true (sym found ∙ again))) at legal number spares stream spent)

@@ -1,0 +1,60 @@
+-- A handle's operation becomes another one, and its lease is kept or handed out.
+use Rattle.std.proofs.Common.{◌≡◌, ℕ, ◌+◌, ◌-◌, ◌<◌, Bool, true, false, cond, List, [], ◌∷◌, ◌++◌, length, get_or, set, refl, sym, ap, ◌∙◌, inl, inr, ⊎_elim, arith, length-append, Option, Some, None}
+use Rattle.std.specs.Prelude.{◌⊎◌, count_by}
+use Rattle.std.proofs.lemmas.List.Sums.{sum_by-append}
+use Rattle.slot_table.specs.Lent.{Reading}
+use Rattle.key_slots.specs.Holdings.{Pairs}
+use Rattle.operation_phase.specs.Turns.{is_active}
+use Rattle.store_model.specs.Handles.{HandleOperation}
+use Rattle.operation_cells.specs.Cells.{IsOperation}
+use Rattle.operation_cells.specs.declared.cell.Cell.{Cell}
+use Rattle.callers.specs.Handles.{AreOperations, ArePairs, IsChanged, leases_of, pairs_of}
+use Rattle.callers.proofs.CellLists.{leases_put, names_lease, put_cell, tally-cons}
+
+-- the pairs of two leases, of which one is this one and the other none
+abbrev Halves : (given kept whole : Option Reading) → Type 0
+Halves given kept whole = ((given ≡ None) × (kept ≡ whole)) ⊎ ((given ≡ whole) × (kept ≡ None))
+
+halves_count : (f : ℕ × ℕ → Bool) (given kept whole : Option Reading) → Halves given kept whole → count_by f (pairs_of given) + count_by f (pairs_of kept) ≡ count_by f (pairs_of whole)
+halves_count f given kept whole (inl h) = let a = ap (λ o. count_by f (pairs_of o)) h.0 in let b = ap (λ o. count_by f (pairs_of o)) h.1 in omega arith
+halves_count f given kept whole (inr h) = let a = ap (λ o. count_by f (pairs_of o)) h.0 in let b = ap (λ o. count_by f (pairs_of o)) h.1 in omega arith
+
+count_all : (own : Pairs) → count_by (λ p. true) own ≡ length own
+count_all [] = refl
+count_all (p ∷ ps) = let m = tally-cons (λ q. true) p ps in let r = count_all ps in omega arith
+
+pub length_alike : (one other : Pairs) → ArePairs one other → length one ≡ length other
+length_alike one other are = sym (count_all one) ∙ (are (λ p. true) ∙ count_all other)
+
+module _ (old : List Cell) (operations : List HandleOperation) (handle : ℕ) (cell next : Cell) (operation : HandleOperation) (lease : Option Reading)
+    (are : AreOperations old operations) (inside : handle - 1 < 4) (at : cell ≡ get_or old (handle - 1) cell) where
+  within : handle - 1 < length old
+  within = let z = are.cells_are in omega arith
+
+  by_halves : IsOperation next operation → (is_active operation ≡ false → next.lease ≡ None) → Halves lease next.lease cell.lease → IsChanged old (set old (handle - 1) next) operations handle operation lease
+  by_halves stands over halves =
+      let pairs : ArePairs (pairs_of lease ++ leases_of (set old (handle - 1) next)) (leases_of old) = λ f.
+      let a = sum_by-append (λ (p : ℕ × ℕ). cond (f p) 1 0) (pairs_of lease) (leases_of (set old (handle - 1) next)) in
+      let b = leases_put f old (handle - 1) cell next within at in let c = halves_count f lease next.lease cell.lease halves in omega arith in
+      record {
+        stand = put_cell old operations (handle - 1) next operation are inside stands over;
+        leases = pairs;
+        fewer = let a = length_alike (pairs_of lease ++ leases_of (set old (handle - 1) next)) (leases_of old) pairs in let b = length-append (pairs_of lease) (leases_of (set old (handle - 1) next)) in omega arith;
+        mine = λ l is. names_lease old (handle - 1) cell l within at (⊎_elim (λ (h : (lease ≡ None) × (next.lease ≡ cell.lease)). absurd (clash l (sym is ∙ h.0))) (λ h. sym h.0 ∙ is) halves);
+      }
+    where
+      clash : (l : Reading) → Some l ≡ None → ⊥
+      clash l e = cc
+
+  -- by a step, after which one that is over hands its lease out
+  pub stepped : (mid : Cell) → mid.lease ≡ cell.lease → IsOperation next operation → (is_active operation ≡ true → (lease ≡ None) × (next ≡ mid)) → (is_active operation ≡ false → (lease ≡ mid.lease) × (next.lease ≡ None)) →
+      IsChanged old (set old (handle - 1) next) operations handle operation lease
+  stepped mid same stands active over = by_halves stands (λ e. (over e).1) (of (is_active operation) refl)
+    where
+      of : (b : Bool) → is_active operation ≡ b → Halves lease next.lease cell.lease
+      of true e = inl ((active e).0, ap (λ (c : Cell). c.lease) (active e).1 ∙ same)
+      of false e = inr ((over e).0 ∙ same, (over e).1)
+
+  -- by a wipe
+  pub wiped : lease ≡ cell.lease → next.lease ≡ None → IsOperation next operation → IsChanged old (set old (handle - 1) next) operations handle operation lease
+  wiped given none stands = by_halves stands (λ e. none) (inr (given, none))

@@ -1,0 +1,11 @@
+pub mod Journeys
+pub mod CellLists
+pub mod Owned
+pub mod Readying
+pub mod Asking
+pub mod Storing
+pub mod Changing
+pub mod Handling
+pub mod Stepping
+pub mod Aborting
+pub mod KeyReplies

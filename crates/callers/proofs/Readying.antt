@@ -1,0 +1,108 @@
+-- What is known of the one-thread service at a caller's entry, and the caller after the call.
+use Rattle.std.proofs.Common.{◌≡◌, ℕ, ◌+◌, ◌*◌, ◌^◌, ◌≤◌, List, [], ◌∷◌, ◌++◌, length, refl, sym, ap, ◌∙◌, subst, arith}
+use Rattle.std.specs.Prelude.{All, vec_capacity}
+use Rattle.secret_bytes.specs.Buffer.{IsClear}
+use Rattle.turn_history.specs.History.{entries_of, StartsWith}
+use Rattle.turn_history.specs.Views.{TURNS}
+use Rattle.random_streams.specs.RandomWords.{next_bytes, random_bytes}
+use Rattle.store_model.specs.Store.{Settings, start_of}
+use Rattle.store_model.specs.Faults.{FaultMark}
+use Rattle.store_model.specs.Handles.{HandleOperation, Service, next_random, own_of}
+use Rattle.store_model.specs.Sound.{IsSound}
+use Rattle.store_model.specs.Requests.{Request, serve}
+use Rattle.store_model.specs.Replay.{Entry, outcome_of, replay}
+use Rattle.store_model.proofs.Others.{leaves_settings}
+use Rattle.shared_store.specs.Turning.{IsAt}
+use Rattle.callers.specs.Called.{IsCalled, IsToldTo, KnowsBefore, Legal}
+use Rattle.callers.specs.Worlds.{World}
+use Rattle.callers.specs.Handles.{AreOperations, ArePairs, busy, leases_of}
+use Rattle.callers.specs.Ready.{IsOwn, IsReady}
+use Rattle.callers.specs.declared.caller.Caller.{Caller}
+use Rattle.callers.proofs.Journeys.{begins_through, own_after, own_before, told_front}
+use Rattle.callers.proofs.Owned.{sound_replay}
+
+pub outcome_is : (service : Service) (e : Entry) (n : ℕ) (request : Request) (mark : FaultMark) → e.caller ≡ n → e.call ≡ request → e.mark ≡ mark → outcome_of service e ≡ serve service n request mark
+outcome_is service e n request mark by called marked = λ i. serve service (by i) (called i) (marked i)
+
+settings_stay : (service : Service) (h : List Entry) → (replay service h).store.settings ≡ service.store.settings
+settings_stay service [] = refl
+settings_stay service (e ∷ h) = settings_stay (outcome_of service e).service h ∙ (leaves_settings service e.caller e.call e.mark).0
+
+module _ {D A C : Type 0} (w : World D A C) where
+  abbrev Ready : ℕ → Caller D A C → Type 0
+  Ready = IsReady w
+
+  abbrev Knows : (Service → Type 0) → List Entry → Entry → Type 0
+  Knows = KnowsBefore w
+
+  -- the service before the caller's entry has what the caller has of its own
+  pub record IsKnown (old : Caller D A C) (operations : List HandleOperation) (service : Service) : Type 0 where
+    pub sound : IsSound service
+    pub own : IsOwn operations old.stream.place (own_of service old.number)
+    pub random : (count : ℕ) → next_random service old.number count ≡ next_bytes old.stream count
+
+  module _ (n : ℕ) (old new : Caller D A C) (r : Ready n old) (turns : ℕ) (call : Request) (mark : FaultMark) (rank : ℕ) (before : List Entry) (e : Entry)
+      (c : IsCalled old.pass.me.0 new.pass.me.0 turns call mark rank before e) where
+    begins : StartsWith (entries_of new.pass.me.0.seen) (entries_of old.pass.me.0.seen)
+    begins = begins_through (entries_of new.pass.me.0.seen) before (entries_of old.pass.me.0.seen) (begins_through (entries_of new.pass.me.0.seen) (before ++ e ∷ []) before c.placed (e ∷ [], refl)) c.goes_on.since
+
+    pub known : Knows (IsKnown old r.operations) before e
+    known start is tells =
+        let store = start_of is.settings is.found in
+        let here : IsToldTo w start (entries_of old.pass.me.0.seen) =
+        told_front (w.told w.opened.file.value.cells.disk) start (before ++ e ∷ []) (entries_of old.pass.me.0.seen)
+        (begins_through (before ++ e ∷ []) before (entries_of old.pass.me.0.seen) (e ∷ [], refl) c.goes_on.since) tells in
+        let mine = own_before old.pass.me.0 new.pass.me.0 turns call mark rank before e c start (r.at.calls (let z = r.at.first in omega arith)) in
+        let own : own_of (replay start before) old.number ≡ own_of (replay start (entries_of old.pass.me.0.seen)) old.number =
+        ap (own_of (replay start before)) (sym r.number) ∙ (mine ∙ ap (own_of (replay start (entries_of old.pass.me.0.seen))) r.number) in
+        let is_own : IsOwn r.operations old.stream.place (own_of (replay start before) old.number) = subst (IsOwn r.operations old.stream.place) (sym own) (r.own start is here) in
+        let seed : (replay start before).store.settings.seed ≡ old.stream.seed =
+        ap (λ (s : Settings). s.seed) (settings_stay start before) ∙ (ap (λ (s : Service). s.store.settings.seed) is.is ∙ (is.seed_is ∙ sym r.seed)) in
+        record {
+          sound = sound_replay start store before is.is (r.sound start is) c.goes_on.signed;
+          own = is_own;
+          random = λ count. λ i. random_bytes (seed i) (sym r.stream_of i) (is_own.drawn i) count;
+        }
+
+    -- what a call changes of a caller beside its pass
+    pub record IsMoved (changed : List HandleOperation) (slack : ℕ) : Type 0 where
+      pub number : new.number ≡ old.number
+      pub stand : AreOperations new.handles.cells.items changed
+      pub own : Knows (λ service. IsOwn changed new.stream.place (own_of (outcome_of service e).service old.number)) before e
+      pub leases : ArePairs new.pass.me.0.holding (leases_of new.handles.cells.items)
+      pub clear : All IsClear new.spares.items
+      pub five : length (leases_of new.handles.cells.items) + length new.spares.items ≡ 5
+      pub room : 5 ≤ vec_capacity new.spares
+      pub seed : new.stream.seed ≡ old.stream.seed
+      pub stream_of : new.stream.caller ≡ old.stream.caller
+      pub turns_are : TURNS + 2 * busy changed + slack ≤ new.pass.me.0.turns_left + 4 * new.spent
+      pub words : new.stream.place + 64 * slack ≤ 256 * new.spent
+      pub spent : new.spent ≤ 2 ^ 48
+
+    pub ready : (changed : List HandleOperation) (slack : ℕ) → IsAt w.lock w.opened new.pass → Legal w (entries_of new.pass.me.0.seen) → IsMoved changed slack → Ready slack new
+    ready changed slack at legal m =
+        let number : new.pass.me.0.number ≡ new.number = c.number ∙ (r.number ∙ sym m.number) in record {
+          at = at;
+          number = number;
+          last = let z = r.last in let y = m.number in omega arith;
+          one = c.weight ∙ r.one;
+          legal = legal;
+          sound = r.sound;
+          operations = changed;
+          stand = m.stand;
+          own = λ start is tells.
+              let front = told_front (w.told w.opened.file.value.cells.disk) start (entries_of new.pass.me.0.seen) (before ++ e ∷ []) c.placed tells in
+              let after = own_after old.pass.me.0 new.pass.me.0 turns call mark rank before e c start (at.calls (let z = at.first in omega arith)) in
+              let own : own_of (replay start (entries_of new.pass.me.0.seen)) new.number ≡ own_of (outcome_of (replay start before) e).service old.number =
+              ap (own_of (replay start (entries_of new.pass.me.0.seen))) (sym number) ∙ (after ∙ ap (own_of (outcome_of (replay start before) e).service) (number ∙ m.number)) in
+              subst (IsOwn changed new.stream.place) (sym own) (m.own start is front);
+          leases = m.leases;
+          clear = m.clear;
+          five = m.five;
+          room = m.room;
+          seed = m.seed ∙ r.seed;
+          stream_of = m.stream_of ∙ (r.stream_of ∙ sym m.number);
+          turns = m.turns_are;
+          words = m.words;
+          spent = m.spent;
+        }

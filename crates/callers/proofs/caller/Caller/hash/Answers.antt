@@ -1,0 +1,31 @@
+use Rattle.std.proofs.Common.{length, refl, sym, ap, subst, ◌∙◌}
+use Rattle.service_calls.specs.Answered.{AnswersReply}
+use Rattle.service_calls.specs.Meanings.{model_request, model_store_call}
+use Rattle.store_model.specs.Call.{buffer_after}
+use Rattle.store_model.specs.Faults.{Plain}
+use Rattle.store_model.specs.Outcome.{Outcome}
+use Rattle.store_model.specs.Handles.{next_random}
+use Rattle.store_model.specs.Replay.{replay}
+use Rattle.callers.specs.Worlds.{world}
+use Rattle.keyed_calls.proofs.Models.{hashes}
+use Rattle.callers.proofs.Storing.{stored_answered, stored_ready}
+use Rattle.callers.proofs.caller.Caller.hash.Goals as goal
+
+pub returns-clause-ready : goal.returns-clause-ready
+returns-clause-ready g c =
+    let w = world g.D.Disk.contents g.D.Disk.moment g.D.Disk.faults g.A.Devices.faults g.A.Devices.locations g.C.Admission.labels c.args.shared.now.lock.table.shared.table_id c.args.shared.now.lock.table.shared.key.value.value.store.opened in
+    let old = c.args.self.now in let new = record old { pass = c.count-rank.new.pass } in let r = c.requires.ready in let request = model_request c.args.call.now (length c.args.out.now) in
+    let call = model_store_call c.args.asked.now (length c.args.out.now) in let asks = ap (λ x. model_request x (length c.args.out.now)) c.requires.call in let ranked = c.count-rank.ensures.counted in
+    let before = ranked.before in let e = ranked.after.entry in let i = ranked.after.entered in
+    stored_ready w old new r request call asks Plain c.count-rank.result old.pass.me.0.holding before e i refl (record { number = refl; spent = refl; stream = refl; spares = refl; handles = refl })
+    (λ store caller random. ap (λ (o : Outcome). o.drawn) (hashes store caller random c.args.asked.now (length c.args.out.now) c.requires.hash)) c.count-rank.ensures.at c.count-rank.ensures.legal
+
+pub returns-clause-answered : goal.returns-clause-answered
+returns-clause-answered g c =
+    let w = world g.D.Disk.contents g.D.Disk.moment g.D.Disk.faults g.A.Devices.faults g.A.Devices.locations g.C.Admission.labels c.args.shared.now.lock.table.shared.table_id c.args.shared.now.lock.table.shared.key.value.value.store.opened in
+    let old = c.args.self.now in let new = record old { pass = c.count-rank.new.pass } in let r = c.requires.ready in let request = model_request c.args.call.now (length c.args.out.now) in
+    let call = model_store_call c.args.asked.now (length c.args.out.now) in let asks = ap (λ x. model_request x (length c.args.out.now)) c.requires.call in let ranked = c.count-rank.ensures.counted in
+    let before = ranked.before in let e = ranked.after.entry in let i = ranked.after.entered in
+    stored_answered w old new r request call asks Plain c.count-rank.result old.pass.me.0.holding before e i c.compute_hash-result.result c.args.out.now c.compute_hash-result.new.out (λ start is tells.
+    let same = sym (ap (λ (o : Outcome). o.reply) (hashes (replay start before).store old.number (next_random (replay start before) old.number) c.args.asked.now (length c.args.out.now) c.requires.hash)) in
+    (subst (AnswersReply c.compute_hash-result.result) same c.compute_hash-result.ensures.reply, c.compute_hash-result.ensures.buffer ∙ ap (buffer_after c.args.out.now) same))

@@ -1,0 +1,54 @@
+-- What a caller's call adds to what the caller has seen, and what it answers.
+use Rattle.std.specs.Prelude.{◌≡◌, ℕ, ◌+◌, List, [], ◌∷◌, ◌++◌, length, Result}
+use Rattle.psa_status.specs.declared.Status.{Status}
+use Rattle.turn_history.specs.declared.pass.View.{View}
+use Rattle.turn_history.specs.History.{entries_of, StartsWith}
+use Rattle.service_calls.specs.declared.output.Output.{Output}
+use Rattle.service_calls.specs.Answered.{AnswersReply}
+use Rattle.store_model.specs.Call.{buffer_after}
+use Rattle.store_model.specs.Faults.{FaultMark}
+use Rattle.store_model.specs.Handles.{Service}
+use Rattle.store_model.specs.Requests.{Request}
+use Rattle.store_model.specs.Replay.{Entry, outcome_of, replay}
+use Rattle.store_core.specs.declared.store.Opened.{Opened}
+use Rattle.shared_store.specs.Turning.{GoesOn, IsLegal, IsStartOf, ToldBy}
+use Rattle.callers.specs.Worlds.{World}
+
+-- From one view of a caller to a later one so many turns were spent, and in one of them this entry was added, after the history
+-- `before`, at the place r: it is the caller's own, of this call with this mark, and no other of its own was added.
+pub record IsCalled {B : Type 0} (v w : View Entry B) (turns : ℕ) (call : Request) (mark : FaultMark) (r : ℕ) (before : List Entry) (e : Entry) : Type 0 where
+  pub number : w.number ≡ v.number
+  pub weight : w.weight ≡ v.weight
+  pub left : w.turns_left + turns ≡ v.turns_left
+  pub goes_on : GoesOn v before
+  pub placed : StartsWith (entries_of w.seen) (before ++ e ∷ [])
+  pub rank : r ≡ length before
+  pub by : e.caller ≡ v.number
+  pub call_is : e.call ≡ call
+  pub mark_is : e.mark ≡ mark
+  pub calls : w.calls ≡ v.calls ++ e ∷ []
+
+module _ {D A C : Type 0} (w : World D A C) where
+  -- a start that the opening permits, and a history from it that is told
+  abbrev pub Starts : Service → Type 0
+  Starts start = IsStartOf w.told w.moment w.faults w.hard w.locations w.labels w.opened start
+
+  abbrev pub IsToldTo : Service → List Entry → Type 0
+  IsToldTo start h = ToldBy w.told w.moment w.faults w.hard w.locations w.labels w.opened start h
+
+  abbrev pub Legal : List Entry → Type 0
+  Legal h = IsLegal w.told w.moment w.faults w.hard w.locations w.labels w.opened h
+
+  -- P holds of the one-thread service before an entry, from each start and as far as that is told
+  abbrev pub KnowsBefore : (Service → Type 0) → List Entry → Entry → Type 0
+  KnowsBefore P before e = (start : Service) → Starts start → IsToldTo start (before ++ e ∷ []) → P (replay start before)
+
+  -- The call has its entry at the place r of what the caller has then seen. Result and output buffer are those that the one-thread
+  -- service gives there, as far as the history is told.
+  pub record IsAnswered (v u : View Entry (Opened D A C)) (call : Request) (r : ℕ) (result : Result Output Status) (old new : List ℕ) : Type 0 where
+    pub turns : ℕ
+    pub mark : FaultMark
+    pub before : List Entry
+    pub entry : Entry
+    pub called : IsCalled v u turns call mark r before entry
+    pub replied : KnowsBefore (λ service. AnswersReply result (outcome_of service entry).reply × (new ≡ buffer_after old (outcome_of service entry).reply)) before entry

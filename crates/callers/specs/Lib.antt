@@ -1,0 +1,5 @@
+pub mod Worlds
+pub mod Called
+pub mod Handles
+pub mod Ready
+pub mod Parts

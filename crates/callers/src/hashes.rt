@@ -1,0 +1,42 @@
+// Calls in one part without a key.
+ghost use Rattle.std.specs.Prelude.{◌≡◌, true, length};
+ghost use Rattle.service_calls.specs.Meanings.{model_request};
+ghost use Rattle.service_calls.specs.declared.call.Call.TheVariants.{OnStore};
+ghost use Rattle.keyed_calls.specs.Hashing.{is_hash};
+ghost use Rattle.callers.specs.Called.{IsAnswered};
+ghost use Rattle.callers.specs.Ready.{IsReady};
+ghost use Rattle.callers.specs.Worlds.{world};
+
+use crate::caller::Caller;
+use admission::Admission;
+use disk_face::Disk;
+use driver_dispatch::Devices;
+use keyed_calls::compute_hash;
+use psa_status::Status;
+use service_calls::{Call, Output, StoreCall};
+use shared_store::SharedStore;
+use std::sync::Wait;
+
+impl<D: Disk, A: Devices, C: Admission> Caller<D, A, C> {
+    /// Computes the hash of a message, or compares it, and answers its rank beside what it gives. Bytes are written to the
+    /// front of the buffer.
+    pub fn hash<R: Wait>(
+        &mut self,
+        rt: &R,
+        shared: &SharedStore<D, A, C>,
+        call: &Call<'_>,
+        asked: &StoreCall<'_>,
+        out: &mut [u8],
+    ) -> (u64, Result<Output, Status>)
+        requires ready { IsReady (world D.contents D.moment D.faults A.faults A.locations C.labels shared.now.lock.table.shared.table_id shared.now.lock.table.shared.key.value.value.store.opened) 4 self.old }
+        requires call { call.now ≡ OnStore asked.now }
+        requires hash { is_hash asked.now ≡ true }
+        ensures ready { IsReady (world D.contents D.moment D.faults A.faults A.locations C.labels shared.now.lock.table.shared.table_id shared.now.lock.table.shared.key.value.value.store.opened) 0 self.new }
+        ensures answered { IsAnswered (world D.contents D.moment D.faults A.faults A.locations C.labels shared.now.lock.table.shared.table_id shared.now.lock.table.shared.key.value.value.store.opened) self.old.pass.me.0 self.new.pass.me.0 (model_request call.now (length out.old)) result.0 result.1 out.old out.new }
+        ensures spent { self.new.spent ≡ self.old.spent }
+    {
+        let rank = shared.count(rt, &mut self.pass, call, out.len());
+        let result = compute_hash(asked, out);
+        (rank, result)
+    }
+}

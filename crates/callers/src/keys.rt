@@ -1,0 +1,86 @@
+// Calls on a key that neither read its bytes nor make one.
+ghost use Rattle.std.specs.Prelude.{◌≡◌, ℕ, List};
+ghost use Rattle.service_calls.specs.Meanings.{model_request};
+ghost use Rattle.service_calls.specs.declared.call.Call.TheVariants.{OnStore};
+ghost use Rattle.service_calls.specs.declared.store_calls.StoreCall.TheVariants as store_calls;
+ghost use Rattle.callers.specs.Called.{IsAnswered};
+ghost use Rattle.callers.specs.Ready.{IsReady};
+ghost use Rattle.callers.specs.Worlds.{world};
+
+use crate::caller::Caller;
+use admission::Admission;
+use disk_face::Disk;
+use driver_dispatch::Devices;
+use key_attributes::KeyId;
+use psa_status::Status;
+use service_calls::{Call, Output};
+use shared_store::SharedStore;
+use std::sync::Wait;
+
+impl<D: Disk, A: Devices, C: Admission> Caller<D, A, C> {
+    /// Destroys a key, and answers its rank beside what it gives.
+    pub fn destroy<R: Wait>(
+        &mut self,
+        rt: &R,
+        shared: &SharedStore<D, A, C>,
+        call: &Call<'_>,
+        room: usize,
+        key: KeyId,
+    ) -> (u64, Result<Output, Status>)
+        requires ready { IsReady (world D.contents D.moment D.faults A.faults A.locations C.labels shared.now.lock.table.shared.table_id shared.now.lock.table.shared.key.value.value.store.opened) 4 self.old }
+        requires call { call.now ≡ OnStore (store_calls.Destroy key) }
+        ensures ready { IsReady (world D.contents D.moment D.faults A.faults A.locations C.labels shared.now.lock.table.shared.table_id shared.now.lock.table.shared.key.value.value.store.opened) 0 self.new }
+        ensures answered { (buffer : List ℕ) → IsAnswered (world D.contents D.moment D.faults A.faults A.locations C.labels shared.now.lock.table.shared.table_id shared.now.lock.table.shared.key.value.value.store.opened) self.old.pass.me.0 self.new.pass.me.0 (model_request call.now room) result.0 result.1 buffer buffer }
+        ensures spent { self.new.spent ≡ self.old.spent }
+    {
+        let (rank, destroyed) = shared.destroy(rt, &mut self.pass, call, room, key);
+        match destroyed {
+            Ok(()) => (rank, Ok(Output::Done)),
+            Err(why) => (rank, Err(why.status())),
+        }
+    }
+
+    /// Forgets a key in memory that is in the file too and that nobody reads.
+    pub fn purge<R: Wait>(
+        &mut self,
+        rt: &R,
+        shared: &SharedStore<D, A, C>,
+        call: &Call<'_>,
+        room: usize,
+        key: KeyId,
+    ) -> (u64, Result<Output, Status>)
+        requires ready { IsReady (world D.contents D.moment D.faults A.faults A.locations C.labels shared.now.lock.table.shared.table_id shared.now.lock.table.shared.key.value.value.store.opened) 4 self.old }
+        requires call { call.now ≡ OnStore (store_calls.Purge key) }
+        ensures ready { IsReady (world D.contents D.moment D.faults A.faults A.locations C.labels shared.now.lock.table.shared.table_id shared.now.lock.table.shared.key.value.value.store.opened) 0 self.new }
+        ensures answered { (buffer : List ℕ) → IsAnswered (world D.contents D.moment D.faults A.faults A.locations C.labels shared.now.lock.table.shared.table_id shared.now.lock.table.shared.key.value.value.store.opened) self.old.pass.me.0 self.new.pass.me.0 (model_request call.now room) result.0 result.1 buffer buffer }
+        ensures spent { self.new.spent ≡ self.old.spent }
+    {
+        let (rank, purged) = shared.purge(rt, &mut self.pass, call, room, key);
+        match purged {
+            Ok(()) => (rank, Ok(Output::Done)),
+            Err(status) => (rank, Err(status)),
+        }
+    }
+
+    /// What is known of a key beside its bytes.
+    pub fn attributes<R: Wait>(
+        &mut self,
+        rt: &R,
+        shared: &SharedStore<D, A, C>,
+        call: &Call<'_>,
+        room: usize,
+        key: KeyId,
+    ) -> (u64, Result<Output, Status>)
+        requires ready { IsReady (world D.contents D.moment D.faults A.faults A.locations C.labels shared.now.lock.table.shared.table_id shared.now.lock.table.shared.key.value.value.store.opened) 4 self.old }
+        requires call { call.now ≡ OnStore (store_calls.GetAttributes key) }
+        ensures ready { IsReady (world D.contents D.moment D.faults A.faults A.locations C.labels shared.now.lock.table.shared.table_id shared.now.lock.table.shared.key.value.value.store.opened) 0 self.new }
+        ensures answered { (buffer : List ℕ) → IsAnswered (world D.contents D.moment D.faults A.faults A.locations C.labels shared.now.lock.table.shared.table_id shared.now.lock.table.shared.key.value.value.store.opened) self.old.pass.me.0 self.new.pass.me.0 (model_request call.now room) result.0 result.1 buffer buffer }
+        ensures spent { self.new.spent ≡ self.old.spent }
+    {
+        let (rank, known) = shared.attributes(rt, &mut self.pass, call, room, key);
+        match known {
+            Ok(attributes) => (rank, Ok(Output::Description(attributes))),
+            Err(status) => (rank, Err(status)),
+        }
+    }
+}

@@ -1,0 +1,12 @@
+//! The callers of a store that is shared, and the shapes of their calls.
+#![tactic(auto)]
+
+mod caller;
+mod handles;
+mod hashes;
+mod keys;
+mod steps;
+mod turns;
+
+pub use caller::Caller;
+pub use handles::Handles;

@@ -1,0 +1,75 @@
+// Parts that several shapes of calls have in common.
+ghost use Rattle.std.specs.Prelude.{◌≡◌, ◌≤◌, ◌<◌, ◌+◌, ◌∷◌, ◌++◌, [], All, IfSome, get_or, length, vec_capacity, vec_len};
+ghost use Rattle.secret_bytes.specs.Buffer.{IsClear};
+ghost use Rattle.turn_history.specs.History.{entries_of};
+ghost use Rattle.key_slots.specs.Holdings.{names};
+ghost use Rattle.service_calls.specs.Meanings.{model_request};
+ghost use Rattle.store_model.specs.Faults.{Plain};
+ghost use Rattle.store_model.specs.Operations.{Inactive};
+ghost use Rattle.store_model.specs.Handles.{is_alive, key_of_operation, operation_of};
+ghost use Rattle.shared_store.specs.Turning.{IsAt, IsLater, IsRanked, LeavesAllKeys, lease_pair, without_pair};
+ghost use Rattle.callers.specs.Called.{KnowsBefore, Legal};
+ghost use Rattle.callers.specs.Ready.{IsReady};
+ghost use Rattle.callers.specs.Worlds.{world};
+ghost use Rattle.callers.specs.Parts.{IsBack, SameButPass};
+
+use crate::caller::Caller;
+use admission::Admission;
+use disk_face::Disk;
+use driver_dispatch::Devices;
+use service_calls::{Call, Op};
+use shared_store::SharedStore;
+use slot_table::Lease;
+use std::sync::Wait;
+
+impl<D: Disk, A: Devices, C: Admission> Caller<D, A, C> {
+    // Takes the ranked turn of a call that needs no key but that of the operation of a handle, if it has one, and tells whether
+    // that is still there. The call has an output buffer of so many bytes.
+    pub(crate) fn ask<R: Wait>(
+        &mut self,
+        rt: &R,
+        shared: &SharedStore<D, A, C>,
+        call: &Call<'_>,
+        room: usize,
+        op: Op,
+    ) -> (u64, bool)
+        requires ready { IsReady (world D.contents D.moment D.faults A.faults A.locations C.labels shared.now.lock.table.shared.table_id shared.now.lock.table.shared.key.value.value.store.opened) 1 self.old }
+        requires leaves { LeavesAllKeys D.contents D.moment D.faults A.faults A.locations C.labels shared.now.lock.table.shared.key.value.value.store.opened self.old.pass.me.0 (model_request call.now room) }
+        ensures at { IsAt shared.now.lock.table.shared.table_id shared.now.lock.table.shared.key.value.value.store.opened self.new.pass }
+        ensures legal { Legal (world D.contents D.moment D.faults A.faults A.locations C.labels shared.now.lock.table.shared.table_id shared.now.lock.table.shared.key.value.value.store.opened) (entries_of self.new.pass.me.0.seen) }
+        ensures ranked { IsRanked self.old.pass.me.0 self.new.pass.me.0 (model_request call.now room) Plain result.0 self.old.pass.me.0.holding
+            (KnowsBefore (world D.contents D.moment D.faults A.faults A.locations C.labels shared.now.lock.table.shared.table_id shared.now.lock.table.shared.key.value.value.store.opened)
+            (λ service. result.1 ≡ is_alive service.store (key_of_operation (operation_of service self.old.number op)))) }
+        ensures same { SameButPass self.old self.new }
+    {
+        match self.handles.lease(op) {
+            Some(lease) => {
+                let (rank, stepped) = shared.step(rt, &mut self.pass, call, room, lease);
+                (rank, stepped.is_ok())
+            }
+            None => (shared.count(rt, &mut self.pass, call, room), true),
+        }
+    }
+
+    // Gives a lease back, where there is one, and keeps its spare. No rank.
+    pub(crate) fn give_back<R: Wait>(
+        &mut self,
+        rt: &R,
+        shared: &SharedStore<D, A, C>,
+        lease: Option<Lease>,
+    )
+        requires at { IsAt shared.now.lock.table.shared.table_id shared.now.lock.table.shared.key.value.value.store.opened self.old.pass }
+        requires legal { Legal (world D.contents D.moment D.faults A.faults A.locations C.labels shared.now.lock.table.shared.table_id shared.now.lock.table.shared.key.value.value.store.opened) (entries_of self.old.pass.me.0.seen) }
+        requires left { 0 < self.old.pass.me.0.turns_left }
+        requires out { IfSome lease (λ l. 0 < names l.slot (l.creation + 1) self.old.pass.me.0.holding) }
+        requires room { IfSome lease (λ l. vec_len self.old.spares < vec_capacity self.old.spares) }
+        ensures at { IsAt shared.now.lock.table.shared.table_id shared.now.lock.table.shared.key.value.value.store.opened self.new.pass }
+        ensures legal { Legal (world D.contents D.moment D.faults A.faults A.locations C.labels shared.now.lock.table.shared.table_id shared.now.lock.table.shared.key.value.value.store.opened) (entries_of self.new.pass.me.0.seen) }
+        ensures back { IsBack lease self.old self.new }
+    {
+        if let Some(lease) = lease {
+            let spare = shared.give_back(rt, &mut self.pass, lease);
+            self.spares.push_reserved(spare);
+        }
+    }
+}
