@@ -33,6 +33,7 @@ impl Cell {
     /// The states alone, at the end.
     pub fn into_states(self) -> FamilyStates
         requires { self.lease ≡ None }
+        ensures { result ≡ self.states }
     {
         let Cell { states, lease } = self;
         let None = lease else { unreachable!() };
