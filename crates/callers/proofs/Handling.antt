@@ -23,7 +23,7 @@ use Rattle.shared_store.specs.Turning.{IsAt, IsEntered, lease_pair, without_pair
 use Rattle.callers.specs.Called.{IsAnswered, IsCalled, KnowsBefore, Legal}
 use Rattle.callers.specs.Handles.{AreOperations, ArePairs, IsChanged, busy, leases_of, operation_at, pairs_of, with_operation_at}
 use Rattle.callers.specs.Parts.{IsBack}
-use Rattle.callers.specs.Ready.{IsOwn, IsReady}
+use Rattle.callers.specs.Ready.{IsOwnPart, IsReady}
 use Rattle.callers.specs.Worlds.{World}
 use Rattle.callers.specs.declared.caller.Caller.{Caller}
 use Rattle.callers.proofs.CellLists.{busy_put, named_alike, once, tally-cons, without}
@@ -143,8 +143,8 @@ module _ {D A C : Type 0} (w : World D A C) (n : ℕ) (old settled new : Caller 
             own = λ start is tells.
                 let service = replay start before in
                 let k = known w n old new r turns request mark rank before e made start is tells in
-                subst (λ (s : Served). IsOwn (with_operation_at r.operations handle operation) new.stream.place (own_of s.service old.number)) (sym (applies start is tells))
-                (subst (λ o. IsOwn (with_operation_at r.operations handle o) new.stream.place (own_of (applied service old.number handle after).service old.number)) (sym operation_is)
+                subst (λ (s : Served). IsOwnPart (with_operation_at r.operations handle operation) new.stream.place (own_of s.service old.number)) (sym (applies start is tells))
+                (subst (λ o. IsOwnPart (with_operation_at r.operations handle o) new.stream.place (own_of (applied service old.number handle after).service old.number)) (sym operation_is)
                 (applied_own service old.number handle after r.operations old.stream.place new.stream.place k.sound r.last k.own r.stand.count first last place));
             leases = left.leases;
             clear = left.clear (subst (λ x. All IsClear x.items) (sym spares) r.clear);

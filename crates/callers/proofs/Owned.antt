@@ -17,7 +17,7 @@ use Rattle.store_model.specs.Origin.{IsCaller}
 use Rattle.store_model.specs.Replay.{Entry, outcome_of, replay}
 use Rattle.store_model.proofs.Operations.{start_operation, start_own}
 use Rattle.store_model.proofs.SoundService as sound
-use Rattle.callers.specs.Ready.{IsOwn}
+use Rattle.callers.specs.Ready.{IsOwnPart}
 
 -- SOUND SERVICES
 
@@ -43,8 +43,8 @@ pub set_own : (service : Service) (store : Store) (caller : ℕ) (own : Own) →
 set_own service store caller own is last = get_or-set_same service.owns caller own new_own (let c = is.callers in omega arith)
 
 -- one operation is set, and words are drawn
-pub set_operation : (operations : List HandleOperation) (place : ℕ) (own : Own) (handle : ℕ) (operation : HandleOperation) (drawn next : ℕ) → IsOwn operations place own → length operations ≡ 4 → 1 ≤ handle → handle ≤ 4 →
-    next ≡ place + words_used drawn → IsOwn (set operations (handle - 1) operation) next (with_drawn (with_operation own handle operation) drawn)
+pub set_operation : (operations : List HandleOperation) (place : ℕ) (own : Own) (handle : ℕ) (operation : HandleOperation) (drawn next : ℕ) → IsOwnPart operations place own → length operations ≡ 4 → 1 ≤ handle → handle ≤ 4 →
+    next ≡ place + words_used drawn → IsOwnPart (set operations (handle - 1) operation) next (with_drawn (with_operation own handle operation) drawn)
 set_operation operations place own handle operation drawn next is four first last more = record {
   drawn = let d = is.drawn in omega arith;
   handles = length-set own.operations handle operation ∙ is.handles;
@@ -60,34 +60,34 @@ set_operation operations place own handle operation drawn next is four first las
 }
 
 -- so it is by a call on a handle
-pub applied_own : (service : Service) (caller handle : ℕ) (after : After Held) (operations : List HandleOperation) (place next : ℕ) → IsSound service → caller ≤ 16 → IsOwn operations place (own_of service caller) → length operations ≡ 4 →
-    1 ≤ handle → handle ≤ 4 → next ≡ place + words_used after.drawn → IsOwn (set operations (handle - 1) after.operation) next (own_of (applied service caller handle after).service caller)
+pub applied_own : (service : Service) (caller handle : ℕ) (after : After Held) (operations : List HandleOperation) (place next : ℕ) → IsSound service → caller ≤ 16 → IsOwnPart operations place (own_of service caller) → length operations ≡ 4 →
+    1 ≤ handle → handle ≤ 4 → next ≡ place + words_used after.drawn → IsOwnPart (set operations (handle - 1) after.operation) next (own_of (applied service caller handle after).service caller)
 applied_own service caller handle after operations place next is last own four first high more =
     let changed = with_drawn (with_operation (own_of service caller) handle after.operation) after.drawn in
-    subst (IsOwn (set operations (handle - 1) after.operation) next) (sym (set_own service (record service.store { calls = service.store.calls + 1 }) caller changed is last))
+    subst (IsOwnPart (set operations (handle - 1) after.operation) next) (sym (set_own service (record service.store { calls = service.store.calls + 1 }) caller changed is last))
     (set_operation operations place (own_of service caller) handle after.operation after.drawn next own four first high more)
 
 -- CALLS ON THE STORE
 
 -- words are drawn
-drew : (operations : List HandleOperation) (place next drawn : ℕ) (own : Own) → IsOwn operations place own → next ≡ place + words_used drawn → IsOwn operations next (with_drawn own drawn)
+drew : (operations : List HandleOperation) (place next drawn : ℕ) (own : Own) → IsOwnPart operations place own → next ≡ place + words_used drawn → IsOwnPart operations next (with_drawn own drawn)
 drew operations place next drawn own is more = record { drawn = let d = is.drawn in omega arith; handles = is.handles; each = is.each }
 
 -- by a call on the store in whose turn no device fails
-pub stored_own : (service : Service) (caller : ℕ) (outcome : Outcome) (operations : List HandleOperation) (place next : ℕ) → IsSound service → caller ≤ 16 → IsOwn operations place (own_of service caller) →
-    next ≡ place + words_used outcome.drawn → IsOwn operations next (own_of (on_store service caller outcome).service caller)
+pub stored_own : (service : Service) (caller : ℕ) (outcome : Outcome) (operations : List HandleOperation) (place next : ℕ) → IsSound service → caller ≤ 16 → IsOwnPart operations place (own_of service caller) →
+    next ≡ place + words_used outcome.drawn → IsOwnPart operations next (own_of (on_store service caller outcome).service caller)
 stored_own service caller outcome operations place next is last own more =
-    subst (IsOwn operations next) (sym (set_own service outcome.store caller (with_drawn (own_of service caller) outcome.drawn) is last)) (drew operations place next outcome.drawn (own_of service caller) own more)
+    subst (IsOwnPart operations next) (sym (set_own service outcome.store caller (with_drawn (own_of service caller) outcome.drawn) is last)) (drew operations place next outcome.drawn (own_of service caller) own more)
 
 failed_own : (service : Service) (caller : ℕ) (call : Call) → own_of (failed_step service caller (OnStore call)) caller ≡ own_of service caller
 failed_own service caller (Destroy id) = refl
 failed_own service caller call = refl
 
 -- whether one fails or not, where the call draws nothing
-pub undrawn_own : (service : Service) (caller : ℕ) (call : Call) (mark : FaultMark) (operations : List HandleOperation) (place : ℕ) → IsSound service → caller ≤ 16 → IsOwn operations place (own_of service caller) →
-    (step service.store caller (next_random service caller) call).drawn ≡ 0 → IsOwn operations place (own_of (serve service caller (OnStore call) mark).service caller)
+pub undrawn_own : (service : Service) (caller : ℕ) (call : Call) (mark : FaultMark) (operations : List HandleOperation) (place : ℕ) → IsSound service → caller ≤ 16 → IsOwnPart operations place (own_of service caller) →
+    (step service.store caller (next_random service caller) call).drawn ≡ 0 → IsOwnPart operations place (own_of (serve service caller (OnStore call) mark).service caller)
 undrawn_own service caller call Plain operations place is last own none =
     stored_own service caller (step service.store caller (next_random service caller) call) operations place place is last own (let w : words_used (step service.store caller (next_random service caller) call).drawn ≡ 0 = ap words_used none in omega arith)
-undrawn_own service caller call (Storage access) operations place is last own none = subst (IsOwn operations place) (sym (failed_own service caller call)) own
-undrawn_own service caller call Hardware operations place is last own none = subst (IsOwn operations place) (sym (failed_own service caller call)) own
-undrawn_own service caller call Corrupt operations place is last own none = subst (IsOwn operations place) (sym (failed_own service caller call)) own
+undrawn_own service caller call (Storage access) operations place is last own none = subst (IsOwnPart operations place) (sym (failed_own service caller call)) own
+undrawn_own service caller call Hardware operations place is last own none = subst (IsOwnPart operations place) (sym (failed_own service caller call)) own
+undrawn_own service caller call Corrupt operations place is last own none = subst (IsOwnPart operations place) (sym (failed_own service caller call)) own

@@ -16,7 +16,7 @@ use Rattle.shared_store.specs.Turning.{IsAt}
 use Rattle.callers.specs.Called.{IsCalled, IsToldTo, KnowsBefore, Legal}
 use Rattle.callers.specs.Worlds.{World}
 use Rattle.callers.specs.Handles.{AreOperations, ArePairs, busy, leases_of}
-use Rattle.callers.specs.Ready.{IsOwn, IsReady}
+use Rattle.callers.specs.Ready.{IsOwnPart, IsReady}
 use Rattle.callers.specs.declared.caller.Caller.{Caller}
 use Rattle.callers.proofs.Journeys.{begins_through, own_after, own_before, told_front}
 use Rattle.callers.proofs.Owned.{sound_replay}
@@ -38,7 +38,7 @@ module _ {D A C : Type 0} (w : World D A C) where
   -- the service before the caller's entry has what the caller has of its own
   pub record IsKnown (old : Caller D A C) (operations : List HandleOperation) (service : Service) : Type 0 where
     pub sound : IsSound service
-    pub own : IsOwn operations old.stream.place (own_of service old.number)
+    pub own : IsOwnPart operations old.stream.place (own_of service old.number)
     pub random : (count : ℕ) → next_random service old.number count ≡ next_bytes old.stream count
 
   module _ (n : ℕ) (old new : Caller D A C) (r : Ready n old) (turns : ℕ) (call : Request) (mark : FaultMark) (rank : ℕ) (before : List Entry) (e : Entry)
@@ -55,7 +55,7 @@ module _ {D A C : Type 0} (w : World D A C) where
         let mine = own_before old.pass.me.0 new.pass.me.0 turns call mark rank before e c start (r.at.calls (let z = r.at.first in omega arith)) in
         let own : own_of (replay start before) old.number ≡ own_of (replay start (entries_of old.pass.me.0.seen)) old.number =
         ap (own_of (replay start before)) (sym r.number) ∙ (mine ∙ ap (own_of (replay start (entries_of old.pass.me.0.seen))) r.number) in
-        let is_own : IsOwn r.operations old.stream.place (own_of (replay start before) old.number) = subst (IsOwn r.operations old.stream.place) (sym own) (r.own start is here) in
+        let is_own : IsOwnPart r.operations old.stream.place (own_of (replay start before) old.number) = subst (IsOwnPart r.operations old.stream.place) (sym own) (r.own start is here) in
         let seed : (replay start before).store.settings.seed ≡ old.stream.seed =
         ap (λ (s : Settings). s.seed) (settings_stay start before) ∙ (ap (λ (s : Service). s.store.settings.seed) is.is ∙ (is.seed_is ∙ sym r.seed)) in
         record {
@@ -68,7 +68,7 @@ module _ {D A C : Type 0} (w : World D A C) where
     pub record IsMoved (changed : List HandleOperation) (slack : ℕ) : Type 0 where
       pub number : new.number ≡ old.number
       pub stand : AreOperations new.handles.cells.items changed
-      pub own : Knows (λ service. IsOwn changed new.stream.place (own_of (outcome_of service e).service old.number)) before e
+      pub own : Knows (λ service. IsOwnPart changed new.stream.place (own_of (outcome_of service e).service old.number)) before e
       pub leases : ArePairs new.pass.me.0.holding (leases_of new.handles.cells.items)
       pub clear : All IsClear new.spares.items
       pub five : length (leases_of new.handles.cells.items) + length new.spares.items ≡ 5
@@ -95,7 +95,7 @@ module _ {D A C : Type 0} (w : World D A C) where
               let after = own_after old.pass.me.0 new.pass.me.0 turns call mark rank before e c start (at.calls (let z = at.first in omega arith)) in
               let own : own_of (replay start (entries_of new.pass.me.0.seen)) new.number ≡ own_of (outcome_of (replay start before) e).service old.number =
               ap (own_of (replay start (entries_of new.pass.me.0.seen))) (sym number) ∙ (after ∙ ap (own_of (outcome_of (replay start before) e).service) (number ∙ m.number)) in
-              subst (IsOwn changed new.stream.place) (sym own) (m.own start is front);
+              subst (IsOwnPart changed new.stream.place) (sym own) (m.own start is front);
           leases = m.leases;
           clear = m.clear;
           five = m.five;

@@ -21,7 +21,7 @@ use Rattle.shared_store.specs.Turning.{DecidesAfter, DecidesBefore, IsAt, IsEnte
 use Rattle.callers.specs.Called.{IsAnswered, IsCalled, KnowsBefore, Legal}
 use Rattle.callers.specs.Parts.{SameButPass}
 use Rattle.callers.specs.Handles.{AreOperations, leases_of}
-use Rattle.callers.specs.Ready.{IsOwn, IsReady}
+use Rattle.callers.specs.Ready.{IsOwnPart, IsReady}
 use Rattle.callers.specs.Worlds.{World}
 use Rattle.callers.specs.declared.caller.Caller.{Caller}
 use Rattle.store_model.specs.Laws.{may_change_keys}
@@ -51,8 +51,8 @@ module _ {D A C : Type 0} (w : World D A C) (old new : Caller D A C) (r : IsRead
         own = λ start is tells.
             let service = replay start before in
             let k = known w 4 old new r 1 request mark rank before e made start is tells in
-            subst (λ (s : _). IsOwn r.operations new.stream.place (own_of s.service old.number)) (sym (stored_outcome service))
-            (subst (λ place. IsOwn r.operations place (own_of (serve service old.number (OnStore call) mark).service old.number)) (sym stream)
+            subst (λ (s : _). IsOwnPart r.operations new.stream.place (own_of s.service old.number)) (sym (stored_outcome service))
+            (subst (λ place. IsOwnPart r.operations place (own_of (serve service old.number (OnStore call) mark).service old.number)) (sym stream)
             (undrawn_own service old.number call mark r.operations old.stream.place k.sound r.last k.own (none service.store old.number (next_random service old.number))));
         leases = λ f. ap (count_by f) (i.holding ∙ held) ∙ (r.leases f ∙ ap (λ v. count_by f (leases_of v.cells.items)) (sym same.handles));
         clear = subst (λ v. All IsClear v.items) (sym same.spares) r.clear;

@@ -14,7 +14,7 @@ use Rattle.callers.specs.Worlds.{World}
 use Rattle.callers.specs.declared.caller.Caller.{Caller}
 
 -- the model's own part of a caller has these operations at its handles, from 1 on, and has drawn so many random words
-pub record IsOwn (operations : List HandleOperation) (place : ℕ) (own : Own) : Type 0 where
+pub record IsOwnPart (operations : List HandleOperation) (place : ℕ) (own : Own) : Type 0 where
   pub drawn : own.drawn ≡ place
   pub handles : length own.operations ≡ 5
   pub each : (handle : ℕ) → 1 ≤ handle → handle ≤ 4 → get_or own.operations handle Inactive ≡ operation_at operations handle
@@ -34,7 +34,7 @@ module _ {D A C : Type 0} (w : World D A C) where
     pub operations : List HandleOperation
     pub stand : AreOperations c.handles.cells.items operations
     pub own : (start : Service) → Starts w start → IsToldTo w start (entries_of c.pass.me.0.seen) →
-        IsOwn operations c.stream.place (own_of (replay start (entries_of c.pass.me.0.seen)) c.number)
+        IsOwnPart operations c.stream.place (own_of (replay start (entries_of c.pass.me.0.seen)) c.number)
     pub leases : ArePairs c.pass.me.0.holding (leases_of c.handles.cells.items)
     pub clear : All IsClear c.spares.items
     pub five : length (leases_of c.handles.cells.items) + length c.spares.items ≡ 5

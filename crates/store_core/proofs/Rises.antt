@@ -4,7 +4,7 @@ use Rattle.disk_face.specs.Moments.{done_at}
 use Rattle.store_model.specs.Replay.{Entry}
 use Rattle.store_model.specs.Marks.{last_counts}
 use Rattle.store_core.specs.Represents.{Opening}
-use Rattle.store_core.specs.Rising.{AreRising, left_by}
+use Rattle.store_core.specs.Rising.{AreRising, opening_after}
 
 -- one entry more, whose moment is the last of the longer history
 pub rising_push : (tells : Bool) (before : Opening) (h : List Entry) (e : Entry) → AreRising tells before h →
@@ -12,4 +12,4 @@ pub rising_push : (tells : Bool) (before : Opening) (h : List Entry) (e : Entry)
     (tells ≡ true → before.moment ≤ e.done) → (tells ≡ true → (k : ℕ) → k < length (h ++ e ∷ []) → done_at (λ (x : Entry). x.done) (h ++ e ∷ []) k ≤ e.done) → AreRising tells before (h ++ e ∷ [])
 rising_push tells before [] e rising faults hard opened done = (record { faults = faults; hard = hard; done = opened }, tt)
 rising_push tells before (x ∷ h) e rising faults hard opened done =
-    (rising.0, rising_push tells (left_by x) h e rising.1 faults hard (λ told. done told 0 (omega arith)) (λ told k lt. done told (suc k) (omega arith)))
+    (rising.0, rising_push tells (opening_after x) h e rising.1 faults hard (λ told. done told 0 (omega arith)) (λ told k lt. done told (suc k) (omega arith)))

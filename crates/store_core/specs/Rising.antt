@@ -10,8 +10,8 @@ pub record NoFewerFaults {D A C : Type 0} (faults : D → ℕ) (hard : A → ℕ
   pub devices : hard old.devices ≤ hard new.devices
 
 -- what an entry says of disk and devices, for the entry after it
-abbrev pub left_by : Entry → Opening
-left_by e = record { moment = e.done; counts = record { faults = e.faults; hard = e.hard } }
+abbrev pub opening_after : Entry → Opening
+opening_after e = record { moment = e.done; counts = record { faults = e.faults; hard = e.hard } }
 
 -- an entry that comes later: its counts are not below those before it, nor is its moment, where the disk tells its bytes
 pub record IsLaterThan (tells : Bool) (before : Opening) (e : Entry) : Type 0 where
@@ -22,4 +22,4 @@ pub record IsLaterThan (tells : Bool) (before : Opening) (e : Entry) : Type 0 wh
 -- each entry of a history comes later than the one before it, and the first than the opening
 abbrev pub AreRising : (tells : Bool) → Opening → List Entry → Type 0
 AreRising tells before [] = Unit {0}
-AreRising tells before (e ∷ es) = IsLaterThan tells before e × AreRising tells (left_by e) es
+AreRising tells before (e ∷ es) = IsLaterThan tells before e × AreRising tells (opening_after e) es
