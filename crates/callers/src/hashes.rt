@@ -4,6 +4,7 @@ ghost use Rattle.service_calls.specs.Meanings.{model_request};
 ghost use Rattle.service_calls.specs.declared.call.Call.TheVariants.{OnStore};
 ghost use Rattle.keyed_calls.specs.Hashing.{is_hash};
 ghost use Rattle.callers.specs.Called.{IsAnswered};
+ghost use Rattle.callers.specs.Parts.{SameButPass};
 ghost use Rattle.callers.specs.Ready.{IsReady};
 ghost use Rattle.callers.specs.Worlds.{world};
 
@@ -33,7 +34,7 @@ impl<D: Disk, A: Devices, C: Admission> Caller<D, A, C> {
         requires hash { is_hash asked.now ≡ true }
         ensures ready { IsReady (world D.contents D.moment D.faults A.faults A.locations C.labels shared.now.lock.table.shared.table_id shared.now.lock.table.shared.key.value.value.store.opened) 0 self.new }
         ensures answered { IsAnswered (world D.contents D.moment D.faults A.faults A.locations C.labels shared.now.lock.table.shared.table_id shared.now.lock.table.shared.key.value.value.store.opened) self.old.pass.me.0 self.new.pass.me.0 (model_request call.now (length out.old)) result.0 result.1 out.old out.new }
-        ensures spent { self.new.spent ≡ self.old.spent }
+        ensures same { SameButPass self.old self.new }
     {
         let rank = shared.count(rt, &mut self.pass, call, out.len());
         let result = compute_hash(asked, out);

@@ -4,6 +4,7 @@ ghost use Rattle.service_calls.specs.Meanings.{model_request};
 ghost use Rattle.service_calls.specs.declared.call.Call.TheVariants.{OnStore};
 ghost use Rattle.service_calls.specs.declared.store_calls.StoreCall.TheVariants as store_calls;
 ghost use Rattle.callers.specs.Called.{IsAnswered};
+ghost use Rattle.callers.specs.Parts.{SameButPass};
 ghost use Rattle.callers.specs.Ready.{IsReady};
 ghost use Rattle.callers.specs.Worlds.{world};
 
@@ -18,7 +19,8 @@ use shared_store::SharedStore;
 use std::sync::Wait;
 
 impl<D: Disk, A: Devices, C: Admission> Caller<D, A, C> {
-    /// Destroys a key, and answers its rank beside what it gives.
+    /// Destroys a key, and answers its rank beside what it gives. The output buffer that the call would have, of so many
+    /// bytes, is left.
     pub fn destroy<R: Wait>(
         &mut self,
         rt: &R,
@@ -31,7 +33,7 @@ impl<D: Disk, A: Devices, C: Admission> Caller<D, A, C> {
         requires call { call.now ≡ OnStore (store_calls.Destroy key) }
         ensures ready { IsReady (world D.contents D.moment D.faults A.faults A.locations C.labels shared.now.lock.table.shared.table_id shared.now.lock.table.shared.key.value.value.store.opened) 0 self.new }
         ensures answered { (buffer : List ℕ) → IsAnswered (world D.contents D.moment D.faults A.faults A.locations C.labels shared.now.lock.table.shared.table_id shared.now.lock.table.shared.key.value.value.store.opened) self.old.pass.me.0 self.new.pass.me.0 (model_request call.now room) result.0 result.1 buffer buffer }
-        ensures spent { self.new.spent ≡ self.old.spent }
+        ensures same { SameButPass self.old self.new }
     {
         let (rank, destroyed) = shared.destroy(rt, &mut self.pass, call, room, key);
         match destroyed {
@@ -40,7 +42,7 @@ impl<D: Disk, A: Devices, C: Admission> Caller<D, A, C> {
         }
     }
 
-    /// Forgets a key in memory that is in the file too and that nobody reads.
+    /// Forgets a key in memory that is in the file too and that nobody reads; answers as `destroy` does.
     pub fn purge<R: Wait>(
         &mut self,
         rt: &R,
@@ -53,7 +55,7 @@ impl<D: Disk, A: Devices, C: Admission> Caller<D, A, C> {
         requires call { call.now ≡ OnStore (store_calls.Purge key) }
         ensures ready { IsReady (world D.contents D.moment D.faults A.faults A.locations C.labels shared.now.lock.table.shared.table_id shared.now.lock.table.shared.key.value.value.store.opened) 0 self.new }
         ensures answered { (buffer : List ℕ) → IsAnswered (world D.contents D.moment D.faults A.faults A.locations C.labels shared.now.lock.table.shared.table_id shared.now.lock.table.shared.key.value.value.store.opened) self.old.pass.me.0 self.new.pass.me.0 (model_request call.now room) result.0 result.1 buffer buffer }
-        ensures spent { self.new.spent ≡ self.old.spent }
+        ensures same { SameButPass self.old self.new }
     {
         let (rank, purged) = shared.purge(rt, &mut self.pass, call, room, key);
         match purged {
@@ -62,7 +64,7 @@ impl<D: Disk, A: Devices, C: Admission> Caller<D, A, C> {
         }
     }
 
-    /// What is known of a key beside its bytes.
+    /// What is known of a key beside its bytes, with the rank; answers as `destroy` does.
     pub fn attributes<R: Wait>(
         &mut self,
         rt: &R,
@@ -75,7 +77,7 @@ impl<D: Disk, A: Devices, C: Admission> Caller<D, A, C> {
         requires call { call.now ≡ OnStore (store_calls.GetAttributes key) }
         ensures ready { IsReady (world D.contents D.moment D.faults A.faults A.locations C.labels shared.now.lock.table.shared.table_id shared.now.lock.table.shared.key.value.value.store.opened) 0 self.new }
         ensures answered { (buffer : List ℕ) → IsAnswered (world D.contents D.moment D.faults A.faults A.locations C.labels shared.now.lock.table.shared.table_id shared.now.lock.table.shared.key.value.value.store.opened) self.old.pass.me.0 self.new.pass.me.0 (model_request call.now room) result.0 result.1 buffer buffer }
-        ensures spent { self.new.spent ≡ self.old.spent }
+        ensures same { SameButPass self.old self.new }
     {
         let (rank, known) = shared.attributes(rt, &mut self.pass, call, room, key);
         match known {

@@ -22,7 +22,7 @@ IsElementCall (call.CipherEncrypt key alg input) (element.CtrEncrypt iv i) = (al
 IsElementCall (call.CipherDecrypt key alg input) (element.CtrDecrypt i) = (alg.0 ≡ ctr) × (i.now ≡ input.now)
 IsElementCall _ _ = ⊥
 
--- whether a fresh initialisation vector is taken, of the call and of the element's
+-- whether the call, or the element's, begins with a fresh initialisation vector; that of ECB has no bytes
 abbrev pub takes_vector : StoreCall → Bool
 takes_vector (call.CipherEncrypt key alg input) = true
 takes_vector _ = false

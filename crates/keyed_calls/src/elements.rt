@@ -17,7 +17,7 @@ use service_calls::{Output, StoreCall};
 
 const CTR: Alg = Alg(0x04c0_1000);
 
-/// Whether a call takes a fresh initialisation vector, which it draws where it succeeds.
+/// Whether a call begins with a fresh initialisation vector, which it draws where it succeeds; that of ECB has no bytes.
 pub fn takes_vector(call: &StoreCall<'_>) -> bool
     ensures { result ≡ takes_vector call.now }
 {
