@@ -1,5 +1,5 @@
 -- One cell of four is another, with its operation and its lease.
-use Rattle.std.proofs.Common.{◌≡◌, ◌≢◌, ℕ, zero, suc, ◌+◌, ◌<◌, eqb, Bool, true, false, cond, not, List, [], ◌∷◌, ◌++◌, length, get_or, set, refl, sym, ap, ◌∙◌, subst, inl, inr, arith, length-set, Some, None}
+use Rattle.std.proofs.Common.{◌≡◌, ◌≢◌, ℕ, zero, suc, ◌+◌, ◌<◌, ◌≤◌, eqb, Bool, true, false, cond, not, List, [], ◌∷◌, ◌++◌, length, get_or, set, refl, sym, ap, ◌∙◌, subst, inl, inr, arith, length-set, Some, None}
 use Rattle.std.specs.Prelude.{count_by, ◌&&◌, ◌==◌}
 use Rattle.std.proofs.lemmas.Bool.Decides.{eqb_tells, nat_tests}
 use Rattle.std.proofs.lemmas.List.{get_or-set_same, get_or-set_other}
@@ -49,6 +49,10 @@ put_cell cells operations i next operation are lt stands over = record {
 
 abbrev pub once : Bool → ℕ
 once b = cond b 1 0
+
+pub few : (b : Bool) → once b ≤ 1
+few true = omega arith
+few false = omega arith
 
 pub busy_put : (operations : List HandleOperation) (i : ℕ) (operation : HandleOperation) → i < length operations →
     busy (set operations i operation) + once (not (is_inactive (get_or operations i Inactive))) ≡ busy operations + once (not (is_inactive operation))

@@ -8,7 +8,9 @@ use Rattle.operation_phase.specs.Turns.{is_active}
 use Rattle.store_model.specs.Handles.{HandleOperation}
 use Rattle.operation_cells.specs.Cells.{IsOperation}
 use Rattle.operation_cells.specs.declared.cell.Cell.{Cell}
-use Rattle.callers.specs.Handles.{AreOperations, ArePairs, IsChanged, leases_of, pairs_of}
+use Rattle.std.proofs.lemmas.Bool.{false≢true}
+use Rattle.shared_store.specs.Turning.{lease_pair}
+use Rattle.callers.specs.Handles.{AreOperations, ArePairs, IsChanged, IsKept, leases_of, pairs_of}
 use Rattle.callers.proofs.CellLists.{leases_put, names_lease, put_cell, tally-cons}
 
 -- the pairs of two leases, of which one is this one and the other none
@@ -58,3 +60,21 @@ module _ (old : List Cell) (operations : List HandleOperation) (handle : ℕ) (c
   -- by a wipe
   pub wiped : lease ≡ cell.lease → next.lease ≡ None → IsOperation next operation → IsChanged old (set old (handle - 1) next) operations handle operation lease
   wiped given none stands = by_halves stands (λ e. none) (inr (given, none))
+
+  -- by a change of a cell that keeps what lease it has
+  pub same_lease : next.lease ≡ cell.lease → lease ≡ None → IsOperation next operation → (is_active operation ≡ false → next.lease ≡ None) → IsChanged old (set old (handle - 1) next) operations handle operation lease
+  same_lease same none stands over = by_halves stands over (inl (none, same))
+
+-- a cell without a lease is given one
+pub kept : (old : List Cell) (operations : List HandleOperation) (handle : ℕ) (cell next : Cell) (operation : HandleOperation) (lease : Reading) → AreOperations old operations → handle - 1 < 4 → cell ≡ get_or old (handle - 1) cell →
+    cell.lease ≡ None → next.lease ≡ Some lease → IsOperation next operation → is_active operation ≡ true → IsKept old (set old (handle - 1) next) operations handle operation lease
+kept old operations handle cell next operation lease are inside at none given stands active =
+    let within : handle - 1 < length old = let z = are.cells_are in omega arith in
+    let pairs : ArePairs (leases_of (set old (handle - 1) next)) (lease_pair lease ∷ leases_of old) = λ f.
+    let a = leases_put f old (handle - 1) cell next within at in let b = ap (λ o. count_by f (pairs_of o)) none in let c = ap (λ o. count_by f (pairs_of o)) given in
+    let d = tally-cons f (lease_pair lease) (leases_of old) in let e = tally-cons f (lease_pair lease) [] in omega arith in
+    record {
+      stand = put_cell old operations (handle - 1) next operation are inside stands (λ over. absurd (false≢true (sym over ∙ active)));
+      leases = pairs;
+      more = let l = length_alike (leases_of (set old (handle - 1) next)) (lease_pair lease ∷ leases_of old) pairs in omega arith;
+    }

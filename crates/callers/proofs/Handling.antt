@@ -26,7 +26,7 @@ use Rattle.callers.specs.Parts.{IsBack}
 use Rattle.callers.specs.Ready.{IsOwnPart, IsReady}
 use Rattle.callers.specs.Worlds.{World}
 use Rattle.callers.specs.declared.caller.Caller.{Caller}
-use Rattle.callers.proofs.CellLists.{busy_put, named_alike, once, tally-cons, without}
+use Rattle.callers.proofs.CellLists.{busy_put, few, named_alike, once, tally-cons, without}
 use Rattle.callers.proofs.Journeys.{called, called_then}
 use Rattle.callers.proofs.Owned.{applied_own}
 use Rattle.callers.proofs.Readying.{known, ready}
@@ -43,10 +43,6 @@ names_few i k (p ∷ ps) = let r = names_few i k ps in let s = one (p.0 == i) (p
 if_some : (P : Reading → Type 0) (o : Option Reading) → ((l : Reading) → o ≡ Some l → P l) → IfSome o P
 if_some P None h = tt
 if_some P (Some l) h = h l refl
-
-few : (b : Bool) → once b ≤ 1
-few true = omega arith
-few false = omega arith
 
 module _ {D A C : Type 0} (w : World D A C) (n : ℕ) (old settled new : Caller D A C) (r : IsReady w n old) (request : Request) (mark : FaultMark) (rank : ℕ) (before : List Entry) (e : Entry)
     (i : IsEntered old.pass.me.0 settled.pass.me.0 request mark rank old.pass.me.0.holding before e)

@@ -11,7 +11,7 @@ use Rattle.store_model.specs.Replay.{Entry, outcome_of, replay}
 use Rattle.store_model.proofs.Others.{leaves_callers}
 use Rattle.store_core.specs.Represents.{IsTold, ReadsNone}
 use Rattle.shared_store.specs.Standing.{caller_of}
-use Rattle.shared_store.specs.Turning.{IsEntered, IsLater}
+use Rattle.shared_store.specs.Turning.{GoesOn, IsEntered, IsLater}
 use Rattle.callers.specs.Called.{IsCalled}
 
 -- VIEWS
@@ -122,11 +122,11 @@ pub told_front : (told : Option (List ℕ)) (start : Service) (whole part : List
 told_front told start whole part s (inl tells) = inl tells
 told_front told start whole part s (inr none) = inr (reads_front start part s.0 (subst (ReadsNone start) s.1 none))
 
-module _ {B : Type 0} (v w : View Entry B) (turns : ℕ) (call : Request) (mark : FaultMark) (r : ℕ) (before : List Entry) (e : Entry) (c : IsCalled v w turns call mark r before e) (start : Service) where
-  -- before the entry it is what it was before the call
-  pub own_before : calls_by caller_of v.number (entries_of v.seen) ≡ v.calls → own_of (replay start before) v.number ≡ own_of (replay start (entries_of v.seen)) v.number
-  own_before own = own_later v.number start before (entries_of v.seen) c.goes_on.since (c.goes_on.calls ∙ sym own)
+-- in a history that goes on it is what it was
+pub own_on : {B : Type 0} (v : View Entry B) (start : Service) (h : List Entry) → GoesOn v h → calls_by caller_of v.number (entries_of v.seen) ≡ v.calls → own_of (replay start h) v.number ≡ own_of (replay start (entries_of v.seen)) v.number
+own_on v start h on own = own_later v.number start h (entries_of v.seen) on.since (on.calls ∙ sym own)
 
+module _ {B : Type 0} (v w : View Entry B) (turns : ℕ) (call : Request) (mark : FaultMark) (r : ℕ) (before : List Entry) (e : Entry) (c : IsCalled v w turns call mark r before e) (start : Service) where
   one_call : calls_by caller_of v.number (before ++ e ∷ []) ≡ v.calls ++ e ∷ []
   one_call = calls-append caller_of v.number before (e ∷ []) ∙ (ap (λ l. l ++ calls_by caller_of v.number (e ∷ [])) c.goes_on.calls ∙ ap (λ b. v.calls ++ choose b e []) (same_caller e.caller v.number c.by))
     where

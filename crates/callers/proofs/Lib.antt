@@ -8,4 +8,7 @@ pub mod Changing
 pub mod Handling
 pub mod Stepping
 pub mod Aborting
+pub mod SettingUp
+pub mod Beginning
+pub mod Looking
 pub mod KeyReplies

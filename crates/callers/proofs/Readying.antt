@@ -2,7 +2,7 @@
 use Rattle.std.proofs.Common.{◌≡◌, ℕ, ◌+◌, ◌*◌, ◌^◌, ◌≤◌, List, [], ◌∷◌, ◌++◌, length, refl, sym, ap, ◌∙◌, subst, arith}
 use Rattle.std.specs.Prelude.{All, vec_capacity}
 use Rattle.secret_bytes.specs.Buffer.{IsClear}
-use Rattle.turn_history.specs.History.{entries_of, StartsWith}
+use Rattle.turn_history.specs.History.{entries_of}
 use Rattle.turn_history.specs.Views.{TURNS}
 use Rattle.random_streams.specs.RandomWords.{next_bytes, random_bytes}
 use Rattle.store_model.specs.Store.{Settings, start_of}
@@ -12,13 +12,13 @@ use Rattle.store_model.specs.Sound.{IsSound}
 use Rattle.store_model.specs.Requests.{Request, serve}
 use Rattle.store_model.specs.Replay.{Entry, outcome_of, replay}
 use Rattle.store_model.proofs.Others.{leaves_settings}
-use Rattle.shared_store.specs.Turning.{IsAt}
-use Rattle.callers.specs.Called.{IsCalled, IsToldTo, KnowsBefore, Legal}
+use Rattle.shared_store.specs.Turning.{GoesOn, IsAt}
+use Rattle.callers.specs.Called.{IsCalled, IsToldTo, KnowsBefore, Legal, Starts}
 use Rattle.callers.specs.Worlds.{World}
 use Rattle.callers.specs.Handles.{AreOperations, ArePairs, busy, leases_of}
 use Rattle.callers.specs.Ready.{IsOwnPart, IsReady}
 use Rattle.callers.specs.declared.caller.Caller.{Caller}
-use Rattle.callers.proofs.Journeys.{begins_through, own_after, own_before, told_front}
+use Rattle.callers.proofs.Journeys.{own_after, own_on, told_front}
 use Rattle.callers.proofs.Owned.{sound_replay}
 
 pub outcome_is : (service : Service) (e : Entry) (n : ℕ) (request : Request) (mark : FaultMark) → e.caller ≡ n → e.call ≡ request → e.mark ≡ mark → outcome_of service e ≡ serve service n request mark
@@ -41,21 +41,22 @@ module _ {D A C : Type 0} (w : World D A C) where
     pub own : IsOwnPart operations old.stream.place (own_of service old.number)
     pub random : (count : ℕ) → next_random service old.number count ≡ next_bytes old.stream count
 
+  -- in a history that goes on the service has what the caller has of its own
+  pub own_there : (n : ℕ) (old : Caller D A C) (r : Ready n old) (start : Service) (h : List Entry) → Starts w start → GoesOn old.pass.me.0 h → IsToldTo w start h → IsOwnPart r.operations old.stream.place (own_of (replay start h) old.number)
+  own_there n old r start h is on tells =
+      let here : IsToldTo w start (entries_of old.pass.me.0.seen) = told_front (w.told w.opened.file.value.cells.disk) start h (entries_of old.pass.me.0.seen) on.since tells in
+      let mine = own_on old.pass.me.0 start h on (r.at.calls (let z = r.at.first in omega arith)) in
+      let own : own_of (replay start h) old.number ≡ own_of (replay start (entries_of old.pass.me.0.seen)) old.number =
+      ap (own_of (replay start h)) (sym r.number) ∙ (mine ∙ ap (own_of (replay start (entries_of old.pass.me.0.seen))) r.number) in
+      subst (IsOwnPart r.operations old.stream.place) (sym own) (r.own start is here)
+
   module _ (n : ℕ) (old new : Caller D A C) (r : Ready n old) (turns : ℕ) (call : Request) (mark : FaultMark) (rank : ℕ) (before : List Entry) (e : Entry)
       (c : IsCalled old.pass.me.0 new.pass.me.0 turns call mark rank before e) where
-    begins : StartsWith (entries_of new.pass.me.0.seen) (entries_of old.pass.me.0.seen)
-    begins = begins_through (entries_of new.pass.me.0.seen) before (entries_of old.pass.me.0.seen) (begins_through (entries_of new.pass.me.0.seen) (before ++ e ∷ []) before c.placed (e ∷ [], refl)) c.goes_on.since
-
     pub known : Knows (IsKnown old r.operations) before e
     known start is tells =
         let store = start_of is.settings is.found in
-        let here : IsToldTo w start (entries_of old.pass.me.0.seen) =
-        told_front (w.told w.opened.file.value.cells.disk) start (before ++ e ∷ []) (entries_of old.pass.me.0.seen)
-        (begins_through (before ++ e ∷ []) before (entries_of old.pass.me.0.seen) (e ∷ [], refl) c.goes_on.since) tells in
-        let mine = own_before old.pass.me.0 new.pass.me.0 turns call mark rank before e c start (r.at.calls (let z = r.at.first in omega arith)) in
-        let own : own_of (replay start before) old.number ≡ own_of (replay start (entries_of old.pass.me.0.seen)) old.number =
-        ap (own_of (replay start before)) (sym r.number) ∙ (mine ∙ ap (own_of (replay start (entries_of old.pass.me.0.seen))) r.number) in
-        let is_own : IsOwnPart r.operations old.stream.place (own_of (replay start before) old.number) = subst (IsOwnPart r.operations old.stream.place) (sym own) (r.own start is here) in
+        let here : IsToldTo w start before = told_front (w.told w.opened.file.value.cells.disk) start (before ++ e ∷ []) before (e ∷ [], refl) tells in
+        let is_own = own_there n old r start before is c.goes_on here in
         let seed : (replay start before).store.settings.seed ≡ old.stream.seed =
         ap (λ (s : Settings). s.seed) (settings_stay start before) ∙ (ap (λ (s : Service). s.store.settings.seed) is.is ∙ (is.seed_is ∙ sym r.seed)) in
         record {

@@ -48,3 +48,9 @@ pub record IsChanged (old new : List Cell) (operations : List HandleOperation) (
   pub leases : ArePairs (pairs_of lease ++ leases_of new) (leases_of old)
   pub fewer : length (pairs_of lease) + length (leases_of new) ≡ length (leases_of old)
   pub mine : (l : Reading) → lease ≡ Some l → 0 < names l.slot (l.creation + 1) (leases_of old)
+
+-- A handle's operation has become this one, which keeps one lease more.
+pub record IsKept (old new : List Cell) (operations : List HandleOperation) (handle : ℕ) (operation : HandleOperation) (lease : Reading) : Type 0 where
+  pub stand : AreOperations new (with_operation_at operations handle operation)
+  pub leases : ArePairs (leases_of new) (lease_pair lease ∷ leases_of old)
+  pub more : length (leases_of new) ≡ length (leases_of old) + 1

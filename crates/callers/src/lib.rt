@@ -5,6 +5,7 @@ mod caller;
 mod handles;
 mod hashes;
 mod keys;
+mod setups;
 mod steps;
 mod turns;
 

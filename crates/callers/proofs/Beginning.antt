@@ -1,0 +1,238 @@
+-- A caller after a setup.
+use Rattle.std.proofs.Common.{◌≡◌, ℕ, ◌+◌, ◌-◌, ◌^◌, ◌<◌, ◌≤◌, true, false, cond, not, List, [], ◌∷◌, get_or, length, refl, sym, ap, ◌∙◌, subst, arith, Some, None}
+use Rattle.std.specs.Prelude.{All, count_by, vec_capacity, Result, Ok, Err}
+use Rattle.std.specs.Result.{is_ok}
+use Rattle.std.specs.Option.{option_map}
+use Rattle.std.proofs.lemmas.List.{set-get_or}
+use Rattle.psa_status.specs.declared.Status.{Status}
+use Rattle.psa_status.specs.declared.Status.TheVariants as status
+use Rattle.secret_bytes.specs.Buffer.{IsClear}
+use Rattle.slot_table.specs.Lent.{Reading}
+use Rattle.key_attributes.specs.declared.KeyId.{KeyId}
+use Rattle.key_uses.specs.declared.key_use.KeyUse.{KeyUse}
+use Rattle.key_uses.specs.Uses.{use_refusal}
+use Rattle.turn_history.specs.History.{entries_of}
+use Rattle.key_slots.specs.Holdings.{Pairs}
+use Rattle.service_calls.specs.declared.output.Output.{Output}
+use Rattle.service_calls.specs.declared.output.Output.TheVariants as output
+use Rattle.service_calls.specs.declared.handle_calls.Setup.{Setup}
+use Rattle.service_calls.specs.Answered.{AnswersReply}
+use Rattle.service_calls.specs.Answers.{plain_reply}
+use Rattle.service_calls.specs.Meanings.{model_setup}
+use Rattle.store_model.specs.Call.{buffer_after}
+use Rattle.store_model.specs.Faults.{FaultMark, Plain}
+use Rattle.store_model.specs.Laws.{may_change_keys}
+use Rattle.store_model.specs.Marks.{id_read}
+use Rattle.store_model.specs.Operations.{After, Inactive, is_inactive, stays}
+use Rattle.store_model.specs.Handles.{Held, HandleOperation, Served, applied, operation_of, own_of}
+use Rattle.store_model.specs.Requests.{Request, OnHandle}
+use Rattle.store_model.specs.Replay.{Entry, outcome_of, replay}
+use Rattle.store_core.specs.Uses.{IsLent, IsRefused, mark_of}
+use Rattle.operation_cells.specs.Cells.{IsOperation}
+use Rattle.operation_cells.specs.Setups.{refusal_without_key, set_up_by, set_up_for, set_up_without_key, setup_use, work_begun}
+use Rattle.operation_cells.specs.declared.cell.Cell.{Cell}
+use Rattle.operation_cells.proofs.Served.{setups}
+use Rattle.shared_store.specs.Turning.{DecidesAfter, IsAt, IsEntered, ReadsKey, lease_pair}
+use Rattle.callers.specs.Called.{IsAnswered, IsCalled, KnowsBefore, Legal}
+use Rattle.callers.specs.Handles.{AreOperations, ArePairs, IsChanged, IsKept, busy, leases_of, operation_at, with_operation_at}
+use Rattle.callers.specs.Ready.{IsOwnPart, IsReady}
+use Rattle.callers.specs.Worlds.{World}
+use Rattle.callers.specs.declared.caller.Caller.{Caller}
+use Rattle.callers.proofs.CellLists.{busy_put, cell_at, few, once, tally-cons}
+use Rattle.callers.proofs.Journeys.{called}
+use Rattle.callers.proofs.Owned.{applied_own}
+use Rattle.callers.proofs.Readying.{known, outcome_is, own_there, ready}
+use Rattle.callers.proofs.Storing.{decided_after}
+use Rattle.callers.proofs.SettingUp.{begun_lent, counts, draws_none, quiet, reads, set_up_lent, set_up_refused, set_up_twice, still}
+
+pub waits_by : (operations : List HandleOperation) (handle : ℕ) (operation : HandleOperation) (more : ℕ) → handle ≤ 4 → 1 ≤ handle → length operations ≡ 4 → operation_at operations handle ≡ Inactive → once (not (is_inactive operation)) ≤ more →
+    busy (with_operation_at operations handle operation) ≤ busy operations + more
+waits_by operations handle operation more last first four free enough =
+    let b = busy_put operations (handle - 1) operation (let z = four in omega arith) in let o = ap (λ (x : HandleOperation). once (not (is_inactive x))) free in omega arith
+
+-- what is said of a handle's cell holds of its operation
+pub at_handle : (P : HandleOperation → Type 0) (cells : List Cell) (operations : List HandleOperation) (handle : ℕ) → AreOperations cells operations → 1 ≤ handle → handle ≤ 4 →
+    ((c : Cell) (o : HandleOperation) → c ≡ get_or cells (handle - 1) c → IsOperation c o → P o) → P (operation_at operations handle)
+at_handle P cells operations handle are first last says =
+    let at = cell_at cells (handle - 1) (let z = are.cells_are in omega arith) in says at.0 (operation_at operations handle) at.1 (are.each (handle - 1) at.0 (omega arith) at.1)
+
+module _ {D A C : Type 0} (w : World D A C) (old new : Caller D A C) (r : IsReady w 4 old) (request : Request) (mark : FaultMark) (rank : ℕ) (own : Pairs) (before : List Entry) (e : Entry)
+    (i : IsEntered old.pass.me.0 new.pass.me.0 request mark rank own before e) where
+  abbrev made : IsCalled old.pass.me.0 new.pass.me.0 1 request mark rank before e
+  made = called old.pass.me.0 new.pass.me.0 request mark rank own before e i
+
+  module _ (handle : ℕ) (first : 1 ≤ handle) (last : handle ≤ 4) where
+    -- what the one-thread service makes of a setup
+    pub sets_up : (s : Setup) → request ≡ OnHandle handle (model_setup s) → mark ≡ Plain →
+        KnowsBefore w (λ service. outcome_of service e ≡ applied service old.number handle (set_up_by service.store (operation_at r.operations handle) s)) before e
+    sets_up s asks plain start is tells =
+        let service = replay start before in
+        let k = known w 4 old new r 1 request mark rank before e made start is tells in
+        let mine = k.own.each handle first last in
+        outcome_is service e old.number (OnHandle handle (model_setup s)) Plain (i.by ∙ r.number) (i.call_is ∙ asks) (i.mark_is ∙ plain)
+        ∙ (setups service old.number handle s ∙ (λ j. applied service old.number handle (set_up_by service.store (mine j) s)))
+
+    module _ (after : After Held) (applies : KnowsBefore w (λ service. outcome_of service e ≡ applied service old.number handle after) before e) where
+      -- what a setup changes of a caller beside its pass
+      pub record IsBegun (more : ℕ) : Type 0 where
+        pub number : new.number ≡ old.number
+        pub stream : new.stream ≡ old.stream
+        pub drawn : after.drawn ≡ 0
+        pub stand : AreOperations new.handles.cells.items (with_operation_at r.operations handle after.operation)
+        pub leases : ArePairs own (leases_of new.handles.cells.items)
+        pub clear : All IsClear new.spares.items
+        pub five : length (leases_of new.handles.cells.items) + length new.spares.items ≡ 5
+        pub room : 5 ≤ vec_capacity new.spares
+        pub waits : busy (with_operation_at r.operations handle after.operation) ≤ busy r.operations + more
+        pub few : more ≤ 1
+        pub spent : new.spent ≡ old.spent + more
+
+      pub begun_ready : (more : ℕ) → IsBegun more → old.spent < 2 ^ 48 → IsAt w.lock w.opened new.pass → Legal w (entries_of new.pass.me.0.seen) → IsReady w 0 new
+      begun_ready more b worn at legal =
+          let left = i.on.turns_left in let spent = b.spent in let few = b.few in let place = ap (λ s. s.place) b.stream in let drawn = b.drawn in
+          ready w 4 old new r 1 request mark rank before e made (with_operation_at r.operations handle after.operation) 0 at legal (record {
+            number = b.number;
+            stand = b.stand;
+            own = λ start is tells.
+                let service = replay start before in
+                let k = known w 4 old new r 1 request mark rank before e made start is tells in
+                subst (λ (s : Served). IsOwnPart (with_operation_at r.operations handle after.operation) new.stream.place (own_of s.service old.number)) (sym (applies start is tells))
+                (applied_own service old.number handle after r.operations old.stream.place new.stream.place k.sound r.last k.own r.stand.count first last (place ∙ still old.stream.place after.drawn drawn));
+            leases = λ f. ap (count_by f) i.holding ∙ b.leases f;
+            clear = b.clear;
+            five = b.five;
+            room = b.room;
+            seed = ap (λ s. s.seed) b.stream;
+            stream_of = ap (λ s. s.caller) b.stream;
+            turns_are = let t = r.turns in let z = b.waits in omega arith;
+            words = let t = r.words in omega arith;
+            spent = omega arith;
+          })
+
+      pub begun_answered : (result : Result Output Status) (buffer : List ℕ) → AnswersReply result after.reply → buffer ≡ buffer_after buffer after.reply →
+          IsAnswered w old.pass.me.0 new.pass.me.0 request rank result buffer buffer
+      begun_answered result buffer answers unwritten = record {
+        turns = 1;
+        mark = mark;
+        before = before;
+        entry = e;
+        called = made;
+        replied = λ start is tells.
+            let same : after.reply ≡ (outcome_of (replay start before) e).reply = sym (ap (λ (s : Served). s.reply) (applies start is tells)) in
+            (subst (AnswersReply result) same answers, unwritten ∙ ap (buffer_after buffer) same);
+      }
+
+    pub twice : (s : Setup) → request ≡ OnHandle handle (model_setup s) → mark ≡ Plain → is_inactive (operation_at r.operations handle) ≡ false →
+        KnowsBefore w (λ service. outcome_of service e ≡ applied service old.number handle (stays (operation_at r.operations handle) status.BadState)) before e
+    twice s asks plain begun start is tells =
+        sets_up s asks plain start is tells ∙ ap (applied (replay start before) old.number handle) (set_up_twice (replay start before).store (operation_at r.operations handle) s begun)
+
+    -- a setup without a key
+    module _ (s : Setup) (asks : request ≡ OnHandle handle (model_setup s)) (plain : mark ≡ Plain) (uses : setup_use s ≡ None) where
+      abbrev bare : After Held
+      bare = set_up_without_key (operation_at r.operations handle) s
+
+      bare_applies : KnowsBefore w (λ service. outcome_of service e ≡ applied service old.number handle bare) before e
+      bare_applies start is tells =
+          sets_up s asks plain start is tells ∙ ap (λ l. applied (replay start before) old.number handle (set_up_for (replay start before).store (operation_at r.operations handle) s l)) uses
+
+      pub bare_ready : (result : Result (Unit {0}) Status) → plain_reply result ≡ bare.reply → operation_at r.operations handle ≡ Inactive → IsChanged old.handles.cells.items new.handles.cells.items r.operations handle bare.operation None →
+          own ≡ old.pass.me.0.holding → new.number ≡ old.number → new.stream ≡ old.stream → new.spares ≡ old.spares → new.spent ≡ old.spent + cond (is_ok result) 1 0 → old.spent < 2 ^ 48 → IsAt w.lock w.opened new.pass →
+          Legal w (entries_of new.pass.me.0.seen) → IsReady w 0 new
+      bare_ready result reply free change held number stream spares spent = begun_ready bare bare_applies (once (is_ok result)) (record {
+        number = number;
+        stream = stream;
+        drawn = draws_none (operation_at r.operations handle) (refusal_without_key s) (record { key = None; work = work_begun s [] });
+        stand = change.stand;
+        leases = λ f. ap (count_by f) held ∙ (r.leases f ∙ sym (change.leases f));
+        clear = subst (λ v. All IsClear v.items) (sym spares) r.clear;
+        five = let a = change.fewer in let b = ap (λ v. length v.items) spares in let f = r.five in omega arith;
+        room = let a = ap vec_capacity spares in let f = r.room in omega arith;
+        waits = waits_by r.operations handle bare.operation (once (is_ok result)) last first r.stand.count free
+            (subst (λ o. once (not (is_inactive (set_up_without_key o s).operation)) ≤ once (is_ok result)) (sym free)
+            (counts (refusal_without_key s) (record { key = None; work = work_begun s [] }) result (reply ∙ ap (λ o. (set_up_without_key o s).reply) free)));
+        few = few (is_ok result);
+        spent = spent;
+      })
+
+      pub bare_answered : (result : Result Output Status) (buffer : List ℕ) → AnswersReply result bare.reply → buffer ≡ buffer_after buffer bare.reply → IsAnswered w old.pass.me.0 new.pass.me.0 request rank result buffer buffer
+      bare_answered = begun_answered bare bare_applies
+
+    -- a setup that leaves the operation
+    module _ (o : HandleOperation) (there : operation_at r.operations handle ≡ o) (why : Status) (applies : KnowsBefore w (λ service. outcome_of service e ≡ applied service old.number handle (stays o why)) before e) where
+      same_operations : with_operation_at r.operations handle o ≡ r.operations
+      same_operations = ap (with_operation_at r.operations handle) (sym there) ∙ set-get_or r.operations (handle - 1) Inactive
+
+      pub stayed_ready : own ≡ old.pass.me.0.holding → new.number ≡ old.number → new.stream ≡ old.stream → new.handles ≡ old.handles → new.spent ≡ old.spent → All IsClear new.spares.items → length new.spares.items ≡ length old.spares.items →
+          5 ≤ vec_capacity new.spares → old.spent < 2 ^ 48 → IsAt w.lock w.opened new.pass → Legal w (entries_of new.pass.me.0.seen) → IsReady w 0 new
+      stayed_ready held number stream handles spent clear many room = begun_ready (stays o why) applies 0 (record {
+        number = number;
+        stream = stream;
+        drawn = refl;
+        stand = subst (λ h. AreOperations h.cells.items (with_operation_at r.operations handle o)) (sym handles) (subst (AreOperations old.handles.cells.items) (sym same_operations) r.stand);
+        leases = λ f. ap (count_by f) held ∙ (r.leases f ∙ ap (λ h. count_by f (leases_of h.cells.items)) (sym handles));
+        clear = clear;
+        five = let a = ap (λ h. length (leases_of h.cells.items)) handles in let f = r.five in let m = many in omega arith;
+        room = room;
+        waits = let b = ap busy same_operations in omega arith;
+        few = omega arith;
+        spent = let z = spent in omega arith;
+      })
+
+      pub stayed_answered : (buffer : List ℕ) → IsAnswered w old.pass.me.0 new.pass.me.0 request rank (Err why) buffer buffer
+      stayed_answered buffer = begun_answered (stays o why) applies (Err why) buffer (refl, refl) refl
+
+    -- a setup with its key
+    module _ (s : Setup) (key : KeyId) (wanted : KeyUse) (asks : request ≡ OnHandle handle (model_setup s)) (uses : setup_use s ≡ Some (key, wanted)) (free : operation_at r.operations handle ≡ Inactive) where
+      unchanging : may_change_keys e.call ≡ false
+      unchanging = ap may_change_keys (i.call_is ∙ asks) ∙ quiet handle s
+
+      pub refuses : (why : Status) → mark ≡ mark_of why → DecidesAfter w.told w.moment w.faults w.hard w.locations w.labels w.opened (IsRefused (use_refusal wanted) key.0 why) before e →
+          KnowsBefore w (λ service. outcome_of service e ≡ applied service old.number handle (stays Inactive why)) before e
+      refuses why marked decided start is tells =
+          let service = replay start before in
+          let k = known w 4 old new r 1 request mark rank before e made start is tells in
+          let row = decided_after w (IsRefused (use_refusal wanted) key.0 why) before e unchanging decided start is tells in
+          outcome_is service e old.number (OnHandle handle (model_setup s)) (mark_of why) (i.by ∙ r.number) (i.call_is ∙ asks) (i.mark_is ∙ marked)
+          ∙ set_up_refused service old.number handle s key wanted why uses (k.own.each handle first last ∙ free) row
+
+      module _ (lease : Reading) (plain : mark ≡ Plain) (decided : DecidesAfter w.told w.moment w.faults w.hard w.locations w.labels w.opened (IsLent (use_refusal wanted) key.0 lease) before e) where
+        abbrev begun : After Held
+        begun = begun_lent s key lease
+
+        lends : KnowsBefore w (λ service. outcome_of service e ≡ applied service old.number handle begun) before e
+        lends start is tells =
+            let service = replay start before in
+            let lent = decided_after w (IsLent (use_refusal wanted) key.0 lease) before e unchanging decided start is tells in
+            sets_up s asks plain start is tells ∙ ap (applied service old.number handle) (ap (λ o. set_up_by service.store o s) free ∙ set_up_lent service.store s key wanted lease uses lent)
+
+        pub lent_ready : IsKept old.handles.cells.items new.handles.cells.items r.operations handle begun.operation lease → own ≡ lease_pair lease ∷ old.pass.me.0.holding →
+            new.number ≡ old.number → new.stream ≡ old.stream → new.spent ≡ old.spent + 1 → All IsClear new.spares.items → length new.spares.items + 1 ≡ length old.spares.items → 5 ≤ vec_capacity new.spares →
+            old.spent < 2 ^ 48 → IsAt w.lock w.opened new.pass → Legal w (entries_of new.pass.me.0.seen) → IsReady w 0 new
+        lent_ready kept held number stream spent clear many room = begun_ready begun lends 1 (record {
+          number = number;
+          stream = stream;
+          drawn = refl;
+          stand = kept.stand;
+          leases = λ f.
+              let a = ap (count_by f) held in let b = tally-cons f (lease_pair lease) old.pass.me.0.holding in let c = tally-cons f (lease_pair lease) (leases_of old.handles.cells.items) in
+              let d = r.leases f in let k = kept.leases f in omega arith;
+          clear = clear;
+          five = let a = kept.more in let f = r.five in let m = many in omega arith;
+          room = room;
+          waits = waits_by r.operations handle begun.operation 1 last first r.stand.count free (omega arith);
+          few = omega arith;
+          spent = spent;
+        })
+
+        pub lent_answered : (buffer : List ℕ) → IsAnswered w old.pass.me.0 new.pass.me.0 request rank (Ok output.Done) buffer buffer
+        lent_answered buffer = begun_answered begun lends (Ok output.Done) buffer refl refl
+
+-- the call reads its key, in whatever history it is entered
+pub reads_key : {D A C : Type 0} (w : World D A C) (old : Caller D A C) (r : IsReady w 4 old) (request : Request) (handle : ℕ) (s : Setup) (key : KeyId) (wanted : KeyUse) → 1 ≤ handle → handle ≤ 4 → request ≡ OnHandle handle (model_setup s) →
+    setup_use s ≡ Some (key, wanted) → operation_at r.operations handle ≡ Inactive → ReadsKey w.told w.moment w.faults w.hard w.locations w.labels w.opened old.pass.me.0 request key.0
+reads_key w old r request handle s key wanted first last asks uses free start is h on tells =
+    let own = own_there w 4 old r start h is on tells in
+    let inactive : is_inactive (operation_of (replay start h) old.number handle) ≡ true = ap is_inactive (own.each handle first last ∙ free) in
+    ap (λ n. id_read (replay start h) n request) r.number
+    ∙ (ap (id_read (replay start h) old.number) asks ∙ (reads (replay start h) old.number handle s inactive ∙ ap (option_map (λ (l : KeyId × KeyUse). l.0.0)) uses))

@@ -1,0 +1,37 @@
+-- A caller has what a turn asks that looks for a key.
+use Rattle.std.proofs.Common.{◌≡◌, ℕ, ◌+◌, ◌<◌, ◌≤◌, List, [], ◌∷◌, ◌++◌, length, ap, ◌∙◌, arith, length-append, Some, None}
+use Rattle.std.specs.Prelude.{All, Option, nat_lt, vec_len}
+use Rattle.std.specs.Global.{Vec}
+use Rattle.std.specs.Option.{option_to_list}
+use Rattle.std.proofs.lemmas.List.Elements.{All-pop}
+use Rattle.secret_bytes.specs.Buffer.{Buffer, IsClear}
+use Rattle.std.proofs.lemmas.List.Sums.{count_by-le-length}
+use Rattle.slot_table.specs.Lent.{Reading}
+use Rattle.operation_cells.specs.declared.cell.Cell.{Cell}
+use Rattle.shared_store.specs.Turning.{HasRoomForLease}
+use Rattle.callers.specs.Handles.{leases_of, pairs_of}
+use Rattle.callers.specs.Ready.{IsReady}
+use Rattle.callers.specs.Worlds.{World}
+use Rattle.callers.specs.declared.caller.Caller.{Caller}
+
+few_leases : (cells : List Cell) → length (leases_of cells) ≤ length cells
+few_leases [] = omega arith
+few_leases (c ∷ cs) = let r = few_leases cs in let s = length-append (pairs_of c.lease) (leases_of cs) in let o = one c.lease in omega arith
+  where
+    one : (lease : Option Reading) → length (pairs_of lease) ≤ 1
+    one None = omega arith
+    one (Some l) = omega arith
+
+-- one of clear spares was taken
+pub popped : (old new : Vec Buffer) (result : Option Buffer) (spare : Buffer) → result ≡ Some spare → old.items ≡ new.items ++ option_to_list result → All IsClear old.items → All IsClear new.items × (length new.items + 1 ≡ length old.items)
+popped old new result spare is parts clear =
+    let whole : old.items ≡ new.items ++ spare ∷ [] = parts ∙ ap (λ o. new.items ++ option_to_list o) is in
+    ((All-pop IsClear old.items new.items result parts clear).0, let a = ap length whole in let b = length-append new.items (spare ∷ []) in omega arith)
+
+module _ {D A C : Type 0} (w : World D A C) (n : ℕ) (old : Caller D A C) (r : IsReady w n old) where
+  pub has_spare : 0 < vec_len old.spares
+  has_spare = let a = few_leases old.handles.cells.items in let b = r.stand.cells_are in let c = r.five in omega arith
+
+  pub has_room_for_lease : HasRoomForLease old.pass.me.0.holding
+  has_room_for_lease =
+      let a = few_leases old.handles.cells.items in let b = r.stand.cells_are in let c = r.leases (λ p. nat_lt 0 p.1) in let d = count_by-le-length (λ p. nat_lt 0 p.1) (leases_of old.handles.cells.items) in omega arith

@@ -1,0 +1,143 @@
+// Calls that begin an operation.
+ghost use Rattle.std.specs.Prelude.{◌≡◌, ◌≤◌, ◌<◌, ◌+◌, ◌-◌, ◌^◌, ℕ, List, Some, None, cond, get_or};
+ghost use Rattle.std.specs.Result.{is_ok};
+ghost use Rattle.service_calls.specs.Meanings.{model_request};
+ghost use Rattle.service_calls.specs.declared.call.Call.TheVariants as calls;
+ghost use Rattle.service_calls.specs.declared.handle_calls.HandleCall.TheVariants as handle_calls;
+ghost use Rattle.store_model.specs.Handles.{HandleOperation};
+ghost use Rattle.store_model.specs.Operations.{Inactive};
+ghost use Rattle.operation_cells.specs.Cells.{IsOperation};
+ghost use Rattle.operation_cells.specs.Setups.{setup_use};
+ghost use Rattle.operation_cells.specs.declared.cell.Cell.{Cell};
+ghost use Rattle.callers.specs.Called.{IsAnswered};
+ghost use Rattle.callers.specs.Ready.{IsReady};
+ghost use Rattle.callers.specs.Worlds.{world};
+
+use crate::caller::Caller;
+use admission::Admission;
+use alg_encoding::Class;
+use disk_face::Disk;
+use driver_dispatch::Devices;
+use key_attributes::{KeyId, Usage};
+use key_uses::KeyUse;
+use psa_status::Status;
+use service_calls::{Call, Op, Output, Setup};
+use shared_store::SharedStore;
+use std::sync::Wait;
+
+// The key of a setup and what it is looked for; `None` where the operation has no key.
+fn setup_key(setup: Setup) -> Option<(KeyId, KeyUse)>
+    ensures { result ≡ setup_use setup }
+{
+    let (key, class, usage, alg) = match setup {
+        Setup::Hash(_) | Setup::Derivation(_) => return None,
+        Setup::MacSign { key, alg } => (key, Class::Mac, Usage::SIGN_MESSAGE, alg),
+        Setup::MacVerify { key, alg } => (key, Class::Mac, Usage::VERIFY_MESSAGE, alg),
+        Setup::CipherEncrypt { key, alg } => (key, Class::Cipher, Usage::ENCRYPT, alg),
+        Setup::CipherDecrypt { key, alg } => (key, Class::Cipher, Usage::DECRYPT, alg),
+        Setup::AeadEncrypt { key, alg } => (key, Class::Aead, Usage::ENCRYPT, alg),
+        Setup::AeadDecrypt { key, alg } => (key, Class::Aead, Usage::DECRYPT, alg),
+    };
+    Some((key, KeyUse::Algorithm { class, usage, alg }))
+}
+
+impl<D: Disk, A: Devices, C: Admission> Caller<D, A, C> {
+    /// Sets a handle's inactive operation up, and answers its rank beside what it gives. The operation keeps the lease of its
+    /// key. A setup that succeeds counts once more, for the turn in which the lease goes back.
+    pub fn set_up<R: Wait>(
+        &mut self,
+        rt: &R,
+        shared: &SharedStore<D, A, C>,
+        call: &Call<'_>,
+        room: usize,
+        op: Op,
+        setup: Setup,
+    ) -> (u64, Result<Output, Status>)
+        requires ready { IsReady (world D.contents D.moment D.faults A.faults A.locations C.labels shared.now.lock.table.shared.table_id shared.now.lock.table.shared.key.value.value.store.opened) 4 self.old }
+        requires call { call.now ≡ calls.OnHandle op (handle_calls.Setup setup) }
+        requires worn { self.old.spent < 2 ^ 48 }
+        ensures ready { IsReady (world D.contents D.moment D.faults A.faults A.locations C.labels shared.now.lock.table.shared.table_id shared.now.lock.table.shared.key.value.value.store.opened) 0 self.new }
+        ensures answered { (buffer : List ℕ) → IsAnswered (world D.contents D.moment D.faults A.faults A.locations C.labels shared.now.lock.table.shared.table_id shared.now.lock.table.shared.key.value.value.store.opened) self.old.pass.me.0 self.new.pass.me.0 (model_request call.now room) result.0 result.1 buffer buffer }
+        ensures spent { self.new.spent ≡ self.old.spent + cond (is_ok result.1) 1 0 }
+    {
+        if !self.handles.is_inactive(op) {
+            let rank = shared.count(rt, &mut self.pass, call, room);
+            return (rank, Err(Status::BadState));
+        }
+        match setup_key(setup) {
+            Some((key, wanted)) => {
+                self.begin_with(rt, shared, call, room, op, setup, key, wanted)
+            }
+            None => self.begin(rt, shared, call, room, op, setup),
+        }
+    }
+
+    // Begins an operation that has no key.
+    fn begin<R: Wait>(
+        &mut self,
+        rt: &R,
+        shared: &SharedStore<D, A, C>,
+        call: &Call<'_>,
+        room: usize,
+        op: Op,
+        setup: Setup,
+    ) -> (u64, Result<Output, Status>)
+        requires ready { IsReady (world D.contents D.moment D.faults A.faults A.locations C.labels shared.now.lock.table.shared.table_id shared.now.lock.table.shared.key.value.value.store.opened) 4 self.old }
+        requires call { call.now ≡ calls.OnHandle op (handle_calls.Setup setup) }
+        requires worn { self.old.spent < 2 ^ 48 }
+        requires free { (c : Cell) (operation : HandleOperation) → c ≡ get_or self.old.handles.cells.items (op - 1) c → IsOperation c operation → operation ≡ Inactive }
+        requires keyless { setup_use setup ≡ None }
+        ensures ready { IsReady (world D.contents D.moment D.faults A.faults A.locations C.labels shared.now.lock.table.shared.table_id shared.now.lock.table.shared.key.value.value.store.opened) 0 self.new }
+        ensures answered { (buffer : List ℕ) → IsAnswered (world D.contents D.moment D.faults A.faults A.locations C.labels shared.now.lock.table.shared.table_id shared.now.lock.table.shared.key.value.value.store.opened) self.old.pass.me.0 self.new.pass.me.0 (model_request call.now room) result.0 result.1 buffer buffer }
+        ensures spent { self.new.spent ≡ self.old.spent + cond (is_ok result.1) 1 0 }
+    {
+        let rank = shared.count(rt, &mut self.pass, call, room);
+        match self.handles.begin(op, setup) {
+            Ok(()) => {
+                self.spent += 1;
+                (rank, Ok(Output::Done))
+            }
+            Err(status) => (rank, Err(status)),
+        }
+    }
+
+    // Begins an operation with its key, which is looked for.
+    fn begin_with<R: Wait>(
+        &mut self,
+        rt: &R,
+        shared: &SharedStore<D, A, C>,
+        call: &Call<'_>,
+        room: usize,
+        op: Op,
+        setup: Setup,
+        key: KeyId,
+        wanted: KeyUse,
+    ) -> (u64, Result<Output, Status>)
+        requires ready { IsReady (world D.contents D.moment D.faults A.faults A.locations C.labels shared.now.lock.table.shared.table_id shared.now.lock.table.shared.key.value.value.store.opened) 4 self.old }
+        requires call { call.now ≡ calls.OnHandle op (handle_calls.Setup setup) }
+        requires worn { self.old.spent < 2 ^ 48 }
+        requires free { (c : Cell) (operation : HandleOperation) → c ≡ get_or self.old.handles.cells.items (op - 1) c → IsOperation c operation → operation ≡ Inactive }
+        requires keyed { setup_use setup ≡ Some (key, wanted) }
+        requires first { 1 ≤ op }
+        requires last { op ≤ 4 }
+        ensures ready { IsReady (world D.contents D.moment D.faults A.faults A.locations C.labels shared.now.lock.table.shared.table_id shared.now.lock.table.shared.key.value.value.store.opened) 0 self.new }
+        ensures answered { (buffer : List ℕ) → IsAnswered (world D.contents D.moment D.faults A.faults A.locations C.labels shared.now.lock.table.shared.table_id shared.now.lock.table.shared.key.value.value.store.opened) self.old.pass.me.0 self.new.pass.me.0 (model_request call.now room) result.0 result.1 buffer buffer }
+        ensures spent { self.new.spent ≡ self.old.spent + cond (is_ok result.1) 1 0 }
+    {
+        let Some(spare) = self.spares.pop() else {
+            unreachable!()
+        };
+        let (rank, looked) = shared.look(rt, &mut self.pass, call, room, key, wanted, spare);
+        match looked {
+            Ok(lease) => {
+                self.handles.begin_with(op, setup, lease);
+                self.spent += 1;
+                (rank, Ok(Output::Done))
+            }
+            Err((status, spare)) => {
+                self.spares.push_reserved(spare);
+                (rank, Err(status))
+            }
+        }
+    }
+}
