@@ -34,7 +34,7 @@ use Rattle.operation_cells.specs.declared.cell.Cell.{Cell}
 use Rattle.operation_cells.proofs.Served.{setups}
 use Rattle.shared_store.specs.Turning.{DecidesAfter, IsAt, IsEntered, ReadsKey, lease_pair}
 use Rattle.callers.specs.Called.{IsAnswered, IsCalled, KnowsBefore, Legal}
-use Rattle.callers.specs.Handles.{AreOperations, ArePairs, IsChanged, IsKept, busy, leases_of, operation_at, with_operation_at}
+use Rattle.callers.specs.Handles.{AreOperations, ArePairs, HoldsLease, IsChanged, busy, leases_of, operation_at, with_operation_at}
 use Rattle.callers.specs.Ready.{IsOwnPart, IsReady}
 use Rattle.callers.specs.Worlds.{World}
 use Rattle.callers.specs.declared.caller.Caller.{Caller}
@@ -206,7 +206,7 @@ module _ {D A C : Type 0} (w : World D A C) (old new : Caller D A C) (r : IsRead
             let lent = decided_after w (IsLent (use_refusal wanted) key.0 lease) before e unchanging decided start is tells in
             sets_up s asks plain start is tells ∙ ap (applied service old.number handle) (ap (λ o. set_up_by service.store o s) free ∙ set_up_lent service.store s key wanted lease uses lent)
 
-        pub lent_ready : IsKept old.handles.cells.items new.handles.cells.items r.operations handle begun.operation lease → own ≡ lease_pair lease ∷ old.pass.me.0.holding →
+        pub lent_ready : HoldsLease old.handles.cells.items new.handles.cells.items r.operations handle begun.operation lease → own ≡ lease_pair lease ∷ old.pass.me.0.holding →
             new.number ≡ old.number → new.stream ≡ old.stream → new.spent ≡ old.spent + 1 → All IsClear new.spares.items → length new.spares.items + 1 ≡ length old.spares.items → 5 ≤ vec_capacity new.spares →
             old.spent < 2 ^ 48 → IsAt w.lock w.opened new.pass → Legal w (entries_of new.pass.me.0.seen) → IsReady w 0 new
         lent_ready kept held number stream spent clear many room = begun_ready begun lends 1 (record {

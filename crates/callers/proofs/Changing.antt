@@ -10,7 +10,7 @@ use Rattle.operation_cells.specs.Cells.{IsOperation}
 use Rattle.operation_cells.specs.declared.cell.Cell.{Cell}
 use Rattle.std.proofs.lemmas.Bool.{false≢true}
 use Rattle.shared_store.specs.Turning.{lease_pair}
-use Rattle.callers.specs.Handles.{AreOperations, ArePairs, IsChanged, IsKept, leases_of, pairs_of}
+use Rattle.callers.specs.Handles.{AreOperations, ArePairs, HoldsLease, IsChanged, leases_of, pairs_of}
 use Rattle.callers.proofs.CellLists.{leases_put, names_lease, put_cell, tally-cons}
 
 -- the pairs of two leases, of which one is this one and the other none
@@ -67,7 +67,7 @@ module _ (old : List Cell) (operations : List HandleOperation) (handle : ℕ) (c
 
 -- a cell without a lease is given one
 pub kept : (old : List Cell) (operations : List HandleOperation) (handle : ℕ) (cell next : Cell) (operation : HandleOperation) (lease : Reading) → AreOperations old operations → handle - 1 < 4 → cell ≡ get_or old (handle - 1) cell →
-    cell.lease ≡ None → next.lease ≡ Some lease → IsOperation next operation → is_active operation ≡ true → IsKept old (set old (handle - 1) next) operations handle operation lease
+    cell.lease ≡ None → next.lease ≡ Some lease → IsOperation next operation → is_active operation ≡ true → HoldsLease old (set old (handle - 1) next) operations handle operation lease
 kept old operations handle cell next operation lease are inside at none given stands active =
     let within : handle - 1 < length old = let z = are.cells_are in omega arith in
     let pairs : ArePairs (leases_of (set old (handle - 1) next)) (lease_pair lease ∷ leases_of old) = λ f.

@@ -50,7 +50,7 @@ pub record IsChanged (old new : List Cell) (operations : List HandleOperation) (
   pub mine : (l : Reading) → lease ≡ Some l → 0 < names l.slot (l.creation + 1) (leases_of old)
 
 -- A handle's operation has become this one, which keeps one lease more.
-pub record IsKept (old new : List Cell) (operations : List HandleOperation) (handle : ℕ) (operation : HandleOperation) (lease : Reading) : Type 0 where
+pub record HoldsLease (old new : List Cell) (operations : List HandleOperation) (handle : ℕ) (operation : HandleOperation) (lease : Reading) : Type 0 where
   pub stand : AreOperations new (with_operation_at operations handle operation)
   pub leases : ArePairs (leases_of new) (lease_pair lease ∷ leases_of old)
   pub more : length (leases_of new) ≡ length (leases_of old) + 1

@@ -17,7 +17,7 @@ ghost use Rattle.operation_cells.specs.Draws.{DrawsFew};
 ghost use Rattle.operation_cells.specs.Setups.{begun_with, set_up_without_key, setup_use};
 ghost use Rattle.operation_cells.specs.Steps.{stepped_by};
 ghost use Rattle.operation_cells.specs.declared.cell.Cell as cell;
-ghost use Rattle.callers.specs.Handles.{AreOperations, IsChanged, IsKept, operation_at};
+ghost use Rattle.callers.specs.Handles.{AreOperations, HoldsLease, IsChanged, operation_at};
 
 use operation_cells::Cell;
 use psa_status::Status;
@@ -81,7 +81,7 @@ impl Handles {
         requires free { (c : cell.Cell) (operation : HandleOperation) → c ≡ get_or self.old.cells.items (op - 1) c → IsOperation c operation → operation ≡ Inactive }
         requires none { (c : cell.Cell) → c ≡ get_or self.old.cells.items (op - 1) c → c.lease ≡ None }
         ensures kept { (operations : List HandleOperation) (key : KeyCreation) → AreOperations self.old.cells.items operations → key.number ≡ lease.creation →
-            IsKept self.old.cells.items self.new.cells.items operations op (begun_with setup key (bytes_of lease.buffer)) lease }
+            HoldsLease self.old.cells.items self.new.cells.items operations op (begun_with setup key (bytes_of lease.buffer)) lease }
         ensures first { 1 ≤ op }
         ensures last { op ≤ 4 }
     {
