@@ -34,7 +34,7 @@ fn the_first_fault_is_named(rt: HostRuntime) -> Result<(), AllocError> {
         ),
         ("1 hash_compute #1 alg=0 data=", "line 1: unknown field"),
         ("1 generate k bits=65536", "line 1: bad value"),
-        ("1 purge #1", "line 1: unknown command"),
+        ("1 purge", "line 1: missing word"),
         ("1 mac_sign_setup", "line 1: missing word"),
         ("1 hash_setup 0 alg=0", "line 1: bad handle"),
         ("1 hash_setup 5 alg=0", "line 1: bad handle"),
