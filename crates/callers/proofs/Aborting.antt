@@ -22,7 +22,7 @@ use Rattle.callers.specs.Ready.{IsReady}
 use Rattle.callers.specs.Worlds.{World}
 use Rattle.callers.specs.declared.caller.Caller.{Caller}
 use Rattle.callers.proofs.CellLists.{busy_put, once}
-use Rattle.callers.proofs.Handling.{few_turns, handled_answered, handled_ready, spent_by}
+use Rattle.callers.proofs.Handling.{few_turns, handled_answered, handled_ready, one_turn, same_out, spent_by}
 use Rattle.callers.proofs.Readying.{outcome_is}
 
 undrawn : (s : RandomStream) → s ≡ drawn_from s 0
@@ -38,19 +38,19 @@ module _ {D A C : Type 0} (w : World D A C) (n : ℕ) (old settled new : Caller 
   pub aborted_ready : (is_inactive (operation_at r.operations handle) ≡ true → 4 ≤ n) → IsAt w.lock w.opened new.pass → Legal w (entries_of new.pass.me.0.seen) → settled.number ≡ old.number → settled.spares ≡ old.spares →
       settled.stream ≡ old.stream → settled.spent ≡ old.spent → IsReady w 0 new
   aborted_ready pays at legal number spares stream spent =
-      handled_ready w n old settled new r request Plain rank before e i handle Inactive lease change back (ends done) refl first last aborts 0 at legal number spares (stream ∙ undrawn old.stream)
+      handled_ready w n old settled new r request Plain rank before e 1 (one_turn i) (same_out i) handle Inactive lease change back (ends done) refl first last aborts 0 at legal number spares (stream ∙ undrawn old.stream)
       (enough (is_inactive (operation_at r.operations handle)) refl) (let a = r.words in let p = ap (λ s. s.place) stream in omega arith) (let a = r.spent in omega arith)
     where
-      enough : (b : Bool) → is_inactive (operation_at r.operations handle) ≡ b → TURNS + 2 * busy (with_operation_at r.operations handle Inactive) + 0 + spent_by w n old settled new r request Plain rank before e i handle Inactive lease change lease ≤ old.pass.me.0.turns_left + 4 * settled.spent
+      enough : (b : Bool) → is_inactive (operation_at r.operations handle) ≡ b → TURNS + 2 * busy (with_operation_at r.operations handle Inactive) + 0 + spent_by w n old settled new r request Plain rank before e 1 (one_turn i) (same_out i) handle Inactive lease change lease ≤ old.pass.me.0.turns_left + 4 * settled.spent
       enough true found =
           let put = busy_put r.operations (handle - 1) Inactive (let z = r.stand.count in omega arith) in let k = ap (λ x. once (not x)) found in let t = r.turns in let z = pays found in
-          let f = few_turns w n old settled new r request Plain rank before e i handle Inactive lease change lease in omega arith
+          let f = few_turns w n old settled new r request Plain rank before e 1 (one_turn i) (same_out i) handle Inactive lease change lease in omega arith
       enough false found =
           let put = busy_put r.operations (handle - 1) Inactive (let z = r.stand.count in omega arith) in let k = ap (λ x. once (not x)) found in let t = r.turns in
-          let f = few_turns w n old settled new r request Plain rank before e i handle Inactive lease change lease in omega arith
+          let f = few_turns w n old settled new r request Plain rank before e 1 (one_turn i) (same_out i) handle Inactive lease change lease in omega arith
 
   pub aborted_answered : (buffer : List ℕ) → IsAnswered w old.pass.me.0 new.pass.me.0 request rank (Ok Done) buffer buffer
-  aborted_answered buffer = handled_answered w n old settled new r request Plain rank before e i handle Inactive lease change back (ends done) refl first last aborts (Ok Done) buffer buffer refl refl
+  aborted_answered buffer = handled_answered w n old settled new r request Plain rank before e 1 (one_turn i) (same_out i) handle Inactive lease change back (ends done) refl first last aborts (Ok Done) buffer buffer refl refl
 
 by_finding : (b : Bool) (P : Type 0) → (b ≡ true → P) → (b ≡ false → P) → P
 by_finding true P found other = found refl

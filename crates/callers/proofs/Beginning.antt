@@ -87,7 +87,7 @@ module _ {D A C : Type 0} (w : World D A C) (old new : Caller D A C) (r : IsRead
         pub few : more ≤ 1
         pub spent : new.spent ≡ old.spent + more
 
-      pub begun_ready : (more : ℕ) → IsBegun more → old.spent < 2 ^ 48 → IsAt w.lock w.opened new.pass → Legal w (entries_of new.pass.me.0.seen) → IsReady w 0 new
+      pub begun_ready : (more : ℕ) → IsBegun more → old.spent + more ≤ 2 ^ 48 → IsAt w.lock w.opened new.pass → Legal w (entries_of new.pass.me.0.seen) → IsReady w 0 new
       begun_ready more b worn at legal =
           let left = i.on.turns_left in let spent = b.spent in let few = b.few in let place = ap (λ s. s.place) b.stream in let drawn = b.drawn in
           ready w 4 old new r 1 request mark rank before e made (with_operation_at r.operations handle after.operation) 0 at legal (record {
@@ -117,7 +117,7 @@ module _ {D A C : Type 0} (w : World D A C) (old new : Caller D A C) (r : IsRead
         before = before;
         entry = e;
         called = made;
-        replied = λ start is tells.
+        replied = λ start is tells told.
             let same : after.reply ≡ (outcome_of (replay start before) e).reply = sym (ap (λ (s : Served). s.reply) (applies start is tells)) in
             (subst (AnswersReply result) same answers, unwritten ∙ ap (buffer_after buffer) same);
       }
@@ -139,7 +139,7 @@ module _ {D A C : Type 0} (w : World D A C) (old new : Caller D A C) (r : IsRead
       pub bare_ready : (result : Result (Unit {0}) Status) → plain_reply result ≡ bare.reply → operation_at r.operations handle ≡ Inactive → IsChanged old.handles.cells.items new.handles.cells.items r.operations handle bare.operation None →
           own ≡ old.pass.me.0.holding → new.number ≡ old.number → new.stream ≡ old.stream → new.spares ≡ old.spares → new.spent ≡ old.spent + cond (is_ok result) 1 0 → old.spent < 2 ^ 48 → IsAt w.lock w.opened new.pass →
           Legal w (entries_of new.pass.me.0.seen) → IsReady w 0 new
-      bare_ready result reply free change held number stream spares spent = begun_ready bare bare_applies (once (is_ok result)) (record {
+      bare_ready result reply free change held number stream spares spent worn = begun_ready bare bare_applies (once (is_ok result)) (record {
         number = number;
         stream = stream;
         drawn = draws_none (operation_at r.operations handle) (refusal_without_key s) (record { key = None; work = work_begun s [] });
@@ -153,7 +153,7 @@ module _ {D A C : Type 0} (w : World D A C) (old new : Caller D A C) (r : IsRead
             (counts (refusal_without_key s) (record { key = None; work = work_begun s [] }) result (reply ∙ ap (λ o. (set_up_without_key o s).reply) free)));
         few = few (is_ok result);
         spent = spent;
-      })
+      }) (let f = few (is_ok result) in omega arith)
 
       pub bare_answered : (result : Result Output Status) (buffer : List ℕ) → AnswersReply result bare.reply → buffer ≡ buffer_after buffer bare.reply → IsAnswered w old.pass.me.0 new.pass.me.0 request rank result buffer buffer
       bare_answered = begun_answered bare bare_applies
@@ -165,7 +165,7 @@ module _ {D A C : Type 0} (w : World D A C) (old new : Caller D A C) (r : IsRead
 
       pub stayed_ready : own ≡ old.pass.me.0.holding → new.number ≡ old.number → new.stream ≡ old.stream → new.handles ≡ old.handles → new.spent ≡ old.spent → All IsClear new.spares.items → length new.spares.items ≡ length old.spares.items →
           5 ≤ vec_capacity new.spares → old.spent < 2 ^ 48 → IsAt w.lock w.opened new.pass → Legal w (entries_of new.pass.me.0.seen) → IsReady w 0 new
-      stayed_ready held number stream handles spent clear many room = begun_ready (stays o why) applies 0 (record {
+      stayed_ready held number stream handles spent clear many room worn = begun_ready (stays o why) applies 0 (record {
         number = number;
         stream = stream;
         drawn = refl;
@@ -177,7 +177,7 @@ module _ {D A C : Type 0} (w : World D A C) (old new : Caller D A C) (r : IsRead
         waits = let b = ap busy same_operations in omega arith;
         few = omega arith;
         spent = let z = spent in omega arith;
-      })
+      }) (omega arith)
 
       pub stayed_answered : (buffer : List ℕ) → IsAnswered w old.pass.me.0 new.pass.me.0 request rank (Err why) buffer buffer
       stayed_answered buffer = begun_answered (stays o why) applies (Err why) buffer (refl, refl) refl
@@ -209,7 +209,7 @@ module _ {D A C : Type 0} (w : World D A C) (old new : Caller D A C) (r : IsRead
         pub lent_ready : HoldsLease old.handles.cells.items new.handles.cells.items r.operations handle begun.operation lease → own ≡ lease_pair lease ∷ old.pass.me.0.holding →
             new.number ≡ old.number → new.stream ≡ old.stream → new.spent ≡ old.spent + 1 → All IsClear new.spares.items → length new.spares.items + 1 ≡ length old.spares.items → 5 ≤ vec_capacity new.spares →
             old.spent < 2 ^ 48 → IsAt w.lock w.opened new.pass → Legal w (entries_of new.pass.me.0.seen) → IsReady w 0 new
-        lent_ready kept held number stream spent clear many room = begun_ready begun lends 1 (record {
+        lent_ready kept held number stream spent clear many room worn = begun_ready begun lends 1 (record {
           number = number;
           stream = stream;
           drawn = refl;
@@ -223,7 +223,7 @@ module _ {D A C : Type 0} (w : World D A C) (old new : Caller D A C) (r : IsRead
           waits = waits_by r.operations handle begun.operation 1 last first r.stand.count free (omega arith);
           few = omega arith;
           spent = spent;
-        })
+        }) (omega arith)
 
         pub lent_answered : (buffer : List ℕ) → IsAnswered w old.pass.me.0 new.pass.me.0 request rank (Ok output.Done) buffer buffer
         lent_answered buffer = begun_answered begun lends (Ok output.Done) buffer refl refl

@@ -74,7 +74,7 @@ module _ (f : ℕ × ℕ → Bool) where
   abbrev tally : Pairs → ℕ
   tally own = count_by f own
 
-  tally-append : (xs ys : Pairs) → tally (xs ++ ys) ≡ tally xs + tally ys
+  pub tally-append : (xs ys : Pairs) → tally (xs ++ ys) ≡ tally xs + tally ys
   tally-append xs ys = sum_by-append (λ (p : ℕ × ℕ). once (f p)) xs ys
 
   pub tally-cons : (p : ℕ × ℕ) (own : Pairs) → tally (p ∷ own) ≡ once (f p) + tally own

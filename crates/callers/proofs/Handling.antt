@@ -6,6 +6,7 @@ use Rattle.std.specs.Global.{Vec}
 use Rattle.std.proofs.lemmas.List.Elements.{All-push}
 use Rattle.psa_status.specs.declared.Status.{Status}
 use Rattle.secret_bytes.specs.Buffer.{Buffer, IsClear}
+use Rattle.turn_history.specs.declared.pass.View.{View}
 use Rattle.turn_history.specs.History.{entries_of}
 use Rattle.turn_history.specs.Views.{TURNS}
 use Rattle.random_streams.specs.RandomWords.{RandomStream, drawn_from}
@@ -44,14 +45,21 @@ if_some : (P : Reading → Type 0) (o : Option Reading) → ((l : Reading) → o
 if_some P None h = tt
 if_some P (Some l) h = h l refl
 
+-- a ranked turn that gave nothing out and took nothing back
+pub one_turn : {B : Type 0} {v u : View Entry B} {request : Request} {mark : FaultMark} {rank : ℕ} {before : List Entry} {e : Entry} → IsEntered v u request mark rank v.holding before e → IsCalled v u 1 request mark rank before e
+one_turn {v = v} {u = u} {request = request} {mark = mark} {rank = rank} {before = before} {e = e} i = called v u request mark rank v.holding before e i
+
+pub same_out : {B : Type 0} {v u : View Entry B} {request : Request} {mark : FaultMark} {rank : ℕ} {before : List Entry} {e : Entry} → IsEntered v u request mark rank v.holding before e → ArePairs u.holding v.holding
+same_out i = λ f. ap (count_by f) i.holding
+
 module _ {D A C : Type 0} (w : World D A C) (n : ℕ) (old settled new : Caller D A C) (r : IsReady w n old) (request : Request) (mark : FaultMark) (rank : ℕ) (before : List Entry) (e : Entry)
-    (i : IsEntered old.pass.me.0 settled.pass.me.0 request mark rank old.pass.me.0.holding before e)
+    (t : ℕ) (turned : IsCalled old.pass.me.0 settled.pass.me.0 t request mark rank before e) (held : ArePairs settled.pass.me.0.holding old.pass.me.0.holding)
     (handle : ℕ) (operation : HandleOperation) (lease : Option Reading) (change : IsChanged old.handles.cells.items settled.handles.cells.items r.operations handle operation lease) where
   -- the lease that goes back is out
   pub is_out : (l : Reading) → lease ≡ Some l → 0 < names l.slot (l.creation + 1) settled.pass.me.0.holding
   is_out l is =
       let a = named_alike old.pass.me.0.holding (leases_of old.handles.cells.items) l.slot (l.creation + 1) r.leases in
-      let b = ap (names l.slot (l.creation + 1)) i.holding in let m = change.mine l is in omega arith
+      let b = named_alike settled.pass.me.0.holding old.pass.me.0.holding l.slot (l.creation + 1) held in let m = change.mine l is in omega arith
 
   pub out : IfSome lease (λ l. 0 < names l.slot (l.creation + 1) settled.pass.me.0.holding)
   out = if_some (λ l. 0 < names l.slot (l.creation + 1) settled.pass.me.0.holding) lease is_out
@@ -63,18 +71,17 @@ module _ {D A C : Type 0} (w : World D A C) (n : ℕ) (old settled new : Caller 
 
   -- so many turns were spent
   abbrev pub spent_by : Option Reading → ℕ
-  spent_by None = 1
-  spent_by (Some l) = 2
+  spent_by None = t
+  spent_by (Some l) = t + 1
 
-  pub few_turns : (o : Option Reading) → spent_by o ≤ 2
+  pub few_turns : (o : Option Reading) → spent_by o ≤ t + 1
   few_turns None = omega arith
   few_turns (Some l) = omega arith
 
   called_by : (o : Option Reading) → IsBack o settled new → IsCalled old.pass.me.0 new.pass.me.0 (spent_by o) request mark rank before e
   called_by None back =
-      subst (λ (c : Caller D A C). IsCalled old.pass.me.0 c.pass.me.0 1 request mark rank before e) (sym back) (called old.pass.me.0 settled.pass.me.0 request mark rank old.pass.me.0.holding before e i)
-  called_by (Some l) back = called_then old.pass.me.0 settled.pass.me.0 new.pass.me.0 1 request mark rank (without_pair (lease_pair l) settled.pass.me.0.holding) before e
-      (called old.pass.me.0 settled.pass.me.0 request mark rank old.pass.me.0.holding before e i) back.later
+      subst (λ (c : Caller D A C). IsCalled old.pass.me.0 c.pass.me.0 t request mark rank before e) (sym back) turned
+  called_by (Some l) back = called_then old.pass.me.0 settled.pass.me.0 new.pass.me.0 t request mark rank (without_pair (lease_pair l) settled.pass.me.0.holding) before e turned back.later
 
   module _ (back : IsBack lease settled new) where
     abbrev pub turns : ℕ
@@ -102,7 +109,7 @@ module _ {D A C : Type 0} (w : World D A C) (n : ℕ) (old settled new : Caller 
       handles = ap (λ (c : Caller D A C). c.handles) same;
       room = ap (λ (c : Caller D A C). vec_capacity c.spares) same;
       leases = λ f.
-          let a = ap (λ (c : Caller D A C). count_by f c.pass.me.0.holding) same in let b = ap (count_by f) i.holding in let d = r.leases f in let e = change.leases f in
+          let a = ap (λ (c : Caller D A C). count_by f c.pass.me.0.holding) same in let b = held f in let d = r.leases f in let e = change.leases f in
           let g = ap (λ x. count_by f (pairs_of x ++ leases_of settled.handles.cells.items)) is in let h = ap (λ (c : Caller D A C). count_by f (leases_of c.handles.cells.items)) same in omega arith;
       clear = λ all. subst (λ (c : Caller D A C). All IsClear c.spares.items) (sym same) all;
       five = let a = ap (λ (c : Caller D A C). length (leases_of c.handles.cells.items) + length c.spares.items) same in let b = change.fewer in let g = ap (λ x. length (pairs_of x)) is in omega arith;
@@ -114,7 +121,7 @@ module _ {D A C : Type 0} (w : World D A C) (n : ℕ) (old settled new : Caller 
       handles = given.handles;
       room = given.room;
       leases = λ f.
-          let a = ap (count_by f) given.later.holding in let b = without f (lease_pair l) settled.pass.me.0.holding (is_out l is) in let c = ap (count_by f) i.holding in let d = r.leases f in
+          let a = ap (count_by f) given.later.holding in let b = without f (lease_pair l) settled.pass.me.0.holding (is_out l is) in let c = held f in let d = r.leases f in
           let e = change.leases f in let g = ap (λ x. count_by f (pairs_of x ++ leases_of settled.handles.cells.items)) is in
           let m = tally-cons f (lease_pair l) (leases_of settled.handles.cells.items) in let h = ap (λ x. count_by f (leases_of x.cells.items)) given.handles in omega arith;
       clear = λ all. subst (All IsClear) (sym given.spares) (All-push IsClear settled.spares.items given.spare all given.clear);
@@ -161,7 +168,7 @@ module _ {D A C : Type 0} (w : World D A C) (n : ℕ) (old settled new : Caller 
         before = before;
         entry = e;
         called = made;
-        replied = λ start is tells.
+        replied = λ start is tells told.
             let same : after.reply ≡ (outcome_of (replay start before) e).reply = sym (ap (λ (s : Served). s.reply) (applies start is tells)) in
             (subst (AnswersReply result) same answers, buffer ∙ ap (buffer_after shown) same);
       }

@@ -54,6 +54,14 @@ module _ {B : Type 0} where
     calls = l.calls ∙ c.calls;
   }
 
+  -- a history that goes on after a turn without rank does so from before it
+  pub goes_on_before : (v u : View Entry B) (own : Pairs) (h : List Entry) → IsLater v u own → GoesOn u h → GoesOn v h
+  goes_on_before v u own h l on = record {
+    since = begins_through h (entries_of u.seen) (entries_of v.seen) on.since (seen_begins v u l.on.prefix);
+    calls = ap (λ n. calls_by caller_of n h) (sym l.on.number) ∙ (on.calls ∙ l.calls);
+    signed = on.signed;
+  }
+
   -- and one before it
   pub then_called : (v u w : View Entry B) (turns : ℕ) (call : Request) (mark : FaultMark) (r : ℕ) (own : Pairs) (before : List Entry) (e : Entry) → IsLater v u own → IsCalled u w turns call mark r before e →
       IsCalled v w (turns + 1) call mark r before e
@@ -61,11 +69,7 @@ module _ {B : Type 0} where
     number = c.number ∙ l.on.number;
     weight = c.weight ∙ l.on.weight;
     left = let a = l.on.turns_left in let b = c.left in omega arith;
-    goes_on = record {
-      since = begins_through before (entries_of u.seen) (entries_of v.seen) c.goes_on.since (seen_begins v u l.on.prefix);
-      calls = ap (λ n. calls_by caller_of n before) (sym l.on.number) ∙ (c.goes_on.calls ∙ l.calls);
-      signed = c.goes_on.signed;
-    };
+    goes_on = goes_on_before v u own before l c.goes_on;
     placed = c.placed;
     rank = c.rank;
     by = c.by ∙ l.on.number;

@@ -28,7 +28,7 @@ pub record Gives (result : Result Output Status) (reply : Reply) : Type 0 where
 done_gives : Gives (Ok output.Done) done
 done_gives = record { answers = refl; unwritten = λ buffer. refl }
 
-refusal_gives : (s : Status) → Gives (Err s) (refusal s)
+pub refusal_gives : (s : Status) → Gives (Err s) (refusal s)
 refusal_gives s = record { answers = (refl, refl); unwritten = λ buffer. refl }
 
 -- DESTROY

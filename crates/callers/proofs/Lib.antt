@@ -12,3 +12,13 @@ pub mod SettingUp
 pub mod Beginning
 pub mod Looking
 pub mod KeyReplies
+pub mod WithKeys
+pub mod ByElement
+pub mod Computing
+pub mod Made
+pub mod Creating
+pub mod Generating
+pub mod Inputting
+pub mod KeySizes
+pub mod Deriving
+pub mod Outputting

@@ -79,7 +79,7 @@ pub stored_own : (service : Service) (caller : ℕ) (outcome : Outcome) (operati
 stored_own service caller outcome operations place next is last own more =
     subst (IsOwnPart operations next) (sym (set_own service outcome.store caller (with_drawn (own_of service caller) outcome.drawn) is last)) (drew operations place next outcome.drawn (own_of service caller) own more)
 
-failed_own : (service : Service) (caller : ℕ) (call : Call) → own_of (failed_step service caller (OnStore call)) caller ≡ own_of service caller
+pub failed_own : (service : Service) (caller : ℕ) (call : Call) → own_of (failed_step service caller (OnStore call)) caller ≡ own_of service caller
 failed_own service caller (Destroy id) = refl
 failed_own service caller call = refl
 

@@ -50,19 +50,24 @@ module _ {D A C : Type 0} (w : World D A C) where
       ap (own_of (replay start h)) (sym r.number) ∙ (mine ∙ ap (own_of (replay start (entries_of old.pass.me.0.seen))) r.number) in
       subst (IsOwnPart r.operations old.stream.place) (sym own) (r.own start is here)
 
+  -- and draws the same random words
+  pub random_there : (n : ℕ) (old : Caller D A C) (r : Ready n old) (start : Service) (h : List Entry) → Starts w start → GoesOn old.pass.me.0 h → IsToldTo w start h → (count : ℕ) → next_random (replay start h) old.number count ≡ next_bytes old.stream count
+  random_there n old r start h is on tells count =
+      let seed : (replay start h).store.settings.seed ≡ old.stream.seed =
+      ap (λ (s : Settings). s.seed) (settings_stay start h) ∙ (ap (λ (s : Service). s.store.settings.seed) is.is ∙ (is.seed_is ∙ sym r.seed)) in
+      let own = own_there n old r start h is on tells in
+      λ i. random_bytes (seed i) (sym r.stream_of i) (own.drawn i) count
+
   module _ (n : ℕ) (old new : Caller D A C) (r : Ready n old) (turns : ℕ) (call : Request) (mark : FaultMark) (rank : ℕ) (before : List Entry) (e : Entry)
       (c : IsCalled old.pass.me.0 new.pass.me.0 turns call mark rank before e) where
     pub known : Knows (IsKnown old r.operations) before e
     known start is tells =
         let store = start_of is.settings is.found in
         let here : IsToldTo w start before = told_front (w.told w.opened.file.value.cells.disk) start (before ++ e ∷ []) before (e ∷ [], refl) tells in
-        let is_own = own_there n old r start before is c.goes_on here in
-        let seed : (replay start before).store.settings.seed ≡ old.stream.seed =
-        ap (λ (s : Settings). s.seed) (settings_stay start before) ∙ (ap (λ (s : Service). s.store.settings.seed) is.is ∙ (is.seed_is ∙ sym r.seed)) in
         record {
           sound = sound_replay start store before is.is (r.sound start is) c.goes_on.signed;
-          own = is_own;
-          random = λ count. λ i. random_bytes (seed i) (sym r.stream_of i) (is_own.drawn i) count;
+          own = own_there n old r start before is c.goes_on here;
+          random = random_there n old r start before is c.goes_on here;
         }
 
     -- what a call changes of a caller beside its pass

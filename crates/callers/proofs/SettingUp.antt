@@ -101,7 +101,7 @@ is_set_up (setup.Derivation alg) = refl
 pub still : (place n : ℕ) → n ≡ 0 → place ≡ place + words_used n
 still place n none = (let z : place ≡ place + words_used 0 = omega arith in z) ∙ ap (λ k. place + words_used k) (sym none)
 
-undrawn_own : (own : Own) → own ≡ with_drawn own 0
+pub undrawn_own : (own : Own) → own ≡ with_drawn own 0
 undrawn_own own = ap (λ n. record own { drawn = n }) (still own.drawn 0 refl)
 
 -- a device failed, and the handle is left

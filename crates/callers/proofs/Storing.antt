@@ -1,12 +1,12 @@
--- A caller after a call on the store of one turn, which draws nothing.
-use Rattle.std.proofs.Common.{◌≡◌, ℕ, List, sym, ap, ◌∙◌, subst, arith}
+-- A caller after a call on the store.
+use Rattle.std.proofs.Common.{◌≡◌, ◌≤◌, ℕ, List, sym, ap, ◌∙◌, subst, arith}
 use Rattle.std.specs.Prelude.{All, count_by, length, Result, Ok, Err, OnOk, IfOk, IfErr, false, vec_capacity}
 use Rattle.psa_status.specs.declared.Status.{Status}
 use Rattle.turn_history.specs.History.{entries_of}
 use Rattle.key_slots.specs.Holdings.{Pairs}
 use Rattle.store_model.specs.Store as model
 use Rattle.store_model.specs.Store.{Key}
-use Rattle.store_model.specs.Call.{Call, buffer_after}
+use Rattle.store_model.specs.Call.{Call}
 use Rattle.store_model.specs.Draws.{Random}
 use Rattle.store_model.specs.Faults.{FaultMark}
 use Rattle.store_model.specs.Handles.{Served, Service, next_random, own_of}
@@ -16,11 +16,12 @@ use Rattle.store_model.specs.Step.{step}
 use Rattle.store_model.specs.Outcome.{counted}
 use Rattle.secret_bytes.specs.Buffer.{IsClear}
 use Rattle.service_calls.specs.declared.output.Output.{Output}
-use Rattle.service_calls.specs.Answered.{AnswersReply}
 use Rattle.shared_store.specs.Turning.{DecidesAfter, DecidesBefore, IsAt, IsEntered}
-use Rattle.callers.specs.Called.{IsAnswered, IsCalled, KnowsBefore, Legal}
+use Rattle.random_streams.specs.RandomWords.{RandomStream, drawn_from, words_used}
+use Rattle.keyed_calls.proofs.Draws.{draws_none}
+use Rattle.callers.specs.Called.{IsReplied, IsAnswered, IsCalled, KnowsBefore, Legal, TellsReply}
 use Rattle.callers.specs.Parts.{SameButPass}
-use Rattle.callers.specs.Handles.{AreOperations, leases_of}
+use Rattle.callers.specs.Handles.{AreOperations, ArePairs, leases_of}
 use Rattle.callers.specs.Ready.{IsOwnPart, IsReady}
 use Rattle.callers.specs.Worlds.{World}
 use Rattle.callers.specs.declared.caller.Caller.{Caller}
@@ -35,48 +36,83 @@ use Rattle.callers.proofs.Readying.{known, outcome_is, ready}
 abbrev pub DrawsNone : Call → Type 0
 DrawsNone call = (store : model.Store) (caller : ℕ) (random : Random) → (step store caller random call).drawn ≡ 0
 
-module _ {D A C : Type 0} (w : World D A C) (old new : Caller D A C) (r : IsReady w 4 old) (request : Request) (call : Call) (asks : request ≡ OnStore call) (mark : FaultMark) (rank : ℕ) (own : Pairs) (before : List Entry) (e : Entry)
-    (i : IsEntered old.pass.me.0 new.pass.me.0 request mark rank own before e) where
-  abbrev made : IsCalled old.pass.me.0 new.pass.me.0 1 request mark rank before e
-  made = called old.pass.me.0 new.pass.me.0 request mark rank own before e i
+-- a call on the store that has spent so many turns
+module _ {D A C : Type 0} (w : World D A C) (old new : Caller D A C) (r : IsReady w 4 old) (turns : ℕ) (request : Request) (call : Call) (asks : request ≡ OnStore call) (mark : FaultMark) (rank : ℕ) (before : List Entry) (e : Entry)
+    (c : IsCalled old.pass.me.0 new.pass.me.0 turns request mark rank before e) where
+  abbrev Serves : (Served → Type 0) → Type 0
+  Serves P = KnowsBefore w (λ service. P (serve service old.number (OnStore call) mark)) before e
 
-  pub stored_outcome : (service : Service) → outcome_of service e ≡ serve service old.number (OnStore call) mark
-  stored_outcome service = outcome_is service e old.number (OnStore call) mark (i.by ∙ r.number) (i.call_is ∙ asks) i.mark_is
+  outcome : (service : Service) → outcome_of service e ≡ serve service old.number (OnStore call) mark
+  outcome service = outcome_is service e old.number (OnStore call) mark (c.by ∙ r.number) (c.call_is ∙ asks) c.mark_is
 
-  pub stored_ready : own ≡ old.pass.me.0.holding → SameButPass old new → DrawsNone call → IsAt w.lock w.opened new.pass → Legal w (entries_of new.pass.me.0.seen) → IsReady w 0 new
-  stored_ready held same none at legal =
-      let left = i.on.turns_left in let spent = same.spent in let stream = ap (λ s. s.place) same.stream in ready w 4 old new r 1 request mark rank before e made r.operations 0 at legal (record {
-        number = same.number;
-        stand = subst (λ (cells : _). AreOperations cells r.operations) (sym (ap (λ v. v.cells.items) same.handles)) r.stand;
+  -- what it changes of a caller beside its pass: random words are drawn, and a spare may have been another one's
+  pub record IsKept (drawn : ℕ) : Type 0 where
+    pub number : new.number ≡ old.number
+    pub spent : new.spent ≡ old.spent
+    pub handles : new.handles ≡ old.handles
+    pub stream : new.stream ≡ drawn_from old.stream drawn
+    pub holding : ArePairs new.pass.me.0.holding old.pass.me.0.holding
+    pub clear : All IsClear new.spares.items
+    pub many : length new.spares.items ≡ length old.spares.items
+    pub room : vec_capacity new.spares ≡ vec_capacity old.spares
+
+  pub kept_ready : (drawn : ℕ) → words_used drawn ≤ 256 → turns ≤ 4 → IsKept drawn → IsAt w.lock w.opened new.pass → Legal w (entries_of new.pass.me.0.seen) →
+      Serves (λ s. IsOwnPart r.operations new.stream.place (own_of s.service old.number)) → IsReady w 0 new
+  kept_ready drawn few enough kept at legal own =
+      let left = c.left in let spent = kept.spent in let place = ap (λ (s : RandomStream). s.place) kept.stream in ready w 4 old new r turns request mark rank before e c r.operations 0 at legal (record {
+        number = kept.number;
+        stand = subst (λ h. AreOperations h.cells.items r.operations) (sym kept.handles) r.stand;
         own = λ start is tells.
-            let service = replay start before in
-            let k = known w 4 old new r 1 request mark rank before e made start is tells in
-            subst (λ (s : _). IsOwnPart r.operations new.stream.place (own_of s.service old.number)) (sym (stored_outcome service))
-            (subst (λ place. IsOwnPart r.operations place (own_of (serve service old.number (OnStore call) mark).service old.number)) (sym stream)
-            (undrawn_own service old.number call mark r.operations old.stream.place k.sound r.last k.own (none service.store old.number (next_random service old.number))));
-        leases = λ f. ap (count_by f) (i.holding ∙ held) ∙ (r.leases f ∙ ap (λ v. count_by f (leases_of v.cells.items)) (sym same.handles));
-        clear = subst (λ v. All IsClear v.items) (sym same.spares) r.clear;
-        five = let a = ap (λ v. length (leases_of v.cells.items)) same.handles in let b = ap (λ v. length v.items) same.spares in let f = r.five in omega arith;
-        room = let a = ap vec_capacity same.spares in let f = r.room in omega arith;
-        seed = ap (λ s. s.seed) same.stream;
-        stream_of = ap (λ s. s.caller) same.stream;
+            subst (λ (s : Served). IsOwnPart r.operations new.stream.place (own_of s.service old.number)) (sym (outcome (replay start before))) (own start is tells);
+        leases = λ f. kept.holding f ∙ (r.leases f ∙ ap (λ h. count_by f (leases_of h.cells.items)) (sym kept.handles));
+        clear = kept.clear;
+        five = let a = ap (λ h. length (leases_of h.cells.items)) kept.handles in let b = kept.many in let f = r.five in omega arith;
+        room = let a = kept.room in let f = r.room in omega arith;
+        seed = ap (λ (s : RandomStream). s.seed) kept.stream;
+        stream_of = ap (λ (s : RandomStream). s.caller) kept.stream;
         turns_are = let t = r.turns in omega arith;
         words = let t = r.words in omega arith;
         spent = let t = r.spent in omega arith;
       })
 
-  pub stored_answered : (result : Result Output Status) (shown given : List ℕ) →
-      KnowsBefore w (λ service. AnswersReply result (serve service old.number (OnStore call) mark).reply × (given ≡ buffer_after shown (serve service old.number (OnStore call) mark).reply)) before e →
-      IsAnswered w old.pass.me.0 new.pass.me.0 request rank result shown given
-  stored_answered result shown given replied = record {
-    turns = 1;
+  pub kept_answered : (result : Result Output Status) (shown given : List ℕ) →
+      KnowsBefore w (λ service. TellsReply w service old.number (OnStore call) → IsReplied result shown given (serve service old.number (OnStore call) mark).reply) before e → IsAnswered w old.pass.me.0 new.pass.me.0 request rank result shown given
+  kept_answered result shown given replied = record {
+    turns = turns;
     mark = mark;
     before = before;
     entry = e;
-    called = made;
-    replied = λ start is tells.
-        subst (λ (s : Served). AnswersReply result s.reply × (given ≡ buffer_after shown s.reply)) (sym (stored_outcome (replay start before))) (replied start is tells);
+    called = c;
+    replied = λ start is tells told.
+        subst (λ (s : Served). IsReplied result shown given s.reply) (sym (outcome (replay start before)))
+        (replied start is tells (subst (λ n. TellsReply w (replay start before) n (OnStore call)) r.number (subst (TellsReply w (replay start before) old.pass.me.0.number) asks told)));
   }
+
+-- one turn, which draws nothing
+module _ {D A C : Type 0} (w : World D A C) (old new : Caller D A C) (r : IsReady w 4 old) (request : Request) (call : Call) (asks : request ≡ OnStore call) (mark : FaultMark) (rank : ℕ) (own : Pairs) (before : List Entry) (e : Entry)
+    (i : IsEntered old.pass.me.0 new.pass.me.0 request mark rank own before e) where
+  abbrev made : IsCalled old.pass.me.0 new.pass.me.0 1 request mark rank before e
+  made = called old.pass.me.0 new.pass.me.0 request mark rank own before e i
+
+  pub stored_ready : own ≡ old.pass.me.0.holding → SameButPass old new → DrawsNone call → IsAt w.lock w.opened new.pass → Legal w (entries_of new.pass.me.0.seen) → IsReady w 0 new
+  stored_ready held same none at legal = kept_ready w old new r 1 request call asks mark rank before e made 0 (omega arith) (omega arith) (record {
+    number = same.number;
+    spent = same.spent;
+    handles = same.handles;
+    stream = same.stream ∙ draws_none old.stream;
+    holding = λ f. ap (count_by f) (i.holding ∙ held);
+    clear = subst (λ v. All IsClear v.items) (sym same.spares) r.clear;
+    many = ap (λ v. length v.items) same.spares;
+    room = ap vec_capacity same.spares;
+  }) at legal (λ start is tells.
+      let service = replay start before in
+      let k = known w 4 old new r 1 request mark rank before e made start is tells in
+      subst (λ n. IsOwnPart r.operations n (own_of (serve service old.number (OnStore call) mark).service old.number)) (sym (ap (λ (s : RandomStream). s.place) same.stream))
+      (undrawn_own service old.number call mark r.operations old.stream.place k.sound r.last k.own (none service.store old.number (next_random service old.number))))
+
+  pub stored_answered : (result : Result Output Status) (shown given : List ℕ) → KnowsBefore w (λ service. IsReplied result shown given (serve service old.number (OnStore call) mark).reply) before e →
+      IsAnswered w old.pass.me.0 new.pass.me.0 request rank result shown given
+  stored_answered result shown given replied = kept_answered w old new r 1 request call asks mark rank before e made result shown given (λ start is tells told. replied start is tells)
 
 -- what was decided of the store before the entry is known of the service's
 pub decided_known : {D A C : Type 0} (w : World D A C) (P : model.Store → Type 0) (before : List Entry) (e : Entry) → DecidesBefore w.told w.moment w.faults w.hard w.locations w.labels w.opened P before e → KnowsBefore w (λ service. P service.store) before e
@@ -98,3 +134,11 @@ if_ok P answer e p = subst (λ x. IfOk x P) e p
 
 pub if_err : {A E : Type 0} (P : E → Type 0) (answer : Result A E) {y : E} → answer ≡ Err y → IfErr answer P → P y
 if_err P answer e p = subst (λ x. IfErr x P) e p
+
+pub if_ok_as : {A E : Type 0} (P Q : A → Type 0) (answer : Result A E) → IfOk answer P → ((x : A) → P x → Q x) → IfOk answer Q
+if_ok_as P Q (Ok x) p f = f x p
+if_ok_as P Q (Err y) p f = tt
+
+pub if_err_as : {A E : Type 0} (P Q : E → Type 0) (answer : Result A E) → IfErr answer P → ((y : E) → P y → Q y) → IfErr answer Q
+if_err_as P Q (Ok x) p f = tt
+if_err_as P Q (Err y) p f = f y p

@@ -1,13 +1,14 @@
 -- What a caller's call adds to what the caller has seen, and what it answers.
-use Rattle.std.specs.Prelude.{◌≡◌, ℕ, ◌+◌, List, [], ◌∷◌, ◌++◌, length, Result}
+use Rattle.std.specs.Prelude.{◌≡◌, ◌⊎◌, ℕ, ◌+◌, true, false, List, [], ◌∷◌, ◌++◌, length, is_some, Result}
 use Rattle.psa_status.specs.declared.Status.{Status}
 use Rattle.turn_history.specs.declared.pass.View.{View}
 use Rattle.turn_history.specs.History.{entries_of, StartsWith}
 use Rattle.service_calls.specs.declared.output.Output.{Output}
 use Rattle.service_calls.specs.Answered.{AnswersReply}
-use Rattle.store_model.specs.Call.{buffer_after}
+use Rattle.store_model.specs.Call.{Reply, buffer_after}
 use Rattle.store_model.specs.Faults.{FaultMark}
 use Rattle.store_model.specs.Handles.{Service}
+use Rattle.store_model.specs.Marks.{asks_device}
 use Rattle.store_model.specs.Requests.{Request}
 use Rattle.store_model.specs.Replay.{Entry, outcome_of, replay}
 use Rattle.store_core.specs.declared.store.Opened.{Opened}
@@ -28,6 +29,10 @@ pub record IsCalled {B : Type 0} (v w : View Entry B) (turns : ℕ) (call : Requ
   pub mark_is : e.mark ≡ mark
   pub calls : w.calls ≡ v.calls ++ e ∷ []
 
+-- result and output buffer are those of a reply
+abbrev pub IsReplied : Result Output Status → (old new : List ℕ) → Reply → Type 0
+IsReplied result old new reply = AnswersReply result reply × (new ≡ buffer_after old reply)
+
 module _ {D A C : Type 0} (w : World D A C) where
   -- a start that the opening permits, and a history from it that is told
   abbrev pub Starts : Service → Type 0
@@ -43,12 +48,16 @@ module _ {D A C : Type 0} (w : World D A C) where
   abbrev pub KnowsBefore : (Service → Type 0) → List Entry → Entry → Type 0
   KnowsBefore P before e = (start : Service) → Starts start → IsToldTo start (before ++ e ∷ []) → P (replay start before)
 
+  -- what the reply is made of is told: the devices tell their keys, or the secure element isn't asked
+  abbrev pub TellsReply : Service → (caller : ℕ) → Request → Type 0
+  TellsReply service caller call = (is_some (w.keys w.opened.devices.value) ≡ true) ⊎ (asks_device service caller call ≡ false)
+
   -- The call has its entry at the place r of what the caller has then seen. Result and output buffer are those that the one-thread
-  -- service gives there, as far as the history is told.
+  -- service gives there, as far as the history and what the secure element computes are told.
   pub record IsAnswered (v u : View Entry (Opened D A C)) (call : Request) (r : ℕ) (result : Result Output Status) (old new : List ℕ) : Type 0 where
     pub turns : ℕ
     pub mark : FaultMark
     pub before : List Entry
     pub entry : Entry
     pub called : IsCalled v u turns call mark r before entry
-    pub replied : KnowsBefore (λ service. AnswersReply result (outcome_of service entry).reply × (new ≡ buffer_after old (outcome_of service entry).reply)) before entry
+    pub replied : KnowsBefore (λ service. TellsReply service v.number call → IsReplied result old new (outcome_of service entry).reply) before entry

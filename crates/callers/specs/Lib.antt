@@ -3,3 +3,4 @@ pub mod Called
 pub mod Handles
 pub mod Ready
 pub mod Parts
+pub mod Budget

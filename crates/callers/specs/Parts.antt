@@ -1,9 +1,22 @@
 -- What parts of a call leave of a caller.
-use Rattle.std.specs.Prelude.{◌≡◌, [], ◌∷◌, ◌++◌, Option, Some, None, vec_capacity}
+use Rattle.std.specs.Prelude.{◌≡◌, ◌&&◌, ℕ, Bool, List, [], ◌∷◌, ◌++◌, Option, Some, None, if◌then◌else◌, vec_capacity}
 use Rattle.secret_bytes.specs.Buffer.{Buffer, IsClear}
 use Rattle.slot_table.specs.Lent.{Reading}
+use Rattle.service_calls.specs.declared.store_calls.StoreCall.{StoreCall}
+use Rattle.keyed_calls.specs.Elements.{takes_vector}
 use Rattle.shared_store.specs.Turning.{IsLater, lease_pair, without_pair}
+use Rattle.store_model.specs.Faults.{FaultMark}
+use Rattle.store_model.specs.Replay.{Entry}
+use Rattle.store_model.specs.Requests.{Request}
+use Rattle.store_core.specs.declared.store.Opened.{Opened}
+use Rattle.turn_history.specs.declared.pass.View.{View}
+use Rattle.callers.specs.Called.{IsCalled}
+use Rattle.callers.specs.Handles.{ArePairs}
 use Rattle.callers.specs.declared.caller.Caller.{Caller}
+
+-- the random bytes that a call has drawn which the secure element computed, or failed to
+abbrev pub drawn_by : StoreCall → (computed : Bool) → ℕ
+drawn_by asked computed = if computed && takes_vector asked then 16 else 0
 
 module _ {D A C : Type 0} where
   -- all but the pass
@@ -29,3 +42,11 @@ module _ {D A C : Type 0} where
   abbrev pub IsBack : Option Reading → (old new : Caller D A C) → Type 0
   IsBack None old new = new ≡ old
   IsBack (Some lease) old new = IsGivenBack lease old new
+
+  -- A slot was reserved in a turn without rank, and in a ranked one after that a key was made in it, or the slot was given up.
+  pub record IsCreated (v u : View Entry (Opened D A C)) (call : Request) (mark : FaultMark) (rank : ℕ) (Decided : List Entry → Entry → Type 0) : Type 0 where
+    pub before : List Entry
+    pub entry : Entry
+    pub called : IsCalled v u 2 call mark rank before entry
+    pub holding : ArePairs u.holding v.holding
+    pub decided : Decided before entry

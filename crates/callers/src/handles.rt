@@ -33,7 +33,7 @@ pub struct Handles {
 
 impl Handles {
     // Where a handle has its cell.
-    fn place(op: Op) -> usize
+    pub(crate) fn place(op: Op) -> usize
         ensures place { result ≡ op - 1 }
         ensures first { 1 ≤ op }
         ensures last { op ≤ 4 }

@@ -1,10 +1,18 @@
 //! The callers of a store that is shared, and the shapes of their calls.
 #![tactic(auto)]
 
+mod answering;
 mod caller;
+mod creations;
+mod derived;
+mod generation;
 mod handles;
 mod hashes;
+mod inputs;
+mod keyed;
 mod keys;
+mod outputs;
+mod secrets;
 mod setups;
 mod steps;
 mod turns;

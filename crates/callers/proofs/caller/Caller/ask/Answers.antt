@@ -17,7 +17,7 @@ step-rank-requires-clause-out g c κs within =
 
 pub returns-in-Some-clause-ranked : goal.returns-in-Some-clause-ranked
 returns-in-Some-clause-ranked g c =
-    let w = world g.D.Disk.contents g.D.Disk.moment g.D.Disk.faults g.A.Devices.faults g.A.Devices.locations g.C.Admission.labels c.args.shared.now.lock.table.shared.table_id c.args.shared.now.lock.table.shared.key.value.value.store.opened in
+    let w = world g.D.Disk.contents g.D.Disk.moment g.D.Disk.faults g.A.Devices.keys g.A.Devices.faults g.A.Devices.locations g.C.Admission.labels c.args.shared.now.lock.table.shared.table_id c.args.shared.now.lock.table.shared.key.value.value.store.opened in
     let ready = c.requires.ready in
     let inside : c.args.op - 1 < length c.args.self.now.handles.cells.items = let z = ready.stand.cells_are in let y = c.lease.ensures.last in omega arith in
     let cell = cell_at c.args.self.now.handles.cells.items (c.args.op - 1) inside in
@@ -27,7 +27,7 @@ returns-in-Some-clause-ranked g c =
 
 pub returns-in-None-clause-ranked : goal.returns-in-None-clause-ranked
 returns-in-None-clause-ranked g c =
-    let w = world g.D.Disk.contents g.D.Disk.moment g.D.Disk.faults g.A.Devices.faults g.A.Devices.locations g.C.Admission.labels c.args.shared.now.lock.table.shared.table_id c.args.shared.now.lock.table.shared.key.value.value.store.opened in
+    let w = world g.D.Disk.contents g.D.Disk.moment g.D.Disk.faults g.A.Devices.keys g.A.Devices.faults g.A.Devices.locations g.C.Admission.labels c.args.shared.now.lock.table.shared.table_id c.args.shared.now.lock.table.shared.key.value.value.store.opened in
     let ready = c.requires.ready in
     let inside : c.args.op - 1 < length c.args.self.now.handles.cells.items = let z = ready.stand.cells_are in let y = c.lease.ensures.last in omega arith in
     let cell = cell_at c.args.self.now.handles.cells.items (c.args.op - 1) inside in

@@ -15,7 +15,7 @@ use Rattle.callers.proofs.caller.Caller.attributes.Goals as goal
 
 pub returns-in-Ok-clause-ready : goal.returns-in-Ok-clause-ready
 returns-in-Ok-clause-ready g c =
-    let w = world g.D.Disk.contents g.D.Disk.moment g.D.Disk.faults g.A.Devices.faults g.A.Devices.locations g.C.Admission.labels c.args.shared.now.lock.table.shared.table_id c.args.shared.now.lock.table.shared.key.value.value.store.opened in
+    let w = world g.D.Disk.contents g.D.Disk.moment g.D.Disk.faults g.A.Devices.keys g.A.Devices.faults g.A.Devices.locations g.C.Admission.labels c.args.shared.now.lock.table.shared.table_id c.args.shared.now.lock.table.shared.key.value.value.store.opened in
     let old = c.args.self.now in let new = record old { pass = c.attributes-rank.new.pass } in let r = c.requires.ready in let request = model_request c.args.call.now c.args.room in
     let call = GetAttributes c.args.key.0 in let asks = ap (λ x. model_request x c.args.room) c.requires.call in let ranked = if_ok (λ attributes. IsRanked old.pass.me.0 new.pass.me.0 request Plain c.attributes-rank.result.0 old.pass.me.0.holding (DecidesAfter w.told w.moment w.faults w.hard w.locations w.labels w.opened (HasAttributes c.args.key.0 attributes))) c.attributes-rank.result.1 c.in-Ok.is c.attributes-rank.ensures.known in
     let before = ranked.before in let e = ranked.after.entry in let i = ranked.after.entered in let quiet = ap may_change_keys (i.call_is ∙ asks) in
@@ -23,7 +23,7 @@ returns-in-Ok-clause-ready g c =
 
 pub returns-in-Ok-clause-answered : goal.returns-in-Ok-clause-answered
 returns-in-Ok-clause-answered g c = λ buffer.
-    let w = world g.D.Disk.contents g.D.Disk.moment g.D.Disk.faults g.A.Devices.faults g.A.Devices.locations g.C.Admission.labels c.args.shared.now.lock.table.shared.table_id c.args.shared.now.lock.table.shared.key.value.value.store.opened in
+    let w = world g.D.Disk.contents g.D.Disk.moment g.D.Disk.faults g.A.Devices.keys g.A.Devices.faults g.A.Devices.locations g.C.Admission.labels c.args.shared.now.lock.table.shared.table_id c.args.shared.now.lock.table.shared.key.value.value.store.opened in
     let old = c.args.self.now in let new = record old { pass = c.attributes-rank.new.pass } in let r = c.requires.ready in let request = model_request c.args.call.now c.args.room in
     let call = GetAttributes c.args.key.0 in let asks = ap (λ x. model_request x c.args.room) c.requires.call in let ranked = if_ok (λ attributes. IsRanked old.pass.me.0 new.pass.me.0 request Plain c.attributes-rank.result.0 old.pass.me.0.holding (DecidesAfter w.told w.moment w.faults w.hard w.locations w.labels w.opened (HasAttributes c.args.key.0 attributes))) c.attributes-rank.result.1 c.in-Ok.is c.attributes-rank.ensures.known in
     let before = ranked.before in let e = ranked.after.entry in let i = ranked.after.entered in let quiet = ap may_change_keys (i.call_is ∙ asks) in
@@ -32,7 +32,7 @@ returns-in-Ok-clause-answered g c = λ buffer.
 
 pub returns-in-Err-clause-ready : goal.returns-in-Err-clause-ready
 returns-in-Err-clause-ready g c =
-    let w = world g.D.Disk.contents g.D.Disk.moment g.D.Disk.faults g.A.Devices.faults g.A.Devices.locations g.C.Admission.labels c.args.shared.now.lock.table.shared.table_id c.args.shared.now.lock.table.shared.key.value.value.store.opened in
+    let w = world g.D.Disk.contents g.D.Disk.moment g.D.Disk.faults g.A.Devices.keys g.A.Devices.faults g.A.Devices.locations g.C.Admission.labels c.args.shared.now.lock.table.shared.table_id c.args.shared.now.lock.table.shared.key.value.value.store.opened in
     let old = c.args.self.now in let new = record old { pass = c.attributes-rank.new.pass } in let r = c.requires.ready in let request = model_request c.args.call.now c.args.room in
     let call = GetAttributes c.args.key.0 in let asks = ap (λ x. model_request x c.args.room) c.requires.call in let ranked = if_err (λ status. IsRanked old.pass.me.0 new.pass.me.0 request (mark_of status) c.attributes-rank.result.0 old.pass.me.0.holding (DecidesAfter w.told w.moment w.faults w.hard w.locations w.labels w.opened (IsRefused there_rows c.args.key.0 status))) c.attributes-rank.result.1 c.in-Err.is c.attributes-rank.ensures.refused in
     let before = ranked.before in let e = ranked.after.entry in let i = ranked.after.entered in let quiet = ap may_change_keys (i.call_is ∙ asks) in
@@ -40,7 +40,7 @@ returns-in-Err-clause-ready g c =
 
 pub returns-in-Err-clause-answered : goal.returns-in-Err-clause-answered
 returns-in-Err-clause-answered g c = λ buffer.
-    let w = world g.D.Disk.contents g.D.Disk.moment g.D.Disk.faults g.A.Devices.faults g.A.Devices.locations g.C.Admission.labels c.args.shared.now.lock.table.shared.table_id c.args.shared.now.lock.table.shared.key.value.value.store.opened in
+    let w = world g.D.Disk.contents g.D.Disk.moment g.D.Disk.faults g.A.Devices.keys g.A.Devices.faults g.A.Devices.locations g.C.Admission.labels c.args.shared.now.lock.table.shared.table_id c.args.shared.now.lock.table.shared.key.value.value.store.opened in
     let old = c.args.self.now in let new = record old { pass = c.attributes-rank.new.pass } in let r = c.requires.ready in let request = model_request c.args.call.now c.args.room in
     let call = GetAttributes c.args.key.0 in let asks = ap (λ x. model_request x c.args.room) c.requires.call in let ranked = if_err (λ status. IsRanked old.pass.me.0 new.pass.me.0 request (mark_of status) c.attributes-rank.result.0 old.pass.me.0.holding (DecidesAfter w.told w.moment w.faults w.hard w.locations w.labels w.opened (IsRefused there_rows c.args.key.0 status))) c.attributes-rank.result.1 c.in-Err.is c.attributes-rank.ensures.refused in
     let before = ranked.before in let e = ranked.after.entry in let i = ranked.after.entered in let quiet = ap may_change_keys (i.call_is ∙ asks) in

@@ -13,7 +13,7 @@ use Rattle.callers.proofs.caller.Caller.hash.Goals as goal
 
 pub returns-clause-ready : goal.returns-clause-ready
 returns-clause-ready g c =
-    let w = world g.D.Disk.contents g.D.Disk.moment g.D.Disk.faults g.A.Devices.faults g.A.Devices.locations g.C.Admission.labels c.args.shared.now.lock.table.shared.table_id c.args.shared.now.lock.table.shared.key.value.value.store.opened in
+    let w = world g.D.Disk.contents g.D.Disk.moment g.D.Disk.faults g.A.Devices.keys g.A.Devices.faults g.A.Devices.locations g.C.Admission.labels c.args.shared.now.lock.table.shared.table_id c.args.shared.now.lock.table.shared.key.value.value.store.opened in
     let old = c.args.self.now in let new = record old { pass = c.count-rank.new.pass } in let r = c.requires.ready in let request = model_request c.args.call.now (length c.args.out.now) in
     let call = model_store_call c.args.asked.now (length c.args.out.now) in let asks = ap (λ x. model_request x (length c.args.out.now)) c.requires.call in let ranked = c.count-rank.ensures.counted in
     let before = ranked.before in let e = ranked.after.entry in let i = ranked.after.entered in
@@ -22,7 +22,7 @@ returns-clause-ready g c =
 
 pub returns-clause-answered : goal.returns-clause-answered
 returns-clause-answered g c =
-    let w = world g.D.Disk.contents g.D.Disk.moment g.D.Disk.faults g.A.Devices.faults g.A.Devices.locations g.C.Admission.labels c.args.shared.now.lock.table.shared.table_id c.args.shared.now.lock.table.shared.key.value.value.store.opened in
+    let w = world g.D.Disk.contents g.D.Disk.moment g.D.Disk.faults g.A.Devices.keys g.A.Devices.faults g.A.Devices.locations g.C.Admission.labels c.args.shared.now.lock.table.shared.table_id c.args.shared.now.lock.table.shared.key.value.value.store.opened in
     let old = c.args.self.now in let new = record old { pass = c.count-rank.new.pass } in let r = c.requires.ready in let request = model_request c.args.call.now (length c.args.out.now) in
     let call = model_store_call c.args.asked.now (length c.args.out.now) in let asks = ap (λ x. model_request x (length c.args.out.now)) c.requires.call in let ranked = c.count-rank.ensures.counted in
     let before = ranked.before in let e = ranked.after.entry in let i = ranked.after.entered in

@@ -1,0 +1,182 @@
+-- A caller after a call in one part with a key.
+use Rattle.std.proofs.Common.{◌≡◌, ◌≤◌, ◌<◌, ◌+◌, ℕ, List, ◌∷◌, [], length, sym, ap, ◌∙◌, subst, arith, length-append, Some}
+use Rattle.std.specs.Prelude.{◌&&◌, All, Bool, Result, Err, count_by, true, false, if◌then◌else◌, vec_capacity}
+use Rattle.std.specs.FinMap as map
+use Rattle.std.specs.Result.{is_ok}
+use Rattle.std.proofs.lemmas.Bool.Decides.{nat_tests}
+use Rattle.std.proofs.lemmas.List.Elements.{All-push}
+use Rattle.psa_status.specs.declared.Status.{Status}
+use Rattle.random_streams.specs.RandomWords.{RandomStream, drawn_from, next_bytes, words_used}
+use Rattle.secret_bytes.specs.Buffer.{IsClear, bytes_of}
+use Rattle.slot_table.specs.Lent.{Reading}
+use Rattle.turn_history.specs.History.{entries_of}
+use Rattle.key_slots.specs.Holdings.{Pairs, names, same}
+use Rattle.key_uses.specs.declared.key_use.KeyUse.{KeyUse}
+use Rattle.key_uses.specs.Uses.{use_refusal}
+use Rattle.service_calls.specs.Answered.{AnswersReply}
+use Rattle.service_calls.specs.declared.output.Output.{Output}
+use Rattle.service_calls.specs.declared.store_calls.StoreCall.{StoreCall}
+use Rattle.service_calls.specs.Meanings.{model_store_call}
+use Rattle.store_model.specs.Call.{Reply}
+use Rattle.store_model.specs.Faults.{Plain}
+use Rattle.store_model.specs.Store.{is_opaque_key}
+use Rattle.store_model.specs.Handles.{next_random, own_of}
+use Rattle.store_model.specs.Laws.{may_change_keys}
+use Rattle.store_model.specs.Outcome.{Computed, Outcome, counted, with_computed}
+use Rattle.store_model.specs.Requests.{Request, OnStore}
+use Rattle.store_model.specs.Replay.{Entry, replay}
+use Rattle.store_model.specs.Step.{step}
+use Rattle.element_calls.specs.Answers.{AnswersCall, mark_computed}
+use Rattle.element_calls.specs.Calls.{model_call}
+use Rattle.element_calls.specs.Replies.{HasDrawn}
+use Rattle.element_calls.specs.declared.calls.ElementCall.{ElementCall}
+use Rattle.element_calls.specs.declared.calls.NotComputed.{NotComputed}
+use Rattle.store_core.specs.Opaque.{IsAnswered as IsOfElement}
+use Rattle.store_core.specs.Uses.{IsLent, IsRefused, mark_of}
+use Rattle.shared_store.specs.Turning.{DecidesAfter, DecidesBefore, IsAt, IsEntered, lease_pair, without_pair}
+use Rattle.keyed_calls.specs.Elements.{has_vector, takes_vector}
+use Rattle.keyed_calls.specs.Keyed.{computed_by, wanted_by}
+use Rattle.keyed_calls.proofs.Draws.{draws_none, few}
+use Rattle.callers.specs.Called.{IsReplied, IsAnswered, IsCalled, KnowsBefore, Legal}
+use Rattle.callers.specs.Parts.{IsGivenBack, drawn_by}
+use Rattle.callers.specs.Ready.{IsOwnPart, IsReady}
+use Rattle.callers.specs.Worlds.{World}
+use Rattle.callers.specs.declared.caller.Caller.{Caller}
+use Rattle.callers.proofs.ByElement.{element_fits, element_own}
+use Rattle.callers.proofs.CellLists.{tally-cons, without}
+use Rattle.callers.proofs.Journeys.{called, called_then}
+use Rattle.callers.proofs.Owned.{stored_own}
+use Rattle.callers.proofs.Readying.{known}
+use Rattle.callers.proofs.Storing.{decided_after, decided_known, kept_answered, kept_ready}
+use Rattle.callers.proofs.WithKeys.{IsLocal, IsRefusal, lent_step, refusal_of}
+
+few_drawn : (b : Bool) → words_used (if b then 16 else 0) ≤ 256
+few_drawn true = omega arith
+few_drawn false = omega arith
+
+-- a pair is the first of those that begin with it
+pub first_named : (p : ℕ × ℕ) (own : Pairs) → 0 < names p.0 p.1 (p ∷ own)
+first_named p own = let one : same p.0 p.1 p ≡ 1 = here p.0 p.1 in omega arith
+  where
+    here : (i k : ℕ) → same i k (i, k) ≡ 1
+    here i k = grind (arith, nat_tests)
+
+module _ {D A C : Type 0} (w : World D A C) (old : Caller D A C) (r : IsReady w 4 old) (asked : StoreCall) (room id : ℕ) (wanted : KeyUse) (uses : wanted_by asked ≡ Some (id, wanted)) (request : Request)
+    (asks : request ≡ OnStore (model_store_call asked room)) (rank : ℕ) (before : List Entry) (e : Entry) (quiet : may_change_keys e.call ≡ false) (local : KnowsBefore w (λ service. IsLocal asked id service.store) before e) where
+  -- THE KEY IS LENT: it is computed with, and the lease goes back
+  module _ (looked settled new : Caller D A C) (lease : Reading) (i : IsEntered old.pass.me.0 looked.pass.me.0 request Plain rank (lease_pair lease ∷ old.pass.me.0.holding) before e)
+      (decided : DecidesAfter w.told w.moment w.faults w.hard w.locations w.labels w.opened (IsLent (use_refusal wanted) id lease) before e)
+      (passed : settled.pass ≡ looked.pass) (back : IsGivenBack lease settled new) where
+    made : IsCalled old.pass.me.0 new.pass.me.0 2 request Plain rank before e
+    made = called_then old.pass.me.0 settled.pass.me.0 new.pass.me.0 1 request Plain rank (without_pair (lease_pair lease) settled.pass.me.0.holding) before e
+        (subst (λ p. IsCalled old.pass.me.0 p.me.0 1 request Plain rank before e) (sym passed) (called old.pass.me.0 looked.pass.me.0 request Plain rank (lease_pair lease ∷ old.pass.me.0.holding) before e i)) back.later
+
+    steps : KnowsBefore w (λ service. step service.store old.number (next_random service old.number) (model_store_call asked room)
+        ≡ with_computed service.store (computed_by asked (bytes_of lease.buffer) (next_bytes old.stream) room)) before e
+    steps start is tells =
+        let service = replay start before in
+        let k = known w 4 old new r 2 request Plain rank before e made start is tells in
+        lent_step asked room id wanted uses service.store old.number (next_random service old.number) lease (local start is tells)
+        (decided_after w (IsLent (use_refusal wanted) id lease) before e quiet decided start is tells)
+        ∙ (λ j. with_computed service.store (computed_by asked (bytes_of lease.buffer) (λ n. k.random n j) room))
+
+    abbrev lent : Computed
+    lent = computed_by asked (bytes_of lease.buffer) (next_bytes old.stream) room
+
+    is_out : 0 < names lease.slot (lease.creation + 1) settled.pass.me.0.holding
+    is_out = subst (λ own. 0 < names lease.slot (lease.creation + 1) own) (sym (ap (λ p. p.me.0.holding) passed ∙ i.holding)) (first_named (lease_pair lease) old.pass.me.0.holding)
+
+    pub lent_ready : settled.number ≡ old.number → settled.spent ≡ old.spent → settled.handles ≡ old.handles → settled.stream ≡ drawn_from old.stream lent.drawn →
+        All IsClear settled.spares.items → length settled.spares.items + 1 ≡ length old.spares.items → vec_capacity settled.spares ≡ vec_capacity old.spares →
+        IsAt w.lock w.opened new.pass → Legal w (entries_of new.pass.me.0.seen) → IsReady w 0 new
+    lent_ready number spent handles stream clear many capacity at legal =
+        kept_ready w old new r 2 request (model_store_call asked room) asks Plain rank before e made lent.drawn (let f = few asked (bytes_of lease.buffer) (next_bytes old.stream) room in omega arith) (omega arith) (record {
+          number = back.number ∙ number;
+          spent = back.spent ∙ spent;
+          handles = back.handles ∙ handles;
+          stream = back.stream ∙ stream;
+          holding = λ f.
+              let a = ap (count_by f) back.later.holding in let b = without f (lease_pair lease) settled.pass.me.0.holding is_out in
+              let c = ap (λ p. count_by f p.me.0.holding) passed in let d = ap (count_by f) i.holding in let m = tally-cons f (lease_pair lease) old.pass.me.0.holding in omega arith;
+          clear = subst (All IsClear) (sym back.spares) (All-push IsClear settled.spares.items back.spare clear back.clear);
+          many = let a = ap length back.spares in let b = length-append settled.spares.items (back.spare ∷ []) in omega arith;
+          room = back.room ∙ capacity;
+        }) at legal (λ start is tells.
+        let service = replay start before in
+        let k = known w 4 old new r 2 request Plain rank before e made start is tells in
+        stored_own service old.number (step service.store old.number (next_random service old.number) (model_store_call asked room)) r.operations old.stream.place new.stream.place k.sound r.last k.own
+        (let a = ap (λ (s : RandomStream). s.place) (back.stream ∙ stream) in let b = ap (λ (o : Outcome). words_used o.drawn) (steps start is tells) in omega arith))
+
+    pub lent_answered : (result : Result Output Status) (shown given : List ℕ) → IsReplied result shown given lent.reply → IsAnswered w old.pass.me.0 new.pass.me.0 request rank result shown given
+    lent_answered result shown given fits =
+        kept_answered w old new r 2 request (model_store_call asked room) asks Plain rank before e made result shown given
+        (λ start is tells told. subst (IsReplied result shown given) (sym (ap (λ (o : Outcome). o.reply) (steps start is tells))) fits)
+
+  -- NO KEY IS LENT
+  module _ (new : Caller D A C) (why : Status) (i : IsEntered old.pass.me.0 new.pass.me.0 request (mark_of why) rank old.pass.me.0.holding before e)
+      (decided : DecidesAfter w.told w.moment w.faults w.hard w.locations w.labels w.opened (IsRefused (use_refusal wanted) id why) before e) where
+    abbrev turned : IsCalled old.pass.me.0 new.pass.me.0 1 request (mark_of why) rank before e
+    turned = called old.pass.me.0 new.pass.me.0 request (mark_of why) rank old.pass.me.0.holding before e i
+
+    refuses : KnowsBefore w (λ service. IsRefusal service old.number (model_store_call asked room) (mark_of why) why) before e
+    refuses start is tells =
+        refusal_of asked room id wanted uses (replay start before) old.number why (local start is tells) (decided_after w (IsRefused (use_refusal wanted) id why) before e quiet decided start is tells)
+
+    pub refused_ready : new.number ≡ old.number → new.spent ≡ old.spent → new.handles ≡ old.handles → new.stream ≡ old.stream → All IsClear new.spares.items → length new.spares.items ≡ length old.spares.items →
+        vec_capacity new.spares ≡ vec_capacity old.spares → IsAt w.lock w.opened new.pass → Legal w (entries_of new.pass.me.0.seen) → IsReady w 0 new
+    refused_ready number spent handles stream clear many capacity at legal =
+        kept_ready w old new r 1 request (model_store_call asked room) asks (mark_of why) rank before e turned 0 (omega arith) (omega arith) (record {
+          number = number;
+          spent = spent;
+          handles = handles;
+          stream = stream ∙ draws_none old.stream;
+          holding = λ f. ap (count_by f) i.holding;
+          clear = clear;
+          many = many;
+          room = capacity;
+        }) at legal (λ start is tells.
+        let service = replay start before in
+        let k = known w 4 old new r 1 request (mark_of why) rank before e turned start is tells in
+        (refuses start is tells).own r.operations new.stream.place k.sound r.last (subst (λ s. IsOwnPart r.operations s.place (own_of service old.number)) (sym stream) k.own))
+
+    pub refused_answered : (shown given : List ℕ) → given ≡ shown → IsAnswered w old.pass.me.0 new.pass.me.0 request rank (Err why) shown given
+    refused_answered shown given left =
+        kept_answered w old new r 1 request (model_store_call asked room) asks (mark_of why) rank before e turned (Err why) shown given
+        (λ start is tells told. let gives = (refuses start is tells).gives in (gives.answers, left ∙ gives.unwritten shown))
+
+-- THE SECURE ELEMENT HAS THE KEY, and has computed, or refused or failed to
+module _ {D A C : Type 0} (w : World D A C) (old new : Caller D A C) (r : IsReady w 4 old) (asked : StoreCall) (element : ElementCall) (id : ℕ) (shown given : List ℕ) (result : Result ℕ NotComputed) (request : Request)
+    (asks : request ≡ OnStore (model_store_call asked (length shown))) (model : model_store_call asked (length shown) ≡ model_call element id (length shown)) (rank : ℕ) (before : List Entry) (e : Entry)
+    (quiet : may_change_keys e.call ≡ false) (i : IsEntered old.pass.me.0 new.pass.me.0 request (mark_computed result) rank old.pass.me.0.holding before e)
+    (decided : DecidesAfter w.told w.moment w.faults w.hard w.locations w.labels w.opened (IsOfElement (w.keys w.opened.devices.value) id element shown given result) before e) where
+  abbrev asked_of : IsCalled old.pass.me.0 new.pass.me.0 1 request (mark_computed result) rank before e
+  asked_of = called old.pass.me.0 new.pass.me.0 request (mark_computed result) rank old.pass.me.0.holding before e i
+
+  after : KnowsBefore w (λ service. IsOfElement (w.keys w.opened.devices.value) id element shown given result (counted service.store)) before e
+  after = decided_after w (IsOfElement (w.keys w.opened.devices.value) id element shown given result) before e quiet decided
+
+  pub computed_ready : has_vector element ≡ takes_vector asked → new.number ≡ old.number → new.spent ≡ old.spent → new.handles ≡ old.handles → new.stream ≡ drawn_from old.stream (drawn_by asked (is_ok result)) →
+      All IsClear new.spares.items → length new.spares.items ≡ length old.spares.items → vec_capacity new.spares ≡ vec_capacity old.spares → IsAt w.lock w.opened new.pass → Legal w (entries_of new.pass.me.0.seen) → IsReady w 0 new
+  computed_ready draws number spent handles stream clear many capacity at legal =
+      kept_ready w old new r 1 request (model_store_call asked (length shown)) asks (mark_computed result) rank before e asked_of (drawn_by asked (is_ok result)) (few_drawn (is_ok result && takes_vector asked)) (omega arith) (record {
+        number = number;
+        spent = spent;
+        handles = handles;
+        stream = stream;
+        holding = λ f. ap (count_by f) i.holding;
+        clear = clear;
+        many = many;
+        room = capacity;
+      }) at legal (λ start is tells.
+      let service = replay start before in
+      let k = known w 4 old new r 1 request (mark_computed result) rank before e asked_of start is tells in
+      element_own service old.number id asked element (w.keys w.opened.devices.value) shown given result model (after start is tells) draws r.operations old.stream.place new.stream.place k.sound r.last k.own (ap (λ (s : RandomStream). s.place) stream))
+
+  pub computed_answered : HasDrawn element (next_bytes old.stream 16) → DecidesBefore w.told w.moment w.faults w.hard w.locations w.labels w.opened (λ m. is_opaque_key (map.get m.keys id) ≡ true) before e → (answer : Result Output Status) →
+      ((reply : Reply) → AnswersCall element result reply → AnswersReply answer reply) → IsAnswered w old.pass.me.0 new.pass.me.0 request rank answer shown given
+  computed_answered vector opaque answer answers =
+      kept_answered w old new r 1 request (model_store_call asked (length shown)) asks (mark_computed result) rank before e asked_of answer shown given (λ start is tells told.
+      let service = replay start before in
+      let k = known w 4 old new r 1 request (mark_computed result) rank before e asked_of start is tells in
+      element_fits service old.number id asked element (w.keys w.opened.devices.value) shown given result model (after start is tells) (subst (HasDrawn element) (sym (k.random 16)) vector)
+      (decided_known w (λ m. is_opaque_key (map.get m.keys id) ≡ true) before e opaque start is tells) answer answers told)

@@ -1,0 +1,128 @@
+-- What the one-thread service makes of a call that creates a key of derived bytes.
+use Rattle.std.proofs.Common.{◌≡◌, ◌≤◌, ℕ, Bool, true, false, List, length, refl, sym, ap, ◌∙◌, subst, inl, inr, Option, Some, None}
+use Rattle.std.specs.Prelude.{Result, Ok, Err, min, ◌⊎◌}
+use Rattle.psa_status.specs.declared.Status.{Status}
+use Rattle.psa_status.specs.declared.Status.TheVariants as status
+use Rattle.key_attributes.specs.declared.Attributes.{Attributes}
+use Rattle.slot_table.specs.Lent.{Reading}
+use Rattle.derivation_states.specs.KeySteps.{output_key_refusal}
+use Rattle.store_model.specs.Creation.{created, created_unless, recorded_of, stated_bytes}
+use Rattle.store_model.specs.DerivationOperations.{DerivationWork, next_derived, without}
+use Rattle.store_model.specs.Faults.{Plain}
+use Rattle.store_model.specs.HandleCalls.{OutputKey, derived_key, handle_step, underived}
+use Rattle.store_model.specs.Handles.{HandleOperation, KeyCreation, Own, Served, Service, Deriving, applied, derivation_part, held_after, is_alive, key_of_operation, operation_of, own_of, part_of, with_operation, with_own}
+use Rattle.store_model.specs.Operations.{Active, InError, fails}
+use Rattle.store_model.specs.Outcome.{counted, refusal, spoiled}
+use Rattle.store_model.specs.Requests.{OnHandle, serve}
+use Rattle.store_model.specs.Sound.{HasNumber, IsSound}
+use Rattle.store_model.proofs.Recorded.{recorded_refused}
+use Rattle.store_model.proofs.SoundService.{by_number}
+use Rattle.store_core.specs.Creations.{IsUnmade, RecordsStated, mark_unmade, status_unmade}
+use Rattle.store_core.specs.declared.creating.NotMade.{NotMade}
+use Rattle.store_core.specs.declared.creating.NotMade.TheVariants as unmade
+use Rattle.store_core.specs.declared.creating.Unkept.TheVariants as unkept
+use Rattle.operation_cells.specs.Laws.{has_live_key}
+use Rattle.operation_cells.proofs.ServedOutputs.{outputs}
+use Rattle.callers.proofs.KeySizes.{few_recorded, front_recorded}
+use Rattle.callers.proofs.SettingUp.{undrawn_own}
+
+-- a lease, where there is one, is of the operation's key
+abbrev pub IsLeaseOf : Option Reading → Option KeyCreation → Type 0
+IsLeaseOf None key = key ≡ None
+IsLeaseOf (Some l) key = (creation : KeyCreation) × (key ≡ Some creation) × (creation.number ≡ l.creation)
+
+no_test : (b : Bool) → (b ≡ true → ⊥) → b ≡ false
+no_test true n = absurd (n refl)
+no_test false n = refl
+
+module _ (service : Service) (caller handle : ℕ) (a : Attributes) (w : DerivationWork) (sound : IsSound service) (derives : part_of derivation_part (operation_of service caller handle) ≡ Active w)
+    (passes : output_key_refusal (part_of derivation_part (operation_of service caller handle)) a ≡ None) (lease : Option Reading) (of : IsLeaseOf lease (key_of_operation (operation_of service caller handle)))
+    (bytes : List ℕ) (short : length bytes ≡ min (stated_bytes a) 1025) where
+  abbrev Records : Result Attributes Status → Type 0
+  Records = RecordsStated lease caller a (length bytes) service.store
+
+  abbrev key : Option KeyCreation
+  key = key_of_operation (operation_of service caller handle)
+
+  abbrev Steps : Served → Type 0
+  Steps served = handle_step service caller handle (OutputKey a) ≡ served
+
+  abbrev derived_with : Result Attributes Status → Served
+  derived_with kept = derived_key service caller handle key w (stated_bytes a) kept
+
+  -- the creation is that of as many bytes as are stated
+  as_stated : (kept : Result Attributes Status) → kept ≡ recorded_of service.store caller a (length bytes) → kept ≡ recorded_of service.store caller a (stated_bytes a)
+  as_stated kept is = is ∙ (ap (recorded_of service.store caller a) short ∙ front_recorded service.store caller a (stated_bytes a))
+
+  due : has_live_key service caller handle ≡ true → (kept : Result Attributes Status) → kept ≡ recorded_of service.store caller a (length bytes) → Steps (derived_with kept)
+  due alive kept is = outputs.due service caller handle a w derives alive passes ∙ ap derived_with (sym (as_stated kept is))
+
+  -- what is recorded is what the table of creations says, or the derivation's own key is gone
+  pub record IsLost (kept : Result Attributes Status) : Type 0 where
+    pub invalid : kept ≡ Err status.InvalidHandle
+    pub steps : Steps (applied service caller handle (fails status.InvalidHandle))
+
+  pub record IsDue (kept : Result Attributes Status) : Type 0 where
+    pub recorded : kept ≡ recorded_of service.store caller a (stated_bytes a)
+    pub steps : Steps (derived_with kept)
+
+  found : (kept : Result Attributes Status) → Records kept → IsDue kept ⊎ IsLost kept
+  found kept records = by lease of records
+    where
+      by : (l : Option Reading) → IsLeaseOf l key → RecordsStated l caller a (length bytes) service.store kept → IsDue kept ⊎ IsLost kept
+      by None none is = inl (record { recorded = as_stated kept is; steps = due (ap (is_alive service.store) none) kept is })
+      by (Some l) held (inl there) =
+          let numbers = by_number service sound caller handle held.0 held.1 in
+          inl (record { recorded = as_stated kept there.1; steps = due (ap (is_alive service.store) held.1 ∙ numbers.1 (subst (HasNumber service.store) (sym held.2) there.0)) kept there.1 })
+      by (Some l) held (inr gone) =
+          let numbers = by_number service sound caller handle held.0 held.1 in
+          let dead : has_live_key service caller handle ≡ false = ap (is_alive service.store) held.1 ∙ no_test (is_alive service.store (Some held.0)) (λ alive. gone.0 (subst (HasNumber service.store) held.2 (numbers.0 alive))) in
+          inr (record { invalid = gone.1; steps = outputs.lost service caller handle a w derives dead })
+
+  -- no creation is refused as one that takes too many bytes
+  fails_so : (why : Status) → recorded_of service.store caller a (stated_bytes a) ≡ Err why → underived w why ≡ fails why
+  fails_so = recorded_refused (λ s. underived w s ≡ fails s) refl refl refl refl refl refl service.store caller a (stated_bytes a)
+
+  pub derived_refused : (why : Status) → Records (Err why) → Steps (applied service caller handle (fails why))
+  derived_refused why records = elim (found (Err why) records) [
+    | inl d ↦ d.steps ∙ ap (λ after. applied service caller handle (held_after key Deriving after)) (fails_so why (sym d.recorded))
+    | inr l ↦ let same : why ≡ status.InvalidHandle = cc in l.steps ∙ ap (λ s. applied service caller handle (fails s)) (sym same)
+  ]
+
+  pub derived_made : (kept : Attributes) → Records (Ok kept) → Steps (derived_with (Ok kept)) × (stated_bytes a ≤ 1024)
+  derived_made kept records = elim (found (Ok kept) records) [
+    | inl d ↦ (d.steps, few_recorded service.store caller a kept (stated_bytes a) (sym d.recorded))
+    | inr l ↦ let clash : Ok kept ≡ Err status.InvalidHandle = l.invalid in cc
+  ]
+
+  -- THE CREATION
+
+  module _ (front : stated_bytes a ≤ 1024 → bytes ≡ next_derived w (stated_bytes a)) where
+    pub derived_leaves : (kept : Result Attributes Status) → Records kept → (handle_step service caller handle (OutputKey a)).service.store ≡ (created_unless service.store caller kept bytes).store
+    derived_leaves (Ok kept) records =
+        let made = derived_made kept records in ap (λ (s : Served). s.service.store) made.0 ∙ ap (λ derived. (created service.store caller kept derived).store) (sym (front made.1))
+    derived_leaves (Err why) records = ap (λ (s : Served). s.service.store) (derived_refused why records)
+
+    pub derived_replies : (kept : Result Attributes Status) → Records kept → (handle_step service caller handle (OutputKey a)).reply ≡ (created_unless service.store caller kept bytes).reply
+    derived_replies (Ok kept) records =
+        let made = derived_made kept records in ap (λ (s : Served). s.reply) made.0 ∙ ap (λ derived. (created service.store caller kept derived).reply) (sym (front made.1))
+    derived_replies (Err why) records = ap (λ (s : Served). s.reply) (derived_refused why records)
+
+  -- a device failed
+  failed : (why : Status) → record { service = with_own service (counted service.store) caller (with_operation (own_of service caller) handle InError); reply = refusal why } ≡ applied service caller handle (fails why)
+  failed why = ap (λ (own : Own). record { service = with_own service (counted service.store) caller own; reply = refusal why }) (undrawn_own (with_operation (own_of service caller) handle InError))
+
+  pub underived_key : (why : NotMade) → IsUnmade (RecordsStated lease caller a (length bytes)) why service.store → serve service caller (OnHandle handle (OutputKey a)) (mark_unmade why) ≡ applied service caller handle (fails (status_unmade why))
+  underived_key (unmade.Refused why) is = derived_refused why is
+  underived_key (unmade.Failed (unkept.Unwritten closed_first)) is = failed status.StorageFailure
+  underived_key (unmade.Failed unkept.Hardware) is =
+      let none : (handle_step service caller handle (OutputKey a)).reply.needed ≡ 0 = ap (λ (s : Served). s.reply.needed) (derived_made is.0 is.1).0 in
+      ap (λ n. record { service = with_own service (counted service.store) caller (with_operation (own_of service caller) handle InError); reply = spoiled status.HardwareFailure n }) none ∙ failed status.HardwareFailure
+
+  -- the operation that is left where a key is made
+  abbrev pub given_to : HandleOperation
+  given_to = Active (record { key = key; work = Deriving (without w (stated_bytes a)) })
+
+  pub made_owns : (kept : Attributes) → Records (Ok kept) →
+      (serve service caller (OnHandle handle (OutputKey a)) Plain).service ≡ with_own service (created service.store caller kept (next_derived w (stated_bytes a))).store caller (with_operation (own_of service caller) handle given_to)
+  made_owns kept records = ap (λ (s : Served). s.service) (derived_made kept records).0

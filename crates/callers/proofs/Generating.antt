@@ -1,0 +1,135 @@
+-- A caller after a call that creates a key of random bytes.
+use Rattle.std.proofs.Common.{◌≡◌, ◌<◌, ◌≤◌, ◌+◌, ℕ, List, length, refl, sym, ap, ◌∙◌, subst, arith}
+use Rattle.std.specs.Prelude.{Result, Ok, Err, Option, Some, None, false}
+use Rattle.psa_status.specs.declared.Status.{Status}
+use Rattle.psa_status.specs.Rows.{first_row, unless, ◌>>=◌}
+use Rattle.key_attributes.specs.declared.Attributes.{Attributes}
+use Rattle.key_attributes.specs.declared.KeyId.{KeyId}
+use Rattle.random_streams.specs.RandomWords.{next_bytes, words_used}
+use Rattle.store_model.specs.Store.{Store, has_secure_element}
+use Rattle.store_model.specs.Call.{Generate}
+use Rattle.store_model.specs.Creation.{created_unless, recorded_of, stated_bits_rows, stated_bytes}
+use Rattle.store_model.specs.Draws.{Random}
+use Rattle.store_model.specs.Faults.{FaultMark, Plain}
+use Rattle.store_model.specs.Generation.{generated, generation_of}
+use Rattle.store_model.specs.Handles.{HandleOperation, Service, next_random, own_of}
+use Rattle.store_model.specs.Outcome.{Outcome}
+use Rattle.store_model.specs.Requests.{Request, OnStore, plain_step, serve}
+use Rattle.store_model.specs.Replay.{Entry, replay}
+use Rattle.store_model.specs.Sound.{IsSound}
+use Rattle.store_model.specs.Step.{step}
+use Rattle.store_model.proofs.DrawnBytes.{length-random}
+use Rattle.store_model.proofs.Recorded.{few_bytes, recorded}
+use Rattle.store_core.specs.Durability.{is_destruction}
+use Rattle.store_core.specs.Creations.{IsMade, IsUnmade, RecordsStated, mark_unmade}
+use Rattle.store_core.specs.declared.creating.NotMade.{NotMade}
+use Rattle.store_core.specs.declared.creating.NotMade.TheVariants as unmade
+use Rattle.store_core.specs.declared.creating.Unkept.TheVariants as unkept
+use Rattle.shared_store.specs.Turning.{CreatesKey, GoesOn}
+use Rattle.callers.specs.Called.{IsToldTo, Starts}
+use Rattle.callers.specs.Ready.{IsOwnPart, IsReady}
+use Rattle.callers.specs.Worlds.{World}
+use Rattle.callers.specs.declared.caller.Caller.{Caller}
+use Rattle.callers.proofs.Owned.{failed_own, stored_own}
+use Rattle.callers.proofs.Readying.{random_there}
+use Rattle.callers.proofs.Storing.{DrawsNone}
+
+-- THE ONE-THREAD SERVICE
+
+module _ (store : Store) (caller : ℕ) (a : Attributes) where
+  -- bits that say so many bytes are no refusal
+  pub whole_bytes : first_row (stated_bits_rows a) ≡ None → generation_of store caller a ≡ recorded_of store caller a (stated_bytes a)
+  whole_bytes none = ap (λ o. unless o (stated_bytes a) >>= (λ bytes. recorded_of store caller a bytes)) none
+
+  module _ (random : Random) (n : ℕ) where
+    store_is : (kept : Result Attributes Status) → (generated store caller random n kept).store ≡ (created_unless store caller kept (random n)).store
+    store_is (Ok kept) = refl
+    store_is (Err status) = refl
+
+    reply_is : (kept : Result Attributes Status) → (generated store caller random n kept).reply ≡ (created_unless store caller kept (random n)).reply
+    reply_is (Ok kept) = refl
+    reply_is (Err status) = refl
+
+    -- what is never recorded, its bytes are no matter
+    pub no_matter : (kept : Result Attributes Status) (bytes : List ℕ) → ((k : Attributes) → kept ≡ Ok k → ⊥) → created_unless store caller kept (random n) ≡ created_unless store caller kept bytes
+    no_matter (Ok k) bytes none = absurd (none k refl)
+    no_matter (Err status) bytes none = refl
+
+  -- no key is longer than 1,024 bytes
+  pub never_recorded : (n : ℕ) → 1024 < n → (k : Attributes) → recorded_of store caller a n ≡ Ok k → ⊥
+  never_recorded n long k is = let few = few_bytes k n (has_secure_element store) (recorded store caller a n k is).may.checks in omega arith
+
+-- and bits that say none draw nothing
+pub no_bytes_drawn : (a : Attributes) → (first_row (stated_bits_rows a) ≡ None → ⊥) → DrawsNone (Generate a)
+no_bytes_drawn a refused store caller random = by (first_row (stated_bits_rows a)) refl
+  where
+    by : (o : Option Status) → first_row (stated_bits_rows a) ≡ o → (step store caller random (Generate a)).drawn ≡ 0
+    by None none = absurd (refused none)
+    by (Some status) some = ap (λ o. (generated store caller random (stated_bytes a) (unless o (stated_bytes a) >>= (λ bytes. recorded_of store caller a bytes))).drawn) some
+
+-- THE CREATION
+
+module _ {D A C : Type 0} (w : World D A C) (n : ℕ) (old : Caller D A C) (r : IsReady w n old) (a : Attributes) (request : Request) (asks : request ≡ OnStore (Generate a)) (whole : first_row (stated_bits_rows a) ≡ None) where
+  abbrev Records : ℕ → Store → Result Attributes Status → Type 0
+  Records = RecordsStated None old.number a
+
+  abbrev Makes : List ℕ → Type 0
+  Makes bytes = CreatesKey w.told w.moment w.faults w.hard w.locations w.labels w.opened old.pass.me.0 old.number request (Records (length bytes)) bytes
+
+  by_bytes : (bytes : List ℕ) → length bytes ≡ stated_bytes a →
+      ((start : Service) → Starts w start → (h : List Entry) → GoesOn old.pass.me.0 h → IsToldTo w start h → (kept : Result Attributes Status) → kept ≡ recorded_of (replay start h).store old.number a (stated_bytes a) →
+      created_unless (replay start h).store old.number kept (next_random (replay start h) old.number (stated_bytes a)) ≡ created_unless (replay start h).store old.number kept bytes) → Makes bytes
+  by_bytes bytes long same = record {
+    keeps = keeps;
+    leaves = λ start is h on tells kept records.
+        let service = replay start h in let stated = recorded_so service kept records in
+        ap (λ q. (plain_step service old.number q).service.store) asks
+        ∙ (ap (λ k. (generated service.store old.number (next_random service old.number) (stated_bytes a) k).store) (whole_bytes service.store old.number a whole ∙ sym stated)
+        ∙ (store_is service.store old.number a (next_random service old.number) (stated_bytes a) kept ∙ ap (λ (o : Outcome). o.store) (same start is h on tells kept stated)));
+    answers = λ start is h on tells kept records.
+        let service = replay start h in let stated = recorded_so service kept records in
+        ap (λ q. (plain_step service old.number q).reply) asks
+        ∙ (ap (λ k. (generated service.store old.number (next_random service old.number) (stated_bytes a) k).reply) (whole_bytes service.store old.number a whole ∙ sym stated)
+        ∙ (reply_is service.store old.number a (next_random service old.number) (stated_bytes a) kept ∙ ap (λ (o : Outcome). o.reply) (same start is h on tells kept stated)));
+  }
+    where
+      keeps : is_destruction request ≡ false
+      keeps = ap is_destruction asks
+
+      recorded_so : (service : Service) (kept : Result Attributes Status) → Records (length bytes) service.store kept → kept ≡ recorded_of service.store old.number a (stated_bytes a)
+      recorded_so service kept records = records ∙ ap (recorded_of service.store old.number a) long
+
+  -- of the caller's next random bytes
+  pub random_creates : (bytes : List ℕ) → bytes ≡ next_bytes old.stream (stated_bytes a) → Makes bytes
+  random_creates bytes is = by_bytes bytes (ap length is ∙ length-random old.stream.seed old.stream.caller old.stream.place (stated_bytes a)) (λ start started h on tells kept stated.
+      ap (created_unless (replay start h).store old.number kept) (random_there w n old r start h started on tells (stated_bytes a) ∙ sym is))
+
+  -- of any bytes, where they are too many
+  pub long_creates : (bytes : List ℕ) → length bytes ≡ stated_bytes a → 1024 < stated_bytes a → Makes bytes
+  long_creates bytes long more = by_bytes bytes long (λ start started h on tells kept stated.
+      no_matter (replay start h).store old.number a (next_random (replay start h) old.number) (stated_bytes a) kept bytes
+      (λ k is. never_recorded (replay start h).store old.number a (stated_bytes a) more k (sym stated ∙ is)))
+
+-- WHAT IS DRAWN
+
+module _ (service : Service) (caller : ℕ) (a : Attributes) (whole : first_row (stated_bits_rows a) ≡ None) (count : ℕ) (counts : count ≡ stated_bytes a) (operations : List HandleOperation) (place next : ℕ)
+    (sound : IsSound service) (last : caller ≤ 16) (own : IsOwnPart operations place (own_of service caller)) where
+  drawn_by : (kept : Result Attributes Status) → kept ≡ recorded_of service.store caller a count →
+      (step service.store caller (next_random service caller) (Generate a)).drawn ≡ (generated service.store caller (next_random service caller) (stated_bytes a) kept).drawn
+  drawn_by kept is = ap (λ k. (generated service.store caller (next_random service caller) (stated_bytes a) k).drawn) (whole_bytes service.store caller a whole ∙ sym (is ∙ ap (recorded_of service.store caller a) counts))
+
+  abbrev Leaves : FaultMark → Type 0
+  Leaves mark = IsOwnPart operations next (own_of (serve service caller (OnStore (Generate a)) mark).service caller)
+
+  -- a key that is made has its bytes drawn
+  pub made_own : (id : KeyId) → next ≡ place + words_used (stated_bytes a) → IsMade (RecordsStated None caller a count) caller id.0 service.store → Leaves Plain
+  made_own id more made =
+      stored_own service caller (step service.store caller (next_random service caller) (Generate a)) operations place next sound last own (let d = ap words_used (drawn_by (Ok made.0) made.1) in omega arith)
+
+  -- and one that isn't has none
+  pub unmade_own : (why : NotMade) → next ≡ place → IsUnmade (RecordsStated None caller a count) why service.store → Leaves (mark_unmade why)
+  unmade_own (unmade.Refused status) same is =
+      stored_own service caller (step service.store caller (next_random service caller) (Generate a)) operations place next sound last own
+      (let d : words_used (step service.store caller (next_random service caller) (Generate a)).drawn ≡ 0 = ap words_used (drawn_by (Err status) is) in omega arith)
+  unmade_own (unmade.Failed (unkept.Unwritten closed_first)) same is = subst (IsOwnPart operations next) (sym (failed_own service caller (Generate a))) (subst (λ n. IsOwnPart operations n (own_of service caller)) (sym same) own)
+  unmade_own (unmade.Failed unkept.Hardware) same is = subst (IsOwnPart operations next) (sym (failed_own service caller (Generate a))) (subst (λ n. IsOwnPart operations n (own_of service caller)) (sym same) own)

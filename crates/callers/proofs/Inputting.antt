@@ -1,0 +1,189 @@
+-- A caller after a call that gives a derivation a key.
+use Rattle.std.proofs.Common.{◌≡◌, ◌≤◌, ◌+◌, ◌-◌, ℕ, Bool, true, false, not, List, ◌∷◌, length, refl, sym, ap, ◌∙◌, subst, arith, Option, Some, None}
+use Rattle.std.specs.Prelude.{All, Ok, Err, count_by, is_some, if◌then◌else◌, vec_capacity}
+use Rattle.psa_status.specs.declared.Status.{Status}
+use Rattle.psa_status.specs.declared.Status.TheVariants as status
+use Rattle.psa_status.specs.Rows.{first_row}
+use Rattle.secret_bytes.specs.Buffer.{IsClear, bytes_of}
+use Rattle.slot_table.specs.Lent.{Reading}
+use Rattle.turn_history.specs.History.{entries_of}
+use Rattle.key_slots.specs.Holdings.{Pairs}
+use Rattle.key_uses.specs.declared.key_use.KeyUse.{KeyUse}
+use Rattle.key_uses.specs.Uses.{use_refusal}
+use Rattle.service_calls.specs.declared.output.Output.TheVariants as output
+use Rattle.store_model.specs.DerivationOperations.{DerivationWork, key_step_rows, with_key}
+use Rattle.store_model.specs.Faults.{FaultMark, Plain}
+use Rattle.store_model.specs.HandleCalls.{InputKey, creation_of, handle_step}
+use Rattle.store_model.specs.Handles.{Held, HandleOperation, KeyCreation, Own, Service, Deriving, applied, derivation_part, is_alive, key_of_operation, operation_of, own_of, part_of, with_operation, with_own}
+use Rattle.store_model.specs.KeyUse as held
+use Rattle.store_model.specs.Laws.{may_change_keys}
+use Rattle.store_model.specs.Marks.{id_read, takes_key}
+use Rattle.store_model.specs.Operations.{Active, After, Inactive, InError, Operation, fails, goes_on, is_inactive, unless_failed}
+use Rattle.store_model.specs.Outcome.{counted, done, refusal}
+use Rattle.store_model.specs.Replay.{Entry, outcome_of, replay}
+use Rattle.store_model.specs.Requests.{Request, OnHandle, serve}
+use Rattle.store_core.specs.Uses.{IsLent, IsRefused, mark_of}
+use Rattle.operation_cells.specs.KeyInputs.{RefusesKeyAt, TakesKeyAt, key_refused}
+use Rattle.operation_cells.specs.Steps.{on_part}
+use Rattle.operation_cells.proofs.ServedInputs.{inputs}
+use Rattle.shared_store.specs.Turning.{DecidesAfter, IsAt, IsEntered, ReadsKey, lease_pair}
+use Rattle.callers.specs.Called.{IsAnswered, IsCalled, KnowsBefore, Legal}
+use Rattle.callers.specs.Handles.{HoldsLease, IsChanged, busy, leases_of, operation_at, with_operation_at}
+use Rattle.callers.specs.Ready.{IsReady}
+use Rattle.callers.specs.Worlds.{World}
+use Rattle.callers.specs.declared.caller.Caller.{Caller}
+use Rattle.callers.proofs.Beginning.{begun_answered, begun_ready}
+use Rattle.callers.proofs.CellLists.{busy_put, once, tally-cons}
+use Rattle.callers.proofs.Journeys.{called}
+use Rattle.callers.proofs.Readying.{known, outcome_is, own_there}
+use Rattle.callers.proofs.SettingUp.{undrawn_own}
+use Rattle.callers.proofs.Storing.{decided_after}
+
+-- THE ONE-THREAD SERVICE
+
+module _ (service : Service) (caller handle step id : ℕ) (wanted : KeyUse) (takes : TakesKeyAt (operation_of service caller handle) step wanted) where
+  pub reads_input : id_read service caller (OnHandle handle (InputKey step id)) ≡ Some id
+  reads_input =
+      (λ i. if takes_key service.store (takes.derives i) (is_alive service.store (takes.no_key i)) step then Some id else None)
+      ∙ ap (λ row. if not (is_some row) then Some id else None) takes.due
+
+  -- a device failed
+  lost : (why : Status) → record { service = with_own service (counted service.store) caller (with_operation (own_of service caller) handle InError); reply = refusal why } ≡ applied service caller handle (fails why)
+  lost why = ap (λ (own : Own). record { service = with_own service (counted service.store) caller own; reply = refusal why }) (undrawn_own (with_operation (own_of service caller) handle InError))
+
+  pub input_refused : (why : Status) → IsRefused (use_refusal wanted) id why (counted service.store) → serve service caller (OnHandle handle (InputKey step id)) (mark_of why) ≡ applied service caller handle (fails why)
+  input_refused status.StorageFailure row = lost status.StorageFailure
+  input_refused status.DataCorrupt row = lost status.DataCorrupt
+  input_refused why row = inputs.unfit service caller handle step id wanted why takes row
+
+  abbrev pub taken_by : Reading → DerivationWork → After Held
+  taken_by lease w = goes_on (record { key = Some (record { id = id; number = lease.creation }); work = Deriving (with_key w (bytes_of lease.buffer)) }) done
+
+  pub input_lent : (lease : Reading) (w : DerivationWork) → part_of derivation_part (operation_of service caller handle) ≡ Active w → IsLent (use_refusal wanted) id lease (counted service.store) →
+      handle_step service caller handle (InputKey step id) ≡ applied service caller handle (taken_by lease w)
+  input_lent lease w derives (k, found, free, is) =
+      inputs.taken service caller handle step id wanted w takes derives (ap (use_refusal wanted) found ∙ free)
+      ∙ ((λ i. applied service caller handle (goes_on (record { key = creation_of id (found i); work = Deriving (with_key w (held.bytes_of (found i))) }) done))
+      ∙ (λ i. applied service caller handle (goes_on (record { key = Some (record { id = id; number = sym is.number i }); work = Deriving (with_key w (sym is.bytes i)) }) done)))
+
+pub derives_busy : (o : HandleOperation) (w : DerivationWork) → part_of derivation_part o ≡ Active w → is_inactive o ≡ false
+derives_busy Inactive w e = cc
+derives_busy InError w e = refl
+derives_busy (Active held) w e = refl
+
+-- THE CALLER
+
+module _ {D A C : Type 0} (w : World D A C) (old new : Caller D A C) (r : IsReady w 4 old) (request : Request) (mark : FaultMark) (rank : ℕ) (own : Pairs) (before : List Entry) (e : Entry)
+    (i : IsEntered old.pass.me.0 new.pass.me.0 request mark rank own before e) (handle step id : ℕ) (wanted : KeyUse) (first : 1 ≤ handle) (last : handle ≤ 4)
+    (asks : request ≡ OnHandle handle (InputKey step id)) (takes : TakesKeyAt (operation_at r.operations handle) step wanted) where
+  abbrev asked : IsCalled old.pass.me.0 new.pass.me.0 1 request mark rank before e
+  asked = called old.pass.me.0 new.pass.me.0 request mark rank own before e i
+
+  unchanging : may_change_keys e.call ≡ false
+  unchanging = ap may_change_keys (i.call_is ∙ asks)
+
+  takes_there : KnowsBefore w (λ service. TakesKeyAt (operation_of service old.number handle) step wanted) before e
+  takes_there start is tells = let k = known w 4 old new r 1 request mark rank before e asked start is tells in subst (λ o. TakesKeyAt o step wanted) (sym (k.own.each handle first last)) takes
+
+  -- the handle waits for its end as it did
+  waits : (operation : HandleOperation) → is_inactive operation ≡ false → busy (with_operation_at r.operations handle operation) ≤ busy r.operations + 0
+  waits operation active =
+      let b = busy_put r.operations (handle - 1) operation (let z = r.stand.count in omega arith) in let o = ap (λ x. once (not x)) (derives_busy (operation_at r.operations handle) takes.w takes.derives) in
+      let n = ap (λ x. once (not x)) active in omega arith
+
+  -- the key is lent
+  module _ (plain : mark ≡ Plain) (lease : Reading) (decided : DecidesAfter w.told w.moment w.faults w.hard w.locations w.labels w.opened (IsLent (use_refusal wanted) id lease) before e) where
+    abbrev pub given_key : After Held
+    given_key = goes_on (record { key = Some (record { id = id; number = lease.creation }); work = Deriving (with_key takes.w (bytes_of lease.buffer)) }) done
+
+    gives_key : KnowsBefore w (λ service. outcome_of service e ≡ applied service old.number handle given_key) before e
+    gives_key start is tells =
+        let service = replay start before in
+        let k = known w 4 old new r 1 request mark rank before e asked start is tells in
+        let lent = decided_after w (IsLent (use_refusal wanted) id lease) before e unchanging decided start is tells in
+        outcome_is service e old.number (OnHandle handle (InputKey step id)) Plain (i.by ∙ r.number) (i.call_is ∙ asks) (i.mark_is ∙ plain)
+        ∙ input_lent service old.number handle step id wanted (takes_there start is tells) lease takes.w (ap (part_of derivation_part) (k.own.each handle first last) ∙ takes.derives) lent
+
+    pub given_ready : HoldsLease old.handles.cells.items new.handles.cells.items r.operations handle given_key.operation lease → own ≡ lease_pair lease ∷ old.pass.me.0.holding → new.number ≡ old.number → new.stream ≡ old.stream →
+        new.spent ≡ old.spent → All IsClear new.spares.items → length new.spares.items + 1 ≡ length old.spares.items → 5 ≤ vec_capacity new.spares → IsAt w.lock w.opened new.pass → Legal w (entries_of new.pass.me.0.seen) → IsReady w 0 new
+    given_ready kept held number stream spent clear many room at legal =
+        begun_ready w old new r request mark rank own before e i handle first last given_key gives_key 0 (record {
+          number = number;
+          stream = stream;
+          drawn = refl;
+          stand = kept.stand;
+          leases = λ f.
+              let a = ap (count_by f) held in let b = tally-cons f (lease_pair lease) old.pass.me.0.holding in let c = tally-cons f (lease_pair lease) (leases_of old.handles.cells.items) in
+              let d = r.leases f in let k = kept.leases f in omega arith;
+          clear = clear;
+          five = let a = kept.more in let f = r.five in let m = many in omega arith;
+          room = room;
+          waits = waits given_key.operation refl;
+          few = omega arith;
+          spent = let z = spent in omega arith;
+        }) (let z = r.spent in omega arith) at legal
+
+    pub given_answered : (buffer : List ℕ) → IsAnswered w old.pass.me.0 new.pass.me.0 request rank (Ok output.Done) buffer buffer
+    given_answered buffer = begun_answered w old new r request mark rank own before e i handle first last given_key gives_key (Ok output.Done) buffer refl refl
+
+  -- it isn't
+  module _ (why : Status) (marked : mark ≡ mark_of why) (decided : DecidesAfter w.told w.moment w.faults w.hard w.locations w.labels w.opened (IsRefused (use_refusal wanted) id why) before e) where
+    refuses_key : KnowsBefore w (λ service. outcome_of service e ≡ applied service old.number handle (fails why)) before e
+    refuses_key start is tells =
+        let service = replay start before in
+        outcome_is service e old.number (OnHandle handle (InputKey step id)) (mark_of why) (i.by ∙ r.number) (i.call_is ∙ asks) (i.mark_is ∙ marked)
+        ∙ input_refused service old.number handle step id wanted (takes_there start is tells) why (decided_after w (IsRefused (use_refusal wanted) id why) before e unchanging decided start is tells)
+
+    pub failed_ready : IsChanged old.handles.cells.items new.handles.cells.items r.operations handle InError None → own ≡ old.pass.me.0.holding → new.number ≡ old.number → new.stream ≡ old.stream → new.spent ≡ old.spent →
+        All IsClear new.spares.items → length new.spares.items ≡ length old.spares.items → 5 ≤ vec_capacity new.spares → IsAt w.lock w.opened new.pass → Legal w (entries_of new.pass.me.0.seen) → IsReady w 0 new
+    failed_ready change held number stream spent clear many room at legal =
+        begun_ready w old new r request mark rank own before e i handle first last (fails why) refuses_key 0 (record {
+          number = number;
+          stream = stream;
+          drawn = refl;
+          stand = change.stand;
+          leases = λ f. ap (count_by f) held ∙ (r.leases f ∙ sym (change.leases f));
+          clear = clear;
+          five = let a = change.fewer in let f = r.five in let m = many in omega arith;
+          room = room;
+          waits = waits InError refl;
+          few = omega arith;
+          spent = let z = spent in omega arith;
+        }) (let z = r.spent in omega arith) at legal
+
+    pub failed_answered : (buffer : List ℕ) → IsAnswered w old.pass.me.0 new.pass.me.0 request rank (Err why) buffer buffer
+    failed_answered buffer = begun_answered w old new r request mark rank own before e i handle first last (fails why) refuses_key (Err why) buffer (refl, refl) refl
+
+-- the call reads its key, in whatever history it is entered
+pub reads_secret : {D A C : Type 0} (w : World D A C) (old : Caller D A C) (r : IsReady w 4 old) (request : Request) (handle step id : ℕ) (wanted : KeyUse) → 1 ≤ handle → handle ≤ 4 → request ≡ OnHandle handle (InputKey step id) →
+    TakesKeyAt (operation_at r.operations handle) step wanted → ReadsKey w.told w.moment w.faults w.hard w.locations w.labels w.opened old.pass.me.0 request id
+reads_secret w old r request handle step id wanted first last asks takes start is h on tells =
+    let own = own_there w 4 old r start h is on tells in
+    ap (λ n. id_read (replay start h) n request) r.number
+    ∙ (ap (id_read (replay start h) old.number) asks ∙ reads_input (replay start h) old.number handle step id wanted (subst (λ o. TakesKeyAt o step wanted) (sym (own.each handle first last)) takes))
+
+-- A STEP THAT TAKES NO KEY
+
+pub refused_drawn : (key : Option KeyCreation) (own : Operation DerivationWork) (alive : Bool) (f : DerivationWork → After DerivationWork) (o : HandleOperation) → ((w : DerivationWork) → (f w).drawn ≡ 0) → (on_part o Deriving own alive f).drawn ≡ 0
+refused_drawn key (Active w) true f o none = none w
+refused_drawn key (Active w) false f o none = refl
+refused_drawn key Inactive alive f o none = refl
+refused_drawn key InError alive f o none = refl
+
+pub refusal_draws_none : (alive : Bool) (o : HandleOperation) (step : ℕ) → (key_refused alive o step).drawn ≡ 0
+refusal_draws_none alive o step = refused_drawn None (part_of derivation_part o) alive (λ w. unless_failed (first_row (key_step_rows w step)) (goes_on w done)) o (λ w. by w (first_row (key_step_rows w step)))
+  where
+    by : (w : DerivationWork) (row : Option Status) → (unless_failed row (goes_on w done)).drawn ≡ 0
+    by w None = refl
+    by w (Some status) = refl
+
+pub untimely : {D A C : Type 0} (w : World D A C) (n : ℕ) (old new : Caller D A C) (r : IsReady w n old) (turns handle step id rank : ℕ) (before : List Entry) (e : Entry) (alive : Bool) (request : Request) →
+    request ≡ OnHandle handle (InputKey step id) → IsCalled old.pass.me.0 new.pass.me.0 turns request Plain rank before e → 1 ≤ handle → handle ≤ 4 → RefusesKeyAt (operation_at r.operations handle) step →
+    KnowsBefore w (λ service. alive ≡ is_alive service.store (key_of_operation (operation_of service old.number handle))) before e →
+    KnowsBefore w (λ service. outcome_of service e ≡ applied service old.number handle (key_refused alive (operation_at r.operations handle) step)) before e
+untimely w n old new r turns handle step id rank before e alive request asks c first last refuses lives start is tells =
+    let service = replay start before in
+    let k = known w n old new r turns request Plain rank before e c start is tells in let mine = k.own.each handle first last in
+    outcome_is service e old.number (OnHandle handle (InputKey step id)) Plain (c.by ∙ r.number) (c.call_is ∙ asks) c.mark_is
+    ∙ (inputs.untimely service old.number handle step id (subst (λ o. RefusesKeyAt o step) (sym mine) refuses)
+    ∙ (λ i. applied service old.number handle (key_refused (sym (lives start is tells) i) (mine i) step)))

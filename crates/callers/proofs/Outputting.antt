@@ -1,0 +1,269 @@
+-- A caller after a call that creates a key of derived bytes.
+use Rattle.std.proofs.Common.{◌≡◌, ◌<◌, ◌≤◌, ◌+◌, ◌-◌, ℕ, Bool, true, false, not, List, [], ◌∷◌, length, get_or, take_all, refl, sym, ap, ◌∙◌, subst, arith, inr, Option, Some, None, take}
+use Rattle.std.specs.Prelude.{All, Result, Ok, Err, ◌==◌, ◌&&◌, count_by, if◌then◌else◌, min, nat_lt, vec_capacity}
+use Rattle.std.proofs.lemmas.List.{length-take-le, set-set}
+use Rattle.psa_status.specs.declared.Status.{Status}
+use Rattle.psa_status.specs.declared.Status.TheVariants.{Success, InsufficientData}
+use Rattle.psa_status.proofs.Rows.{first_row-back}
+use Rattle.store_model.proofs.Tables.{refused_by}
+use Rattle.key_slots.specs.Holdings.{Pairs}
+use Rattle.operation_cells.specs.Laws.{has_live_key}
+use Rattle.operation_cells.specs.Steps.{on_part}
+use Rattle.key_attributes.specs.declared.Attributes.{Attributes}
+use Rattle.key_attributes.specs.declared.KeyId.{KeyId}
+use Rattle.random_streams.specs.RandomWords.{RandomStream}
+use Rattle.slot_table.specs.Lent.{Reading}
+use Rattle.turn_history.specs.History.{entries_of}
+use Rattle.derivation_states.specs.KeySteps.{output_key_refusal}
+use Rattle.operation_phase.specs.Turns.{is_active}
+use Rattle.service_calls.specs.declared.output.Output.TheVariants as output
+use Rattle.store_model.specs.Creation.{created, stated_bytes}
+use Rattle.store_model.specs.DerivationOperations.{DerivationWork, exhausted, next_derived, output_key_rows, taken_from, without}
+use Rattle.store_model.specs.Call.{Reply}
+use Rattle.store_model.specs.Outcome.{given as given_bytes}
+use Rattle.store_model.specs.Faults.{Plain}
+use Rattle.store_model.specs.HandleCalls.{OutputKey}
+use Rattle.store_model.specs.Handles.{HandleOperation, Served, Service, Deriving, applied, derivation_part, is_alive, key_of_operation, operation_of, own_of, part_of, with_operation}
+use Rattle.store_model.specs.Operations.{Active, Inactive, InError, Operation, fails, goes_on, unless_failed}
+use Rattle.store_model.specs.Replay.{Entry, outcome_of, replay}
+use Rattle.store_model.specs.Requests.{Request, OnHandle, plain_step}
+use Rattle.store_model.specs.Sound.{IsSound}
+use Rattle.store_core.specs.Creations.{IsMade, IsUnmade, RecordsStated, mark_unmade, status_unmade}
+use Rattle.store_core.specs.Durability.{is_destruction}
+use Rattle.store_core.specs.declared.creating.NotMade.{NotMade}
+use Rattle.operation_cells.specs.Cells.{IsOperation}
+use Rattle.operation_cells.specs.KeyOutputs.{IsDerivedKey, derived_key_refused}
+use Rattle.operation_cells.proofs.ServedOutputs.{outputs}
+use Rattle.derivation_states.specs.KeySteps as alone
+use Rattle.psa_status.specs.Rows.{first_row}
+use Rattle.operation_cells.specs.declared.cell.Cell.{Cell}
+use Rattle.shared_store.specs.Turning.{CreatesKey, IsAt, IsOwn, LeavesAllKeys}
+use Rattle.callers.specs.Called.{IsReplied, IsAnswered, IsCalled, KnowsBefore, Legal}
+use Rattle.callers.specs.Handles.{AreOperations, IsChanged, leases_of, operation_at, with_operation_at}
+use Rattle.callers.specs.Parts.{IsBack, IsCreated}
+use Rattle.callers.specs.Ready.{IsOwnPart, IsReady}
+use Rattle.callers.specs.Worlds.{World}
+use Rattle.callers.specs.declared.caller.Caller.{Caller}
+use Rattle.callers.proofs.Asking.{leased_key, unleased_key}
+use Rattle.callers.proofs.CellLists.{busy_put, named_alike, names_is, names_lease, once}
+use Rattle.callers.proofs.Deriving.{IsLeaseOf, derived_leaves, derived_replies, made_owns, underived_key}
+use Rattle.callers.proofs.Handling.{few_turns, handled_answered, handled_ready, made as turned_back, waits}
+use Rattle.callers.proofs.Inputting.{derives_busy, refused_drawn}
+use Rattle.callers.proofs.Made.{made_gives}
+use Rattle.callers.proofs.Owned.{set_operation, set_own, sound_replay}
+use Rattle.callers.proofs.Readying.{known, outcome_is, own_there, ready}
+use Rattle.callers.proofs.SettingUp.{undrawn_own}
+use Rattle.keyed_calls.proofs.Draws.{draws_none}
+use Rattle.store_model.specs.Store.{Store, start_of}
+use Rattle.secret_bytes.specs.Buffer.{IsClear}
+
+-- the lease of a cell is of its operation's key
+pub lease_of : (cell : Cell) (operation : HandleOperation) → IsOperation cell operation → (is_active operation ≡ false → cell.lease ≡ None) → IsLeaseOf cell.lease (key_of_operation operation)
+lease_of cell operation stands over = by cell.lease refl
+  where
+    by : (l : Option Reading) → cell.lease ≡ l → IsLeaseOf l (key_of_operation operation)
+    by None none = unleased_key cell operation stands none
+    by (Some l) some = leased_key cell operation l stands over some
+
+-- the operation of a handle changes twice
+pub changed_twice : (old mid new : List Cell) (operations : List HandleOperation) (handle : ℕ) (first second : HandleOperation) (lease : Option Reading) → IsChanged old mid operations handle first None →
+    IsChanged mid new (with_operation_at operations handle first) handle second lease → IsChanged old new operations handle second lease
+changed_twice old mid new operations handle first second lease one two = record {
+  stand = subst (AreOperations new) (set-set operations (handle - 1) first second) two.stand;
+  leases = λ f. two.leases f ∙ one.leases f;
+  fewer = let a = two.fewer in let b = one.fewer in omega arith;
+  mine = λ l is. let a = two.mine l is in let b = named_alike (leases_of mid) (leases_of old) l.slot (l.creation + 1) one.leases in omega arith;
+}
+
+module _ {D A C : Type 0} (w : World D A C) (old : Caller D A C) (r : IsReady w 4 old) (request : Request) (handle : ℕ) (a : Attributes) (asks : request ≡ OnHandle handle (OutputKey a)) (first : 1 ≤ handle) (last : handle ≤ 4)
+    (work : DerivationWork) (derives : part_of derivation_part (operation_at r.operations handle) ≡ Active work) (passes : output_key_refusal (part_of derivation_part (operation_at r.operations handle)) a ≡ None)
+    (lease : Option Reading) (of : IsLeaseOf lease (key_of_operation (operation_at r.operations handle))) (bytes : List ℕ) (short : length bytes ≡ min (stated_bytes a) 1025)
+    (front : stated_bytes a ≤ 1024 → bytes ≡ next_derived work (stated_bytes a)) where
+  abbrev given : HandleOperation
+  given = Active (record { key = key_of_operation (operation_at r.operations handle); work = Deriving (without work (stated_bytes a)) })
+
+  -- what is known of a service that has the caller's operations
+  module _ (service : Service) (sound : IsSound service) (mine : operation_of service old.number handle ≡ operation_at r.operations handle) where
+    abbrev pub derives_here : part_of derivation_part (operation_of service old.number handle) ≡ Active work
+    derives_here = ap (part_of derivation_part) mine ∙ derives
+
+    abbrev pub passes_here : output_key_refusal (part_of derivation_part (operation_of service old.number handle)) a ≡ None
+    passes_here = ap (λ o. output_key_refusal (part_of derivation_part o) a) mine ∙ passes
+
+    abbrev pub lease_here : IsLeaseOf lease (key_of_operation (operation_of service old.number handle))
+    lease_here = subst (λ o. IsLeaseOf lease (key_of_operation o)) (sym mine) of
+
+  pub derived_creates : CreatesKey w.told w.moment w.faults w.hard w.locations w.labels w.opened old.pass.me.0 old.number request (RecordsStated lease old.number a (length bytes)) bytes
+  derived_creates = record {
+    keeps = ap is_destruction asks;
+    leaves = λ start is h on tells kept records.
+        let service = replay start h in let sound = sound_replay start (start_of is.settings is.found) h is.is (r.sound start is) on.signed in let mine = (own_there w 4 old r start h is on tells).each handle first last in
+        ap (λ q. (plain_step service old.number q).service.store) asks
+        ∙ derived_leaves service old.number handle a work sound (derives_here service sound mine) (passes_here service sound mine) lease (lease_here service sound mine) bytes short front kept records;
+    answers = λ start is h on tells kept records.
+        let service = replay start h in let sound = sound_replay start (start_of is.settings is.found) h is.is (r.sound start is) on.signed in let mine = (own_there w 4 old r start h is on tells).each handle first last in
+        ap (λ q. (plain_step service old.number q).reply) asks
+        ∙ derived_replies service old.number handle a work sound (derives_here service sound mine) (passes_here service sound mine) lease (lease_here service sound mine) bytes short front kept records;
+  }
+
+  abbrev Records : Store → Result Attributes Status → Type 0
+  Records = RecordsStated lease old.number a (length bytes)
+
+  module _ (new : Caller D A C) (rank : ℕ) where
+    -- THE KEY IS MADE
+    module _ (id : KeyId) (Decided : List Entry → Entry → Type 0) (c : IsCreated old.pass.me.0 new.pass.me.0 request Plain rank Decided) (made : KnowsBefore w (λ service. IsMade Records old.number id.0 service.store) c.before c.entry) where
+      pub output_ready : IsChanged old.handles.cells.items new.handles.cells.items r.operations handle given None → new.number ≡ old.number → new.stream ≡ old.stream → new.spares ≡ old.spares → new.spent ≡ old.spent →
+          IsAt w.lock w.opened new.pass → Legal w (entries_of new.pass.me.0.seen) → IsReady w 0 new
+      output_ready change number stream spares spent at legal =
+          let left = c.called.left in let sp = spent in
+          ready w 4 old new r 2 request Plain rank c.before c.entry c.called (with_operation_at r.operations handle given) 0 at legal (record {
+            number = number;
+            stand = change.stand;
+            own = λ start is tells.
+                let service = replay start c.before in
+                let k = known w 4 old new r 2 request Plain rank c.before c.entry c.called start is tells in let mine = k.own.each handle first last in
+                let there = made start is tells in
+                let owns = made_owns service old.number handle a work k.sound (derives_here service k.sound mine) (passes_here service k.sound mine) lease (lease_here service k.sound mine) bytes short there.0 there.1 in
+                let key : given ≡ Active (record { key = key_of_operation (operation_of service old.number handle); work = Deriving (without work (stated_bytes a)) }) =
+                sym (ap (λ o. Active (record { key = key_of_operation o; work = Deriving (without work (stated_bytes a)) })) mine) in
+                let store = (created service.store old.number there.0 (next_derived work (stated_bytes a))).store in
+                let place = ap (λ (s : RandomStream). s.place) stream in
+                subst (λ (s : Served). IsOwnPart (with_operation_at r.operations handle given) new.stream.place (own_of s.service old.number))
+                (sym (outcome_is service c.entry old.number (OnHandle handle (OutputKey a)) Plain (c.called.by ∙ r.number) (c.called.call_is ∙ asks) c.called.mark_is))
+                (subst (λ (s : Service). IsOwnPart (with_operation_at r.operations handle given) new.stream.place (own_of s old.number)) (sym owns)
+                (subst (IsOwnPart (with_operation_at r.operations handle given) new.stream.place) (sym (set_own service store old.number (with_operation (own_of service old.number) handle _) k.sound r.last))
+                (subst (λ o. IsOwnPart (with_operation_at r.operations handle given) new.stream.place (with_operation (own_of service old.number) handle o)) key
+                (subst (IsOwnPart (with_operation_at r.operations handle given) new.stream.place) (sym (undrawn_own (with_operation (own_of service old.number) handle given)))
+                (set_operation r.operations old.stream.place (own_of service old.number) handle given 0 new.stream.place k.own r.stand.count first last (let p = place in omega arith))))));
+            leases = λ f. c.holding f ∙ (r.leases f ∙ sym (change.leases f));
+            clear = subst (λ v. All IsClear v.items) (sym spares) r.clear;
+            five = let x = change.fewer in let y = ap (λ v. length v.items) spares in let f = r.five in omega arith;
+            room = let y = ap vec_capacity spares in let f = r.room in omega arith;
+            seed = ap (λ (s : RandomStream). s.seed) stream;
+            stream_of = ap (λ (s : RandomStream). s.caller) stream;
+            turns_are = let t = r.turns in
+                let b = busy_put r.operations (handle - 1) given (let z = r.stand.count in omega arith) in let o = ap (λ x. once (not x)) (derives_busy (operation_at r.operations handle) work derives) in omega arith;
+            words = let t = r.words in let y = ap (λ (s : RandomStream). s.place) stream in omega arith;
+            spent = let t = r.spent in omega arith;
+          })
+
+      pub output_answered : (buffer : List ℕ) → IsAnswered w old.pass.me.0 new.pass.me.0 request rank (Ok (output.Identifier id)) buffer buffer
+      output_answered buffer = record {
+        turns = 2;
+        mark = Plain;
+        before = c.before;
+        entry = c.entry;
+        called = c.called;
+        replied = λ start is tells told.
+            let service = replay start c.before in
+            let k = known w 4 old new r 2 request Plain rank c.before c.entry c.called start is tells in let mine = k.own.each handle first last in
+            let gives = made_gives service old.number (OnHandle handle (OutputKey a)) Records bytes
+            (derived_replies service old.number handle a work k.sound (derives_here service k.sound mine) (passes_here service k.sound mine) lease (lease_here service k.sound mine) bytes short front) id (made start is tells) in
+            subst (λ (s : Served). IsReplied (Ok (output.Identifier id)) buffer buffer s.reply)
+            (sym (outcome_is service c.entry old.number (OnHandle handle (OutputKey a)) Plain (c.called.by ∙ r.number) (c.called.call_is ∙ asks) c.called.mark_is)) (gives.answers, gives.unwritten buffer);
+      }
+
+    -- NONE IS MADE: the derivation is in error, and its lease goes back
+    module _ (settled : Caller D A C) (why : NotMade) (Decided : List Entry → Entry → Type 0) (c : IsCreated old.pass.me.0 settled.pass.me.0 request (mark_unmade why) rank Decided)
+        (unmade : KnowsBefore w (λ service. IsUnmade Records why service.store) c.before c.entry) (back_lease : Option Reading)
+        (change : IsChanged old.handles.cells.items settled.handles.cells.items r.operations handle InError back_lease) (back : IsBack back_lease settled new) where
+      fails_there : (turns : ℕ) (made : IsCalled old.pass.me.0 new.pass.me.0 turns request (mark_unmade why) rank c.before c.entry) →
+          KnowsBefore w (λ service. outcome_of service c.entry ≡ applied service old.number handle (fails (status_unmade why))) c.before c.entry
+      fails_there turns made start is tells =
+          let service = replay start c.before in
+          let k = known w 4 old new r turns request (mark_unmade why) rank c.before c.entry made start is tells in let mine = k.own.each handle first last in
+          outcome_is service c.entry old.number (OnHandle handle (OutputKey a)) (mark_unmade why) (made.by ∙ r.number) (made.call_is ∙ asks) made.mark_is
+          ∙ underived_key service old.number handle a work k.sound (derives_here service k.sound mine) (passes_here service k.sound mine) lease (lease_here service k.sound mine) bytes short why (unmade start is tells)
+
+      pub unmade_ready : settled.number ≡ old.number → settled.spares ≡ old.spares → settled.stream ≡ old.stream → settled.spent ≡ old.spent → IsAt w.lock w.opened new.pass → Legal w (entries_of new.pass.me.0.seen) → IsReady w 0 new
+      unmade_ready number spares stream spent at legal =
+          handled_ready w 4 old settled new r request (mark_unmade why) rank c.before c.entry 2 c.called c.holding handle InError back_lease change back (fails (status_unmade why)) refl first last
+          (fails_there _ (turned_back w 4 old settled new r request (mark_unmade why) rank c.before c.entry 2 c.called c.holding handle InError back_lease change back))
+          0 at legal number spares (stream ∙ draws_none old.stream)
+          (let x = r.turns in let b = waits w 4 old settled new r request (mark_unmade why) rank c.before c.entry 2 c.called c.holding handle InError back_lease change last in
+          let o = ap (λ x. once (not x)) (derives_busy (operation_at r.operations handle) work derives) in
+          let d = few_turns w 4 old settled new r request (mark_unmade why) rank c.before c.entry 2 c.called c.holding handle InError back_lease change back_lease in let s = spent in omega arith)
+          (let x = r.words in let s = spent in let p = ap (λ (s : RandomStream). s.place) stream in omega arith) (let x = r.spent in let s = spent in omega arith)
+
+      pub unmade_answered : (buffer : List ℕ) → IsAnswered w old.pass.me.0 new.pass.me.0 request rank (Err (status_unmade why)) buffer buffer
+      unmade_answered buffer =
+          handled_answered w 4 old settled new r request (mark_unmade why) rank c.before c.entry 2 c.called c.holding handle InError back_lease change back (fails (status_unmade why)) refl first last
+          (fails_there _ (turned_back w 4 old settled new r request (mark_unmade why) rank c.before c.entry 2 c.called c.holding handle InError back_lease change back))
+          (Err (status_unmade why)) buffer buffer (refl, refl) refl
+
+-- A KEY THAT THE DERIVATION REFUSES
+
+pub output_draws_none : (alive : Bool) (o : HandleOperation) (a : Attributes) → (derived_key_refused alive o a).drawn ≡ 0
+output_draws_none alive o a = refused_drawn None (part_of derivation_part o) alive (λ w. alone.derived_key w a) o (λ w. by w (first_row (output_key_rows w a)))
+  where
+    taken : (short : Bool) (w : DerivationWork) (n : ℕ) (reply : Reply) → (if short then exhausted w else goes_on (without w n) reply).drawn ≡ 0
+    taken true w n reply = refl
+    taken false w n reply = refl
+
+    by : (w : DerivationWork) (row : Option Status) → (unless_failed row (taken_from w (stated_bytes a) (given_bytes (next_derived w (stated_bytes a))))).drawn ≡ 0
+    by w None = taken (nat_lt w.capacity (stated_bytes a)) w (stated_bytes a) (given_bytes (next_derived w (stated_bytes a)))
+    by w (Some status) = refl
+
+pub undue : {D A C : Type 0} (w : World D A C) (n : ℕ) (old new : Caller D A C) (r : IsReady w n old) (turns handle : ℕ) (a : Attributes) (rank : ℕ) (before : List Entry) (e : Entry) (alive : Bool) (request : Request) →
+    request ≡ OnHandle handle (OutputKey a) → IsCalled old.pass.me.0 new.pass.me.0 turns request Plain rank before e → 1 ≤ handle → handle ≤ 4 → (output_key_refusal (part_of derivation_part (operation_at r.operations handle)) a ≡ None → ⊥) →
+    KnowsBefore w (λ service. alive ≡ is_alive service.store (key_of_operation (operation_of service old.number handle))) before e →
+    KnowsBefore w (λ service. outcome_of service e ≡ applied service old.number handle (derived_key_refused alive (operation_at r.operations handle) a)) before e
+undue w n old new r turns handle a rank before e alive request asks c first last refuses lives start is tells =
+    let service = replay start before in
+    let k = known w n old new r turns request Plain rank before e c start is tells in let mine = k.own.each handle first last in
+    outcome_is service e old.number (OnHandle handle (OutputKey a)) Plain (c.by ∙ r.number) (c.call_is ∙ asks) c.mark_is
+    ∙ (outputs.refused service old.number handle a (λ none. refuses (sym (ap (λ o. output_key_refusal (part_of derivation_part o) a) mine) ∙ none))
+    ∙ (λ i. applied service old.number handle (derived_key_refused (sym (lives start is tells) i) (mine i) a)))
+
+refuses_row : (w : DerivationWork) (a : Attributes) (status : Status) → first_row (output_key_rows w a) ≡ Some status → status ≡ Success → ⊥
+refuses_row w a = refused_by (λ status. status ≡ Success → ⊥) (output_key_rows w a) (λ on is. cc, (λ on is. cc, (λ on is. cc, (λ on is. cc, tt))))
+
+undue_fails : (own : Operation DerivationWork) (o : HandleOperation) (alive : Bool) (a : Attributes) → (output_key_refusal own a ≡ None → ⊥) → (on_part o Deriving own alive (λ w. alone.derived_key w a)).reply.status ≡ Success → ⊥
+undue_fails Inactive o alive a refuses is = cc
+undue_fails InError o alive a refuses is = cc
+undue_fails (Active w) o false a refuses is = cc
+undue_fails (Active w) o true a refuses is = by (first_row (output_key_rows w a)) refl is
+  where
+    short : (b : Bool) → nat_lt w.capacity (stated_bytes a) ≡ b → first_row (output_key_rows w a) ≡ None →
+        (if b then exhausted w else goes_on (without w (stated_bytes a)) (given_bytes (next_derived w (stated_bytes a)))).reply.status ≡ Success → ⊥
+    short true e none is = cc
+    short false e none is =
+        refuses (first_row-back (output_key_rows w a) ((nat_lt w.capacity (stated_bytes a), InsufficientData) ∷ []) none ∙ ap (λ b. if b then Some InsufficientData else None) e)
+
+    by : (row : Option Status) → first_row (output_key_rows w a) ≡ row →
+        (unless_failed row (taken_from w (stated_bytes a) (given_bytes (next_derived w (stated_bytes a))))).reply.status ≡ Success → ⊥
+    by (Some status) some is = refuses_row w a status some is
+    by None none is = short (nat_lt w.capacity (stated_bytes a)) refl none is
+
+-- a refused one leaves all keys, in whatever history it is entered
+pub undue_leaves : {D A C : Type 0} (w : World D A C) (old : Caller D A C) (r : IsReady w 4 old) (request : Request) (handle : ℕ) (a : Attributes) → 1 ≤ handle → handle ≤ 4 → request ≡ OnHandle handle (OutputKey a) →
+    (output_key_refusal (part_of derivation_part (operation_at r.operations handle)) a ≡ None → ⊥) → LeavesAllKeys w.told w.moment w.faults w.hard w.locations w.labels w.opened old.pass.me.0 request
+undue_leaves w old r request handle a first last asks refuses = inr (λ start is h on tells success.
+    let service = replay start h in let mine = (own_there w 4 old r start h is on tells).each handle first last in
+    let refuses_here = λ (none : output_key_refusal (part_of derivation_part (operation_of service old.number handle)) a ≡ None). refuses (sym (ap (λ o. output_key_refusal (part_of derivation_part o) a) mine) ∙ none) in
+    let served = ap (λ n. (plain_step service n request).reply.status) r.number ∙ (ap (λ q. (plain_step service old.number q).reply.status) asks ∙ ap (λ (s : Served). s.reply.status) (outputs.refused service old.number handle a refuses_here)) in
+    undue_fails (part_of derivation_part (operation_of service old.number handle)) (operation_of service old.number handle) (has_live_key service old.number handle) a refuses_here (sym served ∙ success))
+
+-- A KEY THAT IT GIVES
+
+pub due_work : (own : Operation DerivationWork) (a : Attributes) → output_key_refusal own a ≡ None → (w : DerivationWork) × (own ≡ Active w)
+due_work (Active w) a none = (w, refl)
+due_work Inactive a none = cc
+due_work InError a none = cc
+
+pub given_short : (w : DerivationWork) (a : Attributes) (count : ℕ) (out : List ℕ) → IsDerivedKey w a count out → count ≡ min (stated_bytes a) 1025 → length (take count out) ≡ min (stated_bytes a) 1025
+given_short w a count out d size = ap length d.bytes ∙ (length-take-le count (next_derived w (stated_bytes a)) (let z = d.size in omega arith) ∙ size)
+
+pub given_front : (w : DerivationWork) (a : Attributes) (count : ℕ) (out : List ℕ) → IsDerivedKey w a count out → count ≡ min (stated_bytes a) 1025 → stated_bytes a ≤ 1024 → take count out ≡ next_derived w (stated_bytes a)
+given_front w a count out d size few =
+    let derived : List ℕ = next_derived w (stated_bytes a) in
+    let whole : length derived ≤ count = omega (arith, d.size, size) in
+    d.bytes ∙ take_all count derived whole
+
+-- the lease of a handle's cell is out, beside whatever else is
+pub lease_is_out : (own : Pairs) (cells : List Cell) (handle : ℕ) (cell : Cell) (lease : Option Reading) → handle - 1 < length cells → cell ≡ get_or cells (handle - 1) cell → ((f : ℕ × ℕ → Bool) → count_by f (leases_of cells) ≤ count_by f own) →
+    lease ≡ cell.lease → IsOwn lease own
+lease_is_out own cells handle cell None inside at more is = tt
+lease_is_out own cells handle cell (Some l) inside at more is =
+    let a = names_lease cells (handle - 1) cell l inside at (sym is) in let b = names_is l.slot (l.creation + 1) (leases_of cells) in let c = names_is l.slot (l.creation + 1) own in
+    let d = more (λ p. p.0 == l.slot && p.1 == (l.creation + 1)) in omega arith

@@ -1,0 +1,23 @@
+use Rattle.std.proofs.Common.{◌-◌, ◌<◌, get_or, set, refl, sym, ap, ◌∙◌, subst, arith, Some}
+use Rattle.secret_bytes.specs.Buffer.{bytes_of}
+use Rattle.store_model.specs.DerivationOperations.{with_key}
+use Rattle.store_model.specs.Handles.{HandleOperation, Deriving}
+use Rattle.store_model.specs.Operations.{Active}
+use Rattle.callers.specs.Handles.{HoldsLease, operation_at}
+use Rattle.callers.proofs.Changing.{kept}
+use Rattle.callers.proofs.handles.Handles.input_key.Goals as goal
+
+pub input_key-requires-clause-takes : goal.input_key-requires-clause-takes
+input_key-requires-clause-takes c = λ operation is. c.requires.takes c.index_mut.result.now operation (c.index_mut.ensures.value ∙ ap (λ i. get_or c.args.self.now.cells.items i c.index_mut.result.now) c.place.ensures.place) is
+
+pub input_key-requires-clause-none : goal.input_key-requires-clause-none
+input_key-requires-clause-none c = c.requires.none c.index_mut.result.now (c.index_mut.ensures.value ∙ ap (λ i. get_or c.args.self.now.cells.items i c.index_mut.result.now) c.place.ensures.place)
+
+pub returns-clause-kept : goal.returns-clause-kept
+returns-clause-kept c = λ operations w key are derives number.
+    let at = c.index_mut.ensures.value ∙ ap (λ i. get_or c.args.self.now.cells.items i c.index_mut.result.now) c.place.ensures.place in
+    let inside : c.args.op - 1 < 4 = omega (arith, c.place.ensures.last) in
+    let operation : HandleOperation = Active (record { key = Some key; work = Deriving (with_key w (bytes_of c.args.lease.buffer)) }) in
+    subst (λ i. HoldsLease c.args.self.now.cells.items (set c.args.self.now.cells.items i c.input_key.new.self) operations c.args.op operation c.args.lease) (sym c.place.ensures.place)
+    (kept c.args.self.now.cells.items operations c.args.op c.index_mut.result.now c.input_key.new.self operation c.args.lease are inside at (c.requires.none c.index_mut.result.now at) c.input_key.ensures.lease
+    (c.input_key.ensures.state (operation_at operations c.args.op) w key (are.each (c.args.op - 1) c.index_mut.result.now inside at) derives number) refl)

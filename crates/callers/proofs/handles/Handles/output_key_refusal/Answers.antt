@@ -1,0 +1,7 @@
+use Rattle.std.proofs.lemmas.List.{get_or_read_under}
+use Rattle.std.proofs.Common.{rules, ◌≡◌, subst}
+use Rattle.operation_cells.specs.Cells.{IsOperation}
+use Rattle.callers.proofs.handles.Handles.output_key_refusal.Goals as goal
+
+pub returns-clause-refusal : goal.returns-clause-refusal
+returns-clause-refusal c = λ cell operation at is. let same : cell ≡ c.index.result.now = search (rules, get_or_read_under) in c.output_key_refusal.ensures operation (subst (λ x. IsOperation x operation) same is)

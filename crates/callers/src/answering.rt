@@ -1,0 +1,181 @@
+// A call, whichever it is.
+ghost use Rattle.std.specs.Prelude.{◌≡◌, ◌≤◌, ◌<◌, ◌+◌, ◌^◌, ℕ, true, false, cond, List, Some, None, Err, IfSome, IfNone, length};
+ghost use Rattle.std.specs.Result.{is_ok};
+ghost use Rattle.psa_status.specs.declared.Status.TheVariants.{PassWorn};
+ghost use Rattle.service_calls.specs.Meanings.{model_request};
+ghost use Rattle.service_calls.specs.declared.call.Call.TheVariants as calls;
+ghost use Rattle.service_calls.specs.declared.handle_calls.HandleCall.TheVariants as handle_calls;
+ghost use Rattle.store_model.specs.Handles.{HandleOperation};
+ghost use Rattle.store_model.specs.Operations.{is_inactive};
+ghost use Rattle.callers.specs.Budget.{asked_for, counted_by, is_counted, begins_operation};
+ghost use Rattle.callers.specs.Called.{IsAnswered};
+ghost use Rattle.callers.specs.Handles.{AreOperations, operation_at};
+ghost use Rattle.callers.specs.Ready.{IsReady};
+ghost use Rattle.callers.specs.Worlds.{world};
+
+use crate::caller::Caller;
+use admission::Admission;
+use disk_face::Disk;
+use driver_dispatch::Devices;
+use psa_status::Status;
+use service_calls::{Call, HandleCall, Op, Output, StoreCall};
+use shared_store::SharedStore;
+use std::sync::Wait;
+
+// Whether a call begins an operation.
+fn begins_operation(call: &Call<'_>) -> bool
+    ensures { result ≡ begins_operation call.now }
+{
+    match *call {
+        Call::OnHandle(_, HandleCall::Setup(_)) => true,
+        _ => false,
+    }
+}
+
+impl<D: Disk, A: Devices, C: Admission> Caller<D, A, C> {
+    /// Answers a call, with its rank. `PassWorn` comes exactly where a budget of so many calls doesn't suffice for it: then
+    /// it takes no turn and has no rank, and nothing has changed. Bytes are written to the front of the buffer.
+    pub fn answer<R: Wait>(
+        &mut self,
+        rt: &R,
+        shared: &SharedStore<D, A, C>,
+        worn: u64,
+        call: &Call<'_>,
+        out: &mut [u8],
+    ) -> (Option<u64>, Result<Output, Status>)
+        requires ready { IsReady (world D.contents D.moment D.faults A.keys A.faults A.locations C.labels shared.now.lock.table.shared.table_id shared.now.lock.table.shared.key.value.value.store.opened) 0 self.old }
+        requires within { self.old.spent ≤ worn }
+        requires budget { worn ≤ 2 ^ 48 }
+        ensures ready { IsReady (world D.contents D.moment D.faults A.keys A.faults A.locations C.labels shared.now.lock.table.shared.table_id shared.now.lock.table.shared.key.value.value.store.opened) 0 self.new }
+        ensures within { self.new.spent ≤ worn }
+        ensures ranked { IfSome result.0 (λ rank. IsAnswered (world D.contents D.moment D.faults A.keys A.faults A.locations C.labels shared.now.lock.table.shared.table_id shared.now.lock.table.shared.key.value.value.store.opened) self.old.pass.me.0 self.new.pass.me.0 (model_request call.now (length out.old)) rank result.1 out.old out.new) }
+        ensures counts { IfSome result.0 (λ rank. (operations : List HandleOperation) → AreOperations self.old.handles.cells.items operations →
+            (self.old.spent + asked_for call.now operations ≤ worn) × (self.new.spent ≡ self.old.spent + counted_by call.now operations result.1)) }
+        ensures worn { IfNone result.0 ((operations : List HandleOperation) → AreOperations self.old.handles.cells.items operations →
+            (worn < self.old.spent + asked_for call.now operations) × (result.1 ≡ Err PassWorn) × (self.new ≡ self.old) × (out.new ≡ out.old)) }
+    {
+        if let Some(op) = self.ends(call) {
+            let rank = self.abort(rt, shared, call, out.len(), op);
+            return (Some(rank), Ok(Output::Done));
+        }
+        let asked = if begins_operation(call) { 2 } else { 1 };
+        if worn < self.spent + asked {
+            return (None, Err(Status::PassWorn));
+        }
+        self.spent += 1;
+        let (rank, result) = self.serve(rt, shared, call, out);
+        (Some(rank), result)
+    }
+
+    // The handle whose operation a call aborts, where that isn't inactive.
+    fn ends(&self, call: &Call<'_>) -> Option<Op>
+        ensures some { IfSome result (λ op. (call.now ≡ calls.OnHandle op handle_calls.Abort) × (1 ≤ op) × (op ≤ 4)) }
+        ensures busy { IfSome result (λ op. (operations : List HandleOperation) → AreOperations self.now.handles.cells.items operations → is_inactive (operation_at operations op) ≡ false) }
+        ensures none { IfNone result ((operations : List HandleOperation) → AreOperations self.now.handles.cells.items operations → is_counted call.now operations ≡ true) }
+    {
+        match *call {
+            Call::OnHandle(op, HandleCall::Abort) => {
+                if self.handles.is_inactive(op) {
+                    None
+                } else {
+                    Some(op)
+                }
+            }
+            _ => None,
+        }
+    }
+
+    // Serves a call that has counted once.
+    fn serve<R: Wait>(
+        &mut self,
+        rt: &R,
+        shared: &SharedStore<D, A, C>,
+        call: &Call<'_>,
+        out: &mut [u8],
+    ) -> (u64, Result<Output, Status>)
+        requires ready { IsReady (world D.contents D.moment D.faults A.keys A.faults A.locations C.labels shared.now.lock.table.shared.table_id shared.now.lock.table.shared.key.value.value.store.opened) 4 self.old }
+        requires budget { self.old.spent + cond (begins_operation call.now) 1 0 ≤ 2 ^ 48 }
+        ensures ready { IsReady (world D.contents D.moment D.faults A.keys A.faults A.locations C.labels shared.now.lock.table.shared.table_id shared.now.lock.table.shared.key.value.value.store.opened) 0 self.new }
+        ensures answered { IsAnswered (world D.contents D.moment D.faults A.keys A.faults A.locations C.labels shared.now.lock.table.shared.table_id shared.now.lock.table.shared.key.value.value.store.opened) self.old.pass.me.0 self.new.pass.me.0 (model_request call.now (length out.old)) result.0 result.1 out.old out.new }
+        ensures spent { self.new.spent ≡ self.old.spent + cond (begins_operation call.now) (cond (is_ok result.1) 1 0) 0 }
+    {
+        match *call {
+            Call::OnStore(asked) => self.serve_store(rt, shared, call, &asked, out),
+            Call::OnHandle(op, asked) => self.serve_handle(rt, shared, call, op, &asked, out),
+        }
+    }
+
+    // Serves a call on the store.
+    fn serve_store<R: Wait>(
+        &mut self,
+        rt: &R,
+        shared: &SharedStore<D, A, C>,
+        call: &Call<'_>,
+        asked: &StoreCall<'_>,
+        out: &mut [u8],
+    ) -> (u64, Result<Output, Status>)
+        requires ready { IsReady (world D.contents D.moment D.faults A.keys A.faults A.locations C.labels shared.now.lock.table.shared.table_id shared.now.lock.table.shared.key.value.value.store.opened) 4 self.old }
+        requires call { call.now ≡ calls.OnStore asked.now }
+        ensures ready { IsReady (world D.contents D.moment D.faults A.keys A.faults A.locations C.labels shared.now.lock.table.shared.table_id shared.now.lock.table.shared.key.value.value.store.opened) 0 self.new }
+        ensures answered { IsAnswered (world D.contents D.moment D.faults A.keys A.faults A.locations C.labels shared.now.lock.table.shared.table_id shared.now.lock.table.shared.key.value.value.store.opened) self.old.pass.me.0 self.new.pass.me.0 (model_request call.now (length out.old)) result.0 result.1 out.old out.new }
+        ensures spent { self.new.spent ≡ self.old.spent }
+    {
+        let room = out.len();
+        match *asked {
+            StoreCall::Import { attributes, bytes } => {
+                self.import(rt, shared, call, room, attributes, bytes)
+            }
+            StoreCall::Generate(attributes) => self.generate(rt, shared, call, room, attributes),
+            StoreCall::Copy { source, attributes } => {
+                self.copy(rt, shared, call, room, source, attributes)
+            }
+            StoreCall::Destroy(key) => self.destroy(rt, shared, call, room, key),
+            StoreCall::Purge(key) => self.purge(rt, shared, call, room, key),
+            StoreCall::GetAttributes(key) => self.attributes(rt, shared, call, room, key),
+            StoreCall::HashCompute { .. } | StoreCall::HashCompare { .. } => {
+                self.hash(rt, shared, call, asked, out)
+            }
+            StoreCall::Export(..)
+            | StoreCall::MacCompute { .. }
+            | StoreCall::MacVerify { .. }
+            | StoreCall::CipherEncrypt { .. }
+            | StoreCall::CipherDecrypt { .. }
+            | StoreCall::AeadEncrypt { .. }
+            | StoreCall::AeadDecrypt { .. } => self.compute(rt, shared, call, asked, out),
+        }
+    }
+
+    // Serves a call on a handle.
+    fn serve_handle<R: Wait>(
+        &mut self,
+        rt: &R,
+        shared: &SharedStore<D, A, C>,
+        call: &Call<'_>,
+        op: Op,
+        asked: &HandleCall<'_>,
+        out: &mut [u8],
+    ) -> (u64, Result<Output, Status>)
+        requires ready { IsReady (world D.contents D.moment D.faults A.keys A.faults A.locations C.labels shared.now.lock.table.shared.table_id shared.now.lock.table.shared.key.value.value.store.opened) 4 self.old }
+        requires budget { self.old.spent + cond (begins_operation call.now) 1 0 ≤ 2 ^ 48 }
+        requires call { call.now ≡ calls.OnHandle op asked.now }
+        ensures ready { IsReady (world D.contents D.moment D.faults A.keys A.faults A.locations C.labels shared.now.lock.table.shared.table_id shared.now.lock.table.shared.key.value.value.store.opened) 0 self.new }
+        ensures answered { IsAnswered (world D.contents D.moment D.faults A.keys A.faults A.locations C.labels shared.now.lock.table.shared.table_id shared.now.lock.table.shared.key.value.value.store.opened) self.old.pass.me.0 self.new.pass.me.0 (model_request call.now (length out.old)) result.0 result.1 out.old out.new }
+        ensures spent { self.new.spent ≡ self.old.spent + cond (begins_operation call.now) (cond (is_ok result.1) 1 0) 0 }
+    {
+        let room = out.len();
+        match *asked {
+            HandleCall::Setup(setup) => self.set_up(rt, shared, call, room, op, setup),
+            HandleCall::Step(step) => self.step(rt, shared, call, op, step, out),
+            HandleCall::InputKey { step, key } => {
+                self.input_key(rt, shared, call, room, op, step, key)
+            }
+            HandleCall::OutputKey(attributes) => {
+                self.output_key(rt, shared, call, room, op, attributes)
+            }
+            HandleCall::Abort => {
+                let rank = self.abort(rt, shared, call, room, op);
+                (rank, Ok(Output::Done))
+            }
+        }
+    }
+}

@@ -1,0 +1,120 @@
+// Calls that create a key.
+ghost use Rattle.std.specs.Prelude.{◌≡◌, ◌≤◌, ℕ, List, None, IfOk, IfErr, length};
+ghost use Rattle.turn_history.specs.History.{entries_of};
+ghost use Rattle.service_calls.specs.Meanings.{model_request};
+ghost use Rattle.service_calls.specs.declared.call.Call.TheVariants.{OnStore};
+ghost use Rattle.service_calls.specs.declared.store_calls.StoreCall.TheVariants as store_calls;
+ghost use Rattle.store_model.specs.Faults.{Plain};
+ghost use Rattle.store_core.specs.Creations.{IsMade, IsUnmade, RecordsStated, mark_unmade};
+ghost use Rattle.shared_store.specs.Turning.{CreatesKey, DecidesBefore, HasNoFilling, IsAt};
+ghost use Rattle.callers.specs.Called.{IsAnswered, Legal};
+ghost use Rattle.callers.specs.Parts.{IsCreated, SameButPass};
+ghost use Rattle.callers.specs.Ready.{IsReady};
+ghost use Rattle.callers.specs.Worlds.{world};
+
+use crate::caller::Caller;
+use admission::Admission;
+use disk_face::Disk;
+use driver_dispatch::Devices;
+use key_attributes::{Attributes, KeyId};
+use psa_status::Status;
+use service_calls::{Call, Output};
+use shared_store::SharedStore;
+use std::sync::Wait;
+use store_core::NotMade;
+
+impl<D: Disk, A: Devices, C: Admission> Caller<D, A, C> {
+    /// Creates a key of these bytes, and answers its rank beside its identifier. The output buffer that the call would have,
+    /// of so many bytes, is left.
+    pub fn import<R: Wait>(
+        &mut self,
+        rt: &R,
+        shared: &SharedStore<D, A, C>,
+        call: &Call<'_>,
+        room: usize,
+        attributes: Attributes,
+        bytes: &[u8],
+    ) -> (u64, Result<Output, Status>)
+        requires ready { IsReady (world D.contents D.moment D.faults A.keys A.faults A.locations C.labels shared.now.lock.table.shared.table_id shared.now.lock.table.shared.key.value.value.store.opened) 4 self.old }
+        requires call { call.now ≡ OnStore (store_calls.Import attributes bytes) }
+        ensures ready { IsReady (world D.contents D.moment D.faults A.keys A.faults A.locations C.labels shared.now.lock.table.shared.table_id shared.now.lock.table.shared.key.value.value.store.opened) 0 self.new }
+        ensures answered { (buffer : List ℕ) → IsAnswered (world D.contents D.moment D.faults A.keys A.faults A.locations C.labels shared.now.lock.table.shared.table_id shared.now.lock.table.shared.key.value.value.store.opened) self.old.pass.me.0 self.new.pass.me.0 (model_request call.now room) result.0 result.1 buffer buffer }
+        ensures same { SameButPass self.old self.new }
+    {
+        let (rank, made) = self.create(rt, shared, call, room, &attributes, bytes);
+        match made {
+            Ok(id) => (rank, Ok(Output::Identifier(id))),
+            Err(why) => (rank, Err(why.status())),
+        }
+    }
+
+    /// Creates a key of the bytes of another one, and answers as `import` does.
+    pub fn copy<R: Wait>(
+        &mut self,
+        rt: &R,
+        shared: &SharedStore<D, A, C>,
+        call: &Call<'_>,
+        room: usize,
+        source: KeyId,
+        attributes: Attributes,
+    ) -> (u64, Result<Output, Status>)
+        requires ready { IsReady (world D.contents D.moment D.faults A.keys A.faults A.locations C.labels shared.now.lock.table.shared.table_id shared.now.lock.table.shared.key.value.value.store.opened) 4 self.old }
+        requires call { call.now ≡ OnStore (store_calls.Copy source attributes) }
+        ensures ready { IsReady (world D.contents D.moment D.faults A.keys A.faults A.locations C.labels shared.now.lock.table.shared.table_id shared.now.lock.table.shared.key.value.value.store.opened) 0 self.new }
+        ensures answered { (buffer : List ℕ) → IsAnswered (world D.contents D.moment D.faults A.keys A.faults A.locations C.labels shared.now.lock.table.shared.table_id shared.now.lock.table.shared.key.value.value.store.opened) self.old.pass.me.0 self.new.pass.me.0 (model_request call.now room) result.0 result.1 buffer buffer }
+        ensures same { SameButPass self.old self.new }
+    {
+        let filling = shared.reserve(rt, &mut self.pass);
+        let (rank, made) = shared.copy(
+            rt,
+            &mut self.pass,
+            call,
+            room,
+            self.number,
+            filling,
+            source,
+            &attributes,
+        );
+        match made {
+            Ok(id) => (rank, Ok(Output::Identifier(id))),
+            Err(why) => (rank, Err(why.status())),
+        }
+    }
+
+    // Makes a key of these bytes for a call that creates one of them.
+    pub(crate) fn create<R: Wait>(
+        &mut self,
+        rt: &R,
+        shared: &SharedStore<D, A, C>,
+        call: &Call<'_>,
+        room: usize,
+        attributes: &Attributes,
+        bytes: &[u8],
+    ) -> (u64, Result<KeyId, NotMade>)
+        requires at { IsAt shared.now.lock.table.shared.table_id shared.now.lock.table.shared.key.value.value.store.opened self.old.pass }
+        requires left { 2 ≤ self.old.pass.me.0.turns_left }
+        requires number { self.old.number ≡ self.old.pass.me.0.number }
+        requires space { HasNoFilling self.old.pass.me.0.holding }
+        requires creates { CreatesKey D.contents D.moment D.faults A.faults A.locations C.labels shared.now.lock.table.shared.key.value.value.store.opened self.old.pass.me.0 self.old.number (model_request call.now room) (RecordsStated None self.old.number attributes.now (length bytes.now)) bytes.now }
+        ensures at { IsAt shared.now.lock.table.shared.table_id shared.now.lock.table.shared.key.value.value.store.opened self.new.pass }
+        ensures legal { Legal (world D.contents D.moment D.faults A.keys A.faults A.locations C.labels shared.now.lock.table.shared.table_id shared.now.lock.table.shared.key.value.value.store.opened) (entries_of self.new.pass.me.0.seen) }
+        ensures made { IfOk result.1 (λ id. IsCreated self.old.pass.me.0 self.new.pass.me.0 (model_request call.now room) Plain result.0
+            (DecidesBefore D.contents D.moment D.faults A.faults A.locations C.labels shared.now.lock.table.shared.key.value.value.store.opened (IsMade (RecordsStated None self.old.number attributes.now (length bytes.now)) self.old.number id.0))) }
+        ensures unmade { IfErr result.1 (λ why. IsCreated self.old.pass.me.0 self.new.pass.me.0 (model_request call.now room) (mark_unmade why) result.0
+            (DecidesBefore D.contents D.moment D.faults A.faults A.locations C.labels shared.now.lock.table.shared.key.value.value.store.opened (IsUnmade (RecordsStated None self.old.number attributes.now (length bytes.now)) why))) }
+        ensures same { SameButPass self.old self.new }
+    {
+        let filling = shared.reserve(rt, &mut self.pass);
+        shared.finish(
+            rt,
+            &mut self.pass,
+            call,
+            room,
+            self.number,
+            filling,
+            attributes,
+            bytes,
+            None,
+        )
+    }
+}

@@ -1,0 +1,79 @@
+// A key of a handle's derivation's next bytes.
+ghost use Rattle.std.specs.Prelude.{◌≡◌, ◌≤◌, ◌-◌, ◌/◌, List, None, get_or, min};
+ghost use Rattle.derivation_states.specs.KeySteps.{output_key_refusal};
+ghost use Rattle.store_model.specs.DerivationOperations.{DerivationWork, stated_bytes, without};
+ghost use Rattle.store_model.specs.Handles.{HandleOperation, Deriving, derivation_part, key_of_operation, part_of};
+ghost use Rattle.store_model.specs.Operations.{Active, InError};
+ghost use Rattle.store_model.specs.Outcome.{refusal};
+ghost use Rattle.operation_cells.specs.Cells.{IsOperation};
+ghost use Rattle.operation_cells.specs.KeyOutputs.{IsDerivedKey, derived_key_refused};
+ghost use Rattle.operation_cells.specs.declared.cell.Cell as cell;
+ghost use Rattle.callers.specs.Handles.{AreOperations, IsChanged, operation_at};
+
+use crate::handles::Handles;
+use derivation_states::KEY_ROOM;
+use key_attributes::Attributes;
+use psa_status::Status;
+use service_calls::Op;
+use slot_table::Lease;
+
+impl Handles {
+    /// What a key with these attributes is refused by a handle's derivation whose own key is still there, before the store
+    /// looks at the attributes.
+    pub fn output_key_refusal(&self, op: Op, attributes: &Attributes) -> Option<Status>
+        ensures refusal { (c : cell.Cell) (operation : HandleOperation) → c ≡ get_or self.now.cells.items (op - 1) c → IsOperation c operation →
+            result ≡ output_key_refusal (part_of derivation_part operation) attributes.now }
+        ensures first { 1 ≤ op }
+        ensures last { op ≤ 4 }
+    {
+        self.cells[Handles::place(op)].output_key_refusal(attributes)
+    }
+
+    /// Refuses a key with these attributes, answers why, and hands out the lease of an operation that is over.
+    pub fn refuse_output_key(
+        &mut self,
+        op: Op,
+        alive: bool,
+        attributes: &Attributes,
+    ) -> (Status, Option<Lease>)
+        requires some { (operations : List HandleOperation) × AreOperations self.old.cells.items operations }
+        requires refused { (c : cell.Cell) (operation : HandleOperation) → c ≡ get_or self.old.cells.items (op - 1) c → IsOperation c operation →
+            output_key_refusal (part_of derivation_part operation) attributes.now ≡ None → ⊥ }
+        ensures changed { (operations : List HandleOperation) → AreOperations self.old.cells.items operations →
+            IsChanged self.old.cells.items self.new.cells.items operations op (derived_key_refused alive (operation_at operations op) attributes.now).operation result.1 }
+        ensures reply { (operations : List HandleOperation) → AreOperations self.old.cells.items operations →
+            refusal result.0 ≡ (derived_key_refused alive (operation_at operations op) attributes.now).reply }
+        ensures first { 1 ≤ op }
+        ensures last { op ≤ 4 }
+    {
+        let cell = &mut self.cells[Handles::place(op)];
+        let status = cell.refuse_output_key(alive, attributes);
+        (status, cell.settle())
+    }
+
+    /// Takes the bytes of a key with these attributes, which the derivation doesn't refuse. The first 1,025 of them are
+    /// written to the front of `out`; the answer is how many were written.
+    pub fn output_key(&mut self, op: Op, attributes: &Attributes, out: &mut [u8; KEY_ROOM]) -> usize
+        requires some { (operations : List HandleOperation) × AreOperations self.old.cells.items operations }
+        requires due { (c : cell.Cell) (operation : HandleOperation) → c ≡ get_or self.old.cells.items (op - 1) c → IsOperation c operation →
+            output_key_refusal (part_of derivation_part operation) attributes.now ≡ None }
+        ensures taken { (operations : List HandleOperation) (w : DerivationWork) → AreOperations self.old.cells.items operations → part_of derivation_part (operation_at operations op) ≡ Active w →
+            IsChanged self.old.cells.items self.new.cells.items operations op (Active (record { key = key_of_operation (operation_at operations op); work = Deriving (without w (stated_bytes attributes.now)) })) None
+            × IsDerivedKey w attributes.now result out.new }
+        ensures length { result ≡ min (attributes.now.bits / 8) 1025 }
+        ensures first { 1 ≤ op }
+        ensures last { op ≤ 4 }
+    {
+        self.cells[Handles::place(op)].output_key(attributes, out)
+    }
+
+    /// Puts an active derivation in error, and hands out its lease.
+    pub fn fail_output(&mut self, op: Op) -> Option<Lease>
+        ensures { (operations : List HandleOperation) (w : DerivationWork) → AreOperations self.old.cells.items operations → part_of derivation_part (operation_at operations op) ≡ Active w →
+            IsChanged self.old.cells.items self.new.cells.items operations op InError result }
+    {
+        let cell = &mut self.cells[Handles::place(op)];
+        cell.fail_derivation();
+        cell.settle()
+    }
+}

@@ -1,0 +1,206 @@
+// Calls in one part with a key.
+ghost use Rattle.std.specs.Prelude.{◌≡◌, ◌≤◌, ◌<◌, ◌+◌, ◌^◌, ℕ, true, false, All, Some, Result, is_some, length, vec_capacity, vec_len};
+ghost use Rattle.std.specs.Result.{is_ok};
+ghost use Rattle.random_streams.specs.RandomWords.{drawn_from, next_bytes};
+ghost use Rattle.secret_bytes.specs.Buffer.{IsClear, bytes_of};
+ghost use Rattle.turn_history.specs.History.{entries_of};
+ghost use Rattle.key_slots.specs.Holdings.{names};
+ghost use Rattle.key_uses.specs.Uses.{FitsUse};
+ghost use Rattle.key_uses.specs.declared.key_use.KeyUse as uses;
+ghost use Rattle.service_calls.specs.Answered.{AnswersReply};
+ghost use Rattle.service_calls.specs.Meanings.{model_request, model_store_call};
+ghost use Rattle.service_calls.specs.declared.call.Call.TheVariants.{OnStore};
+ghost use Rattle.store_model.specs.Call.{buffer_after};
+ghost use Rattle.element_calls.specs.Calls.{model_call};
+ghost use Rattle.element_calls.specs.Replies.{HasDrawn};
+ghost use Rattle.keyed_calls.specs.Elements.{IsElementCall, has_vector, is_of_element, takes_vector};
+ghost use Rattle.keyed_calls.specs.Keyed.{computed_by, wanted_by};
+ghost use Rattle.shared_store.specs.Turning.{IsAt};
+ghost use Rattle.callers.specs.Called.{IsReplied, IsAnswered, Legal};
+ghost use Rattle.callers.specs.Parts.{IsGivenBack, drawn_by};
+ghost use Rattle.callers.specs.Ready.{IsReady};
+ghost use Rattle.callers.specs.Worlds.{world};
+
+use crate::caller::Caller;
+use admission::Admission;
+use disk_face::Disk;
+use driver_dispatch::Devices;
+use element_calls::{ElementCall, NotComputed};
+use key_attributes::KeyId;
+use key_uses::KeyUse;
+use keyed_calls::{compute, computed_output, element_call, takes_vector, wanted};
+use psa_status::Status;
+use random_streams::Stream;
+use service_calls::{Call, Output, StoreCall};
+use shared_store::{Looked, SharedStore};
+use slot_table::Lease;
+use std::sync::Wait;
+
+// The initialisation vector that a call would draw next, where it takes one. Nothing is drawn.
+fn next_vector(call: &StoreCall<'_>, stream: &mut Stream) -> [u8; 16]
+    requires words { stream.old.place + 256 ≤ 2 ^ 60 }
+    ensures vector { takes_vector call.now ≡ true → result ≡ next_bytes stream.old 16 }
+    ensures same { stream.new ≡ stream.old }
+{
+    let mut vector = [0; 16];
+    if takes_vector(call) {
+        let place = stream.place();
+        stream.fill(&mut vector);
+        stream.go_back(place);
+    }
+    vector
+}
+
+// Draws the initialisation vector with which the secure element has computed, where it took one.
+fn draw_vector(call: &StoreCall<'_>, computed: &Result<usize, NotComputed>, stream: &mut Stream)
+    requires words { stream.old.place + 256 ≤ 2 ^ 60 }
+    ensures { stream.new ≡ drawn_from stream.old (drawn_by call.now (is_ok computed.now)) }
+{
+    if computed.is_ok() && takes_vector(call) {
+        stream.fill(&mut [0; 16]);
+    }
+}
+
+impl<D: Disk, A: Devices, C: Admission> Caller<D, A, C> {
+    /// Computes with the bytes of a key, or has the secure element compute, where it holds the key and computes such calls.
+    /// Answers the rank beside what it gives. Bytes are written to the front of the buffer.
+    pub fn compute<R: Wait>(
+        &mut self,
+        rt: &R,
+        shared: &SharedStore<D, A, C>,
+        call: &Call<'_>,
+        asked: &StoreCall<'_>,
+        out: &mut [u8],
+    ) -> (u64, Result<Output, Status>)
+        requires ready { IsReady (world D.contents D.moment D.faults A.keys A.faults A.locations C.labels shared.now.lock.table.shared.table_id shared.now.lock.table.shared.key.value.value.store.opened) 4 self.old }
+        requires call { call.now ≡ OnStore asked.now }
+        requires keyed { is_some (wanted_by asked.now) ≡ true }
+        ensures ready { IsReady (world D.contents D.moment D.faults A.keys A.faults A.locations C.labels shared.now.lock.table.shared.table_id shared.now.lock.table.shared.key.value.value.store.opened) 0 self.new }
+        ensures answered { IsAnswered (world D.contents D.moment D.faults A.keys A.faults A.locations C.labels shared.now.lock.table.shared.table_id shared.now.lock.table.shared.key.value.value.store.opened) self.old.pass.me.0 self.new.pass.me.0 (model_request call.now (length out.old)) result.0 result.1 out.old out.new }
+        ensures spent { self.new.spent ≡ self.old.spent }
+        ensures handles { self.new.handles ≡ self.old.handles }
+    {
+        let Some((key, usage)) = wanted(asked) else {
+            unreachable!()
+        };
+        let vector = next_vector(asked, &mut self.stream);
+        let here = *asked;
+        match element_call(&here, &vector) {
+            Some(element) => {
+                self.compute_or_look(rt, shared, call, asked, key, usage, &element, out)
+            }
+            None => self.look_and_compute(rt, shared, call, asked, key, usage, out),
+        }
+    }
+
+    // Computes a call that the secure element doesn't compute.
+    fn look_and_compute<R: Wait>(
+        &mut self,
+        rt: &R,
+        shared: &SharedStore<D, A, C>,
+        call: &Call<'_>,
+        asked: &StoreCall<'_>,
+        key: KeyId,
+        usage: KeyUse,
+        out: &mut [u8],
+    ) -> (u64, Result<Output, Status>)
+        requires ready { IsReady (world D.contents D.moment D.faults A.keys A.faults A.locations C.labels shared.now.lock.table.shared.table_id shared.now.lock.table.shared.key.value.value.store.opened) 4 self.old }
+        requires call { call.now ≡ OnStore asked.now }
+        requires keyed { wanted_by asked.now ≡ Some (key.0, usage) }
+        requires local { is_of_element asked.now ≡ false }
+        ensures ready { IsReady (world D.contents D.moment D.faults A.keys A.faults A.locations C.labels shared.now.lock.table.shared.table_id shared.now.lock.table.shared.key.value.value.store.opened) 0 self.new }
+        ensures answered { IsAnswered (world D.contents D.moment D.faults A.keys A.faults A.locations C.labels shared.now.lock.table.shared.table_id shared.now.lock.table.shared.key.value.value.store.opened) self.old.pass.me.0 self.new.pass.me.0 (model_request call.now (length out.old)) result.0 result.1 out.old out.new }
+        ensures spent { self.new.spent ≡ self.old.spent }
+        ensures handles { self.new.handles ≡ self.old.handles }
+    {
+        let Some(spare) = self.spares.pop() else {
+            unreachable!()
+        };
+        let (rank, looked) = shared.look(rt, &mut self.pass, call, out.len(), key, usage, spare);
+        match looked {
+            Ok(lease) => (rank, self.compute_with(rt, shared, asked, lease, out)),
+            Err((status, spare)) => {
+                self.spares.push_reserved(spare);
+                (rank, Err(status))
+            }
+        }
+    }
+
+    // Computes a call that the secure element computes where it holds the key.
+    fn compute_or_look<R: Wait>(
+        &mut self,
+        rt: &R,
+        shared: &SharedStore<D, A, C>,
+        call: &Call<'_>,
+        asked: &StoreCall<'_>,
+        key: KeyId,
+        usage: KeyUse,
+        element: &ElementCall<'_>,
+        out: &mut [u8],
+    ) -> (u64, Result<Output, Status>)
+        requires ready { IsReady (world D.contents D.moment D.faults A.keys A.faults A.locations C.labels shared.now.lock.table.shared.table_id shared.now.lock.table.shared.key.value.value.store.opened) 4 self.old }
+        requires call { call.now ≡ OnStore asked.now }
+        requires keyed { wanted_by asked.now ≡ Some (key.0, usage) }
+        requires element { IsElementCall asked.now element.now }
+        requires model { model_store_call asked.now (length out.old) ≡ model_call element.now key.0 (length out.old) }
+        requires vector { HasDrawn element.now (next_bytes self.old.stream 16) }
+        requires draws { has_vector element.now ≡ takes_vector asked.now }
+        ensures ready { IsReady (world D.contents D.moment D.faults A.keys A.faults A.locations C.labels shared.now.lock.table.shared.table_id shared.now.lock.table.shared.key.value.value.store.opened) 0 self.new }
+        ensures answered { IsAnswered (world D.contents D.moment D.faults A.keys A.faults A.locations C.labels shared.now.lock.table.shared.table_id shared.now.lock.table.shared.key.value.value.store.opened) self.old.pass.me.0 self.new.pass.me.0 (model_request call.now (length out.old)) result.0 result.1 out.old out.new }
+        ensures spent { self.new.spent ≡ self.old.spent }
+        ensures handles { self.new.handles ≡ self.old.handles }
+    {
+        let Some(spare) = self.spares.pop() else {
+            unreachable!()
+        };
+        let (rank, looked) = shared.look_or_compute(
+            rt,
+            &mut self.pass,
+            call,
+            key,
+            usage,
+            spare,
+            element,
+            out,
+        );
+        match looked {
+            Looked::Computed(computed, spare) => {
+                self.spares.push_reserved(spare);
+                draw_vector(asked, &computed, &mut self.stream);
+                (rank, computed_output(asked, computed))
+            }
+            Looked::Lent(lease) => (rank, self.compute_with(rt, shared, asked, lease, out)),
+            Looked::Refused(status, spare) => {
+                self.spares.push_reserved(spare);
+                (rank, Err(status))
+            }
+        }
+    }
+
+    // Computes with the bytes of a key that is lent, and gives the lease back.
+    fn compute_with<R: Wait>(
+        &mut self,
+        rt: &R,
+        shared: &SharedStore<D, A, C>,
+        asked: &StoreCall<'_>,
+        lease: Lease,
+        out: &mut [u8],
+    ) -> Result<Output, Status>
+        requires keyed { is_some (wanted_by asked.now) ≡ true }
+        requires fits { (id : ℕ) (wanted : uses.KeyUse) → wanted_by asked.now ≡ Some (id, wanted) → FitsUse wanted (bytes_of lease.buffer) }
+        requires words { self.old.stream.place + 256 ≤ 2 ^ 60 }
+        requires at { IsAt shared.now.lock.table.shared.table_id shared.now.lock.table.shared.key.value.value.store.opened self.old.pass }
+        requires legal { Legal (world D.contents D.moment D.faults A.keys A.faults A.locations C.labels shared.now.lock.table.shared.table_id shared.now.lock.table.shared.key.value.value.store.opened) (entries_of self.old.pass.me.0.seen) }
+        requires left { 0 < self.old.pass.me.0.turns_left }
+        requires out { 0 < names lease.slot (lease.creation + 1) self.old.pass.me.0.holding }
+        requires room { vec_len self.old.spares < vec_capacity self.old.spares }
+        ensures at { IsAt shared.now.lock.table.shared.table_id shared.now.lock.table.shared.key.value.value.store.opened self.new.pass }
+        ensures legal { Legal (world D.contents D.moment D.faults A.keys A.faults A.locations C.labels shared.now.lock.table.shared.table_id shared.now.lock.table.shared.key.value.value.store.opened) (entries_of self.new.pass.me.0.seen) }
+        ensures fits { IsReplied result out.old out.new (computed_by asked.now (bytes_of lease.buffer) (next_bytes self.old.stream) (length out.old)).reply }
+        ensures back { IsGivenBack lease (record self.old { stream = drawn_from self.old.stream (computed_by asked.now (bytes_of lease.buffer) (next_bytes self.old.stream) (length out.old)).drawn }) self.new }
+    {
+        let result = compute(asked, lease.as_slice(), &mut self.stream, out);
+        self.give_back(rt, shared, Some(lease));
+        result
+    }
+}

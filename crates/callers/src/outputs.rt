@@ -1,0 +1,132 @@
+// Calls that create a key of derived bytes.
+ghost use Rattle.std.specs.Prelude.{◌≡◌, ◌≤◌, ◌-◌, ℕ, List, None, get_or, replicate};
+ghost use Rattle.derivation_states.specs.KeySteps.{output_key_refusal};
+ghost use Rattle.service_calls.specs.Meanings.{model_request};
+ghost use Rattle.service_calls.specs.declared.call.Call.TheVariants as calls;
+ghost use Rattle.service_calls.specs.declared.handle_calls.HandleCall.TheVariants as handle_calls;
+ghost use Rattle.store_model.specs.Handles.{HandleOperation, derivation_part, part_of};
+ghost use Rattle.operation_cells.specs.Cells.{IsOperation};
+ghost use Rattle.operation_cells.specs.declared.cell.Cell.{Cell};
+ghost use Rattle.callers.specs.Called.{IsAnswered};
+ghost use Rattle.callers.specs.Ready.{IsReady};
+ghost use Rattle.callers.specs.Worlds.{world};
+
+use crate::caller::Caller;
+use admission::Admission;
+use derivation_states::KEY_ROOM;
+use disk_face::Disk;
+use driver_dispatch::Devices;
+use key_attributes::Attributes;
+use psa_status::Status;
+use service_calls::{Call, Op, Output};
+use shared_store::SharedStore;
+use std::sync::Wait;
+
+// Clears a buffer of a key's bytes.
+fn wipe(buffer: &mut [u8; KEY_ROOM])
+    ensures { buffer.new ≡ replicate 1025 0 }
+{
+    *buffer = [0; KEY_ROOM];
+}
+
+impl<D: Disk, A: Devices, C: Admission> Caller<D, A, C> {
+    /// Creates a key of the next bytes of a handle's derivation, as many as the stated bits say, and answers its rank beside
+    /// its identifier. A refusal puts the derivation in error, but where too few bytes are left. The output buffer that the
+    /// call would have, of so many bytes, is left.
+    pub fn output_key<R: Wait>(
+        &mut self,
+        rt: &R,
+        shared: &SharedStore<D, A, C>,
+        call: &Call<'_>,
+        room: usize,
+        op: Op,
+        attributes: Attributes,
+    ) -> (u64, Result<Output, Status>)
+        requires ready { IsReady (world D.contents D.moment D.faults A.keys A.faults A.locations C.labels shared.now.lock.table.shared.table_id shared.now.lock.table.shared.key.value.value.store.opened) 4 self.old }
+        requires call { call.now ≡ calls.OnHandle op (handle_calls.OutputKey attributes) }
+        ensures ready { IsReady (world D.contents D.moment D.faults A.keys A.faults A.locations C.labels shared.now.lock.table.shared.table_id shared.now.lock.table.shared.key.value.value.store.opened) 0 self.new }
+        ensures answered { (buffer : List ℕ) → IsAnswered (world D.contents D.moment D.faults A.keys A.faults A.locations C.labels shared.now.lock.table.shared.table_id shared.now.lock.table.shared.key.value.value.store.opened) self.old.pass.me.0 self.new.pass.me.0 (model_request call.now room) result.0 result.1 buffer buffer }
+        ensures spent { self.new.spent ≡ self.old.spent }
+    {
+        match self.handles.output_key_refusal(op, &attributes) {
+            Some(_) => self.refuse_output_key(rt, shared, call, room, op, attributes),
+            None => {
+                let mut bytes = [0; KEY_ROOM];
+                let answer = self.derive_key(rt, shared, call, room, op, attributes, &mut bytes);
+                wipe(&mut bytes);
+                answer
+            }
+        }
+    }
+
+    // Asks for a key that the derivation refuses.
+    fn refuse_output_key<R: Wait>(
+        &mut self,
+        rt: &R,
+        shared: &SharedStore<D, A, C>,
+        call: &Call<'_>,
+        room: usize,
+        op: Op,
+        attributes: Attributes,
+    ) -> (u64, Result<Output, Status>)
+        requires ready { IsReady (world D.contents D.moment D.faults A.keys A.faults A.locations C.labels shared.now.lock.table.shared.table_id shared.now.lock.table.shared.key.value.value.store.opened) 4 self.old }
+        requires call { call.now ≡ calls.OnHandle op (handle_calls.OutputKey attributes) }
+        requires refused { (c : Cell) (operation : HandleOperation) → c ≡ get_or self.old.handles.cells.items (op - 1) c → IsOperation c operation →
+            output_key_refusal (part_of derivation_part operation) attributes ≡ None → ⊥ }
+        requires first { 1 ≤ op }
+        requires last { op ≤ 4 }
+        ensures ready { IsReady (world D.contents D.moment D.faults A.keys A.faults A.locations C.labels shared.now.lock.table.shared.table_id shared.now.lock.table.shared.key.value.value.store.opened) 0 self.new }
+        ensures answered { (buffer : List ℕ) → IsAnswered (world D.contents D.moment D.faults A.keys A.faults A.locations C.labels shared.now.lock.table.shared.table_id shared.now.lock.table.shared.key.value.value.store.opened) self.old.pass.me.0 self.new.pass.me.0 (model_request call.now room) result.0 result.1 buffer buffer }
+        ensures spent { self.new.spent ≡ self.old.spent }
+    {
+        let (rank, alive) = self.ask(rt, shared, call, room, op);
+        let (status, lease) = self.handles.refuse_output_key(op, alive, &attributes);
+        self.give_back(rt, shared, lease);
+        (rank, Err(status))
+    }
+
+    // Creates a key that the derivation gives, by way of a buffer.
+    fn derive_key<R: Wait>(
+        &mut self,
+        rt: &R,
+        shared: &SharedStore<D, A, C>,
+        call: &Call<'_>,
+        room: usize,
+        op: Op,
+        attributes: Attributes,
+        bytes: &mut [u8; KEY_ROOM],
+    ) -> (u64, Result<Output, Status>)
+        requires ready { IsReady (world D.contents D.moment D.faults A.keys A.faults A.locations C.labels shared.now.lock.table.shared.table_id shared.now.lock.table.shared.key.value.value.store.opened) 4 self.old }
+        requires call { call.now ≡ calls.OnHandle op (handle_calls.OutputKey attributes) }
+        requires due { (c : Cell) (operation : HandleOperation) → c ≡ get_or self.old.handles.cells.items (op - 1) c → IsOperation c operation →
+            output_key_refusal (part_of derivation_part operation) attributes ≡ None }
+        requires first { 1 ≤ op }
+        requires last { op ≤ 4 }
+        ensures ready { IsReady (world D.contents D.moment D.faults A.keys A.faults A.locations C.labels shared.now.lock.table.shared.table_id shared.now.lock.table.shared.key.value.value.store.opened) 0 self.new }
+        ensures answered { (buffer : List ℕ) → IsAnswered (world D.contents D.moment D.faults A.keys A.faults A.locations C.labels shared.now.lock.table.shared.table_id shared.now.lock.table.shared.key.value.value.store.opened) self.old.pass.me.0 self.new.pass.me.0 (model_request call.now room) result.0 result.1 buffer buffer }
+        ensures spent { self.new.spent ≡ self.old.spent }
+    {
+        let filling = shared.reserve(rt, &mut self.pass);
+        let count = self.handles.output_key(op, &attributes, bytes);
+        let lease = self.handles.lease(op);
+        let (rank, made) = shared.finish(
+            rt,
+            &mut self.pass,
+            call,
+            room,
+            self.number,
+            filling,
+            &attributes,
+            &bytes[..count],
+            lease,
+        );
+        match made {
+            Ok(id) => (rank, Ok(Output::Identifier(id))),
+            Err(why) => {
+                let lease = self.handles.fail_output(op);
+                self.give_back(rt, shared, lease);
+                (rank, Err(why.status()))
+            }
+        }
+    }
+}
