@@ -22,3 +22,4 @@ pub mod Inputting
 pub mod KeySizes
 pub mod Deriving
 pub mod Outputting
+pub mod Ending

@@ -43,6 +43,11 @@ module _ {D A C : Type 0} where
   IsBack None old new = new ≡ old
   IsBack (Some lease) old new = IsGivenBack lease old new
 
+  -- a lease, where there is one, was given back in a turn without rank
+  abbrev pub IsReturned : Option Reading → (v u : View Entry (Opened D A C)) → Type 0
+  IsReturned None v u = u ≡ v
+  IsReturned (Some lease) v u = IsLater v u (without_pair (lease_pair lease) v.holding)
+
   -- A slot was reserved in a turn without rank, and in a ranked one after that a key was made in it, or the slot was given up.
   pub record IsCreated (v u : View Entry (Opened D A C)) (call : Request) (mark : FaultMark) (rank : ℕ) (Decided : List Entry → Entry → Type 0) : Type 0 where
     pub before : List Entry

@@ -3,6 +3,7 @@
 
 mod answering;
 mod caller;
+mod closing;
 mod creations;
 mod derived;
 mod generation;
