@@ -32,7 +32,7 @@ use Rattle.callers.proofs.Journeys.{called, called_then}
 use Rattle.callers.proofs.Owned.{applied_own}
 use Rattle.callers.proofs.Readying.{known, ready}
 
-names_few : (i k : ℕ) (own : Pairs) → names i k own ≤ length own
+pub names_few : (i k : ℕ) (own : Pairs) → names i k own ≤ length own
 names_few i k [] = omega arith
 names_few i k (p ∷ ps) = let r = names_few i k ps in let s = one (p.0 == i) (p.1 == k) in omega arith
   where
@@ -41,7 +41,7 @@ names_few i k (p ∷ ps) = let r = names_few i k ps in let s = one (p.0 == i) (p
     one true false = omega arith
     one false c = omega arith
 
-if_some : (P : Reading → Type 0) (o : Option Reading) → ((l : Reading) → o ≡ Some l → P l) → IfSome o P
+pub if_some : (P : Reading → Type 0) (o : Option Reading) → ((l : Reading) → o ≡ Some l → P l) → IfSome o P
 if_some P None h = tt
 if_some P (Some l) h = h l refl
 

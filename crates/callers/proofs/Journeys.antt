@@ -19,7 +19,7 @@ use Rattle.callers.specs.Called.{IsCalled}
 pub begins_through : {A : Type 0} (whole middle part : List A) → StartsWith whole middle → StartsWith middle part → StartsWith whole part
 begins_through whole middle part s t = (t.0 ++ s.0, s.1 ∙ (ap (λ l. l ++ s.0) t.1 ∙ append_assoc part t.0 s.0))
 
-seen_begins : {B : Type 0} (v w : View Entry B) → StartsWith w.seen v.seen → StartsWith (entries_of w.seen) (entries_of v.seen)
+pub seen_begins : {B : Type 0} (v w : View Entry B) → StartsWith w.seen v.seen → StartsWith (entries_of w.seen) (entries_of v.seen)
 seen_begins v w s = (entries_of s.0, ap entries_of s.1 ∙ entries-append v.seen s.0)
 
 module _ {B : Type 0} where
@@ -109,7 +109,7 @@ no_more [] ys e = e
 no_more (x ∷ xs) ys e = no_more xs ys (let f : x ∷ (xs ++ ys) ≡ x ∷ xs = e in cc)
 
 -- a history that begins so and has no further call of the caller's
-own_later : (n : ℕ) (start : Service) (whole part : List Entry) → StartsWith whole part → calls_by caller_of n whole ≡ calls_by caller_of n part → own_of (replay start whole) n ≡ own_of (replay start part) n
+pub own_later : (n : ℕ) (start : Service) (whole part : List Entry) → StartsWith whole part → calls_by caller_of n whole ≡ calls_by caller_of n part → own_of (replay start whole) n ≡ own_of (replay start part) n
 own_later n start whole part s same =
     let parts : calls_by caller_of n whole ≡ calls_by caller_of n part ++ calls_by caller_of n s.0 = ap (calls_by caller_of n) s.1 ∙ calls-append caller_of n part s.0 in
     ap (λ h. own_of (replay start h) n) s.1 ∙ (ap (λ (x : Service). own_of x n) (replay-append start part s.0)

@@ -22,4 +22,6 @@ pub mod Inputting
 pub mod KeySizes
 pub mod Deriving
 pub mod Outputting
-pub mod Ending
+pub mod Retiring
+pub mod Starting
+pub mod Learning

@@ -1,5 +1,5 @@
 -- The operations of a caller's four handles, as one of them changes.
-use Rattle.std.specs.Prelude.{◌≡◌, ◌<◌, ℕ, ◌+◌, ◌-◌, Bool, false, not, count_by, get_or, List, [], ◌∷◌, ◌++◌, length, slice_set, Option, Some, None}
+use Rattle.std.specs.Prelude.{◌≡◌, ◌<◌, ℕ, ◌+◌, ◌-◌, Bool, false, not, count_by, get_or, List, [], ◌∷◌, ◌++◌, All, length, slice_set, Option, Some, None}
 use Rattle.slot_table.specs.Lent.{Reading}
 use Rattle.key_slots.specs.Holdings.{Pairs, names}
 use Rattle.operation_phase.specs.Turns.{is_active}
@@ -15,6 +15,10 @@ pub record AreOperations (cells : List Cell) (operations : List HandleOperation)
   pub count : length operations ≡ 4
   pub each : (i : ℕ) (c : Cell) → i < 4 → c ≡ get_or cells i c → IsOperation c (get_or operations i Inactive)
   pub over : (i : ℕ) (c : Cell) → i < 4 → c ≡ get_or cells i c → is_active (get_or operations i Inactive) ≡ false → c.lease ≡ None
+
+-- each cell is inactive and holds no lease
+abbrev pub AreIdle : List Cell → Type 0
+AreIdle cells = All (λ c. IsOperation c Inactive × (c.lease ≡ None)) cells
 
 -- the operation of a handle, from 1 on
 abbrev pub operation_at : List HandleOperation → (handle : ℕ) → HandleOperation

@@ -2,5 +2,6 @@ pub mod Worlds
 pub mod Called
 pub mod Handles
 pub mod Ready
+pub mod Retired
 pub mod Parts
 pub mod Budget

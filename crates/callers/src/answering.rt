@@ -14,6 +14,7 @@ ghost use Rattle.callers.specs.Ready.{IsReady};
 ghost use Rattle.callers.specs.Worlds.{world};
 
 use crate::caller::Caller;
+use crate::gates::Gate;
 use admission::Admission;
 use disk_face::Disk;
 use driver_dispatch::Devices;
@@ -35,10 +36,11 @@ fn begins_operation(call: &Call<'_>) -> bool
 impl<D: Disk, A: Devices, C: Admission> Caller<D, A, C> {
     /// Answers a call, with its rank. `PassWorn` comes exactly where a budget of so many calls doesn't suffice for it: then
     /// it takes no turn and has no rank, and nothing has changed. Bytes are written to the front of the buffer.
-    pub fn answer<R: Wait>(
+    pub fn answer<R: Wait, G: Gate>(
         &mut self,
         rt: &R,
         shared: &SharedStore<D, A, C>,
+        gate: &G,
         worn: u64,
         call: &Call<'_>,
         out: &mut [u8],
@@ -63,7 +65,7 @@ impl<D: Disk, A: Devices, C: Admission> Caller<D, A, C> {
             return (None, Err(Status::PassWorn));
         }
         self.spent += 1;
-        let (rank, result) = self.serve(rt, shared, call, out);
+        let (rank, result) = self.serve(rt, shared, gate, call, out);
         (Some(rank), result)
     }
 
@@ -86,10 +88,11 @@ impl<D: Disk, A: Devices, C: Admission> Caller<D, A, C> {
     }
 
     // Serves a call that has counted once.
-    fn serve<R: Wait>(
+    fn serve<R: Wait, G: Gate>(
         &mut self,
         rt: &R,
         shared: &SharedStore<D, A, C>,
+        gate: &G,
         call: &Call<'_>,
         out: &mut [u8],
     ) -> (u64, Result<Output, Status>)
@@ -100,16 +103,17 @@ impl<D: Disk, A: Devices, C: Admission> Caller<D, A, C> {
         ensures spent { self.new.spent ≡ self.old.spent + cond (begins_operation call.now) (cond (is_ok result.1) 1 0) 0 }
     {
         match *call {
-            Call::OnStore(asked) => self.serve_store(rt, shared, call, &asked, out),
-            Call::OnHandle(op, asked) => self.serve_handle(rt, shared, call, op, &asked, out),
+            Call::OnStore(asked) => self.serve_store(rt, shared, gate, call, &asked, out),
+            Call::OnHandle(op, asked) => self.serve_handle(rt, shared, gate, call, op, &asked, out),
         }
     }
 
     // Serves a call on the store.
-    fn serve_store<R: Wait>(
+    fn serve_store<R: Wait, G: Gate>(
         &mut self,
         rt: &R,
         shared: &SharedStore<D, A, C>,
+        gate: &G,
         call: &Call<'_>,
         asked: &StoreCall<'_>,
         out: &mut [u8],
@@ -123,11 +127,13 @@ impl<D: Disk, A: Devices, C: Admission> Caller<D, A, C> {
         let room = out.len();
         match *asked {
             StoreCall::Import { attributes, bytes } => {
-                self.import(rt, shared, call, room, attributes, bytes)
+                self.import(rt, shared, gate, call, room, attributes, bytes)
             }
-            StoreCall::Generate(attributes) => self.generate(rt, shared, call, room, attributes),
+            StoreCall::Generate(attributes) => self.generate(
+                rt, shared, gate, call, room, attributes,
+            ),
             StoreCall::Copy { source, attributes } => {
-                self.copy(rt, shared, call, room, source, attributes)
+                self.copy(rt, shared, gate, call, room, source, attributes)
             }
             StoreCall::Destroy(key) => self.destroy(rt, shared, call, room, key),
             StoreCall::Purge(key) => self.purge(rt, shared, call, room, key),
@@ -141,15 +147,16 @@ impl<D: Disk, A: Devices, C: Admission> Caller<D, A, C> {
             | StoreCall::CipherEncrypt { .. }
             | StoreCall::CipherDecrypt { .. }
             | StoreCall::AeadEncrypt { .. }
-            | StoreCall::AeadDecrypt { .. } => self.compute(rt, shared, call, asked, out),
+            | StoreCall::AeadDecrypt { .. } => self.compute(rt, shared, gate, call, asked, out),
         }
     }
 
     // Serves a call on a handle.
-    fn serve_handle<R: Wait>(
+    fn serve_handle<R: Wait, G: Gate>(
         &mut self,
         rt: &R,
         shared: &SharedStore<D, A, C>,
+        gate: &G,
         call: &Call<'_>,
         op: Op,
         asked: &HandleCall<'_>,
@@ -164,13 +171,13 @@ impl<D: Disk, A: Devices, C: Admission> Caller<D, A, C> {
     {
         let room = out.len();
         match *asked {
-            HandleCall::Setup(setup) => self.set_up(rt, shared, call, room, op, setup),
+            HandleCall::Setup(setup) => self.set_up(rt, shared, gate, call, room, op, setup),
             HandleCall::Step(step) => self.step(rt, shared, call, op, step, out),
             HandleCall::InputKey { step, key } => {
-                self.input_key(rt, shared, call, room, op, step, key)
+                self.input_key(rt, shared, gate, call, room, op, step, key)
             }
             HandleCall::OutputKey(attributes) => {
-                self.output_key(rt, shared, call, room, op, attributes)
+                self.output_key(rt, shared, gate, call, room, op, attributes)
             }
             HandleCall::Abort => {
                 let rank = self.abort(rt, shared, call, room, op);

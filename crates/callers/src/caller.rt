@@ -1,11 +1,22 @@
 // A caller of the store.
+ghost use Rattle.std.specs.Prelude.{◌≡◌, ◌≤◌, ◌<◌, [], All, length};
+ghost use Rattle.secret_bytes.specs.Buffer.{IsClear};
+ghost use Rattle.turn_history.specs.Views.{new_pass};
+ghost use Rattle.store_model.specs.Handles.{Service};
+ghost use Rattle.store_model.specs.Sound.{IsSoundStore};
+ghost use Rattle.store_core.specs.Start.{IsStart};
+ghost use Rattle.callers.specs.Handles.{AreIdle};
+ghost use Rattle.callers.specs.Ready.{IsReady};
+ghost use Rattle.callers.specs.Worlds.{world};
+
 use crate::handles::Handles;
 use admission::Admission;
 use disk_face::Disk;
 use driver_dispatch::Devices;
+use operation_cells::Cell;
 use random_streams::Stream;
 use secret_bytes::Secret;
-use shared_store::Held;
+use shared_store::{Held, SharedStore};
 use turn_history::Pass;
 
 /// One of the sixteen callers of a store that is shared: its right to take turns, its stream of random words, five spare
@@ -18,4 +29,62 @@ pub struct Caller<D: Disk, A: Devices, C: Admission> {
     pub(crate) stream: Stream,
     pub(crate) spares: Vec<Secret>,
     pub(crate) handles: Handles,
+}
+
+impl<D: Disk, A: Devices, C: Admission> Caller<D, A, C> {
+    /// The caller of this number, 1 to 16, by its pass of a store that was opened with this seed. It has called nothing. The
+    /// spares are five, and the cells four.
+    pub fn new(
+        _shared: &SharedStore<D, A, C>,
+        pass: Pass<Held<D, A, C>>,
+        number: u8,
+        seed: &[u8; 32],
+        spares: Vec<Secret>,
+        cells: Vec<Cell>,
+    ) -> Caller<D, A, C>
+        requires table { pass.table_id ≡ _shared.now.lock.table.shared.table_id }
+        requires fresh { pass.me ≡ (new_pass _shared.now.lock.table.shared.key.value.value.store.opened number, []) }
+        requires first { 1 ≤ number }
+        requires last { number ≤ 16 }
+        requires sound { (start : Service) → IsStart D.contents D.moment D.faults A.faults A.locations C.labels _shared.now.lock.table.shared.key.value.value.store.opened start → IsSoundStore start.store }
+        requires seed { seed.now ≡ _shared.now.lock.table.shared.key.value.value.store.opened.seed.value }
+        requires five { length spares.items ≡ 5 }
+        requires clear { All IsClear spares.items }
+        requires four { length cells.items ≡ 4 }
+        requires inactive { AreIdle cells.items }
+        ensures ready { IsReady (world D.contents D.moment D.faults A.keys A.faults A.locations C.labels _shared.now.lock.table.shared.table_id _shared.now.lock.table.shared.key.value.value.store.opened) 0 result }
+        ensures pass { result.pass ≡ pass }
+        ensures number { result.number ≡ number }
+        ensures spent { result.spent ≡ 0 }
+    {
+        Caller {
+            number,
+            spent: 0,
+            pass,
+            stream: Stream::new(seed, number),
+            spares,
+            handles: Handles { cells },
+        }
+    }
+
+    /// From 1 to 16.
+    pub fn number(&self) -> u8
+        ensures { result ≡ self.now.number }
+    {
+        self.number
+    }
+
+    /// What its calls have counted together.
+    pub fn spent(&self) -> u64
+        ensures { result ≡ self.now.spent }
+    {
+        self.spent
+    }
+
+    /// Its right to take turns.
+    pub fn pass(&self) -> &Pass<Held<D, A, C>>
+        ensures { result.now ≡ self.now.pass }
+    {
+        &self.pass
+    }
 }

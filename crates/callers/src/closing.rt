@@ -1,12 +1,11 @@
 // How a caller ends.
-ghost use Rattle.std.specs.Prelude.{◌≡◌, ◌<◌, ◌+◌, IfSome};
+ghost use Rattle.std.specs.Prelude.{◌≡◌, ◌-◌, All, None};
 ghost use Rattle.turn_history.specs.History.{entries_of};
-ghost use Rattle.turn_history.specs.Passes.{IsIdle};
-ghost use Rattle.key_slots.specs.Holdings.{names};
 ghost use Rattle.shared_store.specs.Turning.{IsAt};
 ghost use Rattle.callers.specs.Called.{Legal};
-ghost use Rattle.callers.specs.Parts.{IsReturned};
+ghost use Rattle.callers.specs.Handles.{AreIdle};
 ghost use Rattle.callers.specs.Ready.{IsReady};
+ghost use Rattle.callers.specs.Retired.{IsRetired, IsRetiring, MakesNoCall};
 ghost use Rattle.callers.specs.Worlds.{world};
 
 use crate::caller::Caller;
@@ -14,36 +13,58 @@ use crate::handles::Handles;
 use admission::Admission;
 use disk_face::Disk;
 use driver_dispatch::Devices;
+use service_calls::Op;
 use shared_store::{Held, SharedStore};
-use slot_table::Lease;
 use std::sync::Wait;
 use turn_history::Pass;
 
-// Gives a lease back, where there is one, by a pass whose caller ends. No rank.
-fn give_back<D: Disk, A: Devices, C: Admission, R: Wait>(
-    rt: &R,
-    shared: &SharedStore<D, A, C>,
-    pass: &mut Pass<Held<D, A, C>>,
-    lease: Option<Lease>,
-)
-    requires at { IsAt shared.now.lock.table.shared.table_id shared.now.lock.table.shared.key.value.value.store.opened pass.old }
-    requires left { 0 < pass.old.me.0.turns_left }
-    requires out { IfSome lease (λ l. 0 < names l.slot (l.creation + 1) pass.old.me.0.holding) }
-    ensures at { IsAt shared.now.lock.table.shared.table_id shared.now.lock.table.shared.key.value.value.store.opened pass.new }
-    ensures returned { IsReturned lease pass.old.me.0 pass.new.me.0 }
-{
-    if let Some(lease) = lease {
-        let _spare = shared.give_back(rt, pass, lease);
+impl Handles {
+    // Lets the cells go, which hold no lease any more.
+    fn free(self)
+        requires { All (λ c. c.lease ≡ None) self.cells.items }
+    {
+        let Handles { mut cells } = self;
+        while let Some(cell) = cells.pop() {
+            let _states = cell.into_states();
+        }
+        cells.destroy_empty();
     }
 }
 
 impl<D: Disk, A: Devices, C: Admission> Caller<D, A, C> {
-    /// Wipes all operations, gives their leases back, and hands the pass out, which has nothing more out of the store. No
-    /// rank.
-    pub fn end<R: Wait>(self, rt: &R, shared: &SharedStore<D, A, C>) -> Pass<Held<D, A, C>>
-        requires ready { IsReady (world D.contents D.moment D.faults A.keys A.faults A.locations C.labels shared.now.lock.table.shared.table_id shared.now.lock.table.shared.key.value.value.store.opened) 0 self }
-        ensures idle { IsIdle shared.now.lock.table.shared.table_id result }
-        ensures account { (result.me.0.number ≡ self.number) × (result.me.0.weight ≡ 1) × (result.me.0.calls ≡ self.pass.me.0.calls) }
+    /// Wipes all operations, and gives their leases back. The caller then has nothing more out of the store, and makes no
+    /// further call. No rank.
+    pub fn retire<R: Wait>(&mut self, rt: &R, shared: &SharedStore<D, A, C>)
+        requires ready { IsReady (world D.contents D.moment D.faults A.keys A.faults A.locations C.labels shared.now.lock.table.shared.table_id shared.now.lock.table.shared.key.value.value.store.opened) 0 self.old }
+        ensures retired { IsRetired shared.now.lock.table.shared.table_id self.new }
+        ensures at { IsAt shared.now.lock.table.shared.table_id shared.now.lock.table.shared.key.value.value.store.opened self.new.pass }
+        ensures legal { Legal (world D.contents D.moment D.faults A.keys A.faults A.locations C.labels shared.now.lock.table.shared.table_id shared.now.lock.table.shared.key.value.value.store.opened) (entries_of self.new.pass.me.0.seen) }
+        ensures quiet { MakesNoCall self.old.pass.me.0 self.new.pass.me.0 }
+        ensures number { self.new.number ≡ self.old.number }
+    {
+        for place in 0..4u8 {
+            let Some(op) = Op::new(place + 1) else {
+                unreachable!()
+            };
+            self.wipe(rt, shared, op);
+        }
+    }
+
+    // Wipes a handle's operation, and gives its lease back. No rank.
+    fn wipe<R: Wait>(&mut self, rt: &R, shared: &SharedStore<D, A, C>, op: Op)
+        requires retiring { IsRetiring (world D.contents D.moment D.faults A.keys A.faults A.locations C.labels shared.now.lock.table.shared.table_id shared.now.lock.table.shared.key.value.value.store.opened) (op - 1) self.old }
+        ensures retiring { IsRetiring (world D.contents D.moment D.faults A.keys A.faults A.locations C.labels shared.now.lock.table.shared.table_id shared.now.lock.table.shared.key.value.value.store.opened) op self.new }
+        ensures quiet { MakesNoCall self.old.pass.me.0 self.new.pass.me.0 }
+        ensures number { self.new.number ≡ self.old.number }
+    {
+        let lease = self.handles.abort(op);
+        self.give_back(rt, shared, lease);
+    }
+
+    /// The pass of a caller that has retired.
+    pub fn into_pass(self) -> Pass<Held<D, A, C>>
+        requires retired { AreIdle self.handles.cells.items }
+        ensures pass { result ≡ self.pass }
     {
         let Caller {
             number: _number,
@@ -53,14 +74,7 @@ impl<D: Disk, A: Devices, C: Admission> Caller<D, A, C> {
             spares: _spares,
             handles,
         } = self;
-        let Handles { mut cells } = handles;
-        let mut pass = pass;
-        while let Some(mut cell) = cells.pop() {
-            let lease = cell.wipe();
-            let _states = cell.into_states();
-            give_back(rt, shared, &mut pass, lease);
-        }
-        cells.destroy_empty();
+        handles.free();
         pass
     }
 }

@@ -13,6 +13,7 @@ ghost use Rattle.callers.specs.Ready.{IsReady};
 ghost use Rattle.callers.specs.Worlds.{world};
 
 use crate::caller::Caller;
+use crate::gates::{Gate, GatePoint};
 use admission::Admission;
 use disk_face::Disk;
 use driver_dispatch::Devices;
@@ -26,10 +27,11 @@ use store_core::NotMade;
 impl<D: Disk, A: Devices, C: Admission> Caller<D, A, C> {
     /// Creates a key of these bytes, and answers its rank beside its identifier. The output buffer that the call would have,
     /// of so many bytes, is left.
-    pub fn import<R: Wait>(
+    pub fn import<R: Wait, G: Gate>(
         &mut self,
         rt: &R,
         shared: &SharedStore<D, A, C>,
+        gate: &G,
         call: &Call<'_>,
         room: usize,
         attributes: Attributes,
@@ -41,7 +43,7 @@ impl<D: Disk, A: Devices, C: Admission> Caller<D, A, C> {
         ensures answered { (buffer : List ℕ) → IsAnswered (world D.contents D.moment D.faults A.keys A.faults A.locations C.labels shared.now.lock.table.shared.table_id shared.now.lock.table.shared.key.value.value.store.opened) self.old.pass.me.0 self.new.pass.me.0 (model_request call.now room) result.0 result.1 buffer buffer }
         ensures same { SameButPass self.old self.new }
     {
-        let (rank, made) = self.create(rt, shared, call, room, &attributes, bytes);
+        let (rank, made) = self.create(rt, shared, gate, call, room, &attributes, bytes);
         match made {
             Ok(id) => (rank, Ok(Output::Identifier(id))),
             Err(why) => (rank, Err(why.status())),
@@ -49,10 +51,11 @@ impl<D: Disk, A: Devices, C: Admission> Caller<D, A, C> {
     }
 
     /// Creates a key of the bytes of another one, and answers as `import` does.
-    pub fn copy<R: Wait>(
+    pub fn copy<R: Wait, G: Gate>(
         &mut self,
         rt: &R,
         shared: &SharedStore<D, A, C>,
+        gate: &G,
         call: &Call<'_>,
         room: usize,
         source: KeyId,
@@ -65,6 +68,7 @@ impl<D: Disk, A: Devices, C: Admission> Caller<D, A, C> {
         ensures same { SameButPass self.old self.new }
     {
         let filling = shared.reserve(rt, &mut self.pass);
+        gate.hold(self.number, &self.pass, GatePoint::Filling);
         let (rank, made) = shared.copy(
             rt,
             &mut self.pass,
@@ -82,10 +86,11 @@ impl<D: Disk, A: Devices, C: Admission> Caller<D, A, C> {
     }
 
     // Makes a key of these bytes for a call that creates one of them.
-    pub(crate) fn create<R: Wait>(
+    pub(crate) fn create<R: Wait, G: Gate>(
         &mut self,
         rt: &R,
         shared: &SharedStore<D, A, C>,
+        gate: &G,
         call: &Call<'_>,
         room: usize,
         attributes: &Attributes,
@@ -105,6 +110,7 @@ impl<D: Disk, A: Devices, C: Admission> Caller<D, A, C> {
         ensures same { SameButPass self.old self.new }
     {
         let filling = shared.reserve(rt, &mut self.pass);
+        gate.hold(self.number, &self.pass, GatePoint::Filling);
         shared.finish(
             rt,
             &mut self.pass,

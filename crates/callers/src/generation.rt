@@ -12,6 +12,7 @@ ghost use Rattle.callers.specs.Ready.{IsReady};
 ghost use Rattle.callers.specs.Worlds.{world};
 
 use crate::caller::Caller;
+use crate::gates::Gate;
 use admission::Admission;
 use disk_face::Disk;
 use driver_dispatch::Devices;
@@ -42,10 +43,11 @@ fn wipe(buffer: &mut [u8; LONGEST_KEY])
 impl<D: Disk, A: Devices, C: Admission> Caller<D, A, C> {
     /// Creates a key of the caller's next random bytes, as many as the stated bits say, and answers its rank beside its
     /// identifier. A refusal draws no random word. The output buffer that the call would have, of so many bytes, is left.
-    pub fn generate<R: Wait>(
+    pub fn generate<R: Wait, G: Gate>(
         &mut self,
         rt: &R,
         shared: &SharedStore<D, A, C>,
+        gate: &G,
         call: &Call<'_>,
         room: usize,
         attributes: Attributes,
@@ -64,23 +66,24 @@ impl<D: Disk, A: Devices, C: Admission> Caller<D, A, C> {
         let count = usize::from(attributes.bits / 8);
         if count > LONGEST_KEY {
             let bytes = &[0; MOST_STATED][..count];
-            return self.refuse_long_key(rt, shared, call, room, attributes, bytes);
+            return self.refuse_long_key(rt, shared, gate, call, room, attributes, bytes);
         }
         let place = self.stream.place();
         let mut buffer = [0; LONGEST_KEY];
         self.stream.fill(&mut buffer[..count]);
         let bytes = &buffer[..count];
-        let answer = self.create_random(rt, shared, call, room, attributes, bytes, place);
+        let answer = self.create_random(rt, shared, gate, call, room, attributes, bytes, place);
         wipe(&mut buffer);
         answer
     }
 
     // Creates a key of these bytes, which were drawn from a place of the stream on, and gives the words back where there is
     // none.
-    fn create_random<R: Wait>(
+    fn create_random<R: Wait, G: Gate>(
         &mut self,
         rt: &R,
         shared: &SharedStore<D, A, C>,
+        gate: &G,
         call: &Call<'_>,
         room: usize,
         attributes: Attributes,
@@ -98,7 +101,7 @@ impl<D: Disk, A: Devices, C: Admission> Caller<D, A, C> {
         ensures spent { self.new.spent ≡ self.old.spent }
         ensures handles { self.new.handles ≡ self.old.handles }
     {
-        let (rank, made) = self.create(rt, shared, call, room, &attributes, bytes);
+        let (rank, made) = self.create(rt, shared, gate, call, room, &attributes, bytes);
         match made {
             Ok(id) => (rank, Ok(Output::Identifier(id))),
             Err(why) => {
@@ -109,10 +112,11 @@ impl<D: Disk, A: Devices, C: Admission> Caller<D, A, C> {
     }
 
     // Answers the first refusal of a key that is too long, whatever its bytes are.
-    fn refuse_long_key<R: Wait>(
+    fn refuse_long_key<R: Wait, G: Gate>(
         &mut self,
         rt: &R,
         shared: &SharedStore<D, A, C>,
+        gate: &G,
         call: &Call<'_>,
         room: usize,
         attributes: Attributes,
@@ -128,7 +132,7 @@ impl<D: Disk, A: Devices, C: Admission> Caller<D, A, C> {
         ensures spent { self.new.spent ≡ self.old.spent }
         ensures handles { self.new.handles ≡ self.old.handles }
     {
-        let (rank, made) = self.create(rt, shared, call, room, &attributes, bytes);
+        let (rank, made) = self.create(rt, shared, gate, call, room, &attributes, bytes);
         match made {
             Ok(id) => (rank, Ok(Output::Identifier(id))),
             Err(why) => (rank, Err(why.status())),

@@ -12,6 +12,7 @@ ghost use Rattle.callers.specs.Ready.{IsReady};
 ghost use Rattle.callers.specs.Worlds.{world};
 
 use crate::caller::Caller;
+use crate::gates::{Gate, GatePoint};
 use admission::Admission;
 use disk_face::Disk;
 use driver_dispatch::Devices;
@@ -25,10 +26,11 @@ use std::sync::Wait;
 impl<D: Disk, A: Devices, C: Admission> Caller<D, A, C> {
     /// Gives a handle's derivation a key at a step, and answers its rank beside what it gives. The derivation keeps the key's
     /// lease. A refusal puts it in error. The output buffer that the call would have, of so many bytes, is left.
-    pub fn input_key<R: Wait>(
+    pub fn input_key<R: Wait, G: Gate>(
         &mut self,
         rt: &R,
         shared: &SharedStore<D, A, C>,
+        gate: &G,
         call: &Call<'_>,
         room: usize,
         op: Op,
@@ -42,7 +44,7 @@ impl<D: Disk, A: Devices, C: Admission> Caller<D, A, C> {
         ensures spent { self.new.spent ≡ self.old.spent }
     {
         match self.handles.wanted_at(op, step) {
-            Some(wanted) => self.take_key(rt, shared, call, room, op, step, key, wanted),
+            Some(wanted) => self.take_key(rt, shared, gate, call, room, op, step, key, wanted),
             None => self.refuse_key(rt, shared, call, room, op, step, key),
         }
     }
@@ -75,10 +77,11 @@ impl<D: Disk, A: Devices, C: Admission> Caller<D, A, C> {
     }
 
     // Gives a key at a step that takes one, for which it is looked for.
-    fn take_key<R: Wait>(
+    fn take_key<R: Wait, G: Gate>(
         &mut self,
         rt: &R,
         shared: &SharedStore<D, A, C>,
+        gate: &G,
         call: &Call<'_>,
         room: usize,
         op: Op,
@@ -101,6 +104,7 @@ impl<D: Disk, A: Devices, C: Admission> Caller<D, A, C> {
         let (rank, looked) = shared.look(rt, &mut self.pass, call, room, key, wanted, spare);
         match looked {
             Ok(lease) => {
+                gate.hold(self.number, &self.pass, GatePoint::Reading);
                 self.handles.input_key(op, step, lease);
                 (rank, Ok(Output::Done))
             }

@@ -22,6 +22,7 @@ ghost use Rattle.callers.specs.Ready.{IsReady};
 ghost use Rattle.callers.specs.Worlds.{world};
 
 use crate::caller::Caller;
+use crate::gates::{Gate, GatePoint};
 use admission::Admission;
 use disk_face::Disk;
 use driver_dispatch::Devices;
@@ -64,10 +65,11 @@ fn draw_vector(call: &StoreCall<'_>, computed: &Result<usize, NotComputed>, stre
 impl<D: Disk, A: Devices, C: Admission> Caller<D, A, C> {
     /// Computes with the bytes of a key, or has the secure element compute, where it holds the key and computes such calls.
     /// Answers the rank beside what it gives. Bytes are written to the front of the buffer.
-    pub fn compute<R: Wait>(
+    pub fn compute<R: Wait, G: Gate>(
         &mut self,
         rt: &R,
         shared: &SharedStore<D, A, C>,
+        gate: &G,
         call: &Call<'_>,
         asked: &StoreCall<'_>,
         out: &mut [u8],
@@ -87,17 +89,18 @@ impl<D: Disk, A: Devices, C: Admission> Caller<D, A, C> {
         let here = *asked;
         match element_call(&here, &vector) {
             Some(element) => {
-                self.compute_or_look(rt, shared, call, asked, key, usage, &element, out)
+                self.compute_or_look(rt, shared, gate, call, asked, key, usage, &element, out)
             }
-            None => self.look_and_compute(rt, shared, call, asked, key, usage, out),
+            None => self.look_and_compute(rt, shared, gate, call, asked, key, usage, out),
         }
     }
 
     // Computes a call that the secure element doesn't compute.
-    fn look_and_compute<R: Wait>(
+    fn look_and_compute<R: Wait, G: Gate>(
         &mut self,
         rt: &R,
         shared: &SharedStore<D, A, C>,
+        gate: &G,
         call: &Call<'_>,
         asked: &StoreCall<'_>,
         key: KeyId,
@@ -118,7 +121,7 @@ impl<D: Disk, A: Devices, C: Admission> Caller<D, A, C> {
         };
         let (rank, looked) = shared.look(rt, &mut self.pass, call, out.len(), key, usage, spare);
         match looked {
-            Ok(lease) => (rank, self.compute_with(rt, shared, asked, lease, out)),
+            Ok(lease) => (rank, self.compute_with(rt, shared, gate, asked, lease, out)),
             Err((status, spare)) => {
                 self.spares.push_reserved(spare);
                 (rank, Err(status))
@@ -127,10 +130,11 @@ impl<D: Disk, A: Devices, C: Admission> Caller<D, A, C> {
     }
 
     // Computes a call that the secure element computes where it holds the key.
-    fn compute_or_look<R: Wait>(
+    fn compute_or_look<R: Wait, G: Gate>(
         &mut self,
         rt: &R,
         shared: &SharedStore<D, A, C>,
+        gate: &G,
         call: &Call<'_>,
         asked: &StoreCall<'_>,
         key: KeyId,
@@ -169,7 +173,7 @@ impl<D: Disk, A: Devices, C: Admission> Caller<D, A, C> {
                 draw_vector(asked, &computed, &mut self.stream);
                 (rank, computed_output(asked, computed))
             }
-            Looked::Lent(lease) => (rank, self.compute_with(rt, shared, asked, lease, out)),
+            Looked::Lent(lease) => (rank, self.compute_with(rt, shared, gate, asked, lease, out)),
             Looked::Refused(status, spare) => {
                 self.spares.push_reserved(spare);
                 (rank, Err(status))
@@ -178,10 +182,11 @@ impl<D: Disk, A: Devices, C: Admission> Caller<D, A, C> {
     }
 
     // Computes with the bytes of a key that is lent, and gives the lease back.
-    fn compute_with<R: Wait>(
+    fn compute_with<R: Wait, G: Gate>(
         &mut self,
         rt: &R,
         shared: &SharedStore<D, A, C>,
+        gate: &G,
         asked: &StoreCall<'_>,
         lease: Lease,
         out: &mut [u8],
@@ -190,6 +195,7 @@ impl<D: Disk, A: Devices, C: Admission> Caller<D, A, C> {
         requires fits { (id : ℕ) (wanted : uses.KeyUse) → wanted_by asked.now ≡ Some (id, wanted) → FitsUse wanted (bytes_of lease.buffer) }
         requires words { self.old.stream.place + 256 ≤ 2 ^ 60 }
         requires at { IsAt shared.now.lock.table.shared.table_id shared.now.lock.table.shared.key.value.value.store.opened self.old.pass }
+        requires number { self.old.pass.me.0.number ≡ self.old.number }
         requires legal { Legal (world D.contents D.moment D.faults A.keys A.faults A.locations C.labels shared.now.lock.table.shared.table_id shared.now.lock.table.shared.key.value.value.store.opened) (entries_of self.old.pass.me.0.seen) }
         requires left { 0 < self.old.pass.me.0.turns_left }
         requires out { 0 < names lease.slot (lease.creation + 1) self.old.pass.me.0.holding }
@@ -199,6 +205,7 @@ impl<D: Disk, A: Devices, C: Admission> Caller<D, A, C> {
         ensures fits { IsReplied result out.old out.new (computed_by asked.now (bytes_of lease.buffer) (next_bytes self.old.stream) (length out.old)).reply }
         ensures back { IsGivenBack lease (record self.old { stream = drawn_from self.old.stream (computed_by asked.now (bytes_of lease.buffer) (next_bytes self.old.stream) (length out.old)).drawn }) self.new }
     {
+        gate.hold(self.number, &self.pass, GatePoint::Reading);
         let result = compute(asked, lease.as_slice(), &mut self.stream, out);
         self.give_back(rt, shared, Some(lease));
         result

@@ -12,6 +12,7 @@ ghost use Rattle.callers.specs.Ready.{IsReady};
 ghost use Rattle.callers.specs.Worlds.{world};
 
 use crate::caller::Caller;
+use crate::gates::{Gate, GatePoint};
 use admission::Admission;
 use derivation_states::KEY_ROOM;
 use disk_face::Disk;
@@ -33,10 +34,11 @@ impl<D: Disk, A: Devices, C: Admission> Caller<D, A, C> {
     /// Creates a key of the next bytes of a handle's derivation, as many as the stated bits say, and answers its rank beside
     /// its identifier. A refusal puts the derivation in error, but where too few bytes are left. The output buffer that the
     /// call would have, of so many bytes, is left.
-    pub fn output_key<R: Wait>(
+    pub fn output_key<R: Wait, G: Gate>(
         &mut self,
         rt: &R,
         shared: &SharedStore<D, A, C>,
+        gate: &G,
         call: &Call<'_>,
         room: usize,
         op: Op,
@@ -52,7 +54,9 @@ impl<D: Disk, A: Devices, C: Admission> Caller<D, A, C> {
             Some(_) => self.refuse_output_key(rt, shared, call, room, op, attributes),
             None => {
                 let mut bytes = [0; KEY_ROOM];
-                let answer = self.derive_key(rt, shared, call, room, op, attributes, &mut bytes);
+                let answer = self.derive_key(
+                    rt, shared, gate, call, room, op, attributes, &mut bytes,
+                );
                 wipe(&mut bytes);
                 answer
             }
@@ -86,10 +90,11 @@ impl<D: Disk, A: Devices, C: Admission> Caller<D, A, C> {
     }
 
     // Creates a key that the derivation gives, by way of a buffer.
-    fn derive_key<R: Wait>(
+    fn derive_key<R: Wait, G: Gate>(
         &mut self,
         rt: &R,
         shared: &SharedStore<D, A, C>,
+        gate: &G,
         call: &Call<'_>,
         room: usize,
         op: Op,
@@ -107,6 +112,7 @@ impl<D: Disk, A: Devices, C: Admission> Caller<D, A, C> {
         ensures spent { self.new.spent ≡ self.old.spent }
     {
         let filling = shared.reserve(rt, &mut self.pass);
+        gate.hold(self.number, &self.pass, GatePoint::Filling);
         let count = self.handles.output_key(op, &attributes, bytes);
         let lease = self.handles.lease(op);
         let (rank, made) = shared.finish(

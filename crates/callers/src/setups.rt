@@ -14,6 +14,7 @@ ghost use Rattle.callers.specs.Ready.{IsReady};
 ghost use Rattle.callers.specs.Worlds.{world};
 
 use crate::caller::Caller;
+use crate::gates::{Gate, GatePoint};
 use admission::Admission;
 use alg_encoding::Class;
 use disk_face::Disk;
@@ -44,10 +45,11 @@ fn setup_key(setup: Setup) -> Option<(KeyId, KeyUse)>
 impl<D: Disk, A: Devices, C: Admission> Caller<D, A, C> {
     /// Sets a handle's inactive operation up, and answers its rank beside what it gives. The operation keeps the lease of its
     /// key. A setup that succeeds counts once more, for the turn in which the lease goes back.
-    pub fn set_up<R: Wait>(
+    pub fn set_up<R: Wait, G: Gate>(
         &mut self,
         rt: &R,
         shared: &SharedStore<D, A, C>,
+        gate: &G,
         call: &Call<'_>,
         room: usize,
         op: Op,
@@ -66,7 +68,7 @@ impl<D: Disk, A: Devices, C: Admission> Caller<D, A, C> {
         }
         match setup_key(setup) {
             Some((key, wanted)) => {
-                self.begin_with(rt, shared, call, room, op, setup, key, wanted)
+                self.begin_with(rt, shared, gate, call, room, op, setup, key, wanted)
             }
             None => self.begin(rt, shared, call, room, op, setup),
         }
@@ -102,10 +104,11 @@ impl<D: Disk, A: Devices, C: Admission> Caller<D, A, C> {
     }
 
     // Begins an operation with its key, which is looked for.
-    fn begin_with<R: Wait>(
+    fn begin_with<R: Wait, G: Gate>(
         &mut self,
         rt: &R,
         shared: &SharedStore<D, A, C>,
+        gate: &G,
         call: &Call<'_>,
         room: usize,
         op: Op,
@@ -130,6 +133,7 @@ impl<D: Disk, A: Devices, C: Admission> Caller<D, A, C> {
         let (rank, looked) = shared.look(rt, &mut self.pass, call, room, key, wanted, spare);
         match looked {
             Ok(lease) => {
+                gate.hold(self.number, &self.pass, GatePoint::Reading);
                 self.handles.begin_with(op, setup, lease);
                 self.spent += 1;
                 (rank, Ok(Output::Done))

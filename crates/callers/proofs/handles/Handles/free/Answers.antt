@@ -1,0 +1,14 @@
+use Rattle.std.proofs.Common.{◌≡◌, subst, None}
+use Rattle.std.specs.Option.{IfSome}
+use Rattle.std.proofs.lemmas.List.Elements.{All-pop}
+use Rattle.operation_cells.specs.declared.cell.Cell.{Cell}
+use Rattle.callers.proofs.handles.Handles.free.Goals as goal
+
+pub into_states-states-requires : goal.into_states-states-requires
+into_states-states-requires c =
+    let P = λ (x : Cell). x.lease ≡ None in
+    subst (λ o. IfSome o P) c.in-Some.is (All-pop P c.loop-cell.cells.items c.pop.new.self.items c.pop.result c.pop.ensures.items c.loop-cell.invariant).1
+
+pub loop-cell-preserved : goal.loop-cell-preserved
+loop-cell-preserved c =
+    (All-pop (λ (x : Cell). x.lease ≡ None) c.loop-cell.cells.items c.pop.new.self.items c.pop.result c.pop.ensures.items c.loop-cell.invariant).0

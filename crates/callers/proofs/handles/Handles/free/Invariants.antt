@@ -1,0 +1,10 @@
+use Rattle.std.proofs.Common.{◌≡◌, None}
+use Rattle.std.specs.Prelude.{All, vec_len}
+use Rattle.operation_cells.specs.declared.cell.Cell.{Cell}
+use Rattle.callers.proofs.handles.Handles.free.Given as goal
+
+abbrev pub invariant-loop-cell : goal.invariant-loop-cell
+invariant-loop-cell l = All (λ (c : Cell). c.lease ≡ None) l.cells.items
+
+abbrev pub decreases-loop-cell : goal.decreases-loop-cell
+decreases-loop-cell l = vec_len l.cells

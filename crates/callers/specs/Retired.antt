@@ -1,0 +1,40 @@
+-- A caller that ends.
+use Rattle.std.specs.Prelude.{◌≡◌, ◌≤◌, ℕ, ◌+◌, length, vec_capacity, List}
+use Rattle.atomic_table.specs.Seated.{TableId}
+use Rattle.turn_history.specs.declared.pass.View.{View}
+use Rattle.turn_history.specs.History.{StartsWith, entries_of}
+use Rattle.turn_history.specs.Passes.{IsIdle}
+use Rattle.store_model.specs.Operations.{Inactive}
+use Rattle.store_model.specs.Handles.{HandleOperation}
+use Rattle.store_model.specs.Replay.{Entry}
+use Rattle.shared_store.specs.Turning.{IsAt}
+use Rattle.callers.specs.Called.{Legal}
+use Rattle.callers.specs.Handles.{AreIdle, AreOperations, ArePairs, leases_of, operation_at}
+use Rattle.callers.specs.Worlds.{World}
+use Rattle.callers.specs.declared.caller.Caller.{Caller}
+
+-- From one view of a caller to a later one the caller made no call.
+pub record MakesNoCall {B : Type 0} (v u : View Entry B) : Type 0 where
+  pub number : u.number ≡ v.number
+  pub weight : u.weight ≡ v.weight
+  pub calls : u.calls ≡ v.calls
+  pub seen : StartsWith u.seen v.seen
+
+module _ {D A C : Type 0} where
+  -- The caller has nothing out of the store any more, and nothing is left of its operations.
+  pub record IsRetired (lock : TableId) (c : Caller D A C) : Type 0 where
+    pub idle : IsIdle lock c.pass
+    pub cells : AreIdle c.handles.cells.items
+
+  -- The operations of so many handles, from 1 on, are wiped. All that the caller has out of the store are the leases of the
+  -- others, it has a turn for each of them, and room for the spare.
+  pub record IsRetiring (w : World D A C) (count : ℕ) (c : Caller D A C) : Type 0 where
+    pub at : IsAt w.lock w.opened c.pass
+    pub legal : Legal w (entries_of c.pass.me.0.seen)
+    pub operations : List HandleOperation
+    pub stand : AreOperations c.handles.cells.items operations
+    pub wiped : (handle : ℕ) → 1 ≤ handle → handle ≤ count → operation_at operations handle ≡ Inactive
+    pub leases : ArePairs c.pass.me.0.holding (leases_of c.handles.cells.items)
+    pub five : length (leases_of c.handles.cells.items) + length c.spares.items ≡ 5
+    pub room : 5 ≤ vec_capacity c.spares
+    pub turns : 4 ≤ c.pass.me.0.turns_left + count
