@@ -26,7 +26,7 @@ impl Model for Fields {
 
 impl Fields {
     /// These fields, without taking memory.
-    pub(crate) fn of(items: Vec<(Field, FieldValue)>) -> Fields
+    pub fn of(items: Vec<(Field, FieldValue)>) -> Fields
         ensures { result ≡ items.items }
     {
         Fields { items }

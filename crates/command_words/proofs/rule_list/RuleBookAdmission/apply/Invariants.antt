@@ -1,0 +1,6 @@
+use Rattle.std.proofs.Common.{◌≡◌, map, drop}
+use Rattle.admission.specs.Apply.{after_rules}
+use Rattle.command_words.proofs.rule_list.RuleBookAdmission.apply.Given as goal
+
+abbrev pub invariant-loop-rule : goal.invariant-loop-rule
+invariant-loop-rule g l = after_rules (map (λ rule. rule.label) (drop l.rule-index l.rule-items)) l.kept ≡ after_rules (map (λ rule. rule.label) l.rule-items) l.attributes

@@ -1,0 +1,4 @@
+pub mod Options
+pub mod Reading
+pub mod Values
+pub mod Words

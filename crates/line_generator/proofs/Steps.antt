@@ -1,0 +1,331 @@
+-- A call of a caller on its own volatile keys: what it answers, and what it leaves, is decided by what the caller sees.
+use Rattle.std.proofs.Common.{◌≡◌, ℕ, ◌+◌, ◌-◌, ◌*◌, ◌/◌, ◌<◌, ◌^◌, Bool, true, false, not, cond, List, [], ◌∷◌, length, slice_set, refl, sym, ap, ◌∙◌, subst, arith, inl, inr}
+use Rattle.std.specs.Prelude.{Option, Some, None, is_some, ◌==◌, ◌&&◌, Result, Ok, Err}
+use Rattle.std.specs.FinMap as map
+use Rattle.std.proofs.lemmas.Bool.Decides.{nat_tests}
+use Rattle.std.proofs.lemmas.List.{length-set}
+use Rattle.psa_status.specs.declared.Status.{Status}
+use Rattle.psa_status.specs.declared.Status.TheVariants.{Success, InvalidHandle}
+use Rattle.psa_status.specs.Rows.{first_row}
+use Rattle.alg_encoding.specs.declared.table.Class.{Class}
+use Rattle.alg_encoding.specs.declared.table.Class.TheVariants.{Cipher, Mac}
+use Rattle.random_streams.specs.RandomWords.{random_bytes}
+use Rattle.key_attributes.specs.declared.Attributes.{Attributes}
+use Rattle.store_model.specs.Store.{Key, Settings, Store, made_of, is_volatile, is_volatile_of, live_volatile}
+use Rattle.store_model.specs.Call.{Identifier, Import, Export, MacCompute, CipherEncrypt, Destroy}
+use Rattle.store_model.specs.Faults.{Plain}
+use Rattle.store_model.specs.Outcome.{Computed, counted, refused, decided, replies, reply_unless, computed_unless, with_computed, given}
+use Rattle.store_model.specs.Creation.{recorded_of, created, created_unless, new_id, new_key, room_for_key_rows}
+use Rattle.store_model.specs.KeyUse.{export_reply, export_rows, bytes_of, destroy_rows, destroyed}
+use Rattle.store_model.specs.Rules.{use_rows, mac_usage, cipher_usage}
+use Rattle.store_model.specs.Macs.{mac_reply, compute_rows}
+use Rattle.store_model.specs.Ciphers.{mode_of, is_ctr, iv_length, encrypted, encrypt_rows}
+use Rattle.store_model.specs.Handles.{Own, Service, Served}
+use Rattle.store_model.specs.Requests.{Request, OnStore, on_store, serve}
+use Rattle.store_model.proofs.Sound.{put, taken, room_of}
+use Rattle.store_model.proofs.Others.{leaves_callers, leaves_settings}
+use Rattle.script_lang.specs.PrintedOrder.{id_given}
+use Rattle.line_generator.proofs.Maps.{len_inserted, len_removed}
+use Rattle.line_generator.proofs.Alike.{Alike, AlikeStores, NoZero, OwnId, looked, stores_of, after_both, plain, some_of}
+use Rattle.line_generator.proofs.Imports.{recorded_same, recorded_volatile, created_same}
+
+-- the calls that the generator's lines make
+pub data KeyCall : Type 0 where
+  Imports : (attributes : Attributes) (bytes : List ℕ) → KeyCall
+  Exports : (id room : ℕ) → KeyCall
+  Signs : (id alg : ℕ) (input : List ℕ) (room : ℕ) → KeyCall
+  Encrypts : (id alg : ℕ) (input : List ℕ) (room : ℕ) → KeyCall
+  Destroys : (id : ℕ) → KeyCall
+
+abbrev pub asked : KeyCall → Request
+asked (Imports attributes bytes) = OnStore (Import attributes bytes)
+asked (Exports id room) = OnStore (Export id room)
+asked (Signs id alg input room) = OnStore (MacCompute id alg input room)
+asked (Encrypts id alg input room) = OnStore (CipherEncrypt id alg input room)
+asked (Destroys id) = OnStore (Destroy id)
+
+-- such a call on a caller's own volatile keys, or a creation of one
+abbrev pub IsOwn : ℕ → KeyCall → Type 0
+IsOwn caller (Imports attributes bytes) = is_volatile attributes ≡ true
+IsOwn caller (Exports id room) = OwnId caller id
+IsOwn caller (Signs id alg input room) = OwnId caller id
+IsOwn caller (Encrypts id alg input room) = OwnId caller id
+IsOwn caller (Destroys id) = OwnId caller id
+
+-- BY THE CALLER
+
+pub record SameStep (caller : ℕ) (one other : Served) : Type 0 where
+  pub reply : one.reply ≡ other.reply
+  pub alike : Alike caller one.service other.service
+
+counted_both : (caller : ℕ) (a b : Service) → Alike caller a b → AlikeStores caller (counted a.store) (counted b.store)
+counted_both caller a b h = record { made = h.made; mades = h.mades; settings = h.settings; keys = h.keys; live = h.live }
+
+reading : (caller : ℕ) (a b : Service) (c d : Computed) → Alike caller a b → c ≡ d →
+    SameStep caller (on_store a caller (with_computed a.store c)) (on_store b caller (with_computed b.store d))
+reading caller a b c d h e = record {
+  reply = ap (λ (x : Computed). x.reply) e;
+  alike = after_both caller a b (with_computed a.store c) (with_computed b.store d) h (ap (λ (x : Computed). x.drawn) e) (counted_both caller a b h);
+}
+
+-- what is computed with a key doesn't see its number
+
+export_plain : (found : Option Key) (room : ℕ) → export_reply found room ≡ export_reply (plain found) room
+export_plain None room = refl
+export_plain (Some key) room = refl
+
+used_by : Bool → Class → (usage alg : ℕ) → (List ℕ → Computed) → Option Key → Computed
+used_by on_device class usage alg compute found = computed_unless (first_row (use_rows on_device class usage alg found)) (compute (bytes_of found))
+
+used_plain : (on_device : Bool) (class : Class) (usage alg : ℕ) (compute : List ℕ → Computed) (found : Option Key) →
+    used_by on_device class usage alg compute found ≡ used_by on_device class usage alg compute (plain found)
+unfolding used_by
+used_plain on_device class usage alg compute None = refl
+used_plain on_device class usage alg compute (Some key) = refl
+
+used_same : (on_device : Bool) (class : Class) (usage alg : ℕ) (compute compute' : List ℕ → Computed) (o p : Option Key) → plain o ≡ plain p → compute ≡ compute' →
+    used_by on_device class usage alg compute o ≡ used_by on_device class usage alg compute' p
+used_same on_device class usage alg compute compute' o p e f =
+    used_plain on_device class usage alg compute o ∙ (λ i. used_by on_device class usage alg (f i) (e i)) ∙ sym (used_plain on_device class usage alg compute' p)
+
+-- what an import leaves
+
+made_by : (caller : ℕ) (a b : Service) (bytes : List ℕ) (r : Result Attributes Status) → Alike caller a b →
+    SameStep caller (on_store a caller (created_unless a.store caller r bytes)) (on_store b caller (created_unless b.store caller r bytes))
+made_by caller a b bytes (Ok kept) h =
+    let both = created_same caller a.store b.store kept bytes (stores_of caller a b h) in
+    record {
+      reply = λ i. record { status = Success; output = Identifier (both.0 i); needed = 0 };
+      alike = after_both caller a b (created a.store caller kept bytes) (created b.store caller kept bytes) h refl both.1;
+    }
+made_by caller a b bytes (Err s) h = record { reply = refl; alike = after_both caller a b (refused a.store s) (refused b.store s) h refl (counted_both caller a b h) }
+
+imported : (caller : ℕ) (a b : Service) (attributes : Attributes) (bytes : List ℕ) → is_volatile attributes ≡ true → Alike caller a b →
+    SameStep caller (serve a caller (OnStore (Import attributes bytes)) Plain) (serve b caller (OnStore (Import attributes bytes)) Plain)
+imported caller a b attributes bytes v h =
+    subst (λ r. SameStep caller (serve a caller (OnStore (Import attributes bytes)) Plain) (on_store b caller (created_unless b.store caller r bytes)))
+    (recorded_same caller a.store b.store attributes (length bytes) (stores_of caller a b h) v)
+    (made_by caller a b bytes (recorded_of a.store caller attributes (length bytes)) h)
+
+-- what a destruction leaves
+
+plain_none : (b : Bool) (o p : Option Key) → plain o ≡ plain p → plain (cond b None o) ≡ plain (cond b None p)
+plain_none true o p e = refl
+plain_none false o p e = e
+
+fewer_same : (own one other : Bool) (n m : ℕ) → (own ≡ true → one ≡ other) → n ≡ m → cond own (cond one (n - 1) n) n ≡ cond own (cond other (m - 1) m) m
+fewer_same true one other n m e f = λ i. cond (e refl i) (f i - 1) (f i)
+fewer_same false one other n m e f = f
+
+destroyed_same : (caller id : ℕ) (a b : Service) → Alike caller a b → AlikeStores caller (destroyed a.store id).store (destroyed b.store id).store
+destroyed_same caller id a b h = record {
+  made = h.made;
+  mades = h.mades;
+  settings = h.settings;
+  keys = λ q own. ap plain (taken a.store.keys id q) ∙ plain_none (q == id) _ _ (h.keys q own) ∙ sym (ap plain (taken b.store.keys id q));
+  live =
+      len_removed (is_volatile_of caller) a.store.keys id
+      ∙ fewer_same (is_volatile_of caller id) _ _ _ _ (λ own. some_of _ _ (h.keys id own)) h.live
+      ∙ sym (len_removed (is_volatile_of caller) b.store.keys id);
+}
+
+decided_by : (caller id : ℕ) (a b : Service) (refusal : Option Status) → Alike caller a b →
+    SameStep caller (on_store a caller (decided a.store refusal (destroyed a.store id))) (on_store b caller (decided b.store refusal (destroyed b.store id)))
+decided_by caller id a b None h = record { reply = refl; alike = after_both caller a b (destroyed a.store id) (destroyed b.store id) h refl (destroyed_same caller id a b h) }
+decided_by caller id a b (Some s) h = record { reply = refl; alike = after_both caller a b (refused a.store s) (refused b.store s) h refl (counted_both caller a b h) }
+
+removed : (caller id : ℕ) (a b : Service) → Alike caller a b → is_some (map.get a.store.keys id) ≡ is_some (map.get b.store.keys id) →
+    SameStep caller (serve a caller (OnStore (Destroy id)) Plain) (serve b caller (OnStore (Destroy id)) Plain)
+removed caller id a b h e =
+    subst (λ o. SameStep caller (serve a caller (OnStore (Destroy id)) Plain) (on_store b caller (decided b.store o (destroyed b.store id))))
+    (λ i. first_row ((not (id == 0) && not (e i), InvalidHandle) ∷ []))
+    (decided_by caller id a b (first_row (destroy_rows (map.get a.store.keys id) id)) h)
+
+pub own_step : (caller : ℕ) (a b : Service) (call : KeyCall) → IsOwn caller call → NoZero a → NoZero b → Alike caller a b →
+    SameStep caller (serve a caller (asked call) Plain) (serve b caller (asked call) Plain)
+unfolding used_by
+own_step caller a b (Imports attributes bytes) own za zb h = imported caller a b attributes bytes own h
+own_step caller a b (Exports id room) own za zb h =
+    let e = looked caller a b id h za zb own in
+    let same = export_plain (map.get a.store.keys id) room ∙ (λ i. export_reply (e i) room) ∙ sym (export_plain (map.get b.store.keys id) room) in
+    reading caller a b _ _ h (ap replies same)
+own_step caller a b (Signs id alg input room) own za zb h =
+    reading caller a b _ _ h (used_same true Mac (mac_usage false) alg (λ key. replies (mac_reply alg key input room)) _ _ _ (looked caller a b id h za zb own) refl)
+own_step caller a b (Encrypts id alg input room) own za zb h =
+    let random = λ (settings : Settings) (o : Own) (n : ℕ). random_bytes settings.seed caller o.drawn n in
+    reading caller a b _ _ h (used_same (is_ctr (mode_of alg)) Cipher (cipher_usage true) alg _ _ _ _ (looked caller a b id h za zb own)
+    (λ i key. encrypted (mode_of alg) (random (h.settings i) (h.own i) (iv_length (mode_of alg))) key input room))
+own_step caller a b (Destroys id) own za zb h = removed caller id a b h (some_of _ _ (looked caller a b id h za zb own))
+
+-- BY ANOTHER CALLER
+
+of_zero : (caller : ℕ) → (0 / 2 ^ 20 == 1024 + caller) ≡ true → ⊥
+of_zero caller t = grind (arith, nat_tests)
+
+one_place : (q one other : ℕ) → (q == 1024 + one) ≡ true → (q == 1024 + other) ≡ true → one ≡ other
+one_place q one other t u = grind (arith, nat_tests)
+
+no_other : (caller other id : ℕ) → (other ≡ caller → ⊥) → OwnId caller id → is_volatile_of other id ≡ true → ⊥
+no_other caller other id apart (inl zero) t = of_zero other (subst (λ n. is_volatile_of other n ≡ true) zero t)
+no_other caller other id apart (inr own) t = apart (one_place (id / 2 ^ 20) other caller t own)
+
+not_true : (b : Bool) → (b ≡ true → ⊥) → b ≡ false
+not_true true h = absurd (h refl)
+not_true false h = refl
+
+second : (b : Bool) (m n : ℕ) → b ≡ false → cond b m n ≡ n
+second true m n e = absurd (cc)
+second false m n e = refl
+
+same_number : (q id : ℕ) → (q == id) ≡ true → q ≡ id
+same_number q id t = grind (arith, nat_tests)
+
+-- no identifier of one caller's keys is one of another's
+beside : (caller other id : ℕ) → (other ≡ caller → ⊥) → OwnId caller id → is_volatile_of other id ≡ false
+beside caller other id apart own = not_true _ (no_other caller other id apart own)
+
+apart_from : (caller other q id : ℕ) → (other ≡ caller → ⊥) → OwnId caller id → is_volatile_of other q ≡ true → (q == id) ≡ false
+apart_from caller other q id apart own t = not_true _ (λ e. no_other caller other id apart own (subst (λ n. is_volatile_of other n ≡ true) (same_number q id e) t))
+
+new_place : (caller made : ℕ) → made < 2 ^ 20 → ((0x40000000 + caller * 2 ^ 20 + made) / 2 ^ 20 == 1024 + caller) ≡ true
+new_place caller made h = let e : (0x40000000 + caller * 2 ^ 20 + made) / 2 ^ 20 ≡ 1024 + caller = omega arith in grind (arith, nat_tests)
+
+pub new_own : (store : Store) (caller : ℕ) (kept : Attributes) → is_volatile kept ≡ true → first_row (room_for_key_rows store caller kept) ≡ None → is_volatile_of caller (new_id store caller kept) ≡ true
+new_own store caller kept v room =
+    let few = (room_of store caller kept true v room).1 in
+    subst (λ b. is_volatile_of caller (cond b (0x40000000 + caller * 2 ^ 20 + made_of store caller) kept.id.0) ≡ true) (sym v) (new_place caller (made_of store caller) few)
+
+-- what a call of one caller leaves of another's keys
+record Leaves (other : ℕ) (before after : Store) : Type 0 where
+  mades : length after.made ≡ length before.made
+  keys : (q : ℕ) → is_volatile_of other q ≡ true → map.get after.keys q ≡ map.get before.keys q
+  live : live_volatile after.keys other ≡ live_volatile before.keys other
+
+leaves_counted : (other : ℕ) (store : Store) → Leaves other store (counted store)
+leaves_counted other store = record { mades = refl; keys = λ q t. refl; live = refl }
+
+length_made : (xs : List ℕ) (caller n : ℕ) (volatile : Bool) → length (cond volatile (slice_set xs caller n) xs) ≡ length xs
+length_made xs caller n true = length-set xs caller n
+length_made xs caller n false = refl
+
+leaves_created : (caller other : ℕ) (store : Store) (kept : Attributes) (bytes : List ℕ) → (other ≡ caller → ⊥) → is_volatile_of caller (new_id store caller kept) ≡ true →
+    Leaves other store (created store caller kept bytes).store
+leaves_created caller other store kept bytes apart own =
+    let id : ℕ = new_id store caller kept in
+    let new : Key = new_key store caller id kept bytes in
+    record {
+      mades = length_made store.made caller (made_of store caller + 1) (is_volatile kept);
+      keys = λ q t. put store.keys id new q ∙ ap (λ b. cond b (Some new) (map.get store.keys q)) (apart_from caller other q id apart (inr own) t);
+      live = len_inserted (is_volatile_of other) store.keys id new ∙ second _ _ _ (beside caller other id apart (inr own));
+    }
+
+leaves_destroyed : (caller other id : ℕ) (store : Store) → (other ≡ caller → ⊥) → OwnId caller id → Leaves other store (destroyed store id).store
+leaves_destroyed caller other id store apart own = record {
+  mades = refl;
+  keys = λ q t. taken store.keys id q ∙ ap (λ b. cond b None (map.get store.keys q)) (apart_from caller other q id apart own t);
+  live = len_removed (is_volatile_of other) store.keys id ∙ second _ _ _ (beside caller other id apart own);
+}
+
+leaves_made : (caller other : ℕ) (store : Store) (bytes : List ℕ) (r : Result Attributes Status) → (other ≡ caller → ⊥) →
+    ((kept : Attributes) → r ≡ Ok kept → is_volatile_of caller (new_id store caller kept) ≡ true) → Leaves other store (created_unless store caller r bytes).store
+leaves_made caller other store bytes (Ok kept) apart own = leaves_created caller other store kept bytes apart (own kept refl)
+leaves_made caller other store bytes (Err s) apart own = leaves_counted other store
+
+leaves_decided : (caller other id : ℕ) (store : Store) (refusal : Option Status) → (other ≡ caller → ⊥) → OwnId caller id →
+    Leaves other store (decided store refusal (destroyed store id)).store
+leaves_decided caller other id store None apart own = leaves_destroyed caller other id store apart own
+leaves_decided caller other id store (Some s) apart own = leaves_counted other store
+
+pub new_of : (service : Service) (caller : ℕ) (attributes : Attributes) (bytes : List ℕ) → is_volatile attributes ≡ true → (kept : Attributes) →
+    recorded_of service.store caller attributes (length bytes) ≡ Ok kept → is_volatile_of caller (new_id service.store caller kept) ≡ true
+new_of service caller attributes bytes v kept e =
+    let is = recorded_volatile service.store caller attributes kept (length bytes) v e in new_own service.store caller kept is.0 is.1
+
+leaves : (caller other : ℕ) (a : Service) (call : KeyCall) → (other ≡ caller → ⊥) → IsOwn caller call → Leaves other a.store (serve a caller (asked call) Plain).service.store
+leaves caller other a (Imports attributes bytes) apart own =
+    leaves_made caller other a.store bytes (recorded_of a.store caller attributes (length bytes)) apart (new_of a caller attributes bytes own)
+leaves caller other a (Exports id room) apart own = leaves_counted other a.store
+leaves caller other a (Signs id alg input room) apart own = leaves_counted other a.store
+leaves caller other a (Encrypts id alg input room) apart own = leaves_counted other a.store
+leaves caller other a (Destroys id) apart own = leaves_decided caller other id a.store (first_row (destroy_rows (map.get a.store.keys id) id)) apart own
+
+owns_same : (caller : ℕ) (a : Service) (call : KeyCall) → length (serve a caller (asked call) Plain).service.owns ≡ length a.owns
+owns_same caller a (Imports attributes bytes) = length-set a.owns caller _
+owns_same caller a (Exports id room) = length-set a.owns caller _
+owns_same caller a (Signs id alg input room) = length-set a.owns caller _
+owns_same caller a (Encrypts id alg input room) = length-set a.owns caller _
+owns_same caller a (Destroys id) = length-set a.owns caller _
+
+pub other_step : (caller other : ℕ) (a b : Service) (call : KeyCall) → (other ≡ caller → ⊥) → IsOwn caller call → Alike other a b →
+    Alike other (serve a caller (asked call) Plain).service b
+other_step caller other a b call apart own h =
+    let left = leaves_callers a caller other (asked call) Plain apart in
+    let rest : Leaves other a.store (serve a caller (asked call) Plain).service.store = leaves caller other a call apart own in
+    record {
+      own = left.0 ∙ h.own;
+      owns = owns_same caller a call ∙ h.owns;
+      made = left.1 ∙ h.made;
+      mades = rest.mades ∙ h.mades;
+      settings = (leaves_settings a caller (asked call) Plain).0 ∙ h.settings;
+      keys = λ q t. ap plain (rest.keys q t) ∙ h.keys q t;
+      live = rest.live ∙ h.live;
+    }
+
+-- THE IDENTIFIER 0
+
+zero_apart : (caller id : ℕ) → is_volatile_of caller id ≡ true → (0 == id) ≡ false
+zero_apart caller id t = not_true _ (λ e. of_zero caller (subst (λ n. is_volatile_of caller n ≡ true) (sym (same_number 0 id e)) t))
+
+zero_made : (store : Store) (caller : ℕ) (bytes : List ℕ) (r : Result Attributes Status) → map.get store.keys 0 ≡ None →
+    ((kept : Attributes) → r ≡ Ok kept → is_volatile_of caller (new_id store caller kept) ≡ true) → map.get (created_unless store caller r bytes).store.keys 0 ≡ None
+zero_made store caller bytes (Ok kept) z own =
+    let id : ℕ = new_id store caller kept in
+    let new : Key = new_key store caller id kept bytes in
+    put store.keys id new 0 ∙ ap (λ b. cond b (Some new) (map.get store.keys 0)) (zero_apart caller id (own kept refl)) ∙ z
+zero_made store caller bytes (Err s) z own = z
+
+none_left : (b : Bool) (o : Option Key) → o ≡ None → cond b None o ≡ None
+none_left true o e = refl
+none_left false o e = e
+
+zero_decided : (store : Store) (id : ℕ) (refusal : Option Status) → map.get store.keys 0 ≡ None → map.get (decided store refusal (destroyed store id)).store.keys 0 ≡ None
+zero_decided store id None z = taken store.keys id 0 ∙ none_left (0 == id) _ z
+zero_decided store id (Some s) z = z
+
+pub zero_stays : (caller : ℕ) (a : Service) (call : KeyCall) → IsOwn caller call → NoZero a → NoZero (serve a caller (asked call) Plain).service
+zero_stays caller a (Imports attributes bytes) own z = zero_made a.store caller bytes (recorded_of a.store caller attributes (length bytes)) z (new_of a caller attributes bytes own)
+zero_stays caller a (Exports id room) own z = z
+zero_stays caller a (Signs id alg input room) own z = z
+zero_stays caller a (Encrypts id alg input room) own z = z
+zero_stays caller a (Destroys id) own z = zero_decided a.store id (first_row (destroy_rows (map.get a.store.keys id) id)) z
+
+-- WHAT IS GIVEN
+
+given_bytes : (refusal : Option Status) (bytes : List ℕ) → id_given (reply_unless refusal (given bytes)).output ≡ 0
+given_bytes None bytes = refl
+given_bytes (Some s) bytes = refl
+
+given_computed : (refusal : Option Status) (computed : Computed) → id_given computed.reply.output ≡ 0 → id_given (computed_unless refusal computed).reply.output ≡ 0
+given_computed None computed e = e
+given_computed (Some s) computed e = refl
+
+given_made : (store : Store) (caller : ℕ) (bytes : List ℕ) (r : Result Attributes Status) →
+    ((kept : Attributes) → r ≡ Ok kept → is_volatile_of caller (new_id store caller kept) ≡ true) → OwnId caller (id_given (created_unless store caller r bytes).reply.output)
+given_made store caller bytes (Ok kept) own = inr (own kept refl)
+given_made store caller bytes (Err s) own = inl refl
+
+given_decided : (store : Store) (id : ℕ) (refusal : Option Status) → id_given (decided store refusal (destroyed store id)).reply.output ≡ 0
+given_decided store id None = refl
+given_decided store id (Some s) = refl
+
+pub given_own : (caller : ℕ) (a : Service) (call : KeyCall) → IsOwn caller call → OwnId caller (id_given (serve a caller (asked call) Plain).reply.output)
+given_own caller a (Imports attributes bytes) own = given_made a.store caller bytes (recorded_of a.store caller attributes (length bytes)) (new_of a caller attributes bytes own)
+given_own caller a (Exports id room) own = inl (given_bytes (first_row (export_rows (map.get a.store.keys id) room)) (bytes_of (map.get a.store.keys id)))
+given_own caller a (Signs id alg input room) own =
+    let found : Option Key = map.get a.store.keys id in
+    inl (given_computed (first_row (use_rows true Mac (mac_usage false) alg found)) (replies (mac_reply alg (bytes_of found) input room)) (given_bytes (first_row (compute_rows alg (length input) room)) _))
+given_own caller a (Encrypts id alg input room) own =
+    let found : Option Key = map.get a.store.keys id in
+    let mode = mode_of alg in
+    inl (given_computed (first_row (use_rows (is_ctr mode) Cipher (cipher_usage true) alg found)) _ (given_computed (first_row (encrypt_rows mode (length input) room)) _ refl))
+given_own caller a (Destroys id) own = inl (given_decided a.store id (first_row (destroy_rows (map.get a.store.keys id) id)))

@@ -1,0 +1,6 @@
+use Rattle.std.proofs.Common.{◌≡◌}
+use Rattle.line_generator.specs.Generator.{counted}
+use Rattle.line_generator.proofs.generator.counted.Given as goal
+
+abbrev pub invariant-loop-t : goal.invariant-loop-t
+invariant-loop-t l = l.bytes.items ≡ counted l.first l.t

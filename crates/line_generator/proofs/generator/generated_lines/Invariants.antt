@@ -1,0 +1,8 @@
+use Rattle.std.proofs.Common.{◌≡◌}
+use Rattle.std.specs.Prelude.{All}
+use Rattle.script_lang.specs.Lines.{IsOfSession}
+use Rattle.line_generator.specs.Generator.{generator_lines}
+use Rattle.line_generator.proofs.generator.generated_lines.Given as goal
+
+abbrev pub invariant-loop-number : goal.invariant-loop-number
+invariant-loop-number l = record { lines : l.lines.items ≡ generator_lines l.number; sessions : All IsOfSession l.lines.items }

@@ -1,0 +1,35 @@
+-- The generator's lines in any order.
+use Rattle.std.specs.Prelude.{ℕ, ◌≡◌, List, [], None, All, map}
+use Rattle.std.specs.FinMap as keys
+use Rattle.store_model.specs.Faults.{Plain}
+use Rattle.store_model.specs.Handles.{Service}
+use Rattle.store_model.specs.Replay.{Entry}
+use Rattle.script_lang.specs.Lines.{lines_of}
+use Rattle.script_lang.specs.PrintedOrder.{AreCalls, turns_from, turns_of, replies_to}
+use Rattle.script_lang.specs.declared.replies.ReplyLine.{ReplyLine}
+use Rattle.line_generator.specs.Generator.{generator_lines}
+use Rattle.line_generator.specs.Summary.{summary_of}
+
+-- A history is an order of the first so many lines of the generator, which keeps each session's own. No device failed.
+pub record IsOrder (start : Service) (count : ℕ) (history : List Entry) : Type 0 where
+  pub own : (session : ℕ) → AreCalls [] (lines_of session (generator_lines count)) (turns_of session (turns_from 0 start history))
+  pub plain : All (λ e. e.mark ≡ Plain) history
+
+-- the reply lines of all sessions
+abbrev pub replies_of : Service → List Entry → List ReplyLine
+replies_of start history = replies_to 16 (turns_from 0 start history)
+
+abbrev pub without_rank : ReplyLine → ReplyLine
+without_rank line = record line { rank = 0 }
+
+-- every order has the same replies, but for the ranks, from any start that has no key of the identifier 0, which is no key's
+abbrev pub RepliesInAnyOrder : Type 0
+RepliesInAnyOrder =
+    (start : Service) (count : ℕ) (one other : List Entry) → keys.get start.store.keys 0 ≡ None → IsOrder start count one → IsOrder start count other →
+    map without_rank (replies_of start one) ≡ map without_rank (replies_of start other)
+
+-- and so the same summary
+abbrev pub SummaryInAnyOrder : Type 0
+SummaryInAnyOrder =
+    (start : Service) (count : ℕ) (one other : List Entry) → keys.get start.store.keys 0 ≡ None → IsOrder start count one → IsOrder start count other →
+    summary_of (replies_of start one) ≡ summary_of (replies_of start other)

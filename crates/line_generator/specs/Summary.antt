@@ -1,0 +1,33 @@
+-- The summary of the replies.
+use Rattle.std.specs.Prelude.{ℕ, Bool, true, false, not, List, ◌++◌, length, count_by, flat_map, codes}
+use Rattle.std.specs.Fmt.{decimal}
+use Rattle.hex.specs.Hex.{encode_lower}
+use Rattle.sha2.specs.Sha256.{sha256}
+use Rattle.psa_status.specs.Status.{status_name}
+use Rattle.psa_status.specs.declared.Status.{Status}
+use Rattle.psa_status.specs.declared.Status.TheVariants.{Success}
+use Rattle.script_lang.specs.Replies.{bytes_text}
+use Rattle.script_lang.specs.declared.replies.ReplyLine.{ReplyLine}
+
+-- a reply line without its rank: session, number, status and bytes
+unfoldable pub unranked_text : ReplyLine → List ℕ
+unranked_text line = decimal line.session ++ codes "." ++ decimal line.number ++ codes " " ++ status_name line.status ++ bytes_text line.bytes ++ codes "\n"
+
+abbrev pub succeeded : Status → Bool
+succeeded Success = true
+succeeded _ = false
+
+abbrev pub is_success : ReplyLine → Bool
+is_success line = succeeded line.status
+
+-- a line that tells a number
+abbrev pub count_line : List ℕ → ℕ → List ℕ
+count_line word number = word ++ decimal number ++ codes "\n"
+
+-- the four lines: how many calls there were, how many of them succeeded, how many didn't, and the digest of the replies
+unfoldable pub summary_of : List ReplyLine → List ℕ
+summary_of replies =
+    count_line (codes "calls ") (length replies)
+    ++ count_line (codes "successes ") (count_by is_success replies)
+    ++ count_line (codes "refusals ") (count_by (λ line. not (is_success line)) replies)
+    ++ codes "sha256 " ++ encode_lower (sha256 (flat_map unranked_text replies)) ++ codes "\n"

@@ -1,0 +1,10 @@
+//! The generator: lines that a run makes for itself, and the summary of their replies.
+#![tactic(auto)]
+
+mod generator;
+mod laws;
+mod summary;
+
+pub use generator::generated_lines;
+pub use laws::orders_answer_alike;
+pub use summary::write_summary;
