@@ -6,5 +6,5 @@ mod laws;
 mod summary;
 
 pub use generator::generated_lines;
-pub use laws::orders_answer_alike;
+pub use laws::{orders_answer_alike, rank_stands_between};
 pub use summary::write_summary;

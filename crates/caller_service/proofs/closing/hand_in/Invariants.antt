@@ -1,0 +1,19 @@
+use Rattle.std.proofs.Common.{◌≡◌, ◌+◌, ◌++◌, List, All, length, map}
+use Rattle.std.specs.Prelude.{vec_len}
+use Rattle.caller_service.specs.Closing.{backwards}
+use Rattle.turn_history.specs.Views.{account_of}
+use Rattle.callers.specs.Retired.{IsRetired}
+use Rattle.callers.specs.declared.caller.Caller.{Caller}
+use Rattle.caller_service.proofs.closing.hand_in.Given as goal
+
+abbrev pub invariant-loop-caller : goal.invariant-loop-caller
+invariant-loop-caller g l = record {
+  lock : l.ending.lock ≡ l.fn.ending.lock;
+  taken : List (Caller _ _ _);
+  parts : l.fn.callers.items ≡ l.callers.items ++ taken;
+  accounts : l.ending.last.me.0.accounts ≡ l.fn.ending.last.me.0.accounts ++ map (λ c. account_of c.pass.me.0) (backwards taken);
+  weight : l.ending.last.me.0.weight ≡ l.fn.ending.last.me.0.weight + length taken;
+}
+
+abbrev pub decreases-loop-caller : goal.decreases-loop-caller
+decreases-loop-caller g l = vec_len l.callers

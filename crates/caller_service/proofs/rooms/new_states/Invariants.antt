@@ -1,0 +1,11 @@
+use Rattle.std.proofs.Common.{◌≡◌, ◌≤◌, All, length}
+use Rattle.std.specs.Prelude.{vec_capacity}
+use Rattle.operation_cells.specs.States.{AreInactive}
+use Rattle.caller_service.proofs.rooms.new_states.Given as goal
+
+abbrev pub invariant-loop : goal.invariant-loop
+invariant-loop l = record {
+  count : length l.states.items ≡ l.counter;
+  inactive : All AreInactive l.states.items;
+  room : 4 ≤ vec_capacity l.states;
+}

@@ -1,0 +1,12 @@
+-- What a caller needs of memory.
+use Rattle.std.specs.Prelude.{◌≡◌, ◌≤◌, All, length, vec_capacity}
+use Rattle.secret_bytes.specs.Buffer.{IsClear}
+use Rattle.callers.specs.Handles.{AreIdle}
+use Rattle.caller_service.specs.declared.rooms.Room.{Room}
+
+-- five clear spares, and four cells whose operations are inactive
+pub record IsRoom (r : Room) : Type 0 where
+  pub five : length r.spares.items ≡ 5
+  pub clear : All IsClear r.spares.items
+  pub four : length r.cells.items ≡ 4
+  pub idle : AreIdle r.cells.items

@@ -1,0 +1,195 @@
+//! The service, and how it is opened and closed.
+ghost use Rattle.std.specs.Prelude.{◌≡◌, ◌≤◌, ◌<◌, ◌+◌, ◌^◌, ◌↔◌, ◌⊎◌, ℕ, List, [], All, IfOk, IfErr, IfSome, IfNone, Err, Some, length, slice_get, vec_capacity, vec_len};
+ghost use Rattle.psa_status.specs.declared.Status.TheVariants.{PassWorn};
+ghost use Rattle.key_attributes.specs.declared.Attributes.{Attributes};
+ghost use Rattle.key_cells.specs.declared.slot.Slot as cell;
+ghost use Rattle.key_cells.specs.declared.reading.OpenFault.TheVariants as fault;
+ghost use Rattle.key_cells.specs.Image.{HasKey};
+ghost use Rattle.key_cells.specs.Opened.{IsOpened, IsRefused};
+ghost use Rattle.driver_dispatch.specs.Calls.{Lacks};
+ghost use Rattle.turn_history.specs.Passes.{AreNew};
+ghost use Rattle.service_calls.specs.Meanings.{model_request};
+ghost use Rattle.store_model.specs.Handles.{HandleOperation, Service as model_Service};
+ghost use Rattle.store_model.specs.Sound.{IsSoundStore};
+ghost use Rattle.store_core.specs.Start.{IsStart};
+ghost use Rattle.callers.specs.Budget.{asked_for, counted_by};
+ghost use Rattle.callers.specs.Called.{IsAnswered};
+ghost use Rattle.callers.specs.Handles.{AreOperations};
+ghost use Rattle.callers.specs.Ready.{IsReady};
+ghost use Rattle.callers.specs.Worlds.{world};
+ghost use Rattle.caller_service.specs.Closing.{IsClosedOver};
+ghost use Rattle.caller_service.specs.Rooms.{IsRoom};
+ghost use Rattle.caller_service.specs.Staff.{AreStaff};
+
+use crate::closing::{hand_in, retire_all};
+use crate::rooms::{self, Room};
+use admission::Admission;
+use callers::{Caller, Gate, GatePoint};
+use disk_face::Disk;
+use driver_dispatch::Devices;
+use key_cells::OpenFault;
+use psa_status::{Memory, Status};
+use service_calls::{Call, Output};
+use shared_store::{Held, SharedStore, end};
+use std::alloc::Global;
+use std::sync::Wait;
+use store_core::Unopened;
+use turn_history::Pass;
+
+/// How many callers a service has.
+const CALLERS: usize = 16;
+
+/// A store that sixteen callers share, each within a budget of calls.
+pub struct Service<D: Disk, A: Devices, C: Admission, G: Gate> {
+    pub shared: SharedStore<D, A, C>,
+    /// How much the calls of each caller may count together.
+    pub worn: u64,
+    /// Where calls can be held.
+    pub gate: G,
+    ghost most: { worn ≤ 2 ^ 48 },
+}
+
+/// A service, and its callers by their numbers from 1 on.
+pub type Staffed<D, A, C, G> = (Service<D, A, C, G>, Vec<Caller<D, A, C>>);
+
+// A caller for each pass, with a room of its own.
+fn seat<D: Disk, A: Devices, C: Admission>(
+    shared: &SharedStore<D, A, C>,
+    seed: &[u8; 32],
+    passes: Vec<Pass<Held<D, A, C>>>,
+    rooms: Vec<Room>,
+    callers: &mut Vec<Caller<D, A, C>>,
+)
+    requires passes { AreNew shared.now.lock.table.shared.table_id shared.now.lock.table.shared.key.value.value.store.opened 16 passes.items }
+    requires sound { (start : model_Service) → IsStart D.contents D.moment D.faults A.faults A.locations C.labels shared.now.lock.table.shared.key.value.value.store.opened start → IsSoundStore start.store }
+    requires seed { seed.now ≡ shared.now.lock.table.shared.key.value.value.store.opened.seed.value }
+    requires rooms { (length rooms.items ≡ 16) × All IsRoom rooms.items }
+    requires callers { (callers.old.items ≡ []) × (16 ≤ vec_capacity callers.old) }
+    ensures { AreStaff (world D.contents D.moment D.faults A.keys A.faults A.locations C.labels shared.now.lock.table.shared.table_id shared.now.lock.table.shared.key.value.value.store.opened) callers.new.items }
+{
+    let mut rooms = rooms;
+    let mut number = 0;
+    for pass in passes {
+        number += 1;
+        let Some(Room { spares, cells }) = rooms.pop() else {
+            unreachable!()
+        };
+        callers.push_reserved(Caller::new(shared, pass, number, seed, spares, cells));
+    }
+    rooms.destroy_empty();
+}
+
+// What a service needs of memory beside its store: rooms for the callers, and a list for them.
+fn take_memory<D: Disk, A: Devices, C: Admission>(
+    alloc: Global,
+) -> Result<(Vec<Room>, Vec<Caller<D, A, C>>), Memory>
+    ensures rooms { IfOk result (λ taken. (length taken.0.items ≡ 16) × All IsRoom taken.0.items) }
+    ensures callers { IfOk result (λ taken. (taken.1.items ≡ []) × (16 ≤ vec_capacity taken.1)) }
+{
+    let rooms = rooms::take(alloc, CALLERS)?;
+    match Vec::with_capacity(alloc, CALLERS) {
+        Ok(callers) => Ok((rooms, callers)),
+        Err(_) => {
+            rooms::free(rooms);
+            Err(Memory)
+        }
+    }
+}
+
+impl<D: Disk, A: Devices, C: Admission, G: Gate> Service<D, A, C, G> {
+    /// Opens the store of a disk, or makes one on a disk of length 0, for sixteen callers whose random words have this seed
+    /// and whose calls may each count up to `worn`. Where it isn't opened the disk and the devices come back: `Memory`
+    /// where there is no room, `Disk` only where the disk's faults rose, `NotAStore` and `DamagedCell` for what the disk
+    /// has, and then nothing is written to it.
+    pub fn open(
+        alloc: Global,
+        disk: D,
+        devices: A,
+        rules: C,
+        seed: &[u8; 32],
+        worn: u64,
+        gate: G,
+    ) -> Result<Staffed<D, A, C, G>, Unopened<D, A>>
+        requires empty { (handle : ℕ) → Lacks (A.keys devices) handle }
+        requires worn { worn ≤ 2 ^ 48 }
+        ensures staff { IfOk result (λ made. AreStaff (world D.contents D.moment D.faults A.keys A.faults A.locations C.labels made.0.shared.lock.table.shared.table_id made.0.shared.lock.table.shared.key.value.value.store.opened) made.1.items) }
+        ensures worn { IfOk result (λ made. made.0.worn ≡ worn) }
+        ensures starts { IfOk result (λ made. (start : model_Service) × IsStart D.contents D.moment D.faults A.faults A.locations C.labels made.0.shared.lock.table.shared.key.value.value.store.opened start) }
+        ensures sound { IfOk result (λ made. (start : model_Service) → IsStart D.contents D.moment D.faults A.faults A.locations C.labels made.0.shared.lock.table.shared.key.value.value.store.opened start → IsSoundStore start.store) }
+        ensures keys { IfOk result (λ made. IfSome (D.contents disk) (λ image. (start : model_Service) (s : IsStart D.contents D.moment D.faults A.faults A.locations C.labels made.0.shared.lock.table.shared.key.value.value.store.opened start) (a : Attributes) (bytes : List ℕ) →
+            HasKey a bytes image ↔ ((number : ℕ) × (slice_get s.found number ≡ Some (record { attributes = a; bytes = bytes }))))) }
+        ensures opened { IfOk result (λ made. IsOpened D.contents D.may_leave D.moment D.left_since disk made.0.shared.lock.table.shared.key.value.value.store.opened.file.value.cells.disk made.0.shared.lock.table.shared.key.value.value.store.opened.file.value.cells.slots.items) }
+        ensures later { IfOk result (λ made. D.faults disk ≤ D.faults made.0.shared.lock.table.shared.key.value.value.store.opened.file.value.cells.disk) }
+        ensures devices { IfOk result (λ made. made.0.shared.lock.table.shared.key.value.value.store.opened.devices.value ≡ devices) }
+        ensures seed { IfOk result (λ made. made.0.shared.lock.table.shared.key.value.value.store.opened.seed.value ≡ seed.now) }
+        ensures rules { IfOk result (λ made. made.0.shared.lock.table.shared.key.value.value.store.opened.rules.value ≡ rules) }
+        ensures refused { IfErr result (λ unopened. IsRefused D.contents D.may_leave D.moment D.left_since D.faults disk unopened.disk unopened.fault
+            ⊎ ((unopened.fault ≡ fault.Memory) × ((slots : List cell.Slot) × IsOpened D.contents D.may_leave D.moment D.left_since disk unopened.disk slots) × (D.faults disk ≤ D.faults unopened.disk))) }
+        ensures returned { IfErr result (λ unopened. unopened.devices ≡ devices) }
+    {
+        let (rooms, mut callers) = match take_memory(alloc) {
+            Ok(taken) => taken,
+            Err(Memory) => {
+                return Err(Unopened {
+                    disk,
+                    devices,
+                    fault: OpenFault::Memory,
+                });
+            }
+        };
+        match SharedStore::open(alloc, disk, devices, rules, seed) {
+            Ok((shared, passes)) => {
+                seat(&shared, seed, passes, rooms, &mut callers);
+                Ok((Service { shared, worn, gate }, callers))
+            }
+            Err(unopened) => {
+                rooms::free(rooms);
+                callers.destroy_empty();
+                Err(unopened)
+            }
+        }
+    }
+
+    /// Makes a call of a caller, and answers its rank beside what it gives: bytes are written to the front of the buffer.
+    /// `PassWorn` comes exactly where the caller's budget doesn't suffice for the call: then it has no rank, and nothing
+    /// has changed.
+    pub fn call<R: Wait>(
+        &self,
+        rt: &R,
+        caller: &mut Caller<D, A, C>,
+        call: &Call<'_>,
+        out: &mut [u8],
+    ) -> (Option<u64>, Result<Output, Status>)
+        requires ready { IsReady (world D.contents D.moment D.faults A.keys A.faults A.locations C.labels self.now.shared.lock.table.shared.table_id self.now.shared.lock.table.shared.key.value.value.store.opened) 0 caller.old }
+        requires within { caller.old.spent ≤ self.now.worn }
+        ensures ready { IsReady (world D.contents D.moment D.faults A.keys A.faults A.locations C.labels self.now.shared.lock.table.shared.table_id self.now.shared.lock.table.shared.key.value.value.store.opened) 0 caller.new }
+        ensures within { caller.new.spent ≤ self.now.worn }
+        ensures ranked { IfSome result.0 (λ rank. IsAnswered (world D.contents D.moment D.faults A.keys A.faults A.locations C.labels self.now.shared.lock.table.shared.table_id self.now.shared.lock.table.shared.key.value.value.store.opened) caller.old.pass.me.0 caller.new.pass.me.0 (model_request call.now (length out.old)) rank result.1 out.old out.new) }
+        ensures counts { IfSome result.0 (λ rank. (operations : List HandleOperation) → AreOperations caller.old.handles.cells.items operations →
+            (caller.old.spent + asked_for call.now operations ≤ self.now.worn) × (caller.new.spent ≡ caller.old.spent + counted_by call.now operations result.1)) }
+        ensures worn { IfNone result.0 ((operations : List HandleOperation) → AreOperations caller.old.handles.cells.items operations →
+            (self.now.worn < caller.old.spent + asked_for call.now operations) × (result.1 ≡ Err PassWorn) × (caller.new ≡ caller.old) × (out.new ≡ out.old)) }
+    {
+        let answer = caller.answer(rt, &self.shared, &self.gate, self.worn, call, out);
+        self.gate
+            .hold(caller.number(), caller.pass(), GatePoint::Answered);
+        answer
+    }
+
+    /// Ends all callers: each operation is wiped, and its lease given back. Then the store is closed, and the disk and the
+    /// devices come back.
+    pub fn close<R: Wait>(self, rt: &R, callers: Vec<Caller<D, A, C>>) -> (D, A)
+        requires sixteen { vec_len callers ≡ 16 }
+        requires ready { All (IsReady (world D.contents D.moment D.faults A.keys A.faults A.locations C.labels self.shared.lock.table.shared.table_id self.shared.lock.table.shared.key.value.value.store.opened) 0) callers.items }
+        ensures closed { IsClosedOver D.contents D.moment D.left_since D.faults A.faults A.locations C.labels self.shared.lock.table.shared.key.value.value.store.opened result.0 result.1 callers.items }
+    {
+        let Service {
+            shared,
+            worn: _worn,
+            gate: _gate,
+        } = self;
+        let mut callers = callers;
+        retire_all(rt, &shared, &mut callers);
+        end(hand_in(shared.start_ending(), callers))
+    }
+}

@@ -1,0 +1,4 @@
+pub mod Replying
+pub mod Printed
+pub mod Running
+pub mod Bounds

@@ -1,0 +1,20 @@
+-- What is known of the answers to calls.
+use Rattle.std.specs.Prelude.{ℕ, ◌≡◌, Result, List}
+use Rattle.psa_status.specs.declared.Status.{Status}
+use Rattle.store_model.specs.Call.{Reply, output_bytes, buffer_after}
+use Rattle.service_calls.specs.declared.output.Output.{Output}
+use Rattle.service_calls.specs.Answered.{AnswersReply}
+use Rattle.script_lang.specs.PrintedOrder.{id_given}
+use Rattle.script_sessions.specs.declared.answers.Answer.{Answer}
+
+-- what is known of a call's answer
+pub record Answers (a : Answer) (reply : Reply) : Type 0 where
+  pub status : a.status ≡ reply.status
+  pub bytes : a.bytes ≡ output_bytes reply.output
+  pub id : a.id ≡ id_given reply.output
+
+-- what is known of a call that was made with an output buffer: its answer, and the buffer after it
+pub record Fills (answer : Result Output Status) (out : List ℕ) (reply : Reply) : Type 0 where
+  pub answers : AnswersReply answer reply
+  pub before : List ℕ
+  pub after : out ≡ buffer_after before reply

@@ -1,0 +1,11 @@
+//! One session of a script: its calls, made by a caller of a service that others share, and the text of the replies.
+#![tactic(auto)]
+
+mod answers;
+mod laws;
+mod session;
+mod texts;
+
+pub use laws::marks_are_bounded;
+pub use session::Session;
+pub use texts::{flatten, text_of_sessions};
