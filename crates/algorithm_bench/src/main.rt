@@ -11,7 +11,6 @@ mod updates;
 use jobs::{Algorithm, Family, Job, Work};
 use std::process::ExitCode;
 use std::{env, io};
-use updates::{Failure, Handle};
 
 const USAGE: &str = "usage: algorithm_bench NAME BYTES TURNS
 NAME is sha2, sha256, hmac, cmac, ecb, ecb_decryption, cbc, cbc_decryption, ctr, gcm, ccm or pbkdf2, or the update
@@ -41,14 +40,9 @@ fn run_whole(rt: &HostRuntime, algorithm: Algorithm, job: Job) -> io::Result<()>
 fn run_updates(rt: &HostRuntime, family: Family, job: Job) -> io::Result<()> {
     let text = vec![in rt.alloc(); 0u8; job.bytes]?;
     let mut out = vec![in rt.alloc(); 0u8; 65536]?;
-    let made = match Handle::open(rt.alloc(), family) {
-        Ok(mut handle) => handle.run(&text, &mut out, job.turns),
-        Err(failure) => Err(failure),
-    };
-    match made {
+    match updates::run(family, &text, &mut out, job.turns) {
         Ok(()) => println!(rt; "updated"),
-        Err(Failure::Memory) => println!(rt; "out of memory"),
-        Err(Failure::Refused) => println!(rt; "refused"),
+        Err(_) => println!(rt; "refused"),
     }
 }
 
