@@ -1,0 +1,166 @@
+// The sessions that one thread runs.
+ghost use Rattle.std.specs.Prelude.{◌≡◌, ◌≢◌, ◌⊎◌, ◌≤◌, ◌<◌, ◌+◌, ◌*◌, ◌++◌, ◌∷◌, [], ℕ, List, All, IfSome, IfNone, MatchResult, get_or, length, vec_capacity};
+ghost use Rattle.turn_history.specs.History.{entries_of, StartsWith};
+ghost use Rattle.turn_history.specs.Passes.{IsIdle};
+ghost use Rattle.turn_history.specs.Views.{watcher};
+ghost use Rattle.callers.specs.Called.{Legal};
+ghost use Rattle.callers.specs.Ready.{IsReady};
+ghost use Rattle.callers.specs.Worlds.{world};
+ghost use Rattle.script_lang.specs.declared.script.ScriptLine as script_line;
+ghost use Rattle.script_sessions.specs.declared.session.Session as session;
+ghost use Rattle.script_sessions.specs.Running.{HasMade};
+ghost use Rattle.session_workers.specs.Working.{ChangesAt, HasLearned, HasSeated, HasWorked, HaveRun, numbers_of};
+ghost use Rattle.std.specs.Option.{option_to_list};
+
+use admission::Admission;
+use caller_service::Service;
+use callers::Gate;
+use disk_face::Disk;
+use driver_dispatch::Devices;
+use psa_status::Memory;
+use script_lang::ScriptLine;
+use script_sessions::Session;
+use shared_store::Held;
+use std::alloc::Global;
+use std::sync::Wait;
+use turn_history::Pass;
+
+/// The sessions that one thread runs, with a buffer for what their calls give.
+pub struct Worker<D: Disk, A: Devices, C: Admission> {
+    pub sessions: Vec<Session<D, A, C>>,
+    /// Where the session stands whose call was the last.
+    pub last: Option<usize>,
+    pub buffer: Vec<u8>,
+    /// Whether all lines were run.
+    pub whole: bool,
+}
+
+// Where the session of a number stands.
+fn place_of<D: Disk, A: Devices, C: Admission>(
+    sessions: &[Session<D, A, C>],
+    number: u8,
+) -> Option<usize>
+    ensures found { IfSome result (λ place. (place < length sessions.now) × ((d : session.Session _ _ _) → (get_or sessions.now place d).caller.number ≡ number)) }
+    ensures none { IfNone result (All (λ s. s.caller.number ≢ number) sessions.now) }
+{
+    for place in 0..sessions.len() {
+        if sessions[place].caller.number() == number {
+            return Some(place);
+        }
+    }
+    None
+}
+
+impl<D: Disk, A: Devices, C: Admission> Worker<D, A, C> {
+    /// Takes a session, for which there is room.
+    pub fn seat(&mut self, session: Session<D, A, C>)
+        requires { length self.old.sessions.items < vec_capacity self.old.sessions }
+        ensures { HasSeated self.old self.new session }
+    {
+        self.sessions.push_reserved(session);
+    }
+
+    /// Hands the last session out, where there is one.
+    pub fn unseat(&mut self) -> Option<Session<D, A, C>>
+        ensures items { self.old.sessions.items ≡ self.new.sessions.items ++ option_to_list result }
+        ensures none { IfNone result (self.new.sessions.items ≡ []) }
+    {
+        self.sessions.pop()
+    }
+
+    // A watcher that has seen what the caller of a session has.
+    fn watch<G: Gate>(&mut self, service: &Service<D, A, C, G>, place: usize) -> Pass<Held<D, A, C>>
+        requires place { place < length self.old.sessions.items }
+        requires own { (d : session.Session _ _ _) → (get_or self.old.sessions.items place d).caller.pass.table_id ≡ service.now.shared.lock.table.shared.table_id }
+        ensures items { self.new.sessions.items ≡ self.old.sessions.items }
+        ensures same { (self.new.last ≡ self.old.last) × (self.new.buffer ≡ self.old.buffer) × (self.new.whole ≡ self.old.whole) }
+        ensures idle { IsIdle service.now.shared.lock.table.shared.table_id result }
+        ensures watcher { (d : session.Session _ _ _) → result.me ≡ (watcher (get_or self.old.sessions.items place d).caller.pass.me.0, []) }
+    {
+        self.sessions[place].caller.watch(&service.shared)
+    }
+
+    // Has the caller of a session see what a watcher has seen.
+    fn learn<G: Gate>(
+        &mut self,
+        service: &Service<D, A, C, G>,
+        place: usize,
+        watcher: Pass<Held<D, A, C>>,
+    )
+        requires place { place < length self.old.sessions.items }
+        requires ready { (d : session.Session _ _ _) → IsReady (world D.contents D.moment D.faults A.keys A.faults A.locations C.labels service.now.shared.lock.table.shared.table_id service.now.shared.lock.table.shared.key.value.value.store.opened) 0 (get_or self.old.sessions.items place d).caller }
+        requires idle { IsIdle service.now.shared.lock.table.shared.table_id watcher }
+        requires weightless { watcher.me.0.weight ≡ 0 }
+        requires legal { Legal (world D.contents D.moment D.faults A.keys A.faults A.locations C.labels service.now.shared.lock.table.shared.table_id service.now.shared.lock.table.shared.key.value.value.store.opened) (entries_of watcher.me.0.seen) }
+        ensures learned { ChangesAt place (HasLearned (world D.contents D.moment D.faults A.keys A.faults A.locations C.labels service.now.shared.lock.table.shared.table_id service.now.shared.lock.table.shared.key.value.value.store.opened)) self.old.sessions.items self.new.sessions.items }
+        ensures met { (d : session.Session _ _ _) → StartsWith (entries_of (get_or self.new.sessions.items place d).caller.pass.me.0.seen) (entries_of watcher.me.0.seen) }
+        ensures same { (self.new.last ≡ self.old.last) × (self.new.buffer ≡ self.old.buffer) × (self.new.whole ≡ self.old.whole) }
+    {
+        self.sessions[place].caller.learn(&service.shared, watcher);
+    }
+
+    // Has the caller of a session see all that the caller has seen whose call was the last.
+    fn meet<G: Gate>(&mut self, service: &Service<D, A, C, G>, place: usize)
+        requires place { place < length self.old.sessions.items }
+        requires last { IfSome self.old.last (λ last. last < length self.old.sessions.items) }
+        requires ready { All (λ s. IsReady (world D.contents D.moment D.faults A.keys A.faults A.locations C.labels service.now.shared.lock.table.shared.table_id service.now.shared.lock.table.shared.key.value.value.store.opened) 0 s.caller) self.old.sessions.items }
+        ensures learned { ChangesAt place (HasLearned (world D.contents D.moment D.faults A.keys A.faults A.locations C.labels service.now.shared.lock.table.shared.table_id service.now.shared.lock.table.shared.key.value.value.store.opened)) self.old.sessions.items self.new.sessions.items }
+        ensures met { IfSome self.old.last (λ last. (d : session.Session _ _ _) →
+            StartsWith (entries_of (get_or self.new.sessions.items place d).caller.pass.me.0.seen) (entries_of (get_or self.old.sessions.items last d).caller.pass.me.0.seen)) }
+        ensures same { (self.new.last ≡ self.old.last) × (self.new.buffer ≡ self.old.buffer) × (self.new.whole ≡ self.old.whole) }
+    {
+        let Some(last) = self.last else {
+            return;
+        };
+        if last != place {
+            let watcher = self.watch(service, last);
+            self.learn(service, place, watcher);
+        }
+    }
+
+    // Runs a line, where it is of one of the sessions.
+    fn run_line<R: Wait, G: Gate>(
+        &mut self,
+        rt: &R,
+        alloc: Global,
+        service: &Service<D, A, C, G>,
+        line: &ScriptLine,
+    ) -> Result<(), Memory>
+        requires { (lines : List script_line.ScriptLine) × HaveRun (world D.contents D.moment D.faults A.keys A.faults A.locations C.labels service.now.shared.lock.table.shared.table_id service.now.shared.lock.table.shared.key.value.value.store.opened) lines self.old × (length lines < 20000) × (2 * length lines + 2 ≤ service.now.worn) }
+        ensures ran { (lines : List script_line.ScriptLine) → HaveRun (world D.contents D.moment D.faults A.keys A.faults A.locations C.labels service.now.shared.lock.table.shared.table_id service.now.shared.lock.table.shared.key.value.value.store.opened) lines self.old →
+            MatchResult result (λ done. HaveRun (world D.contents D.moment D.faults A.keys A.faults A.locations C.labels service.now.shared.lock.table.shared.table_id service.now.shared.lock.table.shared.key.value.value.store.opened) (lines ++ line.now ∷ []) self.new)
+            (λ full. All (λ s. HasMade (world D.contents D.moment D.faults A.keys A.faults A.locations C.labels service.now.shared.lock.table.shared.table_id service.now.shared.lock.table.shared.key.value.value.store.opened) lines s.caller ⊎ HasMade (world D.contents D.moment D.faults A.keys A.faults A.locations C.labels service.now.shared.lock.table.shared.table_id service.now.shared.lock.table.shared.key.value.value.store.opened) (lines ++ line.now ∷ []) s.caller) self.new.sessions.items) }
+        ensures numbers { numbers_of self.new.sessions.items ≡ numbers_of self.old.sessions.items }
+        ensures whole { self.new.whole ≡ self.old.whole }
+    {
+        let Some(place) = place_of(&self.sessions, line.session) else {
+            return Ok(());
+        };
+        self.meet(service, place);
+        let ran = self.sessions[place].run_line(rt, alloc, service, &mut self.buffer, line);
+        self.last = Some(place);
+        ran
+    }
+
+    /// Runs the lines of its sessions, in the order of the script. Stops where memory runs out, and says so.
+    pub fn run<R: Wait, G: Gate>(
+        &mut self,
+        rt: &R,
+        alloc: Global,
+        service: &Service<D, A, C, G>,
+        lines: &[ScriptLine],
+    )
+        requires begun { HaveRun (world D.contents D.moment D.faults A.keys A.faults A.locations C.labels service.now.shared.lock.table.shared.table_id service.now.shared.lock.table.shared.key.value.value.store.opened) [] self.old }
+        requires few { length lines.now ≤ 20000 }
+        requires budget { 2 * length lines.now ≤ service.now.worn }
+        ensures { HasWorked (world D.contents D.moment D.faults A.keys A.faults A.locations C.labels service.now.shared.lock.table.shared.table_id service.now.shared.lock.table.shared.key.value.value.store.opened) lines.now self.old self.new }
+    {
+        self.whole = true;
+        for line in lines {
+            let Ok(()) = self.run_line(rt, alloc, service, line) else {
+                self.whole = false;
+                return;
+            };
+        }
+    }
+}
