@@ -3,7 +3,7 @@ ghost use Rattle.line_generator.specs.Orders.{RepliesInAnyOrder, SummaryInAnyOrd
 ghost use Rattle.line_generator.specs.Summary.{RankStandsBetween};
 
 /// Every order of the generator's lines that keeps each session's own gives the same replies but for their ranks, and so
-/// the same summary.
+/// the same summary, where no device failed.
 pub fn orders_answer_alike()
     ensures replies { RepliesInAnyOrder }
     ensures summary { SummaryInAnyOrder }

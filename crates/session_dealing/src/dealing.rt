@@ -103,7 +103,7 @@ pub fn deal<D: Disk, A: Devices, C: Admission, G: Gate>(
     }
 }
 
-/// Takes the callers back, and the replies of their sessions, by their numbers, and says whether all lines were run.
+/// Takes the callers back, and the replies of their sessions, by their numbers.
 pub fn gather<D: Disk, A: Devices, C: Admission>(
     workers: &mut [Worker<D, A, C>],
     callers: &mut Vec<Caller<D, A, C>>,
