@@ -97,6 +97,22 @@ const RAW_DATA: Attributes = Attributes {
     },
 };
 
+// Destroys a key in the third turn with a rank, and asks for the same once more.
+fn destroy_twice<R: Abort + Wait, D: Disk, A: Devices, C: Admission>(
+    rt: &R,
+    shared: &SharedStore<D, A, C>,
+    pass: &mut Pass<Held<D, A, C>>,
+    id: KeyId,
+)
+    requires at { IsAt shared.now.lock.table.shared.table_id shared.now.lock.table.shared.key.value.value.store.opened pass.old }
+    requires left { 1 < pass.old.me.0.turns_left }
+{
+    let destroy = Call::OnStore(StoreCall::Destroy(id));
+    assert_eq!(rt; shared.destroy(rt, pass, &destroy, 0, id), (2, Ok(())));
+    let missing = Err(NotDestroyed::Missing);
+    assert_eq!(rt; shared.destroy(rt, pass, &destroy, 0, id), (3, missing));
+}
+
 // Makes a key, reads it and destroys it, in the first turns of a store.
 fn make_read_and_destroy<R: Abort + Wait, D: Disk, A: Devices, C: Admission>(
     rt: &R,
@@ -131,10 +147,7 @@ fn make_read_and_destroy<R: Abort + Wait, D: Disk, A: Devices, C: Admission>(
     };
     assert!(rt; lease.as_slice() == bytes.as_slice());
     shared.give_back(rt, pass, lease);
-    let destroy = Call::OnStore(StoreCall::Destroy(id));
-    assert_eq!(rt; shared.destroy(rt, pass, &destroy, 0, id), (2, Ok(())));
-    let missing = Err(NotDestroyed::Missing);
-    assert_eq!(rt; shared.destroy(rt, pass, &destroy, 0, id), (3, missing));
+    destroy_twice(rt, shared, pass, id);
     Ok(())
 }
 

@@ -1,8 +1,8 @@
 ghost use Rattle.std.specs.Prelude.{◌≤◌, ℕ};
 ghost use Rattle.driver_dispatch.specs.Calls.{Lacks};
 
+use crate::Keeper;
 use crate::rooms::{new_element, no_devices, no_rules, open, raw_data, sound_disk};
-use crate::{Keeper, Seen};
 use admission::{Admission, Rule, Rules};
 use alg_encoding::Alg;
 use disk_face::MemoryDisk;
@@ -36,6 +36,41 @@ fn filled<R: Abort, A: Devices, C: Admission>(
     Ok(keeper.into_disk().bytes().to_vec(alloc)?)
 }
 
+// Reads a key of the file. The first key makes room for the last.
+fn load<R: Abort, A: Devices, C: Admission>(
+    rt: &R,
+    keeper: &mut Keeper<MemoryDisk, A, C>,
+    id: u32,
+) {
+    let given = keeper.gives(KeyId(id), &[(id % 251) as u8, 1]);
+    assert_eq!(rt; given, Some(Ok(true)));
+    assert_eq!(rt; keeper.slot(KeyId(1)).is_some(), id < 385);
+}
+
+// Reads the first key once more, which takes the place of the second, and forgets it in memory.
+fn reload_and_purge<R: Abort, A: Devices, C: Admission>(
+    rt: &R,
+    keeper: &mut Keeper<MemoryDisk, A, C>,
+) {
+    assert_eq!(rt; keeper.gives(KeyId(1), &[1, 1]), Some(Ok(true)));
+    assert_eq!(rt; keeper.slot(KeyId(2)), None);
+    assert_eq!(rt; keeper.purge(KeyId(1)), Some(Ok(())));
+    assert_eq!(rt; keeper.slot(KeyId(1)), None);
+}
+
+// Asks for a key that is in the file alone, and for one that isn't there.
+fn ask_for_attributes<R: Abort, A: Devices, C: Admission>(
+    rt: &R,
+    keeper: &mut Keeper<MemoryDisk, A, C>,
+) {
+    let mut known = raw_data(1);
+    known.bits = 16;
+    assert_eq!(rt; keeper.attributes(KeyId(1)), Some(Ok(known)));
+    let missing = Status::InvalidHandle;
+    assert_eq!(rt; keeper.attributes(KeyId(386)), Some(Err(missing)));
+    assert_eq!(rt; keeper.purge(KeyId(386)), Some(Err(missing)));
+}
+
 fn load_and_evict<R: Abort, A: Devices, C: Admission>(
     rt: &R,
     alloc: Global,
@@ -48,23 +83,10 @@ fn load_and_evict<R: Abort, A: Devices, C: Admission>(
     let mut keeper = open(alloc, disk, devices, rules)?;
     assert_eq!(rt; keeper.slot(KeyId(1)), None);
     for id in 1..386u32 {
-        let given = keeper.gives(KeyId(id), &[(id % 251) as u8, 1]);
-        assert_eq!(rt; given, Some(Ok(true)));
-        // The first key makes room for the last.
-        assert_eq!(rt; keeper.slot(KeyId(1)).is_some(), id < 385);
+        load(rt, &mut keeper, id);
     }
-    assert_eq!(rt; keeper.gives(KeyId(1), &[1, 1]), Some(Ok(true)));
-    assert_eq!(rt; keeper.slot(KeyId(2)), None);
-    assert_eq!(rt; keeper.purge(KeyId(1)), Some(Ok(())));
-    assert_eq!(rt; keeper.slot(KeyId(1)), None);
-    let mut known = raw_data(1);
-    known.bits = 16;
-    assert_eq!(rt; keeper.attributes(KeyId(1)), Some(Ok(known)));
-    assert_eq!(rt;
-        keeper.attributes(KeyId(386)),
-        Some(Err(Status::InvalidHandle))
-    );
-    assert_eq!(rt; keeper.purge(KeyId(386)), Some(Err(Status::InvalidHandle)));
+    reload_and_purge(rt, &mut keeper);
+    ask_for_attributes(rt, &mut keeper);
     Ok(())
 }
 
@@ -152,6 +174,23 @@ fn a_secure_element_fails_once(rt: HostRuntime) -> Result<(), Fail> {
     ask_element(&rt, alloc, disk, element, no_rules(alloc))
 }
 
+// Makes key 7 in the first slot.
+fn import_first<R: Abort, A: Devices, C: Admission>(rt: &R, keeper: &mut Keeper<MemoryDisk, A, C>) {
+    assert_eq!(rt; keeper.import(&raw_data(7), &[1; 32]), Some(Ok(KeyId(7))));
+    assert_eq!(rt; keeper.slot(KeyId(7)), Some(0));
+}
+
+// Destroys key 7 under four leases. Slot 0 is free once the lease that was lent first is back.
+fn destroy_first<R: Abort, A: Devices, C: Admission>(
+    rt: &R,
+    alloc: Global,
+    keeper: &mut Keeper<MemoryDisk, A, C>,
+) {
+    let seen = keeper.destroy_under_leases(alloc, &raw_data(7), &raw_data(0));
+    assert!(rt; seen.steps == [Some(Err(Status::InvalidHandle)); 4]);
+    assert!(rt; seen.slots == [Some(0u32), Some(4), Some(3), Some(2), Some(1)]);
+}
+
 fn destroy_what_is_read<R: Abort, A: Devices, C: Admission>(
     rt: &R,
     alloc: Global,
@@ -162,15 +201,8 @@ fn destroy_what_is_read<R: Abort, A: Devices, C: Admission>(
     requires { (handle : ℕ) → Lacks (A.keys devices) handle }
 {
     let mut keeper = open(alloc, disk, devices, rules)?;
-    assert_eq!(rt; keeper.import(&raw_data(7), &[1; 32]), Some(Ok(KeyId(7))));
-    assert_eq!(rt; keeper.slot(KeyId(7)), Some(0));
-    let seen = keeper.destroy_under_leases(alloc, &raw_data(7), &raw_data(0));
-    // Slot 0 is free once the lease that was lent first is back.
-    let expected = Seen {
-        steps: [Some(Err(Status::InvalidHandle)); 4],
-        slots: [Some(0), Some(4), Some(3), Some(2), Some(1)],
-    };
-    assert_eq!(rt; seen, expected);
+    import_first(rt, &mut keeper);
+    destroy_first(rt, alloc, &mut keeper);
     assert_eq!(rt; keeper.gives(KeyId(7), &[2; 32]), Some(Ok(true)));
     Ok(())
 }

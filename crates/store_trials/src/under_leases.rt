@@ -14,7 +14,7 @@ use std::alloc::Global;
 use store_core::Store;
 
 /// What was seen of a key that was destroyed while four leases of it were out, and given back the last one first.
-#[derive(Clone, Copy, Debug, PartialEq, Eq, Drop)]
+#[derive(Clone, Copy, Drop)]
 pub struct Seen {
     /// How a step of an operation with each lease was answered.
     pub steps: [Option<Result<(), Status>>; 4],
