@@ -64,7 +64,6 @@ module _ {D A C : Type 0} (told : D → Option (List ℕ)) (moment : D → ℕ) 
   pub closed_over : IsClosedOver told moment left_since faults hard locations labels w.opened disk devices old
   closed_over = record {
     history = entries_of closed.turns;
-    signed = closed.signed;
     seen = λ k d lt.
         let c : Caller D A C = get_or old k d in let e : Caller D A C = get_or new k d in
         let q = (retired.each k d lt).quiet in let n = retired.as_many in
@@ -77,9 +76,12 @@ module _ {D A C : Type 0} (told : D → Option (List ℕ)) (moment : D → ℕ) 
         let first = (ready k d lt).at.first in
         let h : calls_by caller_of e.pass.me.0.number (entries_of closed.turns) ≡ e.pass.me.0.calls = each_called k d (omega arith) (let m = q.number in omega arith) in
         subst (λ m. calls_by caller_of m (entries_of closed.turns) ≡ c.pass.me.0.calls) q.number (h ∙ q.calls);
-    legal = closed.legal;
-    counts = closed.counts;
-    tells = closed.tells;
-    promise = closed.promise;
-    cells = closed.cells;
+    left = record {
+      signed = closed.signed;
+      legal = closed.legal;
+      counts = closed.counts;
+      tells = closed.tells;
+      promise = closed.promise;
+      cells = closed.cells;
+    };
   }

@@ -32,29 +32,34 @@ replay_more service (x ∷ es) e = replay_more (outcome_of service x).service es
 not_empty : {A : Type 0} (x : A) (xs : List A) → x ∷ xs ≡ [] → ⊥
 not_empty x xs e = cc
 
+pub none_chosen : {X : Type 0} (b : Bool) (e : Entry) (es : List Entry) (x : X) (xs : List X) → choose b e es ≡ [] → (es ≡ [] → xs ≡ []) → cond b (x ∷ xs) xs ≡ []
+none_chosen true e es x xs none rest = absurd (not_empty e es none)
+none_chosen false e es x xs none rest = rest none
+
 pub no_turns : (session n : ℕ) (service : Service) (es : List Entry) → calls_by caller_of session es ≡ [] → turns_of session (turns_from n service es) ≡ []
 no_turns session n service [] none = refl
-no_turns session n service (x ∷ xs) none = go (eqb x.caller session) none (λ rest. no_turns session (n + 1) (outcome_of service x).service xs rest)
-  where
-    go : (b : Bool) → choose b x (calls_by caller_of session xs) ≡ [] → (calls_by caller_of session xs ≡ [] → turns_of session (turns_from (n + 1) (outcome_of service x).service xs) ≡ [])
-        → cond b (turn_at n service x ∷ turns_of session (turns_from (n + 1) (outcome_of service x).service xs)) (turns_of session (turns_from (n + 1) (outcome_of service x).service xs)) ≡ []
-    go true e later = absurd (not_empty x (calls_by caller_of session xs) e)
-    go false e later = later e
+no_turns session n service (x ∷ xs) none =
+    let next : Service = (outcome_of service x).service in
+    none_chosen (eqb x.caller session) x (calls_by caller_of session xs) (turn_at n service x) (turns_of session (turns_from (n + 1) next xs)) none (no_turns session (n + 1) next xs)
 
 no_more : {A : Type 0} (xs ys : List A) → xs ++ ys ≡ xs → ys ≡ []
 no_more [] ys e = e
 no_more (x ∷ xs) ys e = no_more xs ys (let f : x ∷ (xs ++ ys) ≡ x ∷ xs = e in cc)
 
--- a history that begins so and has no further call of the session's has the same turns of it
+-- a history that begins so and has no further call of the session's has none after that
+pub none_after : (session : ℕ) (whole part : List Entry) (s : StartsWith whole part) → calls_by caller_of session whole ≡ calls_by caller_of session part → calls_by caller_of session s.0 ≡ []
+none_after session whole part s same =
+    let parts : calls_by caller_of session whole ≡ calls_by caller_of session part ++ calls_by caller_of session s.0 = ap (calls_by caller_of session) s.1 ∙ calls-append caller_of session part s.0 in
+    no_more (calls_by caller_of session part) (calls_by caller_of session s.0) (sym parts ∙ same)
+
+-- and the same turns of it
 pub same_turns : (session : ℕ) (start : Service) (whole part : List Entry) → StartsWith whole part → calls_by caller_of session whole ≡ calls_by caller_of session part →
     session_turns session start whole ≡ session_turns session start part
 same_turns session start whole part s same =
-    let parts : calls_by caller_of session whole ≡ calls_by caller_of session part ++ calls_by caller_of session s.0 = ap (calls_by caller_of session) s.1 ∙ calls-append caller_of session part s.0 in
-    let none : calls_by caller_of session s.0 ≡ [] = no_more (calls_by caller_of session part) (calls_by caller_of session s.0) (sym parts ∙ same) in
     ap (λ h. session_turns session start h) s.1
     ∙ (ap (turns_of session) (turns-append 0 start part s.0)
     ∙ (filter-append (λ (t : Turn). t.entry.caller == session) (turns_from 0 start part) (turns_from (0 + length part) (replay start part) s.0)
-    ∙ (ap (λ ts. session_turns session start part ++ ts) (no_turns session (0 + length part) (replay start part) s.0 none)
+    ∙ (ap (λ ts. session_turns session start part ++ ts) (no_turns session (0 + length part) (replay start part) s.0 (none_after session whole part s same))
     ∙ append-nil (session_turns session start part))))
 
 -- one more call of the session
@@ -67,7 +72,7 @@ last_turn session start before e by =
     ∙ (ap (λ b. session_turns session start before ++ cond b (turn_at (0 + length before) (replay start before) e ∷ []) []) (eq-eqb e.caller session by)
     ∙ ap (λ k. session_turns session start before ++ turn_at k (replay start before) e ∷ []) (let z : 0 + length before ≡ length before = omega arith in z)))
 
-last_call : (session : ℕ) (before : List Entry) (e : Entry) → e.caller ≡ session → calls_by caller_of session (before ++ e ∷ []) ≡ calls_by caller_of session before ++ e ∷ []
+pub last_call : (session : ℕ) (before : List Entry) (e : Entry) → e.caller ≡ session → calls_by caller_of session (before ++ e ∷ []) ≡ calls_by caller_of session before ++ e ∷ []
 last_call session before e by = calls-append caller_of session before (e ∷ []) ∙ ap (λ b. calls_by caller_of session before ++ choose b e []) (eq-eqb e.caller session by)
 
 pub one_more_turn : (session : ℕ) (start : Service) (old before new : List Entry) (e : Entry) → StartsWith before old → calls_by caller_of session before ≡ calls_by caller_of session old → e.caller ≡ session →

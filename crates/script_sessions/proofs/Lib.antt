@@ -1,4 +1,5 @@
 pub mod History
 pub mod Order
+pub mod Heads
 pub mod Told
 pub mod Bounds

@@ -1,5 +1,5 @@
 -- What callers and sessions know, as one more line is run.
-use Rattle.std.proofs.Common.{◌≡◌, ◌≢◌, ℕ, ◌+◌, ◌*◌, ◌≤◌, List, [], ◌∷◌, ◌++◌, length, refl, sym, ap, ◌∙◌, subst, arith, map, eq-eqb, ne_eqb, length-append, append_assoc, inl}
+use Rattle.std.proofs.Common.{◌≡◌, ◌≢◌, ℕ, ◌+◌, ◌*◌, ◌≤◌, List, [], ◌∷◌, ◌++◌, length, refl, sym, ap, ap₂, ◌∙◌, subst, arith, map, eq-eqb, ne_eqb, length-append, append_assoc, inl}
 use Rattle.std.specs.Prelude.{◌==◌, filter}
 use Rattle.std.proofs.lemmas.List.{map-append}
 use Rattle.turn_history.specs.History.{entries_of, calls_by, StartsWith}
@@ -26,8 +26,10 @@ use Rattle.script_lang.specs.Lines.{lines_of}
 use Rattle.script_lang.specs.PrintedOrder.{Turn, AreCalls, id_given, numbered, printed}
 use Rattle.script_sessions.specs.declared.answers.Answer.{Answer}
 use Rattle.script_sessions.specs.declared.session.Session.{Session}
+use Rattle.script_sessions.specs.Heads.{head_of, heads, places_of}
 use Rattle.script_sessions.specs.Replying.{Answers, Fills}
 use Rattle.script_sessions.specs.Running.{ElementTells, GoesFurther, HasAnswered, HasMade, HasReplies, IsMade, KnowsTurns, session_turns}
+use Rattle.script_sessions.proofs.Heads.{one_more_head, one_more_place}
 use Rattle.script_sessions.proofs.History.{calls_length, calls_more, kept_own, left_out, numbered_length, numbered_more, one_more_turn, same_turns}
 
 -- a session's turns grew by one, of this call and at this rank, whose reply is answered so
@@ -82,9 +84,6 @@ module _ {D A C : Type 0} (w : World D A C) where
       subst P (sym (same_turns session start whole part s same)) (known tells start is (told_front (w.told w.opened.file.value.cells.disk) start whole part s told))
 
   module _ (old new : Caller D A C) (call : Request) (rank : ℕ) (P : Reply → Type 0) (before_ready : IsReady w 0 old) (after_ready : IsReady w 0 new) (m : IsMade w old.pass.me.0 new.pass.me.0 call rank P) where
-    last_call : new.pass.me.0.calls ≡ old.pass.me.0.calls ++ m.entry ∷ []
-    last_call = m.called.calls
-
     pub same_number : new.number ≡ old.number
     same_number = sym after_ready.number ∙ (m.called.number ∙ before_ready.number)
 
@@ -97,23 +96,34 @@ module _ {D A C : Type 0} (w : World D A C) where
       seen = m.called.placed;
     }
 
+    same_before : calls_by caller_of old.number m.before ≡ calls_by caller_of old.number (entries_of old.pass.me.0.seen)
+    same_before = subst (λ k. calls_by caller_of k m.before ≡ old.pass.me.0.calls) before_ready.number m.called.goes_on.calls ∙ sym (own_calls old before_ready)
+
+    one_more_call : calls_by caller_of old.number (entries_of new.pass.me.0.seen) ≡ calls_by caller_of old.number (entries_of old.pass.me.0.seen) ++ m.entry ∷ []
+    one_more_call =
+        subst (λ k. calls_by caller_of k (entries_of new.pass.me.0.seen) ≡ new.pass.me.0.calls) same_number (own_calls new after_ready)
+        ∙ (m.called.calls ∙ ap (λ l. l ++ m.entry ∷ []) (sym (own_calls old before_ready)))
+
     pub grown : ElementTells w → (start : Service) → Starts w start → IsToldTo w start (entries_of new.pass.me.0.seen) →
         IsGrown old.number start (entries_of old.pass.me.0.seen) (entries_of new.pass.me.0.seen) call rank P
     grown tells start is told =
         let n : ℕ = old.number in let v = old.pass.me.0 in let u = new.pass.me.0 in
-        let mine : v.number ≡ n = before_ready.number in
-        let was : calls_by caller_of n (entries_of v.seen) ≡ v.calls = own_calls old before_ready in
-        let now : calls_by caller_of n (entries_of u.seen) ≡ u.calls = subst (λ k. calls_by caller_of k (entries_of u.seen) ≡ u.calls) same_number (own_calls new after_ready) in
-        let there : calls_by caller_of n m.before ≡ v.calls = subst (λ k. calls_by caller_of k m.before ≡ v.calls) mine m.called.goes_on.calls in
+        let by : m.entry.caller ≡ n = m.called.by ∙ before_ready.number in
         record {
           turn = record { entry = m.entry; rank = length m.before; reply = (outcome_of (replay start m.before) m.entry).reply };
-          by = m.called.by ∙ mine;
+          by = by;
           call_is = m.called.call_is;
           rank_is = m.called.rank;
-          turns = one_more_turn n start (entries_of v.seen) m.before (entries_of u.seen) m.entry m.called.goes_on.since (there ∙ sym was) (m.called.by ∙ mine) m.called.placed
-              (now ∙ (last_call ∙ ap (λ l. l ++ m.entry ∷ []) (sym was)));
+          turns = one_more_turn n start (entries_of v.seen) m.before (entries_of u.seen) m.entry m.called.goes_on.since same_before by m.called.placed one_more_call;
           known = m.replied tells start is (told_front (w.told w.opened.file.value.cells.disk) start (entries_of u.seen) (m.before ++ m.entry ∷ []) m.called.placed told);
         }
+
+    -- and so did the places of the session's calls, by the rank
+    pub placed : places_of new.number 0 (entries_of new.pass.me.0.seen) ≡ places_of old.number 0 (entries_of old.pass.me.0.seen) ++ rank ∷ []
+    placed =
+        ap (λ k. places_of k 0 (entries_of new.pass.me.0.seen)) same_number
+        ∙ (one_more_place old.number (entries_of old.pass.me.0.seen) m.before (entries_of new.pass.me.0.seen) m.entry m.called.goes_on.since same_before (m.called.by ∙ before_ready.number) m.called.placed one_more_call
+        ∙ ap (λ k. places_of old.number 0 (entries_of old.pass.me.0.seen) ++ k ∷ []) (sym m.called.rank))
 
   -- a caller has made the call of one more line of its session
   pub made_more : (lines : List ScriptLine) (line : ScriptLine) (given : List ℕ) (old new : Caller D A C) (rank : ℕ) (P : Reply → Type 0) → HasMade w lines old → IsReady w 0 new → new.spent ≤ old.spent + 2 → line.session ≡ old.number →
@@ -146,13 +156,14 @@ module _ {D A C : Type 0} (w : World D A C) where
   answered_more lines line old new rank a h ready spent own m replies given =
       let c : Caller D A C = old.caller in let d : Caller D A C = new.caller in
       let call : Request = request_of old.given.items line.call in
+      let reply : ReplyLine = record { session = line.session; number = length old.replies.items + 1; rank = rank; status = a.status; bytes = a.bytes } in
       let same : d.number ≡ c.number = same_number c d call rank (Answers a) h.made.ready ready m in
       let more : lines_of c.number (lines ++ line ∷ []) ≡ lines_of c.number lines ++ line ∷ [] = lines_more c.number lines line own in
       let since : StartsWith (entries_of d.pass.me.0.seen) (entries_of c.pass.me.0.seen) = begins_since (entries_of c.pass.me.0.seen) m.before (entries_of d.pass.me.0.seen) m.entry m.called.goes_on.since m.called.placed in
       record {
         made = made_more lines line old.given.items c d rank (Answers a) h.made ready spent own h.given m;
         replies = record {
-          count = let e = ap length replies in let f = length-append old.replies.items (record { session = line.session; number = length old.replies.items + 1; rank = rank; status = a.status; bytes = a.bytes } ∷ []) in
+          count = let e = ap length replies in let f = length-append old.replies.items (reply ∷ []) in
               let g = h.replies.count in let k = ap length more in let l = length-append (lines_of c.number lines) (line ∷ []) in
               let n = ap (λ n. length (lines_of n (lines ++ line ∷ []))) same in omega arith;
           known = subst (λ n. KnowsTurns w n (entries_of d.pass.me.0.seen) (λ turns. new.replies.items ≡ numbered 1 turns)) (sym same)
@@ -162,9 +173,12 @@ module _ {D A C : Type 0} (w : World D A C) where
               let turns : List Turn = session_turns c.number start (entries_of c.pass.me.0.seen) in
               let known : old.replies.items ≡ numbered 1 turns = h.replies.known tells start is before in
               let place : length old.replies.items + 1 ≡ 1 + length turns = (let e = ap length known in let f = numbered_length 1 turns in omega arith) in
-              replies ∙ (ap (λ l. l ++ record { session = line.session; number = length old.replies.items + 1; rank = rank; status = a.status; bytes = a.bytes } ∷ []) known
+              replies ∙ (ap (λ l. l ++ reply ∷ []) known
               ∙ (ap (λ y. numbered 1 turns ++ y ∷ []) (is_printed line.session (length old.replies.items + 1) (1 + length turns) rank a g.turn (own ∙ sym g.by) place g.rank_is g.known)
               ∙ (sym (numbered_more 1 turns g.turn) ∙ ap (numbered 1) (sym g.turns)))));
+          heads = ap (map head_of) replies
+              ∙ (one_more_head c.number old.replies.items (places_of c.number 0 (entries_of c.pass.me.0.seen)) reply h.replies.heads own refl
+              ∙ ap₂ (λ n places. heads n 1 places) (sym same) (sym (placed c d call rank (Answers a) h.made.ready ready m)));
         };
         given = subst (λ n. KnowsTurns w n (entries_of d.pass.me.0.seen) (λ turns. new.given.items ≡ map (λ t. id_given t.reply.output) turns)) (sym same)
             (λ tells start is told.
@@ -191,6 +205,6 @@ module _ {D A C : Type 0} (w : World D A C) where
   pub answered_other : (lines : List ScriptLine) (line : ScriptLine) (s : Session D A C) → line.session ≢ s.caller.number → HasAnswered w lines s → HasAnswered w (lines ++ line ∷ []) s
   answered_other lines line s other h = record {
     made = made_other lines line s.caller other h.made;
-    replies = record { count = h.replies.count ∙ ap length (sym (lines_same s.caller.number lines line other)); known = h.replies.known };
+    replies = record { count = h.replies.count ∙ ap length (sym (lines_same s.caller.number lines line other)); known = h.replies.known; heads = h.replies.heads };
     given = h.given;
   }

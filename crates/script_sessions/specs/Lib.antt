@@ -1,4 +1,5 @@
 pub mod Replying
 pub mod Printed
+pub mod Heads
 pub mod Running
 pub mod Bounds

@@ -18,6 +18,7 @@ use Rattle.script_lang.specs.declared.replies.ReplyLine.{ReplyLine}
 use Rattle.script_lang.specs.Lines.{lines_of}
 use Rattle.script_lang.specs.PrintedOrder.{Turn, turns_from, turns_of, AreCalls, id_given, numbered}
 use Rattle.script_sessions.specs.declared.session.Session.{Session}
+use Rattle.script_sessions.specs.Heads.{head_of, heads, places_of}
 
 -- a session's turns in a history from a start
 abbrev pub session_turns : ℕ → Service → List Entry → List Turn
@@ -62,10 +63,12 @@ module _ {D A C : Type 0} (w : World D A C) where
     pub count : length c.pass.me.0.calls ≡ length (lines_of c.number lines)
     pub calls : KnowsTurns c.number (entries_of c.pass.me.0.seen) (AreCalls [] (lines_of c.number lines))
 
-  -- its session has these replies to them
+  -- Its session has these replies to them. Whether or not the history is told, they are numbered from 1, and their ranks are the
+  -- places of the calls in what the caller has seen.
   pub record HasReplies (lines : List ScriptLine) (c : Caller D A C) (replies : List ReplyLine) : Type 0 where
     pub count : length replies ≡ length (lines_of c.number lines)
     pub known : KnowsTurns c.number (entries_of c.pass.me.0.seen) (λ turns. replies ≡ numbered 1 turns)
+    pub heads : map head_of replies ≡ heads c.number 1 (places_of c.number 0 (entries_of c.pass.me.0.seen))
 
   -- a session has made its calls among these lines, and has the replies and what they gave
   pub record HasAnswered (lines : List ScriptLine) (s : Session D A C) : Type 0 where

@@ -18,6 +18,7 @@ use Rattle.std.proofs.lemmas.List.{get_or-map, take_more}
 use Rattle.std.proofs.lemmas.List.Elements.{All-nil, All-push, All-set, All-weaker}
 use Rattle.turn_history.specs.History.{entries_of}
 use Rattle.script_lang.specs.PrintedOrder.{AreCalls, id_given, numbered}
+use Rattle.script_sessions.specs.Heads.{head_of, heads, places_of}
 use Rattle.script_sessions.specs.Running.{HasAnswered, HasMade, session_turns}
 use Rattle.session_workers.specs.Working.{HasSeated, HasSeen, numbers_of}
 use Rattle.session_workers.specs.Working as working
@@ -174,6 +175,7 @@ module _ {D A C : Type 0} (w : World D A C) where
     replies = record {
       count = ap length f.replies;
       known = λ tells start is told. f.replies ∙ subst (λ v. [] ≡ numbered 1 (session_turns s.caller.number start (entries_of v))) (sym f.caller.unseen) refl;
+      heads = ap (map head_of) f.replies ∙ subst (λ v. [] ≡ heads s.caller.number 1 (places_of s.caller.number 0 (entries_of v))) (sym f.caller.unseen) refl;
     };
     given = λ tells start is told. f.given ∙ subst (λ v. [] ≡ map (λ t. id_given t.reply.output) (session_turns s.caller.number start (entries_of v))) (sym f.caller.unseen) refl;
   }

@@ -1,5 +1,5 @@
 -- Callers that have seen what others of their thread had.
-use Rattle.std.proofs.Common.{◌≡◌, ℕ, ◌<◌, List, [], ◌∷◌, length, get_or, set, refl, sym, ap, ◌∙◌, subst, arith, map, zero, suc, length-set, get_or-set_same, get_or-set_other}
+use Rattle.std.proofs.Common.{◌≡◌, ℕ, ◌<◌, List, [], ◌∷◌, length, get_or, set, refl, sym, ap, ap₂, ◌∙◌, subst, arith, map, zero, suc, length-set, get_or-set_same, get_or-set_other}
 use Rattle.turn_history.specs.History.{entries_of, calls_by, StartsWith}
 use Rattle.shared_store.specs.Standing.{caller_of}
 use Rattle.turn_history.specs.declared.pass.View.{View}
@@ -18,7 +18,9 @@ use Rattle.script_lang.specs.declared.script.ScriptLine.{ScriptLine}
 use Rattle.script_lang.specs.Lines.{lines_of}
 use Rattle.script_lang.specs.PrintedOrder.{AreCalls, id_given, numbered}
 use Rattle.script_sessions.specs.declared.session.Session.{Session}
+use Rattle.script_sessions.specs.Heads.{head_of, heads, places_of}
 use Rattle.script_sessions.specs.Running.{HasAnswered, KnowsTurns}
+use Rattle.script_sessions.proofs.Heads.{places_later}
 use Rattle.script_sessions.proofs.Told.{knows_later, own_calls}
 use Rattle.session_workers.specs.Working.{ChangesAt, HasLearned}
 
@@ -44,6 +46,9 @@ module _ {D A C : Type 0} (w : World D A C) where
           known = subst (λ k. KnowsTurns w k (entries_of d.pass.me.0.seen) (λ turns. new.replies.items ≡ numbered 1 turns)) (sym l.number)
               (subst (λ r. KnowsTurns w n (entries_of d.pass.me.0.seen) (λ turns. r.items ≡ numbered 1 turns)) (sym l.replies)
               (knows_later w n (entries_of d.pass.me.0.seen) (entries_of c.pass.me.0.seen) (λ turns. old.replies.items ≡ numbered 1 turns) l.seen same h.replies.known));
+          heads = ap (λ r. map head_of r.items) l.replies
+              ∙ (h.replies.heads ∙ ap₂ (λ k places. heads k 1 places) (sym l.number)
+              (sym (ap (λ k. places_of k 0 (entries_of d.pass.me.0.seen)) l.number ∙ places_later n (entries_of c.pass.me.0.seen) (entries_of d.pass.me.0.seen) l.seen same)));
         };
         given = subst (λ k. KnowsTurns w k (entries_of d.pass.me.0.seen) (λ turns. new.given.items ≡ map (λ t. id_given t.reply.output) turns)) (sym l.number)
             (subst (λ r. KnowsTurns w n (entries_of d.pass.me.0.seen) (λ turns. r.items ≡ map (λ t. id_given t.reply.output) turns)) (sym l.given)
