@@ -1,18 +1,6 @@
-//! Tests of the libraries that the program is made of: tables, texts, and what streams and files do. They stand above
-//! all of these, so that none is proved once more for its tests.
+//! Tests of what streams and files do that no run of the program shows. They stand above the adapters, so that these
+//! aren't proved once more for their tests.
 #![tactic(auto)]
 
 #[cfg(test)]
 mod adapters;
-#[cfg(test)]
-mod blocks;
-#[cfg(test)]
-mod buffers;
-#[cfg(test)]
-mod faults;
-#[cfg(test)]
-mod policies;
-#[cfg(test)]
-mod scripts;
-#[cfg(test)]
-mod texts;

@@ -1,46 +1,64 @@
 -- How a run of a command may end.
-use Rattle.std.specs.Prelude.{ℕ, ◌≡◌, List, [], ◌∷◌, take, map, codes}
+use Rattle.std.specs.Prelude.{ℕ, List, take}
 use Rattle.std.specs.declared.option.Option.{Option}
-use Rattle.std.specs.Borrow.{Bor}
 use Rattle.std.specs.Io.KnownBytes.{Appends}
+use Rattle.key_cells.specs.declared.reading.OpenFault.{OpenFault}
+use Rattle.key_cells.specs.declared.reading.OpenFault.TheVariants as opening
 use Rattle.script_lang.specs.declared.faults.ScriptFault.TheVariants as faults
-use Rattle.script_lang.specs.PrintedOrder.{IsAnswer}
-use Rattle.session_host.specs.LineOrder.{opened_service}
-use Rattle.psa_command.specs.declared.command.Exit.{Exit}
-use Rattle.psa_command.specs.declared.command.Exit.TheVariants.{Done, Usage, Script, ReadFault, WriteFault, Memory}
+use Rattle.session_host.specs.declared.lines.Unanswered.{Unanswered}
+use Rattle.session_host.specs.declared.lines.Unanswered.TheVariants.{NotOpened}
+use Rattle.session_host.specs.declared.lines.Unanswered.TheVariants as unanswered
+use Rattle.psa_command.specs.declared.exit.Exit.{Exit}
+use Rattle.psa_command.specs.declared.exit.Exit.TheVariants.{Done, Usage, Script, ReadFault, WriteFault, NotAStore, DamagedCell, DiskFault, Memory}
 
--- the words of a command: the one word run
-abbrev pub AreWords : List (Bor (List ℕ)) → Type 0
-AreWords words = map (λ w. w.now) words ≡ codes "run" ∷ []
+-- ends of a run before the store is opened
+abbrev pub IsBeforeOpening : Exit → Type 0
+IsBeforeOpening Usage = Unit {0}
+IsBeforeOpening (Script fault) = Unit {0}
+IsBeforeOpening ReadFault = Unit {0}
+IsBeforeOpening _ = ⊥
 
--- what was taken grew by an answer to the script
-abbrev pub Answered : List ℕ → Option (List ℕ) → Option (List ℕ) → Type 0
-Answered text old new = (out : List ℕ) × IsAnswer opened_service text out × Appends old new out
+-- ends of reading a script
+abbrev pub IsOfReading : Exit → Type 0
+IsOfReading (Script fault) = Unit {0}
+IsOfReading ReadFault = Unit {0}
+IsOfReading Memory = Unit {0}
+IsOfReading _ = ⊥
 
--- what was taken grew by the front of an answer
-abbrev pub PartlyAnswered : List ℕ → Option (List ℕ) → Option (List ℕ) → Type 0
-PartlyAnswered text old new = (out : List ℕ) × IsAnswer opened_service text out × (n : ℕ) × Appends old new (take n out)
+-- ends of a run for what the disk has
+abbrev pub IsOfImage : Exit → Type 0
+IsOfImage NotAStore = Unit {0}
+IsOfImage (DamagedCell cell) = Unit {0}
+IsOfImage _ = ⊥
 
--- ends before which the source was read to its end
+-- ends before which the source was read to its end, where there is a script
 abbrev pub IsReadToEnd : Exit → Type 0
 IsReadToEnd Done = Unit {0}
 IsReadToEnd WriteFault = Unit {0}
+IsReadToEnd NotAStore = Unit {0}
+IsReadToEnd (DamagedCell cell) = Unit {0}
+IsReadToEnd DiskFault = Unit {0}
 IsReadToEnd (Script faults.TooManyLines) = Unit {0}
 IsReadToEnd (Script (faults.BadLine line reason)) = Unit {0}
 IsReadToEnd _ = ⊥
-
--- ends without a call
-abbrev pub IsBeforeWriting : Exit → Type 0
-IsBeforeWriting (Script fault) = Unit {0}
-IsBeforeWriting ReadFault = Unit {0}
-IsBeforeWriting Memory = Unit {0}
-IsBeforeWriting _ = ⊥
 
 -- ends before which nothing was written
 abbrev pub IsQuiet : Exit → Type 0
 IsQuiet Done = ⊥
 IsQuiet WriteFault = ⊥
 IsQuiet _ = Unit {0}
+
+-- the end of a run whose store isn't opened
+abbrev pub exit_of : OpenFault → Exit
+exit_of opening.NotAStore = NotAStore
+exit_of (opening.DamagedCell cell) = DamagedCell cell
+exit_of opening.Disk = DiskFault
+exit_of opening.Memory = Memory
+
+-- the end of a run whose lines have no replies
+abbrev pub exit_unanswered : Unanswered → Exit
+exit_unanswered (NotOpened fault) = exit_of fault
+exit_unanswered unanswered.Memory = Memory
 
 -- the status that the program ends with
 abbrev pub status_of : Exit → ℕ
@@ -49,4 +67,18 @@ status_of Usage = 1
 status_of (Script fault) = 2
 status_of ReadFault = 3
 status_of WriteFault = 4
+status_of NotAStore = 5
+status_of (DamagedCell cell) = 5
+status_of DiskFault = 6
 status_of Memory = 7
+
+-- what was taken grew by these bytes, or by their front
+abbrev pub TakesPart : List ℕ → Option (List ℕ) → Option (List ℕ) → Type 0
+TakesPart out old new = (n : ℕ) × Appends old new (take n out)
+
+-- how a text was written, of which memory may have run out before
+abbrev pub IsWritten : List ℕ → (old new : Option (List ℕ)) → Exit → Type 0
+IsWritten text old new Done = Appends old new text
+IsWritten text old new WriteFault = TakesPart text old new
+IsWritten text old new Memory = Unit {0}
+IsWritten text old new _ = ⊥

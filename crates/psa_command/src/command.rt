@@ -1,180 +1,196 @@
-// The top call.
-ghost use Rattle.std.specs.Prelude.{◌≡◌, ◌≤◌, ◌+◌, ◌↔◌, ◌⊎◌, List, ℕ, IfSome, IfOk, IfErr, IsErrOf, MatchResult, IsTrue, Ok, Err, IsOk, All, length, take};
-ghost use Rattle.std.specs.Io.KnownBytes.{IsAtEnd, Appends, Consumes};
+//! The top call.
+ghost use Rattle.std.specs.Prelude.{◌≡◌, ◌≤◌, ◌+◌, ◌↔◌, ◌⊎◌, List, [], ℕ, IfSome, None, Some, Err, Option, map, length};
+ghost use Rattle.std.specs.Io.KnownBytes.{IsAtEnd, Consumes};
 ghost use Rattle.psa_status.specs.Causes.{Rose};
+ghost use Rattle.policy_rules.specs.declared.narrowing.Label.{Label};
+ghost use Rattle.admission.specs.Apply.{picked};
+ghost use Rattle.disk_face.specs.Disk.{NoNewImage};
+ghost use Rattle.key_cells.specs.Image.{IsFirstDamaged, IsNoStore};
+ghost use Rattle.driver_dispatch.specs.Calls.{Lacks};
 ghost use Rattle.outside_io.specs.Causes.{text_limit, TellsAsBefore};
 ghost use Rattle.script_lang.specs.declared.faults.ScriptFault.{ScriptFault};
 ghost use Rattle.script_lang.specs.declared.faults.ScriptFault.TheVariants as faults;
-ghost use Rattle.script_lang.specs.Lines.{script_of, IsOfSession};
-ghost use Rattle.psa_command.specs.Ends.{AreWords, Answered, PartlyAnswered, IsBeforeWriting, IsReadToEnd, IsQuiet, status_of};
+ghost use Rattle.script_lang.specs.Lines.{script_of};
+ghost use Rattle.command_words.specs.Words.{command_of};
+ghost use Rattle.command_words.specs.declared.command.Command as command;
+ghost use Rattle.command_words.specs.declared.command.Command.TheVariants as commands;
+ghost use Rattle.command_words.specs.declared.command.RunOptions as options;
+ghost use Rattle.psa_command.specs.Commands.{EndsBy, HasStore, IsReadable, TellsThat};
+ghost use Rattle.psa_command.specs.Ends.{IsBeforeOpening, IsOfImage, IsQuiet, IsReadToEnd};
 
+use crate::exit::{Ended, Exit};
+use crate::reading::read_calls;
+use crate::writing::{write_replies, write_summary_of};
+use admission::Admission;
+use command_words::{Command, RuleList, RunOptions, read_words};
 use disk_face::Disk;
-use outside_io::{ReadError, Sink, Source, read_text, write_all};
-use psa_status::{Failed, Memory};
-use script_lang::{Script, ScriptFault, read_script};
-use session_host::answer_text;
+use driver_dispatch::Devices;
+use line_generator::generated_lines;
+use outside_io::{Sink, Source};
+use psa_status::Memory;
+use session_host::{Run, answer_lines};
 use std::alloc::Global;
+use std::sync::Wait;
+use std::thread::Threads;
 
-/// How a run ended.
-#[derive(Clone, Copy, Debug, PartialEq, Eq, Drop)]
-pub enum Exit {
-    Done,
-    Usage,
-    Script(ScriptFault),
-    ReadFault,
-    WriteFault,
-    Memory,
-}
-
-impl Exit {
-    /// The status that the program ends with.
-    pub fn status(&self) -> u8
-        ensures { result ≡ status_of self.now }
-    {
-        match self {
-            Exit::Done => 0,
-            Exit::Usage => 1,
-            Exit::Script(_) => 2,
-            Exit::ReadFault => 3,
-            Exit::WriteFault => 4,
-            Exit::Memory => 7,
-        }
-    }
-}
-
-/// How a run ended, and the disk.
-pub struct Ended<D> {
-    pub exit: Exit,
-    pub disk: D,
-}
-
-impl<D> Ended<D> {
-    fn of(exit: Exit, disk: D) -> Ended<D>
-        ensures exit { result.exit ≡ exit }
-        ensures disk { result.disk ≡ disk }
-    {
-        Ended { exit, disk }
-    }
-}
-
-/// Whether the words are those of a command.
-fn are_words(words: &[&str]) -> bool
-    ensures { IsTrue result ↔ AreWords words.now }
-{
-    match words {
-        [word] => *word == "run",
-        _ => false,
-    }
-}
-
-/// The calls of the script that a source has. Else how a run ends: with the text's first fault, a read fault, or want
-/// of memory.
-fn read_calls<S: Source>(alloc: Global, source: &mut S) -> Result<Script, Exit>
-    ensures calls { IfOk result (λ script. IfSome (S.left source.old) (λ text. script_of text ≡ Ok script)) }
-    ensures few { IfOk result (λ script. length script ≤ 20000) }
-    ensures sessions { IfOk result (λ script. All IsOfSession script) }
-    ensures early { IfErr result IsBeforeWriting }
-    ensures end { MatchResult result (λ script. IsAtEnd (S.left source.new)) (λ exit. IsReadToEnd exit → IsAtEnd (S.left source.new)) }
-    ensures long { IsErrOf result (Exit.Script faults.TooLong) → (bytes : List ℕ) × (length bytes ≡ text_limit + 1) × Consumes (S.left source.old) (S.left source.new) bytes }
-    ensures script { (f : ScriptFault) → IsErrOf result (Exit.Script f) → IfSome (S.left source.old) (λ text. script_of text ≡ Err f) }
-    ensures script_memory { IsErrOf result (Exit.Script faults.Memory) → ⊥ }
-    ensures read { IsErrOf result Exit.ReadFault → Rose (S.faults source.old) (S.faults source.new) }
-    ensures later { S.faults source.old ≤ S.faults source.new }
-    ensures tells { TellsAsBefore (S.left source.old) (S.left source.new) }
-{
-    let text = match read_text(alloc, source) {
-        Ok(text) => text,
-        Err(ReadError::TooLong) => return Err(Exit::Script(ScriptFault::TooLong)),
-        Err(ReadError::Fault) => return Err(Exit::ReadFault),
-        Err(ReadError::Memory) => return Err(Exit::Memory),
-    };
-    let script = match read_script(alloc, &text) {
-        Ok(script) => script,
-        Err(fault) => match fault {
-            ScriptFault::Memory => return Err(Exit::Memory),
-            _ => return Err(Exit::Script(fault)),
-        },
-    };
-    Ok(script)
-}
-
-/// Writes an answer, and says how the run ends.
-fn write_answer<K: Sink>(sink: &mut K, out: &[u8]) -> Exit
-    ensures either { (result ≡ Exit.Done) ⊎ (result ≡ Exit.WriteFault) }
-    ensures done { result ≡ Exit.Done → Appends (K.taken sink.old) (K.taken sink.new) out.now }
-    ensures partly { result ≡ Exit.WriteFault → (n : ℕ) × Appends (K.taken sink.old) (K.taken sink.new) (take n out.now) }
-    ensures write { result ≡ Exit.WriteFault → Rose (K.faults sink.old) (K.faults sink.new) }
-    ensures later { K.faults sink.old ≤ K.faults sink.new }
-    ensures tells { TellsAsBefore (K.taken sink.old) (K.taken sink.new) }
-{
-    match write_all(sink, out) {
-        Ok(()) => Exit::Done,
-        Err(Failed) => Exit::WriteFault,
-    }
-}
-
-/// Answers the script that a source has, and says how the run ends.
-#[tactic(auto, using(crate::proofs::Ends::as_answer))]
-fn answer_source<S: Source, K: Sink>(alloc: Global, source: &mut S, sink: &mut K) -> Exit
-    ensures done { result ≡ Exit.Done → IfSome (S.left source.old) (λ text. Answered text (K.taken sink.old) (K.taken sink.new)) }
-    ensures partly { result ≡ Exit.WriteFault → IfSome (S.left source.old) (λ text. PartlyAnswered text (K.taken sink.old) (K.taken sink.new)) }
-    ensures quiet { IsQuiet result → sink.new ≡ sink.old }
-    ensures end { IsReadToEnd result → IsAtEnd (S.left source.new) }
-    ensures long { result ≡ Exit.Script faults.TooLong → (bytes : List ℕ) × (length bytes ≡ text_limit + 1) × Consumes (S.left source.old) (S.left source.new) bytes }
-    ensures usage { result ≡ Exit.Usage → ⊥ }
-    ensures script { (f : ScriptFault) → result ≡ Exit.Script f → IfSome (S.left source.old) (λ text. script_of text ≡ Err f) }
-    ensures script_memory { result ≡ Exit.Script faults.Memory → ⊥ }
-    ensures read { result ≡ Exit.ReadFault → Rose (S.faults source.old) (S.faults source.new) }
-    ensures write { result ≡ Exit.WriteFault → Rose (K.faults sink.old) (K.faults sink.new) }
-    ensures source_faults { S.faults source.old ≤ S.faults source.new }
+/// Runs a script: reads it, makes its calls, and writes a reply line a call.
+fn run_script<
+    S: Source,
+    K: Sink,
+    D: Disk + Send,
+    A: Devices,
+    C: Admission,
+    R: Threads + Wait + Sync,
+>(
+    rt: &R,
+    alloc: Global,
+    options: &RunOptions,
+    source: &mut S,
+    sink: &mut K,
+    disk: D,
+    devices: A,
+    rules: C,
+) -> Ended<D, A>
+    requires first { 1 ≤ options.now.workers }
+    requires last { options.now.workers ≤ 16 }
+    requires empty { (handle : ℕ) → Lacks (A.keys devices) handle }
+    ensures ends { (given : List Label) → C.labels rules ≡ picked options.now.labels given →
+        EndsBy D.contents D.may_leave D.moment D.left_since D.faults A.keys A.faults A.locations C.labels given (S.left source.old) disk devices (commands.Run options.now) result.disk result.devices result.exit (K.taken sink.old) (K.taken sink.new) }
+    ensures end { IsReadToEnd result.exit → IsAtEnd (S.left source.new) }
+    ensures quiet { IsQuiet result.exit → sink.new ≡ sink.old }
+    ensures write { result.exit ≡ Exit.WriteFault → Rose (K.faults sink.old) (K.faults sink.new) }
     ensures sink_faults { K.faults sink.old ≤ K.faults sink.new }
-    ensures source_tells { TellsAsBefore (S.left source.old) (S.left source.new) }
     ensures sink_tells { TellsAsBefore (K.taken sink.old) (K.taken sink.new) }
+    ensures long { result.exit ≡ Exit.Script faults.TooLong → (bytes : List ℕ) × (length bytes ≡ text_limit + 1) × Consumes (S.left source.old) (S.left source.new) bytes }
+    ensures script { (f : ScriptFault) → result.exit ≡ Exit.Script f → IfSome (S.left source.old) (λ text. script_of text ≡ Err f) }
+    ensures script_memory { result.exit ≡ Exit.Script faults.Memory → ⊥ }
+    ensures read { result.exit ≡ Exit.ReadFault → Rose (S.faults source.old) (S.faults source.new) }
+    ensures source_faults { S.faults source.old ≤ S.faults source.new }
+    ensures source_tells { TellsAsBefore (S.left source.old) (S.left source.new) }
 {
     let script = match read_calls(alloc, source) {
         Ok(script) => script,
-        Err(exit) => return exit,
+        Err(exit) => return Ended::of(exit, disk, devices),
     };
-    match answer_text(alloc, script.lines()) {
-        Ok(out) => write_answer(sink, &out),
-        Err(Memory) => Exit::Memory,
+    let run = answer_lines(
+        rt,
+        alloc,
+        script.lines(),
+        options.workers,
+        &options.seed,
+        disk,
+        devices,
+        rules,
+    );
+    let Run {
+        replies,
+        disk,
+        devices,
+    } = run;
+    match replies {
+        Ok(replies) => Ended::of(write_replies(alloc, &replies, sink), disk, devices),
+        Err(why) => Ended::of(Exit::unanswered(why), disk, devices),
     }
 }
 
-/// Takes the calls of a script from the source, makes them in line order on a store without a key and on
-/// inactive operations, and writes one reply line a call to the sink. The disk is handed back as it was given.
-pub fn run_command<S: Source, K: Sink, D: Disk + Send>(
+/// Runs so many of the generator's lines, by one worker, and writes a summary of their replies.
+fn run_generator<K: Sink, D: Disk + Send, A: Devices, C: Admission, R: Threads + Wait + Sync>(
+    rt: &R,
+    alloc: Global,
+    count: u32,
+    sink: &mut K,
+    disk: D,
+    devices: A,
+    rules: C,
+) -> Ended<D, A>
+    requires few { count ≤ 20000 }
+    requires empty { (handle : ℕ) → Lacks (A.keys devices) handle }
+    ensures ends { (given : List Label) (left : Option (List ℕ)) → C.labels rules ≡ picked [] given →
+        EndsBy D.contents D.may_leave D.moment D.left_since D.faults A.keys A.faults A.locations C.labels given left disk devices (commands.Generate count) result.disk result.devices result.exit (K.taken sink.old) (K.taken sink.new) }
+    ensures late { IsBeforeOpening result.exit → ⊥ }
+    ensures quiet { IsQuiet result.exit → sink.new ≡ sink.old }
+    ensures write { result.exit ≡ Exit.WriteFault → Rose (K.faults sink.old) (K.faults sink.new) }
+    ensures sink_faults { K.faults sink.old ≤ K.faults sink.new }
+    ensures sink_tells { TellsAsBefore (K.taken sink.old) (K.taken sink.new) }
+{
+    let lines = match generated_lines(alloc, count) {
+        Ok(lines) => lines,
+        Err(Memory) => return Ended::of(Exit::Memory, disk, devices),
+    };
+    let Run {
+        replies,
+        disk,
+        devices,
+    } = answer_lines(rt, alloc, &lines, 1, &[0; 32], disk, devices, rules);
+    match replies {
+        Ok(replies) => Ended::of(write_summary_of(alloc, replies, sink), disk, devices),
+        Err(why) => Ended::of(Exit::unanswered(why), disk, devices),
+    }
+}
+
+/// Runs the command that words are, on the store of a disk, with a secure element among the devices and rules of which the
+/// words pick some. A script comes from the source; replies go to the sink. Disk and devices come back.
+pub fn run_command<
+    S: Source,
+    K: Sink,
+    D: Disk + Send,
+    A: Devices,
+    L: RuleList + Drop,
+    R: Threads + Wait + Sync,
+>(
+    rt: &R,
     alloc: Global,
     words: &[&str],
     source: &mut S,
     sink: &mut K,
     disk: D,
-) -> Ended<D>
-    // The bytes written are the replies of one order of the script's calls, replayed on the one-thread service.
-    ensures done { result.exit ≡ Exit.Done → IfSome (S.left source.old) (λ text. Answered text (K.taken sink.old) (K.taken sink.new)) }
-    ensures partly { result.exit ≡ Exit.WriteFault → IfSome (S.left source.old) (λ text. PartlyAnswered text (K.taken sink.old) (K.taken sink.new)) }
-    ensures quiet { IsQuiet result.exit → sink.new ≡ sink.old }
-    ensures end { IsReadToEnd result.exit → IsAtEnd (S.left source.new) }
-    ensures long { result.exit ≡ Exit.Script faults.TooLong → (bytes : List ℕ) × (length bytes ≡ text_limit + 1) × Consumes (S.left source.old) (S.left source.new) bytes }
-    ensures usage { (result.exit ≡ Exit.Usage) ↔ (AreWords words.now → ⊥) }
+    devices: A,
+    rules: L,
+) -> Ended<D, A>
+    requires empty { (handle : ℕ) → Lacks (A.keys devices) handle }
+    // The bytes written are what is written of the replies of one order of the command's calls, replayed on the one-thread
+    // service from the keys of the disk; a crash since the opening leaves the persistent keys of a prefix of that order.
+    ensures ends { (c : command.Command) → command_of (L.labels rules) (map (λ w. w.now) words.now) ≡ Some c →
+        EndsBy D.contents D.may_leave D.moment D.left_since D.faults A.keys A.faults A.locations L.Picked.labels (L.labels rules) (S.left source.old) disk devices c result.disk result.devices result.exit (K.taken sink.old) (K.taken sink.new) }
+    ensures usage { (result.exit ≡ Exit.Usage) ↔ (command_of (L.labels rules) (map (λ w. w.now) words.now) ≡ None) }
+    ensures returned { IsBeforeOpening result.exit → (result.disk ≡ disk) × (result.devices ≡ devices) }
+    ensures late { (count : ℕ) → command_of (L.labels rules) (map (λ w. w.now) words.now) ≡ Some (commands.Generate count) → IsBeforeOpening result.exit → ⊥ }
     ensures untouched { result.exit ≡ Exit.Usage → source.new ≡ source.old }
+    ensures generator { (count : ℕ) → command_of (L.labels rules) (map (λ w. w.now) words.now) ≡ Some (commands.Generate count) → source.new ≡ source.old }
+    ensures end { (options : options.RunOptions) → command_of (L.labels rules) (map (λ w. w.now) words.now) ≡ Some (commands.Run options) → IsReadToEnd result.exit → IsAtEnd (S.left source.new) }
+    ensures quiet { IsQuiet result.exit → sink.new ≡ sink.old }
+    ensures write { result.exit ≡ Exit.WriteFault → Rose (K.faults sink.old) (K.faults sink.new) }
+    ensures sink_faults { K.faults sink.old ≤ K.faults sink.new }
+    ensures sink_tells { TellsAsBefore (K.taken sink.old) (K.taken sink.new) }
+    ensures long { result.exit ≡ Exit.Script faults.TooLong → (bytes : List ℕ) × (length bytes ≡ text_limit + 1) × Consumes (S.left source.old) (S.left source.new) bytes }
     ensures script { (f : ScriptFault) → result.exit ≡ Exit.Script f → IfSome (S.left source.old) (λ text. script_of text ≡ Err f) }
     ensures script_memory { result.exit ≡ Exit.Script faults.Memory → ⊥ }
     ensures read { result.exit ≡ Exit.ReadFault → Rose (S.faults source.old) (S.faults source.new) }
-    ensures write { result.exit ≡ Exit.WriteFault → Rose (K.faults sink.old) (K.faults sink.new) }
-    ensures complete { AreWords words.now → (Rose (S.faults source.old) (S.faults source.new) → ⊥) → (Rose (K.faults sink.old) (K.faults sink.new) → ⊥) →
-        IfSome (S.left source.old) (λ text. IsOk (script_of text) → (result.exit ≡ Exit.Done) ⊎ (result.exit ≡ Exit.Memory)) }
-    ensures refused { AreWords words.now → (Rose (S.faults source.old) (S.faults source.new) → ⊥) →
-        IfSome (S.left source.old) (λ text. (f : ScriptFault) → script_of text ≡ Err f → (result.exit ≡ Exit.Script f) ⊎ (result.exit ≡ Exit.Memory)) }
     ensures source_faults { S.faults source.old ≤ S.faults source.new }
-    ensures sink_faults { K.faults sink.old ≤ K.faults sink.new }
     ensures source_tells { TellsAsBefore (S.left source.old) (S.left source.new) }
-    ensures sink_tells { TellsAsBefore (K.taken sink.old) (K.taken sink.new) }
-    ensures disk { result.disk ≡ disk }
+    ensures store { result.exit ≡ Exit.NotAStore → IfSome (D.contents disk) IsNoStore }
+    ensures damaged { (cell : ℕ) → result.exit ≡ Exit.DamagedCell cell → IfSome (D.contents disk) (λ image. IsFirstDamaged image cell) }
+    ensures unwritten { IsOfImage result.exit → (D.contents result.disk ≡ D.contents disk) × NoNewImage (D.may_leave disk) (D.may_leave result.disk) }
+    ensures disk_fault { result.exit ≡ Exit.DiskFault → Rose (D.faults disk) (D.faults result.disk) }
+    ensures complete { (c : command.Command) → command_of (L.labels rules) (map (λ w. w.now) words.now) ≡ Some c → IsReadable c (S.left source.old) → (Rose (S.faults source.old) (S.faults source.new) → ⊥) → (Rose (K.faults sink.old) (K.faults sink.new) → ⊥) → (Rose (D.faults disk) (D.faults result.disk) → ⊥) →
+        HasStore (D.contents disk) → (result.exit ≡ Exit.Done) ⊎ (result.exit ≡ Exit.Memory) }
+    ensures no_store { (c : command.Command) → command_of (L.labels rules) (map (λ w. w.now) words.now) ≡ Some c → IsReadable c (S.left source.old) → (Rose (S.faults source.old) (S.faults source.new) → ⊥) → (Rose (D.faults disk) (D.faults result.disk) → ⊥) →
+        TellsThat IsNoStore (D.contents disk) → (result.exit ≡ Exit.NotAStore) ⊎ (result.exit ≡ Exit.Memory) }
+    ensures bad_cell { (c : command.Command) → command_of (L.labels rules) (map (λ w. w.now) words.now) ≡ Some c → IsReadable c (S.left source.old) → (Rose (S.faults source.old) (S.faults source.new) → ⊥) → (Rose (D.faults disk) (D.faults result.disk) → ⊥) →
+        (cell : ℕ) → TellsThat (λ image. IsFirstDamaged image cell) (D.contents disk) → (result.exit ≡ Exit.DamagedCell cell) ⊎ (result.exit ≡ Exit.Memory) }
+    ensures refused { (options : options.RunOptions) → command_of (L.labels rules) (map (λ w. w.now) words.now) ≡ Some (commands.Run options) → (Rose (S.faults source.old) (S.faults source.new) → ⊥) →
+        IfSome (S.left source.old) (λ text. (f : ScriptFault) → script_of text ≡ Err f → (result.exit ≡ Exit.Script f) ⊎ (result.exit ≡ Exit.Memory)) }
 {
-    if !are_words(words) {
-        return Ended::of(Exit::Usage, disk);
+    match read_words(alloc, words, &rules) {
+        Ok(Some(Command::Run(options))) => {
+            let rules = rules.pick(options.labels.as_slice());
+            run_script(rt, alloc, &options, source, sink, disk, devices, rules)
+        }
+        Ok(Some(Command::Generate { count })) => {
+            let rules = rules.pick(&[]);
+            run_generator(rt, alloc, count, sink, disk, devices, rules)
+        }
+        Ok(None) => Ended::of(Exit::Usage, disk, devices),
+        Err(Memory) => Ended::of(Exit::Memory, disk, devices),
     }
-    let exit = answer_source(alloc, source, sink);
-    Ended::of(exit, disk)
 }

@@ -1,16 +1,21 @@
 //! The program of the key store: it answers a script of calls by one reply line a call.
 #![tactic(auto)]
 
+mod store;
+
 ghost use Rattle.std.specs.Prelude.{◌≡◌};
 ghost use Rattle.psa_host.specs.Program.{end_status};
 
-use psa_command::{Ended, Exit, run_command};
+use psa_command::Exit;
 use std::env;
 use std::fs::{self, File, OpenOptions};
 use std::io::{self, ErrorKind};
 use std::os::fd::{AsRawFd, IntoRawFd};
 use std::process::ExitCode;
-use stream_adapters::{FileDisk, Reading, Writing};
+use std::sync::Wait;
+use std::thread::Threads;
+use store::run_store;
+use stream_adapters::FileDisk;
 
 const USAGE: &str =
     "usage: psa_host STORE (run [--workers N] [--seed HEX64] [--rules LABELS] | generate N)";
@@ -18,15 +23,41 @@ const USAGE: &str =
 const HELP: &str = "\
 usage: psa_host STORE (run [--workers N] [--seed HEX64] [--rules LABELS] | generate N)
 
-Answers the script on standard input by one reply line a call on standard output.
-STORE is the file of persistent keys; it is made where it isn't there. This version
-knows the command `run` without options, and keeps no key in STORE.";
+A key store and symmetric cryptography service with the behaviour of the PSA
+Certified Crypto API. STORE is the file of its persistent keys; it is made where
+it isn't there.
 
-const VERSION: &str = "psa_host 0.1.0";
+  run           answers the script on standard input by one reply line a call
+    --workers N     run the sessions on N threads, 1 to 16; default 1
+    --seed HEX64    the seed of all random bytes, 64 hex digits; default zeros
+    --rules LABELS  admission rules for new keys, joined by commas; default none:
+                    no-export  they lose the permission to be exported
+                    no-copy    they lose the permission to be copied
+                    no-ecb     none for AES in ECB mode
+                    aes256     no AES keys but those of 256 bits
+  generate N    runs N lines that it makes itself, 1 to 20000, by one worker, and
+                prints how many calls succeeded, and a digest of the replies
+  --help, --version   as the only word: this text, or the version
+
+An option is two words, or one word as in --workers=4. Generated keys and
+initialisation vectors come from the seed: with the default they are the same in
+every run.
+
+examples:
+  psa_host keys.store run < script.psa
+  psa_host keys.store run --workers 4 --rules no-export,aes256 < script.psa
+
+The status is 0 where every call was answered, 1 for words that aren't these, 2 for
+a script that isn't one, 3 and 4 where input or output failed, 5 for a file that is
+no store or a damaged one, 6 where it can't be opened or read, 7 without memory.";
+
+const VERSION: &str = "\
+psa_host 0.1.0
+Proved with rattle-kit-13f logic dac8208d650f15bf";
 
 /// How the program ended: as a run did, or before it, since the store's file can't be opened.
 #[derive(Clone, Copy, Drop)]
-enum End {
+pub enum End {
     Run(Exit),
     DiskFault,
 }
@@ -50,6 +81,9 @@ impl End {
             End::Run(Exit::Script(fault)) => eprintln!(rt; "{fault}"),
             End::Run(Exit::ReadFault) => eprintln!(rt; "read fault"),
             End::Run(Exit::WriteFault) => eprintln!(rt; "write fault"),
+            End::Run(Exit::NotAStore) => eprintln!(rt; "not a store"),
+            End::Run(Exit::DamagedCell { cell }) => eprintln!(rt; "damaged cell {cell}"),
+            End::Run(Exit::DiskFault) => eprintln!(rt; "disk fault"),
             End::Run(Exit::Memory) => eprintln!(rt; "out of memory"),
             End::DiskFault => eprintln!(rt; "disk fault"),
         };
@@ -110,7 +144,7 @@ fn open_store(rt: &HostRuntime, path: &str) -> io::Result<File> {
 }
 
 /// Runs the program by its words.
-fn run(rt: &HostRuntime) -> End {
+fn run<R: Threads + Wait + Sync>(rt: &HostRuntime, threads: &R) -> End {
     let arguments = match arguments(rt) {
         Ok(arguments) => arguments,
         Err(exit) => return End::Run(exit),
@@ -125,24 +159,15 @@ fn run(rt: &HostRuntime) -> End {
         [] => End::Run(Exit::Usage),
         ["--help"] => answer(rt, HELP),
         ["--version"] => answer(rt, VERSION),
-        [store, rest @ ..] => run_store(rt, store, rest),
+        [store, rest @ ..] => match open_store(rt, store) {
+            Ok(file) => run_store(rt, threads, FileDisk::new(file), rest),
+            Err(_) => End::DiskFault,
+        },
     }
 }
 
-/// Runs a command over a store's file.
-fn run_store(rt: &HostRuntime, store: &str, words: &[&str]) -> End {
-    let disk = match open_store(rt, store) {
-        Ok(file) => FileDisk::new(file),
-        Err(_) => return End::DiskFault,
-    };
-    let mut source = Reading::new(rt.stdin());
-    let mut sink = Writing::new(io::writer(rt));
-    let Ended { exit, disk: _ } = run_command(rt.alloc(), words, &mut source, &mut sink, disk);
-    End::Run(exit)
-}
-
 fn main(rt: HostRuntime) -> ExitCode {
-    let end = run(&rt);
+    let end = run(&rt, &rt);
     end.tell(&rt);
     ExitCode::from(end.status())
 }

@@ -1,3 +1,4 @@
-pub mod Answering
-pub mod History
-pub mod LineOrder
+mod Gathered
+mod Ran
+mod Sent
+mod Whole

@@ -1,1 +1,2 @@
-pub mod LineOrder
+pub mod Running
+pub mod Runs

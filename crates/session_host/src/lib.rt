@@ -1,9 +1,8 @@
-//! The calls of a script's lines, made in line order on the service, and the text that answers them.
+//! The sessions of a script on worker threads, over a store that is opened for them and closed after them.
 #![tactic(auto)]
 
-mod answers;
-mod calls;
-mod sessions;
-mod texts;
+mod lines;
+mod running;
 
-pub use texts::answer_text;
+pub use lines::{Run, Unanswered, answer_lines};
+pub use running::run_sessions;

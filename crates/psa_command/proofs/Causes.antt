@@ -1,0 +1,290 @@
+-- Why a command ends as it does.
+use Rattle.std.proofs.Common.{◌≡◌, ℕ, List, [], ◌∷◌, refl, sym, ap, subst, arith, inl, inr, ◌⊎◌}
+use Rattle.std.specs.Prelude.{Option, None, Some, Result, Ok, Err, IfSome, IsOk, MatchResult}
+use Rattle.std.proofs.lemmas.Bool.Decides.{leb_tells}
+use Rattle.psa_status.specs.Causes.{Rose}
+use Rattle.policy_rules.specs.declared.narrowing.Label.{Label}
+use Rattle.disk_face.specs.Disk.{NoNewImage}
+use Rattle.key_cells.specs.Image.{IsFirstDamaged, IsNoStore}
+use Rattle.key_cells.specs.Opening.{IsFoundIn}
+use Rattle.key_cells.specs.declared.reading.OpenFault.{OpenFault}
+use Rattle.key_cells.specs.declared.reading.OpenFault.TheVariants as opening
+use Rattle.driver_dispatch.specs.Held.{HeldKeys}
+use Rattle.script_lang.specs.declared.script.ScriptLine.{ScriptLine}
+use Rattle.script_lang.specs.declared.replies.ReplyLine.{ReplyLine}
+use Rattle.script_lang.specs.declared.faults.ScriptFault.{ScriptFault}
+use Rattle.script_lang.specs.Lines.{script_of}
+use Rattle.command_words.specs.declared.command.Command.{Command}
+use Rattle.command_words.specs.declared.command.Command.TheVariants.{Run, Generate}
+use Rattle.command_words.specs.declared.command.RunOptions.{RunOptions}
+use Rattle.session_host.specs.declared.lines.Unanswered.{Unanswered}
+use Rattle.session_host.specs.declared.lines.Unanswered.TheVariants.{NotOpened}
+use Rattle.session_host.specs.declared.lines.Unanswered.TheVariants as unanswered
+use Rattle.session_host.specs.Runs.{IsAnswered, IsUnanswered, IsUnopened}
+use Rattle.psa_command.specs.declared.exit.Exit.{Exit}
+use Rattle.psa_command.specs.declared.exit.Exit.TheVariants.{Done, Usage, Script, ReadFault, WriteFault, NotAStore, DamagedCell, DiskFault, Memory}
+use Rattle.psa_command.specs.Commands.{AreLinesOf, EndsBy, HasStore, IsReadable, IsRun, IsUnrun, TellsThat, labels_by, seed_by, text_by, workers_by}
+use Rattle.psa_command.specs.Ends.{IsOfImage, IsOfReading, IsWritten, exit_of, exit_unanswered}
+
+-- AN IMAGE THAT OPENS ISN'T REFUSED
+
+is_store : (image : List ℕ) → HasStore (Some image) → IsNoStore image → ⊥
+is_store image (inl new) none = none.some new
+is_store image (inr opens) none = none.other opens.store
+
+is_sound : (image : List ℕ) (cell : ℕ) → HasStore (Some image) → IsFirstDamaged image cell → ⊥
+is_sound image cell (inl new) damaged = absurd (let size = damaged.store.size in omega (arith, new))
+is_sound image cell (inr opens) damaged = opens.sound cell damaged.within damaged.here
+
+-- A SCRIPT THAT READS HAS NO FAULT
+
+-- the source's text has this fault; the generator's lines have none
+abbrev pub IsFaulty : Command → (left : Option (List ℕ)) → ScriptFault → Type 0
+IsFaulty (Run options) left f = IfSome left (λ text. script_of text ≡ Err f)
+IsFaulty (Generate count) left f = ⊥
+
+no_fault : (command : Command) (left : Option (List ℕ)) (f : ScriptFault) → IsFaulty command left f → IsReadable command left → ⊥
+no_fault (Run options) None f faulty reads = reads
+no_fault (Run options) (Some text) f faulty reads = let r : IsOk {T = List ScriptLine} (Err f) = subst IsOk faulty reads in cc
+no_fault (Generate count) left f faulty reads = faulty
+
+module _ {D A C : Type 0} (told : D → Option (List ℕ)) (may_leave : D → List ℕ → Type 0) (moment : D → ℕ) (left_since : D → ℕ → List ℕ → Type 0)
+    (faults : D → ℕ) (held : A → Option HeldKeys) (hard : A → ℕ) (locations : A → List ℕ) (labels : C → List Label)
+    (given : List Label) (left : Option (List ℕ)) (disk : D) (devices : A) (command : Command) (disk_after : D) (devices_after : A) where
+  abbrev pub EndsSo : Exit → (old new : Option (List ℕ)) → Type 0
+  EndsSo = EndsBy told may_leave moment left_since faults held hard locations labels given left disk devices command disk_after devices_after
+
+  abbrev Answers : List ReplyLine → Type 0
+  Answers = IsRun told may_leave moment left_since faults held hard locations labels given left disk devices command disk_after devices_after
+
+  abbrev Unanswers : Exit → Type 0
+  Unanswers = IsUnrun told may_leave moment left_since faults held hard locations labels given left disk devices command disk_after devices_after
+
+  -- nothing was written to the disk
+  abbrev pub IsUnwritten : Type 0
+  IsUnwritten = (told disk_after ≡ told disk) × NoNewImage (may_leave disk) (may_leave disk_after)
+
+  -- what an end has to do with the disk
+  abbrev pub HasCause : Exit → Type 0
+  HasCause NotAStore = IfSome (told disk) IsNoStore × IsUnwritten
+  HasCause (DamagedCell cell) = IfSome (told disk) (λ image. IsFirstDamaged image cell) × IsUnwritten
+  HasCause DiskFault = Rose (faults disk) (faults disk_after)
+  HasCause _ = Unit {0}
+
+  of_opening : (fault : OpenFault) → IsUnopened told may_leave moment left_since faults held hard locations labels disk devices fault disk_after devices_after → HasCause (exit_of fault)
+  of_opening opening.NotAStore u = elim u.refused [ inl r ↦ (r.caused, (r.same tt, r.unwritten tt)) | inr m ↦ absurd (let e = m.0 in cc) ]
+  of_opening (opening.DamagedCell cell) u = elim u.refused [ inl r ↦ (r.caused, (r.same tt, r.unwritten tt)) | inr m ↦ absurd (let e = m.0 in cc) ]
+  of_opening opening.Disk u = elim u.refused [ inl r ↦ r.rose tt | inr m ↦ absurd (let e = m.0 in cc) ]
+  of_opening opening.Memory u = tt
+
+  of_lines : (lines : List ScriptLine) (named : List Label) (seed : List ℕ) (why : Unanswered) →
+      IsUnanswered told may_leave moment left_since faults held hard locations labels disk devices named seed lines why disk_after devices_after → HasCause (exit_unanswered why)
+  of_lines lines named seed (NotOpened fault) u = of_opening fault u
+  of_lines lines named seed unanswered.Memory u = tt
+
+  of_unrun : (exit : Exit) → Unanswers exit → HasCause exit
+  of_unrun exit u = subst HasCause (sym u.exit_is) (of_lines u.lines _ _ u.why u.unanswered)
+
+  pub cause : (exit : Exit) (old new : Option (List ℕ)) → EndsSo exit old new → HasCause exit
+  cause Done old new ends = tt
+  cause Usage old new ends = tt
+  cause (Script fault) old new ends = tt
+  cause ReadFault old new ends = tt
+  cause WriteFault old new ends = tt
+  cause NotAStore old new ends = of_unrun NotAStore ends
+  cause (DamagedCell cell) old new ends = of_unrun (DamagedCell cell) ends
+  cause DiskFault old new ends = of_unrun DiskFault ends
+  cause Memory old new ends = tt
+
+  pub unwritten : (exit : Exit) (old new : Option (List ℕ)) → EndsSo exit old new → IsOfImage exit → IsUnwritten
+  unwritten Done old new ends image = absurd image
+  unwritten Usage old new ends image = absurd image
+  unwritten (Script fault) old new ends image = absurd image
+  unwritten ReadFault old new ends image = absurd image
+  unwritten WriteFault old new ends image = absurd image
+  unwritten NotAStore old new ends image = (cause NotAStore old new ends).1
+  unwritten (DamagedCell cell) old new ends image = (cause (DamagedCell cell) old new ends).1
+  unwritten DiskFault old new ends image = absurd image
+  unwritten Memory old new ends image = absurd image
+
+  -- a store that was opened was one, or was new
+  was_found : (replies : List ReplyLine) → Answers replies → IfSome (told disk) (λ image. HasStore (Some image))
+  was_found replies r = found (told disk) r.answered.run.opening.found.found
+    where
+      opens : (image : List ℕ) → IsFoundIn image r.answered.run.opened.file.value.cells.slots.items → HasStore (Some image)
+      opens [] h = inl refl
+      opens (byte ∷ rest) h = inr h.opens
+
+      found : (t : Option (List ℕ)) → IfSome t (λ image. IsFoundIn image r.answered.run.opened.file.value.cells.slots.items) → IfSome t (λ image. HasStore (Some image))
+      found None h = tt
+      found (Some image) h = opens image h
+
+  -- WHAT ELSE FOLLOWS FROM HOW A COMMAND ENDED
+
+  -- how a command ended, where the two types say that the source's and the sink's faults rose
+  pub record IsKnown (exit : Exit) (old new : Option (List ℕ)) (read_fault write_fault : Type 0) : Type 0 where
+    pub ends : EndsSo exit old new
+    pub script : (f : ScriptFault) → exit ≡ Script f → IsFaulty command left f
+    pub read : exit ≡ ReadFault → read_fault
+    pub write : exit ≡ WriteFault → write_fault
+
+  store_of : (replies : List ReplyLine) → Answers replies → (P : List ℕ → Type 0) → ((image : List ℕ) → HasStore (Some image) → P image → ⊥) → TellsThat P (told disk) → ⊥
+  store_of replies r P refuses = tells (told disk) (was_found replies r)
+    where
+      tells : (t : Option (List ℕ)) → IfSome t (λ image. HasStore (Some image)) → TellsThat P t → ⊥
+      tells None has refused = refused
+      tells (Some image) has refused = refuses image has refused
+
+  not_refused : (P : List ℕ → Type 0) → ((image : List ℕ) → HasStore (Some image) → P image → ⊥) → (t : Option (List ℕ)) → HasStore t → IfSome t P → ⊥
+  not_refused P refuses None has refused = has
+  not_refused P refuses (Some image) has refused = refuses image has refused
+
+  -- lines that can be read are answered, but for a fault of source, sink or disk, and want of memory
+  pub complete : (exit : Exit) (old new : Option (List ℕ)) (read write : Type 0) → IsKnown exit old new read write → IsReadable command left → (read → ⊥) → (write → ⊥) →
+      (Rose (faults disk) (faults disk_after) → ⊥) → HasStore (told disk) → (exit ≡ Done) ⊎ (exit ≡ Memory)
+  complete Done old new read write known reads r w d has = inl refl
+  complete Usage old new read write known reads r w d has = absurd known.ends
+  complete (Script f) old new read write known reads r w d has = absurd (no_fault command left f (known.script f refl) reads)
+  complete ReadFault old new read write known reads r w d has = absurd (r (known.read refl))
+  complete WriteFault old new read write known reads r w d has = absurd (w (known.write refl))
+  complete NotAStore old new read write known reads r w d has = absurd (not_refused IsNoStore is_store (told disk) has (cause NotAStore old new known.ends).0)
+  complete (DamagedCell cell) old new read write known reads r w d has =
+      absurd (not_refused (λ image. IsFirstDamaged image cell) (λ image. is_sound image cell) (told disk) has (cause (DamagedCell cell) old new known.ends).0)
+  complete DiskFault old new read write known reads r w d has = absurd (d (cause DiskFault old new known.ends))
+  complete Memory old new read write known reads r w d has = inr refl
+
+  -- an image that is refused
+  refusal : (exit wanted : Exit) (P : List ℕ → Type 0) → ((image : List ℕ) → HasStore (Some image) → P image → ⊥) → (old new : Option (List ℕ)) (read write : Type 0) → IsKnown exit old new read write → IsReadable command left → (read → ⊥) →
+      (Rose (faults disk) (faults disk_after) → ⊥) → TellsThat P (told disk) →
+      (exit ≡ NotAStore → NotAStore ≡ wanted) → ((cell : ℕ) → exit ≡ DamagedCell cell → DamagedCell cell ≡ wanted) → (exit ≡ wanted) ⊎ (exit ≡ Memory)
+  refusal Done wanted P refuses old new read write known reads r d tells as_none as_damaged = absurd (store_of known.ends.0 known.ends.1 P refuses tells)
+  refusal Usage wanted P refuses old new read write known reads r d tells as_none as_damaged = absurd known.ends
+  refusal (Script f) wanted P refuses old new read write known reads r d tells as_none as_damaged = absurd (no_fault command left f (known.script f refl) reads)
+  refusal ReadFault wanted P refuses old new read write known reads r d tells as_none as_damaged = absurd (r (known.read refl))
+  refusal WriteFault wanted P refuses old new read write known reads r d tells as_none as_damaged = absurd (store_of known.ends.0 known.ends.1 P refuses tells)
+  refusal NotAStore wanted P refuses old new read write known reads r d tells as_none as_damaged = inl (as_none refl)
+  refusal (DamagedCell cell) wanted P refuses old new read write known reads r d tells as_none as_damaged = inl (as_damaged cell refl)
+  refusal DiskFault wanted P refuses old new read write known reads r d tells as_none as_damaged = absurd (d (cause DiskFault old new known.ends))
+  refusal Memory wanted P refuses old new read write known reads r d tells as_none as_damaged = inr refl
+
+  pub no_store : (exit : Exit) (old new : Option (List ℕ)) (read write : Type 0) → IsKnown exit old new read write → IsReadable command left → (read → ⊥) → (Rose (faults disk) (faults disk_after) → ⊥) →
+      TellsThat IsNoStore (told disk) → (exit ≡ NotAStore) ⊎ (exit ≡ Memory)
+  no_store exit old new read write known reads r d tells =
+      refusal exit NotAStore IsNoStore is_store old new read write known reads r d tells (λ e. refl) (λ cell e. absurd (both cell (told disk) tells (subst HasCause e (cause exit old new known.ends)).0))
+    where
+      both : (cell : ℕ) (t : Option (List ℕ)) → TellsThat IsNoStore t → IfSome t (λ image. IsFirstDamaged image cell) → ⊥
+      both cell None none damaged = none
+      both cell (Some image) none damaged = none.other damaged.store
+
+  pub bad_cell : (exit : Exit) (old new : Option (List ℕ)) (read write : Type 0) → IsKnown exit old new read write → IsReadable command left → (read → ⊥) → (Rose (faults disk) (faults disk_after) → ⊥) →
+      (cell : ℕ) → TellsThat (λ image. IsFirstDamaged image cell) (told disk) → (exit ≡ DamagedCell cell) ⊎ (exit ≡ Memory)
+  bad_cell exit old new read write known reads r d cell tells =
+      refusal exit (DamagedCell cell) (λ image. IsFirstDamaged image cell) (λ image. is_sound image cell) old new read write known reads r d tells
+      (λ e. absurd (both (told disk) tells (subst HasCause e (cause exit old new known.ends)).0))
+      (λ other e. ap (λ (c : ℕ). DamagedCell c) (first (told disk) other tells (subst HasCause e (cause exit old new known.ends)).0))
+    where
+      both : (t : Option (List ℕ)) → TellsThat (λ image. IsFirstDamaged image cell) t → IfSome t IsNoStore → ⊥
+      both None damaged none = damaged
+      both (Some image) damaged none = none.other damaged.store
+
+      lowest : (image : List ℕ) (a b : ℕ) → IsFirstDamaged image a → IsFirstDamaged image b → a ≡ b
+      lowest image a b here there = elim (leb_tells a b) [
+        | inl le ↦ elim (leb_tells b a) [
+          | inl ge ↦ omega (arith, le.1, ge.1)
+          | inr less ↦ absurd (there.before a less.1 here.here)
+        ]
+        | inr less ↦ absurd (here.before b less.1 there.here)
+      ]
+
+      first : (t : Option (List ℕ)) (other : ℕ) → TellsThat (λ image. IsFirstDamaged image cell) t → IfSome t (λ image. IsFirstDamaged image other) → other ≡ cell
+      first None other damaged more = absurd damaged
+      first (Some image) other damaged more = lowest image other cell more damaged
+
+  -- HOW A COMMAND ENDS
+
+  -- before its store is opened
+  pub given_back : (exit : Exit) (old new : Option (List ℕ)) → IsOfReading exit → (disk_after ≡ disk) × (devices_after ≡ devices) → EndsSo exit old new
+  given_back Done old new reading same = absurd reading
+  given_back Usage old new reading same = absurd reading
+  given_back (Script fault) old new reading same = same
+  given_back ReadFault old new reading same = same
+  given_back WriteFault old new reading same = absurd reading
+  given_back NotAStore old new reading same = absurd reading
+  given_back (DamagedCell cell) old new reading same = absurd reading
+  given_back DiskFault old new reading same = absurd reading
+  given_back Memory old new reading same = inl same
+
+  -- with replies
+  pub answered_ends : (exit : Exit) (old new : Option (List ℕ)) (replies : List ReplyLine) → Answers replies → IsWritten (text_by command replies) old new exit → EndsSo exit old new
+  answered_ends Done old new replies r w = (replies, r, w)
+  answered_ends Usage old new replies r w = absurd w
+  answered_ends (Script fault) old new replies r w = absurd w
+  answered_ends ReadFault old new replies r w = absurd w
+  answered_ends WriteFault old new replies r w = (replies, r, w)
+  answered_ends NotAStore old new replies r w = absurd w
+  answered_ends (DamagedCell cell) old new replies r w = absurd w
+  answered_ends DiskFault old new replies r w = absurd w
+  answered_ends Memory old new replies r w = inr (inr (replies, r))
+
+  -- without them
+  pub unanswered_ends : (why : Unanswered) (old new : Option (List ℕ)) (lines : List ScriptLine) → AreLinesOf command left lines →
+      IsUnanswered told may_leave moment left_since faults held hard locations labels disk devices (labels_by command given) (seed_by command) lines why disk_after devices_after → EndsSo (exit_unanswered why) old new
+  unanswered_ends (NotOpened opening.NotAStore) old new lines are u = record { lines = lines; lines_are = are; why = NotOpened opening.NotAStore; exit_is = refl; unanswered = u }
+  unanswered_ends (NotOpened (opening.DamagedCell cell)) old new lines are u = record { lines = lines; lines_are = are; why = NotOpened (opening.DamagedCell cell); exit_is = refl; unanswered = u }
+  unanswered_ends (NotOpened opening.Disk) old new lines are u = record { lines = lines; lines_are = are; why = NotOpened opening.Disk; exit_is = refl; unanswered = u }
+  unanswered_ends (NotOpened opening.Memory) old new lines are u = inr (inl (record { lines = lines; lines_are = are; why = NotOpened opening.Memory; exit_is = refl; unanswered = u }))
+  unanswered_ends unanswered.Memory old new lines are u = inr (inl (record { lines = lines; lines_are = are; why = unanswered.Memory; exit_is = refl; unanswered = u }))
+
+  -- replies of these lines are a command's, where labels, seed and workers are the command's
+  pub of_answered : (named : List Label) (seed : List ℕ) (workers : ℕ) (lines : List ScriptLine) (replies : List ReplyLine) → named ≡ labels_by command given → seed ≡ seed_by command → workers ≡ workers_by command →
+      AreLinesOf command left lines → IsAnswered told may_leave moment left_since faults held hard locations labels disk devices named seed workers lines replies disk_after devices_after → Answers replies
+  of_answered named seed workers lines replies same_labels same_seed same_workers are a = record {
+    lines = lines;
+    lines_are = are;
+    answered =
+        subst (λ n. IsAnswered told may_leave moment left_since faults held hard locations labels disk devices (labels_by command given) (seed_by command) n lines replies disk_after devices_after) same_workers
+        (subst (λ z. IsAnswered told may_leave moment left_since faults held hard locations labels disk devices (labels_by command given) z workers lines replies disk_after devices_after) same_seed
+        (subst (λ n. IsAnswered told may_leave moment left_since faults held hard locations labels disk devices n seed workers lines replies disk_after devices_after) same_labels a));
+  }
+
+  pub of_unanswered : (named : List Label) (seed : List ℕ) (why : Unanswered) (old new : Option (List ℕ)) (lines : List ScriptLine) → named ≡ labels_by command given → seed ≡ seed_by command → AreLinesOf command left lines →
+      IsUnanswered told may_leave moment left_since faults held hard locations labels disk devices named seed lines why disk_after devices_after → EndsSo (exit_unanswered why) old new
+  of_unanswered named seed why old new lines same_labels same_seed are u =
+      unanswered_ends why old new lines are
+      (subst (λ z. IsUnanswered told may_leave moment left_since faults held hard locations labels disk devices (labels_by command given) z lines why disk_after devices_after) same_seed
+      (subst (λ n. IsUnanswered told may_leave moment left_since faults held hard locations labels disk devices n seed lines why disk_after devices_after) same_labels u))
+
+-- what holds of a result that is this
+pub match_ok : {T E : Type 0} (P : T → Type 0) (Q : E → Type 0) (r : Result T E) (x : T) → r ≡ Ok x → MatchResult r P Q → P x
+match_ok P Q r x is m = subst (λ s. MatchResult s P Q) is m
+
+pub match_err : {T E : Type 0} (P : T → Type 0) (Q : E → Type 0) (r : Result T E) (x : E) → r ≡ Err x → MatchResult r P Q → Q x
+match_err P Q r x is m = subst (λ s. MatchResult s P Q) is m
+
+-- A TEXT THAT IS NO SCRIPT
+
+clash : (text : List ℕ) (lines : List ScriptLine) (f : ScriptFault) → script_of text ≡ Ok lines → script_of text ≡ Err f → ⊥
+clash text lines f reads fails = cc
+
+one_fault : (text : List ℕ) (f g : ScriptFault) → script_of text ≡ Err f → script_of text ≡ Err g → Script f ≡ Script g
+one_fault text f g e k = cc
+
+module _ {D A C : Type 0} (told : D → Option (List ℕ)) (may_leave : D → List ℕ → Type 0) (moment : D → ℕ) (left_since : D → ℕ → List ℕ → Type 0)
+    (faults : D → ℕ) (held : A → Option HeldKeys) (hard : A → ℕ) (locations : A → List ℕ) (labels : C → List Label)
+    (given : List Label) (disk : D) (devices : A) (options : RunOptions) (disk_after : D) (devices_after : A) where
+  abbrev IsKnownOf : (left : Option (List ℕ)) → Exit → (old new : Option (List ℕ)) (read_fault write_fault : Type 0) → Type 0
+  IsKnownOf left = IsKnown told may_leave moment left_since faults held hard locations labels given left disk devices (Run options) disk_after devices_after
+
+  -- it is refused by its first fault, but for a fault of the source, and want of memory
+  pub refused : (left : Option (List ℕ)) (exit : Exit) (old new : Option (List ℕ)) (read write : Type 0) → IsKnownOf left exit old new read write → (read → ⊥) →
+      IfSome left (λ text. (f : ScriptFault) → script_of text ≡ Err f → (exit ≡ Script f) ⊎ (exit ≡ Memory))
+  refused None exit old new read write known r = tt
+  refused (Some text) Done old new read write known r = λ f e. absurd (clash text known.ends.1.lines f known.ends.1.lines_are e)
+  refused (Some text) Usage old new read write known r = absurd known.ends
+  refused (Some text) (Script g) old new read write known r = λ f e. inl (one_fault text g f (known.script g refl) e)
+  refused (Some text) ReadFault old new read write known r = absurd (r (known.read refl))
+  refused (Some text) WriteFault old new read write known r = λ f e. absurd (clash text known.ends.1.lines f known.ends.1.lines_are e)
+  refused (Some text) NotAStore old new read write known r = λ f e. absurd (clash text known.ends.lines f known.ends.lines_are e)
+  refused (Some text) (DamagedCell cell) old new read write known r = λ f e. absurd (clash text known.ends.lines f known.ends.lines_are e)
+  refused (Some text) DiskFault old new read write known r = λ f e. absurd (clash text known.ends.lines f known.ends.lines_are e)
+  refused (Some text) Memory old new read write known r = λ f e. inr refl

@@ -1,0 +1,94 @@
+-- What a command runs, and what is known of its end.
+use Rattle.std.specs.Prelude.{ℕ, ◌≡◌, ◌⊎◌, List, [], replicate, length, IfSome, IsOk, Ok, Option, Some, None}
+use Rattle.std.specs.Io.KnownBytes.{Appends}
+use Rattle.policy_rules.specs.declared.narrowing.Label.{Label}
+use Rattle.admission.specs.Apply.{picked}
+use Rattle.key_cells.specs.Image.{Opens}
+use Rattle.driver_dispatch.specs.Held.{HeldKeys}
+use Rattle.script_lang.specs.declared.script.ScriptLine.{ScriptLine}
+use Rattle.script_lang.specs.declared.replies.ReplyLine.{ReplyLine}
+use Rattle.script_lang.specs.Lines.{script_of}
+use Rattle.script_lang.specs.PrintedOrder.{text_of}
+use Rattle.line_generator.specs.Generator.{generator_lines}
+use Rattle.line_generator.specs.Summary.{summary_of}
+use Rattle.command_words.specs.declared.command.Command.{Command}
+use Rattle.command_words.specs.declared.command.Command.TheVariants.{Run, Generate}
+use Rattle.session_host.specs.declared.lines.Unanswered.{Unanswered}
+use Rattle.session_host.specs.Runs.{IsAnswered, IsUnanswered}
+use Rattle.psa_command.specs.declared.exit.Exit.{Exit}
+use Rattle.psa_command.specs.declared.exit.Exit.TheVariants.{Done, Usage, Script, ReadFault, WriteFault, NotAStore, DamagedCell, DiskFault, Memory}
+use Rattle.psa_command.specs.Ends.{TakesPart, exit_unanswered}
+
+-- the lines of a command: those of the script, where the source told it, or the generator's
+abbrev pub AreLinesOf : Command → (left : Option (List ℕ)) → List ScriptLine → Type 0
+AreLinesOf (Run options) left lines = IfSome left (λ text. script_of text ≡ Ok lines)
+AreLinesOf (Generate count) left lines = lines ≡ generator_lines count
+
+-- the rules that a command picks, in the order in which they are given
+abbrev pub labels_by : Command → List Label → List Label
+labels_by (Run options) given = picked options.labels given
+labels_by (Generate count) given = picked [] given
+
+-- the generator has a seed of zeros, and one worker
+abbrev pub seed_by : Command → List ℕ
+seed_by (Run options) = options.seed
+seed_by (Generate count) = replicate 32 0
+
+abbrev pub workers_by : Command → ℕ
+workers_by (Run options) = options.workers
+workers_by (Generate count) = 1
+
+-- what is written of the replies
+abbrev pub text_by : Command → List ReplyLine → List ℕ
+text_by (Run options) replies = text_of replies
+text_by (Generate count) replies = summary_of replies
+
+module _ {D A C : Type 0} (told : D → Option (List ℕ)) (may_leave : D → List ℕ → Type 0) (moment : D → ℕ) (left_since : D → ℕ → List ℕ → Type 0)
+    (faults : D → ℕ) (held : A → Option HeldKeys) (hard : A → ℕ) (locations : A → List ℕ) (labels : C → List Label)
+    (given : List Label) (left : Option (List ℕ)) (disk : D) (devices : A) (command : Command) (disk_after : D) (devices_after : A) where
+  -- a command's calls were made, and these are their replies
+  pub record IsRun (replies : List ReplyLine) : Type 0 where
+    pub lines : List ScriptLine
+    pub lines_are : AreLinesOf command left lines
+    pub answered : IsAnswered told may_leave moment left_since faults held hard locations labels disk devices (labels_by command given) (seed_by command) (workers_by command) lines replies disk_after devices_after
+
+  -- a command's lines had no replies, and it ended so
+  pub record IsUnrun (exit : Exit) : Type 0 where
+    pub lines : List ScriptLine
+    pub lines_are : AreLinesOf command left lines
+    pub why : Unanswered
+    pub exit_is : exit ≡ exit_unanswered why
+    pub unanswered : IsUnanswered told may_leave moment left_since faults held hard locations labels disk devices (labels_by command given) (seed_by command) lines why disk_after devices_after
+
+  abbrev pub IsGivenBack : Type 0
+  IsGivenBack = (disk_after ≡ disk) × (devices_after ≡ devices)
+
+  -- How a command ended, and what of its output was taken. Done: all that is written of the replies; a fault of the sink: a part
+  -- of it. Before the store was opened, disk and devices come back as they were. Memory may run out before that, later, or as
+  -- the text is made.
+  abbrev pub EndsBy : Exit → (old new : Option (List ℕ)) → Type 0
+  EndsBy Done old new = (replies : List ReplyLine) × IsRun replies × Appends old new (text_by command replies)
+  EndsBy WriteFault old new = (replies : List ReplyLine) × IsRun replies × TakesPart (text_by command replies) old new
+  EndsBy Memory old new = IsGivenBack ⊎ IsUnrun Memory ⊎ ((replies : List ReplyLine) × IsRun replies)
+  EndsBy NotAStore old new = IsUnrun NotAStore
+  EndsBy (DamagedCell cell) old new = IsUnrun (DamagedCell cell)
+  EndsBy DiskFault old new = IsUnrun DiskFault
+  EndsBy (Script fault) old new = IsGivenBack
+  EndsBy ReadFault old new = IsGivenBack
+  EndsBy Usage old new = ⊥
+
+-- a command's lines can be read: those of a script, where the source tells it
+abbrev pub IsReadable : Command → (left : Option (List ℕ)) → Type 0
+IsReadable (Run options) None = ⊥
+IsReadable (Run options) (Some text) = IsOk (script_of text)
+IsReadable (Generate count) left = Unit {0}
+
+-- a disk that tells its bytes has a store, or is new
+abbrev pub HasStore : Option (List ℕ) → Type 0
+HasStore None = ⊥
+HasStore (Some image) = (length image ≡ 0) ⊎ Opens image
+
+-- it tells them, and P holds of them
+abbrev pub TellsThat : (List ℕ → Type 0) → Option (List ℕ) → Type 0
+TellsThat P None = ⊥
+TellsThat P (Some image) = P image

@@ -1,0 +1,164 @@
+//! A command over a store's file, with the program's rules and its secure element. Boxes are made where they are handed down.
+ghost use Rattle.std.specs.Prelude.{◌≡◌, ℕ, ◌∷◌, [], Some};
+ghost use Rattle.policy_rules.specs.declared.narrowing.Label.TheVariants as label;
+ghost use Rattle.driver_dispatch.specs.Calls.{Lacks};
+ghost use Rattle.driver_dispatch.specs.Held.{no_keys};
+
+use crate::End;
+use admission::{Admission, Rule, Rules};
+use command_words::RuleBook;
+use driver_dispatch::{Devices, Driver, Drivers};
+use key_attributes::Attributes;
+use policy_rules::{Label, narrow};
+use psa_command::{Ended, Exit, run_command};
+use psa_status::Memory;
+use soft_driver::SoftDriver;
+use std::alloc::{AllocError, Global};
+use std::io;
+use std::sync::Wait;
+use std::thread::Threads;
+use stream_adapters::{FileDisk, Reading, Writing};
+
+/// The location of the secure element.
+const SECURE_ELEMENT: u32 = 1;
+
+/// Runs a command over a disk, with the four rules and a secure element in memory that holds no key and never fails.
+pub fn run_store<R: Threads + Wait + Sync>(
+    rt: &HostRuntime,
+    threads: &R,
+    disk: FileDisk,
+    words: &[&str],
+) -> End {
+    match with_rules(rt, threads, disk, words) {
+        Ok(end) => end,
+        Err(_) => End::Run(Exit::Memory),
+    }
+}
+
+// Makes the rules.
+fn with_rules<R: Threads + Wait + Sync>(
+    rt: &HostRuntime,
+    threads: &R,
+    disk: FileDisk,
+    words: &[&str],
+) -> Result<End, AllocError> {
+    let alloc = rt.alloc();
+    let mut no_export = Vec::new(alloc);
+    no_export.push(Rule::new(
+        Label::NoExport,
+        Box::new(alloc, |key: &Attributes| narrow(Label::NoExport, key))?,
+    ))?;
+    let mut no_copy = Vec::new(alloc);
+    no_copy.push(Rule::new(
+        Label::NoCopy,
+        Box::new(alloc, |key: &Attributes| narrow(Label::NoCopy, key))?,
+    ))?;
+    let mut no_ecb = Vec::new(alloc);
+    no_ecb.push(Rule::new(
+        Label::NoEcb,
+        Box::new(alloc, |key: &Attributes| narrow(Label::NoEcb, key))?,
+    ))?;
+    let mut aes256 = Vec::new(alloc);
+    aes256.push(Rule::new(
+        Label::Aes256,
+        Box::new(alloc, |key: &Attributes| narrow(Label::Aes256, key))?,
+    ))?;
+    with_element(
+        rt,
+        threads,
+        disk,
+        Rules::pick(no_export, &[Label::NoExport]),
+        Rules::pick(no_copy, &[Label::NoCopy]),
+        Rules::pick(no_ecb, &[Label::NoEcb]),
+        Rules::pick(aes256, &[Label::Aes256]),
+        words,
+    )
+}
+
+// Makes the secure element, and a book of the rules.
+fn with_element<C: Admission, R: Threads + Wait + Sync>(
+    rt: &HostRuntime,
+    threads: &R,
+    disk: FileDisk,
+    no_export: C,
+    no_copy: C,
+    no_ecb: C,
+    aes256: C,
+    words: &[&str],
+) -> Result<End, AllocError>
+    requires no_export { C.labels no_export ≡ label.NoExport ∷ [] }
+    requires no_copy { C.labels no_copy ≡ label.NoCopy ∷ [] }
+    requires no_ecb { C.labels no_ecb ≡ label.NoEcb ∷ [] }
+    requires aes256 { C.labels aes256 ≡ label.Aes256 ∷ [] }
+{
+    let alloc = rt.alloc();
+    let Ok(driver) = SoftDriver::new(alloc, SECURE_ELEMENT, Vec::new(alloc)) else {
+        return Err(AllocError);
+    };
+    let mut drivers: Vec<Box<dyn Driver>> = Vec::new(alloc);
+    drivers.push(Box::new(alloc, driver)?)?;
+    let Ok(book) = book_of(alloc, no_export, no_copy, no_ecb, aes256) else {
+        return Err(AllocError);
+    };
+    let devices = without_keys(Drivers::new(drivers));
+    Ok(run_over(rt, threads, disk, devices, book, words))
+}
+
+// A book of the rules, in this order.
+fn book_of<C: Admission>(
+    alloc: Global,
+    no_export: C,
+    no_copy: C,
+    no_ecb: C,
+    aes256: C,
+) -> Result<RuleBook<C>, Memory>
+    requires no_export { C.labels no_export ≡ label.NoExport ∷ [] }
+    requires no_copy { C.labels no_copy ≡ label.NoCopy ∷ [] }
+    requires no_ecb { C.labels no_ecb ≡ label.NoEcb ∷ [] }
+    requires aes256 { C.labels aes256 ≡ label.Aes256 ∷ [] }
+{
+    let mut book = RuleBook::new(alloc);
+    book.add(Label::NoExport, no_export)?;
+    book.add(Label::NoCopy, no_copy)?;
+    book.add(Label::NoEcb, no_ecb)?;
+    book.add(Label::Aes256, aes256)?;
+    Ok(book)
+}
+
+// Devices that hold no key lack every handle.
+fn without_keys<A: Devices>(devices: A) -> A
+    requires { A.keys devices ≡ Some no_keys }
+    ensures { (handle : ℕ) → Lacks (A.keys result) handle }
+{
+    devices
+}
+
+// Runs a command over a disk, with these devices and rules.
+fn run_over<A: Devices, C: Admission, R: Threads + Wait + Sync>(
+    rt: &HostRuntime,
+    threads: &R,
+    disk: FileDisk,
+    devices: A,
+    book: RuleBook<C>,
+    words: &[&str],
+) -> End
+    requires { (handle : ℕ) → Lacks (A.keys devices) handle }
+{
+    let mut source = Reading::new(rt.stdin());
+    let mut sink = Writing::new(io::writer(rt));
+    let Ended {
+        exit,
+        disk: _,
+        devices: _,
+    } = run_command(
+        threads,
+        rt.alloc(),
+        words,
+        &mut source,
+        &mut sink,
+        disk,
+        devices,
+        book,
+    );
+    End::Run(exit)
+}

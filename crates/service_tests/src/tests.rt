@@ -1,0 +1,301 @@
+ghost use Rattle.std.specs.Prelude.{◌≡◌, ◌≤◌, ℕ, All, Some, length};
+ghost use Rattle.driver_dispatch.specs.Calls.{Lacks};
+ghost use Rattle.driver_dispatch.specs.Held.{no_keys};
+ghost use Rattle.callers.specs.Ready.{IsReady};
+ghost use Rattle.callers.specs.Worlds.{world};
+
+use admission::{Admission, Rules};
+use alg_encoding::Alg;
+use caller_service::Service;
+use callers::{Caller, NoGate};
+use disk_face::{Disk, Fails, MemoryDisk};
+use driver_dispatch::{Devices, Drivers};
+use key_attributes::{Attributes, KeyId, KeyType, Lifetime, Policy, Usage};
+use psa_status::Status;
+use service_calls::{Call, HandleCall, HashStep, Op, Output, Setup, Step, StoreCall};
+use std::alloc::Global;
+use std::process::Abort;
+use std::sync::Wait;
+use std::test::Fail;
+
+// Each caller may make calls that count so much together.
+const BUDGET: u64 = 3;
+
+const CMAC: u32 = 0x03c0_0200;
+
+const GCM: u32 = 0x0550_0200;
+
+const CBC_PKCS7: u32 = 0x0440_4100;
+
+const SIGN: u32 = 0x400;
+
+const DECRYPT: u32 = 0x200;
+
+// Makes a call, and says whether it succeeded without a result.
+fn is_done<D: Disk, A: Devices, C: Admission, R: Wait>(
+    rt: &R,
+    service: &Service<D, A, C, NoGate>,
+    caller: &mut Caller<D, A, C>,
+    call: &Call<'_>,
+) -> bool
+    requires ready { IsReady (world D.contents D.moment D.faults A.keys A.faults A.locations C.labels service.now.shared.lock.table.shared.table_id service.now.shared.lock.table.shared.key.value.value.store.opened) 0 caller.old }
+    requires within { caller.old.spent ≤ service.now.worn }
+    ensures ready { IsReady (world D.contents D.moment D.faults A.keys A.faults A.locations C.labels service.now.shared.lock.table.shared.table_id service.now.shared.lock.table.shared.key.value.value.store.opened) 0 caller.new }
+    ensures within { caller.new.spent ≤ service.now.worn }
+{
+    let (rank, answer) = service.call(rt, caller, call, &mut []);
+    rank.is_some() && matches!(answer, Ok(Output::Done))
+}
+
+// Uses a budget up. A call that it doesn't suffice for has no rank and counts nothing; the end of an operation is never
+// refused.
+fn wear<D: Disk, A: Devices, C: Admission, R: Abort + Wait>(
+    rt: &R,
+    service: &Service<D, A, C, NoGate>,
+    caller: &mut Caller<D, A, C>,
+)
+    requires ready { IsReady (world D.contents D.moment D.faults A.keys A.faults A.locations C.labels service.now.shared.lock.table.shared.table_id service.now.shared.lock.table.shared.key.value.value.store.opened) 0 caller.old }
+    requires within { caller.old.spent ≤ service.now.worn }
+    ensures ready { IsReady (world D.contents D.moment D.faults A.keys A.faults A.locations C.labels service.now.shared.lock.table.shared.table_id service.now.shared.lock.table.shared.key.value.value.store.opened) 0 caller.new }
+    ensures within { caller.new.spent ≤ service.now.worn }
+{
+    let op = Op::first();
+    let setup = Call::OnHandle(op, HandleCall::Setup(Setup::Hash(Alg(0x0200_0009))));
+    let update = Call::OnHandle(op, HandleCall::Step(Step::Hash(HashStep::Update(b"abc"))));
+    let abort = Call::OnHandle(op, HandleCall::Abort);
+    assert!(rt; is_done(rt, service, caller, &setup) && caller.spent() == 2);
+    assert!(rt; is_done(rt, service, caller, &update) && caller.spent() == 3);
+    let (rank, answer) = service.call(rt, caller, &update, &mut []);
+    assert!(rt; rank.is_none() && matches!(answer, Err(Status::PassWorn)));
+    assert!(rt; is_done(rt, service, caller, &abort) && caller.spent() == 3);
+}
+
+// Makes a volatile AES key. The answer is 0 where that fails.
+fn import<D: Disk, A: Devices, C: Admission, R: Wait>(
+    rt: &R,
+    service: &Service<D, A, C, NoGate>,
+    caller: &mut Caller<D, A, C>,
+    usage: u32,
+    alg: u32,
+    bytes: &[u8],
+) -> KeyId
+    requires ready { IsReady (world D.contents D.moment D.faults A.keys A.faults A.locations C.labels service.now.shared.lock.table.shared.table_id service.now.shared.lock.table.shared.key.value.value.store.opened) 0 caller.old }
+    requires within { caller.old.spent ≤ service.now.worn }
+    ensures ready { IsReady (world D.contents D.moment D.faults A.keys A.faults A.locations C.labels service.now.shared.lock.table.shared.table_id service.now.shared.lock.table.shared.key.value.value.store.opened) 0 caller.new }
+    ensures within { caller.new.spent ≤ service.now.worn }
+{
+    let attributes = Attributes {
+        lifetime: Lifetime(0),
+        id: KeyId(0),
+        key_type: KeyType::AES,
+        bits: 0,
+        policy: Policy {
+            usage: Usage(usage),
+            alg,
+        },
+    };
+    let call = Call::OnStore(StoreCall::Import { attributes, bytes });
+    match service.call(rt, caller, &call, &mut []) {
+        (_, Ok(Output::Identifier(id))) => id,
+        _ => KeyId(0),
+    }
+}
+
+// Makes a call that gives bytes, and answers how many.
+fn give<D: Disk, A: Devices, C: Admission, R: Wait>(
+    rt: &R,
+    service: &Service<D, A, C, NoGate>,
+    caller: &mut Caller<D, A, C>,
+    call: StoreCall<'_>,
+    out: &mut [u8],
+) -> Result<usize, Status>
+    requires ready { IsReady (world D.contents D.moment D.faults A.keys A.faults A.locations C.labels service.now.shared.lock.table.shared.table_id service.now.shared.lock.table.shared.key.value.value.store.opened) 0 caller.old }
+    requires within { caller.old.spent ≤ service.now.worn }
+    ensures ready { IsReady (world D.contents D.moment D.faults A.keys A.faults A.locations C.labels service.now.shared.lock.table.shared.table_id service.now.shared.lock.table.shared.key.value.value.store.opened) 0 caller.new }
+    ensures within { caller.new.spent ≤ service.now.worn }
+{
+    match service.call(rt, caller, &Call::OnStore(call), out) {
+        (_, Ok(Output::Bytes(count))) => Ok(count),
+        (_, Ok(_)) => Ok(0),
+        (_, Err(status)) => Err(status),
+    }
+}
+
+// Bytes past a MAC stay, and all of a buffer that is too small. The MAC is that of SP 800-38B, section D.1, example 2.
+fn compute_macs<D: Disk, A: Devices, C: Admission, R: Abort + Wait>(
+    rt: &R,
+    service: &Service<D, A, C, NoGate>,
+    caller: &mut Caller<D, A, C>,
+)
+    requires ready { IsReady (world D.contents D.moment D.faults A.keys A.faults A.locations C.labels service.now.shared.lock.table.shared.table_id service.now.shared.lock.table.shared.key.value.value.store.opened) 0 caller.old }
+    requires within { caller.old.spent ≤ service.now.worn }
+    ensures ready { IsReady (world D.contents D.moment D.faults A.keys A.faults A.locations C.labels service.now.shared.lock.table.shared.table_id service.now.shared.lock.table.shared.key.value.value.store.opened) 0 caller.new }
+    ensures within { caller.new.spent ≤ service.now.worn }
+{
+    let bytes = [
+        0x2b, 0x7e, 0x15, 0x16, 0x28, 0xae, 0xd2, 0xa6, 0xab, 0xf7, 0x15, 0x88, 0x09, 0xcf, 0x4f,
+        0x3c,
+    ];
+    let message = [
+        0x6b, 0xc1, 0xbe, 0xe2, 0x2e, 0x40, 0x9f, 0x96, 0xe9, 0x3d, 0x7e, 0x11, 0x73, 0x93, 0x17,
+        0x2a,
+    ];
+    let call = StoreCall::MacCompute {
+        key: import(rt, service, caller, SIGN, CMAC, &bytes),
+        alg: Alg(CMAC),
+        input: &message,
+    };
+    let mut mac = [7u8; 17];
+    assert_eq!(rt; give(rt, service, caller, call, &mut mac), Ok(16));
+    assert_eq!(rt;
+        mac,
+        [
+            0x07, 0x0a, 0x16, 0xb4, 0x6b, 0x4d, 0x41, 0x44, 0xf7, 0x9b, 0xdd, 0x9d, 0xd0, 0x4a,
+            0x28, 0x7c, 7,
+        ]
+    );
+    let mut short = [7u8; 15];
+    let refused = give(rt, service, caller, call, &mut short);
+    assert!(rt; refused == Err(Status::BufferTooSmall) && short == [7; 15]);
+}
+
+// A text whose tag is wrong is zeros, as long as it would be. The sealed text is that of GCM's specification by McGrew and
+// Viega, test case 2, under other associated data.
+fn open_sealed<D: Disk, A: Devices, C: Admission, R: Abort + Wait>(
+    rt: &R,
+    service: &Service<D, A, C, NoGate>,
+    caller: &mut Caller<D, A, C>,
+)
+    requires ready { IsReady (world D.contents D.moment D.faults A.keys A.faults A.locations C.labels service.now.shared.lock.table.shared.table_id service.now.shared.lock.table.shared.key.value.value.store.opened) 0 caller.old }
+    requires within { caller.old.spent ≤ service.now.worn }
+    ensures ready { IsReady (world D.contents D.moment D.faults A.keys A.faults A.locations C.labels service.now.shared.lock.table.shared.table_id service.now.shared.lock.table.shared.key.value.value.store.opened) 0 caller.new }
+    ensures within { caller.new.spent ≤ service.now.worn }
+{
+    let sealed = [
+        0x03, 0x88, 0xda, 0xce, 0x60, 0xb6, 0xa3, 0x92, 0xf3, 0x28, 0xc2, 0xb9, 0x71, 0xb2, 0xfe,
+        0x78, 0xab, 0x6e, 0x47, 0xd4, 0x2c, 0xec, 0x13, 0xbd, 0xf5, 0x3a, 0x67, 0xb2, 0x12, 0x57,
+        0xbd, 0xdf,
+    ];
+    let call = StoreCall::AeadDecrypt {
+        key: import(rt, service, caller, DECRYPT, GCM, &[0; 16]),
+        alg: Alg(GCM),
+        nonce: &[0; 12],
+        ad: b"a",
+        input: &sealed,
+    };
+    let mut text = [7u8; 17];
+    let opened = give(rt, service, caller, call, &mut text);
+    assert!(rt; opened == Err(Status::InvalidSignature));
+    assert!(rt; text == *b"\0\0\0\0\0\0\0\0\0\0\0\0\0\0\0\0\x07");
+}
+
+// The padding's place is zeros, and all of a text that ends in none. OpenSSL made the ciphertext, of 14 bytes.
+fn decipher<D: Disk, A: Devices, C: Admission, R: Abort + Wait>(
+    rt: &R,
+    service: &Service<D, A, C, NoGate>,
+    caller: &mut Caller<D, A, C>,
+)
+    requires ready { IsReady (world D.contents D.moment D.faults A.keys A.faults A.locations C.labels service.now.shared.lock.table.shared.table_id service.now.shared.lock.table.shared.key.value.value.store.opened) 0 caller.old }
+    requires within { caller.old.spent ≤ service.now.worn }
+    ensures ready { IsReady (world D.contents D.moment D.faults A.keys A.faults A.locations C.labels service.now.shared.lock.table.shared.table_id service.now.shared.lock.table.shared.key.value.value.store.opened) 0 caller.new }
+    ensures within { caller.new.spent ≤ service.now.worn }
+{
+    let mut input = [
+        0x61, 0x6e, 0x20, 0x49, 0x56, 0x20, 0x69, 0x73, 0x20, 0x61, 0x20, 0x62, 0x6c, 0x6f, 0x63,
+        0x6b, 0x67, 0x54, 0xf7, 0x54, 0xf2, 0x92, 0xd8, 0x5b, 0xbd, 0x0d, 0x9b, 0x4a, 0xab, 0x99,
+        0x89, 0x3b,
+    ];
+    let key = import(rt, service, caller, DECRYPT, CBC_PKCS7, b"an AES key of 16");
+    let alg = Alg(CBC_PKCS7);
+    let mut text = [7u8; 17];
+    let whole = StoreCall::CipherDecrypt {
+        key,
+        alg,
+        input: &input,
+    };
+    assert_eq!(rt; give(rt, service, caller, whole, &mut text), Ok(14));
+    assert!(rt; text == *b"Fourteen bytes\0\0\x07");
+    input[15] ^= 1;
+    let broken = StoreCall::CipherDecrypt {
+        key,
+        alg,
+        input: &input,
+    };
+    let refused = give(rt, service, caller, broken, &mut text);
+    assert!(rt; refused == Err(Status::InvalidPadding));
+    assert!(rt; text == *b"\0\0\0\0\0\0\0\0\0\0\0\0\0\0\0\0\x07");
+}
+
+// Makes the calls of a caller. The first four have some.
+fn make_calls<D: Disk, A: Devices, C: Admission, R: Abort + Wait>(
+    rt: &R,
+    service: &Service<D, A, C, NoGate>,
+    caller: &mut Caller<D, A, C>,
+)
+    requires ready { IsReady (world D.contents D.moment D.faults A.keys A.faults A.locations C.labels service.now.shared.lock.table.shared.table_id service.now.shared.lock.table.shared.key.value.value.store.opened) 0 caller.old }
+    requires within { caller.old.spent ≤ service.now.worn }
+    ensures ready { IsReady (world D.contents D.moment D.faults A.keys A.faults A.locations C.labels service.now.shared.lock.table.shared.table_id service.now.shared.lock.table.shared.key.value.value.store.opened) 0 caller.new }
+    ensures within { caller.new.spent ≤ service.now.worn }
+{
+    match caller.number() {
+        1 => wear(rt, service, caller),
+        2 => compute_macs(rt, service, caller),
+        3 => open_sealed(rt, service, caller),
+        4 => decipher(rt, service, caller),
+        _ => {}
+    }
+}
+
+// Makes the calls of all callers.
+fn make_all<D: Disk, A: Devices, C: Admission, R: Abort + Wait>(
+    rt: &R,
+    service: &Service<D, A, C, NoGate>,
+    callers: &mut Vec<Caller<D, A, C>>,
+)
+    requires ready { All (IsReady (world D.contents D.moment D.faults A.keys A.faults A.locations C.labels service.now.shared.lock.table.shared.table_id service.now.shared.lock.table.shared.key.value.value.store.opened) 0) callers.old.items }
+    requires within { All (λ caller. caller.spent ≤ service.now.worn) callers.old.items }
+    ensures ready { All (IsReady (world D.contents D.moment D.faults A.keys A.faults A.locations C.labels service.now.shared.lock.table.shared.table_id service.now.shared.lock.table.shared.key.value.value.store.opened) 0) callers.new.items }
+    ensures count { length callers.new.items ≡ length callers.old.items }
+{
+    for caller in callers.iter_mut() {
+        make_calls(rt, service, caller);
+    }
+}
+
+fn open_and_call<D: Disk + Drop, A: Devices, C: Admission, R: Abort + Wait>(
+    rt: &R,
+    alloc: Global,
+    disk: D,
+    devices: A,
+    rules: C,
+) -> Result<(), Fail>
+    requires { (handle : ℕ) → Lacks (A.keys devices) handle }
+{
+    let opened = Service::open(alloc, disk, devices, rules, &[0; 32], BUDGET, NoGate);
+    let Ok((service, mut callers)) = opened else {
+        return Err("open")?;
+    };
+    assert_eq!(rt; callers.len(), 16);
+    make_all(rt, &service, &mut callers);
+    let (_disk, _devices) = service.close(rt, callers);
+    Ok(())
+}
+
+// Devices that hold no key lack every handle.
+fn without_keys<A: Devices>(devices: A) -> A
+    requires { A.keys devices ≡ Some no_keys }
+    ensures { (handle : ℕ) → Lacks (A.keys result) handle }
+{
+    devices
+}
+
+#[test]
+fn calls_leave_budgets_and_buffers(rt: HostRuntime) -> Result<(), Fail> {
+    let alloc = rt.alloc();
+    let Ok(disk) = MemoryDisk::new(alloc, Vec::new(alloc), Fails::From(u64::MAX)) else {
+        return Err("memory")?;
+    };
+    let devices = without_keys(Drivers::new(Vec::new(alloc)));
+    let rules = Rules::pick(Vec::new(alloc), &[]);
+    open_and_call(&rt, alloc, disk, devices, rules)
+}

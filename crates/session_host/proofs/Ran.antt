@@ -1,0 +1,66 @@
+-- What is known of a run, from its opening, its callers and its close.
+use Rattle.std.proofs.Common.{◌≡◌, ℕ, List, subst, arith}
+use Rattle.std.specs.Prelude.{All, Option, is_some}
+use Rattle.std.specs.Global.{Vec}
+use Rattle.atomic_table.specs.Seated.{TableId}
+use Rattle.policy_rules.specs.declared.narrowing.Label.{Label}
+use Rattle.driver_dispatch.specs.Held.{HeldKeys}
+use Rattle.store_core.specs.Represents.{Opening}
+use Rattle.store_core.specs.declared.store.Opened.{Opened}
+use Rattle.store_core.specs.Start.{opening_of}
+use Rattle.callers.specs.Worlds.{World, world}
+use Rattle.callers.specs.declared.caller.Caller.{Caller}
+use Rattle.caller_service.specs.Closing.{IsClosedOver}
+use Rattle.script_lang.specs.declared.script.ScriptLine.{ScriptLine}
+use Rattle.script_lang.specs.declared.replies.ReplyLine.{ReplyLine}
+use Rattle.script_lang.specs.Lines.{IsOfSession}
+use Rattle.script_sessions.specs.Bounds.{AreBounded}
+use Rattle.script_sessions.specs.Running.{all_replies}
+use Rattle.script_sessions.proofs.Bounds.{bounded}
+use Rattle.session_host.specs.Running.{HaveAnswered, HaveMade, HaveSeen}
+use Rattle.session_host.specs.Runs.{IsAnswered, IsBroken, IsOpening, IsRun}
+use Rattle.session_host.proofs.Gathered.{some_of}
+use Rattle.session_host.proofs.Whole.{all_calls, first_calls, heads_are, line_order, replies_are}
+
+module _ {D A C : Type 0} (told : D → Option (List ℕ)) (may_leave : D → List ℕ → Type 0) (moment : D → ℕ) (left_since : D → ℕ → List ℕ → Type 0)
+    (faults : D → ℕ) (held : A → Option HeldKeys) (hard : A → ℕ) (locations : A → List ℕ) (labels : C → List Label)
+    (lock : TableId) (opened : Opened D A C) (disk : D) (devices : A) (named : List Label) (seed : List ℕ) (disk_after : D) (devices_after : A)
+    (opening : IsOpening told may_leave moment left_since faults held hard locations labels disk devices named seed opened)
+    (lines : List ScriptLine) (sessions : All IsOfSession lines) (callers : List (Caller D A C))
+    (made : HaveMade (world told moment faults held hard locations labels lock opened) lines callers)
+    (closed : IsClosedOver told moment left_since faults hard locations labels opened disk_after devices_after callers) where
+  abbrev d : Caller D A C
+  d = some_of callers (let n = made.are.sixteen in omega arith)
+
+  abbrev w : World D A C
+  w = world told moment faults held hard locations labels lock opened
+
+  abbrev before : Opening
+  before = opening_of told moment faults hard locations labels opened
+
+  few_marks : AreBounded (is_some (told disk)) before.counts (record { faults = faults disk_after; hard = hard devices_after }) closed.history
+  few_marks =
+      subst (λ t. AreBounded t before.counts (record { faults = faults disk_after; hard = hard devices_after }) closed.history) opening.found.tells
+      (subst (λ c. AreBounded (is_some (told opened.file.value.cells.disk)) before.counts c closed.history) closed.left.counts
+      (bounded (is_some (told opened.file.value.cells.disk)) before closed.history closed.left.legal.caused closed.left.legal.rising))
+
+  pub a_run : IsRun told may_leave moment left_since faults held hard locations labels disk devices named seed disk_after devices_after
+  a_run = record { opened = opened; opening = opening; history = closed.history; left = closed.left; bounded = few_marks }
+
+  pub broken : IsBroken told may_leave moment left_since faults held hard locations labels disk devices named seed lines disk_after devices_after
+  unfolding a_run
+  broken = record {
+    run = a_run;
+    calls = λ session. (let f = first_calls w lines callers closed.history made.are.sixteen made.are.numbers sessions closed.left.signed closed.seen closed.called made.each d session in (f.0, f.1.0, f.1.1));
+  }
+
+  pub answered : (replies : List (Vec ReplyLine)) (workers : ℕ) → HaveAnswered w lines callers replies → (workers ≡ 1 → HaveSeen lines callers) →
+      IsAnswered told may_leave moment left_since faults held hard locations labels disk devices named seed workers lines (all_replies replies) disk_after devices_after
+  unfolding a_run
+  answered replies workers h one = record {
+    run = a_run;
+    counts = λ session. (all_calls w lines callers closed.history made.are.sixteen made.are.numbers sessions closed.left.signed closed.seen closed.called h.made d session).0;
+    heads = heads_are w lines callers closed.history made.are.sixteen made.are.numbers sessions closed.left.signed closed.seen closed.called replies d h;
+    answers = λ tells start is known. replies_are w lines callers closed.history made.are.sixteen made.are.numbers sessions closed.left.signed closed.seen closed.called replies d h tells start is known;
+    line_order = λ is. line_order w lines callers closed.history made.are.sixteen made.are.numbers sessions closed.left.signed closed.seen closed.called d h.made (one is);
+  }

@@ -1,0 +1,213 @@
+-- From what callers know, and from what a closed service says, to the one order of a script's calls.
+use Rattle.std.proofs.Common.{◌≡◌, ℕ, suc, ◌+◌, ◌-◌, ◌≤◌, ◌<◌, List, [], ◌∷◌, ◌++◌, length, get_or, refl, sym, ap, ◌∙◌, subst, arith, append_assoc, inl, inr, ◌⊎◌, eqb, true, false, cond, Bool}
+use Rattle.std.specs.Prelude.{All, flat_map, map, take}
+use Rattle.std.specs.Global.{Vec}
+use Rattle.std.proofs.lemmas.Bool.Decides.{leb_tells, eqb_tells}
+use Rattle.std.proofs.lemmas.List.{append-nil, map-append}
+use Rattle.std.proofs.lemmas.List.Elements.{All-head, All-nil, All-tail}
+use Rattle.turn_history.specs.History.{choose, entries_of, calls_by, StartsWith}
+use Rattle.store_model.specs.Handles.{Service}
+use Rattle.store_model.specs.Replay.{Entry}
+use Rattle.shared_store.specs.Standing.{caller_of}
+use Rattle.callers.specs.Called.{IsToldTo, Starts}
+use Rattle.callers.specs.Worlds.{World}
+use Rattle.callers.specs.declared.caller.Caller.{Caller}
+use Rattle.script_lang.specs.declared.script.ScriptLine.{ScriptLine}
+use Rattle.script_lang.specs.declared.replies.ReplyLine.{ReplyLine}
+use Rattle.script_lang.specs.Lines.{IsOfSession, lines_of}
+use Rattle.script_lang.specs.PrintedOrder.{AreCalls, Turn, numbered, replies_to, turns_from, turns_of}
+use Rattle.script_sessions.specs.Heads.{head_of, heads, heads_to, places_of}
+use Rattle.script_sessions.specs.Printed.{AreReplies, IsInLineOrder}
+use Rattle.script_sessions.specs.Running.{ElementTells, HasMade, IsWithin, KnowsTurns, all_replies, session_turns}
+use Rattle.script_sessions.proofs.History.{no_turns}
+use Rattle.script_sessions.proofs.Heads.{places_later}
+use Rattle.script_sessions.proofs.Order.{in_line_order, within_whole}
+use Rattle.script_sessions.proofs.Told.{knows_later, own_calls}
+use Rattle.session_host.specs.Running.{HaveAnswered, HaveSeen}
+
+-- SESSIONS THAT THERE ARE, AND OTHERS
+
+IsOther : ℕ → Type 0
+IsOther session = (session ≡ 0) ⊎ (16 < session)
+
+which : (session : ℕ) → ((1 ≤ session) × (session ≤ 16)) ⊎ IsOther session
+unfolding IsOther
+which session = elim (leb_tells session 16) [
+  | inl low ↦ elim (eqb_tells session 0) [
+    | inl none ↦ inr (inl none.1)
+    | inr some ↦ inl (let ne = some.1 in omega arith, low.1)
+  ]
+  | inr high ↦ inr (inr high.1)
+]
+
+apart : (session number : ℕ) → IsOther session → 1 ≤ number → number ≤ 16 → (b : Bool) → eqb number session ≡ b → b ≡ false
+unfolding IsOther
+apart session number (inl none) low high true e = absurd (let same = eqb_says number session e in omega arith)
+  where
+    eqb_says : (a b : ℕ) → eqb a b ≡ true → a ≡ b
+    eqb_says a b e = grind arith
+apart session number (inr above) low high true e = absurd (let same = eqb_says number session e in omega arith)
+  where
+    eqb_says : (a b : ℕ) → eqb a b ≡ true → a ≡ b
+    eqb_says a b e = grind arith
+apart session number other low high false e = refl
+
+no_lines : (session : ℕ) (lines : List ScriptLine) → IsOther session → All IsOfSession lines → lines_of session lines ≡ []
+no_lines session [] other all = refl
+no_lines session (line ∷ lines) other all =
+    let own : IsOfSession line = All-head IsOfSession line lines all in
+    ap (λ b. cond b (line ∷ lines_of session lines) (lines_of session lines)) (apart session line.session other own.0 own.1 (eqb line.session session) refl)
+    ∙ no_lines session lines other (All-tail IsOfSession line lines all)
+
+abbrev IsSigned : Entry → Type 0
+IsSigned e = (0 < e.caller) × (e.caller ≤ 16)
+
+no_entries : (session : ℕ) (history : List Entry) → IsOther session → All IsSigned history → calls_by caller_of session history ≡ []
+no_entries session [] other all = refl
+no_entries session (e ∷ history) other all =
+    let own : IsSigned e = All-head IsSigned e history all in
+    ap (λ b. choose b e (calls_by caller_of session history)) (apart session e.caller other (let l = own.0 in omega arith) own.1 (eqb e.caller session) refl)
+    ∙ no_entries session history other (All-tail IsSigned e history all)
+
+-- WHAT STANDS BY SESSION
+
+-- lists by session, one behind the other, where `upto n` is that of the first n sessions
+by_session : {X Y : Type 0} (own : X → List Y) (of : ℕ → List Y) (upto : ℕ → List Y) → ((n : ℕ) → upto (suc n) ≡ upto n ++ of (suc n)) → (n : ℕ) (xs : List X) →
+    ((i : ℕ) (x : X) → i < length xs → own (get_or xs i x) ≡ of (n + i + 1)) →
+    upto n ++ flat_map own xs ≡ upto (n + length xs)
+by_session {X} own of upto one n [] h =
+    let m : n ≡ n + length {A = X} [] = omega arith in
+    append-nil (upto n) ∙ ap upto m
+by_session own of upto one n (x ∷ xs) h =
+    let here : n + 0 + 1 ≡ suc n = omega arith in
+    let first : own x ≡ of (suc n) = h 0 x (omega arith) ∙ ap of here in
+    let all : suc n + length xs ≡ n + length (x ∷ xs) = omega arith in
+    sym (append_assoc (upto n) (own x) (flat_map own xs))
+    ∙ ap (λ l. (upto n ++ l) ++ flat_map own xs) first
+    ∙ ap (λ l. l ++ flat_map own xs) (sym (one n))
+    ∙ by_session own of upto one (suc n) xs (λ i y below. h (suc i) y (omega (arith, below)) ∙ ap of (let e : n + suc i + 1 ≡ suc n + i + 1 = omega arith in e))
+    ∙ ap upto all
+
+map_flat : {X Y Z : Type 0} (f : Y → Z) (own : X → List Y) (xs : List X) → map f (flat_map own xs) ≡ flat_map (λ x. map f (own x)) xs
+map_flat f own [] = refl
+map_flat f own (x ∷ xs) = map-append f (own x) (flat_map own xs) ∙ ap (λ l. map f (own x) ++ l) (map_flat f own xs)
+
+-- as many places as calls
+as_many_places : (session place : ℕ) (h : List Entry) → length (places_of session place h) ≡ length (calls_by caller_of session h)
+as_many_places session place [] = refl
+as_many_places session place (e ∷ h) = one (eqb e.caller session) (as_many_places session (place + 1) h)
+  where
+    one : (b : Bool) → length (places_of session (place + 1) h) ≡ length (calls_by caller_of session h) →
+        length (cond b (place ∷ places_of session (place + 1) h) (places_of session (place + 1) h)) ≡ length (choose b e (calls_by caller_of session h))
+    one true more = ap suc more
+    one false more = more
+
+-- THE ONE ORDER
+
+module _ {D A C : Type 0} (w : World D A C) (lines : List ScriptLine) (callers : List (Caller D A C)) (history : List Entry)
+    (sixteen : length callers ≡ 16)
+    (numbers : (k : ℕ) (d : Caller D A C) → k < 16 → (get_or callers k d).number ≡ k + 1)
+    (sessions : All IsOfSession lines)
+    (signed : All IsSigned history)
+    (seen : All (λ (c : Caller D A C). StartsWith history (entries_of c.pass.me.0.seen)) callers)
+    (called : All (λ (c : Caller D A C). calls_by caller_of c.pass.me.0.number history ≡ c.pass.me.0.calls) callers) where
+  -- a caller's entries in the history are those that it has seen
+  same_calls : (ran : List ScriptLine) (k : ℕ) (d : Caller D A C) → k < 16 → HasMade w ran (get_or callers k d) →
+      calls_by caller_of (get_or callers k d).number history ≡ calls_by caller_of (get_or callers k d).number (entries_of (get_or callers k d).pass.me.0.seen)
+  same_calls ran k d within made =
+      let c : Caller D A C = get_or callers k d in
+      let there : calls_by caller_of c.pass.me.0.number history ≡ c.pass.me.0.calls = called k d (omega (arith, within, sixteen)) in
+      subst (λ n. calls_by caller_of n history ≡ c.pass.me.0.calls) made.ready.number there ∙ sym (own_calls w c made.ready)
+
+  knows : (ran : List ScriptLine) (k : ℕ) (d : Caller D A C) (P : List Turn → Type 0) → k < 16 → HasMade w ran (get_or callers k d) →
+      KnowsTurns w (get_or callers k d).number (entries_of (get_or callers k d).pass.me.0.seen) P → KnowsTurns w (k + 1) history P
+  knows ran k d P within made known =
+      let c : Caller D A C = get_or callers k d in
+      subst (λ n. KnowsTurns w n history P) (numbers k d within)
+      (knows_later w c.number history (entries_of c.pass.me.0.seen) P (seen k d (omega (arith, within, sixteen))) (same_calls ran k d within made) known)
+
+  none_there : (session : ℕ) (start : Service) → IsOther session → session_turns session start history ≡ []
+  none_there session start other = no_turns session 0 start history (no_entries session history other signed)
+
+  -- what is known of a session's calls, which are those of its lines among these
+  abbrev pub CallsAmong : ℕ → List ScriptLine → Type 0
+  CallsAmong session ran = (length (places_of session 0 history) ≡ length (lines_of session ran))
+      × (ElementTells w → (start : Service) → Starts w start → IsToldTo w start history → AreCalls [] (lines_of session ran) (session_turns session start history))
+
+  by_caller : (session : ℕ) (ran : List ScriptLine) (k : ℕ) (d : Caller D A C) → k < 16 → k + 1 ≡ session → HasMade w ran (get_or callers k d) → CallsAmong session ran
+  by_caller session ran k d within is m =
+      let c : Caller D A C = get_or callers k d in
+      let same : c.number ≡ session = numbers k d within ∙ is in
+      let there : calls_by caller_of c.pass.me.0.number history ≡ c.pass.me.0.calls = called k d (omega (arith, within, sixteen)) in
+      let mine : calls_by caller_of session history ≡ c.pass.me.0.calls = subst (λ s. calls_by caller_of s history ≡ c.pass.me.0.calls) (m.ready.number ∙ same) there in (
+        as_many_places session 0 history ∙ (ap length mine ∙ (m.count ∙ ap (λ s. length (lines_of s ran)) same)),
+        subst (λ s. KnowsTurns w s history (AreCalls [] (lines_of session ran))) is
+            (knows ran k d (AreCalls [] (lines_of session ran)) within m
+            (subst (λ s. KnowsTurns w c.number (entries_of c.pass.me.0.seen) (AreCalls [] (lines_of s ran))) same m.calls)),
+      )
+
+  by_none : (session : ℕ) (ran : List ScriptLine) → IsOther session → All IsOfSession ran → CallsAmong session ran
+  by_none session ran other all = (
+    as_many_places session 0 history ∙ (ap length (no_entries session history other signed) ∙ ap length (sym (no_lines session ran other all))),
+    λ tells start is told.
+        subst (λ ls. AreCalls [] ls (session_turns session start history)) (sym (no_lines session ran other all))
+        (subst (AreCalls [] []) (sym (none_there session start other)) tt),
+  )
+
+  -- each session's calls are those of its lines
+  pub all_calls : ((k : ℕ) (d : Caller D A C) → k < 16 → HasMade w lines (get_or callers k d)) → (d : Caller D A C) → (session : ℕ) → CallsAmong session lines
+  all_calls made d session = elim (which session) [
+    | inl own ↦ let k : ℕ = session - 1 in let within : k < 16 = omega (arith, own.0, own.1) in by_caller session lines k d within (let l = own.0 in omega arith) (made k d within)
+    | inr other ↦ by_none session lines other sessions
+  ]
+
+  -- each session's calls are those of the first so many lines
+  pub first_calls : ((k : ℕ) (d : Caller D A C) → k < 16 → (n : ℕ) × HasMade w (take n lines) (get_or callers k d)) → (d : Caller D A C) → (session : ℕ) → (n : ℕ) × CallsAmong session (take n lines)
+  first_calls made d session = elim (which session) [
+    | inl own ↦
+        let k : ℕ = session - 1 in let within : k < 16 = omega (arith, own.0, own.1) in let m = made k d within in
+        (m.0, by_caller session (take m.0 lines) k d within (let l = own.0 in omega arith) m.1)
+    | inr other ↦ (0, by_none session [] other (All-nil IsOfSession))
+  ]
+
+  counts_agree : ((k : ℕ) (d : Caller D A C) → k < 16 → HasMade w lines (get_or callers k d)) → (d : Caller D A C) → (n : ℕ) → length (lines_of n lines) ≡ length (calls_by caller_of n history)
+  counts_agree made d n = sym (all_calls made d n).0 ∙ as_many_places n 0 history
+
+  all_numbers : (replies : List (Vec ReplyLine)) → length replies ≡ 16 → 0 + length replies ≡ 16
+  all_numbers replies h = omega (arith, h)
+
+  -- these are the replies of the one order
+  pub replies_are : (replies : List (Vec ReplyLine)) (d : Caller D A C) → HaveAnswered w lines callers replies → ElementTells w → (start : Service) → Starts w start → IsToldTo w start history →
+      AreReplies start lines history (all_replies replies)
+  replies_are replies d h tells start is told =
+      let ts : List Turn = turns_from 0 start history in record {
+        own = λ session. (all_calls h.made d session).1 tells start is told;
+        all = by_session (λ (r : Vec ReplyLine). r.items) (λ n. numbered 1 (turns_of n ts)) (λ n. replies_to n ts) (λ n. refl) 0 replies (λ i r below.
+            let within : i < 16 = omega (arith, below, h.sixteen) in
+            let place : i + 1 ≡ 0 + i + 1 = omega arith in
+            knows lines i d (λ turns. (get_or replies i r).items ≡ numbered 1 turns) within (h.made i d within) (h.replied i d r within).known tells start is told
+            ∙ ap (λ s. numbered 1 (turns_of s ts)) place)
+            ∙ ap (λ n. replies_to n ts) (all_numbers replies h.sixteen);
+      }
+
+  -- their heads are those of the one order
+  pub heads_are : (replies : List (Vec ReplyLine)) (d : Caller D A C) → HaveAnswered w lines callers replies → map head_of (all_replies replies) ≡ heads_to 16 history
+  heads_are replies d h =
+      map_flat head_of (λ (r : Vec ReplyLine). r.items) replies
+      ∙ by_session (λ (r : Vec ReplyLine). map head_of r.items) (λ n. heads n 1 (places_of n 0 history)) (λ n. heads_to n history) (λ n. refl) 0 replies (λ i r below.
+      let within : i < 16 = omega (arith, below, h.sixteen) in
+      let c : Caller D A C = get_or callers i d in
+      let number : c.number ≡ 0 + i + 1 = numbers i d within ∙ (let e : i + 1 ≡ 0 + i + 1 = omega arith in e) in
+      (h.replied i d r within).heads
+      ∙ ap (heads c.number 1) (sym (places_later c.number (entries_of c.pass.me.0.seen) history (seen i d (omega (arith, within, sixteen))) (same_calls lines i d within (h.made i d within))))
+      ∙ ap (λ n. heads n 1 (places_of n 0 history)) number)
+      ∙ ap (λ n. heads_to n history) (all_numbers replies h.sixteen)
+
+  -- one worker makes the calls in the order of the lines
+  pub line_order : (d : Caller D A C) → ((k : ℕ) (d : Caller D A C) → k < 16 → HasMade w lines (get_or callers k d)) → HaveSeen lines callers → IsInLineOrder lines history
+  line_order d made (inl none) = in_order (subst (λ ls. IsWithin ls history) (sym none) tt)
+    where
+      in_order : IsWithin lines history → IsInLineOrder lines history
+      in_order within = in_line_order lines history within (counts_agree made d)
+  line_order d made (inr there) =
+      in_line_order lines history (within_whole lines history (entries_of (get_or callers there.0 d).pass.me.0.seen) (seen there.0 d there.1) (there.2 d)) (counts_agree made d)

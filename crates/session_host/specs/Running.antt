@@ -1,0 +1,32 @@
+-- What is known of sixteen callers that make the calls of a script's lines.
+use Rattle.std.specs.Prelude.{ℕ, ◌≡◌, ◌⊎◌, ◌<◌, ◌+◌, List, [], length, take, get_or}
+use Rattle.std.specs.Global.{Vec}
+use Rattle.turn_history.specs.History.{entries_of}
+use Rattle.callers.specs.Worlds.{World}
+use Rattle.callers.specs.declared.caller.Caller.{Caller}
+use Rattle.script_lang.specs.declared.script.ScriptLine.{ScriptLine}
+use Rattle.script_lang.specs.declared.replies.ReplyLine.{ReplyLine}
+use Rattle.script_sessions.specs.Running.{HasMade, HasReplies, IsWithin}
+
+module _ {D A C : Type 0} where
+  -- sixteen callers, by their numbers from 1 on
+  pub record AreCallers (callers : List (Caller D A C)) : Type 0 where
+    pub sixteen : length callers ≡ 16
+    pub numbers : (k : ℕ) (d : Caller D A C) → k < 16 → (get_or callers k d).number ≡ k + 1
+
+  -- some caller has seen the calls of these lines in their order
+  abbrev pub HaveSeen : List ScriptLine → List (Caller D A C) → Type 0
+  HaveSeen lines callers =
+      (lines ≡ []) ⊎ ((k : ℕ) × (k < length callers) × ((d : Caller D A C) → IsWithin lines (entries_of (get_or callers k d).pass.me.0.seen)))
+
+  module _ (w : World D A C) (lines : List ScriptLine) (callers : List (Caller D A C)) where
+    -- each caller has made the calls of the first so many lines that are its session's, and no other
+    pub record HaveMade : Type 0 where
+      pub are : AreCallers callers
+      pub each : (k : ℕ) (d : Caller D A C) → k < 16 → (n : ℕ) × HasMade w (take n lines) (get_or callers k d)
+
+    -- each has made those of all lines, and these are the replies by session
+    pub record HaveAnswered (replies : List (Vec ReplyLine)) : Type 0 where
+      pub sixteen : length replies ≡ 16
+      pub made : (k : ℕ) (d : Caller D A C) → k < 16 → HasMade w lines (get_or callers k d)
+      pub replied : (k : ℕ) (d : Caller D A C) (r : Vec ReplyLine) → k < 16 → HasReplies w lines (get_or callers k d) (get_or replies k r).items

@@ -1,0 +1,90 @@
+-- What is known of a run: the disk that was opened, the one order of its calls, and what it leaves.
+use Rattle.std.specs.Prelude.{◌≡◌, ◌≤◌, ◌↔◌, ◌⊎◌, ℕ, true, List, [], length, map, take, slice_get, Option, Some, IfSome, is_some}
+use Rattle.key_attributes.specs.declared.Attributes.{Attributes}
+use Rattle.policy_rules.specs.declared.narrowing.Label.{Label}
+use Rattle.key_cells.specs.Image.{HasKey}
+use Rattle.key_cells.specs.declared.slot.Slot as cell
+use Rattle.key_cells.specs.declared.reading.OpenFault.{OpenFault}
+use Rattle.key_cells.specs.declared.reading.OpenFault.TheVariants as opening
+use Rattle.key_cells.specs.Opened.{IsOpened, IsRefused}
+use Rattle.driver_dispatch.specs.Held.{HeldKeys}
+use Rattle.store_model.specs.Handles.{Service}
+use Rattle.store_model.specs.Replay.{Entry}
+use Rattle.store_model.specs.Sound.{IsSoundStore}
+use Rattle.store_core.specs.declared.store.Opened.{Opened}
+use Rattle.store_core.specs.Start.{opening_of}
+use Rattle.shared_store.specs.Turning.{IsStartOf, ToldBy}
+use Rattle.caller_service.specs.Closing.{IsLeft}
+use Rattle.script_lang.specs.declared.script.ScriptLine.{ScriptLine}
+use Rattle.script_lang.specs.declared.replies.ReplyLine.{ReplyLine}
+use Rattle.script_lang.specs.Lines.{lines_of}
+use Rattle.script_lang.specs.PrintedOrder.{AreCalls, turns_from, turns_of}
+use Rattle.script_sessions.specs.Bounds.{AreBounded}
+use Rattle.script_sessions.specs.Heads.{head_of, heads_to, places_of}
+use Rattle.script_sessions.specs.Printed.{AreReplies, IsInLineOrder}
+use Rattle.session_host.specs.declared.lines.Unanswered.{Unanswered}
+use Rattle.session_host.specs.declared.lines.Unanswered.TheVariants.{NotOpened, Memory}
+
+module _ {D A C : Type 0} (told : D → Option (List ℕ)) (may_leave : D → List ℕ → Type 0) (moment : D → ℕ) (left_since : D → ℕ → List ℕ → Type 0)
+    (faults : D → ℕ) (held : A → Option HeldKeys) (hard : A → ℕ) (locations : A → List ℕ) (labels : C → List Label) where
+  -- a start that an opening permits
+  abbrev pub Starts : Opened D A C → Service → Type 0
+  Starts = IsStartOf told moment faults hard locations labels
+
+  -- what a history makes of the keys is told: the disk tells its bytes, or no persistent key was read
+  abbrev pub IsTold : Opened D A C → Service → List Entry → Type 0
+  IsTold = ToldBy told moment faults hard locations labels
+
+  -- The opening of a store from this disk, with these devices, rules of these labels and this seed. There is a start, and each is
+  -- sound. Where the disk tells its bytes, the keys of a start are those of its image. The disk's count of faults hasn't fallen.
+  pub record IsOpening (disk : D) (devices : A) (named : List Label) (seed : List ℕ) (opened : Opened D A C) : Type 0 where
+    pub start : Service
+    pub starts : Starts opened start
+    pub sound : (start : Service) → Starts opened start → IsSoundStore start.store
+    pub keys : IfSome (told disk) (λ image. (start : Service) (s : Starts opened start) (a : Attributes) (bytes : List ℕ) →
+        HasKey a bytes image ↔ ((number : ℕ) × (slice_get s.found number ≡ Some (record { attributes = a; bytes = bytes }))))
+    pub found : IsOpened told may_leave moment left_since disk opened.file.value.cells.disk opened.file.value.cells.slots.items
+    pub later : faults disk ≤ faults opened.file.value.cells.disk
+    pub devices_are : opened.devices.value ≡ devices
+    pub seed_is : opened.seed.value ≡ seed
+    pub rules_are : labels opened.rules.value ≡ named
+
+  -- A run: the store of this disk was opened, calls were made in one order, a history, and the store was closed. No more calls
+  -- met a failure of the disk or the devices than their counts rose by.
+  pub record IsRun (disk : D) (devices : A) (named : List Label) (seed : List ℕ) (disk_after : D) (devices_after : A) : Type 0 where
+    pub opened : Opened D A C
+    pub opening : IsOpening disk devices named seed opened
+    pub history : List Entry
+    pub left : IsLeft told moment left_since faults hard locations labels opened history disk_after devices_after
+    pub bounded : AreBounded (is_some (told disk)) (opening_of told moment faults hard locations labels opened).counts (record { faults = faults disk_after; hard = hard devices_after }) history
+
+  -- what holds of each start, where the devices tell their keys and as far as the history is told
+  abbrev pub OfStarts : Opened D A C → List Entry → (Service → Type 0) → Type 0
+  OfStarts opened history P = is_some (held opened.devices.value) ≡ true → (start : Service) → Starts opened start → IsTold opened start history → P start
+
+  -- The calls of these lines were made in one order, and these are the replies. Each session has a call in the order for each of
+  -- its lines, and a reply to each, with its rank. The calls are those of the lines, in each session's own order, and the replies
+  -- are those of the one-thread service to them. One worker makes the calls in the order of the lines.
+  pub record IsAnswered (disk : D) (devices : A) (named : List Label) (seed : List ℕ) (workers : ℕ) (lines : List ScriptLine) (replies : List ReplyLine) (disk_after : D) (devices_after : A) : Type 0 where
+    pub run : IsRun disk devices named seed disk_after devices_after
+    pub counts : (session : ℕ) → length (places_of session 0 run.history) ≡ length (lines_of session lines)
+    pub heads : map head_of replies ≡ heads_to 16 run.history
+    pub answers : OfStarts run.opened run.history (λ start. AreReplies start lines run.history replies)
+    pub line_order : workers ≡ 1 → IsInLineOrder lines run.history
+
+  -- Calls of these lines were made in one order: those of each session are the first so many of its lines.
+  pub record IsBroken (disk : D) (devices : A) (named : List Label) (seed : List ℕ) (lines : List ScriptLine) (disk_after : D) (devices_after : A) : Type 0 where
+    pub run : IsRun disk devices named seed disk_after devices_after
+    pub calls : (session : ℕ) → (n : ℕ) × (length (places_of session 0 run.history) ≡ length (lines_of session (take n lines)))
+        × OfStarts run.opened run.history (λ start. AreCalls [] (lines_of session (take n lines)) (turns_of session (turns_from 0 start run.history)))
+
+  -- The store wasn't opened, for this fault, and the devices come back as they were.
+  pub record IsUnopened (disk : D) (devices : A) (fault : OpenFault) (disk_after : D) (devices_after : A) : Type 0 where
+    pub refused : IsRefused told may_leave moment left_since faults disk disk_after fault
+        ⊎ ((fault ≡ opening.Memory) × ((slots : List cell.Slot) × IsOpened told may_leave moment left_since disk disk_after slots) × (faults disk ≤ faults disk_after))
+    pub devices_are : devices_after ≡ devices
+
+  -- The lines have no replies for this reason: their store wasn't opened, or memory ran out after that.
+  abbrev pub IsUnanswered : (disk : D) (devices : A) (named : List Label) (seed : List ℕ) (lines : List ScriptLine) → Unanswered → (disk_after : D) (devices_after : A) → Type 0
+  IsUnanswered disk devices named seed lines (NotOpened fault) disk_after devices_after = IsUnopened disk devices fault disk_after devices_after
+  IsUnanswered disk devices named seed lines Memory disk_after devices_after = IsBroken disk devices named seed lines disk_after devices_after

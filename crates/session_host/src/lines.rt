@@ -1,0 +1,94 @@
+// A store that is opened for the lines of a script, and closed after them.
+ghost use Rattle.std.specs.Prelude.{◌≡◌, ◌≤◌, ◌⊎◌, List, ℕ, All, MatchResult, length};
+ghost use Rattle.driver_dispatch.specs.Calls.{Lacks};
+ghost use Rattle.script_lang.specs.Lines.{IsOfSession};
+ghost use Rattle.script_sessions.specs.Running.{all_replies};
+ghost use Rattle.session_host.specs.Runs.{IsAnswered, IsUnanswered};
+
+use crate::running::run_sessions;
+use admission::Admission;
+use caller_service::Service;
+use callers::NoGate;
+use disk_face::Disk;
+use driver_dispatch::Devices;
+use key_cells::OpenFault;
+use psa_status::Memory;
+use script_lang::{ReplyLine, ScriptLine};
+use std::alloc::Global;
+use std::sync::Wait;
+use std::thread::Threads;
+use store_core::Unopened;
+
+/// How much the calls of one session may count together: two for each of 20,000 lines.
+const BUDGET: u64 = 40_000;
+
+/// Why lines have no replies.
+#[derive(Clone, Copy, Debug, PartialEq, Eq, Drop)]
+pub enum Unanswered {
+    /// The store wasn't opened.
+    NotOpened(OpenFault),
+    /// Memory ran out after that.
+    Memory,
+}
+
+/// The replies to lines, by session, or why there are none; the disk, and the devices.
+pub struct Run<D, A> {
+    pub replies: Result<Vec<Vec<ReplyLine>>, Unanswered>,
+    pub disk: D,
+    pub devices: A,
+}
+
+/// Opens the store of a disk, or makes one on a disk of length 0, makes the calls of a script's lines by so many workers, and
+/// closes the store.
+pub fn answer_lines<D: Disk + Send, A: Devices, C: Admission, R: Threads + Wait + Sync>(
+    rt: &R,
+    alloc: Global,
+    lines: &[ScriptLine],
+    workers: u8,
+    seed: &[u8; 32],
+    disk: D,
+    devices: A,
+    rules: C,
+) -> Run<D, A>
+    requires sessions { All IsOfSession lines.now }
+    requires few { length lines.now ≤ 20000 }
+    requires first { 1 ≤ workers }
+    requires last { workers ≤ 16 }
+    requires empty { (handle : ℕ) → Lacks (A.keys devices) handle }
+    ensures { MatchResult result.replies
+        (λ replies. IsAnswered D.contents D.may_leave D.moment D.left_since D.faults A.keys A.faults A.locations C.labels disk devices (C.labels rules) seed.now workers lines.now (all_replies replies.items) result.disk result.devices)
+        (λ why. IsUnanswered D.contents D.may_leave D.moment D.left_since D.faults A.keys A.faults A.locations C.labels disk devices (C.labels rules) seed.now lines.now why result.disk result.devices) }
+{
+    let (service, mut callers) = match Service::open(
+        alloc, disk, devices, rules, seed, BUDGET, NoGate,
+    ) {
+        Ok(opened) => opened,
+        Err(
+            Unopened {
+                disk,
+                devices,
+                fault,
+            },
+        ) => {
+            return Run {
+                replies: Err(Unanswered::NotOpened(fault)),
+                disk,
+                devices,
+            };
+        }
+    };
+    let ran = run_sessions(rt, alloc, &service, lines, workers, &mut callers);
+    let (disk, devices) = service.close(rt, callers);
+    match ran {
+        Ok(replies) => Run {
+            replies: Ok(replies),
+            disk,
+            devices,
+        },
+        Err(Memory) => Run {
+            replies: Err(Unanswered::Memory),
+            disk,
+            devices,
+        },
+    }
+}
