@@ -305,6 +305,7 @@ class DerivationOperation(Operation):
         require(self.is_due(step), "BAD_STATE")
         key = service.derivation_key(fields, self.alg)
         require(key.key_type == 0x1200 or step == PASSWORD and key.key_type == 0x1203, "INVALID_ARGUMENT")
+        require(not key.is_in_the_element(), "NOT_SUPPORTED")
         self.key, self.secret = key, key.data
         return b""
 

@@ -1,5 +1,6 @@
 """AES, its modes, MACs, AEADs and the random words, written from their standards, for comparison alone."""
 
+import functools
 import hashlib
 import hmac
 
@@ -31,6 +32,7 @@ def xored(a, b):
     return bytes(x ^ y for x, y in zip(a, b))
 
 
+@functools.lru_cache(maxsize=256)  # scripts use a key more than once
 class Aes:
     """The block cipher (FIPS 197), a block in columns."""
 
@@ -223,10 +225,11 @@ def ccm(key, nonce, data, text, tag_length, decrypts):
 # Random words
 
 
-def chacha20_block(number, stream):
-    """A block of ChaCha20 under a key of zeros: RFC 8439's, with a counter and a stream number of 64 bits."""
+@functools.lru_cache(maxsize=256)  # a stream draws many times from one block
+def chacha20_block(seed, number, stream):
+    """A block of ChaCha20: RFC 8439's, with a counter and a stream number of 64 bits."""
     words = lambda text: [int.from_bytes(text[i : i + 4], "little") for i in range(0, len(text), 4)]
-    start = words(b"expand 32-byte k") + [0] * 8 + words(number.to_bytes(8, "little") + stream.to_bytes(8, "little"))
+    start = words(b"expand 32-byte k" + seed + number.to_bytes(8, "little") + stream.to_bytes(8, "little"))
     state = start[:]
 
     def quarter_round(a, b, c, d):
@@ -243,8 +246,8 @@ def chacha20_block(number, stream):
     return b"".join(((a + b) % 2**32).to_bytes(4, "little") for a, b in zip(state, start))
 
 
-def random_bytes(stream, place, count):
+def random_bytes(seed, stream, place, count):
     """So many bytes of a stream from a word on."""
     last = place + (count + 3) // 4
-    text = b"".join(chacha20_block(i, stream) for i in range(place // 16, last // 16 + 1))
+    text = b"".join(chacha20_block(seed, i, stream) for i in range(place // 16, last // 16 + 1))
     return text[4 * (place % 16) :][:count]

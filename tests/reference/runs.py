@@ -1,13 +1,14 @@
 """A script as the reference answers it, line by line, for comparison alone."""
 
 import collections
+import re
 from dataclasses import dataclass
 
 from operations import Refused
-from service import Service
 
 ROOM = 16448
 HEX_FIELDS = ("type", "usage", "alg", "life", "id", "step")
+REPLY = re.compile(r"([0-9]+\.[0-9]+) @(0|[1-9][0-9]*) [A-Z_]+( ([0-9a-f]{2})+)?")
 
 
 @dataclass
@@ -30,11 +31,15 @@ class Line:
         return " ".join(words)
 
 
-class Run:
-    """The lines so far, and the replies to them."""
+def text_of(lines):
+    return "".join(line.text() + "\n" for line in lines)
 
-    def __init__(self):
-        self.service, self.lines = Service(), []
+
+class Run:
+    """The calls so far on a service, and the replies to them."""
+
+    def __init__(self, service):
+        self.service, self.lines = service, []
         self.given, self.own = {}, collections.defaultdict(list)
 
     def named(self, session):
@@ -45,6 +50,10 @@ class Run:
         """Those of them that name a key which is there."""
         return [name for name in self.named(session) if self.given[session, name] in self.service.keys]
 
+    def identifier(self, session, word):
+        """What a session's word for a key means."""
+        return self.given[session, word[1:]] if word[0] == "$" else int(word[1:], 16)
+
     def make(self, line):
         """Makes the call of a line; gives its status and what it answers."""
         fields, name = {"room": ROOM, "ad": b""} | line.fields, None
@@ -52,7 +61,7 @@ class Run:
             if kind == "name":
                 name = word
             elif kind == "key":
-                fields["key"] = self.given[line.session, word[1:]] if word[0] == "$" else int(word[1:], 16)
+                fields["key"] = self.identifier(line.session, word)
             else:
                 fields["handle"] = word
         command = "import_" if line.command == "import" else line.command
@@ -71,5 +80,31 @@ class Run:
     def replies(self):
         return [reply for session in sorted(self.own) for reply in self.own[session]]
 
-    def text(self):
-        return "".join(line.text() + "\n" for line in self.lines)
+
+def by_rank(lines, printed):
+    """A script's lines in the order of the ranks that were printed. A ValueError says why that is no order of theirs."""
+    calls = collections.defaultdict(list)
+    for line in lines:
+        calls[line.session].append(line)
+    due = [(f"{session}.{number}", line) for session in sorted(calls) for number, line in enumerate(calls[session], 1)]
+    if len(printed) != len(due):
+        raise ValueError(f"{len(printed)} replies to {len(due)} calls")
+    order, last = {}, {}
+    for reply, (place, line) in zip(printed, due):
+        words = REPLY.fullmatch(reply)
+        if not words or words[1] != place:
+            raise ValueError(f"'{reply}' in place of the reply {place}")
+        rank = int(words[2])
+        if rank >= len(due) or rank in order or rank < last.get(line.session, 0):
+            raise ValueError(f"the rank of '{reply}'")
+        order[rank], last[line.session] = line, rank
+    return [order[rank] for rank in range(len(due))]
+
+
+
+def replayed(lines, printed, service):
+    """A run of a script's calls on a service in the order of the printed ranks."""
+    run = Run(service)
+    for line in by_rank(lines, printed):
+        run.make(line)
+    return run

@@ -1,9 +1,10 @@
 """Scripts at random: calls in likely and in unlikely orders, for comparison alone."""
 
-import random
+from dataclasses import dataclass
 
 import algorithms as alg
 from runs import Line, Run
+from service import CELL_COUNT, LAST_PERSISTENT, OF_THE_ELEMENT, PERSISTENT, VOLATILE
 
 HASHES = [0x02000000 | low for low in alg.HASHES]
 MACS = sorted(alg.HMACS) + [alg.CMAC]
@@ -18,8 +19,8 @@ WHOLE_CALLS = {
     "mac": ["mac_compute", "mac_verify"],
     "cipher": ["cipher_encrypt", "cipher_decrypt"],
     "aead": ["aead_encrypt", "aead_decrypt"],
-    "derivation": ["attributes", "export", "purge", "destroy"],
 }
+KEY_CALLS = ["attributes", "export", "purge", "destroy", "destroy"]
 UNDOING = {
     "hash_compare": "hash_compute",
     "mac_verify": "mac_compute",
@@ -34,35 +35,74 @@ KEYS = [
     (0x1200, DERIVATIONS),
     (0x1203, DERIVATIONS[4:]),
 ]
+ELEMENT_KEYS = [(0x2400, CIPHERS), (0x2400, [alg.CTR]), (0x2400, [alg.CMAC]), (0x1100, sorted(alg.HMACS))]
+
+
+@dataclass(frozen=True)
+class Mix:
+    """What a script has more or less of."""
+
+    sessions: tuple = (1, 1, 1, 2, 2, 3, 16)
+    identifiers: tuple = (*range(1, 12), 0x3FFFFFFF)  # of persistent keys
+    persistent: float = 0.25  # the chance that a created key is
+    in_element: float = 0.1  # likewise
+    by_identifier: float = 0.15  # the chance that a key is named so, and may be any session's
+    creations: float = 0.12  # the chance that a call is one
+    key_calls: float = 0.06  # likewise: one that asks for a key alone
+    operations: int = 4  # so many are under way at most
+    lengths: tuple = (0, 1, 15, 16, 17, 31, 32, 33, 48, 64, 100)  # of texts, in bytes
+    strange_costs: tuple = (0, 100000, 100001)
 
 
 class Script:
-    """A script made at random from a number, and the reference's replies to it."""
+    """A script made at random, and the reference's replies to it in the order of its lines."""
 
-    def __init__(self, number, count):
-        self.random, self.run = random.Random(number), Run()
+    def __init__(self, random, service, mix=Mix()):
+        self.random, self.run, self.mix = random, Run(service), mix
         self.policies, self.made = {}, {}
+
+    def fill(self, count):
+        """Writes creations until the store has so many persistent keys."""
+        while CELL_COUNT - self.run.service.cells.count(None) < count:
+            place = {"life": PERSISTENT, "id": self.random.choice(self.mix.identifiers)}
+            self.make(self.creation(self.random.choice(self.mix.sessions), place))
+
+    def crowd(self):
+        """Writes calls until each session has all volatile keys and most operations that it can have, which bind slots."""
+        for session in range(1, 17):
+            while self.make(self.creation(session, {"life": VOLATILE})) != "KEY_LIMIT":
+                pass
+            for handle in 3 * "1234":
+                key, policy = self.key(session, "mac")
+                words, fields = [("handle", handle), key], {"alg": self.number_for(policy, "mac")}
+                self.make(Line(session, "mac_sign_setup", words, fields))
+
+    def write(self, count):
+        """Writes lines until there are so many."""
         running = []
         while len(self.run.lines) < count:
-            session, chance = self.random.choice([1, 1, 1, 2, 2, 3, 16]), self.random.random()
-            if not self.run.named(session) or chance < 0.12:
+            session, chance = self.random.choice(self.mix.sessions), self.random.random()
+            if not self.run.named(session) or chance < self.mix.creations:
                 self.make(self.creation(session))
+            elif chance < self.mix.creations + self.mix.key_calls:
+                self.make(self.key_call(session))
             elif chance < 0.4:
                 self.make(self.whole_call(session))
-            elif chance < 0.55 and len(running) < 4:
+            elif chance < 0.55 and len(running) < self.mix.operations:
                 running.append(self.disturbed(session, self.operation(session)))
             elif running:
                 calls = self.random.choice(running)
-                if calls:
-                    self.make(calls.pop(0))
-                else:
+                status = self.make(calls.pop(0))
+                # after a refusal most give up
+                if not calls or status != "SUCCESS" and self.random.random() < 0.6:
                     running.remove(calls)
 
     def make(self, line):
-        """Makes a call, and keeps what another one may check or turn back."""
+        """Makes a call, and keeps what another one may check or turn back; gives its status."""
         status, answer = self.run.make(line)
         if status == "SUCCESS" and line.command in UNDOING.values():
             self.made.setdefault((line.session, line.command), []).append((line, answer))
+        return status
 
     def often(self, likely, unlikely, chance=0.9):
         return self.random.choice(likely if self.random.random() < chance else unlikely)
@@ -71,7 +111,7 @@ class Script:
         return fields if self.random.random() < chance else {}
 
     def data(self, *lengths):
-        return self.random.randbytes(self.random.choice(lengths or (0, 1, 15, 16, 17, 31, 32, 33, 48, 64, 100)))
+        return self.random.randbytes(self.random.choice(lengths or self.mix.lengths))
 
     def room(self):
         return self.maybe(0.1, room=self.random.choice([0, 1, 11, 12, 13, 15, 16, 17, 28, 31, 32, 33, 48, 64, 16448]))
@@ -91,10 +131,19 @@ class Script:
     def kind(self, session):
         """Mostly a class that a key of the session is for."""
         kinds = [alg.class_of(self.policies[session, name]) for name in self.run.living(session)]
+        if self.random.random() < self.mix.by_identifier:
+            kinds = [alg.class_of(key.algorithm) for key in self.run.service.keys.values()]
         return self.often([kind for kind in kinds if kind in NUMBERS] + ["hash"], [*NUMBERS])
 
     def key(self, session, kind=None):
         """A key whose policy is of this class, if there is one, and now and then any other; and its policy's number."""
+        keys = self.run.service.keys
+        if keys and self.random.random() < self.mix.by_identifier:
+            fits = lambda identifier: not kind or alg.class_of(keys[identifier].algorithm) == kind
+            persistent = [identifier for identifier in keys if identifier <= LAST_PERSISTENT]
+            among = self.often([persistent or [*keys]], [[*keys]], 0.7)
+            identifier = self.often([*filter(fits, among)] or among, among)
+            return ("key", f"#{identifier:x}"), keys[identifier].algorithm
         known, living = self.run.named(session), self.run.living(session)
         fitting = [name for name in living if alg.class_of(self.policies[session, name]) == kind] or living or known
         if self.random.random() < 0.95:
@@ -122,30 +171,54 @@ class Script:
 
     # Calls on keys, and of whole messages
 
-    def creation(self, session):
-        pick = self.random.choice
-        key_type, numbers = pick(KEYS)
+    def place(self):
+        """Where a key goes: to memory, to the file or to the secure element, and now and then nowhere."""
+        pick, chance = self.random.choice, self.random.random()
+        if chance < self.mix.persistent:
+            return {"life": PERSISTENT, "id": pick(self.mix.identifiers)}
+        if chance < self.mix.persistent + self.mix.in_element:
+            return {"life": OF_THE_ELEMENT}
+        lives, identifiers = [0, 1, 2, 0x100, 0x101, 0x200, 0xFFFFFFFF], [0, 1, 7, 0x40000000, 0x40100000, 0xFFFFFFFF]
+        return self.maybe(0.04, life=pick(lives)) | self.maybe(0.04, id=pick(identifiers))
+
+    def kinds_of_key(self, place):
+        """The likely types of a key there, each with its algorithms: under one identifier mostly the same."""
+        if place.get("life") == OF_THE_ELEMENT:
+            return ELEMENT_KEYS
+        return [KEYS[place["id"] % len(KEYS)]] if "id" in place else KEYS
+
+    def creation(self, session, place=None):
+        pick, place = self.random.choice, place or self.place()
+        key_type, numbers = pick(self.often([self.kinds_of_key(place)], [KEYS]))
         number = self.often([self.variant(pick(numbers))], [self.any_number()])
         key_type = self.often([key_type], [0x1001, 0x1100, 0x1200, 0x1203, 0x2400, 0x2401, 0], 0.93)
         usual = (16, 24, 32) if key_type == 0x2400 else (1, 20, 64, 65, 128, 129, 200, 1024)
         count = self.often(usual, (0, 1, 15, 1025), 0.95)
         usage = self.often([ALL_USAGES], [0x300, 0xC00, 0x3000, 0x1000, 0x4000, 0x8000, 0xFF06, 3, 0x10000, 8], 0.8)
-        common = self.maybe(0.03, life=pick([0, 1, 2, 0x100, 0x101])) | self.maybe(0.03, id=pick([0, 1, 7]))
         command = pick(["import", "import", "import", "generate", "copy"]) if self.run.named(session) else "import"
         if command == "copy":
             key, policy = self.key(session, alg.class_of(number))
+            source = self.run.service.keys.get(self.run.identifier(session, key[1]))
+            if source and source.is_in_the_element() and self.random.random() < 0.7:
+                place = {"life": OF_THE_ELEMENT}
             number = self.often([policy], [number, self.variant(policy)], 0.5)
             fields = {"usage": usage, "alg": number} | self.maybe(0.1, type=key_type) | self.maybe(0.05, bits=128)
-            return Line(session, command, [self.new_name(session, number), key], fields | common)
+            return Line(session, command, [self.new_name(session, number), key], fields | place)
         fields = {"type": key_type, "usage": usage, "alg": number}
         if command == "import":
             fields |= {"data": self.data(count)} | self.maybe(0.1, bits=pick([0, 8 * count, 8 * count + 1]))
         else:
             fields["bits"] = self.often([8 * count], [0, 7, 1000, 65528])
-        return Line(session, command, [self.new_name(session, number)], fields | common)
+        return Line(session, command, [self.new_name(session, number)], fields | place)
+
+    def key_call(self, session):
+        command = self.random.choice(KEY_CALLS)
+        return Line(session, command, [self.key(session)[0]], self.room() if command == "export" else {})
 
     def whole_call(self, session):
         kind = self.kind(session)
+        if kind == "derivation":
+            return self.key_call(session)
         command = self.random.choice(WHOLE_CALLS[kind])
         made = self.made.get((session, UNDOING.get(command)))
         if made and self.random.random() < 0.8:
@@ -154,8 +227,6 @@ class Script:
             fields = {"alg": self.often(HASHES, [self.any_number()]), "data": self.data()}
             fields |= self.room() if command == "hash_compute" else {"hash": self.data(0, 28, 32)}
             return Line(session, command, [], fields)
-        if kind == "derivation":
-            return Line(session, command, [self.key(session)[0]], self.room() if command == "export" else {})
         key, policy = self.key(session, kind)
         lengths = (0, 16, 32, 48, 64, 15, 33) if kind == "cipher" else ()
         fields = {"alg": self.number_for(policy, kind), "data": self.data(*lengths)}
@@ -256,7 +327,7 @@ class Script:
         is_hkdf = number & ~0xFF == alg.HKDF
         yield line("kdf_setup", alg=number)
         if not is_hkdf:
-            cost = self.often([1, 2, 3], [0, 100000, 100001])
+            cost = self.often([1, 2, 3], self.mix.strange_costs)
             yield line("kdf_input_integer", step=self.often([0x205], [0x202, 0x101], 0.95), value=cost)
         yield line("kdf_input_bytes", step=0x202, data=self.data(0, 1, 13, 64, 200, 1024, 1025))
         if chance() < 0.2:
@@ -285,8 +356,7 @@ class Script:
         bits = self.often([128, 192, 256], [0, 7, 8, 8200, 65528])
         fields = {"type": self.often([0x2400], [0x1100, 0x1001, 5]), "bits": bits}
         fields |= {"usage": self.often([ALL_USAGES], [0x300, 0x10000]), "alg": pick(CIPHERS + AEADS)}
-        fields |= self.maybe(0.05, life=pick([1, 0x100])) | self.maybe(0.03, id=1)
-        return line("kdf_output_key", self.new_name(session, fields["alg"]), **fields)
+        return line("kdf_output_key", self.new_name(session, fields["alg"]), **fields, **self.place())
 
     def disturbed(self, session, calls):
         """The calls with one left out, made twice or in another order, or with a key destroyed between them."""

@@ -1,6 +1,6 @@
 """The one-thread store and its operations, for comparison alone."""
 
-from dataclasses import dataclass
+from dataclasses import dataclass, replace
 
 import algorithms as alg
 import primitives
@@ -11,10 +11,19 @@ HMAC_KEY, DERIVE_KEY, AES_KEY = 0x1100, 0x1200, 0x2400
 EXPORT, COPY, ENCRYPT, DECRYPT, SIGN, VERIFY, DERIVE = 1, 2, 0x100, 0x200, 0x400, 0x800, 0x4000
 SIGN_HASH, VERIFY_HASH, USAGES = 0x1000, 0x2000, 0xFF07
 FIRST_VOLATILE, LIVE_LIMIT = 0x40000000, 16
+LAST_PERSISTENT, CELL_COUNT = 0x3FFFFFFF, 512
+VOLATILE, PERSISTENT, OF_THE_ELEMENT = 0, 1, 0x100  # the lifetimes that there are
 
 
-@dataclass
+def location(lifetime):
+    return lifetime >> 8
+
+
+@dataclass(frozen=True, eq=False)
 class Key:
+    """A creation; no two are equal."""
+
+    lifetime: int
     identifier: int
     creator: int
     key_type: int
@@ -23,10 +32,24 @@ class Key:
     algorithm: int
     data: bytes
 
+    def is_in_the_element(self):
+        return self.lifetime == OF_THE_ELEMENT
+
+
+def narrowed(key, rules):
+    """What the admission rules leave of a key that is to be created."""
+    require("no-ecb" not in rules or key.algorithm != alg.ECB, "NOT_PERMITTED")
+    require("aes256" not in rules or key.key_type != AES_KEY or key.bits == 256, "NOT_PERMITTED")
+    without = (EXPORT if "no-export" in rules else 0) | (COPY if "no-copy" in rules else 0)
+    return replace(key, usage=key.usage & ~without)
+
 
 class Service:
-    def __init__(self):
-        self.keys = {}
+    """A run's store, from the keys in the cells of its file; None is a cell without a key."""
+
+    def __init__(self, cells=(None,) * CELL_COUNT, seed=bytes(32), rules=()):
+        self.cells, self.seed, self.rules = list(cells), seed, rules
+        self.keys = {key.identifier: key for key in cells if key}
         self.made = {}
         self.drawn = {}
         self.operations = {}
@@ -44,24 +67,34 @@ class Service:
     def draw(self, session, count):
         place = self.drawn.get(session, 0)
         self.drawn[session] = place + (count + 3) // 4
-        return primitives.random_bytes(session, place, count)
+        return primitives.random_bytes(self.seed, session, place, count)
 
     # Creations
 
     def create(self, session, fields, key_type, usage, bits, algorithm, count, data):
         """Adds a key of so many bytes, which `data` gives once nothing refuses the creation."""
-        require(fields.get("life", 0) == 0, "NOT_SUPPORTED")
-        require(fields.get("id", 0) == 0, "INVALID_ARGUMENT")
+        lifetime, identifier = fields.get("life", 0), fields.get("id", 0)
+        require(lifetime in (VOLATILE, PERSISTENT, OF_THE_ELEMENT), "NOT_SUPPORTED")
+        require(1 <= identifier <= LAST_PERSISTENT if lifetime == PERSISTENT else identifier == 0, "INVALID_ARGUMENT")
         require(not usage & ~USAGES, "INVALID_ARGUMENT")
         require(key_type in TYPES, "NOT_SUPPORTED")
         require(count in (16, 24, 32) if key_type == AES_KEY else 1 <= count <= 1024, "INVALID_ARGUMENT")
         require(bits in (0, 8 * count), "INVALID_ARGUMENT")
-        require(sum(key.creator == session for key in self.keys.values()) < LIVE_LIMIT, "KEY_LIMIT")
-        number = self.made.get(session, 0)
-        self.made[session] = number + 1
-        identifier = FIRST_VOLATILE + (session << 20) + number
-        implied = (SIGN if usage & SIGN_HASH else 0) | (VERIFY if usage & VERIFY_HASH else 0)
-        self.keys[identifier] = Key(identifier, session, key_type, 8 * count, usage | implied, algorithm, data())
+        usage |= (SIGN if usage & SIGN_HASH else 0) | (VERIFY if usage & VERIFY_HASH else 0)
+        key = narrowed(Key(lifetime, identifier, session, key_type, 8 * count, usage, algorithm, b""), self.rules)
+        if lifetime == PERSISTENT:
+            require(identifier not in self.keys, "ALREADY_EXISTS")
+            require(None in self.cells, "INSUFFICIENT_STORAGE")
+        else:
+            live = [other for other in self.keys.values() if other.creator == session and other.lifetime != PERSISTENT]
+            require(len(live) < LIVE_LIMIT, "KEY_LIMIT")
+            number = self.made.get(session, 0)
+            self.made[session] = number + 1
+            identifier = FIRST_VOLATILE + (session << 20) + number
+        key = replace(key, identifier=identifier, data=data())
+        self.keys[identifier] = key
+        if lifetime == PERSISTENT:
+            self.cells[self.cells.index(None)] = key
         return identifier.to_bytes(4, "big")
 
     def import_(self, session, fields):
@@ -83,7 +116,7 @@ class Service:
         require(source.usage & COPY, "NOT_PERMITTED")
         require(fields.get("type", 0) in (0, source.key_type), "INVALID_ARGUMENT")
         require(fields.get("bits", 0) in (0, source.bits), "INVALID_ARGUMENT")
-        require(fields.get("life", 0) >> 8 == 0, "NOT_SUPPORTED")
+        require(location(fields.get("life", 0)) == location(source.lifetime), "NOT_SUPPORTED")
         met = alg.meet(source.algorithm, fields["alg"])
         require(met is not None, "INVALID_ARGUMENT")
         usage = fields["usage"] & source.usage
@@ -101,11 +134,14 @@ class Service:
         require(alg.class_of(number), "NOT_SUPPORTED")
         require(alg.class_of(number) == kind and alg.is_concrete(number), "INVALID_ARGUMENT")
 
-    def usable_key(self, fields, kind, usage):
+    def usable_key(self, fields, kind, usage, is_whole=False):
         number, key = fields["alg"], self.key(fields)
         self.check_class(number, kind)
         require(key.usage & usage and alg.permits(key.algorithm, number), "NOT_PERMITTED")
         require(key.key_type == (HMAC_KEY if alg.base(number) in alg.HMACS else AES_KEY), "INVALID_ARGUMENT")
+        # the secure element makes MACs and CTR, each in one call
+        in_element = is_whole and (kind == "mac" or number == alg.CTR)
+        require(in_element or not key.is_in_the_element(), "NOT_SUPPORTED")
         return key
 
     def derivation_key(self, fields, number):
@@ -115,7 +151,10 @@ class Service:
 
     def destroy(self, session, fields):
         if fields["key"]:
-            del self.keys[self.key(fields).identifier]
+            key = self.key(fields)
+            del self.keys[key.identifier]
+            if key in self.cells:
+                self.cells[self.cells.index(key)] = None
         return b""
 
     def purge(self, session, fields):
@@ -124,12 +163,14 @@ class Service:
 
     def attributes(self, session, fields):
         key = self.key(fields)
-        parts = ((0, 4), (key.identifier, 4), (key.key_type, 2), (key.bits, 2), (key.usage, 4), (key.algorithm, 4))
+        parts = ((key.lifetime, 4), (key.identifier, 4), (key.key_type, 2), (key.bits, 2))
+        parts += ((key.usage, 4), (key.algorithm, 4))
         return b"".join(value.to_bytes(width, "big") for value, width in parts)
 
     def export(self, session, fields):
         key = self.key(fields)
         require(key.usage & EXPORT, "NOT_PERMITTED")
+        require(not key.is_in_the_element(), "NOT_SUPPORTED")
         require(len(key.data) <= fields["room"], "BUFFER_TOO_SMALL")
         return key.data
 
@@ -147,7 +188,8 @@ class Service:
     def whole(self, session, fields, kind, usage, steps):
         """A call of a whole message as an operation of its family, once its key may be used."""
         family = next(it for it in FAMILIES if it.kind == kind)
-        operation = family(fields["alg"], self.usable_key(fields, kind, usage), usage in (ENCRYPT, SIGN))
+        key = self.usable_key(fields, kind, usage, is_whole=True)
+        operation = family(fields["alg"], key, usage in (ENCRYPT, SIGN))
         return steps(operation)
 
     def mac_compute(self, session, fields):

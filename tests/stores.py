@@ -1,0 +1,225 @@
+#!/usr/bin/env -S python3 -B
+"""Opens files that are no store, or have a damaged cell, and files that may be opened, with the whole program.
+
+    tests/stores.py [PROGRAM]    the program is ./psa where none is named
+
+Files that are refused: status 5, the line on standard error, nothing on standard output, and the file as it was, byte for
+byte. Whatever stands before the opening is found first, and leaves the file too: words, standard input, and the script.
+Closed cells may hold anything: they are zeros once the store was opened, and the keys of the open ones are there.
+
+Files that can't be written past some length, since the system permits no larger ones: an opening that has to write there
+ends with status 6. A creation or destruction that has to is STORAGE_FAILURE; its key is then gone, and so it is with each
+further one while the first key's cell can't be closed. A run without that limit has the other keys again.
+
+The status is 1 where the program answered otherwise.
+"""
+
+import functools
+import os
+import resource
+import signal
+import subprocess
+import sys
+from dataclasses import replace
+
+sys.path.insert(0, os.path.join(os.path.dirname(os.path.realpath(__file__)), "reference"))
+
+from program import USAGE, program_of, scratch
+from service import AES_KEY, CELL_COUNT, HMAC_KEY, OF_THE_ELEMENT, PERSISTENT, Key
+from store_file import CELL_LENGTH, HEADER, OPEN, cell, image
+
+RAW_DATA = 0x1001
+KEYS = [Key(PERSISTENT, place + 1, 0, RAW_DATA, 24, 1, 0, bytes([place, 1, 2])) for place in range(6)]
+GOOD = image(KEYS + [None] * (CELL_COUNT - len(KEYS)))
+DAMAGED, LAST = 3, CELL_COUNT - 1
+KEY = KEYS[DAMAGED]
+EXPORT = f"1 export #{KEY.identifier:x}\n"
+RECORD_AT, KEY_AT = 16, 52  # in a cell
+
+
+def with_bytes(whole, place, piece):
+    return whole[:place] + piece + whole[place + len(piece) :]
+
+
+def with_cell(place, bytes_of_cell):
+    return with_bytes(GOOD, len(HEADER) + place * CELL_LENGTH, bytes_of_cell)
+
+
+def no_stores():
+    """Files whose length or header is none of a store's, each by a name."""
+    for length in (1, 10, len(HEADER) - 1, len(HEADER), len(GOOD) - 1, len(GOOD) + 1, 4 * len(GOOD)):
+        yield f"{length} bytes", (GOOD + GOOD * 3)[:length]
+    for place, value in ((0, 0), (7, ord("e")), (8, 0), (8, 2), (9, 1), (len(HEADER) - 1, 255)):
+        yield f"a header with {value} at {place}", with_bytes(GOOD, place, bytes([value]))
+    yield "zeros", bytes(len(GOOD))
+
+
+def damages():
+    """Cells that an opening refuses, each by a name."""
+    changed = lambda **values: cell(replace(KEY, **values))
+    patched = lambda place, piece: with_bytes(cell(KEY), place, piece)
+    yield "another magic", patched(RECORD_AT, b"p")
+    yield "a magic that doesn't end with 0", patched(RECORD_AT + 7, b"\1")
+    yield "another version", patched(RECORD_AT + 8, b"\1")
+    yield "a volatile lifetime", changed(lifetime=0)
+    yield "a lifetime of the secure element", changed(lifetime=OF_THE_ELEMENT)
+    yield "a persistent lifetime of the secure element", changed(lifetime=OF_THE_ELEMENT + 1)
+    yield "an unknown type", changed(key_type=0x1002)
+    yield "a type that doesn't permit the length", changed(key_type=AES_KEY)
+    yield "bits of another length", changed(bits=32)
+    yield "bits within a byte", changed(bits=23)
+    yield "an unknown usage", changed(usage=9)
+    yield "SIGN_HASH without SIGN_MESSAGE", changed(key_type=HMAC_KEY, usage=0x1000)
+    yield "VERIFY_HASH without VERIFY_MESSAGE", changed(key_type=HMAC_KEY, usage=0x2400)
+    yield "a second algorithm", patched(RECORD_AT + 28, b"\1")
+    yield "a key of no bytes", changed(bits=0, data=b"")
+    yield "a key of 1,025 bytes", changed(bits=8 * 1025, data=bytes(1025))
+    yield "a length past the cell", patched(RECORD_AT + 32, b"\0\0\0\1")
+    yield "a byte after the key", patched(KEY_AT + len(KEY.data), b"\1")
+    yield "a byte at the cell's end", patched(CELL_LENGTH - 1, b"\1")
+    yield "identifier 0", changed(identifier=0)
+    yield "an identifier of volatile keys", changed(identifier=0x40000000)
+    yield "the identifier of cell 1", changed(identifier=KEYS[1].identifier)
+    for place in (1, 3, 8, 15):
+        yield f"no zero at {place}", patched(place, b"\1")
+
+
+def cells_that_open():
+    """Cells 3 that an opening takes, each by a name, and with the key that is then there, if one is."""
+    for name, values in (
+        ("a key of 1,024 bytes", {"bits": 8 * 1024, "data": bytes(range(256)) * 4}),
+        ("the last identifier", {"identifier": 0x3FFFFFFF}),
+        ("any algorithm", {"algorithm": 0xFFFFFFFF}),
+    ):
+        key = replace(KEY, **values)
+        yield name, cell(key), key
+    for gate in (0, 1, OPEN - 1, 0xFF):
+        yield f"a closed gate of {gate}", with_bytes(cell(KEY), 0, bytes([gate])), None
+        yield f"any bytes behind a closed gate of {gate}", bytes([gate]) + os.urandom(CELL_LENGTH - 1), None
+
+
+# calls of session 1 on the keys 1 to 3, where nothing can be written behind these, and their replies
+FAILING = (
+    ("import k life=1 id=a type=1001 usage=1 alg=0 data=aa", "STORAGE_FAILURE"),
+    ("export #a", "INVALID_HANDLE"),
+    ("import k life=1 id=b type=1001 usage=1 alg=0 data=bb", "STORAGE_FAILURE"),
+    ("destroy #1", "STORAGE_FAILURE"),
+    ("export #1", "INVALID_HANDLE"),
+    ("import v type=1001 usage=3 alg=0 data=cc", "SUCCESS 40100000"),
+    ("copy c $v life=1 id=c usage=1 alg=0", "STORAGE_FAILURE"),
+    ("export $v", "SUCCESS cc"),
+    ("purge #2", "SUCCESS"),
+    ("export #2", "SUCCESS 010102"),
+)
+# and those of a run after it, of which the first may find its key or not
+AFTERWARDS = (
+    ("export #1", "SUCCESS 000102", "INVALID_HANDLE"),
+    ("export #2", "SUCCESS 010102"),
+    ("export #3", "SUCCESS 020102"),
+    ("export #a", "INVALID_HANDLE"),
+    ("export #b", "INVALID_HANDLE"),
+    ("export #c", "INVALID_HANDLE"),
+    ("import k life=1 id=a type=1001 usage=1 alg=0 data=aa", "SUCCESS 0000000a"),
+)
+
+
+def permit_no_larger_files(length):
+    signal.signal(signal.SIGXFSZ, signal.SIG_IGN)  # so that a write fails and doesn't end the program
+    resource.setrlimit(resource.RLIMIT_FSIZE, (length, length))
+
+
+class Trial:
+    """The program, and a file that it opens."""
+
+    def __init__(self, program, path):
+        self.program, self.path, self.count, self.has_failed = program, path, 0, False
+
+    def fail(self, what):
+        print(f"stores: {what}")
+        self.has_failed = True
+
+    def run(self, words, script, limit=None):
+        """Status and outputs of the program on the file, which may have a limit."""
+        self.count += 1
+        words, limits = [self.program, self.path, *words], limit and functools.partial(permit_no_larger_files, limit)
+        ran = subprocess.run(words, input=script, capture_output=True, text=True, preexec_fn=limits, restore_signals=False)
+        return ran.returncode, ran.stdout, ran.stderr
+
+    def put(self, content):
+        with open(self.path, "wb") as file:
+            file.write(content)
+
+    def open(self, name, content, wanted, after=None, words=("run",), script=EXPORT, limit=None):
+        """Runs the program on a file; status and outputs are wanted, and the file afterwards, by default as it was."""
+        self.put(content)
+        said = self.run(words, script, limit)
+        with open(self.path, "rb") as file:
+            is_left = file.read() == (content if after is None else after)
+        if said != wanted or not is_left:
+            self.fail(f"{name}: {said} and not {wanted}{'' if is_left else ', and the file is another one'}")
+
+    def answer(self, name, calls, limit=None):
+        """Runs a script of one session's calls; to each one of its replies has to come."""
+        said = self.run(("run",), "".join(f"1 {call}\n" for call, *_ in calls), limit)
+        replies = [line.split(" ", 2)[2] for line in said[1].splitlines()]
+        if said[::2] != (0, "") or len(replies) != len(calls):
+            self.fail(f"{name}: {said}")
+        for reply, (call, *wanted) in zip(replies, calls):
+            if reply not in wanted:
+                self.fail(f"{name}: {call}: {reply} and not {' or '.join(wanted)}")
+
+
+def refused(status, line):
+    return status, "", line + "\n"
+
+
+def try_refusals(trial):
+    damaged = refused(5, f"damaged cell {DAMAGED}")
+    for name, content in no_stores():
+        trial.open(name, content, refused(5, "not a store"))
+    for name, bytes_of_cell in damages():
+        trial.open(name, with_cell(DAMAGED, bytes_of_cell), damaged)
+
+    bad = bytes([OPEN]) * CELL_LENGTH
+    trial.open("the last cell", with_cell(LAST, bad), refused(5, f"damaged cell {LAST}"))
+    trial.open("two cells", with_bytes(with_cell(LAST, bad), len(HEADER) + DAMAGED * CELL_LENGTH, bad), damaged)
+    for name, content, of_opening in (
+        ("a damaged cell", with_cell(DAMAGED, bad), damaged),
+        ("no store", GOOD[:10], refused(5, "not a store")),
+    ):
+        trial.open(f"{name}, generate", content, of_opening, words=("generate", "4"))
+        trial.open(f"{name}, no script", content, of_opening, script="")
+        trial.open(f"{name}, wrong words", content, refused(1, USAGE), words=("run", "run"))
+        trial.open(f"{name}, a bad line", content, refused(2, "line 1: unknown command"), script="1 frob\n")
+
+
+def try_openings(trial):
+    for name, bytes_of_cell, key in cells_that_open():
+        reply = f"SUCCESS {key.data.hex()}" if key else "INVALID_HANDLE"
+        script = EXPORT.replace(f"{KEY.identifier:x}", f"{key.identifier:x}") if key else EXPORT
+        after = with_cell(DAMAGED, cell(key))
+        trial.open(name, with_cell(DAMAGED, bytes_of_cell), (0, f"1.1 @0 {reply}\n", ""), after, script=script)
+
+
+def try_failing_writes(trial):
+    limit = len(HEADER) + DAMAGED * CELL_LENGTH
+    fault = refused(6, "disk fault")
+    trial.open("a file that can't be extended", b"", fault, limit=limit)
+    trial.open("a cell that can't be cleared", with_cell(LAST, b"\0\1"), fault, limit=limit)
+    trial.put(image(KEYS[:DAMAGED] + [None] * (CELL_COUNT - DAMAGED)))
+    trial.answer("writes that fail", FAILING, limit)
+    trial.answer("after writes that failed", AFTERWARDS)
+
+
+def main():
+    with scratch() as folder:
+        trial = Trial(program_of(sys.argv), os.path.join(folder, "store"))
+        try_refusals(trial)
+        try_openings(trial)
+        try_failing_writes(trial)
+    print(f"stores: {trial.count} runs, {'failed' if trial.has_failed else 'passed'}")
+    return 1 if trial.has_failed else 0
+
+
+if __name__ == "__main__":
+    sys.exit(main())
