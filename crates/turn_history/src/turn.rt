@@ -46,6 +46,7 @@ impl<V: Historic> HistoryLock<V> {
         ensures few { result.entries < 2 ^ 62 }
     {
         let shared = &self.table.shared;
+        waiting::hold_back(shared);
         let ticket = shared.fetch_add::<Draw>(pass, 1, 1);
         let mut looks = 0u32;
         for _ in rt.forever() {
