@@ -1,3 +1,5 @@
 pub mod Rooms
 pub mod Staff
+pub mod Given
+pub mod Replies
 pub mod Closing

@@ -17,7 +17,7 @@ ghost use Rattle.callers.specs.Called.{IsAnswered};
 ghost use Rattle.callers.specs.Handles.{AreOperations};
 ghost use Rattle.callers.specs.Ready.{IsReady};
 ghost use Rattle.callers.specs.Worlds.{world};
-ghost use Rattle.caller_service.specs.Closing.{IsClosedOver};
+ghost use Rattle.caller_service.specs.Closing.{IsClosedOver, WereRetired};
 ghost use Rattle.caller_service.specs.Rooms.{IsRoom};
 ghost use Rattle.caller_service.specs.Staff.{AreStaff};
 
@@ -32,6 +32,7 @@ use psa_status::{Memory, Status};
 use service_calls::{Call, Output};
 use shared_store::{Held, SharedStore, end};
 use std::alloc::Global;
+use std::snapshot::Snapshot;
 use std::sync::Wait;
 use store_core::Unopened;
 use turn_history::Pass;
@@ -51,6 +52,14 @@ pub struct Service<D: Disk, A: Devices, C: Admission, G: Gate> {
 
 /// A service, and its callers by their numbers from 1 on.
 pub type Staffed<D, A, C, G> = (Service<D, A, C, G>, Vec<Caller<D, A, C>>);
+
+/// What is left of a service that was closed.
+pub struct Closed<D: Disk, A: Devices, C: Admission> {
+    pub disk: D,
+    pub devices: A,
+    /// For contracts alone: the callers as they were let go.
+    pub ended: Snapshot<Vec<Caller<D, A, C>>>,
+}
 
 // A caller for each pass, with a room of its own.
 fn seat<D: Disk, A: Devices, C: Admission>(
@@ -178,10 +187,11 @@ impl<D: Disk, A: Devices, C: Admission, G: Gate> Service<D, A, C, G> {
 
     /// Ends all callers: each operation is wiped, and its lease given back. Then the store is closed, and the disk and the
     /// devices come back.
-    pub fn close<R: Wait>(self, rt: &R, callers: Vec<Caller<D, A, C>>) -> (D, A)
+    pub fn close<R: Wait>(self, rt: &R, callers: Vec<Caller<D, A, C>>) -> Closed<D, A, C>
         requires sixteen { vec_len callers ≡ 16 }
         requires ready { All (IsReady (world D.contents D.moment D.faults A.keys A.faults A.locations C.labels self.shared.lock.table.shared.table_id self.shared.lock.table.shared.key.value.value.store.opened) 0) callers.items }
-        ensures closed { IsClosedOver D.contents D.moment D.left_since D.faults A.faults A.locations C.labels self.shared.lock.table.shared.key.value.value.store.opened result.0 result.1 callers.items }
+        ensures closed { IsClosedOver D.contents D.moment D.left_since D.faults A.faults A.locations C.labels self.shared.lock.table.shared.key.value.value.store.opened result.disk result.devices callers.items }
+        ensures wiped { WereRetired self.shared.lock.table.shared.table_id self.shared.lock.table.shared.key.value.value.store.opened callers.items result.ended.value.items }
     {
         let Service {
             shared,
@@ -190,6 +200,12 @@ impl<D: Disk, A: Devices, C: Admission, G: Gate> Service<D, A, C, G> {
         } = self;
         let mut callers = callers;
         retire_all(rt, &shared, &mut callers);
-        end(hand_in(shared.start_ending(), callers))
+        let ended = Snapshot::of(&callers);
+        let (disk, devices) = end(hand_in(shared.start_ending(), callers));
+        Closed {
+            disk,
+            devices,
+            ended,
+        }
     }
 }

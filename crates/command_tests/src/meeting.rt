@@ -5,7 +5,7 @@ ghost use Rattle.script_lang.specs.Lines.{IsOfSession};
 
 use crate::rooms::{no_devices, sound_disk};
 use admission::{Admission, Rules};
-use caller_service::Service;
+use caller_service::{Closed, Service};
 use callers::{Gate, GatePoint};
 use disk_face::Disk;
 use driver_dispatch::Devices;
@@ -134,7 +134,11 @@ fn run_meeting<D: Disk + Send + Drop, A: Devices, C: Admission, R: Threads + Wai
     let ran = run_sessions(rt, alloc, &service, script.lines(), 2, &mut callers);
     let held_at = service.gate.held_at.load(Ordering::SeqCst);
     let limits = service.gate.limits.load(Ordering::SeqCst);
-    let (_disk, _devices) = service.close(rt, callers);
+    let Closed {
+        disk: _disk,
+        devices: _devices,
+        ended: _ended,
+    } = service.close(rt, callers);
     match ran {
         Ok(replies) => Ok(Met {
             replies,

@@ -6,13 +6,13 @@ ghost use Rattle.callers.specs.Worlds.{world};
 
 use admission::{Admission, Rules};
 use alg_encoding::Alg;
-use caller_service::Service;
+use caller_service::{Closed, Service};
 use callers::{Caller, NoGate};
 use disk_face::{Disk, Fails, MemoryDisk};
 use driver_dispatch::{Devices, Drivers};
 use key_attributes::{Attributes, KeyId, KeyType, Lifetime, Policy, Usage};
 use psa_status::Status;
-use service_calls::{Call, HandleCall, HashStep, Op, Output, Setup, Step, StoreCall};
+use service_calls::Op;
 use std::alloc::Global;
 use std::process::Abort;
 use std::sync::Wait;
@@ -31,22 +31,6 @@ const SIGN: u32 = 0x400;
 
 const DECRYPT: u32 = 0x200;
 
-// Makes a call, and says whether it succeeded without a result.
-fn is_done<D: Disk, A: Devices, C: Admission, R: Wait>(
-    rt: &R,
-    service: &Service<D, A, C, NoGate>,
-    caller: &mut Caller<D, A, C>,
-    call: &Call<'_>,
-) -> bool
-    requires ready { IsReady (world D.contents D.moment D.faults A.keys A.faults A.locations C.labels service.now.shared.lock.table.shared.table_id service.now.shared.lock.table.shared.key.value.value.store.opened) 0 caller.old }
-    requires within { caller.old.spent ≤ service.now.worn }
-    ensures ready { IsReady (world D.contents D.moment D.faults A.keys A.faults A.locations C.labels service.now.shared.lock.table.shared.table_id service.now.shared.lock.table.shared.key.value.value.store.opened) 0 caller.new }
-    ensures within { caller.new.spent ≤ service.now.worn }
-{
-    let (rank, answer) = service.call(rt, caller, call, &mut []);
-    rank.is_some() && matches!(answer, Ok(Output::Done))
-}
-
 // Uses a budget up. A call that it doesn't suffice for has no rank and counts nothing; the end of an operation is never
 // refused.
 fn wear<D: Disk, A: Devices, C: Admission, R: Abort + Wait>(
@@ -60,14 +44,14 @@ fn wear<D: Disk, A: Devices, C: Admission, R: Abort + Wait>(
     ensures within { caller.new.spent ≤ service.now.worn }
 {
     let op = Op::first();
-    let setup = Call::OnHandle(op, HandleCall::Setup(Setup::Hash(Alg(0x0200_0009))));
-    let update = Call::OnHandle(op, HandleCall::Step(Step::Hash(HashStep::Update(b"abc"))));
-    let abort = Call::OnHandle(op, HandleCall::Abort);
-    assert!(rt; is_done(rt, service, caller, &setup) && caller.spent() == 2);
-    assert!(rt; is_done(rt, service, caller, &update) && caller.spent() == 3);
-    let (rank, answer) = service.call(rt, caller, &update, &mut []);
-    assert!(rt; rank.is_none() && matches!(answer, Err(Status::PassWorn)));
-    assert!(rt; is_done(rt, service, caller, &abort) && caller.spent() == 3);
+    let begun = service.hash_setup(rt, caller, op, Alg(0x0200_0009));
+    assert!(rt; begun.result == Ok(()) && begun.rank.is_some() && caller.spent() == 2);
+    let updated = service.hash_update(rt, caller, op, b"abc");
+    assert!(rt; updated.result == Ok(()) && updated.rank.is_some() && caller.spent() == 3);
+    let refused = service.hash_update(rt, caller, op, b"abc");
+    assert!(rt; refused.result == Err(Status::PassWorn) && refused.rank.is_none());
+    let aborted = service.abort(rt, caller, op);
+    assert!(rt; aborted.result == Ok(()) && aborted.rank.is_some() && caller.spent() == 3);
 }
 
 // Makes a volatile AES key. The answer is 0 where that fails.
@@ -94,30 +78,9 @@ fn import<D: Disk, A: Devices, C: Admission, R: Wait>(
             alg,
         },
     };
-    let call = Call::OnStore(StoreCall::Import { attributes, bytes });
-    match service.call(rt, caller, &call, &mut []) {
-        (_, Ok(Output::Identifier(id))) => id,
-        _ => KeyId(0),
-    }
-}
-
-// Makes a call that gives bytes, and answers how many.
-fn give<D: Disk, A: Devices, C: Admission, R: Wait>(
-    rt: &R,
-    service: &Service<D, A, C, NoGate>,
-    caller: &mut Caller<D, A, C>,
-    call: StoreCall<'_>,
-    out: &mut [u8],
-) -> Result<usize, Status>
-    requires ready { IsReady (world D.contents D.moment D.faults A.keys A.faults A.locations C.labels service.now.shared.lock.table.shared.table_id service.now.shared.lock.table.shared.key.value.value.store.opened) 0 caller.old }
-    requires within { caller.old.spent ≤ service.now.worn }
-    ensures ready { IsReady (world D.contents D.moment D.faults A.keys A.faults A.locations C.labels service.now.shared.lock.table.shared.table_id service.now.shared.lock.table.shared.key.value.value.store.opened) 0 caller.new }
-    ensures within { caller.new.spent ≤ service.now.worn }
-{
-    match service.call(rt, caller, &Call::OnStore(call), out) {
-        (_, Ok(Output::Bytes(count))) => Ok(count),
-        (_, Ok(_)) => Ok(0),
-        (_, Err(status)) => Err(status),
+    match service.import_key(rt, caller, &attributes, bytes).result {
+        Ok(id) => id,
+        Err(_) => KeyId(0),
     }
 }
 
@@ -140,13 +103,11 @@ fn compute_macs<D: Disk, A: Devices, C: Admission, R: Abort + Wait>(
         0x6b, 0xc1, 0xbe, 0xe2, 0x2e, 0x40, 0x9f, 0x96, 0xe9, 0x3d, 0x7e, 0x11, 0x73, 0x93, 0x17,
         0x2a,
     ];
-    let call = StoreCall::MacCompute {
-        key: import(rt, service, caller, SIGN, CMAC, &bytes),
-        alg: Alg(CMAC),
-        input: &message,
-    };
+    let key = import(rt, service, caller, SIGN, CMAC, &bytes);
+    let alg = Alg(CMAC);
     let mut mac = [7u8; 17];
-    assert_eq!(rt; give(rt, service, caller, call, &mut mac), Ok(16));
+    let computed = service.mac_compute(rt, caller, key, alg, &message, &mut mac);
+    assert_eq!(rt; computed.result, Ok(16));
     assert_eq!(rt;
         mac,
         [
@@ -155,8 +116,8 @@ fn compute_macs<D: Disk, A: Devices, C: Admission, R: Abort + Wait>(
         ]
     );
     let mut short = [7u8; 15];
-    let refused = give(rt, service, caller, call, &mut short);
-    assert!(rt; refused == Err(Status::BufferTooSmall) && short == [7; 15]);
+    let refused = service.mac_compute(rt, caller, key, alg, &message, &mut short);
+    assert!(rt; refused.result == Err(Status::BufferTooSmall) && short == [7; 15]);
 }
 
 // A text whose tag is wrong is zeros, as long as it would be. The sealed text is that of GCM's specification by McGrew and
@@ -176,16 +137,11 @@ fn open_sealed<D: Disk, A: Devices, C: Admission, R: Abort + Wait>(
         0x78, 0xab, 0x6e, 0x47, 0xd4, 0x2c, 0xec, 0x13, 0xbd, 0xf5, 0x3a, 0x67, 0xb2, 0x12, 0x57,
         0xbd, 0xdf,
     ];
-    let call = StoreCall::AeadDecrypt {
-        key: import(rt, service, caller, DECRYPT, GCM, &[0; 16]),
-        alg: Alg(GCM),
-        nonce: &[0; 12],
-        ad: b"a",
-        input: &sealed,
-    };
+    let key = import(rt, service, caller, DECRYPT, GCM, &[0; 16]);
+    let alg = Alg(GCM);
     let mut text = [7u8; 17];
-    let opened = give(rt, service, caller, call, &mut text);
-    assert!(rt; opened == Err(Status::InvalidSignature));
+    let opened = service.aead_decrypt(rt, caller, key, alg, &[0; 12], b"a", &sealed, &mut text);
+    assert!(rt; opened.result == Err(Status::InvalidSignature));
     assert!(rt; text == *b"\0\0\0\0\0\0\0\0\0\0\0\0\0\0\0\0\x07");
 }
 
@@ -208,21 +164,12 @@ fn decipher<D: Disk, A: Devices, C: Admission, R: Abort + Wait>(
     let key = import(rt, service, caller, DECRYPT, CBC_PKCS7, b"an AES key of 16");
     let alg = Alg(CBC_PKCS7);
     let mut text = [7u8; 17];
-    let whole = StoreCall::CipherDecrypt {
-        key,
-        alg,
-        input: &input,
-    };
-    assert_eq!(rt; give(rt, service, caller, whole, &mut text), Ok(14));
+    let whole = service.cipher_decrypt(rt, caller, key, alg, &input, &mut text);
+    assert_eq!(rt; whole.result, Ok(14));
     assert!(rt; text == *b"Fourteen bytes\0\0\x07");
     input[15] ^= 1;
-    let broken = StoreCall::CipherDecrypt {
-        key,
-        alg,
-        input: &input,
-    };
-    let refused = give(rt, service, caller, broken, &mut text);
-    assert!(rt; refused == Err(Status::InvalidPadding));
+    let broken = service.cipher_decrypt(rt, caller, key, alg, &input, &mut text);
+    assert!(rt; broken.result == Err(Status::InvalidPadding));
     assert!(rt; text == *b"\0\0\0\0\0\0\0\0\0\0\0\0\0\0\0\0\x07");
 }
 
@@ -277,7 +224,11 @@ fn open_and_call<D: Disk + Drop, A: Devices, C: Admission, R: Abort + Wait>(
     };
     assert_eq!(rt; callers.len(), 16);
     make_all(rt, &service, &mut callers);
-    let (_disk, _devices) = service.close(rt, callers);
+    let Closed {
+        disk: _disk,
+        devices: _devices,
+        ended: _ended,
+    } = service.close(rt, callers);
     Ok(())
 }
 

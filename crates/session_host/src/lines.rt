@@ -7,7 +7,7 @@ ghost use Rattle.session_host.specs.Runs.{IsAnswered, IsUnanswered};
 
 use crate::running::run_sessions;
 use admission::Admission;
-use caller_service::Service;
+use caller_service::{Closed, Service};
 use callers::NoGate;
 use disk_face::Disk;
 use driver_dispatch::Devices;
@@ -19,8 +19,8 @@ use std::sync::Wait;
 use std::thread::Threads;
 use store_core::Unopened;
 
-/// How much the calls of one session may count together: two for each of 20,000 lines.
-const BUDGET: u64 = 40_000;
+/// How much the calls of one session may count together: the most that a service grants.
+const BUDGET: u64 = 1 << 48;
 
 /// Why lines have no replies.
 #[derive(Clone, Copy, Debug, PartialEq, Eq, Drop)]
@@ -78,7 +78,11 @@ pub fn answer_lines<D: Disk + Send, A: Devices, C: Admission, R: Threads + Wait 
         }
     };
     let ran = run_sessions(rt, alloc, &service, lines, workers, &mut callers);
-    let (disk, devices) = service.close(rt, callers);
+    let Closed {
+        disk,
+        devices,
+        ended: _ended,
+    } = service.close(rt, callers);
     match ran {
         Ok(replies) => Run {
             replies: Ok(replies),
