@@ -1,5 +1,5 @@
 -- The turns of a session in a history that goes on.
-use Rattle.std.proofs.Common.{◌≡◌, ℕ, ◌+◌, eqb, Bool, true, false, List, [], ◌∷◌, ◌++◌, length, refl, sym, ap, ◌∙◌, subst, arith, cond, map, append_assoc, eq-eqb}
+use Rattle.std.proofs.Common.{◌≡◌, ℕ, suc, ◌+◌, eqb, Bool, true, false, List, [], ◌∷◌, ◌++◌, length, refl, sym, ap, ◌∙◌, arith, cond, map, append_assoc, eq-eqb}
 use Rattle.std.specs.Prelude.{◌==◌, filter}
 use Rattle.std.proofs.lemmas.List.{append-nil}
 use Rattle.std.proofs.lemmas.List.Elements.{filter-append}
@@ -61,6 +61,35 @@ same_turns session start whole part s same =
     ∙ (filter-append (λ (t : Turn). t.entry.caller == session) (turns_from 0 start part) (turns_from (0 + length part) (replay start part) s.0)
     ∙ (ap (λ ts. session_turns session start part ++ ts) (no_turns session (0 + length part) (replay start part) s.0 (none_after session whole part s same))
     ∙ append-nil (session_turns session start part))))
+
+-- and so has each beginning between the two
+
+pub first_none : {A : Type 0} (xs ys : List A) → xs ++ ys ≡ [] → xs ≡ []
+first_none [] ys e = refl
+first_none (x ∷ xs) ys e = absurd (not_empty x (xs ++ ys) e)
+
+pub between : (session : ℕ) (whole middle part : List Entry) → StartsWith whole middle → StartsWith middle part → calls_by caller_of session whole ≡ calls_by caller_of session part →
+    calls_by caller_of session middle ≡ calls_by caller_of session part
+between session whole middle part s t same =
+    let rest : StartsWith whole part = (t.0 ++ s.0, s.1 ∙ (ap (λ l. l ++ s.0) t.1 ∙ append_assoc part t.0 s.0)) in
+    let none : calls_by caller_of session t.0 ≡ [] =
+    first_none (calls_by caller_of session t.0) (calls_by caller_of session s.0) (sym (calls-append caller_of session t.0 s.0) ∙ none_after session whole part rest same) in
+    ap (calls_by caller_of session) t.1
+    ∙ (calls-append caller_of session part t.0
+    ∙ (ap (λ l. calls_by caller_of session part ++ l) none
+    ∙ append-nil (calls_by caller_of session part)))
+
+-- as many turns as calls
+
+pub chosen_length : {X : Type 0} (b : Bool) (e : Entry) (es : List Entry) (x : X) (xs : List X) → length xs ≡ length es → length (cond b (x ∷ xs) xs) ≡ length (choose b e es)
+chosen_length true e es x xs same = ap suc same
+chosen_length false e es x xs same = same
+
+pub as_many_turns : (session n : ℕ) (service : Service) (es : List Entry) → length (turns_of session (turns_from n service es)) ≡ length (calls_by caller_of session es)
+as_many_turns session n service [] = refl
+as_many_turns session n service (x ∷ xs) =
+    let next : Service = (outcome_of service x).service in
+    chosen_length (eqb x.caller session) x (calls_by caller_of session xs) (turn_at n service x) (turns_of session (turns_from (n + 1) next xs)) (as_many_turns session (n + 1) next xs)
 
 -- one more call of the session
 

@@ -1,5 +1,7 @@
 pub mod History
 pub mod Order
+pub mod Fronts
 pub mod Heads
 pub mod Told
 pub mod Bounds
+pub mod FaultLines

@@ -1,8 +1,10 @@
 -- What callers and sessions know, as one more line is run.
-use Rattle.std.proofs.Common.{◌≡◌, ◌≢◌, ℕ, ◌+◌, ◌*◌, ◌≤◌, List, [], ◌∷◌, ◌++◌, length, refl, sym, ap, ap₂, ◌∙◌, subst, arith, map, eq-eqb, ne_eqb, length-append, append_assoc, inl}
-use Rattle.std.specs.Prelude.{◌==◌, filter}
-use Rattle.std.proofs.lemmas.List.{map-append}
+use Rattle.std.proofs.Common.{◌≡◌, ◌≢◌, ℕ, ◌+◌, ◌≤◌, List, [], ◌∷◌, ◌++◌, length, refl, sym, ap, ap₂, ◌∙◌, subst, arith, map, eq-eqb, ne_eqb, length-append, inl, inr}
+use Rattle.std.specs.Prelude.{◌==◌}
+use Rattle.std.proofs.lemmas.Bool.Decides.{leb_tells}
+use Rattle.std.proofs.lemmas.List.{length-map, map-append}
 use Rattle.turn_history.specs.History.{entries_of, calls_by, StartsWith}
+use Rattle.turn_history.proofs.Lists.{begins_itself, two_beginnings}
 use Rattle.store_model.specs.Call.{Reply}
 use Rattle.store_model.specs.Handles.{Service}
 use Rattle.store_model.specs.Requests.{Request}
@@ -23,16 +25,18 @@ use Rattle.script_lang.specs.declared.script.ScriptLine.{ScriptLine}
 use Rattle.script_lang.specs.declared.replies.ReplyLine.{ReplyLine}
 use Rattle.script_lang.specs.Commands.{request_of}
 use Rattle.script_lang.specs.Lines.{lines_of}
-use Rattle.script_lang.specs.PrintedOrder.{Turn, AreCalls, id_given, numbered, printed}
+use Rattle.script_lang.specs.PrintedOrder.{Turn, id_given, numbered, printed}
 use Rattle.script_sessions.specs.declared.answers.Answer.{Answer}
 use Rattle.script_sessions.specs.declared.session.Session.{Session}
-use Rattle.script_sessions.specs.Heads.{head_of, heads, places_of}
+use Rattle.script_sessions.specs.Heads.{head_of, heads, ranks_of}
+use Rattle.script_sessions.specs.Printed.{AreFirstCalls, AreFirstReplies}
 use Rattle.script_sessions.specs.Replying.{Answers, Fills}
-use Rattle.script_sessions.specs.Running.{ElementTells, GoesFurther, HasAnswered, HasMade, HasReplies, IsMade, KnowsTurns, session_turns}
-use Rattle.script_sessions.proofs.Heads.{one_more_head, one_more_place}
-use Rattle.script_sessions.proofs.History.{calls_length, calls_more, kept_own, left_out, numbered_length, numbered_more, one_more_turn, same_turns}
+use Rattle.script_sessions.specs.Running.{AreFirstGiven, ElementTells, GoesFurther, HasAnswered, HasMade, IsMade, KnowsTurns, session_turns}
+use Rattle.script_sessions.proofs.Fronts.{calls_next, calls_still, first_more, first_still, first_whole}
+use Rattle.script_sessions.proofs.Heads.{one_more_head, one_more_rank}
+use Rattle.script_sessions.proofs.History.{as_many_turns, between, first_none, kept_own, last_call, left_out, numbered_length, numbered_more, one_more_turn, same_turns}
 
--- a session's turns grew by one, of this call and at this rank, whose reply is answered so
+-- from one history to a longer one a session's turns grew by one, of this call and at this rank, whose reply is answered so
 pub record IsGrown (session : ℕ) (start : Service) (old new : List Entry) (call : Request) (rank : ℕ) (P : Reply → Type 0) : Type 0 where
   pub turn : Turn
   pub by : turn.entry.caller ≡ session
@@ -77,11 +81,24 @@ module _ {D A C : Type 0} (w : World D A C) where
   pub own_calls : (c : Caller D A C) → IsReady w 0 c → calls_by caller_of c.number (entries_of c.pass.me.0.seen) ≡ c.pass.me.0.calls
   own_calls c r = subst (λ n. calls_by caller_of n (entries_of c.pass.me.0.seen) ≡ c.pass.me.0.calls) r.number (r.at.calls r.at.first)
 
+  -- it has as many turns as it has made calls
+  pub turns_made : (c : Caller D A C) → IsReady w 0 c → (start : Service) → length (session_turns c.number start (entries_of c.pass.me.0.seen)) ≡ length c.pass.me.0.calls
+  turns_made c r start = as_many_turns c.number 0 start (entries_of c.pass.me.0.seen) ∙ ap length (own_calls c r)
+
+  -- what is so of no turn is known of a history without an entry
+  pub knows_none : (session : ℕ) (P : List Turn → Type 0) → P [] → KnowsTurns w session [] P
+  knows_none session P none tells start is g begins told = subst (λ h. P (session_turns session start h)) (sym (first_none g begins.0 (sym begins.1))) none
+
   -- what is known of turns stays known in a history that goes on without the session's calls
   pub knows_later : (session : ℕ) (whole part : List Entry) (P : List Turn → Type 0) → StartsWith whole part → calls_by caller_of session whole ≡ calls_by caller_of session part →
       KnowsTurns w session part P → KnowsTurns w session whole P
-  knows_later session whole part P s same known tells start is told =
-      subst P (sym (same_turns session start whole part s same)) (known tells start is (told_front (w.told w.opened.file.value.cells.disk) start whole part s told))
+  knows_later session whole part P s same known tells start is g begins told = elim (leb_tells (length g) (length part)) [
+    | inl short ↦ known tells start is g (two_beginnings whole g part begins s short.1) told
+    | inr long ↦
+        let on : StartsWith g part = two_beginnings whole part g s begins (let l = long.1 in omega arith) in
+        subst P (sym (same_turns session start g part on (between session whole g part begins on same)))
+        (known tells start is part (begins_itself part) (told_front (w.told w.opened.file.value.cells.disk) start g part on told))
+  ]
 
   module _ (old new : Caller D A C) (call : Request) (rank : ℕ) (P : Reply → Type 0) (before_ready : IsReady w 0 old) (after_ready : IsReady w 0 new) (m : IsMade w old.pass.me.0 new.pass.me.0 call rank P) where
     pub same_number : new.number ≡ old.number
@@ -99,53 +116,80 @@ module _ {D A C : Type 0} (w : World D A C) where
     same_before : calls_by caller_of old.number m.before ≡ calls_by caller_of old.number (entries_of old.pass.me.0.seen)
     same_before = subst (λ k. calls_by caller_of k m.before ≡ old.pass.me.0.calls) before_ready.number m.called.goes_on.calls ∙ sym (own_calls old before_ready)
 
+    by : m.entry.caller ≡ old.number
+    by = m.called.by ∙ before_ready.number
+
+    one_call_before : calls_by caller_of old.number (m.before ++ m.entry ∷ []) ≡ calls_by caller_of old.number (entries_of old.pass.me.0.seen) ++ m.entry ∷ []
+    one_call_before = last_call old.number m.before m.entry by ∙ ap (λ l. l ++ m.entry ∷ []) same_before
+
     one_more_call : calls_by caller_of old.number (entries_of new.pass.me.0.seen) ≡ calls_by caller_of old.number (entries_of old.pass.me.0.seen) ++ m.entry ∷ []
     one_more_call =
         subst (λ k. calls_by caller_of k (entries_of new.pass.me.0.seen) ≡ new.pass.me.0.calls) same_number (own_calls new after_ready)
         ∙ (m.called.calls ∙ ap (λ l. l ++ m.entry ∷ []) (sym (own_calls old before_ready)))
 
-    pub grown : ElementTells w → (start : Service) → Starts w start → IsToldTo w start (entries_of new.pass.me.0.seen) →
-        IsGrown old.number start (entries_of old.pass.me.0.seen) (entries_of new.pass.me.0.seen) call rank P
-    grown tells start is told =
-        let n : ℕ = old.number in let v = old.pass.me.0 in let u = new.pass.me.0 in
-        let by : m.entry.caller ≡ n = m.called.by ∙ before_ready.number in
+    -- in each beginning of what the caller has then seen that has the call
+    grown : ElementTells w → (start : Service) → Starts w start → (g : List Entry) → StartsWith (entries_of new.pass.me.0.seen) g → StartsWith g (m.before ++ m.entry ∷ []) → IsToldTo w start g →
+        IsGrown old.number start (entries_of old.pass.me.0.seen) g call rank P
+    grown tells start is g begins on told =
+        let calls = between old.number (entries_of new.pass.me.0.seen) g (m.before ++ m.entry ∷ []) begins on (one_more_call ∙ sym one_call_before) ∙ one_call_before in
         record {
           turn = record { entry = m.entry; rank = length m.before; reply = (outcome_of (replay start m.before) m.entry).reply };
           by = by;
           call_is = m.called.call_is;
           rank_is = m.called.rank;
-          turns = one_more_turn n start (entries_of v.seen) m.before (entries_of u.seen) m.entry m.called.goes_on.since same_before by m.called.placed one_more_call;
-          known = m.replied tells start is (told_front (w.told w.opened.file.value.cells.disk) start (entries_of u.seen) (m.before ++ m.entry ∷ []) m.called.placed told);
+          turns = one_more_turn old.number start (entries_of old.pass.me.0.seen) m.before g m.entry m.called.goes_on.since same_before by on calls;
+          known = m.replied tells start is (told_front (w.told w.opened.file.value.cells.disk) start g (m.before ++ m.entry ∷ []) on told);
         }
 
-    -- and so did the places of the session's calls, by the rank
-    pub placed : places_of new.number 0 (entries_of new.pass.me.0.seen) ≡ places_of old.number 0 (entries_of old.pass.me.0.seen) ++ rank ∷ []
-    placed =
-        ap (λ k. places_of k 0 (entries_of new.pass.me.0.seen)) same_number
-        ∙ (one_more_place old.number (entries_of old.pass.me.0.seen) m.before (entries_of new.pass.me.0.seen) m.entry m.called.goes_on.since same_before (m.called.by ∙ before_ready.number) m.called.placed one_more_call
-        ∙ ap (λ k. places_of old.number 0 (entries_of old.pass.me.0.seen) ++ k ∷ []) (sym m.called.rank))
+    -- What was known of the turns before, and follows from it with one more, is known: each beginning has this call, or goes no
+    -- further than before it.
+    pub knows_more : (Q R : List Turn → Type 0) → KnowsTurns w old.number (entries_of old.pass.me.0.seen) Q → ((ts : List Turn) → Q ts → R ts) →
+        ((start : Service) (g : List Entry) (s : IsGrown old.number start (entries_of old.pass.me.0.seen) g call rank P) → Q (session_turns old.number start (entries_of old.pass.me.0.seen)) →
+        R (session_turns old.number start (entries_of old.pass.me.0.seen) ++ s.turn ∷ [])) →
+        KnowsTurns w new.number (entries_of new.pass.me.0.seen) R
+    knows_more Q R known still next =
+        let v : List Entry = entries_of old.pass.me.0.seen in let u : List Entry = entries_of new.pass.me.0.seen in
+        let since : StartsWith u m.before = begins_through u (m.before ++ m.entry ∷ []) m.before m.called.placed (m.entry ∷ [], refl) in
+        subst (λ n. KnowsTurns w n u R) (sym same_number) (λ tells start is g begins told. elim (leb_tells (length g) (length m.before)) [
+          | inl short ↦ still (session_turns old.number start g)
+              (knows_later old.number m.before v Q m.called.goes_on.since same_before known tells start is g (two_beginnings u g m.before begins since short.1) told)
+          | inr long ↦
+              let on : StartsWith g (m.before ++ m.entry ∷ []) =
+              two_beginnings u (m.before ++ m.entry ∷ []) g m.called.placed begins (let a = length-append m.before (m.entry ∷ []) in let l = long.1 in omega (arith, a, l)) in
+              let s = grown tells start is g begins on told in
+              let before : IsToldTo w start v = told_front (w.told w.opened.file.value.cells.disk) start g v (begins_since v m.before g m.entry m.called.goes_on.since on) told in
+              subst R (sym s.turns) (next start g s (known tells start is v (begins_itself v) before))
+        ])
+
+    -- the ranks of the session's calls grew by this one
+    pub ranked : ranks_of new.number 0 (entries_of new.pass.me.0.seen) ≡ ranks_of old.number 0 (entries_of old.pass.me.0.seen) ++ rank ∷ []
+    ranked =
+        ap (λ k. ranks_of k 0 (entries_of new.pass.me.0.seen)) same_number
+        ∙ (one_more_rank old.number (entries_of old.pass.me.0.seen) m.before (entries_of new.pass.me.0.seen) m.entry m.called.goes_on.since same_before (m.called.by ∙ before_ready.number) m.called.placed one_more_call
+        ∙ ap (λ k. ranks_of old.number 0 (entries_of old.pass.me.0.seen) ++ k ∷ []) (sym m.called.rank))
 
   -- a caller has made the call of one more line of its session
   pub made_more : (lines : List ScriptLine) (line : ScriptLine) (given : List ℕ) (old new : Caller D A C) (rank : ℕ) (P : Reply → Type 0) → HasMade w lines old → IsReady w 0 new → new.spent ≤ old.spent + 2 → line.session ≡ old.number →
-      KnowsTurns w old.number (entries_of old.pass.me.0.seen) (λ turns. given ≡ map (λ t. id_given t.reply.output) turns) →
+      length given ≡ length (lines_of old.number lines) → KnowsTurns w old.number (entries_of old.pass.me.0.seen) (AreFirstGiven given) →
       IsMade w old.pass.me.0 new.pass.me.0 (request_of given line.call) rank P → HasMade w (lines ++ line ∷ []) new
-  made_more lines line given old new rank P h ready spent own known m =
+  made_more lines line given old new rank P h ready spent own given_count known m =
       let same : new.number ≡ old.number = same_number old new (request_of given line.call) rank P h.ready ready m in
-      let more : lines_of old.number (lines ++ line ∷ []) ≡ lines_of old.number lines ++ line ∷ [] = lines_more old.number lines line own in
+      let own_lines : List ScriptLine = lines_of old.number lines in
+      let more : lines_of new.number (lines ++ line ∷ []) ≡ own_lines ++ line ∷ [] = ap (λ n. lines_of n (lines ++ line ∷ [])) same ∙ lines_more old.number lines line own in
       record {
         ready = ready;
         spent = let a = h.spent in let b = length-append lines (line ∷ []) in omega arith;
         count = let a = ap length m.called.calls in let b = length-append old.pass.me.0.calls (m.entry ∷ []) in let d = h.count in
-            let e = ap length more in let f = length-append (lines_of old.number lines) (line ∷ []) in
-            let g = ap (λ n. length (lines_of n (lines ++ line ∷ []))) same in omega arith;
-        calls = subst (λ n. KnowsTurns w n (entries_of new.pass.me.0.seen) (AreCalls [] (lines_of n (lines ++ line ∷ [])))) (sym same)
-            (λ tells start is told.
-            let g = grown old new (request_of given line.call) rank P h.ready ready m tells start is told in
-            let before = told_front (w.told w.opened.file.value.cells.disk) start (entries_of new.pass.me.0.seen) (entries_of old.pass.me.0.seen) (begins_since (entries_of old.pass.me.0.seen) m.before (entries_of new.pass.me.0.seen) m.entry m.called.goes_on.since m.called.placed) told in
-            subst (λ ts. AreCalls [] (lines_of old.number (lines ++ line ∷ [])) ts) (sym g.turns)
-            (subst (λ ls. AreCalls [] ls (session_turns old.number start (entries_of old.pass.me.0.seen) ++ g.turn ∷ [])) (sym more)
-            (calls_more [] (lines_of old.number lines) (session_turns old.number start (entries_of old.pass.me.0.seen)) line g.turn (h.calls tells start is before) (g.by ∙ sym own)
-            (g.call_is ∙ ap (λ ids. request_of ids line.call) (known tells start is before)))));
+            let e = ap length more in let f = length-append own_lines (line ∷ []) in omega arith;
+        calls = subst (λ ls. KnowsTurns w new.number (entries_of new.pass.me.0.seen) (AreFirstCalls ls)) (sym more)
+            (knows_more old new (request_of given line.call) rank P h.ready ready m (λ ts. AreFirstCalls own_lines ts × AreFirstGiven given ts) (AreFirstCalls (own_lines ++ line ∷ []))
+            (λ tells start is g begins told. (h.calls tells start is g begins told, known tells start is g begins told))
+            (λ ts q. calls_still own_lines line ts q.0)
+            (λ start g s q.
+            let ts : List Turn = session_turns old.number start (entries_of old.pass.me.0.seen) in
+            let long : length own_lines ≡ length ts = sym (turns_made old h.ready start ∙ h.count) in
+            calls_next own_lines line ts s.turn long q.0 (s.by ∙ sym own)
+            (s.call_is ∙ ap (λ ids. request_of ids line.call) (first_whole (length ts) given (map (λ t. id_given t.reply.output) ts) q.1 (given_count ∙ long)))));
       }
 
   -- and its session has the reply
@@ -158,36 +202,37 @@ module _ {D A C : Type 0} (w : World D A C) where
       let call : Request = request_of old.given.items line.call in
       let reply : ReplyLine = record { session = line.session; number = length old.replies.items + 1; rank = rank; status = a.status; bytes = a.bytes } in
       let same : d.number ≡ c.number = same_number c d call rank (Answers a) h.made.ready ready m in
-      let more : lines_of c.number (lines ++ line ∷ []) ≡ lines_of c.number lines ++ line ∷ [] = lines_more c.number lines line own in
-      let since : StartsWith (entries_of d.pass.me.0.seen) (entries_of c.pass.me.0.seen) = begins_since (entries_of c.pass.me.0.seen) m.before (entries_of d.pass.me.0.seen) m.entry m.called.goes_on.since m.called.placed in
+      let own_lines : List ScriptLine = lines_of c.number lines in
+      let more : length (lines_of d.number (lines ++ line ∷ [])) ≡ length own_lines + 1 = ap (λ n. length (lines_of n (lines ++ line ∷ []))) same ∙ (ap length (lines_more c.number lines line own) ∙ length-append own_lines (line ∷ [])) in
+      let v : List Entry = entries_of c.pass.me.0.seen in let u : List Entry = entries_of d.pass.me.0.seen in
+      let as_many = λ (start : Service). (let e : length own_lines ≡ length (session_turns c.number start v) = sym (turns_made c h.made.ready start ∙ h.made.count) in e) in
       record {
-        made = made_more lines line old.given.items c d rank (Answers a) h.made ready spent own h.given m;
+        made = made_more lines line old.given.items c d rank (Answers a) h.made ready spent own h.given_count h.given m;
         replies = record {
-          count = let e = ap length replies in let f = length-append old.replies.items (reply ∷ []) in
-              let g = h.replies.count in let k = ap length more in let l = length-append (lines_of c.number lines) (line ∷ []) in
-              let n = ap (λ n. length (lines_of n (lines ++ line ∷ []))) same in omega arith;
-          known = subst (λ n. KnowsTurns w n (entries_of d.pass.me.0.seen) (λ turns. new.replies.items ≡ numbered 1 turns)) (sym same)
-              (λ tells start is told.
-              let g = grown c d call rank (Answers a) h.made.ready ready m tells start is told in
-              let before = told_front (w.told w.opened.file.value.cells.disk) start (entries_of d.pass.me.0.seen) (entries_of c.pass.me.0.seen) since told in
-              let turns : List Turn = session_turns c.number start (entries_of c.pass.me.0.seen) in
-              let known : old.replies.items ≡ numbered 1 turns = h.replies.known tells start is before in
-              let place : length old.replies.items + 1 ≡ 1 + length turns = (let e = ap length known in let f = numbered_length 1 turns in omega arith) in
-              replies ∙ (ap (λ l. l ++ reply ∷ []) known
-              ∙ (ap (λ y. numbered 1 turns ++ y ∷ []) (is_printed line.session (length old.replies.items + 1) (1 + length turns) rank a g.turn (own ∙ sym g.by) place g.rank_is g.known)
-              ∙ (sym (numbered_more 1 turns g.turn) ∙ ap (numbered 1) (sym g.turns)))));
+          count = let e = ap length replies in let f = length-append old.replies.items (reply ∷ []) in let g = h.replies.count in omega (arith, e, f, g, more);
+          known = subst (λ rs. KnowsTurns w d.number u (AreFirstReplies rs)) (sym replies)
+              (knows_more c d call rank (Answers a) h.made.ready ready m (AreFirstReplies old.replies.items) (AreFirstReplies (old.replies.items ++ reply ∷ [])) h.replies.known
+              (λ ts q. first_still (length ts) old.replies.items (reply ∷ []) (numbered 1 ts) q (numbered_length 1 ts))
+              (λ start g s q.
+              let ts : List Turn = session_turns c.number start v in
+              let long : length old.replies.items ≡ length ts = h.replies.count ∙ as_many start in
+              first_more (length ts) (length (ts ++ s.turn ∷ [])) old.replies.items (numbered 1 ts) reply q long (length-append ts (s.turn ∷ []))
+              ∙ (ap (λ y. numbered 1 ts ++ y ∷ []) (is_printed line.session (length old.replies.items + 1) (1 + length ts) rank a s.turn (own ∙ sym s.by) (omega (arith, long)) s.rank_is s.known)
+              ∙ sym (numbered_more 1 ts s.turn))));
           heads = ap (map head_of) replies
-              ∙ (one_more_head c.number old.replies.items (places_of c.number 0 (entries_of c.pass.me.0.seen)) reply h.replies.heads own refl
-              ∙ ap₂ (λ n places. heads n 1 places) (sym same) (sym (placed c d call rank (Answers a) h.made.ready ready m)));
+              ∙ (one_more_head c.number old.replies.items (ranks_of c.number 0 v) reply h.replies.heads own refl
+              ∙ ap₂ (λ n ranks. heads n 1 ranks) (sym same) (sym (ranked c d call rank (Answers a) h.made.ready ready m)));
         };
-        given = subst (λ n. KnowsTurns w n (entries_of d.pass.me.0.seen) (λ turns. new.given.items ≡ map (λ t. id_given t.reply.output) turns)) (sym same)
-            (λ tells start is told.
-            let g = grown c d call rank (Answers a) h.made.ready ready m tells start is told in
-            let before = told_front (w.told w.opened.file.value.cells.disk) start (entries_of d.pass.me.0.seen) (entries_of c.pass.me.0.seen) since told in
-            let turns : List Turn = session_turns c.number start (entries_of c.pass.me.0.seen) in
-            given ∙ (ap (λ l. l ++ a.id ∷ []) (h.given tells start is before)
-            ∙ (ap (λ n. map (λ (t : Turn). id_given t.reply.output) turns ++ n ∷ []) g.known.id
-            ∙ (sym (map-append (λ (t : Turn). id_given t.reply.output) turns (g.turn ∷ [])) ∙ ap (map (λ (t : Turn). id_given t.reply.output)) (sym g.turns)))));
+        given_count = let e = ap length given in let f = length-append old.given.items (a.id ∷ []) in let g = h.given_count in omega (arith, e, f, g, more);
+        given = subst (λ ids. KnowsTurns w d.number u (AreFirstGiven ids)) (sym given)
+            (knows_more c d call rank (Answers a) h.made.ready ready m (AreFirstGiven old.given.items) (AreFirstGiven (old.given.items ++ a.id ∷ [])) h.given
+            (λ ts q. first_still (length ts) old.given.items (a.id ∷ []) (map (λ t. id_given t.reply.output) ts) q (length-map ts (λ t. id_given t.reply.output)))
+            (λ start g s q.
+            let ts : List Turn = session_turns c.number start v in
+            let ids : List ℕ = map (λ t. id_given t.reply.output) ts in
+            first_more (length ts) (length (ts ++ s.turn ∷ [])) old.given.items ids a.id q (h.given_count ∙ as_many start) (length-append ts (s.turn ∷ []))
+            ∙ (ap (λ n. ids ++ n ∷ []) s.known.id
+            ∙ sym (map-append (λ (t : Turn). id_given t.reply.output) ts (s.turn ∷ [])))));
       }
 
   -- A LINE OF ANOTHER SESSION
@@ -199,12 +244,13 @@ module _ {D A C : Type 0} (w : World D A C) where
         ready = h.ready;
         spent = let a = h.spent in let b = length-append lines (line ∷ []) in omega arith;
         count = h.count ∙ ap length (sym same);
-        calls = subst (λ ls. KnowsTurns w c.number (entries_of c.pass.me.0.seen) (AreCalls [] ls)) (sym same) h.calls;
+        calls = subst (λ ls. KnowsTurns w c.number (entries_of c.pass.me.0.seen) (AreFirstCalls ls)) (sym same) h.calls;
       }
 
   pub answered_other : (lines : List ScriptLine) (line : ScriptLine) (s : Session D A C) → line.session ≢ s.caller.number → HasAnswered w lines s → HasAnswered w (lines ++ line ∷ []) s
   answered_other lines line s other h = record {
     made = made_other lines line s.caller other h.made;
     replies = record { count = h.replies.count ∙ ap length (sym (lines_same s.caller.number lines line other)); known = h.replies.known; heads = h.replies.heads };
+    given_count = h.given_count ∙ ap length (sym (lines_same s.caller.number lines line other));
     given = h.given;
   }

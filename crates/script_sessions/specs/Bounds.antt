@@ -1,10 +1,17 @@
--- How many calls of a history met the failure of a device.
-use Rattle.std.specs.Prelude.{◌≡◌, ◌≤◌, ◌<◌, ◌+◌, ◌-◌, ◌^◌, ℕ, Bool, true, false, cond, List, [], ◌∷◌}
-use Rattle.store_model.specs.Faults.{FaultMark, Plain, Storage, Hardware, Corrupt}
+-- How many calls of a history met the failure of a device, and how many reply lines say so.
+use Rattle.std.specs.Prelude.{◌≡◌, ◌≤◌, ◌<◌, ◌+◌, ◌-◌, ◌^◌, ℕ, Bool, true, false, cond, count_by, List, [], ◌∷◌}
+use Rattle.psa_status.specs.declared.Status.{Status}
+use Rattle.psa_status.specs.declared.Status.TheVariants.{StorageFailure, HardwareFailure, DataCorrupt}
+use Rattle.store_model.specs.Faults.{FaultMark, Storage, Hardware, Corrupt}
+use Rattle.store_model.specs.Handles.{Service}
 use Rattle.store_model.specs.Marks.{FaultCounts, IsCaused, last_counts}
 use Rattle.store_model.specs.Replay.{Entry}
 use Rattle.store_core.specs.Represents.{Opening}
 use Rattle.store_core.specs.Rising.{AreRising}
+use Rattle.script_lang.specs.declared.replies.ReplyLine.{ReplyLine}
+use Rattle.script_lang.specs.PrintedOrder.{replies_to, turns_from}
+
+-- MARKS
 
 abbrev pub is_storage : FaultMark → Bool
 is_storage (Storage access) = true
@@ -34,3 +41,33 @@ pub record AreBounded (tells : Bool) (before after : FaultCounts) (history : Lis
 abbrev pub MarksAreBounded : Type 0
 MarksAreBounded =
     (tells : Bool) (before : Opening) (h : List Entry) → IsCaused tells before.counts h → AreRising tells before h → AreBounded tells before.counts (last_counts before.counts h) h
+
+-- REPLY LINES
+
+abbrev pub is_storage_failure : Status → Bool
+is_storage_failure StorageFailure = true
+is_storage_failure _ = false
+
+abbrev pub is_hardware_failure : Status → Bool
+is_hardware_failure HardwareFailure = true
+is_hardware_failure _ = false
+
+abbrev pub is_data_corrupt : Status → Bool
+is_data_corrupt DataCorrupt = true
+is_data_corrupt _ = false
+
+-- how many lines say such a status
+abbrev pub saying : (Status → Bool) → List ReplyLine → ℕ
+saying p replies = count_by (λ r. p r.status) replies
+
+-- No more lines say STORAGE_FAILURE than the disk's count of faults rose by, nor HARDWARE_FAILURE than the devices' count did,
+-- where the counts haven't come to their type's end. None says DATA_CORRUPT where the disk tells its bytes.
+pub record AreBoundedLines (tells : Bool) (before after : FaultCounts) (replies : List ReplyLine) : Type 0 where
+  pub storage : after.faults < 2 ^ 64 - 1 → before.faults + saying is_storage_failure replies ≤ after.faults
+  pub hardware : after.hard < 2 ^ 64 - 1 → before.hard + saying is_hardware_failure replies ≤ after.hard
+  pub corrupt : tells ≡ true → saying is_data_corrupt replies ≡ 0
+
+-- so it is of the lines that the one-thread service prints for sessions 1 to n, where it is of the history
+abbrev pub LinesAreBounded : Type 0
+LinesAreBounded =
+    (tells : Bool) (before after : FaultCounts) (start : Service) (h : List Entry) (n : ℕ) → AreBounded tells before after h → AreBoundedLines tells before after (replies_to n (turns_from 0 start h))

@@ -3,16 +3,16 @@ use Rattle.std.specs.Prelude.{ℕ, zero, suc, ◌+◌, ◌==◌, cond, List, [],
 use Rattle.store_model.specs.Replay.{Entry}
 use Rattle.script_lang.specs.declared.replies.ReplyLine.{ReplyLine}
 
--- the places of a session's calls in a history, from a place on
-abbrev pub places_of : (session place : ℕ) → List Entry → List ℕ
-places_of session place [] = []
-places_of session place (e ∷ es) = cond (e.caller == session) (place ∷ places_of session (place + 1) es) (places_of session (place + 1) es)
+-- the ranks of a session's calls in a history, which are their places there, from a rank on
+abbrev pub ranks_of : (session rank : ℕ) → List Entry → List ℕ
+ranks_of session rank [] = []
+ranks_of session rank (e ∷ es) = cond (e.caller == session) (rank ∷ ranks_of session (rank + 1) es) (ranks_of session (rank + 1) es)
 
 -- the session, the number among its calls, and the rank
 abbrev pub head_of : ReplyLine → ℕ × ℕ × ℕ
 head_of r = (r.session, r.number, r.rank)
 
--- a session's calls are numbered from a number on, and their ranks are their places
+-- a session's calls are numbered from a number on, and have these ranks
 abbrev pub heads : (session number : ℕ) → List ℕ → List (ℕ × ℕ × ℕ)
 heads session number [] = []
 heads session number (rank ∷ ranks) = (session, number, rank) ∷ heads session (number + 1) ranks
@@ -20,4 +20,4 @@ heads session number (rank ∷ ranks) = (session, number, rank) ∷ heads sessio
 -- the heads of the replies to sessions 1 to n
 abbrev pub heads_to : ℕ → List Entry → List (ℕ × ℕ × ℕ)
 heads_to zero h = []
-heads_to (suc n) h = heads_to n h ++ heads (suc n) 1 (places_of (suc n) 0 h)
+heads_to (suc n) h = heads_to n h ++ heads (suc n) 1 (ranks_of (suc n) 0 h)

@@ -1,5 +1,5 @@
 -- What is known of callers that make the calls of a script's lines.
-use Rattle.std.specs.Prelude.{ℕ, ◌≡◌, ◌⊎◌, ◌≤◌, ◌<◌, ◌+◌, ◌*◌, true, List, [], ◌∷◌, ◌++◌, length, take, map, flat_map, get_or, is_some}
+use Rattle.std.specs.Prelude.{ℕ, ◌≡◌, ◌⊎◌, ◌≤◌, ◌+◌, ◌*◌, true, List, [], ◌∷◌, ◌++◌, length, take, map, flat_map, is_some}
 use Rattle.std.specs.Global.{Vec}
 use Rattle.turn_history.specs.declared.pass.View.{View}
 use Rattle.turn_history.specs.History.{entries_of, StartsWith}
@@ -16,13 +16,18 @@ use Rattle.callers.specs.declared.caller.Caller.{Caller}
 use Rattle.script_lang.specs.declared.script.ScriptLine.{ScriptLine}
 use Rattle.script_lang.specs.declared.replies.ReplyLine.{ReplyLine}
 use Rattle.script_lang.specs.Lines.{lines_of}
-use Rattle.script_lang.specs.PrintedOrder.{Turn, turns_from, turns_of, AreCalls, id_given, numbered}
+use Rattle.script_lang.specs.PrintedOrder.{Turn, turns_from, turns_of, id_given}
 use Rattle.script_sessions.specs.declared.session.Session.{Session}
-use Rattle.script_sessions.specs.Heads.{head_of, heads, places_of}
+use Rattle.script_sessions.specs.Heads.{head_of, heads, ranks_of}
+use Rattle.script_sessions.specs.Printed.{AreFirstCalls, AreFirstReplies}
 
 -- a session's turns in a history from a start
 abbrev pub session_turns : ℕ → Service → List Entry → List Turn
 session_turns session start h = turns_of session (turns_from 0 start h)
+
+-- the first so many of these identifiers are those that the turns gave
+abbrev pub AreFirstGiven : List ℕ → List Turn → Type 0
+AreFirstGiven given turns = take (length turns) given ≡ map (λ t. id_given t.reply.output) turns
 
 -- the calls of these lines are among a history's, in this order
 abbrev pub IsWithin : List ScriptLine → List Entry → Type 0
@@ -43,9 +48,10 @@ module _ {D A C : Type 0} (w : World D A C) where
   abbrev pub ElementTells : Type 0
   ElementTells = is_some (w.keys w.opened.devices.value) ≡ true
 
-  -- P holds of a session's turns in a history, from each start and as far as that is told
+  -- P holds of a session's turns in each beginning of a history that is told, from each start
   abbrev pub KnowsTurns : ℕ → List Entry → (List Turn → Type 0) → Type 0
-  KnowsTurns session h P = ElementTells → (start : Service) → Starts w start → IsToldTo w start h → P (session_turns session start h)
+  KnowsTurns session h P =
+      ElementTells → (start : Service) → Starts w start → (beginning : List Entry) → StartsWith h beginning → IsToldTo w start beginning → P (session_turns session start beginning)
 
   -- A caller made a call. Its entry stands at the rank in what the caller has then seen, and its reply is answered so.
   pub record IsMade (v u : View Entry (Opened D A C)) (call : Request) (rank : ℕ) (IsAnswer : Reply → Type 0) : Type 0 where
@@ -61,20 +67,21 @@ module _ {D A C : Type 0} (w : World D A C) where
     pub ready : IsReady w 0 c
     pub spent : c.spent ≤ 2 * length lines
     pub count : length c.pass.me.0.calls ≡ length (lines_of c.number lines)
-    pub calls : KnowsTurns c.number (entries_of c.pass.me.0.seen) (AreCalls [] (lines_of c.number lines))
+    pub calls : KnowsTurns c.number (entries_of c.pass.me.0.seen) (AreFirstCalls (lines_of c.number lines))
 
-  -- Its session has these replies to them. Whether or not the history is told, they are numbered from 1, and their ranks are the
+  -- Its session has these replies to them. Whether or not anything is told, they are numbered from 1, and their ranks are the
   -- places of the calls in what the caller has seen.
   pub record HasReplies (lines : List ScriptLine) (c : Caller D A C) (replies : List ReplyLine) : Type 0 where
     pub count : length replies ≡ length (lines_of c.number lines)
-    pub known : KnowsTurns c.number (entries_of c.pass.me.0.seen) (λ turns. replies ≡ numbered 1 turns)
-    pub heads : map head_of replies ≡ heads c.number 1 (places_of c.number 0 (entries_of c.pass.me.0.seen))
+    pub known : KnowsTurns c.number (entries_of c.pass.me.0.seen) (AreFirstReplies replies)
+    pub heads : map head_of replies ≡ heads c.number 1 (ranks_of c.number 0 (entries_of c.pass.me.0.seen))
 
-  -- a session has made its calls among these lines, and has the replies and what they gave
+  -- a session has made its calls among these lines, and has the replies and the identifiers that they gave
   pub record HasAnswered (lines : List ScriptLine) (s : Session D A C) : Type 0 where
     pub made : HasMade lines s.caller
     pub replies : HasReplies lines s.caller s.replies.items
-    pub given : KnowsTurns s.caller.number (entries_of s.caller.pass.me.0.seen) (λ turns. s.given.items ≡ map (λ t. id_given t.reply.output) turns)
+    pub given_count : length s.given.items ≡ length (lines_of s.caller.number lines)
+    pub given : KnowsTurns s.caller.number (entries_of s.caller.pass.me.0.seen) (AreFirstGiven s.given.items)
 
 -- the replies of all sessions, in their order
 abbrev pub all_replies : List (Vec ReplyLine) → List ReplyLine

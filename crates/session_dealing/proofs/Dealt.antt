@@ -17,9 +17,10 @@ use Rattle.std.proofs.Common.{take}
 use Rattle.std.proofs.lemmas.List.{get_or-map, take_more}
 use Rattle.std.proofs.lemmas.List.Elements.{All-nil, All-push, All-set, All-weaker}
 use Rattle.turn_history.specs.History.{entries_of}
-use Rattle.script_lang.specs.PrintedOrder.{AreCalls, id_given, numbered}
-use Rattle.script_sessions.specs.Heads.{head_of, heads, places_of}
-use Rattle.script_sessions.specs.Running.{HasAnswered, HasMade, session_turns}
+use Rattle.script_sessions.specs.Heads.{head_of, heads, ranks_of}
+use Rattle.script_sessions.specs.Printed.{AreFirstCalls, AreFirstReplies}
+use Rattle.script_sessions.specs.Running.{AreFirstGiven, HasAnswered, HasMade, KnowsTurns}
+use Rattle.script_sessions.proofs.Told.{knows_none}
 use Rattle.session_workers.specs.Working.{HasSeated, HasSeen, numbers_of}
 use Rattle.session_workers.specs.Working as working
 
@@ -166,7 +167,7 @@ module _ {D A C : Type 0} (w : World D A C) where
     ready = new.ready;
     spent = let s = new.spent in omega arith;
     count = ap length new.uncalled;
-    calls = λ tells start is told. subst (λ s. AreCalls [] [] (session_turns c.number start (entries_of s))) (sym new.unseen) tt;
+    calls = subst (λ s. KnowsTurns w c.number (entries_of s) (AreFirstCalls [])) (sym new.unseen) (knows_none w c.number (AreFirstCalls []) tt);
   }
 
   none_answered : (s : Session D A C) → IsFreshSession w s → HasAnswered w [] s
@@ -174,10 +175,11 @@ module _ {D A C : Type 0} (w : World D A C) where
     made = none_made f.number s.caller f.caller;
     replies = record {
       count = ap length f.replies;
-      known = λ tells start is told. f.replies ∙ subst (λ v. [] ≡ numbered 1 (session_turns s.caller.number start (entries_of v))) (sym f.caller.unseen) refl;
-      heads = ap (map head_of) f.replies ∙ subst (λ v. [] ≡ heads s.caller.number 1 (places_of s.caller.number 0 (entries_of v))) (sym f.caller.unseen) refl;
+      known = subst (λ v. KnowsTurns w s.caller.number (entries_of v) (AreFirstReplies s.replies.items)) (sym f.caller.unseen) (knows_none w s.caller.number (AreFirstReplies s.replies.items) refl);
+      heads = ap (map head_of) f.replies ∙ subst (λ v. [] ≡ heads s.caller.number 1 (ranks_of s.caller.number 0 (entries_of v))) (sym f.caller.unseen) refl;
     };
-    given = λ tells start is told. f.given ∙ subst (λ v. [] ≡ map (λ t. id_given t.reply.output) (session_turns s.caller.number start (entries_of v))) (sym f.caller.unseen) refl;
+    given_count = ap length f.given;
+    given = subst (λ v. KnowsTurns w s.caller.number (entries_of v) (AreFirstGiven s.given.items)) (sym f.caller.unseen) (knows_none w s.caller.number (AreFirstGiven s.given.items) refl);
   }
 
   apart_by_numbers : (sessions : List (Session D A C)) (l : List ℕ) → numbers_of sessions ≡ l → AreApart l → working.AreApart sessions

@@ -9,10 +9,11 @@ use Rattle.callers.specs.declared.caller.Caller.{Caller}
 use Rattle.script_lang.specs.declared.script.ScriptLine.{ScriptLine}
 use Rattle.script_lang.specs.declared.replies.ReplyLine.{ReplyLine}
 use Rattle.script_lang.specs.Lines.{IsOfSession}
-use Rattle.script_lang.specs.PrintedOrder.{AreCalls}
 use Rattle.caller_service.specs.Staff.{AreStaff}
 use Rattle.script_sessions.specs.declared.session.Session.{Session}
-use Rattle.script_sessions.specs.Running.{HasMade, HasReplies, IsWithin, session_turns}
+use Rattle.script_sessions.specs.Printed.{AreFirstCalls}
+use Rattle.script_sessions.specs.Running.{HasMade, HasReplies, IsWithin, KnowsTurns}
+use Rattle.script_sessions.proofs.Told.{knows_none}
 use Rattle.session_workers.specs.declared.worker.Worker.{Worker}
 use Rattle.session_workers.specs.Working.{HasSeen, HasWorked, HaveRun, IsOurs}
 use Rattle.session_dealing.specs.Dealing.{AreDealt, AreTaken, HaveOwn, IsFrom, dealt}
@@ -34,7 +35,7 @@ none_made w lines callers staff = record {
           ready = n.ready;
           spent = (let s = n.spent in omega arith);
           count = ap length n.uncalled;
-          calls = λ tells start is told. subst (λ s. AreCalls [] [] (session_turns c.number start (entries_of s))) (sym n.unseen) tt;
+          calls = subst (λ s. KnowsTurns w c.number (entries_of s) (AreFirstCalls [])) (sym n.unseen) (knows_none w c.number (AreFirstCalls []) tt);
         },
       );
 }

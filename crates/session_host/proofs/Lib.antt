@@ -1,4 +1,5 @@
 mod Gathered
+mod Own
 mod Ran
 mod Sent
 mod Whole

@@ -1,10 +1,11 @@
 -- What is known of a run, from its opening, its callers and its close.
-use Rattle.std.proofs.Common.{◌≡◌, ℕ, List, subst, arith}
-use Rattle.std.specs.Prelude.{All, Option, is_some}
+use Rattle.std.proofs.Common.{◌≡◌, ℕ, List, subst, sym, arith}
+use Rattle.std.specs.Prelude.{All, Option, is_some, take}
 use Rattle.std.specs.Global.{Vec}
 use Rattle.atomic_table.specs.Seated.{TableId}
 use Rattle.policy_rules.specs.declared.narrowing.Label.{Label}
 use Rattle.driver_dispatch.specs.Held.{HeldKeys}
+use Rattle.store_model.specs.Marks.{FaultCounts}
 use Rattle.store_core.specs.Represents.{Opening}
 use Rattle.store_core.specs.declared.store.Opened.{Opened}
 use Rattle.store_core.specs.Start.{opening_of}
@@ -14,13 +15,14 @@ use Rattle.caller_service.specs.Closing.{IsClosedOver}
 use Rattle.script_lang.specs.declared.script.ScriptLine.{ScriptLine}
 use Rattle.script_lang.specs.declared.replies.ReplyLine.{ReplyLine}
 use Rattle.script_lang.specs.Lines.{IsOfSession}
-use Rattle.script_sessions.specs.Bounds.{AreBounded}
+use Rattle.script_sessions.specs.Bounds.{AreBounded, AreBoundedLines}
 use Rattle.script_sessions.specs.Running.{all_replies}
 use Rattle.script_sessions.proofs.Bounds.{bounded}
+use Rattle.script_sessions.proofs.FaultLines.{bounded_lines}
 use Rattle.session_host.specs.Running.{HaveAnswered, HaveMade, HaveSeen}
 use Rattle.session_host.specs.Runs.{IsAnswered, IsBroken, IsOpening, IsRun}
 use Rattle.session_host.proofs.Gathered.{some_of}
-use Rattle.session_host.proofs.Whole.{all_calls, first_calls, heads_are, line_order, replies_are}
+use Rattle.session_host.proofs.Whole.{all_calls, first_calls, heads_are, line_order, replies_are, replies_so_far, whole_calls}
 
 module _ {D A C : Type 0} (told : D → Option (List ℕ)) (may_leave : D → List ℕ → Type 0) (moment : D → ℕ) (left_since : D → ℕ → List ℕ → Type 0)
     (faults : D → ℕ) (held : A → Option HeldKeys) (hard : A → ℕ) (locations : A → List ℕ) (labels : C → List Label)
@@ -38,9 +40,12 @@ module _ {D A C : Type 0} (told : D → Option (List ℕ)) (may_leave : D → Li
   abbrev before : Opening
   before = opening_of told moment faults hard locations labels opened
 
-  few_marks : AreBounded (is_some (told disk)) before.counts (record { faults = faults disk_after; hard = hard devices_after }) closed.history
+  abbrev after : FaultCounts
+  after = record { faults = faults disk_after; hard = hard devices_after }
+
+  few_marks : AreBounded (is_some (told disk)) before.counts after closed.history
   few_marks =
-      subst (λ t. AreBounded t before.counts (record { faults = faults disk_after; hard = hard devices_after }) closed.history) opening.found.tells
+      subst (λ t. AreBounded t before.counts after closed.history) opening.found.tells
       (subst (λ c. AreBounded (is_some (told opened.file.value.cells.disk)) before.counts c closed.history) closed.left.counts
       (bounded (is_some (told opened.file.value.cells.disk)) before closed.history closed.left.legal.caused closed.left.legal.rising))
 
@@ -51,7 +56,12 @@ module _ {D A C : Type 0} (told : D → Option (List ℕ)) (may_leave : D → Li
   unfolding a_run
   broken = record {
     run = a_run;
-    calls = λ session. (let f = first_calls w lines callers closed.history made.are.sixteen made.are.numbers sessions closed.left.signed closed.seen closed.called made.each d session in (f.0, f.1.0, f.1.1));
+    calls = λ session. (let f = first_calls w lines callers closed.history made.are.sixteen made.are.numbers sessions closed.left.signed closed.seen closed.called made.each d session in (
+      f.0,
+      f.1.0,
+      whole_calls w lines callers closed.history made.are.sixteen made.are.numbers sessions closed.left.signed closed.seen closed.called session (take f.0 lines) f.1,
+      f.1.1,
+    ));
   }
 
   pub answered : (replies : List (Vec ReplyLine)) (workers : ℕ) → HaveAnswered w lines callers replies → (workers ≡ 1 → HaveSeen lines callers) →
@@ -62,5 +72,10 @@ module _ {D A C : Type 0} (told : D → Option (List ℕ)) (may_leave : D → Li
     counts = λ session. (all_calls w lines callers closed.history made.are.sixteen made.are.numbers sessions closed.left.signed closed.seen closed.called h.made d session).0;
     heads = heads_are w lines callers closed.history made.are.sixteen made.are.numbers sessions closed.left.signed closed.seen closed.called replies d h;
     answers = λ tells start is known. replies_are w lines callers closed.history made.are.sixteen made.are.numbers sessions closed.left.signed closed.seen closed.called replies d h tells start is known;
+    so_far = λ tells start is beginning begins known. replies_so_far w lines callers closed.history made.are.sixteen made.are.numbers sessions closed.left.signed closed.seen closed.called replies d
+        (some_of replies (let n = h.sixteen in omega arith)) h tells start is beginning begins known;
+    failures = λ tells start is known.
+        let r = replies_are w lines callers closed.history made.are.sixteen made.are.numbers sessions closed.left.signed closed.seen closed.called replies d h tells start is known in
+        subst (AreBoundedLines (is_some (told disk)) before.counts after) (sym r.all) (bounded_lines (is_some (told disk)) before.counts after start closed.history 16 few_marks);
     line_order = λ is. line_order w lines callers closed.history made.are.sixteen made.are.numbers sessions closed.left.signed closed.seen closed.called d h.made (one is);
   }

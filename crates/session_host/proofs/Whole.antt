@@ -1,11 +1,12 @@
 -- From what callers know, and from what a closed service says, to the one order of a script's calls.
-use Rattle.std.proofs.Common.{◌≡◌, ℕ, suc, ◌+◌, ◌-◌, ◌≤◌, ◌<◌, List, [], ◌∷◌, ◌++◌, length, get_or, refl, sym, ap, ◌∙◌, subst, arith, append_assoc, inl, inr, ◌⊎◌, eqb, true, false, cond, Bool}
+use Rattle.std.proofs.Common.{◌≡◌, ℕ, suc, ◌+◌, ◌-◌, ◌≤◌, ◌<◌, List, [], ◌∷◌, ◌++◌, length, get_or, refl, sym, ap, ◌∙◌, subst, arith, append_assoc, inl, inr, ◌⊎◌, eqb, true, false, cond, Bool, take_all}
 use Rattle.std.specs.Prelude.{All, flat_map, map, take}
 use Rattle.std.specs.Global.{Vec}
 use Rattle.std.proofs.lemmas.Bool.Decides.{leb_tells, eqb_tells}
 use Rattle.std.proofs.lemmas.List.{append-nil, map-append}
 use Rattle.std.proofs.lemmas.List.Elements.{All-head, All-nil, All-tail}
 use Rattle.turn_history.specs.History.{choose, entries_of, calls_by, StartsWith}
+use Rattle.turn_history.proofs.Lists.{begins_itself}
 use Rattle.store_model.specs.Handles.{Service}
 use Rattle.store_model.specs.Replay.{Entry}
 use Rattle.shared_store.specs.Standing.{caller_of}
@@ -16,14 +17,16 @@ use Rattle.script_lang.specs.declared.script.ScriptLine.{ScriptLine}
 use Rattle.script_lang.specs.declared.replies.ReplyLine.{ReplyLine}
 use Rattle.script_lang.specs.Lines.{IsOfSession, lines_of}
 use Rattle.script_lang.specs.PrintedOrder.{AreCalls, Turn, numbered, replies_to, turns_from, turns_of}
-use Rattle.script_sessions.specs.Heads.{head_of, heads, heads_to, places_of}
-use Rattle.script_sessions.specs.Printed.{AreReplies, IsInLineOrder}
+use Rattle.script_sessions.specs.Heads.{head_of, heads, heads_to, ranks_of}
+use Rattle.script_sessions.specs.Printed.{AreFirstCalls, AreFirstReplies, AreReplies, AreRepliesSoFar, IsInLineOrder, replies_of}
 use Rattle.script_sessions.specs.Running.{ElementTells, HasMade, IsWithin, KnowsTurns, all_replies, session_turns}
-use Rattle.script_sessions.proofs.History.{no_turns}
-use Rattle.script_sessions.proofs.Heads.{places_later}
+use Rattle.script_sessions.proofs.Fronts.{first_whole}
+use Rattle.script_sessions.proofs.History.{as_many_turns, chosen_length}
+use Rattle.script_sessions.proofs.Heads.{ranks_later}
 use Rattle.script_sessions.proofs.Order.{in_line_order, within_whole}
-use Rattle.script_sessions.proofs.Told.{knows_later, own_calls}
+use Rattle.script_sessions.proofs.Told.{knows_later, knows_none, own_calls}
 use Rattle.session_host.specs.Running.{HaveAnswered, HaveSeen}
+use Rattle.session_host.proofs.Own.{HaveHeads, own_replies}
 
 -- SESSIONS THAT THERE ARE, AND OTHERS
 
@@ -92,15 +95,11 @@ map_flat : {X Y Z : Type 0} (f : Y → Z) (own : X → List Y) (xs : List X) →
 map_flat f own [] = refl
 map_flat f own (x ∷ xs) = map-append f (own x) (flat_map own xs) ∙ ap (λ l. map f (own x) ++ l) (map_flat f own xs)
 
--- as many places as calls
-as_many_places : (session place : ℕ) (h : List Entry) → length (places_of session place h) ≡ length (calls_by caller_of session h)
-as_many_places session place [] = refl
-as_many_places session place (e ∷ h) = one (eqb e.caller session) (as_many_places session (place + 1) h)
-  where
-    one : (b : Bool) → length (places_of session (place + 1) h) ≡ length (calls_by caller_of session h) →
-        length (cond b (place ∷ places_of session (place + 1) h) (places_of session (place + 1) h)) ≡ length (choose b e (calls_by caller_of session h))
-    one true more = ap suc more
-    one false more = more
+-- as many ranks as calls
+as_many_ranks : (session rank : ℕ) (h : List Entry) → length (ranks_of session rank h) ≡ length (calls_by caller_of session h)
+as_many_ranks session rank [] = refl
+as_many_ranks session rank (e ∷ h) =
+    chosen_length (eqb e.caller session) e (calls_by caller_of session h) rank (ranks_of session (rank + 1) h) (as_many_ranks session (rank + 1) h)
 
 -- THE ONE ORDER
 
@@ -126,13 +125,13 @@ module _ {D A C : Type 0} (w : World D A C) (lines : List ScriptLine) (callers :
       subst (λ n. KnowsTurns w n history P) (numbers k d within)
       (knows_later w c.number history (entries_of c.pass.me.0.seen) P (seen k d (omega (arith, within, sixteen))) (same_calls ran k d within made) known)
 
-  none_there : (session : ℕ) (start : Service) → IsOther session → session_turns session start history ≡ []
-  none_there session start other = no_turns session 0 start history (no_entries session history other signed)
+  none_there : (session : ℕ) (P : List Turn → Type 0) → IsOther session → P [] → KnowsTurns w session history P
+  none_there session P other none = knows_later w session history [] P (history, refl) (no_entries session history other signed) (knows_none w session P none)
 
   -- what is known of a session's calls, which are those of its lines among these
   abbrev pub CallsAmong : ℕ → List ScriptLine → Type 0
-  CallsAmong session ran = (length (places_of session 0 history) ≡ length (lines_of session ran))
-      × (ElementTells w → (start : Service) → Starts w start → IsToldTo w start history → AreCalls [] (lines_of session ran) (session_turns session start history))
+  CallsAmong session ran = (length (ranks_of session 0 history) ≡ length (lines_of session ran))
+      × KnowsTurns w session history (AreFirstCalls (lines_of session ran))
 
   by_caller : (session : ℕ) (ran : List ScriptLine) (k : ℕ) (d : Caller D A C) → k < 16 → k + 1 ≡ session → HasMade w ran (get_or callers k d) → CallsAmong session ran
   by_caller session ran k d within is m =
@@ -140,18 +139,16 @@ module _ {D A C : Type 0} (w : World D A C) (lines : List ScriptLine) (callers :
       let same : c.number ≡ session = numbers k d within ∙ is in
       let there : calls_by caller_of c.pass.me.0.number history ≡ c.pass.me.0.calls = called k d (omega (arith, within, sixteen)) in
       let mine : calls_by caller_of session history ≡ c.pass.me.0.calls = subst (λ s. calls_by caller_of s history ≡ c.pass.me.0.calls) (m.ready.number ∙ same) there in (
-        as_many_places session 0 history ∙ (ap length mine ∙ (m.count ∙ ap (λ s. length (lines_of s ran)) same)),
-        subst (λ s. KnowsTurns w s history (AreCalls [] (lines_of session ran))) is
-            (knows ran k d (AreCalls [] (lines_of session ran)) within m
-            (subst (λ s. KnowsTurns w c.number (entries_of c.pass.me.0.seen) (AreCalls [] (lines_of s ran))) same m.calls)),
+        as_many_ranks session 0 history ∙ (ap length mine ∙ (m.count ∙ ap (λ s. length (lines_of s ran)) same)),
+        subst (λ s. KnowsTurns w s history (AreFirstCalls (lines_of session ran))) is
+            (knows ran k d (AreFirstCalls (lines_of session ran)) within m
+            (subst (λ s. KnowsTurns w c.number (entries_of c.pass.me.0.seen) (AreFirstCalls (lines_of s ran))) same m.calls)),
       )
 
   by_none : (session : ℕ) (ran : List ScriptLine) → IsOther session → All IsOfSession ran → CallsAmong session ran
   by_none session ran other all = (
-    as_many_places session 0 history ∙ (ap length (no_entries session history other signed) ∙ ap length (sym (no_lines session ran other all))),
-    λ tells start is told.
-        subst (λ ls. AreCalls [] ls (session_turns session start history)) (sym (no_lines session ran other all))
-        (subst (AreCalls [] []) (sym (none_there session start other)) tt),
+    as_many_ranks session 0 history ∙ (ap length (no_entries session history other signed) ∙ ap length (sym (no_lines session ran other all))),
+    none_there session (AreFirstCalls (lines_of session ran)) other tt,
   )
 
   -- each session's calls are those of its lines
@@ -170,8 +167,19 @@ module _ {D A C : Type 0} (w : World D A C) (lines : List ScriptLine) (callers :
     | inr other ↦ (0, by_none session [] other (All-nil IsOfSession))
   ]
 
+  -- where the whole history is told, they are those of all these lines
+
+  as_many : (session : ℕ) (ran : List ScriptLine) (start : Service) → CallsAmong session ran → length (session_turns session start history) ≡ length (lines_of session ran)
+  as_many session ran start c = as_many_turns session 0 start history ∙ (sym (as_many_ranks session 0 history) ∙ c.0)
+
+  pub whole_calls : (session : ℕ) (ran : List ScriptLine) → CallsAmong session ran → ElementTells w → (start : Service) → Starts w start → IsToldTo w start history →
+      AreCalls [] (lines_of session ran) (session_turns session start history)
+  whole_calls session ran c tells start is told =
+      let ts : List Turn = session_turns session start history in
+      subst (λ ls. AreCalls [] ls ts) (take_all (length ts) (lines_of session ran) (omega (arith, as_many session ran start c))) (c.1 tells start is history (begins_itself history) told)
+
   counts_agree : ((k : ℕ) (d : Caller D A C) → k < 16 → HasMade w lines (get_or callers k d)) → (d : Caller D A C) → (n : ℕ) → length (lines_of n lines) ≡ length (calls_by caller_of n history)
-  counts_agree made d n = sym (all_calls made d n).0 ∙ as_many_places n 0 history
+  counts_agree made d n = sym (all_calls made d n).0 ∙ as_many_ranks n 0 history
 
   all_numbers : (replies : List (Vec ReplyLine)) → length replies ≡ 16 → 0 + length replies ≡ 16
   all_numbers replies h = omega (arith, h)
@@ -181,26 +189,61 @@ module _ {D A C : Type 0} (w : World D A C) (lines : List ScriptLine) (callers :
       AreReplies start lines history (all_replies replies)
   replies_are replies d h tells start is told =
       let ts : List Turn = turns_from 0 start history in record {
-        own = λ session. (all_calls h.made d session).1 tells start is told;
+        own = λ session. whole_calls session lines (all_calls h.made d session) tells start is told;
         all = by_session (λ (r : Vec ReplyLine). r.items) (λ n. numbered 1 (turns_of n ts)) (λ n. replies_to n ts) (λ n. refl) 0 replies (λ i r below.
             let within : i < 16 = omega (arith, below, h.sixteen) in
             let place : i + 1 ≡ 0 + i + 1 = omega arith in
-            knows lines i d (λ turns. (get_or replies i r).items ≡ numbered 1 turns) within (h.made i d within) (h.replied i d r within).known tells start is told
+            let own : List Turn = turns_of (i + 1) ts in
+            let count = (h.replied i d r within).count ∙ (ap (λ n. length (lines_of n lines)) (numbers i d within) ∙ sym (as_many (i + 1) lines start (all_calls h.made d (i + 1)))) in
+            first_whole (length own) (get_or replies i r).items (numbered 1 own)
+            (knows lines i d (AreFirstReplies (get_or replies i r).items) within (h.made i d within) (h.replied i d r within).known tells start is history (begins_itself history) told) count
             ∙ ap (λ s. numbered 1 (turns_of s ts)) place)
             ∙ ap (λ n. replies_to n ts) (all_numbers replies h.sixteen);
       }
+
+  -- and of each beginning of it
+
+  have_heads : (replies : List (Vec ReplyLine)) (d : Caller D A C) → HaveAnswered w lines callers replies → HaveHeads 0 replies
+  have_heads replies d h i r below =
+      let within : i < 16 = omega (arith, below, h.sixteen) in
+      let c : Caller D A C = get_or callers i d in
+      let ranks : List ℕ = ranks_of c.number 0 (entries_of c.pass.me.0.seen) in
+      let number : c.number ≡ 0 + i + 1 = numbers i d within ∙ (let e : i + 1 ≡ 0 + i + 1 = omega arith in e) in
+      (ranks, (h.replied i d r within).heads ∙ ap (λ n. heads n 1 ranks) number)
+
+  first_replies : (replies : List (Vec ReplyLine)) (d : Caller D A C) (r : Vec ReplyLine) → HaveAnswered w lines callers replies → (session : ℕ) →
+      KnowsTurns w session history (AreFirstReplies (replies_of session (all_replies replies)))
+  first_replies replies d r h session = elim (which session) [
+    | inl own ↦
+        let k : ℕ = session - 1 in let within : k < 16 = omega (arith, own.0, own.1) in
+        let below : k < length replies = omega (arith, within, h.sixteen) in
+        let place : 0 + k + 1 ≡ session = (let l = own.0 in omega arith) in let same : k + 1 ≡ session = (let l = own.0 in omega arith) in
+        let mine : replies_of session (all_replies replies) ≡ (get_or replies k r).items =
+        ap (λ s. replies_of s (all_replies replies)) (sym place) ∙ own_replies 0 k replies r below (have_heads replies d h) in
+        subst (λ rs. KnowsTurns w session history (AreFirstReplies rs)) (sym mine)
+        (subst (λ s. KnowsTurns w s history (AreFirstReplies (get_or replies k r).items)) same
+        (knows lines k d (AreFirstReplies (get_or replies k r).items) within (h.made k d within) (h.replied k d r within).known))
+    | inr other ↦ none_there session (AreFirstReplies (replies_of session (all_replies replies))) other refl
+  ]
+
+  pub replies_so_far : (replies : List (Vec ReplyLine)) (d : Caller D A C) (r : Vec ReplyLine) → HaveAnswered w lines callers replies → ElementTells w → (start : Service) → Starts w start →
+      (beginning : List Entry) → StartsWith history beginning → IsToldTo w start beginning → AreRepliesSoFar start lines beginning (all_replies replies)
+  replies_so_far replies d r h tells start is beginning begins told = record {
+    own = λ session. (all_calls h.made d session).1 tells start is beginning begins told;
+    all = λ session. first_replies replies d r h session tells start is beginning begins told;
+  }
 
   -- their heads are those of the one order
   pub heads_are : (replies : List (Vec ReplyLine)) (d : Caller D A C) → HaveAnswered w lines callers replies → map head_of (all_replies replies) ≡ heads_to 16 history
   heads_are replies d h =
       map_flat head_of (λ (r : Vec ReplyLine). r.items) replies
-      ∙ by_session (λ (r : Vec ReplyLine). map head_of r.items) (λ n. heads n 1 (places_of n 0 history)) (λ n. heads_to n history) (λ n. refl) 0 replies (λ i r below.
+      ∙ by_session (λ (r : Vec ReplyLine). map head_of r.items) (λ n. heads n 1 (ranks_of n 0 history)) (λ n. heads_to n history) (λ n. refl) 0 replies (λ i r below.
       let within : i < 16 = omega (arith, below, h.sixteen) in
       let c : Caller D A C = get_or callers i d in
       let number : c.number ≡ 0 + i + 1 = numbers i d within ∙ (let e : i + 1 ≡ 0 + i + 1 = omega arith in e) in
       (h.replied i d r within).heads
-      ∙ ap (heads c.number 1) (sym (places_later c.number (entries_of c.pass.me.0.seen) history (seen i d (omega (arith, within, sixteen))) (same_calls lines i d within (h.made i d within))))
-      ∙ ap (λ n. heads n 1 (places_of n 0 history)) number)
+      ∙ ap (heads c.number 1) (sym (ranks_later c.number (entries_of c.pass.me.0.seen) history (seen i d (omega (arith, within, sixteen))) (same_calls lines i d within (h.made i d within))))
+      ∙ ap (λ n. heads n 1 (ranks_of n 0 history)) number)
       ∙ ap (λ n. heads_to n history) (all_numbers replies h.sixteen)
 
   -- one worker makes the calls in the order of the lines

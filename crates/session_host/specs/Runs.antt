@@ -1,5 +1,6 @@
 -- What is known of a run: the disk that was opened, the one order of its calls, and what it leaves.
 use Rattle.std.specs.Prelude.{◌≡◌, ◌≤◌, ◌↔◌, ◌⊎◌, ℕ, true, List, [], length, map, take, slice_get, Option, Some, IfSome, is_some}
+use Rattle.turn_history.specs.History.{StartsWith}
 use Rattle.key_attributes.specs.declared.Attributes.{Attributes}
 use Rattle.policy_rules.specs.declared.narrowing.Label.{Label}
 use Rattle.key_cells.specs.Image.{HasKey}
@@ -19,9 +20,9 @@ use Rattle.script_lang.specs.declared.script.ScriptLine.{ScriptLine}
 use Rattle.script_lang.specs.declared.replies.ReplyLine.{ReplyLine}
 use Rattle.script_lang.specs.Lines.{lines_of}
 use Rattle.script_lang.specs.PrintedOrder.{AreCalls, turns_from, turns_of}
-use Rattle.script_sessions.specs.Bounds.{AreBounded}
-use Rattle.script_sessions.specs.Heads.{head_of, heads_to, places_of}
-use Rattle.script_sessions.specs.Printed.{AreReplies, IsInLineOrder}
+use Rattle.script_sessions.specs.Bounds.{AreBounded, AreBoundedLines}
+use Rattle.script_sessions.specs.Heads.{head_of, heads_to, ranks_of}
+use Rattle.script_sessions.specs.Printed.{AreFirstCalls, AreReplies, AreRepliesSoFar, IsInLineOrder}
 use Rattle.session_host.specs.declared.lines.Unanswered.{Unanswered}
 use Rattle.session_host.specs.declared.lines.Unanswered.TheVariants.{NotOpened, Memory}
 
@@ -62,21 +63,32 @@ module _ {D A C : Type 0} (told : D → Option (List ℕ)) (may_leave : D → Li
   abbrev pub OfStarts : Opened D A C → List Entry → (Service → Type 0) → Type 0
   OfStarts opened history P = is_some (held opened.devices.value) ≡ true → (start : Service) → Starts opened start → IsTold opened start history → P start
 
+  -- and what holds of each start and each beginning of a history that is told
+  abbrev pub OfBeginnings : Opened D A C → List Entry → (Service → List Entry → Type 0) → Type 0
+  OfBeginnings opened history P =
+      is_some (held opened.devices.value) ≡ true → (start : Service) → Starts opened start → (beginning : List Entry) → StartsWith history beginning → IsTold opened start beginning → P start beginning
+
   -- The calls of these lines were made in one order, and these are the replies. Each session has a call in the order for each of
   -- its lines, and a reply to each, with its rank. The calls are those of the lines, in each session's own order, and the replies
-  -- are those of the one-thread service to them. One worker makes the calls in the order of the lines.
+  -- are those of the one-thread service to them. So it is also of each beginning of the order, as far as that goes. No more of
+  -- the replies say that the disk or the devices failed than their counts rose by. One worker makes the calls in the order of the
+  -- lines.
   pub record IsAnswered (disk : D) (devices : A) (named : List Label) (seed : List ℕ) (workers : ℕ) (lines : List ScriptLine) (replies : List ReplyLine) (disk_after : D) (devices_after : A) : Type 0 where
     pub run : IsRun disk devices named seed disk_after devices_after
-    pub counts : (session : ℕ) → length (places_of session 0 run.history) ≡ length (lines_of session lines)
+    pub counts : (session : ℕ) → length (ranks_of session 0 run.history) ≡ length (lines_of session lines)
     pub heads : map head_of replies ≡ heads_to 16 run.history
     pub answers : OfStarts run.opened run.history (λ start. AreReplies start lines run.history replies)
+    pub so_far : OfBeginnings run.opened run.history (λ start beginning. AreRepliesSoFar start lines beginning replies)
+    pub failures : OfStarts run.opened run.history (λ start.
+        AreBoundedLines (is_some (told disk)) (opening_of told moment faults hard locations labels run.opened).counts (record { faults = faults disk_after; hard = hard devices_after }) replies)
     pub line_order : workers ≡ 1 → IsInLineOrder lines run.history
 
   -- Calls of these lines were made in one order: those of each session are the first so many of its lines.
   pub record IsBroken (disk : D) (devices : A) (named : List Label) (seed : List ℕ) (lines : List ScriptLine) (disk_after : D) (devices_after : A) : Type 0 where
     pub run : IsRun disk devices named seed disk_after devices_after
-    pub calls : (session : ℕ) → (n : ℕ) × (length (places_of session 0 run.history) ≡ length (lines_of session (take n lines)))
+    pub calls : (session : ℕ) → (n : ℕ) × (length (ranks_of session 0 run.history) ≡ length (lines_of session (take n lines)))
         × OfStarts run.opened run.history (λ start. AreCalls [] (lines_of session (take n lines)) (turns_of session (turns_from 0 start run.history)))
+        × OfBeginnings run.opened run.history (λ start beginning. AreFirstCalls (lines_of session (take n lines)) (turns_of session (turns_from 0 start beginning)))
 
   -- The store wasn't opened, for this fault, and the devices come back as they were.
   pub record IsUnopened (disk : D) (devices : A) (fault : OpenFault) (disk_after : D) (devices_after : A) : Type 0 where

@@ -16,11 +16,11 @@ use Rattle.callers.specs.Worlds.{World}
 use Rattle.callers.specs.declared.caller.Caller.{Caller}
 use Rattle.script_lang.specs.declared.script.ScriptLine.{ScriptLine}
 use Rattle.script_lang.specs.Lines.{lines_of}
-use Rattle.script_lang.specs.PrintedOrder.{AreCalls, id_given, numbered}
 use Rattle.script_sessions.specs.declared.session.Session.{Session}
-use Rattle.script_sessions.specs.Heads.{head_of, heads, places_of}
-use Rattle.script_sessions.specs.Running.{HasAnswered, KnowsTurns}
-use Rattle.script_sessions.proofs.Heads.{places_later}
+use Rattle.script_sessions.specs.Heads.{head_of, heads, ranks_of}
+use Rattle.script_sessions.specs.Printed.{AreFirstCalls, AreFirstReplies}
+use Rattle.script_sessions.specs.Running.{AreFirstGiven, HasAnswered, KnowsTurns}
+use Rattle.script_sessions.proofs.Heads.{ranks_later}
 use Rattle.script_sessions.proofs.Told.{knows_later, own_calls}
 use Rattle.session_workers.specs.Working.{ChangesAt, HasLearned}
 
@@ -38,21 +38,22 @@ module _ {D A C : Type 0} (w : World D A C) where
           ready = l.ready;
           spent = let a = h.made.spent in let b = l.spent in omega arith;
           count = let a = ap length l.calls in let b = h.made.count in let e = ap (λ k. length (lines_of k lines)) l.number in omega arith;
-          calls = subst (λ k. KnowsTurns w k (entries_of d.pass.me.0.seen) (AreCalls [] (lines_of k lines))) (sym l.number)
-              (knows_later w n (entries_of d.pass.me.0.seen) (entries_of c.pass.me.0.seen) (AreCalls [] (lines_of n lines)) l.seen same h.made.calls);
+          calls = subst (λ k. KnowsTurns w k (entries_of d.pass.me.0.seen) (AreFirstCalls (lines_of k lines))) (sym l.number)
+              (knows_later w n (entries_of d.pass.me.0.seen) (entries_of c.pass.me.0.seen) (AreFirstCalls (lines_of n lines)) l.seen same h.made.calls);
         };
         replies = record {
           count = let a = ap (λ r. length r.items) l.replies in let b = h.replies.count in let e = ap (λ k. length (lines_of k lines)) l.number in omega arith;
-          known = subst (λ k. KnowsTurns w k (entries_of d.pass.me.0.seen) (λ turns. new.replies.items ≡ numbered 1 turns)) (sym l.number)
-              (subst (λ r. KnowsTurns w n (entries_of d.pass.me.0.seen) (λ turns. r.items ≡ numbered 1 turns)) (sym l.replies)
-              (knows_later w n (entries_of d.pass.me.0.seen) (entries_of c.pass.me.0.seen) (λ turns. old.replies.items ≡ numbered 1 turns) l.seen same h.replies.known));
+          known = subst (λ k. KnowsTurns w k (entries_of d.pass.me.0.seen) (AreFirstReplies new.replies.items)) (sym l.number)
+              (subst (λ r. KnowsTurns w n (entries_of d.pass.me.0.seen) (AreFirstReplies r.items)) (sym l.replies)
+              (knows_later w n (entries_of d.pass.me.0.seen) (entries_of c.pass.me.0.seen) (AreFirstReplies old.replies.items) l.seen same h.replies.known));
           heads = ap (λ r. map head_of r.items) l.replies
-              ∙ (h.replies.heads ∙ ap₂ (λ k places. heads k 1 places) (sym l.number)
-              (sym (ap (λ k. places_of k 0 (entries_of d.pass.me.0.seen)) l.number ∙ places_later n (entries_of c.pass.me.0.seen) (entries_of d.pass.me.0.seen) l.seen same)));
+              ∙ (h.replies.heads ∙ ap₂ (λ k ranks. heads k 1 ranks) (sym l.number)
+              (sym (ap (λ k. ranks_of k 0 (entries_of d.pass.me.0.seen)) l.number ∙ ranks_later n (entries_of c.pass.me.0.seen) (entries_of d.pass.me.0.seen) l.seen same)));
         };
-        given = subst (λ k. KnowsTurns w k (entries_of d.pass.me.0.seen) (λ turns. new.given.items ≡ map (λ t. id_given t.reply.output) turns)) (sym l.number)
-            (subst (λ r. KnowsTurns w n (entries_of d.pass.me.0.seen) (λ turns. r.items ≡ map (λ t. id_given t.reply.output) turns)) (sym l.given)
-            (knows_later w n (entries_of d.pass.me.0.seen) (entries_of c.pass.me.0.seen) (λ turns. old.given.items ≡ map (λ t. id_given t.reply.output) turns) l.seen same h.given));
+        given_count = let a = ap (λ r. length r.items) l.given in let b = h.given_count in let e = ap (λ k. length (lines_of k lines)) l.number in omega arith;
+        given = subst (λ k. KnowsTurns w k (entries_of d.pass.me.0.seen) (AreFirstGiven new.given.items)) (sym l.number)
+            (subst (λ r. KnowsTurns w n (entries_of d.pass.me.0.seen) (AreFirstGiven r.items)) (sym l.given)
+            (knows_later w n (entries_of d.pass.me.0.seen) (entries_of c.pass.me.0.seen) (AreFirstGiven old.given.items) l.seen same h.given));
       }
 
   pub has_learned : (old new : Caller D A C) (replies : Vec ReplyLine) (given : Vec ℕ) (other : View Entry (Opened D A C)) → IsReady w 0 new → new.pass.me.0 ≡ joined old.pass.me.0 other → StartsWith new.pass.me.0.seen old.pass.me.0.seen →

@@ -14,7 +14,7 @@ returns-in-Err-clause-ran g c lines h =
     let old = c.args.self.now in let new = c.call-rank.new.self in
     let made = subst (λ ids. IsMade w old.caller.pass.me.0 new.caller.pass.me.0 (request_of ids c.args.line.now.call) c.call-rank.result.0 (λ reply. IfOk c.call-rank.result.1 (λ a. Answers a reply)))
     c.reserve-else-is_err.ensures.items c.call-rank.ensures.made in
-    inr (made_more w lines c.args.line.now old.given.items old.caller new.caller c.call-rank.result.0 (λ reply. IfOk c.call-rank.result.1 (λ a. Answers a reply)) h.made c.call-rank.ensures.ready c.call-rank.ensures.spent c.requires.own h.given made)
+    inr (made_more w lines c.args.line.now old.given.items old.caller new.caller c.call-rank.result.0 (λ reply. IfOk c.call-rank.result.1 (λ a. Answers a reply)) h.made c.call-rank.ensures.ready c.call-rank.ensures.spent c.requires.own h.given_count h.given made)
 
 pub returns-clause-ran : goal.returns-clause-ran
 returns-clause-ran g c lines h =
