@@ -1,11 +1,12 @@
 -- Two rows as the slots of a table.
 use Rattle.key_attributes.specs.declared.KeyId.{KeyId}
-use Rattle.std.proofs.Common.{◌&&◌, ◌==◌, ◌≡◌, ◌<◌, ℕ, zero, suc, List, [], ◌∷◌, length, get_or, set, replicate, refl, sym, ap, ◌∙◌, arith}
+use Rattle.std.proofs.Common.{◌&&◌, ◌==◌, ◌≡◌, ◌<◌, ℕ, zero, suc, min, inl, inr, List, [], ◌∷◌, length, get_or, get_or-set_other, get_or-set_same, set, replicate, refl, sym, ap, ◌∙◌, arith}
+use Rattle.std.proofs.lemmas.Bool.Decides.{eqb_tells}
 use Rattle.std.proofs.lemmas.List.{length-replicate, set-get_or}
 use Rattle.slot_table.specs.declared.place.Head.{Head}
 use Rattle.slot_table.specs.declared.place.Stored.{Stored}
-use Rattle.slot_table.specs.Slots.{Slot, slot_at, empty_slot, holds_key, is_full}
-use Rattle.slot_table.specs.Rows.{AreRows, slots_of, slot_of, head_holds_key, head_at, stored_at, empty_head, no_key}
+use Rattle.slot_table.specs.Slots.{Slot, slot_at, empty_slot, holds_key, is_empty_state, is_full}
+use Rattle.slot_table.specs.Rows.{AreRows, NoneBefore, slots_of, slot_of, head_holds_key, head_at, stored_at, empty_head, no_key}
 
 length-slots_of : (heads : List Head) (keys : List Stored) → length heads ≡ length keys → length (slots_of heads keys) ≡ length heads
 length-slots_of [] [] same = refl
@@ -32,16 +33,16 @@ slots_of-replicate zero = refl
 slots_of-replicate (suc n) = ap (λ ss. empty_slot ∷ ss) (slots_of-replicate n)
 
 -- what stands at a place of two rows that are a table's slots
-pub slot_is : (heads : List Head) (keys : List Stored) (slots : List Slot) → AreRows heads keys → slots_of heads keys ≡ slots → (i : ℕ) → slot_at slots i ≡ slot_of (head_at heads i) (stored_at keys i)
+pub slot_is : (heads : List Head) (keys : List Stored) (slots : List Slot) → {first : ℕ} → AreRows heads keys first → slots_of heads keys ≡ slots → (i : ℕ) → slot_at slots i ≡ slot_of (head_at heads i) (stored_at keys i)
 slot_is heads keys slots rows view i =
     sym (ap (λ ss. slot_at ss i) view) ∙ slot_at-slots_of heads keys i (omega (arith, rows.heads_sized, rows.keys_sized))
 
-pub length_is : (heads : List Head) (keys : List Stored) (slots : List Slot) → AreRows heads keys → slots_of heads keys ≡ slots → length slots ≡ 384
+pub length_is : (heads : List Head) (keys : List Stored) (slots : List Slot) → {first : ℕ} → AreRows heads keys first → slots_of heads keys ≡ slots → length slots ≡ 384
 length_is heads keys slots rows view =
     sym (ap length view) ∙ length-slots_of heads keys (omega (arith, rows.heads_sized, rows.keys_sized)) ∙ rows.heads_sized
 
 -- a head tells whether its slot has a key
-pub holds_key-head : (heads : List Head) (keys : List Stored) (slots : List Slot) → AreRows heads keys → slots_of heads keys ≡ slots → (id i : ℕ) → holds_key id (slot_at slots i) ≡ head_holds_key id (head_at heads i)
+pub holds_key-head : (heads : List Head) (keys : List Stored) (slots : List Slot) → {first : ℕ} → AreRows heads keys first → slots_of heads keys ≡ slots → (id i : ℕ) → holds_key id (slot_at slots i) ≡ head_holds_key id (head_at heads i)
 holds_key-head heads keys slots rows view id i =
     ap (holds_key id) (slot_is heads keys slots rows view i) ∙ ap (λ (k : KeyId). is_full (head_at heads i).state && (k.0 == id)) (sym (rows.named i))
 
@@ -50,7 +51,7 @@ pub record StandsAt (heads : List Head) (keys : List Stored) (slots : List Slot)
   pub key : i < length keys
   pub slot : slot_at slots i ≡ slot_of (head_at heads i) (stored_at keys i)
 
-pub stands_at : (heads : List Head) (keys : List Stored) (slots : List Slot) (i : ℕ) → AreRows heads keys → slots_of heads keys ≡ slots → i < length slots → StandsAt heads keys slots i
+pub stands_at : (heads : List Head) (keys : List Stored) (slots : List Slot) (i : ℕ) → {first : ℕ} → AreRows heads keys first → slots_of heads keys ≡ slots → i < length slots → StandsAt heads keys slots i
 stands_at heads keys slots i rows view within =
     let long : length slots ≡ 384 = length_is heads keys slots rows view in
     record {
@@ -74,9 +75,26 @@ get_or-replicate_same zero i x = refl
 get_or-replicate_same (suc n) zero x = refl
 get_or-replicate_same (suc n) (suc i) x = get_or-replicate_same n i x
 
-pub AreRows-replicate : AreRows (replicate 384 empty_head) (replicate 384 no_key)
+pub AreRows-replicate : AreRows (replicate 384 empty_head) (replicate 384 no_key) 0
 AreRows-replicate = record {
   heads_sized = length-replicate 384 empty_head;
   keys_sized = length-replicate 384 no_key;
   named = λ i. ap (λ (h : Head). h.id) (get_or-replicate_same 384 i empty_head) ∙ sym (ap (λ (k : Stored). k.attributes.id) (get_or-replicate_same 384 i no_key));
+  none_before = λ i lt. absurd (omega (arith, lt));
 }
+
+-- WRITES
+
+-- a head whose state stays leaves none before a place empty
+pub none_still : (heads : List Head) (first i : ℕ) (head : Head) → NoneBefore heads first → i < length heads → head.state ≡ (head_at heads i).state → NoneBefore (set heads i head) first
+none_still heads first i head none within same k lt = elim (eqb_tells k i) [
+  | inl here ↦
+      ap (λ (h : Head). is_empty_state h.state) (ap (λ j. get_or (set heads i head) j empty_head) here.1 ∙ get_or-set_same heads i head empty_head within)
+      ∙ (ap is_empty_state same ∙ (ap (λ j. is_empty_state (head_at heads j).state) (sym here.1) ∙ none k lt))
+  | inr other ↦ ap (λ (h : Head). is_empty_state h.state) (get_or-set_other heads i k head empty_head other.1) ∙ none k lt
+]
+
+-- and another one none before its own
+pub none_before_it : (heads : List Head) (first i : ℕ) (head : Head) → NoneBefore heads first → NoneBefore (set heads i head) (min first i)
+none_before_it heads first i head none k lt =
+    ap (λ (h : Head). is_empty_state h.state) (get_or-set_other heads i k head empty_head (λ e. omega (arith, e, lt))) ∙ none k (omega (arith, lt))

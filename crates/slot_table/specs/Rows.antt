@@ -1,10 +1,10 @@
 -- The two rows in which a table keeps its slots.
-use Rattle.std.specs.Prelude.{◌≡◌, ℕ, ◌==◌, Bool, ◌&&◌, List, [], ◌∷◌, length, slice_index_or}
+use Rattle.std.specs.Prelude.{◌≡◌, ℕ, ◌<◌, ◌==◌, Bool, false, ◌&&◌, List, [], ◌∷◌, length, slice_index_or}
 use Rattle.slot_states.specs.declared.SlotState.TheVariants.{Empty}
 use Rattle.secret_bytes.specs.Buffer.{buffer_of}
 use Rattle.slot_table.specs.declared.place.Head.{Head}
 use Rattle.slot_table.specs.declared.place.Stored.{Stored}
-use Rattle.slot_table.specs.Slots.{Slot, no_attributes, is_full}
+use Rattle.slot_table.specs.Slots.{Slot, no_attributes, is_empty_state, is_full}
 
 abbrev pub empty_head : Head
 empty_head = record { state = Empty; readers = 0; id = record { 0 = 0 } }
@@ -18,6 +18,10 @@ head_at heads i = slice_index_or heads i empty_head
 abbrev pub stored_at : List Stored → ℕ → Stored
 stored_at keys i = slice_index_or keys i no_key
 
+-- no head before a place is that of an empty slot
+abbrev pub NoneBefore : List Head → ℕ → Type 0
+NoneBefore heads first = (i : ℕ) → i < first → is_empty_state (head_at heads i).state ≡ false
+
 -- whether a head is that of a slot with the key of this identifier, which can be used
 abbrev pub head_holds_key : ℕ → Head → Bool
 head_holds_key id head = is_full head.state && (head.id.0 == id)
@@ -29,8 +33,9 @@ abbrev pub slots_of : List Head → List Stored → List Slot
 slots_of (head ∷ heads) (key ∷ keys) = slot_of head key ∷ slots_of heads keys
 slots_of _ _ = []
 
--- there are 384 of each, and a head has its key's identifier
-pub record AreRows (heads : List Head) (keys : List Stored) : Type 0 where
+-- there are 384 of each, a head has its key's identifier, and none before a place is empty
+pub record AreRows (heads : List Head) (keys : List Stored) (first : ℕ) : Type 0 where
   pub heads_sized : length heads ≡ 384
   pub keys_sized : length keys ≡ 384
   pub named : (i : ℕ) → (head_at heads i).id ≡ (stored_at keys i).attributes.id
+  pub none_before : NoneBefore heads first

@@ -70,6 +70,10 @@ NoKey id slots = (i : ℕ) → holds_key id (slot_at slots i) ≡ false
 abbrev pub IsEmptyAt : List Slot → ℕ → Type 0
 IsEmptyAt slots i = (i < length slots) × (is_empty_state (slot_at slots i).state ≡ true)
 
+-- none before a place is empty
+abbrev pub IsNoneEmptyBefore : List Slot → ℕ → Type 0
+IsNoneEmptyBefore slots place = (i : ℕ) → i < place → is_empty_state (slot_at slots i).state ≡ false
+
 abbrev pub NoneEmpty : List Slot → Type 0
 NoneEmpty slots = (i : ℕ) → i < length slots → is_empty_state (slot_at slots i).state ≡ false
 

@@ -1,8 +1,8 @@
 //! The slots of a table, in two rows: what a look for a key reads, and the keys.
-ghost use Rattle.std.specs.Prelude.{◌≡◌, ◌<◌, ◌≤◌, ◌-◌, ◌+◌, ◌^◌, length, slice_set, replicate, true, IfOk, MatchOption};
+ghost use Rattle.std.specs.Prelude.{◌≡◌, ◌<◌, ◌≤◌, ◌-◌, ◌+◌, ◌^◌, length, slice_set, replicate, true, IfOk, IfSome, MatchOption};
 ghost use Rattle.slot_states.specs.Changes.{may_change};
 ghost use Rattle.slot_states.specs.declared.SlotState.TheVariants.{Empty, Full};
-ghost use Rattle.slot_table.specs.Slots.{empty_slot, slot_at, holds_key, is_idle, NoKey, NoneEmpty, IsEmptyAt};
+ghost use Rattle.slot_table.specs.Slots.{empty_slot, slot_at, holds_key, is_idle, NoKey, NoneEmpty, IsEmptyAt, IsNoneEmptyBefore};
 ghost use Rattle.slot_table.specs.Changes.{full_slot, registered};
 ghost use Rattle.slot_table.specs.Rows.{no_key};
 
@@ -21,6 +21,8 @@ pub const SLOTS: usize = 384;
 pub struct SlotRows {
     heads: Vec<Head>,
     keys: Vec<Stored>,
+    // No slot before this one is empty.
+    first: usize,
 }
 
 impl Model for SlotRows {
@@ -32,7 +34,7 @@ impl Model for SlotRows {
 
     ghost view = { λ r. slots_of r.heads.items r.keys.items };
 
-    ghost invariant = { λ r. AreRows r.heads.items r.keys.items };
+    ghost invariant = { λ r. AreRows r.heads.items r.keys.items r.first };
 }
 
 impl SlotRows {
@@ -44,7 +46,11 @@ impl SlotRows {
             return Err(Memory);
         };
         let keys = no_keys(alloc)?;
-        Ok(SlotRows { heads, keys })
+        Ok(SlotRows {
+            heads,
+            keys,
+            first: 0,
+        })
     }
 
     /// The slot that has the key of this identifier.
@@ -59,16 +65,25 @@ impl SlotRows {
         None
     }
 
-    /// An empty slot.
+    /// The first empty slot.
     pub fn find_empty(&self) -> Option<u32>
-        ensures { MatchOption result (NoneEmpty self.now) (λ i. IsEmptyAt self.now i) }
+        ensures found { MatchOption result (NoneEmpty self.now) (λ i. IsEmptyAt self.now i) }
+        ensures before { IfSome result (λ i. IsNoneEmptyBefore self.now i) }
     {
-        for i in 0..self.heads.len() {
+        for i in self.first..self.heads.len() {
             if self.heads[i].is_empty() {
                 return Some(i as u32);
             }
         }
         None
+    }
+
+    /// Has looks for an empty slot begin at one before which there is none.
+    pub fn look_from(&mut self, slot: u32)
+        requires { IsNoneEmptyBefore self.old slot }
+        ensures { self.new ≡ self.old }
+    {
+        self.first = slot as usize;
     }
 
     /// Whether a slot has a persistent key that nobody reads.
@@ -108,6 +123,7 @@ impl SlotRows {
         ensures { self.new ≡ slice_set self.old slot (record (slot_at self.old slot) { state = to }) }
     {
         self.heads[slot as usize].change(to);
+        self.first = self.first.min(slot as usize);
     }
 
     /// Puts a key into a slot, as it may.
@@ -122,6 +138,7 @@ impl SlotRows {
         head.change(SlotState::Full);
         head.id = attributes.id;
         self.keys[slot as usize].fill(creation, attributes, bytes);
+        self.first = self.first.min(slot as usize);
     }
 
     /// Makes a slot empty, as it may: all its bytes are zeros.
@@ -132,6 +149,7 @@ impl SlotRows {
     {
         self.keys[slot as usize].wipe();
         self.heads[slot as usize].wipe();
+        self.first = self.first.min(slot as usize);
     }
 
     /// One reader more.

@@ -97,6 +97,7 @@ impl SlotTable {
         ensures lawful { IsLawful self.new }
     {
         if let Some(slot) = self.rows.find_empty() {
+            self.rows.look_from(slot);
             return self.begin(slot);
         }
         let slot = self.evict();

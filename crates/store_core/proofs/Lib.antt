@@ -30,3 +30,4 @@ mod Ending
 mod Zeroed
 mod Forgotten
 mod Missing
+mod Named

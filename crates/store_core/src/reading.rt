@@ -17,7 +17,7 @@ use crate::Store;
 use admission::Admission;
 use disk_face::Disk;
 use driver_dispatch::Devices;
-use key_attributes::KeyId;
+use key_attributes::{KeyId, LAST_STATED_ID};
 use key_cells::CellFault;
 use psa_status::Status;
 
@@ -75,8 +75,15 @@ impl<D: Disk, A: Devices, C: Admission> Store<D, A, C> {
         ensures ranked { self.new.ranked ≡ self.old.ranked }
         ensures opened { self.new.opened ≡ self.old.opened }
     {
+        // no key has the identifier 0, and none in the file has a greater one than could be stated
+        if id.0 == 0 {
+            return Err(Unread::Missing);
+        }
         if let Some(slot) = self.slots.find(id) {
             return Ok(slot);
+        }
+        if id.0 > LAST_STATED_ID {
+            return Err(Unread::Missing);
         }
         let Some(cell) = self.file.find(id.0) else {
             return Err(Unread::Missing);

@@ -6,6 +6,7 @@ use Rattle.store_core.proofs.Holding.{left_alone}
 use Rattle.store_core.proofs.Kept.{no_key}
 use Rattle.store_core.proofs.Loading.{brings}
 use Rattle.store_core.proofs.Ending.{empties_none}
+use Rattle.store_core.proofs.Named.{none_above, none_of_zero}
 use Rattle.store_core.proofs.store.Store.bring.Goals as goal
 
 pub returns-in-Some-clause-found : goal.returns-in-Some-clause-found
@@ -29,3 +30,29 @@ returns-in_default-find-clause-missing g c = λ is_missing start opening h all e
 
 pub returns-in_default-find-clause-emptied : goal.returns-in_default-find-clause-emptied
 returns-in_default-find-clause-emptied g c = empties_none c.args.self.now.slots.table.slots
+
+pub returns-then-id-eq0-clause-missing : goal.returns-then-id-eq0-clause-missing
+returns-then-id-eq0-clause-missing g c = λ is_missing start opening h all e s is.
+    let d = g.D.Disk in
+    let v = g.A.Devices in
+    let old = c.args.self.now in
+    let m = s.holds.model in
+    brings d.contents d.may_leave d.moment d.left_since d.faults v.keys v.faults v.locations g.C.Admission.labels old old.file old.slots old.buffer start opening h all e
+    (λ n. map.get n.keys c.args.id.0 ≡ None) (left_alone d.contents d.may_leave d.moment d.left_since d.faults v.keys v.faults v.locations g.C.Admission.labels old.file) s.holds s.holds.slots
+    (none_of_zero m s.holds.sound c.args.id.0 c.if-id-eq0.true)
+
+pub returns-then-id-eq0-clause-emptied : goal.returns-then-id-eq0-clause-emptied
+returns-then-id-eq0-clause-emptied g c = empties_none c.args.self.now.slots.table.slots
+
+pub returns-then-id-gt-LAST_STATED_ID-clause-missing : goal.returns-then-id-gt-LAST_STATED_ID-clause-missing
+returns-then-id-gt-LAST_STATED_ID-clause-missing g c = λ is_missing start opening h all e s is.
+    let d = g.D.Disk in
+    let v = g.A.Devices in
+    let old = c.args.self.now in
+    let m = s.holds.model in
+    brings d.contents d.may_leave d.moment d.left_since d.faults v.keys v.faults v.locations g.C.Admission.labels old old.file old.slots old.buffer start opening h all e
+    (λ n. map.get n.keys c.args.id.0 ≡ None) (left_alone d.contents d.may_leave d.moment d.left_since d.faults v.keys v.faults v.locations g.C.Admission.labels old.file) s.holds s.holds.slots
+    (none_above m s.holds.sound c.args.id.0 c.if-id-gt-LAST_STATED_ID.true (c.in_default.ensures.none m all s.holds.slots))
+
+pub returns-then-id-gt-LAST_STATED_ID-clause-emptied : goal.returns-then-id-gt-LAST_STATED_ID-clause-emptied
+returns-then-id-gt-LAST_STATED_ID-clause-emptied g c = empties_none c.args.self.now.slots.table.slots
