@@ -87,9 +87,9 @@ impl<D: Disk, A: Devices, C: Admission> SharedStore<D, A, C> {
         out: &mut [u8],
     ) -> (u64, Result<usize, NotComputed>)
         requires begun { IsBegun self.now.lock.table.shared.table_id self.now.lock.table.shared.key.value.value.store.opened before.value.me.0 pass.old turn.entries }
-        requires stands { HoldsHistory D.contents D.may_leave D.moment D.left_since D.faults D.size A.keys A.faults A.locations C.labels turn.value.store (entries_of pass.old.me.0.seen) pass.old.me.0.holdings }
-        requires opened { turn.value.store.opened ≡ self.now.lock.table.shared.key.value.value.store.opened }
-        requires opaque { HoldsOf D.contents D.may_leave D.moment D.left_since D.faults A.keys A.faults A.locations C.labels turn.value.store (λ m. is_opaque_key (map.get m.keys id.0) ≡ true) }
+        requires stands { HoldsHistory D.contents D.may_leave D.moment D.left_since D.faults D.size A.keys A.faults A.locations C.labels turn.value.value.store (entries_of pass.old.me.0.seen) pass.old.me.0.holdings }
+        requires opened { turn.value.value.store.opened ≡ self.now.lock.table.shared.key.value.value.store.opened }
+        requires opaque { HoldsOf D.contents D.may_leave D.moment D.left_since D.faults A.keys A.faults A.locations C.labels turn.value.value.store (λ m. is_opaque_key (map.get m.keys id.0) ≡ true) }
         requires computes { model_request call.now (length out.old) ≡ OnStore (model_call element.now id.0 (length out.old)) }
         ensures at { IsAt self.now.lock.table.shared.table_id self.now.lock.table.shared.key.value.value.store.opened pass.new }
         ensures legal { IsLegal D.contents D.moment D.faults A.faults A.locations C.labels self.now.lock.table.shared.key.value.value.store.opened (entries_of pass.new.me.0.seen) }

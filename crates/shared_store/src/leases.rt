@@ -73,8 +73,8 @@ impl<D: Disk, A: Devices, C: Admission> SharedStore<D, A, C> {
         spare: Secret,
     ) -> (u64, Result<Lease, (Status, Secret)>)
         requires begun { IsBegun self.now.lock.table.shared.table_id self.now.lock.table.shared.key.value.value.store.opened before.value.me.0 pass.old turn.entries }
-        requires stands { HoldsHistory D.contents D.may_leave D.moment D.left_since D.faults D.size A.keys A.faults A.locations C.labels turn.value.store (entries_of pass.old.me.0.seen) pass.old.me.0.holdings }
-        requires opened { turn.value.store.opened ≡ self.now.lock.table.shared.key.value.value.store.opened }
+        requires stands { HoldsHistory D.contents D.may_leave D.moment D.left_since D.faults D.size A.keys A.faults A.locations C.labels turn.value.value.store (entries_of pass.old.me.0.seen) pass.old.me.0.holdings }
+        requires opened { turn.value.value.store.opened ≡ self.now.lock.table.shared.key.value.value.store.opened }
         requires holding { IsHolding before.value.me.0.holding }
         requires space { HasRoomForLease before.value.me.0.holding }
         requires spare { IsClear spare }

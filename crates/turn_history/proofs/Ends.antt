@@ -18,7 +18,7 @@ use Rattle.turn_history.specs.Closing.{Closing}
 use Rattle.turn_history.proofs.Lists.{at_snoc_end, total_two, total_snoc}
 use Rattle.turn_history.proofs.Keeping.{Signed, some_same, some_is_not, same_at, none_recalled}
 
-module _ {V E B : Type 0} (by : E → ℕ) (stands : V → List E → List Holding → Type 0) (base : V → B) (key : V) (passes : ℕ) where
+module _ {V E B : Type 0} (by : E → ℕ) (stands : V → List E → List Holding → Type 0) (base : V → B) (key : B) (passes : ℕ) where
   abbrev S : Type 0
   S = View E B
 
@@ -34,8 +34,8 @@ module _ {V E B : Type 0} (by : E → ℕ) (stands : V → List E → List Holdi
   abbrev Gone : St → Type 0
   Gone = Away by stands base
 
-  pub opens : (x : V) → 0 < passes → passes ≤ 16 → stands x [] (replicate passes []) → base x ≡ base key → Rule (opening (0 ∷ 0 ∷ []) (Some x ∷ []) (first_view (base key) passes))
-  opens x some_passes few stood same = let r : Course E B = record { turns = []; holdings = replicate passes []; tickets = 0; made = 0; maker = 0; seat = λ _. 0; holder = λ _. 0; base = base key } in let first : S = first_view (base key) passes in record {
+  pub opens : (x : V) → 0 < passes → passes ≤ 16 → stands x [] (replicate passes []) → base x ≡ key → Rule (opening (0 ∷ 0 ∷ []) (Some x ∷ []) (first_view key passes))
+  opens x some_passes few stood same = let r : Course E B = record { turns = []; holdings = replicate passes []; tickets = 0; made = 0; maker = 0; seat = λ _. 0; holder = λ _. 0; base = key } in let first : S = first_view key passes in record {
     course = r;
     words = refl;
     order = omega arith;
@@ -47,7 +47,7 @@ module _ {V E B : Type 0} (by : E → ℕ) (stands : V → List E → List Holdi
     owned = λ n some_n. inl (all_empty passes (n - 1));
     each = λ j u e. ⊎_elim (λ (x : (j ≡ 0) × (first ≡ u)). subst (λ (y : ℕ × S). Knows by r y.0 y.1) (λ i. (sym x.0 i, x.1 i)) record {
       seen = ([], refl);
-      based = λ b e. sym (some_same (base key) b e);
+      based = λ b e. sym (some_same key b e);
       numbered = λ z. absurd (omega arith);
       called = λ z. absurd (omega arith);
       has = λ z. absurd (omega arith);
@@ -60,7 +60,7 @@ module _ {V E B : Type 0} (by : E → ℕ) (stands : V → List E → List Holdi
     place = inl record { value = x; at_home = refl; stood = stood; same_base = same; nobody = λ j u e. ⊎_elim (λ (x : (j ≡ 0) × (first ≡ u)). ap (λ (y : S). y.in_turn) (sym x.1)) (λ (x : (j ≢ 0) × (get_elem? (first ∷ []) j ≡ some u)). absurd (alone j u x.0 x.1)) (at_set (first ∷ []) 0 j first u e) };
   }
     where
-      alone : (j : ℕ) (u : S) → j ≢ 0 → get_elem? (first_view (base key) passes ∷ []) j ≡ some u → ⊥
+      alone : (j : ℕ) (u : S) → j ≢ 0 → get_elem? (first_view key passes ∷ []) j ≡ some u → ⊥
       alone zero u other e = other refl
       alone (suc j) u other e = some-ne-none u (sym e)
 

@@ -18,7 +18,7 @@ use Rattle.turn_history.specs.Steps.{compared}
 use Rattle.turn_history.proofs.Lists.{put, put_here, put_else, two_beginnings, between, total_set}
 use Rattle.turn_history.proofs.Keeping.{loaded, quiet, later, place_stays, some_is_not, all_set, nobody_still, same_at, there_still, none_recalled}
 
-module _ {V E B : Type 0} (by : E → ℕ) (stands : V → List E → List Holding → Type 0) (base : V → B) (key : V) (passes : ℕ) where
+module _ {V E B : Type 0} (by : E → ℕ) (stands : V → List E → List Holding → Type 0) (base : V → B) (key : B) (passes : ℕ) where
   abbrev S : Type 0
   S = View E B
 

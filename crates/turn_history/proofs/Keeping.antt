@@ -29,7 +29,7 @@ abbrev pub first_carried : {V : Type 0} → List (ℕ × Option V) → Option V
 first_carried [] = None
 first_carried (x ∷ xs) = x.1
 
-module _ {V E B : Type 0} (by : E → ℕ) (stands : V → List E → List Holding → Type 0) (base : V → B) (key : V) (passes : ℕ) where
+module _ {V E B : Type 0} (by : E → ℕ) (stands : V → List E → List Holding → Type 0) (base : V → B) (key : B) (passes : ℕ) where
   abbrev S : Type 0
   S = View E B
 

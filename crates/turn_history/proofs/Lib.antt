@@ -1,3 +1,4 @@
+mod Boxed
 pub mod Lists
 pub mod Keeping
 pub mod Turning

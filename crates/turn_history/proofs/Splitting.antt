@@ -14,7 +14,7 @@ use Rattle.turn_history.specs.Rule.{Course, Knows, Home, Away, Kept}
 use Rattle.turn_history.proofs.Lists.{put, put_here, put_else, at_snoc_end, between, no_calls, total_set, total_snoc}
 use Rattle.turn_history.proofs.Keeping.{some_is_not, all_set, nobody_still, there_still, none_recalled}
 
-module _ {V E B : Type 0} (by : E → ℕ) (stands : V → List E → List Holding → Type 0) (base : V → B) (key : V) (passes : ℕ) where
+module _ {V E B : Type 0} (by : E → ℕ) (stands : V → List E → List Holding → Type 0) (base : V → B) (key : B) (passes : ℕ) where
   abbrev S : Type 0
   S = View E B
 

@@ -18,7 +18,7 @@ use Rattle.turn_history.specs.Steps.{drawn, Found, looked, ended, fronted}
 use Rattle.turn_history.proofs.Lists.{put, put_here, put_else, begins_itself, begins_longer, at_here, total_set, entries-append, entries_one, calls_snoc_own, calls_snoc_other, own_here, own_else}
 use Rattle.turn_history.proofs.Keeping.{Signed, some_same, some_is_not, not_true, first_carried, all_set, nobody_still, same_at, there_still, place_stays, later, quiet, loaded}
 
-module _ {V E B : Type 0} (by : E → ℕ) (stands : V → List E → List Holding → Type 0) (base : V → B) (key : V) (passes : ℕ) where
+module _ {V E B : Type 0} (by : E → ℕ) (stands : V → List E → List Holding → Type 0) (base : V → B) (key : B) (passes : ℕ) where
   abbrev S : Type 0
   S = View E B
 

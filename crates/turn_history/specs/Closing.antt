@@ -5,10 +5,10 @@ use Rattle.turn_history.specs.History.{entries_of, calls_by, StartsWith}
 use Rattle.turn_history.specs.Holdings.{Holding}
 
 -- the value x stands for one history, which the passes of these accounts have seen beginnings of
-pub record Closing {V E B : Type 0} (by : E → ℕ) (stands : V → List E → List Holding → Type 0) (base : V → B) (opening : V) (passes : ℕ) (x : V) (accounts : List (Account E)) : Type 0 where
+pub record Closing {V E B : Type 0} (by : E → ℕ) (stands : V → List E → List Holding → Type 0) (base : V → B) (opening : B) (passes : ℕ) (x : V) (accounts : List (Account E)) : Type 0 where
   pub turns : List (Option E)
   pub stood : stands x (entries_of turns) (replicate passes [])
-  pub same_base : base x ≡ base opening
+  pub same_base : base x ≡ opening
   -- a pass that the lock was made with signs each entry
   pub signed : All (λ (e : E). (0 < by e) × (by e ≤ passes)) (entries_of turns)
   pub seen : All (λ (a : Account E). StartsWith turns a.seen) accounts

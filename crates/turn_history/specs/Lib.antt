@@ -1,5 +1,6 @@
 pub mod History
 pub mod Holdings
+pub mod Boxed
 pub mod Views
 pub mod Rule
 pub mod Steps

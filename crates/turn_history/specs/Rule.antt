@@ -67,7 +67,7 @@ module _ {V E B : Type 0} (by : E → ℕ) (stands : V → List E → List Holdi
   abbrev pub Owned : Course E B → List (View E B) → ℕ → Type 0
   Owned r views n = (own_of r.holdings n ≡ []) ⊎ ((v : View E B) × (get_elem? views (r.seat n) ≡ some v) × (v.number ≡ n))
 
-  pub record Kept (opening : V) (passes : ℕ) (s : State (Option V) (View E B)) : Type 0 where
+  pub record Kept (opening : B) (passes : ℕ) (s : State (Option V) (View E B)) : Type 0 where
     pub course : Course E B
     pub words : s.words ≡ length course.turns ∷ course.tickets ∷ []
     pub order : length course.turns ≤ course.tickets
@@ -75,7 +75,7 @@ module _ {V E B : Type 0} (by : E → ℕ) (stands : V → List E → List Holdi
     pub fuel : course.tickets + total (λ (v : View E B). v.turns_left) s.views ≤ 2 ^ 62
     pub weighs : total (λ (v : View E B). v.weight) s.views ≡ passes
     pub sized : (length course.holdings ≡ passes) × (course.made ≤ passes)
-    pub based : course.base ≡ base opening
+    pub based : course.base ≡ opening
     pub signed : All (λ (e : E). (0 < by e) × (by e ≤ course.made)) (entries_of course.turns)
     pub owned : (n : ℕ) → 0 < n → Owned course s.views n
     pub each : (j : ℕ) (v : View E B) → get_elem? s.views j ≡ some v → Knows by course j v

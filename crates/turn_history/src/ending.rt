@@ -33,15 +33,15 @@ impl<V: Historic> Ending<V> {
     /// or by one that took them in.
     pub fn end(self) -> V
         requires { self.last.me.0.weight ≡ self.lock.table.shared.key.passes }
-        ensures { Closing V.by V.stands V.base self.lock.table.shared.key.value.value self.lock.table.shared.key.passes result self.last.me.0.accounts }
+        ensures { Closing V.by V.stands V.base (V.base self.lock.table.shared.key.value.value) self.lock.table.shared.key.passes result self.last.me.0.accounts }
     {
         let Ending { lock, last } = self;
         let HistoryLock { table } = lock;
         let mut closed = table.close_with(last);
         let slot = closed.take(0);
         closed.free();
-        let Some(value) = slot else { unreachable!() };
-        value
+        let Some(boxed) = slot else { unreachable!() };
+        Box::into_inner(boxed)
     }
 }
 
@@ -59,7 +59,7 @@ impl<V: Historic> HistoryLock<V> {
     pub fn close(self, passes: Vec<Pass<V>>) -> V
         requires own { All (IsIdle self.table.shared.table_id) passes.items }
         requires whole { weight_of passes.items ≡ self.table.shared.key.passes }
-        ensures { Closing V.by V.stands V.base self.table.shared.key.value.value self.table.shared.key.passes result (accounts_of passes.items) }
+        ensures { Closing V.by V.stands V.base (V.base self.table.shared.key.value.value) self.table.shared.key.passes result (accounts_of passes.items) }
     {
         let mut ending = self.start_ending();
         for pass in passes {

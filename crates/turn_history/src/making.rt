@@ -81,12 +81,23 @@ impl<V: Historic> HistoryLock<V> {
             value: Snapshot::of(&value),
             passes,
         };
-        let slots = slot_with(alloc, value)?;
+        let boxed = match Box::new(alloc, value) {
+            Ok(boxed) => boxed,
+            Err(AllocFailed { value }) => return Err(Refused { value }),
+        };
+        let slots = match slot_with(alloc, boxed) {
+            Ok(slots) => slots,
+            Err(Refused { value: boxed }) => {
+                return Err(Refused {
+                    value: Box::into_inner(boxed),
+                });
+            }
+        };
         let (table, first) = match Table::new(alloc, &[0, 0], slots, &about) {
             Ok(table) => table,
             Err(atomic_table::Refused { slots }) => {
                 return Err(Refused {
-                    value: out_of(slots),
+                    value: Box::into_inner(out_of(slots)),
                 });
             }
         };

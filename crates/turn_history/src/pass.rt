@@ -37,4 +37,4 @@ pub struct Account<E> {
 
 /// A pass of a lock over `V`. It has no bytes; contracts see its lock as `table_id`, what it knows
 /// as `me.0`, and in `me.1` whether the value is out with it.
-pub type Pass<V> = Seat<Option<V>, View<<V as Historic>::Entry, <V as Historic>::Base>>;
+pub type Pass<V> = Seat<Option<Box<V>>, View<<V as Historic>::Entry, <V as Historic>::Base>>;

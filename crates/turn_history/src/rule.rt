@@ -18,11 +18,12 @@ pub struct Turns<V> {
     value: PhantomData<V>,
 }
 
-impl<V: Historic> TableRule<Option<V>, View<V::Entry, V::Base>, Opening<V>> for Turns<V> {
+impl<V: Historic> TableRule<Option<Box<V>>, View<V::Entry, V::Base>, Opening<V>> for Turns<V> {
+    ghost use Rattle.turn_history.specs.Boxed.{boxed_base, boxed_stands};
     ghost use Rattle.turn_history.specs.Rule.{Kept};
     ghost use Rattle.turn_history.specs.Views.{first_view};
 
-    ghost holds = { λ key. Kept V.by V.stands V.base key.value.value key.passes };
+    ghost holds = { λ key. Kept V.by (boxed_stands V.stands) (boxed_base V.base) (V.base key.value.value) key.passes };
 
     ghost first = { λ key. first_view (V.base key.value.value) key.passes };
 }

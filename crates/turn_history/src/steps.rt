@@ -8,7 +8,7 @@ use std::marker::PhantomData;
 /// Draws a ticket.
 pub(crate) struct Draw;
 
-impl<V: Historic> Play<Option<V>, View<V::Entry, V::Base>> for Draw {
+impl<V: Historic> Play<Option<Box<V>>, View<V::Entry, V::Base>> for Draw {
     ghost use Rattle.turn_history.specs.Steps.{drawn};
 
     ghost then = { drawn };
@@ -17,10 +17,11 @@ impl<V: Historic> Play<Option<V>, View<V::Entry, V::Base>> for Draw {
 /// Looks whose turn it is. On the own turn it takes the slot.
 pub(crate) struct Look;
 
-impl<V: Historic> Play<Option<V>, View<V::Entry, V::Base>> for Look {
+impl<V: Historic> Play<Option<Box<V>>, View<V::Entry, V::Base>> for Look {
+    ghost use Rattle.turn_history.specs.Boxed.{boxed_base, boxed_stands};
     ghost use Rattle.turn_history.specs.Steps.{looked};
 
-    ghost then = { looked V.by V.stands V.base };
+    ghost then = { looked V.by (boxed_stands V.stands) (boxed_base V.base) };
 }
 
 /// Ends a turn, with the named entry or without one, and gives the slot back.
@@ -28,7 +29,7 @@ pub(crate) struct End<N> {
     naming: PhantomData<N>,
 }
 
-impl<V: Historic, N: Naming<V::Entry>> Play<Option<V>, View<V::Entry, V::Base>> for End<N> {
+impl<V: Historic, N: Naming<V::Entry>> Play<Option<Box<V>>, View<V::Entry, V::Base>> for End<N> {
     ghost use Rattle.turn_history.specs.Steps.{ended};
 
     ghost then = { ended V.by N.entry N.holding };
@@ -37,7 +38,7 @@ impl<V: Historic, N: Naming<V::Entry>> Play<Option<V>, View<V::Entry, V::Base>> 
 /// Reads how many turns have ended.
 pub(crate) struct Front;
 
-impl<V: Historic> Play<Option<V>, View<V::Entry, V::Base>> for Front {
+impl<V: Historic> Play<Option<Box<V>>, View<V::Entry, V::Base>> for Front {
     ghost use Rattle.turn_history.specs.Steps.{fronted};
 
     ghost then = { fronted V.by };
@@ -46,7 +47,7 @@ impl<V: Historic> Play<Option<V>, View<V::Entry, V::Base>> for Front {
 /// Compares what those that were taken in had seen, and forgets them.
 pub(crate) struct Compare;
 
-impl<V: Historic> Play<Option<V>, View<V::Entry, V::Base>> for Compare {
+impl<V: Historic> Play<Option<Box<V>>, View<V::Entry, V::Base>> for Compare {
     ghost use Rattle.turn_history.specs.Steps.{compared};
 
     ghost then = { compared V.by };
@@ -55,7 +56,7 @@ impl<V: Historic> Play<Option<V>, View<V::Entry, V::Base>> for Compare {
 /// A newcomer that takes passes in at the lock's end.
 pub(crate) struct Come;
 
-impl<V: Historic> Play<Option<V>, View<V::Entry, V::Base>> for Come {
+impl<V: Historic> Play<Option<Box<V>>, View<V::Entry, V::Base>> for Come {
     ghost use Rattle.turn_history.specs.Steps.{came};
 
     ghost then = { came };

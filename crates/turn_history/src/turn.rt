@@ -13,9 +13,9 @@ use crate::steps::{Draw, End, Front, Look};
 use crate::waiting;
 use std::sync::Wait;
 
-/// A turn, with the value. It must be spent by `leave`.
+/// A turn, with the value in its box. It must be spent by `leave`.
 pub struct Turn<V> {
-    pub(crate) value: V,
+    pub(crate) value: Box<V>,
     // The length of the history as the turn began.
     pub(crate) entries: u64,
 }
@@ -27,7 +27,7 @@ impl<V> Turn<V> {
     /// The value.
     pub fn value(&mut self) -> &mut V
         ensures* writes_back { sem 𝓛 (LendsValue V.row self.entry result) }
-        ensures value { result.now ≡ self.old.value }
+        ensures value { result.now ≡ self.old.value.value }
     {
         &mut self.value
     }
@@ -41,7 +41,7 @@ impl<V: Historic> HistoryLock<V> {
         requires free { CanEnter pass.old.me }
         ensures same { (pass.new.table_id ≡ pass.old.table_id) × (pass.new.id ≡ pass.old.id) }
         ensures pass { pass.new.me ≡ (entered pass.old.me.0 pass.new.me.0, (0, None) ∷ []) }
-        ensures value { Found V.by V.stands V.base pass.old.me.0 result.value pass.new.me.0 }
+        ensures value { Found V.by V.stands V.base pass.old.me.0 result.value.value pass.new.me.0 }
         ensures entries { result.entries ≡ length (entries_of pass.new.me.0.seen) }
         ensures few { result.entries < 2 ^ 62 }
     {
@@ -53,7 +53,7 @@ impl<V: Historic> HistoryLock<V> {
             let ended = shared.load::<Look>(pass, 0);
             if ended == ticket {
                 let value = shared.exchange(pass, 0, None).unwrap();
-                let entries = value.entries();
+                let entries = value.as_ref().entries();
                 return Turn { value, entries };
             }
             waiting::pause(rt, shared, ended, looks);
@@ -68,8 +68,8 @@ impl<V: Historic> HistoryLock<V> {
         requires turn { IsInTurn pass.old.me }
         requires entries { turn.entries ≡ length (entries_of pass.old.me.0.seen) }
         requires by { (e : V.Entry) → N.entry ≡ Some e → V.by e ≡ pass.old.me.0.number }
-        requires value { V.stands turn.value (entries_of pass.old.me.0.seen ++ option_list N.entry) (with_own pass.old.me.0.holdings pass.old.me.0.number N.holding) }
-        requires base { Some (V.base turn.value) ≡ pass.old.me.0.base }
+        requires value { V.stands turn.value.value (entries_of pass.old.me.0.seen ++ option_list N.entry) (with_own pass.old.me.0.holdings pass.old.me.0.number N.holding) }
+        requires base { Some (V.base turn.value.value) ≡ pass.old.me.0.base }
         ensures same { (pass.new.table_id ≡ pass.old.table_id) × (pass.new.id ≡ pass.old.id) }
         ensures pass { pass.new.me ≡ (after_turn pass.old.me.0 N.entry N.holding, []) }
         ensures calls { OwnCalls V.by pass.new.me.0 }
@@ -77,7 +77,7 @@ impl<V: Historic> HistoryLock<V> {
     {
         let Turn { value, entries } = turn;
         let shared = &self.table.shared;
-        let now = value.entries();
+        let now = value.as_ref().entries();
         let empty = shared.exchange(pass, 0, Some(value));
         let None = empty else { unreachable!() };
         let ticket = shared.fetch_add::<End<N>>(pass, 0, 1);

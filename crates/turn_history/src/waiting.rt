@@ -28,7 +28,7 @@ const WAKEFUL_LOOKS: u32 = 300;
 
 /// The table of a lock over `V`.
 pub(crate) type Board<V> = Shared<
-    Option<V>,
+    Option<Box<V>>,
     View<<V as Historic>::Entry, <V as Historic>::Base>,
     Opening<V>,
     Turns<V>,

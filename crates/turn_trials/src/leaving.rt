@@ -20,8 +20,8 @@ pub(crate) fn leave_with_entry<N: Naming<Entry>>(
     requires turn { IsInTurn pass.old.me }
     requires entries { turn.entries ≡ length (entries_of pass.old.me.0.seen) }
     requires names { (N.entry ≡ Some (addition pass.old.me.0.number amount)) × (N.holding ≡ pass.old.me.0.holding) }
-    requires value { IsTallyOf turn.value.sum turn.value.entries turn.value.lent turn.value.opened.value (entries_of pass.old.me.0.seen ++ addition pass.old.me.0.number amount ∷ []) (with_own pass.old.me.0.holdings pass.old.me.0.number pass.old.me.0.holding) }
-    requires base { Some (start turn.value.opened.value) ≡ pass.old.me.0.base }
+    requires value { IsTallyOf turn.value.value.sum turn.value.value.entries turn.value.value.lent turn.value.value.opened.value (entries_of pass.old.me.0.seen ++ addition pass.old.me.0.number amount ∷ []) (with_own pass.old.me.0.holdings pass.old.me.0.number pass.old.me.0.holding) }
+    requires base { Some (start turn.value.value.opened.value) ≡ pass.old.me.0.base }
     ensures same { (pass.new.table_id ≡ pass.old.table_id) × (pass.new.id ≡ pass.old.id) }
     ensures pass { pass.new.me ≡ (after_turn pass.old.me.0 (Some (addition pass.old.me.0.number amount)) pass.old.me.0.holding, []) }
     ensures calls { OwnCalls signer pass.new.me.0 }
@@ -45,8 +45,8 @@ pub(crate) fn leave_with_thing<N: Naming<Entry>>(
     requires turn { IsInTurn pass.old.me }
     requires entries { turn.entries ≡ length (entries_of pass.old.me.0.seen) }
     requires names { (N.entry ≡ None) × (N.holding ≡ cond has thing []) }
-    requires value { IsTallyOf turn.value.sum turn.value.entries turn.value.lent turn.value.opened.value (entries_of pass.old.me.0.seen) (with_own pass.old.me.0.holdings pass.old.me.0.number (cond has thing [])) }
-    requires base { Some (start turn.value.opened.value) ≡ pass.old.me.0.base }
+    requires value { IsTallyOf turn.value.value.sum turn.value.value.entries turn.value.value.lent turn.value.value.opened.value (entries_of pass.old.me.0.seen) (with_own pass.old.me.0.holdings pass.old.me.0.number (cond has thing [])) }
+    requires base { Some (start turn.value.value.opened.value) ≡ pass.old.me.0.base }
     ensures same { (pass.new.table_id ≡ pass.old.table_id) × (pass.new.id ≡ pass.old.id) }
     ensures pass { pass.new.me ≡ (after_turn pass.old.me.0 None (cond has thing []), []) }
     ensures calls { OwnCalls signer pass.new.me.0 }

@@ -1,4 +1,5 @@
 use Rattle.std.proofs.Common.{◌≡◌, ◌∙◌, ◌+◌, ◌-◌, ap, refl, sym, subst, [], arith}
+use Rattle.turn_history.specs.Boxed.{boxed_base, boxed_stands}
 use Rattle.turn_history.specs.Views.{maker_of}
 use Rattle.turn_history.specs.Passes.{AreNew}
 use Rattle.turn_history.proofs.Splitting.{makes_one}
@@ -8,7 +9,7 @@ use Rattle.turn_history.proofs.making.deal.Goals as goal
 pub split_seat-requires : goal.split_seat-requires
 split_seat-requires g c = let i = c.loop-number.invariant in let m = i.seat in let lt = c.loop-number-test.true in let p = c.requires.table.2 in
     let next = ap (λ x. x.0.next_number) m in let weight = ap (λ x. x.0.weight) m in let left = ap (λ x. x.0.turns_left) m in
-    (i.table, c.requires.table.1, makes_one g.V.Historic.by g.V.Historic.stands g.V.Historic.base _ _ _ c.loop-number.first.me.0 (g.V.Historic.base c.args.board.now.key.value.value) (ap (λ x. x.0.base) m) (ap (λ x. x.0.number) m) (omega arith) (omega arith) (omega arith) (omega arith) (ap (λ x. x.0.in_turn) m))
+    (i.table, c.requires.table.1, makes_one g.V.Historic.by (boxed_stands g.V.Historic.stands) (boxed_base g.V.Historic.base) _ _ _ c.loop-number.first.me.0 (g.V.Historic.base c.args.board.now.key.value.value) (ap (λ x. x.0.base) m) (ap (λ x. x.0.number) m) (omega arith) (omega arith) (omega arith) (omega arith) (ap (λ x. x.0.in_turn) m))
 
 pub loop-number-init : goal.loop-number-init
 loop-number-init g c = record {

@@ -16,6 +16,6 @@ leave_with_entry-place-requires-clause-value g c = let f = c.enter-turn.ensures.
 pub returns-clause-answered : goal.returns-clause-answered
 returns-clause-answered g c = let f = c.enter-turn.ensures.value in let is = c.enter-turn.ensures.pass in let w = c.enter-turn.new.pass.me.0 in let l = c.leave_with_entry-place.ensures in
     let stood = c.add-sum.ensures.next w.number (entries_of w.seen) w.holdings (rw c.value.ensures.value f.stood) in
-    let opened = ap (λ o. o.value) (c.add-sum.ensures.opened ∙ ap (λ (t : Tally). t.opened) c.value.ensures.value) ∙ same_start c.args.pass.now.me.0.base c.enter-turn.result.value.opened.value c.args.lock.now.table.shared.key.value.value.opened.value f.based c.requires.at.based in let own_is = ap (λ m. m.0.number) is in
+    let opened = ap (λ o. o.value) (c.add-sum.ensures.opened ∙ ap (λ (t : Tally). t.opened) c.value.ensures.value) ∙ same_start c.args.pass.now.me.0.base c.enter-turn.result.value.value.opened.value c.args.lock.now.table.shared.key.value.value.opened.value f.based c.requires.at.based in let own_is = ap (λ m. m.0.number) is in
     rw l.place (answered c.args.lock.now.table.shared.key.value.value.opened.value c.args.pass.now.me.0 w c.leave_with_entry-place.new.pass.me.0 c.args.amount c.add-sum.result w.holding own_is (ap (λ m. m.0.calls) is) f.prefix
     (c.add-sum.ensures.answer ∙ (stood.sum_is ∙ ap (λ o. sum_after o (entries_of w.seen ++ addition w.number c.args.amount ∷ [])) opened)) (ap (λ m. m.0) l.pass))

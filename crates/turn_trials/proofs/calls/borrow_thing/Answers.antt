@@ -21,4 +21,4 @@ leave_with_thing-requires-clause-value g c = go c.lend-lent.result refl
         let own : own_of w.holdings w.number ≡ [] = ap (own_of w.holdings) number ∙ (f.own_holding ∙ c.requires.at.has) in
         let same = c.lend-lent.ensures.kept is ∙ c.value.ensures.value in
         subst (λ (t : Tally). IsTallyOf t.sum t.entries t.lent t.opened.value (entries_of w.seen) (with_own w.holdings w.number [])) (sym same)
-        (subst (IsTallyOf c.enter-turn.result.value.sum c.enter-turn.result.value.entries c.enter-turn.result.value.lent c.enter-turn.result.value.opened.value (entries_of w.seen)) (sym (keeps_own w.holdings w.number [] own)) f.stood)
+        (subst (IsTallyOf c.enter-turn.result.value.value.sum c.enter-turn.result.value.value.entries c.enter-turn.result.value.value.lent c.enter-turn.result.value.value.opened.value (entries_of w.seen)) (sym (keeps_own w.holdings w.number [] own)) f.stood)

@@ -1,7 +1,7 @@
 use Rattle.std.proofs.Common.{◌≡◌, ◌+◌, ◌∷◌, List, [], length, refl, sym, ap, ◌∙◌, subst, arith, length-append}
-use Rattle.std.specs.Prelude.{All, is_some}
+use Rattle.std.specs.Prelude.{All, IfSome, is_some}
 use Rattle.std.proofs.lemmas.Bool.{false≢true}
-use Rattle.std.proofs.lemmas.List.Elements.{All-push}
+use Rattle.std.proofs.lemmas.List.Elements.{All-pop, All-push}
 use Rattle.secret_bytes.specs.Buffer.{Buffer, IsClear}
 use Rattle.key_uses.specs.Uses.{use_refusal}
 use Rattle.service_calls.specs.Meanings.{model_request}
@@ -11,7 +11,7 @@ use Rattle.store_core.specs.Uses.{IsLent, IsRefused, mark_of}
 use Rattle.shared_store.specs.Turning.{DecidesAfter, IsRanked, lease_pair}
 use Rattle.callers.specs.Worlds.{world}
 use Rattle.callers.proofs.Beginning.{at_handle, lent_answered, lent_ready, reads_key, refuses, stayed_answered, stayed_ready}
-use Rattle.callers.proofs.Looking.{has_spare, popped}
+use Rattle.callers.proofs.Looking.{has_room_for_lease, has_spare, popped}
 use Rattle.callers.proofs.Storing.{if_err, if_ok}
 use Rattle.callers.proofs.caller.Caller.begin_with.Goals as goal
 
@@ -26,6 +26,15 @@ look-rank-requires-clause-reads g c κs within =
     let old = c.args.self.now in let r = c.requires.ready in let request = model_request c.args.call.now c.args.room in let asks = ap (λ x. model_request x c.args.room) c.requires.call in
     let first = c.requires.first in let last = c.requires.last in let free = at_handle (λ o. o ≡ Inactive) old.handles.cells.items r.operations c.args.op r.stand first last c.requires.free in
     reads_key w old r request c.args.op c.args.setup c.args.key c.args.wanted first last asks c.requires.keyed free
+
+pub look-rank-requires-clause-space : goal.look-rank-requires-clause-space
+look-rank-requires-clause-space g c κs within =
+    let w = world g.D.Disk.contents g.D.Disk.moment g.D.Disk.faults g.A.Devices.keys g.A.Devices.faults g.A.Devices.locations g.C.Admission.labels c.args.shared.now.lock.table.shared.table_id c.args.shared.now.lock.table.shared.key.value.value.store.opened in
+    has_room_for_lease w 4 c.args.self.now c.requires.ready
+
+pub look-rank-requires-clause-spare : goal.look-rank-requires-clause-spare
+look-rank-requires-clause-spare g c κs within =
+    subst (λ o. IfSome o IsClear) c.in-Some.is (All-pop IsClear c.args.self.now.spares.items c.pop.new.self.items c.pop.result c.pop.ensures.items c.requires.ready.clear).1
 
 pub returns-in-Ok-clause-ready : goal.returns-in-Ok-clause-ready
 returns-in-Ok-clause-ready g c =

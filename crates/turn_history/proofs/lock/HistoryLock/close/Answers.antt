@@ -35,5 +35,5 @@ end-requires g c = let i = c.loop-pass.invariant in
 pub returns : goal.returns
 returns g c = let i = c.loop-pass.invariant in
     let handed = none_more _ _ _ i.items (sym c.loop-pass.pass-iterator.rest.ok.0 ∙ c.in-None.ensures.steps.0) in
-    subst (λ l. Closing g.V.Historic.by g.V.Historic.stands g.V.Historic.base l.table.shared.key.value.value l.table.shared.key.passes c.end.result (accounts_of c.args.passes.items)) i.lock
-    (subst (λ a. Closing g.V.Historic.by g.V.Historic.stands g.V.Historic.base c.loop-pass.ending.lock.table.shared.key.value.value c.loop-pass.ending.lock.table.shared.key.passes c.end.result a) (i.accounts ∙ ap accounts_of (sym handed)) c.end.ensures)
+    subst (λ l. Closing g.V.Historic.by g.V.Historic.stands g.V.Historic.base (g.V.Historic.base l.table.shared.key.value.value) l.table.shared.key.passes c.end.result (accounts_of c.args.passes.items)) i.lock
+    (subst (λ a. Closing g.V.Historic.by g.V.Historic.stands g.V.Historic.base (g.V.Historic.base c.loop-pass.ending.lock.table.shared.key.value.value) c.loop-pass.ending.lock.table.shared.key.passes c.end.result a) (i.accounts ∙ ap accounts_of (sym handed)) c.end.ensures)

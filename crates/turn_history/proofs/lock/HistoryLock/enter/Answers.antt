@@ -1,4 +1,6 @@
 use Rattle.std.proofs.Common.{rules, ◌∙◌, ap, refl, sym, subst, arith, Some}
+use Rattle.turn_history.specs.Boxed.{boxed_base, boxed_stands}
+use Rattle.turn_history.proofs.Boxed.{found_value}
 use Rattle.turn_history.proofs.Lists.{entries_fewer}
 use Rattle.turn_history.proofs.Turning.{draws, looks, finds_value, Entered, enters}
 use Rattle.turn_history.proofs.Keeping.{some_same}
@@ -7,25 +9,25 @@ use Rattle.turn_history.specs.History.{entries_of}
 use Rattle.turn_history.proofs.lock.HistoryLock.enter.Goals as goal
 
 pub fetch_add-ticket-requires : goal.fetch_add-ticket-requires
-fetch_add-ticket-requires g c = (search rules, search rules, draws g.V.Historic.by g.V.Historic.stands g.V.Historic.base _ _ _ _ _ c.requires.free)
+fetch_add-ticket-requires g c = (search rules, search rules, draws g.V.Historic.by (boxed_stands g.V.Historic.stands) (boxed_base g.V.Historic.base) _ _ _ _ _ c.requires.free)
 
 pub load-ended-requires : goal.load-ended-requires
 load-ended-requires g c = let m = c.loop.invariant.2 ∙ c.fetch_add-ticket.ensures.2 in
-    (search rules, search rules, looks g.V.Historic.by g.V.Historic.stands g.V.Historic.base _ _ _ _ _ c.fetch_add-ticket.result (ap (λ x. x.0.ticket) m) (ap (λ x. x.0.in_turn) m ∙ c.requires.free.0.1))
+    (search rules, search rules, looks g.V.Historic.by (boxed_stands g.V.Historic.stands) (boxed_base g.V.Historic.base) _ _ _ _ _ c.fetch_add-ticket.result (ap (λ x. x.0.ticket) m) (ap (λ x. x.0.in_turn) m ∙ c.requires.free.0.1))
 
 pub exchange-requires : goal.exchange-requires
 exchange-requires g c = let m = c.loop.invariant.2 ∙ c.fetch_add-ticket.ensures.2 in
-    let f = finds_value g.V.Historic.by g.V.Historic.stands g.V.Historic.base c.args.self.now.table.shared.key.value.value 0 c.args.self.now.table.shared.table_id.slots c.load-ended.result c.fetch_add-ticket.result c.loop.pass.me c.load-ended.new.seat.me
+    let f = finds_value g.V.Historic.by (boxed_stands g.V.Historic.stands) (boxed_base g.V.Historic.base) (g.V.Historic.base c.args.self.now.table.shared.key.value.value) 0 c.args.self.now.table.shared.table_id.slots c.load-ended.result c.fetch_add-ticket.result c.loop.pass.me c.load-ended.new.seat.me
     c.load-ended.ensures.2 (ap (λ x. x.0.ticket) m) c.if-ended-ticket.true in (search rules, (Some f.0, f.1))
 
 pub unwrap-value-requires : goal.unwrap-value-requires
-unwrap-value-requires g c = let e = enters g.V.Historic.by g.V.Historic.stands g.V.Historic.base c.args.self.now.table.shared.key.value.value 0 c.args.self.now.table.shared.table_id.slots c.load-ended.result c.fetch_add-ticket.result
+unwrap-value-requires g c = let e = enters g.V.Historic.by (boxed_stands g.V.Historic.stands) (boxed_base g.V.Historic.base) (g.V.Historic.base c.args.self.now.table.shared.key.value.value) 0 c.args.self.now.table.shared.table_id.slots c.load-ended.result c.fetch_add-ticket.result
     c.args.pass.now.me c.fetch_add-ticket.new.seat.me c.loop.pass.me c.load-ended.new.seat.me c.exchange.new.seat.me c.exchange.result
     c.requires.free.0.2 c.fetch_add-ticket.ensures.2 c.loop.invariant.2 c.load-ended.ensures.2 c.if-ended-ticket.true c.exchange.ensures.2 c.exchange.ensures.3 in rw e.is refl
 
 -- the turn that has begun
-it_entered : (g : _) (c : goal.After-drop-iterator g) → Entered g.V.Historic.by g.V.Historic.stands g.V.Historic.base c.args.self.now.table.shared.key.value.value 0 c.args.pass.now.me c.fetch_add-ticket.result c.exchange.result c.exchange.new.seat.me
-it_entered g c = enters g.V.Historic.by g.V.Historic.stands g.V.Historic.base c.args.self.now.table.shared.key.value.value 0 c.args.self.now.table.shared.table_id.slots c.load-ended.result c.fetch_add-ticket.result
+it_entered : (g : _) (c : goal.After-drop-iterator g) → Entered g.V.Historic.by (boxed_stands g.V.Historic.stands) (boxed_base g.V.Historic.base) (g.V.Historic.base c.args.self.now.table.shared.key.value.value) 0 c.args.pass.now.me c.fetch_add-ticket.result c.exchange.result c.exchange.new.seat.me
+it_entered g c = enters g.V.Historic.by (boxed_stands g.V.Historic.stands) (boxed_base g.V.Historic.base) (g.V.Historic.base c.args.self.now.table.shared.key.value.value) 0 c.args.self.now.table.shared.table_id.slots c.load-ended.result c.fetch_add-ticket.result
     c.args.pass.now.me c.fetch_add-ticket.new.seat.me c.loop.pass.me c.load-ended.new.seat.me c.exchange.new.seat.me c.exchange.result
     c.requires.free.0.2 c.fetch_add-ticket.ensures.2 c.loop.invariant.2 c.load-ended.ensures.2 c.if-ended-ticket.true c.exchange.ensures.2 c.exchange.ensures.3
 
@@ -34,12 +36,18 @@ returns-then-ended-ticket-clause-pass g c = let e = it_entered g c in e.now
 
 pub returns-then-ended-ticket-clause-value : goal.returns-then-ended-ticket-clause-value
 returns-then-ended-ticket-clause-value g c = let e = it_entered g c in
-    subst (λ x. Found g.V.Historic.by g.V.Historic.stands g.V.Historic.base c.args.pass.now.me.0 x c.exchange.new.seat.me.0) (some_same e.value c.unwrap-value.result (sym e.is ∙ c.unwrap-value.ensures)) e.found
+    found_value g.V.Historic.by g.V.Historic.stands g.V.Historic.base c.args.pass.now.me.0 c.unwrap-value.result c.exchange.new.seat.me.0
+    (subst (λ x. Found g.V.Historic.by (boxed_stands g.V.Historic.stands) (boxed_base g.V.Historic.base) c.args.pass.now.me.0 x c.exchange.new.seat.me.0) (some_same e.value c.unwrap-value.result (sym e.is ∙ c.unwrap-value.ensures)) e.found)
+
+-- the value stands for what the pass then sees
+it_stands : (g : _) (c : goal.After-drop-iterator g) → g.V.Historic.stands c.as_ref.result.now (entries_of c.exchange.new.seat.me.0.seen) c.exchange.new.seat.me.0.holdings
+it_stands g c = let e = it_entered g c in
+    subst (λ x. g.V.Historic.stands x (entries_of c.exchange.new.seat.me.0.seen) c.exchange.new.seat.me.0.holdings) (sym c.as_ref.ensures)
+    (subst (λ x. boxed_stands g.V.Historic.stands x (entries_of c.exchange.new.seat.me.0.seen) c.exchange.new.seat.me.0.holdings) (some_same e.value c.unwrap-value.result (sym e.is ∙ c.unwrap-value.ensures)) e.found.stood)
 
 pub returns-then-ended-ticket-clause-entries : goal.returns-then-ended-ticket-clause-entries
-returns-then-ended-ticket-clause-entries g c = let e = it_entered g c in
-    c.entries-entries.ensures _ _ (subst (λ x. g.V.Historic.stands x (entries_of c.exchange.new.seat.me.0.seen) c.exchange.new.seat.me.0.holdings) (some_same e.value c.unwrap-value.result (sym e.is ∙ c.unwrap-value.ensures)) e.found.stood)
+returns-then-ended-ticket-clause-entries g c = c.entries-entries.ensures _ _ (it_stands g c)
 
 pub returns-then-ended-ticket-clause-few : goal.returns-then-ended-ticket-clause-few
 returns-then-ended-ticket-clause-few g c = let e = it_entered g c in let f = e.found.few in let n = entries_fewer c.exchange.new.seat.me.0.seen in
-    let is = c.entries-entries.ensures _ _ (subst (λ x. g.V.Historic.stands x (entries_of c.exchange.new.seat.me.0.seen) c.exchange.new.seat.me.0.holdings) (some_same e.value c.unwrap-value.result (sym e.is ∙ c.unwrap-value.ensures)) e.found.stood) in omega arith
+    let is = c.entries-entries.ensures _ _ (it_stands g c) in omega arith

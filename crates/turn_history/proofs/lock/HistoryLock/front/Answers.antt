@@ -1,6 +1,7 @@
 use Rattle.std.proofs.Common.{rules}
+use Rattle.turn_history.specs.Boxed.{boxed_base, boxed_stands}
 use Rattle.turn_history.proofs.Turning.{fronts}
 use Rattle.turn_history.proofs.lock.HistoryLock.front.Goals as goal
 
 pub load-requires : goal.load-requires
-load-requires g c = (search rules, search rules, fronts g.V.Historic.by g.V.Historic.stands g.V.Historic.base _ _ _ _ _)
+load-requires g c = (search rules, search rules, fronts g.V.Historic.by (boxed_stands g.V.Historic.stands) (boxed_base g.V.Historic.base) _ _ _ _ _)

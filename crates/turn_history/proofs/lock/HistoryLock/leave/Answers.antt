@@ -1,7 +1,8 @@
 use Rattle.std.proofs.Common.{rules}
+use Rattle.turn_history.specs.Boxed.{boxed_base, boxed_stands}
 use Rattle.turn_history.proofs.Turning.{ends_at}
 use Rattle.turn_history.proofs.lock.HistoryLock.leave.Goals as goal
 
 pub fetch_add-ticket-requires : goal.fetch_add-ticket-requires
 fetch_add-ticket-requires g c = let r = c.requires in
-    (search rules, search rules, ends_at g.V.Historic.by g.V.Historic.stands g.V.Historic.base _ _ _ _ _ _ c.args.turn.value _ _ c.exchange-empty.ensures.3 r.turn.1 r.turn.0 r.turn.2 r.by r.value r.base)
+    (search rules, search rules, ends_at g.V.Historic.by (boxed_stands g.V.Historic.stands) (boxed_base g.V.Historic.base) _ _ _ _ _ _ c.args.turn.value _ _ c.exchange-empty.ensures.3 r.turn.1 r.turn.0 r.turn.2 r.by r.value r.base)

@@ -1,6 +1,14 @@
-use Rattle.std.proofs.Common.{ap, sym}
+use Rattle.std.proofs.Common.{rules, ◌∙◌, [], ap, replicate, subst, sym}
+use Rattle.turn_history.specs.Boxed.{boxed_base, boxed_stands}
 use Rattle.turn_history.proofs.Ends.{opens}
 use Rattle.turn_history.proofs.lock.HistoryLock.new.Goals as goal
 
-pub new-requires : goal.new-requires
-new-requires g c = rw c.in_ok-slots.ensures.ok (opens g.V.Historic.by g.V.Historic.stands g.V.Historic.base c.of.result.value c.args.passes c.args.value c.requires.count.0 c.requires.count.1 c.requires.stands (ap g.V.Historic.base (sym c.of.ensures)))
+pub new-requires-2 : goal.new-requires-2
+new-requires-2 g c =
+    let is = c.in-Ok-new.ensures.ok in
+    rw c.in-Ok-slot_with.ensures.ok
+    (opens g.V.Historic.by (boxed_stands g.V.Historic.stands) (boxed_base g.V.Historic.base) (g.V.Historic.base c.of.result.value) c.args.passes c.in-Ok-new.boxed c.requires.count.0 c.requires.count.1
+    (subst (λ x. g.V.Historic.stands x [] (replicate c.args.passes [])) (sym is) c.requires.stands) (ap g.V.Historic.base (is ∙ sym c.of.ensures)))
+
+pub out_of-requires : goal.out_of-requires
+out_of-requires g c = (c.in-Ok-new.boxed, search rules)

@@ -1,7 +1,8 @@
 use Rattle.std.proofs.Common.{rules, []}
+use Rattle.turn_history.specs.Boxed.{boxed_base, boxed_stands}
 use Rattle.turn_history.specs.Views.{first_view}
 use Rattle.turn_history.proofs.Ends.{sits}
 use Rattle.turn_history.proofs.lock.HistoryLock.start_ending.Goals as goal
 
 pub load_new_seat-last-requires : goal.load_new_seat-last-requires
-load_new_seat-last-requires g c = (search rules, sits g.V.Historic.by g.V.Historic.stands g.V.Historic.base _ _ _ (first_view (g.V.Historic.base c.args.self.table.shared.key.value.value) c.args.self.table.shared.key.passes, []))
+load_new_seat-last-requires g c = (search rules, sits g.V.Historic.by (boxed_stands g.V.Historic.stands) (boxed_base g.V.Historic.base) _ _ _ (first_view (g.V.Historic.base c.args.self.table.shared.key.value.value) c.args.self.table.shared.key.passes, []))
