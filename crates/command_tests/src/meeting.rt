@@ -9,8 +9,8 @@ use caller_service::{Closed, Service};
 use callers::{Gate, GatePoint};
 use disk_face::Disk;
 use driver_dispatch::Devices;
-use psa_status::{Memory, Status};
-use script_lang::{ReplyLine, Script, read_script};
+use psa_status::Memory;
+use script_lang::{Replies, ReplyForm, Script, read_script};
 use session_host::run_sessions;
 use std::alloc::Global;
 use std::sync::Wait;
@@ -101,7 +101,7 @@ impl Gate for Meeting {
 /// What comes of two sessions that meet.
 #[derive(Drop)]
 struct Met {
-    replies: Vec<Vec<ReplyLine>>,
+    replies: Vec<Replies>,
     held_at: u64,
     limits: u64,
 }
@@ -131,7 +131,8 @@ fn run_meeting<D: Disk + Send + Drop, A: Devices, C: Admission, R: Threads + Wai
     let Ok((service, mut callers)) = opened else {
         return Err("open")?;
     };
-    let ran = run_sessions(rt, alloc, &service, script.lines(), 2, &mut callers);
+    let form = ReplyForm::Unranked;
+    let ran = run_sessions(rt, alloc, &service, script.lines(), 2, form, &mut callers);
     let held_at = service.gate.held_at.load(Ordering::SeqCst);
     let limits = service.gate.limits.load(Ordering::SeqCst);
     let Closed {
@@ -149,35 +150,26 @@ fn run_meeting<D: Disk + Send + Drop, A: Devices, C: Admission, R: Threads + Wai
     }
 }
 
-// Whether a session's replies succeeded with these bytes.
-fn are_successes(replies: Option<&Vec<ReplyLine>>, bytes: &[&[u8]]) -> bool {
-    let Some(replies) = replies else {
-        return false;
-    };
-    if replies.len() != bytes.len() {
-        return false;
+// Whether a session's replies are this text.
+fn are(replies: Option<&Replies>, text: &str) -> bool {
+    match replies {
+        Some(own) => own.text.as_slice() == text.as_bytes(),
+        None => false,
     }
-    for (reply, own) in replies.iter().zip(bytes) {
-        if reply.status != Status::Success || reply.bytes.as_slice() != *own {
-            return false;
-        }
-    }
-    true
 }
 
-// Scripts of two sessions, the bytes of session 1's second reply, and where it is held for it. The values are those of
+// Scripts of two sessions, the replies of session 1 without their ranks, and where it is held. The values are those of
 // SP 800-38B (section D.1, example 2), FIPS 197 (appendix C.1) and GCM's specification by McGrew and Viega (test case 2).
-const MEETINGS: &[(&str, &[u8], u64)] = &[
+const MEETINGS: &[(&str, &str, u64)] = &[
     (
         "1 import k life=1 id=7 type=2400 usage=400 alg=03c00200 data=2b7e151628aed2a6abf7158809cf4f3c
 1 mac_compute #7 alg=03c00200 data=6bc1bee22e409f96e93d7e117393172a
 2 hash_compute alg=02000009 data=616263
 2 destroy #7
 ",
-        &[
-            0x07, 0x0a, 0x16, 0xb4, 0x6b, 0x4d, 0x41, 0x44, 0xf7, 0x9b, 0xdd, 0x9d, 0xd0, 0x4a,
-            0x28, 0x7c,
-        ],
+        "1.1 SUCCESS 00000007
+1.2 SUCCESS 070a16b46b4d4144f79bdd9dd04a287c
+",
         READING,
     ),
     (
@@ -186,10 +178,9 @@ const MEETINGS: &[(&str, &[u8], u64)] = &[
 2 hash_compute alg=02000009 data=616263
 2 destroy #7
 ",
-        &[
-            0x69, 0xc4, 0xe0, 0xd8, 0x6a, 0x7b, 0x04, 0x30, 0xd8, 0xcd, 0xb7, 0x80, 0x70, 0xb4,
-            0xc5, 0x5a,
-        ],
+        "1.1 SUCCESS 00000007
+1.2 SUCCESS 69c4e0d86a7b0430d8cdb78070b4c55a
+",
         READING,
     ),
     (
@@ -198,11 +189,9 @@ const MEETINGS: &[(&str, &[u8], u64)] = &[
 2 hash_compute alg=02000009 data=616263
 2 destroy #7
 ",
-        &[
-            0x03, 0x88, 0xda, 0xce, 0x60, 0xb6, 0xa3, 0x92, 0xf3, 0x28, 0xc2, 0xb9, 0x71, 0xb2,
-            0xfe, 0x78, 0xab, 0x6e, 0x47, 0xd4, 0x2c, 0xec, 0x13, 0xbd, 0xf5, 0x3a, 0x67, 0xb2,
-            0x12, 0x57, 0xbd, 0xdf,
-        ],
+        "1.1 SUCCESS 00000007
+1.2 SUCCESS 0388dace60b6a392f328c2b971b2fe78ab6e47d42cec13bdf53a67b21257bddf
+",
         READING,
     ),
     (
@@ -211,16 +200,17 @@ const MEETINGS: &[(&str, &[u8], u64)] = &[
 2 hash_compute alg=02000009 data=616263
 2 destroy #7
 ",
-        &[0x40, 0x10, 0x00, 0x00],
+        "1.1 SUCCESS 00000007
+1.2 SUCCESS 40100000
+",
         FILLING,
     ),
 ];
 
-// SHA-256 of "abc", by FIPS 180-4.
-const HASH: &[u8] = &[
-    0xba, 0x78, 0x16, 0xbf, 0x8f, 0x01, 0xcf, 0xea, 0x41, 0x41, 0x40, 0xde, 0x5d, 0xae, 0x22, 0x23,
-    0xb0, 0x03, 0x61, 0xa3, 0x96, 0x17, 0x7a, 0x9c, 0xb4, 0x10, 0xff, 0x61, 0xf2, 0x00, 0x15, 0xad,
-];
+// The replies of session 2: SHA-256 of "abc", by FIPS 180-4, and a destruction.
+const SECOND: &str = "2.1 SUCCESS ba7816bf8f01cfea414140de5dae2223b00361a396177a9cb410ff61f20015ad
+2.2 SUCCESS
+";
 
 // Runs a script over a new store, through a gate.
 fn meet<R: Threads + Wait + Sync>(rt: &R, alloc: Global, script: &str) -> Result<Met, Fail> {
@@ -235,12 +225,12 @@ fn meet<R: Threads + Wait + Sync>(rt: &R, alloc: Global, script: &str) -> Result
 // A key is destroyed while another thread reads it or makes one: no call waits for the whole of another.
 #[test]
 fn sessions_meet_within_calls(rt: HostRuntime) -> Result<(), Fail> {
-    for (script, bytes, held_at) in MEETINGS {
+    for (script, replies, held_at) in MEETINGS {
         let met = meet(&rt, rt.alloc(), script)?;
         assert!(rt; met.limits == 0, "a hold reached its limit: {script}");
         assert!(rt; met.held_at == *held_at, "{script}");
-        let first = are_successes(met.replies.first(), &[&[0, 0, 0, 7], bytes]);
-        let second = are_successes(met.replies.get(1), &[HASH, &[]]);
+        let first = are(met.replies.first(), replies);
+        let second = are(met.replies.get(1), SECOND);
         assert!(rt; first && second, "{script}");
     }
     Ok(())

@@ -23,10 +23,10 @@ use Rattle.script_lang.specs.declared.store_commands.SinglePartCommand.TheVarian
 use Rattle.script_lang.specs.declared.script.KeyWord.TheVariants.{Given, Line}
 use Rattle.script_lang.specs.declared.script.ScriptCall.{ScriptCall}
 use Rattle.script_lang.specs.declared.script.ScriptLine.{ScriptLine}
-use Rattle.script_lang.specs.declared.replies.ReplyLine.{ReplyLine}
+use Rattle.script_lang.specs.Replies.{ReplyLine, is_success, unranked_text}
 use Rattle.line_generator.specs.Generator.{counted, call, fields, import_fields, generator_line, generator_lines}
-use Rattle.line_generator.specs.Orders.{IsOrder, replies_of, without_rank, RepliesInAnyOrder, SummaryInAnyOrder}
-use Rattle.line_generator.specs.Summary.{count_line, is_success, unranked_text, summary_of}
+use Rattle.line_generator.specs.Orders.{IsOrder, reply_lines_of, without_rank, RepliesInAnyOrder, SummaryInAnyOrder}
+use Rattle.line_generator.specs.Summary.{count_line, summary_of}
 use Rattle.line_generator.proofs.Alike.{Alike, NoZero, OwnId}
 use Rattle.line_generator.proofs.Steps.{KeyCall, Imports, Exports, Signs, Encrypts, Destroys, asked, IsOwn, SameStep, own_step, other_step, zero_stays, given_own}
 
@@ -299,4 +299,4 @@ summary_alike lines = λ i.
 
 pub summaries_alike : SummaryInAnyOrder
 summaries_alike start count one other z first second =
-    sym (summary_alike (replies_of start one)) ∙ ap summary_of (replies_alike start count one other z first second) ∙ summary_alike (replies_of start other)
+    sym (summary_alike (reply_lines_of start one)) ∙ ap summary_of (replies_alike start count one other z first second) ∙ summary_alike (reply_lines_of start other)

@@ -6,7 +6,7 @@ use Rattle.store_model.specs.Handles.{Service}
 use Rattle.store_model.specs.Replay.{Entry}
 use Rattle.script_lang.specs.Lines.{lines_of}
 use Rattle.script_lang.specs.PrintedOrder.{AreCalls, turns_from, turns_of, replies_to}
-use Rattle.script_lang.specs.declared.replies.ReplyLine.{ReplyLine}
+use Rattle.script_lang.specs.Replies.{ReplyLine}
 use Rattle.line_generator.specs.Generator.{generator_lines}
 use Rattle.line_generator.specs.Summary.{summary_of}
 
@@ -16,8 +16,8 @@ pub record IsOrder (start : Service) (count : ℕ) (history : List Entry) : Type
   pub plain : All (λ e. e.mark ≡ Plain) history
 
 -- the reply lines of all sessions
-abbrev pub replies_of : Service → List Entry → List ReplyLine
-replies_of start history = replies_to 16 (turns_from 0 start history)
+abbrev pub reply_lines_of : Service → List Entry → List ReplyLine
+reply_lines_of start history = replies_to 16 (turns_from 0 start history)
 
 abbrev pub without_rank : ReplyLine → ReplyLine
 without_rank line = record line { rank = 0 }
@@ -26,10 +26,10 @@ without_rank line = record line { rank = 0 }
 abbrev pub RepliesInAnyOrder : Type 0
 RepliesInAnyOrder =
     (start : Service) (count : ℕ) (one other : List Entry) → keys.get start.store.keys 0 ≡ None → IsOrder start count one → IsOrder start count other →
-    map without_rank (replies_of start one) ≡ map without_rank (replies_of start other)
+    map without_rank (reply_lines_of start one) ≡ map without_rank (reply_lines_of start other)
 
 -- and so the same summary
 abbrev pub SummaryInAnyOrder : Type 0
 SummaryInAnyOrder =
     (start : Service) (count : ℕ) (one other : List Entry) → keys.get start.store.keys 0 ≡ None → IsOrder start count one → IsOrder start count other →
-    summary_of (replies_of start one) ≡ summary_of (replies_of start other)
+    summary_of (reply_lines_of start one) ≡ summary_of (reply_lines_of start other)

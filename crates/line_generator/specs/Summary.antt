@@ -1,17 +1,10 @@
 -- The summary of the replies.
-use Rattle.std.specs.Prelude.{◌≡◌, ℕ, Bool, true, false, not, List, ◌++◌, length, count_by, flat_map, codes}
+use Rattle.std.specs.Prelude.{◌≡◌, ℕ, not, List, ◌++◌, length, count_by, flat_map, codes}
 use Rattle.std.specs.Fmt.{decimal}
 use Rattle.hex.specs.Hex.{encode_lower}
 use Rattle.sha2.specs.Sha256.{sha256}
 use Rattle.psa_status.specs.Status.{status_name}
-use Rattle.psa_status.specs.declared.Status.{Status}
-use Rattle.psa_status.specs.declared.Status.TheVariants.{Success}
-use Rattle.script_lang.specs.Replies.{reply_text, bytes_text}
-use Rattle.script_lang.specs.declared.replies.ReplyLine.{ReplyLine}
-
--- a reply line without its rank: session, number, status and bytes
-unfoldable pub unranked_text : ReplyLine → List ℕ
-unranked_text line = decimal line.session ++ codes "." ++ decimal line.number ++ codes " " ++ status_name line.status ++ bytes_text line.bytes ++ codes "\n"
+use Rattle.script_lang.specs.Replies.{ReplyLine, bytes_text, is_success, reply_text, unranked_text}
 
 -- a reply line is its front, its rank and its end, and without the rank it is the front and the end
 abbrev pub RankStandsBetween : Type 0
@@ -20,13 +13,6 @@ RankStandsBetween =
     let front : List ℕ = decimal line.session ++ codes "." ++ decimal line.number in
     let end : List ℕ = codes " " ++ status_name line.status ++ bytes_text line.bytes ++ codes "\n" in
     (reply_text line ≡ front ++ codes " @" ++ decimal line.rank ++ end) × (unranked_text line ≡ front ++ end)
-
-abbrev pub succeeded : Status → Bool
-succeeded Success = true
-succeeded _ = false
-
-abbrev pub is_success : ReplyLine → Bool
-is_success line = succeeded line.status
 
 -- a line that tells a number
 abbrev pub count_line : List ℕ → ℕ → List ℕ

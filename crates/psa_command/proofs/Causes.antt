@@ -11,7 +11,7 @@ use Rattle.key_cells.specs.declared.reading.OpenFault.{OpenFault}
 use Rattle.key_cells.specs.declared.reading.OpenFault.TheVariants as opening
 use Rattle.driver_dispatch.specs.Held.{HeldKeys}
 use Rattle.script_lang.specs.declared.script.ScriptLine.{ScriptLine}
-use Rattle.script_lang.specs.declared.replies.ReplyLine.{ReplyLine}
+use Rattle.script_lang.specs.Replies.{ReplyLine}
 use Rattle.script_lang.specs.declared.faults.ScriptFault.{ScriptFault}
 use Rattle.script_lang.specs.Lines.{script_of}
 use Rattle.command_words.specs.declared.command.Command.{Command}

@@ -6,7 +6,7 @@ use Rattle.admission.specs.Apply.{picked}
 use Rattle.key_cells.specs.Image.{Opens}
 use Rattle.driver_dispatch.specs.Held.{HeldKeys}
 use Rattle.script_lang.specs.declared.script.ScriptLine.{ScriptLine}
-use Rattle.script_lang.specs.declared.replies.ReplyLine.{ReplyLine}
+use Rattle.script_lang.specs.Replies.{ReplyLine}
 use Rattle.script_lang.specs.Lines.{script_of}
 use Rattle.script_lang.specs.PrintedOrder.{text_of}
 use Rattle.line_generator.specs.Generator.{generator_lines}
@@ -65,7 +65,7 @@ module _ {D A C : Type 0} (told : D → Option (List ℕ)) (may_leave : D → Li
 
   -- How a command ended, and what of its output was taken. Done: all that is written of the replies; a fault of the sink: a part
   -- of it. Before the store was opened, disk and devices come back as they were. Memory may run out before that, later, or as
-  -- the text is made.
+  -- the generator's summary is made.
   abbrev pub EndsBy : Exit → (old new : Option (List ℕ)) → Type 0
   EndsBy Done old new = (replies : List ReplyLine) × IsRun replies × Appends old new (text_by command replies)
   EndsBy WriteFault old new = (replies : List ReplyLine) × IsRun replies × TakesPart (text_by command replies) old new

@@ -28,6 +28,7 @@ use driver_dispatch::Devices;
 use line_generator::generated_lines;
 use outside_io::{Sink, Source};
 use psa_status::Memory;
+use script_lang::ReplyForm;
 use session_host::{Run, answer_lines};
 use std::alloc::Global;
 use std::sync::Wait;
@@ -77,6 +78,7 @@ fn run_script<
         alloc,
         script.lines(),
         options.workers,
+        ReplyForm::Ranked,
         &options.seed,
         disk,
         devices,
@@ -88,7 +90,7 @@ fn run_script<
         devices,
     } = run;
     match replies {
-        Ok(replies) => Ended::of(write_replies(alloc, &replies, sink), disk, devices),
+        Ok(replies) => Ended::of(write_replies(&replies, sink), disk, devices),
         Err(why) => Ended::of(Exit::unanswered(why), disk, devices),
     }
 }
@@ -121,9 +123,19 @@ fn run_generator<K: Sink, D: Disk + Send, A: Devices, C: Admission, R: Threads +
         replies,
         disk,
         devices,
-    } = answer_lines(rt, alloc, &lines, 1, &[0; 32], disk, devices, rules);
+    } = answer_lines(
+        rt,
+        alloc,
+        &lines,
+        1,
+        ReplyForm::Unranked,
+        &[0; 32],
+        disk,
+        devices,
+        rules,
+    );
     match replies {
-        Ok(replies) => Ended::of(write_summary_of(alloc, replies, sink), disk, devices),
+        Ok(replies) => Ended::of(write_summary_of(alloc, &replies, sink), disk, devices),
         Err(why) => Ended::of(Exit::unanswered(why), disk, devices),
     }
 }

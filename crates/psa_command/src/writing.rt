@@ -1,9 +1,9 @@
 //! What is written of replies.
-ghost use Rattle.std.specs.Prelude.{◌≡◌, ◌≤◌, IfOk};
+ghost use Rattle.std.specs.Prelude.{◌≡◌, ◌≤◌, List, flat_map, length};
 ghost use Rattle.psa_status.specs.Causes.{Rose};
 ghost use Rattle.outside_io.specs.Causes.{TellsAsBefore};
-ghost use Rattle.script_lang.specs.PrintedOrder.{text_of};
-ghost use Rattle.script_sessions.specs.Running.{all_replies};
+ghost use Rattle.script_lang.specs.Replies.{AreAllKept, ReplyLine};
+ghost use Rattle.script_lang.specs.declared.replies.ReplyForm.TheVariants.{Unranked};
 ghost use Rattle.line_generator.specs.Summary.{summary_of};
 ghost use Rattle.psa_command.specs.Ends.{IsQuiet, IsWritten};
 
@@ -11,8 +11,7 @@ use crate::exit::Exit;
 use line_generator::write_summary;
 use outside_io::{Sink, write_all};
 use psa_status::{Failed, Memory};
-use script_lang::ReplyLine;
-use script_sessions::{flatten, text_of_sessions};
+use script_lang::Replies;
 use std::alloc::Global;
 
 // Writes a text, and says how the run ends.
@@ -29,45 +28,32 @@ fn write_text<K: Sink>(sink: &mut K, out: &[u8]) -> Exit
     }
 }
 
-/// Writes the reply lines of all sessions, and says how the run ends.
-pub(crate) fn write_replies<K: Sink>(
-    alloc: Global,
-    replies: &[Vec<ReplyLine>],
-    sink: &mut K,
-) -> Exit
-    ensures written { IsWritten (text_of (all_replies replies.now)) (K.taken sink.old) (K.taken sink.new) result }
+/// Writes the reply lines of sessions, one session's after another's, and says how the run ends.
+pub(crate) fn write_replies<K: Sink>(replies: &[Replies], sink: &mut K) -> Exit
+    ensures written { IsWritten (flat_map (λ k. k.text.items) replies.now) (K.taken sink.old) (K.taken sink.new) result }
     ensures write { result ≡ Exit.WriteFault → Rose (K.faults sink.old) (K.faults sink.new) }
     ensures quiet { IsQuiet result → sink.new ≡ sink.old }
     ensures later { K.faults sink.old ≤ K.faults sink.new }
     ensures tells { TellsAsBefore (K.taken sink.old) (K.taken sink.new) }
 {
-    match text_of_sessions(alloc, replies) {
-        Ok(out) => write_text(sink, &out),
-        Err(Memory) => Exit::Memory,
+    for own in replies {
+        let Ok(()) = write_all(sink, &own.text) else {
+            return Exit::WriteFault;
+        };
     }
+    Exit::Done
 }
 
-// The summary of the replies of all sessions.
-fn summary(alloc: Global, replies: Vec<Vec<ReplyLine>>) -> Result<Vec<u8>, Memory>
-    ensures { IfOk result (λ out. out.items ≡ summary_of (all_replies replies.items)) }
-{
-    let all = flatten(alloc, replies)?;
-    write_summary(alloc, &all)
-}
-
-/// Writes the summary of the replies of all sessions, and says how the run ends.
-pub(crate) fn write_summary_of<K: Sink>(
-    alloc: Global,
-    replies: Vec<Vec<ReplyLine>>,
-    sink: &mut K,
-) -> Exit
-    ensures written { IsWritten (summary_of (all_replies replies.items)) (K.taken sink.old) (K.taken sink.new) result }
+/// Writes the summary of the replies of sessions, which are kept without their ranks, and says how the run ends.
+pub(crate) fn write_summary_of<K: Sink>(alloc: Global, replies: &[Replies], sink: &mut K) -> Exit
+    requires { length replies.now ≤ 16 }
+    ensures written { (lines : List ReplyLine) → AreAllKept Unranked replies.now lines → IsWritten (summary_of lines) (K.taken sink.old) (K.taken sink.new) result }
     ensures write { result ≡ Exit.WriteFault → Rose (K.faults sink.old) (K.faults sink.new) }
     ensures quiet { IsQuiet result → sink.new ≡ sink.old }
     ensures later { K.faults sink.old ≤ K.faults sink.new }
     ensures tells { TellsAsBefore (K.taken sink.old) (K.taken sink.new) }
 {
-    match summary(alloc, replies) {
+    match write_summary(alloc, replies) {
         Ok(out) => write_text(sink, &out),
         Err(Memory) => Exit::Memory,
     }

@@ -1,6 +1,7 @@
 mod Again
 mod Cuts
 mod Digits
+mod HexText
 mod FirstByte
 mod Means
 mod Names

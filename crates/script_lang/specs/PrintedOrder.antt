@@ -6,9 +6,8 @@ use Rattle.store_model.specs.Faults.{Plain}
 use Rattle.store_model.specs.Handles.{Service}
 use Rattle.store_model.specs.Replay.{Entry, outcome_of, reply_at}
 use Rattle.script_lang.specs.declared.script.ScriptLine.{ScriptLine}
-use Rattle.script_lang.specs.declared.replies.ReplyLine.{ReplyLine}
 use Rattle.script_lang.specs.Commands.{request_of}
-use Rattle.script_lang.specs.Replies.{reply_text}
+use Rattle.script_lang.specs.Replies.{ReplyLine, reply_text}
 use Rattle.script_lang.specs.Lines.{lines_of, script_of}
 
 -- the identifier that a call gave, or 0

@@ -27,6 +27,6 @@ pub use operation_commands::{
     AeadCommand, CipherCommand, DerivationCommand, HashCommand, MacCommand,
 };
 pub use reading::read_script;
-pub use replies::{ReplyLine, write_reply};
+pub use replies::{Replies, ReplyForm};
 pub use script::{ByteList, KeyWord, Script, ScriptCall, ScriptLine};
 pub use store_commands::{KeyCommand, SinglePartCommand};

@@ -1,38 +1,59 @@
-// The text of replies.
-ghost use Rattle.std.specs.Prelude.{◌≡◌, ◌++◌, OnOk, OnErr};
+// The replies of a session, as text.
+ghost use Rattle.std.specs.Prelude.{◌≡◌, ◌<◌, ◌-◌, ◌+◌, ◌^◌, ◌++◌, ◌∷◌, [], List, OnOk, codes, cond, length};
 ghost use Rattle.std.specs.Fmt.{decimal};
-ghost use Rattle.script_lang.specs.Replies.{reply_text, bytes_text};
+ghost use Rattle.hex.specs.Hex.{encode_lower};
+ghost use Rattle.psa_status.specs.Status.{status_name};
+ghost use Rattle.script_lang.specs.Replies.{AreKept, ReplyLine, bytes_text, next_line, succeeded, text_in};
 
-use crate::script::ByteList;
 use itoa::Buffer;
 use psa_status::{Memory, Status};
 use std::alloc::{AllocError, Global};
 
-/// The room for the text of a reply. Where its bytes need more, the text grows.
-const LINE_ROOM: usize = 64;
+/// So many bytes at a time are written in hex.
+const HEX_PIECE: usize = 64;
 
-/// What a call answered, and where it stands.
-#[derive(Drop)]
-pub struct ReplyLine {
-    pub session: u8,
-    pub number: u32,
-    pub rank: u64,
-    pub status: Status,
-    pub bytes: ByteList,
+/// How reply lines are written: with their ranks, or without.
+#[derive(Clone, Copy, Debug, PartialEq, Eq, Drop)]
+pub enum ReplyForm {
+    Ranked,
+    Unranked,
 }
 
-fn push_bytes(alloc: Global, out: &mut Vec<u8>, bytes: &[u8]) -> Result<(), AllocError>
+/// The replies of a session: their lines, numbered from 1, as text; how many they are, and how many of them succeeded.
+#[derive(Drop)]
+pub struct Replies {
+    pub session: u8,
+    pub form: ReplyForm,
+    pub count: u32,
+    pub successes: u32,
+    pub text: Vec<u8>,
+}
+
+fn push_hex(out: &mut Vec<u8>, bytes: &[u8]) -> Result<(), AllocError>
+    ensures { OnOk result (out.new.items ≡ out.old.items ++ encode_lower bytes.now) }
+{
+    let mut rest = bytes;
+    while !rest.is_empty() {
+        let (piece, more) = rest.split_at(rest.len().min(HEX_PIECE));
+        let mut room = [0; 2 * HEX_PIECE];
+        let text = &mut room[..2 * piece.len()];
+        let Ok(()) = hex::encode_to_slice(piece, text) else {
+            unreachable!()
+        };
+        out.extend_from_slice(text)?;
+        rest = more;
+    }
+    Ok(())
+}
+
+fn push_bytes(out: &mut Vec<u8>, bytes: &[u8]) -> Result<(), AllocError>
     ensures { OnOk result (out.new.items ≡ out.old.items ++ bytes_text bytes.now) }
 {
     if bytes.is_empty() {
         return Ok(());
     }
-    let text = match hex::encode(alloc, bytes) {
-        Ok(text) => text,
-        Err(error) => return Err(error),
-    };
     out.push(b' ')?;
-    out.extend_from_slice(text.as_str().as_bytes())
+    push_hex(out, bytes)
 }
 
 fn push_number(out: &mut Vec<u8>, number: u64) -> Result<(), AllocError>
@@ -41,35 +62,88 @@ fn push_number(out: &mut Vec<u8>, number: u64) -> Result<(), AllocError>
     out.extend_from_slice(Buffer::new().format(number).as_bytes())
 }
 
-#[tactic(auto, unfolding(crate::specs::Replies::reply_text))]
-fn push_reply(alloc: Global, out: &mut Vec<u8>, line: &ReplyLine) -> Result<(), AllocError>
-    ensures { OnOk result (out.new.items ≡ out.old.items ++ reply_text line.now) }
+// Appends where a reply stands in its session.
+fn push_place(out: &mut Vec<u8>, session: u8, number: u32) -> Result<(), AllocError>
+    ensures { OnOk result (out.new.items ≡ out.old.items ++ (decimal session ++ codes "." ++ decimal number)) }
 {
-    push_number(out, line.session as u64)?;
+    push_number(out, session as u64)?;
     out.extend_from_slice(b".")?;
-    push_number(out, line.number as u64)?;
-    out.extend_from_slice(b" @")?;
-    push_number(out, line.rank)?;
-    out.extend_from_slice(b" ")?;
-    out.extend_from_slice(line.status.name().as_bytes())?;
-    push_bytes(alloc, out, line.bytes.as_slice())?;
-    out.push(b'\n')?;
-    Ok(())
+    push_number(out, number as u64)
 }
 
-/// Appends the text of a reply line. Without memory nothing is appended.
-pub fn write_reply(alloc: Global, line: &ReplyLine, out: &mut Vec<u8>) -> Result<(), Memory>
-    ensures ok { OnOk result (out.new.items ≡ out.old.items ++ reply_text line.now) }
-    ensures err { OnErr result (out.new.items ≡ out.old.items) }
+// Appends a rank.
+fn push_rank(out: &mut Vec<u8>, rank: u64) -> Result<(), AllocError>
+    ensures { OnOk result (out.new.items ≡ out.old.items ++ (codes " @" ++ decimal rank)) }
 {
-    let Ok(mut text) = Vec::with_capacity(alloc, LINE_ROOM) else {
-        return Err(Memory);
-    };
-    if push_reply(alloc, &mut text, line).is_err() {
-        return Err(Memory);
+    out.extend_from_slice(b" @")?;
+    push_number(out, rank)
+}
+
+// Appends what a call answered.
+fn push_answer(out: &mut Vec<u8>, status: Status, bytes: &[u8]) -> Result<(), AllocError>
+    ensures { OnOk result (out.new.items ≡ out.old.items ++ (codes " " ++ status_name status ++ bytes_text bytes.now ++ codes "\n")) }
+{
+    out.extend_from_slice(b" ")?;
+    out.extend_from_slice(status.name().as_bytes())?;
+    push_bytes(out, bytes)?;
+    out.extend_from_slice(b"\n")
+}
+
+// The successes with one more reply.
+fn counted(successes: u32, status: Status) -> u32
+    requires { successes < 2 ^ 32 - 1 }
+    ensures { result ≡ successes + cond (succeeded status) 1 0 }
+{
+    match status {
+        Status::Success => successes + 1,
+        _ => successes,
     }
-    match out.extend_from_slice(&text) {
-        Ok(()) => Ok(()),
-        Err(_) => Err(Memory),
+}
+
+impl Replies {
+    /// No reply.
+    pub fn new(alloc: Global, session: u8, form: ReplyForm) -> Replies
+        ensures session { result.session ≡ session }
+        ensures form { result.form ≡ form }
+        ensures none { AreKept result [] }
+    {
+        Replies {
+            session,
+            form,
+            count: 0,
+            successes: 0,
+            text: Vec::new(alloc),
+        }
+    }
+
+    // Appends the text of the next line.
+    fn push_line(&mut self, rank: u64, status: Status, bytes: &[u8]) -> Result<(), AllocError>
+        requires few { self.old.count < 2 ^ 32 - 1 }
+        ensures text { OnOk result (self.new.text.items ≡ self.old.text.items ++ text_in self.old.form (next_line self.old rank status bytes.now)) }
+        ensures same { (self.new.session ≡ self.old.session) × (self.new.form ≡ self.old.form) × (self.new.count ≡ self.old.count) × (self.new.successes ≡ self.old.successes) }
+    {
+        push_place(&mut self.text, self.session, self.count + 1)?;
+        match self.form {
+            ReplyForm::Ranked => {
+                push_rank(&mut self.text, rank)?;
+                push_answer(&mut self.text, status, bytes)
+            }
+            ReplyForm::Unranked => push_answer(&mut self.text, status, bytes),
+        }
+    }
+
+    /// Appends the line of the next reply. Without memory only a part of it is appended.
+    pub fn push(&mut self, rank: u64, status: Status, bytes: &[u8]) -> Result<(), Memory>
+        requires few { (lines : List ReplyLine) × AreKept self.old lines × (length lines < 2 ^ 32 - 1) }
+        ensures kept { OnOk result ((lines : List ReplyLine) → AreKept self.old lines → AreKept self.new (lines ++ next_line self.old rank status bytes.now ∷ [])) }
+        ensures session { self.new.session ≡ self.old.session }
+        ensures form { self.new.form ≡ self.old.form }
+    {
+        let Ok(()) = self.push_line(rank, status, bytes) else {
+            return Err(Memory);
+        };
+        self.count += 1;
+        self.successes = counted(self.successes, status);
+        Ok(())
     }
 }

@@ -1,5 +1,5 @@
 -- Marks have causes, and so there are no more of them than failures.
-use Rattle.std.proofs.Common.{◌≡◌, ◌≤◌, ◌<◌, ℕ, ◌+◌, ◌-◌, ◌^◌, Bool, true, false, List, [], ◌∷◌, refl, sym, ap, ◌∙◌, subst, arith, cond}
+use Rattle.std.proofs.Common.{◌≡◌, ◌≤◌, ◌<◌, ℕ, ◌+◌, ◌-◌, ◌^◌, Bool, true, false, List, [], ◌∷◌, refl, ap, subst, arith, cond}
 use Rattle.psa_status.specs.Causes.{Rose}
 use Rattle.store_model.specs.Faults.{FaultMark, Plain, Storage, Hardware, Corrupt}
 use Rattle.store_model.specs.Marks.{FaultCounts, HasFault, IsCaused, last_counts}

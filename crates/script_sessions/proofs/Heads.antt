@@ -4,7 +4,7 @@ use Rattle.std.proofs.lemmas.List.{append-nil, length-map, map-append}
 use Rattle.turn_history.specs.History.{calls_by, StartsWith}
 use Rattle.store_model.specs.Replay.{Entry}
 use Rattle.shared_store.specs.Standing.{caller_of}
-use Rattle.script_lang.specs.declared.replies.ReplyLine.{ReplyLine}
+use Rattle.script_lang.specs.Replies.{ReplyLine}
 use Rattle.script_sessions.specs.Heads.{head_of, heads, ranks_of}
 use Rattle.script_sessions.proofs.History.{last_call, none_after, none_chosen}
 

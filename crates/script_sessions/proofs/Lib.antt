@@ -5,3 +5,4 @@ pub mod Heads
 pub mod Told
 pub mod Bounds
 pub mod FaultLines
+mod Noted

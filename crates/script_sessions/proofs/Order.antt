@@ -1,6 +1,5 @@
 -- Calls in the order of their lines.
-use Rattle.std.proofs.Common.{◌≡◌, ℕ, ◌+◌, ◌≤◌, ◌<◌, eqb, Bool, true, false, List, [], ◌∷◌, ◌++◌, length, refl, sym, ap, ◌∙◌, subst, arith, cond, map, append_assoc, eq-eqb, inl, inr}
-use Rattle.std.specs.Prelude.{◌==◌, filter}
+use Rattle.std.proofs.Common.{◌≡◌, ℕ, ◌+◌, ◌≤◌, eqb, Bool, true, false, List, [], ◌∷◌, ◌++◌, length, refl, sym, ap, subst, arith, cond, eq-eqb, inl, inr}
 use Rattle.std.proofs.lemmas.List.{append-nil}
 use Rattle.turn_history.specs.History.{choose, calls_by, StartsWith}
 use Rattle.store_model.specs.Replay.{Entry}

@@ -10,8 +10,7 @@ use Rattle.store_model.specs.Handles.{Service}
 use Rattle.store_model.specs.Requests.{Request}
 use Rattle.store_model.specs.Replay.{Entry, outcome_of, replay}
 use Rattle.shared_store.specs.Standing.{caller_of}
-use Rattle.std.specs.Prelude.{IfOk, Ok, Result}
-use Rattle.psa_status.specs.declared.Memory.{Memory}
+use Rattle.std.specs.Prelude.{Result}
 use Rattle.psa_status.specs.declared.Status.{Status}
 use Rattle.service_calls.specs.declared.output.Output.{Output}
 use Rattle.turn_history.specs.declared.pass.View.{View}
@@ -22,15 +21,15 @@ use Rattle.callers.specs.Worlds.{World}
 use Rattle.callers.specs.declared.caller.Caller.{Caller}
 use Rattle.callers.proofs.Journeys.{begins_through, told_front}
 use Rattle.script_lang.specs.declared.script.ScriptLine.{ScriptLine}
-use Rattle.script_lang.specs.declared.replies.ReplyLine.{ReplyLine}
+use Rattle.script_lang.specs.Replies.{ReplyLine, next_line}
+use Rattle.script_lang.specs.declared.replies.Replies.{Replies}
 use Rattle.script_lang.specs.Commands.{request_of}
 use Rattle.script_lang.specs.Lines.{lines_of}
 use Rattle.script_lang.specs.PrintedOrder.{Turn, id_given, numbered, printed}
-use Rattle.script_sessions.specs.declared.answers.Answer.{Answer}
 use Rattle.script_sessions.specs.declared.session.Session.{Session}
-use Rattle.script_sessions.specs.Heads.{head_of, heads, ranks_of}
+use Rattle.script_sessions.specs.Heads.{heads, ranks_of}
 use Rattle.script_sessions.specs.Printed.{AreFirstCalls, AreFirstReplies}
-use Rattle.script_sessions.specs.Replying.{Answers, Fills}
+use Rattle.script_sessions.specs.Replying.{Answer, Answers, Fills, Notes}
 use Rattle.script_sessions.specs.Running.{AreFirstGiven, ElementTells, GoesFurther, HasAnswered, HasMade, IsMade, KnowsTurns, session_turns}
 use Rattle.script_sessions.proofs.Fronts.{calls_next, calls_still, first_more, first_still, first_whole}
 use Rattle.script_sessions.proofs.Heads.{one_more_head, one_more_rank}
@@ -67,14 +66,10 @@ is_made w v u call asked rank result before out Q a same printed = record {
   replied = λ tells start is told. let f = a.replied start is told (inl tells) in printed _ (record { answers = f.0; before = before; after = f.1 });
 }
 
-pub is_made_so : {D A C : Type 0} (w : World D A C) (v u : View Entry (Opened D A C)) (call : Request) (rank : ℕ) (made : Result Answer Memory) (a : Answer) → made ≡ Ok a →
-    IsMade w v u call rank (λ reply. IfOk made (λ a. Answers a reply)) → IsMade w v u call rank (Answers a)
-is_made_so w v u call rank made a is m = subst (λ r. IsMade w v u call rank (λ reply. IfOk r (λ a. Answers a reply))) is m
-
 -- a reply line is that of a turn
-is_printed : (session number place rank : ℕ) (a : Answer) (t : Turn) → session ≡ t.entry.caller → number ≡ place → rank ≡ t.rank → Answers a t.reply →
-    record { session = session; number = number; rank = rank; status = a.status; bytes = a.bytes } ≡ printed place t
-is_printed session number place rank a t s n r h = λ i. record { session = s i; number = n i; rank = r i; status = h.status i; bytes = h.bytes i }
+is_printed : (kept : Replies) (place rank : ℕ) (a : Answer) (t : Turn) → kept.session ≡ t.entry.caller → kept.count + 1 ≡ place → rank ≡ t.rank → Answers a t.reply →
+    next_line kept rank a.status a.bytes ≡ printed place t
+is_printed kept place rank a t s n r h = λ i. record { session = s i; number = n i; rank = r i; status = h.status i; bytes = h.bytes i }
 
 module _ {D A C : Type 0} (w : World D A C) where
   -- a caller's calls are its entries in what it has seen
@@ -195,12 +190,13 @@ module _ {D A C : Type 0} (w : World D A C) where
   -- and its session has the reply
   pub answered_more : (lines : List ScriptLine) (line : ScriptLine) (old new : Session D A C) (rank : ℕ) (a : Answer) → HasAnswered w lines old → IsReady w 0 new.caller → new.caller.spent ≤ old.caller.spent + 2 →
       line.session ≡ old.caller.number → IsMade w old.caller.pass.me.0 new.caller.pass.me.0 (request_of old.given.items line.call) rank (Answers a) →
-      new.replies.items ≡ old.replies.items ++ record { session = line.session; number = length old.replies.items + 1; rank = rank; status = a.status; bytes = a.bytes } ∷ [] →
+      Notes old.replies new.replies rank a → new.replies.session ≡ old.replies.session →
       new.given.items ≡ old.given.items ++ a.id ∷ [] → HasAnswered w (lines ++ line ∷ []) new
-  answered_more lines line old new rank a h ready spent own m replies given =
+  answered_more lines line old new rank a h ready spent own m notes same_session given =
       let c : Caller D A C = old.caller in let d : Caller D A C = new.caller in
       let call : Request = request_of old.given.items line.call in
-      let reply : ReplyLine = record { session = line.session; number = length old.replies.items + 1; rank = rank; status = a.status; bytes = a.bytes } in
+      let told : List ReplyLine = h.replies.told in
+      let reply : ReplyLine = next_line old.replies rank a.status a.bytes in
       let same : d.number ≡ c.number = same_number c d call rank (Answers a) h.made.ready ready m in
       let own_lines : List ScriptLine = lines_of c.number lines in
       let more : length (lines_of d.number (lines ++ line ∷ [])) ≡ length own_lines + 1 = ap (λ n. length (lines_of n (lines ++ line ∷ []))) same ∙ (ap length (lines_more c.number lines line own) ∙ length-append own_lines (line ∷ [])) in
@@ -209,19 +205,23 @@ module _ {D A C : Type 0} (w : World D A C) where
       record {
         made = made_more lines line old.given.items c d rank (Answers a) h.made ready spent own h.given_count h.given m;
         replies = record {
-          count = let e = ap length replies in let f = length-append old.replies.items (reply ∷ []) in let g = h.replies.count in omega (arith, e, f, g, more);
-          known = subst (λ rs. KnowsTurns w d.number u (AreFirstReplies rs)) (sym replies)
-              (knows_more c d call rank (Answers a) h.made.ready ready m (AreFirstReplies old.replies.items) (AreFirstReplies (old.replies.items ++ reply ∷ [])) h.replies.known
-              (λ ts q. first_still (length ts) old.replies.items (reply ∷ []) (numbered 1 ts) q (numbered_length 1 ts))
-              (λ start g s q.
-              let ts : List Turn = session_turns c.number start v in
-              let long : length old.replies.items ≡ length ts = h.replies.count ∙ as_many start in
-              first_more (length ts) (length (ts ++ s.turn ∷ [])) old.replies.items (numbered 1 ts) reply q long (length-append ts (s.turn ∷ []))
-              ∙ (ap (λ y. numbered 1 ts ++ y ∷ []) (is_printed line.session (length old.replies.items + 1) (1 + length ts) rank a s.turn (own ∙ sym s.by) (omega (arith, long)) s.rank_is s.known)
-              ∙ sym (numbered_more 1 ts s.turn))));
-          heads = ap (map head_of) replies
-              ∙ (one_more_head c.number old.replies.items (ranks_of c.number 0 v) reply h.replies.heads own refl
-              ∙ ap₂ (λ n ranks. heads n 1 ranks) (sym same) (sym (ranked c d call rank (Answers a) h.made.ready ready m)));
+          told = told ++ reply ∷ [];
+          kept = notes told h.replies.kept;
+          session = same_session ∙ (h.replies.session ∙ sym same);
+          replies = record {
+            count = let f = length-append told (reply ∷ []) in let g = h.replies.replies.count in omega (arith, f, g, more);
+            known = knows_more c d call rank (Answers a) h.made.ready ready m (AreFirstReplies told) (AreFirstReplies (told ++ reply ∷ [])) h.replies.replies.known
+                (λ ts q. first_still (length ts) told (reply ∷ []) (numbered 1 ts) q (numbered_length 1 ts))
+                (λ start g s q.
+                let ts : List Turn = session_turns c.number start v in
+                let long : length told ≡ length ts = h.replies.replies.count ∙ as_many start in
+                let number : old.replies.count + 1 ≡ 1 + length ts = (let e = h.replies.kept.count in omega (arith, long, e)) in
+                first_more (length ts) (length (ts ++ s.turn ∷ [])) told (numbered 1 ts) reply q long (length-append ts (s.turn ∷ []))
+                ∙ (ap (λ y. numbered 1 ts ++ y ∷ []) (is_printed old.replies (1 + length ts) rank a s.turn (h.replies.session ∙ sym s.by) number s.rank_is s.known)
+                ∙ sym (numbered_more 1 ts s.turn)));
+            heads = one_more_head c.number told (ranks_of c.number 0 v) reply h.replies.replies.heads h.replies.session (ap (λ n. n + 1) h.replies.kept.count)
+                ∙ ap₂ (λ n ranks. heads n 1 ranks) (sym same) (sym (ranked c d call rank (Answers a) h.made.ready ready m));
+          };
         };
         given_count = let e = ap length given in let f = length-append old.given.items (a.id ∷ []) in let g = h.given_count in omega (arith, e, f, g, more);
         given = subst (λ ids. KnowsTurns w d.number u (AreFirstGiven ids)) (sym given)
@@ -250,7 +250,12 @@ module _ {D A C : Type 0} (w : World D A C) where
   pub answered_other : (lines : List ScriptLine) (line : ScriptLine) (s : Session D A C) → line.session ≢ s.caller.number → HasAnswered w lines s → HasAnswered w (lines ++ line ∷ []) s
   answered_other lines line s other h = record {
     made = made_other lines line s.caller other h.made;
-    replies = record { count = h.replies.count ∙ ap length (sym (lines_same s.caller.number lines line other)); known = h.replies.known; heads = h.replies.heads };
+    replies = record {
+      told = h.replies.told;
+      kept = h.replies.kept;
+      session = h.replies.session;
+      replies = let r = h.replies.replies in record { count = r.count ∙ ap length (sym (lines_same s.caller.number lines line other)); known = r.known; heads = r.heads };
+    };
     given_count = h.given_count ∙ ap length (sym (lines_same s.caller.number lines line other));
     given = h.given;
   }

@@ -8,7 +8,7 @@ use Rattle.store_model.specs.Marks.{FaultCounts, IsCaused, last_counts}
 use Rattle.store_model.specs.Replay.{Entry}
 use Rattle.store_core.specs.Represents.{Opening}
 use Rattle.store_core.specs.Rising.{AreRising}
-use Rattle.script_lang.specs.declared.replies.ReplyLine.{ReplyLine}
+use Rattle.script_lang.specs.Replies.{ReplyLine}
 use Rattle.script_lang.specs.PrintedOrder.{replies_to, turns_from}
 
 -- MARKS

@@ -1,7 +1,7 @@
 -- What stands at the head of reply lines: sessions, numbers and ranks.
 use Rattle.std.specs.Prelude.{ℕ, zero, suc, ◌+◌, ◌==◌, cond, List, [], ◌∷◌, ◌++◌}
 use Rattle.store_model.specs.Replay.{Entry}
-use Rattle.script_lang.specs.declared.replies.ReplyLine.{ReplyLine}
+use Rattle.script_lang.specs.Replies.{ReplyLine}
 
 -- the ranks of a session's calls in a history, which are their places there, from a rank on
 abbrev pub ranks_of : (session rank : ℕ) → List Entry → List ℕ

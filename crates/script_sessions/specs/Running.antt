@@ -1,6 +1,5 @@
 -- What is known of callers that make the calls of a script's lines.
-use Rattle.std.specs.Prelude.{ℕ, ◌≡◌, ◌⊎◌, ◌≤◌, ◌+◌, ◌*◌, true, List, [], ◌∷◌, ◌++◌, length, take, map, flat_map, is_some}
-use Rattle.std.specs.Global.{Vec}
+use Rattle.std.specs.Prelude.{ℕ, ◌≡◌, ◌⊎◌, ◌≤◌, ◌*◌, true, List, [], ◌∷◌, ◌++◌, length, take, map, is_some}
 use Rattle.turn_history.specs.declared.pass.View.{View}
 use Rattle.turn_history.specs.History.{entries_of, StartsWith}
 use Rattle.store_model.specs.Call.{Reply}
@@ -14,7 +13,8 @@ use Rattle.callers.specs.Ready.{IsReady}
 use Rattle.callers.specs.Worlds.{World}
 use Rattle.callers.specs.declared.caller.Caller.{Caller}
 use Rattle.script_lang.specs.declared.script.ScriptLine.{ScriptLine}
-use Rattle.script_lang.specs.declared.replies.ReplyLine.{ReplyLine}
+use Rattle.script_lang.specs.Replies.{AreKept, ReplyLine}
+use Rattle.script_lang.specs.declared.replies.Replies.{Replies}
 use Rattle.script_lang.specs.Lines.{lines_of}
 use Rattle.script_lang.specs.PrintedOrder.{Turn, turns_from, turns_of, id_given}
 use Rattle.script_sessions.specs.declared.session.Session.{Session}
@@ -76,13 +76,16 @@ module _ {D A C : Type 0} (w : World D A C) where
     pub known : KnowsTurns c.number (entries_of c.pass.me.0.seen) (AreFirstReplies replies)
     pub heads : map head_of replies ≡ heads c.number 1 (ranks_of c.number 0 (entries_of c.pass.me.0.seen))
 
+  -- and they are kept so
+  pub record HasKept (lines : List ScriptLine) (c : Caller D A C) (own : Replies) : Type 0 where
+    pub told : List ReplyLine
+    pub replies : HasReplies lines c told
+    pub kept : AreKept own told
+    pub session : own.session ≡ c.number
+
   -- a session has made its calls among these lines, and has the replies and the identifiers that they gave
   pub record HasAnswered (lines : List ScriptLine) (s : Session D A C) : Type 0 where
     pub made : HasMade lines s.caller
-    pub replies : HasReplies lines s.caller s.replies.items
+    pub replies : HasKept lines s.caller s.replies
     pub given_count : length s.given.items ≡ length (lines_of s.caller.number lines)
     pub given : KnowsTurns s.caller.number (entries_of s.caller.pass.me.0.seen) (AreFirstGiven s.given.items)
-
--- the replies of all sessions, in their order
-abbrev pub all_replies : List (Vec ReplyLine) → List ReplyLine
-all_replies replies = flat_map (λ r. r.items) replies

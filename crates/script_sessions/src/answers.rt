@@ -1,32 +1,33 @@
-// What calls answer, as the bytes that are printed.
-ghost use Rattle.std.specs.Prelude.{◌≡◌, ◌≤◌, ◌++◌, IfOk, length, take};
+// What calls answer, as the lines that are printed.
+ghost use Rattle.std.specs.Prelude.{◌≡◌, ◌≤◌, ◌<◌, ◌-◌, ◌^◌, ◌++◌, List, IfOk, Ok, length, take};
 ghost use Rattle.psa_status.specs.declared.Status.TheVariants.{Success};
 ghost use Rattle.store_model.specs.Call.{Bytes, Reply, attribute_bytes, output_bytes};
 ghost use Rattle.store_model.specs.Outcome.{refusal};
-ghost use Rattle.script_sessions.specs.Replying.{Answers, Fills};
+ghost use Rattle.script_lang.specs.Replies.{AreKept, ReplyLine};
+ghost use Rattle.script_sessions.specs.Replying.{Answer, Answers, Fills, Notes};
 
 use key_attributes::Attributes;
 use psa_status::{Memory, Status};
-use script_lang::ByteList;
+use script_lang::Replies;
 use service_calls::Output;
 use std::alloc::{AllocError, Global};
 
-/// What a call answered: its status, the bytes that it gave back, and the identifier that it gave, or 0.
-#[derive(Drop)]
-pub struct Answer {
-    pub status: Status,
-    pub bytes: ByteList,
-    pub id: u32,
-}
-
-// An answer with these bytes.
-fn with_bytes(alloc: Global, status: Status, bytes: &[u8], id: u32) -> Result<Answer, Memory>
-    ensures status { IfOk result (λ a. a.status ≡ status) }
-    ensures bytes { IfOk result (λ a. a.bytes ≡ bytes.now) }
-    ensures id { IfOk result (λ a. a.id ≡ id) }
+// Notes an answer of these bytes, and hands the identifier on.
+fn note_bytes(
+    replies: &mut Replies,
+    rank: u64,
+    status: Status,
+    bytes: &[u8],
+    id: u32,
+) -> Result<u32, Memory>
+    requires kept { (lines : List ReplyLine) × AreKept replies.old lines × (length lines < 2 ^ 32 - 1) }
+    ensures noted { IfOk result (λ given. Notes replies.old replies.new rank (record { status = status; bytes = bytes.now; id = id })) }
+    ensures id { IfOk result (λ given. given ≡ id) }
+    ensures session { replies.new.session ≡ replies.old.session }
+    ensures form { replies.new.form ≡ replies.old.form }
 {
-    let bytes = ByteList::from_slice(alloc, bytes)?;
-    Ok(Answer { status, bytes, id })
+    replies.push(rank, status, bytes)?;
+    Ok(id)
 }
 
 fn attribute_bytes(alloc: Global, attributes: &Attributes) -> Result<Vec<u8>, AllocError>
@@ -41,34 +42,67 @@ fn attribute_bytes(alloc: Global, attributes: &Attributes) -> Result<Vec<u8>, Al
     Ok(bytes)
 }
 
-// What a call answered that asks for attributes.
-fn described(alloc: Global, attributes: &Attributes) -> Result<Answer, Memory>
-    ensures status { IfOk result (λ a. a.status ≡ Success) }
-    ensures bytes { IfOk result (λ a. a.bytes ≡ attribute_bytes attributes.now) }
-    ensures id { IfOk result (λ a. a.id ≡ 0) }
+// Notes the answer to a call that asks for attributes.
+fn note_attributes(
+    alloc: Global,
+    replies: &mut Replies,
+    rank: u64,
+    attributes: &Attributes,
+) -> Result<u32, Memory>
+    requires kept { (lines : List ReplyLine) × AreKept replies.old lines × (length lines < 2 ^ 32 - 1) }
+    ensures noted { IfOk result (λ given. Notes replies.old replies.new rank (record { status = Success; bytes = attribute_bytes attributes.now; id = 0 })) }
+    ensures id { IfOk result (λ given. given ≡ 0) }
+    ensures session { replies.new.session ≡ replies.old.session }
+    ensures form { replies.new.form ≡ replies.old.form }
 {
     match attribute_bytes(alloc, attributes) {
-        Ok(bytes) => Ok(Answer {
-            status: Status::Success,
-            bytes: ByteList::of(bytes),
-            id: 0,
-        }),
+        Ok(bytes) => note_bytes(replies, rank, Status::Success, &bytes, 0),
         Err(_) => Err(Memory),
     }
 }
 
-/// The answer to a call whose output buffer then holds `out`. No more than `out` has is printed.
-pub fn printed(alloc: Global, answer: Result<Output, Status>, out: &[u8]) -> Result<Answer, Memory>
-    ensures { (reply : Reply) → Fills answer out.now reply → IfOk result (λ a. Answers a reply) }
+// Notes what a call gave whose output buffer then holds `out`.
+fn note_output(
+    alloc: Global,
+    replies: &mut Replies,
+    rank: u64,
+    output: Output,
+    out: &[u8],
+) -> Result<u32, Memory>
+    requires kept { (lines : List ReplyLine) × AreKept replies.old lines × (length lines < 2 ^ 32 - 1) }
+    ensures noted { IfOk result (λ given. (a : Answer) × (a.id ≡ given) × Notes replies.old replies.new rank a × ((reply : Reply) → Fills (Ok output) out.now reply → Answers a reply)) }
+    ensures session { replies.new.session ≡ replies.old.session }
+    ensures form { replies.new.form ≡ replies.old.form }
+{
+    let done = Status::Success;
+    match output {
+        Output::Done => note_bytes(replies, rank, done, &[], 0),
+        Output::Identifier(id) => note_bytes(replies, rank, done, &id.0.to_be_bytes(), id.0),
+        Output::Description(attributes) => note_attributes(alloc, replies, rank, &attributes),
+        Output::Bytes(length) => {
+            let bytes = &out[..length.min(out.len())];
+            note_bytes(replies, rank, done, bytes, 0)
+        }
+        Output::Number(number) => note_bytes(replies, rank, done, &number.to_be_bytes(), 0),
+    }
+}
+
+/// Notes the answer to a call whose output buffer then holds `out`, and hands on the identifier that it gave, or 0. No more
+/// than `out` has is noted. Fails where memory runs out.
+pub fn note(
+    alloc: Global,
+    replies: &mut Replies,
+    rank: u64,
+    answer: Result<Output, Status>,
+    out: &[u8],
+) -> Result<u32, Memory>
+    requires kept { (lines : List ReplyLine) × AreKept replies.old lines × (length lines < 2 ^ 32 - 1) }
+    ensures noted { IfOk result (λ given. (a : Answer) × (a.id ≡ given) × Notes replies.old replies.new rank a × ((reply : Reply) → Fills answer out.now reply → Answers a reply)) }
+    ensures session { replies.new.session ≡ replies.old.session }
+    ensures form { replies.new.form ≡ replies.old.form }
 {
     match answer {
-        Ok(Output::Done) => with_bytes(alloc, Status::Success, &[], 0),
-        Ok(Output::Identifier(id)) => with_bytes(alloc, Status::Success, &id.0.to_be_bytes(), id.0),
-        Ok(Output::Description(attributes)) => described(alloc, &attributes),
-        Ok(Output::Bytes(length)) => {
-            with_bytes(alloc, Status::Success, &out[..length.min(out.len())], 0)
-        }
-        Ok(Output::Number(number)) => with_bytes(alloc, Status::Success, &number.to_be_bytes(), 0),
-        Err(status) => with_bytes(alloc, status, &[], 0),
+        Ok(output) => note_output(alloc, replies, rank, output, out),
+        Err(status) => note_bytes(replies, rank, status, &[], 0),
     }
 }

@@ -4,8 +4,6 @@
 mod answers;
 mod laws;
 mod session;
-mod texts;
 
 pub use laws::{lines_are_bounded, marks_are_bounded};
 pub use session::Session;
-pub use texts::{flatten, text_of_sessions};

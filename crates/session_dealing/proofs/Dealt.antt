@@ -5,19 +5,20 @@ use Rattle.std.proofs.lemmas.Bool.Decides.{eqb_tells}
 use Rattle.std.proofs.lemmas.List.{append-nil, get_or_push, map-append}
 use Rattle.script_sessions.specs.declared.session.Session.{Session}
 use Rattle.session_workers.specs.declared.worker.Worker.{Worker}
-use Rattle.std.specs.Global.{Vec}
 use Rattle.std.specs.Prelude.{All, None, vec_capacity}
 use Rattle.callers.specs.Worlds.{World}
 use Rattle.callers.specs.declared.caller.Caller.{Caller}
 use Rattle.caller_service.specs.Staff.{IsNewCaller}
-use Rattle.script_lang.specs.declared.replies.ReplyLine.{ReplyLine}
+use Rattle.script_lang.specs.Replies.{AreKept}
+use Rattle.script_lang.specs.declared.replies.Replies.{Replies}
+use Rattle.script_lang.specs.declared.replies.ReplyForm.{ReplyForm}
 use Rattle.session_dealing.specs.Dealing.{AreDealt, AreTaken, HaveOwn, IsFree, IsFrom, dealt}
-use Rattle.std.specs.Prelude.{IfSome, map}
+use Rattle.std.specs.Prelude.{IfSome}
 use Rattle.std.proofs.Common.{take}
 use Rattle.std.proofs.lemmas.List.{get_or-map, take_more}
 use Rattle.std.proofs.lemmas.List.Elements.{All-nil, All-push, All-set, All-weaker}
 use Rattle.turn_history.specs.History.{entries_of}
-use Rattle.script_sessions.specs.Heads.{head_of, heads, ranks_of}
+use Rattle.script_sessions.specs.Heads.{heads, ranks_of}
 use Rattle.script_sessions.specs.Printed.{AreFirstCalls, AreFirstReplies}
 use Rattle.script_sessions.specs.Running.{AreFirstGiven, HasAnswered, HasMade, KnowsTurns}
 use Rattle.script_sessions.proofs.Told.{knows_none}
@@ -122,16 +123,18 @@ module _ {D A C : Type 0} where
       ]))
 
 -- a session that has made no call
-pub record IsFreshSession {D A C : Type 0} (w : World D A C) (s : Session D A C) : Type 0 where
+pub record IsFreshSession {D A C : Type 0} (w : World D A C) (form : ReplyForm) (s : Session D A C) : Type 0 where
   pub number : ℕ
   pub caller : IsNewCaller w number s.caller
-  pub replies : s.replies.items ≡ []
+  pub replies : AreKept s.replies []
+  pub session : s.replies.session ≡ s.caller.number
+  pub form_is : s.replies.form ≡ form
   pub given : s.given.items ≡ []
 
 -- so many sessions are dealt, none of which has made a call
-pub record IsDealing {D A C : Type 0} (w : World D A C) (j : ℕ) (workers : List (Worker D A C)) : Type 0 where
+pub record IsDealing {D A C : Type 0} (w : World D A C) (form : ReplyForm) (j : ℕ) (workers : List (Worker D A C)) : Type 0 where
   pub own : HaveOwn j workers
-  pub fresh : (i : ℕ) (d : Worker D A C) → i < length workers → All (IsFreshSession w) (get_or workers i d).sessions.items
+  pub fresh : (i : ℕ) (d : Worker D A C) → i < length workers → All (IsFreshSession w form) (get_or workers i d).sessions.items
   pub space : (i : ℕ) (d : Worker D A C) → i < length workers → 16 ≤ vec_capacity (get_or workers i d).sessions
   pub buffer : (i : ℕ) (d : Worker D A C) → i < length workers → 16448 ≤ length (get_or workers i d).buffer.items
   pub last : (i : ℕ) (d : Worker D A C) → i < length workers → (get_or workers i d).last ≡ None
@@ -140,23 +143,23 @@ pub same_long : {D A C : Type 0} (sessions : List (Session D A C)) → length (n
 same_long [] = refl
 same_long (s ∷ sessions) = ap suc (same_long sessions)
 
-module _ {D A C : Type 0} (w : World D A C) where
+module _ {D A C : Type 0} (w : World D A C) (form : ReplyForm) where
   -- nothing is dealt yet
-  pub dealing_none : (workers : List (Worker D A C)) → All IsFree workers → IsDealing w 0 workers
+  pub dealing_none : (workers : List (Worker D A C)) → All IsFree workers → IsDealing w form 0 workers
   dealing_none workers free = record {
     own = λ i d lt. ap numbers_of (free i d lt).none;
-    fresh = λ i d lt. subst (All (IsFreshSession w)) (sym (free i d lt).none) (All-nil (IsFreshSession w));
+    fresh = λ i d lt. subst (All (IsFreshSession w form)) (sym (free i d lt).none) (All-nil (IsFreshSession w form));
     space = λ i d lt. (free i d lt).space;
     buffer = λ i d lt. (free i d lt).buffer;
     last = λ i d lt. (free i d lt).fresh;
   }
 
-  pub dealing_one : (j : ℕ) (workers : List (Worker D A C)) (t : Worker D A C) (s : Session D A C) → IsDealing w j workers → (16 - j) % length workers < length workers →
-      ((d : Worker D A C) → HasSeated (get_or workers ((16 - j) % length workers) d) t s) → IsFreshSession w s → s.caller.number ≡ 16 - j → IsDealing w (j + 1) (set workers ((16 - j) % length workers) t)
+  pub dealing_one : (j : ℕ) (workers : List (Worker D A C)) (t : Worker D A C) (s : Session D A C) → IsDealing w form j workers → (16 - j) % length workers < length workers →
+      ((d : Worker D A C) → HasSeated (get_or workers ((16 - j) % length workers) d) t s) → IsFreshSession w form s → s.caller.number ≡ 16 - j → IsDealing w form (j + 1) (set workers ((16 - j) % length workers) t)
   dealing_one j workers t s h within seated f number =
       let r : ℕ = (16 - j) % length workers in let was = seated t in record {
         own = dealt_one j workers t s h.own within seated number;
-        fresh = All-set (λ x. All (IsFreshSession w) x.sessions.items) workers r t (subst (All (IsFreshSession w)) (sym was.sessions) (All-push (IsFreshSession w) (get_or workers r t).sessions.items s (h.fresh r t within) f)) h.fresh;
+        fresh = All-set (λ x. All (IsFreshSession w form) x.sessions.items) workers r t (subst (All (IsFreshSession w form)) (sym was.sessions) (All-push (IsFreshSession w form) (get_or workers r t).sessions.items s (h.fresh r t within) f)) h.fresh;
         space = All-set (λ x. 16 ≤ vec_capacity x.sessions) workers r t (let a = was.space in let b = h.space r t within in omega arith) h.space;
         buffer = All-set (λ x. 16448 ≤ length x.buffer.items) workers r t (let a = ap (λ b. length b.items) was.buffer in let b = h.buffer r t within in omega arith) h.buffer;
         last = All-set (λ x. x.last ≡ None) workers r t (was.last ∙ h.last r t within) h.last;
@@ -170,13 +173,18 @@ module _ {D A C : Type 0} (w : World D A C) where
     calls = subst (λ s. KnowsTurns w c.number (entries_of s) (AreFirstCalls [])) (sym new.unseen) (knows_none w c.number (AreFirstCalls []) tt);
   }
 
-  none_answered : (s : Session D A C) → IsFreshSession w s → HasAnswered w [] s
+  none_answered : (s : Session D A C) → IsFreshSession w form s → HasAnswered w [] s
   none_answered s f = record {
     made = none_made f.number s.caller f.caller;
     replies = record {
-      count = ap length f.replies;
-      known = subst (λ v. KnowsTurns w s.caller.number (entries_of v) (AreFirstReplies s.replies.items)) (sym f.caller.unseen) (knows_none w s.caller.number (AreFirstReplies s.replies.items) refl);
-      heads = ap (map head_of) f.replies ∙ subst (λ v. [] ≡ heads s.caller.number 1 (ranks_of s.caller.number 0 (entries_of v))) (sym f.caller.unseen) refl;
+      told = [];
+      kept = f.replies;
+      session = f.session;
+      replies = record {
+        count = refl;
+        known = subst (λ v. KnowsTurns w s.caller.number (entries_of v) (AreFirstReplies [])) (sym f.caller.unseen) (knows_none w s.caller.number (AreFirstReplies []) refl);
+        heads = subst (λ v. [] ≡ heads s.caller.number 1 (ranks_of s.caller.number 0 (entries_of v))) (sym f.caller.unseen) refl;
+      };
     };
     given_count = ap length f.given;
     given = subst (λ v. KnowsTurns w s.caller.number (entries_of v) (AreFirstGiven s.given.items)) (sym f.caller.unseen) (knows_none w s.caller.number (AreFirstGiven s.given.items) refl);
@@ -189,13 +197,14 @@ module _ {D A C : Type 0} (w : World D A C) where
       apart i j (omega arith) (omega arith) (at i li ∙ (same ∙ sym (at j lj)))
 
   -- all are dealt
-  pub all_dealt : (workers : List (Worker D A C)) → IsDealing w 16 workers → AreDealt w workers
+  pub all_dealt : (workers : List (Worker D A C)) → IsDealing w form 16 workers → AreDealt w form workers
   all_dealt workers h = record {
     own = h.own;
+    forms = λ i d lt. All-weaker (IsFreshSession w form) (λ s. s.replies.form ≡ form) (λ s f. f.form_is) (get_or workers i d).sessions.items (h.fresh i d lt);
     begun = λ i d lt. record {
       room = h.buffer i d lt;
       apart = apart_by_numbers (get_or workers i d).sessions.items (dealt (length workers) i 16) (h.own i d lt) (dealt_apart (length workers) i 16 (omega arith));
-      answered = All-weaker (IsFreshSession w) (HasAnswered w []) none_answered (get_or workers i d).sessions.items (h.fresh i d lt);
+      answered = All-weaker (IsFreshSession w form) (HasAnswered w []) none_answered (get_or workers i d).sessions.items (h.fresh i d lt);
       last = subst (λ o. IfSome o (λ k. k < length (get_or workers i d).sessions.items)) (sym (h.last i d lt)) tt;
       order = λ all. subst (HasSeen [] (get_or workers i d).sessions.items) (sym (h.last i d lt)) refl;
     };
@@ -228,7 +237,7 @@ get_middle (y ∷ xs) more x d = get_middle xs more x d
 
 module _ {D A C : Type 0} where
   -- all sessions but those of the last so many numbers were taken, each from the end of its worker's list
-  pub record IsTaking (left : ℕ) (old now : List (Worker D A C)) (callers : List (Caller D A C)) (replies : List (Vec ReplyLine)) : Type 0 where
+  pub record IsTaking (left : ℕ) (old now : List (Worker D A C)) (callers : List (Caller D A C)) (replies : List Replies) : Type 0 where
     pub count : length now ≡ length old
     pub own : HaveOwn left now
     pub fronts : (i : ℕ) (d : Worker D A C) → i < length old → (rest : List (Session D A C)) × ((get_or old i d).sessions.items ≡ (get_or now i d).sessions.items ++ rest)
@@ -248,7 +257,7 @@ module _ {D A C : Type 0} where
       let n = ap length e ∙ length-append (dealt (length now) ((16 - m) % length now) m) ((16 - m) ∷ []) in
       let z : length (numbers_of {D = D} {A = A} {C = C} []) ≡ 0 = refl in omega arith
 
-  pub one_taken : (m : ℕ) (old now : List (Worker D A C)) (callers : List (Caller D A C)) (replies : List (Vec ReplyLine)) (t : Worker D A C) (s : Session D A C) → m < 16 → IsTaking (suc m) old now callers replies →
+  pub one_taken : (m : ℕ) (old now : List (Worker D A C)) (callers : List (Caller D A C)) (replies : List Replies) (t : Worker D A C) (s : Session D A C) → m < 16 → IsTaking (suc m) old now callers replies →
       (16 - m) % length now < length now → ((d : Worker D A C) → (get_or now ((16 - m) % length now) d).sessions.items ≡ t.sessions.items ++ s ∷ []) →
       IsTaking m old (set now ((16 - m) % length now) t) (callers ++ s.caller ∷ []) (replies ++ s.replies ∷ [])
   one_taken m old now callers replies t s few i within parts =

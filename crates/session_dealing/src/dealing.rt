@@ -10,7 +10,7 @@ use callers::{Caller, Gate};
 use disk_face::Disk;
 use driver_dispatch::Devices;
 use psa_status::Memory;
-use script_lang::ReplyLine;
+use script_lang::{Replies, ReplyForm};
 use script_sessions::Session;
 use session_workers::Worker;
 use std::alloc::Global;
@@ -79,17 +79,18 @@ pub fn new_workers<D: Disk, A: Devices, C: Admission>(
     Ok(workers)
 }
 
-/// Deals the callers to the workers: session s is run by worker s modulo their count.
+/// Deals the callers to the workers: session s is run by worker s modulo their count, and its replies are kept in this form.
 pub fn deal<D: Disk, A: Devices, C: Admission, G: Gate>(
     alloc: Global,
     service: &Service<D, A, C, G>,
+    form: ReplyForm,
     callers: &mut Vec<Caller<D, A, C>>,
     workers: &mut [Worker<D, A, C>],
 )
     requires staff { AreStaff (world D.contents D.moment D.faults A.keys A.faults A.locations C.labels service.now.shared.lock.table.shared.table_id service.now.shared.lock.table.shared.key.value.value.store.opened) callers.old.items }
     requires some { 0 < length workers.old }
     requires free { All IsFree workers.old }
-    ensures dealt { AreDealt (world D.contents D.moment D.faults A.keys A.faults A.locations C.labels service.now.shared.lock.table.shared.table_id service.now.shared.lock.table.shared.key.value.value.store.opened) workers.new }
+    ensures dealt { AreDealt (world D.contents D.moment D.faults A.keys A.faults A.locations C.labels service.now.shared.lock.table.shared.table_id service.now.shared.lock.table.shared.key.value.value.store.opened) form workers.new }
     ensures count { length workers.new ≡ length workers.old }
     ensures callers { (callers.new.items ≡ []) × (16 ≤ vec_capacity callers.new) }
 {
@@ -99,7 +100,7 @@ pub fn deal<D: Disk, A: Devices, C: Admission, G: Gate>(
         let Some(caller) = callers.pop() else {
             unreachable!()
         };
-        workers[number % count].seat(Session::new(alloc, caller));
+        workers[number % count].seat(Session::new(alloc, caller, form));
     }
 }
 
@@ -107,7 +108,7 @@ pub fn deal<D: Disk, A: Devices, C: Admission, G: Gate>(
 pub fn gather<D: Disk, A: Devices, C: Admission>(
     workers: &mut [Worker<D, A, C>],
     callers: &mut Vec<Caller<D, A, C>>,
-    replies: &mut Vec<Vec<ReplyLine>>,
+    replies: &mut Vec<Replies>,
 )
     requires dealt { HaveOwn 16 workers.old }
     requires some { 0 < length workers.old }

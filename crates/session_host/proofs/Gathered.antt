@@ -1,13 +1,16 @@
 -- From what threads have worked to what sixteen callers have made.
-use Rattle.std.proofs.Common.{◌≡◌, ℕ, ◌+◌, ◌-◌, ◌≤◌, ◌<◌, List, [], ◌∷◌, length, get_or, sym, ap, ◌∙◌, subst, arith, inl, inr, true}
+use Rattle.std.proofs.Common.{◌≡◌, ℕ, zero, suc, ◌+◌, ◌-◌, ◌≤◌, ◌<◌, List, [], ◌∷◌, ◌++◌, cond, flat_map, length, length-append, get_or, refl, sym, ap, ap₂, ◌∙◌, subst, arith, inl, inr, true}
 use Rattle.std.specs.Prelude.{All, Option, None, Some, take}
-use Rattle.std.specs.Global.{Vec}
+use Rattle.std.proofs.lemmas.Grind.{flat_map-append}
+use Rattle.std.proofs.lemmas.List.Sums.{sum_by-append, sum_by-cons}
 use Rattle.std.proofs.lemmas.List.{get_or_default}
 use Rattle.turn_history.specs.History.{entries_of}
 use Rattle.callers.specs.Worlds.{World}
 use Rattle.callers.specs.declared.caller.Caller.{Caller}
 use Rattle.script_lang.specs.declared.script.ScriptLine.{ScriptLine}
-use Rattle.script_lang.specs.declared.replies.ReplyLine.{ReplyLine}
+use Rattle.script_lang.specs.Replies.{AreAllKept, AreKept, ReplyLine, is_success, text_in}
+use Rattle.script_lang.specs.declared.replies.Replies.{Replies}
+use Rattle.script_lang.specs.declared.replies.ReplyForm.{ReplyForm}
 use Rattle.script_lang.specs.Lines.{IsOfSession}
 use Rattle.caller_service.specs.Staff.{AreStaff}
 use Rattle.script_sessions.specs.declared.session.Session.{Session}
@@ -17,7 +20,7 @@ use Rattle.script_sessions.proofs.Told.{knows_none}
 use Rattle.session_workers.specs.declared.worker.Worker.{Worker}
 use Rattle.session_workers.specs.Working.{HasSeen, HasWorked, HaveRun, IsOurs}
 use Rattle.session_dealing.specs.Dealing.{AreDealt, AreTaken, HaveOwn, IsFrom, dealt}
-use Rattle.session_host.specs.Running.{AreCallers, HaveAnswered, HaveMade, HaveSeen}
+use Rattle.session_host.specs.Running.{AreCallers, HaveKept, HaveMade, HaveSeen, all_replies}
 
 -- some element of a list that has one
 pub some_of : {X : Type 0} (xs : List X) → 0 < length xs → X
@@ -40,8 +43,37 @@ none_made w lines callers staff = record {
       );
 }
 
+at_each : {X Y : Type 0} (P : ℕ → X → Y → Type 0) (x : X) (xs : List X) (y : Y) (ys : List Y) → P 0 x y →
+    ((k : ℕ) (a : X) (b : Y) → k < length xs → P (suc k) (get_or xs k a) (get_or ys k b)) → (k : ℕ) (a : X) (b : Y) → k < length (x ∷ xs) → P k (get_or (x ∷ xs) k a) (get_or (y ∷ ys) k b)
+at_each P x xs y ys first rest zero a b lt = first
+at_each P x xs y ys first rest (suc k) a b lt = rest k a b (omega (arith, lt))
+
+-- where there is something for each element of a list, there is a list of it
+choose : {X Y : Type 0} (P : ℕ → X → Y → Type 0) (xs : List X) → ((k : ℕ) → k < length xs → (x : X) → (y : Y) × P k (get_or xs k x) y) →
+    (ys : List Y) × (length ys ≡ length xs) × ((k : ℕ) (x : X) (y : Y) → k < length xs → P k (get_or xs k x) (get_or ys k y))
+choose P [] some = ([], refl, λ k x y lt. absurd (omega (arith, lt)))
+choose P (x ∷ xs) some =
+    let first = some 0 (omega arith) x in
+    let rest = choose (λ k. P (suc k)) xs (λ k lt a. some (suc k) (omega (arith, lt)) a) in
+    (first.0 ∷ rest.0, ap suc rest.1, at_each P x xs first.0 rest.0 first.1 rest.2)
+
+-- the replies of sessions, kept one by one in one form, are all kept in it
+all_kept : (form : ReplyForm) (kept : List Replies) (told : List (List ReplyLine)) → length told ≡ length kept →
+    ((k : ℕ) (x : Replies) (y : List ReplyLine) → k < length kept → AreKept (get_or kept k x) (get_or told k y) × ((get_or kept k x).form ≡ form)) → AreAllKept form kept (all_replies told)
+all_kept form [] [] same each = record { count = refl; successes = refl; text = refl }
+all_kept form [] (t ∷ ts) same each = absurd (omega (arith, same))
+all_kept form (k ∷ ks) [] same each = absurd (omega (arith, same))
+all_kept form (k ∷ ks) (t ∷ ts) same each =
+    let first = each 0 k t (omega arith) in
+    let rest = all_kept form ks ts (omega (arith, same)) (λ i x y lt. each (suc i) x y (omega (arith, lt))) in
+    let one = λ (line : ReplyLine). cond (is_success line) 1 0 in record {
+      count = let a = sum_by-cons (λ (k : Replies). k.count) k ks in let b = first.0.count in let c = rest.count in let d = length-append t (all_replies ts) in omega (arith, a, b, c, d);
+      successes = let a = sum_by-cons (λ (k : Replies). k.successes) k ks in let b = first.0.successes in let c = rest.successes in let d = sum_by-append one t (all_replies ts) in omega (arith, a, b, c, d);
+      text = ap₂ (λ a b. a ++ b) (first.0.text ∙ ap (λ f. flat_map (text_in f) t) first.1) rest.text ∙ sym (flat_map-append (text_in form) t (all_replies ts));
+    }
+
 module _ {D A C : Type 0} (w : World D A C) (lines : List ScriptLine) (old new : List (Worker D A C))
-    (begun : AreDealt w old) (as_many : length new ≡ length old)
+    (form : ReplyForm) (begun : AreDealt w form old) (as_many : length new ≡ length old)
     (worked : (k : ℕ) (d : Worker D A C) → k < length old → HasWorked w lines (get_or old k d) (get_or new k d)) where
   -- each worker has its sessions still
   pub own_after : HaveOwn 16 new
@@ -49,8 +81,14 @@ module _ {D A C : Type 0} (w : World D A C) (lines : List ScriptLine) (old new :
       let there : i < length old = omega arith in
       (worked i d there).numbers ∙ (begun.own i d there ∙ ap (λ n. dealt n i 16) (sym as_many))
 
-  module _ (callers : List (Caller D A C)) (replies : List (Vec ReplyLine)) (taken : AreTaken 16 new callers replies) where
-    a_reply : Vec ReplyLine
+  module _ (callers : List (Caller D A C)) (replies : List Replies) (taken : AreTaken 16 new callers replies) where
+    -- a session's replies are these lines, and are kept so
+    record IsKeptAs (c : Caller D A C) (k : ℕ) (kept : Replies) (told : List ReplyLine) : Type 0 where
+      replied_as : HasReplies w lines (get_or callers k c) told
+      kept_as : AreKept kept told
+      form_is : kept.form ≡ form
+
+    a_reply : Replies
     a_reply = some_of replies (let n = taken.replies_are in omega arith)
 
     from : (k : ℕ) (c : Caller D A C) → k < 16 → IsFrom new (k + 1) (get_or callers k c) (get_or replies k a_reply)
@@ -77,21 +115,45 @@ module _ {D A C : Type 0} (w : World D A C) (lines : List ScriptLine) (old new :
       run_of : (i : ℕ) (t : Worker D A C) → i < length new → HaveRun w lines (get_or new i t)
       run_of i t there = (worked i t (omega (arith, there, as_many))).whole (whole i t there)
 
-      replied : (k : ℕ) (c : Caller D A C) (r : Vec ReplyLine) → k < 16 → HasReplies w lines (get_or callers k c) (get_or replies k r).items
-      replied k c r within =
+      made : (k : ℕ) (c : Caller D A C) → k < 16 → HasMade w lines (get_or callers k c)
+      made = each_caller (λ c. HasMade w lines c) (λ i t there k s within. ((run_of i t there).answered k s within).made)
+
+      -- what is kept of a session's replies
+      of_session : (c : Caller D A C) (k : ℕ) → k < 16 → (r : Replies) → (told : List ReplyLine) × IsKeptAs c k (get_or replies k r) told
+      of_session c k within r =
           let f = taken.each k c r within in
           let t : Worker D A C = some_of new (let l = f.there in omega arith) in
           let s : Session D A C = some_of (get_or new f.worker t).sessions.items (let l = f.within t in omega arith) in
-          let a = (run_of f.worker t f.there).answered f.place s (f.within t) in
-          subst (λ (z : Vec ReplyLine). HasReplies w lines (get_or callers k c) z.items) (f.replies_are t s)
-          (subst (λ z. HasReplies w lines z (get_or (get_or new f.worker t).sessions.items f.place s).replies.items) (f.caller_is t s) a.replies)
+          let own : Session D A C = get_or (get_or new f.worker t).sessions.items f.place s in
+          let a = ((run_of f.worker t f.there).answered f.place s (f.within t)).replies in
+          let there : f.worker < length old = (let l = f.there in omega (arith, as_many)) in
+          let has_form : own.replies.form ≡ form = (worked f.worker t there).forms form (begun.forms f.worker t there) f.place s (f.within t) in (
+            a.told,
+            record {
+              replied_as = subst (λ z. HasReplies w lines z a.told) (f.caller_is t s) a.replies;
+              kept_as = subst (λ z. AreKept z a.told) (f.replies_are t s) a.kept;
+              form_is = subst (λ (z : Replies). z.form ≡ form) (f.replies_are t s) has_form;
+            },
+          )
 
-      pub have_answered : HaveAnswered w lines callers replies
-      have_answered = record {
-        sixteen = taken.replies_are;
-        made = each_caller (λ c. HasMade w lines c) (λ i t there k s within. ((run_of i t there).answered k s within).made);
-        replied = replied;
-      }
+      pub have_kept : HaveKept w lines callers form replies
+      have_kept =
+          let c : Caller D A C = some_of callers (let n = taken.callers_are in omega arith) in
+          let few : (k : ℕ) → k < length replies → k < 16 = λ k lt. (let n = taken.replies_are in omega (arith, lt)) in
+          let all = choose (IsKeptAs c) replies (λ k lt r. of_session c k (few k lt) r) in
+          let told : List (List ReplyLine) = all.0 in record {
+            told = told;
+            answered = record {
+              sixteen = all.1 ∙ taken.replies_are;
+              made = made;
+              replied = λ k d r within.
+                  let lt : k < length replies = (let n = taken.replies_are in omega (arith, within)) in
+                  let there : k < length callers = (let n = taken.callers_are in omega (arith, within)) in
+                  subst (λ (x : Caller D A C). HasReplies w lines x (get_or told k r)) (get_or_default callers k c d there) (all.2 k a_reply r lt).replied_as;
+            };
+            all = all_kept form replies told all.1 (λ k x y lt. let h = all.2 k x y lt in (h.kept_as, h.form_is));
+            sixteen = taken.replies_are;
+          }
 
       -- ONE WORKER
 

@@ -1,13 +1,12 @@
 -- The replies of one session among those of all.
 use Rattle.std.proofs.Common.{◌≡◌, ◌≢◌, ℕ, zero, suc, ◌+◌, ◌≤◌, ◌<◌, List, [], ◌∷◌, ◌++◌, length, get_or, refl, sym, ap, ap₂, ◌∙◌, arith, cond, eq-eqb, ne_eqb}
 use Rattle.std.specs.Prelude.{◌==◌, map}
-use Rattle.std.specs.Global.{Vec}
 use Rattle.std.proofs.lemmas.List.{append-nil}
 use Rattle.std.proofs.lemmas.List.Elements.{filter-append}
-use Rattle.script_lang.specs.declared.replies.ReplyLine.{ReplyLine}
+use Rattle.script_lang.specs.Replies.{ReplyLine}
 use Rattle.script_sessions.specs.Heads.{head_of, heads}
 use Rattle.script_sessions.specs.Printed.{replies_of}
-use Rattle.script_sessions.specs.Running.{all_replies}
+use Rattle.session_host.specs.Running.{all_replies}
 
 -- lines with a session's heads are all its own, and none is another's
 
@@ -28,29 +27,29 @@ other_heads session other number (r ∷ rs) (rank ∷ ranks) ne is =
     ∙ other_heads session other (number + 1) rs ranks ne rest
 
 -- these are the replies of the sessions from n + 1 on
-abbrev pub HaveHeads : ℕ → List (Vec ReplyLine) → Type 0
-HaveHeads n replies = (i : ℕ) (r : Vec ReplyLine) → i < length replies → (ranks : List ℕ) × (map head_of (get_or replies i r).items ≡ heads (n + i + 1) 1 ranks)
+abbrev pub HaveHeads : ℕ → List (List ReplyLine) → Type 0
+HaveHeads n replies = (i : ℕ) (r : List ReplyLine) → i < length replies → (ranks : List ℕ) × (map head_of (get_or replies i r) ≡ heads (n + i + 1) 1 ranks)
 
-have_later : (n : ℕ) (v : Vec ReplyLine) (vs : List (Vec ReplyLine)) → HaveHeads n (v ∷ vs) → HaveHeads (suc n) vs
+have_later : (n : ℕ) (v : List ReplyLine) (vs : List (List ReplyLine)) → HaveHeads n (v ∷ vs) → HaveHeads (suc n) vs
 have_later n v vs have i r lt =
     let h = have (suc i) r (omega (arith, lt)) in (h.0, h.1 ∙ ap (λ k. heads k 1 h.0) (let e : n + suc i + 1 ≡ suc n + i + 1 = omega arith in e))
 
-none_before : (n session : ℕ) (replies : List (Vec ReplyLine)) → session ≤ n → HaveHeads n replies → replies_of session (all_replies replies) ≡ []
+none_before : (n session : ℕ) (replies : List (List ReplyLine)) → session ≤ n → HaveHeads n replies → replies_of session (all_replies replies) ≡ []
 none_before n session [] low have = refl
 none_before n session (v ∷ vs) low have =
     let first = have 0 v (omega arith) in
-    filter-append (λ (r : ReplyLine). r.session == session) v.items (all_replies vs)
-    ∙ ap₂ (λ a b. a ++ b) (other_heads (n + 0 + 1) session 1 v.items first.0 (λ e. omega (arith, e, low)) first.1) (none_before (suc n) session vs (omega (arith, low)) (have_later n v vs have))
+    filter-append (λ (r : ReplyLine). r.session == session) v (all_replies vs)
+    ∙ ap₂ (λ a b. a ++ b) (other_heads (n + 0 + 1) session 1 v first.0 (λ e. omega (arith, e, low)) first.1) (none_before (suc n) session vs (omega (arith, low)) (have_later n v vs have))
 
-pub own_replies : (n k : ℕ) (replies : List (Vec ReplyLine)) (r : Vec ReplyLine) → k < length replies → HaveHeads n replies → replies_of (n + k + 1) (all_replies replies) ≡ (get_or replies k r).items
+pub own_replies : (n k : ℕ) (replies : List (List ReplyLine)) (r : List ReplyLine) → k < length replies → HaveHeads n replies → replies_of (n + k + 1) (all_replies replies) ≡ (get_or replies k r)
 own_replies n k [] r lt have = absurd (omega arith)
 own_replies n zero (v ∷ vs) r lt have =
     let first = have 0 v (omega arith) in
-    filter-append (λ (r : ReplyLine). r.session == n + 0 + 1) v.items (all_replies vs)
-    ∙ (ap₂ (λ a b. a ++ b) (own_heads (n + 0 + 1) 1 v.items first.0 first.1) (none_before (suc n) (n + 0 + 1) vs (omega arith) (have_later n v vs have))
-    ∙ append-nil v.items)
+    filter-append (λ (r : ReplyLine). r.session == n + 0 + 1) v (all_replies vs)
+    ∙ (ap₂ (λ a b. a ++ b) (own_heads (n + 0 + 1) 1 v first.0 first.1) (none_before (suc n) (n + 0 + 1) vs (omega arith) (have_later n v vs have))
+    ∙ append-nil v)
 own_replies n (suc k) (v ∷ vs) r lt have =
     let first = have 0 v (omega arith) in let next : n + suc k + 1 ≡ suc n + k + 1 = omega arith in
-    filter-append (λ (r : ReplyLine). r.session == n + suc k + 1) v.items (all_replies vs)
-    ∙ ap₂ (λ a b. a ++ b) (other_heads (n + 0 + 1) (n + suc k + 1) 1 v.items first.0 (λ e. omega (arith, e)) first.1)
+    filter-append (λ (r : ReplyLine). r.session == n + suc k + 1) v (all_replies vs)
+    ∙ ap₂ (λ a b. a ++ b) (other_heads (n + 0 + 1) (n + suc k + 1) 1 v first.0 (λ e. omega (arith, e)) first.1)
     (ap (λ s. replies_of s (all_replies vs)) next ∙ own_replies (suc n) k vs r (omega (arith, lt)) (have_later n v vs have))

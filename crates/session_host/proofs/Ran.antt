@@ -1,7 +1,6 @@
 -- What is known of a run, from its opening, its callers and its close.
 use Rattle.std.proofs.Common.{◌≡◌, ℕ, List, subst, sym, arith}
 use Rattle.std.specs.Prelude.{All, Option, is_some, take}
-use Rattle.std.specs.Global.{Vec}
 use Rattle.atomic_table.specs.Seated.{TableId}
 use Rattle.policy_rules.specs.declared.narrowing.Label.{Label}
 use Rattle.driver_dispatch.specs.Held.{HeldKeys}
@@ -13,13 +12,12 @@ use Rattle.callers.specs.Worlds.{World, world}
 use Rattle.callers.specs.declared.caller.Caller.{Caller}
 use Rattle.caller_service.specs.Closing.{IsClosedOver}
 use Rattle.script_lang.specs.declared.script.ScriptLine.{ScriptLine}
-use Rattle.script_lang.specs.declared.replies.ReplyLine.{ReplyLine}
+use Rattle.script_lang.specs.Replies.{ReplyLine}
 use Rattle.script_lang.specs.Lines.{IsOfSession}
 use Rattle.script_sessions.specs.Bounds.{AreBounded, AreBoundedLines}
-use Rattle.script_sessions.specs.Running.{all_replies}
 use Rattle.script_sessions.proofs.Bounds.{bounded}
 use Rattle.script_sessions.proofs.FaultLines.{bounded_lines}
-use Rattle.session_host.specs.Running.{HaveAnswered, HaveMade, HaveSeen}
+use Rattle.session_host.specs.Running.{HaveAnswered, HaveMade, HaveSeen, all_replies}
 use Rattle.session_host.specs.Runs.{IsAnswered, IsBroken, IsOpening, IsRun}
 use Rattle.session_host.proofs.Gathered.{some_of}
 use Rattle.session_host.proofs.Whole.{all_calls, first_calls, heads_are, line_order, replies_are, replies_so_far, whole_calls}
@@ -64,7 +62,7 @@ module _ {D A C : Type 0} (told : D → Option (List ℕ)) (may_leave : D → Li
     ));
   }
 
-  pub answered : (replies : List (Vec ReplyLine)) (workers : ℕ) → HaveAnswered w lines callers replies → (workers ≡ 1 → HaveSeen lines callers) →
+  pub answered : (replies : List (List ReplyLine)) (workers : ℕ) → HaveAnswered w lines callers replies → (workers ≡ 1 → HaveSeen lines callers) →
       IsAnswered told may_leave moment left_since faults held hard locations labels disk devices named seed workers lines (all_replies replies) disk_after devices_after
   unfolding a_run
   answered replies workers h one = record {

@@ -16,6 +16,9 @@ use Rattle.std.proofs.Crossing.{crosses}
 use Rattle.std.proofs.Crossing as heap
 use Rattle.std.specs.declared.alloc.Allocator as alloc
 use Rattle.std.specs.contracts.option.Option as Option
+use Rattle.std.specs.contracts.boxed.Box as Box
+use Rattle.std.specs.contracts.alloc.Global as Heap
+use Rattle.std.specs.contracts.impls.GlobalAllocator.TheImpl.{ghosts}
 use Rattle.atomic_table.specs.declared.shared.TableRule as rule
 use Rattle.atomic_table.specs.contracts.owned.Table as Table
 use Rattle.atomic_table.proofs.shared.Seat.TheSendSync as seat
@@ -26,7 +29,7 @@ use Rattle.turn_history.specs.contracts.lock.HistoryLock as Lock
 use Rattle.turn_history.specs.contracts.pass.View as View
 use Rattle.turn_history.specs.contracts.rule.Opening as Opening
 use Rattle.turn_history.specs.contracts.rule.Turns as Turns
-use Rattle.turn_history.specs.contracts.rule.TurnsTableRuleOptionViewEntryBaseOpening.TheImpl as turns
+use Rattle.turn_history.specs.contracts.rule.TurnsTableRuleOptionBoxViewEntryBaseOpening.TheImpl as turns
 use Rattle.disk_face.specs.declared.Disk as disk
 use Rattle.driver_dispatch.specs.declared.devices.Devices as devices
 use Rattle.admission.specs.declared.rules.Admission as admission
@@ -36,7 +39,7 @@ use Rattle.shared_store.specs.contracts.held.SharedStore as Shared
 use Rattle.operation_cells.specs.contracts.cell.Cell as Cell
 use Rattle.callers.specs.contracts.caller.Caller as Caller
 use Rattle.caller_service.specs.contracts.service.Service as Service
-use Rattle.script_lang.specs.contracts.replies.ReplyLine as ReplyLine
+use Rattle.script_lang.specs.contracts.replies.Replies as Replies
 use Rattle.script_sessions.specs.contracts.session.Session as Session
 use Rattle.session_workers.specs.contracts.worker.Worker as Worker
 
@@ -46,8 +49,12 @@ secret_send = search (sendable, crosses) depth 40
 cell_send : IsSend Cell.the_row
 cell_send = search (sendable, crosses) depth 60 fits 100000
 
-reply_send : IsSend ReplyLine.the_row
-reply_send = search (sendable, crosses) depth 40 fits 10000
+replies_send : IsSend Replies.the_row
+replies_send = search (sendable, crosses) depth 40 fits 10000
+
+-- a value in a box, as the lock holds it
+abbrev boxed : RattleType → RattleType
+boxed T = Box.the_row T Heap.the_row ghosts
 
 module _ (T : RattleType) (t : IsSend T) where
   maybe_send : IsSend (Option.the_row T)
@@ -64,7 +71,7 @@ module _ (S V K P H : RattleType) (g : rule.Ghosts P.Denot S.Denot V.Denot K.Den
 module _ (V F B : RattleType) (g : historic.Ghosts V.Denot F.Denot B.Denot) (v : IsSend V) where
   lock_sync : IsSync (Lock.the_row V F B g)
   lock_sync =
-      let table = table_sync (Option.the_row V) (View.the_row F B) (Opening.the_row V) (Turns.the_row V) _ (turns.ghosts V F B g turns.no_dict) _ (maybe_send V v) heap.send heap.sync heap.frees in
+      let table = table_sync (Option.the_row (boxed V)) (View.the_row F B) (Opening.the_row V) (Turns.the_row V) _ (turns.ghosts V F B g turns.no_dict) _ (maybe_send (boxed V) (heap.Box-send V v)) heap.send heap.sync heap.frees in
       declared_sync (Lock.the_type V F B g) (table, tt)
 
 -- CALLERS, SESSIONS, WORKERS, AND THEIR SERVICE
@@ -75,12 +82,12 @@ module _ (D A C : RattleType) (d : IsSend D) (a : IsSend A) (c : IsSend C) where
 
   caller_send : IsSend (Caller.the_row D A C)
   caller_send =
-      let pass = seat.the_send (Option.the_row (Held.the_row D A C)) _ (maybe_send (Held.the_row D A C) held_send) in
+      let pass = seat.the_send (Option.the_row (boxed (Held.the_row D A C))) _ (maybe_send (boxed (Held.the_row D A C)) (heap.Box-send (Held.the_row D A C) held_send)) in
       declared_send (Caller.the_type D A C)
       (search sendable, (search sendable, (pass, (search (sendable, crosses) depth 40 fits 10000, (search (sendable, crosses, secret_send), (search (sendable, crosses, cell_send) depth 20, tt))))))
 
   session_send : IsSend (Session.the_row D A C)
-  session_send = declared_send (Session.the_type D A C) (caller_send, (search (sendable, crosses, reply_send) depth 20, (search (sendable, crosses) depth 20, tt)))
+  session_send = declared_send (Session.the_type D A C) (caller_send, (search (sendable, crosses, replies_send) depth 20, (search (sendable, crosses) depth 20, tt)))
 
   pub worker_send : IsSend (Worker.the_row D A C)
   worker_send =

@@ -1,7 +1,6 @@
 -- From what callers know, and from what a closed service says, to the one order of a script's calls.
 use Rattle.std.proofs.Common.{◌≡◌, ℕ, suc, ◌+◌, ◌-◌, ◌≤◌, ◌<◌, List, [], ◌∷◌, ◌++◌, length, get_or, refl, sym, ap, ◌∙◌, subst, arith, append_assoc, inl, inr, ◌⊎◌, eqb, true, false, cond, Bool, take_all}
 use Rattle.std.specs.Prelude.{All, flat_map, map, take}
-use Rattle.std.specs.Global.{Vec}
 use Rattle.std.proofs.lemmas.Bool.Decides.{leb_tells, eqb_tells}
 use Rattle.std.proofs.lemmas.List.{append-nil, map-append}
 use Rattle.std.proofs.lemmas.List.Elements.{All-head, All-nil, All-tail}
@@ -14,18 +13,18 @@ use Rattle.callers.specs.Called.{IsToldTo, Starts}
 use Rattle.callers.specs.Worlds.{World}
 use Rattle.callers.specs.declared.caller.Caller.{Caller}
 use Rattle.script_lang.specs.declared.script.ScriptLine.{ScriptLine}
-use Rattle.script_lang.specs.declared.replies.ReplyLine.{ReplyLine}
+use Rattle.script_lang.specs.Replies.{ReplyLine}
 use Rattle.script_lang.specs.Lines.{IsOfSession, lines_of}
 use Rattle.script_lang.specs.PrintedOrder.{AreCalls, Turn, numbered, replies_to, turns_from, turns_of}
 use Rattle.script_sessions.specs.Heads.{head_of, heads, heads_to, ranks_of}
 use Rattle.script_sessions.specs.Printed.{AreFirstCalls, AreFirstReplies, AreReplies, AreRepliesSoFar, IsInLineOrder, replies_of}
-use Rattle.script_sessions.specs.Running.{ElementTells, HasMade, IsWithin, KnowsTurns, all_replies, session_turns}
+use Rattle.script_sessions.specs.Running.{ElementTells, HasMade, IsWithin, KnowsTurns, session_turns}
 use Rattle.script_sessions.proofs.Fronts.{first_whole}
 use Rattle.script_sessions.proofs.History.{as_many_turns, chosen_length}
 use Rattle.script_sessions.proofs.Heads.{ranks_later}
 use Rattle.script_sessions.proofs.Order.{in_line_order, within_whole}
 use Rattle.script_sessions.proofs.Told.{knows_later, knows_none, own_calls}
-use Rattle.session_host.specs.Running.{HaveAnswered, HaveSeen}
+use Rattle.session_host.specs.Running.{HaveAnswered, HaveSeen, all_replies}
 use Rattle.session_host.proofs.Own.{HaveHeads, own_replies}
 
 -- SESSIONS THAT THERE ARE, AND OTHERS
@@ -181,29 +180,29 @@ module _ {D A C : Type 0} (w : World D A C) (lines : List ScriptLine) (callers :
   counts_agree : ((k : ℕ) (d : Caller D A C) → k < 16 → HasMade w lines (get_or callers k d)) → (d : Caller D A C) → (n : ℕ) → length (lines_of n lines) ≡ length (calls_by caller_of n history)
   counts_agree made d n = sym (all_calls made d n).0 ∙ as_many_ranks n 0 history
 
-  all_numbers : (replies : List (Vec ReplyLine)) → length replies ≡ 16 → 0 + length replies ≡ 16
+  all_numbers : (replies : List (List ReplyLine)) → length replies ≡ 16 → 0 + length replies ≡ 16
   all_numbers replies h = omega (arith, h)
 
   -- these are the replies of the one order
-  pub replies_are : (replies : List (Vec ReplyLine)) (d : Caller D A C) → HaveAnswered w lines callers replies → ElementTells w → (start : Service) → Starts w start → IsToldTo w start history →
+  pub replies_are : (replies : List (List ReplyLine)) (d : Caller D A C) → HaveAnswered w lines callers replies → ElementTells w → (start : Service) → Starts w start → IsToldTo w start history →
       AreReplies start lines history (all_replies replies)
   replies_are replies d h tells start is told =
       let ts : List Turn = turns_from 0 start history in record {
         own = λ session. whole_calls session lines (all_calls h.made d session) tells start is told;
-        all = by_session (λ (r : Vec ReplyLine). r.items) (λ n. numbered 1 (turns_of n ts)) (λ n. replies_to n ts) (λ n. refl) 0 replies (λ i r below.
+        all = by_session (λ (r : List ReplyLine). r) (λ n. numbered 1 (turns_of n ts)) (λ n. replies_to n ts) (λ n. refl) 0 replies (λ i r below.
             let within : i < 16 = omega (arith, below, h.sixteen) in
             let place : i + 1 ≡ 0 + i + 1 = omega arith in
             let own : List Turn = turns_of (i + 1) ts in
             let count = (h.replied i d r within).count ∙ (ap (λ n. length (lines_of n lines)) (numbers i d within) ∙ sym (as_many (i + 1) lines start (all_calls h.made d (i + 1)))) in
-            first_whole (length own) (get_or replies i r).items (numbered 1 own)
-            (knows lines i d (AreFirstReplies (get_or replies i r).items) within (h.made i d within) (h.replied i d r within).known tells start is history (begins_itself history) told) count
+            first_whole (length own) (get_or replies i r) (numbered 1 own)
+            (knows lines i d (AreFirstReplies (get_or replies i r)) within (h.made i d within) (h.replied i d r within).known tells start is history (begins_itself history) told) count
             ∙ ap (λ s. numbered 1 (turns_of s ts)) place)
             ∙ ap (λ n. replies_to n ts) (all_numbers replies h.sixteen);
       }
 
   -- and of each beginning of it
 
-  have_heads : (replies : List (Vec ReplyLine)) (d : Caller D A C) → HaveAnswered w lines callers replies → HaveHeads 0 replies
+  have_heads : (replies : List (List ReplyLine)) (d : Caller D A C) → HaveAnswered w lines callers replies → HaveHeads 0 replies
   have_heads replies d h i r below =
       let within : i < 16 = omega (arith, below, h.sixteen) in
       let c : Caller D A C = get_or callers i d in
@@ -211,22 +210,22 @@ module _ {D A C : Type 0} (w : World D A C) (lines : List ScriptLine) (callers :
       let number : c.number ≡ 0 + i + 1 = numbers i d within ∙ (let e : i + 1 ≡ 0 + i + 1 = omega arith in e) in
       (ranks, (h.replied i d r within).heads ∙ ap (λ n. heads n 1 ranks) number)
 
-  first_replies : (replies : List (Vec ReplyLine)) (d : Caller D A C) (r : Vec ReplyLine) → HaveAnswered w lines callers replies → (session : ℕ) →
+  first_replies : (replies : List (List ReplyLine)) (d : Caller D A C) (r : List ReplyLine) → HaveAnswered w lines callers replies → (session : ℕ) →
       KnowsTurns w session history (AreFirstReplies (replies_of session (all_replies replies)))
   first_replies replies d r h session = elim (which session) [
     | inl own ↦
         let k : ℕ = session - 1 in let within : k < 16 = omega (arith, own.0, own.1) in
         let below : k < length replies = omega (arith, within, h.sixteen) in
         let place : 0 + k + 1 ≡ session = (let l = own.0 in omega arith) in let same : k + 1 ≡ session = (let l = own.0 in omega arith) in
-        let mine : replies_of session (all_replies replies) ≡ (get_or replies k r).items =
+        let mine : replies_of session (all_replies replies) ≡ (get_or replies k r) =
         ap (λ s. replies_of s (all_replies replies)) (sym place) ∙ own_replies 0 k replies r below (have_heads replies d h) in
         subst (λ rs. KnowsTurns w session history (AreFirstReplies rs)) (sym mine)
-        (subst (λ s. KnowsTurns w s history (AreFirstReplies (get_or replies k r).items)) same
-        (knows lines k d (AreFirstReplies (get_or replies k r).items) within (h.made k d within) (h.replied k d r within).known))
+        (subst (λ s. KnowsTurns w s history (AreFirstReplies (get_or replies k r))) same
+        (knows lines k d (AreFirstReplies (get_or replies k r)) within (h.made k d within) (h.replied k d r within).known))
     | inr other ↦ none_there session (AreFirstReplies (replies_of session (all_replies replies))) other refl
   ]
 
-  pub replies_so_far : (replies : List (Vec ReplyLine)) (d : Caller D A C) (r : Vec ReplyLine) → HaveAnswered w lines callers replies → ElementTells w → (start : Service) → Starts w start →
+  pub replies_so_far : (replies : List (List ReplyLine)) (d : Caller D A C) (r : List ReplyLine) → HaveAnswered w lines callers replies → ElementTells w → (start : Service) → Starts w start →
       (beginning : List Entry) → StartsWith history beginning → IsToldTo w start beginning → AreRepliesSoFar start lines beginning (all_replies replies)
   replies_so_far replies d r h tells start is beginning begins told = record {
     own = λ session. (all_calls h.made d session).1 tells start is beginning begins told;
@@ -234,10 +233,10 @@ module _ {D A C : Type 0} (w : World D A C) (lines : List ScriptLine) (callers :
   }
 
   -- their heads are those of the one order
-  pub heads_are : (replies : List (Vec ReplyLine)) (d : Caller D A C) → HaveAnswered w lines callers replies → map head_of (all_replies replies) ≡ heads_to 16 history
+  pub heads_are : (replies : List (List ReplyLine)) (d : Caller D A C) → HaveAnswered w lines callers replies → map head_of (all_replies replies) ≡ heads_to 16 history
   heads_are replies d h =
-      map_flat head_of (λ (r : Vec ReplyLine). r.items) replies
-      ∙ by_session (λ (r : Vec ReplyLine). map head_of r.items) (λ n. heads n 1 (ranks_of n 0 history)) (λ n. heads_to n history) (λ n. refl) 0 replies (λ i r below.
+      map_flat head_of (λ (r : List ReplyLine). r) replies
+      ∙ by_session (λ (r : List ReplyLine). map head_of r) (λ n. heads n 1 (ranks_of n 0 history)) (λ n. heads_to n history) (λ n. refl) 0 replies (λ i r below.
       let within : i < 16 = omega (arith, below, h.sixteen) in
       let c : Caller D A C = get_or callers i d in
       let number : c.number ≡ 0 + i + 1 = numbers i d within ∙ (let e : i + 1 ≡ 0 + i + 1 = omega arith in e) in

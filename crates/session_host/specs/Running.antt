@@ -1,12 +1,17 @@
 -- What is known of sixteen callers that make the calls of a script's lines.
-use Rattle.std.specs.Prelude.{ℕ, ◌≡◌, ◌⊎◌, ◌<◌, ◌+◌, List, [], length, take, get_or}
-use Rattle.std.specs.Global.{Vec}
+use Rattle.std.specs.Prelude.{ℕ, ◌≡◌, ◌⊎◌, ◌<◌, ◌+◌, List, [], length, flat_map, take, get_or}
 use Rattle.turn_history.specs.History.{entries_of}
 use Rattle.callers.specs.Worlds.{World}
 use Rattle.callers.specs.declared.caller.Caller.{Caller}
 use Rattle.script_lang.specs.declared.script.ScriptLine.{ScriptLine}
-use Rattle.script_lang.specs.declared.replies.ReplyLine.{ReplyLine}
+use Rattle.script_lang.specs.Replies.{AreAllKept, ReplyLine}
+use Rattle.script_lang.specs.declared.replies.Replies.{Replies}
+use Rattle.script_lang.specs.declared.replies.ReplyForm.{ReplyForm}
 use Rattle.script_sessions.specs.Running.{HasMade, HasReplies, IsWithin}
+
+-- the replies of all sessions, in their order
+abbrev pub all_replies : List (List ReplyLine) → List ReplyLine
+all_replies told = flat_map (λ r. r) told
 
 module _ {D A C : Type 0} where
   -- sixteen callers, by their numbers from 1 on
@@ -26,7 +31,14 @@ module _ {D A C : Type 0} where
       pub each : (k : ℕ) (d : Caller D A C) → k < 16 → (n : ℕ) × HasMade w (take n lines) (get_or callers k d)
 
     -- each has made those of all lines, and these are the replies by session
-    pub record HaveAnswered (replies : List (Vec ReplyLine)) : Type 0 where
-      pub sixteen : length replies ≡ 16
+    pub record HaveAnswered (told : List (List ReplyLine)) : Type 0 where
+      pub sixteen : length told ≡ 16
       pub made : (k : ℕ) (d : Caller D A C) → k < 16 → HasMade w lines (get_or callers k d)
-      pub replied : (k : ℕ) (d : Caller D A C) (r : Vec ReplyLine) → k < 16 → HasReplies w lines (get_or callers k d) (get_or replies k r).items
+      pub replied : (k : ℕ) (d : Caller D A C) (r : List ReplyLine) → k < 16 → HasReplies w lines (get_or callers k d) (get_or told k r)
+
+    -- and they are kept in this form
+    pub record HaveKept (form : ReplyForm) (kept : List Replies) : Type 0 where
+      pub told : List (List ReplyLine)
+      pub answered : HaveAnswered told
+      pub all : AreAllKept form kept (all_replies told)
+      pub sixteen : length kept ≡ 16

@@ -17,7 +17,9 @@ use Rattle.store_core.specs.Start.{opening_of}
 use Rattle.shared_store.specs.Turning.{IsStartOf, ToldBy}
 use Rattle.caller_service.specs.Closing.{IsLeft}
 use Rattle.script_lang.specs.declared.script.ScriptLine.{ScriptLine}
-use Rattle.script_lang.specs.declared.replies.ReplyLine.{ReplyLine}
+use Rattle.script_lang.specs.Replies.{AreAllKept, ReplyLine}
+use Rattle.script_lang.specs.declared.replies.Replies.{Replies}
+use Rattle.script_lang.specs.declared.replies.ReplyForm.{ReplyForm}
 use Rattle.script_lang.specs.Lines.{lines_of}
 use Rattle.script_lang.specs.PrintedOrder.{AreCalls, turns_from, turns_of}
 use Rattle.script_sessions.specs.Bounds.{AreBounded, AreBoundedLines}
@@ -82,6 +84,13 @@ module _ {D A C : Type 0} (told : D → Option (List ℕ)) (may_leave : D → Li
     pub failures : OfStarts run.opened run.history (λ start.
         AreBoundedLines (is_some (told disk)) (opening_of told moment faults hard locations labels run.opened).counts (record { faults = faults disk_after; hard = hard devices_after }) replies)
     pub line_order : workers ≡ 1 → IsInLineOrder lines run.history
+
+  -- The replies to these lines are kept in this form, those of each session by themselves.
+  pub record AreAnswers (disk : D) (devices : A) (named : List Label) (seed : List ℕ) (workers : ℕ) (lines : List ScriptLine) (form : ReplyForm) (kept : List Replies) (disk_after : D) (devices_after : A) : Type 0 where
+    pub replies : List ReplyLine
+    pub answered : IsAnswered disk devices named seed workers lines replies disk_after devices_after
+    pub all : AreAllKept form kept replies
+    pub sixteen : length kept ≡ 16
 
   -- Calls of these lines were made in one order: those of each session are the first so many of its lines.
   pub record IsBroken (disk : D) (devices : A) (named : List Label) (seed : List ℕ) (lines : List ScriptLine) (disk_after : D) (devices_after : A) : Type 0 where

@@ -2,8 +2,7 @@
 ghost use Rattle.std.specs.Prelude.{◌≡◌, ◌≤◌, ◌⊎◌, List, ℕ, All, MatchResult, length};
 ghost use Rattle.driver_dispatch.specs.Calls.{Lacks};
 ghost use Rattle.script_lang.specs.Lines.{IsOfSession};
-ghost use Rattle.script_sessions.specs.Running.{all_replies};
-ghost use Rattle.session_host.specs.Runs.{IsAnswered, IsUnanswered};
+ghost use Rattle.session_host.specs.Runs.{AreAnswers, IsUnanswered};
 
 use crate::running::run_sessions;
 use admission::Admission;
@@ -13,7 +12,7 @@ use disk_face::Disk;
 use driver_dispatch::Devices;
 use key_cells::OpenFault;
 use psa_status::Memory;
-use script_lang::{ReplyLine, ScriptLine};
+use script_lang::{Replies, ReplyForm, ScriptLine};
 use std::alloc::Global;
 use std::sync::Wait;
 use std::thread::Threads;
@@ -33,18 +32,19 @@ pub enum Unanswered {
 
 /// The replies to lines, by session, or why there are none; the disk, and the devices.
 pub struct Run<D, A> {
-    pub replies: Result<Vec<Vec<ReplyLine>>, Unanswered>,
+    pub replies: Result<Vec<Replies>, Unanswered>,
     pub disk: D,
     pub devices: A,
 }
 
 /// Opens the store of a disk, or makes one on a disk of length 0, makes the calls of a script's lines by so many workers, and
-/// closes the store.
+/// closes the store. The replies are kept in this form.
 pub fn answer_lines<D: Disk + Send, A: Devices, C: Admission, R: Threads + Wait + Sync>(
     rt: &R,
     alloc: Global,
     lines: &[ScriptLine],
     workers: u8,
+    form: ReplyForm,
     seed: &[u8; 32],
     disk: D,
     devices: A,
@@ -56,7 +56,7 @@ pub fn answer_lines<D: Disk + Send, A: Devices, C: Admission, R: Threads + Wait 
     requires last { workers ≤ 16 }
     requires empty { (handle : ℕ) → Lacks (A.keys devices) handle }
     ensures { MatchResult result.replies
-        (λ replies. IsAnswered D.contents D.may_leave D.moment D.left_since D.faults A.keys A.faults A.locations C.labels disk devices (C.labels rules) seed.now workers lines.now (all_replies replies.items) result.disk result.devices)
+        (λ replies. AreAnswers D.contents D.may_leave D.moment D.left_since D.faults A.keys A.faults A.locations C.labels disk devices (C.labels rules) seed.now workers lines.now form replies.items result.disk result.devices)
         (λ why. IsUnanswered D.contents D.may_leave D.moment D.left_since D.faults A.keys A.faults A.locations C.labels disk devices (C.labels rules) seed.now lines.now why result.disk result.devices) }
 {
     let (service, mut callers) = match Service::open(
@@ -77,7 +77,7 @@ pub fn answer_lines<D: Disk + Send, A: Devices, C: Admission, R: Threads + Wait 
             };
         }
     };
-    let ran = run_sessions(rt, alloc, &service, lines, workers, &mut callers);
+    let ran = run_sessions(rt, alloc, &service, lines, workers, form, &mut callers);
     let Closed {
         disk,
         devices,

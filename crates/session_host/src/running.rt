@@ -5,7 +5,7 @@ ghost use Rattle.caller_service.specs.Staff.{AreStaff};
 ghost use Rattle.script_lang.specs.Lines.{IsOfSession};
 ghost use Rattle.session_workers.specs.Working.{HasWorked, HaveRun};
 ghost use Rattle.session_dealing.specs.Dealing.{IsFree};
-ghost use Rattle.session_host.specs.Running.{HaveAnswered, HaveMade, HaveSeen};
+ghost use Rattle.session_host.specs.Running.{HaveKept, HaveMade, HaveSeen};
 
 use admission::Admission;
 use caller_service::Service;
@@ -13,7 +13,7 @@ use callers::{Caller, Gate};
 use disk_face::Disk;
 use driver_dispatch::Devices;
 use psa_status::Memory;
-use script_lang::{ReplyLine, ScriptLine};
+use script_lang::{Replies, ReplyForm, ScriptLine};
 use session_dealing::{SESSIONS, deal, free, gather, new_workers};
 use session_workers::Worker;
 use std::alloc::Global;
@@ -67,9 +67,10 @@ fn run_dealt<D: Disk + Send, A: Devices, C: Admission, G: Gate, R: Threads + Wai
     alloc: Global,
     service: &Service<D, A, C, G>,
     lines: &[ScriptLine],
+    form: ReplyForm,
     workers: &mut [Worker<D, A, C>],
     callers: &mut Vec<Caller<D, A, C>>,
-    replies: &mut Vec<Vec<ReplyLine>>,
+    replies: &mut Vec<Replies>,
 ) -> bool
     requires some { 0 < length workers.old }
     requires free { All IsFree workers.old }
@@ -79,11 +80,11 @@ fn run_dealt<D: Disk + Send, A: Devices, C: Admission, G: Gate, R: Threads + Wai
     requires few { length lines.now ≤ 20000 }
     requires budget { 2 * length lines.now ≤ service.now.worn }
     ensures made { HaveMade (world D.contents D.moment D.faults A.keys A.faults A.locations C.labels service.now.shared.lock.table.shared.table_id service.now.shared.lock.table.shared.key.value.value.store.opened) lines.now callers.new.items }
-    ensures answered { result ≡ true → HaveAnswered (world D.contents D.moment D.faults A.keys A.faults A.locations C.labels service.now.shared.lock.table.shared.table_id service.now.shared.lock.table.shared.key.value.value.store.opened) lines.now callers.new.items replies.new.items }
+    ensures answered { result ≡ true → HaveKept (world D.contents D.moment D.faults A.keys A.faults A.locations C.labels service.now.shared.lock.table.shared.table_id service.now.shared.lock.table.shared.key.value.value.store.opened) lines.now callers.new.items form replies.new.items }
     ensures one_worker { result ≡ true → length workers.old ≡ 1 → HaveSeen lines.now callers.new.items }
     ensures emptied { All (λ t. t.sessions.items ≡ []) workers.new }
 {
-    deal(alloc, service, callers, workers);
+    deal(alloc, service, form, callers, workers);
     run_workers(rt, alloc, service, lines, workers);
     let whole = are_whole(workers);
     gather(workers, callers, replies);
@@ -91,7 +92,7 @@ fn run_dealt<D: Disk + Send, A: Devices, C: Admission, G: Gate, R: Threads + Wai
 }
 
 /// Makes the calls of a script's lines, where session s is caller s: worker w runs those of the sessions that are w modulo
-/// their count, in the order of the script. Answers the replies by session. Fails where memory runs out: then the calls that
+/// their count, in the order of the script. Answers the replies by session, which are kept in this form. Fails where memory runs out: then the calls that
 /// each caller has made are the first of its session's. The callers come back.
 pub fn run_sessions<D: Disk + Send, A: Devices, C: Admission, G: Gate, R: Threads + Wait + Sync>(
     rt: &R,
@@ -99,8 +100,9 @@ pub fn run_sessions<D: Disk + Send, A: Devices, C: Admission, G: Gate, R: Thread
     service: &Service<D, A, C, G>,
     lines: &[ScriptLine],
     workers: u8,
+    form: ReplyForm,
     callers: &mut Vec<Caller<D, A, C>>,
-) -> Result<Vec<Vec<ReplyLine>>, Memory>
+) -> Result<Vec<Replies>, Memory>
     requires first { 1 ≤ workers }
     requires last { workers ≤ 16 }
     requires staff { AreStaff (world D.contents D.moment D.faults A.keys A.faults A.locations C.labels service.now.shared.lock.table.shared.table_id service.now.shared.lock.table.shared.key.value.value.store.opened) callers.old.items }
@@ -108,7 +110,7 @@ pub fn run_sessions<D: Disk + Send, A: Devices, C: Admission, G: Gate, R: Thread
     requires few { length lines.now ≤ 20000 }
     requires budget { 2 * length lines.now ≤ service.now.worn }
     ensures made { HaveMade (world D.contents D.moment D.faults A.keys A.faults A.locations C.labels service.now.shared.lock.table.shared.table_id service.now.shared.lock.table.shared.key.value.value.store.opened) lines.now callers.new.items }
-    ensures answered { IfOk result (λ replies. HaveAnswered (world D.contents D.moment D.faults A.keys A.faults A.locations C.labels service.now.shared.lock.table.shared.table_id service.now.shared.lock.table.shared.key.value.value.store.opened) lines.now callers.new.items replies.items) }
+    ensures answered { IfOk result (λ replies. HaveKept (world D.contents D.moment D.faults A.keys A.faults A.locations C.labels service.now.shared.lock.table.shared.table_id service.now.shared.lock.table.shared.key.value.value.store.opened) lines.now callers.new.items form replies.items) }
     ensures one_worker { workers ≡ 1 → IfOk result (λ replies. HaveSeen lines.now callers.new.items) }
 {
     let Ok(mut replies) = Vec::with_capacity(alloc, SESSIONS) else {
@@ -120,6 +122,7 @@ pub fn run_sessions<D: Disk + Send, A: Devices, C: Admission, G: Gate, R: Thread
         alloc,
         service,
         lines,
+        form,
         &mut workers,
         callers,
         &mut replies,

@@ -1,5 +1,5 @@
 -- Callers that have seen what others of their thread had.
-use Rattle.std.proofs.Common.{◌≡◌, ℕ, ◌<◌, List, [], ◌∷◌, length, get_or, set, refl, sym, ap, ap₂, ◌∙◌, subst, arith, map, zero, suc, length-set, get_or-set_same, get_or-set_other}
+use Rattle.std.proofs.Common.{◌≡◌, ℕ, ◌<◌, List, [], ◌∷◌, length, get_or, set, refl, sym, ap, ap₂, ◌∙◌, subst, arith, zero, suc, length-set, get_or-set_same, get_or-set_other}
 use Rattle.turn_history.specs.History.{entries_of, calls_by, StartsWith}
 use Rattle.shared_store.specs.Standing.{caller_of}
 use Rattle.turn_history.specs.declared.pass.View.{View}
@@ -10,14 +10,15 @@ use Rattle.store_core.specs.declared.store.Opened.{Opened}
 use Rattle.callers.specs.Parts.{SameButPass}
 use Rattle.callers.proofs.Journeys.{seen_begins}
 use Rattle.std.specs.Global.{Vec}
-use Rattle.script_lang.specs.declared.replies.ReplyLine.{ReplyLine}
+use Rattle.script_lang.specs.Replies.{AreKept}
+use Rattle.script_lang.specs.declared.replies.Replies.{Replies}
 use Rattle.callers.specs.Ready.{IsReady}
 use Rattle.callers.specs.Worlds.{World}
 use Rattle.callers.specs.declared.caller.Caller.{Caller}
 use Rattle.script_lang.specs.declared.script.ScriptLine.{ScriptLine}
 use Rattle.script_lang.specs.Lines.{lines_of}
 use Rattle.script_sessions.specs.declared.session.Session.{Session}
-use Rattle.script_sessions.specs.Heads.{head_of, heads, ranks_of}
+use Rattle.script_sessions.specs.Heads.{heads, ranks_of}
 use Rattle.script_sessions.specs.Printed.{AreFirstCalls, AreFirstReplies}
 use Rattle.script_sessions.specs.Running.{AreFirstGiven, HasAnswered, KnowsTurns}
 use Rattle.script_sessions.proofs.Heads.{ranks_later}
@@ -41,14 +42,18 @@ module _ {D A C : Type 0} (w : World D A C) where
           calls = subst (λ k. KnowsTurns w k (entries_of d.pass.me.0.seen) (AreFirstCalls (lines_of k lines))) (sym l.number)
               (knows_later w n (entries_of d.pass.me.0.seen) (entries_of c.pass.me.0.seen) (AreFirstCalls (lines_of n lines)) l.seen same h.made.calls);
         };
-        replies = record {
-          count = let a = ap (λ r. length r.items) l.replies in let b = h.replies.count in let e = ap (λ k. length (lines_of k lines)) l.number in omega arith;
-          known = subst (λ k. KnowsTurns w k (entries_of d.pass.me.0.seen) (AreFirstReplies new.replies.items)) (sym l.number)
-              (subst (λ r. KnowsTurns w n (entries_of d.pass.me.0.seen) (AreFirstReplies r.items)) (sym l.replies)
-              (knows_later w n (entries_of d.pass.me.0.seen) (entries_of c.pass.me.0.seen) (AreFirstReplies old.replies.items) l.seen same h.replies.known));
-          heads = ap (λ r. map head_of r.items) l.replies
-              ∙ (h.replies.heads ∙ ap₂ (λ k ranks. heads k 1 ranks) (sym l.number)
-              (sym (ap (λ k. ranks_of k 0 (entries_of d.pass.me.0.seen)) l.number ∙ ranks_later n (entries_of c.pass.me.0.seen) (entries_of d.pass.me.0.seen) l.seen same)));
+        replies = let r = h.replies.replies in record {
+          told = h.replies.told;
+          kept = subst (λ k. AreKept k h.replies.told) (sym l.replies) h.replies.kept;
+          session = ap (λ k. k.session) l.replies ∙ (h.replies.session ∙ sym l.number);
+          replies = record {
+            count = let b = r.count in let e = ap (λ k. length (lines_of k lines)) l.number in omega arith;
+            known = subst (λ k. KnowsTurns w k (entries_of d.pass.me.0.seen) (AreFirstReplies h.replies.told)) (sym l.number)
+                (knows_later w n (entries_of d.pass.me.0.seen) (entries_of c.pass.me.0.seen) (AreFirstReplies h.replies.told) l.seen same r.known);
+            heads = r.heads
+                ∙ ap₂ (λ k ranks. heads k 1 ranks) (sym l.number)
+                (sym (ap (λ k. ranks_of k 0 (entries_of d.pass.me.0.seen)) l.number ∙ ranks_later n (entries_of c.pass.me.0.seen) (entries_of d.pass.me.0.seen) l.seen same));
+          };
         };
         given_count = let a = ap (λ r. length r.items) l.given in let b = h.given_count in let e = ap (λ k. length (lines_of k lines)) l.number in omega arith;
         given = subst (λ k. KnowsTurns w k (entries_of d.pass.me.0.seen) (AreFirstGiven new.given.items)) (sym l.number)
@@ -56,7 +61,7 @@ module _ {D A C : Type 0} (w : World D A C) where
             (knows_later w n (entries_of d.pass.me.0.seen) (entries_of c.pass.me.0.seen) (AreFirstGiven old.given.items) l.seen same h.given));
       }
 
-  pub has_learned : (old new : Caller D A C) (replies : Vec ReplyLine) (given : Vec ℕ) (other : View Entry (Opened D A C)) → IsReady w 0 new → new.pass.me.0 ≡ joined old.pass.me.0 other → StartsWith new.pass.me.0.seen old.pass.me.0.seen →
+  pub has_learned : (old new : Caller D A C) (replies : Replies) (given : Vec ℕ) (other : View Entry (Opened D A C)) → IsReady w 0 new → new.pass.me.0 ≡ joined old.pass.me.0 other → StartsWith new.pass.me.0.seen old.pass.me.0.seen →
       SameButPass old new → HasLearned w (record { caller = old; replies = replies; given = given }) (record { caller = new; replies = replies; given = given })
   has_learned old new replies given other ready is seen same = record {
     ready = ready;

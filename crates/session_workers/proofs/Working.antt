@@ -1,18 +1,20 @@
 -- The sessions of a thread, as a line is run.
-use Rattle.std.proofs.Common.{◌≡◌, ◌≢◌, ℕ, suc, ◌+◌, ◌≤◌, ◌<◌, ◌⊎◌, Bool, true, false, cond, List, [], ◌∷◌, ◌++◌, length, get_or, set, refl, sym, ap, ap₂, ◌∙◌, subst, arith, map, take, inl, inr, length-append, length-set, get_or-set_same, get_or-set_other}
+use Rattle.std.proofs.Common.{◌≡◌, ◌≢◌, ℕ, suc, ◌+◌, ◌-◌, ◌^◌, ◌≤◌, ◌<◌, ◌⊎◌, Bool, true, false, cond, List, [], ◌∷◌, ◌++◌, length, get_or, set, refl, sym, ap, ap₂, ◌∙◌, subst, arith, map, take, inl, inr, length-append, length-set, get_or-set_same, get_or-set_other}
 use Rattle.std.specs.Prelude.{All, IfOk, IfSome, MatchResult, Option, None, Some, Result, Ok, Err, filter, ◌==◌}
 use Rattle.std.proofs.lemmas.Bool.Decides.{eqb_tells}
 use Rattle.std.proofs.lemmas.List.{get_or_append_left, get_or_default, get_or_push, take_more}
 use Rattle.psa_status.specs.declared.Memory.{Memory}
 use Rattle.turn_history.specs.History.{entries_of, StartsWith}
 use Rattle.callers.specs.Worlds.{World}
+use Rattle.script_lang.specs.Replies.{AreKept, ReplyLine}
+use Rattle.script_lang.specs.declared.replies.ReplyForm.{ReplyForm}
 use Rattle.script_lang.specs.declared.script.ScriptLine.{ScriptLine}
 use Rattle.script_sessions.specs.declared.session.Session.{Session}
 use Rattle.script_sessions.specs.Running.{GoesFurther, HasAnswered, HasMade, IsWithin}
 use Rattle.script_sessions.proofs.Order.{within_more, within_whole}
 use Rattle.script_sessions.proofs.Told.{answered_other}
 use Rattle.session_workers.specs.declared.worker.Worker.{Worker}
-use Rattle.session_workers.specs.Working.{AreApart, ChangesAt, HasLearned, HasSeen, HasWorked, HaveRun, IsOurs, numbers_of}
+use Rattle.session_workers.specs.Working.{AreApart, ChangesAt, HasLearned, HasSeen, HasWorked, HaveForm, HaveRun, IsOurs, numbers_of}
 use Rattle.session_workers.proofs.Meeting.{item_of, learned}
 
 map_same : {X : Type 0} (f : X → ℕ) (xs ys : List X) → length ys ≡ length xs → ((k : ℕ) (d : X) → k < length xs → f (get_or ys k d) ≡ f (get_or xs k d)) → map f ys ≡ map f xs
@@ -30,8 +32,12 @@ shorter p (x ∷ xs) = go (p x) (shorter p xs)
     go false le = omega arith
 
 module _ {D A C : Type 0} (w : World D A C) (lines : List ScriptLine) where
-  pub few_replies : (s : Session D A C) → HasAnswered w lines s → length s.replies.items ≤ length lines
-  few_replies s h = let a = h.replies.count in let b = shorter (λ (l : ScriptLine). l.session == s.caller.number) lines in omega arith
+  pub few_replies : (s : Session D A C) → HasAnswered w lines s → length lines < 20000 → (told : List ReplyLine) × AreKept s.replies told × (length told < 2 ^ 32 - 1)
+  few_replies s h few = (
+    h.replies.told,
+    h.replies.kept,
+    let a = h.replies.replies.count in let b = shorter (λ (l : ScriptLine). l.session == s.caller.number) lines in omega arith,
+  )
 
   -- A LINE OF NO SESSION HERE
 
@@ -89,6 +95,9 @@ module _ {D A C : Type 0} (w : World D A C) (lines : List ScriptLine) where
         | inr a ↦ subst P (sym (get_or-set_other met place k after d a.1 ∙ l.others k d a.1)) (others k d (let e = long in omega arith) a.1)
       ]
 
+      pub same_form : after.replies.form ≡ before.replies.form → (form : ReplyForm) → HaveForm form old → HaveForm form now
+      same_form same form had = each (λ s. s.replies.form ≡ form) (same ∙ (ap (λ r. r.form) learned_here.replies ∙ had place before inside)) (λ k d lt ne. had k d lt)
+
       beside : (k : ℕ) (d : Session D A C) → k < length old → k ≢ place → HasAnswered w (lines ++ line ∷ []) (get_or old k d)
       beside k d lt ne = answered_other w lines line (get_or old k d) (λ e. ne (h.apart k place d lt inside (sym e ∙ sym (ours d)))) (h.answered k d lt)
 
@@ -143,10 +152,11 @@ module _ {D A C : Type 0} (w : World D A C) (lines : List ScriptLine) (i : ℕ) 
   pub ran_next : (t : Worker D A C) → HaveRun w (take i lines ++ line ∷ []) t → HaveRun w (take (i + 1) lines) t
   ran_next t h = subst (λ ls. HaveRun w ls t) one_more h
 
-  pub stopped : (before after : Worker D A C) → numbers_of after.sessions.items ≡ numbers_of before.sessions.items →
+  pub stopped : (before after : Worker D A C) → numbers_of after.sessions.items ≡ numbers_of before.sessions.items → ((form : ReplyForm) → HaveForm form before.sessions.items → HaveForm form after.sessions.items) →
       All (λ s. HasMade w (take i lines) s.caller ⊎ HasMade w (take i lines ++ line ∷ []) s.caller) after.sessions.items → after.whole ≡ false → HasWorked w lines before after
-  stopped before after numbers made whole = record {
+  stopped before after numbers form made whole = record {
     numbers = numbers;
+    forms = form;
     made = λ k d within. elim (made k d within) [
       | inl a ↦ (i, a)
       | inr b ↦ (i + 1, subst (λ ls. HasMade w ls (get_or after.sessions.items k d).caller) one_more b)

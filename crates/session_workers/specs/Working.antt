@@ -3,6 +3,7 @@ use Rattle.std.specs.Prelude.{ℕ, ◌≡◌, ◌≢◌, ◌≤◌, ◌<◌, tru
 use Rattle.turn_history.specs.History.{entries_of, StartsWith}
 use Rattle.callers.specs.Ready.{IsReady}
 use Rattle.callers.specs.Worlds.{World}
+use Rattle.script_lang.specs.declared.replies.ReplyForm.{ReplyForm}
 use Rattle.script_lang.specs.declared.script.ScriptLine.{ScriptLine}
 use Rattle.script_sessions.specs.declared.session.Session.{Session}
 use Rattle.session_workers.specs.declared.worker.Worker.{Worker}
@@ -17,6 +18,10 @@ pub record ChangesAt {X : Type 0} (place : ℕ) (R : X → X → Type 0) (old ne
 module _ {D A C : Type 0} where
   abbrev pub numbers_of : List (Session D A C) → List ℕ
   numbers_of sessions = map (λ s. s.caller.number) sessions
+
+  -- the replies of these sessions are kept in one form
+  abbrev pub HaveForm : ReplyForm → List (Session D A C) → Type 0
+  HaveForm form sessions = All (λ s. s.replies.form ≡ form) sessions
 
   -- one of these sessions makes the call of a line
   abbrev pub IsOurs : List (Session D A C) → ScriptLine → Type 0
@@ -61,5 +66,6 @@ module _ {D A C : Type 0} where
     -- A thread ran all lines, where it says so, and else its sessions have made their calls among the first so many each.
     pub record HasWorked (lines : List ScriptLine) (old new : Worker D A C) : Type 0 where
       pub numbers : numbers_of new.sessions.items ≡ numbers_of old.sessions.items
+      pub forms : (form : ReplyForm) → HaveForm form old.sessions.items → HaveForm form new.sessions.items
       pub made : All (λ s. (n : ℕ) × HasMade w (take n lines) s.caller) new.sessions.items
       pub whole : new.whole ≡ true → HaveRun lines new

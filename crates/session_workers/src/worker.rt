@@ -6,10 +6,11 @@ ghost use Rattle.turn_history.specs.Views.{watcher};
 ghost use Rattle.callers.specs.Called.{Legal};
 ghost use Rattle.callers.specs.Ready.{IsReady};
 ghost use Rattle.callers.specs.Worlds.{world};
+ghost use Rattle.script_lang.specs.declared.replies.ReplyForm as reply_form;
 ghost use Rattle.script_lang.specs.declared.script.ScriptLine as script_line;
 ghost use Rattle.script_sessions.specs.declared.session.Session as session;
 ghost use Rattle.script_sessions.specs.Running.{HasMade};
-ghost use Rattle.session_workers.specs.Working.{ChangesAt, HasLearned, HasSeated, HasWorked, HaveRun, numbers_of};
+ghost use Rattle.session_workers.specs.Working.{ChangesAt, HasLearned, HasSeated, HasWorked, HaveForm, HaveRun, numbers_of};
 ghost use Rattle.std.specs.Option.{option_to_list};
 
 use admission::Admission;
@@ -131,6 +132,7 @@ impl<D: Disk, A: Devices, C: Admission> Worker<D, A, C> {
             MatchResult result (λ done. HaveRun (world D.contents D.moment D.faults A.keys A.faults A.locations C.labels service.now.shared.lock.table.shared.table_id service.now.shared.lock.table.shared.key.value.value.store.opened) (lines ++ line.now ∷ []) self.new)
             (λ full. All (λ s. HasMade (world D.contents D.moment D.faults A.keys A.faults A.locations C.labels service.now.shared.lock.table.shared.table_id service.now.shared.lock.table.shared.key.value.value.store.opened) lines s.caller ⊎ HasMade (world D.contents D.moment D.faults A.keys A.faults A.locations C.labels service.now.shared.lock.table.shared.table_id service.now.shared.lock.table.shared.key.value.value.store.opened) (lines ++ line.now ∷ []) s.caller) self.new.sessions.items) }
         ensures numbers { numbers_of self.new.sessions.items ≡ numbers_of self.old.sessions.items }
+        ensures form { (form : reply_form.ReplyForm) → HaveForm form self.old.sessions.items → HaveForm form self.new.sessions.items }
         ensures whole { self.new.whole ≡ self.old.whole }
     {
         let Some(place) = place_of(&self.sessions, line.session) else {

@@ -1,7 +1,10 @@
-use Rattle.std.proofs.Common.{◌≡◌, ◌++◌, ℕ, List, length, refl, ap, ◌∙◌, append_assoc}
-use Rattle.std.specs.Prelude.{codes}
+use Rattle.std.proofs.Common.{◌≡◌, ◌++◌, ◌+◌, ℕ, Bool, true, false, cond, List, [], ◌∷◌, length, refl, ap, ◌∙◌, arith, append_assoc}
+use Rattle.std.specs.Prelude.{codes, count_by, not}
+use Rattle.std.proofs.lemmas.List.Sums.{sum_by-cons}
 use Rattle.hex.specs.Hex.{encode_lower}
-use Rattle.line_generator.specs.Summary.{summary_of, count_line}
+use Rattle.sha2.specs.Sha256.{sha256}
+use Rattle.script_lang.specs.Replies.{ReplyLine, is_success}
+use Rattle.line_generator.specs.Summary.{count_line, summary_of}
 use Rattle.line_generator.proofs.Pieces.{onto}
 use Rattle.line_generator.proofs.summary.push_summary.Goals as goal
 
@@ -9,15 +12,30 @@ use Rattle.line_generator.proofs.summary.push_summary.Goals as goal
 joined : (text a b c d e f : List ℕ) → text ++ a ++ b ++ c ++ d ++ e ++ f ≡ text ++ (a ++ b ++ c ++ d ++ e ++ f)
 joined text a b c d e f = simp (append_assoc {A = ℕ}) refl
 
+one_of_both : (b : Bool) → cond b 1 0 + cond (not b) 1 0 ≡ 1
+one_of_both true = refl
+one_of_both false = refl
+
+-- those that don't are all but those that do
+others : {X : Type 0} (p : X → Bool) (xs : List X) → count_by p xs + count_by (λ x. not (p x)) xs ≡ length xs
+others p [] = refl
+others p (x ∷ xs) =
+    let a = sum_by-cons (λ y. cond (p y) 1 0) x xs in let b = sum_by-cons (λ y. cond (not (p y)) 1 0) x xs in
+    let c = one_of_both (p x) in let d = others p xs in omega (arith, a, b, c, d)
+
 pub returns : goal.returns
 unfolding summary_of
-returns c =
+returns c = λ lines kept.
     let out = c.args.out.now.items in
-    let replies = c.args.replies.now in
+    let calls : c.total_of-calls.result.calls ≡ length lines = c.total_of-calls.ensures.calls ∙ kept.count in
+    let successes : c.total_of-calls.result.successes ≡ count_by is_success lines = c.total_of-calls.ensures.successes ∙ kept.successes in
+    let refusals : c.saturating_sub.result ≡ count_by (λ (line : ReplyLine). not (is_success line)) lines =
+    (let a = others is_success lines in let b = c.saturating_sub.ensures in omega (arith, a, b, calls, successes)) in
+    let digest = ap sha256 kept.text in
     let counts = onto _ _ _ _ c.in_ok-push_count-3.ensures (onto _ _ _ _ c.in_ok-push_count-2.ensures c.in_ok-push_count.ensures) in
-    let digest = onto _ _ _ _ c.in_ok-extend_from_slice-2.ensures.items (onto _ _ _ (codes "sha256 ") c.in_ok-extend_from_slice.ensures.items counts) in
-    onto _ _ _ (codes "\n") c.in_ok-push.ensures.items digest
+    let told = onto _ _ _ _ c.in_ok-extend_from_slice-2.ensures.items (onto _ _ _ (codes "sha256 ") c.in_ok-extend_from_slice.ensures.items counts) in
+    onto _ _ _ (codes "\n") c.in_ok-push.ensures.items told
     ∙ joined out _ _ _ (codes "sha256 ") _ (codes "\n")
-    ∙ (λ j. out ++ (count_line (codes "calls ") (length replies) ++ count_line (codes "successes ") (c.successes.ensures j)
-    ++ count_line (codes "refusals ") (c.refusals.ensures j) ++ codes "sha256 "
-    ++ (c.as_bytes.ensures.value ∙ c.as_str.ensures.value ∙ c.in_ok-digest-2.ensures ∙ ap encode_lower c.in_ok-digest.ensures) j ++ codes "\n"))
+    ∙ (λ j. out ++ (count_line (codes "calls ") (calls j) ++ count_line (codes "successes ") (successes j)
+    ++ count_line (codes "refusals ") (refusals j) ++ codes "sha256 "
+    ++ (c.as_bytes.ensures.value ∙ c.as_str.ensures.value ∙ c.in_ok-digest.ensures ∙ ap encode_lower (c.total_of-calls.ensures.digest ∙ digest)) j ++ codes "\n"))

@@ -1,6 +1,7 @@
-use Rattle.std.proofs.Common.{◌∙◌, refl}
+use Rattle.std.proofs.Common.{◌∙◌, refl, subst, sym}
 use Rattle.command_words.specs.declared.command.Command.TheVariants as commands
-use Rattle.script_sessions.specs.Running.{all_replies}
+use Rattle.script_lang.specs.Replies.{AreAllKept}
+use Rattle.script_lang.specs.declared.replies.ReplyForm.TheVariants.{Unranked}
 use Rattle.psa_command.proofs.Causes.{answered_ends, match_err, match_ok, of_answered, of_unanswered}
 use Rattle.psa_command.proofs.command.run_generator.Goals as goal
 
@@ -9,10 +10,10 @@ returns-in-Ok-replies-clause-ends g c = λ given left named.
     let e = c.of-in-Ok-replies.ensures in let ran = c.answer_lines-replies.result in
     let a = match_ok _ _ ran.replies c.in-Ok-replies.replies c.in-Ok-replies.is c.answer_lines-replies.ensures in
     rw (e.disk, e.devices, e.exit)
-    (answered_ends g.D.Disk.contents g.D.Disk.may_leave g.D.Disk.moment g.D.Disk.left_since g.D.Disk.faults g.A.Devices.keys g.A.Devices.faults g.A.Devices.locations g.C.Admission.labels given left c.args.disk c.args.devices (commands.Generate c.args.count) ran.disk ran.devices c.write_summary_of.result _ _ (all_replies c.in-Ok-replies.replies.items)
-    (of_answered g.D.Disk.contents g.D.Disk.may_leave g.D.Disk.moment g.D.Disk.left_since g.D.Disk.faults g.A.Devices.keys g.A.Devices.faults g.A.Devices.locations g.C.Admission.labels given left c.args.disk c.args.devices (commands.Generate c.args.count) ran.disk ran.devices (g.C.Admission.labels c.args.rules) _ 1 c.deref.result.now (all_replies c.in-Ok-replies.replies.items)
-    named refl refl (c.deref.ensures.value ∙ c.in-Ok.ensures.lines) a)
-    c.write_summary_of.ensures.written)
+    (answered_ends g.D.Disk.contents g.D.Disk.may_leave g.D.Disk.moment g.D.Disk.left_since g.D.Disk.faults g.A.Devices.keys g.A.Devices.faults g.A.Devices.locations g.C.Admission.labels given left c.args.disk c.args.devices (commands.Generate c.args.count) ran.disk ran.devices c.write_summary_of.result _ _ a.replies
+    (of_answered g.D.Disk.contents g.D.Disk.may_leave g.D.Disk.moment g.D.Disk.left_since g.D.Disk.faults g.A.Devices.keys g.A.Devices.faults g.A.Devices.locations g.C.Admission.labels given left c.args.disk c.args.devices (commands.Generate c.args.count) ran.disk ran.devices (g.C.Admission.labels c.args.rules) _ 1 c.deref.result.now a.replies
+    named refl refl (c.deref.ensures.value ∙ c.in-Ok.ensures.lines) a.answered)
+    (c.write_summary_of.ensures.written a.replies (subst (λ k. AreAllKept Unranked k a.replies) (sym c.deref-in-Ok-replies.ensures.value) a.all)))
 
 pub returns-clause-ends : goal.returns-clause-ends
 returns-clause-ends g c = λ given left named.

@@ -31,12 +31,12 @@ loop-preserved g c =
     let same : (16 - j) % length workers ≡ r = ap₂ (λ a b. a % b) (sym number) v.count in
     let there : r < length workers = (let a = mod_below c.len-number.result (length c.args.workers.now) c.requires.some in let b = v.count in omega arith) in
     let new = subst (IsNewCaller w (15 - j + 1)) parts.1 (c.requires.staff.each (15 - j) caller (let f = c.requires.staff.sixteen in omega arith)) in
-    let fresh : IsFreshSession w c.new.result = record { number = 15 - j + 1; caller = subst (IsNewCaller w (15 - j + 1)) (sym c.new.ensures.caller) new; replies = c.new.ensures.replies; given = c.new.ensures.given } in
+    let fresh : IsFreshSession w c.args.form c.new.result = record { number = 15 - j + 1; caller = subst (IsNewCaller w (15 - j + 1)) (sym c.new.ensures.caller) new; replies = c.new.ensures.replies; session = c.new.ensures.session ∙ sym (ap (λ k. k.number) c.new.ensures.caller); form_is = c.new.ensures.form; given = c.new.ensures.given } in
     let seated = λ (d : Worker _ _ _). subst (λ t. HasSeated t c.seat.new.self c.new.result) (get_or_default workers r x d there ∙ ap (λ k. get_or workers k d) (sym same)) c.seat.ensures in record {
       callers = sym parts.0 ∙ ap (λ k. take k staff) (omega arith);
       space = let a = v.space in let b = c.pop.ensures.capacity in omega arith;
-      dealing = subst (λ k. IsDealing w (j + 1) (set workers k c.seat.new.self)) same
-          (dealing_one w j workers c.seat.new.self c.new.result v.dealing (subst (λ k. k < length workers) (sym same) there) seated fresh (ap (λ k. k.number) c.new.ensures.caller ∙ (new.number_is ∙ sym before)));
+      dealing = subst (λ k. IsDealing w c.args.form (j + 1) (set workers k c.seat.new.self)) same
+          (dealing_one w c.args.form j workers c.seat.new.self c.new.result v.dealing (subst (λ k. k < length workers) (sym same) there) seated fresh (ap (λ k. k.number) c.new.ensures.caller ∙ (new.number_is ∙ sym before)));
       count = length-set workers r c.seat.new.self ∙ v.count;
       counted = refl;
     }
@@ -45,4 +45,4 @@ pub returns-clause-dealt : goal.returns-clause-dealt
 returns-clause-dealt g c =
     let w = world g.D.Disk.contents g.D.Disk.moment g.D.Disk.faults g.A.Devices.keys g.A.Devices.faults g.A.Devices.locations g.C.Admission.labels c.args.service.now.shared.lock.table.shared.table_id c.args.service.now.shared.lock.table.shared.key.value.value.store.opened in
     let v = c.loop.invariant in
-    all_dealt w c.loop.workers (subst (λ j. IsDealing w j c.loop.workers) (let a = c.loop-test.false in let b = c.loop.auto.counter-end in omega arith) v.dealing)
+    all_dealt w c.args.form c.loop.workers (subst (λ j. IsDealing w c.args.form j c.loop.workers) (let a = c.loop-test.false in let b = c.loop.auto.counter-end in omega arith) v.dealing)

@@ -1,21 +1,33 @@
-use Rattle.std.proofs.Common.{◌∙◌, ap, sym, subst, arith, take, length, length-take-le}
-use Rattle.std.specs.Prelude.{IfOk, IfSome}
+use Rattle.std.proofs.Common.{◌≡◌, ◌∙◌, ap, subst, arith, take, length, length-take-le, ℕ}
+use Rattle.std.specs.Prelude.{IfOk, IfSome, MatchResult, Result, Ok, Err}
+use Rattle.psa_status.specs.declared.Memory.{Memory}
 use Rattle.service_calls.specs.Meanings.{model_request}
 use Rattle.script_lang.specs.Commands.{request_of}
+use Rattle.store_model.specs.Call.{Reply}
 use Rattle.callers.specs.Called.{IsAnswered}
 use Rattle.callers.specs.Worlds.{world}
-use Rattle.script_sessions.specs.Replying.{Answers}
+use Rattle.script_lang.specs.declared.replies.Replies.{Replies}
+use Rattle.script_sessions.specs.Replying.{Answer, Answers, Fills, Notes}
 use Rattle.script_sessions.proofs.Told.{is_made}
 use Rattle.script_sessions.proofs.session.Session.call.Goals as goal
+
+-- a call was made, and where its answer was noted it is made with that answer
+made_so : (r : Result ℕ Memory) (old new : Replies) (rank : ℕ) (T : Reply → Type 0) (M : (Reply → Type 0) → Type 0) → ((Q : Reply → Type 0) → ((reply : Reply) → T reply → Q reply) → M Q) →
+    IfOk r (λ given. (a : Answer) × (a.id ≡ given) × Notes old new rank a × ((reply : Reply) → T reply → Answers a reply)) →
+    MatchResult r (λ given. (a : Answer) × (a.id ≡ given) × Notes old new rank a × M (Answers a)) (λ full. M (λ reply. Unit {0}))
+made_so (Ok given) old new rank T M made n = (n.0, n.1, n.2, made (Answers n.0) n.3)
+made_so (Err full) old new rank T M made n = made (λ reply. Unit {0}) (λ reply t. tt)
 
 pub returns-clause-made : goal.returns-clause-made
 returns-clause-made g c =
     let w = world g.D.Disk.contents g.D.Disk.moment g.D.Disk.faults g.A.Devices.keys g.A.Devices.faults g.A.Devices.locations g.C.Admission.labels c.args.service.now.shared.lock.table.shared.table_id c.args.service.now.shared.lock.table.shared.key.value.value.store.opened in
-    let v = c.args.self.now.caller.pass.me.0 in let u = c.call-ranked.new.caller.pass.me.0 in
-    let before = take c.room.result c.args.buffer.now in
-    let asked = model_request c.value-call.result (length before) in
-    let answered = subst (λ o. IfSome o (λ rank. IsAnswered w v u asked rank c.call-ranked.result.1 before c.call-ranked.new.out)) c.in-Some.is c.call-ranked.ensures.ranked in
-    is_made w v u asked (request_of c.args.self.now.given.items c.args.line.now.call) c.in-Some.rank c.call-ranked.result.1 before c.call-ranked.new.out
-    (λ reply. IfOk c.printed.result (λ a. Answers a reply)) answered
-    (ap (λ n. model_request c.value-call.result n) (length-take-le c.room.result c.args.buffer.now (let a = c.requires.room in let b = c.room.ensures.most in omega arith) ∙ c.room.ensures.value)
-    ∙ (c.value-call.ensures ∙ ap (λ ids. request_of ids c.args.line.now.call) c.deref.ensures.value)) c.printed.ensures
+    let v = c.args.self.now.caller.pass.me.0 in let u = c.call-ranked.new.caller.pass.me.0 in let rank = c.in-Some.rank in
+    let before = take c.room.result c.args.buffer.now in let out = c.call-ranked.new.out in let result = c.call-ranked.result.1 in
+    let asked = model_request c.value-call.result (length before) in let wanted = request_of c.args.self.now.given.items c.args.line.now.call in
+    let answered = subst (λ o. IfSome o (λ rank. IsAnswered w v u asked rank result before out)) c.in-Some.is c.call-ranked.ensures.ranked in
+    let same : asked ≡ wanted =
+    ap (λ n. model_request c.value-call.result n) (length-take-le c.room.result c.args.buffer.now (let a = c.requires.room in let b = c.room.ensures.most in omega arith) ∙ c.room.ensures.value)
+    ∙ (c.value-call.ensures ∙ ap (λ ids. request_of ids c.args.line.now.call) c.deref.ensures.value) in (
+      rank,
+      made_so c.note.result c.args.self.now.replies c.note.new.replies rank (Fills result out) _ (λ Q. is_made w v u asked wanted rank result before out Q answered same) c.note.ensures.noted,
+    )

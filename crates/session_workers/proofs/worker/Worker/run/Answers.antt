@@ -9,6 +9,7 @@ loop-line-preserved g c =
     let i = c.loop-line.line-index in let lines = c.args.lines.now in let v = c.loop-line.invariant in record {
       ran = ran_next w lines i c.line-item.result c.loop-line-test.true c.line-item.is c.run_line.new.self (c.in-Ok.ensures.ran (take i lines) v.ran);
       numbers = c.run_line.ensures.numbers ∙ v.numbers;
+      form = λ form had. c.run_line.ensures.form form (v.form form had);
       whole = c.run_line.ensures.whole ∙ v.whole;
     }
 
@@ -17,4 +18,4 @@ returns-in_default g c =
     let w = world g.D.Disk.contents g.D.Disk.moment g.D.Disk.faults g.A.Devices.keys g.A.Devices.faults g.A.Devices.locations g.C.Admission.labels c.args.service.now.shared.lock.table.shared.table_id c.args.service.now.shared.lock.table.shared.key.value.value.store.opened in
     let i = c.loop-line.line-index in let lines = c.args.lines.now in let v = c.loop-line.invariant in
     stopped w lines i c.line-item.result c.loop-line-test.true c.line-item.is c.args.self.now (record c.run_line.new.self { whole = false })
-    (c.run_line.ensures.numbers ∙ v.numbers) (c.in_default.ensures.ran (take i lines) v.ran) refl
+    (c.run_line.ensures.numbers ∙ v.numbers) (λ form had. c.run_line.ensures.form form (v.form form had)) (c.in_default.ensures.ran (take i lines) v.ran) refl

@@ -3,7 +3,7 @@ use Rattle.std.specs.Prelude.{Some}
 use Rattle.std.specs.Vec.{with_item, with_items}
 use Rattle.callers.specs.Worlds.{world}
 use Rattle.script_sessions.specs.declared.session.Session.{Session}
-use Rattle.session_workers.proofs.Working.{answered_here, few_replies, ran_line, ran_none, same_numbers}
+use Rattle.session_workers.proofs.Working.{answered_here, few_replies, ran_line, ran_none, same_form, same_numbers}
 use Rattle.session_workers.proofs.worker.Worker.run_line.Goals as goal
 
 pub returns-in_default-clause-ran : goal.returns-in_default-clause-ran
@@ -20,13 +20,12 @@ run_line-ran-requires-clause-ready g c κs within =
     let found = subst (λ xs. (c.in-Some.place < length xs) × ((d : Session _ _ _) → (get_or xs c.in-Some.place d).caller.number ≡ c.args.line.now.session)) c.deref.ensures.value c.in-Some.ensures.found in
     (answered_here w c.requires.0 c.args.line.now c.args.self.now c.meet.new.self.sessions.items c.in-Some.place c.index_mut.result.now c.index_mut.result.now c.requires.1 found.0 found.1 c.meet.ensures.learned c.index_mut.ensures.value).made.ready
 
-pub run_line-ran-requires-clause-few : goal.run_line-ran-requires-clause-few
-run_line-ran-requires-clause-few g c κs within =
+pub run_line-ran-requires-clause-kept : goal.run_line-ran-requires-clause-kept
+run_line-ran-requires-clause-kept g c κs within =
     let w = world g.D.Disk.contents g.D.Disk.moment g.D.Disk.faults g.A.Devices.keys g.A.Devices.faults g.A.Devices.locations g.C.Admission.labels c.args.service.now.shared.lock.table.shared.table_id c.args.service.now.shared.lock.table.shared.key.value.value.store.opened in
     let found = subst (λ xs. (c.in-Some.place < length xs) × ((d : Session _ _ _) → (get_or xs c.in-Some.place d).caller.number ≡ c.args.line.now.session)) c.deref.ensures.value c.in-Some.ensures.found in
     let s = c.index_mut.result.now in
-    let a = few_replies w c.requires.0 s (answered_here w c.requires.0 c.args.line.now c.args.self.now c.meet.new.self.sessions.items c.in-Some.place s s c.requires.1 found.0 found.1 c.meet.ensures.learned c.index_mut.ensures.value) in
-    let b = c.requires.2 in omega arith
+    few_replies w c.requires.0 s (answered_here w c.requires.0 c.args.line.now c.args.self.now c.meet.new.self.sessions.items c.in-Some.place s s c.requires.1 found.0 found.1 c.meet.ensures.learned c.index_mut.ensures.value) c.requires.2
 
 pub returns-clause-ran : goal.returns-clause-ran
 returns-clause-ran g c = λ lines h.
@@ -45,3 +44,9 @@ returns-clause-numbers g c =
     let w = world g.D.Disk.contents g.D.Disk.moment g.D.Disk.faults g.A.Devices.keys g.A.Devices.faults g.A.Devices.locations g.C.Admission.labels c.args.service.now.shared.lock.table.shared.table_id c.args.service.now.shared.lock.table.shared.key.value.value.store.opened in
     let found = subst (λ xs. (c.in-Some.place < length xs) × ((d : Session _ _ _) → (get_or xs c.in-Some.place d).caller.number ≡ c.args.line.now.session)) c.deref.ensures.value c.in-Some.ensures.found in
     same_numbers w c.requires.0 c.args.line.now c.args.self.now c.meet.new.self.sessions.items c.in-Some.place c.index_mut.result.now c.run_line-ran.new.self c.requires.1 found.0 found.1 c.meet.ensures.learned c.index_mut.ensures.value c.run_line-ran.ensures.number
+
+pub returns-clause-form : goal.returns-clause-form
+returns-clause-form g c =
+    let w = world g.D.Disk.contents g.D.Disk.moment g.D.Disk.faults g.A.Devices.keys g.A.Devices.faults g.A.Devices.locations g.C.Admission.labels c.args.service.now.shared.lock.table.shared.table_id c.args.service.now.shared.lock.table.shared.key.value.value.store.opened in
+    let found = subst (λ xs. (c.in-Some.place < length xs) × ((d : Session _ _ _) → (get_or xs c.in-Some.place d).caller.number ≡ c.args.line.now.session)) c.deref.ensures.value c.in-Some.ensures.found in
+    same_form w c.requires.0 c.args.line.now c.args.self.now c.meet.new.self.sessions.items c.in-Some.place c.index_mut.result.now c.run_line-ran.new.self c.requires.1 found.0 found.1 c.meet.ensures.learned c.index_mut.ensures.value c.run_line-ran.ensures.number c.run_line-ran.ensures.form

@@ -1,0 +1,13 @@
+use Rattle.std.proofs.Common.{◌≡◌, ◌≤◌, ◌*◌, flat_map, take}
+use Rattle.std.specs.Prelude.{sum_by}
+use Rattle.sha2.specs.Hashers.{Holds256}
+use Rattle.line_generator.proofs.summary.total_of.Given as goal
+
+abbrev pub invariant-loop-own : goal.invariant-loop-own
+invariant-loop-own l = record {
+  calls : l.calls ≡ sum_by (λ k. k.count) (take l.own-index l.replies);
+  successes : l.successes ≡ sum_by (λ k. k.successes) (take l.own-index l.replies);
+  text : Holds256 l.hasher (flat_map (λ k. k.text.items) (take l.own-index l.replies));
+  few_calls : l.calls ≤ l.own-index * 4294967295;
+  few_successes : l.successes ≤ l.own-index * 4294967295;
+}

@@ -1,0 +1,21 @@
+use Rattle.std.proofs.Common.{◌≡◌, ◌∙◌, ap, flat_map, refl, subst, sym}
+use Rattle.std.specs.Prelude.{IfSome, Ok}
+use Rattle.command_words.specs.declared.command.Command.TheVariants as commands
+use Rattle.script_lang.specs.Lines.{script_of}
+use Rattle.script_lang.specs.declared.replies.Replies.{Replies}
+use Rattle.psa_command.specs.Ends.{IsWritten}
+use Rattle.psa_command.proofs.Causes.{answered_ends, match_ok, of_answered}
+use Rattle.psa_command.proofs.command.run_script.Goals as goal
+
+pub returns-in-Ok-replies-clause-ends : goal.returns-in-Ok-replies-clause-ends
+returns-in-Ok-replies-clause-ends g c = λ given named.
+    let e = c.of-in-Ok-replies.ensures in let ran = c.answer_lines-run.result in let left = g.S.Source.left c.args.source.now in
+    let a = match_ok _ _ ran.replies c.in-Ok-replies.replies c.in-Ok-replies.is c.answer_lines-run.ensures in
+    let text = λ (k : Replies). k.text.items in
+    let lines = subst (λ ls. IfSome left (λ text. script_of text ≡ Ok ls)) (sym c.lines.ensures) c.in-Ok.ensures.calls in
+    let written = subst (λ t. IsWritten t (g.K.Sink.taken c.args.sink.now) (g.K.Sink.taken c.write_replies.new.sink) c.write_replies.result) (ap (flat_map text) c.deref.ensures.value ∙ a.all.text) c.write_replies.ensures.written in
+    rw (e.disk, e.devices, e.exit)
+    (answered_ends g.D.Disk.contents g.D.Disk.may_leave g.D.Disk.moment g.D.Disk.left_since g.D.Disk.faults g.A.Devices.keys g.A.Devices.faults g.A.Devices.locations g.C.Admission.labels given left c.args.disk c.args.devices (commands.Run c.args.options.now) ran.disk ran.devices c.write_replies.result _ _ a.replies
+    (of_answered g.D.Disk.contents g.D.Disk.may_leave g.D.Disk.moment g.D.Disk.left_since g.D.Disk.faults g.A.Devices.keys g.A.Devices.faults g.A.Devices.locations g.C.Admission.labels given left c.args.disk c.args.devices (commands.Run c.args.options.now) ran.disk ran.devices (g.C.Admission.labels c.args.rules) c.args.options.now.seed c.args.options.now.workers c.lines.result.now a.replies
+    named refl refl lines a.answered)
+    written)
