@@ -1,5 +1,5 @@
 // The steps of an operation, and its end.
-ghost use Rattle.std.specs.Prelude.{◌≡◌, ◌≤◌, ℕ, List, length};
+ghost use Rattle.std.specs.Prelude.{◌≡◌, ◌≤◌, ℕ, List, [], length};
 ghost use Rattle.service_calls.specs.Answers.{AnswersLength, plain_reply};
 ghost use Rattle.store_model.specs.Call.{buffer_after};
 ghost use Rattle.store_model.specs.Operations.{Operation};
@@ -50,10 +50,10 @@ impl AeadState {
     /// Takes the nonce. `BadState` where it is there, or where CCM lacks the lengths; `InvalidArgument` where the
     /// algorithm takes no nonce of this length.
     pub fn aead_set_nonce(&mut self, value: &[u8]) -> Result<(), Status>
-        ensures state { (op : Operation AeadWork) (random : List ℕ) → IsAeadOperation self.old op →
-            IsAeadOperation self.new (on_active op (λ w. aead_step random w (AeadSetNonce value.now))).operation }
-        ensures reply { (op : Operation AeadWork) (random : List ℕ) → IsAeadOperation self.old op →
-            plain_reply result ≡ (on_active op (λ w. aead_step random w (AeadSetNonce value.now))).reply }
+        ensures state { (op : Operation AeadWork) → IsAeadOperation self.old op →
+            IsAeadOperation self.new (on_active op (λ w. aead_step [] w (AeadSetNonce value.now))).operation }
+        ensures reply { (op : Operation AeadWork) → IsAeadOperation self.old op →
+            plain_reply result ≡ (on_active op (λ w. aead_step [] w (AeadSetNonce value.now))).reply }
     {
         self.state.phase.check_active()?;
         let result = self.state.work.set_nonce(value);
@@ -64,10 +64,10 @@ impl AeadState {
     /// Declares how many bytes of associated data and of payload there will be. `BadState` where they are declared, or
     /// the nonce is there; `InvalidArgument` past the greatest length.
     pub fn aead_set_lengths(&mut self, ad: u64, payload: u64) -> Result<(), Status>
-        ensures state { (op : Operation AeadWork) (random : List ℕ) → IsAeadOperation self.old op →
-            IsAeadOperation self.new (on_active op (λ w. aead_step random w (AeadSetLengths ad payload))).operation }
-        ensures reply { (op : Operation AeadWork) (random : List ℕ) → IsAeadOperation self.old op →
-            plain_reply result ≡ (on_active op (λ w. aead_step random w (AeadSetLengths ad payload))).reply }
+        ensures state { (op : Operation AeadWork) → IsAeadOperation self.old op →
+            IsAeadOperation self.new (on_active op (λ w. aead_step [] w (AeadSetLengths ad payload))).operation }
+        ensures reply { (op : Operation AeadWork) → IsAeadOperation self.old op →
+            plain_reply result ≡ (on_active op (λ w. aead_step [] w (AeadSetLengths ad payload))).reply }
     {
         self.state.phase.check_active()?;
         let result = self.state.work.set_lengths(ad, payload);
@@ -78,10 +78,10 @@ impl AeadState {
     /// Takes in more associated data. `BadState` where the nonce isn't there, or text was given; `InvalidArgument` past
     /// the declared length or the greatest one.
     pub fn aead_update_ad(&mut self, input: &[u8]) -> Result<(), Status>
-        ensures state { (op : Operation AeadWork) (random : List ℕ) → IsAeadOperation self.old op →
-            IsAeadOperation self.new (on_active op (λ w. aead_step random w (AeadUpdateAd input.now))).operation }
-        ensures reply { (op : Operation AeadWork) (random : List ℕ) → IsAeadOperation self.old op →
-            plain_reply result ≡ (on_active op (λ w. aead_step random w (AeadUpdateAd input.now))).reply }
+        ensures state { (op : Operation AeadWork) → IsAeadOperation self.old op →
+            IsAeadOperation self.new (on_active op (λ w. aead_step [] w (AeadUpdateAd input.now))).operation }
+        ensures reply { (op : Operation AeadWork) → IsAeadOperation self.old op →
+            plain_reply result ≡ (on_active op (λ w. aead_step [] w (AeadUpdateAd input.now))).reply }
     {
         self.state.phase.check_active()?;
         let result = self.state.work.update_ad(input);
@@ -93,12 +93,12 @@ impl AeadState {
     /// is the input's. `BadState` where the nonce isn't there; `InvalidArgument` where declared associated data is
     /// missing, past the declared length, or past the greatest one; `BufferTooSmall`.
     pub fn aead_update(&mut self, input: &[u8], out: &mut [u8]) -> Result<usize, Status>
-        ensures state { (op : Operation AeadWork) (random : List ℕ) → IsAeadOperation self.old op →
-            IsAeadOperation self.new (on_active op (λ w. aead_step random w (AeadUpdate input.now (length out.old)))).operation }
-        ensures reply { (op : Operation AeadWork) (random : List ℕ) → IsAeadOperation self.old op →
-            AnswersLength result (on_active op (λ w. aead_step random w (AeadUpdate input.now (length out.old)))).reply }
-        ensures buffer { (op : Operation AeadWork) (random : List ℕ) → IsAeadOperation self.old op →
-            out.new ≡ buffer_after out.old (on_active op (λ w. aead_step random w (AeadUpdate input.now (length out.old)))).reply }
+        ensures state { (op : Operation AeadWork) → IsAeadOperation self.old op →
+            IsAeadOperation self.new (on_active op (λ w. aead_step [] w (AeadUpdate input.now (length out.old)))).operation }
+        ensures reply { (op : Operation AeadWork) → IsAeadOperation self.old op →
+            AnswersLength result (on_active op (λ w. aead_step [] w (AeadUpdate input.now (length out.old)))).reply }
+        ensures buffer { (op : Operation AeadWork) → IsAeadOperation self.old op →
+            out.new ≡ buffer_after out.old (on_active op (λ w. aead_step [] w (AeadUpdate input.now (length out.old)))).reply }
     {
         self.state.phase.check_active()?;
         let result = self.state.work.update(input, out);
@@ -109,12 +109,12 @@ impl AeadState {
     /// Writes the tag to the front of `tag`, answers its length, and ends the operation. `BadState` where the text isn't
     /// encrypted, or the nonce isn't there; `InvalidArgument` where less was given than was declared; `BufferTooSmall`.
     pub fn aead_finish(&mut self, tag: &mut [u8]) -> Result<usize, Status>
-        ensures state { (op : Operation AeadWork) (random : List ℕ) → IsAeadOperation self.old op →
-            IsAeadOperation self.new (on_active op (λ w. aead_step random w (AeadFinish (length tag.old)))).operation }
-        ensures reply { (op : Operation AeadWork) (random : List ℕ) → IsAeadOperation self.old op →
-            AnswersLength result (on_active op (λ w. aead_step random w (AeadFinish (length tag.old)))).reply }
-        ensures buffer { (op : Operation AeadWork) (random : List ℕ) → IsAeadOperation self.old op →
-            tag.new ≡ buffer_after tag.old (on_active op (λ w. aead_step random w (AeadFinish (length tag.old)))).reply }
+        ensures state { (op : Operation AeadWork) → IsAeadOperation self.old op →
+            IsAeadOperation self.new (on_active op (λ w. aead_step [] w (AeadFinish (length tag.old)))).operation }
+        ensures reply { (op : Operation AeadWork) → IsAeadOperation self.old op →
+            AnswersLength result (on_active op (λ w. aead_step [] w (AeadFinish (length tag.old)))).reply }
+        ensures buffer { (op : Operation AeadWork) → IsAeadOperation self.old op →
+            tag.new ≡ buffer_after tag.old (on_active op (λ w. aead_step [] w (AeadFinish (length tag.old)))).reply }
     {
         self.state.phase.check_active()?;
         let result = self.state.work.finish(tag);
@@ -125,10 +125,10 @@ impl AeadState {
     /// Compares the whole tag, and ends the operation. `BadState` where the text isn't decrypted, or the nonce isn't
     /// there; `InvalidArgument` where less was given than was declared; `InvalidSignature` where the tag differs.
     pub fn aead_verify(&mut self, tag: &[u8]) -> Result<(), Status>
-        ensures state { (op : Operation AeadWork) (random : List ℕ) → IsAeadOperation self.old op →
-            IsAeadOperation self.new (on_active op (λ w. aead_step random w (AeadVerify tag.now))).operation }
-        ensures reply { (op : Operation AeadWork) (random : List ℕ) → IsAeadOperation self.old op →
-            plain_reply result ≡ (on_active op (λ w. aead_step random w (AeadVerify tag.now))).reply }
+        ensures state { (op : Operation AeadWork) → IsAeadOperation self.old op →
+            IsAeadOperation self.new (on_active op (λ w. aead_step [] w (AeadVerify tag.now))).operation }
+        ensures reply { (op : Operation AeadWork) → IsAeadOperation self.old op →
+            plain_reply result ≡ (on_active op (λ w. aead_step [] w (AeadVerify tag.now))).reply }
     {
         self.state.phase.check_active()?;
         let result = self.state.work.verify(tag);

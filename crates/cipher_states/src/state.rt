@@ -134,10 +134,10 @@ impl CipherState {
     /// Sets the initialisation vector, of 16 bytes. `BadState` where the operation isn't active; and, with the operation
     /// in error, `BadState` where the vector is there or the mode has none, and `InvalidArgument` at another length.
     pub fn cipher_set_iv(&mut self, value: &[u8]) -> Result<(), Status>
-        ensures state { (random : List ℕ) (op : Operation CipherWork) → IsCipherOperation self.old op →
-            IsCipherOperation self.new (on_active op (λ w. cipher_step random w (CipherSetIv value.now))).operation }
-        ensures reply { (random : List ℕ) (op : Operation CipherWork) → IsCipherOperation self.old op →
-            plain_reply result ≡ (on_active op (λ w. cipher_step random w (CipherSetIv value.now))).reply }
+        ensures state { (op : Operation CipherWork) → IsCipherOperation self.old op →
+            IsCipherOperation self.new (on_active op (λ w. cipher_step [] w (CipherSetIv value.now))).operation }
+        ensures reply { (op : Operation CipherWork) → IsCipherOperation self.old op →
+            plain_reply result ≡ (on_active op (λ w. cipher_step [] w (CipherSetIv value.now))).reply }
     {
         self.state.phase.check_active()?;
         let result = self.state.work.set_iv(value);
@@ -151,12 +151,12 @@ impl CipherState {
     /// `BufferTooSmall` where the output has no room.
     pub fn cipher_update(&mut self, input: &[u8], out: &mut [u8]) -> Result<usize, Status>
         ensures within { IfOk result (λ n. n ≤ length out.old) }
-        ensures state { (random : List ℕ) (op : Operation CipherWork) → IsCipherOperation self.old op →
-            IsCipherOperation self.new (on_active op (λ w. cipher_step random w (CipherUpdate input.now (length out.old)))).operation }
-        ensures reply { (random : List ℕ) (op : Operation CipherWork) → IsCipherOperation self.old op →
-            AnswersLength result (on_active op (λ w. cipher_step random w (CipherUpdate input.now (length out.old)))).reply }
-        ensures buffer { (random : List ℕ) (op : Operation CipherWork) → IsCipherOperation self.old op →
-            out.new ≡ buffer_after out.old (on_active op (λ w. cipher_step random w (CipherUpdate input.now (length out.old)))).reply }
+        ensures state { (op : Operation CipherWork) → IsCipherOperation self.old op →
+            IsCipherOperation self.new (on_active op (λ w. cipher_step [] w (CipherUpdate input.now (length out.old)))).operation }
+        ensures reply { (op : Operation CipherWork) → IsCipherOperation self.old op →
+            AnswersLength result (on_active op (λ w. cipher_step [] w (CipherUpdate input.now (length out.old)))).reply }
+        ensures buffer { (op : Operation CipherWork) → IsCipherOperation self.old op →
+            out.new ≡ buffer_after out.old (on_active op (λ w. cipher_step [] w (CipherUpdate input.now (length out.old)))).reply }
     {
         self.state.phase.check_active()?;
         let result = self.state.work.update(input, out);
@@ -171,12 +171,12 @@ impl CipherState {
     /// then has zeros in the last block's place.
     pub fn cipher_finish(&mut self, out: &mut [u8]) -> Result<usize, Status>
         ensures within { IfOk result (λ n. n ≤ length out.old) }
-        ensures state { (random : List ℕ) (op : Operation CipherWork) → IsCipherOperation self.old op →
-            IsCipherOperation self.new (on_active op (λ w. cipher_step random w (CipherFinish (length out.old)))).operation }
-        ensures reply { (random : List ℕ) (op : Operation CipherWork) → IsCipherOperation self.old op →
-            AnswersOrSpoils result (on_active op (λ w. cipher_step random w (CipherFinish (length out.old)))).reply }
-        ensures buffer { (random : List ℕ) (op : Operation CipherWork) → IsCipherOperation self.old op →
-            out.new ≡ buffer_after out.old (on_active op (λ w. cipher_step random w (CipherFinish (length out.old)))).reply }
+        ensures state { (op : Operation CipherWork) → IsCipherOperation self.old op →
+            IsCipherOperation self.new (on_active op (λ w. cipher_step [] w (CipherFinish (length out.old)))).operation }
+        ensures reply { (op : Operation CipherWork) → IsCipherOperation self.old op →
+            AnswersOrSpoils result (on_active op (λ w. cipher_step [] w (CipherFinish (length out.old)))).reply }
+        ensures buffer { (op : Operation CipherWork) → IsCipherOperation self.old op →
+            out.new ≡ buffer_after out.old (on_active op (λ w. cipher_step [] w (CipherFinish (length out.old)))).reply }
     {
         self.state.phase.check_active()?;
         let result = self.state.work.finish(out);
