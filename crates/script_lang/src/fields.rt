@@ -290,7 +290,9 @@ fn field_at(
 pub(crate) fn fields_of(alloc: Global, row: Row, words: &mut Words) -> Result<Fields, LineError>
     ensures { Gives (λ fields. fields) result (read_fields (shape row) [] words.old) }
 {
-    let mut done = Vec::new(alloc);
+    let Ok(mut done) = Vec::with_capacity(alloc, row.required.len()) else {
+        return Err(LineError::Memory);
+    };
     while let Some(word) = words.next() {
         let field = field_at(alloc, row, &done, word)?;
         done.push(field)?;

@@ -1,5 +1,5 @@
 // The replies of a session, as text.
-ghost use Rattle.std.specs.Prelude.{◌≡◌, ◌<◌, ◌-◌, ◌+◌, ◌^◌, ◌++◌, ◌∷◌, [], List, OnOk, codes, cond, length};
+ghost use Rattle.std.specs.Prelude.{◌≡◌, ◌<◌, ◌-◌, ◌+◌, ◌^◌, ◌++◌, ◌∷◌, [], List, OnErr, OnOk, codes, cond, length};
 ghost use Rattle.std.specs.Fmt.{decimal};
 ghost use Rattle.hex.specs.Hex.{encode_lower};
 ghost use Rattle.psa_status.specs.Status.{status_name};
@@ -11,6 +11,9 @@ use std::alloc::{AllocError, Global};
 
 /// So many bytes at a time are written in hex.
 const HEX_PIECE: usize = 64;
+
+/// The room in bytes that a session's first reply takes, so that its text seldom moves.
+const FIRST_ROOM: usize = 98304;
 
 /// How reply lines are written: with their ranks, or without.
 #[derive(Clone, Copy, Debug, PartialEq, Eq, Drop)]
@@ -60,6 +63,17 @@ fn push_number(out: &mut Vec<u8>, number: u64) -> Result<(), AllocError>
     ensures { OnOk result (out.new.items ≡ out.old.items ++ decimal number) }
 {
     out.extend_from_slice(Buffer::new().format(number).as_bytes())
+}
+
+// Takes room for the first reply and many more.
+fn make_room(text: &mut Vec<u8>) -> Result<(), AllocError>
+    ensures { text.new.items ≡ text.old.items }
+{
+    if text.is_empty() {
+        text.reserve(FIRST_ROOM)
+    } else {
+        Ok(())
+    }
 }
 
 // Appends where a reply stands in its session.
@@ -122,6 +136,7 @@ impl Replies {
         ensures text { OnOk result (self.new.text.items ≡ self.old.text.items ++ text_in self.old.form (next_line self.old rank status bytes.now)) }
         ensures same { (self.new.session ≡ self.old.session) × (self.new.form ≡ self.old.form) × (self.new.count ≡ self.old.count) × (self.new.successes ≡ self.old.successes) }
     {
+        make_room(&mut self.text)?;
         push_place(&mut self.text, self.session, self.count + 1)?;
         match self.form {
             ReplyForm::Ranked => {
@@ -132,10 +147,11 @@ impl Replies {
         }
     }
 
-    /// Appends the line of the next reply. Without memory only a part of it is appended.
+    /// Appends the line of the next reply. Without memory only a part of it is appended, and it isn't counted.
     pub fn push(&mut self, rank: u64, status: Status, bytes: &[u8]) -> Result<(), Memory>
         requires few { (lines : List ReplyLine) × AreKept self.old lines × (length lines < 2 ^ 32 - 1) }
         ensures kept { OnOk result ((lines : List ReplyLine) → AreKept self.old lines → AreKept self.new (lines ++ next_line self.old rank status bytes.now ∷ [])) }
+        ensures uncounted { OnErr result ((self.new.count ≡ self.old.count) × (self.new.successes ≡ self.old.successes)) }
         ensures session { self.new.session ≡ self.old.session }
         ensures form { self.new.form ≡ self.old.form }
     {

@@ -22,4 +22,4 @@ loop-word-preserved c =
     ∙ c.loop-word.invariant
 
 pub returns : goal.returns
-returns c = sym c.loop-word.invariant ∙ fields_end (shape c.args.row) c.loop-word.done.items c.loop-word.words c.in_default.ensures.0 ∙ ap Ok (sym c.of.ensures)
+returns c = sym c.loop-word.invariant ∙ fields_end (shape c.args.row) c.loop-word.done.items c.loop-word.words c.in_default-next.ensures.0 ∙ ap Ok (sym c.of.ensures)

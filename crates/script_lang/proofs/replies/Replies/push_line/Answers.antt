@@ -23,7 +23,7 @@ unfolding reply_text
 returns-in_ok-push_rank-in-Ranked-clause-text c =
     let old = c.args.self.now in let line = next_line old c.args.rank c.args.status c.args.bytes.now in
     let place = decimal line.session ++ codes "." ++ decimal line.number in let rank = codes " @" ++ decimal line.rank in
-    let before : c.push_rank.new.out.items ≡ (old.text.items ++ place) ++ rank = c.in_ok-push_rank-in-Ranked.ensures ∙ ap (λ t. t ++ rank) c.in_ok-push_place.ensures in
+    let before : c.push_rank.new.out.items ≡ (old.text.items ++ place) ++ rank = c.in_ok-push_rank-in-Ranked.ensures ∙ ap (λ t. t ++ rank) (c.in_ok-push_place.ensures ∙ ap (λ t. t ++ place) c.make_room.ensures) in
     appended c.push_answer.result c.push_answer.new.out.items c.push_rank.new.out.items _ _ c.push_answer.ensures
     (ap (λ t. t ++ (codes " " ++ status_name line.status ++ bytes_text line.bytes ++ codes "\n")) before
     ∙ (ranked old.text.items (decimal line.session) (codes ".") (decimal line.number) (codes " @") (decimal line.rank) (codes " ") (status_name line.status) (bytes_text line.bytes) (codes "\n")
@@ -33,7 +33,8 @@ pub returns-in-Unranked-clause-text : goal.returns-in-Unranked-clause-text
 unfolding unranked_text
 returns-in-Unranked-clause-text c =
     let old = c.args.self.now in let line = next_line old c.args.rank c.args.status c.args.bytes.now in
+    let place = decimal line.session ++ codes "." ++ decimal line.number in
     appended c.push_answer-in-Unranked.result c.push_answer-in-Unranked.new.out.items c.push_place.new.out.items _ _ c.push_answer-in-Unranked.ensures
-    (ap (λ t. t ++ (codes " " ++ status_name line.status ++ bytes_text line.bytes ++ codes "\n")) c.in_ok-push_place.ensures
+    (ap (λ t. t ++ (codes " " ++ status_name line.status ++ bytes_text line.bytes ++ codes "\n")) (c.in_ok-push_place.ensures ∙ ap (λ t. t ++ place) c.make_room.ensures)
     ∙ (unranked old.text.items (decimal line.session) (codes ".") (decimal line.number) (codes " ") (status_name line.status) (bytes_text line.bytes) (codes "\n")
     ∙ ap (λ f. old.text.items ++ text_in f line) (sym c.in-Unranked.is)))
