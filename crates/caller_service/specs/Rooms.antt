@@ -1,5 +1,5 @@
 -- What a caller needs of memory.
-use Rattle.std.specs.Prelude.{◌≡◌, ◌≤◌, All, length, vec_capacity}
+use Rattle.std.specs.Prelude.{◌≡◌, All, length}
 use Rattle.secret_bytes.specs.Buffer.{IsClear}
 use Rattle.callers.specs.Handles.{AreIdle}
 use Rattle.caller_service.specs.declared.rooms.Room.{Room}

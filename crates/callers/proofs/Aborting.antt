@@ -50,7 +50,7 @@ module _ {D A C : Type 0} (w : World D A C) (n : ℕ) (old settled new : Caller 
           let f = few_turns w n old settled new r request Plain rank before e 1 (one_turn i) (same_out i) handle Inactive lease change lease in omega arith
 
   pub aborted_answered : (buffer : List ℕ) → IsAnswered w old.pass.me.0 new.pass.me.0 request rank (Ok Done) buffer buffer
-  aborted_answered buffer = handled_answered w n old settled new r request Plain rank before e 1 (one_turn i) (same_out i) handle Inactive lease change back (ends done) refl first last aborts (Ok Done) buffer buffer refl refl
+  aborted_answered buffer = handled_answered w n old settled new r request Plain rank before e 1 (one_turn i) (same_out i) handle Inactive lease change back (ends done) refl first last aborts (Ok Done) buffer buffer (λ start is. refl) refl refl
 
 by_finding : (b : Bool) (P : Type 0) → (b ≡ true → P) → (b ≡ false → P) → P
 by_finding true P found other = found refl

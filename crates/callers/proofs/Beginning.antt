@@ -33,12 +33,14 @@ use Rattle.operation_cells.specs.Setups.{refusal_without_key, set_up_by, set_up_
 use Rattle.operation_cells.specs.declared.cell.Cell.{Cell}
 use Rattle.operation_cells.proofs.Served.{setups}
 use Rattle.shared_store.specs.Turning.{DecidesAfter, IsAt, IsEntered, ReadsKey, lease_pair}
-use Rattle.callers.specs.Called.{IsAnswered, IsCalled, KnowsBefore, Legal}
+use Rattle.callers.specs.Called.{IsAnswered, IsCalled, KnowsBefore, Legal, TellsFailure}
+use Rattle.callers.specs.Failures.{failure_marked}
 use Rattle.callers.specs.Handles.{AreOperations, ArePairs, HoldsLease, IsChanged, busy, leases_of, operation_at, with_operation_at}
 use Rattle.callers.specs.Ready.{IsOwnPart, IsReady}
 use Rattle.callers.specs.Worlds.{World}
 use Rattle.callers.specs.declared.caller.Caller.{Caller}
 use Rattle.callers.proofs.CellLists.{busy_put, cell_at, few, once, tally-cons}
+use Rattle.callers.proofs.Failing.{answers_plain, set_up_plainly}
 use Rattle.callers.proofs.Journeys.{called}
 use Rattle.callers.proofs.Owned.{applied_own}
 use Rattle.callers.proofs.Readying.{known, outcome_is, own_there, ready}
@@ -109,14 +111,15 @@ module _ {D A C : Type 0} (w : World D A C) (old new : Caller D A C) (r : IsRead
             spent = omega arith;
           })
 
-      pub begun_answered : (result : Result Output Status) (buffer : List ℕ) → AnswersReply result after.reply → buffer ≡ buffer_after buffer after.reply →
+      pub begun_answered : (result : Result Output Status) (buffer : List ℕ) → TellsFailure w result mark → AnswersReply result after.reply → buffer ≡ buffer_after buffer after.reply →
           IsAnswered w old.pass.me.0 new.pass.me.0 request rank result buffer buffer
-      begun_answered result buffer answers unwritten = record {
+      begun_answered result buffer failure answers unwritten = record {
         turns = 1;
         mark = mark;
         before = before;
         entry = e;
         called = made;
+        failure = failure;
         replied = λ start is tells told.
             let same : after.reply ≡ (outcome_of (replay start before) e).reply = sym (ap (λ (s : Served). s.reply) (applies start is tells)) in
             (subst (AnswersReply result) same answers, unwritten ∙ ap (buffer_after buffer) same);
@@ -156,7 +159,9 @@ module _ {D A C : Type 0} (w : World D A C) (old new : Caller D A C) (r : IsRead
       }) (let f = few (is_ok result) in omega arith)
 
       pub bare_answered : (result : Result Output Status) (buffer : List ℕ) → AnswersReply result bare.reply → buffer ≡ buffer_after buffer bare.reply → IsAnswered w old.pass.me.0 new.pass.me.0 request rank result buffer buffer
-      bare_answered = begun_answered bare bare_applies
+      bare_answered result buffer answers =
+          begun_answered bare bare_applies result buffer
+          (λ start is. answers_plain result bare.reply answers (set_up_plainly (operation_at r.operations handle) s _) ∙ ap failure_marked (sym plain)) answers
 
     -- a setup that leaves the operation
     module _ (o : HandleOperation) (there : operation_at r.operations handle ≡ o) (why : Status) (applies : KnowsBefore w (λ service. outcome_of service e ≡ applied service old.number handle (stays o why)) before e) where
@@ -179,8 +184,8 @@ module _ {D A C : Type 0} (w : World D A C) (old new : Caller D A C) (r : IsRead
         spent = let z = spent in omega arith;
       }) (omega arith)
 
-      pub stayed_answered : (buffer : List ℕ) → IsAnswered w old.pass.me.0 new.pass.me.0 request rank (Err why) buffer buffer
-      stayed_answered buffer = begun_answered (stays o why) applies (Err why) buffer (refl, refl) refl
+      pub stayed_answered : (buffer : List ℕ) → TellsFailure w (Err why) mark → IsAnswered w old.pass.me.0 new.pass.me.0 request rank (Err why) buffer buffer
+      stayed_answered buffer failure = begun_answered (stays o why) applies (Err why) buffer failure (refl, refl) refl
 
     -- a setup with its key
     module _ (s : Setup) (key : KeyId) (wanted : KeyUse) (asks : request ≡ OnHandle handle (model_setup s)) (uses : setup_use s ≡ Some (key, wanted)) (free : operation_at r.operations handle ≡ Inactive) where
@@ -226,7 +231,7 @@ module _ {D A C : Type 0} (w : World D A C) (old new : Caller D A C) (r : IsRead
         }) (omega arith)
 
         pub lent_answered : (buffer : List ℕ) → IsAnswered w old.pass.me.0 new.pass.me.0 request rank (Ok output.Done) buffer buffer
-        lent_answered buffer = begun_answered begun lends (Ok output.Done) buffer refl refl
+        lent_answered buffer = begun_answered begun lends (Ok output.Done) buffer (λ start is. ap failure_marked (sym plain)) refl refl
 
 -- the call reads its key, in whatever history it is entered
 pub reads_key : {D A C : Type 0} (w : World D A C) (old : Caller D A C) (r : IsReady w 4 old) (request : Request) (handle : ℕ) (s : Setup) (key : KeyId) (wanted : KeyUse) → 1 ≤ handle → handle ≤ 4 → request ≡ OnHandle handle (model_setup s) →

@@ -44,6 +44,7 @@ use Rattle.callers.specs.Worlds.{World}
 use Rattle.callers.specs.declared.caller.Caller.{Caller}
 use Rattle.callers.proofs.ByElement.{element_fits, element_own}
 use Rattle.callers.proofs.CellLists.{tally-cons, without}
+use Rattle.callers.proofs.Failing.{AnswersAs, answers_plain, computed_plainly, element_tells, refused_tells, use_plainly}
 use Rattle.callers.proofs.Journeys.{called, called_then}
 use Rattle.callers.proofs.Owned.{stored_own}
 use Rattle.callers.proofs.Readying.{known}
@@ -110,6 +111,7 @@ module _ {D A C : Type 0} (w : World D A C) (old : Caller D A C) (r : IsReady w 
     pub lent_answered : (result : Result Output Status) (shown given : List ℕ) → IsReplied result shown given lent.reply → IsAnswered w old.pass.me.0 new.pass.me.0 request rank result shown given
     lent_answered result shown given fits =
         kept_answered w old new r 2 request (model_store_call asked room) asks Plain rank before e made result shown given
+        (λ start is. answers_plain result lent.reply fits.0 (computed_plainly asked (bytes_of lease.buffer) (next_bytes old.stream) room))
         (λ start is tells told. subst (IsReplied result shown given) (sym (ap (λ (o : Outcome). o.reply) (steps start is tells))) fits)
 
   -- NO KEY IS LENT
@@ -142,6 +144,7 @@ module _ {D A C : Type 0} (w : World D A C) (old : Caller D A C) (r : IsReady w 
     pub refused_answered : (shown given : List ℕ) → given ≡ shown → IsAnswered w old.pass.me.0 new.pass.me.0 request rank (Err why) shown given
     refused_answered shown given left =
         kept_answered w old new r 1 request (model_store_call asked room) asks (mark_of why) rank before e turned (Err why) shown given
+        (λ start is. let d = decided start is in refused_tells (use_refusal wanted) (use_plainly wanted) id why d.0 d.2)
         (λ start is tells told. let gives = (refuses start is tells).gives in (gives.answers, left ∙ gives.unwritten shown))
 
 -- THE SECURE ELEMENT HAS THE KEY, and has computed, or refused or failed to
@@ -173,9 +176,10 @@ module _ {D A C : Type 0} (w : World D A C) (old new : Caller D A C) (r : IsRead
       element_own service old.number id asked element (w.keys w.opened.devices.value) shown given result model (after start is tells) draws r.operations old.stream.place new.stream.place k.sound r.last k.own (ap (λ (s : RandomStream). s.place) stream))
 
   pub computed_answered : HasDrawn element (next_bytes old.stream 16) → DecidesBefore w.told w.moment w.faults w.hard w.locations w.labels w.opened (λ m. is_opaque_key (map.get m.keys id) ≡ true) before e → (answer : Result Output Status) →
-      ((reply : Reply) → AnswersCall element result reply → AnswersReply answer reply) → IsAnswered w old.pass.me.0 new.pass.me.0 request rank answer shown given
-  computed_answered vector opaque answer answers =
-      kept_answered w old new r 1 request (model_store_call asked (length shown)) asks (mark_computed result) rank before e asked_of answer shown given (λ start is tells told.
+      ((reply : Reply) → AnswersCall element result reply → AnswersReply answer reply) → AnswersAs result answer → IsAnswered w old.pass.me.0 new.pass.me.0 request rank answer shown given
+  computed_answered vector opaque answer answers agrees =
+      kept_answered w old new r 1 request (model_store_call asked (length shown)) asks (mark_computed result) rank before e asked_of answer shown given
+      (λ start is. let d = decided start is in element_tells element (length shown) (map.get d.0.keys id) result answer d.2.decided agrees) (λ start is tells told.
       let service = replay start before in
       let k = known w 4 old new r 1 request (mark_computed result) rank before e asked_of start is tells in
       element_fits service old.number id asked element (w.keys w.opened.devices.value) shown given result model (after start is tells) (subst (HasDrawn element) (sym (k.random 16)) vector)

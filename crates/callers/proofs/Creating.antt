@@ -20,7 +20,7 @@ use Rattle.store_model.specs.Replay.{Entry, replay}
 use Rattle.shared_store.specs.Turning.{CreatesKey, HasNoFilling, IsAt, IsLater, IsRanked, filling_pair, without_pair}
 use Rattle.store_core.specs.declared.store.Opened.{Opened}
 use Rattle.operation_cells.specs.declared.cell.Cell.{Cell}
-use Rattle.callers.specs.Called.{IsAnswered, KnowsBefore, Legal}
+use Rattle.callers.specs.Called.{IsAnswered, KnowsBefore, Legal, TellsFailure}
 use Rattle.callers.specs.Handles.{leases_of, pairs_of}
 use Rattle.callers.specs.Parts.{IsCreated, SameButPass}
 use Rattle.callers.specs.Ready.{IsOwnPart, IsReady}
@@ -104,7 +104,7 @@ module _ {D A C : Type 0} (w : World D A C) (old new : Caller D A C) (r : IsRead
       subst (λ n. IsOwnPart r.operations n (own_of (serve service old.number (OnStore call) mark).service old.number)) (sym (ap (λ (s : RandomStream). s.place) same.stream))
       (undrawn_own service old.number call mark r.operations old.stream.place k.sound r.last k.own (none service.store old.number (next_random service old.number))))
 
-  pub created_answered : (result : Result Output Status) (buffer : List ℕ) → KnowsBefore w (λ service. Gives result (serve service old.number (OnStore call) mark).reply) c.before c.entry →
+  pub created_answered : (result : Result Output Status) (buffer : List ℕ) → TellsFailure w result mark → KnowsBefore w (λ service. Gives result (serve service old.number (OnStore call) mark).reply) c.before c.entry →
       IsAnswered w old.pass.me.0 new.pass.me.0 request rank result buffer buffer
-  created_answered result buffer gives =
-      kept_answered w old new r 2 request call asks mark rank c.before c.entry c.called result buffer buffer (λ start is tells told. let g = gives start is tells in (g.answers, g.unwritten buffer))
+  created_answered result buffer failure gives =
+      kept_answered w old new r 2 request call asks mark rank c.before c.entry c.called result buffer buffer failure (λ start is tells told. let g = gives start is tells in (g.answers, g.unwritten buffer))

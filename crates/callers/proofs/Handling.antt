@@ -21,7 +21,7 @@ use Rattle.store_model.specs.Handles.{Held, HandleOperation, Served, applied, ow
 use Rattle.store_model.specs.Requests.{Request}
 use Rattle.store_model.specs.Replay.{Entry, outcome_of, replay}
 use Rattle.shared_store.specs.Turning.{IsAt, IsEntered, lease_pair, without_pair}
-use Rattle.callers.specs.Called.{IsAnswered, IsCalled, KnowsBefore, Legal}
+use Rattle.callers.specs.Called.{IsAnswered, IsCalled, KnowsBefore, Legal, TellsFailure}
 use Rattle.callers.specs.Handles.{AreOperations, ArePairs, IsChanged, busy, leases_of, operation_at, pairs_of, with_operation_at}
 use Rattle.callers.specs.Parts.{IsBack}
 use Rattle.callers.specs.Ready.{IsOwnPart, IsReady}
@@ -160,14 +160,15 @@ module _ {D A C : Type 0} (w : World D A C) (n : ℕ) (old settled new : Caller 
             spent = let a = left.spent in omega arith;
           })
 
-      pub handled_answered : (result : Result Output Status) (shown given : List ℕ) → AnswersReply result after.reply → given ≡ buffer_after shown after.reply →
+      pub handled_answered : (result : Result Output Status) (shown given : List ℕ) → TellsFailure w result mark → AnswersReply result after.reply → given ≡ buffer_after shown after.reply →
           IsAnswered w old.pass.me.0 new.pass.me.0 request rank result shown given
-      handled_answered result shown given answers buffer = record {
+      handled_answered result shown given failure answers buffer = record {
         turns = turns;
         mark = mark;
         before = before;
         entry = e;
         called = made;
+        failure = failure;
         replied = λ start is tells told.
             let same : after.reply ≡ (outcome_of (replay start before) e).reply = sym (ap (λ (s : Served). s.reply) (applies start is tells)) in
             (subst (AnswersReply result) same answers, buffer ∙ ap (buffer_after shown) same);

@@ -28,12 +28,14 @@ use Rattle.operation_cells.specs.Steps.{on_part}
 use Rattle.operation_cells.proofs.ServedInputs.{inputs}
 use Rattle.shared_store.specs.Turning.{DecidesAfter, IsAt, IsEntered, ReadsKey, lease_pair}
 use Rattle.callers.specs.Called.{IsAnswered, IsCalled, KnowsBefore, Legal}
+use Rattle.callers.specs.Failures.{failure_marked}
 use Rattle.callers.specs.Handles.{HoldsLease, IsChanged, busy, leases_of, operation_at, with_operation_at}
 use Rattle.callers.specs.Ready.{IsReady}
 use Rattle.callers.specs.Worlds.{World}
 use Rattle.callers.specs.declared.caller.Caller.{Caller}
 use Rattle.callers.proofs.Beginning.{begun_answered, begun_ready}
 use Rattle.callers.proofs.CellLists.{busy_put, once, tally-cons}
+use Rattle.callers.proofs.Failing.{refused_tells, use_plainly}
 use Rattle.callers.proofs.Journeys.{called}
 use Rattle.callers.proofs.Readying.{known, outcome_is, own_there}
 use Rattle.callers.proofs.SettingUp.{undrawn_own}
@@ -124,7 +126,8 @@ module _ {D A C : Type 0} (w : World D A C) (old new : Caller D A C) (r : IsRead
         }) (let z = r.spent in omega arith) at legal
 
     pub given_answered : (buffer : List ℕ) → IsAnswered w old.pass.me.0 new.pass.me.0 request rank (Ok output.Done) buffer buffer
-    given_answered buffer = begun_answered w old new r request mark rank own before e i handle first last given_key gives_key (Ok output.Done) buffer refl refl
+    given_answered buffer =
+        begun_answered w old new r request mark rank own before e i handle first last given_key gives_key (Ok output.Done) buffer (λ start is. ap failure_marked (sym plain)) refl refl
 
   -- it isn't
   module _ (why : Status) (marked : mark ≡ mark_of why) (decided : DecidesAfter w.told w.moment w.faults w.hard w.locations w.labels w.opened (IsRefused (use_refusal wanted) id why) before e) where
@@ -152,7 +155,9 @@ module _ {D A C : Type 0} (w : World D A C) (old new : Caller D A C) (r : IsRead
         }) (let z = r.spent in omega arith) at legal
 
     pub failed_answered : (buffer : List ℕ) → IsAnswered w old.pass.me.0 new.pass.me.0 request rank (Err why) buffer buffer
-    failed_answered buffer = begun_answered w old new r request mark rank own before e i handle first last (fails why) refuses_key (Err why) buffer (refl, refl) refl
+    failed_answered buffer =
+        begun_answered w old new r request mark rank own before e i handle first last (fails why) refuses_key (Err why) buffer
+        (λ start is. let d = decided start is in refused_tells (use_refusal wanted) (use_plainly wanted) id why d.0 d.2 ∙ ap failure_marked (sym marked)) (refl, refl) refl
 
 -- the call reads its key, in whatever history it is entered
 pub reads_secret : {D A C : Type 0} (w : World D A C) (old : Caller D A C) (r : IsReady w 4 old) (request : Request) (handle step id : ℕ) (wanted : KeyUse) → 1 ≤ handle → handle ≤ 4 → request ≡ OnHandle handle (InputKey step id) →

@@ -2,6 +2,7 @@ pub mod Journeys
 pub mod CellLists
 pub mod Owned
 pub mod Readying
+pub mod Failing
 pub mod Asking
 pub mod Storing
 pub mod Changing

@@ -38,7 +38,7 @@ use Rattle.derivation_states.specs.KeySteps as alone
 use Rattle.psa_status.specs.Rows.{first_row}
 use Rattle.operation_cells.specs.declared.cell.Cell.{Cell}
 use Rattle.shared_store.specs.Turning.{CreatesKey, IsAt, IsOwn, LeavesAllKeys}
-use Rattle.callers.specs.Called.{IsReplied, IsAnswered, IsCalled, KnowsBefore, Legal}
+use Rattle.callers.specs.Called.{IsReplied, IsAnswered, IsCalled, KnowsBefore, Legal, TellsFailure}
 use Rattle.callers.specs.Handles.{AreOperations, IsChanged, leases_of, operation_at, with_operation_at}
 use Rattle.callers.specs.Parts.{IsBack, IsCreated}
 use Rattle.callers.specs.Ready.{IsOwnPart, IsReady}
@@ -154,6 +154,7 @@ module _ {D A C : Type 0} (w : World D A C) (old : Caller D A C) (r : IsReady w 
         before = c.before;
         entry = c.entry;
         called = c.called;
+        failure = λ start is. refl;
         replied = λ start is tells told.
             let service = replay start c.before in
             let k = known w 4 old new r 2 request Plain rank c.before c.entry c.called start is tells in let mine = k.own.each handle first last in
@@ -185,11 +186,11 @@ module _ {D A C : Type 0} (w : World D A C) (old : Caller D A C) (r : IsReady w 
           let d = few_turns w 4 old settled new r request (mark_unmade why) rank c.before c.entry 2 c.called c.holding handle InError back_lease change back_lease in let s = spent in omega arith)
           (let x = r.words in let s = spent in let p = ap (λ (s : RandomStream). s.place) stream in omega arith) (let x = r.spent in let s = spent in omega arith)
 
-      pub unmade_answered : (buffer : List ℕ) → IsAnswered w old.pass.me.0 new.pass.me.0 request rank (Err (status_unmade why)) buffer buffer
-      unmade_answered buffer =
+      pub unmade_answered : (buffer : List ℕ) → TellsFailure w (Err (status_unmade why)) (mark_unmade why) → IsAnswered w old.pass.me.0 new.pass.me.0 request rank (Err (status_unmade why)) buffer buffer
+      unmade_answered buffer failure =
           handled_answered w 4 old settled new r request (mark_unmade why) rank c.before c.entry 2 c.called c.holding handle InError back_lease change back (fails (status_unmade why)) refl first last
           (fails_there _ (turned_back w 4 old settled new r request (mark_unmade why) rank c.before c.entry 2 c.called c.holding handle InError back_lease change back))
-          (Err (status_unmade why)) buffer buffer (refl, refl) refl
+          (Err (status_unmade why)) buffer buffer failure (refl, refl) refl
 
 -- A KEY THAT THE DERIVATION REFUSES
 

@@ -19,7 +19,7 @@ use Rattle.service_calls.specs.declared.output.Output.{Output}
 use Rattle.shared_store.specs.Turning.{DecidesAfter, DecidesBefore, IsAt, IsEntered}
 use Rattle.random_streams.specs.RandomWords.{RandomStream, drawn_from, words_used}
 use Rattle.keyed_calls.proofs.Draws.{draws_none}
-use Rattle.callers.specs.Called.{IsReplied, IsAnswered, IsCalled, KnowsBefore, Legal, TellsReply}
+use Rattle.callers.specs.Called.{IsReplied, IsAnswered, IsCalled, KnowsBefore, Legal, TellsFailure, TellsReply}
 use Rattle.callers.specs.Parts.{SameButPass}
 use Rattle.callers.specs.Handles.{AreOperations, ArePairs, leases_of}
 use Rattle.callers.specs.Ready.{IsOwnPart, IsReady}
@@ -75,14 +75,15 @@ module _ {D A C : Type 0} (w : World D A C) (old new : Caller D A C) (r : IsRead
         spent = let t = r.spent in omega arith;
       })
 
-  pub kept_answered : (result : Result Output Status) (shown given : List ℕ) →
+  pub kept_answered : (result : Result Output Status) (shown given : List ℕ) → TellsFailure w result mark →
       KnowsBefore w (λ service. TellsReply w service old.number (OnStore call) → IsReplied result shown given (serve service old.number (OnStore call) mark).reply) before e → IsAnswered w old.pass.me.0 new.pass.me.0 request rank result shown given
-  kept_answered result shown given replied = record {
+  kept_answered result shown given failure replied = record {
     turns = turns;
     mark = mark;
     before = before;
     entry = e;
     called = c;
+    failure = failure;
     replied = λ start is tells told.
         subst (λ (s : Served). IsReplied result shown given s.reply) (sym (outcome (replay start before)))
         (replied start is tells (subst (λ n. TellsReply w (replay start before) n (OnStore call)) r.number (subst (TellsReply w (replay start before) old.pass.me.0.number) asks told)));
@@ -110,9 +111,9 @@ module _ {D A C : Type 0} (w : World D A C) (old new : Caller D A C) (r : IsRead
       subst (λ n. IsOwnPart r.operations n (own_of (serve service old.number (OnStore call) mark).service old.number)) (sym (ap (λ (s : RandomStream). s.place) same.stream))
       (undrawn_own service old.number call mark r.operations old.stream.place k.sound r.last k.own (none service.store old.number (next_random service old.number))))
 
-  pub stored_answered : (result : Result Output Status) (shown given : List ℕ) → KnowsBefore w (λ service. IsReplied result shown given (serve service old.number (OnStore call) mark).reply) before e →
-      IsAnswered w old.pass.me.0 new.pass.me.0 request rank result shown given
-  stored_answered result shown given replied = kept_answered w old new r 1 request call asks mark rank before e made result shown given (λ start is tells told. replied start is tells)
+  pub stored_answered : (result : Result Output Status) (shown given : List ℕ) → TellsFailure w result mark →
+      KnowsBefore w (λ service. IsReplied result shown given (serve service old.number (OnStore call) mark).reply) before e → IsAnswered w old.pass.me.0 new.pass.me.0 request rank result shown given
+  stored_answered result shown given failure replied = kept_answered w old new r 1 request call asks mark rank before e made result shown given failure (λ start is tells told. replied start is tells)
 
 -- what was decided of the store before the entry is known of the service's
 pub decided_known : {D A C : Type 0} (w : World D A C) (P : model.Store → Type 0) (before : List Entry) (e : Entry) → DecidesBefore w.told w.moment w.faults w.hard w.locations w.labels w.opened P before e → KnowsBefore w (λ service. P service.store) before e

@@ -13,6 +13,7 @@ use Rattle.store_model.specs.Requests.{Request}
 use Rattle.store_model.specs.Replay.{Entry, outcome_of, replay}
 use Rattle.store_core.specs.declared.store.Opened.{Opened}
 use Rattle.shared_store.specs.Turning.{GoesOn, IsLegal, IsStartOf, ToldBy}
+use Rattle.callers.specs.Failures.{failure_in, failure_marked}
 use Rattle.callers.specs.Worlds.{World}
 
 -- From one view of a caller to a later one so many turns were spent, and in one of them this entry was added, after the history
@@ -52,12 +53,18 @@ module _ {D A C : Type 0} (w : World D A C) where
   abbrev pub TellsReply : Service → (caller : ℕ) → Request → Type 0
   TellsReply service caller call = (is_some (w.keys w.opened.devices.value) ≡ true) ⊎ (asks_device service caller call ≡ false)
 
+  -- the result tells of a device that failed exactly where the mark does, from whatever start
+  abbrev pub TellsFailure : Result Output Status → FaultMark → Type 0
+  TellsFailure result mark = (start : Service) → Starts start → failure_in result ≡ failure_marked mark
+
   -- The call has its entry at the place r of what the caller has then seen. Result and output buffer are those that the one-thread
-  -- service gives there, as far as the history and what the secure element computes are told.
+  -- service gives there, as far as the history and what the secure element computes are told. Whether or not they are, the result
+  -- tells of a device that failed exactly where the entry's mark does.
   pub record IsAnswered (v u : View Entry (Opened D A C)) (call : Request) (r : ℕ) (result : Result Output Status) (old new : List ℕ) : Type 0 where
     pub turns : ℕ
     pub mark : FaultMark
     pub before : List Entry
     pub entry : Entry
     pub called : IsCalled v u turns call mark r before entry
+    pub failure : TellsFailure result mark
     pub replied : KnowsBefore (λ service. TellsReply service v.number call → IsReplied result old new (outcome_of service entry).reply) before entry

@@ -1,4 +1,5 @@
 pub mod Worlds
+pub mod Failures
 pub mod Called
 pub mod Handles
 pub mod Ready

@@ -1,10 +1,11 @@
 // Calls in one part that the secure element computes.
-ghost use Rattle.std.specs.Prelude.{◌≡◌, ℕ, IfSome, is_some};
+ghost use Rattle.std.specs.Prelude.{◌≡◌, ℕ, true, IfSome, MatchResult, is_some};
+ghost use Rattle.std.specs.Result.{is_ok};
 ghost use Rattle.store_model.specs.Call.{Reply};
 ghost use Rattle.key_uses.specs.declared.key_use.KeyUse.{KeyUse};
 ghost use Rattle.service_calls.specs.Answered.{AnswersReply};
 ghost use Rattle.service_calls.specs.Meanings.{model_store_call};
-ghost use Rattle.element_calls.specs.Answers.{AnswersCall};
+ghost use Rattle.element_calls.specs.Answers.{AnswersCall, status_of};
 ghost use Rattle.element_calls.specs.Calls.{model_call};
 ghost use Rattle.element_calls.specs.Replies.{HasDrawn};
 ghost use Rattle.keyed_calls.specs.Elements.{IsElementCall, has_vector, is_of_element, takes_vector};
@@ -76,7 +77,8 @@ pub fn computed_output(
     call: &StoreCall<'_>,
     computed: Result<usize, NotComputed>,
 ) -> Result<Output, Status>
-    ensures { (element : ElementCall) (reply : Reply) → IsElementCall call.now element → AnswersCall element computed reply → AnswersReply result reply }
+    ensures reply { (element : ElementCall) (reply : Reply) → IsElementCall call.now element → AnswersCall element computed reply → AnswersReply result reply }
+    ensures failure { MatchResult computed (λ length. is_ok result ≡ true) (λ why. result ≡ Err (status_of why)) }
 {
     match computed {
         Ok(length) => match *call {

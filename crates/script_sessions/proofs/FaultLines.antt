@@ -1,17 +1,16 @@
 -- Reply lines that say the status of a failed device: no more than there are marks.
 use Rattle.std.proofs.Common.{◌≡◌, ◌≤◌, ℕ, zero, suc, ◌+◌, Bool, true, false, List, [], ◌∷◌, refl, sym, ap, ap₂, ◌∙◌, arith, cond, eqb, leb, inl, inr}
-use Rattle.std.specs.Prelude.{sum_by}
+use Rattle.std.specs.Prelude.{Option, Some, None, count_by, map, sum_by}
 use Rattle.std.proofs.lemmas.Bool.Decides.{eqb_tells, leb_tells}
 use Rattle.std.proofs.lemmas.List.Sums.{sum_by-append, sum_by-cons}
 use Rattle.psa_status.specs.declared.Status.{Status}
 use Rattle.psa_status.specs.declared.Status.TheVariants.{StorageFailure, HardwareFailure, DataCorrupt}
+use Rattle.callers.specs.Failures.{failure_marked, failure_told}
 use Rattle.store_model.specs.Faults.{FaultMark, Plain, Storage, Hardware, Corrupt, StorageAccess, is_of_fault}
-use Rattle.store_model.specs.Handles.{Service}
-use Rattle.store_model.specs.Replay.{Entry, outcome_of}
-use Rattle.store_model.specs.Requests.{Request, plain_step, serve}
-use Rattle.store_model.proofs.Unmarked.{answers_plainly}
-use Rattle.script_lang.specs.PrintedOrder.{Turn, numbered, printed, replies_to, turns_from, turns_of}
+use Rattle.store_model.specs.Replay.{Entry}
+use Rattle.script_lang.specs.Replies.{ReplyLine}
 use Rattle.script_sessions.specs.Bounds.{LinesAreBounded, is_corrupt, is_data_corrupt, is_hardware, is_hardware_failure, is_storage, is_storage_failure, marked, saying}
+use Rattle.script_sessions.specs.Heads.{failure_of, failures_of, failures_to}
 
 -- statuses are told apart as the marks are that they come of
 record Agrees (says : Status → Bool) (marks : FaultMark → Bool) : Type 0 where
@@ -68,74 +67,77 @@ at_most : (b : Bool) (amount : ℕ) → cond b amount 0 ≤ amount
 at_most true amount = omega arith
 at_most false amount = omega arith
 
-module _ (says : Status → Bool) where
-  one : Turn → ℕ
-  one t = cond (says t.reply.status) 1 0
+module _ (says : Status → Bool) (marks : FaultMark → Bool) (agrees : Agrees says marks) where
+  -- a failure that is said
+  abbrev is_said : Option Status → Bool
+  is_said None = false
+  is_said (Some status) = says status
 
-  -- how many turns are answered so
-  abbrev answered : List Turn → ℕ
-  answered ts = sum_by one ts
+  in_line : (status : Status) → says status ≡ is_said (failure_told status)
+  in_line StorageFailure = refl
+  in_line HardwareFailure = refl
+  in_line DataCorrupt = refl
+  in_line status = agrees.others status refl
 
-  -- and how many of the sessions to n
-  abbrev upto : ℕ → List Turn → ℕ
-  upto n ts = sum_by (λ t. cond (leb t.entry.caller n) (one t) 0) ts
+  in_mark : (mark : FaultMark) → is_said (failure_marked mark) ≡ marks mark
+  in_mark Plain = sym agrees.plain
+  in_mark (Storage access) = agrees.storage access
+  in_mark Hardware = agrees.hardware
+  in_mark Corrupt = agrees.corrupt
 
-  numbered_say : (n : ℕ) (ts : List Turn) → saying says (numbered n ts) ≡ answered ts
+  abbrev once : Bool → ℕ
+  once b = cond b 1 0
+
+  -- as many lines say so as tell of it
+  lines_say : (replies : List ReplyLine) → saying says replies ≡ count_by is_said (map failure_of replies)
+  lines_say [] = refl
+  lines_say (r ∷ replies) =
+      sum_by-cons (λ (r : ReplyLine). once (says r.status)) r replies
+      ∙ (ap₂ (λ b n. once b + n) (in_line r.status) (lines_say replies)
+      ∙ sym (sum_by-cons (λ f. once (is_said f)) (failure_of r) (map failure_of replies)))
+
+  one : Entry → ℕ
+  one e = once (is_said (failure_marked e.mark))
+
+  -- how many entries of the sessions to n have such a mark
+  abbrev upto : ℕ → List Entry → ℕ
+  upto n h = sum_by (λ e. cond (leb e.caller n) (one e) 0) h
+
+  own_more : (b : Bool) (f : Option Status) (fs : List (Option Status)) → count_by is_said (cond b (f ∷ fs) fs) ≡ cond b (once (is_said f)) 0 + count_by is_said fs
+  own_more true f fs = sum_by-cons (λ f. once (is_said f)) f fs
+  own_more false f fs = omega arith
+
+  next : (n rank : ℕ) (h : List Entry) → upto (suc n) h ≡ upto n h + count_by is_said (failures_of (suc n) rank h)
   unfolding one
-  numbered_say n [] = refl
-  numbered_say n (t ∷ ts) =
-      sum_by-cons (λ r. cond (says r.status) 1 0) (printed n t) (numbered (n + 1) ts)
-      ∙ (ap (λ m. cond (says t.reply.status) 1 0 + m) (numbered_say (n + 1) ts)
-      ∙ sym (sum_by-cons one t ts))
+  next n rank [] = omega arith
+  next n rank (e ∷ h) =
+      let all = sum_by-cons (λ (e : Entry). cond (leb e.caller (suc n)) (one e) 0) e h in
+      let before = sum_by-cons (λ (e : Entry). cond (leb e.caller n) (one e) 0) e h in
+      let own = own_more (eqb e.caller (suc n)) (failure_marked e.mark) (failures_of (suc n) (rank + 1) h) in
+      let here = split e.caller n (one e) in
+      let later = next n (rank + 1) h in omega (arith, all, before, own, here, later)
 
-  own_more : (session : ℕ) (t : Turn) (ts : List Turn) (b : Bool) → answered (cond b (t ∷ turns_of session ts) (turns_of session ts)) ≡ cond b (one t) 0 + answered (turns_of session ts)
-  own_more session t ts true = sum_by-cons one t (turns_of session ts)
-  own_more session t ts false = omega arith
-
-  next : (n : ℕ) (ts : List Turn) → upto (suc n) ts ≡ upto n ts + answered (turns_of (suc n) ts)
-  next n [] = omega arith
-  next n (t ∷ ts) =
-      let all = sum_by-cons (λ (t : Turn). cond (leb t.entry.caller (suc n)) (one t) 0) t ts in
-      let before = sum_by-cons (λ (t : Turn). cond (leb t.entry.caller n) (one t) 0) t ts in
-      let own = own_more (suc n) t ts (eqb t.entry.caller (suc n)) in
-      let here = split t.entry.caller n (one t) in
-      let later = next n ts in omega (arith, all, before, own, here, later)
-
-  upto_all : (n : ℕ) (ts : List Turn) → upto n ts ≤ answered ts
+  upto_all : (n : ℕ) (h : List Entry) → upto n h ≤ marked marks h
+  unfolding one
   upto_all n [] = omega arith
-  upto_all n (t ∷ ts) =
-      let a = sum_by-cons (λ (t : Turn). cond (leb t.entry.caller n) (one t) 0) t ts in let b = sum_by-cons one t ts in
-      let here = at_most (leb t.entry.caller n) (one t) in let later = upto_all n ts in omega (arith, a, b, here, later)
+  upto_all n (e ∷ h) =
+      let a = sum_by-cons (λ (e : Entry). cond (leb e.caller n) (one e) 0) e h in let b = ap once (in_mark e.mark) in
+      let here = at_most (leb e.caller n) (one e) in let later = upto_all n h in omega (arith, a, b, here, later)
 
-  sessions_say : (n : ℕ) (ts : List Turn) → saying says (replies_to n ts) ≤ upto n ts
-  sessions_say zero ts = omega arith
-  sessions_say (suc n) ts =
-      let both = sum_by-append (λ r. cond (says r.status) 1 0) (replies_to n ts) (numbered 1 (turns_of (suc n) ts)) in
-      let own = numbered_say 1 (turns_of (suc n) ts) in let more = next n ts in let fewer = sessions_say n ts in omega (arith, both, own, more, fewer)
+  sessions_say : (n : ℕ) (h : List Entry) → count_by is_said (failures_to n h) ≤ upto n h
+  sessions_say zero h = omega arith
+  sessions_say (suc n) h =
+      let both = sum_by-append (λ f. once (is_said f)) (failures_to n h) (failures_of (suc n) 0 h) in
+      let more = next n 0 h in let fewer = sessions_say n h in omega (arith, both, more, fewer)
 
-  module _ (marks : FaultMark → Bool) (agrees : Agrees says marks) where
-    said : (service : Service) (caller : ℕ) (request : Request) (mark : FaultMark) → says (serve service caller request mark).reply.status ≡ marks mark
-    said service caller request Plain = agrees.others (plain_step service caller request).reply.status (answers_plainly service caller request) ∙ sym agrees.plain
-    said service caller request (Storage access) = agrees.storage access
-    said service caller request Hardware = agrees.hardware
-    said service caller request Corrupt = agrees.corrupt
-
-    marks_say : (n : ℕ) (service : Service) (h : List Entry) → answered (turns_from n service h) ≡ marked marks h
-    unfolding one
-    marks_say n service [] = refl
-    marks_say n service (e ∷ h) =
-        let after = outcome_of service e in
-        sum_by-cons one (record { entry = e; rank = n; reply = after.reply }) (turns_from (n + 1) after.service h)
-        ∙ ap₂ (λ b m. cond b 1 0 + m) (said service e.caller e.call e.mark) (marks_say (n + 1) after.service h)
-
-    -- of sessions 1 to n no more lines say so than there are such marks
-    few_lines : (start : Service) (h : List Entry) (n : ℕ) → saying says (replies_to n (turns_from 0 start h)) ≤ marked marks h
-    few_lines start h n =
-        let a = sessions_say n (turns_from 0 start h) in let b = upto_all n (turns_from 0 start h) in let c = marks_say 0 start h in omega (arith, a, b, c)
+  -- of sessions 1 to n no more lines say so than there are such marks
+  few_lines : (h : List Entry) (n : ℕ) (replies : List ReplyLine) → map failure_of replies ≡ failures_to n h → saying says replies ≤ marked marks h
+  few_lines h n replies tell =
+      let a = lines_say replies ∙ ap (count_by is_said) tell in let b = sessions_say n h in let c = upto_all n h in omega (arith, a, b, c)
 
 pub bounded_lines : LinesAreBounded
-bounded_lines tells before after start h n bounded = record {
-  storage = λ below. let a = bounded.storage below in let b = few_lines is_storage_failure is_storage storage_agrees start h n in omega (arith, a, b);
-  hardware = λ below. let a = bounded.hardware below in let b = few_lines is_hardware_failure is_hardware hardware_agrees start h n in omega (arith, a, b);
-  corrupt = λ is. let a = bounded.corrupt is in let b = few_lines is_data_corrupt is_corrupt corrupt_agrees start h n in omega (arith, a, b);
+bounded_lines tells before after h n replies bounded tell = record {
+  storage = λ below. let a = bounded.storage below in let b = few_lines is_storage_failure is_storage storage_agrees h n replies tell in omega (arith, a, b);
+  hardware = λ below. let a = bounded.hardware below in let b = few_lines is_hardware_failure is_hardware hardware_agrees h n replies tell in omega (arith, a, b);
+  corrupt = λ is. let a = bounded.corrupt is in let b = few_lines is_data_corrupt is_corrupt corrupt_agrees h n replies tell in omega (arith, a, b);
 }

@@ -13,13 +13,14 @@ use Rattle.service_calls.specs.declared.output.Output.TheVariants.{Done, Identif
 use Rattle.store_model.specs.Call.{Reply, attribute_bytes, buffer_bytes, output_bytes}
 use Rattle.script_lang.specs.PrintedOrder.{id_given}
 use Rattle.script_lang.specs.declared.replies.Replies.{Replies}
-use Rattle.script_sessions.specs.Replying.{Answer, Answers, Fills, Notes}
+use Rattle.callers.specs.Failures.{failure_in}
+use Rattle.script_sessions.specs.Replying.{Answer, Answers, Fills, Notes, Tells}
 
 -- a line was noted of this answer, and its identifier handed on
-pub noted : (r : Result ℕ Memory) (old new : Replies) (rank : ℕ) (a : Answer) (answer : Result Output Status) (out : List ℕ) → IfOk r (λ given. Notes old new rank a) → IfOk r (λ given. given ≡ a.id) →
-    ((reply : Reply) → Fills answer out reply → Answers a reply) → IfOk r (λ given. (a : Answer) × (a.id ≡ given) × Notes old new rank a × ((reply : Reply) → Fills answer out reply → Answers a reply))
-noted (Ok given) old new rank a answer out notes id is = (a, sym id, notes, is)
-noted (Err full) old new rank a answer out notes id is = tt
+pub noted : (r : Result ℕ Memory) (old new : Replies) (rank : ℕ) (a : Answer) (answer : Result Output Status) (out : List ℕ) → IfOk r (λ given. Notes old new rank a) → IfOk r (λ given. given ≡ a.id) → Tells a (failure_in answer) →
+    ((reply : Reply) → Fills answer out reply → Answers a reply) → IfOk r (λ given. (a : Answer) × (a.id ≡ given) × Notes old new rank a × Tells a (failure_in answer) × ((reply : Reply) → Fills answer out reply → Answers a reply))
+noted (Ok given) old new rank a answer out notes id tells is = (a, sym id, notes, tells, is)
+noted (Err full) old new rank a answer out notes id tells is = tt
 
 -- a reply that is another has the same answers
 by : (a : Answer) (reply other : Reply) → reply ≡ other → Answers a other → Answers a reply

@@ -10,12 +10,13 @@ use Rattle.store_model.specs.Handles.{Service}
 use Rattle.store_model.specs.Requests.{Request}
 use Rattle.store_model.specs.Replay.{Entry, outcome_of, replay}
 use Rattle.shared_store.specs.Standing.{caller_of}
-use Rattle.std.specs.Prelude.{Result}
+use Rattle.std.specs.Prelude.{Option, Result}
 use Rattle.psa_status.specs.declared.Status.{Status}
 use Rattle.service_calls.specs.declared.output.Output.{Output}
 use Rattle.turn_history.specs.declared.pass.View.{View}
 use Rattle.store_core.specs.declared.store.Opened.{Opened}
 use Rattle.callers.specs.Called.{IsAnswered, IsCalled, IsToldTo, Starts}
+use Rattle.callers.specs.Failures.{failure_in, failure_marked}
 use Rattle.callers.specs.Ready.{IsReady}
 use Rattle.callers.specs.Worlds.{World}
 use Rattle.callers.specs.declared.caller.Caller.{Caller}
@@ -27,12 +28,12 @@ use Rattle.script_lang.specs.Commands.{request_of}
 use Rattle.script_lang.specs.Lines.{lines_of}
 use Rattle.script_lang.specs.PrintedOrder.{Turn, id_given, numbered, printed}
 use Rattle.script_sessions.specs.declared.session.Session.{Session}
-use Rattle.script_sessions.specs.Heads.{heads, ranks_of}
+use Rattle.script_sessions.specs.Heads.{failure_of, failures_of, heads, of_calls, ranks_of}
 use Rattle.script_sessions.specs.Printed.{AreFirstCalls, AreFirstReplies}
-use Rattle.script_sessions.specs.Replying.{Answer, Answers, Fills, Notes}
+use Rattle.script_sessions.specs.Replying.{Answer, Answers, Fills, Notes, Tells}
 use Rattle.script_sessions.specs.Running.{AreFirstGiven, ElementTells, GoesFurther, HasAnswered, HasMade, IsMade, KnowsTurns, session_turns}
 use Rattle.script_sessions.proofs.Fronts.{calls_next, calls_still, first_more, first_still, first_whole}
-use Rattle.script_sessions.proofs.Heads.{one_more_head, one_more_rank}
+use Rattle.script_sessions.proofs.Heads.{one_more_head, one_more_of}
 use Rattle.script_sessions.proofs.History.{as_many_turns, between, first_none, kept_own, last_call, left_out, numbered_length, numbered_more, one_more_turn, same_turns}
 
 -- from one history to a longer one a session's turns grew by one, of this call and at this rank, whose reply is answered so
@@ -55,14 +56,15 @@ lines_same : (session : ℕ) (lines : List ScriptLine) (line : ScriptLine) → l
 lines_same session lines line other = left_out (λ l. l.session == session) lines line (ne_eqb line.session session other)
 
 -- what is answered by a call is the reply of its entry
-pub is_made : {D A C : Type 0} (w : World D A C) (v u : View Entry (Opened D A C)) (call asked : Request) (rank : ℕ) (result : Result Output Status) (before out : List ℕ) (Q : Reply → Type 0) →
-    IsAnswered w v u call rank result before out → call ≡ asked → ((reply : Reply) → Fills result out reply → Q reply) → IsMade w v u asked rank Q
-is_made w v u call asked rank result before out Q a same printed = record {
+pub is_made : {D A C : Type 0} (w : World D A C) (v u : View Entry (Opened D A C)) (call asked : Request) (rank : ℕ) (result : Result Output Status) (before out : List ℕ) (Q : Reply → Type 0) (F : Option Status → Type 0) →
+    IsAnswered w v u call rank result before out → call ≡ asked → ((reply : Reply) → Fills result out reply → Q reply) → F (failure_in result) → IsMade w v u asked rank Q F
+is_made w v u call asked rank result before out Q F a same printed tells = record {
   turns = a.turns;
   mark = a.mark;
   before = a.before;
   entry = a.entry;
   called = subst (λ r. IsCalled v u a.turns r a.mark rank a.before a.entry) same a.called;
+  failure = λ start is. subst F (a.failure start is) tells;
   replied = λ tells start is told. let f = a.replied start is told (inl tells) in printed _ (record { answers = f.0; before = before; after = f.1 });
 }
 
@@ -95,7 +97,8 @@ module _ {D A C : Type 0} (w : World D A C) where
         (known tells start is part (begins_itself part) (told_front (w.told w.opened.file.value.cells.disk) start g part on told))
   ]
 
-  module _ (old new : Caller D A C) (call : Request) (rank : ℕ) (P : Reply → Type 0) (before_ready : IsReady w 0 old) (after_ready : IsReady w 0 new) (m : IsMade w old.pass.me.0 new.pass.me.0 call rank P) where
+  module _ (old new : Caller D A C) (call : Request) (rank : ℕ) (P : Reply → Type 0) (F : Option Status → Type 0) (before_ready : IsReady w 0 old) (after_ready : IsReady w 0 new)
+      (m : IsMade w old.pass.me.0 new.pass.me.0 call rank P F) where
     pub same_number : new.number ≡ old.number
     same_number = sym after_ready.number ∙ (m.called.number ∙ before_ready.number)
 
@@ -156,19 +159,24 @@ module _ {D A C : Type 0} (w : World D A C) where
               subst R (sym s.turns) (next start g s (known tells start is v (begins_itself v) before))
         ])
 
-    -- the ranks of the session's calls grew by this one
+    -- what stands for the session's calls grew by this one
+    more_of : {X : Type 0} (at : ℕ → Entry → X) → of_calls at new.number 0 (entries_of new.pass.me.0.seen) ≡ of_calls at old.number 0 (entries_of old.pass.me.0.seen) ++ at (length m.before) m.entry ∷ []
+    more_of at =
+        ap (λ k. of_calls at k 0 (entries_of new.pass.me.0.seen)) same_number
+        ∙ one_more_of at old.number (entries_of old.pass.me.0.seen) m.before (entries_of new.pass.me.0.seen) m.entry m.called.goes_on.since same_before (m.called.by ∙ before_ready.number) m.called.placed one_more_call
+
     pub ranked : ranks_of new.number 0 (entries_of new.pass.me.0.seen) ≡ ranks_of old.number 0 (entries_of old.pass.me.0.seen) ++ rank ∷ []
-    ranked =
-        ap (λ k. ranks_of k 0 (entries_of new.pass.me.0.seen)) same_number
-        ∙ (one_more_rank old.number (entries_of old.pass.me.0.seen) m.before (entries_of new.pass.me.0.seen) m.entry m.called.goes_on.since same_before (m.called.by ∙ before_ready.number) m.called.placed one_more_call
-        ∙ ap (λ k. ranks_of old.number 0 (entries_of old.pass.me.0.seen) ++ k ∷ []) (sym m.called.rank))
+    ranked = more_of (λ k e. k) ∙ ap (λ k. ranks_of old.number 0 (entries_of old.pass.me.0.seen) ++ k ∷ []) (sym m.called.rank)
+
+    pub failed : failures_of new.number 0 (entries_of new.pass.me.0.seen) ≡ failures_of old.number 0 (entries_of old.pass.me.0.seen) ++ failure_marked m.mark ∷ []
+    failed = more_of (λ k e. failure_marked e.mark) ∙ ap (λ mark. failures_of old.number 0 (entries_of old.pass.me.0.seen) ++ failure_marked mark ∷ []) m.called.mark_is
 
   -- a caller has made the call of one more line of its session
-  pub made_more : (lines : List ScriptLine) (line : ScriptLine) (given : List ℕ) (old new : Caller D A C) (rank : ℕ) (P : Reply → Type 0) → HasMade w lines old → IsReady w 0 new → new.spent ≤ old.spent + 2 → line.session ≡ old.number →
+  pub made_more : (lines : List ScriptLine) (line : ScriptLine) (given : List ℕ) (old new : Caller D A C) (rank : ℕ) (P : Reply → Type 0) (F : Option Status → Type 0) → HasMade w lines old → IsReady w 0 new → new.spent ≤ old.spent + 2 → line.session ≡ old.number →
       length given ≡ length (lines_of old.number lines) → KnowsTurns w old.number (entries_of old.pass.me.0.seen) (AreFirstGiven given) →
-      IsMade w old.pass.me.0 new.pass.me.0 (request_of given line.call) rank P → HasMade w (lines ++ line ∷ []) new
-  made_more lines line given old new rank P h ready spent own given_count known m =
-      let same : new.number ≡ old.number = same_number old new (request_of given line.call) rank P h.ready ready m in
+      IsMade w old.pass.me.0 new.pass.me.0 (request_of given line.call) rank P F → HasMade w (lines ++ line ∷ []) new
+  made_more lines line given old new rank P F h ready spent own given_count known m =
+      let same : new.number ≡ old.number = same_number old new (request_of given line.call) rank P F h.ready ready m in
       let own_lines : List ScriptLine = lines_of old.number lines in
       let more : lines_of new.number (lines ++ line ∷ []) ≡ own_lines ++ line ∷ [] = ap (λ n. lines_of n (lines ++ line ∷ [])) same ∙ lines_more old.number lines line own in
       record {
@@ -177,7 +185,7 @@ module _ {D A C : Type 0} (w : World D A C) where
         count = let a = ap length m.called.calls in let b = length-append old.pass.me.0.calls (m.entry ∷ []) in let d = h.count in
             let e = ap length more in let f = length-append own_lines (line ∷ []) in omega arith;
         calls = subst (λ ls. KnowsTurns w new.number (entries_of new.pass.me.0.seen) (AreFirstCalls ls)) (sym more)
-            (knows_more old new (request_of given line.call) rank P h.ready ready m (λ ts. AreFirstCalls own_lines ts × AreFirstGiven given ts) (AreFirstCalls (own_lines ++ line ∷ []))
+            (knows_more old new (request_of given line.call) rank P F h.ready ready m (λ ts. AreFirstCalls own_lines ts × AreFirstGiven given ts) (AreFirstCalls (own_lines ++ line ∷ []))
             (λ tells start is g begins told. (h.calls tells start is g begins told, known tells start is g begins told))
             (λ ts q. calls_still own_lines line ts q.0)
             (λ start g s q.
@@ -189,7 +197,7 @@ module _ {D A C : Type 0} (w : World D A C) where
 
   -- and its session has the reply
   pub answered_more : (lines : List ScriptLine) (line : ScriptLine) (old new : Session D A C) (rank : ℕ) (a : Answer) → HasAnswered w lines old → IsReady w 0 new.caller → new.caller.spent ≤ old.caller.spent + 2 →
-      line.session ≡ old.caller.number → IsMade w old.caller.pass.me.0 new.caller.pass.me.0 (request_of old.given.items line.call) rank (Answers a) →
+      line.session ≡ old.caller.number → IsMade w old.caller.pass.me.0 new.caller.pass.me.0 (request_of old.given.items line.call) rank (Answers a) (Tells a) →
       Notes old.replies new.replies rank a → new.replies.session ≡ old.replies.session →
       new.given.items ≡ old.given.items ++ a.id ∷ [] → HasAnswered w (lines ++ line ∷ []) new
   answered_more lines line old new rank a h ready spent own m notes same_session given =
@@ -197,20 +205,20 @@ module _ {D A C : Type 0} (w : World D A C) where
       let call : Request = request_of old.given.items line.call in
       let told : List ReplyLine = h.replies.told in
       let reply : ReplyLine = next_line old.replies rank a.status a.bytes in
-      let same : d.number ≡ c.number = same_number c d call rank (Answers a) h.made.ready ready m in
+      let same : d.number ≡ c.number = same_number c d call rank (Answers a) (Tells a) h.made.ready ready m in
       let own_lines : List ScriptLine = lines_of c.number lines in
       let more : length (lines_of d.number (lines ++ line ∷ [])) ≡ length own_lines + 1 = ap (λ n. length (lines_of n (lines ++ line ∷ []))) same ∙ (ap length (lines_more c.number lines line own) ∙ length-append own_lines (line ∷ [])) in
       let v : List Entry = entries_of c.pass.me.0.seen in let u : List Entry = entries_of d.pass.me.0.seen in
       let as_many = λ (start : Service). (let e : length own_lines ≡ length (session_turns c.number start v) = sym (turns_made c h.made.ready start ∙ h.made.count) in e) in
       record {
-        made = made_more lines line old.given.items c d rank (Answers a) h.made ready spent own h.given_count h.given m;
+        made = made_more lines line old.given.items c d rank (Answers a) (Tells a) h.made ready spent own h.given_count h.given m;
         replies = record {
           told = told ++ reply ∷ [];
           kept = notes told h.replies.kept;
           session = same_session ∙ (h.replies.session ∙ sym same);
           replies = record {
             count = let f = length-append told (reply ∷ []) in let g = h.replies.replies.count in omega (arith, f, g, more);
-            known = knows_more c d call rank (Answers a) h.made.ready ready m (AreFirstReplies told) (AreFirstReplies (told ++ reply ∷ [])) h.replies.replies.known
+            known = knows_more c d call rank (Answers a) (Tells a) h.made.ready ready m (AreFirstReplies told) (AreFirstReplies (told ++ reply ∷ [])) h.replies.replies.known
                 (λ ts q. first_still (length ts) told (reply ∷ []) (numbered 1 ts) q (numbered_length 1 ts))
                 (λ start g s q.
                 let ts : List Turn = session_turns c.number start v in
@@ -220,12 +228,16 @@ module _ {D A C : Type 0} (w : World D A C) where
                 ∙ (ap (λ y. numbered 1 ts ++ y ∷ []) (is_printed old.replies (1 + length ts) rank a s.turn (h.replies.session ∙ sym s.by) number s.rank_is s.known)
                 ∙ sym (numbered_more 1 ts s.turn)));
             heads = one_more_head c.number told (ranks_of c.number 0 v) reply h.replies.replies.heads h.replies.session (ap (λ n. n + 1) h.replies.kept.count)
-                ∙ ap₂ (λ n ranks. heads n 1 ranks) (sym same) (sym (ranked c d call rank (Answers a) h.made.ready ready m));
+                ∙ ap₂ (λ n ranks. heads n 1 ranks) (sym same) (sym (ranked c d call rank (Answers a) (Tells a) h.made.ready ready m));
+            failures = λ start is.
+                map-append failure_of told (reply ∷ [])
+                ∙ (ap₂ (λ fs f. fs ++ f ∷ []) (h.replies.replies.failures start is) (m.failure start is)
+                ∙ sym (failed c d call rank (Answers a) (Tells a) h.made.ready ready m));
           };
         };
         given_count = let e = ap length given in let f = length-append old.given.items (a.id ∷ []) in let g = h.given_count in omega (arith, e, f, g, more);
         given = subst (λ ids. KnowsTurns w d.number u (AreFirstGiven ids)) (sym given)
-            (knows_more c d call rank (Answers a) h.made.ready ready m (AreFirstGiven old.given.items) (AreFirstGiven (old.given.items ++ a.id ∷ [])) h.given
+            (knows_more c d call rank (Answers a) (Tells a) h.made.ready ready m (AreFirstGiven old.given.items) (AreFirstGiven (old.given.items ++ a.id ∷ [])) h.given
             (λ ts q. first_still (length ts) old.given.items (a.id ∷ []) (map (λ t. id_given t.reply.output) ts) q (length-map ts (λ t. id_given t.reply.output)))
             (λ start g s q.
             let ts : List Turn = session_turns c.number start v in
@@ -254,7 +266,7 @@ module _ {D A C : Type 0} (w : World D A C) where
       told = h.replies.told;
       kept = h.replies.kept;
       session = h.replies.session;
-      replies = let r = h.replies.replies in record { count = r.count ∙ ap length (sym (lines_same s.caller.number lines line other)); known = r.known; heads = r.heads };
+      replies = let r = h.replies.replies in record { count = r.count ∙ ap length (sym (lines_same s.caller.number lines line other)); known = r.known; heads = r.heads; failures = r.failures };
     };
     given_count = h.given_count ∙ ap length (sym (lines_same s.caller.number lines line other));
     given = h.given;

@@ -1,15 +1,14 @@
 -- How many calls of a history met the failure of a device, and how many reply lines say so.
-use Rattle.std.specs.Prelude.{◌≡◌, ◌≤◌, ◌<◌, ◌+◌, ◌-◌, ◌^◌, ℕ, Bool, true, false, cond, count_by, List, [], ◌∷◌}
+use Rattle.std.specs.Prelude.{◌≡◌, ◌≤◌, ◌<◌, ◌+◌, ◌-◌, ◌^◌, ℕ, Bool, true, false, cond, count_by, List, [], ◌∷◌, map}
 use Rattle.psa_status.specs.declared.Status.{Status}
 use Rattle.psa_status.specs.declared.Status.TheVariants.{StorageFailure, HardwareFailure, DataCorrupt}
 use Rattle.store_model.specs.Faults.{FaultMark, Storage, Hardware, Corrupt}
-use Rattle.store_model.specs.Handles.{Service}
 use Rattle.store_model.specs.Marks.{FaultCounts, IsCaused, last_counts}
 use Rattle.store_model.specs.Replay.{Entry}
 use Rattle.store_core.specs.Represents.{Opening}
 use Rattle.store_core.specs.Rising.{AreRising}
 use Rattle.script_lang.specs.Replies.{ReplyLine}
-use Rattle.script_lang.specs.PrintedOrder.{replies_to, turns_from}
+use Rattle.script_sessions.specs.Heads.{failure_of, failures_to}
 
 -- MARKS
 
@@ -67,7 +66,7 @@ pub record AreBoundedLines (tells : Bool) (before after : FaultCounts) (replies 
   pub hardware : after.hard < 2 ^ 64 - 1 → before.hard + saying is_hardware_failure replies ≤ after.hard
   pub corrupt : tells ≡ true → saying is_data_corrupt replies ≡ 0
 
--- so it is of the lines that the one-thread service prints for sessions 1 to n, where it is of the history
+-- so it is of lines that tell of the failures that the marks of sessions 1 to n are of, where it is of the history
 abbrev pub LinesAreBounded : Type 0
 LinesAreBounded =
-    (tells : Bool) (before after : FaultCounts) (start : Service) (h : List Entry) (n : ℕ) → AreBounded tells before after h → AreBoundedLines tells before after (replies_to n (turns_from 0 start h))
+    (tells : Bool) (before after : FaultCounts) (h : List Entry) (n : ℕ) (replies : List ReplyLine) → AreBounded tells before after h → map failure_of replies ≡ failures_to n h → AreBoundedLines tells before after replies

@@ -1,8 +1,9 @@
 -- What is known of the answers to calls.
-use Rattle.std.specs.Prelude.{ℕ, ◌≡◌, Result, List, [], ◌∷◌, ◌++◌}
+use Rattle.std.specs.Prelude.{ℕ, ◌≡◌, Option, Result, List, [], ◌∷◌, ◌++◌}
 use Rattle.psa_status.specs.declared.Status.{Status}
 use Rattle.store_model.specs.Call.{Reply, output_bytes, buffer_after}
 use Rattle.service_calls.specs.declared.output.Output.{Output}
+use Rattle.callers.specs.Failures.{failure_told}
 use Rattle.service_calls.specs.Answered.{AnswersReply}
 use Rattle.script_lang.specs.PrintedOrder.{id_given}
 use Rattle.script_lang.specs.Replies.{AreKept, ReplyLine, next_line}
@@ -19,6 +20,10 @@ pub record Answers (a : Answer) (reply : Reply) : Type 0 where
   pub status : a.status ≡ reply.status
   pub bytes : a.bytes ≡ output_bytes reply.output
   pub id : a.id ≡ id_given reply.output
+
+-- its status tells of this failure of a device
+abbrev pub Tells : Answer → Option Status → Type 0
+Tells a failure = failure_told a.status ≡ failure
 
 -- what is known of a call that was made with an output buffer: its answer, and the buffer after it
 pub record Fills (answer : Result Output Status) (out : List ℕ) (reply : Reply) : Type 0 where

@@ -1,5 +1,6 @@
 -- What is known of callers that make the calls of a script's lines.
-use Rattle.std.specs.Prelude.{ℕ, ◌≡◌, ◌⊎◌, ◌≤◌, ◌*◌, true, List, [], ◌∷◌, ◌++◌, length, take, map, is_some}
+use Rattle.std.specs.Prelude.{ℕ, ◌≡◌, ◌⊎◌, ◌≤◌, ◌*◌, true, List, [], ◌∷◌, ◌++◌, length, take, map, is_some, Option}
+use Rattle.psa_status.specs.declared.Status.{Status}
 use Rattle.turn_history.specs.declared.pass.View.{View}
 use Rattle.turn_history.specs.History.{entries_of, StartsWith}
 use Rattle.store_model.specs.Call.{Reply}
@@ -9,6 +10,7 @@ use Rattle.store_model.specs.Requests.{Request}
 use Rattle.store_model.specs.Replay.{Entry, outcome_of}
 use Rattle.store_core.specs.declared.store.Opened.{Opened}
 use Rattle.callers.specs.Called.{IsCalled, IsToldTo, KnowsBefore, Starts}
+use Rattle.callers.specs.Failures.{failure_marked}
 use Rattle.callers.specs.Ready.{IsReady}
 use Rattle.callers.specs.Worlds.{World}
 use Rattle.callers.specs.declared.caller.Caller.{Caller}
@@ -18,7 +20,7 @@ use Rattle.script_lang.specs.declared.replies.Replies.{Replies}
 use Rattle.script_lang.specs.Lines.{lines_of}
 use Rattle.script_lang.specs.PrintedOrder.{Turn, turns_from, turns_of, id_given}
 use Rattle.script_sessions.specs.declared.session.Session.{Session}
-use Rattle.script_sessions.specs.Heads.{head_of, heads, ranks_of}
+use Rattle.script_sessions.specs.Heads.{failure_of, failures_of, head_of, heads, ranks_of}
 use Rattle.script_sessions.specs.Printed.{AreFirstCalls, AreFirstReplies}
 
 -- a session's turns in a history from a start
@@ -53,13 +55,15 @@ module _ {D A C : Type 0} (w : World D A C) where
   KnowsTurns session h P =
       ElementTells → (start : Service) → Starts w start → (beginning : List Entry) → StartsWith h beginning → IsToldTo w start beginning → P (session_turns session start beginning)
 
-  -- A caller made a call. Its entry stands at the rank in what the caller has then seen, and its reply is answered so.
-  pub record IsMade (v u : View Entry (Opened D A C)) (call : Request) (rank : ℕ) (IsAnswer : Reply → Type 0) : Type 0 where
+  -- A caller made a call. Its entry stands at the rank in what the caller has then seen, its reply is answered so, and this is
+  -- known of the failure that its mark is of.
+  pub record IsMade (v u : View Entry (Opened D A C)) (call : Request) (rank : ℕ) (IsAnswer : Reply → Type 0) (IsFailure : Option Status → Type 0) : Type 0 where
     pub turns : ℕ
     pub mark : FaultMark
     pub before : List Entry
     pub entry : Entry
     pub called : IsCalled v u turns call mark rank before entry
+    pub failure : (start : Service) → Starts w start → IsFailure (failure_marked mark)
     pub replied : ElementTells → KnowsBefore w (λ service. IsAnswer (outcome_of service entry).reply) before entry
 
   -- A caller has made its session's calls among these lines, in their order, and no other.
@@ -69,12 +73,13 @@ module _ {D A C : Type 0} (w : World D A C) where
     pub count : length c.pass.me.0.calls ≡ length (lines_of c.number lines)
     pub calls : KnowsTurns c.number (entries_of c.pass.me.0.seen) (AreFirstCalls (lines_of c.number lines))
 
-  -- Its session has these replies to them. Whether or not anything is told, they are numbered from 1, and their ranks are the
-  -- places of the calls in what the caller has seen.
+  -- Its session has these replies to them. Whether or not anything is told, they are numbered from 1, their ranks are the
+  -- places of the calls in what the caller has seen, and they tell of a device that failed exactly where the marks do.
   pub record HasReplies (lines : List ScriptLine) (c : Caller D A C) (replies : List ReplyLine) : Type 0 where
     pub count : length replies ≡ length (lines_of c.number lines)
     pub known : KnowsTurns c.number (entries_of c.pass.me.0.seen) (AreFirstReplies replies)
     pub heads : map head_of replies ≡ heads c.number 1 (ranks_of c.number 0 (entries_of c.pass.me.0.seen))
+    pub failures : (start : Service) → Starts w start → map failure_of replies ≡ failures_of c.number 0 (entries_of c.pass.me.0.seen)
 
   -- and they are kept so
   pub record HasKept (lines : List ScriptLine) (c : Caller D A C) (own : Replies) : Type 0 where

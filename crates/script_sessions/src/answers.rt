@@ -1,10 +1,11 @@
 // What calls answer, as the lines that are printed.
-ghost use Rattle.std.specs.Prelude.{◌≡◌, ◌≤◌, ◌<◌, ◌-◌, ◌^◌, ◌++◌, List, IfOk, Ok, length, take};
+ghost use Rattle.std.specs.Prelude.{◌≡◌, ◌≤◌, ◌<◌, ◌-◌, ◌^◌, ◌++◌, List, IfOk, None, Ok, length, take};
 ghost use Rattle.psa_status.specs.declared.Status.TheVariants.{Success};
 ghost use Rattle.store_model.specs.Call.{Bytes, Reply, attribute_bytes, output_bytes};
 ghost use Rattle.store_model.specs.Outcome.{refusal};
+ghost use Rattle.callers.specs.Failures.{failure_in};
 ghost use Rattle.script_lang.specs.Replies.{AreKept, ReplyLine};
-ghost use Rattle.script_sessions.specs.Replying.{Answer, Answers, Fills, Notes};
+ghost use Rattle.script_sessions.specs.Replying.{Answer, Answers, Fills, Notes, Tells};
 
 use key_attributes::Attributes;
 use psa_status::{Memory, Status};
@@ -70,7 +71,7 @@ fn note_output(
     out: &[u8],
 ) -> Result<u32, Memory>
     requires kept { (lines : List ReplyLine) × AreKept replies.old lines × (length lines < 2 ^ 32 - 1) }
-    ensures noted { IfOk result (λ given. (a : Answer) × (a.id ≡ given) × Notes replies.old replies.new rank a × ((reply : Reply) → Fills (Ok output) out.now reply → Answers a reply)) }
+    ensures noted { IfOk result (λ given. (a : Answer) × (a.id ≡ given) × Notes replies.old replies.new rank a × Tells a None × ((reply : Reply) → Fills (Ok output) out.now reply → Answers a reply)) }
     ensures session { replies.new.session ≡ replies.old.session }
     ensures form { replies.new.form ≡ replies.old.form }
 {
@@ -97,7 +98,7 @@ pub fn note(
     out: &[u8],
 ) -> Result<u32, Memory>
     requires kept { (lines : List ReplyLine) × AreKept replies.old lines × (length lines < 2 ^ 32 - 1) }
-    ensures noted { IfOk result (λ given. (a : Answer) × (a.id ≡ given) × Notes replies.old replies.new rank a × ((reply : Reply) → Fills answer out.now reply → Answers a reply)) }
+    ensures noted { IfOk result (λ given. (a : Answer) × (a.id ≡ given) × Notes replies.old replies.new rank a × Tells a (failure_in answer) × ((reply : Reply) → Fills answer out.now reply → Answers a reply)) }
     ensures session { replies.new.session ≡ replies.old.session }
     ensures form { replies.new.form ≡ replies.old.form }
 {

@@ -7,8 +7,7 @@ pub fn marks_are_bounded()
     ensures { MarksAreBounded }
 {}
 
-/// And no more reply lines say so: the one-thread service answers the status of a failed device to such calls alone, and each is
-/// of one session.
+/// And no more reply lines say so, where they tell of the failures that the marks are of.
 pub fn lines_are_bounded()
     ensures { LinesAreBounded }
 {}

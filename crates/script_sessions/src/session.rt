@@ -5,7 +5,7 @@ ghost use Rattle.callers.specs.Worlds.{world};
 ghost use Rattle.script_lang.specs.Commands.{request_of};
 ghost use Rattle.script_lang.specs.Replies.{AreKept, ReplyLine};
 ghost use Rattle.script_lang.specs.declared.script.ScriptLine as script_line;
-ghost use Rattle.script_sessions.specs.Replying.{Answer, Answers, Notes};
+ghost use Rattle.script_sessions.specs.Replying.{Answer, Answers, Notes, Tells};
 ghost use Rattle.script_sessions.specs.Running.{HasAnswered, HasMade, IsMade, GoesFurther};
 
 use crate::answers::note;
@@ -61,8 +61,8 @@ impl<D: Disk, A: Devices, C: Admission> Session<D, A, C> {
         ensures spent { self.new.caller.spent ≤ self.old.caller.spent + 2 }
         ensures number { self.new.caller.number ≡ self.old.caller.number }
         ensures made { (rank : ℕ) × MatchResult result
-            (λ given. (a : Answer) × (a.id ≡ given) × Notes self.old.replies self.new.replies rank a × IsMade (world D.contents D.moment D.faults A.keys A.faults A.locations C.labels service.now.shared.lock.table.shared.table_id service.now.shared.lock.table.shared.key.value.value.store.opened) self.old.caller.pass.me.0 self.new.caller.pass.me.0 (request_of self.old.given.items line.now.call) rank (Answers a))
-            (λ full. IsMade (world D.contents D.moment D.faults A.keys A.faults A.locations C.labels service.now.shared.lock.table.shared.table_id service.now.shared.lock.table.shared.key.value.value.store.opened) self.old.caller.pass.me.0 self.new.caller.pass.me.0 (request_of self.old.given.items line.now.call) rank (λ reply. Unit {0})) }
+            (λ given. (a : Answer) × (a.id ≡ given) × Notes self.old.replies self.new.replies rank a × IsMade (world D.contents D.moment D.faults A.keys A.faults A.locations C.labels service.now.shared.lock.table.shared.table_id service.now.shared.lock.table.shared.key.value.value.store.opened) self.old.caller.pass.me.0 self.new.caller.pass.me.0 (request_of self.old.given.items line.now.call) rank (Answers a) (Tells a))
+            (λ full. IsMade (world D.contents D.moment D.faults A.keys A.faults A.locations C.labels service.now.shared.lock.table.shared.table_id service.now.shared.lock.table.shared.key.value.value.store.opened) self.old.caller.pass.me.0 self.new.caller.pass.me.0 (request_of self.old.given.items line.now.call) rank (λ reply. Unit {0}) (λ failure. Unit {0})) }
         ensures session { self.new.replies.session ≡ self.old.replies.session }
         ensures form { self.new.replies.form ≡ self.old.replies.form }
         ensures given { self.new.given ≡ self.old.given }

@@ -18,7 +18,7 @@ use Rattle.std.proofs.Common.{take}
 use Rattle.std.proofs.lemmas.List.{get_or-map, take_more}
 use Rattle.std.proofs.lemmas.List.Elements.{All-nil, All-push, All-set, All-weaker}
 use Rattle.turn_history.specs.History.{entries_of}
-use Rattle.script_sessions.specs.Heads.{heads, ranks_of}
+use Rattle.script_sessions.specs.Heads.{failures_of, heads, ranks_of}
 use Rattle.script_sessions.specs.Printed.{AreFirstCalls, AreFirstReplies}
 use Rattle.script_sessions.specs.Running.{AreFirstGiven, HasAnswered, HasMade, KnowsTurns}
 use Rattle.script_sessions.proofs.Told.{knows_none}
@@ -184,6 +184,7 @@ module _ {D A C : Type 0} (w : World D A C) (form : ReplyForm) where
         count = refl;
         known = subst (λ v. KnowsTurns w s.caller.number (entries_of v) (AreFirstReplies [])) (sym f.caller.unseen) (knows_none w s.caller.number (AreFirstReplies []) refl);
         heads = subst (λ v. [] ≡ heads s.caller.number 1 (ranks_of s.caller.number 0 (entries_of v))) (sym f.caller.unseen) refl;
+        failures = λ start is. subst (λ v. [] ≡ failures_of s.caller.number 0 (entries_of v)) (sym f.caller.unseen) refl;
       };
     };
     given_count = ap length f.given;

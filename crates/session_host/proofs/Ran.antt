@@ -14,13 +14,13 @@ use Rattle.caller_service.specs.Closing.{IsClosedOver}
 use Rattle.script_lang.specs.declared.script.ScriptLine.{ScriptLine}
 use Rattle.script_lang.specs.Replies.{ReplyLine}
 use Rattle.script_lang.specs.Lines.{IsOfSession}
-use Rattle.script_sessions.specs.Bounds.{AreBounded, AreBoundedLines}
+use Rattle.script_sessions.specs.Bounds.{AreBounded}
 use Rattle.script_sessions.proofs.Bounds.{bounded}
 use Rattle.script_sessions.proofs.FaultLines.{bounded_lines}
 use Rattle.session_host.specs.Running.{HaveAnswered, HaveMade, HaveSeen, all_replies}
 use Rattle.session_host.specs.Runs.{IsAnswered, IsBroken, IsOpening, IsRun}
 use Rattle.session_host.proofs.Gathered.{some_of}
-use Rattle.session_host.proofs.Whole.{all_calls, first_calls, heads_are, line_order, replies_are, replies_so_far, whole_calls}
+use Rattle.session_host.proofs.Whole.{all_calls, failures_are, first_calls, heads_are, line_order, replies_are, replies_so_far, whole_calls}
 
 module _ {D A C : Type 0} (told : D → Option (List ℕ)) (may_leave : D → List ℕ → Type 0) (moment : D → ℕ) (left_since : D → ℕ → List ℕ → Type 0)
     (faults : D → ℕ) (held : A → Option HeldKeys) (hard : A → ℕ) (locations : A → List ℕ) (labels : C → List Label)
@@ -72,8 +72,7 @@ module _ {D A C : Type 0} (told : D → Option (List ℕ)) (may_leave : D → Li
     answers = λ tells start is known. replies_are w lines callers closed.history made.are.sixteen made.are.numbers sessions closed.left.signed closed.seen closed.called replies d h tells start is known;
     so_far = λ tells start is beginning begins known. replies_so_far w lines callers closed.history made.are.sixteen made.are.numbers sessions closed.left.signed closed.seen closed.called replies d
         (some_of replies (let n = h.sixteen in omega arith)) h tells start is beginning begins known;
-    failures = λ tells start is known.
-        let r = replies_are w lines callers closed.history made.are.sixteen made.are.numbers sessions closed.left.signed closed.seen closed.called replies d h tells start is known in
-        subst (AreBoundedLines (is_some (told disk)) before.counts after) (sym r.all) (bounded_lines (is_some (told disk)) before.counts after start closed.history 16 few_marks);
+    failures = bounded_lines (is_some (told disk)) before.counts after closed.history 16 (all_replies replies) few_marks
+        (failures_are w lines callers closed.history made.are.sixteen made.are.numbers sessions closed.left.signed closed.seen closed.called replies d h opening.start opening.starts);
     line_order = λ is. line_order w lines callers closed.history made.are.sixteen made.are.numbers sessions closed.left.signed closed.seen closed.called d h.made (one is);
   }

@@ -10,18 +10,19 @@ use Rattle.store_model.specs.Handles.{Service}
 use Rattle.store_model.specs.Replay.{Entry}
 use Rattle.shared_store.specs.Standing.{caller_of}
 use Rattle.callers.specs.Called.{IsToldTo, Starts}
+use Rattle.callers.specs.Failures.{failure_marked}
 use Rattle.callers.specs.Worlds.{World}
 use Rattle.callers.specs.declared.caller.Caller.{Caller}
 use Rattle.script_lang.specs.declared.script.ScriptLine.{ScriptLine}
 use Rattle.script_lang.specs.Replies.{ReplyLine}
 use Rattle.script_lang.specs.Lines.{IsOfSession, lines_of}
 use Rattle.script_lang.specs.PrintedOrder.{AreCalls, Turn, numbered, replies_to, turns_from, turns_of}
-use Rattle.script_sessions.specs.Heads.{head_of, heads, heads_to, ranks_of}
+use Rattle.script_sessions.specs.Heads.{failure_of, failures_of, failures_to, head_of, heads, heads_to, ranks_of}
 use Rattle.script_sessions.specs.Printed.{AreFirstCalls, AreFirstReplies, AreReplies, AreRepliesSoFar, IsInLineOrder, replies_of}
 use Rattle.script_sessions.specs.Running.{ElementTells, HasMade, IsWithin, KnowsTurns, session_turns}
 use Rattle.script_sessions.proofs.Fronts.{first_whole}
 use Rattle.script_sessions.proofs.History.{as_many_turns, chosen_length}
-use Rattle.script_sessions.proofs.Heads.{ranks_later}
+use Rattle.script_sessions.proofs.Heads.{same_later}
 use Rattle.script_sessions.proofs.Order.{in_line_order, within_whole}
 use Rattle.script_sessions.proofs.Told.{knows_later, knows_none, own_calls}
 use Rattle.session_host.specs.Running.{HaveAnswered, HaveSeen, all_replies}
@@ -241,9 +242,22 @@ module _ {D A C : Type 0} (w : World D A C) (lines : List ScriptLine) (callers :
       let c : Caller D A C = get_or callers i d in
       let number : c.number ≡ 0 + i + 1 = numbers i d within ∙ (let e : i + 1 ≡ 0 + i + 1 = omega arith in e) in
       (h.replied i d r within).heads
-      ∙ ap (heads c.number 1) (sym (ranks_later c.number (entries_of c.pass.me.0.seen) history (seen i d (omega (arith, within, sixteen))) (same_calls lines i d within (h.made i d within))))
+      ∙ ap (heads c.number 1) (sym (same_later (λ k e. k) c.number (entries_of c.pass.me.0.seen) history (seen i d (omega (arith, within, sixteen))) (same_calls lines i d within (h.made i d within))))
       ∙ ap (λ n. heads n 1 (ranks_of n 0 history)) number)
       ∙ ap (λ n. heads_to n history) (all_numbers replies h.sixteen)
+
+  -- and they tell of the failures that its marks are of
+  pub failures_are : (replies : List (List ReplyLine)) (d : Caller D A C) → HaveAnswered w lines callers replies → (start : Service) → Starts w start → map failure_of (all_replies replies) ≡ failures_to 16 history
+  failures_are replies d h start is =
+      map_flat failure_of (λ (r : List ReplyLine). r) replies
+      ∙ by_session (λ (r : List ReplyLine). map failure_of r) (λ n. failures_of n 0 history) (λ n. failures_to n history) (λ n. refl) 0 replies (λ i r below.
+      let within : i < 16 = omega (arith, below, h.sixteen) in
+      let c : Caller D A C = get_or callers i d in
+      let number : c.number ≡ 0 + i + 1 = numbers i d within ∙ (let e : i + 1 ≡ 0 + i + 1 = omega arith in e) in
+      (h.replied i d r within).failures start is
+      ∙ sym (same_later (λ k e. failure_marked e.mark) c.number (entries_of c.pass.me.0.seen) history (seen i d (omega (arith, within, sixteen))) (same_calls lines i d within (h.made i d within)))
+      ∙ ap (λ n. failures_of n 0 history) number)
+      ∙ ap (λ n. failures_to n history) (all_numbers replies h.sixteen)
 
   -- one worker makes the calls in the order of the lines
   pub line_order : (d : Caller D A C) → ((k : ℕ) (d : Caller D A C) → k < 16 → HasMade w lines (get_or callers k d)) → HaveSeen lines callers → IsInLineOrder lines history

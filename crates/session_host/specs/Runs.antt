@@ -72,17 +72,16 @@ module _ {D A C : Type 0} (told : D → Option (List ℕ)) (may_leave : D → Li
 
   -- The calls of these lines were made in one order, and these are the replies. Each session has a call in the order for each of
   -- its lines, and a reply to each, with its rank. The calls are those of the lines, in each session's own order, and the replies
-  -- are those of the one-thread service to them. So it is also of each beginning of the order, as far as that goes. No more of
-  -- the replies say that the disk or the devices failed than their counts rose by. One worker makes the calls in the order of the
-  -- lines.
+  -- are those of the one-thread service to them. So it is also of each beginning of the order, as far as that goes. Whatever is
+  -- told, no more of the replies say that the disk or the devices failed than their counts rose by. One worker makes the calls in
+  -- the order of the lines.
   pub record IsAnswered (disk : D) (devices : A) (named : List Label) (seed : List ℕ) (workers : ℕ) (lines : List ScriptLine) (replies : List ReplyLine) (disk_after : D) (devices_after : A) : Type 0 where
     pub run : IsRun disk devices named seed disk_after devices_after
     pub counts : (session : ℕ) → length (ranks_of session 0 run.history) ≡ length (lines_of session lines)
     pub heads : map head_of replies ≡ heads_to 16 run.history
     pub answers : OfStarts run.opened run.history (λ start. AreReplies start lines run.history replies)
     pub so_far : OfBeginnings run.opened run.history (λ start beginning. AreRepliesSoFar start lines beginning replies)
-    pub failures : OfStarts run.opened run.history (λ start.
-        AreBoundedLines (is_some (told disk)) (opening_of told moment faults hard locations labels run.opened).counts (record { faults = faults disk_after; hard = hard devices_after }) replies)
+    pub failures : AreBoundedLines (is_some (told disk)) (opening_of told moment faults hard locations labels run.opened).counts (record { faults = faults disk_after; hard = hard devices_after }) replies
     pub line_order : workers ≡ 1 → IsInLineOrder lines run.history
 
   -- The replies to these lines are kept in this form, those of each session by themselves.

@@ -92,8 +92,8 @@ fn run_dealt<D: Disk + Send, A: Devices, C: Admission, G: Gate, R: Threads + Wai
 }
 
 /// Makes the calls of a script's lines, where session s is caller s: worker w runs those of the sessions that are w modulo
-/// their count, in the order of the script. Answers the replies by session, which are kept in this form. Fails where memory runs out: then the calls that
-/// each caller has made are the first of its session's. The callers come back.
+/// their count, in the order of the script. Answers the replies by session, which are kept in this form. Fails where memory
+/// runs out: then the calls that each caller has made are the first of its session's. The callers come back.
 pub fn run_sessions<D: Disk + Send, A: Devices, C: Admission, G: Gate, R: Threads + Wait + Sync>(
     rt: &R,
     alloc: Global,

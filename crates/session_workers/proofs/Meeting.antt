@@ -18,10 +18,11 @@ use Rattle.callers.specs.declared.caller.Caller.{Caller}
 use Rattle.script_lang.specs.declared.script.ScriptLine.{ScriptLine}
 use Rattle.script_lang.specs.Lines.{lines_of}
 use Rattle.script_sessions.specs.declared.session.Session.{Session}
-use Rattle.script_sessions.specs.Heads.{heads, ranks_of}
+use Rattle.callers.specs.Failures.{failure_marked}
+use Rattle.script_sessions.specs.Heads.{failures_of, heads, ranks_of}
 use Rattle.script_sessions.specs.Printed.{AreFirstCalls, AreFirstReplies}
 use Rattle.script_sessions.specs.Running.{AreFirstGiven, HasAnswered, KnowsTurns}
-use Rattle.script_sessions.proofs.Heads.{ranks_later}
+use Rattle.script_sessions.proofs.Heads.{same_later}
 use Rattle.script_sessions.proofs.Told.{knows_later, own_calls}
 use Rattle.session_workers.specs.Working.{ChangesAt, HasLearned}
 
@@ -52,7 +53,9 @@ module _ {D A C : Type 0} (w : World D A C) where
                 (knows_later w n (entries_of d.pass.me.0.seen) (entries_of c.pass.me.0.seen) (AreFirstReplies h.replies.told) l.seen same r.known);
             heads = r.heads
                 ∙ ap₂ (λ k ranks. heads k 1 ranks) (sym l.number)
-                (sym (ap (λ k. ranks_of k 0 (entries_of d.pass.me.0.seen)) l.number ∙ ranks_later n (entries_of c.pass.me.0.seen) (entries_of d.pass.me.0.seen) l.seen same));
+                (sym (ap (λ k. ranks_of k 0 (entries_of d.pass.me.0.seen)) l.number ∙ same_later (λ k e. k) n (entries_of c.pass.me.0.seen) (entries_of d.pass.me.0.seen) l.seen same));
+            failures = λ start is. r.failures start is
+                ∙ sym (ap (λ k. failures_of k 0 (entries_of d.pass.me.0.seen)) l.number ∙ same_later (λ k e. failure_marked e.mark) n (entries_of c.pass.me.0.seen) (entries_of d.pass.me.0.seen) l.seen same);
           };
         };
         given_count = let a = ap (λ r. length r.items) l.given in let b = h.given_count in let e = ap (λ k. length (lines_of k lines)) l.number in omega arith;

@@ -1,4 +1,4 @@
-use Rattle.std.proofs.Common.{◌∙◌, ◌++◌, ◌∷◌, [], ◌≡◌, ◌+◌, length, map, refl, sym, ap, subst, arith, append_assoc}
+use Rattle.std.proofs.Common.{◌∙◌, ◌++◌, ◌∷◌, [], ◌≡◌, map, sym, ap, subst, arith, append_assoc}
 use Rattle.std.specs.Option.{option_to_list}
 use Rattle.caller_service.specs.Closing.{backwards}
 use Rattle.std.proofs.lemmas.List.{map-append}

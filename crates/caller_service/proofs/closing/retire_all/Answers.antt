@@ -1,4 +1,4 @@
-use Rattle.std.proofs.Common.{◌∙◌, ◌<◌, ap, sym, refl, subst, arith, get_or, length}
+use Rattle.std.proofs.Common.{◌∙◌, ◌<◌, ap, sym, subst, arith, get_or, length}
 use Rattle.callers.specs.Ready.{IsReady}
 use Rattle.callers.specs.Worlds.{world}
 use Rattle.callers.specs.Retired.{MakesNoCall}

@@ -1,5 +1,4 @@
-use Rattle.std.proofs.Common.{◌∙◌, ◌++◌, ◌∷◌, [], ◌+◌, ◌≡◌, ℕ, List, All, length, map, refl, sym, ap, subst, arith, length-append, append_assoc}
-use Rattle.std.specs.Option.{option_to_list}
+use Rattle.std.proofs.Common.{◌∷◌, [], length, ap, arith, length-append}
 use Rattle.caller_service.specs.Rooms.{IsRoom}
 use Rattle.caller_service.proofs.Lists.{all_more}
 use Rattle.caller_service.proofs.rooms.take.Goals as goal

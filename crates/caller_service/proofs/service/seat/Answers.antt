@@ -1,4 +1,4 @@
-use Rattle.std.proofs.Common.{◌∙◌, ◌++◌, ◌∷◌, [], ◌+◌, ◌≡◌, ℕ, List, All, length, map, refl, sym, ap, subst, arith, length-append, append_assoc}
+use Rattle.std.proofs.Common.{◌∙◌, ◌++◌, ◌∷◌, [], length, sym, ap, arith, length-append, append_assoc}
 use Rattle.std.specs.Option.{option_to_list}
 use Rattle.std.proofs.Common.{get_or}
 use Rattle.callers.specs.Worlds.{world}

@@ -1,4 +1,4 @@
-use Rattle.std.proofs.Common.{◌∙◌, ◌++◌, ◌∷◌, [], ◌+◌, ◌≡◌, ℕ, List, All, length, map, refl, sym, ap, subst, arith, length-append, append_assoc}
+use Rattle.std.proofs.Common.{◌∙◌, ◌++◌, ◌∷◌, [], ◌≡◌, ap}
 use Rattle.std.specs.Option.{option_to_list}
 use Rattle.store_model.specs.Operations.{Inactive}
 use Rattle.operation_cells.specs.Cells.{IsOperation}

@@ -1,4 +1,3 @@
-use Rattle.std.proofs.Common.{◌≡◌}
 use Rattle.std.specs.Prelude.{vec_len}
 use Rattle.callers.specs.Handles.{AreIdle}
 use Rattle.caller_service.proofs.rooms.Room.free.Given as goal

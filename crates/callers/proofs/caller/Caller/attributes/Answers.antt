@@ -9,6 +9,7 @@ use Rattle.store_model.specs.Replay.{replay}
 use Rattle.store_core.specs.Uses.{HasAttributes, IsRefused, mark_of, there_rows}
 use Rattle.shared_store.specs.Turning.{DecidesAfter, IsRanked}
 use Rattle.callers.specs.Worlds.{world}
+use Rattle.callers.proofs.Failing.{refused_tells, there_plainly}
 use Rattle.callers.proofs.KeyReplies.{known_gives, unknown_gives}
 use Rattle.callers.proofs.Storing.{decided_after, if_err, if_ok, stored_answered, stored_ready}
 use Rattle.callers.proofs.caller.Caller.attributes.Goals as goal
@@ -27,7 +28,7 @@ returns-in-Ok-clause-answered g c = λ buffer.
     let old = c.args.self.now in let new = record old { pass = c.attributes-rank.new.pass } in let r = c.requires.ready in let request = model_request c.args.call.now c.args.room in
     let call = GetAttributes c.args.key.0 in let asks = ap (λ x. model_request x c.args.room) c.requires.call in let ranked = if_ok (λ attributes. IsRanked old.pass.me.0 new.pass.me.0 request Plain c.attributes-rank.result.0 old.pass.me.0.holding (DecidesAfter w.told w.moment w.faults w.hard w.locations w.labels w.opened (HasAttributes c.args.key.0 attributes))) c.attributes-rank.result.1 c.in-Ok.is c.attributes-rank.ensures.known in
     let before = ranked.before in let e = ranked.after.entry in let i = ranked.after.entered in let quiet = ap may_change_keys (i.call_is ∙ asks) in
-    stored_answered w old new r request call asks Plain c.attributes-rank.result.0 old.pass.me.0.holding before e i (Ok (output.Description c.in-Ok.attributes)) buffer buffer (λ start is tells.
+    stored_answered w old new r request call asks Plain c.attributes-rank.result.0 old.pass.me.0.holding before e i (Ok (output.Description c.in-Ok.attributes)) buffer buffer (λ start is. refl) (λ start is tells.
     let decided = decided_after w (HasAttributes c.args.key.0 c.in-Ok.attributes) before e quiet ranked.after.decided start is tells in let gives = known_gives (replay start before) old.number c.args.key.0 c.in-Ok.attributes decided in (gives.answers, gives.unwritten buffer))
 
 pub returns-in-Err-clause-ready : goal.returns-in-Err-clause-ready
@@ -44,5 +45,6 @@ returns-in-Err-clause-answered g c = λ buffer.
     let old = c.args.self.now in let new = record old { pass = c.attributes-rank.new.pass } in let r = c.requires.ready in let request = model_request c.args.call.now c.args.room in
     let call = GetAttributes c.args.key.0 in let asks = ap (λ x. model_request x c.args.room) c.requires.call in let ranked = if_err (λ status. IsRanked old.pass.me.0 new.pass.me.0 request (mark_of status) c.attributes-rank.result.0 old.pass.me.0.holding (DecidesAfter w.told w.moment w.faults w.hard w.locations w.labels w.opened (IsRefused there_rows c.args.key.0 status))) c.attributes-rank.result.1 c.in-Err.is c.attributes-rank.ensures.refused in
     let before = ranked.before in let e = ranked.after.entry in let i = ranked.after.entered in let quiet = ap may_change_keys (i.call_is ∙ asks) in
-    stored_answered w old new r request call asks (mark_of c.in-Err.status) c.attributes-rank.result.0 old.pass.me.0.holding before e i (Err c.in-Err.status) buffer buffer (λ start is tells.
+    stored_answered w old new r request call asks (mark_of c.in-Err.status) c.attributes-rank.result.0 old.pass.me.0.holding before e i (Err c.in-Err.status) buffer buffer
+    (λ start is. let d = ranked.after.decided start is in refused_tells there_rows there_plainly c.args.key.0 c.in-Err.status d.0 d.2) (λ start is tells.
     let decided = decided_after w (IsRefused there_rows c.args.key.0 c.in-Err.status) before e quiet ranked.after.decided start is tells in let gives = unknown_gives (replay start before) old.number c.args.key.0 c.in-Err.status decided in (gives.answers, gives.unwritten buffer))

@@ -11,6 +11,7 @@ use Rattle.store_core.specs.Uses.{IsLent, IsRefused, mark_of}
 use Rattle.shared_store.specs.Turning.{DecidesAfter, IsRanked, lease_pair}
 use Rattle.callers.specs.Worlds.{world}
 use Rattle.callers.proofs.Beginning.{at_handle, lent_answered, lent_ready, reads_key, refuses, stayed_answered, stayed_ready}
+use Rattle.callers.proofs.Failing.{refused_tells, use_plainly}
 use Rattle.callers.proofs.Looking.{has_room_for_lease, has_spare, popped}
 use Rattle.callers.proofs.Storing.{if_err, if_ok}
 use Rattle.callers.proofs.caller.Caller.begin_with.Goals as goal
@@ -82,4 +83,5 @@ returns-in-Err-clause-answered g c =
     let why = c.in-Err.status in let looked = if_err (λ refused. IsRanked old.pass.me.0 c.look-rank.new.pass.me.0 request (mark_of refused.0) c.look-rank.result.0 old.pass.me.0.holding (DecidesAfter w.told w.moment w.faults w.hard w.locations w.labels w.opened (IsRefused (use_refusal c.args.wanted) c.args.key.0 refused.0)))
     c.look-rank.result.1 c.in-Err.is c.look-rank.ensures.refused in
     let new = record old { pass = c.look-rank.new.pass; spares = c.push_reserved.new.self } in
-    stayed_answered w old new r request (mark_of why) c.look-rank.result.0 old.pass.me.0.holding looked.before looked.after.entry looked.after.entered c.args.op first last Inactive free why (refuses w old new r request (mark_of why) c.look-rank.result.0 old.pass.me.0.holding looked.before looked.after.entry looked.after.entered c.args.op first last c.args.setup c.args.key c.args.wanted asks c.requires.keyed free why refl looked.after.decided)
+    λ buffer. stayed_answered w old new r request (mark_of why) c.look-rank.result.0 old.pass.me.0.holding looked.before looked.after.entry looked.after.entered c.args.op first last Inactive free why (refuses w old new r request (mark_of why) c.look-rank.result.0 old.pass.me.0.holding looked.before looked.after.entry looked.after.entered c.args.op first last c.args.setup c.args.key c.args.wanted asks c.requires.keyed free why refl looked.after.decided) buffer
+    (λ start is. let d = looked.after.decided start is in refused_tells (use_refusal c.args.wanted) (use_plainly c.args.wanted) c.args.key.0 why d.0 d.2)

@@ -47,7 +47,7 @@ returns-in-Computed-clause-answered g c =
     let new = record old { pass = c.look_or_compute-rank.new.pass; spares = c.push_reserved.new.self; stream = c.draw_vector.new.stream } in
     let quiet = ap may_change_keys (ranked.after.entered.call_is ∙ asks) ∙ quiet_call c.args.asked.now room c.args.key.0 c.args.usage c.requires.keyed in
     computed_answered w old new r c.args.asked.now c.args.element.now c.args.key.0 shown given c.in-Computed.computed request asks c.requires.model rank ranked.before ranked.after.entry quiet ranked.after.entered ranked.after.decided.0
-    c.requires.vector ranked.after.decided.1 c.computed_output.result (λ reply. c.computed_output.ensures c.args.element.now reply c.requires.element)
+    c.requires.vector ranked.after.decided.1 c.computed_output.result (λ reply. c.computed_output.ensures.reply c.args.element.now reply c.requires.element) c.computed_output.ensures.failure
 
 pub returns-in-Lent-clause-ready : goal.returns-in-Lent-clause-ready
 returns-in-Lent-clause-ready g c =

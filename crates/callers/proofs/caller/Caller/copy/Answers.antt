@@ -1,4 +1,4 @@
-use Rattle.std.proofs.Common.{refl, sym, ap}
+use Rattle.std.proofs.Common.{refl, sym, ap, ◌∙◌}
 use Rattle.std.specs.FinMap as map
 use Rattle.std.specs.Prelude.{Ok, Err}
 use Rattle.key_attributes.specs.declared.KeyId.{KeyId}
@@ -14,8 +14,10 @@ use Rattle.store_model.specs.Replay.{replay}
 use Rattle.store_model.specs.Requests.{OnStore}
 use Rattle.store_core.specs.Creations.{IsMade, IsUncopied, RecordsCopy, mark_uncopied}
 use Rattle.shared_store.specs.Turning.{DecidesBefore, IsRanked, filling_pair, without_pair}
+use Rattle.callers.specs.Failures.{failure_told}
 use Rattle.callers.specs.Worlds.{world}
 use Rattle.callers.proofs.Creating.{created_answered, created_in, created_ready, has_no_filling}
+use Rattle.callers.proofs.Failing.{uncopied_tells}
 use Rattle.callers.proofs.Made.{made_gives, undrawn, uncopied_gives}
 use Rattle.callers.proofs.Storing.{decided_known, if_err, if_ok}
 use Rattle.callers.proofs.caller.Caller.copy.Goals as goal
@@ -43,7 +45,7 @@ returns-in-Ok-clause-answered g c =
     let id = c.in-Ok.id in let decided = λ (id : KeyId). DecidesBefore w.told w.moment w.faults w.hard w.locations w.labels w.opened (IsMade records old.number id.0) in
     let created = created_in old.pass.me.0 u new.pass.me.0 filling request Plain rank (decided id) c.reserve-filling.ensures.later
     (if_ok (λ id. IsRanked u new.pass.me.0 request Plain rank (without_pair (filling_pair filling) u.holding) (decided id)) c.copy-rank.result.1 c.in-Ok.is c.copy-rank.ensures.made) in
-    created_answered w old new r request call asks Plain rank (decided id) created (Ok (output.Identifier id)) buffer (λ start is tells.
+    created_answered w old new r request call asks Plain rank (decided id) created (Ok (output.Identifier id)) buffer (λ start is. refl) (λ start is tells.
     let store = (replay start created.before).store in made_gives (replay start created.before) old.number (OnStore call) records (bytes_of (map.get store.keys source)) (λ recorded is. ap (λ o. (created_unless store old.number o (bytes_of (map.get store.keys source))).reply) (sym is)) id (decided_known w (IsMade records old.number id.0) created.before created.entry created.decided start is tells))
 
 pub returns-in-Err-clause-ready : goal.returns-in-Err-clause-ready
@@ -64,6 +66,7 @@ returns-in-Err-clause-answered g c =
     let why = c.in-Err.why in let decided = λ (why : NotCopied). DecidesBefore w.told w.moment w.faults w.hard w.locations w.labels w.opened (IsUncopied records source why) in
     let created = created_in old.pass.me.0 u new.pass.me.0 filling request (mark_uncopied why) rank (decided why) c.reserve-filling.ensures.later
     (if_err (λ why. IsRanked u new.pass.me.0 request (mark_uncopied why) rank (without_pair (filling_pair filling) u.holding) (decided why)) c.copy-rank.result.1 c.in-Err.is c.copy-rank.ensures.uncopied) in
-    created_answered w old new r request call asks (mark_uncopied why) rank (decided why) created (Err c.status.result) buffer (λ start is tells.
+    created_answered w old new r request call asks (mark_uncopied why) rank (decided why) created (Err c.status.result) buffer
+    (λ start is. let d = created.decided start is in ap failure_told c.status.ensures ∙ uncopied_tells start old.number source stated d.0 why d.2) (λ start is tells.
     let store = (replay start created.before).store in rw c.status.ensures (uncopied_gives (replay start created.before) old.number source (OnStore call) records (bytes_of (map.get store.keys source)) (λ recorded is. ap (λ o. (created_unless store old.number o (bytes_of (map.get store.keys source))).reply) (sym is))
     (λ none. ap (λ found. recorded_copy store old.number found stated) (sym none)) why (decided_known w (IsUncopied records source why) created.before created.entry created.decided start is tells)))

@@ -15,9 +15,11 @@ use Rattle.shared_store.specs.Turning.{DecidesBefore}
 use Rattle.keyed_calls.proofs.Draws.{draws_none}
 use Rattle.store_model.proofs.DrawnBytes.{length-random}
 use Rattle.callers.specs.Parts.{IsCreated}
+use Rattle.callers.specs.Failures.{failure_told}
 use Rattle.callers.specs.Worlds.{world}
 use Rattle.callers.proofs.Creating.{created_answered, drew_ready, has_no_filling}
 use Rattle.callers.proofs.Generating.{made_own, random_creates, unmade_own}
+use Rattle.callers.proofs.Failing.{stated_plainly, unmade_tells}
 use Rattle.callers.proofs.Made.{made_gives, unmade_gives}
 use Rattle.callers.proofs.Journeys.{told_front}
 use Rattle.callers.proofs.Readying.{known}
@@ -53,7 +55,7 @@ returns-in-Ok-clause-answered g c =
     let bytes = c.args.bytes.now in let a = c.args.attributes in let call = Generate a in let records = RecordsStated None old.number a (length bytes) in let same = c.create-rank.ensures.same in
     let creates = random_creates w 4 old r a request asks c.requires.whole bytes c.requires.bytes in let counts = ap length c.requires.bytes ∙ length-random c.args.self.now.stream.seed c.args.self.now.stream.caller c.args.place (stated_bytes a) in
     let id = c.in-Ok.id in let decided = λ (id : KeyId). DecidesBefore w.told w.moment w.faults w.hard w.locations w.labels w.opened (IsMade records old.number id.0) in let created = if_ok (λ id. IsCreated old.pass.me.0 new.pass.me.0 request Plain rank (decided id)) c.create-rank.result.1 c.in-Ok.is c.create-rank.ensures.made in
-    created_answered w old new r request call asks Plain rank (decided id) created (Ok (output.Identifier id)) buffer (λ start is_start tells.
+    created_answered w old new r request call asks Plain rank (decided id) created (Ok (output.Identifier id)) buffer (λ start is. refl) (λ start is_start tells.
     made_gives (replay start created.before) old.number (OnStore call) records bytes (λ recorded is. subst (λ q. (plain_step (replay start created.before) old.number q).reply ≡ (created_unless (replay start created.before).store old.number recorded bytes).reply) asks (creates.answers start is_start created.before created.called.goes_on (told_front (w.told w.opened.file.value.cells.disk) start (created.before ++ created.entry ∷ []) created.before (created.entry ∷ [], refl) tells) recorded is)) id (decided_known w (IsMade records old.number id.0) created.before created.entry created.decided start is_start tells))
 
 pub returns-in-Err-clause-ready : goal.returns-in-Err-clause-ready
@@ -75,5 +77,6 @@ returns-in-Err-clause-answered g c =
     let bytes = c.args.bytes.now in let a = c.args.attributes in let call = Generate a in let records = RecordsStated None old.number a (length bytes) in let same = c.create-rank.ensures.same in
     let creates = random_creates w 4 old r a request asks c.requires.whole bytes c.requires.bytes in let counts = ap length c.requires.bytes ∙ length-random c.args.self.now.stream.seed c.args.self.now.stream.caller c.args.place (stated_bytes a) in
     let why = c.in-Err.why in let decided = λ (why : NotMade). DecidesBefore w.told w.moment w.faults w.hard w.locations w.labels w.opened (IsUnmade records why) in let created = if_err (λ why. IsCreated old.pass.me.0 new.pass.me.0 request (mark_unmade why) rank (decided why)) c.create-rank.result.1 c.in-Err.is c.create-rank.ensures.unmade in
-    created_answered w old new r request call asks (mark_unmade why) rank (decided why) created (Err c.status.result) buffer (λ start is_start tells.
+    created_answered w old new r request call asks (mark_unmade why) rank (decided why) created (Err c.status.result) buffer
+    (λ start is. let d = created.decided start is in ap failure_told c.status.ensures ∙ unmade_tells records d.0 (stated_plainly None old.number a (length bytes) d.0) why d.2) (λ start is_start tells.
     rw c.status.ensures (unmade_gives (replay start created.before) old.number (OnStore call) records bytes (λ recorded is. subst (λ q. (plain_step (replay start created.before) old.number q).reply ≡ (created_unless (replay start created.before).store old.number recorded bytes).reply) asks (creates.answers start is_start created.before created.called.goes_on (told_front (w.told w.opened.file.value.cells.disk) start (created.before ++ created.entry ∷ []) created.before (created.entry ∷ [], refl) tells) recorded is)) why (decided_known w (IsUnmade records why) created.before created.entry created.decided start is_start tells)))

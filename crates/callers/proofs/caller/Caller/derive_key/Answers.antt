@@ -20,6 +20,7 @@ use Rattle.callers.proofs.CellLists.{cell_at, tally-cons}
 use Rattle.callers.proofs.Creating.{created_in, creates_on, has_no_filling}
 use Rattle.callers.proofs.Deriving.{IsLeaseOf}
 use Rattle.callers.proofs.Handling.{has_room, out}
+use Rattle.callers.proofs.Failing.{stated_plainly, unmade_tells}
 use Rattle.callers.proofs.Outputting.{changed_twice, derived_creates, due_work, given_front, given_short, lease_is_out, lease_of, output_answered, output_ready, unmade_answered, unmade_ready}
 use Rattle.callers.proofs.Storing.{decided_known, if_err, if_ok}
 use Rattle.callers.proofs.caller.Caller.derive_key.Goals as goal
@@ -224,4 +225,5 @@ returns-in-Err-clause-answered g c =
     let derives = ap (part_of derivation_part) same_given in
     let change = changed_twice old.handles.cells.items mid settled.handles.cells.items r.operations op given InError c.fail_output-lease.result taken.0
     (c.fail_output-lease.ensures (with_operation_at r.operations op given) (without work.0 (stated_bytes a)) taken.0.stand derives) in
-    rw c.status.ensures (unmade_answered w old r request op a asks first last work.0 work.1 passes lease of bytes short front new rank settled why (decided why) created unmade c.fail_output-lease.result change c.give_back.ensures.back buffer)
+    rw c.status.ensures (unmade_answered w old r request op a asks first last work.0 work.1 passes lease of bytes short front new rank settled why (decided why) created unmade c.fail_output-lease.result change c.give_back.ensures.back buffer
+    (λ start is. let d = created.decided start is in unmade_tells records d.0 (stated_plainly lease old.number a (length bytes) d.0) why d.2))

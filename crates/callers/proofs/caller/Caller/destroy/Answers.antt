@@ -1,4 +1,4 @@
-use Rattle.std.proofs.Common.{◌≡◌, refl, ap}
+use Rattle.std.proofs.Common.{◌≡◌, ◌∙◌, refl, ap}
 use Rattle.std.specs.FinMap as map
 use Rattle.std.specs.Prelude.{None, Ok, Err}
 use Rattle.psa_status.specs.Rows.{first_row}
@@ -10,7 +10,9 @@ use Rattle.store_model.specs.KeyUse.{destroy_rows}
 use Rattle.store_core.specs.Uses.{IsUndestroyed, mark_undestroyed}
 use Rattle.store_model.specs.Replay.{replay}
 use Rattle.shared_store.specs.Turning.{DecidesBefore, IsRanked}
+use Rattle.callers.specs.Failures.{failure_told}
 use Rattle.callers.specs.Worlds.{world}
+use Rattle.callers.proofs.Failing.{undestroyed_tells}
 use Rattle.callers.proofs.KeyReplies.{destroyed_gives, destroy_draws, undestroyed_gives}
 use Rattle.callers.proofs.Storing.{decided_known, if_err, on_ok, stored_answered, stored_ready}
 use Rattle.callers.proofs.caller.Caller.destroy.Goals as goal
@@ -29,7 +31,7 @@ returns-in-Ok-clause-answered g c = λ buffer.
     let old = c.args.self.now in let new = record old { pass = c.destroy-rank.new.pass } in let r = c.requires.ready in let request = model_request c.args.call.now c.args.room in
     let call = Destroy c.args.key.0 in let asks = ap (λ x. model_request x c.args.room) c.requires.call in let ranked = on_ok c.destroy-rank.result.1 c.in-Ok.is c.destroy-rank.ensures.destroyed in
     let before = ranked.before in let e = ranked.after.entry in let i = ranked.after.entered in
-    stored_answered w old new r request call asks Plain c.destroy-rank.result.0 old.pass.me.0.holding before e i (Ok Done) buffer buffer (λ start is tells.
+    stored_answered w old new r request call asks Plain c.destroy-rank.result.0 old.pass.me.0.holding before e i (Ok Done) buffer buffer (λ start is. refl) (λ start is tells.
     let gives = destroyed_gives (replay start before) old.number c.args.key.0 (decided_known w (λ m. first_row (destroy_rows (map.get m.keys c.args.key.0) c.args.key.0) ≡ None) before e ranked.after.decided start is tells) in (gives.answers, gives.unwritten buffer))
 
 pub returns-in-Err-clause-ready : goal.returns-in-Err-clause-ready
@@ -46,5 +48,5 @@ returns-in-Err-clause-answered g c = λ buffer.
     let old = c.args.self.now in let new = record old { pass = c.destroy-rank.new.pass } in let r = c.requires.ready in let request = model_request c.args.call.now c.args.room in
     let call = Destroy c.args.key.0 in let asks = ap (λ x. model_request x c.args.room) c.requires.call in let ranked = if_err (λ why. IsRanked old.pass.me.0 new.pass.me.0 request (mark_undestroyed why) c.destroy-rank.result.0 old.pass.me.0.holding (DecidesBefore w.told w.moment w.faults w.hard w.locations w.labels w.opened (IsUndestroyed c.args.key.0 why))) c.destroy-rank.result.1 c.in-Err.is c.destroy-rank.ensures.failed in
     let before = ranked.before in let e = ranked.after.entry in let i = ranked.after.entered in
-    stored_answered w old new r request call asks (mark_undestroyed c.in-Err.why) c.destroy-rank.result.0 old.pass.me.0.holding before e i (Err c.status.result) buffer buffer (λ start is tells.
+    stored_answered w old new r request call asks (mark_undestroyed c.in-Err.why) c.destroy-rank.result.0 old.pass.me.0.holding before e i (Err c.status.result) buffer buffer (λ start is. ap failure_told c.status.ensures ∙ undestroyed_tells c.in-Err.why) (λ start is tells.
     let gives = undestroyed_gives (replay start before) old.number c.args.key.0 c.in-Err.why (decided_known w (IsUndestroyed c.args.key.0 c.in-Err.why) before e ranked.after.decided start is tells) in rw c.status.ensures (gives.answers, gives.unwritten buffer))

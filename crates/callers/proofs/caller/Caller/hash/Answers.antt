@@ -4,10 +4,13 @@ use Rattle.service_calls.specs.Meanings.{model_request, model_store_call}
 use Rattle.store_model.specs.Call.{buffer_after}
 use Rattle.store_model.specs.Faults.{Plain}
 use Rattle.store_model.specs.Outcome.{Outcome}
-use Rattle.store_model.specs.Handles.{next_random}
+use Rattle.store_model.specs.Handles.{Service, next_random}
 use Rattle.store_model.specs.Replay.{replay}
+use Rattle.store_model.specs.Requests.{OnStore, plain_step}
+use Rattle.store_model.proofs.Unmarked.{answers_plainly}
 use Rattle.callers.specs.Worlds.{world}
 use Rattle.keyed_calls.proofs.Models.{hashes}
+use Rattle.callers.proofs.Failing.{answers_plain}
 use Rattle.callers.proofs.Storing.{stored_answered, stored_ready}
 use Rattle.callers.proofs.caller.Caller.hash.Goals as goal
 
@@ -26,6 +29,8 @@ returns-clause-answered g c =
     let old = c.args.self.now in let new = record old { pass = c.count-rank.new.pass } in let r = c.requires.ready in let request = model_request c.args.call.now (length c.args.out.now) in
     let call = model_store_call c.args.asked.now (length c.args.out.now) in let asks = ap (λ x. model_request x (length c.args.out.now)) c.requires.call in let ranked = c.count-rank.ensures.counted in
     let before = ranked.before in let e = ranked.after.entry in let i = ranked.after.entered in
-    stored_answered w old new r request call asks Plain c.count-rank.result old.pass.me.0.holding before e i c.compute_hash-result.result c.args.out.now c.compute_hash-result.new.out (λ start is tells.
-    let same = sym (ap (λ (o : Outcome). o.reply) (hashes (replay start before).store old.number (next_random (replay start before) old.number) c.args.asked.now (length c.args.out.now) c.requires.hash)) in
-    (subst (AnswersReply c.compute_hash-result.result) same c.compute_hash-result.ensures.reply, c.compute_hash-result.ensures.buffer ∙ ap (buffer_after c.args.out.now) same))
+    let same = λ (service : Service). sym (ap (λ (o : Outcome). o.reply) (hashes service.store old.number (next_random service old.number) c.args.asked.now (length c.args.out.now) c.requires.hash)) in
+    stored_answered w old new r request call asks Plain c.count-rank.result old.pass.me.0.holding before e i c.compute_hash-result.result c.args.out.now c.compute_hash-result.new.out
+    (λ start is. answers_plain c.compute_hash-result.result (plain_step start old.number (OnStore call)).reply (subst (AnswersReply c.compute_hash-result.result) (same start) c.compute_hash-result.ensures.reply) (answers_plainly start old.number (OnStore call))) (λ start is tells.
+    let there = same (replay start before) in
+    (subst (AnswersReply c.compute_hash-result.result) there c.compute_hash-result.ensures.reply, c.compute_hash-result.ensures.buffer ∙ ap (buffer_after c.args.out.now) there))

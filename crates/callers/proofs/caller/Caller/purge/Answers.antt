@@ -10,6 +10,7 @@ use Rattle.store_model.specs.Laws.{may_change_keys}
 use Rattle.store_model.specs.Replay.{replay}
 use Rattle.store_core.specs.Uses.{there_rows}
 use Rattle.shared_store.specs.Turning.{DecidesAfter, IsRanked}
+use Rattle.callers.specs.Failures.{failure_told}
 use Rattle.callers.specs.Worlds.{world}
 use Rattle.callers.proofs.KeyReplies.{purged_gives, unpurged_gives}
 use Rattle.callers.proofs.Storing.{decided_after, if_err, on_ok, stored_answered, stored_ready}
@@ -29,7 +30,7 @@ returns-in-Ok-clause-answered g c = λ buffer.
     let old = c.args.self.now in let new = record old { pass = c.purge-rank.new.pass } in let r = c.requires.ready in let request = model_request c.args.call.now c.args.room in
     let call = Purge c.args.key.0 in let asks = ap (λ x. model_request x c.args.room) c.requires.call in let ranked = on_ok c.purge-rank.result.1 c.in-Ok.is c.purge-rank.ensures.there in
     let before = ranked.before in let e = ranked.after.entry in let i = ranked.after.entered in let quiet = ap may_change_keys (i.call_is ∙ asks) in
-    stored_answered w old new r request call asks Plain c.purge-rank.result.0 old.pass.me.0.holding before e i (Ok output.Done) buffer buffer (λ start is tells.
+    stored_answered w old new r request call asks Plain c.purge-rank.result.0 old.pass.me.0.holding before e i (Ok output.Done) buffer buffer (λ start is. refl) (λ start is tells.
     let decided = decided_after w (λ m. there_rows (map.get m.keys c.args.key.0) ≡ None) before e quiet ranked.after.decided start is tells in let gives = purged_gives (replay start before) old.number c.args.key.0 decided in (gives.answers, gives.unwritten buffer))
 
 pub returns-in-Err-clause-ready : goal.returns-in-Err-clause-ready
@@ -46,5 +47,5 @@ returns-in-Err-clause-answered g c = λ buffer.
     let old = c.args.self.now in let new = record old { pass = c.purge-rank.new.pass } in let r = c.requires.ready in let request = model_request c.args.call.now c.args.room in
     let call = Purge c.args.key.0 in let asks = ap (λ x. model_request x c.args.room) c.requires.call in let both = if_err (λ status. (status ≡ InvalidHandle) × IsRanked old.pass.me.0 new.pass.me.0 request Plain c.purge-rank.result.0 old.pass.me.0.holding (DecidesAfter w.told w.moment w.faults w.hard w.locations w.labels w.opened (λ m. there_rows (map.get m.keys c.args.key.0) ≡ Some status))) c.purge-rank.result.1 c.in-Err.is c.purge-rank.ensures.missing in let ranked = both.1 in
     let before = ranked.before in let e = ranked.after.entry in let i = ranked.after.entered in let quiet = ap may_change_keys (i.call_is ∙ asks) in
-    stored_answered w old new r request call asks Plain c.purge-rank.result.0 old.pass.me.0.holding before e i (Err c.in-Err.status) buffer buffer (λ start is tells.
+    stored_answered w old new r request call asks Plain c.purge-rank.result.0 old.pass.me.0.holding before e i (Err c.in-Err.status) buffer buffer (λ start is. ap failure_told both.0) (λ start is tells.
     let decided = decided_after w (λ m. there_rows (map.get m.keys c.args.key.0) ≡ Some c.in-Err.status) before e quiet ranked.after.decided start is tells in let gives = unpurged_gives (replay start before) old.number c.args.key.0 c.in-Err.status both.0 decided in (gives.answers, gives.unwritten buffer))

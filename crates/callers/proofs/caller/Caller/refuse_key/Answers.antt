@@ -6,12 +6,14 @@ use Rattle.service_calls.specs.declared.output.Output.TheVariants as output
 use Rattle.operation_cells.specs.KeyInputs.{RefusesKeyAt, key_refused}
 use Rattle.service_calls.specs.Answers.{plain_reply}
 use Rattle.service_calls.specs.Answered.{AnswersReply}
-use Rattle.store_model.specs.Call.{buffer_after}
+use Rattle.store_model.specs.Call.{Reply, buffer_after}
 use Rattle.store_model.specs.Faults.{Plain}
+use Rattle.store_model.proofs.Tables.{NoFault}
 use Rattle.keyed_calls.proofs.Draws.{draws_none}
 use Rattle.callers.specs.Handles.{AreOperations, IsChanged, operation_at}
 use Rattle.callers.specs.Worlds.{world}
 use Rattle.callers.proofs.Beginning.{at_handle}
+use Rattle.callers.proofs.Failing.{key_refused_plainly, told_plainly}
 use Rattle.callers.proofs.Handling.{few_turns, handled_answered, handled_ready, has_room, made, one_turn, out, same_out, waits}
 use Rattle.callers.proofs.Inputting.{refusal_draws_none, untimely}
 use Rattle.callers.proofs.caller.Caller.refuse_key.Goals as goal
@@ -89,7 +91,7 @@ returns-in-Ok-clause-answered g c =
     let refuses = at_handle (λ o. RefusesKeyAt o c.args.step) old.handles.cells.items r.operations op r.stand first last c.requires.refuses in
     let applies = untimely w 4 old new r _ op c.args.step c.args.key.0 c.ask-rank.result.0 before e c.ask-rank.result.1 request (ap (λ x. model_request x c.args.room) c.requires.call) called first last refuses asked.ranked.after.decided in
     let reply = ap plain_reply (sym c.in-Ok.is) ∙ c.refuse_key-refused.ensures.reply r.operations stand in
-    handled_answered w 4 old settled new r request Plain c.ask-rank.result.0 before e 1 (one_turn i) (same_out i) op after.operation lease change back after refl first last applies (Ok output.Done) buffer buffer (sym reply) (ap (buffer_after buffer) reply)
+    handled_answered w 4 old settled new r request Plain c.ask-rank.result.0 before e 1 (one_turn i) (same_out i) op after.operation lease change back after refl first last applies (Ok output.Done) buffer buffer (λ start is. refl) (sym reply) (ap (buffer_after buffer) reply)
 
 pub returns-in-Err-clause-answered : goal.returns-in-Err-clause-answered
 returns-in-Err-clause-answered g c =
@@ -104,4 +106,5 @@ returns-in-Err-clause-answered g c =
     let refuses = at_handle (λ o. RefusesKeyAt o c.args.step) old.handles.cells.items r.operations op r.stand first last c.requires.refuses in
     let applies = untimely w 4 old new r _ op c.args.step c.args.key.0 c.ask-rank.result.0 before e c.ask-rank.result.1 request (ap (λ x. model_request x c.args.room) c.requires.call) called first last refuses asked.ranked.after.decided in
     let reply = ap plain_reply (sym c.in-Err.is) ∙ c.refuse_key-refused.ensures.reply r.operations stand in
-    handled_answered w 4 old settled new r request Plain c.ask-rank.result.0 before e 1 (one_turn i) (same_out i) op after.operation lease change back after refl first last applies (Err c.in-Err.status) buffer buffer (subst (AnswersReply (Err c.in-Err.status)) reply (refl, refl)) (ap (buffer_after buffer) reply)
+    handled_answered w 4 old settled new r request Plain c.ask-rank.result.0 before e 1 (one_turn i) (same_out i) op after.operation lease change back after refl first last applies (Err c.in-Err.status) buffer buffer
+    (λ start is. told_plainly c.in-Err.status (subst (λ (reply : Reply). NoFault reply.status) (sym reply) (key_refused_plainly c.ask-rank.result.1 (operation_at r.operations op) c.args.step))) (subst (AnswersReply (Err c.in-Err.status)) reply (refl, refl)) (ap (buffer_after buffer) reply)

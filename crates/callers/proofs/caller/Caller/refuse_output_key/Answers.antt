@@ -6,12 +6,14 @@ use Rattle.derivation_states.specs.KeySteps.{output_key_refusal}
 use Rattle.operation_cells.specs.KeyOutputs.{derived_key_refused}
 use Rattle.store_model.specs.Handles.{derivation_part, part_of}
 use Rattle.service_calls.specs.Answered.{AnswersReply}
-use Rattle.store_model.specs.Call.{buffer_after}
+use Rattle.store_model.specs.Call.{Reply, buffer_after}
 use Rattle.store_model.specs.Faults.{Plain}
+use Rattle.store_model.proofs.Tables.{NoFault}
 use Rattle.keyed_calls.proofs.Draws.{draws_none}
 use Rattle.callers.specs.Handles.{AreOperations, IsChanged, operation_at}
 use Rattle.callers.specs.Worlds.{world}
 use Rattle.callers.proofs.Beginning.{at_handle}
+use Rattle.callers.proofs.Failing.{derived_plainly, told_plainly}
 use Rattle.callers.proofs.Handling.{few_turns, handled_answered, handled_ready, has_room, made, one_turn, out, same_out, waits}
 use Rattle.callers.proofs.Outputting.{output_draws_none, undue, undue_leaves}
 use Rattle.callers.proofs.caller.Caller.refuse_output_key.Goals as goal
@@ -81,4 +83,5 @@ returns-clause-answered g c =
     let refuses = at_handle (λ o. output_key_refusal (part_of derivation_part o) c.args.attributes ≡ None → ⊥) old.handles.cells.items r.operations op r.stand first last c.requires.refused in
     let applies = undue w 4 old new r _ op c.args.attributes c.ask-rank.result.0 before e c.ask-rank.result.1 request (ap (λ x. model_request x c.args.room) c.requires.call) called first last refuses asked.ranked.after.decided in
     let reply = c.refuse_output_key-status.ensures.reply r.operations stand in let why = c.refuse_output_key-status.result.0 in
-    handled_answered w 4 old settled new r request Plain c.ask-rank.result.0 before e 1 (one_turn i) (same_out i) op after.operation lease change back after refl first last applies (Err why) buffer buffer (subst (AnswersReply (Err why)) reply (refl, refl)) (ap (buffer_after buffer) reply)
+    handled_answered w 4 old settled new r request Plain c.ask-rank.result.0 before e 1 (one_turn i) (same_out i) op after.operation lease change back after refl first last applies (Err why) buffer buffer
+    (λ start is. told_plainly why (subst (λ (reply : Reply). NoFault reply.status) (sym reply) (derived_plainly c.ask-rank.result.1 (operation_at r.operations op) c.args.attributes))) (subst (AnswersReply (Err why)) reply (refl, refl)) (ap (buffer_after buffer) reply)

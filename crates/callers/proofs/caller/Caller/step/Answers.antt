@@ -5,6 +5,7 @@ use Rattle.operation_cells.specs.Steps.{stepped_by}
 use Rattle.store_model.specs.Faults.{Plain}
 use Rattle.callers.specs.Handles.{AreOperations, IsChanged, operation_at}
 use Rattle.callers.specs.Worlds.{world}
+use Rattle.callers.proofs.Failing.{answers_plain, stepped_plainly}
 use Rattle.callers.proofs.Handling.{few_turns, handled_answered, handled_ready, has_room, made, one_turn, out, same_out, waits}
 use Rattle.callers.proofs.Stepping.{applies}
 use Rattle.callers.proofs.caller.Caller.step.Goals as goal
@@ -61,4 +62,6 @@ returns-clause-answered g c =
     let called = made w 4 old settled new r request Plain c.ask-rank.result.0 before e 1 (one_turn i) (same_out i) c.args.op after.operation lease change c.give_back.ensures.back in
     handled_answered w 4 old settled new r request Plain c.ask-rank.result.0 before e 1 (one_turn i) (same_out i) c.args.op after.operation lease change c.give_back.ensures.back after refl first last
     (applies w 4 old new r _ c.args.op c.args.step (length c.args.out.now) c.ask-rank.result.0 before e c.ask-rank.result.1 c.ask-rank.new.self.stream request (ap (λ x. model_request x (length c.args.out.now)) c.requires.call) same.stream called first last asked.ranked.after.decided)
-    c.step-result.result.0 c.args.out.now c.step-result.new.out (c.step-result.ensures.reply r.operations stand) (c.step-result.ensures.buffer r.operations stand)
+    c.step-result.result.0 c.args.out.now c.step-result.new.out
+    (λ start is. answers_plain c.step-result.result.0 after.reply (c.step-result.ensures.reply r.operations stand) (stepped_plainly start.store c.ask-rank.result.1 (next_bytes c.ask-rank.new.self.stream 16) (operation_at r.operations c.args.op) (model_step c.args.step (length c.args.out.now))))
+    (c.step-result.ensures.reply r.operations stand) (c.step-result.ensures.buffer r.operations stand)

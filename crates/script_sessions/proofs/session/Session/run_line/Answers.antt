@@ -2,7 +2,7 @@ use Rattle.std.proofs.Common.{◌≡◌, ◌∙◌, ◌++◌, ◌∷◌, [], ap,
 use Rattle.std.specs.Prelude.{MatchResult, Result, Ok, Err}
 use Rattle.script_lang.specs.Commands.{request_of}
 use Rattle.callers.specs.Worlds.{world}
-use Rattle.script_sessions.specs.Replying.{Answers}
+use Rattle.script_sessions.specs.Replying.{Answers, Tells}
 use Rattle.script_sessions.specs.Running.{IsMade}
 use Rattle.script_sessions.proofs.Told.{answered_more, made_more}
 use Rattle.script_sessions.proofs.session.Session.run_line.Goals as goal
@@ -20,7 +20,7 @@ returns-in-Ok-clause-ran g c lines h =
     let rank = e.made.0 in
     let m = in_ok c.call.result c.in-Ok.id _ _ c.in-Ok.is e.made.1 in
     let a = m.0 in
-    let made = subst (λ ids. IsMade w old.caller.pass.me.0 called.caller.pass.me.0 (request_of ids line.call) rank (Answers a)) c.reserve.ensures.items m.3 in
+    let made = subst (λ ids. IsMade w old.caller.pass.me.0 called.caller.pass.me.0 (request_of ids line.call) rank (Answers a) (Tells a)) c.reserve.ensures.items m.3 in
     answered_more w lines line old (record { caller = called.caller; replies = called.replies; given = c.push_reserved.new.self }) rank a h e.ready e.spent c.requires.own made m.2 e.session
     (c.push_reserved.ensures.items ∙ (ap (λ l. l ++ c.in-Ok.id ∷ []) (ap (λ r. r.items) e.given ∙ c.reserve.ensures.items) ∙ ap (λ n. old.given.items ++ n ∷ []) (sym m.1)))
 
@@ -29,5 +29,5 @@ returns-in-Err-clause-ran g c lines h =
     let w = world g.D.Disk.contents g.D.Disk.moment g.D.Disk.faults g.A.Devices.keys g.A.Devices.faults g.A.Devices.locations g.C.Admission.labels c.args.service.now.shared.lock.table.shared.table_id c.args.service.now.shared.lock.table.shared.key.value.value.store.opened in
     let old = c.args.self.now in let called = c.call.new.self in let line = c.args.line.now in let e = c.call.ensures in
     let m = in_err c.call.result c.in-Err.field-0 _ _ c.in-Err.is e.made.1 in
-    let made = subst (λ ids. IsMade w old.caller.pass.me.0 called.caller.pass.me.0 (request_of ids line.call) e.made.0 (λ reply. Unit {0})) c.reserve.ensures.items m in
-    inr (made_more w lines line old.given.items old.caller called.caller e.made.0 (λ reply. Unit {0}) h.made e.ready e.spent c.requires.own h.given_count h.given made)
+    let made = subst (λ ids. IsMade w old.caller.pass.me.0 called.caller.pass.me.0 (request_of ids line.call) e.made.0 (λ reply. Unit {0}) (λ failure. Unit {0})) c.reserve.ensures.items m in
+    inr (made_more w lines line old.given.items old.caller called.caller e.made.0 (λ reply. Unit {0}) (λ failure. Unit {0}) h.made e.ready e.spent c.requires.own h.given_count h.given made)
