@@ -1,5 +1,5 @@
 // Calls in one part with a key.
-ghost use Rattle.std.specs.Prelude.{◌≡◌, ◌≤◌, ◌<◌, ◌+◌, ◌^◌, ℕ, true, false, All, Some, Result, is_some, length, vec_capacity, vec_len};
+ghost use Rattle.std.specs.Prelude.{◌≡◌, ◌&&◌, ◌≤◌, ◌<◌, ◌+◌, ◌^◌, ℕ, true, false, All, Some, Result, is_some, length, vec_capacity, vec_len};
 ghost use Rattle.std.specs.Result.{is_ok};
 ghost use Rattle.random_streams.specs.RandomWords.{drawn_from, next_bytes};
 ghost use Rattle.secret_bytes.specs.Buffer.{IsClear, bytes_of};
@@ -29,7 +29,7 @@ use driver_dispatch::Devices;
 use element_calls::{ElementCall, NotComputed};
 use key_attributes::KeyId;
 use key_uses::KeyUse;
-use keyed_calls::{compute, computed_output, element_call, takes_vector, wanted};
+use keyed_calls::{compute, computed_output, element_call, needs_vector, takes_vector, wanted};
 use psa_status::Status;
 use random_streams::Stream;
 use service_calls::{Call, Output, StoreCall};
@@ -37,14 +37,14 @@ use shared_store::{Looked, SharedStore};
 use slot_table::Lease;
 use std::sync::Wait;
 
-// The initialisation vector that a call would draw next, where it takes one. Nothing is drawn.
+// The initialisation vector that a call would draw next, where the secure element may compute on it. Nothing is drawn.
 fn next_vector(call: &StoreCall<'_>, stream: &mut Stream) -> [u8; 16]
     requires words { stream.old.place + 256 ≤ 2 ^ 60 }
-    ensures vector { takes_vector call.now ≡ true → result ≡ next_bytes stream.old 16 }
+    ensures vector { (takes_vector call.now && is_of_element call.now) ≡ true → result ≡ next_bytes stream.old 16 }
     ensures same { stream.new ≡ stream.old }
 {
     let mut vector = [0; 16];
-    if takes_vector(call) {
+    if needs_vector(call) {
         let place = stream.place();
         stream.fill(&mut vector);
         stream.go_back(place);

@@ -1,5 +1,5 @@
 // Calls in one part that the secure element computes.
-ghost use Rattle.std.specs.Prelude.{◌≡◌, ℕ, true, IfSome, MatchResult, is_some};
+ghost use Rattle.std.specs.Prelude.{◌≡◌, ◌&&◌, ℕ, true, IfSome, MatchResult, is_some};
 ghost use Rattle.std.specs.Result.{is_ok};
 ghost use Rattle.store_model.specs.Call.{Reply};
 ghost use Rattle.key_uses.specs.declared.key_use.KeyUse.{KeyUse};
@@ -24,6 +24,16 @@ pub fn takes_vector(call: &StoreCall<'_>) -> bool
 {
     match *call {
         StoreCall::CipherEncrypt { .. } => true,
+        _ => false,
+    }
+}
+
+/// Whether the secure element computes such a call, and on a fresh initialisation vector.
+pub fn needs_vector(call: &StoreCall<'_>) -> bool
+    ensures { result ≡ (takes_vector call.now && is_of_element call.now) }
+{
+    match *call {
+        StoreCall::CipherEncrypt { alg, .. } => alg == CTR,
         _ => false,
     }
 }

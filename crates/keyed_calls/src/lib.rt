@@ -9,7 +9,7 @@ mod laws;
 mod wanting;
 
 pub use computing::compute;
-pub use elements::{computed_output, element_call, takes_vector};
+pub use elements::{computed_output, element_call, needs_vector, takes_vector};
 pub use hashing::compute_hash;
 pub use laws::{
     hash_calls_are_the_models, keyed_calls_are_the_models, keyed_calls_draw, keyed_calls_read,
