@@ -81,7 +81,7 @@ fn push_place(out: &mut Vec<u8>, session: u8, number: u32) -> Result<(), AllocEr
     ensures { OnOk result (out.new.items ≡ out.old.items ++ (decimal session ++ codes "." ++ decimal number)) }
 {
     push_number(out, session as u64)?;
-    out.extend_from_slice(b".")?;
+    out.push(b'.')?;
     push_number(out, number as u64)
 }
 
@@ -89,7 +89,8 @@ fn push_place(out: &mut Vec<u8>, session: u8, number: u32) -> Result<(), AllocEr
 fn push_rank(out: &mut Vec<u8>, rank: u64) -> Result<(), AllocError>
     ensures { OnOk result (out.new.items ≡ out.old.items ++ (codes " @" ++ decimal rank)) }
 {
-    out.extend_from_slice(b" @")?;
+    out.push(b' ')?;
+    out.push(b'@')?;
     push_number(out, rank)
 }
 
@@ -97,10 +98,11 @@ fn push_rank(out: &mut Vec<u8>, rank: u64) -> Result<(), AllocError>
 fn push_answer(out: &mut Vec<u8>, status: Status, bytes: &[u8]) -> Result<(), AllocError>
     ensures { OnOk result (out.new.items ≡ out.old.items ++ (codes " " ++ status_name status ++ bytes_text bytes.now ++ codes "\n")) }
 {
-    out.extend_from_slice(b" ")?;
+    out.push(b' ')?;
     out.extend_from_slice(status.name().as_bytes())?;
     push_bytes(out, bytes)?;
-    out.extend_from_slice(b"\n")
+    out.push(b'\n')?;
+    Ok(())
 }
 
 // The successes with one more reply.
