@@ -12,7 +12,7 @@ use driver_dispatch::Devices;
 use psa_status::Memory;
 use script_lang::{Replies, ReplyForm};
 use script_sessions::Session;
-use session_workers::Worker;
+use session_workers::{Spacing, Worker};
 use std::alloc::Global;
 
 /// How many sessions there are.
@@ -36,6 +36,7 @@ fn new_worker<D: Disk, A: Devices, C: Admission>(alloc: Global) -> Result<Worker
         last: None,
         buffer,
         whole: false,
+        spacing: Spacing::new(),
     })
 }
 
@@ -50,6 +51,7 @@ pub fn free<D: Disk, A: Devices, C: Admission>(workers: Vec<Worker<D, A, C>>)
             last: _last,
             buffer: _buffer,
             whole: _whole,
+            spacing: _spacing,
         } = worker;
         sessions.destroy_empty();
     }

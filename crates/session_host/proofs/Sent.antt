@@ -93,7 +93,7 @@ module _ (D A C : RattleType) (d : IsSend D) (a : IsSend A) (c : IsSend C) where
   worker_send =
       let session = session_send in
       declared_send (Worker.the_type D A C)
-      (heap.Vec-send (Session.the_row D A C) session, (search (sendable, crosses) depth 20, (search (sendable, crosses) depth 20, (search sendable, tt))))
+      (heap.Vec-send (Session.the_row D A C) session, (search (sendable, crosses) depth 20, (search (sendable, crosses) depth 20, (search sendable, (search (sendable, crosses) depth 20, tt)))))
 
   module _ (G : RattleType) (dg : disk.Ghosts D.Denot) (ag : devices.Ghosts A.Denot) (cg : admission.Ghosts C.Denot) (g : IsSync G) where
     pub service_sync : IsSync (Service.the_row D A C G dg ag cg)

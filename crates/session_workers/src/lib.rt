@@ -3,4 +3,4 @@
 
 mod worker;
 
-pub use worker::Worker;
+pub use worker::{Spacing, Worker};

@@ -26,6 +26,19 @@ use std::alloc::Global;
 use std::sync::Wait;
 use turn_history::Pass;
 
+/// Room that nothing uses. It keeps what one thread's worker writes at each call apart, in the processors' caches, from what
+/// another's reads there.
+#[derive(Clone, Copy, Drop)]
+pub struct Spacing {
+    room: [u64; 16],
+}
+
+impl Spacing {
+    pub fn new() -> Spacing {
+        Spacing { room: [0; 16] }
+    }
+}
+
 /// The sessions that one thread runs, with a buffer for what their calls give.
 pub struct Worker<D: Disk, A: Devices, C: Admission> {
     pub sessions: Vec<Session<D, A, C>>,
@@ -34,6 +47,7 @@ pub struct Worker<D: Disk, A: Devices, C: Admission> {
     pub buffer: Vec<u8>,
     /// Whether all lines were run.
     pub whole: bool,
+    pub spacing: Spacing,
 }
 
 // Where the session of a number stands.
