@@ -1,15 +1,14 @@
 -- What is known of each session while its lines are read.
 use Rattle.std.specs.Prelude.{ℕ, ◌≡◌, List, Option, None, Some, slice_get, IfSome, length}
-use Rattle.std.specs.Ordering.{nat_cmp}
-use Rattle.std.specs.Cmp.Lexicographic.{slice_cmp}
-use Rattle.std.specs.BTreeMap.{get_by}
+use Rattle.std.specs.Str.{bytes_eq}
+use Rattle.std.specs.HashMap.{get_by}
 use Rattle.script_lang.specs.Lines.{Places, Read, lines_of}
 use Rattle.script_lang.specs.declared.script.ScriptLine.{ScriptLine}
 use Rattle.script_lang.specs.declared.sessions.Session.{Session}
 
 -- what the names of a session stand for
 unfoldable pub places_of : Session → Places
-places_of session name = get_by (λ k. slice_cmp nat_cmp name k.items) session.names
+places_of session name = get_by (λ k. bytes_eq name k.items) session.names
 
 abbrev pub places_in : Option Session → Places
 places_in None = λ name. None

@@ -1,5 +1,5 @@
 // A script, read line by line.
-ghost use Rattle.std.specs.Prelude.{◌≡◌, ◌≤◌, ◌<◌, ◌+◌, ◌^◌, [], length, nat_lt, All, OnOk, IfOk, IfErr, IfSome, Ok, ℕ, List};
+ghost use Rattle.std.specs.Prelude.{◌≡◌, ◌≤◌, ◌<◌, ◌+◌, ◌^◌, [], length, nat_lt, All, OnOk, IfOk, IfErr, IfSome, IsErr, Ok, ℕ, List};
 ghost use Rattle.script_lang.specs.declared.faults.LineError.TheVariants.{Memory};
 ghost use Rattle.script_lang.specs.Steps.{Fails, Gives};
 ghost use Rattle.script_lang.specs.Pieces.{line_words, text_lines};
@@ -182,9 +182,10 @@ fn fault_at(line: u32, error: LineError) -> ScriptFault
     }
 }
 
+// The calls of the lines, where they aren't too many.
 fn read_lines(alloc: Global, text: &[u8]) -> Result<Vec<ScriptLine>, ScriptFault>
-    requires { length (text_lines text.now) ≤ 20000 }
-    ensures value { ScriptGives (λ v. v.items) result (lines_at 1 nothing_read (text_lines text.now)) }
+    ensures many { 20000 < length (text_lines text.now) → IsErr result }
+    ensures value { length (text_lines text.now) ≤ 20000 → ScriptGives (λ v. v.items) result (lines_at 1 nothing_read (text_lines text.now)) }
     ensures few { IfOk result (λ v. length v.items ≤ 20000) }
     ensures sessions { IfOk result (λ v. All IsOfSession v.items) }
 {
@@ -195,6 +196,9 @@ fn read_lines(alloc: Global, text: &[u8]) -> Result<Vec<ScriptLine>, ScriptFault
     let mut lines = Lines::new(text);
     let mut number: u32 = 1;
     while let Some(line) = lines.next() {
+        if number > LINE_LIMIT {
+            return Err(ScriptFault::TooManyLines);
+        }
         match reading.read_line(alloc, line) {
             Ok(()) => {}
             Err(error) => return Err(fault_at(number, error)),
@@ -231,11 +235,9 @@ pub fn read_script(alloc: Global, text: &[u8]) -> Result<Script, ScriptFault>
     if text.len() > TEXT_LIMIT {
         return Err(ScriptFault::TooLong);
     }
-    if has_many_lines(text) {
-        return Err(ScriptFault::TooManyLines);
-    }
     match read_lines(alloc, text) {
         Ok(lines) => Ok(Script::of(lines)),
+        Err(_) if has_many_lines(text) => Err(ScriptFault::TooManyLines),
         Err(fault) => Err(fault),
     }
 }

@@ -7,13 +7,13 @@ ghost use Rattle.script_lang.specs.Sessions.{places_of};
 use crate::faults::LineError;
 use crate::script::ByteList;
 use std::alloc::Global;
-use std::collections::BTreeMap;
+use std::collections::HashMap;
 
 /// How many calls of a session were read, and at which place among them each name was given last.
 #[derive(Drop)]
 pub(crate) struct Session {
     pub calls: u32,
-    pub names: BTreeMap<Vec<u8>, u32>,
+    pub names: HashMap<Vec<u8>, u32>,
 }
 
 impl Session {
@@ -23,7 +23,7 @@ impl Session {
     {
         Session {
             calls: 0,
-            names: BTreeMap::new(alloc),
+            names: HashMap::new(alloc),
         }
     }
 

@@ -50,20 +50,43 @@ pub struct Worker<D: Disk, A: Devices, C: Admission> {
     pub spacing: Spacing,
 }
 
-// Where the session of a number stands.
-fn place_of<D: Disk, A: Devices, C: Admission>(
+// Where the session of a number stands among those from one place on, before another. The look begins with the last.
+fn place_between<D: Disk, A: Devices, C: Admission>(
     sessions: &[Session<D, A, C>],
+    from: usize,
+    end: usize,
     number: u8,
 ) -> Option<usize>
+    requires { end ≤ length sessions.now }
     ensures found { IfSome result (λ place. (place < length sessions.now) × ((d : session.Session _ _ _) → (get_or sessions.now place d).caller.number ≡ number)) }
-    ensures none { IfNone result (All (λ s. s.caller.number ≢ number) sessions.now) }
+    ensures none { IfNone result ((k : ℕ) (d : session.Session _ _ _) → from ≤ k → k < end → (get_or sessions.now k d).caller.number ≢ number) }
 {
-    for place in 0..sessions.len() {
+    for place in (from..end).rev() {
         if sessions[place].caller.number() == number {
             return Some(place);
         }
     }
     None
+}
+
+// Where the session of a number stands. The look begins where that stands whose call was the last: the next session of a
+// script is often the same or the next higher, and a worker has its sessions by falling numbers.
+fn place_of<D: Disk, A: Devices, C: Admission>(
+    sessions: &[Session<D, A, C>],
+    last: Option<usize>,
+    number: u8,
+) -> Option<usize>
+    ensures found { IfSome result (λ place. (place < length sessions.now) × ((d : session.Session _ _ _) → (get_or sessions.now place d).caller.number ≡ number)) }
+    ensures none { IfNone result (All (λ s. s.caller.number ≢ number) sessions.now) }
+{
+    let near = match last {
+        Some(last) => sessions.len().min(last.saturating_add(1)),
+        None => 0,
+    };
+    match place_between(sessions, 0, near, number) {
+        Some(place) => Some(place),
+        None => place_between(sessions, near, sessions.len(), number),
+    }
 }
 
 impl<D: Disk, A: Devices, C: Admission> Worker<D, A, C> {
@@ -149,7 +172,7 @@ impl<D: Disk, A: Devices, C: Admission> Worker<D, A, C> {
         ensures form { (form : reply_form.ReplyForm) → HaveForm form self.old.sessions.items → HaveForm form self.new.sessions.items }
         ensures whole { self.new.whole ≡ self.old.whole }
     {
-        let Some(place) = place_of(&self.sessions, line.session) else {
+        let Some(place) = place_of(&self.sessions, self.last, line.session) else {
             return Ok(());
         };
         self.meet(service, place);

@@ -11,7 +11,8 @@ invariant-loop-line l = record {
   counted : AreCounted l.reading.lines.items l.reading.sessions.items;
   few : length l.reading.lines.items + 1 ≤ l.number;
   sessions : All IsOfSession l.reading.lines.items;
-  bound : l.number + length l.lines ≤ 20001;
+  bound : l.number + length l.lines ≡ length (text_lines l.fn.text) + 1;
+  within : l.number ≤ 20001;
 }
 
 abbrev pub decreases-loop-line : goal.decreases-loop-line

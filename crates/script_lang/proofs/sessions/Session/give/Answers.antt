@@ -1,7 +1,4 @@
 use Rattle.std.proofs.Common.{◌∙◌, ap, sym}
-use Rattle.std.specs.Ordering.{nat_cmp, is_eq}
-use Rattle.std.specs.Cmp.Lexicographic.{slice_cmp}
-use Rattle.std.specs.Map.{lookup}
 use Rattle.std.specs.Prelude.{Some}
 use Rattle.script_lang.specs.Lines.{given_place}
 use Rattle.script_lang.specs.Sessions.{places_of}
@@ -11,7 +8,7 @@ use Rattle.script_lang.proofs.sessions.Session.give.Goals as goal
 pub returns-in_ok-insert-clause-ok : goal.returns-in_ok-insert-clause-ok
 unfolding places_of
 returns-in_ok-insert-clause-ok c =
-    λ n. ap (lookup (λ k. is_eq (slice_cmp nat_cmp n k.items))) c.in_ok-insert.ensures.entries
-    ∙ inserted (λ k. k.items) n c.args.self.now.names.entries c.into_items.result c.args.self.now.calls
+    λ n. inserted (λ k. k.items) c.into_items.result.items n c.args.self.now.names.entries _ c.args.self.now.calls
+    c.in_ok-insert.ensures.updates.1 c.in_ok-insert.ensures.updates.3
     ∙ ap (λ name. given_place (places_of c.args.self.now) (Some name) c.args.self.now.calls n) c.into_items.ensures
     ∙ ap (λ name. given_place (places_of c.args.self.now) name c.args.self.now.calls n) (sym c.in-Some.is)
