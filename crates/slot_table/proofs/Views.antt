@@ -65,6 +65,11 @@ pub changed_head : (heads : List Head) (keys : List Stored) (slots : List Slot) 
 changed_head heads keys slots i head s view is =
     ap (slots_of (set heads i head)) (sym (set-get_or keys i no_key)) ∙ slots_of-set heads keys i head (stored_at keys i) ∙ ap (λ ss. set ss i (slot_of head (stored_at keys i))) view ∙ ap (set slots i) (sym is)
 
+-- a write of a key
+pub changed_key : (heads : List Head) (keys : List Stored) (slots : List Slot) (i : ℕ) (key : Stored) (s : Slot) → slots_of heads keys ≡ slots → s ≡ slot_of (head_at heads i) key → slots_of heads (set keys i key) ≡ set slots i s
+changed_key heads keys slots i key s view is =
+    ap (λ hs. slots_of hs (set keys i key)) (sym (set-get_or heads i empty_head)) ∙ slots_of-set heads keys i (head_at heads i) key ∙ ap (λ ss. set ss i (slot_of (head_at heads i) key)) view ∙ ap (set slots i) (sym is)
+
 -- a write of both
 pub changed_both : (heads : List Head) (keys : List Stored) (slots : List Slot) (i : ℕ) (head : Head) (key : Stored) (s : Slot) → slots_of heads keys ≡ slots → s ≡ slot_of head key → slots_of (set heads i head) (set keys i key) ≡ set slots i s
 changed_both heads keys slots i head key s view is =

@@ -1,5 +1,5 @@
 -- The two rows in which a table keeps its slots.
-use Rattle.std.specs.Prelude.{◌≡◌, ℕ, ◌<◌, ◌==◌, Bool, false, ◌&&◌, List, [], ◌∷◌, length, slice_index_or}
+use Rattle.std.specs.Prelude.{◌≡◌, ℕ, ◌<◌, ◌==◌, Bool, false, ◌&&◌, List, [], ◌∷◌, length, replicate, slice_index_or}
 use Rattle.slot_states.specs.declared.SlotState.TheVariants.{Empty}
 use Rattle.secret_bytes.specs.Buffer.{buffer_of}
 use Rattle.slot_table.specs.declared.place.Head.{Head}
@@ -7,10 +7,10 @@ use Rattle.slot_table.specs.declared.place.Stored.{Stored}
 use Rattle.slot_table.specs.Slots.{Slot, no_attributes, is_empty_state, is_full}
 
 abbrev pub empty_head : Head
-empty_head = record { state = Empty; readers = 0; id = record { 0 = 0 } }
+empty_head = record { state = Empty; id = record { 0 = 0 } }
 
 abbrev pub no_key : Stored
-no_key = record { creation = 0; attributes = no_attributes; buffer = buffer_of [] }
+no_key = record { readers = 0; creation = 0; attributes = no_attributes; buffer = buffer_of []; apart = replicate 9 0 }
 
 abbrev pub head_at : List Head → ℕ → Head
 head_at heads i = slice_index_or heads i empty_head
@@ -27,7 +27,7 @@ abbrev pub head_holds_key : ℕ → Head → Bool
 head_holds_key id head = is_full head.state && (head.id.0 == id)
 
 abbrev pub slot_of : Head → Stored → Slot
-slot_of head key = record { state = head.state; readers = head.readers; creation = key.creation; attributes = key.attributes; buffer = key.buffer }
+slot_of head key = record { state = head.state; readers = key.readers; creation = key.creation; attributes = key.attributes; buffer = key.buffer }
 
 abbrev pub slots_of : List Head → List Stored → List Slot
 slots_of (head ∷ heads) (key ∷ keys) = slot_of head key ∷ slots_of heads keys

@@ -1,9 +1,9 @@
-//! One slot, in two parts: what a look for a key reads, and the key.
-ghost use Rattle.std.specs.Prelude.{◌≡◌, ◌<◌, ◌≤◌, ◌-◌, ◌+◌, ◌^◌, ◌&&◌, ◌==◌, length, true, IfOk};
+//! One slot, in two parts: what a look for a key reads, and the key with its readers.
+ghost use Rattle.std.specs.Prelude.{◌≡◌, ◌<◌, ◌≤◌, ◌-◌, ◌+◌, ◌^◌, length, true, IfOk};
 ghost use Rattle.secret_bytes.specs.Buffer.{buffer_of};
 ghost use Rattle.slot_states.specs.Changes.{may_change};
 ghost use Rattle.slot_states.specs.declared.SlotState.TheVariants.{Empty};
-ghost use Rattle.slot_table.specs.Slots.{is_empty_state, is_full, is_pending, is_idle};
+ghost use Rattle.slot_table.specs.Slots.{is_empty_state, is_full, is_pending, is_idle, is_last};
 ghost use Rattle.slot_table.specs.Rows.{empty_head, no_key, head_holds_key, slot_of};
 
 use key_attributes::{Attributes, KeyId, KeyType, Lifetime, Policy, Usage};
@@ -27,7 +27,6 @@ const NO_ATTRIBUTES: Attributes = Attributes {
 #[derive(Clone, Copy, Drop)]
 pub struct Head {
     pub state: SlotState,
-    pub readers: u32,
     pub id: KeyId,
 }
 
@@ -38,7 +37,6 @@ impl Head {
     {
         Head {
             state: SlotState::Empty,
-            readers: 0,
             id: KeyId(0),
         }
     }
@@ -64,36 +62,39 @@ impl Head {
         self.is_full() && self.id.0 == id.0
     }
 
-    /// Whether the slot's key is destroyed and just one still reads it.
-    pub fn is_last(&self) -> bool
-        ensures { result ≡ is_pending self.now.state && self.now.readers == 1 }
+    /// Whether the slot's key is destroyed and still read.
+    pub fn is_pending(&self) -> bool
+        ensures { result ≡ is_pending self.now.state }
     {
-        matches!(self.state, SlotState::Pending) && self.readers == 1
+        matches!(self.state, SlotState::Pending)
     }
 
-    /// Goes on in another state, as it may.
-    pub fn change(&mut self, to: SlotState)
-        requires { may_change self.old.state to self.old.readers ≡ true }
+    /// Goes on in another state, as it may where the key has so many readers.
+    pub fn change(&mut self, to: SlotState, _readers: u32)
+        requires { may_change self.old.state to _readers ≡ true }
         ensures { self.new ≡ record self.old { state = to } }
     {
         self.state = to;
     }
 
-    /// Becomes that of an empty slot, as it may.
-    pub fn wipe(&mut self)
-        requires { may_change self.old.state Empty self.old.readers ≡ true }
+    /// Becomes that of an empty slot, as it may where the key has so many readers.
+    pub fn wipe(&mut self, _readers: u32)
+        requires { may_change self.old.state Empty _readers ≡ true }
         ensures { self.new ≡ empty_head }
     {
         *self = Head::empty();
     }
 }
 
-/// The key of a slot.
+/// The key of a slot, with the number of its readers. No two stand in one line of a processor's cache.
 #[derive(Drop)]
 pub struct Stored {
+    pub readers: u32,
     pub creation: u64,
     pub attributes: Attributes,
     pub buffer: Secret,
+    // Unused: it parts the key from the next one.
+    pub apart: [u64; 9],
 }
 
 impl Stored {
@@ -103,17 +104,20 @@ impl Stored {
     {
         let buffer = Secret::new(alloc)?;
         Ok(Stored {
+            readers: 0,
             creation: 0,
             attributes: NO_ATTRIBUTES,
             buffer,
+            apart: [0; 9],
         })
     }
 
-    /// Takes a new key in.
+    /// Takes a new key in, which nobody reads.
     pub fn fill(&mut self, creation: u64, attributes: &Attributes, bytes: &[u8])
         requires { length bytes.now ≤ 1024 }
-        ensures { self.new ≡ record { creation = creation; attributes = attributes.now; buffer = buffer_of bytes.now } }
+        ensures { self.new ≡ record { readers = 0; creation = creation; attributes = attributes.now; buffer = buffer_of bytes.now; apart = self.old.apart } }
     {
+        self.readers = 0;
         self.creation = creation;
         self.attributes = *attributes;
         self.buffer.fill_from(bytes);
@@ -121,8 +125,9 @@ impl Stored {
 
     /// Forgets the key: all 1,024 bytes are zeros.
     pub fn wipe(&mut self)
-        ensures { self.new ≡ no_key }
+        ensures { self.new ≡ record no_key { apart = self.old.apart } }
     {
+        self.readers = 0;
         self.creation = 0;
         self.attributes = NO_ATTRIBUTES;
         self.buffer.wipe();
@@ -133,5 +138,12 @@ impl Stored {
 pub fn is_idle(head: &Head, key: &Stored) -> bool
     ensures { result ≡ is_idle (slot_of head.now key.now) }
 {
-    head.is_full() && key.attributes.lifetime.0 & 0xff == 1 && head.readers == 0
+    head.is_full() && key.attributes.lifetime.0 & 0xff == 1 && key.readers == 0
+}
+
+/// Whether the key of a slot of these parts is destroyed and just one still reads it.
+pub fn is_last(head: &Head, key: &Stored) -> bool
+    ensures { result ≡ is_last (slot_of head.now key.now) }
+{
+    head.is_pending() && key.readers == 1
 }

@@ -1,12 +1,12 @@
-//! The slots of a table, in two rows: what a look for a key reads, and the keys.
+//! The slots of a table, in two rows: what a look for a key reads, and the keys with their readers.
 ghost use Rattle.std.specs.Prelude.{◌≡◌, ◌<◌, ◌≤◌, ◌-◌, ◌+◌, ◌^◌, length, slice_set, replicate, true, IfOk, IfSome, MatchOption};
 ghost use Rattle.slot_states.specs.Changes.{may_change};
 ghost use Rattle.slot_states.specs.declared.SlotState.TheVariants.{Empty, Full};
-ghost use Rattle.slot_table.specs.Slots.{empty_slot, slot_at, holds_key, is_idle, NoKey, NoneEmpty, IsEmptyAt, IsNoneEmptyBefore};
+ghost use Rattle.slot_table.specs.Slots.{empty_slot, slot_at, holds_key, is_idle, is_last, NoKey, NoneEmpty, IsEmptyAt, IsNoneEmptyBefore};
 ghost use Rattle.slot_table.specs.Changes.{full_slot, registered};
 ghost use Rattle.slot_table.specs.Rows.{no_key};
 
-use crate::place::{Head, Stored, is_idle};
+use crate::place::{Head, Stored, is_idle, is_last};
 use key_attributes::{Attributes, KeyId};
 use psa_status::Memory;
 use slot_states::SlotState;
@@ -97,11 +97,18 @@ impl SlotRows {
         is_idle(&self.heads[place], &self.keys[place])
     }
 
+    /// Whether the key of a slot is destroyed and just one still reads it.
+    pub fn is_last(&self, slot: u32) -> bool
+        requires { slot < length self.now }
+        ensures { result ≡ is_last (slot_at self.now slot) }
+    {
+        is_last(&self.heads[slot as usize], &self.keys[slot as usize])
+    }
+
     /// What a look for a key reads of a slot.
     pub fn head(&self, slot: u32) -> Head
         requires { slot < length self.now }
-        ensures state { result.state ≡ (slot_at self.now slot).state }
-        ensures readers { result.readers ≡ (slot_at self.now slot).readers }
+        ensures { result.state ≡ (slot_at self.now slot).state }
     {
         self.heads[slot as usize]
     }
@@ -109,6 +116,7 @@ impl SlotRows {
     /// The key of a slot.
     pub fn key(&self, slot: u32) -> &Stored
         requires { slot < length self.now }
+        ensures readers { result.now.readers ≡ (slot_at self.now slot).readers }
         ensures creation { result.now.creation ≡ (slot_at self.now slot).creation }
         ensures attributes { result.now.attributes ≡ (slot_at self.now slot).attributes }
         ensures buffer { result.now.buffer ≡ (slot_at self.now slot).buffer }
@@ -122,7 +130,8 @@ impl SlotRows {
         requires allowed { may_change (slot_at self.old slot).state to (slot_at self.old slot).readers ≡ true }
         ensures { self.new ≡ slice_set self.old slot (record (slot_at self.old slot) { state = to }) }
     {
-        self.heads[slot as usize].change(to);
+        let readers = self.keys[slot as usize].readers;
+        self.heads[slot as usize].change(to, readers);
         self.first = self.first.min(slot as usize);
     }
 
@@ -134,10 +143,11 @@ impl SlotRows {
         requires short { length bytes.now ≤ 1024 }
         ensures { self.new ≡ slice_set self.old slot (full_slot creation attributes.now bytes.now) }
     {
+        let key = &mut self.keys[slot as usize];
         let head = &mut self.heads[slot as usize];
-        head.change(SlotState::Full);
+        head.change(SlotState::Full, key.readers);
         head.id = attributes.id;
-        self.keys[slot as usize].fill(creation, attributes, bytes);
+        key.fill(creation, attributes, bytes);
         self.first = self.first.min(slot as usize);
     }
 
@@ -147,8 +157,9 @@ impl SlotRows {
         requires allowed { may_change (slot_at self.old slot).state Empty (slot_at self.old slot).readers ≡ true }
         ensures { self.new ≡ slice_set self.old slot empty_slot }
     {
-        self.keys[slot as usize].wipe();
-        self.heads[slot as usize].wipe();
+        let key = &mut self.keys[slot as usize];
+        self.heads[slot as usize].wipe(key.readers);
+        key.wipe();
         self.first = self.first.min(slot as usize);
     }
 
@@ -158,8 +169,8 @@ impl SlotRows {
         requires few { (slot_at self.old slot).readers < 2 ^ 32 - 1 }
         ensures { self.new ≡ slice_set self.old slot (registered (slot_at self.old slot)) }
     {
-        let head = &mut self.heads[slot as usize];
-        head.readers += 1;
+        let key = &mut self.keys[slot as usize];
+        key.readers += 1;
     }
 
     /// One reader less.
@@ -168,8 +179,8 @@ impl SlotRows {
         requires read { 0 < (slot_at self.old slot).readers }
         ensures { self.new ≡ slice_set self.old slot (record (slot_at self.old slot) { readers = (slot_at self.old slot).readers - 1 }) }
     {
-        let head = &mut self.heads[slot as usize];
-        head.readers -= 1;
+        let key = &mut self.keys[slot as usize];
+        key.readers -= 1;
     }
 }
 

@@ -186,7 +186,7 @@ impl SlotTable {
         ensures recency { self.new.recency ≡ recency_without slot self.old.recency }
         ensures lawful { IsLawful self.new }
     {
-        if self.rows.head(slot).readers == 0 {
+        if self.rows.key(slot).readers == 0 {
             self.discard(slot);
         } else {
             self.hold(slot);
@@ -284,7 +284,7 @@ impl SlotTable {
         ensures recency { self.new.recency ≡ self.old.recency }
         ensures lawful { IsLawful self.new }
     {
-        if self.rows.head(slot).is_last() {
+        if self.rows.is_last(slot) {
             self.rows.wipe(slot);
         } else {
             self.rows.unregister(slot);

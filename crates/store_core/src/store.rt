@@ -10,8 +10,10 @@ use std::snapshot::Snapshot;
 /// Keys in slots, in a file and in a device, under rules.
 #[derive(Drop)]
 pub struct Store<D: Disk, A: Devices, C: Admission> {
-    pub file: KeyFile<D>,
     pub slots: KeySlots,
+    /// How many ranked turns there were. It stands beside what each turn reads of the slots.
+    pub ranked: u64,
+    pub file: KeyFile<D>,
     pub devices: A,
     pub rules: C,
     /// How many volatile keys each caller has made, by its number.
@@ -22,8 +24,6 @@ pub struct Store<D: Disk, A: Devices, C: Admission> {
     pub kept: u32,
     /// How many keys were found at the opening.
     pub found: u64,
-    /// How many ranked turns there were.
-    pub ranked: u64,
     /// Where a key is read from the file. Clear between turns.
     pub buffer: Secret,
     /// What the opening saw.

@@ -1,8 +1,12 @@
 use Rattle.std.proofs.Common.{arith, refl}
 use Rattle.std.proofs.lemmas.List.{get_or_read}
 use Rattle.slot_table.proofs.Views.{stands_at, changed_head}
-use Rattle.slot_table.specs.Rows.{empty_head}
+use Rattle.slot_table.specs.Rows.{empty_head, no_key}
 use Rattle.slot_table.proofs.rows.SlotRows.change.Goals as goal
+
+pub index-requires : goal.index-requires
+index-requires c =
+    omega (arith, (stands_at _ _ _ _ c.self.invariant c.self.view_is c.requires.within).key, c.self.inside.keys.ok.0)
 
 pub index_mut-requires : goal.index_mut-requires
 index_mut-requires c =
@@ -11,9 +15,10 @@ index_mut-requires c =
 pub change-requires : goal.change-requires
 change-requires c =
     let f = stands_at _ _ _ c.args.slot c.self.invariant c.self.view_is c.requires.within in
-    rw (get_or_read c.self.inside.heads.items _ _ f.head c.index_mut.ensures.value empty_head) (rw f.slot at c.requires.allowed)
+    rw (get_or_read c.self.inside.heads.items _ _ f.head c.index_mut.ensures.value empty_head, get_or_read c.self.inside.keys.items _ _ f.key c.index.ensures no_key)
+    (rw f.slot at c.requires.allowed)
 
 pub returns : goal.returns
 returns c =
     let f = stands_at _ _ _ c.args.slot c.self.invariant c.self.view_is c.requires.within in
-    changed_head _ _ _ _ _ _ c.self.view_is (rw (f.slot, c.change.ensures, get_or_read c.self.inside.heads.items _ _ f.head c.index_mut.ensures.value empty_head) refl)
+    changed_head _ _ _ _ _ _ c.self.view_is (rw (f.slot, c.change.ensures) refl)

@@ -1,8 +1,12 @@
-use Rattle.std.proofs.Common.{◌≡◌, arith, refl}
+use Rattle.std.proofs.Common.{arith, refl}
 use Rattle.std.proofs.lemmas.List.{get_or_read}
 use Rattle.slot_table.proofs.Views.{stands_at, changed_both}
-use Rattle.slot_table.specs.Rows.{empty_head}
+use Rattle.slot_table.specs.Rows.{empty_head, no_key}
 use Rattle.slot_table.proofs.rows.SlotRows.fill.Goals as goal
+
+pub index_mut-key-requires : goal.index_mut-key-requires
+index_mut-key-requires c =
+    omega (arith, (stands_at _ _ _ _ c.self.invariant c.self.view_is c.requires.within).key, c.self.inside.keys.ok.0)
 
 pub index_mut-head-requires : goal.index_mut-head-requires
 index_mut-head-requires c =
@@ -11,14 +15,8 @@ index_mut-head-requires c =
 pub change-requires : goal.change-requires
 change-requires c =
     let f = stands_at _ _ _ c.args.slot c.self.invariant c.self.view_is c.requires.within in
-    rw (get_or_read c.self.inside.heads.items _ _ f.head c.index_mut-head.ensures.value empty_head) (rw f.slot at c.requires.allowed)
-
-pub index_mut-requires : goal.index_mut-requires
-index_mut-requires c =
-    omega (arith, (stands_at _ _ _ _ c.self.invariant c.self.view_is c.requires.within).key, c.self.inside.keys.ok.0)
+    rw (get_or_read c.self.inside.heads.items _ _ f.head c.index_mut-head.ensures.value empty_head, get_or_read c.self.inside.keys.items _ _ f.key c.index_mut-key.ensures.value no_key)
+    (rw f.slot at c.requires.allowed)
 
 pub returns : goal.returns
-returns c =
-    let f = stands_at _ _ _ c.args.slot c.self.invariant c.self.view_is c.requires.within in
-    let unread : c.index_mut-head.result.now.readers ≡ 0 = rw (get_or_read c.self.inside.heads.items _ _ f.head c.index_mut-head.ensures.value empty_head) (rw f.slot at c.requires.unread) in
-    changed_both _ _ _ _ _ _ _ c.self.view_is (rw (c.change.ensures, unread, c.fill.ensures) refl)
+returns c = changed_both _ _ _ _ _ _ _ c.self.view_is (rw (c.change.ensures, c.fill.ensures) refl)

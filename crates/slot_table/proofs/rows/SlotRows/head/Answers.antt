@@ -8,12 +8,7 @@ pub index-requires : goal.index-requires
 index-requires c =
     omega (arith, (stands_at _ _ _ _ c.self.invariant c.self.view_is c.requires).head, c.self.inside.heads.ok.0)
 
-pub returns-clause-state : goal.returns-clause-state
-returns-clause-state c =
-    let f = stands_at _ _ _ c.args.slot c.self.invariant c.self.view_is c.requires in
-    rw (f.slot, get_or_read c.self.inside.heads.items _ _ f.head c.index.ensures empty_head) refl
-
-pub returns-clause-readers : goal.returns-clause-readers
-returns-clause-readers c =
+pub returns : goal.returns
+returns c =
     let f = stands_at _ _ _ c.args.slot c.self.invariant c.self.view_is c.requires in
     rw (f.slot, get_or_read c.self.inside.heads.items _ _ f.head c.index.ensures empty_head) refl

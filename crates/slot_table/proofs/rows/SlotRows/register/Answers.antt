@@ -1,19 +1,19 @@
 use Rattle.std.proofs.Common.{arith, refl}
 use Rattle.std.proofs.lemmas.List.{get_or_read}
-use Rattle.slot_table.proofs.Views.{stands_at, changed_head}
-use Rattle.slot_table.specs.Rows.{empty_head}
+use Rattle.slot_table.proofs.Views.{stands_at, changed_key}
+use Rattle.slot_table.specs.Rows.{no_key}
 use Rattle.slot_table.proofs.rows.SlotRows.register.Goals as goal
 
-pub index_mut-head-requires : goal.index_mut-head-requires
-index_mut-head-requires c =
-    omega (arith, (stands_at _ _ _ _ c.self.invariant c.self.view_is c.requires.within).head, c.self.inside.heads.ok.0)
+pub index_mut-key-requires : goal.index_mut-key-requires
+index_mut-key-requires c =
+    omega (arith, (stands_at _ _ _ _ c.self.invariant c.self.view_is c.requires.within).key, c.self.inside.keys.ok.0)
 
-pub overflow_add-head : goal.overflow_add-head
-overflow_add-head c =
+pub overflow_add-key : goal.overflow_add-key
+overflow_add-key c =
     let f = stands_at _ _ _ c.args.slot c.self.invariant c.self.view_is c.requires.within in
-    rw (get_or_read c.self.inside.heads.items _ _ f.head c.index_mut-head.ensures.value empty_head) (let few = rw f.slot at c.requires.few in omega (arith, few))
+    rw (get_or_read c.self.inside.keys.items _ _ f.key c.index_mut-key.ensures.value no_key) (let few = rw f.slot at c.requires.few in omega (arith, few))
 
 pub returns : goal.returns
 returns c =
     let f = stands_at _ _ _ c.args.slot c.self.invariant c.self.view_is c.requires.within in
-    changed_head _ _ _ _ _ _ c.self.view_is (rw (f.slot, get_or_read c.self.inside.heads.items _ _ f.head c.index_mut-head.ensures.value empty_head) refl)
+    changed_key _ _ _ _ _ _ c.self.view_is (rw (f.slot, get_or_read c.self.inside.keys.items _ _ f.key c.index_mut-key.ensures.value no_key) refl)

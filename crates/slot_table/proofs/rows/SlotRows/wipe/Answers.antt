@@ -1,21 +1,22 @@
 use Rattle.std.proofs.Common.{arith, refl}
 use Rattle.std.proofs.lemmas.List.{get_or_read}
 use Rattle.slot_table.proofs.Views.{stands_at, changed_both}
-use Rattle.slot_table.specs.Rows.{empty_head}
+use Rattle.slot_table.specs.Rows.{empty_head, no_key}
 use Rattle.slot_table.proofs.rows.SlotRows.wipe.Goals as goal
+
+pub index_mut-key-requires : goal.index_mut-key-requires
+index_mut-key-requires c =
+    omega (arith, (stands_at _ _ _ _ c.self.invariant c.self.view_is c.requires.within).key, c.self.inside.keys.ok.0)
 
 pub index_mut-requires : goal.index_mut-requires
 index_mut-requires c =
-    omega (arith, (stands_at _ _ _ _ c.self.invariant c.self.view_is c.requires.within).key, c.self.inside.keys.ok.0)
-
-pub index_mut-requires-2 : goal.index_mut-requires-2
-index_mut-requires-2 c =
     omega (arith, (stands_at _ _ _ _ c.self.invariant c.self.view_is c.requires.within).head, c.self.inside.heads.ok.0)
 
-pub wipe-requires-2 : goal.wipe-requires-2
-wipe-requires-2 c =
+pub wipe-requires : goal.wipe-requires
+wipe-requires c =
     let f = stands_at _ _ _ c.args.slot c.self.invariant c.self.view_is c.requires.within in
-    rw (get_or_read c.self.inside.heads.items _ _ f.head c.index_mut-2.ensures.value empty_head) (rw f.slot at c.requires.allowed)
+    rw (get_or_read c.self.inside.heads.items _ _ f.head c.index_mut.ensures.value empty_head, get_or_read c.self.inside.keys.items _ _ f.key c.index_mut-key.ensures.value no_key)
+    (rw f.slot at c.requires.allowed)
 
 pub returns : goal.returns
 returns c = changed_both _ _ _ _ _ _ _ c.self.view_is (rw (c.wipe.ensures, c.wipe-2.ensures) refl)
