@@ -79,9 +79,9 @@ fn last_round_key(key: &AesKey) -> Option<u128> {
 fn schedules(rt: HostRuntime) -> Result<(), Fail> {
     for (halves, length, expected) in SCHEDULES.iter() {
         let mut key = key_of(*halves, *length).ok_or("key")?;
-        assert_eq!(rt; last_round_key(&key), Some(*expected));
+        assert!(rt; last_round_key(&key) == Some(*expected));
         key.wipe();
-        assert_eq!(rt; key.schedule, [0; 60]);
+        assert!(rt; key.schedule == [0; 60]);
     }
     Ok(())
 }

@@ -140,11 +140,11 @@ fn agrees(case: &Case, cut: usize, size: usize) -> Result<bool, Status> {
 #[test]
 fn any_cutting(rt: HostRuntime) -> Result<(), Fail> {
     for cut in 0..49 {
-        assert_eq!(rt; agrees(&GCM, cut, 64), Ok(true));
-        assert_eq!(rt; agrees(&CCM, cut, 64), Ok(true));
+        assert!(rt; agrees(&GCM, cut, 64) == Ok(true));
+        assert!(rt; agrees(&CCM, cut, 64) == Ok(true));
     }
-    assert_eq!(rt; agrees(&GCM, 1, 1), Ok(true));
-    assert_eq!(rt; agrees(&CCM, 1, 1), Ok(true));
+    assert!(rt; agrees(&GCM, 1, 1) == Ok(true));
+    assert!(rt; agrees(&CCM, 1, 1) == Ok(true));
     Ok(())
 }
 
@@ -152,19 +152,13 @@ fn any_cutting(rt: HostRuntime) -> Result<(), Fail> {
 #[test]
 fn phases(rt: HostRuntime) -> Result<(), Fail> {
     let mut state = AeadState::new();
-    assert_eq!(rt; state.aead_set_nonce(GCM.nonce), Err(Status::BadState));
-    assert_eq!(rt;
-        without_key(&mut state, AeadStep::Finish),
-        Some(Status::BadState)
-    );
-    assert_eq!(rt; setup(&mut state, &GCM, true), Ok(()));
-    assert_eq!(rt; setup(&mut state, &GCM, true), Err(Status::BadState));
-    assert_eq!(rt; state.aead_set_nonce(GCM.nonce), Ok(()));
-    assert_eq!(rt;
-        without_key(&mut state, AeadStep::Finish),
-        Some(Status::InvalidHandle)
-    );
-    assert_eq!(rt; state.aead_finish(&mut [0; 16]), Err(Status::BadState));
+    assert!(rt; state.aead_set_nonce(GCM.nonce) == Err(Status::BadState));
+    assert!(rt; without_key(&mut state, AeadStep::Finish) == Some(Status::BadState));
+    assert!(rt; setup(&mut state, &GCM, true) == Ok(()));
+    assert!(rt; setup(&mut state, &GCM, true) == Err(Status::BadState));
+    assert!(rt; state.aead_set_nonce(GCM.nonce) == Ok(()));
+    assert!(rt; without_key(&mut state, AeadStep::Finish) == Some(Status::InvalidHandle));
+    assert!(rt; state.aead_finish(&mut [0; 16]) == Err(Status::BadState));
     assert!(rt; !state.is_inactive());
     state.wipe();
     assert!(rt; state.is_inactive());
@@ -175,22 +169,19 @@ fn phases(rt: HostRuntime) -> Result<(), Fail> {
 fn nonces_and_lengths(rt: HostRuntime) -> Result<(), Fail> {
     // CCM's nonce before the lengths
     let mut state = AeadState::new();
-    assert_eq!(rt; setup(&mut state, &CCM, true), Ok(()));
-    assert_eq!(rt; state.aead_set_nonce(CCM.nonce), Err(Status::BadState));
-    assert_eq!(rt; state.aead_set_lengths(16, 16), Err(Status::BadState));
+    assert!(rt; setup(&mut state, &CCM, true) == Ok(()));
+    assert!(rt; state.aead_set_nonce(CCM.nonce) == Err(Status::BadState));
+    assert!(rt; state.aead_set_lengths(16, 16) == Err(Status::BadState));
     // lengths after the nonce
     state.wipe();
-    assert_eq!(rt; setup(&mut state, &GCM, true), Ok(()));
-    assert_eq!(rt; state.aead_set_nonce(GCM.nonce), Ok(()));
-    assert_eq!(rt; state.aead_set_lengths(20, 60), Err(Status::BadState));
+    assert!(rt; setup(&mut state, &GCM, true) == Ok(()));
+    assert!(rt; state.aead_set_nonce(GCM.nonce) == Ok(()));
+    assert!(rt; state.aead_set_lengths(20, 60) == Err(Status::BadState));
     // a nonce that is too long for the declared payload
     state.wipe();
-    assert_eq!(rt; setup(&mut state, &CCM, false), Ok(()));
-    assert_eq!(rt; state.aead_set_lengths(0, 65536), Ok(()));
-    assert_eq!(rt;
-        state.aead_set_nonce(&[0; 13]),
-        Err(Status::InvalidArgument)
-    );
+    assert!(rt; setup(&mut state, &CCM, false) == Ok(()));
+    assert!(rt; state.aead_set_lengths(0, 65536) == Ok(()));
+    assert!(rt; state.aead_set_nonce(&[0; 13]) == Err(Status::InvalidArgument));
     Ok(())
 }
 
@@ -205,15 +196,12 @@ fn generated(case: &Case, payload: u64, out: &mut [u8; 16]) -> Result<usize, Sta
 #[test]
 fn generated_nonces(rt: HostRuntime) -> Result<(), Fail> {
     let mut out = [0; 16];
-    assert_eq!(rt; generated(&GCM, 65536, &mut out), Ok(12));
-    assert_eq!(rt; out, [7, 7, 7, 7, 7, 7, 7, 7, 7, 7, 7, 7, 0, 0, 0, 0]);
-    assert_eq!(rt; generated(&CCM, 65535, &mut out), Ok(13));
-    assert_eq!(rt; generated(&CCM, 65536, &mut out), Ok(12));
-    assert_eq!(rt; generated(&CCM, 1 << 24, &mut out), Ok(11));
-    assert_eq!(rt;
-        generated(&CCM, 1 << 32, &mut out),
-        Err(Status::InvalidArgument)
-    );
+    assert!(rt; generated(&GCM, 65536, &mut out) == Ok(12));
+    assert!(rt; out == [7, 7, 7, 7, 7, 7, 7, 7, 7, 7, 7, 7, 0, 0, 0, 0]);
+    assert!(rt; generated(&CCM, 65535, &mut out) == Ok(13));
+    assert!(rt; generated(&CCM, 65536, &mut out) == Ok(12));
+    assert!(rt; generated(&CCM, 1 << 24, &mut out) == Ok(11));
+    assert!(rt; generated(&CCM, 1 << 32, &mut out) == Err(Status::InvalidArgument));
     Ok(())
 }
 
@@ -222,25 +210,19 @@ fn data_and_text(rt: HostRuntime) -> Result<(), Fail> {
     let mut out = [0; 64];
     // associated data after text of no bytes
     let mut state = begun(&GCM, true).ok().ok_or("begun")?;
-    assert_eq!(rt; state.aead_update_ad(GCM.ad), Ok(()));
-    assert_eq!(rt; state.aead_update(&[], &mut out), Ok(0));
-    assert_eq!(rt; state.aead_update_ad(&[]), Err(Status::BadState));
+    assert!(rt; state.aead_update_ad(GCM.ad) == Ok(()));
+    assert!(rt; state.aead_update(&[], &mut out) == Ok(0));
+    assert!(rt; state.aead_update_ad(&[]) == Err(Status::BadState));
     // past the declared length, and then in error
     let mut state = begun(&CCM, true).ok().ok_or("begun")?;
-    assert_eq!(rt; state.aead_update_ad(CCM.ad), Ok(()));
-    assert_eq!(rt;
-        state.aead_update(&[0; 17], &mut out),
-        Err(Status::InvalidArgument)
-    );
-    assert_eq!(rt;
-        state.aead_update(&[0; 16], &mut out),
-        Err(Status::BadState)
-    );
+    assert!(rt; state.aead_update_ad(CCM.ad) == Ok(()));
+    assert!(rt; state.aead_update(&[0; 17], &mut out) == Err(Status::InvalidArgument));
+    assert!(rt; state.aead_update(&[0; 16], &mut out) == Err(Status::BadState));
     // a finish before the declared lengths
     let mut state = begun(&GCM, true).ok().ok_or("begun")?;
-    assert_eq!(rt; state.aead_update_ad(GCM.ad), Ok(()));
-    assert_eq!(rt; state.aead_update(&[0; 59], &mut out), Ok(59));
-    assert_eq!(rt; state.aead_finish(&mut out), Err(Status::InvalidArgument));
+    assert!(rt; state.aead_update_ad(GCM.ad) == Ok(()));
+    assert!(rt; state.aead_update(&[0; 59], &mut out) == Ok(59));
+    assert!(rt; state.aead_finish(&mut out) == Err(Status::InvalidArgument));
     Ok(())
 }
 
@@ -255,15 +237,9 @@ fn verified(case: &Case, tag: &[u8]) -> Result<(Result<(), Status>, bool), Statu
 
 #[test]
 fn wrong_tags(rt: HostRuntime) -> Result<(), Fail> {
-    assert_eq!(rt; verified(&CCM, CCM.tag), Ok((Ok(()), true)));
+    assert!(rt; verified(&CCM, CCM.tag) == Ok((Ok(()), true)));
     let last_bit = [0x1f, 0xc6, 0x4f, 0xbf, 0xac, 0xcc];
-    assert_eq!(rt;
-        verified(&CCM, &last_bit),
-        Ok((Err(Status::InvalidSignature), false))
-    );
-    assert_eq!(rt;
-        verified(&CCM, &CCM.tag[..4]),
-        Ok((Err(Status::InvalidSignature), false))
-    );
+    assert!(rt; verified(&CCM, &last_bit) == Ok((Err(Status::InvalidSignature), false)));
+    assert!(rt; verified(&CCM, &CCM.tag[..4]) == Ok((Err(Status::InvalidSignature), false)));
     Ok(())
 }

@@ -248,10 +248,7 @@ fn hkdf_in_pieces(rt: HostRuntime) -> Result<(), Fail> {
     for case in HKDF_CASES.iter() {
         for size in 1..41usize {
             begin_hkdf(&mut state, case, &mut out).map_err(|_| "refused")?;
-            assert_eq!(rt;
-                gives_in_pieces(&mut state, case.okm, size, &mut out),
-                Ok(true)
-            );
+            assert!(rt; gives_in_pieces(&mut state, case.okm, size, &mut out) == Ok(true));
         }
     }
     Ok(())
@@ -271,10 +268,7 @@ fn pbkdf2_with_a_salt_in_two(rt: HostRuntime) -> Result<(), Fail> {
             Call::Bytes(PASSWORD, case.password),
         ];
         make_all(&mut state, &calls, &mut out).map_err(|_| "refused")?;
-        assert_eq!(rt;
-            gives_in_pieces(&mut state, case.key, 24, &mut out),
-            Ok(true)
-        );
+        assert!(rt; gives_in_pieces(&mut state, case.key, 24, &mut out) == Ok(true));
     }
     Ok(())
 }
@@ -301,21 +295,12 @@ fn capacity_is_255_blocks(rt: HostRuntime) -> Result<(), Fail> {
     let mut state = DerivationState::new(rt.alloc()).map_err(|_| "memory")?;
     let mut out = [0; 8160];
     begin_hkdf(&mut state, &HKDF_CASES[2], &mut out).map_err(|_| "refused")?;
-    assert_eq!(rt;
-        first_other_answer(&mut state, &TO_THE_LAST_BYTE, &mut out),
-        None
-    );
-    assert_eq!(rt; &out[8128..], &LAST_BLOCK[..]);
-    assert_eq!(rt;
-        first_other_answer(&mut state, &PAST_THE_LAST_BYTE, &mut out),
-        None
-    );
+    assert!(rt; first_other_answer(&mut state, &TO_THE_LAST_BYTE, &mut out) == None);
+    assert!(rt; &out[8128..] == &LAST_BLOCK[..]);
+    assert!(rt; first_other_answer(&mut state, &PAST_THE_LAST_BYTE, &mut out) == None);
 
     begin_hkdf(&mut state, &HKDF_CASES[2], &mut out).map_err(|_| "refused")?;
-    assert_eq!(rt;
-        first_other_answer(&mut state, &PAST_A_LOWER_CAPACITY, &mut out),
-        None
-    );
+    assert!(rt; first_other_answer(&mut state, &PAST_A_LOWER_CAPACITY, &mut out) == None);
     Ok(())
 }
 
@@ -338,20 +323,11 @@ fn a_key_comes_from_a_key_alone(rt: HostRuntime) -> Result<(), Fail> {
     let mut state = DerivationState::new(rt.alloc()).map_err(|_| "memory")?;
     let mut out = [0; 8160];
     begin_hkdf(&mut state, &HKDF_CASES[2], &mut out).map_err(|_| "refused")?;
-    assert_eq!(rt;
-        make(&mut state, &Call::OutputKey(336), &mut out),
-        Err(Status::NotPermitted)
-    );
+    assert!(rt; make(&mut state, &Call::OutputKey(336), &mut out) == Err(Status::NotPermitted));
 
-    assert_eq!(rt;
-        first_other_answer(&mut state, &KEYS_OF_42_BYTES, &mut out),
-        None
-    );
-    assert_eq!(rt; out.get(..42), Some(HKDF_CASES[2].okm));
-    assert_eq!(rt;
-        first_other_answer(&mut state, &A_KEY_OF_THE_REST, &mut out),
-        None
-    );
+    assert!(rt; first_other_answer(&mut state, &KEYS_OF_42_BYTES, &mut out) == None);
+    assert!(rt; out.get(..42) == Some(HKDF_CASES[2].okm));
+    assert!(rt; first_other_answer(&mut state, &A_KEY_OF_THE_REST, &mut out) == None);
     Ok(())
 }
 
@@ -369,11 +345,8 @@ fn a_refused_verify_takes_its_bytes(rt: HostRuntime) -> Result<(), Fail> {
     let mut state = DerivationState::new(rt.alloc()).map_err(|_| "memory")?;
     let mut out = [0; 8160];
     begin_hkdf(&mut state, &HKDF_CASES[2], &mut out).map_err(|_| "refused")?;
-    assert_eq!(rt;
-        first_other_answer(&mut state, &VERIFIED_TWICE, &mut out),
-        None
-    );
-    assert_eq!(rt; out.get(..22), HKDF_CASES[2].okm.get(20..));
+    assert!(rt; first_other_answer(&mut state, &VERIFIED_TWICE, &mut out) == None);
+    assert!(rt; out.get(..22) == HKDF_CASES[2].okm.get(20..));
     Ok(())
 }
 
@@ -407,14 +380,8 @@ const COSTS_AND_A_PASSWORD: [(Call, Result<u64, Status>); 9] = [
 fn inputs_come_in_order(rt: HostRuntime) -> Result<(), Fail> {
     let mut out = [0; 8160];
     let mut state = DerivationState::new(rt.alloc()).map_err(|_| "memory")?;
-    assert_eq!(rt;
-        first_other_answer(&mut state, &OUT_OF_ORDER, &mut out),
-        None
-    );
+    assert!(rt; first_other_answer(&mut state, &OUT_OF_ORDER, &mut out) == None);
     let mut state = DerivationState::new(rt.alloc()).map_err(|_| "memory")?;
-    assert_eq!(rt;
-        first_other_answer(&mut state, &COSTS_AND_A_PASSWORD, &mut out),
-        None
-    );
+    assert!(rt; first_other_answer(&mut state, &COSTS_AND_A_PASSWORD, &mut out) == None);
     Ok(())
 }

@@ -86,8 +86,8 @@ fn hashes_cut_everywhere(rt: HostRuntime) -> Result<(), Fail> {
             state.hash_update(front)?;
             state.hash_update(back)?;
             let mut out = [0; 32];
-            assert_eq!(rt; state.hash_finish(&mut out)?, 32);
-            assert_eq!(rt; out.as_slice(), *hash);
+            assert!(rt; state.hash_finish(&mut out)? == 32);
+            assert!(rt; out.as_slice() == *hash);
             state.hash_setup(SHA_256)?;
             state.hash_update(front)?;
             state.hash_update(back)?;
@@ -108,7 +108,7 @@ fn macs_cut_everywhere(rt: HostRuntime) -> Result<(), Fail> {
             state.mac_update(front)?;
             state.mac_update(back)?;
             let length = state.mac_sign_finish(&mut out)?;
-            assert_eq!(rt; out.get(..length).ok_or("length")?, *mac);
+            assert!(rt; out.get(..length).ok_or("length")? == *mac);
             set_up(&mut state, true, *alg, *key)?;
             state.mac_update(front)?;
             state.mac_update(back)?;
@@ -136,22 +136,22 @@ fn macs_byte_by_byte() -> Result<(), Fail> {
 fn hashes_out_of_order(rt: HostRuntime) -> Result<(), Fail> {
     let mut state = HashOpState::new();
     let mut out = [7; 31];
-    assert_eq!(rt; state.hash_update(b"a"), Err(Status::BadState));
-    assert_eq!(rt; state.hash_setup(CMAC), Err(Status::InvalidArgument));
+    assert!(rt; state.hash_update(b"a") == Err(Status::BadState));
+    assert!(rt; state.hash_setup(CMAC) == Err(Status::InvalidArgument));
     state.hash_setup(SHA_256)?;
-    assert_eq!(rt; state.hash_setup(SHA_256), Err(Status::BadState));
+    assert!(rt; state.hash_setup(SHA_256) == Err(Status::BadState));
     state.hash_update(b"abc")?;
-    assert_eq!(rt; state.hash_finish(&mut out), Err(Status::BufferTooSmall));
-    assert_eq!(rt; out, [7; 31]);
-    assert_eq!(rt; state.hash_update(b"a"), Err(Status::BadState));
-    assert_eq!(rt; state.hash_setup(SHA_256), Err(Status::BadState));
+    assert!(rt; state.hash_finish(&mut out) == Err(Status::BufferTooSmall));
+    assert!(rt; out == [7; 31]);
+    assert!(rt; state.hash_update(b"a") == Err(Status::BadState));
+    assert!(rt; state.hash_setup(SHA_256) == Err(Status::BadState));
     assert!(rt; !state.is_inactive());
     state.wipe();
     state.hash_setup(SHA_256)?;
     state.hash_update(b"abd")?;
     let (_, hash) = HASHES[0];
-    assert_eq!(rt; state.hash_verify(hash), Err(Status::InvalidSignature));
-    assert_eq!(rt; state.hash_verify(hash), Err(Status::BadState));
+    assert!(rt; state.hash_verify(hash) == Err(Status::InvalidSignature));
+    assert!(rt; state.hash_verify(hash) == Err(Status::BadState));
     Ok(())
 }
 
@@ -160,30 +160,21 @@ fn macs_out_of_order(rt: HostRuntime) -> Result<(), Fail> {
     let mut state = MacState::new();
     let mut out = [0; 64];
     let (alg, key, message, mac) = MACS[0];
-    assert_eq!(rt; state.mac_update(message), Err(Status::BadState));
+    assert!(rt; state.mac_update(message) == Err(Status::BadState));
     set_up(&mut state, true, alg, key)?;
-    assert_eq!(rt; set_up(&mut state, false, alg, key), Err(Status::BadState));
-    assert_eq!(rt; state.mac_sign_finish(&mut out), Err(Status::BadState));
-    assert_eq!(rt; state.mac_verify_finish(mac), Err(Status::BadState));
+    assert!(rt; set_up(&mut state, false, alg, key) == Err(Status::BadState));
+    assert!(rt; state.mac_sign_finish(&mut out) == Err(Status::BadState));
+    assert!(rt; state.mac_verify_finish(mac) == Err(Status::BadState));
     state.wipe();
     set_up(&mut state, true, alg, key)?;
     state.mac_update(message)?;
     let front = mac.get(..31).ok_or("length")?;
-    assert_eq!(rt;
-        state.mac_verify_finish(front),
-        Err(Status::InvalidSignature)
-    );
-    assert_eq!(rt; set_up(&mut state, true, alg, key), Err(Status::BadState));
+    assert!(rt; state.mac_verify_finish(front) == Err(Status::InvalidSignature));
+    assert!(rt; set_up(&mut state, true, alg, key) == Err(Status::BadState));
     state.wipe();
     set_up(&mut state, false, alg, key)?;
-    assert_eq!(rt;
-        without_key(&mut state, MacStep::SignFinish),
-        Some(Status::InvalidHandle)
-    );
-    assert_eq!(rt;
-        without_key(&mut state, MacStep::SignFinish),
-        Some(Status::BadState)
-    );
-    assert_eq!(rt; state.mac_update(message), Err(Status::BadState));
+    assert!(rt; without_key(&mut state, MacStep::SignFinish) == Some(Status::InvalidHandle));
+    assert!(rt; without_key(&mut state, MacStep::SignFinish) == Some(Status::BadState));
+    assert!(rt; state.mac_update(message) == Err(Status::BadState));
     Ok(())
 }

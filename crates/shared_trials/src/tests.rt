@@ -58,8 +58,8 @@ fn count_two<R: Abort + Wait, D: Disk, A: Devices, C: Admission>(
         alg: Alg(0x0200_0009),
         input: &[1, 2],
     });
-    assert_eq!(rt; shared.count(rt, pass, &call, 32), 0);
-    assert_eq!(rt; shared.count(rt, pass, &call, 32), 1);
+    assert!(rt; shared.count(rt, pass, &call, 32) == 0);
+    assert!(rt; shared.count(rt, pass, &call, 32) == 1);
 }
 
 fn open_and_count<R: Abort + Wait, D: Disk + Drop, A: Devices, C: Admission>(
@@ -72,7 +72,7 @@ fn open_and_count<R: Abort + Wait, D: Disk + Drop, A: Devices, C: Admission>(
     requires { A.keys devices ≡ Some no_keys }
 {
     let (shared, mut passes) = open(alloc, disk, devices, rules)?;
-    assert_eq!(rt; passes.len(), 16);
+    assert!(rt; passes.len() == 16);
     count_two(rt, &shared, &mut passes[0]);
     Ok(())
 }
@@ -108,9 +108,9 @@ fn destroy_twice<R: Abort + Wait, D: Disk, A: Devices, C: Admission>(
     requires left { 1 < pass.old.me.0.turns_left }
 {
     let destroy = Call::OnStore(StoreCall::Destroy(id));
-    assert_eq!(rt; shared.destroy(rt, pass, &destroy, 0, id), (2, Ok(())));
+    assert!(rt; shared.destroy(rt, pass, &destroy, 0, id) == (2, Ok(())));
     let missing = Err(NotDestroyed::Missing);
-    assert_eq!(rt; shared.destroy(rt, pass, &destroy, 0, id), (3, missing));
+    assert!(rt; shared.destroy(rt, pass, &destroy, 0, id) == (3, missing));
 }
 
 // Makes a key, reads it and destroys it, in the first turns of a store.
@@ -135,13 +135,13 @@ fn make_read_and_destroy<R: Abort + Wait, D: Disk, A: Devices, C: Admission>(
         bytes: &bytes,
     });
     let (rank, made) = shared.finish(rt, pass, &import, 0, 1, filling, &RAW_DATA, &bytes, None);
-    assert_eq!(rt; rank, 0);
+    assert!(rt; rank == 0);
     let Ok(id) = made else {
         return Err("import")?;
     };
     let export = Call::OnStore(StoreCall::Export(id));
     let (rank, looked) = shared.look(rt, pass, &export, 2, id, KeyUse::Export, spare);
-    assert_eq!(rt; rank, 1);
+    assert!(rt; rank == 1);
     let Ok(lease) = looked else {
         return Err("export")?;
     };

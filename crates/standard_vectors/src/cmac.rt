@@ -60,12 +60,12 @@ fn examples(rt: HostRuntime) -> Result<(), Fail> {
         for (length, tag) in LENGTHS.iter().zip(tags.iter()) {
             let key = AesKey::new(*bytes).ok_or("key")?;
             let message = MESSAGE.get(..*length).ok_or("length")?;
-            assert_eq!(rt; u128::from_be_bytes(cmac(&key, message)), *tag);
+            assert!(rt; u128::from_be_bytes(cmac(&key, message)) == *tag);
             let (front, back) = message.split_at(*length / 2);
             let mut state = CmacState::new(key);
             state.update(front);
             state.update(back);
-            assert_eq!(rt; u128::from_be_bytes(state.finish()), *tag);
+            assert!(rt; u128::from_be_bytes(state.finish()) == *tag);
         }
     }
     Ok(())

@@ -152,7 +152,7 @@ fn examples(rt: HostRuntime) -> Result<(), Fail> {
             let mut out = [0u8; 64];
             let length = hash(*which, *message, &mut out);
             let written = out.get(..length).ok_or("length")?;
-            assert_eq!(rt; written, *digest);
+            assert!(rt; written == *digest);
         }
     }
     Ok(())
@@ -171,7 +171,7 @@ fn a_million_letters(rt: HostRuntime) -> Result<(), Fail> {
         let mut out = [0u8; 64];
         let length = again.finish(&mut out);
         let written = out.get(..length).ok_or("length")?;
-        assert_eq!(rt; written, *digest);
+        assert!(rt; written == *digest);
     }
     Ok(())
 }
@@ -194,6 +194,6 @@ fn rising<const N: usize>(first: u8) -> [u8; N] {
 #[test]
 fn two_blocks_of_sha_256(rt: HostRuntime) -> Result<(), Fail> {
     let first = FirstBlock::new(&rising::<64>(0));
-    assert_eq!(rt; first.digest_with(&rising::<32>(64)), DIGEST);
+    assert!(rt; first.digest_with(&rising::<32>(64)) == DIGEST);
     Ok(())
 }

@@ -134,13 +134,13 @@ fn whole_blocks(rt: HostRuntime) -> Result<(), Fail> {
         let key = AesKey::new(bytes.get(..example.length).ok_or("length")?).ok_or("key")?;
         let mut text = text_of(PLAIN);
         ecb_encrypt(&key, &mut text);
-        assert_eq!(rt; text, text_of(example.ecb));
+        assert!(rt; text == text_of(example.ecb));
         ecb_decrypt(&key, &mut text);
-        assert_eq!(rt; text, text_of(PLAIN));
+        assert!(rt; text == text_of(PLAIN));
         cbc_encrypt(&key, &iv, &mut text);
-        assert_eq!(rt; text, text_of(example.cbc));
+        assert!(rt; text == text_of(example.cbc));
         cbc_decrypt(&key, &iv, &mut text);
-        assert_eq!(rt; text, text_of(PLAIN));
+        assert!(rt; text == text_of(PLAIN));
     }
     Ok(())
 }
@@ -152,7 +152,7 @@ fn counters(rt: HostRuntime) -> Result<(), Fail> {
         let key = AesKey::new(bytes.get(..example.length).ok_or("length")?).ok_or("key")?;
         let mut text = text_of(PLAIN);
         ctr_xor(&key, &COUNTER.to_be_bytes(), &mut text);
-        assert_eq!(rt; text, text_of(example.ctr));
+        assert!(rt; text == text_of(example.ctr));
         // a text that ends within a block
         let mut text = text_of(PLAIN);
         ctr_xor(
@@ -160,14 +160,14 @@ fn counters(rt: HostRuntime) -> Result<(), Fail> {
             &COUNTER.to_be_bytes(),
             text.get_mut(..37).ok_or("part")?,
         );
-        assert_eq!(rt; text.get(..37), text_of(example.ctr).get(..37));
-        assert_eq!(rt; text.get(37..), text_of(PLAIN).get(37..));
+        assert!(rt; text.get(..37) == text_of(example.ctr).get(..37));
+        assert!(rt; text.get(37..) == text_of(PLAIN).get(37..));
     }
     // after the counter of sixteen ff comes 0
     let key = AesKey::new(&[0; 16]).ok_or("key")?;
     let mut stream = [0; 32];
     ctr_xor(&key, &[0xff; 16], &mut stream);
-    assert_eq!(rt; stream[16..], ZEROS_ENCIPHERED.to_be_bytes()[..]);
+    assert!(rt; stream[16..] == ZEROS_ENCIPHERED.to_be_bytes()[..]);
     Ok(())
 }
 
@@ -175,14 +175,14 @@ fn counters(rt: HostRuntime) -> Result<(), Fail> {
 fn padding(rt: HostRuntime) {
     let mut block = *b"sixteen of bytes";
     pad(13, &mut block);
-    assert_eq!(rt; block, *b"sixteen of by\x03\x03\x03");
-    assert_eq!(rt; unpad(&block), Some(13));
+    assert!(rt; block == *b"sixteen of by\x03\x03\x03");
+    assert!(rt; unpad(&block) == Some(13));
     pad(0, &mut block);
-    assert_eq!(rt; block, [16; 16]);
-    assert_eq!(rt; unpad(&block), Some(0));
-    assert_eq!(rt; unpad(b"sixteen of by\x02\x03\x03"), None);
-    assert_eq!(rt; unpad(&[0; 16]), None);
-    assert_eq!(rt; unpad(&[17; 16]), None);
+    assert!(rt; block == [16; 16]);
+    assert!(rt; unpad(&block) == Some(0));
+    assert!(rt; unpad(b"sixteen of by\x02\x03\x03") == None);
+    assert!(rt; unpad(&[0; 16]) == None);
+    assert!(rt; unpad(&[17; 16]) == None);
 }
 
 // The text in two pieces, of which the first has `cut` bytes.
@@ -201,10 +201,7 @@ fn any_cut_of_a_counter_text(rt: HostRuntime) -> Result<(), Fail> {
         let bytes = key_bytes(example.key);
         let key = AesKey::new(bytes.get(..example.length).ok_or("length")?).ok_or("key")?;
         'cuts: for cut in 0..65 {
-            assert_eq!(rt;
-                in_two(&key, text_of(PLAIN), cut),
-                Some(text_of(example.ctr))
-            );
+            assert!(rt; in_two(&key, text_of(PLAIN), cut) == Some(text_of(example.ctr)));
         }
     }
     Ok(())
@@ -226,7 +223,7 @@ fn second_block(key: &AesKey, width: CounterWidth, counter: u128) -> [u8; 16]
 fn counters_wrap(rt: HostRuntime) -> Result<(), Fail> {
     let key = AesKey::new(&[0; 16]).ok_or("key")?;
     let zero = ZEROS_ENCIPHERED.to_be_bytes();
-    assert_eq!(rt; second_block(&key, CounterWidth::Whole, u128::MAX), zero);
-    assert_eq!(rt; second_block(&key, CounterWidth::Low32, 0xffff_ffff), zero);
+    assert!(rt; second_block(&key, CounterWidth::Whole, u128::MAX) == zero);
+    assert!(rt; second_block(&key, CounterWidth::Low32, 0xffff_ffff) == zero);
     Ok(())
 }

@@ -90,19 +90,19 @@ fn a_fault_leaves_a_key_whole_or_absent(rt: HostRuntime) -> Result<(), Fail> {
         for fails in [Fails::From(call), Fails::Listed(vec![in alloc; call]?)] {
             let goes_on = matches!(fails, Fails::Listed(_));
             let mut cells = new_cells(alloc, fails)?;
-            assert_eq!(rt; create(&mut cells, 5, 0xaa).is_ok(), call >= 10);
+            assert!(rt; create(&mut cells, 5, 0xaa).is_ok() == (call >= 10));
             if let Some(cell) = cells.find(5) {
-                assert_eq!(rt; cells.destroy(cell), Err(CellFault::Disk));
+                assert!(rt; cells.destroy(cell) == Err(CellFault::Disk));
             }
-            assert_eq!(rt; cells.find(5), None);
+            assert!(rt; cells.find(5) == None);
             for image in images(alloc, &cells.disk)? {
                 assert!(rt; agrees(alloc, image, fate)?);
             }
             // the next write closes the cell, and takes it
-            assert_eq!(rt; create(&mut cells, 7, 0xbb).is_ok(), goes_on);
+            assert!(rt; create(&mut cells, 7, 0xbb).is_ok() == goes_on);
             if goes_on {
-                assert_eq!(rt; cells.find(7), Some(0));
-                assert_eq!(rt; cells.count(), 1);
+                assert!(rt; cells.find(7) == Some(0));
+                assert!(rt; cells.count() == 1);
                 for image in images(alloc, &cells.disk)? {
                     assert!(rt; agrees(alloc, image, Fate::Absent)?);
                 }
@@ -139,20 +139,20 @@ fn an_opening_meets_faults(rt: HostRuntime) -> Result<(), Fail> {
     match Cells::open(alloc, BrokenDisk::new()) {
         Ok(_cells) => return Err("opened")?,
         Err((disk, fault)) => {
-            assert_eq!(rt; fault, OpenFault::Disk);
-            assert_eq!(rt; disk.faults(), 1);
+            assert!(rt; fault == OpenFault::Disk);
+            assert!(rt; disk.faults() == 1);
         }
     }
     for call in 0..6u64 {
         let disk = new_disk(alloc, Vec::new(alloc), Fails::From(call))?;
         match Cells::open(alloc, disk) {
             Ok(_cells) => return Err("opened")?,
-            Err((_disk, fault)) => assert_eq!(rt; fault, OpenFault::Disk),
+            Err((_disk, fault)) => assert!(rt; fault == OpenFault::Disk),
         }
     }
     // Two keys, and two cells that are left over, one closed by 0 and one by another byte.
     let mut cells = new_cells(alloc, Fails::From(u64::MAX))?;
-    assert_eq!(rt; fill(&mut cells, 4), Ok(()));
+    assert!(rt; fill(&mut cells, 4) == Ok(()));
     let mut store = cells.into_disk().bytes().to_vec(alloc)?;
     for (gate, byte) in [(2240, 0), (3328, 0xa4)] {
         if let Some(old) = store.get_mut(gate) {
@@ -166,11 +166,11 @@ fn an_opening_meets_faults(rt: HostRuntime) -> Result<(), Fail> {
             Ok(cells) => (cells.into_disk(), None),
             Err((disk, fault)) => (disk, Some(fault)),
         };
-        assert_eq!(rt; fault.is_none(), call == 518);
+        assert!(rt; fault.is_none() == (call == 518));
         assert!(rt; fault.is_none() || fault == Some(OpenFault::Disk));
         assert!(rt; keeps_both(alloc, &disk)?);
         let cleared = is_zero_from(disk.bytes(), 2240);
-        assert_eq!(rt; cleared, call >= 517);
+        assert!(rt; cleared == (call >= 517));
     }
     Ok(())
 }

@@ -78,27 +78,27 @@ fn keys_are_kept_by_their_identifiers(rt: HostRuntime) -> Result<(), Fail> {
     let mut secret = new_secret(alloc)?;
     // A new store takes six calls of the disk, and two creations eight; the next call is a read that fails.
     let mut file = new_file(alloc, Fails::Listed(vec![in alloc; 14u64]?))?;
-    assert_eq!(rt; load(&mut file, 5, &mut secret), None);
-    assert_eq!(rt; make(&mut file, 70, 5, 0xaa), Some(Ok(())));
-    assert_eq!(rt; make(&mut file, 71, 6, 0xbb), Some(Ok(())));
-    assert_eq!(rt; load(&mut file, 5, &mut secret), Some(Err(CellFault::Disk)));
+    assert!(rt; load(&mut file, 5, &mut secret) == None);
+    assert!(rt; make(&mut file, 70, 5, 0xaa) == Some(Ok(())));
+    assert!(rt; make(&mut file, 71, 6, 0xbb) == Some(Ok(())));
+    assert!(rt; load(&mut file, 5, &mut secret) == Some(Err(CellFault::Disk)));
     assert!(rt; secret.as_slice().is_empty());
-    assert_eq!(rt; load(&mut file, 5, &mut secret), Some(Ok(one_byte_key(5))));
+    assert!(rt; load(&mut file, 5, &mut secret) == Some(Ok(one_byte_key(5))));
     assert!(rt; secret.as_slice() == [0xaau8].as_slice());
-    assert_eq!(rt; load(&mut file, 6, &mut secret), Some(Ok(one_byte_key(6))));
+    assert!(rt; load(&mut file, 6, &mut secret) == Some(Ok(one_byte_key(6))));
     assert!(rt; secret.as_slice() == [0xbbu8].as_slice());
-    assert_eq!(rt; destroy(&mut file, 5), Some(Ok(())));
-    assert_eq!(rt; destroy(&mut file, 5), None);
-    assert_eq!(rt; file.count(), 1);
-    assert_eq!(rt; file.find(6), Some(1));
+    assert!(rt; destroy(&mut file, 5) == Some(Ok(())));
+    assert!(rt; destroy(&mut file, 5) == None);
+    assert!(rt; file.count() == 1);
+    assert!(rt; file.find(6) == Some(1));
     let bytes = file.into_disk().bytes().to_vec(alloc)?;
     // An opening numbers the keys anew.
     let mut again = KeyFile {
         cells: open(alloc, bytes)?,
     };
-    assert_eq!(rt; again.find(5), None);
-    assert_eq!(rt; load(&mut again, 6, &mut secret), Some(Ok(one_byte_key(6))));
-    assert_eq!(rt; again.cells.creation(1), 0);
+    assert!(rt; again.find(5) == None);
+    assert!(rt; load(&mut again, 6, &mut secret) == Some(Ok(one_byte_key(6))));
+    assert!(rt; again.cells.creation(1) == 0);
     Ok(())
 }
 
@@ -146,27 +146,27 @@ fn a_fault_leaves_keys_in_doubt(rt: HostRuntime) -> Result<(), Fail> {
         // The two calls after that are the first of a closing.
         let fails = Fails::Listed(vec![in alloc; call, call + 1, call + 2]?);
         let mut file = new_file(alloc, fails)?;
-        assert_eq!(rt; make(&mut file, 0, 6, 0xcc), Some(Ok(())));
+        assert!(rt; make(&mut file, 0, 6, 0xcc) == Some(Ok(())));
         assert!(rt; leaves_5_in_doubt(&mut file));
-        assert_eq!(rt; file.find(5), None);
+        assert!(rt; file.find(5) == None);
         assert!(rt; keeps_6(alloc, &file.cells.disk, has_5)?);
         // Where a closing fails, nothing is made, and the key that was to be destroyed is in doubt like the other.
         let fault = MakeFault::Disk {
             closed_first: false,
         };
-        assert_eq!(rt; make(&mut file, 2, 7, 0xdd), Some(Err(fault)));
-        assert_eq!(rt; file.find(6), Some(0));
+        assert!(rt; make(&mut file, 2, 7, 0xdd) == Some(Err(fault)));
+        assert!(rt; file.find(6) == Some(0));
         let fault = Unclosed {
             closed_first: false,
         };
-        assert_eq!(rt; destroy(&mut file, 6), Some(Err(fault)));
-        assert_eq!(rt; file.count(), 0);
+        assert!(rt; destroy(&mut file, 6) == Some(Err(fault)));
+        assert!(rt; file.count() == 0);
         assert!(rt; keeps_6(alloc, &file.cells.disk, None)?);
         // The next write closes both, and takes the first cell.
-        assert_eq!(rt; make(&mut file, 3, 7, 0xdd), Some(Ok(())));
+        assert!(rt; make(&mut file, 3, 7, 0xdd) == Some(Ok(())));
         let again = open(alloc, file.into_disk().bytes().to_vec(alloc)?)?;
-        assert_eq!(rt; again.count(), 1);
-        assert_eq!(rt; again.find(7), Some(0));
+        assert!(rt; again.count() == 1);
+        assert!(rt; again.find(7) == Some(0));
     }
     Ok(())
 }
@@ -175,17 +175,17 @@ fn a_fault_leaves_keys_in_doubt(rt: HostRuntime) -> Result<(), Fail> {
 fn a_file_has_512_keys_and_no_more(rt: HostRuntime) -> Result<(), Fail> {
     let alloc = rt.alloc();
     let mut file = new_file(alloc, Fails::From(u64::MAX))?;
-    assert_eq!(rt; fill(&mut file.cells, 512), Ok(()));
-    assert_eq!(rt; create(&mut file.cells, 513, 0), Err(CellFault::Full));
-    assert_eq!(rt; make(&mut file, 0, 513, 0), Some(Err(MakeFault::Full)));
+    assert!(rt; fill(&mut file.cells, 512) == Ok(()));
+    assert!(rt; create(&mut file.cells, 513, 0) == Err(CellFault::Full));
+    assert!(rt; make(&mut file, 0, 513, 0) == Some(Err(MakeFault::Full)));
     let bytes = file.cells.disk.bytes().to_vec(alloc)?;
     let again = open(alloc, bytes)?;
-    assert_eq!(rt; again.count(), 512);
-    assert_eq!(rt; again.find(512), Some(511));
-    assert_eq!(rt; again.creation(511), 511);
-    assert_eq!(rt; again.find(513), None);
-    assert_eq!(rt; destroy(&mut file, 300), Some(Ok(())));
-    assert_eq!(rt; make(&mut file, 0, 513, 0), Some(Ok(())));
-    assert_eq!(rt; file.find(513), Some(299));
+    assert!(rt; again.count() == 512);
+    assert!(rt; again.find(512) == Some(511));
+    assert!(rt; again.creation(511) == 511);
+    assert!(rt; again.find(513) == None);
+    assert!(rt; destroy(&mut file, 300) == Some(Ok(())));
+    assert!(rt; make(&mut file, 0, 513, 0) == Some(Ok(())));
+    assert!(rt; file.find(513) == Some(299));
     Ok(())
 }

@@ -96,7 +96,7 @@ fn refusal(alloc: Global, bytes: Vec<u8>) -> Result<Option<OpenFault>, Fail> {
 fn damage_is_found(rt: HostRuntime) -> Result<(), Fail> {
     let alloc = rt.alloc();
     let mut cells = new_cells(alloc, Fails::From(u64::MAX))?;
-    assert_eq!(rt; fill(&mut cells, 4), Ok(()));
+    assert!(rt; fill(&mut cells, 4) == Ok(()));
     let store = cells.into_disk().bytes().to_vec(alloc)?;
     let other = Some(OpenFault::NotAStore);
     let damaged = Some(OpenFault::DamagedCell { cell: 3 });
@@ -131,12 +131,12 @@ fn damage_is_found(rt: HostRuntime) -> Result<(), Fail> {
         if let Some(old) = bytes.get_mut(place) {
             *old = byte;
         }
-        assert_eq!(rt; refusal(alloc, bytes)?, answer);
+        assert!(rt; refusal(alloc, bytes)? == answer);
     }
-    assert_eq!(rt; refusal(alloc, vec![in alloc; 0u8; 10]?)?, other);
+    assert!(rt; refusal(alloc, vec![in alloc; 0u8; 10]?)? == other);
     let mut longer = store.to_vec(alloc)?;
     longer.push(0)?;
-    assert_eq!(rt; refusal(alloc, longer)?, other);
+    assert!(rt; refusal(alloc, longer)? == other);
     Ok(())
 }
 
@@ -148,17 +148,17 @@ fn the_example_record_is_written_and_read(rt: HostRuntime) {
     ];
     let mut out = [0; 1060];
     let length = write(&one_byte_key(5), &[0xff], &mut out);
-    assert_eq!(rt; length, 37);
+    assert!(rt; length == 37);
     assert!(rt; out[..37] == example[..]);
     let unnamed = Attributes {
         id: KeyId(0),
         ..one_byte_key(5)
     };
-    assert_eq!(rt; read(&example), Some((unnamed, 36)));
+    assert!(rt; read(&example) == Some((unnamed, 36)));
     let mut with_second_algorithm = example;
     with_second_algorithm[29] = 0x44;
     with_second_algorithm[30] = 0x40;
     with_second_algorithm[31] = 4;
-    assert_eq!(rt; read(&with_second_algorithm), None);
-    assert_eq!(rt; read(&example[..36]), None);
+    assert!(rt; read(&with_second_algorithm) == None);
+    assert!(rt; read(&example[..36]) == None);
 }

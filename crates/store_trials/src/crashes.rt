@@ -91,26 +91,20 @@ fn make_and_destroy<R: Abort, A: Devices, C: Admission>(
 {
     let disk = new_disk(alloc, Vec::new(alloc), Fails::From(call))?;
     let mut keeper = open(alloc, disk, devices, rules)?;
-    assert_eq!(rt;
-        keeper.import(&raw_data(6), &[0xcc, 0xcd]),
-        Some(Ok(KeyId(6)))
-    );
+    assert!(rt; keeper.import(&raw_data(6), &[0xcc, 0xcd]) == Some(Ok(KeyId(6))));
     let made = keeper.import(&raw_data(5), &[0xaa; 1024]);
     if call < 14 {
         let failed = NotMade::Failed(Unkept::Unwritten { closed_first: true });
-        assert_eq!(rt; made, Some(Err(failed)));
+        assert!(rt; made == Some(Err(failed)));
     } else {
-        assert_eq!(rt; made, Some(Ok(KeyId(5))));
+        assert!(rt; made == Some(Ok(KeyId(5))));
         assert!(rt; all_have(alloc, keeper.disk(), Some(true))?);
         let failed = Err(NotDestroyed::Disk { closed_first: true });
         let expected = if call < 18 { failed } else { Ok(()) };
-        assert_eq!(rt; keeper.destroy(KeyId(5)), Some(expected));
+        assert!(rt; keeper.destroy(KeyId(5)) == Some(expected));
     }
-    assert_eq!(rt;
-        keeper.gives(KeyId(5), &[]),
-        Some(Err(Status::InvalidHandle))
-    );
-    assert_eq!(rt; keeper.gives(KeyId(6), &[0xcc, 0xcd]), Some(Ok(true)));
+    assert!(rt; keeper.gives(KeyId(5), &[]) == Some(Err(Status::InvalidHandle)));
+    assert!(rt; keeper.gives(KeyId(6), &[0xcc, 0xcd]) == Some(Ok(true)));
     assert!(rt; all_have(alloc, keeper.disk(), has_5)?);
     Ok(())
 }

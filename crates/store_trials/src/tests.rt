@@ -31,7 +31,7 @@ fn filled<R: Abort, A: Devices, C: Admission>(
     let mut keeper = open(alloc, sound_disk(alloc, Vec::new(alloc))?, devices, rules)?;
     for id in 1..last + 1 {
         let made = keeper.import(&raw_data(id), &[(id % 251) as u8, 1]);
-        assert_eq!(rt; made, Some(Ok(KeyId(id))));
+        assert!(rt; made == Some(Ok(KeyId(id))));
     }
     Ok(keeper.into_disk().bytes().to_vec(alloc)?)
 }
@@ -43,8 +43,8 @@ fn load<R: Abort, A: Devices, C: Admission>(
     id: u32,
 ) {
     let given = keeper.gives(KeyId(id), &[(id % 251) as u8, 1]);
-    assert_eq!(rt; given, Some(Ok(true)));
-    assert_eq!(rt; keeper.slot(KeyId(1)).is_some(), id < 385);
+    assert!(rt; given == Some(Ok(true)));
+    assert!(rt; keeper.slot(KeyId(1)).is_some() == (id < 385));
 }
 
 // Reads the first key once more, which takes the place of the second, and forgets it in memory.
@@ -52,10 +52,10 @@ fn reload_and_purge<R: Abort, A: Devices, C: Admission>(
     rt: &R,
     keeper: &mut Keeper<MemoryDisk, A, C>,
 ) {
-    assert_eq!(rt; keeper.gives(KeyId(1), &[1, 1]), Some(Ok(true)));
-    assert_eq!(rt; keeper.slot(KeyId(2)), None);
-    assert_eq!(rt; keeper.purge(KeyId(1)), Some(Ok(())));
-    assert_eq!(rt; keeper.slot(KeyId(1)), None);
+    assert!(rt; keeper.gives(KeyId(1), &[1, 1]) == Some(Ok(true)));
+    assert!(rt; keeper.slot(KeyId(2)) == None);
+    assert!(rt; keeper.purge(KeyId(1)) == Some(Ok(())));
+    assert!(rt; keeper.slot(KeyId(1)) == None);
 }
 
 // Asks for a key that is in the file alone, and for one that isn't there.
@@ -65,10 +65,10 @@ fn ask_for_attributes<R: Abort, A: Devices, C: Admission>(
 ) {
     let mut known = raw_data(1);
     known.bits = 16;
-    assert_eq!(rt; keeper.attributes(KeyId(1)), Some(Ok(known)));
+    assert!(rt; keeper.attributes(KeyId(1)) == Some(Ok(known)));
     let missing = Status::InvalidHandle;
-    assert_eq!(rt; keeper.attributes(KeyId(386)), Some(Err(missing)));
-    assert_eq!(rt; keeper.purge(KeyId(386)), Some(Err(missing)));
+    assert!(rt; keeper.attributes(KeyId(386)) == Some(Err(missing)));
+    assert!(rt; keeper.purge(KeyId(386)) == Some(Err(missing)));
 }
 
 fn load_and_evict<R: Abort, A: Devices, C: Admission>(
@@ -81,7 +81,7 @@ fn load_and_evict<R: Abort, A: Devices, C: Admission>(
     requires { (handle : ℕ) → Lacks (A.keys devices) handle }
 {
     let mut keeper = open(alloc, disk, devices, rules)?;
-    assert_eq!(rt; keeper.slot(KeyId(1)), None);
+    assert!(rt; keeper.slot(KeyId(1)) == None);
     for id in 1..386u32 {
         load(rt, &mut keeper, id);
     }
@@ -138,30 +138,27 @@ fn ask_element<R: Abort, A: Devices, C: Admission>(
 {
     let mut keeper = open(alloc, disk, devices, rules)?;
     let failed = NotMade::Failed(Unkept::Hardware);
-    assert_eq!(rt; keeper.import(&IN_ELEMENT, &AES_KEY), Some(Err(failed)));
+    assert!(rt; keeper.import(&IN_ELEMENT, &AES_KEY) == Some(Err(failed)));
     let id = KeyId(0x4010_0000);
-    assert_eq!(rt; keeper.import(&IN_ELEMENT, &AES_KEY), Some(Ok(id)));
+    assert!(rt; keeper.import(&IN_ELEMENT, &AES_KEY) == Some(Ok(id)));
     let call = ElementCall::MacCompute {
         alg: Alg(0x03c0_0200),
         input: &BLOCK,
     };
     let mut out = [0xff; 20];
-    assert_eq!(rt;
-        keeper.compute(id, &call, &mut out),
-        Some(Err(NotComputed::Failed))
-    );
+    assert!(rt; keeper.compute(id, &call, &mut out) == Some(Err(NotComputed::Failed)));
     assert!(rt; out == FAILED_TAG);
-    assert_eq!(rt; keeper.compute(id, &call, &mut out), Some(Ok(16)));
+    assert!(rt; keeper.compute(id, &call, &mut out) == Some(Ok(16)));
     assert!(rt; out == TAG);
     let refused = Some(Err(NotComputed::Refused(Status::BufferTooSmall)));
     let mut short = [0xff; 15];
-    assert_eq!(rt; keeper.compute(id, &call, &mut short), refused);
+    assert!(rt; keeper.compute(id, &call, &mut short) == refused);
     assert!(rt; short == [0xffu8; 15]);
-    assert_eq!(rt; keeper.gives(id, &AES_KEY), Some(Err(Status::NotPermitted)));
+    assert!(rt; keeper.gives(id, &AES_KEY) == Some(Err(Status::NotPermitted)));
     // The key is gone from the store all the same.
-    assert_eq!(rt; keeper.destroy(id), Some(Err(NotDestroyed::Hardware)));
-    assert_eq!(rt; keeper.destroy(id), Some(Err(NotDestroyed::Missing)));
-    assert_eq!(rt; keeper.compute(id, &call, &mut out), None);
+    assert!(rt; keeper.destroy(id) == Some(Err(NotDestroyed::Hardware)));
+    assert!(rt; keeper.destroy(id) == Some(Err(NotDestroyed::Missing)));
+    assert!(rt; keeper.compute(id, &call, &mut out) == None);
     Ok(())
 }
 
@@ -176,8 +173,8 @@ fn a_secure_element_fails_once(rt: HostRuntime) -> Result<(), Fail> {
 
 // Makes key 7 in the first slot.
 fn import_first<R: Abort, A: Devices, C: Admission>(rt: &R, keeper: &mut Keeper<MemoryDisk, A, C>) {
-    assert_eq!(rt; keeper.import(&raw_data(7), &[1; 32]), Some(Ok(KeyId(7))));
-    assert_eq!(rt; keeper.slot(KeyId(7)), Some(0));
+    assert!(rt; keeper.import(&raw_data(7), &[1; 32]) == Some(Ok(KeyId(7))));
+    assert!(rt; keeper.slot(KeyId(7)) == Some(0));
 }
 
 // Destroys key 7 under four leases. Slot 0 is free once the lease that was lent first is back.
@@ -203,7 +200,7 @@ fn destroy_what_is_read<R: Abort, A: Devices, C: Admission>(
     let mut keeper = open(alloc, disk, devices, rules)?;
     import_first(rt, &mut keeper);
     destroy_first(rt, alloc, &mut keeper);
-    assert_eq!(rt; keeper.gives(KeyId(7), &[2; 32]), Some(Ok(true)));
+    assert!(rt; keeper.gives(KeyId(7), &[2; 32]) == Some(Ok(true)));
     Ok(())
 }
 
@@ -225,13 +222,13 @@ fn make_two<R: Abort, A: Devices, C: Admission>(
 {
     let mut keeper = open(alloc, disk, devices, rules)?;
     let both = (Ok(KeyId(5)), Err(NotMade::Refused(Status::AlreadyExists)));
-    assert_eq!(rt; keeper.import_two(&raw_data(5), &[1], &[2]), Some(both));
-    assert_eq!(rt; keeper.gives(KeyId(5), &[1]), Some(Ok(true)));
-    assert_eq!(rt; keeper.slot(KeyId(5)), Some(0));
+    assert!(rt; keeper.import_two(&raw_data(5), &[1], &[2]) == Some(both));
+    assert!(rt; keeper.gives(KeyId(5), &[1]) == Some(Ok(true)));
+    assert!(rt; keeper.slot(KeyId(5)) == Some(0));
     keeper.give_up();
     // The second slot was given up.
-    assert_eq!(rt; keeper.import(&raw_data(6), &[3]), Some(Ok(KeyId(6))));
-    assert_eq!(rt; keeper.slot(KeyId(6)), Some(1));
+    assert!(rt; keeper.import(&raw_data(6), &[3]) == Some(Ok(KeyId(6))));
+    assert!(rt; keeper.slot(KeyId(6)) == Some(1));
     Ok(())
 }
 
@@ -254,23 +251,23 @@ fn make_many<R: Abort, A: Devices, C: Admission>(
     let mut keeper = open(alloc, disk, devices, rules)?;
     for number in 0..16u32 {
         let made = keeper.import(&raw_data(0), &[7]);
-        assert_eq!(rt; made, Some(Ok(KeyId(0x4010_0000 + number))));
+        assert!(rt; made == Some(Ok(KeyId(0x4010_0000 + number))));
     }
     let limit = Some(Err(NotMade::Refused(Status::KeyLimit)));
-    assert_eq!(rt; keeper.import(&raw_data(0), &[7]), limit);
-    assert_eq!(rt; keeper.destroy(KeyId(0x4010_0003)), Some(Ok(())));
+    assert!(rt; keeper.import(&raw_data(0), &[7]) == limit);
+    assert!(rt; keeper.destroy(KeyId(0x4010_0003)) == Some(Ok(())));
     let next = KeyId(0x4010_0010);
-    assert_eq!(rt; keeper.import(&raw_data(0), &[7]), Some(Ok(next)));
-    assert_eq!(rt; keeper.import(&raw_data(0), &[7]), limit);
+    assert!(rt; keeper.import(&raw_data(0), &[7]) == Some(Ok(next)));
+    assert!(rt; keeper.import(&raw_data(0), &[7]) == limit);
     for id in 1..513u32 {
-        assert_eq!(rt; keeper.import(&raw_data(id), &[8]), Some(Ok(KeyId(id))));
+        assert!(rt; keeper.import(&raw_data(id), &[8]) == Some(Ok(KeyId(id))));
     }
     let full = Some(Err(NotMade::Refused(Status::InsufficientStorage)));
-    assert_eq!(rt; keeper.import(&raw_data(513), &[8]), full);
-    assert_eq!(rt; keeper.destroy(KeyId(300)), Some(Ok(())));
-    assert_eq!(rt; keeper.import(&raw_data(513), &[8]), Some(Ok(KeyId(513))));
-    assert_eq!(rt; keeper.gives(KeyId(513), &[8]), Some(Ok(true)));
-    assert_eq!(rt; keeper.gives(next, &[7]), Some(Ok(true)));
+    assert!(rt; keeper.import(&raw_data(513), &[8]) == full);
+    assert!(rt; keeper.destroy(KeyId(300)) == Some(Ok(())));
+    assert!(rt; keeper.import(&raw_data(513), &[8]) == Some(Ok(KeyId(513))));
+    assert!(rt; keeper.gives(KeyId(513), &[8]) == Some(Ok(true)));
+    assert!(rt; keeper.gives(next, &[7]) == Some(Ok(true)));
     Ok(())
 }
 
@@ -293,7 +290,7 @@ fn refuse<R: Abort, A: Devices, C: Admission>(
     match Keeper::open(alloc, disk, devices, rules) {
         Ok(_keeper) => Err("opened")?,
         Err(unopened) => {
-            assert_eq!(rt; unopened.fault, OpenFault::NotAStore);
+            assert!(rt; unopened.fault == OpenFault::NotAStore);
             assert!(rt; unopened.disk.bytes() == [0xa5u8; 10].as_slice());
             Ok(())
         }
@@ -317,16 +314,13 @@ fn export_under_a_rule<R: Abort, A: Devices, C: Admission>(
     requires { (handle : ℕ) → Lacks (A.keys devices) handle }
 {
     let mut keeper = open(alloc, disk, devices, rules)?;
-    assert_eq!(rt; keeper.gives(KeyId(1), &[1, 1]), Some(Ok(true)));
-    assert_eq!(rt; keeper.import(&raw_data(2), &[2]), Some(Ok(KeyId(2))));
-    assert_eq!(rt;
-        keeper.gives(KeyId(2), &[2]),
-        Some(Err(Status::NotPermitted))
-    );
+    assert!(rt; keeper.gives(KeyId(1), &[1, 1]) == Some(Ok(true)));
+    assert!(rt; keeper.import(&raw_data(2), &[2]) == Some(Ok(KeyId(2))));
+    assert!(rt; keeper.gives(KeyId(2), &[2]) == Some(Err(Status::NotPermitted)));
     let mut known = raw_data(2);
     known.bits = 8;
     known.policy.usage = Usage(0);
-    assert_eq!(rt; keeper.attributes(KeyId(2)), Some(Ok(known)));
+    assert!(rt; keeper.attributes(KeyId(2)) == Some(Ok(known)));
     Ok(())
 }
 
