@@ -106,6 +106,3 @@ impl AesKey {
         self.inverse = [0; 60];
     }
 }
-
-#[cfg(test)]
-mod tests;
