@@ -118,7 +118,7 @@ fn make_all<D: Disk, A: Devices, C: Admission, R: Wait>(
     answer
 }
 
-// Opens a service, makes its callers' calls, and closes it. A disk that comes back has the key.
+// Opens a service, makes its callers' calls, and closes it. The disk that comes back could be opened again.
 fn share_key<D: Disk + Drop, A: Devices, C: Admission, R: Wait>(
     rt: &R,
     alloc: Global,
