@@ -1,21 +1,21 @@
 //! The program of the key store: it answers a script of calls by one reply line a call.
 #![tactic(auto)]
 
+mod opening;
 mod store;
 
 ghost use Rattle.std.specs.Prelude.{◌≡◌};
 ghost use Rattle.psa_host.specs.Program.{end_status};
 
+use opening::Refusal;
 use psa_command::Exit;
-use std::env;
-use std::fs::{self, File, OpenOptions};
 use std::io::{self, ErrorKind};
 use std::os::fd::{AsRawFd, IntoRawFd};
 use std::process::ExitCode;
 use std::sync::Wait;
 use std::thread::Threads;
+use std::{env, fs};
 use store::run_store;
-use stream_adapters::FileDisk;
 
 const USAGE: &str =
     "usage: psa_host STORE (run [--workers N] [--seed HEX64] [--rules LABELS] | generate N)";
@@ -55,11 +55,11 @@ const VERSION: &str = "\
 psa_host 0.1.0
 Proved with rattle-kit-13f logic dac8208d650f15bf";
 
-/// How the program ended: as a run did, or before it, since the store's file can't be opened.
-#[derive(Clone, Copy, Drop)]
+/// How the program ended: as a run did, or before it, since the store's file isn't opened.
+#[derive(Drop)]
 pub enum End {
     Run(Exit),
-    DiskFault,
+    NotOpened(Refusal),
 }
 
 impl End {
@@ -69,11 +69,11 @@ impl End {
     {
         match self {
             End::Run(exit) => exit.status(),
-            End::DiskFault => 6,
+            End::NotOpened(_) => 6,
         }
     }
 
-    /// Prints the line of this end to standard error. Where that can't be written, the status alone tells.
+    /// Prints the lines of this end to standard error. Where that can't be written, the status alone tells.
     fn tell(&self, rt: &HostRuntime) {
         let told = match self {
             End::Run(Exit::Done) => Ok(()),
@@ -85,7 +85,7 @@ impl End {
             End::Run(Exit::DamagedCell { cell }) => eprintln!(rt; "damaged cell {cell}"),
             End::Run(Exit::DiskFault) => eprintln!(rt; "disk fault"),
             End::Run(Exit::Memory) => eprintln!(rt; "out of memory"),
-            End::DiskFault => eprintln!(rt; "disk fault"),
+            End::NotOpened(refusal) => eprintln!(rt; "disk fault\n{refusal}"),
         };
         if told.is_err() {}
     }
@@ -133,16 +133,6 @@ fn hold_closed_streams(rt: &HostRuntime) -> io::Result<()> {
     Ok(())
 }
 
-/// The file of a store, opened or made.
-fn open_store(rt: &HostRuntime, path: &str) -> io::Result<File> {
-    hold_closed_streams(rt)?;
-    OpenOptions::new()
-        .read(true)
-        .write(true)
-        .create(true)
-        .open(rt, path)
-}
-
 /// Runs the program by its words.
 fn run<R: Threads + Wait + Sync>(rt: &HostRuntime, threads: &R) -> End {
     let arguments = match arguments(rt) {
@@ -159,9 +149,9 @@ fn run<R: Threads + Wait + Sync>(rt: &HostRuntime, threads: &R) -> End {
         [] => End::Run(Exit::Usage),
         ["--help"] => answer(rt, HELP),
         ["--version"] => answer(rt, VERSION),
-        [store, rest @ ..] => match open_store(rt, store) {
-            Ok(file) => run_store(rt, threads, FileDisk::new(file), rest),
-            Err(_) => End::DiskFault,
+        [store, rest @ ..] => match hold_closed_streams(rt) {
+            Ok(()) => run_store(rt, threads, store, rest),
+            Err(error) => End::NotOpened(Refusal::System(error)),
         },
     }
 }

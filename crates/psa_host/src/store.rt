@@ -5,6 +5,7 @@ ghost use Rattle.driver_dispatch.specs.Calls.{Lacks};
 ghost use Rattle.driver_dispatch.specs.Held.{no_keys};
 
 use crate::End;
+use crate::opening::store_file;
 use admission::{Admission, Rule, Rules};
 use command_words::RuleBook;
 use driver_dispatch::{Devices, Driver, Drivers};
@@ -22,14 +23,14 @@ use stream_adapters::{FileDisk, Reading, Writing};
 /// The location of the secure element.
 const SECURE_ELEMENT: u32 = 1;
 
-/// Runs a command over a disk, with the four rules and a secure element in memory that holds no key and never fails.
+/// Runs a command over the file at a path, with the four rules and a secure element in memory that holds no key and never fails.
 pub fn run_store<R: Threads + Wait + Sync>(
     rt: &HostRuntime,
     threads: &R,
-    disk: FileDisk,
+    path: &str,
     words: &[&str],
 ) -> End {
-    match with_rules(rt, threads, disk, words) {
+    match with_rules(rt, threads, path, words) {
         Ok(end) => end,
         Err(_) => End::Run(Exit::Memory),
     }
@@ -39,7 +40,7 @@ pub fn run_store<R: Threads + Wait + Sync>(
 fn with_rules<R: Threads + Wait + Sync>(
     rt: &HostRuntime,
     threads: &R,
-    disk: FileDisk,
+    path: &str,
     words: &[&str],
 ) -> Result<End, AllocError> {
     let alloc = rt.alloc();
@@ -66,7 +67,7 @@ fn with_rules<R: Threads + Wait + Sync>(
     with_element(
         rt,
         threads,
-        disk,
+        path,
         Rules::pick(no_export, &[Label::NoExport]),
         Rules::pick(no_copy, &[Label::NoCopy]),
         Rules::pick(no_ecb, &[Label::NoEcb]),
@@ -79,7 +80,7 @@ fn with_rules<R: Threads + Wait + Sync>(
 fn with_element<C: Admission, R: Threads + Wait + Sync>(
     rt: &HostRuntime,
     threads: &R,
-    disk: FileDisk,
+    path: &str,
     no_export: C,
     no_copy: C,
     no_ecb: C,
@@ -101,7 +102,7 @@ fn with_element<C: Admission, R: Threads + Wait + Sync>(
         return Err(AllocError);
     };
     let devices = without_keys(Drivers::new(drivers));
-    Ok(run_over(rt, threads, disk, devices, book, words))
+    Ok(run_over(rt, threads, path, devices, book, words))
 }
 
 // A book of the rules, in this order.
@@ -133,17 +134,21 @@ fn without_keys<A: Devices>(devices: A) -> A
     devices
 }
 
-// Runs a command over a disk, with these devices and rules.
+// Runs a command over the file at a path, with these devices and rules. The file is locked until its output is written.
 fn run_over<A: Devices, C: Admission, R: Threads + Wait + Sync>(
     rt: &HostRuntime,
     threads: &R,
-    disk: FileDisk,
+    path: &str,
     devices: A,
     book: RuleBook<C>,
     words: &[&str],
 ) -> End
     requires { (handle : ℕ) → Lacks (A.keys devices) handle }
 {
+    let file = match store_file(rt, path, words, &book) {
+        Ok(file) => file,
+        Err(end) => return end,
+    };
     let mut source = Reading::new(rt.stdin());
     let mut sink = Writing::new(io::writer(rt));
     let Ended {
@@ -156,7 +161,7 @@ fn run_over<A: Devices, C: Admission, R: Threads + Wait + Sync>(
         words,
         &mut source,
         &mut sink,
-        disk,
+        FileDisk::new(file),
         devices,
         book,
     );
