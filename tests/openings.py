@@ -33,7 +33,7 @@ from program import USAGE, program_of, scratch
 from service import CELL_COUNT
 from store_file import CELL_LENGTH, HEADER
 
-SECONDS = 60  # at most, for what takes milliseconds
+SECONDS = 20  # at most, for what takes milliseconds
 RUNS, CREATIONS = 8, 15
 STORE_LENGTH = len(HEADER) + CELL_COUNT * CELL_LENGTH
 LOCKED = "is locked by another run"
