@@ -24,8 +24,9 @@ const HELP: &str = "\
 usage: psa_host STORE (run [--workers N] [--seed HEX64] [--rules LABELS] | generate N)
 
 A key store and symmetric cryptography service with the behaviour of the PSA
-Certified Crypto API. STORE is the file of its persistent keys; it is made where
-it isn't there.
+Certified Crypto API. STORE is the file of its persistent keys, a regular file or
+a link to one. Where nothing is there it is made, with mode 600: its owner alone
+can read it. One run has it at a time; another one is refused, and doesn't wait.
 
   run           answers the script on standard input by one reply line a call
     --workers N     run the sessions on N threads, 1 to 16; default 1
@@ -39,17 +40,29 @@ it isn't there.
                 prints how many calls succeeded, and a digest of the replies
   --help, --version   as the only word: this text, or the version
 
-An option is two words, or one word as in --workers=4. Generated keys and
-initialisation vectors come from the seed: with the default they are the same in
-every run.
+An option is two words, or one word as in --workers=4. Generated keys,
+initialisation vectors and nonces come from the seed.
+
++----------------------------------------------------------------------------+
+| A seed is for one run. Runs with one seed repeat initialisation vectors    |
+| and nonces, and runs without --seed all have the same. Two texts that are  |
+| encrypted so under one persistent key can be read without it (CTR, GCM and |
+| CCM). Where STORE keeps keys, give each run a fresh seed:                  |
+|                                                                            |
+|     --seed $(od -An -N32 -tx1 /dev/urandom | tr -d ' \\n')                  |
++----------------------------------------------------------------------------+
 
 examples:
-  psa_host keys.store run < script.psa
-  psa_host keys.store run --workers 4 --rules no-export,aes256 < script.psa
+  psa_host keys.store run --seed $(od -An -N32 -tx1 /dev/urandom | tr -d ' \\n') \\
+    < script.psa
+  psa_host keys.store run --seed $(od -An -N32 -tx1 /dev/urandom | tr -d ' \\n') \\
+    --workers 4 --rules no-export,aes256 < script.psa
 
-The status is 0 where every call was answered, 1 for words that aren't these, 2 for
-a script that isn't one, 3 and 4 where input or output failed, 5 for a file that is
-no store or a damaged one, 6 where it can't be opened or read, 7 without memory.";
+The status is 0 where every call was answered, which may have been by a refusal:
+the third word of a reply line says whether its call succeeded. It is 1 for words
+that aren't these, 2 for a script that isn't one, 3 and 4 where input or output
+failed, 5 for a file that is no store or a damaged one, 6 where it isn't opened, as
+a second line then says, or can't be read, 7 without memory.";
 
 const VERSION: &str = "\
 psa_host 0.1.0
