@@ -36,18 +36,24 @@ BEGIN {
 
 /^#/ { next }
 
-# `-` stands for no bytes, and HEX*N for N times the same ones.
+# `-` stands for no bytes, HEX*N for N times the same ones, and a comma stands between texts that follow one another.
 {
-  for (i = 1; i <= NF; i++) {
+  for (i = 1; i <= NF; i++)
     if ($i == "-") $i = ""
-    if (split($i, run, "*") == 2) for ($i = ""; run[2] > 0; run[2]--) $i = $i run[1]
-  }
+    else if ($i ~ /[*,]/) $i = written_out($i)
 }
 
 # --- the families: for each vector, all that is done with it, in all cuttings
 
-family == "hash" {
+# A message that is too long for one call is given once, in the longest pieces.
+family == "hash" && length($3) > most_digits {
   vectors++
+  hash("compute", whole)
+}
+
+family == "hash" && length($3) <= most_digits {
+  vectors++
+  hash_calls()
   for (cut = byte_by_byte; cut <= last_cut($3, block[$2]); cut++) {
     hash("compute", cut)
     hash("verify", cut)
@@ -59,6 +65,7 @@ family == "hmac" {
   vectors++
   tag = length($5) / 2
   alg = sprintf("03%02x00%s", tag < bytes[$2] ? 128 + tag : 128, number[$2])
+  mac_calls($1 " " $2, "1100", alg, $3, $4, $5)
   for (cut = byte_by_byte; cut <= last_cut($4, block[$2]); cut++) {
     mac($1 " " $2, "sign", "1100", alg, $3, $4, $5, cut)
     mac($1 " " $2, "verify", "1100", alg, $3, $4, $5, cut)
@@ -70,6 +77,7 @@ family == "cmac" {
   vectors++
   tag = length($4) / 2
   alg = sprintf("03%02x0200", 192 + (tag < 16 ? tag : 0))
+  mac_calls($1, "2400", alg, $2, $3, $4)
   for (cut = byte_by_byte; cut <= last_cut($3, 16); cut++) {
     mac($1, "sign", "2400", alg, $2, $3, $4, cut)
     mac($1, "verify", "2400", alg, $2, $3, $4, cut)
@@ -79,6 +87,7 @@ family == "cmac" {
 
 family == "ecb" {
   vectors++
+  cipher_calls($1, "04404400", $2, "", $3, $4)
   for (cut = byte_by_byte; cut <= last_cut($3, 16); cut++) {
     cipher($1, "encrypt", "04404400", $2, "", $3, "all " $4, cut)
     cipher($1, "decrypt", "04404400", $2, "", $4, "all " $3, cut)
@@ -88,6 +97,7 @@ family == "ecb" {
 family == "cbc" || family == "ctr" {
   vectors++
   alg = family == "cbc" ? "04404000" : "04c01000"
+  cipher_calls($1, alg, $2, $3, $4, $5)
   for (cut = byte_by_byte; cut <= last_cut($4, 16); cut++) {
     cipher($1, "encrypt", alg, $2, $3, $4, "all " $5, cut)
     cipher($1, "decrypt", alg, $2, $3, $5, "all " $4, cut)
@@ -119,6 +129,7 @@ family == "unpadded" && NF == 2 {
   name = parts[1]
   n = parts[2]
   plain = substr(text[name], 1, 2 * n)
+  cipher_calls($1, "04404100", key[name], iv[name], plain, $2)
   for (cut = byte_by_byte; cut <= last_cut($2, 16); cut++)
     cipher($1, "decrypt", "04404100", key[name], iv[name], $2, "all " plain, cut)
   padding = ""
@@ -137,8 +148,13 @@ family == "gcm" || family == "ccm" {
   for (cut = 0; cut <= last_cut($4, 16); cut++) aeads(cut, whole)
 }
 
-# Pieces of no bytes can't be derived, so that a cut at 0 is none.
-family == "hkdf" {
+# Pieces of no bytes can't be derived, so that a cut at 0 is none. A long output is given in two pieces, once.
+family == "hkdf" && length($6) / 2 > 1000 {
+  vectors++
+  hkdf("key gives bytes", bytes[$2])
+}
+
+family == "hkdf" && length($6) / 2 <= 1000 {
   vectors++
   for (cut = byte_by_byte; cut <= last_cut($6, bytes[$2]) && cut < length($6) / 2; cut++) {
     hkdf("key gives bytes", cut)
@@ -188,6 +204,26 @@ function hash(what, cut) {
   end()
 }
 
+# The vector in one call that computes it, one that verifies it, and one that is refused.
+function hash_calls(   alg) {
+  begin($1 " " $2 ", in one call")
+  alg = "020000" number[$2]
+  call("hash_compute alg=" alg " data=" $3, "is " $4)
+  call("hash_compare alg=" alg " data=" $3 " hash=" $4)
+  call("hash_compare alg=" alg " data=" $3 " hash=" turned($4), "none", "INVALID_SIGNATURE")
+  end()
+}
+
+function mac_calls(name, type, alg, key, message, tag) {
+  begin(name ", in one call")
+  call("import k@ type=" type " usage=c00 alg=" alg " data=" key, "key")
+  call("mac_compute $k@ alg=" alg " data=" message, "is " tag)
+  call("mac_verify $k@ alg=" alg " data=" message " mac=" tag)
+  call("mac_verify $k@ alg=" alg " data=" message " mac=" turned(tag), "none", "INVALID_SIGNATURE")
+  call("destroy $k@")
+  end()
+}
+
 function mac(name, what, type, alg, key, message, tag, cut) {
   begin(name ", " what ", " label(cut))
   call("import k@ type=" type " usage=" (what == "sign" ? 400 : 800) " alg=" alg " data=" key, "key")
@@ -199,6 +235,16 @@ function mac(name, what, type, alg, key, message, tag, cut) {
     call("mac_verify_finish @ mac=" turned(tag), "none", "INVALID_SIGNATURE")
     call("abort @")
   }
+  call("destroy $k@")
+  end()
+}
+
+# The vector in one call each way. One that encrypts draws its initialisation vector at random, so that only ECB has it.
+function cipher_calls(name, alg, key, iv, plain, text) {
+  begin(name ", in one call")
+  call("import k@ type=2400 usage=300 alg=" alg " data=" key, "key")
+  if (iv == "") call("cipher_encrypt $k@ alg=" alg " data=" plain, "is " text)
+  call("cipher_decrypt $k@ alg=" alg " data=" iv text, plain == "" ? "none" : "is " plain)
   call("destroy $k@")
   end()
 }
@@ -308,6 +354,18 @@ function derive(what, text, cut,   i, wrong, rest) {
 }
 
 # --- texts and their pieces
+
+function written_out(field,   texts, count, run, i, text) {
+  count = split(field, texts, ",")
+  for (i = 1; i <= count; i++) text = text (split(texts[i], run, "*") == 2 ? repeated(run[1], run[2]) : texts[i])
+  return text
+}
+
+function repeated(text, times,   half) {
+  if (times < 1) return ""
+  half = repeated(text, int(times / 2))
+  return half half (times % 2 ? text : "")
+}
 
 # The last place of the first three blocks.
 function last_cut(text, block) {

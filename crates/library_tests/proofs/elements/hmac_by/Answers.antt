@@ -1,8 +1,8 @@
 use Rattle.std.proofs.Common.{refl}
 use Rattle.std.specs.Prelude.{Some, None}
 use Rattle.driver_dispatch.specs.Held.{HeldKey}
-use Rattle.device_tests.proofs.Keys.{none_yet, has, taken_there, others_there, copied, left_there, is_hmac, hmac_fits}
-use Rattle.device_tests.proofs.trials.hmac_by.Goals as goal
+use Rattle.library_tests.proofs.Keys.{none_yet, has, taken_there, others_there, copied, left_there, is_hmac, hmac_fits}
+use Rattle.library_tests.proofs.elements.hmac_by.Goals as goal
 
 pub import_key-requires-clause-new : goal.import_key-requires-clause-new
 import_key-requires-clause-new c = none_yet c.args.driver.now.keys 1 c.requires.new

@@ -1,70 +1,21 @@
-// Outside vectors through a boxed driver, calls that fail by their number, a full driver, and each rule.
+// A secure element whose calls fail by their number, one that is full, and each rule by its word.
 
 use crate::admitted;
-use crate::trials::{cmac_by, enciphered, held_by, hmac_by, second_try};
+use crate::elements::{held_by, hmac_by, second_try};
 use key_attributes::{Attributes, KeyId, KeyType, Lifetime, Policy, Usage};
 use psa_status::Status;
 use soft_driver::SoftDriver;
+use std::alloc::Global;
 use std::test::Fail;
 
 const AES_KEY: [u8; 16] = [
     0x2b, 0x7e, 0x15, 0x16, 0x28, 0xae, 0xd2, 0xa6, 0xab, 0xf7, 0x15, 0x88, 0x09, 0xcf, 0x4f, 0x3c,
 ];
 
-// The counter blocks of SP 800-38A, section F.5.1, and what they are enciphered to.
-const COUNTERS: [(u128, u128); 4] = [
-    (
-        0xf0f1f2f3f4f5f6f7f8f9fafbfcfdfeff,
-        0xec8cdf7398607cb0f2d21675ea9ea1e4,
-    ),
-    (
-        0xf0f1f2f3f4f5f6f7f8f9fafbfcfdff00,
-        0x362b7c3c6773516318a077d7fc5073ae,
-    ),
-    (
-        0xf0f1f2f3f4f5f6f7f8f9fafbfcfdff01,
-        0x6a2cc3787889374fbeb4c81b17ba6c44,
-    ),
-    (
-        0xf0f1f2f3f4f5f6f7f8f9fafbfcfdff02,
-        0xe89c399ff0f198c6d40a31db156cabfe,
-    ),
-];
-
+// The tag of no bytes of SP 800-38B, section D.1.
 const NO_BYTES_CMAC: [u8; 16] = [
     0xbb, 0x1d, 0x69, 0x29, 0xe9, 0x59, 0x37, 0x28, 0x7f, 0xa3, 0x7d, 0x12, 0x9b, 0x75, 0x67, 0x46,
 ];
-
-// The empty message and the first block of SP 800-38B, section D.1, and their tags.
-const CMACS: [(&[u8], [u8; 16]); 2] = [
-    (b"", NO_BYTES_CMAC),
-    (
-        &[
-            0x6b, 0xc1, 0xbe, 0xe2, 0x2e, 0x40, 0x9f, 0x96, 0xe9, 0x3d, 0x7e, 0x11, 0x73, 0x93,
-            0x17, 0x2a,
-        ],
-        [
-            0x07, 0x0a, 0x16, 0xb4, 0x6b, 0x4d, 0x41, 0x44, 0xf7, 0x9b, 0xdd, 0x9d, 0xd0, 0x4a,
-            0x28, 0x7c,
-        ],
-    ),
-];
-
-#[test]
-fn an_aes_key(rt: HostRuntime) -> Result<(), Fail> {
-    let alloc = rt.alloc();
-    for (counter, output) in COUNTERS {
-        let driver = SoftDriver::new(alloc, 1, Vec::new(alloc)).map_err(|_| "memory")?;
-        let mut block = counter.to_be_bytes();
-        assert!(rt; enciphered(alloc, driver, &AES_KEY, &mut block)?.is_ok());
-        assert!(rt; u128::from_be_bytes(block) == output);
-    }
-    for (message, tag) in CMACS {
-        let mut driver = SoftDriver::new(alloc, 1, Vec::new(alloc)).map_err(|_| "memory")?;
-        assert!(rt; cmac_by(&mut driver, &AES_KEY, message) == Ok(tag));
-    }
-    Ok(())
-}
 
 // The HMAC of "Hi There" under twenty bytes 0b (RFC 4231, section 4.2).
 const HMAC: [u8; 32] = [
@@ -85,12 +36,12 @@ const LISTED: [(u64, bool); 6] = [
 #[test]
 fn an_hmac_key_and_listed_calls(rt: HostRuntime) -> Result<(), Fail> {
     let alloc = rt.alloc();
-    for (number, succeeds) in LISTED {
-        let fails = vec![in alloc; number]?;
+    for (number, succeeds) in LISTED.iter() {
+        let fails = vec![in alloc; *number]?;
         let mut driver = SoftDriver::new(alloc, 1, fails).map_err(|_| "memory")?;
         let tag = hmac_by(&mut driver, &[0x0b; 20], b"Hi There");
-        assert!(rt; tag.is_ok() == succeeds);
-        if succeeds {
+        assert!(rt; tag.is_ok() == *succeeds);
+        if *succeeds {
             assert!(rt; tag == Ok(HMAC));
         }
     }
@@ -132,32 +83,45 @@ const RULES: [(&str, u32, u16, Option<u32>); 9] = [
     ("aes256,no-ecb", 0x04c0_1000, 128, None),
 ];
 
+// Whether a rule's row is what new keys are answered.
+fn is_answered(
+    alloc: Global,
+    words: &str,
+    alg: u32,
+    bits: u16,
+    usage: Option<u32>,
+) -> Result<bool, Fail> {
+    let mut key = KEY;
+    key.bits = bits;
+    key.policy.alg = alg;
+    let answer = admitted(alloc, words, &key)?;
+    match usage {
+        Some(usage) => {
+            key.policy.usage = Usage(usage);
+            Ok(answer == Some(Ok(key)))
+        }
+        None => Ok(answer == Some(Err(Status::NotPermitted))),
+    }
+}
+
+// What names no rules.
+const NO_WORDS: [&str; 6] = [
+    "",
+    "no-export,",
+    ",no-export",
+    "no-Export",
+    "none",
+    "no-copy, no-ecb",
+];
+
 #[test]
 fn rules_by_their_words(rt: HostRuntime) -> Result<(), Fail> {
     let alloc = rt.alloc();
-    for (words, alg, bits, usage) in RULES {
-        let mut key = KEY;
-        key.bits = bits;
-        key.policy.alg = alg;
-        let answer = admitted(alloc, words, &key)?;
-        match usage {
-            Some(usage) => {
-                key.policy.usage = Usage(usage);
-                assert!(rt; answer == Some(Ok(key)), "{words}");
-            }
-            None => assert!(rt; answer == Some(Err(Status::NotPermitted)), "{words}"),
-        }
+    for (words, alg, bits, usage) in RULES.iter() {
+        assert!(rt; is_answered(alloc, *words, *alg, *bits, *usage)?);
     }
-    for words in [
-        "",
-        "no-export,",
-        ",no-export",
-        "no-Export",
-        "none",
-        "no-copy, no-ecb",
-    ] {
-        let answer = admitted(alloc, words, &KEY)?;
-        assert!(rt; answer.is_none(), "{words}");
+    for words in NO_WORDS.iter() {
+        assert!(rt; admitted(alloc, *words, &KEY)?.is_none());
     }
     Ok(())
 }

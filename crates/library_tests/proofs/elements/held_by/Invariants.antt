@@ -1,6 +1,6 @@
-use Rattle.device_tests.proofs.Keys.{AreNewFrom}
+use Rattle.library_tests.proofs.Keys.{AreNewFrom}
 use Rattle.std.proofs.Common.{◌≤◌}
-use Rattle.device_tests.proofs.trials.held_by.Given as goal
+use Rattle.library_tests.proofs.elements.held_by.Given as goal
 
 abbrev pub invariant-loop-handle : goal.invariant-loop-handle
 invariant-loop-handle l = record {

@@ -1,7 +1,7 @@
 use Rattle.std.specs.Prelude.{Some}
 use Rattle.driver_dispatch.specs.Held.{HeldKey}
-use Rattle.device_tests.proofs.Keys.{none_yet, has, taken_there, kept_there, is_cmac, cmac_fits}
-use Rattle.device_tests.proofs.trials.second_try.Goals as goal
+use Rattle.library_tests.proofs.Keys.{none_yet, has, taken_there, kept_there, is_cmac, cmac_fits}
+use Rattle.library_tests.proofs.elements.second_try.Goals as goal
 
 pub import_key-requires-clause-new : goal.import_key-requires-clause-new
 import_key-requires-clause-new c = none_yet c.args.driver.now.keys 1 c.requires

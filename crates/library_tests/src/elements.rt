@@ -1,57 +1,17 @@
 // What a device in memory answers, from its making on.
-ghost use Rattle.std.specs.Prelude.{◌≡◌, IsTrue, Some, length};
+ghost use Rattle.std.specs.Prelude.{◌≡◌, IsTrue, length};
 ghost use Rattle.key_attributes.specs.Checks.{permits_size};
 ghost use Rattle.driver_dispatch.specs.Held.{no_keys};
-ghost use Rattle.driver_dispatch.specs.Calls.{has_element};
 
 use alg_encoding::Alg;
-use driver_dispatch::{Devices, Driver, Drivers};
+use driver_dispatch::Driver;
 use key_attributes::KeyType;
 use psa_status::Failed;
 use soft_driver::SoftDriver;
-use std::alloc::{AllocError, Global};
 
 const CMAC: Alg = Alg(0x03c0_0200);
 
 const HMAC_SHA_256: Alg = Alg(0x0380_0009);
-
-/// What a new driver of location 1 answers for a block under an AES key, asked as one of the machine's devices.
-pub(crate) fn enciphered(
-    alloc: Global,
-    driver: SoftDriver,
-    key: &[u8; 16],
-    block: &mut [u8; 16],
-) -> Result<Result<(), Failed>, AllocError>
-    requires place { driver.location ≡ 1 }
-    requires new { driver.keys ≡ no_keys }
-{
-    let mut list: Vec<Box<dyn Driver>> = Vec::new(alloc);
-    list.push(Box::new(alloc, driver)?)?;
-    let mut devices = Drivers::new(list);
-    Ok(asked(&mut devices, key, block))
-}
-
-fn asked<D: Devices>(devices: &mut D, key: &[u8; 16], block: &mut [u8; 16]) -> Result<(), Failed>
-    requires element { IsTrue (has_element (D.locations devices.old)) }
-    requires new { D.keys devices.old ≡ Some no_keys }
-{
-    devices.import_key(7, KeyType::AES, key)?;
-    devices.encrypt_blocks(7, block)
-}
-
-/// The CMAC of a message under an AES key that a new driver takes, where no call fails.
-pub(crate) fn cmac_by(
-    driver: &mut SoftDriver,
-    key: &[u8; 16],
-    message: &[u8],
-) -> Result<[u8; 16], Failed>
-    requires { driver.old.keys ≡ no_keys }
-{
-    let mut tag = [0; 16];
-    driver.import_key(1, KeyType::AES, key)?;
-    driver.compute_mac(1, CMAC, message, &mut tag)?;
-    Ok(tag)
-}
 
 /// The HMAC with SHA-256 of a message under a copy of a key whose first handle is destroyed, where no call fails.
 pub(crate) fn hmac_by(
