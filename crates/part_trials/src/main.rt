@@ -1,0 +1,94 @@
+//! Tries parts of the key store for their figures. With no words it prints what becomes of keys in a slot table and in a full
+//! store file, and the front of a digest. With words it does one thing again and again, so that its time can be taken from
+//! outside: it makes a call of a table of 384 keys; opens a full store file, makes 512 keys in a new one, or looks for one
+//! of 512 keys; runs an algorithm over a text of zeros, and prints the front of its last output; or updates an operation.
+#![tactic(auto)]
+
+ghost use Rattle.part_trials.specs.Jobs.{IsJob};
+
+mod algorithms;
+mod file_turns;
+mod jobs;
+mod room;
+mod slot_keys;
+mod slot_trials;
+mod slot_turns;
+mod slots;
+mod store_file;
+mod updates;
+
+use jobs::{Algorithm, Family, Job, Work};
+use std::process::ExitCode;
+use std::{env, io};
+
+const USAGE: &str = "usage: part_trials [slots CALL TURNS | file CALL TURNS | NAME BYTES TURNS]
+CALL of slots is find, lease or oldest, and of file open, create or find.
+NAME is sha2, sha256, hmac, cmac, ecb, ecb_decryption, cbc, cbc_decryption, ctr, gcm, ccm or pbkdf2, or the update
+of an operation:
+sha256_update, hmac_update, cmac_update, ctr_update, cbc_update, gcm_update or ccm_update.
+BYTES is a multiple of 16, from 16 to 65536.";
+
+// Runs an algorithm over a text of zeros.
+fn run_whole(rt: &HostRuntime, algorithm: Algorithm, job: Job) -> io::Result<()>
+    requires { IsJob job }
+{
+    let mut text = vec![in rt.alloc(); 0u8; job.bytes]?;
+    let front = algorithms::run(algorithm, &mut text, job.turns);
+    println!(rt; "{front:016x}")
+}
+
+// Updates an operation with a text of zeros.
+fn run_updates(rt: &HostRuntime, family: Family, job: Job) -> io::Result<()> {
+    let text = vec![in rt.alloc(); 0u8; job.bytes]?;
+    let mut out = vec![in rt.alloc(); 0u8; 65536]?;
+    match updates::run(family, &text, &mut out, job.turns) {
+        Ok(()) => println!(rt; "updated"),
+        Err(_) => println!(rt; "refused"),
+    }
+}
+
+// Runs the job that words ask for, and answers whether they ask for one.
+fn run_job(rt: &HostRuntime, words: &[&str]) -> io::Result<bool> {
+    let Some(job) = Job::asked_by(words) else {
+        return Ok(false);
+    };
+    match job.work {
+        Work::Whole(algorithm) => run_whole(rt, algorithm, job)?,
+        Work::Update(family) => run_updates(rt, family, job)?,
+    }
+    Ok(true)
+}
+
+// Prints what becomes of each part once, and answers whether nothing was refused.
+fn try_all(rt: &HostRuntime) -> io::Result<bool> {
+    Ok(slots::try_all(rt)? && store_file::try_all(rt)? && run_job(rt, &["sha256", "16", "1"])?)
+}
+
+// Does what words ask for, and answers whether they ask for something that isn't refused.
+fn run(rt: &HostRuntime, words: &[&str]) -> io::Result<bool> {
+    match words {
+        [] => try_all(rt),
+        [part, call, turns] => match *part {
+            "slots" => Ok(slots::run(rt, call, turns).is_some()),
+            "file" => Ok(store_file::run(rt, call, turns).is_some()),
+            _ => run_job(rt, words),
+        },
+        _ => Ok(false),
+    }
+}
+
+fn main(rt: HostRuntime) -> io::Result<ExitCode> {
+    let mut arguments = Vec::new(rt.alloc());
+    for argument in env::args(&rt)?.skip(1) {
+        arguments.push(argument)?;
+    }
+    let mut words = Vec::new(rt.alloc());
+    for argument in &arguments {
+        words.push(argument.as_str())?;
+    }
+    if run(&rt, &words)? {
+        return Ok(ExitCode::SUCCESS);
+    }
+    eprintln!(rt; "{USAGE}")?;
+    Ok(ExitCode::FAILURE)
+}
