@@ -1,10 +1,10 @@
+// Keys and stores over disks in memory.
 ghost use Rattle.std.specs.Prelude.{◌≡◌, ◌≤◌, ◌∷◌, [], ℕ, length, IfOk};
 ghost use Rattle.key_cells.specs.Body.{IsKeyOf};
 
 use disk_face::{Disk, Fails, MemoryDisk};
 use key_attributes::{Attributes, KeyId, KeyType, Lifetime, Policy, Usage};
-use key_cells::{CellFault, Cells, OpenFault};
-use key_record::{read, write};
+use key_cells::{CellFault, Cells};
 use secret_bytes::Secret;
 use std::alloc::Global;
 use std::test::Fail;
@@ -84,81 +84,44 @@ pub fn fill<D: Disk>(cells: &mut Cells<D>, count: u32) -> Result<(), CellFault>
     Ok(())
 }
 
-// What an opening of these bytes is refused for.
-fn refusal(alloc: Global, bytes: Vec<u8>) -> Result<Option<OpenFault>, Fail> {
-    match Cells::open(alloc, new_disk(alloc, bytes, Fails::From(u64::MAX))?) {
-        Ok(_cells) => Ok(None),
-        Err((_disk, fault)) => Ok(Some(fault)),
+// A choice of so many pending writes, by the bits of a number.
+fn choice(alloc: Global, number: u32, pending: usize) -> Result<Vec<bool>, Fail>
+    ensures { IfOk result (λ kept. length kept.items ≡ pending) }
+{
+    let mut kept = vec![in alloc; false; pending]?;
+    let mut rest = number;
+    for at in 0..pending {
+        kept[at] = rest % 2 == 1;
+        rest /= 2;
     }
+    Ok(kept)
 }
 
-#[test]
-fn damage_is_found(rt: HostRuntime) -> Result<(), Fail> {
-    let alloc = rt.alloc();
-    let mut cells = new_cells(alloc, Fails::From(u64::MAX))?;
-    assert!(rt; fill(&mut cells, 4) == Ok(()));
-    let store = cells.into_disk().bytes().to_vec(alloc)?;
-    let other = Some(OpenFault::NotAStore);
-    let damaged = Some(OpenFault::DamagedCell { cell: 3 });
-    // Cell 3 begins at byte 3,328, and its record at byte 3,344.
-    let rows = [
-        (0, b'p', other),
-        (8, 2, other),
-        (63, 1, other),
-        (3328, 0xa4, None),
-        (3329, 1, damaged),
-        (3332, 0, damaged),
-        (3332, 2, damaged),
-        (3335, 0x40, damaged),
-        (3343, 1, damaged),
-        (3344, b'p', damaged),
-        (3352, 1, damaged),
-        (3356, 0, damaged),
-        (3357, 1, damaged),
-        (3361, 0x13, damaged),
-        (3362, 9, damaged),
-        (3364, 8, damaged),
-        (3365, 0x10, damaged),
-        (3372, 1, damaged),
-        (3376, 0, damaged),
-        (3376, 2, damaged),
-        (3377, 4, damaged),
-        (3381, 1, damaged),
-        (4415, 1, damaged),
-    ];
-    for (place, byte, answer) in rows {
-        let mut bytes = store.to_vec(alloc)?;
-        if let Some(old) = bytes.get_mut(place) {
-            *old = byte;
-        }
-        assert!(rt; refusal(alloc, bytes)? == answer);
-    }
-    assert!(rt; refusal(alloc, vec![in alloc; 0u8; 10]?)? == other);
-    let mut longer = store.to_vec(alloc)?;
-    longer.push(0)?;
-    assert!(rt; refusal(alloc, longer)? == other);
-    Ok(())
-}
-
-#[test]
-fn the_example_record_is_written_and_read(rt: HostRuntime) {
-    let example = [
-        0x50u8, 0x53, 0x41, 0, 0x4b, 0x45, 0x59, 0, 0, 0, 0, 0, 1, 0, 0, 0, 1, 0x10, 8, 0, 1, 0, 0,
-        0, 0, 0, 0, 0, 0, 0, 0, 0, 1, 0, 0, 0, 0xff,
-    ];
-    let mut out = [0; 1060];
-    let length = write(&one_byte_key(5), &[0xff], &mut out);
-    assert!(rt; length == 37);
-    assert!(rt; out[..37] == example[..]);
-    let unnamed = Attributes {
-        id: KeyId(0),
-        ..one_byte_key(5)
+/// The images that a crash may leave now, of at most three pending writes.
+pub fn images(alloc: Global, disk: &MemoryDisk) -> Result<Vec<Vec<u8>>, Fail> {
+    let pending = disk.pending();
+    let choices = match pending {
+        0 => 1,
+        1 => 2,
+        2 => 4,
+        3 => 8u32,
+        _ => return Err("pending")?,
     };
-    assert!(rt; read(&example) == Some((unnamed, 36)));
-    let mut with_second_algorithm = example;
-    with_second_algorithm[29] = 0x44;
-    with_second_algorithm[30] = 0x40;
-    with_second_algorithm[31] = 4;
-    assert!(rt; read(&with_second_algorithm) == None);
-    assert!(rt; read(&example[..36]) == None);
+    let mut images = Vec::new(alloc);
+    for number in 0..choices {
+        let kept = choice(alloc, number, pending)?;
+        match disk.image(&kept) {
+            Ok(image) => images.push(image)?,
+            Err(_) => return Err("memory")?,
+        }
+    }
+    Ok(images)
+}
+
+/// A buffer for a key.
+pub fn new_secret(alloc: Global) -> Result<Secret, Fail> {
+    match Secret::new(alloc) {
+        Ok(secret) => Ok(secret),
+        Err(_) => Err("memory")?,
+    }
 }

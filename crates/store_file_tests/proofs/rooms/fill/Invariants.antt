@@ -1,5 +1,5 @@
 use Rattle.std.proofs.Common.{◌≡◌, length}
-use Rattle.store_file_tests.proofs.tests.fill.Given as goal
+use Rattle.store_file_tests.proofs.rooms.fill.Given as goal
 
 abbrev pub invariant-loop-id : goal.invariant-loop-id
 invariant-loop-id g l = record {

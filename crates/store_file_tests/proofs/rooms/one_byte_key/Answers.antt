@@ -1,5 +1,5 @@
 use Rattle.std.proofs.Common.{refl, arith}
-use Rattle.store_file_tests.proofs.tests.one_byte_key.Goals as goal
+use Rattle.store_file_tests.proofs.rooms.one_byte_key.Goals as goal
 
 pub returns-clause-key : goal.returns-clause-key
 returns-clause-key c = λ byte. record {
