@@ -12,6 +12,3 @@ pub use alone::run_alone;
 pub use meeting::meet;
 pub use running::{Ran, run};
 pub use tally::{Entry, Start, Tally};
-
-#[cfg(test)]
-mod tests;

@@ -1,21 +1,19 @@
 ghost use Rattle.std.specs.Prelude.{◌≤◌, ℕ};
 ghost use Rattle.driver_dispatch.specs.Calls.{Lacks};
 
-use crate::Keeper;
 use crate::rooms::{new_element, no_devices, no_rules, open, raw_data, sound_disk};
-use admission::{Admission, Rule, Rules};
+use admission::Admission;
 use alg_encoding::Alg;
 use disk_face::MemoryDisk;
 use driver_dispatch::Devices;
 use element_calls::{ElementCall, NotComputed};
 use key_attributes::{Attributes, KeyId, KeyType, Lifetime, Policy, Usage};
-use key_cells::OpenFault;
-use policy_rules::{Label, narrow};
 use psa_status::Status;
 use std::alloc::Global;
 use std::process::Abort;
 use std::test::Fail;
 use store_core::{NotDestroyed, NotMade, Unkept};
+use store_trials::Keeper;
 
 // The bytes of a new store with keys of the identifiers from 1 to a last one.
 fn filled<R: Abort, A: Devices, C: Admission>(
@@ -237,103 +235,4 @@ fn two_creations_of_one_key_are_in_flight(rt: HostRuntime) -> Result<(), Fail> {
     let alloc = rt.alloc();
     let disk = sound_disk(alloc, Vec::new(alloc))?;
     make_two(&rt, alloc, disk, no_devices(alloc), no_rules(alloc))
-}
-
-fn make_many<R: Abort, A: Devices, C: Admission>(
-    rt: &R,
-    alloc: Global,
-    disk: MemoryDisk,
-    devices: A,
-    rules: C,
-) -> Result<(), Fail>
-    requires { (handle : ℕ) → Lacks (A.keys devices) handle }
-{
-    let mut keeper = open(alloc, disk, devices, rules)?;
-    for number in 0..16u32 {
-        let made = keeper.import(&raw_data(0), &[7]);
-        assert!(rt; made == Some(Ok(KeyId(0x4010_0000 + number))));
-    }
-    let limit = Some(Err(NotMade::Refused(Status::KeyLimit)));
-    assert!(rt; keeper.import(&raw_data(0), &[7]) == limit);
-    assert!(rt; keeper.destroy(KeyId(0x4010_0003)) == Some(Ok(())));
-    let next = KeyId(0x4010_0010);
-    assert!(rt; keeper.import(&raw_data(0), &[7]) == Some(Ok(next)));
-    assert!(rt; keeper.import(&raw_data(0), &[7]) == limit);
-    for id in 1..513u32 {
-        assert!(rt; keeper.import(&raw_data(id), &[8]) == Some(Ok(KeyId(id))));
-    }
-    let full = Some(Err(NotMade::Refused(Status::InsufficientStorage)));
-    assert!(rt; keeper.import(&raw_data(513), &[8]) == full);
-    assert!(rt; keeper.destroy(KeyId(300)) == Some(Ok(())));
-    assert!(rt; keeper.import(&raw_data(513), &[8]) == Some(Ok(KeyId(513))));
-    assert!(rt; keeper.gives(KeyId(513), &[8]) == Some(Ok(true)));
-    assert!(rt; keeper.gives(next, &[7]) == Some(Ok(true)));
-    Ok(())
-}
-
-#[test]
-fn keys_come_to_their_limits(rt: HostRuntime) -> Result<(), Fail> {
-    let alloc = rt.alloc();
-    let disk = sound_disk(alloc, Vec::new(alloc))?;
-    make_many(&rt, alloc, disk, no_devices(alloc), no_rules(alloc))
-}
-
-fn refuse<R: Abort, A: Devices, C: Admission>(
-    rt: &R,
-    alloc: Global,
-    disk: MemoryDisk,
-    devices: A,
-    rules: C,
-) -> Result<(), Fail>
-    requires { (handle : ℕ) → Lacks (A.keys devices) handle }
-{
-    match Keeper::open(alloc, disk, devices, rules) {
-        Ok(_keeper) => Err("opened")?,
-        Err(unopened) => {
-            assert!(rt; unopened.fault == OpenFault::NotAStore);
-            assert!(rt; unopened.disk.bytes() == [0xa5u8; 10].as_slice());
-            Ok(())
-        }
-    }
-}
-
-#[test]
-fn what_is_no_store_comes_back(rt: HostRuntime) -> Result<(), Fail> {
-    let alloc = rt.alloc();
-    let disk = sound_disk(alloc, vec![in alloc; 0xa5u8; 10]?)?;
-    refuse(&rt, alloc, disk, no_devices(alloc), no_rules(alloc))
-}
-
-fn export_under_a_rule<R: Abort, A: Devices, C: Admission>(
-    rt: &R,
-    alloc: Global,
-    disk: MemoryDisk,
-    devices: A,
-    rules: C,
-) -> Result<(), Fail>
-    requires { (handle : ℕ) → Lacks (A.keys devices) handle }
-{
-    let mut keeper = open(alloc, disk, devices, rules)?;
-    assert!(rt; keeper.gives(KeyId(1), &[1, 1]) == Some(Ok(true)));
-    assert!(rt; keeper.import(&raw_data(2), &[2]) == Some(Ok(KeyId(2))));
-    assert!(rt; keeper.gives(KeyId(2), &[2]) == Some(Err(Status::NotPermitted)));
-    let mut known = raw_data(2);
-    known.bits = 8;
-    known.policy.usage = Usage(0);
-    assert!(rt; keeper.attributes(KeyId(2)) == Some(Ok(known)));
-    Ok(())
-}
-
-#[test]
-fn rules_are_for_new_keys(rt: HostRuntime) -> Result<(), Fail> {
-    let alloc = rt.alloc();
-    let bytes = filled(&rt, alloc, no_devices(alloc), no_rules(alloc), 1)?;
-    let disk = sound_disk(alloc, bytes)?;
-    let mut list = Vec::new(alloc);
-    list.push(Rule::new(
-        Label::NoExport,
-        Box::new(alloc, |key: &Attributes| narrow(Label::NoExport, key))?,
-    ))?;
-    let rules = Rules::pick(list, &[Label::NoExport]);
-    export_under_a_rule(&rt, alloc, disk, no_devices(alloc), rules)
 }

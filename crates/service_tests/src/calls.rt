@@ -1,15 +1,15 @@
-ghost use Rattle.std.specs.Prelude.{◌≡◌, ◌≤◌, ℕ, All, Some, length};
+ghost use Rattle.std.specs.Prelude.{◌≡◌, ◌≤◌, ℕ, All, length};
 ghost use Rattle.driver_dispatch.specs.Calls.{Lacks};
-ghost use Rattle.driver_dispatch.specs.Held.{no_keys};
 ghost use Rattle.callers.specs.Ready.{IsReady};
 ghost use Rattle.callers.specs.Worlds.{world};
 
-use admission::{Admission, Rules};
+use crate::rooms::{no_devices, no_rules, sound_disk};
+use admission::Admission;
 use alg_encoding::Alg;
 use caller_service::{Closed, Service};
 use callers::{Caller, NoGate};
-use disk_face::{Disk, Fails, MemoryDisk};
-use driver_dispatch::{Devices, Drivers};
+use disk_face::Disk;
+use driver_dispatch::Devices;
 use key_attributes::{Attributes, KeyId, KeyType, Lifetime, Policy, Usage};
 use psa_status::Status;
 use service_calls::Op;
@@ -231,21 +231,9 @@ fn open_and_call<D: Disk + Drop, A: Devices, C: Admission, R: Abort + Wait>(
     Ok(())
 }
 
-// Devices that hold no key lack every handle.
-fn without_keys<A: Devices>(devices: A) -> A
-    requires { A.keys devices ≡ Some no_keys }
-    ensures { (handle : ℕ) → Lacks (A.keys result) handle }
-{
-    devices
-}
-
 #[test]
 fn calls_leave_budgets_and_buffers(rt: HostRuntime) -> Result<(), Fail> {
     let alloc = rt.alloc();
-    let Ok(disk) = MemoryDisk::new(alloc, Vec::new(alloc), Fails::From(u64::MAX)) else {
-        return Err("memory")?;
-    };
-    let devices = without_keys(Drivers::new(Vec::new(alloc)));
-    let rules = Rules::pick(Vec::new(alloc), &[]);
-    open_and_call(&rt, alloc, disk, devices, rules)
+    let disk = sound_disk(alloc, Vec::new(alloc))?;
+    open_and_call(&rt, alloc, disk, no_devices(alloc), no_rules(alloc))
 }

@@ -3,7 +3,6 @@ ghost use Rattle.std.specs.Prelude.{◌≡◌, ℕ, IfOk, Some};
 ghost use Rattle.driver_dispatch.specs.Held.{no_keys};
 ghost use Rattle.driver_dispatch.specs.Calls.{Lacks};
 
-use crate::Keeper;
 use admission::{Admission, Rules};
 use disk_face::{Fails, MemoryDisk};
 use driver_dispatch::{Devices, Driver, Drivers};
@@ -11,6 +10,7 @@ use key_attributes::{Attributes, KeyId, KeyType, Lifetime, Policy, Usage};
 use soft_driver::SoftDriver;
 use std::alloc::Global;
 use std::test::Fail;
+use store_trials::Keeper;
 
 /// The attributes of a key of raw data that may be exported: a persistent one, or a volatile one of the identifier 0.
 pub fn raw_data(id: u32) -> Attributes {

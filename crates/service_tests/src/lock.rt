@@ -1,6 +1,6 @@
-use crate::{Ran, run, run_alone};
 use std::process::Abort;
 use std::test::Fail;
+use turn_trials::{Ran, run, run_alone};
 
 // Each place comes once, and those of each pass rise.
 fn check<R: Abort>(rt: &R, ran: &Ran, taken: &mut Vec<bool>) {

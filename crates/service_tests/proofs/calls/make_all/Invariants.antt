@@ -1,7 +1,7 @@
 use Rattle.std.proofs.Common.{◌≡◌, ◌≤◌, All, length}
 use Rattle.callers.specs.Ready.{IsReady}
 use Rattle.callers.specs.Worlds.{world}
-use Rattle.service_tests.proofs.tests.make_all.Given as goal
+use Rattle.service_tests.proofs.calls.make_all.Given as goal
 
 abbrev pub invariant-loop-caller : goal.invariant-loop-caller
 invariant-loop-caller g l = record {

@@ -1,6 +1,6 @@
 use Rattle.std.proofs.Common.{◌≡◌, ◌++◌}
 use Rattle.turn_history.specs.Passes.{weight_of}
-use Rattle.shared_trials.proofs.tests.end_all.Given as goal
+use Rattle.service_tests.proofs.shared.end_all.Given as goal
 
 abbrev pub invariant-loop-pass : goal.invariant-loop-pass
 invariant-loop-pass g l = record {

@@ -2,8 +2,8 @@ use Rattle.std.proofs.Common.{◌∙◌, ◌+◌, ap, sym, subst, [], ◌∷◌,
 use Rattle.turn_history.specs.Passes.{IsIdle, weight_of}
 use Rattle.turn_history.proofs.Lists.{All_next, none_more}
 use Rattle.turn_history.proofs.Passes.{weight_snoc, new_weight}
-use Rattle.shared_trials.proofs.Ending.{idle}
-use Rattle.shared_trials.proofs.tests.end_all.Goals as goal
+use Rattle.service_tests.proofs.Ending.{idle}
+use Rattle.service_tests.proofs.shared.end_all.Goals as goal
 
 pub loop-pass-init : goal.loop-pass-init
 loop-pass-init g c = let a = c.start_ending-ending.ensures in record {

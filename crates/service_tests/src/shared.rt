@@ -4,9 +4,10 @@ ghost use Rattle.turn_history.specs.Passes.{AreNew};
 ghost use Rattle.shared_store.specs.Turning.{IsAt};
 ghost use Rattle.shared_store.specs.Closed.{AreAt};
 
-use admission::{Admission, Rules};
+use crate::rooms::{no_rules, sound_disk};
+use admission::Admission;
 use alg_encoding::Alg;
-use disk_face::{Disk, Fails, MemoryDisk};
+use disk_face::Disk;
 use driver_dispatch::{Devices, Drivers};
 use key_attributes::{Attributes, KeyId, KeyType, Lifetime, Policy, Usage};
 use key_uses::KeyUse;
@@ -19,14 +20,6 @@ use std::sync::Wait;
 use std::test::Fail;
 use store_core::NotDestroyed;
 use turn_history::Pass;
-
-// A disk of length 0 that never fails.
-fn new_disk(alloc: Global) -> Result<MemoryDisk, Fail> {
-    match MemoryDisk::new(alloc, Vec::new(alloc), Fails::From(u64::MAX)) {
-        Ok(disk) => Ok(disk),
-        Err(_) => Err("memory")?,
-    }
-}
 
 // Opens the store of a disk over devices that hold no key.
 fn open<D: Disk + Drop, A: Devices, C: Admission>(
@@ -80,9 +73,9 @@ fn open_and_count<R: Abort + Wait, D: Disk + Drop, A: Devices, C: Admission>(
 #[test]
 fn opens_with_ample_memory(rt: HostRuntime) -> Result<(), Fail> {
     let alloc = rt.alloc();
+    let disk = sound_disk(alloc, Vec::new(alloc))?;
     let devices = Drivers::new(Vec::new(alloc));
-    let rules = Rules::pick(Vec::new(alloc), &[]);
-    open_and_count(&rt, alloc, new_disk(alloc)?, devices, rules)
+    open_and_count(&rt, alloc, disk, devices, no_rules(alloc))
 }
 
 // A volatile key that may be exported.
@@ -167,9 +160,9 @@ fn open_and_make<R: Abort + Wait, D: Disk + Drop, A: Devices, C: Admission>(
 #[test]
 fn a_key_is_made_read_and_destroyed(rt: HostRuntime) -> Result<(), Fail> {
     let alloc = rt.alloc();
+    let disk = sound_disk(alloc, Vec::new(alloc))?;
     let devices = Drivers::new(Vec::new(alloc));
-    let rules = Rules::pick(Vec::new(alloc), &[]);
-    open_and_make(&rt, alloc, new_disk(alloc)?, devices, rules)
+    open_and_make(&rt, alloc, disk, devices, no_rules(alloc))
 }
 
 // Hands all passes in, and gives the disk back.
@@ -201,9 +194,9 @@ fn open_and_end<D: Disk + Drop, A: Devices, C: Admission>(
 #[test]
 fn gives_the_disk_back(rt: HostRuntime) -> Result<(), Fail> {
     let alloc = rt.alloc();
+    let disk = sound_disk(alloc, Vec::new(alloc))?;
     let devices = Drivers::new(Vec::new(alloc));
-    let rules = Rules::pick(Vec::new(alloc), &[]);
-    let disk = open_and_end(alloc, new_disk(alloc)?, devices, rules)?;
-    assert_eq!(&rt; disk.bytes().len(), 557_120);
+    let disk = open_and_end(alloc, disk, devices, no_rules(alloc))?;
+    assert!(rt; disk.bytes().len() == 557_120);
     Ok(())
 }

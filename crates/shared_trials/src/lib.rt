@@ -1,5 +1,0 @@
-//! Trials of the store under its lock.
-#![tactic(auto)]
-
-#[cfg(test)]
-mod tests;
