@@ -41,9 +41,13 @@ pub fn try_all(rt: &HostRuntime) -> io::Result<bool> {
 
 /// Makes a call on a table of 384 keys so often. `None` where there is no such call, or no memory.
 pub fn run(rt: &HostRuntime, call: &str, turns: &str) -> Option<u32> {
-    let turns = turns.parse().ok()?;
-    let mut table = new_table(rt.alloc()).ok()?;
-    let spare = Secret::new(rt.alloc()).ok()?;
+    let turns: usize = turns.parse().ok()?;
+    let Ok(mut table) = new_table(rt.alloc()) else {
+        return None;
+    };
+    let Ok(spare) = Secret::new(rt.alloc()) else {
+        return None;
+    };
     let filled = slot_trials::fill(&mut table, 384, VOLATILE);
     match call {
         "find" => Some(slot_turns::look(&table, turns)),

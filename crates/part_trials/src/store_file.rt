@@ -38,7 +38,7 @@ pub fn try_all(rt: &HostRuntime) -> io::Result<bool> {
 
 /// Does one thing so often with a full store. `None` where there is no such call, or it is refused.
 pub fn run(rt: &HostRuntime, call: &str, turns: &str) -> Option<usize> {
-    let turns = turns.parse().ok()?;
+    let turns: usize = turns.parse().ok()?;
     let mut cells = full_store(rt)?;
     match call {
         "find" => file_turns::look(&cells, turns),

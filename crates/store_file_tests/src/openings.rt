@@ -56,14 +56,17 @@ fn is_zero_from(bytes: &[u8], from: usize) -> bool {
     true
 }
 
-// The bytes of a store with two keys and two cells that are left over, one closed by 0 and one by another byte.
+// The gates of two cells, and what closes them.
+const GATES: [(usize, u8); 2] = [(2240, 0), (3328, 0xa4)];
+
+// The bytes of a store with two keys and two cells that are left over.
 fn with_cells_left_over(alloc: Global) -> Result<Vec<u8>, Fail> {
     let mut cells = new_cells(alloc, Fails::From(u64::MAX))?;
     if fill(&mut cells, 4).is_err() {
         return Err("fill")?;
     }
     let mut store = cells.into_disk().bytes().to_vec(alloc)?;
-    for (gate, byte) in [(2240, 0), (3328, 0xa4)].iter() {
+    for (gate, byte) in GATES.iter() {
         if let Some(old) = store.get_mut(*gate) {
             *old = *byte;
         }

@@ -1,4 +1,4 @@
-use Rattle.std.proofs.Common.{◌≤◌, arith}
+use Rattle.std.proofs.Common.{arith}
 use Rattle.library_tests.proofs.Keys.{none_yet, new_after}
 use Rattle.library_tests.proofs.elements.held_by.Goals as goal
 use Rattle.library_tests.proofs.elements.held_by.Goals.{then-is_ok, else-is_ok}
