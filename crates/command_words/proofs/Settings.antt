@@ -37,12 +37,12 @@ pub record Stands (settings : List Setting) (option : RunOption) (value : Option
 abbrev pub Match : Texts → List Setting → Type 0
 Match texts settings = (option : RunOption) → Stands settings option (text_at texts option)
 
-with_is : (texts : Texts) (o : RunOption) (value : List ℕ) → with_option texts o value ≡ if_new (text_at texts o) (put texts o value)
+pub with_is : (texts : Texts) (o : RunOption) (value : List ℕ) → with_option texts o value ≡ if_new (text_at texts o) (put texts o value)
 with_is texts Workers value = refl
 with_is texts Seed value = refl
 with_is texts Rules value = refl
 
-put_at : (texts : Texts) (o p : RunOption) (value : List ℕ) → text_at (put texts o value) p ≡ cond (is_of p (o, value)) (Some value) (text_at texts p)
+pub put_at : (texts : Texts) (o p : RunOption) (value : List ℕ) → text_at (put texts o value) p ≡ cond (is_of p (o, value)) (Some value) (text_at texts p)
 put_at texts Workers Workers value = refl
 put_at texts Workers Seed value = refl
 put_at texts Workers Rules value = refl
@@ -53,7 +53,7 @@ put_at texts Rules Workers value = refl
 put_at texts Rules Seed value = refl
 put_at texts Rules Rules value = refl
 
-same_option : (o p : RunOption) (value : List ℕ) → is_of p (o, value) ≡ true → o ≡ p
+pub same_option : (o p : RunOption) (value : List ℕ) → is_of p (o, value) ≡ true → o ≡ p
 same_option Workers Workers value e = refl
 same_option Workers Seed value e = absurd (cc)
 same_option Workers Rules value e = absurd (cc)
@@ -69,7 +69,7 @@ is_of_itself Workers value = refl
 is_of_itself Seed value = refl
 is_of_itself Rules value = refl
 
-or_none : {X : Type 0} (o : Option X) → option_or o None ≡ o
+pub or_none : {X : Type 0} (o : Option X) → option_or o None ≡ o
 or_none None = refl
 or_none (Some x) = refl
 

@@ -1,4 +1,5 @@
 pub mod Options
+pub mod Parser
 pub mod Reading
 pub mod Values
 pub mod Words

@@ -1,5 +1,5 @@
 // The labels that a word of the command line names.
-ghost use Rattle.std.specs.Prelude.{◌≡◌, [], IfOk, IsErr, IsSome, is_some};
+ghost use Rattle.std.specs.Prelude.{◌≡◌, [], IfOk, is_some};
 ghost use Rattle.std.specs.Option.{option_map};
 ghost use Rattle.admission.specs.Words.{labels_in};
 ghost use Rattle.command_words.specs.Reading.{text};
@@ -53,21 +53,27 @@ fn read_labels<L: RuleList>(
     }
 }
 
-/// The labels of an option, none where no option says them. Memory is taken only where they are labels of rules.
+/// Whether the value of an option is labels of rules, which holds where there is no such option.
+pub(crate) fn are_labels_of<L: RuleList>(rules: &L, option: Option<&str>) -> bool
+    ensures { result ≡ is_some (value_or [] (labels_in (L.labels rules.now)) (text option.entry)) }
+{
+    match option {
+        Some(text) => are_labels(rules, text),
+        None => true,
+    }
+}
+
+/// The labels of an option, none where no option says them.
 pub(crate) fn labels_of<L: RuleList>(
     alloc: Global,
     rules: &L,
     option: Option<&str>,
 ) -> Result<Option<LabelList>, Memory>
-    ensures value { IfOk result (λ read. read ≡ value_or [] (labels_in (L.labels rules.now)) (text option.entry)) }
-    ensures accepted { IsErr result → IsSome (value_or [] (labels_in (L.labels rules.now)) (text option.entry)) }
+    ensures { IfOk result (λ read. read ≡ value_or [] (labels_in (L.labels rules.now)) (text option.entry)) }
 {
     let Some(text) = option else {
         return Ok(Some(LabelList::of(Vec::new(alloc))));
     };
-    if !are_labels(rules, text) {
-        return Ok(None);
-    }
     match read_labels(alloc, rules, text) {
         Ok(Some(labels)) => Ok(Some(LabelList::of(labels))),
         Ok(None) => Ok(None),

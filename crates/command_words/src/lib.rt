@@ -4,6 +4,7 @@
 mod command;
 mod labels;
 mod options;
+mod parser;
 mod rule_list;
 mod values;
 mod words;

@@ -1,0 +1,14 @@
+use Rattle.std.proofs.Common.{◌∙◌}
+use Rattle.clap.specs.Words.{found_of}
+use Rattle.clap.proofs.WalkLemmas.{first_value-rows}
+use Rattle.command_words.specs.Parser.{option_id}
+use Rattle.command_words.specs.declared.options.RunOption.TheVariants.{Workers, Seed, Rules}
+use Rattle.command_words.proofs.parser.settings_in.Goals as goal
+
+pub returns : goal.returns
+returns c =
+    let found = found_of c.args.matches.now in λ i. record {
+      workers = (c.get_str.ensures ∙ first_value-rows found (option_id Workers)) i;
+      seed = (c.get_str-2.ensures ∙ first_value-rows found (option_id Seed)) i;
+      rules = (c.get_str-3.ensures ∙ first_value-rows found (option_id Rules)) i;
+    }
