@@ -1,19 +1,15 @@
 -- What is known of callers once a service is closed, from what is known of those that were retired.
 use Rattle.std.proofs.Common.{◌≡◌, ℕ, ◌<◌, ◌≤◌, ◌+◌, List, [], ◌∷◌, ◌++◌, All, length, map, get_or, set, sym, ap, ◌∙◌, subst, arith, inl, inr, length-append, length-set, get_or-set_same, get_or-set_other}
 use Rattle.std.proofs.lemmas.Bool.Decides.{eqb_tells}
-use Rattle.atomic_table.specs.Seated.{TableId}
-use Rattle.std.specs.Prelude.{Option}
 use Rattle.caller_service.specs.Closing.{backwards}
 use Rattle.turn_history.specs.declared.pass.Account.{Account}
 use Rattle.turn_history.specs.History.{calls_by, entries_of, StartsWith}
 use Rattle.turn_history.specs.Views.{account_of}
-use Rattle.policy_rules.specs.declared.narrowing.Label.{Label}
 use Rattle.store_model.specs.Replay.{Entry}
-use Rattle.store_core.specs.declared.store.Opened.{Opened}
 use Rattle.shared_store.specs.Closed.{IsClosed}
 use Rattle.shared_store.specs.Standing.{caller_of}
 use Rattle.callers.specs.Ready.{IsReady}
-use Rattle.callers.specs.Worlds.{World}
+use Rattle.shared_store.specs.Worlds.{World}
 use Rattle.callers.specs.declared.caller.Caller.{Caller}
 use Rattle.turn_history.proofs.Lists.{entries-append}
 use Rattle.callers.proofs.Journeys.{begins_through}
@@ -33,27 +29,26 @@ new_each w callers more c is each here k d lt = elim (eqb_tells k (length caller
 ]
 
 -- the first so many of these were retired, and the others are as they were
-pub record AreRetiring {D A C : Type 0} (lock : TableId) (opened : Opened D A C) (count : ℕ) (old now : List (Caller D A C)) : Type 0 where
+pub record AreRetiring {D A C : Type 0} (w : World D A C) (count : ℕ) (old now : List (Caller D A C)) : Type 0 where
   pub as_many : length now ≡ length old
-  pub done : (k : ℕ) (d : Caller D A C) → k < count → WasRetired lock opened (get_or old k d) (get_or now k d)
+  pub done : (k : ℕ) (d : Caller D A C) → k < count → WasRetired w (get_or old k d) (get_or now k d)
   pub rest : (k : ℕ) (d : Caller D A C) → count ≤ k → get_or now k d ≡ get_or old k d
 
-pub one_retired : {D A C : Type 0} (lock : TableId) (opened : Opened D A C) (at : ℕ) (old now : List (Caller D A C)) (c : Caller D A C) → AreRetiring lock opened at old now → at < length now →
-    ((d : Caller D A C) → WasRetired lock opened (get_or old at d) c) → AreRetiring lock opened (at + 1) old (set now at c)
-one_retired lock opened at old now c r within here = record {
+pub one_retired : {D A C : Type 0} (w : World D A C) (at : ℕ) (old now : List (Caller D A C)) (c : Caller D A C) → AreRetiring w at old now → at < length now →
+    ((d : Caller D A C) → WasRetired w (get_or old at d) c) → AreRetiring w (at + 1) old (set now at c)
+one_retired w at old now c r within here = record {
   as_many = length-set now at c ∙ r.as_many;
   done = λ k d lt. elim (eqb_tells k at) [
-    | inl same ↦ subst (λ j. WasRetired lock opened (get_or old j d) (get_or (set now at c) j d)) (sym same.1) (subst (WasRetired lock opened (get_or old at d)) (sym (get_or-set_same now at c d within)) (here d))
-    | inr other ↦ subst (WasRetired lock opened (get_or old k d)) (sym (get_or-set_other now at k c d other.1)) (r.done k d (let ne = other.1 in omega arith))
+    | inl same ↦ subst (λ j. WasRetired w (get_or old j d) (get_or (set now at c) j d)) (sym same.1) (subst (WasRetired w (get_or old at d)) (sym (get_or-set_same now at c d within)) (here d))
+    | inr other ↦ subst (WasRetired w (get_or old k d)) (sym (get_or-set_other now at k c d other.1)) (r.done k d (let ne = other.1 in omega arith))
   ];
   rest = λ k d le. get_or-set_other now at k c d (λ same. let z : k ≡ at = same in omega arith) ∙ r.rest k d (omega arith);
 }
 
-module _ {D A C : Type 0} (told : D → Option (List ℕ)) (moment : D → ℕ) (left_since : D → ℕ → List ℕ → Type 0) (faults : D → ℕ) (hard : A → ℕ) (locations : A → List ℕ) (labels : C → List Label)
-    (w : World D A C) (disk : D) (devices : A) (old new : List (Caller D A C)) (accounts : List (Account Entry))
-    (ready : All (IsReady w 0) old) (retired : WereRetired w.lock w.opened old new)
+module _ {D A C : Type 0} (w : World D A C) (disk : D) (devices : A) (old new : List (Caller D A C)) (accounts : List (Account Entry))
+    (ready : All (IsReady w 0) old) (retired : WereRetired w old new)
     (are : accounts ≡ map (λ (c : Caller D A C). account_of c.pass.me.0) (backwards new))
-    (closed : IsClosed told moment left_since faults hard locations labels w.opened disk devices accounts) where
+    (closed : IsClosed w disk devices accounts) where
   each_seen : All (λ (c : Caller D A C). StartsWith closed.turns c.pass.me.0.seen) new
   each_seen = all_reversed (λ (c : Caller D A C). account_of c.pass.me.0) (λ a. StartsWith closed.turns a.seen) new (subst (All (λ a. StartsWith closed.turns a.seen)) are closed.seen)
 
@@ -61,7 +56,7 @@ module _ {D A C : Type 0} (told : D → Option (List ℕ)) (moment : D → ℕ) 
   each_called = all_reversed (λ (c : Caller D A C). account_of c.pass.me.0) (λ a. 0 < a.number → calls_by caller_of a.number (entries_of closed.turns) ≡ a.calls) new
       (subst (All (λ a. 0 < a.number → calls_by caller_of a.number (entries_of closed.turns) ≡ a.calls)) are closed.called)
 
-  pub closed_over : IsClosedOver told moment left_since faults hard locations labels w.opened disk devices old
+  pub closed_over : IsClosedOver w disk devices old
   closed_over = record {
     history = entries_of closed.turns;
     seen = λ k d lt.

@@ -6,10 +6,8 @@ ghost use Rattle.service_calls.specs.declared.handle_calls.Setup.TheVariants as 
 ghost use Rattle.service_calls.specs.declared.steps.Step.TheVariants as steps;
 ghost use Rattle.service_calls.specs.declared.steps.CipherStep.TheVariants as cipher_steps;
 ghost use Rattle.service_calls.specs.declared.steps.AeadStep.TheVariants as aead_steps;
-ghost use Rattle.callers.specs.Ready.{IsReady};
-ghost use Rattle.callers.specs.Worlds.{world};
 ghost use Rattle.caller_service.specs.Given.{length_of, nothing};
-ghost use Rattle.caller_service.specs.Replies.{IsReply};
+ghost use Rattle.caller_service.specs.Replies.{IsReply, MayCall};
 
 use crate::replies::Reply;
 use crate::service::Service;
@@ -32,9 +30,8 @@ impl<D: Disk, A: Devices, C: Admission, G: Gate> Service<D, A, C, G> {
         key: KeyId,
         alg: Alg,
     ) -> Reply<()>
-        requires ready { IsReady (world D.contents D.moment D.faults A.keys A.faults A.locations C.labels self.now.shared.lock.table.shared.table_id self.now.shared.lock.table.shared.key.value.value.store.opened) 0 caller.old }
-        requires within { caller.old.spent ≤ self.now.worn }
-        ensures { IsReply (world D.contents D.moment D.faults A.keys A.faults A.locations C.labels self.now.shared.lock.table.shared.table_id self.now.shared.lock.table.shared.key.value.value.store.opened) self.now.worn (calls.OnHandle op (handle_calls.Setup (setups.CipherEncrypt key alg))) nothing caller.old caller.new [] [] result }
+        requires { MayCall self.now caller.old }
+        ensures { IsReply self.now (calls.OnHandle op (handle_calls.Setup (setups.CipherEncrypt key alg))) nothing caller.old caller.new [] [] result }
     {
         let call = Call::OnHandle(op, HandleCall::Setup(Setup::CipherEncrypt { key, alg }));
         self.tell(rt, caller, &call)
@@ -49,9 +46,8 @@ impl<D: Disk, A: Devices, C: Admission, G: Gate> Service<D, A, C, G> {
         key: KeyId,
         alg: Alg,
     ) -> Reply<()>
-        requires ready { IsReady (world D.contents D.moment D.faults A.keys A.faults A.locations C.labels self.now.shared.lock.table.shared.table_id self.now.shared.lock.table.shared.key.value.value.store.opened) 0 caller.old }
-        requires within { caller.old.spent ≤ self.now.worn }
-        ensures { IsReply (world D.contents D.moment D.faults A.keys A.faults A.locations C.labels self.now.shared.lock.table.shared.table_id self.now.shared.lock.table.shared.key.value.value.store.opened) self.now.worn (calls.OnHandle op (handle_calls.Setup (setups.CipherDecrypt key alg))) nothing caller.old caller.new [] [] result }
+        requires { MayCall self.now caller.old }
+        ensures { IsReply self.now (calls.OnHandle op (handle_calls.Setup (setups.CipherDecrypt key alg))) nothing caller.old caller.new [] [] result }
     {
         let call = Call::OnHandle(op, HandleCall::Setup(Setup::CipherDecrypt { key, alg }));
         self.tell(rt, caller, &call)
@@ -65,9 +61,8 @@ impl<D: Disk, A: Devices, C: Admission, G: Gate> Service<D, A, C, G> {
         op: Op,
         out: &mut [u8],
     ) -> Reply<usize>
-        requires ready { IsReady (world D.contents D.moment D.faults A.keys A.faults A.locations C.labels self.now.shared.lock.table.shared.table_id self.now.shared.lock.table.shared.key.value.value.store.opened) 0 caller.old }
-        requires within { caller.old.spent ≤ self.now.worn }
-        ensures { IsReply (world D.contents D.moment D.faults A.keys A.faults A.locations C.labels self.now.shared.lock.table.shared.table_id self.now.shared.lock.table.shared.key.value.value.store.opened) self.now.worn (calls.OnHandle op (handle_calls.Step (steps.Cipher cipher_steps.GenerateIv))) length_of caller.old caller.new out.old out.new result }
+        requires { MayCall self.now caller.old }
+        ensures { IsReply self.now (calls.OnHandle op (handle_calls.Step (steps.Cipher cipher_steps.GenerateIv))) length_of caller.old caller.new out.old out.new result }
     {
         let call = Call::OnHandle(op, HandleCall::Step(Step::Cipher(CipherStep::GenerateIv)));
         self.ask(rt, caller, &call, out)
@@ -81,9 +76,8 @@ impl<D: Disk, A: Devices, C: Admission, G: Gate> Service<D, A, C, G> {
         op: Op,
         iv: &[u8],
     ) -> Reply<()>
-        requires ready { IsReady (world D.contents D.moment D.faults A.keys A.faults A.locations C.labels self.now.shared.lock.table.shared.table_id self.now.shared.lock.table.shared.key.value.value.store.opened) 0 caller.old }
-        requires within { caller.old.spent ≤ self.now.worn }
-        ensures { IsReply (world D.contents D.moment D.faults A.keys A.faults A.locations C.labels self.now.shared.lock.table.shared.table_id self.now.shared.lock.table.shared.key.value.value.store.opened) self.now.worn (calls.OnHandle op (handle_calls.Step (steps.Cipher (cipher_steps.SetIv iv.entry)))) nothing caller.old caller.new [] [] result }
+        requires { MayCall self.now caller.old }
+        ensures { IsReply self.now (calls.OnHandle op (handle_calls.Step (steps.Cipher (cipher_steps.SetIv iv.entry)))) nothing caller.old caller.new [] [] result }
     {
         let call = Call::OnHandle(op, HandleCall::Step(Step::Cipher(CipherStep::SetIv(iv))));
         self.tell(rt, caller, &call)
@@ -98,9 +92,8 @@ impl<D: Disk, A: Devices, C: Admission, G: Gate> Service<D, A, C, G> {
         input: &[u8],
         out: &mut [u8],
     ) -> Reply<usize>
-        requires ready { IsReady (world D.contents D.moment D.faults A.keys A.faults A.locations C.labels self.now.shared.lock.table.shared.table_id self.now.shared.lock.table.shared.key.value.value.store.opened) 0 caller.old }
-        requires within { caller.old.spent ≤ self.now.worn }
-        ensures { IsReply (world D.contents D.moment D.faults A.keys A.faults A.locations C.labels self.now.shared.lock.table.shared.table_id self.now.shared.lock.table.shared.key.value.value.store.opened) self.now.worn (calls.OnHandle op (handle_calls.Step (steps.Cipher (cipher_steps.Update input.entry)))) length_of caller.old caller.new out.old out.new result }
+        requires { MayCall self.now caller.old }
+        ensures { IsReply self.now (calls.OnHandle op (handle_calls.Step (steps.Cipher (cipher_steps.Update input.entry)))) length_of caller.old caller.new out.old out.new result }
     {
         let call = Call::OnHandle(
             op,
@@ -118,9 +111,8 @@ impl<D: Disk, A: Devices, C: Admission, G: Gate> Service<D, A, C, G> {
         op: Op,
         out: &mut [u8],
     ) -> Reply<usize>
-        requires ready { IsReady (world D.contents D.moment D.faults A.keys A.faults A.locations C.labels self.now.shared.lock.table.shared.table_id self.now.shared.lock.table.shared.key.value.value.store.opened) 0 caller.old }
-        requires within { caller.old.spent ≤ self.now.worn }
-        ensures { IsReply (world D.contents D.moment D.faults A.keys A.faults A.locations C.labels self.now.shared.lock.table.shared.table_id self.now.shared.lock.table.shared.key.value.value.store.opened) self.now.worn (calls.OnHandle op (handle_calls.Step (steps.Cipher cipher_steps.Finish))) length_of caller.old caller.new out.old out.new result }
+        requires { MayCall self.now caller.old }
+        ensures { IsReply self.now (calls.OnHandle op (handle_calls.Step (steps.Cipher cipher_steps.Finish))) length_of caller.old caller.new out.old out.new result }
     {
         let call = Call::OnHandle(op, HandleCall::Step(Step::Cipher(CipherStep::Finish)));
         self.ask(rt, caller, &call, out)
@@ -135,9 +127,8 @@ impl<D: Disk, A: Devices, C: Admission, G: Gate> Service<D, A, C, G> {
         key: KeyId,
         alg: Alg,
     ) -> Reply<()>
-        requires ready { IsReady (world D.contents D.moment D.faults A.keys A.faults A.locations C.labels self.now.shared.lock.table.shared.table_id self.now.shared.lock.table.shared.key.value.value.store.opened) 0 caller.old }
-        requires within { caller.old.spent ≤ self.now.worn }
-        ensures { IsReply (world D.contents D.moment D.faults A.keys A.faults A.locations C.labels self.now.shared.lock.table.shared.table_id self.now.shared.lock.table.shared.key.value.value.store.opened) self.now.worn (calls.OnHandle op (handle_calls.Setup (setups.AeadEncrypt key alg))) nothing caller.old caller.new [] [] result }
+        requires { MayCall self.now caller.old }
+        ensures { IsReply self.now (calls.OnHandle op (handle_calls.Setup (setups.AeadEncrypt key alg))) nothing caller.old caller.new [] [] result }
     {
         let call = Call::OnHandle(op, HandleCall::Setup(Setup::AeadEncrypt { key, alg }));
         self.tell(rt, caller, &call)
@@ -152,9 +143,8 @@ impl<D: Disk, A: Devices, C: Admission, G: Gate> Service<D, A, C, G> {
         key: KeyId,
         alg: Alg,
     ) -> Reply<()>
-        requires ready { IsReady (world D.contents D.moment D.faults A.keys A.faults A.locations C.labels self.now.shared.lock.table.shared.table_id self.now.shared.lock.table.shared.key.value.value.store.opened) 0 caller.old }
-        requires within { caller.old.spent ≤ self.now.worn }
-        ensures { IsReply (world D.contents D.moment D.faults A.keys A.faults A.locations C.labels self.now.shared.lock.table.shared.table_id self.now.shared.lock.table.shared.key.value.value.store.opened) self.now.worn (calls.OnHandle op (handle_calls.Setup (setups.AeadDecrypt key alg))) nothing caller.old caller.new [] [] result }
+        requires { MayCall self.now caller.old }
+        ensures { IsReply self.now (calls.OnHandle op (handle_calls.Setup (setups.AeadDecrypt key alg))) nothing caller.old caller.new [] [] result }
     {
         let call = Call::OnHandle(op, HandleCall::Setup(Setup::AeadDecrypt { key, alg }));
         self.tell(rt, caller, &call)
@@ -169,9 +159,8 @@ impl<D: Disk, A: Devices, C: Admission, G: Gate> Service<D, A, C, G> {
         ad: u64,
         payload: u64,
     ) -> Reply<()>
-        requires ready { IsReady (world D.contents D.moment D.faults A.keys A.faults A.locations C.labels self.now.shared.lock.table.shared.table_id self.now.shared.lock.table.shared.key.value.value.store.opened) 0 caller.old }
-        requires within { caller.old.spent ≤ self.now.worn }
-        ensures { IsReply (world D.contents D.moment D.faults A.keys A.faults A.locations C.labels self.now.shared.lock.table.shared.table_id self.now.shared.lock.table.shared.key.value.value.store.opened) self.now.worn (calls.OnHandle op (handle_calls.Step (steps.Aead (aead_steps.SetLengths ad payload)))) nothing caller.old caller.new [] [] result }
+        requires { MayCall self.now caller.old }
+        ensures { IsReply self.now (calls.OnHandle op (handle_calls.Step (steps.Aead (aead_steps.SetLengths ad payload)))) nothing caller.old caller.new [] [] result }
     {
         let call = Call::OnHandle(
             op,
@@ -188,9 +177,8 @@ impl<D: Disk, A: Devices, C: Admission, G: Gate> Service<D, A, C, G> {
         op: Op,
         out: &mut [u8],
     ) -> Reply<usize>
-        requires ready { IsReady (world D.contents D.moment D.faults A.keys A.faults A.locations C.labels self.now.shared.lock.table.shared.table_id self.now.shared.lock.table.shared.key.value.value.store.opened) 0 caller.old }
-        requires within { caller.old.spent ≤ self.now.worn }
-        ensures { IsReply (world D.contents D.moment D.faults A.keys A.faults A.locations C.labels self.now.shared.lock.table.shared.table_id self.now.shared.lock.table.shared.key.value.value.store.opened) self.now.worn (calls.OnHandle op (handle_calls.Step (steps.Aead aead_steps.GenerateNonce))) length_of caller.old caller.new out.old out.new result }
+        requires { MayCall self.now caller.old }
+        ensures { IsReply self.now (calls.OnHandle op (handle_calls.Step (steps.Aead aead_steps.GenerateNonce))) length_of caller.old caller.new out.old out.new result }
     {
         let call = Call::OnHandle(op, HandleCall::Step(Step::Aead(AeadStep::GenerateNonce)));
         self.ask(rt, caller, &call, out)
@@ -204,9 +192,8 @@ impl<D: Disk, A: Devices, C: Admission, G: Gate> Service<D, A, C, G> {
         op: Op,
         nonce: &[u8],
     ) -> Reply<()>
-        requires ready { IsReady (world D.contents D.moment D.faults A.keys A.faults A.locations C.labels self.now.shared.lock.table.shared.table_id self.now.shared.lock.table.shared.key.value.value.store.opened) 0 caller.old }
-        requires within { caller.old.spent ≤ self.now.worn }
-        ensures { IsReply (world D.contents D.moment D.faults A.keys A.faults A.locations C.labels self.now.shared.lock.table.shared.table_id self.now.shared.lock.table.shared.key.value.value.store.opened) self.now.worn (calls.OnHandle op (handle_calls.Step (steps.Aead (aead_steps.SetNonce nonce.entry)))) nothing caller.old caller.new [] [] result }
+        requires { MayCall self.now caller.old }
+        ensures { IsReply self.now (calls.OnHandle op (handle_calls.Step (steps.Aead (aead_steps.SetNonce nonce.entry)))) nothing caller.old caller.new [] [] result }
     {
         let call = Call::OnHandle(op, HandleCall::Step(Step::Aead(AeadStep::SetNonce(nonce))));
         self.tell(rt, caller, &call)
@@ -220,9 +207,8 @@ impl<D: Disk, A: Devices, C: Admission, G: Gate> Service<D, A, C, G> {
         op: Op,
         input: &[u8],
     ) -> Reply<()>
-        requires ready { IsReady (world D.contents D.moment D.faults A.keys A.faults A.locations C.labels self.now.shared.lock.table.shared.table_id self.now.shared.lock.table.shared.key.value.value.store.opened) 0 caller.old }
-        requires within { caller.old.spent ≤ self.now.worn }
-        ensures { IsReply (world D.contents D.moment D.faults A.keys A.faults A.locations C.labels self.now.shared.lock.table.shared.table_id self.now.shared.lock.table.shared.key.value.value.store.opened) self.now.worn (calls.OnHandle op (handle_calls.Step (steps.Aead (aead_steps.UpdateAd input.entry)))) nothing caller.old caller.new [] [] result }
+        requires { MayCall self.now caller.old }
+        ensures { IsReply self.now (calls.OnHandle op (handle_calls.Step (steps.Aead (aead_steps.UpdateAd input.entry)))) nothing caller.old caller.new [] [] result }
     {
         let call = Call::OnHandle(op, HandleCall::Step(Step::Aead(AeadStep::UpdateAd(input))));
         self.tell(rt, caller, &call)
@@ -237,9 +223,8 @@ impl<D: Disk, A: Devices, C: Admission, G: Gate> Service<D, A, C, G> {
         input: &[u8],
         out: &mut [u8],
     ) -> Reply<usize>
-        requires ready { IsReady (world D.contents D.moment D.faults A.keys A.faults A.locations C.labels self.now.shared.lock.table.shared.table_id self.now.shared.lock.table.shared.key.value.value.store.opened) 0 caller.old }
-        requires within { caller.old.spent ≤ self.now.worn }
-        ensures { IsReply (world D.contents D.moment D.faults A.keys A.faults A.locations C.labels self.now.shared.lock.table.shared.table_id self.now.shared.lock.table.shared.key.value.value.store.opened) self.now.worn (calls.OnHandle op (handle_calls.Step (steps.Aead (aead_steps.Update input.entry)))) length_of caller.old caller.new out.old out.new result }
+        requires { MayCall self.now caller.old }
+        ensures { IsReply self.now (calls.OnHandle op (handle_calls.Step (steps.Aead (aead_steps.Update input.entry)))) length_of caller.old caller.new out.old out.new result }
     {
         let call = Call::OnHandle(op, HandleCall::Step(Step::Aead(AeadStep::Update(input))));
         self.ask(rt, caller, &call, out)
@@ -254,9 +239,8 @@ impl<D: Disk, A: Devices, C: Admission, G: Gate> Service<D, A, C, G> {
         op: Op,
         tag: &mut [u8],
     ) -> Reply<usize>
-        requires ready { IsReady (world D.contents D.moment D.faults A.keys A.faults A.locations C.labels self.now.shared.lock.table.shared.table_id self.now.shared.lock.table.shared.key.value.value.store.opened) 0 caller.old }
-        requires within { caller.old.spent ≤ self.now.worn }
-        ensures { IsReply (world D.contents D.moment D.faults A.keys A.faults A.locations C.labels self.now.shared.lock.table.shared.table_id self.now.shared.lock.table.shared.key.value.value.store.opened) self.now.worn (calls.OnHandle op (handle_calls.Step (steps.Aead aead_steps.Finish))) length_of caller.old caller.new tag.old tag.new result }
+        requires { MayCall self.now caller.old }
+        ensures { IsReply self.now (calls.OnHandle op (handle_calls.Step (steps.Aead aead_steps.Finish))) length_of caller.old caller.new tag.old tag.new result }
     {
         let call = Call::OnHandle(op, HandleCall::Step(Step::Aead(AeadStep::Finish)));
         self.ask(rt, caller, &call, tag)
@@ -270,9 +254,8 @@ impl<D: Disk, A: Devices, C: Admission, G: Gate> Service<D, A, C, G> {
         op: Op,
         tag: &[u8],
     ) -> Reply<()>
-        requires ready { IsReady (world D.contents D.moment D.faults A.keys A.faults A.locations C.labels self.now.shared.lock.table.shared.table_id self.now.shared.lock.table.shared.key.value.value.store.opened) 0 caller.old }
-        requires within { caller.old.spent ≤ self.now.worn }
-        ensures { IsReply (world D.contents D.moment D.faults A.keys A.faults A.locations C.labels self.now.shared.lock.table.shared.table_id self.now.shared.lock.table.shared.key.value.value.store.opened) self.now.worn (calls.OnHandle op (handle_calls.Step (steps.Aead (aead_steps.Verify tag.entry)))) nothing caller.old caller.new [] [] result }
+        requires { MayCall self.now caller.old }
+        ensures { IsReply self.now (calls.OnHandle op (handle_calls.Step (steps.Aead (aead_steps.Verify tag.entry)))) nothing caller.old caller.new [] [] result }
     {
         let call = Call::OnHandle(op, HandleCall::Step(Step::Aead(AeadStep::Verify(tag))));
         self.tell(rt, caller, &call)

@@ -3,7 +3,7 @@ ghost use Rattle.std.specs.Prelude.{◌≡◌, ◌<◌, ◌+◌, ◌++◌, ℕ, 
 ghost use Rattle.turn_history.specs.Views.{account_of};
 ghost use Rattle.callers.specs.Ready.{IsReady};
 ghost use Rattle.callers.specs.Retired.{IsRetired};
-ghost use Rattle.callers.specs.Worlds.{world};
+ghost use Rattle.shared_store.specs.Shared.{world};
 ghost use Rattle.caller_service.specs.Closing.{WereRetired, backwards};
 
 use admission::Admission;
@@ -20,8 +20,8 @@ pub(crate) fn retire_all<D: Disk, A: Devices, C: Admission, R: Wait>(
     shared: &SharedStore<D, A, C>,
     callers: &mut Vec<Caller<D, A, C>>,
 )
-    requires ready { All (IsReady (world D.contents D.moment D.faults A.keys A.faults A.locations C.labels shared.now.lock.table.shared.table_id shared.now.lock.table.shared.key.value.value.store.opened) 0) callers.old.items }
-    ensures retired { WereRetired shared.now.lock.table.shared.table_id shared.now.lock.table.shared.key.value.value.store.opened callers.old.items callers.new.items }
+    requires ready { All (IsReady (world shared.now) 0) callers.old.items }
+    ensures retired { WereRetired (world shared.now) callers.old.items callers.new.items }
 {
     for caller in callers.iter_mut() {
         caller.retire(rt, shared);

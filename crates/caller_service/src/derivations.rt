@@ -5,10 +5,8 @@ ghost use Rattle.service_calls.specs.declared.handle_calls.HandleCall.TheVariant
 ghost use Rattle.service_calls.specs.declared.handle_calls.Setup.TheVariants as setups;
 ghost use Rattle.service_calls.specs.declared.steps.Step.TheVariants as steps;
 ghost use Rattle.service_calls.specs.declared.steps.DerivationStep.TheVariants as derivation_steps;
-ghost use Rattle.callers.specs.Ready.{IsReady};
-ghost use Rattle.callers.specs.Worlds.{world};
 ghost use Rattle.caller_service.specs.Given.{identifier_of, length_of, nothing, number_of};
-ghost use Rattle.caller_service.specs.Replies.{IsReply};
+ghost use Rattle.caller_service.specs.Replies.{IsReply, MayCall};
 
 use crate::replies::Reply;
 use crate::service::Service;
@@ -30,9 +28,8 @@ impl<D: Disk, A: Devices, C: Admission, G: Gate> Service<D, A, C, G> {
         op: Op,
         alg: Alg,
     ) -> Reply<()>
-        requires ready { IsReady (world D.contents D.moment D.faults A.keys A.faults A.locations C.labels self.now.shared.lock.table.shared.table_id self.now.shared.lock.table.shared.key.value.value.store.opened) 0 caller.old }
-        requires within { caller.old.spent ≤ self.now.worn }
-        ensures { IsReply (world D.contents D.moment D.faults A.keys A.faults A.locations C.labels self.now.shared.lock.table.shared.table_id self.now.shared.lock.table.shared.key.value.value.store.opened) self.now.worn (calls.OnHandle op (handle_calls.Setup (setups.Derivation alg))) nothing caller.old caller.new [] [] result }
+        requires { MayCall self.now caller.old }
+        ensures { IsReply self.now (calls.OnHandle op (handle_calls.Setup (setups.Derivation alg))) nothing caller.old caller.new [] [] result }
     {
         let call = Call::OnHandle(op, HandleCall::Setup(Setup::Derivation(alg)));
         self.tell(rt, caller, &call)
@@ -45,9 +42,8 @@ impl<D: Disk, A: Devices, C: Admission, G: Gate> Service<D, A, C, G> {
         caller: &mut Caller<D, A, C>,
         op: Op,
     ) -> Reply<u64>
-        requires ready { IsReady (world D.contents D.moment D.faults A.keys A.faults A.locations C.labels self.now.shared.lock.table.shared.table_id self.now.shared.lock.table.shared.key.value.value.store.opened) 0 caller.old }
-        requires within { caller.old.spent ≤ self.now.worn }
-        ensures { IsReply (world D.contents D.moment D.faults A.keys A.faults A.locations C.labels self.now.shared.lock.table.shared.table_id self.now.shared.lock.table.shared.key.value.value.store.opened) self.now.worn (calls.OnHandle op (handle_calls.Step (steps.Derivation derivation_steps.GetCapacity))) number_of caller.old caller.new [] [] result }
+        requires { MayCall self.now caller.old }
+        ensures { IsReply self.now (calls.OnHandle op (handle_calls.Step (steps.Derivation derivation_steps.GetCapacity))) number_of caller.old caller.new [] [] result }
     {
         let call = Call::OnHandle(
             op,
@@ -64,9 +60,8 @@ impl<D: Disk, A: Devices, C: Admission, G: Gate> Service<D, A, C, G> {
         op: Op,
         capacity: u64,
     ) -> Reply<()>
-        requires ready { IsReady (world D.contents D.moment D.faults A.keys A.faults A.locations C.labels self.now.shared.lock.table.shared.table_id self.now.shared.lock.table.shared.key.value.value.store.opened) 0 caller.old }
-        requires within { caller.old.spent ≤ self.now.worn }
-        ensures { IsReply (world D.contents D.moment D.faults A.keys A.faults A.locations C.labels self.now.shared.lock.table.shared.table_id self.now.shared.lock.table.shared.key.value.value.store.opened) self.now.worn (calls.OnHandle op (handle_calls.Step (steps.Derivation (derivation_steps.SetCapacity capacity)))) nothing caller.old caller.new [] [] result }
+        requires { MayCall self.now caller.old }
+        ensures { IsReply self.now (calls.OnHandle op (handle_calls.Step (steps.Derivation (derivation_steps.SetCapacity capacity)))) nothing caller.old caller.new [] [] result }
     {
         let call = Call::OnHandle(
             op,
@@ -84,9 +79,8 @@ impl<D: Disk, A: Devices, C: Admission, G: Gate> Service<D, A, C, G> {
         step: u16,
         bytes: &[u8],
     ) -> Reply<()>
-        requires ready { IsReady (world D.contents D.moment D.faults A.keys A.faults A.locations C.labels self.now.shared.lock.table.shared.table_id self.now.shared.lock.table.shared.key.value.value.store.opened) 0 caller.old }
-        requires within { caller.old.spent ≤ self.now.worn }
-        ensures { IsReply (world D.contents D.moment D.faults A.keys A.faults A.locations C.labels self.now.shared.lock.table.shared.table_id self.now.shared.lock.table.shared.key.value.value.store.opened) self.now.worn (calls.OnHandle op (handle_calls.Step (steps.Derivation (derivation_steps.InputBytes step bytes.entry)))) nothing caller.old caller.new [] [] result }
+        requires { MayCall self.now caller.old }
+        ensures { IsReply self.now (calls.OnHandle op (handle_calls.Step (steps.Derivation (derivation_steps.InputBytes step bytes.entry)))) nothing caller.old caller.new [] [] result }
     {
         let call = Call::OnHandle(
             op,
@@ -104,9 +98,8 @@ impl<D: Disk, A: Devices, C: Admission, G: Gate> Service<D, A, C, G> {
         step: u16,
         value: u64,
     ) -> Reply<()>
-        requires ready { IsReady (world D.contents D.moment D.faults A.keys A.faults A.locations C.labels self.now.shared.lock.table.shared.table_id self.now.shared.lock.table.shared.key.value.value.store.opened) 0 caller.old }
-        requires within { caller.old.spent ≤ self.now.worn }
-        ensures { IsReply (world D.contents D.moment D.faults A.keys A.faults A.locations C.labels self.now.shared.lock.table.shared.table_id self.now.shared.lock.table.shared.key.value.value.store.opened) self.now.worn (calls.OnHandle op (handle_calls.Step (steps.Derivation (derivation_steps.InputInteger step value)))) nothing caller.old caller.new [] [] result }
+        requires { MayCall self.now caller.old }
+        ensures { IsReply self.now (calls.OnHandle op (handle_calls.Step (steps.Derivation (derivation_steps.InputInteger step value)))) nothing caller.old caller.new [] [] result }
     {
         let call = Call::OnHandle(
             op,
@@ -124,9 +117,8 @@ impl<D: Disk, A: Devices, C: Admission, G: Gate> Service<D, A, C, G> {
         step: u16,
         key: KeyId,
     ) -> Reply<()>
-        requires ready { IsReady (world D.contents D.moment D.faults A.keys A.faults A.locations C.labels self.now.shared.lock.table.shared.table_id self.now.shared.lock.table.shared.key.value.value.store.opened) 0 caller.old }
-        requires within { caller.old.spent ≤ self.now.worn }
-        ensures { IsReply (world D.contents D.moment D.faults A.keys A.faults A.locations C.labels self.now.shared.lock.table.shared.table_id self.now.shared.lock.table.shared.key.value.value.store.opened) self.now.worn (calls.OnHandle op (handle_calls.InputKey step key)) nothing caller.old caller.new [] [] result }
+        requires { MayCall self.now caller.old }
+        ensures { IsReply self.now (calls.OnHandle op (handle_calls.InputKey step key)) nothing caller.old caller.new [] [] result }
     {
         let call = Call::OnHandle(op, HandleCall::InputKey { step, key });
         self.tell(rt, caller, &call)
@@ -140,9 +132,8 @@ impl<D: Disk, A: Devices, C: Admission, G: Gate> Service<D, A, C, G> {
         op: Op,
         out: &mut [u8],
     ) -> Reply<usize>
-        requires ready { IsReady (world D.contents D.moment D.faults A.keys A.faults A.locations C.labels self.now.shared.lock.table.shared.table_id self.now.shared.lock.table.shared.key.value.value.store.opened) 0 caller.old }
-        requires within { caller.old.spent ≤ self.now.worn }
-        ensures { IsReply (world D.contents D.moment D.faults A.keys A.faults A.locations C.labels self.now.shared.lock.table.shared.table_id self.now.shared.lock.table.shared.key.value.value.store.opened) self.now.worn (calls.OnHandle op (handle_calls.Step (steps.Derivation derivation_steps.OutputBytes))) length_of caller.old caller.new out.old out.new result }
+        requires { MayCall self.now caller.old }
+        ensures { IsReply self.now (calls.OnHandle op (handle_calls.Step (steps.Derivation derivation_steps.OutputBytes))) length_of caller.old caller.new out.old out.new result }
     {
         let call = Call::OnHandle(
             op,
@@ -160,9 +151,8 @@ impl<D: Disk, A: Devices, C: Admission, G: Gate> Service<D, A, C, G> {
         op: Op,
         attributes: &Attributes,
     ) -> Reply<KeyId>
-        requires ready { IsReady (world D.contents D.moment D.faults A.keys A.faults A.locations C.labels self.now.shared.lock.table.shared.table_id self.now.shared.lock.table.shared.key.value.value.store.opened) 0 caller.old }
-        requires within { caller.old.spent ≤ self.now.worn }
-        ensures { IsReply (world D.contents D.moment D.faults A.keys A.faults A.locations C.labels self.now.shared.lock.table.shared.table_id self.now.shared.lock.table.shared.key.value.value.store.opened) self.now.worn (calls.OnHandle op (handle_calls.OutputKey attributes.now)) identifier_of caller.old caller.new [] [] result }
+        requires { MayCall self.now caller.old }
+        ensures { IsReply self.now (calls.OnHandle op (handle_calls.OutputKey attributes.now)) identifier_of caller.old caller.new [] [] result }
     {
         let call = Call::OnHandle(op, HandleCall::OutputKey(*attributes));
         self.tell(rt, caller, &call)
@@ -176,9 +166,8 @@ impl<D: Disk, A: Devices, C: Admission, G: Gate> Service<D, A, C, G> {
         op: Op,
         expected: &[u8],
     ) -> Reply<()>
-        requires ready { IsReady (world D.contents D.moment D.faults A.keys A.faults A.locations C.labels self.now.shared.lock.table.shared.table_id self.now.shared.lock.table.shared.key.value.value.store.opened) 0 caller.old }
-        requires within { caller.old.spent ≤ self.now.worn }
-        ensures { IsReply (world D.contents D.moment D.faults A.keys A.faults A.locations C.labels self.now.shared.lock.table.shared.table_id self.now.shared.lock.table.shared.key.value.value.store.opened) self.now.worn (calls.OnHandle op (handle_calls.Step (steps.Derivation (derivation_steps.VerifyBytes expected.entry)))) nothing caller.old caller.new [] [] result }
+        requires { MayCall self.now caller.old }
+        ensures { IsReply self.now (calls.OnHandle op (handle_calls.Step (steps.Derivation (derivation_steps.VerifyBytes expected.entry)))) nothing caller.old caller.new [] [] result }
     {
         let call = Call::OnHandle(
             op,

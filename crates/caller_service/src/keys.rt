@@ -2,10 +2,8 @@
 ghost use Rattle.std.specs.Prelude.{◌≤◌, []};
 ghost use Rattle.service_calls.specs.declared.call.Call.TheVariants as calls;
 ghost use Rattle.service_calls.specs.declared.store_calls.StoreCall.TheVariants as store_calls;
-ghost use Rattle.callers.specs.Ready.{IsReady};
-ghost use Rattle.callers.specs.Worlds.{world};
 ghost use Rattle.caller_service.specs.Given.{description_of, identifier_of, length_of, nothing};
-ghost use Rattle.caller_service.specs.Replies.{IsReply};
+ghost use Rattle.caller_service.specs.Replies.{IsReply, MayCall};
 
 use crate::replies::Reply;
 use crate::service::Service;
@@ -28,9 +26,8 @@ impl<D: Disk, A: Devices, C: Admission, G: Gate> Service<D, A, C, G> {
         attributes: &Attributes,
         bytes: &[u8],
     ) -> Reply<KeyId>
-        requires ready { IsReady (world D.contents D.moment D.faults A.keys A.faults A.locations C.labels self.now.shared.lock.table.shared.table_id self.now.shared.lock.table.shared.key.value.value.store.opened) 0 caller.old }
-        requires within { caller.old.spent ≤ self.now.worn }
-        ensures { IsReply (world D.contents D.moment D.faults A.keys A.faults A.locations C.labels self.now.shared.lock.table.shared.table_id self.now.shared.lock.table.shared.key.value.value.store.opened) self.now.worn (calls.OnStore (store_calls.Import attributes.now bytes.entry)) identifier_of caller.old caller.new [] [] result }
+        requires { MayCall self.now caller.old }
+        ensures { IsReply self.now (calls.OnStore (store_calls.Import attributes.now bytes.entry)) identifier_of caller.old caller.new [] [] result }
     {
         let call = Call::OnStore(StoreCall::Import {
             attributes: *attributes,
@@ -47,9 +44,8 @@ impl<D: Disk, A: Devices, C: Admission, G: Gate> Service<D, A, C, G> {
         caller: &mut Caller<D, A, C>,
         attributes: &Attributes,
     ) -> Reply<KeyId>
-        requires ready { IsReady (world D.contents D.moment D.faults A.keys A.faults A.locations C.labels self.now.shared.lock.table.shared.table_id self.now.shared.lock.table.shared.key.value.value.store.opened) 0 caller.old }
-        requires within { caller.old.spent ≤ self.now.worn }
-        ensures { IsReply (world D.contents D.moment D.faults A.keys A.faults A.locations C.labels self.now.shared.lock.table.shared.table_id self.now.shared.lock.table.shared.key.value.value.store.opened) self.now.worn (calls.OnStore (store_calls.Generate attributes.now)) identifier_of caller.old caller.new [] [] result }
+        requires { MayCall self.now caller.old }
+        ensures { IsReply self.now (calls.OnStore (store_calls.Generate attributes.now)) identifier_of caller.old caller.new [] [] result }
     {
         let call = Call::OnStore(StoreCall::Generate(*attributes));
         self.tell(rt, caller, &call)
@@ -64,9 +60,8 @@ impl<D: Disk, A: Devices, C: Admission, G: Gate> Service<D, A, C, G> {
         source: KeyId,
         attributes: &Attributes,
     ) -> Reply<KeyId>
-        requires ready { IsReady (world D.contents D.moment D.faults A.keys A.faults A.locations C.labels self.now.shared.lock.table.shared.table_id self.now.shared.lock.table.shared.key.value.value.store.opened) 0 caller.old }
-        requires within { caller.old.spent ≤ self.now.worn }
-        ensures { IsReply (world D.contents D.moment D.faults A.keys A.faults A.locations C.labels self.now.shared.lock.table.shared.table_id self.now.shared.lock.table.shared.key.value.value.store.opened) self.now.worn (calls.OnStore (store_calls.Copy source attributes.now)) identifier_of caller.old caller.new [] [] result }
+        requires { MayCall self.now caller.old }
+        ensures { IsReply self.now (calls.OnStore (store_calls.Copy source attributes.now)) identifier_of caller.old caller.new [] [] result }
     {
         let call = Call::OnStore(StoreCall::Copy {
             source,
@@ -83,9 +78,8 @@ impl<D: Disk, A: Devices, C: Admission, G: Gate> Service<D, A, C, G> {
         caller: &mut Caller<D, A, C>,
         key: KeyId,
     ) -> Reply<()>
-        requires ready { IsReady (world D.contents D.moment D.faults A.keys A.faults A.locations C.labels self.now.shared.lock.table.shared.table_id self.now.shared.lock.table.shared.key.value.value.store.opened) 0 caller.old }
-        requires within { caller.old.spent ≤ self.now.worn }
-        ensures { IsReply (world D.contents D.moment D.faults A.keys A.faults A.locations C.labels self.now.shared.lock.table.shared.table_id self.now.shared.lock.table.shared.key.value.value.store.opened) self.now.worn (calls.OnStore (store_calls.Destroy key)) nothing caller.old caller.new [] [] result }
+        requires { MayCall self.now caller.old }
+        ensures { IsReply self.now (calls.OnStore (store_calls.Destroy key)) nothing caller.old caller.new [] [] result }
     {
         let call = Call::OnStore(StoreCall::Destroy(key));
         self.tell(rt, caller, &call)
@@ -93,9 +87,8 @@ impl<D: Disk, A: Devices, C: Admission, G: Gate> Service<D, A, C, G> {
 
     /// Lets a persistent key leave the memory; it stays in the store. `InvalidHandle` where there is no such key.
     pub fn purge_key<R: Wait>(&self, rt: &R, caller: &mut Caller<D, A, C>, key: KeyId) -> Reply<()>
-        requires ready { IsReady (world D.contents D.moment D.faults A.keys A.faults A.locations C.labels self.now.shared.lock.table.shared.table_id self.now.shared.lock.table.shared.key.value.value.store.opened) 0 caller.old }
-        requires within { caller.old.spent ≤ self.now.worn }
-        ensures { IsReply (world D.contents D.moment D.faults A.keys A.faults A.locations C.labels self.now.shared.lock.table.shared.table_id self.now.shared.lock.table.shared.key.value.value.store.opened) self.now.worn (calls.OnStore (store_calls.Purge key)) nothing caller.old caller.new [] [] result }
+        requires { MayCall self.now caller.old }
+        ensures { IsReply self.now (calls.OnStore (store_calls.Purge key)) nothing caller.old caller.new [] [] result }
     {
         let call = Call::OnStore(StoreCall::Purge(key));
         self.tell(rt, caller, &call)
@@ -108,9 +101,8 @@ impl<D: Disk, A: Devices, C: Admission, G: Gate> Service<D, A, C, G> {
         caller: &mut Caller<D, A, C>,
         key: KeyId,
     ) -> Reply<Attributes>
-        requires ready { IsReady (world D.contents D.moment D.faults A.keys A.faults A.locations C.labels self.now.shared.lock.table.shared.table_id self.now.shared.lock.table.shared.key.value.value.store.opened) 0 caller.old }
-        requires within { caller.old.spent ≤ self.now.worn }
-        ensures { IsReply (world D.contents D.moment D.faults A.keys A.faults A.locations C.labels self.now.shared.lock.table.shared.table_id self.now.shared.lock.table.shared.key.value.value.store.opened) self.now.worn (calls.OnStore (store_calls.GetAttributes key)) description_of caller.old caller.new [] [] result }
+        requires { MayCall self.now caller.old }
+        ensures { IsReply self.now (calls.OnStore (store_calls.GetAttributes key)) description_of caller.old caller.new [] [] result }
     {
         let call = Call::OnStore(StoreCall::GetAttributes(key));
         self.tell(rt, caller, &call)
@@ -125,9 +117,8 @@ impl<D: Disk, A: Devices, C: Admission, G: Gate> Service<D, A, C, G> {
         key: KeyId,
         out: &mut [u8],
     ) -> Reply<usize>
-        requires ready { IsReady (world D.contents D.moment D.faults A.keys A.faults A.locations C.labels self.now.shared.lock.table.shared.table_id self.now.shared.lock.table.shared.key.value.value.store.opened) 0 caller.old }
-        requires within { caller.old.spent ≤ self.now.worn }
-        ensures { IsReply (world D.contents D.moment D.faults A.keys A.faults A.locations C.labels self.now.shared.lock.table.shared.table_id self.now.shared.lock.table.shared.key.value.value.store.opened) self.now.worn (calls.OnStore (store_calls.Export key)) length_of caller.old caller.new out.old out.new result }
+        requires { MayCall self.now caller.old }
+        ensures { IsReply self.now (calls.OnStore (store_calls.Export key)) length_of caller.old caller.new out.old out.new result }
     {
         let call = Call::OnStore(StoreCall::Export(key));
         self.ask(rt, caller, &call, out)
@@ -142,9 +133,8 @@ impl<D: Disk, A: Devices, C: Admission, G: Gate> Service<D, A, C, G> {
         input: &[u8],
         out: &mut [u8],
     ) -> Reply<usize>
-        requires ready { IsReady (world D.contents D.moment D.faults A.keys A.faults A.locations C.labels self.now.shared.lock.table.shared.table_id self.now.shared.lock.table.shared.key.value.value.store.opened) 0 caller.old }
-        requires within { caller.old.spent ≤ self.now.worn }
-        ensures { IsReply (world D.contents D.moment D.faults A.keys A.faults A.locations C.labels self.now.shared.lock.table.shared.table_id self.now.shared.lock.table.shared.key.value.value.store.opened) self.now.worn (calls.OnStore (store_calls.HashCompute alg input.entry)) length_of caller.old caller.new out.old out.new result }
+        requires { MayCall self.now caller.old }
+        ensures { IsReply self.now (calls.OnStore (store_calls.HashCompute alg input.entry)) length_of caller.old caller.new out.old out.new result }
     {
         let call = Call::OnStore(StoreCall::HashCompute { alg, input });
         self.ask(rt, caller, &call, out)
@@ -159,9 +149,8 @@ impl<D: Disk, A: Devices, C: Admission, G: Gate> Service<D, A, C, G> {
         input: &[u8],
         hash: &[u8],
     ) -> Reply<()>
-        requires ready { IsReady (world D.contents D.moment D.faults A.keys A.faults A.locations C.labels self.now.shared.lock.table.shared.table_id self.now.shared.lock.table.shared.key.value.value.store.opened) 0 caller.old }
-        requires within { caller.old.spent ≤ self.now.worn }
-        ensures { IsReply (world D.contents D.moment D.faults A.keys A.faults A.locations C.labels self.now.shared.lock.table.shared.table_id self.now.shared.lock.table.shared.key.value.value.store.opened) self.now.worn (calls.OnStore (store_calls.HashCompare alg input.entry hash.entry)) nothing caller.old caller.new [] [] result }
+        requires { MayCall self.now caller.old }
+        ensures { IsReply self.now (calls.OnStore (store_calls.HashCompare alg input.entry hash.entry)) nothing caller.old caller.new [] [] result }
     {
         let call = Call::OnStore(StoreCall::HashCompare { alg, input, hash });
         self.tell(rt, caller, &call)
@@ -177,9 +166,8 @@ impl<D: Disk, A: Devices, C: Admission, G: Gate> Service<D, A, C, G> {
         input: &[u8],
         out: &mut [u8],
     ) -> Reply<usize>
-        requires ready { IsReady (world D.contents D.moment D.faults A.keys A.faults A.locations C.labels self.now.shared.lock.table.shared.table_id self.now.shared.lock.table.shared.key.value.value.store.opened) 0 caller.old }
-        requires within { caller.old.spent ≤ self.now.worn }
-        ensures { IsReply (world D.contents D.moment D.faults A.keys A.faults A.locations C.labels self.now.shared.lock.table.shared.table_id self.now.shared.lock.table.shared.key.value.value.store.opened) self.now.worn (calls.OnStore (store_calls.MacCompute key alg input.entry)) length_of caller.old caller.new out.old out.new result }
+        requires { MayCall self.now caller.old }
+        ensures { IsReply self.now (calls.OnStore (store_calls.MacCompute key alg input.entry)) length_of caller.old caller.new out.old out.new result }
     {
         let call = Call::OnStore(StoreCall::MacCompute { key, alg, input });
         self.ask(rt, caller, &call, out)
@@ -195,9 +183,8 @@ impl<D: Disk, A: Devices, C: Admission, G: Gate> Service<D, A, C, G> {
         input: &[u8],
         mac: &[u8],
     ) -> Reply<()>
-        requires ready { IsReady (world D.contents D.moment D.faults A.keys A.faults A.locations C.labels self.now.shared.lock.table.shared.table_id self.now.shared.lock.table.shared.key.value.value.store.opened) 0 caller.old }
-        requires within { caller.old.spent ≤ self.now.worn }
-        ensures { IsReply (world D.contents D.moment D.faults A.keys A.faults A.locations C.labels self.now.shared.lock.table.shared.table_id self.now.shared.lock.table.shared.key.value.value.store.opened) self.now.worn (calls.OnStore (store_calls.MacVerify key alg input.entry mac.entry)) nothing caller.old caller.new [] [] result }
+        requires { MayCall self.now caller.old }
+        ensures { IsReply self.now (calls.OnStore (store_calls.MacVerify key alg input.entry mac.entry)) nothing caller.old caller.new [] [] result }
     {
         let call = Call::OnStore(StoreCall::MacVerify {
             key,
@@ -219,9 +206,8 @@ impl<D: Disk, A: Devices, C: Admission, G: Gate> Service<D, A, C, G> {
         input: &[u8],
         out: &mut [u8],
     ) -> Reply<usize>
-        requires ready { IsReady (world D.contents D.moment D.faults A.keys A.faults A.locations C.labels self.now.shared.lock.table.shared.table_id self.now.shared.lock.table.shared.key.value.value.store.opened) 0 caller.old }
-        requires within { caller.old.spent ≤ self.now.worn }
-        ensures { IsReply (world D.contents D.moment D.faults A.keys A.faults A.locations C.labels self.now.shared.lock.table.shared.table_id self.now.shared.lock.table.shared.key.value.value.store.opened) self.now.worn (calls.OnStore (store_calls.CipherEncrypt key alg input.entry)) length_of caller.old caller.new out.old out.new result }
+        requires { MayCall self.now caller.old }
+        ensures { IsReply self.now (calls.OnStore (store_calls.CipherEncrypt key alg input.entry)) length_of caller.old caller.new out.old out.new result }
     {
         let call = Call::OnStore(StoreCall::CipherEncrypt { key, alg, input });
         self.ask(rt, caller, &call, out)
@@ -238,9 +224,8 @@ impl<D: Disk, A: Devices, C: Admission, G: Gate> Service<D, A, C, G> {
         input: &[u8],
         out: &mut [u8],
     ) -> Reply<usize>
-        requires ready { IsReady (world D.contents D.moment D.faults A.keys A.faults A.locations C.labels self.now.shared.lock.table.shared.table_id self.now.shared.lock.table.shared.key.value.value.store.opened) 0 caller.old }
-        requires within { caller.old.spent ≤ self.now.worn }
-        ensures { IsReply (world D.contents D.moment D.faults A.keys A.faults A.locations C.labels self.now.shared.lock.table.shared.table_id self.now.shared.lock.table.shared.key.value.value.store.opened) self.now.worn (calls.OnStore (store_calls.CipherDecrypt key alg input.entry)) length_of caller.old caller.new out.old out.new result }
+        requires { MayCall self.now caller.old }
+        ensures { IsReply self.now (calls.OnStore (store_calls.CipherDecrypt key alg input.entry)) length_of caller.old caller.new out.old out.new result }
     {
         let call = Call::OnStore(StoreCall::CipherDecrypt { key, alg, input });
         self.ask(rt, caller, &call, out)
@@ -259,9 +244,8 @@ impl<D: Disk, A: Devices, C: Admission, G: Gate> Service<D, A, C, G> {
         input: &[u8],
         out: &mut [u8],
     ) -> Reply<usize>
-        requires ready { IsReady (world D.contents D.moment D.faults A.keys A.faults A.locations C.labels self.now.shared.lock.table.shared.table_id self.now.shared.lock.table.shared.key.value.value.store.opened) 0 caller.old }
-        requires within { caller.old.spent ≤ self.now.worn }
-        ensures { IsReply (world D.contents D.moment D.faults A.keys A.faults A.locations C.labels self.now.shared.lock.table.shared.table_id self.now.shared.lock.table.shared.key.value.value.store.opened) self.now.worn (calls.OnStore (store_calls.AeadEncrypt key alg nonce.entry ad.entry input.entry)) length_of caller.old caller.new out.old out.new result }
+        requires { MayCall self.now caller.old }
+        ensures { IsReply self.now (calls.OnStore (store_calls.AeadEncrypt key alg nonce.entry ad.entry input.entry)) length_of caller.old caller.new out.old out.new result }
     {
         let call = Call::OnStore(StoreCall::AeadEncrypt {
             key,
@@ -286,9 +270,8 @@ impl<D: Disk, A: Devices, C: Admission, G: Gate> Service<D, A, C, G> {
         input: &[u8],
         out: &mut [u8],
     ) -> Reply<usize>
-        requires ready { IsReady (world D.contents D.moment D.faults A.keys A.faults A.locations C.labels self.now.shared.lock.table.shared.table_id self.now.shared.lock.table.shared.key.value.value.store.opened) 0 caller.old }
-        requires within { caller.old.spent ≤ self.now.worn }
-        ensures { IsReply (world D.contents D.moment D.faults A.keys A.faults A.locations C.labels self.now.shared.lock.table.shared.table_id self.now.shared.lock.table.shared.key.value.value.store.opened) self.now.worn (calls.OnStore (store_calls.AeadDecrypt key alg nonce.entry ad.entry input.entry)) length_of caller.old caller.new out.old out.new result }
+        requires { MayCall self.now caller.old }
+        ensures { IsReply self.now (calls.OnStore (store_calls.AeadDecrypt key alg nonce.entry ad.entry input.entry)) length_of caller.old caller.new out.old out.new result }
     {
         let call = Call::OnStore(StoreCall::AeadDecrypt {
             key,

@@ -6,10 +6,8 @@ ghost use Rattle.service_calls.specs.declared.handle_calls.Setup.TheVariants as 
 ghost use Rattle.service_calls.specs.declared.steps.Step.TheVariants as steps;
 ghost use Rattle.service_calls.specs.declared.steps.HashStep.TheVariants as hash_steps;
 ghost use Rattle.service_calls.specs.declared.steps.MacStep.TheVariants as mac_steps;
-ghost use Rattle.callers.specs.Ready.{IsReady};
-ghost use Rattle.callers.specs.Worlds.{world};
 ghost use Rattle.caller_service.specs.Given.{length_of, nothing};
-ghost use Rattle.caller_service.specs.Replies.{IsReply};
+ghost use Rattle.caller_service.specs.Replies.{IsReply, MayCall};
 
 use crate::replies::Reply;
 use crate::service::Service;
@@ -31,9 +29,8 @@ impl<D: Disk, A: Devices, C: Admission, G: Gate> Service<D, A, C, G> {
         op: Op,
         alg: Alg,
     ) -> Reply<()>
-        requires ready { IsReady (world D.contents D.moment D.faults A.keys A.faults A.locations C.labels self.now.shared.lock.table.shared.table_id self.now.shared.lock.table.shared.key.value.value.store.opened) 0 caller.old }
-        requires within { caller.old.spent ≤ self.now.worn }
-        ensures { IsReply (world D.contents D.moment D.faults A.keys A.faults A.locations C.labels self.now.shared.lock.table.shared.table_id self.now.shared.lock.table.shared.key.value.value.store.opened) self.now.worn (calls.OnHandle op (handle_calls.Setup (setups.Hash alg))) nothing caller.old caller.new [] [] result }
+        requires { MayCall self.now caller.old }
+        ensures { IsReply self.now (calls.OnHandle op (handle_calls.Setup (setups.Hash alg))) nothing caller.old caller.new [] [] result }
     {
         let call = Call::OnHandle(op, HandleCall::Setup(Setup::Hash(alg)));
         self.tell(rt, caller, &call)
@@ -47,9 +44,8 @@ impl<D: Disk, A: Devices, C: Admission, G: Gate> Service<D, A, C, G> {
         op: Op,
         input: &[u8],
     ) -> Reply<()>
-        requires ready { IsReady (world D.contents D.moment D.faults A.keys A.faults A.locations C.labels self.now.shared.lock.table.shared.table_id self.now.shared.lock.table.shared.key.value.value.store.opened) 0 caller.old }
-        requires within { caller.old.spent ≤ self.now.worn }
-        ensures { IsReply (world D.contents D.moment D.faults A.keys A.faults A.locations C.labels self.now.shared.lock.table.shared.table_id self.now.shared.lock.table.shared.key.value.value.store.opened) self.now.worn (calls.OnHandle op (handle_calls.Step (steps.Hash (hash_steps.Update input.entry)))) nothing caller.old caller.new [] [] result }
+        requires { MayCall self.now caller.old }
+        ensures { IsReply self.now (calls.OnHandle op (handle_calls.Step (steps.Hash (hash_steps.Update input.entry)))) nothing caller.old caller.new [] [] result }
     {
         let call = Call::OnHandle(op, HandleCall::Step(Step::Hash(HashStep::Update(input))));
         self.tell(rt, caller, &call)
@@ -63,9 +59,8 @@ impl<D: Disk, A: Devices, C: Admission, G: Gate> Service<D, A, C, G> {
         op: Op,
         out: &mut [u8],
     ) -> Reply<usize>
-        requires ready { IsReady (world D.contents D.moment D.faults A.keys A.faults A.locations C.labels self.now.shared.lock.table.shared.table_id self.now.shared.lock.table.shared.key.value.value.store.opened) 0 caller.old }
-        requires within { caller.old.spent ≤ self.now.worn }
-        ensures { IsReply (world D.contents D.moment D.faults A.keys A.faults A.locations C.labels self.now.shared.lock.table.shared.table_id self.now.shared.lock.table.shared.key.value.value.store.opened) self.now.worn (calls.OnHandle op (handle_calls.Step (steps.Hash hash_steps.Finish))) length_of caller.old caller.new out.old out.new result }
+        requires { MayCall self.now caller.old }
+        ensures { IsReply self.now (calls.OnHandle op (handle_calls.Step (steps.Hash hash_steps.Finish))) length_of caller.old caller.new out.old out.new result }
     {
         let call = Call::OnHandle(op, HandleCall::Step(Step::Hash(HashStep::Finish)));
         self.ask(rt, caller, &call, out)
@@ -79,9 +74,8 @@ impl<D: Disk, A: Devices, C: Admission, G: Gate> Service<D, A, C, G> {
         op: Op,
         expected: &[u8],
     ) -> Reply<()>
-        requires ready { IsReady (world D.contents D.moment D.faults A.keys A.faults A.locations C.labels self.now.shared.lock.table.shared.table_id self.now.shared.lock.table.shared.key.value.value.store.opened) 0 caller.old }
-        requires within { caller.old.spent ≤ self.now.worn }
-        ensures { IsReply (world D.contents D.moment D.faults A.keys A.faults A.locations C.labels self.now.shared.lock.table.shared.table_id self.now.shared.lock.table.shared.key.value.value.store.opened) self.now.worn (calls.OnHandle op (handle_calls.Step (steps.Hash (hash_steps.Verify expected.entry)))) nothing caller.old caller.new [] [] result }
+        requires { MayCall self.now caller.old }
+        ensures { IsReply self.now (calls.OnHandle op (handle_calls.Step (steps.Hash (hash_steps.Verify expected.entry)))) nothing caller.old caller.new [] [] result }
     {
         let call = Call::OnHandle(op, HandleCall::Step(Step::Hash(HashStep::Verify(expected))));
         self.tell(rt, caller, &call)
@@ -96,9 +90,8 @@ impl<D: Disk, A: Devices, C: Admission, G: Gate> Service<D, A, C, G> {
         key: KeyId,
         alg: Alg,
     ) -> Reply<()>
-        requires ready { IsReady (world D.contents D.moment D.faults A.keys A.faults A.locations C.labels self.now.shared.lock.table.shared.table_id self.now.shared.lock.table.shared.key.value.value.store.opened) 0 caller.old }
-        requires within { caller.old.spent ≤ self.now.worn }
-        ensures { IsReply (world D.contents D.moment D.faults A.keys A.faults A.locations C.labels self.now.shared.lock.table.shared.table_id self.now.shared.lock.table.shared.key.value.value.store.opened) self.now.worn (calls.OnHandle op (handle_calls.Setup (setups.MacSign key alg))) nothing caller.old caller.new [] [] result }
+        requires { MayCall self.now caller.old }
+        ensures { IsReply self.now (calls.OnHandle op (handle_calls.Setup (setups.MacSign key alg))) nothing caller.old caller.new [] [] result }
     {
         let call = Call::OnHandle(op, HandleCall::Setup(Setup::MacSign { key, alg }));
         self.tell(rt, caller, &call)
@@ -113,9 +106,8 @@ impl<D: Disk, A: Devices, C: Admission, G: Gate> Service<D, A, C, G> {
         key: KeyId,
         alg: Alg,
     ) -> Reply<()>
-        requires ready { IsReady (world D.contents D.moment D.faults A.keys A.faults A.locations C.labels self.now.shared.lock.table.shared.table_id self.now.shared.lock.table.shared.key.value.value.store.opened) 0 caller.old }
-        requires within { caller.old.spent ≤ self.now.worn }
-        ensures { IsReply (world D.contents D.moment D.faults A.keys A.faults A.locations C.labels self.now.shared.lock.table.shared.table_id self.now.shared.lock.table.shared.key.value.value.store.opened) self.now.worn (calls.OnHandle op (handle_calls.Setup (setups.MacVerify key alg))) nothing caller.old caller.new [] [] result }
+        requires { MayCall self.now caller.old }
+        ensures { IsReply self.now (calls.OnHandle op (handle_calls.Setup (setups.MacVerify key alg))) nothing caller.old caller.new [] [] result }
     {
         let call = Call::OnHandle(op, HandleCall::Setup(Setup::MacVerify { key, alg }));
         self.tell(rt, caller, &call)
@@ -129,9 +121,8 @@ impl<D: Disk, A: Devices, C: Admission, G: Gate> Service<D, A, C, G> {
         op: Op,
         input: &[u8],
     ) -> Reply<()>
-        requires ready { IsReady (world D.contents D.moment D.faults A.keys A.faults A.locations C.labels self.now.shared.lock.table.shared.table_id self.now.shared.lock.table.shared.key.value.value.store.opened) 0 caller.old }
-        requires within { caller.old.spent ≤ self.now.worn }
-        ensures { IsReply (world D.contents D.moment D.faults A.keys A.faults A.locations C.labels self.now.shared.lock.table.shared.table_id self.now.shared.lock.table.shared.key.value.value.store.opened) self.now.worn (calls.OnHandle op (handle_calls.Step (steps.Mac (mac_steps.Update input.entry)))) nothing caller.old caller.new [] [] result }
+        requires { MayCall self.now caller.old }
+        ensures { IsReply self.now (calls.OnHandle op (handle_calls.Step (steps.Mac (mac_steps.Update input.entry)))) nothing caller.old caller.new [] [] result }
     {
         let call = Call::OnHandle(op, HandleCall::Step(Step::Mac(MacStep::Update(input))));
         self.tell(rt, caller, &call)
@@ -145,9 +136,8 @@ impl<D: Disk, A: Devices, C: Admission, G: Gate> Service<D, A, C, G> {
         op: Op,
         out: &mut [u8],
     ) -> Reply<usize>
-        requires ready { IsReady (world D.contents D.moment D.faults A.keys A.faults A.locations C.labels self.now.shared.lock.table.shared.table_id self.now.shared.lock.table.shared.key.value.value.store.opened) 0 caller.old }
-        requires within { caller.old.spent ≤ self.now.worn }
-        ensures { IsReply (world D.contents D.moment D.faults A.keys A.faults A.locations C.labels self.now.shared.lock.table.shared.table_id self.now.shared.lock.table.shared.key.value.value.store.opened) self.now.worn (calls.OnHandle op (handle_calls.Step (steps.Mac mac_steps.SignFinish))) length_of caller.old caller.new out.old out.new result }
+        requires { MayCall self.now caller.old }
+        ensures { IsReply self.now (calls.OnHandle op (handle_calls.Step (steps.Mac mac_steps.SignFinish))) length_of caller.old caller.new out.old out.new result }
     {
         let call = Call::OnHandle(op, HandleCall::Step(Step::Mac(MacStep::SignFinish)));
         self.ask(rt, caller, &call, out)
@@ -162,9 +152,8 @@ impl<D: Disk, A: Devices, C: Admission, G: Gate> Service<D, A, C, G> {
         op: Op,
         expected: &[u8],
     ) -> Reply<()>
-        requires ready { IsReady (world D.contents D.moment D.faults A.keys A.faults A.locations C.labels self.now.shared.lock.table.shared.table_id self.now.shared.lock.table.shared.key.value.value.store.opened) 0 caller.old }
-        requires within { caller.old.spent ≤ self.now.worn }
-        ensures { IsReply (world D.contents D.moment D.faults A.keys A.faults A.locations C.labels self.now.shared.lock.table.shared.table_id self.now.shared.lock.table.shared.key.value.value.store.opened) self.now.worn (calls.OnHandle op (handle_calls.Step (steps.Mac (mac_steps.VerifyFinish expected.entry)))) nothing caller.old caller.new [] [] result }
+        requires { MayCall self.now caller.old }
+        ensures { IsReply self.now (calls.OnHandle op (handle_calls.Step (steps.Mac (mac_steps.VerifyFinish expected.entry)))) nothing caller.old caller.new [] [] result }
     {
         let call = Call::OnHandle(
             op,
@@ -175,9 +164,8 @@ impl<D: Disk, A: Devices, C: Admission, G: Gate> Service<D, A, C, G> {
 
     /// Wipes the operation of a handle, which is then inactive. Never refused, but with `PassWorn` on a handle that is inactive.
     pub fn abort<R: Wait>(&self, rt: &R, caller: &mut Caller<D, A, C>, op: Op) -> Reply<()>
-        requires ready { IsReady (world D.contents D.moment D.faults A.keys A.faults A.locations C.labels self.now.shared.lock.table.shared.table_id self.now.shared.lock.table.shared.key.value.value.store.opened) 0 caller.old }
-        requires within { caller.old.spent ≤ self.now.worn }
-        ensures { IsReply (world D.contents D.moment D.faults A.keys A.faults A.locations C.labels self.now.shared.lock.table.shared.table_id self.now.shared.lock.table.shared.key.value.value.store.opened) self.now.worn (calls.OnHandle op handle_calls.Abort) nothing caller.old caller.new [] [] result }
+        requires { MayCall self.now caller.old }
+        ensures { IsReply self.now (calls.OnHandle op handle_calls.Abort) nothing caller.old caller.new [] [] result }
     {
         let call = Call::OnHandle(op, HandleCall::Abort);
         self.tell(rt, caller, &call)

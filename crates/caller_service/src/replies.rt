@@ -1,10 +1,8 @@
 // What calls by their names answer, and the one way in which they are made.
 ghost use Rattle.std.specs.Prelude.{◌≡◌, ◌≤◌, []};
 ghost use Rattle.service_calls.specs.declared.output.Output.{Output};
-ghost use Rattle.callers.specs.Ready.{IsReady};
-ghost use Rattle.callers.specs.Worlds.{world};
 ghost use Rattle.caller_service.specs.Given.{description_of, identifier_of, length_of, nothing, number_of};
-ghost use Rattle.caller_service.specs.Replies.{IsReply};
+ghost use Rattle.caller_service.specs.Replies.{IsReply, MayCall};
 
 use crate::service::Service;
 use admission::Admission;
@@ -103,9 +101,8 @@ impl<D: Disk, A: Devices, C: Admission, G: Gate> Service<D, A, C, G> {
         call: &Call<'_>,
         out: &mut [u8],
     ) -> Reply<T>
-        requires ready { IsReady (world D.contents D.moment D.faults A.keys A.faults A.locations C.labels self.now.shared.lock.table.shared.table_id self.now.shared.lock.table.shared.key.value.value.store.opened) 0 caller.old }
-        requires within { caller.old.spent ≤ self.now.worn }
-        ensures { IsReply (world D.contents D.moment D.faults A.keys A.faults A.locations C.labels self.now.shared.lock.table.shared.table_id self.now.shared.lock.table.shared.key.value.value.store.opened) self.now.worn call.now T.given caller.old caller.new out.old out.new result }
+        requires { MayCall self.now caller.old }
+        ensures { IsReply self.now call.now T.given caller.old caller.new out.old out.new result }
     {
         let (rank, answer) = self.call(rt, caller, call, out);
         let result = match answer {
@@ -122,9 +119,8 @@ impl<D: Disk, A: Devices, C: Admission, G: Gate> Service<D, A, C, G> {
         caller: &mut Caller<D, A, C>,
         call: &Call<'_>,
     ) -> Reply<T>
-        requires ready { IsReady (world D.contents D.moment D.faults A.keys A.faults A.locations C.labels self.now.shared.lock.table.shared.table_id self.now.shared.lock.table.shared.key.value.value.store.opened) 0 caller.old }
-        requires within { caller.old.spent ≤ self.now.worn }
-        ensures { IsReply (world D.contents D.moment D.faults A.keys A.faults A.locations C.labels self.now.shared.lock.table.shared.table_id self.now.shared.lock.table.shared.key.value.value.store.opened) self.now.worn call.now T.given caller.old caller.new [] [] result }
+        requires { MayCall self.now caller.old }
+        ensures { IsReply self.now call.now T.given caller.old caller.new [] [] result }
     {
         self.ask(rt, caller, call, &mut [])
     }

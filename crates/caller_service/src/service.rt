@@ -11,12 +11,12 @@ ghost use Rattle.turn_history.specs.Passes.{AreNew};
 ghost use Rattle.service_calls.specs.Meanings.{model_request};
 ghost use Rattle.store_model.specs.Handles.{HandleOperation, Service as model_Service};
 ghost use Rattle.store_model.specs.Sound.{IsSoundStore};
-ghost use Rattle.store_core.specs.Start.{IsStart};
+ghost use Rattle.shared_store.specs.Turning.{IsStartOf};
 ghost use Rattle.callers.specs.Budget.{asked_for, counted_by};
 ghost use Rattle.callers.specs.Called.{IsAnswered};
 ghost use Rattle.callers.specs.Handles.{AreOperations};
 ghost use Rattle.callers.specs.Ready.{IsReady};
-ghost use Rattle.callers.specs.Worlds.{world};
+ghost use Rattle.shared_store.specs.Shared.{world};
 ghost use Rattle.caller_service.specs.Closing.{IsClosedOver, WereRetired};
 ghost use Rattle.caller_service.specs.Rooms.{IsRoom};
 ghost use Rattle.caller_service.specs.Staff.{AreStaff};
@@ -69,12 +69,12 @@ fn seat<D: Disk, A: Devices, C: Admission>(
     rooms: Vec<Room>,
     callers: &mut Vec<Caller<D, A, C>>,
 )
-    requires passes { AreNew shared.now.lock.table.shared.table_id shared.now.lock.table.shared.key.value.value.store.opened 16 passes.items }
-    requires sound { (start : model_Service) → IsStart D.contents D.moment D.faults A.faults A.locations C.labels shared.now.lock.table.shared.key.value.value.store.opened start → IsSoundStore start.store }
-    requires seed { seed.now ≡ shared.now.lock.table.shared.key.value.value.store.opened.seed.value }
+    requires passes { AreNew (world shared.now).lock (world shared.now).opened 16 passes.items }
+    requires sound { (start : model_Service) → IsStartOf (world shared.now) start → IsSoundStore start.store }
+    requires seed { seed.now ≡ (world shared.now).opened.seed.value }
     requires rooms { (length rooms.items ≡ 16) × All IsRoom rooms.items }
     requires callers { (callers.old.items ≡ []) × (16 ≤ vec_capacity callers.old) }
-    ensures { AreStaff (world D.contents D.moment D.faults A.keys A.faults A.locations C.labels shared.now.lock.table.shared.table_id shared.now.lock.table.shared.key.value.value.store.opened) callers.new.items }
+    ensures { AreStaff (world shared.now) callers.new.items }
 {
     let mut rooms = rooms;
     let mut number = 0;
@@ -121,17 +121,17 @@ impl<D: Disk, A: Devices, C: Admission, G: Gate> Service<D, A, C, G> {
     ) -> Result<Staffed<D, A, C, G>, Unopened<D, A>>
         requires empty { (handle : ℕ) → Lacks (A.keys devices) handle }
         requires worn { worn ≤ 2 ^ 48 }
-        ensures staff { IfOk result (λ made. AreStaff (world D.contents D.moment D.faults A.keys A.faults A.locations C.labels made.0.shared.lock.table.shared.table_id made.0.shared.lock.table.shared.key.value.value.store.opened) made.1.items) }
+        ensures staff { IfOk result (λ made. AreStaff (world made.0.shared) made.1.items) }
         ensures worn { IfOk result (λ made. made.0.worn ≡ worn) }
-        ensures starts { IfOk result (λ made. (start : model_Service) × IsStart D.contents D.moment D.faults A.faults A.locations C.labels made.0.shared.lock.table.shared.key.value.value.store.opened start) }
-        ensures sound { IfOk result (λ made. (start : model_Service) → IsStart D.contents D.moment D.faults A.faults A.locations C.labels made.0.shared.lock.table.shared.key.value.value.store.opened start → IsSoundStore start.store) }
-        ensures keys { IfOk result (λ made. IfSome (D.contents disk) (λ image. (start : model_Service) (s : IsStart D.contents D.moment D.faults A.faults A.locations C.labels made.0.shared.lock.table.shared.key.value.value.store.opened start) (a : Attributes) (bytes : List ℕ) →
+        ensures starts { IfOk result (λ made. (start : model_Service) × IsStartOf (world made.0.shared) start) }
+        ensures sound { IfOk result (λ made. (start : model_Service) → IsStartOf (world made.0.shared) start → IsSoundStore start.store) }
+        ensures keys { IfOk result (λ made. IfSome (D.contents disk) (λ image. (start : model_Service) (s : IsStartOf (world made.0.shared) start) (a : Attributes) (bytes : List ℕ) →
             HasKey a bytes image ↔ ((number : ℕ) × (slice_get s.found number ≡ Some (record { attributes = a; bytes = bytes }))))) }
-        ensures opened { IfOk result (λ made. IsOpened D.contents D.may_leave D.moment D.left_since disk made.0.shared.lock.table.shared.key.value.value.store.opened.file.value.cells.disk made.0.shared.lock.table.shared.key.value.value.store.opened.file.value.cells.slots.items) }
-        ensures later { IfOk result (λ made. D.faults disk ≤ D.faults made.0.shared.lock.table.shared.key.value.value.store.opened.file.value.cells.disk) }
-        ensures devices { IfOk result (λ made. made.0.shared.lock.table.shared.key.value.value.store.opened.devices.value ≡ devices) }
-        ensures seed { IfOk result (λ made. made.0.shared.lock.table.shared.key.value.value.store.opened.seed.value ≡ seed.now) }
-        ensures rules { IfOk result (λ made. made.0.shared.lock.table.shared.key.value.value.store.opened.rules.value ≡ rules) }
+        ensures opened { IfOk result (λ made. IsOpened D.contents D.may_leave D.moment D.left_since disk (world made.0.shared).opened.file.value.cells.disk (world made.0.shared).opened.file.value.cells.slots.items) }
+        ensures later { IfOk result (λ made. D.faults disk ≤ D.faults (world made.0.shared).opened.file.value.cells.disk) }
+        ensures devices { IfOk result (λ made. (world made.0.shared).opened.devices.value ≡ devices) }
+        ensures seed { IfOk result (λ made. (world made.0.shared).opened.seed.value ≡ seed.now) }
+        ensures rules { IfOk result (λ made. (world made.0.shared).opened.rules.value ≡ rules) }
         ensures refused { IfErr result (λ unopened. IsRefused D.contents D.may_leave D.moment D.left_since D.faults disk unopened.disk unopened.fault
             ⊎ ((unopened.fault ≡ fault.Memory) × ((slots : List cell.Slot) × IsOpened D.contents D.may_leave D.moment D.left_since disk unopened.disk slots) × (D.faults disk ≤ D.faults unopened.disk))) }
         ensures returned { IfErr result (λ unopened. unopened.devices ≡ devices) }
@@ -169,11 +169,11 @@ impl<D: Disk, A: Devices, C: Admission, G: Gate> Service<D, A, C, G> {
         call: &Call<'_>,
         out: &mut [u8],
     ) -> (Option<u64>, Result<Output, Status>)
-        requires ready { IsReady (world D.contents D.moment D.faults A.keys A.faults A.locations C.labels self.now.shared.lock.table.shared.table_id self.now.shared.lock.table.shared.key.value.value.store.opened) 0 caller.old }
+        requires ready { IsReady (world self.now.shared) 0 caller.old }
         requires within { caller.old.spent ≤ self.now.worn }
-        ensures ready { IsReady (world D.contents D.moment D.faults A.keys A.faults A.locations C.labels self.now.shared.lock.table.shared.table_id self.now.shared.lock.table.shared.key.value.value.store.opened) 0 caller.new }
+        ensures ready { IsReady (world self.now.shared) 0 caller.new }
         ensures within { caller.new.spent ≤ self.now.worn }
-        ensures ranked { IfSome result.0 (λ rank. IsAnswered (world D.contents D.moment D.faults A.keys A.faults A.locations C.labels self.now.shared.lock.table.shared.table_id self.now.shared.lock.table.shared.key.value.value.store.opened) caller.old.pass.me.0 caller.new.pass.me.0 (model_request call.now (length out.old)) rank result.1 out.old out.new) }
+        ensures ranked { IfSome result.0 (λ rank. IsAnswered (world self.now.shared) caller.old.pass.me.0 caller.new.pass.me.0 (model_request call.now (length out.old)) rank result.1 out.old out.new) }
         ensures counts { IfSome result.0 (λ rank. (operations : List HandleOperation) → AreOperations caller.old.handles.cells.items operations →
             (caller.old.spent + asked_for call.now operations ≤ self.now.worn) × (caller.new.spent ≡ caller.old.spent + counted_by call.now operations result.1)) }
         ensures worn { IfNone result.0 ((operations : List HandleOperation) → AreOperations caller.old.handles.cells.items operations →
@@ -189,9 +189,9 @@ impl<D: Disk, A: Devices, C: Admission, G: Gate> Service<D, A, C, G> {
     /// devices come back.
     pub fn close<R: Wait>(self, rt: &R, callers: Vec<Caller<D, A, C>>) -> Closed<D, A, C>
         requires sixteen { vec_len callers ≡ 16 }
-        requires ready { All (IsReady (world D.contents D.moment D.faults A.keys A.faults A.locations C.labels self.shared.lock.table.shared.table_id self.shared.lock.table.shared.key.value.value.store.opened) 0) callers.items }
-        ensures closed { IsClosedOver D.contents D.moment D.left_since D.faults A.faults A.locations C.labels self.shared.lock.table.shared.key.value.value.store.opened result.disk result.devices callers.items }
-        ensures wiped { WereRetired self.shared.lock.table.shared.table_id self.shared.lock.table.shared.key.value.value.store.opened callers.items result.ended.value.items }
+        requires ready { All (IsReady (world self.shared) 0) callers.items }
+        ensures closed { IsClosedOver (world self.shared) result.disk result.devices callers.items }
+        ensures wiped { WereRetired (world self.shared) callers.items result.ended.value.items }
     {
         let Service {
             shared,

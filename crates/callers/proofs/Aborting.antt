@@ -19,7 +19,7 @@ use Rattle.callers.specs.Called.{IsAnswered, KnowsBefore, Legal}
 use Rattle.callers.specs.Handles.{AreOperations, IsChanged, busy, operation_at, with_operation_at}
 use Rattle.callers.specs.Parts.{IsBack}
 use Rattle.callers.specs.Ready.{IsReady}
-use Rattle.callers.specs.Worlds.{World}
+use Rattle.shared_store.specs.Worlds.{World}
 use Rattle.callers.specs.declared.caller.Caller.{Caller}
 use Rattle.callers.proofs.CellLists.{busy_put, once}
 use Rattle.callers.proofs.Handling.{few_turns, handled_answered, handled_ready, one_turn, same_out, spent_by}
@@ -35,7 +35,7 @@ module _ {D A C : Type 0} (w : World D A C) (n : ℕ) (old settled new : Caller 
   aborts : KnowsBefore w (λ service. outcome_of service e ≡ applied service old.number handle (ends done)) before e
   aborts start is tells = outcome_is (replay start before) e old.number (OnHandle handle Abort) Plain (i.by ∙ r.number) (i.call_is ∙ asks) i.mark_is
 
-  pub aborted_ready : (is_inactive (operation_at r.operations handle) ≡ true → 4 ≤ n) → IsAt w.lock w.opened new.pass → Legal w (entries_of new.pass.me.0.seen) → settled.number ≡ old.number → settled.spares ≡ old.spares →
+  pub aborted_ready : (is_inactive (operation_at r.operations handle) ≡ true → 4 ≤ n) → IsAt w new.pass → Legal w (entries_of new.pass.me.0.seen) → settled.number ≡ old.number → settled.spares ≡ old.spares →
       settled.stream ≡ old.stream → settled.spent ≡ old.spent → IsReady w 0 new
   aborted_ready pays at legal number spares stream spent =
       handled_ready w n old settled new r request Plain rank before e 1 (one_turn i) (same_out i) handle Inactive lease change back (ends done) refl first last aborts 0 at legal number spares (stream ∙ undrawn old.stream)
@@ -61,7 +61,7 @@ pub aborted : {D A C : Type 0} (w : World D A C) (old settled new : Caller D A C
     ((operations : List HandleOperation) → AreOperations old.handles.cells.items operations → is_inactive (operation_at operations handle) ≡ true → IsReady w 4 old) →
     IsEntered old.pass.me.0 settled.pass.me.0 request Plain rank old.pass.me.0.holding before e →
     ((operations : List HandleOperation) → AreOperations old.handles.cells.items operations → IsChanged old.handles.cells.items settled.handles.cells.items operations handle Inactive lease) → IsBack lease settled new →
-    1 ≤ handle → handle ≤ 4 → request ≡ OnHandle handle Abort → IsAt w.lock w.opened new.pass → Legal w (entries_of new.pass.me.0.seen) → settled.number ≡ old.number → settled.spares ≡ old.spares →
+    1 ≤ handle → handle ≤ 4 → request ≡ OnHandle handle Abort → IsAt w new.pass → Legal w (entries_of new.pass.me.0.seen) → settled.number ≡ old.number → settled.spares ≡ old.spares →
     settled.stream ≡ old.stream → settled.spent ≡ old.spent → IsReady w 0 new
 aborted w old settled new r request rank before e handle lease counted i changed back first last asks at legal number spares stream spent =
     by_finding (is_inactive (operation_at r.operations handle)) (IsReady w 0 new)

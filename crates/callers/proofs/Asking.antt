@@ -28,7 +28,7 @@ use Rattle.shared_store.specs.Turning.{DecidesAfter, IsRanked, LeavesAllKeys}
 use Rattle.callers.specs.Called.{IsCalled, KnowsBefore}
 use Rattle.callers.specs.Handles.{operation_at}
 use Rattle.callers.specs.Ready.{IsReady}
-use Rattle.callers.specs.Worlds.{World}
+use Rattle.shared_store.specs.Worlds.{World}
 use Rattle.callers.specs.declared.caller.Caller.{Caller}
 use Rattle.callers.proofs.Journeys.{called, told_front}
 use Rattle.callers.proofs.Readying.{known, outcome_is}
@@ -87,12 +87,12 @@ agree false P gives given false ok bad = refl
 module _ {D A C : Type 0} (w : World D A C) (n : ℕ) (old new : Caller D A C) (r : IsReady w n old) (turns : ℕ) (call : Request) (rank : ℕ) (before : List Entry) (e : Entry)
     (c : IsCalled old.pass.me.0 new.pass.me.0 turns call Plain rank before e) where
   -- the entry leaves all keys
-  pub counts_only : LeavesAllKeys w.told w.moment w.faults w.hard w.locations w.labels w.opened old.pass.me.0 call → KnowsBefore w (λ service. (outcome_of service e).service.store ≡ counted service.store) before e
+  pub counts_only : LeavesAllKeys w old.pass.me.0 call → KnowsBefore w (λ service. (outcome_of service e).service.store ≡ counted service.store) before e
   counts_only leaves start is tells =
       let service = replay start before in
       let served = ap (λ (s : _). s.service.store) (outcome_is service e old.pass.me.0.number call Plain c.by c.call_is c.mark_is) in
       served ∙ ⊎_elim (λ (quiet : may_change_keys call ≡ false). leaves_shared service old.pass.me.0.number call Plain quiet)
-      (λ refused. refused_store service old.pass.me.0.number call (refused start is before c.goes_on (told_front (w.told w.opened.file.value.cells.disk) start (before ++ e ∷ []) before (e ∷ [], refl) tells)))
+      (λ refused. refused_store service old.pass.me.0.number call (refused start is before c.goes_on (told_front (w.disk.contents w.opened.file.value.cells.disk) start (before ++ e ∷ []) before (e ∷ [], refl) tells)))
       leaves
 
   module _ (handle : ℕ) (first : 1 ≤ handle) (last : handle ≤ 4) (cell : Cell) (at : cell ≡ get_or old.handles.cells.items (handle - 1) cell) where
@@ -109,9 +109,9 @@ module _ {D A C : Type 0} (w : World D A C) (n : ℕ) (old new : Caller D A C) (
         sym (ap (λ o. is_alive service.store (key_of_operation o)) (operation_is start is tells) ∙ ap (is_alive service.store) (unleased_key cell (operation_at r.operations handle) (r.stand.each (handle - 1) cell inside at) none))
 
     -- with one, its number tells
-    pub alive_with : (lease : Reading) (alive : Bool) → cell.lease ≡ Some lease → LeavesAllKeys w.told w.moment w.faults w.hard w.locations w.labels w.opened old.pass.me.0 call →
-        (alive ≡ true → DecidesAfter w.told w.moment w.faults w.hard w.locations w.labels w.opened (λ m. HasNumber m lease.creation) before e) →
-        (alive ≡ false → DecidesAfter w.told w.moment w.faults w.hard w.locations w.labels w.opened (λ m. HasNumber m lease.creation → ⊥) before e) →
+    pub alive_with : (lease : Reading) (alive : Bool) → cell.lease ≡ Some lease → LeavesAllKeys w old.pass.me.0 call →
+        (alive ≡ true → DecidesAfter w (λ m. HasNumber m lease.creation) before e) →
+        (alive ≡ false → DecidesAfter w (λ m. HasNumber m lease.creation → ⊥) before e) →
         KnowsBefore w (λ service. alive ≡ is_alive service.store (key_of_operation (operation_of service old.number handle))) before e
     alive_with lease alive leased leaves there gone start is tells =
         let service = replay start before in
@@ -143,9 +143,9 @@ module _ {D A C : Type 0} (w : World D A C) (n : ℕ) (old new : Caller D A C) (
     };
   }
 
-  pub asked_with : (lease : Reading) (answer : Result (Unit {0}) Status) (alive : Bool) → alive ≡ is_ok answer → cell.lease ≡ Some lease → LeavesAllKeys w.told w.moment w.faults w.hard w.locations w.labels w.opened old.pass.me.0 call →
-      OnOk answer (IsRanked old.pass.me.0 new.pass.me.0 call Plain rank old.pass.me.0.holding (DecidesAfter w.told w.moment w.faults w.hard w.locations w.labels w.opened (λ m. HasNumber m lease.creation))) →
-      OnErr answer (IsRanked old.pass.me.0 new.pass.me.0 call Plain rank old.pass.me.0.holding (DecidesAfter w.told w.moment w.faults w.hard w.locations w.labels w.opened (λ m. HasNumber m lease.creation → ⊥))) → Asked alive
+  pub asked_with : (lease : Reading) (answer : Result (Unit {0}) Status) (alive : Bool) → alive ≡ is_ok answer → cell.lease ≡ Some lease → LeavesAllKeys w old.pass.me.0 call →
+      OnOk answer (IsRanked old.pass.me.0 new.pass.me.0 call Plain rank old.pass.me.0.holding (DecidesAfter w (λ m. HasNumber m lease.creation))) →
+      OnErr answer (IsRanked old.pass.me.0 new.pass.me.0 call Plain rank old.pass.me.0.holding (DecidesAfter w (λ m. HasNumber m lease.creation → ⊥))) → Asked alive
   asked_with lease (Ok u) alive tells leased leaves i gone = record {
     before = i.before;
     after = record {

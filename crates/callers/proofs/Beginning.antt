@@ -37,7 +37,7 @@ use Rattle.callers.specs.Called.{IsAnswered, IsCalled, KnowsBefore, Legal, Tells
 use Rattle.callers.specs.Failures.{failure_marked}
 use Rattle.callers.specs.Handles.{AreOperations, ArePairs, HoldsLease, IsChanged, busy, leases_of, operation_at, with_operation_at}
 use Rattle.callers.specs.Ready.{IsOwnPart, IsReady}
-use Rattle.callers.specs.Worlds.{World}
+use Rattle.shared_store.specs.Worlds.{World}
 use Rattle.callers.specs.declared.caller.Caller.{Caller}
 use Rattle.callers.proofs.CellLists.{busy_put, cell_at, few, once, tally-cons}
 use Rattle.callers.proofs.Failing.{answers_plain, set_up_plainly}
@@ -89,7 +89,7 @@ module _ {D A C : Type 0} (w : World D A C) (old new : Caller D A C) (r : IsRead
         pub few : more ≤ 1
         pub spent : new.spent ≡ old.spent + more
 
-      pub begun_ready : (more : ℕ) → IsBegun more → old.spent + more ≤ 2 ^ 48 → IsAt w.lock w.opened new.pass → Legal w (entries_of new.pass.me.0.seen) → IsReady w 0 new
+      pub begun_ready : (more : ℕ) → IsBegun more → old.spent + more ≤ 2 ^ 48 → IsAt w new.pass → Legal w (entries_of new.pass.me.0.seen) → IsReady w 0 new
       begun_ready more b worn at legal =
           let left = i.on.turns_left in let spent = b.spent in let few = b.few in let place = ap (λ s. s.place) b.stream in let drawn = b.drawn in
           ready w 4 old new r 1 request mark rank before e made (with_operation_at r.operations handle after.operation) 0 at legal (record {
@@ -140,7 +140,7 @@ module _ {D A C : Type 0} (w : World D A C) (old new : Caller D A C) (r : IsRead
           sets_up s asks plain start is tells ∙ ap (λ l. applied (replay start before) old.number handle (set_up_for (replay start before).store (operation_at r.operations handle) s l)) uses
 
       pub bare_ready : (result : Result (Unit {0}) Status) → plain_reply result ≡ bare.reply → operation_at r.operations handle ≡ Inactive → IsChanged old.handles.cells.items new.handles.cells.items r.operations handle bare.operation None →
-          own ≡ old.pass.me.0.holding → new.number ≡ old.number → new.stream ≡ old.stream → new.spares ≡ old.spares → new.spent ≡ old.spent + cond (is_ok result) 1 0 → old.spent < 2 ^ 48 → IsAt w.lock w.opened new.pass →
+          own ≡ old.pass.me.0.holding → new.number ≡ old.number → new.stream ≡ old.stream → new.spares ≡ old.spares → new.spent ≡ old.spent + cond (is_ok result) 1 0 → old.spent < 2 ^ 48 → IsAt w new.pass →
           Legal w (entries_of new.pass.me.0.seen) → IsReady w 0 new
       bare_ready result reply free change held number stream spares spent worn = begun_ready bare bare_applies (once (is_ok result)) (record {
         number = number;
@@ -169,7 +169,7 @@ module _ {D A C : Type 0} (w : World D A C) (old new : Caller D A C) (r : IsRead
       same_operations = ap (with_operation_at r.operations handle) (sym there) ∙ set-get_or r.operations (handle - 1) Inactive
 
       pub stayed_ready : own ≡ old.pass.me.0.holding → new.number ≡ old.number → new.stream ≡ old.stream → new.handles ≡ old.handles → new.spent ≡ old.spent → All IsClear new.spares.items → length new.spares.items ≡ length old.spares.items →
-          5 ≤ vec_capacity new.spares → old.spent < 2 ^ 48 → IsAt w.lock w.opened new.pass → Legal w (entries_of new.pass.me.0.seen) → IsReady w 0 new
+          5 ≤ vec_capacity new.spares → old.spent < 2 ^ 48 → IsAt w new.pass → Legal w (entries_of new.pass.me.0.seen) → IsReady w 0 new
       stayed_ready held number stream handles spent clear many room worn = begun_ready (stays o why) applies 0 (record {
         number = number;
         stream = stream;
@@ -192,7 +192,7 @@ module _ {D A C : Type 0} (w : World D A C) (old new : Caller D A C) (r : IsRead
       unchanging : may_change_keys e.call ≡ false
       unchanging = ap may_change_keys (i.call_is ∙ asks) ∙ quiet handle s
 
-      pub refuses : (why : Status) → mark ≡ mark_of why → DecidesAfter w.told w.moment w.faults w.hard w.locations w.labels w.opened (IsRefused (use_refusal wanted) key.0 why) before e →
+      pub refuses : (why : Status) → mark ≡ mark_of why → DecidesAfter w (IsRefused (use_refusal wanted) key.0 why) before e →
           KnowsBefore w (λ service. outcome_of service e ≡ applied service old.number handle (stays Inactive why)) before e
       refuses why marked decided start is tells =
           let service = replay start before in
@@ -201,7 +201,7 @@ module _ {D A C : Type 0} (w : World D A C) (old new : Caller D A C) (r : IsRead
           outcome_is service e old.number (OnHandle handle (model_setup s)) (mark_of why) (i.by ∙ r.number) (i.call_is ∙ asks) (i.mark_is ∙ marked)
           ∙ set_up_refused service old.number handle s key wanted why uses (k.own.each handle first last ∙ free) row
 
-      module _ (lease : Reading) (plain : mark ≡ Plain) (decided : DecidesAfter w.told w.moment w.faults w.hard w.locations w.labels w.opened (IsLent (use_refusal wanted) key.0 lease) before e) where
+      module _ (lease : Reading) (plain : mark ≡ Plain) (decided : DecidesAfter w (IsLent (use_refusal wanted) key.0 lease) before e) where
         abbrev begun : After Held
         begun = begun_lent s key lease
 
@@ -213,7 +213,7 @@ module _ {D A C : Type 0} (w : World D A C) (old new : Caller D A C) (r : IsRead
 
         pub lent_ready : HoldsLease old.handles.cells.items new.handles.cells.items r.operations handle begun.operation lease → own ≡ lease_pair lease ∷ old.pass.me.0.holding →
             new.number ≡ old.number → new.stream ≡ old.stream → new.spent ≡ old.spent + 1 → All IsClear new.spares.items → length new.spares.items + 1 ≡ length old.spares.items → 5 ≤ vec_capacity new.spares →
-            old.spent < 2 ^ 48 → IsAt w.lock w.opened new.pass → Legal w (entries_of new.pass.me.0.seen) → IsReady w 0 new
+            old.spent < 2 ^ 48 → IsAt w new.pass → Legal w (entries_of new.pass.me.0.seen) → IsReady w 0 new
         lent_ready kept held number stream spent clear many room worn = begun_ready begun lends 1 (record {
           number = number;
           stream = stream;
@@ -235,7 +235,7 @@ module _ {D A C : Type 0} (w : World D A C) (old new : Caller D A C) (r : IsRead
 
 -- the call reads its key, in whatever history it is entered
 pub reads_key : {D A C : Type 0} (w : World D A C) (old : Caller D A C) (r : IsReady w 4 old) (request : Request) (handle : ℕ) (s : Setup) (key : KeyId) (wanted : KeyUse) → 1 ≤ handle → handle ≤ 4 → request ≡ OnHandle handle (model_setup s) →
-    setup_use s ≡ Some (key, wanted) → operation_at r.operations handle ≡ Inactive → ReadsKey w.told w.moment w.faults w.hard w.locations w.labels w.opened old.pass.me.0 request key.0
+    setup_use s ≡ Some (key, wanted) → operation_at r.operations handle ≡ Inactive → ReadsKey w old.pass.me.0 request key.0
 reads_key w old r request handle s key wanted first last asks uses free start is h on tells =
     let own = own_there w 4 old r start h is on tells in
     let inactive : is_inactive (operation_of (replay start h) old.number handle) ≡ true = ap is_inactive (own.each handle first last ∙ free) in

@@ -40,7 +40,7 @@ use Rattle.keyed_calls.proofs.Draws.{draws_none, few}
 use Rattle.callers.specs.Called.{IsReplied, IsAnswered, IsCalled, KnowsBefore, Legal}
 use Rattle.callers.specs.Parts.{IsGivenBack, drawn_by}
 use Rattle.callers.specs.Ready.{IsOwnPart, IsReady}
-use Rattle.callers.specs.Worlds.{World}
+use Rattle.shared_store.specs.Worlds.{World}
 use Rattle.callers.specs.declared.caller.Caller.{Caller}
 use Rattle.callers.proofs.ByElement.{element_fits, element_own}
 use Rattle.callers.proofs.CellLists.{tally-cons, without}
@@ -66,7 +66,7 @@ module _ {D A C : Type 0} (w : World D A C) (old : Caller D A C) (r : IsReady w 
     (asks : request ≡ OnStore (model_store_call asked room)) (rank : ℕ) (before : List Entry) (e : Entry) (quiet : may_change_keys e.call ≡ false) (local : KnowsBefore w (λ service. IsLocal asked id service.store) before e) where
   -- THE KEY IS LENT: it is computed with, and the lease goes back
   module _ (looked settled new : Caller D A C) (lease : Reading) (i : IsEntered old.pass.me.0 looked.pass.me.0 request Plain rank (lease_pair lease ∷ old.pass.me.0.holding) before e)
-      (decided : DecidesAfter w.told w.moment w.faults w.hard w.locations w.labels w.opened (IsLent (use_refusal wanted) id lease) before e)
+      (decided : DecidesAfter w (IsLent (use_refusal wanted) id lease) before e)
       (passed : settled.pass ≡ looked.pass) (back : IsGivenBack lease settled new) where
     made : IsCalled old.pass.me.0 new.pass.me.0 2 request Plain rank before e
     made = called_then old.pass.me.0 settled.pass.me.0 new.pass.me.0 1 request Plain rank (without_pair (lease_pair lease) settled.pass.me.0.holding) before e
@@ -89,7 +89,7 @@ module _ {D A C : Type 0} (w : World D A C) (old : Caller D A C) (r : IsReady w 
 
     pub lent_ready : settled.number ≡ old.number → settled.spent ≡ old.spent → settled.handles ≡ old.handles → settled.stream ≡ drawn_from old.stream lent.drawn →
         All IsClear settled.spares.items → length settled.spares.items + 1 ≡ length old.spares.items → vec_capacity settled.spares ≡ vec_capacity old.spares →
-        IsAt w.lock w.opened new.pass → Legal w (entries_of new.pass.me.0.seen) → IsReady w 0 new
+        IsAt w new.pass → Legal w (entries_of new.pass.me.0.seen) → IsReady w 0 new
     lent_ready number spent handles stream clear many capacity at legal =
         kept_ready w old new r 2 request (model_store_call asked room) asks Plain rank before e made lent.drawn (let f = few asked (bytes_of lease.buffer) (next_bytes old.stream) room in omega arith) (omega arith) (record {
           number = back.number ∙ number;
@@ -116,7 +116,7 @@ module _ {D A C : Type 0} (w : World D A C) (old : Caller D A C) (r : IsReady w 
 
   -- NO KEY IS LENT
   module _ (new : Caller D A C) (why : Status) (i : IsEntered old.pass.me.0 new.pass.me.0 request (mark_of why) rank old.pass.me.0.holding before e)
-      (decided : DecidesAfter w.told w.moment w.faults w.hard w.locations w.labels w.opened (IsRefused (use_refusal wanted) id why) before e) where
+      (decided : DecidesAfter w (IsRefused (use_refusal wanted) id why) before e) where
     abbrev turned : IsCalled old.pass.me.0 new.pass.me.0 1 request (mark_of why) rank before e
     turned = called old.pass.me.0 new.pass.me.0 request (mark_of why) rank old.pass.me.0.holding before e i
 
@@ -125,7 +125,7 @@ module _ {D A C : Type 0} (w : World D A C) (old : Caller D A C) (r : IsReady w 
         refusal_of asked room id wanted uses (replay start before) old.number why (local start is tells) (decided_after w (IsRefused (use_refusal wanted) id why) before e quiet decided start is tells)
 
     pub refused_ready : new.number ≡ old.number → new.spent ≡ old.spent → new.handles ≡ old.handles → new.stream ≡ old.stream → All IsClear new.spares.items → length new.spares.items ≡ length old.spares.items →
-        vec_capacity new.spares ≡ vec_capacity old.spares → IsAt w.lock w.opened new.pass → Legal w (entries_of new.pass.me.0.seen) → IsReady w 0 new
+        vec_capacity new.spares ≡ vec_capacity old.spares → IsAt w new.pass → Legal w (entries_of new.pass.me.0.seen) → IsReady w 0 new
     refused_ready number spent handles stream clear many capacity at legal =
         kept_ready w old new r 1 request (model_store_call asked room) asks (mark_of why) rank before e turned 0 (omega arith) (omega arith) (record {
           number = number;
@@ -151,15 +151,15 @@ module _ {D A C : Type 0} (w : World D A C) (old : Caller D A C) (r : IsReady w 
 module _ {D A C : Type 0} (w : World D A C) (old new : Caller D A C) (r : IsReady w 4 old) (asked : StoreCall) (element : ElementCall) (id : ℕ) (shown given : List ℕ) (result : Result ℕ NotComputed) (request : Request)
     (asks : request ≡ OnStore (model_store_call asked (length shown))) (model : model_store_call asked (length shown) ≡ model_call element id (length shown)) (rank : ℕ) (before : List Entry) (e : Entry)
     (quiet : may_change_keys e.call ≡ false) (i : IsEntered old.pass.me.0 new.pass.me.0 request (mark_computed result) rank old.pass.me.0.holding before e)
-    (decided : DecidesAfter w.told w.moment w.faults w.hard w.locations w.labels w.opened (IsOfElement (w.keys w.opened.devices.value) id element shown given result) before e) where
+    (decided : DecidesAfter w (IsOfElement (w.devices.keys w.opened.devices.value) id element shown given result) before e) where
   abbrev asked_of : IsCalled old.pass.me.0 new.pass.me.0 1 request (mark_computed result) rank before e
   asked_of = called old.pass.me.0 new.pass.me.0 request (mark_computed result) rank old.pass.me.0.holding before e i
 
-  after : KnowsBefore w (λ service. IsOfElement (w.keys w.opened.devices.value) id element shown given result (counted service.store)) before e
-  after = decided_after w (IsOfElement (w.keys w.opened.devices.value) id element shown given result) before e quiet decided
+  after : KnowsBefore w (λ service. IsOfElement (w.devices.keys w.opened.devices.value) id element shown given result (counted service.store)) before e
+  after = decided_after w (IsOfElement (w.devices.keys w.opened.devices.value) id element shown given result) before e quiet decided
 
   pub computed_ready : has_vector element ≡ takes_vector asked → new.number ≡ old.number → new.spent ≡ old.spent → new.handles ≡ old.handles → new.stream ≡ drawn_from old.stream (drawn_by asked (is_ok result)) →
-      All IsClear new.spares.items → length new.spares.items ≡ length old.spares.items → vec_capacity new.spares ≡ vec_capacity old.spares → IsAt w.lock w.opened new.pass → Legal w (entries_of new.pass.me.0.seen) → IsReady w 0 new
+      All IsClear new.spares.items → length new.spares.items ≡ length old.spares.items → vec_capacity new.spares ≡ vec_capacity old.spares → IsAt w new.pass → Legal w (entries_of new.pass.me.0.seen) → IsReady w 0 new
   computed_ready draws number spent handles stream clear many capacity at legal =
       kept_ready w old new r 1 request (model_store_call asked (length shown)) asks (mark_computed result) rank before e asked_of (drawn_by asked (is_ok result)) (few_drawn (is_ok result && takes_vector asked)) (omega arith) (record {
         number = number;
@@ -173,14 +173,14 @@ module _ {D A C : Type 0} (w : World D A C) (old new : Caller D A C) (r : IsRead
       }) at legal (λ start is tells.
       let service = replay start before in
       let k = known w 4 old new r 1 request (mark_computed result) rank before e asked_of start is tells in
-      element_own service old.number id asked element (w.keys w.opened.devices.value) shown given result model (after start is tells) draws r.operations old.stream.place new.stream.place k.sound r.last k.own (ap (λ (s : RandomStream). s.place) stream))
+      element_own service old.number id asked element (w.devices.keys w.opened.devices.value) shown given result model (after start is tells) draws r.operations old.stream.place new.stream.place k.sound r.last k.own (ap (λ (s : RandomStream). s.place) stream))
 
-  pub computed_answered : HasDrawn element (next_bytes old.stream 16) → DecidesBefore w.told w.moment w.faults w.hard w.locations w.labels w.opened (λ m. is_opaque_key (map.get m.keys id) ≡ true) before e → (answer : Result Output Status) →
+  pub computed_answered : HasDrawn element (next_bytes old.stream 16) → DecidesBefore w (λ m. is_opaque_key (map.get m.keys id) ≡ true) before e → (answer : Result Output Status) →
       ((reply : Reply) → AnswersCall element result reply → AnswersReply answer reply) → AnswersAs result answer → IsAnswered w old.pass.me.0 new.pass.me.0 request rank answer shown given
   computed_answered vector opaque answer answers agrees =
       kept_answered w old new r 1 request (model_store_call asked (length shown)) asks (mark_computed result) rank before e asked_of answer shown given
       (λ start is. let d = decided start is in element_tells element (length shown) (map.get d.0.keys id) result answer d.2.decided agrees) (λ start is tells told.
       let service = replay start before in
       let k = known w 4 old new r 1 request (mark_computed result) rank before e asked_of start is tells in
-      element_fits service old.number id asked element (w.keys w.opened.devices.value) shown given result model (after start is tells) (subst (HasDrawn element) (sym (k.random 16)) vector)
+      element_fits service old.number id asked element (w.devices.keys w.opened.devices.value) shown given result model (after start is tells) (subst (HasDrawn element) (sym (k.random 16)) vector)
       (decided_known w (λ m. is_opaque_key (map.get m.keys id) ≡ true) before e opaque start is tells) answer answers told)

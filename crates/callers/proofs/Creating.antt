@@ -24,7 +24,7 @@ use Rattle.callers.specs.Called.{IsAnswered, KnowsBefore, Legal, TellsFailure}
 use Rattle.callers.specs.Handles.{leases_of, pairs_of}
 use Rattle.callers.specs.Parts.{IsCreated, SameButPass}
 use Rattle.callers.specs.Ready.{IsOwnPart, IsReady}
-use Rattle.callers.specs.Worlds.{World}
+use Rattle.shared_store.specs.Worlds.{World}
 use Rattle.callers.specs.declared.caller.Caller.{Caller}
 use Rattle.std.proofs.lemmas.Bool.Decides.{nat_tests}
 use Rattle.callers.proofs.CellLists.{once, tally-append, tally-cons, without}
@@ -57,7 +57,7 @@ reserved filling own more is = subst (λ ps. 0 < names filling.slot 0 ps) (sym i
 
 -- what a creation is, a turn without rank leaves
 pub creates_on : {D A C : Type 0} (w : World D A C) (v u : View Entry _) (own : Pairs) (caller : ℕ) (call : Request) (records : model.Store → Result Attributes Status → Type 0) (bytes : List ℕ) → IsLater v u own →
-    CreatesKey w.told w.moment w.faults w.hard w.locations w.labels w.opened v caller call records bytes → CreatesKey w.told w.moment w.faults w.hard w.locations w.labels w.opened u caller call records bytes
+    CreatesKey w v caller call records bytes → CreatesKey w u caller call records bytes
 creates_on w v u own caller call records bytes later c = record {
   keeps = c.keeps;
   leaves = λ start is h on. c.leaves start is h (goes_on_before v u own h later on);
@@ -82,7 +82,7 @@ created_in v u x filling call mark rank Decided later ranked =
 module _ {D A C : Type 0} (w : World D A C) (old new : Caller D A C) (r : IsReady w 4 old) (request : Request) (call : Call) (asks : request ≡ OnStore call) (mark : FaultMark) (rank : ℕ) (Decided : List Entry → Entry → Type 0)
     (c : IsCreated old.pass.me.0 new.pass.me.0 request mark rank Decided) where
   pub drew_ready : (drawn : ℕ) → words_used drawn ≤ 256 → new.number ≡ old.number → new.spent ≡ old.spent → new.handles ≡ old.handles → new.spares ≡ old.spares → new.stream ≡ drawn_from old.stream drawn →
-      IsAt w.lock w.opened new.pass → Legal w (entries_of new.pass.me.0.seen) →
+      IsAt w new.pass → Legal w (entries_of new.pass.me.0.seen) →
       KnowsBefore w (λ service. IsOwnPart r.operations new.stream.place (own_of (serve service old.number (OnStore call) mark).service old.number)) c.before c.entry → IsReady w 0 new
   drew_ready drawn few number spent handles spares stream at legal own = kept_ready w old new r 2 request call asks mark rank c.before c.entry c.called drawn few (omega arith) (record {
     number = number;
@@ -96,7 +96,7 @@ module _ {D A C : Type 0} (w : World D A C) (old new : Caller D A C) (r : IsRead
   }) at legal own
 
   -- where no random word is drawn
-  pub created_ready : SameButPass old new → DrawsNone call → IsAt w.lock w.opened new.pass → Legal w (entries_of new.pass.me.0.seen) → IsReady w 0 new
+  pub created_ready : SameButPass old new → DrawsNone call → IsAt w new.pass → Legal w (entries_of new.pass.me.0.seen) → IsReady w 0 new
   created_ready same none at legal =
       drew_ready 0 (omega arith) same.number same.spent same.handles same.spares (same.stream ∙ draws_none old.stream) at legal (λ start is tells.
       let service = replay start c.before in

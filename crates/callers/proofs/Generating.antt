@@ -28,7 +28,7 @@ use Rattle.store_core.specs.declared.creating.Unkept.TheVariants as unkept
 use Rattle.shared_store.specs.Turning.{CreatesKey, GoesOn}
 use Rattle.callers.specs.Called.{IsToldTo, Starts}
 use Rattle.callers.specs.Ready.{IsOwnPart, IsReady}
-use Rattle.callers.specs.Worlds.{World}
+use Rattle.shared_store.specs.Worlds.{World}
 use Rattle.callers.specs.declared.caller.Caller.{Caller}
 use Rattle.callers.proofs.Owned.{failed_own, stored_own}
 use Rattle.callers.proofs.Readying.{random_there}
@@ -74,7 +74,7 @@ module _ {D A C : Type 0} (w : World D A C) (n : ℕ) (old : Caller D A C) (r : 
   Records = RecordsStated None old.number a
 
   abbrev Makes : List ℕ → Type 0
-  Makes bytes = CreatesKey w.told w.moment w.faults w.hard w.locations w.labels w.opened old.pass.me.0 old.number request (Records (length bytes)) bytes
+  Makes bytes = CreatesKey w old.pass.me.0 old.number request (Records (length bytes)) bytes
 
   by_bytes : (bytes : List ℕ) → length bytes ≡ stated_bytes a →
       ((start : Service) → Starts w start → (h : List Entry) → GoesOn old.pass.me.0 h → IsToldTo w start h → (kept : Result Attributes Status) → kept ≡ recorded_of (replay start h).store old.number a (stated_bytes a) →

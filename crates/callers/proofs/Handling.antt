@@ -25,7 +25,7 @@ use Rattle.callers.specs.Called.{IsAnswered, IsCalled, KnowsBefore, Legal, Tells
 use Rattle.callers.specs.Handles.{AreOperations, ArePairs, IsChanged, busy, leases_of, operation_at, pairs_of, with_operation_at}
 use Rattle.callers.specs.Parts.{IsBack}
 use Rattle.callers.specs.Ready.{IsOwnPart, IsReady}
-use Rattle.callers.specs.Worlds.{World}
+use Rattle.shared_store.specs.Worlds.{World}
 use Rattle.callers.specs.declared.caller.Caller.{Caller}
 use Rattle.callers.proofs.CellLists.{busy_put, few, named_alike, once, tally-cons, without}
 use Rattle.callers.proofs.Journeys.{called, called_then}
@@ -135,7 +135,7 @@ module _ {D A C : Type 0} (w : World D A C) (n : ℕ) (old settled new : Caller 
     -- the one-thread service applies this to the handle
     module _ (after : After Held) (operation_is : operation ≡ after.operation) (first : 1 ≤ handle) (last : handle ≤ 4)
         (applies : KnowsBefore w (λ service. outcome_of service e ≡ applied service old.number handle after) before e) where
-      pub handled_ready : (slack : ℕ) → IsAt w.lock w.opened new.pass → Legal w (entries_of new.pass.me.0.seen) → settled.number ≡ old.number → settled.spares ≡ old.spares →
+      pub handled_ready : (slack : ℕ) → IsAt w new.pass → Legal w (entries_of new.pass.me.0.seen) → settled.number ≡ old.number → settled.spares ≡ old.spares →
           settled.stream ≡ drawn_from old.stream after.drawn → TURNS + 2 * busy (with_operation_at r.operations handle operation) + slack + turns ≤ old.pass.me.0.turns_left + 4 * settled.spent →
           settled.stream.place + 64 * slack ≤ 256 * settled.spent → settled.spent ≤ 2 ^ 48 → IsReady w slack new
       handled_ready slack at legal number spares stream enough words spent =

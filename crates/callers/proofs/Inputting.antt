@@ -31,7 +31,7 @@ use Rattle.callers.specs.Called.{IsAnswered, IsCalled, KnowsBefore, Legal}
 use Rattle.callers.specs.Failures.{failure_marked}
 use Rattle.callers.specs.Handles.{HoldsLease, IsChanged, busy, leases_of, operation_at, with_operation_at}
 use Rattle.callers.specs.Ready.{IsReady}
-use Rattle.callers.specs.Worlds.{World}
+use Rattle.shared_store.specs.Worlds.{World}
 use Rattle.callers.specs.declared.caller.Caller.{Caller}
 use Rattle.callers.proofs.Beginning.{begun_answered, begun_ready}
 use Rattle.callers.proofs.CellLists.{busy_put, once, tally-cons}
@@ -94,7 +94,7 @@ module _ {D A C : Type 0} (w : World D A C) (old new : Caller D A C) (r : IsRead
       let n = ap (λ x. once (not x)) active in omega arith
 
   -- the key is lent
-  module _ (plain : mark ≡ Plain) (lease : Reading) (decided : DecidesAfter w.told w.moment w.faults w.hard w.locations w.labels w.opened (IsLent (use_refusal wanted) id lease) before e) where
+  module _ (plain : mark ≡ Plain) (lease : Reading) (decided : DecidesAfter w (IsLent (use_refusal wanted) id lease) before e) where
     abbrev pub given_key : After Held
     given_key = goes_on (record { key = Some (record { id = id; number = lease.creation }); work = Deriving (with_key takes.w (bytes_of lease.buffer)) }) done
 
@@ -107,7 +107,7 @@ module _ {D A C : Type 0} (w : World D A C) (old new : Caller D A C) (r : IsRead
         ∙ input_lent service old.number handle step id wanted (takes_there start is tells) lease takes.w (ap (part_of derivation_part) (k.own.each handle first last) ∙ takes.derives) lent
 
     pub given_ready : HoldsLease old.handles.cells.items new.handles.cells.items r.operations handle given_key.operation lease → own ≡ lease_pair lease ∷ old.pass.me.0.holding → new.number ≡ old.number → new.stream ≡ old.stream →
-        new.spent ≡ old.spent → All IsClear new.spares.items → length new.spares.items + 1 ≡ length old.spares.items → 5 ≤ vec_capacity new.spares → IsAt w.lock w.opened new.pass → Legal w (entries_of new.pass.me.0.seen) → IsReady w 0 new
+        new.spent ≡ old.spent → All IsClear new.spares.items → length new.spares.items + 1 ≡ length old.spares.items → 5 ≤ vec_capacity new.spares → IsAt w new.pass → Legal w (entries_of new.pass.me.0.seen) → IsReady w 0 new
     given_ready kept held number stream spent clear many room at legal =
         begun_ready w old new r request mark rank own before e i handle first last given_key gives_key 0 (record {
           number = number;
@@ -130,7 +130,7 @@ module _ {D A C : Type 0} (w : World D A C) (old new : Caller D A C) (r : IsRead
         begun_answered w old new r request mark rank own before e i handle first last given_key gives_key (Ok output.Done) buffer (λ start is. ap failure_marked (sym plain)) refl refl
 
   -- it isn't
-  module _ (why : Status) (marked : mark ≡ mark_of why) (decided : DecidesAfter w.told w.moment w.faults w.hard w.locations w.labels w.opened (IsRefused (use_refusal wanted) id why) before e) where
+  module _ (why : Status) (marked : mark ≡ mark_of why) (decided : DecidesAfter w (IsRefused (use_refusal wanted) id why) before e) where
     refuses_key : KnowsBefore w (λ service. outcome_of service e ≡ applied service old.number handle (fails why)) before e
     refuses_key start is tells =
         let service = replay start before in
@@ -138,7 +138,7 @@ module _ {D A C : Type 0} (w : World D A C) (old new : Caller D A C) (r : IsRead
         ∙ input_refused service old.number handle step id wanted (takes_there start is tells) why (decided_after w (IsRefused (use_refusal wanted) id why) before e unchanging decided start is tells)
 
     pub failed_ready : IsChanged old.handles.cells.items new.handles.cells.items r.operations handle InError None → own ≡ old.pass.me.0.holding → new.number ≡ old.number → new.stream ≡ old.stream → new.spent ≡ old.spent →
-        All IsClear new.spares.items → length new.spares.items ≡ length old.spares.items → 5 ≤ vec_capacity new.spares → IsAt w.lock w.opened new.pass → Legal w (entries_of new.pass.me.0.seen) → IsReady w 0 new
+        All IsClear new.spares.items → length new.spares.items ≡ length old.spares.items → 5 ≤ vec_capacity new.spares → IsAt w new.pass → Legal w (entries_of new.pass.me.0.seen) → IsReady w 0 new
     failed_ready change held number stream spent clear many room at legal =
         begun_ready w old new r request mark rank own before e i handle first last (fails why) refuses_key 0 (record {
           number = number;
@@ -161,7 +161,7 @@ module _ {D A C : Type 0} (w : World D A C) (old new : Caller D A C) (r : IsRead
 
 -- the call reads its key, in whatever history it is entered
 pub reads_secret : {D A C : Type 0} (w : World D A C) (old : Caller D A C) (r : IsReady w 4 old) (request : Request) (handle step id : ℕ) (wanted : KeyUse) → 1 ≤ handle → handle ≤ 4 → request ≡ OnHandle handle (InputKey step id) →
-    TakesKeyAt (operation_at r.operations handle) step wanted → ReadsKey w.told w.moment w.faults w.hard w.locations w.labels w.opened old.pass.me.0 request id
+    TakesKeyAt (operation_at r.operations handle) step wanted → ReadsKey w old.pass.me.0 request id
 reads_secret w old r request handle step id wanted first last asks takes start is h on tells =
     let own = own_there w 4 old r start h is on tells in
     ap (λ n. id_read (replay start h) n request) r.number

@@ -15,7 +15,7 @@ use Rattle.callers.specs.Called.{IsToldTo, Legal}
 use Rattle.callers.specs.Handles.{AreOperations, leases_of}
 use Rattle.callers.specs.Parts.{SameButPass}
 use Rattle.callers.specs.Ready.{IsOwnPart, IsReady}
-use Rattle.callers.specs.Worlds.{World}
+use Rattle.shared_store.specs.Worlds.{World}
 use Rattle.callers.specs.declared.caller.Caller.{Caller}
 use Rattle.callers.proofs.Journeys.{own_later, seen_begins, told_front}
 
@@ -61,7 +61,7 @@ module _ {D A C : Type 0} (w : World D A C) (old new : Caller D A C) (other : Vi
         operations = r.operations;
         stand = subst (λ h. AreOperations h.cells.items r.operations) (sym same.handles) r.stand;
         own = λ start starts tells.
-            let here : IsToldTo w start (entries_of v.seen) = told_front (w.told w.opened.file.value.cells.disk) start (entries_of u.seen) (entries_of v.seen) whole tells in
+            let here : IsToldTo w start (entries_of v.seen) = told_front (w.disk.contents w.opened.file.value.cells.disk) start (entries_of u.seen) (entries_of v.seen) whole tells in
             let mine : calls_by caller_of u.number (entries_of u.seen) ≡ calls_by caller_of v.number (entries_of v.seen) =
             calls (omega arith) ∙ (ap (λ (x : View Entry (Opened D A C)). x.calls) is ∙ sym (r.at.calls (let a = r.at.first in omega arith))) in
             let kept : own_of (replay start (entries_of u.seen)) v.number ≡ own_of (replay start (entries_of v.seen)) v.number =

@@ -11,7 +11,7 @@ use Rattle.operation_cells.specs.declared.cell.Cell.{Cell}
 use Rattle.shared_store.specs.Turning.{HasRoomForLease}
 use Rattle.callers.specs.Handles.{leases_of, pairs_of}
 use Rattle.callers.specs.Ready.{IsReady}
-use Rattle.callers.specs.Worlds.{World}
+use Rattle.shared_store.specs.Worlds.{World}
 use Rattle.callers.specs.declared.caller.Caller.{Caller}
 
 few_leases : (cells : List Cell) → length (leases_of cells) ≤ length cells

@@ -42,7 +42,7 @@ use Rattle.callers.specs.Called.{IsReplied, IsAnswered, IsCalled, KnowsBefore, L
 use Rattle.callers.specs.Handles.{AreOperations, IsChanged, leases_of, operation_at, with_operation_at}
 use Rattle.callers.specs.Parts.{IsBack, IsCreated}
 use Rattle.callers.specs.Ready.{IsOwnPart, IsReady}
-use Rattle.callers.specs.Worlds.{World}
+use Rattle.shared_store.specs.Worlds.{World}
 use Rattle.callers.specs.declared.caller.Caller.{Caller}
 use Rattle.callers.proofs.Asking.{leased_key, unleased_key}
 use Rattle.callers.proofs.CellLists.{busy_put, named_alike, names_is, names_lease, once}
@@ -93,7 +93,7 @@ module _ {D A C : Type 0} (w : World D A C) (old : Caller D A C) (r : IsReady w 
     abbrev pub lease_here : IsLeaseOf lease (key_of_operation (operation_of service old.number handle))
     lease_here = subst (λ o. IsLeaseOf lease (key_of_operation o)) (sym mine) of
 
-  pub derived_creates : CreatesKey w.told w.moment w.faults w.hard w.locations w.labels w.opened old.pass.me.0 old.number request (RecordsStated lease old.number a (length bytes)) bytes
+  pub derived_creates : CreatesKey w old.pass.me.0 old.number request (RecordsStated lease old.number a (length bytes)) bytes
   derived_creates = record {
     keeps = ap is_destruction asks;
     leaves = λ start is h on tells kept records.
@@ -113,7 +113,7 @@ module _ {D A C : Type 0} (w : World D A C) (old : Caller D A C) (r : IsReady w 
     -- THE KEY IS MADE
     module _ (id : KeyId) (Decided : List Entry → Entry → Type 0) (c : IsCreated old.pass.me.0 new.pass.me.0 request Plain rank Decided) (made : KnowsBefore w (λ service. IsMade Records old.number id.0 service.store) c.before c.entry) where
       pub output_ready : IsChanged old.handles.cells.items new.handles.cells.items r.operations handle given None → new.number ≡ old.number → new.stream ≡ old.stream → new.spares ≡ old.spares → new.spent ≡ old.spent →
-          IsAt w.lock w.opened new.pass → Legal w (entries_of new.pass.me.0.seen) → IsReady w 0 new
+          IsAt w new.pass → Legal w (entries_of new.pass.me.0.seen) → IsReady w 0 new
       output_ready change number stream spares spent at legal =
           let left = c.called.left in let sp = spent in
           ready w 4 old new r 2 request Plain rank c.before c.entry c.called (with_operation_at r.operations handle given) 0 at legal (record {
@@ -176,7 +176,7 @@ module _ {D A C : Type 0} (w : World D A C) (old : Caller D A C) (r : IsReady w 
           outcome_is service c.entry old.number (OnHandle handle (OutputKey a)) (mark_unmade why) (made.by ∙ r.number) (made.call_is ∙ asks) made.mark_is
           ∙ underived_key service old.number handle a work k.sound (derives_here service k.sound mine) (passes_here service k.sound mine) lease (lease_here service k.sound mine) bytes short why (unmade start is tells)
 
-      pub unmade_ready : settled.number ≡ old.number → settled.spares ≡ old.spares → settled.stream ≡ old.stream → settled.spent ≡ old.spent → IsAt w.lock w.opened new.pass → Legal w (entries_of new.pass.me.0.seen) → IsReady w 0 new
+      pub unmade_ready : settled.number ≡ old.number → settled.spares ≡ old.spares → settled.stream ≡ old.stream → settled.spent ≡ old.spent → IsAt w new.pass → Legal w (entries_of new.pass.me.0.seen) → IsReady w 0 new
       unmade_ready number spares stream spent at legal =
           handled_ready w 4 old settled new r request (mark_unmade why) rank c.before c.entry 2 c.called c.holding handle InError back_lease change back (fails (status_unmade why)) refl first last
           (fails_there _ (turned_back w 4 old settled new r request (mark_unmade why) rank c.before c.entry 2 c.called c.holding handle InError back_lease change back))
@@ -238,7 +238,7 @@ undue_fails (Active w) o true a refuses is = by (first_row (output_key_rows w a)
 
 -- a refused one leaves all keys, in whatever history it is entered
 pub undue_leaves : {D A C : Type 0} (w : World D A C) (old : Caller D A C) (r : IsReady w 4 old) (request : Request) (handle : ℕ) (a : Attributes) → 1 ≤ handle → handle ≤ 4 → request ≡ OnHandle handle (OutputKey a) →
-    (output_key_refusal (part_of derivation_part (operation_at r.operations handle)) a ≡ None → ⊥) → LeavesAllKeys w.told w.moment w.faults w.hard w.locations w.labels w.opened old.pass.me.0 request
+    (output_key_refusal (part_of derivation_part (operation_at r.operations handle)) a ≡ None → ⊥) → LeavesAllKeys w old.pass.me.0 request
 undue_leaves w old r request handle a first last asks refuses = inr (λ start is h on tells success.
     let service = replay start h in let mine = (own_there w 4 old r start h is on tells).each handle first last in
     let refuses_here = λ (none : output_key_refusal (part_of derivation_part (operation_of service old.number handle)) a ≡ None). refuses (sym (ap (λ o. output_key_refusal (part_of derivation_part o) a) mine) ∙ none) in

@@ -14,7 +14,7 @@ use Rattle.store_model.specs.Replay.{Entry, outcome_of, replay}
 use Rattle.store_model.proofs.Others.{leaves_settings}
 use Rattle.shared_store.specs.Turning.{GoesOn, IsAt}
 use Rattle.callers.specs.Called.{IsCalled, IsToldTo, KnowsBefore, Legal, Starts}
-use Rattle.callers.specs.Worlds.{World}
+use Rattle.shared_store.specs.Worlds.{World}
 use Rattle.callers.specs.Handles.{AreOperations, ArePairs, busy, leases_of}
 use Rattle.callers.specs.Ready.{IsOwnPart, IsReady}
 use Rattle.callers.specs.declared.caller.Caller.{Caller}
@@ -44,7 +44,7 @@ module _ {D A C : Type 0} (w : World D A C) where
   -- in a history that goes on the service has what the caller has of its own
   pub own_there : (n : ℕ) (old : Caller D A C) (r : Ready n old) (start : Service) (h : List Entry) → Starts w start → GoesOn old.pass.me.0 h → IsToldTo w start h → IsOwnPart r.operations old.stream.place (own_of (replay start h) old.number)
   own_there n old r start h is on tells =
-      let here : IsToldTo w start (entries_of old.pass.me.0.seen) = told_front (w.told w.opened.file.value.cells.disk) start h (entries_of old.pass.me.0.seen) on.since tells in
+      let here : IsToldTo w start (entries_of old.pass.me.0.seen) = told_front (w.disk.contents w.opened.file.value.cells.disk) start h (entries_of old.pass.me.0.seen) on.since tells in
       let mine = own_on old.pass.me.0 start h on (r.at.calls (let z = r.at.first in omega arith)) in
       let own : own_of (replay start h) old.number ≡ own_of (replay start (entries_of old.pass.me.0.seen)) old.number =
       ap (own_of (replay start h)) (sym r.number) ∙ (mine ∙ ap (own_of (replay start (entries_of old.pass.me.0.seen))) r.number) in
@@ -63,7 +63,7 @@ module _ {D A C : Type 0} (w : World D A C) where
     pub known : Knows (IsKnown old r.operations) before e
     known start is tells =
         let store = start_of is.settings is.found in
-        let here : IsToldTo w start before = told_front (w.told w.opened.file.value.cells.disk) start (before ++ e ∷ []) before (e ∷ [], refl) tells in
+        let here : IsToldTo w start before = told_front (w.disk.contents w.opened.file.value.cells.disk) start (before ++ e ∷ []) before (e ∷ [], refl) tells in
         record {
           sound = sound_replay start store before is.is (r.sound start is) c.goes_on.signed;
           own = own_there n old r start before is c.goes_on here;
@@ -85,7 +85,7 @@ module _ {D A C : Type 0} (w : World D A C) where
       pub words : new.stream.place + 64 * slack ≤ 256 * new.spent
       pub spent : new.spent ≤ 2 ^ 48
 
-    pub ready : (changed : List HandleOperation) (slack : ℕ) → IsAt w.lock w.opened new.pass → Legal w (entries_of new.pass.me.0.seen) → IsMoved changed slack → Ready slack new
+    pub ready : (changed : List HandleOperation) (slack : ℕ) → IsAt w new.pass → Legal w (entries_of new.pass.me.0.seen) → IsMoved changed slack → Ready slack new
     ready changed slack at legal m =
         let number : new.pass.me.0.number ≡ new.number = c.number ∙ (r.number ∙ sym m.number) in record {
           at = at;
@@ -97,7 +97,7 @@ module _ {D A C : Type 0} (w : World D A C) where
           operations = changed;
           stand = m.stand;
           own = λ start is tells.
-              let front = told_front (w.told w.opened.file.value.cells.disk) start (entries_of new.pass.me.0.seen) (before ++ e ∷ []) c.placed tells in
+              let front = told_front (w.disk.contents w.opened.file.value.cells.disk) start (entries_of new.pass.me.0.seen) (before ++ e ∷ []) c.placed tells in
               let after = own_after old.pass.me.0 new.pass.me.0 turns call mark rank before e c start (at.calls (let z = at.first in omega arith)) in
               let own : own_of (replay start (entries_of new.pass.me.0.seen)) new.number ≡ own_of (outcome_of (replay start before) e).service old.number =
               ap (own_of (replay start (entries_of new.pass.me.0.seen))) (sym number) ∙ (after ∙ ap (own_of (outcome_of (replay start before) e).service) (number ∙ m.number)) in

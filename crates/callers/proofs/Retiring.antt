@@ -22,7 +22,7 @@ use Rattle.callers.specs.Handles.{AreIdle, AreOperations, ArePairs, IsChanged, l
 use Rattle.callers.specs.Parts.{IsBack}
 use Rattle.callers.specs.Ready.{IsReady}
 use Rattle.callers.specs.Retired.{IsRetired, IsRetiring, MakesNoCall}
-use Rattle.callers.specs.Worlds.{World}
+use Rattle.shared_store.specs.Worlds.{World}
 use Rattle.callers.specs.declared.caller.Caller.{Caller}
 use Rattle.callers.proofs.CellLists.{named_alike, tally-cons, without}
 use Rattle.callers.proofs.Changing.{length_alike}
@@ -159,7 +159,7 @@ module _ {D A C : Type 0} (w : World D A C) where
       pub same_number : new.number ≡ old.number
       same_number = left.number
 
-      pub retiring : IsAt w.lock w.opened new.pass → Legal w (entries_of new.pass.me.0.seen) → IsRetiring w handle new
+      pub retiring : IsAt w new.pass → Legal w (entries_of new.pass.me.0.seen) → IsRetiring w handle new
       retiring at legal = record {
         at = at;
         legal = legal;

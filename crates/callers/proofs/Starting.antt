@@ -20,7 +20,7 @@ use Rattle.shared_store.specs.Standing.{caller_of}
 use Rattle.callers.specs.Called.{Legal, Starts}
 use Rattle.callers.specs.Handles.{AreIdle, AreOperations}
 use Rattle.callers.specs.Ready.{IsOwnPart, IsReady}
-use Rattle.callers.specs.Worlds.{World}
+use Rattle.shared_store.specs.Worlds.{World}
 use Rattle.callers.specs.declared.caller.Caller.{Caller}
 use Rattle.callers.proofs.Retiring.{no_lease_left}
 

@@ -12,7 +12,7 @@ use Rattle.store_model.specs.Replay.{Entry, outcome_of, replay}
 use Rattle.callers.specs.Called.{IsCalled, KnowsBefore}
 use Rattle.callers.specs.Handles.{operation_at}
 use Rattle.callers.specs.Ready.{IsReady}
-use Rattle.callers.specs.Worlds.{World}
+use Rattle.shared_store.specs.Worlds.{World}
 use Rattle.callers.specs.declared.caller.Caller.{Caller}
 use Rattle.callers.proofs.Readying.{known, outcome_is}
 

@@ -23,7 +23,7 @@ use Rattle.callers.specs.Called.{IsReplied, IsAnswered, IsCalled, KnowsBefore, L
 use Rattle.callers.specs.Parts.{SameButPass}
 use Rattle.callers.specs.Handles.{AreOperations, ArePairs, leases_of}
 use Rattle.callers.specs.Ready.{IsOwnPart, IsReady}
-use Rattle.callers.specs.Worlds.{World}
+use Rattle.shared_store.specs.Worlds.{World}
 use Rattle.callers.specs.declared.caller.Caller.{Caller}
 use Rattle.store_model.specs.Laws.{may_change_keys}
 use Rattle.store_model.proofs.Others.{leaves_shared}
@@ -56,7 +56,7 @@ module _ {D A C : Type 0} (w : World D A C) (old new : Caller D A C) (r : IsRead
     pub many : length new.spares.items ≡ length old.spares.items
     pub room : vec_capacity new.spares ≡ vec_capacity old.spares
 
-  pub kept_ready : (drawn : ℕ) → words_used drawn ≤ 256 → turns ≤ 4 → IsKept drawn → IsAt w.lock w.opened new.pass → Legal w (entries_of new.pass.me.0.seen) →
+  pub kept_ready : (drawn : ℕ) → words_used drawn ≤ 256 → turns ≤ 4 → IsKept drawn → IsAt w new.pass → Legal w (entries_of new.pass.me.0.seen) →
       Serves (λ s. IsOwnPart r.operations new.stream.place (own_of s.service old.number)) → IsReady w 0 new
   kept_ready drawn few enough kept at legal own =
       let left = c.left in let spent = kept.spent in let place = ap (λ (s : RandomStream). s.place) kept.stream in ready w 4 old new r turns request mark rank before e c r.operations 0 at legal (record {
@@ -95,7 +95,7 @@ module _ {D A C : Type 0} (w : World D A C) (old new : Caller D A C) (r : IsRead
   abbrev made : IsCalled old.pass.me.0 new.pass.me.0 1 request mark rank before e
   made = called old.pass.me.0 new.pass.me.0 request mark rank own before e i
 
-  pub stored_ready : own ≡ old.pass.me.0.holding → SameButPass old new → DrawsNone call → IsAt w.lock w.opened new.pass → Legal w (entries_of new.pass.me.0.seen) → IsReady w 0 new
+  pub stored_ready : own ≡ old.pass.me.0.holding → SameButPass old new → DrawsNone call → IsAt w new.pass → Legal w (entries_of new.pass.me.0.seen) → IsReady w 0 new
   stored_ready held same none at legal = kept_ready w old new r 1 request call asks mark rank before e made 0 (omega arith) (omega arith) (record {
     number = same.number;
     spent = same.spent;
@@ -116,11 +116,11 @@ module _ {D A C : Type 0} (w : World D A C) (old new : Caller D A C) (r : IsRead
   stored_answered result shown given failure replied = kept_answered w old new r 1 request call asks mark rank before e made result shown given failure (λ start is tells told. replied start is tells)
 
 -- what was decided of the store before the entry is known of the service's
-pub decided_known : {D A C : Type 0} (w : World D A C) (P : model.Store → Type 0) (before : List Entry) (e : Entry) → DecidesBefore w.told w.moment w.faults w.hard w.locations w.labels w.opened P before e → KnowsBefore w (λ service. P service.store) before e
+pub decided_known : {D A C : Type 0} (w : World D A C) (P : model.Store → Type 0) (before : List Entry) (e : Entry) → DecidesBefore w P before e → KnowsBefore w (λ service. P service.store) before e
 decided_known w P before e decides start is tells = let d = decides start is in subst P (d.1 tells) d.2
 
 -- and what was decided of it after an entry that changes no key, of the store before but for the count
-pub decided_after : {D A C : Type 0} (w : World D A C) (P : model.Store → Type 0) (before : List Entry) (e : Entry) → may_change_keys e.call ≡ false → DecidesAfter w.told w.moment w.faults w.hard w.locations w.labels w.opened P before e →
+pub decided_after : {D A C : Type 0} (w : World D A C) (P : model.Store → Type 0) (before : List Entry) (e : Entry) → may_change_keys e.call ≡ false → DecidesAfter w P before e →
     KnowsBefore w (λ service. P (counted service.store)) before e
 decided_after w P before e quiet decides start is tells =
     let d = decides start is in subst P (d.1 tells ∙ (ap (λ (s : Service). s.store) (replay_push start before e) ∙ leaves_shared (replay start before) e.caller e.call e.mark quiet)) d.2

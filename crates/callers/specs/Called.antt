@@ -14,7 +14,7 @@ use Rattle.store_model.specs.Replay.{Entry, outcome_of, replay}
 use Rattle.store_core.specs.declared.store.Opened.{Opened}
 use Rattle.shared_store.specs.Turning.{GoesOn, IsLegal, IsStartOf, ToldBy}
 use Rattle.callers.specs.Failures.{failure_in, failure_marked}
-use Rattle.callers.specs.Worlds.{World}
+use Rattle.shared_store.specs.Worlds.{World}
 
 -- From one view of a caller to a later one so many turns were spent, and in one of them this entry was added, after the history
 -- `before`, at the place r: it is the caller's own, of this call with this mark, and no other of its own was added.
@@ -37,13 +37,13 @@ IsReplied result old new reply = AnswersReply result reply × (new ≡ buffer_af
 module _ {D A C : Type 0} (w : World D A C) where
   -- a start that the opening permits, and a history from it that is told
   abbrev pub Starts : Service → Type 0
-  Starts start = IsStartOf w.told w.moment w.faults w.hard w.locations w.labels w.opened start
+  Starts start = IsStartOf w start
 
   abbrev pub IsToldTo : Service → List Entry → Type 0
-  IsToldTo start h = ToldBy w.told w.moment w.faults w.hard w.locations w.labels w.opened start h
+  IsToldTo start h = ToldBy w start h
 
   abbrev pub Legal : List Entry → Type 0
-  Legal h = IsLegal w.told w.moment w.faults w.hard w.locations w.labels w.opened h
+  Legal h = IsLegal w h
 
   -- P holds of the one-thread service before an entry, from each start and as far as that is told
   abbrev pub KnowsBefore : (Service → Type 0) → List Entry → Entry → Type 0
@@ -51,7 +51,7 @@ module _ {D A C : Type 0} (w : World D A C) where
 
   -- what the reply is made of is told: the devices tell their keys, or the secure element isn't asked
   abbrev pub TellsReply : Service → (caller : ℕ) → Request → Type 0
-  TellsReply service caller call = (is_some (w.keys w.opened.devices.value) ≡ true) ⊎ (asks_device service caller call ≡ false)
+  TellsReply service caller call = (is_some (w.devices.keys w.opened.devices.value) ≡ true) ⊎ (asks_device service caller call ≡ false)
 
   -- the result tells of a device that failed exactly where the mark does, from whatever start
   abbrev pub TellsFailure : Result Output Status → FaultMark → Type 0

@@ -1,4 +1,3 @@
-pub mod Worlds
 pub mod Failures
 pub mod Called
 pub mod Handles

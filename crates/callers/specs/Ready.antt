@@ -10,7 +10,7 @@ use Rattle.store_model.specs.Replay.{replay}
 use Rattle.shared_store.specs.Turning.{IsAt}
 use Rattle.callers.specs.Called.{IsToldTo, Legal, Starts}
 use Rattle.callers.specs.Handles.{AreOperations, ArePairs, busy, leases_of, operation_at}
-use Rattle.callers.specs.Worlds.{World}
+use Rattle.shared_store.specs.Worlds.{World}
 use Rattle.callers.specs.declared.caller.Caller.{Caller}
 
 -- the model's own part of a caller has these operations at its handles, from 1 on, and has drawn so many random words
@@ -25,7 +25,7 @@ module _ {D A C : Type 0} (w : World D A C) where
   -- stream are those of the one-thread service. `slack` turns are left beside those that its count of calls and the ends of its
   -- operations still need, and 64 random words for each.
   pub record IsReady (slack : ℕ) (c : Caller D A C) : Type 0 where
-    pub at : IsAt w.lock w.opened c.pass
+    pub at : IsAt w c.pass
     pub number : c.pass.me.0.number ≡ c.number
     pub last : c.number ≤ 16
     pub one : c.pass.me.0.weight ≡ 1

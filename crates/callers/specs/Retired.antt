@@ -10,7 +10,7 @@ use Rattle.store_model.specs.Replay.{Entry}
 use Rattle.shared_store.specs.Turning.{IsAt}
 use Rattle.callers.specs.Called.{Legal}
 use Rattle.callers.specs.Handles.{AreIdle, AreOperations, ArePairs, leases_of, operation_at}
-use Rattle.callers.specs.Worlds.{World}
+use Rattle.shared_store.specs.Worlds.{World}
 use Rattle.callers.specs.declared.caller.Caller.{Caller}
 
 -- From one view of a caller to a later one the caller made no call.
@@ -29,7 +29,7 @@ module _ {D A C : Type 0} where
   -- The operations of so many handles, from 1 on, are wiped. All that the caller has out of the store are the leases of the
   -- others, it has a turn for each of them, and room for the spare.
   pub record IsRetiring (w : World D A C) (count : ℕ) (c : Caller D A C) : Type 0 where
-    pub at : IsAt w.lock w.opened c.pass
+    pub at : IsAt w c.pass
     pub legal : Legal w (entries_of c.pass.me.0.seen)
     pub operations : List HandleOperation
     pub stand : AreOperations c.handles.cells.items operations

@@ -11,7 +11,7 @@ ghost use Rattle.callers.specs.Budget.{asked_for, counted_by, is_counted, begins
 ghost use Rattle.callers.specs.Called.{IsAnswered};
 ghost use Rattle.callers.specs.Handles.{AreOperations, operation_at};
 ghost use Rattle.callers.specs.Ready.{IsReady};
-ghost use Rattle.callers.specs.Worlds.{world};
+ghost use Rattle.shared_store.specs.Shared.{world};
 
 use crate::caller::Caller;
 use crate::gates::Gate;
@@ -45,12 +45,12 @@ impl<D: Disk, A: Devices, C: Admission> Caller<D, A, C> {
         call: &Call<'_>,
         out: &mut [u8],
     ) -> (Option<u64>, Result<Output, Status>)
-        requires ready { IsReady (world D.contents D.moment D.faults A.keys A.faults A.locations C.labels shared.now.lock.table.shared.table_id shared.now.lock.table.shared.key.value.value.store.opened) 0 self.old }
+        requires ready { IsReady (world shared.now) 0 self.old }
         requires within { self.old.spent ≤ worn }
         requires budget { worn ≤ 2 ^ 48 }
-        ensures ready { IsReady (world D.contents D.moment D.faults A.keys A.faults A.locations C.labels shared.now.lock.table.shared.table_id shared.now.lock.table.shared.key.value.value.store.opened) 0 self.new }
+        ensures ready { IsReady (world shared.now) 0 self.new }
         ensures within { self.new.spent ≤ worn }
-        ensures ranked { IfSome result.0 (λ rank. IsAnswered (world D.contents D.moment D.faults A.keys A.faults A.locations C.labels shared.now.lock.table.shared.table_id shared.now.lock.table.shared.key.value.value.store.opened) self.old.pass.me.0 self.new.pass.me.0 (model_request call.now (length out.old)) rank result.1 out.old out.new) }
+        ensures ranked { IfSome result.0 (λ rank. IsAnswered (world shared.now) self.old.pass.me.0 self.new.pass.me.0 (model_request call.now (length out.old)) rank result.1 out.old out.new) }
         ensures counts { IfSome result.0 (λ rank. (operations : List HandleOperation) → AreOperations self.old.handles.cells.items operations →
             (self.old.spent + asked_for call.now operations ≤ worn) × (self.new.spent ≡ self.old.spent + counted_by call.now operations result.1)) }
         ensures worn { IfNone result.0 ((operations : List HandleOperation) → AreOperations self.old.handles.cells.items operations →
@@ -96,10 +96,10 @@ impl<D: Disk, A: Devices, C: Admission> Caller<D, A, C> {
         call: &Call<'_>,
         out: &mut [u8],
     ) -> (u64, Result<Output, Status>)
-        requires ready { IsReady (world D.contents D.moment D.faults A.keys A.faults A.locations C.labels shared.now.lock.table.shared.table_id shared.now.lock.table.shared.key.value.value.store.opened) 4 self.old }
+        requires ready { IsReady (world shared.now) 4 self.old }
         requires budget { self.old.spent + cond (begins_operation call.now) 1 0 ≤ 2 ^ 48 }
-        ensures ready { IsReady (world D.contents D.moment D.faults A.keys A.faults A.locations C.labels shared.now.lock.table.shared.table_id shared.now.lock.table.shared.key.value.value.store.opened) 0 self.new }
-        ensures answered { IsAnswered (world D.contents D.moment D.faults A.keys A.faults A.locations C.labels shared.now.lock.table.shared.table_id shared.now.lock.table.shared.key.value.value.store.opened) self.old.pass.me.0 self.new.pass.me.0 (model_request call.now (length out.old)) result.0 result.1 out.old out.new }
+        ensures ready { IsReady (world shared.now) 0 self.new }
+        ensures answered { IsAnswered (world shared.now) self.old.pass.me.0 self.new.pass.me.0 (model_request call.now (length out.old)) result.0 result.1 out.old out.new }
         ensures spent { self.new.spent ≡ self.old.spent + cond (begins_operation call.now) (cond (is_ok result.1) 1 0) 0 }
     {
         match *call {
@@ -118,10 +118,10 @@ impl<D: Disk, A: Devices, C: Admission> Caller<D, A, C> {
         asked: &StoreCall<'_>,
         out: &mut [u8],
     ) -> (u64, Result<Output, Status>)
-        requires ready { IsReady (world D.contents D.moment D.faults A.keys A.faults A.locations C.labels shared.now.lock.table.shared.table_id shared.now.lock.table.shared.key.value.value.store.opened) 4 self.old }
+        requires ready { IsReady (world shared.now) 4 self.old }
         requires call { call.now ≡ calls.OnStore asked.now }
-        ensures ready { IsReady (world D.contents D.moment D.faults A.keys A.faults A.locations C.labels shared.now.lock.table.shared.table_id shared.now.lock.table.shared.key.value.value.store.opened) 0 self.new }
-        ensures answered { IsAnswered (world D.contents D.moment D.faults A.keys A.faults A.locations C.labels shared.now.lock.table.shared.table_id shared.now.lock.table.shared.key.value.value.store.opened) self.old.pass.me.0 self.new.pass.me.0 (model_request call.now (length out.old)) result.0 result.1 out.old out.new }
+        ensures ready { IsReady (world shared.now) 0 self.new }
+        ensures answered { IsAnswered (world shared.now) self.old.pass.me.0 self.new.pass.me.0 (model_request call.now (length out.old)) result.0 result.1 out.old out.new }
         ensures spent { self.new.spent ≡ self.old.spent }
     {
         let room = out.len();
@@ -162,11 +162,11 @@ impl<D: Disk, A: Devices, C: Admission> Caller<D, A, C> {
         asked: &HandleCall<'_>,
         out: &mut [u8],
     ) -> (u64, Result<Output, Status>)
-        requires ready { IsReady (world D.contents D.moment D.faults A.keys A.faults A.locations C.labels shared.now.lock.table.shared.table_id shared.now.lock.table.shared.key.value.value.store.opened) 4 self.old }
+        requires ready { IsReady (world shared.now) 4 self.old }
         requires budget { self.old.spent + cond (begins_operation call.now) 1 0 ≤ 2 ^ 48 }
         requires call { call.now ≡ calls.OnHandle op asked.now }
-        ensures ready { IsReady (world D.contents D.moment D.faults A.keys A.faults A.locations C.labels shared.now.lock.table.shared.table_id shared.now.lock.table.shared.key.value.value.store.opened) 0 self.new }
-        ensures answered { IsAnswered (world D.contents D.moment D.faults A.keys A.faults A.locations C.labels shared.now.lock.table.shared.table_id shared.now.lock.table.shared.key.value.value.store.opened) self.old.pass.me.0 self.new.pass.me.0 (model_request call.now (length out.old)) result.0 result.1 out.old out.new }
+        ensures ready { IsReady (world shared.now) 0 self.new }
+        ensures answered { IsAnswered (world shared.now) self.old.pass.me.0 self.new.pass.me.0 (model_request call.now (length out.old)) result.0 result.1 out.old out.new }
         ensures spent { self.new.spent ≡ self.old.spent + cond (begins_operation call.now) (cond (is_ok result.1) 1 0) 0 }
     {
         let room = out.len();

@@ -4,10 +4,10 @@ ghost use Rattle.secret_bytes.specs.Buffer.{IsClear};
 ghost use Rattle.turn_history.specs.Views.{new_pass};
 ghost use Rattle.store_model.specs.Handles.{Service};
 ghost use Rattle.store_model.specs.Sound.{IsSoundStore};
-ghost use Rattle.store_core.specs.Start.{IsStart};
+ghost use Rattle.shared_store.specs.Turning.{IsStartOf};
 ghost use Rattle.callers.specs.Handles.{AreIdle};
 ghost use Rattle.callers.specs.Ready.{IsReady};
-ghost use Rattle.callers.specs.Worlds.{world};
+ghost use Rattle.shared_store.specs.Shared.{world};
 
 use crate::handles::Handles;
 use admission::Admission;
@@ -42,17 +42,17 @@ impl<D: Disk, A: Devices, C: Admission> Caller<D, A, C> {
         spares: Vec<Secret>,
         cells: Vec<Cell>,
     ) -> Caller<D, A, C>
-        requires table { pass.table_id ≡ _shared.now.lock.table.shared.table_id }
-        requires fresh { pass.me ≡ (new_pass _shared.now.lock.table.shared.key.value.value.store.opened number, []) }
+        requires table { pass.table_id ≡ (world _shared.now).lock }
+        requires fresh { pass.me ≡ (new_pass (world _shared.now).opened number, []) }
         requires first { 1 ≤ number }
         requires last { number ≤ 16 }
-        requires sound { (start : Service) → IsStart D.contents D.moment D.faults A.faults A.locations C.labels _shared.now.lock.table.shared.key.value.value.store.opened start → IsSoundStore start.store }
-        requires seed { seed.now ≡ _shared.now.lock.table.shared.key.value.value.store.opened.seed.value }
+        requires sound { (start : Service) → IsStartOf (world _shared.now) start → IsSoundStore start.store }
+        requires seed { seed.now ≡ (world _shared.now).opened.seed.value }
         requires five { length spares.items ≡ 5 }
         requires clear { All IsClear spares.items }
         requires four { length cells.items ≡ 4 }
         requires inactive { AreIdle cells.items }
-        ensures ready { IsReady (world D.contents D.moment D.faults A.keys A.faults A.locations C.labels _shared.now.lock.table.shared.table_id _shared.now.lock.table.shared.key.value.value.store.opened) 0 result }
+        ensures ready { IsReady (world _shared.now) 0 result }
         ensures pass { result.pass ≡ pass }
         ensures number { result.number ≡ number }
         ensures spent { result.spent ≡ 0 }

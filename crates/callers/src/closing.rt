@@ -6,7 +6,7 @@ ghost use Rattle.callers.specs.Called.{Legal};
 ghost use Rattle.callers.specs.Handles.{AreIdle};
 ghost use Rattle.callers.specs.Ready.{IsReady};
 ghost use Rattle.callers.specs.Retired.{IsRetired, IsRetiring, MakesNoCall};
-ghost use Rattle.callers.specs.Worlds.{world};
+ghost use Rattle.shared_store.specs.Shared.{world};
 
 use crate::caller::Caller;
 use crate::handles::Handles;
@@ -35,10 +35,10 @@ impl<D: Disk, A: Devices, C: Admission> Caller<D, A, C> {
     /// Wipes all operations, and gives their leases back. The caller then has nothing more out of the store, and makes no
     /// further call. No rank.
     pub fn retire<R: Wait>(&mut self, rt: &R, shared: &SharedStore<D, A, C>)
-        requires ready { IsReady (world D.contents D.moment D.faults A.keys A.faults A.locations C.labels shared.now.lock.table.shared.table_id shared.now.lock.table.shared.key.value.value.store.opened) 0 self.old }
-        ensures retired { IsRetired shared.now.lock.table.shared.table_id self.new }
-        ensures at { IsAt shared.now.lock.table.shared.table_id shared.now.lock.table.shared.key.value.value.store.opened self.new.pass }
-        ensures legal { Legal (world D.contents D.moment D.faults A.keys A.faults A.locations C.labels shared.now.lock.table.shared.table_id shared.now.lock.table.shared.key.value.value.store.opened) (entries_of self.new.pass.me.0.seen) }
+        requires ready { IsReady (world shared.now) 0 self.old }
+        ensures retired { IsRetired (world shared.now).lock self.new }
+        ensures at { IsAt (world shared.now) self.new.pass }
+        ensures legal { Legal (world shared.now) (entries_of self.new.pass.me.0.seen) }
         ensures quiet { MakesNoCall self.old.pass.me.0 self.new.pass.me.0 }
         ensures number { self.new.number ≡ self.old.number }
     {
@@ -52,8 +52,8 @@ impl<D: Disk, A: Devices, C: Admission> Caller<D, A, C> {
 
     // Wipes a handle's operation, and gives its lease back. No rank.
     fn wipe<R: Wait>(&mut self, rt: &R, shared: &SharedStore<D, A, C>, op: Op)
-        requires retiring { IsRetiring (world D.contents D.moment D.faults A.keys A.faults A.locations C.labels shared.now.lock.table.shared.table_id shared.now.lock.table.shared.key.value.value.store.opened) (op - 1) self.old }
-        ensures retiring { IsRetiring (world D.contents D.moment D.faults A.keys A.faults A.locations C.labels shared.now.lock.table.shared.table_id shared.now.lock.table.shared.key.value.value.store.opened) op self.new }
+        requires retiring { IsRetiring (world shared.now) (op - 1) self.old }
+        ensures retiring { IsRetiring (world shared.now) op self.new }
         ensures quiet { MakesNoCall self.old.pass.me.0 self.new.pass.me.0 }
         ensures number { self.new.number ≡ self.old.number }
     {

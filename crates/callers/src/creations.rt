@@ -10,7 +10,7 @@ ghost use Rattle.shared_store.specs.Turning.{CreatesKey, DecidesBefore, HasNoFil
 ghost use Rattle.callers.specs.Called.{IsAnswered, Legal};
 ghost use Rattle.callers.specs.Parts.{IsCreated, SameButPass};
 ghost use Rattle.callers.specs.Ready.{IsReady};
-ghost use Rattle.callers.specs.Worlds.{world};
+ghost use Rattle.shared_store.specs.Shared.{world};
 
 use crate::caller::Caller;
 use crate::gates::{Gate, GatePoint};
@@ -37,10 +37,10 @@ impl<D: Disk, A: Devices, C: Admission> Caller<D, A, C> {
         attributes: Attributes,
         bytes: &[u8],
     ) -> (u64, Result<Output, Status>)
-        requires ready { IsReady (world D.contents D.moment D.faults A.keys A.faults A.locations C.labels shared.now.lock.table.shared.table_id shared.now.lock.table.shared.key.value.value.store.opened) 4 self.old }
+        requires ready { IsReady (world shared.now) 4 self.old }
         requires call { call.now ≡ OnStore (store_calls.Import attributes bytes) }
-        ensures ready { IsReady (world D.contents D.moment D.faults A.keys A.faults A.locations C.labels shared.now.lock.table.shared.table_id shared.now.lock.table.shared.key.value.value.store.opened) 0 self.new }
-        ensures answered { (buffer : List ℕ) → IsAnswered (world D.contents D.moment D.faults A.keys A.faults A.locations C.labels shared.now.lock.table.shared.table_id shared.now.lock.table.shared.key.value.value.store.opened) self.old.pass.me.0 self.new.pass.me.0 (model_request call.now room) result.0 result.1 buffer buffer }
+        ensures ready { IsReady (world shared.now) 0 self.new }
+        ensures answered { (buffer : List ℕ) → IsAnswered (world shared.now) self.old.pass.me.0 self.new.pass.me.0 (model_request call.now room) result.0 result.1 buffer buffer }
         ensures same { SameButPass self.old self.new }
     {
         let (rank, made) = self.create(rt, shared, gate, call, room, &attributes, bytes);
@@ -61,10 +61,10 @@ impl<D: Disk, A: Devices, C: Admission> Caller<D, A, C> {
         source: KeyId,
         attributes: Attributes,
     ) -> (u64, Result<Output, Status>)
-        requires ready { IsReady (world D.contents D.moment D.faults A.keys A.faults A.locations C.labels shared.now.lock.table.shared.table_id shared.now.lock.table.shared.key.value.value.store.opened) 4 self.old }
+        requires ready { IsReady (world shared.now) 4 self.old }
         requires call { call.now ≡ OnStore (store_calls.Copy source attributes) }
-        ensures ready { IsReady (world D.contents D.moment D.faults A.keys A.faults A.locations C.labels shared.now.lock.table.shared.table_id shared.now.lock.table.shared.key.value.value.store.opened) 0 self.new }
-        ensures answered { (buffer : List ℕ) → IsAnswered (world D.contents D.moment D.faults A.keys A.faults A.locations C.labels shared.now.lock.table.shared.table_id shared.now.lock.table.shared.key.value.value.store.opened) self.old.pass.me.0 self.new.pass.me.0 (model_request call.now room) result.0 result.1 buffer buffer }
+        ensures ready { IsReady (world shared.now) 0 self.new }
+        ensures answered { (buffer : List ℕ) → IsAnswered (world shared.now) self.old.pass.me.0 self.new.pass.me.0 (model_request call.now room) result.0 result.1 buffer buffer }
         ensures same { SameButPass self.old self.new }
     {
         let filling = shared.reserve(rt, &mut self.pass);
@@ -96,17 +96,17 @@ impl<D: Disk, A: Devices, C: Admission> Caller<D, A, C> {
         attributes: &Attributes,
         bytes: &[u8],
     ) -> (u64, Result<KeyId, NotMade>)
-        requires at { IsAt shared.now.lock.table.shared.table_id shared.now.lock.table.shared.key.value.value.store.opened self.old.pass }
+        requires at { IsAt (world shared.now) self.old.pass }
         requires left { 2 ≤ self.old.pass.me.0.turns_left }
         requires number { self.old.number ≡ self.old.pass.me.0.number }
         requires space { HasNoFilling self.old.pass.me.0.holding }
-        requires creates { CreatesKey D.contents D.moment D.faults A.faults A.locations C.labels shared.now.lock.table.shared.key.value.value.store.opened self.old.pass.me.0 self.old.number (model_request call.now room) (RecordsStated None self.old.number attributes.now (length bytes.now)) bytes.now }
-        ensures at { IsAt shared.now.lock.table.shared.table_id shared.now.lock.table.shared.key.value.value.store.opened self.new.pass }
-        ensures legal { Legal (world D.contents D.moment D.faults A.keys A.faults A.locations C.labels shared.now.lock.table.shared.table_id shared.now.lock.table.shared.key.value.value.store.opened) (entries_of self.new.pass.me.0.seen) }
+        requires creates { CreatesKey (world shared.now) self.old.pass.me.0 self.old.number (model_request call.now room) (RecordsStated None self.old.number attributes.now (length bytes.now)) bytes.now }
+        ensures at { IsAt (world shared.now) self.new.pass }
+        ensures legal { Legal (world shared.now) (entries_of self.new.pass.me.0.seen) }
         ensures made { IfOk result.1 (λ id. IsCreated self.old.pass.me.0 self.new.pass.me.0 (model_request call.now room) Plain result.0
-            (DecidesBefore D.contents D.moment D.faults A.faults A.locations C.labels shared.now.lock.table.shared.key.value.value.store.opened (IsMade (RecordsStated None self.old.number attributes.now (length bytes.now)) self.old.number id.0))) }
+            (DecidesBefore (world shared.now) (IsMade (RecordsStated None self.old.number attributes.now (length bytes.now)) self.old.number id.0))) }
         ensures unmade { IfErr result.1 (λ why. IsCreated self.old.pass.me.0 self.new.pass.me.0 (model_request call.now room) (mark_unmade why) result.0
-            (DecidesBefore D.contents D.moment D.faults A.faults A.locations C.labels shared.now.lock.table.shared.key.value.value.store.opened (IsUnmade (RecordsStated None self.old.number attributes.now (length bytes.now)) why))) }
+            (DecidesBefore (world shared.now) (IsUnmade (RecordsStated None self.old.number attributes.now (length bytes.now)) why))) }
         ensures same { SameButPass self.old self.new }
     {
         let filling = shared.reserve(rt, &mut self.pass);

@@ -9,7 +9,7 @@ ghost use Rattle.service_calls.specs.declared.store_calls.StoreCall.TheVariants 
 ghost use Rattle.store_model.specs.Creation.{stated_bits_rows, stated_bytes};
 ghost use Rattle.callers.specs.Called.{IsAnswered};
 ghost use Rattle.callers.specs.Ready.{IsReady};
-ghost use Rattle.callers.specs.Worlds.{world};
+ghost use Rattle.shared_store.specs.Shared.{world};
 
 use crate::caller::Caller;
 use crate::gates::Gate;
@@ -52,10 +52,10 @@ impl<D: Disk, A: Devices, C: Admission> Caller<D, A, C> {
         room: usize,
         attributes: Attributes,
     ) -> (u64, Result<Output, Status>)
-        requires ready { IsReady (world D.contents D.moment D.faults A.keys A.faults A.locations C.labels shared.now.lock.table.shared.table_id shared.now.lock.table.shared.key.value.value.store.opened) 4 self.old }
+        requires ready { IsReady (world shared.now) 4 self.old }
         requires call { call.now ≡ OnStore (store_calls.Generate attributes) }
-        ensures ready { IsReady (world D.contents D.moment D.faults A.keys A.faults A.locations C.labels shared.now.lock.table.shared.table_id shared.now.lock.table.shared.key.value.value.store.opened) 0 self.new }
-        ensures answered { (buffer : List ℕ) → IsAnswered (world D.contents D.moment D.faults A.keys A.faults A.locations C.labels shared.now.lock.table.shared.table_id shared.now.lock.table.shared.key.value.value.store.opened) self.old.pass.me.0 self.new.pass.me.0 (model_request call.now room) result.0 result.1 buffer buffer }
+        ensures ready { IsReady (world shared.now) 0 self.new }
+        ensures answered { (buffer : List ℕ) → IsAnswered (world shared.now) self.old.pass.me.0 self.new.pass.me.0 (model_request call.now room) result.0 result.1 buffer buffer }
         ensures spent { self.new.spent ≡ self.old.spent }
         ensures handles { self.new.handles ≡ self.old.handles }
     {
@@ -90,14 +90,14 @@ impl<D: Disk, A: Devices, C: Admission> Caller<D, A, C> {
         bytes: &[u8],
         place: u64,
     ) -> (u64, Result<Output, Status>)
-        requires ready { IsReady (world D.contents D.moment D.faults A.keys A.faults A.locations C.labels shared.now.lock.table.shared.table_id shared.now.lock.table.shared.key.value.value.store.opened) 4 (record self.old { stream = record self.old.stream { place = place } }) }
+        requires ready { IsReady (world shared.now) 4 (record self.old { stream = record self.old.stream { place = place } }) }
         requires call { call.now ≡ OnStore (store_calls.Generate attributes) }
         requires whole { first_row (stated_bits_rows attributes) ≡ None }
         requires short { stated_bytes attributes ≤ 1024 }
         requires bytes { bytes.now ≡ next_bytes (record self.old.stream { place = place }) (stated_bytes attributes) }
         requires drawn { self.old.stream ≡ drawn_from (record self.old.stream { place = place }) (stated_bytes attributes) }
-        ensures ready { IsReady (world D.contents D.moment D.faults A.keys A.faults A.locations C.labels shared.now.lock.table.shared.table_id shared.now.lock.table.shared.key.value.value.store.opened) 0 self.new }
-        ensures answered { (buffer : List ℕ) → IsAnswered (world D.contents D.moment D.faults A.keys A.faults A.locations C.labels shared.now.lock.table.shared.table_id shared.now.lock.table.shared.key.value.value.store.opened) self.old.pass.me.0 self.new.pass.me.0 (model_request call.now room) result.0 result.1 buffer buffer }
+        ensures ready { IsReady (world shared.now) 0 self.new }
+        ensures answered { (buffer : List ℕ) → IsAnswered (world shared.now) self.old.pass.me.0 self.new.pass.me.0 (model_request call.now room) result.0 result.1 buffer buffer }
         ensures spent { self.new.spent ≡ self.old.spent }
         ensures handles { self.new.handles ≡ self.old.handles }
     {
@@ -122,13 +122,13 @@ impl<D: Disk, A: Devices, C: Admission> Caller<D, A, C> {
         attributes: Attributes,
         bytes: &[u8],
     ) -> (u64, Result<Output, Status>)
-        requires ready { IsReady (world D.contents D.moment D.faults A.keys A.faults A.locations C.labels shared.now.lock.table.shared.table_id shared.now.lock.table.shared.key.value.value.store.opened) 4 self.old }
+        requires ready { IsReady (world shared.now) 4 self.old }
         requires call { call.now ≡ OnStore (store_calls.Generate attributes) }
         requires whole { first_row (stated_bits_rows attributes) ≡ None }
         requires long { 1024 < stated_bytes attributes }
         requires count { length bytes.now ≡ stated_bytes attributes }
-        ensures ready { IsReady (world D.contents D.moment D.faults A.keys A.faults A.locations C.labels shared.now.lock.table.shared.table_id shared.now.lock.table.shared.key.value.value.store.opened) 0 self.new }
-        ensures answered { (buffer : List ℕ) → IsAnswered (world D.contents D.moment D.faults A.keys A.faults A.locations C.labels shared.now.lock.table.shared.table_id shared.now.lock.table.shared.key.value.value.store.opened) self.old.pass.me.0 self.new.pass.me.0 (model_request call.now room) result.0 result.1 buffer buffer }
+        ensures ready { IsReady (world shared.now) 0 self.new }
+        ensures answered { (buffer : List ℕ) → IsAnswered (world shared.now) self.old.pass.me.0 self.new.pass.me.0 (model_request call.now room) result.0 result.1 buffer buffer }
         ensures spent { self.new.spent ≡ self.old.spent }
         ensures handles { self.new.handles ≡ self.old.handles }
     {

@@ -19,7 +19,7 @@ ghost use Rattle.shared_store.specs.Turning.{IsAt};
 ghost use Rattle.callers.specs.Called.{IsReplied, IsAnswered, Legal};
 ghost use Rattle.callers.specs.Parts.{IsGivenBack, drawn_by};
 ghost use Rattle.callers.specs.Ready.{IsReady};
-ghost use Rattle.callers.specs.Worlds.{world};
+ghost use Rattle.shared_store.specs.Shared.{world};
 
 use crate::caller::Caller;
 use crate::gates::{Gate, GatePoint};
@@ -74,11 +74,11 @@ impl<D: Disk, A: Devices, C: Admission> Caller<D, A, C> {
         asked: &StoreCall<'_>,
         out: &mut [u8],
     ) -> (u64, Result<Output, Status>)
-        requires ready { IsReady (world D.contents D.moment D.faults A.keys A.faults A.locations C.labels shared.now.lock.table.shared.table_id shared.now.lock.table.shared.key.value.value.store.opened) 4 self.old }
+        requires ready { IsReady (world shared.now) 4 self.old }
         requires call { call.now ≡ OnStore asked.now }
         requires keyed { is_some (wanted_by asked.now) ≡ true }
-        ensures ready { IsReady (world D.contents D.moment D.faults A.keys A.faults A.locations C.labels shared.now.lock.table.shared.table_id shared.now.lock.table.shared.key.value.value.store.opened) 0 self.new }
-        ensures answered { IsAnswered (world D.contents D.moment D.faults A.keys A.faults A.locations C.labels shared.now.lock.table.shared.table_id shared.now.lock.table.shared.key.value.value.store.opened) self.old.pass.me.0 self.new.pass.me.0 (model_request call.now (length out.old)) result.0 result.1 out.old out.new }
+        ensures ready { IsReady (world shared.now) 0 self.new }
+        ensures answered { IsAnswered (world shared.now) self.old.pass.me.0 self.new.pass.me.0 (model_request call.now (length out.old)) result.0 result.1 out.old out.new }
         ensures spent { self.new.spent ≡ self.old.spent }
         ensures handles { self.new.handles ≡ self.old.handles }
     {
@@ -107,12 +107,12 @@ impl<D: Disk, A: Devices, C: Admission> Caller<D, A, C> {
         usage: KeyUse,
         out: &mut [u8],
     ) -> (u64, Result<Output, Status>)
-        requires ready { IsReady (world D.contents D.moment D.faults A.keys A.faults A.locations C.labels shared.now.lock.table.shared.table_id shared.now.lock.table.shared.key.value.value.store.opened) 4 self.old }
+        requires ready { IsReady (world shared.now) 4 self.old }
         requires call { call.now ≡ OnStore asked.now }
         requires keyed { wanted_by asked.now ≡ Some (key.0, usage) }
         requires local { is_of_element asked.now ≡ false }
-        ensures ready { IsReady (world D.contents D.moment D.faults A.keys A.faults A.locations C.labels shared.now.lock.table.shared.table_id shared.now.lock.table.shared.key.value.value.store.opened) 0 self.new }
-        ensures answered { IsAnswered (world D.contents D.moment D.faults A.keys A.faults A.locations C.labels shared.now.lock.table.shared.table_id shared.now.lock.table.shared.key.value.value.store.opened) self.old.pass.me.0 self.new.pass.me.0 (model_request call.now (length out.old)) result.0 result.1 out.old out.new }
+        ensures ready { IsReady (world shared.now) 0 self.new }
+        ensures answered { IsAnswered (world shared.now) self.old.pass.me.0 self.new.pass.me.0 (model_request call.now (length out.old)) result.0 result.1 out.old out.new }
         ensures spent { self.new.spent ≡ self.old.spent }
         ensures handles { self.new.handles ≡ self.old.handles }
     {
@@ -142,15 +142,15 @@ impl<D: Disk, A: Devices, C: Admission> Caller<D, A, C> {
         element: &ElementCall<'_>,
         out: &mut [u8],
     ) -> (u64, Result<Output, Status>)
-        requires ready { IsReady (world D.contents D.moment D.faults A.keys A.faults A.locations C.labels shared.now.lock.table.shared.table_id shared.now.lock.table.shared.key.value.value.store.opened) 4 self.old }
+        requires ready { IsReady (world shared.now) 4 self.old }
         requires call { call.now ≡ OnStore asked.now }
         requires keyed { wanted_by asked.now ≡ Some (key.0, usage) }
         requires element { IsElementCall asked.now element.now }
         requires model { model_store_call asked.now (length out.old) ≡ model_call element.now key.0 (length out.old) }
         requires vector { HasDrawn element.now (next_bytes self.old.stream 16) }
         requires draws { has_vector element.now ≡ takes_vector asked.now }
-        ensures ready { IsReady (world D.contents D.moment D.faults A.keys A.faults A.locations C.labels shared.now.lock.table.shared.table_id shared.now.lock.table.shared.key.value.value.store.opened) 0 self.new }
-        ensures answered { IsAnswered (world D.contents D.moment D.faults A.keys A.faults A.locations C.labels shared.now.lock.table.shared.table_id shared.now.lock.table.shared.key.value.value.store.opened) self.old.pass.me.0 self.new.pass.me.0 (model_request call.now (length out.old)) result.0 result.1 out.old out.new }
+        ensures ready { IsReady (world shared.now) 0 self.new }
+        ensures answered { IsAnswered (world shared.now) self.old.pass.me.0 self.new.pass.me.0 (model_request call.now (length out.old)) result.0 result.1 out.old out.new }
         ensures spent { self.new.spent ≡ self.old.spent }
         ensures handles { self.new.handles ≡ self.old.handles }
     {
@@ -194,14 +194,14 @@ impl<D: Disk, A: Devices, C: Admission> Caller<D, A, C> {
         requires keyed { is_some (wanted_by asked.now) ≡ true }
         requires fits { (id : ℕ) (wanted : uses.KeyUse) → wanted_by asked.now ≡ Some (id, wanted) → FitsUse wanted (bytes_of lease.buffer) }
         requires words { self.old.stream.place + 256 ≤ 2 ^ 60 }
-        requires at { IsAt shared.now.lock.table.shared.table_id shared.now.lock.table.shared.key.value.value.store.opened self.old.pass }
+        requires at { IsAt (world shared.now) self.old.pass }
         requires number { self.old.pass.me.0.number ≡ self.old.number }
-        requires legal { Legal (world D.contents D.moment D.faults A.keys A.faults A.locations C.labels shared.now.lock.table.shared.table_id shared.now.lock.table.shared.key.value.value.store.opened) (entries_of self.old.pass.me.0.seen) }
+        requires legal { Legal (world shared.now) (entries_of self.old.pass.me.0.seen) }
         requires left { 0 < self.old.pass.me.0.turns_left }
         requires out { 0 < names lease.slot (lease.creation + 1) self.old.pass.me.0.holding }
         requires room { vec_len self.old.spares < vec_capacity self.old.spares }
-        ensures at { IsAt shared.now.lock.table.shared.table_id shared.now.lock.table.shared.key.value.value.store.opened self.new.pass }
-        ensures legal { Legal (world D.contents D.moment D.faults A.keys A.faults A.locations C.labels shared.now.lock.table.shared.table_id shared.now.lock.table.shared.key.value.value.store.opened) (entries_of self.new.pass.me.0.seen) }
+        ensures at { IsAt (world shared.now) self.new.pass }
+        ensures legal { Legal (world shared.now) (entries_of self.new.pass.me.0.seen) }
         ensures fits { IsReplied result out.old out.new (computed_by asked.now (bytes_of lease.buffer) (next_bytes self.old.stream) (length out.old)).reply }
         ensures back { IsGivenBack lease (record self.old { stream = drawn_from self.old.stream (computed_by asked.now (bytes_of lease.buffer) (next_bytes self.old.stream) (length out.old)).drawn }) self.new }
     {

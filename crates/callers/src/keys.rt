@@ -6,7 +6,7 @@ ghost use Rattle.service_calls.specs.declared.store_calls.StoreCall.TheVariants 
 ghost use Rattle.callers.specs.Called.{IsAnswered};
 ghost use Rattle.callers.specs.Parts.{SameButPass};
 ghost use Rattle.callers.specs.Ready.{IsReady};
-ghost use Rattle.callers.specs.Worlds.{world};
+ghost use Rattle.shared_store.specs.Shared.{world};
 
 use crate::caller::Caller;
 use admission::Admission;
@@ -29,10 +29,10 @@ impl<D: Disk, A: Devices, C: Admission> Caller<D, A, C> {
         room: usize,
         key: KeyId,
     ) -> (u64, Result<Output, Status>)
-        requires ready { IsReady (world D.contents D.moment D.faults A.keys A.faults A.locations C.labels shared.now.lock.table.shared.table_id shared.now.lock.table.shared.key.value.value.store.opened) 4 self.old }
+        requires ready { IsReady (world shared.now) 4 self.old }
         requires call { call.now ≡ OnStore (store_calls.Destroy key) }
-        ensures ready { IsReady (world D.contents D.moment D.faults A.keys A.faults A.locations C.labels shared.now.lock.table.shared.table_id shared.now.lock.table.shared.key.value.value.store.opened) 0 self.new }
-        ensures answered { (buffer : List ℕ) → IsAnswered (world D.contents D.moment D.faults A.keys A.faults A.locations C.labels shared.now.lock.table.shared.table_id shared.now.lock.table.shared.key.value.value.store.opened) self.old.pass.me.0 self.new.pass.me.0 (model_request call.now room) result.0 result.1 buffer buffer }
+        ensures ready { IsReady (world shared.now) 0 self.new }
+        ensures answered { (buffer : List ℕ) → IsAnswered (world shared.now) self.old.pass.me.0 self.new.pass.me.0 (model_request call.now room) result.0 result.1 buffer buffer }
         ensures same { SameButPass self.old self.new }
     {
         let (rank, destroyed) = shared.destroy(rt, &mut self.pass, call, room, key);
@@ -51,10 +51,10 @@ impl<D: Disk, A: Devices, C: Admission> Caller<D, A, C> {
         room: usize,
         key: KeyId,
     ) -> (u64, Result<Output, Status>)
-        requires ready { IsReady (world D.contents D.moment D.faults A.keys A.faults A.locations C.labels shared.now.lock.table.shared.table_id shared.now.lock.table.shared.key.value.value.store.opened) 4 self.old }
+        requires ready { IsReady (world shared.now) 4 self.old }
         requires call { call.now ≡ OnStore (store_calls.Purge key) }
-        ensures ready { IsReady (world D.contents D.moment D.faults A.keys A.faults A.locations C.labels shared.now.lock.table.shared.table_id shared.now.lock.table.shared.key.value.value.store.opened) 0 self.new }
-        ensures answered { (buffer : List ℕ) → IsAnswered (world D.contents D.moment D.faults A.keys A.faults A.locations C.labels shared.now.lock.table.shared.table_id shared.now.lock.table.shared.key.value.value.store.opened) self.old.pass.me.0 self.new.pass.me.0 (model_request call.now room) result.0 result.1 buffer buffer }
+        ensures ready { IsReady (world shared.now) 0 self.new }
+        ensures answered { (buffer : List ℕ) → IsAnswered (world shared.now) self.old.pass.me.0 self.new.pass.me.0 (model_request call.now room) result.0 result.1 buffer buffer }
         ensures same { SameButPass self.old self.new }
     {
         let (rank, purged) = shared.purge(rt, &mut self.pass, call, room, key);
@@ -73,10 +73,10 @@ impl<D: Disk, A: Devices, C: Admission> Caller<D, A, C> {
         room: usize,
         key: KeyId,
     ) -> (u64, Result<Output, Status>)
-        requires ready { IsReady (world D.contents D.moment D.faults A.keys A.faults A.locations C.labels shared.now.lock.table.shared.table_id shared.now.lock.table.shared.key.value.value.store.opened) 4 self.old }
+        requires ready { IsReady (world shared.now) 4 self.old }
         requires call { call.now ≡ OnStore (store_calls.GetAttributes key) }
-        ensures ready { IsReady (world D.contents D.moment D.faults A.keys A.faults A.locations C.labels shared.now.lock.table.shared.table_id shared.now.lock.table.shared.key.value.value.store.opened) 0 self.new }
-        ensures answered { (buffer : List ℕ) → IsAnswered (world D.contents D.moment D.faults A.keys A.faults A.locations C.labels shared.now.lock.table.shared.table_id shared.now.lock.table.shared.key.value.value.store.opened) self.old.pass.me.0 self.new.pass.me.0 (model_request call.now room) result.0 result.1 buffer buffer }
+        ensures ready { IsReady (world shared.now) 0 self.new }
+        ensures answered { (buffer : List ℕ) → IsAnswered (world shared.now) self.old.pass.me.0 self.new.pass.me.0 (model_request call.now room) result.0 result.1 buffer buffer }
         ensures same { SameButPass self.old self.new }
     {
         let (rank, known) = shared.attributes(rt, &mut self.pass, call, room, key);

@@ -6,7 +6,7 @@ ghost use Rattle.turn_history.specs.Views.{joined, watcher};
 ghost use Rattle.callers.specs.Called.{Legal};
 ghost use Rattle.callers.specs.Parts.{SameButPass};
 ghost use Rattle.callers.specs.Ready.{IsReady};
-ghost use Rattle.callers.specs.Worlds.{world};
+ghost use Rattle.shared_store.specs.Shared.{world};
 
 use crate::caller::Caller;
 use admission::Admission;
@@ -17,22 +17,24 @@ use turn_history::Pass;
 
 impl<D: Disk, A: Devices, C: Admission> Caller<D, A, C> {
     /// A watcher that has seen the same, for another caller of the thread to learn from.
+    #[tactic(auto, unfolding(shared_store::specs::Shared::lock_of, shared_store::specs::Shared::opened_of))]
     pub fn watch(&mut self, shared: &SharedStore<D, A, C>) -> Pass<Held<D, A, C>>
-        requires own { self.old.pass.table_id ≡ shared.now.lock.table.shared.table_id }
+        requires own { self.old.pass.table_id ≡ (world shared.now).lock }
         ensures same { self.new ≡ self.old }
-        ensures idle { IsIdle shared.now.lock.table.shared.table_id result }
+        ensures idle { IsIdle (world shared.now).lock result }
         ensures watcher { result.me ≡ (watcher self.old.pass.me.0, []) }
     {
         shared.lock.split(&mut self.pass)
     }
 
     /// Takes a watcher in. The caller has then seen the longer of both histories.
+    #[tactic(auto, unfolding(shared_store::specs::Shared::lock_of, shared_store::specs::Shared::opened_of))]
     pub fn learn(&mut self, shared: &SharedStore<D, A, C>, watcher: Pass<Held<D, A, C>>)
-        requires ready { IsReady (world D.contents D.moment D.faults A.keys A.faults A.locations C.labels shared.now.lock.table.shared.table_id shared.now.lock.table.shared.key.value.value.store.opened) 0 self.old }
-        requires idle { IsIdle shared.now.lock.table.shared.table_id watcher }
+        requires ready { IsReady (world shared.now) 0 self.old }
+        requires idle { IsIdle (world shared.now).lock watcher }
         requires weightless { watcher.me.0.weight ≡ 0 }
-        requires legal { Legal (world D.contents D.moment D.faults A.keys A.faults A.locations C.labels shared.now.lock.table.shared.table_id shared.now.lock.table.shared.key.value.value.store.opened) (entries_of watcher.me.0.seen) }
-        ensures ready { IsReady (world D.contents D.moment D.faults A.keys A.faults A.locations C.labels shared.now.lock.table.shared.table_id shared.now.lock.table.shared.key.value.value.store.opened) 0 self.new }
+        requires legal { Legal (world shared.now) (entries_of watcher.me.0.seen) }
+        ensures ready { IsReady (world shared.now) 0 self.new }
         ensures pass { self.new.pass.me.0 ≡ joined self.old.pass.me.0 watcher.me.0 }
         ensures own { StartsWith self.new.pass.me.0.seen self.old.pass.me.0.seen }
         ensures learned { StartsWith self.new.pass.me.0.seen watcher.me.0.seen }

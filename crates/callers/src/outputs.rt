@@ -9,7 +9,7 @@ ghost use Rattle.operation_cells.specs.Cells.{IsOperation};
 ghost use Rattle.operation_cells.specs.declared.cell.Cell.{Cell};
 ghost use Rattle.callers.specs.Called.{IsAnswered};
 ghost use Rattle.callers.specs.Ready.{IsReady};
-ghost use Rattle.callers.specs.Worlds.{world};
+ghost use Rattle.shared_store.specs.Shared.{world};
 
 use crate::caller::Caller;
 use crate::gates::{Gate, GatePoint};
@@ -44,10 +44,10 @@ impl<D: Disk, A: Devices, C: Admission> Caller<D, A, C> {
         op: Op,
         attributes: Attributes,
     ) -> (u64, Result<Output, Status>)
-        requires ready { IsReady (world D.contents D.moment D.faults A.keys A.faults A.locations C.labels shared.now.lock.table.shared.table_id shared.now.lock.table.shared.key.value.value.store.opened) 4 self.old }
+        requires ready { IsReady (world shared.now) 4 self.old }
         requires call { call.now ≡ calls.OnHandle op (handle_calls.OutputKey attributes) }
-        ensures ready { IsReady (world D.contents D.moment D.faults A.keys A.faults A.locations C.labels shared.now.lock.table.shared.table_id shared.now.lock.table.shared.key.value.value.store.opened) 0 self.new }
-        ensures answered { (buffer : List ℕ) → IsAnswered (world D.contents D.moment D.faults A.keys A.faults A.locations C.labels shared.now.lock.table.shared.table_id shared.now.lock.table.shared.key.value.value.store.opened) self.old.pass.me.0 self.new.pass.me.0 (model_request call.now room) result.0 result.1 buffer buffer }
+        ensures ready { IsReady (world shared.now) 0 self.new }
+        ensures answered { (buffer : List ℕ) → IsAnswered (world shared.now) self.old.pass.me.0 self.new.pass.me.0 (model_request call.now room) result.0 result.1 buffer buffer }
         ensures spent { self.new.spent ≡ self.old.spent }
     {
         match self.handles.output_key_refusal(op, &attributes) {
@@ -73,14 +73,14 @@ impl<D: Disk, A: Devices, C: Admission> Caller<D, A, C> {
         op: Op,
         attributes: Attributes,
     ) -> (u64, Result<Output, Status>)
-        requires ready { IsReady (world D.contents D.moment D.faults A.keys A.faults A.locations C.labels shared.now.lock.table.shared.table_id shared.now.lock.table.shared.key.value.value.store.opened) 4 self.old }
+        requires ready { IsReady (world shared.now) 4 self.old }
         requires call { call.now ≡ calls.OnHandle op (handle_calls.OutputKey attributes) }
         requires refused { (c : Cell) (operation : HandleOperation) → c ≡ get_or self.old.handles.cells.items (op - 1) c → IsOperation c operation →
             output_key_refusal (part_of derivation_part operation) attributes ≡ None → ⊥ }
         requires first { 1 ≤ op }
         requires last { op ≤ 4 }
-        ensures ready { IsReady (world D.contents D.moment D.faults A.keys A.faults A.locations C.labels shared.now.lock.table.shared.table_id shared.now.lock.table.shared.key.value.value.store.opened) 0 self.new }
-        ensures answered { (buffer : List ℕ) → IsAnswered (world D.contents D.moment D.faults A.keys A.faults A.locations C.labels shared.now.lock.table.shared.table_id shared.now.lock.table.shared.key.value.value.store.opened) self.old.pass.me.0 self.new.pass.me.0 (model_request call.now room) result.0 result.1 buffer buffer }
+        ensures ready { IsReady (world shared.now) 0 self.new }
+        ensures answered { (buffer : List ℕ) → IsAnswered (world shared.now) self.old.pass.me.0 self.new.pass.me.0 (model_request call.now room) result.0 result.1 buffer buffer }
         ensures spent { self.new.spent ≡ self.old.spent }
     {
         let (rank, alive) = self.ask(rt, shared, call, room, op);
@@ -101,14 +101,14 @@ impl<D: Disk, A: Devices, C: Admission> Caller<D, A, C> {
         attributes: Attributes,
         bytes: &mut [u8; KEY_ROOM],
     ) -> (u64, Result<Output, Status>)
-        requires ready { IsReady (world D.contents D.moment D.faults A.keys A.faults A.locations C.labels shared.now.lock.table.shared.table_id shared.now.lock.table.shared.key.value.value.store.opened) 4 self.old }
+        requires ready { IsReady (world shared.now) 4 self.old }
         requires call { call.now ≡ calls.OnHandle op (handle_calls.OutputKey attributes) }
         requires due { (c : Cell) (operation : HandleOperation) → c ≡ get_or self.old.handles.cells.items (op - 1) c → IsOperation c operation →
             output_key_refusal (part_of derivation_part operation) attributes ≡ None }
         requires first { 1 ≤ op }
         requires last { op ≤ 4 }
-        ensures ready { IsReady (world D.contents D.moment D.faults A.keys A.faults A.locations C.labels shared.now.lock.table.shared.table_id shared.now.lock.table.shared.key.value.value.store.opened) 0 self.new }
-        ensures answered { (buffer : List ℕ) → IsAnswered (world D.contents D.moment D.faults A.keys A.faults A.locations C.labels shared.now.lock.table.shared.table_id shared.now.lock.table.shared.key.value.value.store.opened) self.old.pass.me.0 self.new.pass.me.0 (model_request call.now room) result.0 result.1 buffer buffer }
+        ensures ready { IsReady (world shared.now) 0 self.new }
+        ensures answered { (buffer : List ℕ) → IsAnswered (world shared.now) self.old.pass.me.0 self.new.pass.me.0 (model_request call.now room) result.0 result.1 buffer buffer }
         ensures spent { self.new.spent ≡ self.old.spent }
     {
         let filling = shared.reserve(rt, &mut self.pass);

@@ -11,7 +11,7 @@ ghost use Rattle.operation_cells.specs.Setups.{setup_use};
 ghost use Rattle.operation_cells.specs.declared.cell.Cell.{Cell};
 ghost use Rattle.callers.specs.Called.{IsAnswered};
 ghost use Rattle.callers.specs.Ready.{IsReady};
-ghost use Rattle.callers.specs.Worlds.{world};
+ghost use Rattle.shared_store.specs.Shared.{world};
 
 use crate::caller::Caller;
 use crate::gates::{Gate, GatePoint};
@@ -55,11 +55,11 @@ impl<D: Disk, A: Devices, C: Admission> Caller<D, A, C> {
         op: Op,
         setup: Setup,
     ) -> (u64, Result<Output, Status>)
-        requires ready { IsReady (world D.contents D.moment D.faults A.keys A.faults A.locations C.labels shared.now.lock.table.shared.table_id shared.now.lock.table.shared.key.value.value.store.opened) 4 self.old }
+        requires ready { IsReady (world shared.now) 4 self.old }
         requires call { call.now ≡ calls.OnHandle op (handle_calls.Setup setup) }
         requires worn { self.old.spent < 2 ^ 48 }
-        ensures ready { IsReady (world D.contents D.moment D.faults A.keys A.faults A.locations C.labels shared.now.lock.table.shared.table_id shared.now.lock.table.shared.key.value.value.store.opened) 0 self.new }
-        ensures answered { (buffer : List ℕ) → IsAnswered (world D.contents D.moment D.faults A.keys A.faults A.locations C.labels shared.now.lock.table.shared.table_id shared.now.lock.table.shared.key.value.value.store.opened) self.old.pass.me.0 self.new.pass.me.0 (model_request call.now room) result.0 result.1 buffer buffer }
+        ensures ready { IsReady (world shared.now) 0 self.new }
+        ensures answered { (buffer : List ℕ) → IsAnswered (world shared.now) self.old.pass.me.0 self.new.pass.me.0 (model_request call.now room) result.0 result.1 buffer buffer }
         ensures spent { self.new.spent ≡ self.old.spent + cond (is_ok result.1) 1 0 }
     {
         if !self.handles.is_inactive(op) {
@@ -84,13 +84,13 @@ impl<D: Disk, A: Devices, C: Admission> Caller<D, A, C> {
         op: Op,
         setup: Setup,
     ) -> (u64, Result<Output, Status>)
-        requires ready { IsReady (world D.contents D.moment D.faults A.keys A.faults A.locations C.labels shared.now.lock.table.shared.table_id shared.now.lock.table.shared.key.value.value.store.opened) 4 self.old }
+        requires ready { IsReady (world shared.now) 4 self.old }
         requires call { call.now ≡ calls.OnHandle op (handle_calls.Setup setup) }
         requires worn { self.old.spent < 2 ^ 48 }
         requires free { (c : Cell) (operation : HandleOperation) → c ≡ get_or self.old.handles.cells.items (op - 1) c → IsOperation c operation → operation ≡ Inactive }
         requires keyless { setup_use setup ≡ None }
-        ensures ready { IsReady (world D.contents D.moment D.faults A.keys A.faults A.locations C.labels shared.now.lock.table.shared.table_id shared.now.lock.table.shared.key.value.value.store.opened) 0 self.new }
-        ensures answered { (buffer : List ℕ) → IsAnswered (world D.contents D.moment D.faults A.keys A.faults A.locations C.labels shared.now.lock.table.shared.table_id shared.now.lock.table.shared.key.value.value.store.opened) self.old.pass.me.0 self.new.pass.me.0 (model_request call.now room) result.0 result.1 buffer buffer }
+        ensures ready { IsReady (world shared.now) 0 self.new }
+        ensures answered { (buffer : List ℕ) → IsAnswered (world shared.now) self.old.pass.me.0 self.new.pass.me.0 (model_request call.now room) result.0 result.1 buffer buffer }
         ensures spent { self.new.spent ≡ self.old.spent + cond (is_ok result.1) 1 0 }
     {
         let rank = shared.count(rt, &mut self.pass, call, room);
@@ -116,15 +116,15 @@ impl<D: Disk, A: Devices, C: Admission> Caller<D, A, C> {
         key: KeyId,
         wanted: KeyUse,
     ) -> (u64, Result<Output, Status>)
-        requires ready { IsReady (world D.contents D.moment D.faults A.keys A.faults A.locations C.labels shared.now.lock.table.shared.table_id shared.now.lock.table.shared.key.value.value.store.opened) 4 self.old }
+        requires ready { IsReady (world shared.now) 4 self.old }
         requires call { call.now ≡ calls.OnHandle op (handle_calls.Setup setup) }
         requires worn { self.old.spent < 2 ^ 48 }
         requires free { (c : Cell) (operation : HandleOperation) → c ≡ get_or self.old.handles.cells.items (op - 1) c → IsOperation c operation → operation ≡ Inactive }
         requires keyed { setup_use setup ≡ Some (key, wanted) }
         requires first { 1 ≤ op }
         requires last { op ≤ 4 }
-        ensures ready { IsReady (world D.contents D.moment D.faults A.keys A.faults A.locations C.labels shared.now.lock.table.shared.table_id shared.now.lock.table.shared.key.value.value.store.opened) 0 self.new }
-        ensures answered { (buffer : List ℕ) → IsAnswered (world D.contents D.moment D.faults A.keys A.faults A.locations C.labels shared.now.lock.table.shared.table_id shared.now.lock.table.shared.key.value.value.store.opened) self.old.pass.me.0 self.new.pass.me.0 (model_request call.now room) result.0 result.1 buffer buffer }
+        ensures ready { IsReady (world shared.now) 0 self.new }
+        ensures answered { (buffer : List ℕ) → IsAnswered (world shared.now) self.old.pass.me.0 self.new.pass.me.0 (model_request call.now room) result.0 result.1 buffer buffer }
         ensures spent { self.new.spent ≡ self.old.spent + cond (is_ok result.1) 1 0 }
     {
         let Some(spare) = self.spares.pop() else {

@@ -9,7 +9,7 @@ ghost use Rattle.store_model.specs.Operations.{is_inactive};
 ghost use Rattle.callers.specs.Called.{IsAnswered};
 ghost use Rattle.callers.specs.Handles.{AreOperations, operation_at};
 ghost use Rattle.callers.specs.Ready.{IsReady};
-ghost use Rattle.callers.specs.Worlds.{world};
+ghost use Rattle.shared_store.specs.Shared.{world};
 
 use crate::caller::Caller;
 use admission::Admission;
@@ -32,10 +32,10 @@ impl<D: Disk, A: Devices, C: Admission> Caller<D, A, C> {
         step: Step<'_>,
         out: &mut [u8],
     ) -> (u64, Result<Output, Status>)
-        requires ready { IsReady (world D.contents D.moment D.faults A.keys A.faults A.locations C.labels shared.now.lock.table.shared.table_id shared.now.lock.table.shared.key.value.value.store.opened) 4 self.old }
+        requires ready { IsReady (world shared.now) 4 self.old }
         requires call { call.now ≡ calls.OnHandle op (handle_calls.Step step) }
-        ensures ready { IsReady (world D.contents D.moment D.faults A.keys A.faults A.locations C.labels shared.now.lock.table.shared.table_id shared.now.lock.table.shared.key.value.value.store.opened) 0 self.new }
-        ensures answered { IsAnswered (world D.contents D.moment D.faults A.keys A.faults A.locations C.labels shared.now.lock.table.shared.table_id shared.now.lock.table.shared.key.value.value.store.opened) self.old.pass.me.0 self.new.pass.me.0 (model_request call.now (length out.old)) result.0 result.1 out.old out.new }
+        ensures ready { IsReady (world shared.now) 0 self.new }
+        ensures answered { IsAnswered (world shared.now) self.old.pass.me.0 self.new.pass.me.0 (model_request call.now (length out.old)) result.0 result.1 out.old out.new }
         ensures spent { self.new.spent ≡ self.old.spent }
     {
         let (rank, alive) = self.ask(rt, shared, call, out.len(), op);
@@ -54,11 +54,11 @@ impl<D: Disk, A: Devices, C: Admission> Caller<D, A, C> {
         room: usize,
         op: Op,
     ) -> u64
-        requires ready { IsReady (world D.contents D.moment D.faults A.keys A.faults A.locations C.labels shared.now.lock.table.shared.table_id shared.now.lock.table.shared.key.value.value.store.opened) 0 self.old }
-        requires counted { (operations : List HandleOperation) → AreOperations self.old.handles.cells.items operations → is_inactive (operation_at operations op) ≡ true → IsReady (world D.contents D.moment D.faults A.keys A.faults A.locations C.labels shared.now.lock.table.shared.table_id shared.now.lock.table.shared.key.value.value.store.opened) 4 self.old }
+        requires ready { IsReady (world shared.now) 0 self.old }
+        requires counted { (operations : List HandleOperation) → AreOperations self.old.handles.cells.items operations → is_inactive (operation_at operations op) ≡ true → IsReady (world shared.now) 4 self.old }
         requires call { call.now ≡ calls.OnHandle op handle_calls.Abort }
-        ensures ready { IsReady (world D.contents D.moment D.faults A.keys A.faults A.locations C.labels shared.now.lock.table.shared.table_id shared.now.lock.table.shared.key.value.value.store.opened) 0 self.new }
-        ensures answered { (buffer : List ℕ) → IsAnswered (world D.contents D.moment D.faults A.keys A.faults A.locations C.labels shared.now.lock.table.shared.table_id shared.now.lock.table.shared.key.value.value.store.opened) self.old.pass.me.0 self.new.pass.me.0 (model_request call.now room) result (Ok Done) buffer buffer }
+        ensures ready { IsReady (world shared.now) 0 self.new }
+        ensures answered { (buffer : List ℕ) → IsAnswered (world shared.now) self.old.pass.me.0 self.new.pass.me.0 (model_request call.now room) result (Ok Done) buffer buffer }
         ensures spent { self.new.spent ≡ self.old.spent }
     {
         let rank = shared.count(rt, &mut self.pass, call, room);

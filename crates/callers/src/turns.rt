@@ -10,7 +10,7 @@ ghost use Rattle.store_model.specs.Handles.{is_alive, key_of_operation, operatio
 ghost use Rattle.shared_store.specs.Turning.{IsAt, IsLater, IsRanked, LeavesAllKeys, lease_pair, without_pair};
 ghost use Rattle.callers.specs.Called.{KnowsBefore, Legal};
 ghost use Rattle.callers.specs.Ready.{IsReady};
-ghost use Rattle.callers.specs.Worlds.{world};
+ghost use Rattle.shared_store.specs.Shared.{world};
 ghost use Rattle.callers.specs.Parts.{IsBack, SameButPass};
 
 use crate::caller::Caller;
@@ -33,12 +33,12 @@ impl<D: Disk, A: Devices, C: Admission> Caller<D, A, C> {
         room: usize,
         op: Op,
     ) -> (u64, bool)
-        requires ready { IsReady (world D.contents D.moment D.faults A.keys A.faults A.locations C.labels shared.now.lock.table.shared.table_id shared.now.lock.table.shared.key.value.value.store.opened) 1 self.old }
-        requires leaves { LeavesAllKeys D.contents D.moment D.faults A.faults A.locations C.labels shared.now.lock.table.shared.key.value.value.store.opened self.old.pass.me.0 (model_request call.now room) }
-        ensures at { IsAt shared.now.lock.table.shared.table_id shared.now.lock.table.shared.key.value.value.store.opened self.new.pass }
-        ensures legal { Legal (world D.contents D.moment D.faults A.keys A.faults A.locations C.labels shared.now.lock.table.shared.table_id shared.now.lock.table.shared.key.value.value.store.opened) (entries_of self.new.pass.me.0.seen) }
+        requires ready { IsReady (world shared.now) 1 self.old }
+        requires leaves { LeavesAllKeys (world shared.now) self.old.pass.me.0 (model_request call.now room) }
+        ensures at { IsAt (world shared.now) self.new.pass }
+        ensures legal { Legal (world shared.now) (entries_of self.new.pass.me.0.seen) }
         ensures ranked { IsRanked self.old.pass.me.0 self.new.pass.me.0 (model_request call.now room) Plain result.0 self.old.pass.me.0.holding
-            (KnowsBefore (world D.contents D.moment D.faults A.keys A.faults A.locations C.labels shared.now.lock.table.shared.table_id shared.now.lock.table.shared.key.value.value.store.opened)
+            (KnowsBefore (world shared.now)
             (λ service. result.1 ≡ is_alive service.store (key_of_operation (operation_of service self.old.number op)))) }
         ensures same { SameButPass self.old self.new }
     {
@@ -58,13 +58,13 @@ impl<D: Disk, A: Devices, C: Admission> Caller<D, A, C> {
         shared: &SharedStore<D, A, C>,
         lease: Option<Lease>,
     )
-        requires at { IsAt shared.now.lock.table.shared.table_id shared.now.lock.table.shared.key.value.value.store.opened self.old.pass }
-        requires legal { Legal (world D.contents D.moment D.faults A.keys A.faults A.locations C.labels shared.now.lock.table.shared.table_id shared.now.lock.table.shared.key.value.value.store.opened) (entries_of self.old.pass.me.0.seen) }
+        requires at { IsAt (world shared.now) self.old.pass }
+        requires legal { Legal (world shared.now) (entries_of self.old.pass.me.0.seen) }
         requires left { 0 < self.old.pass.me.0.turns_left }
         requires out { IfSome lease (λ l. 0 < names l.slot (l.creation + 1) self.old.pass.me.0.holding) }
         requires room { IfSome lease (λ l. vec_len self.old.spares < vec_capacity self.old.spares) }
-        ensures at { IsAt shared.now.lock.table.shared.table_id shared.now.lock.table.shared.key.value.value.store.opened self.new.pass }
-        ensures legal { Legal (world D.contents D.moment D.faults A.keys A.faults A.locations C.labels shared.now.lock.table.shared.table_id shared.now.lock.table.shared.key.value.value.store.opened) (entries_of self.new.pass.me.0.seen) }
+        ensures at { IsAt (world shared.now) self.new.pass }
+        ensures legal { Legal (world shared.now) (entries_of self.new.pass.me.0.seen) }
         ensures back { IsBack lease self.old self.new }
     {
         if let Some(lease) = lease {

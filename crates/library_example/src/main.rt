@@ -5,7 +5,8 @@ ghost use Rattle.std.specs.Prelude.{◌≡◌, ◌≤◌, ℕ, All, Some, length
 ghost use Rattle.driver_dispatch.specs.Calls.{Lacks};
 ghost use Rattle.driver_dispatch.specs.Held.{no_keys};
 ghost use Rattle.callers.specs.Ready.{IsReady};
-ghost use Rattle.callers.specs.Worlds.{world};
+ghost use Rattle.shared_store.specs.Shared.{world};
+ghost use Rattle.caller_service.specs.Replies.{MayCall};
 
 use admission::{Admission, Rules};
 use alg_encoding::Alg;
@@ -48,10 +49,8 @@ fn keep_key<D: Disk, A: Devices, C: Admission, R: Wait>(
     service: &Service<D, A, C, NoGate>,
     caller: &mut Caller<D, A, C>,
 ) -> Result<(), Status>
-    requires ready { IsReady (world D.contents D.moment D.faults A.keys A.faults A.locations C.labels service.now.shared.lock.table.shared.table_id service.now.shared.lock.table.shared.key.value.value.store.opened) 0 caller.old }
-    requires within { caller.old.spent ≤ service.now.worn }
-    ensures ready { IsReady (world D.contents D.moment D.faults A.keys A.faults A.locations C.labels service.now.shared.lock.table.shared.table_id service.now.shared.lock.table.shared.key.value.value.store.opened) 0 caller.new }
-    ensures within { caller.new.spent ≤ service.now.worn }
+    requires { MayCall service.now caller.old }
+    ensures { MayCall service.now caller.new }
 {
     match service.import_key(rt, caller, &ROOT, &KEY).result {
         Ok(_) => Ok(()),
@@ -66,10 +65,8 @@ fn compute_mac<D: Disk, A: Devices, C: Admission, R: Wait>(
     caller: &mut Caller<D, A, C>,
     mac: &mut [u8; 16],
 ) -> Result<(), Status>
-    requires ready { IsReady (world D.contents D.moment D.faults A.keys A.faults A.locations C.labels service.now.shared.lock.table.shared.table_id service.now.shared.lock.table.shared.key.value.value.store.opened) 0 caller.old }
-    requires within { caller.old.spent ≤ service.now.worn }
-    ensures ready { IsReady (world D.contents D.moment D.faults A.keys A.faults A.locations C.labels service.now.shared.lock.table.shared.table_id service.now.shared.lock.table.shared.key.value.value.store.opened) 0 caller.new }
-    ensures within { caller.new.spent ≤ service.now.worn }
+    requires { MayCall service.now caller.old }
+    ensures { MayCall service.now caller.new }
 {
     let computed = service.mac_compute(rt, caller, ROOT.id, Alg(CMAC), b"", mac);
     match computed.result {
@@ -85,10 +82,8 @@ fn make_call<D: Disk, A: Devices, C: Admission, R: Wait>(
     caller: &mut Caller<D, A, C>,
     mac: &mut [u8; 16],
 ) -> Result<(), Status>
-    requires ready { IsReady (world D.contents D.moment D.faults A.keys A.faults A.locations C.labels service.now.shared.lock.table.shared.table_id service.now.shared.lock.table.shared.key.value.value.store.opened) 0 caller.old }
-    requires within { caller.old.spent ≤ service.now.worn }
-    ensures ready { IsReady (world D.contents D.moment D.faults A.keys A.faults A.locations C.labels service.now.shared.lock.table.shared.table_id service.now.shared.lock.table.shared.key.value.value.store.opened) 0 caller.new }
-    ensures within { caller.new.spent ≤ service.now.worn }
+    requires { MayCall service.now caller.old }
+    ensures { MayCall service.now caller.new }
 {
     match caller.number() {
         1 => keep_key(rt, service, caller),
@@ -104,9 +99,9 @@ fn make_all<D: Disk, A: Devices, C: Admission, R: Wait>(
     callers: &mut Vec<Caller<D, A, C>>,
     mac: &mut [u8; 16],
 ) -> Result<(), Status>
-    requires ready { All (IsReady (world D.contents D.moment D.faults A.keys A.faults A.locations C.labels service.now.shared.lock.table.shared.table_id service.now.shared.lock.table.shared.key.value.value.store.opened) 0) callers.old.items }
+    requires ready { All (IsReady (world service.now.shared) 0) callers.old.items }
     requires within { All (λ caller. caller.spent ≤ service.now.worn) callers.old.items }
-    ensures ready { All (IsReady (world D.contents D.moment D.faults A.keys A.faults A.locations C.labels service.now.shared.lock.table.shared.table_id service.now.shared.lock.table.shared.key.value.value.store.opened) 0) callers.new.items }
+    ensures ready { All (IsReady (world service.now.shared) 0) callers.new.items }
     ensures count { length callers.new.items ≡ length callers.old.items }
 {
     let mut answer = Ok(());

@@ -25,6 +25,9 @@ use Rattle.psa_command.specs.declared.exit.Exit.{Exit}
 use Rattle.psa_command.specs.declared.exit.Exit.TheVariants.{Done, Usage, Script, ReadFault, WriteFault, NotAStore, DamagedCell, DiskFault, Memory}
 use Rattle.psa_command.specs.Commands.{AreLinesOf, EndsBy, HasStore, IsReadable, IsRun, IsUnrun, TellsThat, labels_by, seed_by, text_by, workers_by}
 use Rattle.psa_command.specs.Ends.{IsOfImage, IsOfReading, IsWritten, exit_of, exit_unanswered}
+use Rattle.disk_face.specs.declared.Disk as Disk
+use Rattle.driver_dispatch.specs.declared.devices.Devices as Devices
+use Rattle.admission.specs.declared.rules.Admission as Admission
 
 -- AN IMAGE THAT OPENS ISN'T REFUSED
 
@@ -48,37 +51,36 @@ no_fault (Run options) None f faulty reads = reads
 no_fault (Run options) (Some text) f faulty reads = let r : IsOk {T = List ScriptLine} (Err f) = subst IsOk faulty reads in cc
 no_fault (Generate count) left f faulty reads = faulty
 
-module _ {D A C : Type 0} (told : D → Option (List ℕ)) (may_leave : D → List ℕ → Type 0) (moment : D → ℕ) (left_since : D → ℕ → List ℕ → Type 0)
-    (faults : D → ℕ) (held : A → Option HeldKeys) (hard : A → ℕ) (locations : A → List ℕ) (labels : C → List Label)
+module _ {D A C : Type 0} (disks : Disk.Ghosts D) (elements : Devices.Ghosts A) (admits : Admission.Ghosts C)
     (given : List Label) (left : Option (List ℕ)) (disk : D) (devices : A) (command : Command) (disk_after : D) (devices_after : A) where
   abbrev pub EndsSo : Exit → (old new : Option (List ℕ)) → Type 0
-  EndsSo = EndsBy told may_leave moment left_since faults held hard locations labels given left disk devices command disk_after devices_after
+  EndsSo = EndsBy disks elements admits given left disk devices command disk_after devices_after
 
   abbrev Answers : List ReplyLine → Type 0
-  Answers = IsRun told may_leave moment left_since faults held hard locations labels given left disk devices command disk_after devices_after
+  Answers = IsRun disks elements admits given left disk devices command disk_after devices_after
 
   abbrev Unanswers : Exit → Type 0
-  Unanswers = IsUnrun told may_leave moment left_since faults held hard locations labels given left disk devices command disk_after devices_after
+  Unanswers = IsUnrun disks elements admits given left disk devices command disk_after devices_after
 
   -- nothing was written to the disk
   abbrev pub IsUnwritten : Type 0
-  IsUnwritten = (told disk_after ≡ told disk) × NoNewImage (may_leave disk) (may_leave disk_after)
+  IsUnwritten = (disks.contents disk_after ≡ disks.contents disk) × NoNewImage (disks.may_leave disk) (disks.may_leave disk_after)
 
   -- what an end has to do with the disk
   abbrev pub HasCause : Exit → Type 0
-  HasCause NotAStore = IfSome (told disk) IsNoStore × IsUnwritten
-  HasCause (DamagedCell cell) = IfSome (told disk) (λ image. IsFirstDamaged image cell) × IsUnwritten
-  HasCause DiskFault = Rose (faults disk) (faults disk_after)
+  HasCause NotAStore = IfSome (disks.contents disk) IsNoStore × IsUnwritten
+  HasCause (DamagedCell cell) = IfSome (disks.contents disk) (λ image. IsFirstDamaged image cell) × IsUnwritten
+  HasCause DiskFault = Rose (disks.faults disk) (disks.faults disk_after)
   HasCause _ = Unit {0}
 
-  of_opening : (fault : OpenFault) → IsUnopened told may_leave moment left_since faults held hard locations labels disk devices fault disk_after devices_after → HasCause (exit_of fault)
+  of_opening : (fault : OpenFault) → IsUnopened disks elements admits disk devices fault disk_after devices_after → HasCause (exit_of fault)
   of_opening opening.NotAStore u = elim u.refused [ inl r ↦ (r.caused, (r.same tt, r.unwritten tt)) | inr m ↦ absurd (let e = m.0 in cc) ]
   of_opening (opening.DamagedCell cell) u = elim u.refused [ inl r ↦ (r.caused, (r.same tt, r.unwritten tt)) | inr m ↦ absurd (let e = m.0 in cc) ]
   of_opening opening.Disk u = elim u.refused [ inl r ↦ r.rose tt | inr m ↦ absurd (let e = m.0 in cc) ]
   of_opening opening.Memory u = tt
 
   of_lines : (lines : List ScriptLine) (named : List Label) (seed : List ℕ) (why : Unanswered) →
-      IsUnanswered told may_leave moment left_since faults held hard locations labels disk devices named seed lines why disk_after devices_after → HasCause (exit_unanswered why)
+      IsUnanswered disks elements admits disk devices named seed lines why disk_after devices_after → HasCause (exit_unanswered why)
   of_lines lines named seed (NotOpened fault) u = of_opening fault u
   of_lines lines named seed unanswered.Memory u = tt
 
@@ -108,8 +110,8 @@ module _ {D A C : Type 0} (told : D → Option (List ℕ)) (may_leave : D → Li
   unwritten Memory old new ends image = absurd image
 
   -- a store that was opened was one, or was new
-  was_found : (replies : List ReplyLine) → Answers replies → IfSome (told disk) (λ image. HasStore (Some image))
-  was_found replies r = found (told disk) r.answered.run.opening.found.found
+  was_found : (replies : List ReplyLine) → Answers replies → IfSome (disks.contents disk) (λ image. HasStore (Some image))
+  was_found replies r = found (disks.contents disk) r.answered.run.opening.found.found
     where
       opens : (image : List ℕ) → IsFoundIn image r.answered.run.opened.file.value.cells.slots.items → HasStore (Some image)
       opens [] h = inl refl
@@ -128,8 +130,8 @@ module _ {D A C : Type 0} (told : D → Option (List ℕ)) (may_leave : D → Li
     pub read : exit ≡ ReadFault → read_fault
     pub write : exit ≡ WriteFault → write_fault
 
-  store_of : (replies : List ReplyLine) → Answers replies → (P : List ℕ → Type 0) → ((image : List ℕ) → HasStore (Some image) → P image → ⊥) → TellsThat P (told disk) → ⊥
-  store_of replies r P refuses = tells (told disk) (was_found replies r)
+  store_of : (replies : List ReplyLine) → Answers replies → (P : List ℕ → Type 0) → ((image : List ℕ) → HasStore (Some image) → P image → ⊥) → TellsThat P (disks.contents disk) → ⊥
+  store_of replies r P refuses = tells (disks.contents disk) (was_found replies r)
     where
       tells : (t : Option (List ℕ)) → IfSome t (λ image. HasStore (Some image)) → TellsThat P t → ⊥
       tells None has refused = refused
@@ -141,21 +143,21 @@ module _ {D A C : Type 0} (told : D → Option (List ℕ)) (may_leave : D → Li
 
   -- lines that can be read are answered, but for a fault of source, sink or disk, and want of memory
   pub complete : (exit : Exit) (old new : Option (List ℕ)) (read write : Type 0) → IsKnown exit old new read write → IsReadable command left → (read → ⊥) → (write → ⊥) →
-      (Rose (faults disk) (faults disk_after) → ⊥) → HasStore (told disk) → (exit ≡ Done) ⊎ (exit ≡ Memory)
+      (Rose (disks.faults disk) (disks.faults disk_after) → ⊥) → HasStore (disks.contents disk) → (exit ≡ Done) ⊎ (exit ≡ Memory)
   complete Done old new read write known reads r w d has = inl refl
   complete Usage old new read write known reads r w d has = absurd known.ends
   complete (Script f) old new read write known reads r w d has = absurd (no_fault command left f (known.script f refl) reads)
   complete ReadFault old new read write known reads r w d has = absurd (r (known.read refl))
   complete WriteFault old new read write known reads r w d has = absurd (w (known.write refl))
-  complete NotAStore old new read write known reads r w d has = absurd (not_refused IsNoStore is_store (told disk) has (cause NotAStore old new known.ends).0)
+  complete NotAStore old new read write known reads r w d has = absurd (not_refused IsNoStore is_store (disks.contents disk) has (cause NotAStore old new known.ends).0)
   complete (DamagedCell cell) old new read write known reads r w d has =
-      absurd (not_refused (λ image. IsFirstDamaged image cell) (λ image. is_sound image cell) (told disk) has (cause (DamagedCell cell) old new known.ends).0)
+      absurd (not_refused (λ image. IsFirstDamaged image cell) (λ image. is_sound image cell) (disks.contents disk) has (cause (DamagedCell cell) old new known.ends).0)
   complete DiskFault old new read write known reads r w d has = absurd (d (cause DiskFault old new known.ends))
   complete Memory old new read write known reads r w d has = inr refl
 
   -- an image that is refused
   refusal : (exit wanted : Exit) (P : List ℕ → Type 0) → ((image : List ℕ) → HasStore (Some image) → P image → ⊥) → (old new : Option (List ℕ)) (read write : Type 0) → IsKnown exit old new read write → IsReadable command left → (read → ⊥) →
-      (Rose (faults disk) (faults disk_after) → ⊥) → TellsThat P (told disk) →
+      (Rose (disks.faults disk) (disks.faults disk_after) → ⊥) → TellsThat P (disks.contents disk) →
       (exit ≡ NotAStore → NotAStore ≡ wanted) → ((cell : ℕ) → exit ≡ DamagedCell cell → DamagedCell cell ≡ wanted) → (exit ≡ wanted) ⊎ (exit ≡ Memory)
   refusal Done wanted P refuses old new read write known reads r d tells as_none as_damaged = absurd (store_of known.ends.0 known.ends.1 P refuses tells)
   refusal Usage wanted P refuses old new read write known reads r d tells as_none as_damaged = absurd known.ends
@@ -167,21 +169,21 @@ module _ {D A C : Type 0} (told : D → Option (List ℕ)) (may_leave : D → Li
   refusal DiskFault wanted P refuses old new read write known reads r d tells as_none as_damaged = absurd (d (cause DiskFault old new known.ends))
   refusal Memory wanted P refuses old new read write known reads r d tells as_none as_damaged = inr refl
 
-  pub no_store : (exit : Exit) (old new : Option (List ℕ)) (read write : Type 0) → IsKnown exit old new read write → IsReadable command left → (read → ⊥) → (Rose (faults disk) (faults disk_after) → ⊥) →
-      TellsThat IsNoStore (told disk) → (exit ≡ NotAStore) ⊎ (exit ≡ Memory)
+  pub no_store : (exit : Exit) (old new : Option (List ℕ)) (read write : Type 0) → IsKnown exit old new read write → IsReadable command left → (read → ⊥) → (Rose (disks.faults disk) (disks.faults disk_after) → ⊥) →
+      TellsThat IsNoStore (disks.contents disk) → (exit ≡ NotAStore) ⊎ (exit ≡ Memory)
   no_store exit old new read write known reads r d tells =
-      refusal exit NotAStore IsNoStore is_store old new read write known reads r d tells (λ e. refl) (λ cell e. absurd (both cell (told disk) tells (subst HasCause e (cause exit old new known.ends)).0))
+      refusal exit NotAStore IsNoStore is_store old new read write known reads r d tells (λ e. refl) (λ cell e. absurd (both cell (disks.contents disk) tells (subst HasCause e (cause exit old new known.ends)).0))
     where
       both : (cell : ℕ) (t : Option (List ℕ)) → TellsThat IsNoStore t → IfSome t (λ image. IsFirstDamaged image cell) → ⊥
       both cell None none damaged = none
       both cell (Some image) none damaged = none.other damaged.store
 
-  pub bad_cell : (exit : Exit) (old new : Option (List ℕ)) (read write : Type 0) → IsKnown exit old new read write → IsReadable command left → (read → ⊥) → (Rose (faults disk) (faults disk_after) → ⊥) →
-      (cell : ℕ) → TellsThat (λ image. IsFirstDamaged image cell) (told disk) → (exit ≡ DamagedCell cell) ⊎ (exit ≡ Memory)
+  pub bad_cell : (exit : Exit) (old new : Option (List ℕ)) (read write : Type 0) → IsKnown exit old new read write → IsReadable command left → (read → ⊥) → (Rose (disks.faults disk) (disks.faults disk_after) → ⊥) →
+      (cell : ℕ) → TellsThat (λ image. IsFirstDamaged image cell) (disks.contents disk) → (exit ≡ DamagedCell cell) ⊎ (exit ≡ Memory)
   bad_cell exit old new read write known reads r d cell tells =
       refusal exit (DamagedCell cell) (λ image. IsFirstDamaged image cell) (λ image. is_sound image cell) old new read write known reads r d tells
-      (λ e. absurd (both (told disk) tells (subst HasCause e (cause exit old new known.ends)).0))
-      (λ other e. ap (λ (c : ℕ). DamagedCell c) (first (told disk) other tells (subst HasCause e (cause exit old new known.ends)).0))
+      (λ e. absurd (both (disks.contents disk) tells (subst HasCause e (cause exit old new known.ends)).0))
+      (λ other e. ap (λ (c : ℕ). DamagedCell c) (first (disks.contents disk) other tells (subst HasCause e (cause exit old new known.ends)).0))
     where
       both : (t : Option (List ℕ)) → TellsThat (λ image. IsFirstDamaged image cell) t → IfSome t IsNoStore → ⊥
       both None damaged none = damaged
@@ -228,7 +230,7 @@ module _ {D A C : Type 0} (told : D → Option (List ℕ)) (may_leave : D → Li
 
   -- without them
   pub unanswered_ends : (why : Unanswered) (old new : Option (List ℕ)) (lines : List ScriptLine) → AreLinesOf command left lines →
-      IsUnanswered told may_leave moment left_since faults held hard locations labels disk devices (labels_by command given) (seed_by command) lines why disk_after devices_after → EndsSo (exit_unanswered why) old new
+      IsUnanswered disks elements admits disk devices (labels_by command given) (seed_by command) lines why disk_after devices_after → EndsSo (exit_unanswered why) old new
   unanswered_ends (NotOpened opening.NotAStore) old new lines are u = record { lines = lines; lines_are = are; why = NotOpened opening.NotAStore; exit_is = refl; unanswered = u }
   unanswered_ends (NotOpened (opening.DamagedCell cell)) old new lines are u = record { lines = lines; lines_are = are; why = NotOpened (opening.DamagedCell cell); exit_is = refl; unanswered = u }
   unanswered_ends (NotOpened opening.Disk) old new lines are u = record { lines = lines; lines_are = are; why = NotOpened opening.Disk; exit_is = refl; unanswered = u }
@@ -237,22 +239,22 @@ module _ {D A C : Type 0} (told : D → Option (List ℕ)) (may_leave : D → Li
 
   -- replies of these lines are a command's, where labels, seed and workers are the command's
   pub of_answered : (named : List Label) (seed : List ℕ) (workers : ℕ) (lines : List ScriptLine) (replies : List ReplyLine) → named ≡ labels_by command given → seed ≡ seed_by command → workers ≡ workers_by command →
-      AreLinesOf command left lines → IsAnswered told may_leave moment left_since faults held hard locations labels disk devices named seed workers lines replies disk_after devices_after → Answers replies
+      AreLinesOf command left lines → IsAnswered disks elements admits disk devices named seed workers lines replies disk_after devices_after → Answers replies
   of_answered named seed workers lines replies same_labels same_seed same_workers are a = record {
     lines = lines;
     lines_are = are;
     answered =
-        subst (λ n. IsAnswered told may_leave moment left_since faults held hard locations labels disk devices (labels_by command given) (seed_by command) n lines replies disk_after devices_after) same_workers
-        (subst (λ z. IsAnswered told may_leave moment left_since faults held hard locations labels disk devices (labels_by command given) z workers lines replies disk_after devices_after) same_seed
-        (subst (λ n. IsAnswered told may_leave moment left_since faults held hard locations labels disk devices n seed workers lines replies disk_after devices_after) same_labels a));
+        subst (λ n. IsAnswered disks elements admits disk devices (labels_by command given) (seed_by command) n lines replies disk_after devices_after) same_workers
+        (subst (λ z. IsAnswered disks elements admits disk devices (labels_by command given) z workers lines replies disk_after devices_after) same_seed
+        (subst (λ n. IsAnswered disks elements admits disk devices n seed workers lines replies disk_after devices_after) same_labels a));
   }
 
   pub of_unanswered : (named : List Label) (seed : List ℕ) (why : Unanswered) (old new : Option (List ℕ)) (lines : List ScriptLine) → named ≡ labels_by command given → seed ≡ seed_by command → AreLinesOf command left lines →
-      IsUnanswered told may_leave moment left_since faults held hard locations labels disk devices named seed lines why disk_after devices_after → EndsSo (exit_unanswered why) old new
+      IsUnanswered disks elements admits disk devices named seed lines why disk_after devices_after → EndsSo (exit_unanswered why) old new
   of_unanswered named seed why old new lines same_labels same_seed are u =
       unanswered_ends why old new lines are
-      (subst (λ z. IsUnanswered told may_leave moment left_since faults held hard locations labels disk devices (labels_by command given) z lines why disk_after devices_after) same_seed
-      (subst (λ n. IsUnanswered told may_leave moment left_since faults held hard locations labels disk devices n seed lines why disk_after devices_after) same_labels u))
+      (subst (λ z. IsUnanswered disks elements admits disk devices (labels_by command given) z lines why disk_after devices_after) same_seed
+      (subst (λ n. IsUnanswered disks elements admits disk devices n seed lines why disk_after devices_after) same_labels u))
 
 -- what holds of a result that is this
 pub match_ok : {T E : Type 0} (P : T → Type 0) (Q : E → Type 0) (r : Result T E) (x : T) → r ≡ Ok x → MatchResult r P Q → P x
@@ -269,11 +271,10 @@ clash text lines f reads fails = cc
 one_fault : (text : List ℕ) (f g : ScriptFault) → script_of text ≡ Err f → script_of text ≡ Err g → Script f ≡ Script g
 one_fault text f g e k = cc
 
-module _ {D A C : Type 0} (told : D → Option (List ℕ)) (may_leave : D → List ℕ → Type 0) (moment : D → ℕ) (left_since : D → ℕ → List ℕ → Type 0)
-    (faults : D → ℕ) (held : A → Option HeldKeys) (hard : A → ℕ) (locations : A → List ℕ) (labels : C → List Label)
+module _ {D A C : Type 0} (disks : Disk.Ghosts D) (elements : Devices.Ghosts A) (admits : Admission.Ghosts C)
     (given : List Label) (disk : D) (devices : A) (options : RunOptions) (disk_after : D) (devices_after : A) where
   abbrev IsKnownOf : (left : Option (List ℕ)) → Exit → (old new : Option (List ℕ)) (read_fault write_fault : Type 0) → Type 0
-  IsKnownOf left = IsKnown told may_leave moment left_since faults held hard locations labels given left disk devices (Run options) disk_after devices_after
+  IsKnownOf left = IsKnown disks elements admits given left disk devices (Run options) disk_after devices_after
 
   -- it is refused by its first fault, but for a fault of the source, and want of memory
   pub refused : (left : Option (List ℕ)) (exit : Exit) (old new : Option (List ℕ)) (read write : Type 0) → IsKnownOf left exit old new read write → (read → ⊥) →

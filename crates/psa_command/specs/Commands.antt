@@ -18,6 +18,9 @@ use Rattle.session_host.specs.Runs.{IsAnswered, IsUnanswered}
 use Rattle.psa_command.specs.declared.exit.Exit.{Exit}
 use Rattle.psa_command.specs.declared.exit.Exit.TheVariants.{Done, Usage, Script, ReadFault, WriteFault, NotAStore, DamagedCell, DiskFault, Memory}
 use Rattle.psa_command.specs.Ends.{TakesPart, exit_unanswered}
+use Rattle.disk_face.specs.declared.Disk as Disk
+use Rattle.driver_dispatch.specs.declared.devices.Devices as Devices
+use Rattle.admission.specs.declared.rules.Admission as Admission
 
 -- the lines of a command: those of the script, where the source told it, or the generator's
 abbrev pub AreLinesOf : Command → (left : Option (List ℕ)) → List ScriptLine → Type 0
@@ -43,14 +46,13 @@ abbrev pub text_by : Command → List ReplyLine → List ℕ
 text_by (Run options) replies = text_of replies
 text_by (Generate count) replies = summary_of replies
 
-module _ {D A C : Type 0} (told : D → Option (List ℕ)) (may_leave : D → List ℕ → Type 0) (moment : D → ℕ) (left_since : D → ℕ → List ℕ → Type 0)
-    (faults : D → ℕ) (held : A → Option HeldKeys) (hard : A → ℕ) (locations : A → List ℕ) (labels : C → List Label)
+module _ {D A C : Type 0} (disks : Disk.Ghosts D) (elements : Devices.Ghosts A) (admits : Admission.Ghosts C)
     (given : List Label) (left : Option (List ℕ)) (disk : D) (devices : A) (command : Command) (disk_after : D) (devices_after : A) where
   -- a command's calls were made, and these are their replies
   pub record IsRun (replies : List ReplyLine) : Type 0 where
     pub lines : List ScriptLine
     pub lines_are : AreLinesOf command left lines
-    pub answered : IsAnswered told may_leave moment left_since faults held hard locations labels disk devices (labels_by command given) (seed_by command) (workers_by command) lines replies disk_after devices_after
+    pub answered : IsAnswered disks elements admits disk devices (labels_by command given) (seed_by command) (workers_by command) lines replies disk_after devices_after
 
   -- a command's lines had no replies, and it ended so
   pub record IsUnrun (exit : Exit) : Type 0 where
@@ -58,7 +60,7 @@ module _ {D A C : Type 0} (told : D → Option (List ℕ)) (may_leave : D → Li
     pub lines_are : AreLinesOf command left lines
     pub why : Unanswered
     pub exit_is : exit ≡ exit_unanswered why
-    pub unanswered : IsUnanswered told may_leave moment left_since faults held hard locations labels disk devices (labels_by command given) (seed_by command) lines why disk_after devices_after
+    pub unanswered : IsUnanswered disks elements admits disk devices (labels_by command given) (seed_by command) lines why disk_after devices_after
 
   abbrev pub IsGivenBack : Type 0
   IsGivenBack = (disk_after ≡ disk) × (devices_after ≡ devices)

@@ -56,7 +56,7 @@ fn run_script<
     requires last { options.now.workers ≤ 16 }
     requires empty { (handle : ℕ) → Lacks (A.keys devices) handle }
     ensures ends { (given : List Label) → C.labels rules ≡ picked options.now.labels given →
-        EndsBy D.contents D.may_leave D.moment D.left_since D.faults A.keys A.faults A.locations C.labels given (S.left source.old) disk devices (commands.Run options.now) result.disk result.devices result.exit (K.taken sink.old) (K.taken sink.new) }
+        EndsBy D.Disk A.Devices C.Admission given (S.left source.old) disk devices (commands.Run options.now) result.disk result.devices result.exit (K.taken sink.old) (K.taken sink.new) }
     ensures end { IsReadToEnd result.exit → IsAtEnd (S.left source.new) }
     ensures quiet { IsQuiet result.exit → sink.new ≡ sink.old }
     ensures write { result.exit ≡ Exit.WriteFault → Rose (K.faults sink.old) (K.faults sink.new) }
@@ -108,7 +108,7 @@ fn run_generator<K: Sink, D: Disk + Send, A: Devices, C: Admission, R: Threads +
     requires few { count ≤ 20000 }
     requires empty { (handle : ℕ) → Lacks (A.keys devices) handle }
     ensures ends { (given : List Label) (left : Option (List ℕ)) → C.labels rules ≡ picked [] given →
-        EndsBy D.contents D.may_leave D.moment D.left_since D.faults A.keys A.faults A.locations C.labels given left disk devices (commands.Generate count) result.disk result.devices result.exit (K.taken sink.old) (K.taken sink.new) }
+        EndsBy D.Disk A.Devices C.Admission given left disk devices (commands.Generate count) result.disk result.devices result.exit (K.taken sink.old) (K.taken sink.new) }
     ensures late { IsBeforeOpening result.exit → ⊥ }
     ensures quiet { IsQuiet result.exit → sink.new ≡ sink.old }
     ensures write { result.exit ≡ Exit.WriteFault → Rose (K.faults sink.old) (K.faults sink.new) }
@@ -163,7 +163,7 @@ pub fn run_command<
     // The bytes written are what is written of the replies of one order of the command's calls, replayed on the one-thread
     // service from the keys of the disk; a crash since the opening leaves the persistent keys of a prefix of that order.
     ensures ends { (c : command.Command) → command_of (L.labels rules) (map (λ w. w.now) words.now) ≡ Some c →
-        EndsBy D.contents D.may_leave D.moment D.left_since D.faults A.keys A.faults A.locations L.Picked.labels (L.labels rules) (S.left source.old) disk devices c result.disk result.devices result.exit (K.taken sink.old) (K.taken sink.new) }
+        EndsBy D.Disk A.Devices L.Picked.Admission (L.labels rules) (S.left source.old) disk devices c result.disk result.devices result.exit (K.taken sink.old) (K.taken sink.new) }
     ensures usage { (result.exit ≡ Exit.Usage) ↔ (command_of (L.labels rules) (map (λ w. w.now) words.now) ≡ None) }
     ensures returned { IsBeforeOpening result.exit → (result.disk ≡ disk) × (result.devices ≡ devices) }
     ensures late { (count : ℕ) → command_of (L.labels rules) (map (λ w. w.now) words.now) ≡ Some (commands.Generate count) → IsBeforeOpening result.exit → ⊥ }

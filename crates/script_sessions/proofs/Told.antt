@@ -18,7 +18,7 @@ use Rattle.store_core.specs.declared.store.Opened.{Opened}
 use Rattle.callers.specs.Called.{IsAnswered, IsCalled, IsToldTo, Starts}
 use Rattle.callers.specs.Failures.{failure_in, failure_marked}
 use Rattle.callers.specs.Ready.{IsReady}
-use Rattle.callers.specs.Worlds.{World}
+use Rattle.shared_store.specs.Worlds.{World}
 use Rattle.callers.specs.declared.caller.Caller.{Caller}
 use Rattle.callers.proofs.Journeys.{begins_through, told_front}
 use Rattle.script_lang.specs.declared.script.ScriptLine.{ScriptLine}
@@ -94,7 +94,7 @@ module _ {D A C : Type 0} (w : World D A C) where
     | inr long ↦
         let on : StartsWith g part = two_beginnings whole part g s begins (let l = long.1 in omega arith) in
         subst P (sym (same_turns session start g part on (between session whole g part begins on same)))
-        (known tells start is part (begins_itself part) (told_front (w.told w.opened.file.value.cells.disk) start g part on told))
+        (known tells start is part (begins_itself part) (told_front (w.disk.contents w.opened.file.value.cells.disk) start g part on told))
   ]
 
   module _ (old new : Caller D A C) (call : Request) (rank : ℕ) (P : Reply → Type 0) (F : Option Status → Type 0) (before_ready : IsReady w 0 old) (after_ready : IsReady w 0 new)
@@ -136,7 +136,7 @@ module _ {D A C : Type 0} (w : World D A C) where
           call_is = m.called.call_is;
           rank_is = m.called.rank;
           turns = one_more_turn old.number start (entries_of old.pass.me.0.seen) m.before g m.entry m.called.goes_on.since same_before by on calls;
-          known = m.replied tells start is (told_front (w.told w.opened.file.value.cells.disk) start g (m.before ++ m.entry ∷ []) on told);
+          known = m.replied tells start is (told_front (w.disk.contents w.opened.file.value.cells.disk) start g (m.before ++ m.entry ∷ []) on told);
         }
 
     -- What was known of the turns before, and follows from it with one more, is known: each beginning has this call, or goes no
@@ -155,7 +155,7 @@ module _ {D A C : Type 0} (w : World D A C) where
               let on : StartsWith g (m.before ++ m.entry ∷ []) =
               two_beginnings u (m.before ++ m.entry ∷ []) g m.called.placed begins (let a = length-append m.before (m.entry ∷ []) in let l = long.1 in omega (arith, a, l)) in
               let s = grown tells start is g begins on told in
-              let before : IsToldTo w start v = told_front (w.told w.opened.file.value.cells.disk) start g v (begins_since v m.before g m.entry m.called.goes_on.since on) told in
+              let before : IsToldTo w start v = told_front (w.disk.contents w.opened.file.value.cells.disk) start g v (begins_since v m.before g m.entry m.called.goes_on.since on) told in
               subst R (sym s.turns) (next start g s (known tells start is v (begins_itself v) before))
         ])
 

@@ -12,7 +12,7 @@ use Rattle.store_core.specs.declared.store.Opened.{Opened}
 use Rattle.callers.specs.Called.{IsCalled, IsToldTo, KnowsBefore, Starts}
 use Rattle.callers.specs.Failures.{failure_marked}
 use Rattle.callers.specs.Ready.{IsReady}
-use Rattle.callers.specs.Worlds.{World}
+use Rattle.shared_store.specs.Worlds.{World}
 use Rattle.callers.specs.declared.caller.Caller.{Caller}
 use Rattle.script_lang.specs.declared.script.ScriptLine.{ScriptLine}
 use Rattle.script_lang.specs.Replies.{AreKept, ReplyLine}
@@ -48,7 +48,7 @@ pub record GoesFurther {D A C : Type 0} (session : ℕ) (old new : Caller D A C)
 module _ {D A C : Type 0} (w : World D A C) where
   -- the secure element tells its keys, and so what it computes
   abbrev pub ElementTells : Type 0
-  ElementTells = is_some (w.keys w.opened.devices.value) ≡ true
+  ElementTells = is_some (w.devices.keys w.opened.devices.value) ≡ true
 
   -- P holds of a session's turns in each beginning of a history that is told, from each start
   abbrev pub KnowsTurns : ℕ → List Entry → (List Turn → Type 0) → Type 0

@@ -1,7 +1,7 @@
 // One session.
 ghost use Rattle.std.specs.Prelude.{◌≡◌, ◌≤◌, ◌<◌, ◌+◌, ◌-◌, ◌^◌, ◌++◌, ◌∷◌, [], ℕ, List, IfOk, MatchResult, length, ◌⊎◌};
 ghost use Rattle.callers.specs.Ready.{IsReady};
-ghost use Rattle.callers.specs.Worlds.{world};
+ghost use Rattle.shared_store.specs.Shared.{world};
 ghost use Rattle.script_lang.specs.Commands.{request_of};
 ghost use Rattle.script_lang.specs.Replies.{AreKept, ReplyLine};
 ghost use Rattle.script_lang.specs.declared.script.ScriptLine as script_line;
@@ -53,16 +53,16 @@ impl<D: Disk, A: Devices, C: Admission> Session<D, A, C> {
         buffer: &mut [u8],
         line: &ScriptLine,
     ) -> Result<u32, Memory>
-        requires ready { IsReady (world D.contents D.moment D.faults A.keys A.faults A.locations C.labels service.now.shared.lock.table.shared.table_id service.now.shared.lock.table.shared.key.value.value.store.opened) 0 self.old.caller }
+        requires ready { IsReady (world service.now.shared) 0 self.old.caller }
         requires budget { self.old.caller.spent + 2 ≤ service.now.worn }
         requires room { 16448 ≤ length buffer.old }
         requires kept { (lines : List ReplyLine) × AreKept self.old.replies lines × (length lines < 2 ^ 32 - 1) }
-        ensures ready { IsReady (world D.contents D.moment D.faults A.keys A.faults A.locations C.labels service.now.shared.lock.table.shared.table_id service.now.shared.lock.table.shared.key.value.value.store.opened) 0 self.new.caller }
+        ensures ready { IsReady (world service.now.shared) 0 self.new.caller }
         ensures spent { self.new.caller.spent ≤ self.old.caller.spent + 2 }
         ensures number { self.new.caller.number ≡ self.old.caller.number }
         ensures made { (rank : ℕ) × MatchResult result
-            (λ given. (a : Answer) × (a.id ≡ given) × Notes self.old.replies self.new.replies rank a × IsMade (world D.contents D.moment D.faults A.keys A.faults A.locations C.labels service.now.shared.lock.table.shared.table_id service.now.shared.lock.table.shared.key.value.value.store.opened) self.old.caller.pass.me.0 self.new.caller.pass.me.0 (request_of self.old.given.items line.now.call) rank (Answers a) (Tells a))
-            (λ full. IsMade (world D.contents D.moment D.faults A.keys A.faults A.locations C.labels service.now.shared.lock.table.shared.table_id service.now.shared.lock.table.shared.key.value.value.store.opened) self.old.caller.pass.me.0 self.new.caller.pass.me.0 (request_of self.old.given.items line.now.call) rank (λ reply. Unit {0}) (λ failure. Unit {0})) }
+            (λ given. (a : Answer) × (a.id ≡ given) × Notes self.old.replies self.new.replies rank a × IsMade (world service.now.shared) self.old.caller.pass.me.0 self.new.caller.pass.me.0 (request_of self.old.given.items line.now.call) rank (Answers a) (Tells a))
+            (λ full. IsMade (world service.now.shared) self.old.caller.pass.me.0 self.new.caller.pass.me.0 (request_of self.old.given.items line.now.call) rank (λ reply. Unit {0}) (λ failure. Unit {0})) }
         ensures session { self.new.replies.session ≡ self.old.replies.session }
         ensures form { self.new.replies.form ≡ self.old.replies.form }
         ensures given { self.new.given ≡ self.old.given }
@@ -84,14 +84,14 @@ impl<D: Disk, A: Devices, C: Admission> Session<D, A, C> {
         buffer: &mut [u8],
         line: &ScriptLine,
     ) -> Result<(), Memory>
-        requires ready { IsReady (world D.contents D.moment D.faults A.keys A.faults A.locations C.labels service.now.shared.lock.table.shared.table_id service.now.shared.lock.table.shared.key.value.value.store.opened) 0 self.old.caller }
+        requires ready { IsReady (world service.now.shared) 0 self.old.caller }
         requires own { line.now.session ≡ self.old.caller.number }
         requires budget { self.old.caller.spent + 2 ≤ service.now.worn }
         requires room { 16448 ≤ length buffer.old }
         requires kept { (lines : List ReplyLine) × AreKept self.old.replies lines × (length lines < 2 ^ 32 - 1) }
-        ensures ran { (lines : List script_line.ScriptLine) → HasAnswered (world D.contents D.moment D.faults A.keys A.faults A.locations C.labels service.now.shared.lock.table.shared.table_id service.now.shared.lock.table.shared.key.value.value.store.opened) lines self.old →
-            MatchResult result (λ done. HasAnswered (world D.contents D.moment D.faults A.keys A.faults A.locations C.labels service.now.shared.lock.table.shared.table_id service.now.shared.lock.table.shared.key.value.value.store.opened) (lines ++ line.now ∷ []) self.new)
-            (λ full. HasMade (world D.contents D.moment D.faults A.keys A.faults A.locations C.labels service.now.shared.lock.table.shared.table_id service.now.shared.lock.table.shared.key.value.value.store.opened) lines self.new.caller ⊎ HasMade (world D.contents D.moment D.faults A.keys A.faults A.locations C.labels service.now.shared.lock.table.shared.table_id service.now.shared.lock.table.shared.key.value.value.store.opened) (lines ++ line.now ∷ []) self.new.caller) }
+        ensures ran { (lines : List script_line.ScriptLine) → HasAnswered (world service.now.shared) lines self.old →
+            MatchResult result (λ done. HasAnswered (world service.now.shared) (lines ++ line.now ∷ []) self.new)
+            (λ full. HasMade (world service.now.shared) lines self.new.caller ⊎ HasMade (world service.now.shared) (lines ++ line.now ∷ []) self.new.caller) }
         ensures further { IfOk result (λ done. GoesFurther line.now.session self.old.caller self.new.caller) }
         ensures number { self.new.caller.number ≡ self.old.caller.number }
         ensures form { self.new.replies.form ≡ self.old.replies.form }

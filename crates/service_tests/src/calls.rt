@@ -1,7 +1,8 @@
 ghost use Rattle.std.specs.Prelude.{◌≡◌, ◌≤◌, ℕ, All, length};
 ghost use Rattle.driver_dispatch.specs.Calls.{Lacks};
 ghost use Rattle.callers.specs.Ready.{IsReady};
-ghost use Rattle.callers.specs.Worlds.{world};
+ghost use Rattle.shared_store.specs.Shared.{world};
+ghost use Rattle.caller_service.specs.Replies.{MayCall};
 
 use crate::rooms::{no_devices, no_rules, sound_disk};
 use admission::Admission;
@@ -38,10 +39,8 @@ fn wear<D: Disk, A: Devices, C: Admission, R: Abort + Wait>(
     service: &Service<D, A, C, NoGate>,
     caller: &mut Caller<D, A, C>,
 )
-    requires ready { IsReady (world D.contents D.moment D.faults A.keys A.faults A.locations C.labels service.now.shared.lock.table.shared.table_id service.now.shared.lock.table.shared.key.value.value.store.opened) 0 caller.old }
-    requires within { caller.old.spent ≤ service.now.worn }
-    ensures ready { IsReady (world D.contents D.moment D.faults A.keys A.faults A.locations C.labels service.now.shared.lock.table.shared.table_id service.now.shared.lock.table.shared.key.value.value.store.opened) 0 caller.new }
-    ensures within { caller.new.spent ≤ service.now.worn }
+    requires { MayCall service.now caller.old }
+    ensures { MayCall service.now caller.new }
 {
     let op = Op::first();
     let begun = service.hash_setup(rt, caller, op, Alg(0x0200_0009));
@@ -63,10 +62,8 @@ fn import<D: Disk, A: Devices, C: Admission, R: Wait>(
     alg: u32,
     bytes: &[u8],
 ) -> KeyId
-    requires ready { IsReady (world D.contents D.moment D.faults A.keys A.faults A.locations C.labels service.now.shared.lock.table.shared.table_id service.now.shared.lock.table.shared.key.value.value.store.opened) 0 caller.old }
-    requires within { caller.old.spent ≤ service.now.worn }
-    ensures ready { IsReady (world D.contents D.moment D.faults A.keys A.faults A.locations C.labels service.now.shared.lock.table.shared.table_id service.now.shared.lock.table.shared.key.value.value.store.opened) 0 caller.new }
-    ensures within { caller.new.spent ≤ service.now.worn }
+    requires { MayCall service.now caller.old }
+    ensures { MayCall service.now caller.new }
 {
     let attributes = Attributes {
         lifetime: Lifetime(0),
@@ -90,10 +87,8 @@ fn compute_macs<D: Disk, A: Devices, C: Admission, R: Abort + Wait>(
     service: &Service<D, A, C, NoGate>,
     caller: &mut Caller<D, A, C>,
 )
-    requires ready { IsReady (world D.contents D.moment D.faults A.keys A.faults A.locations C.labels service.now.shared.lock.table.shared.table_id service.now.shared.lock.table.shared.key.value.value.store.opened) 0 caller.old }
-    requires within { caller.old.spent ≤ service.now.worn }
-    ensures ready { IsReady (world D.contents D.moment D.faults A.keys A.faults A.locations C.labels service.now.shared.lock.table.shared.table_id service.now.shared.lock.table.shared.key.value.value.store.opened) 0 caller.new }
-    ensures within { caller.new.spent ≤ service.now.worn }
+    requires { MayCall service.now caller.old }
+    ensures { MayCall service.now caller.new }
 {
     let bytes = [
         0x2b, 0x7e, 0x15, 0x16, 0x28, 0xae, 0xd2, 0xa6, 0xab, 0xf7, 0x15, 0x88, 0x09, 0xcf, 0x4f,
@@ -126,10 +121,8 @@ fn open_sealed<D: Disk, A: Devices, C: Admission, R: Abort + Wait>(
     service: &Service<D, A, C, NoGate>,
     caller: &mut Caller<D, A, C>,
 )
-    requires ready { IsReady (world D.contents D.moment D.faults A.keys A.faults A.locations C.labels service.now.shared.lock.table.shared.table_id service.now.shared.lock.table.shared.key.value.value.store.opened) 0 caller.old }
-    requires within { caller.old.spent ≤ service.now.worn }
-    ensures ready { IsReady (world D.contents D.moment D.faults A.keys A.faults A.locations C.labels service.now.shared.lock.table.shared.table_id service.now.shared.lock.table.shared.key.value.value.store.opened) 0 caller.new }
-    ensures within { caller.new.spent ≤ service.now.worn }
+    requires { MayCall service.now caller.old }
+    ensures { MayCall service.now caller.new }
 {
     let sealed = [
         0x03, 0x88, 0xda, 0xce, 0x60, 0xb6, 0xa3, 0x92, 0xf3, 0x28, 0xc2, 0xb9, 0x71, 0xb2, 0xfe,
@@ -150,10 +143,8 @@ fn decipher<D: Disk, A: Devices, C: Admission, R: Abort + Wait>(
     service: &Service<D, A, C, NoGate>,
     caller: &mut Caller<D, A, C>,
 )
-    requires ready { IsReady (world D.contents D.moment D.faults A.keys A.faults A.locations C.labels service.now.shared.lock.table.shared.table_id service.now.shared.lock.table.shared.key.value.value.store.opened) 0 caller.old }
-    requires within { caller.old.spent ≤ service.now.worn }
-    ensures ready { IsReady (world D.contents D.moment D.faults A.keys A.faults A.locations C.labels service.now.shared.lock.table.shared.table_id service.now.shared.lock.table.shared.key.value.value.store.opened) 0 caller.new }
-    ensures within { caller.new.spent ≤ service.now.worn }
+    requires { MayCall service.now caller.old }
+    ensures { MayCall service.now caller.new }
 {
     let mut input = [
         0x61, 0x6e, 0x20, 0x49, 0x56, 0x20, 0x69, 0x73, 0x20, 0x61, 0x20, 0x62, 0x6c, 0x6f, 0x63,
@@ -178,10 +169,8 @@ fn make_calls<D: Disk, A: Devices, C: Admission, R: Abort + Wait>(
     service: &Service<D, A, C, NoGate>,
     caller: &mut Caller<D, A, C>,
 )
-    requires ready { IsReady (world D.contents D.moment D.faults A.keys A.faults A.locations C.labels service.now.shared.lock.table.shared.table_id service.now.shared.lock.table.shared.key.value.value.store.opened) 0 caller.old }
-    requires within { caller.old.spent ≤ service.now.worn }
-    ensures ready { IsReady (world D.contents D.moment D.faults A.keys A.faults A.locations C.labels service.now.shared.lock.table.shared.table_id service.now.shared.lock.table.shared.key.value.value.store.opened) 0 caller.new }
-    ensures within { caller.new.spent ≤ service.now.worn }
+    requires { MayCall service.now caller.old }
+    ensures { MayCall service.now caller.new }
 {
     match caller.number() {
         1 => wear(rt, service, caller),
@@ -198,9 +187,9 @@ fn make_all<D: Disk, A: Devices, C: Admission, R: Abort + Wait>(
     service: &Service<D, A, C, NoGate>,
     callers: &mut Vec<Caller<D, A, C>>,
 )
-    requires ready { All (IsReady (world D.contents D.moment D.faults A.keys A.faults A.locations C.labels service.now.shared.lock.table.shared.table_id service.now.shared.lock.table.shared.key.value.value.store.opened) 0) callers.old.items }
+    requires ready { All (IsReady (world service.now.shared) 0) callers.old.items }
     requires within { All (λ caller. caller.spent ≤ service.now.worn) callers.old.items }
-    ensures ready { All (IsReady (world D.contents D.moment D.faults A.keys A.faults A.locations C.labels service.now.shared.lock.table.shared.table_id service.now.shared.lock.table.shared.key.value.value.store.opened) 0) callers.new.items }
+    ensures ready { All (IsReady (world service.now.shared) 0) callers.new.items }
     ensures count { length callers.new.items ≡ length callers.old.items }
 {
     for caller in callers.iter_mut() {

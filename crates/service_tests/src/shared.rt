@@ -3,6 +3,7 @@ ghost use Rattle.driver_dispatch.specs.Held.{no_keys};
 ghost use Rattle.turn_history.specs.Passes.{AreNew};
 ghost use Rattle.shared_store.specs.Turning.{IsAt};
 ghost use Rattle.shared_store.specs.Closed.{AreAt};
+ghost use Rattle.shared_store.specs.Shared.{world};
 
 use crate::rooms::{no_rules, sound_disk};
 use admission::Admission;
@@ -29,8 +30,8 @@ fn open<D: Disk + Drop, A: Devices, C: Admission>(
     rules: C,
 ) -> Result<Shared<D, A, C>, Fail>
     requires { A.keys devices ≡ Some no_keys }
-    ensures new { IfOk result (λ made. AreNew made.0.lock.table.shared.table_id made.0.lock.table.shared.key.value.value.store.opened 16 made.1.items) }
-    ensures at { IfOk result (λ made. AreAt made.0.lock.table.shared.table_id made.0.lock.table.shared.key.value.value.store.opened made.1.items) }
+    ensures new { IfOk result (λ made. AreNew (world made.0).lock (world made.0).opened 16 made.1.items) }
+    ensures at { IfOk result (λ made. AreAt (world made.0) made.1.items) }
 {
     match SharedStore::open(alloc, disk, devices, rules, &[0; 32]) {
         Ok(made) => Ok(made),
@@ -44,7 +45,7 @@ fn count_two<R: Abort + Wait, D: Disk, A: Devices, C: Admission>(
     shared: &SharedStore<D, A, C>,
     pass: &mut Pass<Held<D, A, C>>,
 )
-    requires at { IsAt shared.now.lock.table.shared.table_id shared.now.lock.table.shared.key.value.value.store.opened pass.old }
+    requires at { IsAt (world shared.now) pass.old }
     requires left { 1 < pass.old.me.0.turns_left }
 {
     let call = Call::OnStore(StoreCall::HashCompute {
@@ -97,7 +98,7 @@ fn destroy_twice<R: Abort + Wait, D: Disk, A: Devices, C: Admission>(
     pass: &mut Pass<Held<D, A, C>>,
     id: KeyId,
 )
-    requires at { IsAt shared.now.lock.table.shared.table_id shared.now.lock.table.shared.key.value.value.store.opened pass.old }
+    requires at { IsAt (world shared.now) pass.old }
     requires left { 1 < pass.old.me.0.turns_left }
 {
     let destroy = Call::OnStore(StoreCall::Destroy(id));
@@ -113,7 +114,7 @@ fn make_read_and_destroy<R: Abort + Wait, D: Disk, A: Devices, C: Admission>(
     shared: &SharedStore<D, A, C>,
     pass: &mut Pass<Held<D, A, C>>,
 ) -> Result<(), Fail>
-    requires at { IsAt shared.now.lock.table.shared.table_id shared.now.lock.table.shared.key.value.value.store.opened pass.old }
+    requires at { IsAt (world shared.now) pass.old }
     requires left { 5 < pass.old.me.0.turns_left }
     requires first { pass.old.me.0.number ≡ 1 }
     requires nothing { pass.old.me.0.holding ≡ [] }
@@ -170,7 +171,7 @@ fn end_all<D: Disk, A: Devices, C: Admission>(
     shared: SharedStore<D, A, C>,
     passes: Vec<Pass<Held<D, A, C>>>,
 ) -> D
-    requires { AreNew shared.lock.table.shared.table_id shared.lock.table.shared.key.value.value.store.opened 16 passes.items }
+    requires { AreNew (world shared).lock (world shared).opened 16 passes.items }
 {
     let mut ending = shared.start_ending();
     for pass in passes {

@@ -6,7 +6,7 @@ use Rattle.std.proofs.lemmas.List.{append-nil, get_or_push, map-append}
 use Rattle.script_sessions.specs.declared.session.Session.{Session}
 use Rattle.session_workers.specs.declared.worker.Worker.{Worker}
 use Rattle.std.specs.Prelude.{All, None, vec_capacity}
-use Rattle.callers.specs.Worlds.{World}
+use Rattle.shared_store.specs.Worlds.{World}
 use Rattle.callers.specs.declared.caller.Caller.{Caller}
 use Rattle.caller_service.specs.Staff.{IsNewCaller}
 use Rattle.script_lang.specs.Replies.{AreKept}

@@ -1,6 +1,6 @@
 // The sessions, dealt to the threads that run them.
 ghost use Rattle.std.specs.Prelude.{◌≡◌, ◌≤◌, ◌<◌, ◌+◌, [], ℕ, All, IfOk, length, get_or, vec_capacity, vec_len};
-ghost use Rattle.callers.specs.Worlds.{world};
+ghost use Rattle.shared_store.specs.Shared.{world};
 ghost use Rattle.caller_service.specs.Staff.{AreStaff};
 ghost use Rattle.session_dealing.specs.Dealing.{AreDealt, AreTaken, HaveOwn, IsFree};
 
@@ -89,10 +89,10 @@ pub fn deal<D: Disk, A: Devices, C: Admission, G: Gate>(
     callers: &mut Vec<Caller<D, A, C>>,
     workers: &mut [Worker<D, A, C>],
 )
-    requires staff { AreStaff (world D.contents D.moment D.faults A.keys A.faults A.locations C.labels service.now.shared.lock.table.shared.table_id service.now.shared.lock.table.shared.key.value.value.store.opened) callers.old.items }
+    requires staff { AreStaff (world service.now.shared) callers.old.items }
     requires some { 0 < length workers.old }
     requires free { All IsFree workers.old }
-    ensures dealt { AreDealt (world D.contents D.moment D.faults A.keys A.faults A.locations C.labels service.now.shared.lock.table.shared.table_id service.now.shared.lock.table.shared.key.value.value.store.opened) form workers.new }
+    ensures dealt { AreDealt (world service.now.shared) form workers.new }
     ensures count { length workers.new ≡ length workers.old }
     ensures callers { (callers.new.items ≡ []) × (16 ≤ vec_capacity callers.new) }
 {

@@ -5,7 +5,7 @@ use Rattle.std.proofs.lemmas.Grind.{flat_map-append}
 use Rattle.std.proofs.lemmas.List.Sums.{sum_by-append, sum_by-cons}
 use Rattle.std.proofs.lemmas.List.{get_or_default}
 use Rattle.turn_history.specs.History.{entries_of}
-use Rattle.callers.specs.Worlds.{World}
+use Rattle.shared_store.specs.Worlds.{World}
 use Rattle.callers.specs.declared.caller.Caller.{Caller}
 use Rattle.script_lang.specs.declared.script.ScriptLine.{ScriptLine}
 use Rattle.script_lang.specs.Replies.{AreAllKept, AreKept, ReplyLine, is_success, text_in}

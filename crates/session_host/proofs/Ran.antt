@@ -3,12 +3,11 @@ use Rattle.std.proofs.Common.{◌≡◌, ℕ, List, subst, sym, arith}
 use Rattle.std.specs.Prelude.{All, Option, is_some, take}
 use Rattle.atomic_table.specs.Seated.{TableId}
 use Rattle.policy_rules.specs.declared.narrowing.Label.{Label}
-use Rattle.driver_dispatch.specs.Held.{HeldKeys}
 use Rattle.store_model.specs.Marks.{FaultCounts}
 use Rattle.store_core.specs.Represents.{Opening}
 use Rattle.store_core.specs.declared.store.Opened.{Opened}
 use Rattle.store_core.specs.Start.{opening_of}
-use Rattle.callers.specs.Worlds.{World, world}
+use Rattle.shared_store.specs.Worlds.{World, world_of}
 use Rattle.callers.specs.declared.caller.Caller.{Caller}
 use Rattle.caller_service.specs.Closing.{IsClosedOver}
 use Rattle.script_lang.specs.declared.script.ScriptLine.{ScriptLine}
@@ -21,36 +20,38 @@ use Rattle.session_host.specs.Running.{HaveAnswered, HaveMade, HaveSeen, all_rep
 use Rattle.session_host.specs.Runs.{IsAnswered, IsBroken, IsOpening, IsRun}
 use Rattle.session_host.proofs.Gathered.{some_of}
 use Rattle.session_host.proofs.Whole.{all_calls, failures_are, first_calls, heads_are, line_order, replies_are, replies_so_far, whole_calls}
+use Rattle.disk_face.specs.declared.Disk as Disk
+use Rattle.driver_dispatch.specs.declared.devices.Devices as Devices
+use Rattle.admission.specs.declared.rules.Admission as Admission
 
-module _ {D A C : Type 0} (told : D → Option (List ℕ)) (may_leave : D → List ℕ → Type 0) (moment : D → ℕ) (left_since : D → ℕ → List ℕ → Type 0)
-    (faults : D → ℕ) (held : A → Option HeldKeys) (hard : A → ℕ) (locations : A → List ℕ) (labels : C → List Label)
+module _ {D A C : Type 0} (disks : Disk.Ghosts D) (elements : Devices.Ghosts A) (admits : Admission.Ghosts C)
     (lock : TableId) (opened : Opened D A C) (disk : D) (devices : A) (named : List Label) (seed : List ℕ) (disk_after : D) (devices_after : A)
-    (opening : IsOpening told may_leave moment left_since faults held hard locations labels disk devices named seed opened)
+    (opening : IsOpening (world_of disks elements admits lock opened) disk devices named seed)
     (lines : List ScriptLine) (sessions : All IsOfSession lines) (callers : List (Caller D A C))
-    (made : HaveMade (world told moment faults held hard locations labels lock opened) lines callers)
-    (closed : IsClosedOver told moment left_since faults hard locations labels opened disk_after devices_after callers) where
+    (made : HaveMade (world_of disks elements admits lock opened) lines callers)
+    (closed : IsClosedOver (world_of disks elements admits lock opened) disk_after devices_after callers) where
   abbrev d : Caller D A C
   d = some_of callers (let n = made.are.sixteen in omega arith)
 
   abbrev w : World D A C
-  w = world told moment faults held hard locations labels lock opened
+  w = world_of disks elements admits lock opened
 
   abbrev before : Opening
-  before = opening_of told moment faults hard locations labels opened
+  before = opening_of disks elements admits opened
 
   abbrev after : FaultCounts
-  after = record { faults = faults disk_after; hard = hard devices_after }
+  after = record { faults = disks.faults disk_after; hard = elements.faults devices_after }
 
-  few_marks : AreBounded (is_some (told disk)) before.counts after closed.history
+  few_marks : AreBounded (is_some (disks.contents disk)) before.counts after closed.history
   few_marks =
       subst (λ t. AreBounded t before.counts after closed.history) opening.found.tells
-      (subst (λ c. AreBounded (is_some (told opened.file.value.cells.disk)) before.counts c closed.history) closed.left.counts
-      (bounded (is_some (told opened.file.value.cells.disk)) before closed.history closed.left.legal.caused closed.left.legal.rising))
+      (subst (λ c. AreBounded (is_some (disks.contents opened.file.value.cells.disk)) before.counts c closed.history) closed.left.counts
+      (bounded (is_some (disks.contents opened.file.value.cells.disk)) before closed.history closed.left.legal.caused closed.left.legal.rising))
 
-  pub a_run : IsRun told may_leave moment left_since faults held hard locations labels disk devices named seed disk_after devices_after
-  a_run = record { opened = opened; opening = opening; history = closed.history; left = closed.left; bounded = few_marks }
+  pub a_run : IsRun disks elements admits disk devices named seed disk_after devices_after
+  a_run = record { lock = lock; opened = opened; opening = opening; history = closed.history; left = closed.left; bounded = few_marks }
 
-  pub broken : IsBroken told may_leave moment left_since faults held hard locations labels disk devices named seed lines disk_after devices_after
+  pub broken : IsBroken disks elements admits disk devices named seed lines disk_after devices_after
   unfolding a_run
   broken = record {
     run = a_run;
@@ -63,7 +64,7 @@ module _ {D A C : Type 0} (told : D → Option (List ℕ)) (may_leave : D → Li
   }
 
   pub answered : (replies : List (List ReplyLine)) (workers : ℕ) → HaveAnswered w lines callers replies → (workers ≡ 1 → HaveSeen lines callers) →
-      IsAnswered told may_leave moment left_since faults held hard locations labels disk devices named seed workers lines (all_replies replies) disk_after devices_after
+      IsAnswered disks elements admits disk devices named seed workers lines (all_replies replies) disk_after devices_after
   unfolding a_run
   answered replies workers h one = record {
     run = a_run;
@@ -72,7 +73,7 @@ module _ {D A C : Type 0} (told : D → Option (List ℕ)) (may_leave : D → Li
     answers = λ tells start is known. replies_are w lines callers closed.history made.are.sixteen made.are.numbers sessions closed.left.signed closed.seen closed.called replies d h tells start is known;
     so_far = λ tells start is beginning begins known. replies_so_far w lines callers closed.history made.are.sixteen made.are.numbers sessions closed.left.signed closed.seen closed.called replies d
         (some_of replies (let n = h.sixteen in omega arith)) h tells start is beginning begins known;
-    failures = bounded_lines (is_some (told disk)) before.counts after closed.history 16 (all_replies replies) few_marks
+    failures = bounded_lines (is_some (disks.contents disk)) before.counts after closed.history 16 (all_replies replies) few_marks
         (failures_are w lines callers closed.history made.are.sixteen made.are.numbers sessions closed.left.signed closed.seen closed.called replies d h opening.start opening.starts);
     line_order = λ is. line_order w lines callers closed.history made.are.sixteen made.are.numbers sessions closed.left.signed closed.seen closed.called d h.made (one is);
   }

@@ -99,7 +99,7 @@ module _ (D A C : RattleType) (d : IsSend D) (a : IsSend A) (c : IsSend C) where
     pub service_sync : IsSync (Service.the_row D A C G dg ag cg)
     service_sync =
         declared_sync (Service.the_type D A C G dg ag cg)
-        (declared_sync (Shared.the_type D A C dg ag cg) (lock_sync (Held.the_row D A C) _ _ _ held_send, tt), (search sendable, (as_row_sync (row_field G) g, tt)))
+        (declared_sync (Shared.the_type D A C dg ag cg) (lock_sync (Held.the_row D A C) _ _ _ held_send, (search (sendable, crosses) depth 20, tt)), (search sendable, (as_row_sync (row_field G) g, tt)))
 
 -- what a closure borrows that runs a worker
 module _ (ν : Sym) (ℓ₁ ℓ₂ ℓ₃ ℓ₄ : NamedLft) (R H S L : RattleType) (one₁ : builtin.One R.mir) (one₂ : builtin.One H.mir) (one₃ : builtin.One S.mir) (one₄ : builtin.One L.mir) (r : IsSync R) (h : IsSync H) (s : IsSync S) (l : IsSync L) where

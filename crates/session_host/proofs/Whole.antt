@@ -11,7 +11,7 @@ use Rattle.store_model.specs.Replay.{Entry}
 use Rattle.shared_store.specs.Standing.{caller_of}
 use Rattle.callers.specs.Called.{IsToldTo, Starts}
 use Rattle.callers.specs.Failures.{failure_marked}
-use Rattle.callers.specs.Worlds.{World}
+use Rattle.shared_store.specs.Worlds.{World}
 use Rattle.callers.specs.declared.caller.Caller.{Caller}
 use Rattle.script_lang.specs.declared.script.ScriptLine.{ScriptLine}
 use Rattle.script_lang.specs.Replies.{ReplyLine}

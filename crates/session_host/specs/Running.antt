@@ -1,7 +1,7 @@
 -- What is known of sixteen callers that make the calls of a script's lines.
 use Rattle.std.specs.Prelude.{ℕ, ◌≡◌, ◌⊎◌, ◌<◌, ◌+◌, List, [], length, flat_map, take, get_or}
 use Rattle.turn_history.specs.History.{entries_of}
-use Rattle.callers.specs.Worlds.{World}
+use Rattle.shared_store.specs.Worlds.{World}
 use Rattle.callers.specs.declared.caller.Caller.{Caller}
 use Rattle.script_lang.specs.declared.script.ScriptLine.{ScriptLine}
 use Rattle.script_lang.specs.Replies.{AreAllKept, ReplyLine}

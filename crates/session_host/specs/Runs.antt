@@ -1,5 +1,6 @@
 -- What is known of a run: the disk that was opened, the one order of its calls, and what it leaves.
-use Rattle.std.specs.Prelude.{◌≡◌, ◌≤◌, ◌↔◌, ◌⊎◌, ℕ, true, List, [], length, map, take, slice_get, Option, Some, IfSome, is_some}
+use Rattle.std.specs.Prelude.{◌≡◌, ◌≤◌, ◌↔◌, ◌⊎◌, ℕ, true, List, [], length, map, take, slice_get, Some, IfSome, is_some}
+use Rattle.atomic_table.specs.Seated.{TableId}
 use Rattle.turn_history.specs.History.{StartsWith}
 use Rattle.key_attributes.specs.declared.Attributes.{Attributes}
 use Rattle.policy_rules.specs.declared.narrowing.Label.{Label}
@@ -8,13 +9,13 @@ use Rattle.key_cells.specs.declared.slot.Slot as cell
 use Rattle.key_cells.specs.declared.reading.OpenFault.{OpenFault}
 use Rattle.key_cells.specs.declared.reading.OpenFault.TheVariants as opening
 use Rattle.key_cells.specs.Opened.{IsOpened, IsRefused}
-use Rattle.driver_dispatch.specs.Held.{HeldKeys}
 use Rattle.store_model.specs.Handles.{Service}
 use Rattle.store_model.specs.Replay.{Entry}
 use Rattle.store_model.specs.Sound.{IsSoundStore}
 use Rattle.store_core.specs.declared.store.Opened.{Opened}
 use Rattle.store_core.specs.Start.{opening_of}
 use Rattle.shared_store.specs.Turning.{IsStartOf, ToldBy}
+use Rattle.shared_store.specs.Worlds.{World, world_of}
 use Rattle.caller_service.specs.Closing.{IsLeft}
 use Rattle.script_lang.specs.declared.script.ScriptLine.{ScriptLine}
 use Rattle.script_lang.specs.Replies.{AreAllKept, ReplyLine}
@@ -27,48 +28,44 @@ use Rattle.script_sessions.specs.Heads.{head_of, heads_to, ranks_of}
 use Rattle.script_sessions.specs.Printed.{AreFirstCalls, AreReplies, AreRepliesSoFar, IsInLineOrder}
 use Rattle.session_host.specs.declared.lines.Unanswered.{Unanswered}
 use Rattle.session_host.specs.declared.lines.Unanswered.TheVariants.{NotOpened, Memory}
+use Rattle.disk_face.specs.declared.Disk as Disk
+use Rattle.driver_dispatch.specs.declared.devices.Devices as Devices
+use Rattle.admission.specs.declared.rules.Admission as Admission
 
-module _ {D A C : Type 0} (told : D → Option (List ℕ)) (may_leave : D → List ℕ → Type 0) (moment : D → ℕ) (left_since : D → ℕ → List ℕ → Type 0)
-    (faults : D → ℕ) (held : A → Option HeldKeys) (hard : A → ℕ) (locations : A → List ℕ) (labels : C → List Label) where
-  -- a start that an opening permits
-  abbrev pub Starts : Opened D A C → Service → Type 0
-  Starts = IsStartOf told moment faults hard locations labels
-
-  -- what a history makes of the keys is told: the disk tells its bytes, or no persistent key was read
-  abbrev pub IsTold : Opened D A C → Service → List Entry → Type 0
-  IsTold = ToldBy told moment faults hard locations labels
-
+module _ {D A C : Type 0} (w : World D A C) where
   -- The opening of a store from this disk, with these devices, rules of these labels and this seed. There is a start, and each is
   -- sound. Where the disk tells its bytes, the keys of a start are those of its image. The disk's count of faults hasn't fallen.
-  pub record IsOpening (disk : D) (devices : A) (named : List Label) (seed : List ℕ) (opened : Opened D A C) : Type 0 where
+  pub record IsOpening (disk : D) (devices : A) (named : List Label) (seed : List ℕ) : Type 0 where
     pub start : Service
-    pub starts : Starts opened start
-    pub sound : (start : Service) → Starts opened start → IsSoundStore start.store
-    pub keys : IfSome (told disk) (λ image. (start : Service) (s : Starts opened start) (a : Attributes) (bytes : List ℕ) →
+    pub starts : IsStartOf w start
+    pub sound : (start : Service) → IsStartOf w start → IsSoundStore start.store
+    pub keys : IfSome (w.disk.contents disk) (λ image. (start : Service) (s : IsStartOf w start) (a : Attributes) (bytes : List ℕ) →
         HasKey a bytes image ↔ ((number : ℕ) × (slice_get s.found number ≡ Some (record { attributes = a; bytes = bytes }))))
-    pub found : IsOpened told may_leave moment left_since disk opened.file.value.cells.disk opened.file.value.cells.slots.items
-    pub later : faults disk ≤ faults opened.file.value.cells.disk
-    pub devices_are : opened.devices.value ≡ devices
-    pub seed_is : opened.seed.value ≡ seed
-    pub rules_are : labels opened.rules.value ≡ named
-
-  -- A run: the store of this disk was opened, calls were made in one order, a history, and the store was closed. No more calls
-  -- met a failure of the disk or the devices than their counts rose by.
-  pub record IsRun (disk : D) (devices : A) (named : List Label) (seed : List ℕ) (disk_after : D) (devices_after : A) : Type 0 where
-    pub opened : Opened D A C
-    pub opening : IsOpening disk devices named seed opened
-    pub history : List Entry
-    pub left : IsLeft told moment left_since faults hard locations labels opened history disk_after devices_after
-    pub bounded : AreBounded (is_some (told disk)) (opening_of told moment faults hard locations labels opened).counts (record { faults = faults disk_after; hard = hard devices_after }) history
+    pub found : IsOpened w.disk.contents w.disk.may_leave w.disk.moment w.disk.left_since disk w.opened.file.value.cells.disk w.opened.file.value.cells.slots.items
+    pub later : w.disk.faults disk ≤ w.disk.faults w.opened.file.value.cells.disk
+    pub devices_are : w.opened.devices.value ≡ devices
+    pub seed_is : w.opened.seed.value ≡ seed
+    pub rules_are : w.rules.labels w.opened.rules.value ≡ named
 
   -- what holds of each start, where the devices tell their keys and as far as the history is told
-  abbrev pub OfStarts : Opened D A C → List Entry → (Service → Type 0) → Type 0
-  OfStarts opened history P = is_some (held opened.devices.value) ≡ true → (start : Service) → Starts opened start → IsTold opened start history → P start
+  abbrev pub OfStarts : List Entry → (Service → Type 0) → Type 0
+  OfStarts history P = is_some (w.devices.keys w.opened.devices.value) ≡ true → (start : Service) → IsStartOf w start → ToldBy w start history → P start
 
   -- and what holds of each start and each beginning of a history that is told
-  abbrev pub OfBeginnings : Opened D A C → List Entry → (Service → List Entry → Type 0) → Type 0
-  OfBeginnings opened history P =
-      is_some (held opened.devices.value) ≡ true → (start : Service) → Starts opened start → (beginning : List Entry) → StartsWith history beginning → IsTold opened start beginning → P start beginning
+  abbrev pub OfBeginnings : List Entry → (Service → List Entry → Type 0) → Type 0
+  OfBeginnings history P =
+      is_some (w.devices.keys w.opened.devices.value) ≡ true → (start : Service) → IsStartOf w start → (beginning : List Entry) → StartsWith history beginning → ToldBy w start beginning → P start beginning
+
+module _ {D A C : Type 0} (disks : Disk.Ghosts D) (elements : Devices.Ghosts A) (admits : Admission.Ghosts C) where
+  -- A run: the store of this disk was opened under a lock, calls were made in one order, a history, and the store was closed. No
+  -- more calls met a failure of the disk or the devices than their counts rose by.
+  pub record IsRun (disk : D) (devices : A) (named : List Label) (seed : List ℕ) (disk_after : D) (devices_after : A) : Type 0 where
+    pub lock : TableId
+    pub opened : Opened D A C
+    pub opening : IsOpening (world_of disks elements admits lock opened) disk devices named seed
+    pub history : List Entry
+    pub left : IsLeft (world_of disks elements admits lock opened) history disk_after devices_after
+    pub bounded : AreBounded (is_some (disks.contents disk)) (opening_of disks elements admits opened).counts (record { faults = disks.faults disk_after; hard = elements.faults devices_after }) history
 
   -- The calls of these lines were made in one order, and these are the replies. Each session has a call in the order for each of
   -- its lines, and a reply to each, with its rank. The calls are those of the lines, in each session's own order, and the replies
@@ -79,9 +76,9 @@ module _ {D A C : Type 0} (told : D → Option (List ℕ)) (may_leave : D → Li
     pub run : IsRun disk devices named seed disk_after devices_after
     pub counts : (session : ℕ) → length (ranks_of session 0 run.history) ≡ length (lines_of session lines)
     pub heads : map head_of replies ≡ heads_to 16 run.history
-    pub answers : OfStarts run.opened run.history (λ start. AreReplies start lines run.history replies)
-    pub so_far : OfBeginnings run.opened run.history (λ start beginning. AreRepliesSoFar start lines beginning replies)
-    pub failures : AreBoundedLines (is_some (told disk)) (opening_of told moment faults hard locations labels run.opened).counts (record { faults = faults disk_after; hard = hard devices_after }) replies
+    pub answers : OfStarts (world_of disks elements admits run.lock run.opened) run.history (λ start. AreReplies start lines run.history replies)
+    pub so_far : OfBeginnings (world_of disks elements admits run.lock run.opened) run.history (λ start beginning. AreRepliesSoFar start lines beginning replies)
+    pub failures : AreBoundedLines (is_some (disks.contents disk)) (opening_of disks elements admits run.opened).counts (record { faults = disks.faults disk_after; hard = elements.faults devices_after }) replies
     pub line_order : workers ≡ 1 → IsInLineOrder lines run.history
 
   -- The replies to these lines are kept in this form, those of each session by themselves.
@@ -95,13 +92,13 @@ module _ {D A C : Type 0} (told : D → Option (List ℕ)) (may_leave : D → Li
   pub record IsBroken (disk : D) (devices : A) (named : List Label) (seed : List ℕ) (lines : List ScriptLine) (disk_after : D) (devices_after : A) : Type 0 where
     pub run : IsRun disk devices named seed disk_after devices_after
     pub calls : (session : ℕ) → (n : ℕ) × (length (ranks_of session 0 run.history) ≡ length (lines_of session (take n lines)))
-        × OfStarts run.opened run.history (λ start. AreCalls [] (lines_of session (take n lines)) (turns_of session (turns_from 0 start run.history)))
-        × OfBeginnings run.opened run.history (λ start beginning. AreFirstCalls (lines_of session (take n lines)) (turns_of session (turns_from 0 start beginning)))
+        × OfStarts (world_of disks elements admits run.lock run.opened) run.history (λ start. AreCalls [] (lines_of session (take n lines)) (turns_of session (turns_from 0 start run.history)))
+        × OfBeginnings (world_of disks elements admits run.lock run.opened) run.history (λ start beginning. AreFirstCalls (lines_of session (take n lines)) (turns_of session (turns_from 0 start beginning)))
 
   -- The store wasn't opened, for this fault, and the devices come back as they were.
   pub record IsUnopened (disk : D) (devices : A) (fault : OpenFault) (disk_after : D) (devices_after : A) : Type 0 where
-    pub refused : IsRefused told may_leave moment left_since faults disk disk_after fault
-        ⊎ ((fault ≡ opening.Memory) × ((slots : List cell.Slot) × IsOpened told may_leave moment left_since disk disk_after slots) × (faults disk ≤ faults disk_after))
+    pub refused : IsRefused disks.contents disks.may_leave disks.moment disks.left_since disks.faults disk disk_after fault
+        ⊎ ((fault ≡ opening.Memory) × ((slots : List cell.Slot) × IsOpened disks.contents disks.may_leave disks.moment disks.left_since disk disk_after slots) × (disks.faults disk ≤ disks.faults disk_after))
     pub devices_are : devices_after ≡ devices
 
   -- The lines have no replies for this reason: their store wasn't opened, or memory ran out after that.

@@ -56,8 +56,8 @@ pub fn answer_lines<D: Disk + Send, A: Devices, C: Admission, R: Threads + Wait 
     requires last { workers ≤ 16 }
     requires empty { (handle : ℕ) → Lacks (A.keys devices) handle }
     ensures { MatchResult result.replies
-        (λ replies. AreAnswers D.contents D.may_leave D.moment D.left_since D.faults A.keys A.faults A.locations C.labels disk devices (C.labels rules) seed.now workers lines.now form replies.items result.disk result.devices)
-        (λ why. IsUnanswered D.contents D.may_leave D.moment D.left_since D.faults A.keys A.faults A.locations C.labels disk devices (C.labels rules) seed.now lines.now why result.disk result.devices) }
+        (λ replies. AreAnswers D.Disk A.Devices C.Admission disk devices (C.labels rules) seed.now workers lines.now form replies.items result.disk result.devices)
+        (λ why. IsUnanswered D.Disk A.Devices C.Admission disk devices (C.labels rules) seed.now lines.now why result.disk result.devices) }
 {
     let (service, mut callers) = match Service::open(
         alloc, disk, devices, rules, seed, BUDGET, NoGate,

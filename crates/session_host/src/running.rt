@@ -1,6 +1,6 @@
 // All sessions, run on worker threads.
 ghost use Rattle.std.specs.Prelude.{◌≡◌, ◌≤◌, ◌<◌, ◌*◌, [], ℕ, All, IfOk, true, length, get_or, vec_capacity};
-ghost use Rattle.callers.specs.Worlds.{world};
+ghost use Rattle.shared_store.specs.Shared.{world};
 ghost use Rattle.caller_service.specs.Staff.{AreStaff};
 ghost use Rattle.script_lang.specs.Lines.{IsOfSession};
 ghost use Rattle.session_workers.specs.Working.{HasWorked, HaveRun};
@@ -29,10 +29,10 @@ fn run_workers<D: Disk + Send, A: Devices, C: Admission, G: Gate, R: Threads + W
     workers: &mut [Worker<D, A, C>],
 )
     requires some { 0 < length workers.old }
-    requires begun { All (HaveRun (world D.contents D.moment D.faults A.keys A.faults A.locations C.labels service.now.shared.lock.table.shared.table_id service.now.shared.lock.table.shared.key.value.value.store.opened) []) workers.old }
+    requires begun { All (HaveRun (world service.now.shared) []) workers.old }
     requires few { length lines.now ≤ 20000 }
     requires budget { 2 * length lines.now ≤ service.now.worn }
-    ensures { (k : ℕ) (d : _) → k < length workers.old → HasWorked (world D.contents D.moment D.faults A.keys A.faults A.locations C.labels service.now.shared.lock.table.shared.table_id service.now.shared.lock.table.shared.key.value.value.store.opened) lines.now (get_or workers.old k d) (get_or workers.new k d) }
+    ensures { (k : ℕ) (d : _) → k < length workers.old → HasWorked (world service.now.shared) lines.now (get_or workers.old k d) (get_or workers.new k d) }
 {
     let threads = workers.len();
     thread::for_each_mut(
@@ -40,10 +40,10 @@ fn run_workers<D: Disk + Send, A: Devices, C: Admission, G: Gate, R: Threads + W
         workers,
         threads,
         &|_place, worker: &mut Worker<D, A, C>|
-            requires begun { HaveRun (world D.contents D.moment D.faults A.keys A.faults A.locations C.labels service.now.shared.lock.table.shared.table_id service.now.shared.lock.table.shared.key.value.value.store.opened) [] worker.now }
+            requires begun { HaveRun (world service.now.shared) [] worker.now }
             requires few { length lines.now ≤ 20000 }
             requires budget { 2 * length lines.now ≤ service.now.worn }
-            ensures { HasWorked (world D.contents D.moment D.faults A.keys A.faults A.locations C.labels service.entry.now.shared.lock.table.shared.table_id service.entry.now.shared.lock.table.shared.key.value.value.store.opened) lines.entry.now worker.entry.now worker.exit.now }
+            ensures { HasWorked (world service.entry.now.shared) lines.entry.now worker.entry.now worker.exit.now }
         { worker.run(rt, alloc, service, lines) },
     );
 }
@@ -74,13 +74,13 @@ fn run_dealt<D: Disk + Send, A: Devices, C: Admission, G: Gate, R: Threads + Wai
 ) -> bool
     requires some { 0 < length workers.old }
     requires free { All IsFree workers.old }
-    requires staff { AreStaff (world D.contents D.moment D.faults A.keys A.faults A.locations C.labels service.now.shared.lock.table.shared.table_id service.now.shared.lock.table.shared.key.value.value.store.opened) callers.old.items }
+    requires staff { AreStaff (world service.now.shared) callers.old.items }
     requires replies { (replies.old.items ≡ []) × (16 ≤ vec_capacity replies.old) }
     requires sessions { All IsOfSession lines.now }
     requires few { length lines.now ≤ 20000 }
     requires budget { 2 * length lines.now ≤ service.now.worn }
-    ensures made { HaveMade (world D.contents D.moment D.faults A.keys A.faults A.locations C.labels service.now.shared.lock.table.shared.table_id service.now.shared.lock.table.shared.key.value.value.store.opened) lines.now callers.new.items }
-    ensures answered { result ≡ true → HaveKept (world D.contents D.moment D.faults A.keys A.faults A.locations C.labels service.now.shared.lock.table.shared.table_id service.now.shared.lock.table.shared.key.value.value.store.opened) lines.now callers.new.items form replies.new.items }
+    ensures made { HaveMade (world service.now.shared) lines.now callers.new.items }
+    ensures answered { result ≡ true → HaveKept (world service.now.shared) lines.now callers.new.items form replies.new.items }
     ensures one_worker { result ≡ true → length workers.old ≡ 1 → HaveSeen lines.now callers.new.items }
     ensures emptied { All (λ t. t.sessions.items ≡ []) workers.new }
 {
@@ -105,12 +105,12 @@ pub fn run_sessions<D: Disk + Send, A: Devices, C: Admission, G: Gate, R: Thread
 ) -> Result<Vec<Replies>, Memory>
     requires first { 1 ≤ workers }
     requires last { workers ≤ 16 }
-    requires staff { AreStaff (world D.contents D.moment D.faults A.keys A.faults A.locations C.labels service.now.shared.lock.table.shared.table_id service.now.shared.lock.table.shared.key.value.value.store.opened) callers.old.items }
+    requires staff { AreStaff (world service.now.shared) callers.old.items }
     requires sessions { All IsOfSession lines.now }
     requires few { length lines.now ≤ 20000 }
     requires budget { 2 * length lines.now ≤ service.now.worn }
-    ensures made { HaveMade (world D.contents D.moment D.faults A.keys A.faults A.locations C.labels service.now.shared.lock.table.shared.table_id service.now.shared.lock.table.shared.key.value.value.store.opened) lines.now callers.new.items }
-    ensures answered { IfOk result (λ replies. HaveKept (world D.contents D.moment D.faults A.keys A.faults A.locations C.labels service.now.shared.lock.table.shared.table_id service.now.shared.lock.table.shared.key.value.value.store.opened) lines.now callers.new.items form replies.items) }
+    ensures made { HaveMade (world service.now.shared) lines.now callers.new.items }
+    ensures answered { IfOk result (λ replies. HaveKept (world service.now.shared) lines.now callers.new.items form replies.items) }
     ensures one_worker { workers ≡ 1 → IfOk result (λ replies. HaveSeen lines.now callers.new.items) }
 {
     let Ok(mut replies) = Vec::with_capacity(alloc, SESSIONS) else {

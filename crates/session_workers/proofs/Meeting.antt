@@ -13,7 +13,7 @@ use Rattle.std.specs.Global.{Vec}
 use Rattle.script_lang.specs.Replies.{AreKept}
 use Rattle.script_lang.specs.declared.replies.Replies.{Replies}
 use Rattle.callers.specs.Ready.{IsReady}
-use Rattle.callers.specs.Worlds.{World}
+use Rattle.shared_store.specs.Worlds.{World}
 use Rattle.callers.specs.declared.caller.Caller.{Caller}
 use Rattle.script_lang.specs.declared.script.ScriptLine.{ScriptLine}
 use Rattle.script_lang.specs.Lines.{lines_of}

@@ -5,7 +5,7 @@ use Rattle.std.proofs.lemmas.Bool.Decides.{eqb_tells}
 use Rattle.std.proofs.lemmas.List.{get_or_append_left, get_or_default, get_or_push, take_more}
 use Rattle.psa_status.specs.declared.Memory.{Memory}
 use Rattle.turn_history.specs.History.{entries_of, StartsWith}
-use Rattle.callers.specs.Worlds.{World}
+use Rattle.shared_store.specs.Worlds.{World}
 use Rattle.script_lang.specs.Replies.{AreKept, ReplyLine}
 use Rattle.script_lang.specs.declared.replies.ReplyForm.{ReplyForm}
 use Rattle.script_lang.specs.declared.script.ScriptLine.{ScriptLine}

@@ -5,7 +5,7 @@ ghost use Rattle.turn_history.specs.Passes.{IsIdle};
 ghost use Rattle.turn_history.specs.Views.{watcher};
 ghost use Rattle.callers.specs.Called.{Legal};
 ghost use Rattle.callers.specs.Ready.{IsReady};
-ghost use Rattle.callers.specs.Worlds.{world};
+ghost use Rattle.shared_store.specs.Shared.{world};
 ghost use Rattle.script_lang.specs.declared.replies.ReplyForm as reply_form;
 ghost use Rattle.script_lang.specs.declared.script.ScriptLine as script_line;
 ghost use Rattle.script_sessions.specs.declared.session.Session as session;
@@ -109,10 +109,10 @@ impl<D: Disk, A: Devices, C: Admission> Worker<D, A, C> {
     // A watcher that has seen what the caller of a session has.
     fn watch<G: Gate>(&mut self, service: &Service<D, A, C, G>, place: usize) -> Pass<Held<D, A, C>>
         requires place { place < length self.old.sessions.items }
-        requires own { (d : session.Session _ _ _) → (get_or self.old.sessions.items place d).caller.pass.table_id ≡ service.now.shared.lock.table.shared.table_id }
+        requires own { (d : session.Session _ _ _) → (get_or self.old.sessions.items place d).caller.pass.table_id ≡ (world service.now.shared).lock }
         ensures items { self.new.sessions.items ≡ self.old.sessions.items }
         ensures same { (self.new.last ≡ self.old.last) × (self.new.buffer ≡ self.old.buffer) × (self.new.whole ≡ self.old.whole) }
-        ensures idle { IsIdle service.now.shared.lock.table.shared.table_id result }
+        ensures idle { IsIdle (world service.now.shared).lock result }
         ensures watcher { (d : session.Session _ _ _) → result.me ≡ (watcher (get_or self.old.sessions.items place d).caller.pass.me.0, []) }
     {
         self.sessions[place].caller.watch(&service.shared)
@@ -126,11 +126,11 @@ impl<D: Disk, A: Devices, C: Admission> Worker<D, A, C> {
         watcher: Pass<Held<D, A, C>>,
     )
         requires place { place < length self.old.sessions.items }
-        requires ready { (d : session.Session _ _ _) → IsReady (world D.contents D.moment D.faults A.keys A.faults A.locations C.labels service.now.shared.lock.table.shared.table_id service.now.shared.lock.table.shared.key.value.value.store.opened) 0 (get_or self.old.sessions.items place d).caller }
-        requires idle { IsIdle service.now.shared.lock.table.shared.table_id watcher }
+        requires ready { (d : session.Session _ _ _) → IsReady (world service.now.shared) 0 (get_or self.old.sessions.items place d).caller }
+        requires idle { IsIdle (world service.now.shared).lock watcher }
         requires weightless { watcher.me.0.weight ≡ 0 }
-        requires legal { Legal (world D.contents D.moment D.faults A.keys A.faults A.locations C.labels service.now.shared.lock.table.shared.table_id service.now.shared.lock.table.shared.key.value.value.store.opened) (entries_of watcher.me.0.seen) }
-        ensures learned { ChangesAt place (HasLearned (world D.contents D.moment D.faults A.keys A.faults A.locations C.labels service.now.shared.lock.table.shared.table_id service.now.shared.lock.table.shared.key.value.value.store.opened)) self.old.sessions.items self.new.sessions.items }
+        requires legal { Legal (world service.now.shared) (entries_of watcher.me.0.seen) }
+        ensures learned { ChangesAt place (HasLearned (world service.now.shared)) self.old.sessions.items self.new.sessions.items }
         ensures met { (d : session.Session _ _ _) → StartsWith (entries_of (get_or self.new.sessions.items place d).caller.pass.me.0.seen) (entries_of watcher.me.0.seen) }
         ensures same { (self.new.last ≡ self.old.last) × (self.new.buffer ≡ self.old.buffer) × (self.new.whole ≡ self.old.whole) }
     {
@@ -141,8 +141,8 @@ impl<D: Disk, A: Devices, C: Admission> Worker<D, A, C> {
     fn meet<G: Gate>(&mut self, service: &Service<D, A, C, G>, place: usize)
         requires place { place < length self.old.sessions.items }
         requires last { IfSome self.old.last (λ last. last < length self.old.sessions.items) }
-        requires ready { All (λ s. IsReady (world D.contents D.moment D.faults A.keys A.faults A.locations C.labels service.now.shared.lock.table.shared.table_id service.now.shared.lock.table.shared.key.value.value.store.opened) 0 s.caller) self.old.sessions.items }
-        ensures learned { ChangesAt place (HasLearned (world D.contents D.moment D.faults A.keys A.faults A.locations C.labels service.now.shared.lock.table.shared.table_id service.now.shared.lock.table.shared.key.value.value.store.opened)) self.old.sessions.items self.new.sessions.items }
+        requires ready { All (λ s. IsReady (world service.now.shared) 0 s.caller) self.old.sessions.items }
+        ensures learned { ChangesAt place (HasLearned (world service.now.shared)) self.old.sessions.items self.new.sessions.items }
         ensures met { IfSome self.old.last (λ last. (d : session.Session _ _ _) →
             StartsWith (entries_of (get_or self.new.sessions.items place d).caller.pass.me.0.seen) (entries_of (get_or self.old.sessions.items last d).caller.pass.me.0.seen)) }
         ensures same { (self.new.last ≡ self.old.last) × (self.new.buffer ≡ self.old.buffer) × (self.new.whole ≡ self.old.whole) }
@@ -164,10 +164,10 @@ impl<D: Disk, A: Devices, C: Admission> Worker<D, A, C> {
         service: &Service<D, A, C, G>,
         line: &ScriptLine,
     ) -> Result<(), Memory>
-        requires { (lines : List script_line.ScriptLine) × HaveRun (world D.contents D.moment D.faults A.keys A.faults A.locations C.labels service.now.shared.lock.table.shared.table_id service.now.shared.lock.table.shared.key.value.value.store.opened) lines self.old × (length lines < 20000) × (2 * length lines + 2 ≤ service.now.worn) }
-        ensures ran { (lines : List script_line.ScriptLine) → HaveRun (world D.contents D.moment D.faults A.keys A.faults A.locations C.labels service.now.shared.lock.table.shared.table_id service.now.shared.lock.table.shared.key.value.value.store.opened) lines self.old →
-            MatchResult result (λ done. HaveRun (world D.contents D.moment D.faults A.keys A.faults A.locations C.labels service.now.shared.lock.table.shared.table_id service.now.shared.lock.table.shared.key.value.value.store.opened) (lines ++ line.now ∷ []) self.new)
-            (λ full. All (λ s. HasMade (world D.contents D.moment D.faults A.keys A.faults A.locations C.labels service.now.shared.lock.table.shared.table_id service.now.shared.lock.table.shared.key.value.value.store.opened) lines s.caller ⊎ HasMade (world D.contents D.moment D.faults A.keys A.faults A.locations C.labels service.now.shared.lock.table.shared.table_id service.now.shared.lock.table.shared.key.value.value.store.opened) (lines ++ line.now ∷ []) s.caller) self.new.sessions.items) }
+        requires { (lines : List script_line.ScriptLine) × HaveRun (world service.now.shared) lines self.old × (length lines < 20000) × (2 * length lines + 2 ≤ service.now.worn) }
+        ensures ran { (lines : List script_line.ScriptLine) → HaveRun (world service.now.shared) lines self.old →
+            MatchResult result (λ done. HaveRun (world service.now.shared) (lines ++ line.now ∷ []) self.new)
+            (λ full. All (λ s. HasMade (world service.now.shared) lines s.caller ⊎ HasMade (world service.now.shared) (lines ++ line.now ∷ []) s.caller) self.new.sessions.items) }
         ensures numbers { numbers_of self.new.sessions.items ≡ numbers_of self.old.sessions.items }
         ensures form { (form : reply_form.ReplyForm) → HaveForm form self.old.sessions.items → HaveForm form self.new.sessions.items }
         ensures whole { self.new.whole ≡ self.old.whole }
@@ -189,10 +189,10 @@ impl<D: Disk, A: Devices, C: Admission> Worker<D, A, C> {
         service: &Service<D, A, C, G>,
         lines: &[ScriptLine],
     )
-        requires begun { HaveRun (world D.contents D.moment D.faults A.keys A.faults A.locations C.labels service.now.shared.lock.table.shared.table_id service.now.shared.lock.table.shared.key.value.value.store.opened) [] self.old }
+        requires begun { HaveRun (world service.now.shared) [] self.old }
         requires few { length lines.now ≤ 20000 }
         requires budget { 2 * length lines.now ≤ service.now.worn }
-        ensures { HasWorked (world D.contents D.moment D.faults A.keys A.faults A.locations C.labels service.now.shared.lock.table.shared.table_id service.now.shared.lock.table.shared.key.value.value.store.opened) lines.now self.old self.new }
+        ensures { HasWorked (world service.now.shared) lines.now self.old self.new }
     {
         self.whole = true;
         for line in lines {

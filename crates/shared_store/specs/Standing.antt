@@ -2,8 +2,9 @@
 use Rattle.std.specs.Prelude.{◌≡◌, ℕ, List, Option, is_some}
 use Rattle.std.specs.List.{AllByRecursion}
 use Rattle.secret_bytes.specs.Buffer.{IsClear}
-use Rattle.policy_rules.specs.declared.narrowing.Label.{Label}
-use Rattle.driver_dispatch.specs.Held.{HeldKeys}
+use Rattle.disk_face.specs.declared.Disk as disk
+use Rattle.driver_dispatch.specs.declared.devices.Devices as devices
+use Rattle.admission.specs.declared.rules.Admission as admission
 use Rattle.key_slots.specs.Holdings.{Pairs}
 use Rattle.store_model.specs.Faults.{Plain}
 use Rattle.store_model.specs.Requests.{OnHandle}
@@ -11,6 +12,7 @@ use Rattle.store_model.specs.HandleCalls.{Abort}
 use Rattle.store_model.specs.Handles.{Service}
 use Rattle.store_model.specs.Origin.{IsCaller}
 use Rattle.store_model.specs.Replay.{Entry}
+use Rattle.store_core.specs.declared.store.Opened.{Opened}
 use Rattle.store_core.specs.declared.store.Store.{Store}
 use Rattle.store_core.specs.Represents.{StandsFor}
 use Rattle.store_core.specs.Rising.{AreRising}
@@ -23,19 +25,22 @@ some_entry = record { caller = 0; call = OnHandle 1 Abort; mark = Plain; done = 
 abbrev pub caller_of : Entry → ℕ
 caller_of e = e.caller
 
+-- there is a start that an opening permits
+abbrev pub HasStart : {D A C : Type 0} → disk.Ghosts D → devices.Ghosts A → admission.Ghosts C → Opened D A C → Type 0
+HasStart d a c opened = (start : Service) × IsStart d a c opened start
+
 -- The store stands for the history, of calls by sixteen callers, from each start that its opening permits, and there is such a
 -- start. In the history no count of faults falls, and no moment. Between two turns the disk has its size and the buffer is
 -- clear; disk and devices tell what they told at the opening.
-pub record HoldsHistory {D A C : Type 0} (told : D → Option (List ℕ)) (may_leave : D → List ℕ → Type 0) (moment : D → ℕ) (left_since : D → ℕ → List ℕ → Type 0)
-    (faults : D → ℕ) (size : D → ℕ) (held : A → Option HeldKeys) (hard : A → ℕ) (locations : A → List ℕ) (labels : C → List Label)
+pub record HoldsHistory {D A C : Type 0} (d : disk.Ghosts D) (a : devices.Ghosts A) (c : admission.Ghosts C)
     (store : Store D A C) (h : List Entry) (all : List Pairs) : Type 0 where
   pub start : Service
-  pub starts : IsStart told moment faults hard locations labels store.opened start
-  pub each : (start : Service) → IsStart told moment faults hard locations labels store.opened start →
-      StandsFor told may_leave moment left_since faults held hard locations labels store start (opening_of told moment faults hard locations labels store.opened) h all
+  pub starts : IsStart d a c store.opened start
+  pub each : (start : Service) → IsStart d a c store.opened start →
+      StandsFor d a c store start (opening_of d a c store.opened) h all
   pub signed : AllByRecursion IsCaller h
-  pub rising : AreRising (is_some (told store.opened.file.value.cells.disk)) (opening_of told moment faults hard locations labels store.opened) h
-  pub sized : size store.file.cells.disk ≡ 557120
+  pub rising : AreRising (is_some (d.contents store.opened.file.value.cells.disk)) (opening_of d a c store.opened) h
+  pub sized : d.size store.file.cells.disk ≡ 557120
   pub clear : IsClear store.buffer
-  pub tells : is_some (told store.file.cells.disk) ≡ is_some (told store.opened.file.value.cells.disk)
-  pub knows : is_some (held store.devices) ≡ is_some (held store.opened.devices.value)
+  pub tells : is_some (d.contents store.file.cells.disk) ≡ is_some (d.contents store.opened.file.value.cells.disk)
+  pub knows : is_some (a.keys store.devices) ≡ is_some (a.keys store.opened.devices.value)

@@ -1,13 +1,13 @@
 -- A caller's pass between two turns, and what a turn adds to what it knows.
 use Rattle.std.specs.List.{AllByRecursion}
 use Rattle.std.specs.Prelude.{◌≡◌, ◌⊎◌, ◌<◌, ◌≤◌, ◌^◌, ℕ, ◌+◌, ◌==◌, ◌&&◌, false, cond, Result, nat_lt, count_by, List, [], ◌∷◌, ◌++◌, length, Option, Some, None, is_some, Err}
-use Rattle.atomic_table.specs.Seated.{TableId}
 use Rattle.atomic_table.specs.declared.shared.Seat.{Seat}
 use Rattle.turn_history.specs.declared.pass.View.{View}
 use Rattle.turn_history.specs.History.{entries_of, calls_by, StartsWith}
 use Rattle.turn_history.specs.Holdings.{own_of}
 use Rattle.turn_history.specs.Views.{IsInTurn, IsOutside, OwnCalls}
-use Rattle.policy_rules.specs.declared.narrowing.Label.{Label}
+use Rattle.disk_face.specs.declared.Disk as disk
+use Rattle.driver_dispatch.specs.declared.devices.Devices as devices
 use Rattle.slot_table.specs.Lent as lent
 use Rattle.key_attributes.specs.declared.Attributes.{Attributes}
 use Rattle.psa_status.specs.declared.Status.{Status}
@@ -36,6 +36,7 @@ use Rattle.shared_store.specs.declared.changes.Change.TheVariants.{Nothing, Lend
 use Rattle.shared_store.specs.declared.changes.Met.{Met}
 use Rattle.shared_store.specs.declared.changes.Met.TheVariants as met
 use Rattle.shared_store.specs.Standing.{caller_of}
+use Rattle.shared_store.specs.Worlds.{World}
 
 -- WHAT A CALLER HAS OUT
 
@@ -77,14 +78,14 @@ mark_met (met.Undestroyed why) = mark_undestroyed why
 mark_met (met.Uncomputed why) = mark_computed (Err why)
 
 -- what a turn that leaves the store so adds to the history
-abbrev pub turn_entry : {D A C : Type 0} → (moment faults : D → ℕ) → (hard : A → ℕ) → Store D A C → (caller : ℕ) → Request → FaultMark → Entry
-turn_entry moment faults hard store caller call mark = record {
+abbrev pub turn_entry : {D A C : Type 0} → disk.Ghosts D → devices.Ghosts A → Store D A C → (caller : ℕ) → Request → FaultMark → Entry
+turn_entry d a store caller call mark = record {
   caller = caller;
   call = call;
   mark = mark;
-  done = moment store.file.cells.disk;
-  faults = faults store.file.cells.disk;
-  hard = hard store.devices;
+  done = d.moment store.file.cells.disk;
+  faults = d.faults store.file.cells.disk;
+  hard = a.faults store.devices;
 }
 
 -- PASSES
@@ -120,22 +121,22 @@ pub record IsEntered {B : Type 0} (v w : View Entry B) (call : Request) (mark : 
   pub calls : w.calls ≡ v.calls ++ e ∷ []
   pub holding : w.holding ≡ own
 
-module _ {V D A C : Type 0} (lock : TableId) (opened : Opened D A C) where
+module _ {V D A C : Type 0} (w : World D A C) where
   -- a pass of this lock outside any turn
   pub record IsAt (p : Seat (Option V) (View Entry (Opened D A C))) : Type 0 where
-    pub table : p.table_id ≡ lock
+    pub table : p.table_id ≡ w.lock
     pub outside : IsOutside p.me
-    pub based : p.me.0.base ≡ Some opened
+    pub based : p.me.0.base ≡ Some w.opened
     pub first : 1 ≤ p.me.0.number
     pub calls : OwnCalls caller_of p.me.0
     pub holding : IsHolding p.me.0.holding
 
   -- a pass in its turn, v as it was before
   pub record IsBegun (v : View Entry (Opened D A C)) (p : Seat (Option V) (View Entry (Opened D A C))) (entries : ℕ) : Type 0 where
-    pub table : p.table_id ≡ lock
+    pub table : p.table_id ≡ w.lock
     pub in_turn : IsInTurn p.me
     pub on : SpendsOneTurn v p.me.0
-    pub based : p.me.0.base ≡ Some opened
+    pub based : p.me.0.base ≡ Some w.opened
     pub first : 1 ≤ p.me.0.number
     pub same_calls : p.me.0.calls ≡ v.calls
     pub same_holding : p.me.0.holding ≡ v.holding
@@ -145,40 +146,40 @@ module _ {V D A C : Type 0} (lock : TableId) (opened : Opened D A C) where
     pub few : length p.me.0.seen < 2 ^ 62
     pub entries_are : entries ≡ length (entries_of p.me.0.seen)
 
-module _ {D A C : Type 0} (told : D → Option (List ℕ)) (moment : D → ℕ) (faults : D → ℕ) (hard : A → ℕ) (locations : A → List ℕ) (labels : C → List Label) where
-  abbrev pub IsStartOf : Opened D A C → Service → Type 0
-  IsStartOf = IsStart told moment faults hard locations labels
+module _ {D A C : Type 0} (w : World D A C) where
+  abbrev pub IsStartOf : Service → Type 0
+  IsStartOf = IsStart w.disk w.devices w.rules w.opened
 
   -- what a history makes of the keys is told
-  abbrev pub ToldBy : Opened D A C → Service → List Entry → Type 0
-  ToldBy opened start h = IsTold (told opened.file.value.cells.disk) start h
+  abbrev pub ToldBy : Service → List Entry → Type 0
+  ToldBy start h = IsTold (w.disk.contents w.opened.file.value.cells.disk) start h
 
   -- A history is of calls by sixteen callers. Each of its marks stands where it may, and has its fault since the entry before
   -- it, or since the opening. Neither the counts of faults nor, over a disk that tells its bytes, the moments fall from entry
   -- to entry.
-  pub record IsLegal (opened : Opened D A C) (h : List Entry) : Type 0 where
+  pub record IsLegal (h : List Entry) : Type 0 where
     pub signed : AllByRecursion IsCaller h
-    pub caused : IsCaused (is_some (told opened.file.value.cells.disk)) (opening_of told moment faults hard locations labels opened).counts h
-    pub rising : AreRising (is_some (told opened.file.value.cells.disk)) (opening_of told moment faults hard locations labels opened) h
-    pub allowed : (start : Service) → IsStartOf opened start → ToldBy opened start h → AreAllowed start h
+    pub caused : IsCaused (is_some (w.disk.contents w.opened.file.value.cells.disk)) (opening_of w.disk w.devices w.rules w.opened).counts h
+    pub rising : AreRising (is_some (w.disk.contents w.opened.file.value.cells.disk)) (opening_of w.disk w.devices w.rules w.opened) h
+    pub allowed : (start : Service) → IsStartOf start → ToldBy start h → AreAllowed start h
 
   -- the request reads the key of an identifier, in whatever history it is entered after what the pass has seen
-  abbrev pub ReadsKey : Opened D A C → View Entry (Opened D A C) → Request → ℕ → Type 0
-  ReadsKey opened v call id = (start : Service) → IsStartOf opened start → (h : List Entry) → GoesOn v h → ToldBy opened start h → id_read (replay start h) v.number call ≡ Some id
+  abbrev pub ReadsKey : View Entry (Opened D A C) → Request → ℕ → Type 0
+  ReadsKey v call id = (start : Service) → IsStartOf start → (h : List Entry) → GoesOn v h → ToldBy start h → id_read (replay start h) v.number call ≡ Some id
 
   -- the request leaves all keys, in whatever history it is entered after what the pass has seen: it may change none, or is refused
-  abbrev pub LeavesAllKeys : Opened D A C → View Entry (Opened D A C) → Request → Type 0
-  LeavesAllKeys opened v call = (may_change_keys call ≡ false)
-      ⊎ ((start : Service) → IsStartOf opened start → (h : List Entry) → GoesOn v h → ToldBy opened start h → (plain_step (replay start h) v.number call).reply.status ≡ Success → ⊥)
+  abbrev pub LeavesAllKeys : View Entry (Opened D A C) → Request → Type 0
+  LeavesAllKeys v call = (may_change_keys call ≡ false)
+      ⊎ ((start : Service) → IsStartOf start → (h : List Entry) → GoesOn v h → ToldBy start h → (plain_step (replay start h) v.number call).reply.status ≡ Success → ⊥)
 
   -- P holds of the one-thread store before an entry, or after it, from each start and as far as that is told
-  abbrev pub DecidesBefore : Opened D A C → (model.Store → Type 0) → List Entry → Entry → Type 0
-  DecidesBefore opened P before e = (start : Service) → IsStartOf opened start →
-      (m : model.Store) × (ToldBy opened start (before ++ e ∷ []) → m ≡ (replay start before).store) × P m
+  abbrev pub DecidesBefore : (model.Store → Type 0) → List Entry → Entry → Type 0
+  DecidesBefore P before e = (start : Service) → IsStartOf start →
+      (m : model.Store) × (ToldBy start (before ++ e ∷ []) → m ≡ (replay start before).store) × P m
 
-  abbrev pub DecidesAfter : Opened D A C → (model.Store → Type 0) → List Entry → Entry → Type 0
-  DecidesAfter opened P before e = (start : Service) → IsStartOf opened start →
-      (m : model.Store) × (ToldBy opened start (before ++ e ∷ []) → m ≡ (replay start (before ++ e ∷ [])).store) × P m
+  abbrev pub DecidesAfter : (model.Store → Type 0) → List Entry → Entry → Type 0
+  DecidesAfter P before e = (start : Service) → IsStartOf start →
+      (m : model.Store) × (ToldBy start (before ++ e ∷ []) → m ≡ (replay start (before ++ e ∷ [])).store) × P m
 
 -- a ranked turn after a history: its entry, and what was decided there
 pub record IsEnteredAfter {B : Type 0} (v w : View Entry B) (call : Request) (mark : FaultMark) (r : ℕ) (own : Pairs) (before : List Entry) (Decided : List Entry → Entry → Type 0) : Type 0 where
@@ -198,12 +199,12 @@ IsOwn (Some lease) own = 0 < names lease.slot (lease.creation + 1) own
 
 -- The request is to create a key of these bytes for a caller, the pass's, in whatever history it is entered. It destroys none, and
 -- leaves and answers what a creation does that records so.
-pub record CreatesKey {D A C : Type 0} (told : D → Option (List ℕ)) (moment : D → ℕ) (faults : D → ℕ) (hard : A → ℕ) (locations : A → List ℕ) (labels : C → List Label)
-    (opened : Opened D A C) (v : View Entry (Opened D A C)) (caller : ℕ) (call : Request) (records : model.Store → Result Attributes Status → Type 0) (bytes : List ℕ) : Type 0 where
+pub record CreatesKey {D A C : Type 0} (w : World D A C)
+    (v : View Entry (Opened D A C)) (caller : ℕ) (call : Request) (records : model.Store → Result Attributes Status → Type 0) (bytes : List ℕ) : Type 0 where
   pub keeps : is_destruction call ≡ false
-  pub leaves : (start : Service) → IsStartOf told moment faults hard locations labels opened start → (h : List Entry) → GoesOn v h → ToldBy told moment faults hard locations labels opened start h →
+  pub leaves : (start : Service) → IsStartOf w start → (h : List Entry) → GoesOn v h → ToldBy w start h →
       (recorded : Result Attributes Status) → records (replay start h).store recorded →
       (plain_step (replay start h) caller call).service.store ≡ (created_unless (replay start h).store caller recorded bytes).store
-  pub answers : (start : Service) → IsStartOf told moment faults hard locations labels opened start → (h : List Entry) → GoesOn v h → ToldBy told moment faults hard locations labels opened start h →
+  pub answers : (start : Service) → IsStartOf w start → (h : List Entry) → GoesOn v h → ToldBy w start h →
       (recorded : Result Attributes Status) → records (replay start h).store recorded →
       (plain_step (replay start h) caller call).reply ≡ (created_unless (replay start h).store caller recorded bytes).reply

@@ -9,6 +9,7 @@ ghost use Rattle.store_model.specs.Faults.{Plain};
 ghost use Rattle.store_model.specs.Requests.{OnStore};
 ghost use Rattle.store_core.specs.Creations.{IsMade, IsUncopied, IsUnmade, RecordsCopy, RecordsStated, mark_uncopied, mark_unmade};
 ghost use Rattle.shared_store.specs.Turning.{CreatesKey, DecidesBefore, HasNoFilling, IsAt, IsLater, IsLegal, IsOwn, IsRanked, filling_pair, without_pair};
+ghost use Rattle.shared_store.specs.Shared.{world};
 
 use crate::changes::{Change, Met};
 use crate::held::{Held, SharedStore};
@@ -27,11 +28,11 @@ use turn_history::Pass;
 impl<D: Disk, A: Devices, C: Admission> SharedStore<D, A, C> {
     /// Takes a slot for a key that is to be made. No rank.
     pub fn reserve<R: Wait>(&self, rt: &R, pass: &mut Pass<Held<D, A, C>>) -> Filling
-        requires at { IsAt self.now.lock.table.shared.table_id self.now.lock.table.shared.key.value.value.store.opened pass.old }
+        requires at { IsAt (world self.now) pass.old }
         requires left { 0 < pass.old.me.0.turns_left }
         requires space { HasNoFilling pass.old.me.0.holding }
-        ensures at { IsAt self.now.lock.table.shared.table_id self.now.lock.table.shared.key.value.value.store.opened pass.new }
-        ensures legal { IsLegal D.contents D.moment D.faults A.faults A.locations C.labels self.now.lock.table.shared.key.value.value.store.opened (entries_of pass.new.me.0.seen) }
+        ensures at { IsAt (world self.now) pass.new }
+        ensures legal { IsLegal (world self.now) (entries_of pass.new.me.0.seen) }
         ensures later { IsLater pass.old.me.0 pass.new.me.0 (filling_pair result ∷ pass.old.me.0.holding) }
     {
         let before = Snapshot::of(pass);
@@ -44,11 +45,11 @@ impl<D: Disk, A: Devices, C: Admission> SharedStore<D, A, C> {
 
     /// Gives up a slot that waits for its key. No rank.
     pub fn give_up<R: Wait>(&self, rt: &R, pass: &mut Pass<Held<D, A, C>>, filling: Filling)
-        requires at { IsAt self.now.lock.table.shared.table_id self.now.lock.table.shared.key.value.value.store.opened pass.old }
+        requires at { IsAt (world self.now) pass.old }
         requires left { 0 < pass.old.me.0.turns_left }
         requires out { 0 < names filling.slot 0 pass.old.me.0.holding }
-        ensures at { IsAt self.now.lock.table.shared.table_id self.now.lock.table.shared.key.value.value.store.opened pass.new }
-        ensures legal { IsLegal D.contents D.moment D.faults A.faults A.locations C.labels self.now.lock.table.shared.key.value.value.store.opened (entries_of pass.new.me.0.seen) }
+        ensures at { IsAt (world self.now) pass.new }
+        ensures legal { IsLegal (world self.now) (entries_of pass.new.me.0.seen) }
         ensures later { IsLater pass.old.me.0 pass.new.me.0 (without_pair (filling_pair filling) pass.old.me.0.holding) }
     {
         let before = Snapshot::of(pass);
@@ -73,18 +74,18 @@ impl<D: Disk, A: Devices, C: Admission> SharedStore<D, A, C> {
         bytes: &[u8],
         lease: Option<&Lease>,
     ) -> (u64, Result<KeyId, NotMade>)
-        requires at { IsAt self.now.lock.table.shared.table_id self.now.lock.table.shared.key.value.value.store.opened pass.old }
+        requires at { IsAt (world self.now) pass.old }
         requires left { 0 < pass.old.me.0.turns_left }
         requires caller { caller ≡ pass.old.me.0.number }
         requires out { 0 < names filling.slot 0 pass.old.me.0.holding }
         requires lent { IsOwn (option_map (λ l. l.now) lease) pass.old.me.0.holding }
-        requires creates { CreatesKey D.contents D.moment D.faults A.faults A.locations C.labels self.now.lock.table.shared.key.value.value.store.opened pass.old.me.0 caller (model_request call.now room) (RecordsStated (option_map (λ l. l.now) lease) caller attributes.now (length bytes.now)) bytes.now }
-        ensures at { IsAt self.now.lock.table.shared.table_id self.now.lock.table.shared.key.value.value.store.opened pass.new }
-        ensures legal { IsLegal D.contents D.moment D.faults A.faults A.locations C.labels self.now.lock.table.shared.key.value.value.store.opened (entries_of pass.new.me.0.seen) }
+        requires creates { CreatesKey (world self.now) pass.old.me.0 caller (model_request call.now room) (RecordsStated (option_map (λ l. l.now) lease) caller attributes.now (length bytes.now)) bytes.now }
+        ensures at { IsAt (world self.now) pass.new }
+        ensures legal { IsLegal (world self.now) (entries_of pass.new.me.0.seen) }
         ensures made { IfOk result.1 (λ id. IsRanked pass.old.me.0 pass.new.me.0 (model_request call.now room) Plain result.0 (without_pair (filling_pair filling) pass.old.me.0.holding)
-            (DecidesBefore D.contents D.moment D.faults A.faults A.locations C.labels self.now.lock.table.shared.key.value.value.store.opened (IsMade (RecordsStated (option_map (λ l. l.now) lease.entry) caller attributes.now (length bytes.now)) caller id.0))) }
+            (DecidesBefore (world self.now) (IsMade (RecordsStated (option_map (λ l. l.now) lease.entry) caller attributes.now (length bytes.now)) caller id.0))) }
         ensures unmade { IfErr result.1 (λ why. IsRanked pass.old.me.0 pass.new.me.0 (model_request call.now room) (mark_unmade why) result.0 (without_pair (filling_pair filling) pass.old.me.0.holding)
-            (DecidesBefore D.contents D.moment D.faults A.faults A.locations C.labels self.now.lock.table.shared.key.value.value.store.opened (IsUnmade (RecordsStated (option_map (λ l. l.now) lease.entry) caller attributes.now (length bytes.now)) why))) }
+            (DecidesBefore (world self.now) (IsUnmade (RecordsStated (option_map (λ l. l.now) lease.entry) caller attributes.now (length bytes.now)) why))) }
     {
         let before = Snapshot::of(pass);
         let change = Change::TakesFilling(Snapshot::of(&filling));
@@ -119,17 +120,17 @@ impl<D: Disk, A: Devices, C: Admission> SharedStore<D, A, C> {
         source: KeyId,
         attributes: &Attributes,
     ) -> (u64, Result<KeyId, NotCopied>)
-        requires at { IsAt self.now.lock.table.shared.table_id self.now.lock.table.shared.key.value.value.store.opened pass.old }
+        requires at { IsAt (world self.now) pass.old }
         requires left { 0 < pass.old.me.0.turns_left }
         requires caller { caller ≡ pass.old.me.0.number }
         requires out { 0 < names filling.slot 0 pass.old.me.0.holding }
         requires copies { model_request call.now room ≡ OnStore (model.Copy source.0 attributes.now) }
-        ensures at { IsAt self.now.lock.table.shared.table_id self.now.lock.table.shared.key.value.value.store.opened pass.new }
-        ensures legal { IsLegal D.contents D.moment D.faults A.faults A.locations C.labels self.now.lock.table.shared.key.value.value.store.opened (entries_of pass.new.me.0.seen) }
+        ensures at { IsAt (world self.now) pass.new }
+        ensures legal { IsLegal (world self.now) (entries_of pass.new.me.0.seen) }
         ensures made { IfOk result.1 (λ id. IsRanked pass.old.me.0 pass.new.me.0 (model_request call.now room) Plain result.0 (without_pair (filling_pair filling) pass.old.me.0.holding)
-            (DecidesBefore D.contents D.moment D.faults A.faults A.locations C.labels self.now.lock.table.shared.key.value.value.store.opened (IsMade (RecordsCopy caller source.0 attributes.now) caller id.0))) }
+            (DecidesBefore (world self.now) (IsMade (RecordsCopy caller source.0 attributes.now) caller id.0))) }
         ensures uncopied { IfErr result.1 (λ why. IsRanked pass.old.me.0 pass.new.me.0 (model_request call.now room) (mark_uncopied why) result.0 (without_pair (filling_pair filling) pass.old.me.0.holding)
-            (DecidesBefore D.contents D.moment D.faults A.faults A.locations C.labels self.now.lock.table.shared.key.value.value.store.opened (IsUncopied (RecordsCopy caller source.0 attributes.now) source.0 why))) }
+            (DecidesBefore (world self.now) (IsUncopied (RecordsCopy caller source.0 attributes.now) source.0 why))) }
     {
         let before = Snapshot::of(pass);
         let change = Change::TakesFilling(Snapshot::of(&filling));

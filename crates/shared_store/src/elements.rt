@@ -13,6 +13,7 @@ ghost use Rattle.store_core.specs.Represents.{HoldsOf};
 ghost use Rattle.shared_store.specs.Elements.{IsLooked};
 ghost use Rattle.shared_store.specs.Standing.{HoldsHistory};
 ghost use Rattle.shared_store.specs.Turning.{DecidesAfter, HasRoomForLease, IsAt, IsLegal, IsBegun, IsEnteredAfter};
+ghost use Rattle.shared_store.specs.Shared.{world};
 
 use crate::changes::{Change, Met};
 use crate::held::{Held, SharedStore};
@@ -53,14 +54,14 @@ impl<D: Disk, A: Devices, C: Admission> SharedStore<D, A, C> {
         element: &ElementCall<'_>,
         out: &mut [u8],
     ) -> (u64, Looked)
-        requires at { IsAt self.now.lock.table.shared.table_id self.now.lock.table.shared.key.value.value.store.opened pass.old }
+        requires at { IsAt (world self.now) pass.old }
         requires left { 0 < pass.old.me.0.turns_left }
         requires space { HasRoomForLease pass.old.me.0.holding }
         requires spare { IsClear spare }
         requires computes { model_request call.now (length out.old) ≡ OnStore (model_call element.now id.0 (length out.old)) }
-        ensures at { IsAt self.now.lock.table.shared.table_id self.now.lock.table.shared.key.value.value.store.opened pass.new }
-        ensures legal { IsLegal D.contents D.moment D.faults A.faults A.locations C.labels self.now.lock.table.shared.key.value.value.store.opened (entries_of pass.new.me.0.seen) }
-        ensures looked { IsLooked D.contents D.moment D.faults A.faults A.locations C.labels A.keys self.now.lock.table.shared.key.value.value.store.opened pass.old.me.0 pass.new.me.0 (model_request call.now (length out.old)) result.0 id.0 wanted element.now out.old out.new result.1 }
+        ensures at { IsAt (world self.now) pass.new }
+        ensures legal { IsLegal (world self.now) (entries_of pass.new.me.0.seen) }
+        ensures looked { IsLooked (world self.now) pass.old.me.0 pass.new.me.0 (model_request call.now (length out.old)) result.0 id.0 wanted element.now out.old out.new result.1 }
     {
         let before = Snapshot::of(pass);
         let mut turn = self.enter(rt, pass);
@@ -86,15 +87,15 @@ impl<D: Disk, A: Devices, C: Admission> SharedStore<D, A, C> {
         element: &ElementCall<'_>,
         out: &mut [u8],
     ) -> (u64, Result<usize, NotComputed>)
-        requires begun { IsBegun self.now.lock.table.shared.table_id self.now.lock.table.shared.key.value.value.store.opened before.value.me.0 pass.old turn.entries }
-        requires stands { HoldsHistory D.contents D.may_leave D.moment D.left_since D.faults D.size A.keys A.faults A.locations C.labels turn.value.value.store (entries_of pass.old.me.0.seen) pass.old.me.0.holdings }
-        requires opened { turn.value.value.store.opened ≡ self.now.lock.table.shared.key.value.value.store.opened }
-        requires opaque { HoldsOf D.contents D.may_leave D.moment D.left_since D.faults A.keys A.faults A.locations C.labels turn.value.value.store (λ m. is_opaque_key (map.get m.keys id.0) ≡ true) }
+        requires begun { IsBegun (world self.now) before.value.me.0 pass.old turn.entries }
+        requires stands { HoldsHistory D.Disk A.Devices C.Admission turn.value.value.store (entries_of pass.old.me.0.seen) pass.old.me.0.holdings }
+        requires opened { turn.value.value.store.opened ≡ (world self.now).opened }
+        requires opaque { HoldsOf D.Disk A.Devices C.Admission turn.value.value.store (λ m. is_opaque_key (map.get m.keys id.0) ≡ true) }
         requires computes { model_request call.now (length out.old) ≡ OnStore (model_call element.now id.0 (length out.old)) }
-        ensures at { IsAt self.now.lock.table.shared.table_id self.now.lock.table.shared.key.value.value.store.opened pass.new }
-        ensures legal { IsLegal D.contents D.moment D.faults A.faults A.locations C.labels self.now.lock.table.shared.key.value.value.store.opened (entries_of pass.new.me.0.seen) }
+        ensures at { IsAt (world self.now) pass.new }
+        ensures legal { IsLegal (world self.now) (entries_of pass.new.me.0.seen) }
         ensures computed { IsEnteredAfter before.value.me.0 pass.new.me.0 (model_request call.now (length out.old)) (mark_computed result.1) result.0 before.value.me.0.holding (entries_of pass.old.me.0.seen)
-            (DecidesAfter D.contents D.moment D.faults A.faults A.locations C.labels self.now.lock.table.shared.key.value.value.store.opened (IsAnswered (A.keys self.now.lock.table.shared.key.value.value.store.opened.devices.value) id.0 element.now out.old out.new result.1)) }
+            (DecidesAfter (world self.now) (IsAnswered (A.keys (world self.now).opened.devices.value) id.0 element.now out.old out.new result.1)) }
     {
         let (room, kept) = (out.len(), Change::Nothing);
         match turn.value().store.opaque_call(id, element, out) {

@@ -6,6 +6,7 @@ ghost use Rattle.key_slots.specs.Holdings.{IsHolding};
 ghost use Rattle.service_calls.specs.Meanings.{model_request};
 ghost use Rattle.shared_store.specs.Standing.{HoldsHistory};
 ghost use Rattle.shared_store.specs.Turning.{IsAt, IsBegun, IsEntered, IsLater, IsLegal, after_change, turn_entry, mark_met};
+ghost use Rattle.shared_store.specs.Shared.{world};
 
 use crate::changes::{Change, Met};
 use crate::held::{Entry, Held, SharedStore};
@@ -19,16 +20,17 @@ use turn_history::{Naming, Pass, Turn};
 
 impl<D: Disk, A: Devices, C: Admission> SharedStore<D, A, C> {
     // Waits for the pass's turn.
+    #[tactic(auto, unfolding(crate::specs::Shared::lock_of, crate::specs::Shared::opened_of))]
     pub(crate) fn enter<R: Wait>(
         &self,
         rt: &R,
         pass: &mut Pass<Held<D, A, C>>,
     ) -> Turn<Held<D, A, C>>
-        requires at { IsAt self.now.lock.table.shared.table_id self.now.lock.table.shared.key.value.value.store.opened pass.old }
+        requires at { IsAt (world self.now) pass.old }
         requires left { 0 < pass.old.me.0.turns_left }
-        ensures begun { IsBegun self.now.lock.table.shared.table_id self.now.lock.table.shared.key.value.value.store.opened pass.old.me.0 pass.new result.entries }
-        ensures stands { HoldsHistory D.contents D.may_leave D.moment D.left_since D.faults D.size A.keys A.faults A.locations C.labels result.value.value.store (entries_of pass.new.me.0.seen) pass.new.me.0.holdings }
-        ensures opened { result.value.value.store.opened ≡ self.now.lock.table.shared.key.value.value.store.opened }
+        ensures begun { IsBegun (world self.now) pass.old.me.0 pass.new result.entries }
+        ensures stands { HoldsHistory D.Disk A.Devices C.Admission result.value.value.store (entries_of pass.new.me.0.seen) pass.new.me.0.holdings }
+        ensures opened { result.value.value.store.opened ≡ (world self.now).opened }
     {
         self.lock.enter(rt, pass)
     }
@@ -45,16 +47,16 @@ impl<D: Disk, A: Devices, C: Admission> SharedStore<D, A, C> {
         met: Met,
         change: &Change,
     ) -> u64
-        requires begun { IsBegun self.now.lock.table.shared.table_id self.now.lock.table.shared.key.value.value.store.opened before.value.me.0 pass.old turn.entries }
-        requires names { (N.entry ≡ Some (turn_entry D.moment D.faults A.faults turn.value.value.store pass.old.me.0.number (model_request call.now room) (mark_met met))) × (N.holding ≡ after_change change.now pass.old.me.0.holding) }
-        requires stands { HoldsHistory D.contents D.may_leave D.moment D.left_since D.faults D.size A.keys A.faults A.locations C.labels turn.value.value.store
-            (entries_of pass.old.me.0.seen ++ turn_entry D.moment D.faults A.faults turn.value.value.store pass.old.me.0.number (model_request call.now room) (mark_met met) ∷ [])
+        requires begun { IsBegun (world self.now) before.value.me.0 pass.old turn.entries }
+        requires names { (N.entry ≡ Some (turn_entry D.Disk A.Devices turn.value.value.store pass.old.me.0.number (model_request call.now room) (mark_met met))) × (N.holding ≡ after_change change.now pass.old.me.0.holding) }
+        requires stands { HoldsHistory D.Disk A.Devices C.Admission turn.value.value.store
+            (entries_of pass.old.me.0.seen ++ turn_entry D.Disk A.Devices turn.value.value.store pass.old.me.0.number (model_request call.now room) (mark_met met) ∷ [])
             (with_own pass.old.me.0.holdings pass.old.me.0.number (after_change change.now pass.old.me.0.holding)) }
-        requires opened { turn.value.value.store.opened ≡ self.now.lock.table.shared.key.value.value.store.opened }
-        ensures at { IsAt self.now.lock.table.shared.table_id self.now.lock.table.shared.key.value.value.store.opened pass.new }
-        ensures legal { IsLegal D.contents D.moment D.faults A.faults A.locations C.labels self.now.lock.table.shared.key.value.value.store.opened (entries_of pass.new.me.0.seen) }
+        requires opened { turn.value.value.store.opened ≡ (world self.now).opened }
+        ensures at { IsAt (world self.now) pass.new }
+        ensures legal { IsLegal (world self.now) (entries_of pass.new.me.0.seen) }
         ensures entered { IsEntered before.value.me.0 pass.new.me.0 (model_request call.now room) (mark_met met) result (after_change change.now before.value.me.0.holding)
-            (entries_of pass.old.me.0.seen) (turn_entry D.moment D.faults A.faults turn.value.value.store pass.old.me.0.number (model_request call.now room) (mark_met met)) }
+            (entries_of pass.old.me.0.seen) (turn_entry D.Disk A.Devices turn.value.value.store pass.old.me.0.number (model_request call.now room) (mark_met met)) }
     {
         let _ = (before, call, room, met, change);
         let Some(rank) = self.lock.leave::<N>(pass, turn) else {
@@ -71,13 +73,13 @@ impl<D: Disk, A: Devices, C: Admission> SharedStore<D, A, C> {
         before: Snapshot<Pass<Held<D, A, C>>>,
         change: &Change,
     )
-        requires begun { IsBegun self.now.lock.table.shared.table_id self.now.lock.table.shared.key.value.value.store.opened before.value.me.0 pass.old turn.entries }
+        requires begun { IsBegun (world self.now) before.value.me.0 pass.old turn.entries }
         requires names { (N.entry ≡ None) × (N.holding ≡ after_change change.now pass.old.me.0.holding) }
-        requires stands { HoldsHistory D.contents D.may_leave D.moment D.left_since D.faults D.size A.keys A.faults A.locations C.labels turn.value.value.store (entries_of pass.old.me.0.seen)
+        requires stands { HoldsHistory D.Disk A.Devices C.Admission turn.value.value.store (entries_of pass.old.me.0.seen)
             (with_own pass.old.me.0.holdings pass.old.me.0.number (after_change change.now pass.old.me.0.holding)) }
-        requires opened { turn.value.value.store.opened ≡ self.now.lock.table.shared.key.value.value.store.opened }
-        ensures at { IsAt self.now.lock.table.shared.table_id self.now.lock.table.shared.key.value.value.store.opened pass.new }
-        ensures legal { IsLegal D.contents D.moment D.faults A.faults A.locations C.labels self.now.lock.table.shared.key.value.value.store.opened (entries_of pass.new.me.0.seen) }
+        requires opened { turn.value.value.store.opened ≡ (world self.now).opened }
+        ensures at { IsAt (world self.now) pass.new }
+        ensures legal { IsLegal (world self.now) (entries_of pass.new.me.0.seen) }
         ensures later { IsLater before.value.me.0 pass.new.me.0 (after_change change.now before.value.me.0.holding) }
     {
         let _ = (before, change);

@@ -1,10 +1,13 @@
 //! The store as the lock holds it.
 ghost use Rattle.std.specs.Prelude.{◌≡◌};
+ghost use Rattle.store_model.specs.Handles.{Service};
+ghost use Rattle.store_core.specs.Start.{IsStart};
 
 use admission::Admission;
 use disk_face::Disk;
 use driver_dispatch::Devices;
 use std::marker::Model;
+use std::snapshot::Snapshot;
 use store_core::{Opened, Store};
 use turn_history::{Historic, HistoryLock};
 
@@ -37,7 +40,7 @@ impl<D: Disk, A: Devices, C: Admission> Historic for Held<D, A, C> {
 
     ghost by = { caller_of };
 
-    ghost stands = { λ v. HoldsHistory D.contents D.may_leave D.moment D.left_since D.faults D.size A.keys A.faults A.locations C.labels v.store };
+    ghost stands = { λ v. HoldsHistory D.Disk A.Devices C.Admission v.store };
 
     ghost base = { λ v. v.store.opened };
 
@@ -46,9 +49,17 @@ impl<D: Disk, A: Devices, C: Admission> Historic for Held<D, A, C> {
     }
 }
 
+/// What the opening saw. It permits a start. It has no bytes at run time.
+#[derive(Drop)]
+pub struct Seen<D: Disk, A: Devices, C: Admission> {
+    pub opened: Snapshot<Opened<D, A, C>>,
+    ghost starts: { ∥ ((start : Service) × IsStart D.Disk A.Devices C.Admission opened.value start) ∥₁ },
+}
+
 /// A store that sixteen callers share, each by a pass of its own.
 #[derive(Drop)]
 pub struct SharedStore<D: Disk, A: Devices, C: Admission> {
     pub lock: HistoryLock<Held<D, A, C>>,
+    pub seen: Seen<D, A, C>,
     ghost sixteen: { lock.table.shared.key.passes ≡ 16 },
 }

@@ -12,6 +12,7 @@ ghost use Rattle.store_model.specs.Laws.{may_change_keys};
 ghost use Rattle.store_model.specs.Requests.{OnStore};
 ghost use Rattle.store_core.specs.Uses.{HasAttributes, IsRefused, IsUndestroyed, mark_of, mark_undestroyed, there_rows};
 ghost use Rattle.shared_store.specs.Turning.{DecidesAfter, DecidesBefore, IsAt, IsLegal, IsRanked, LeavesAllKeys, ReadsKey};
+ghost use Rattle.shared_store.specs.Shared.{world};
 
 use crate::changes::{Change, Met};
 use crate::held::{Held, SharedStore};
@@ -37,16 +38,16 @@ impl<D: Disk, A: Devices, C: Admission> SharedStore<D, A, C> {
         room: usize,
         id: KeyId,
     ) -> (u64, Result<Attributes, Status>)
-        requires at { IsAt self.now.lock.table.shared.table_id self.now.lock.table.shared.key.value.value.store.opened pass.old }
+        requires at { IsAt (world self.now) pass.old }
         requires left { 0 < pass.old.me.0.turns_left }
         requires quiet { may_change_keys (model_request call.now room) ≡ false }
-        requires reads { ReadsKey D.contents D.moment D.faults A.faults A.locations C.labels self.now.lock.table.shared.key.value.value.store.opened pass.old.me.0 (model_request call.now room) id.0 }
-        ensures at { IsAt self.now.lock.table.shared.table_id self.now.lock.table.shared.key.value.value.store.opened pass.new }
-        ensures legal { IsLegal D.contents D.moment D.faults A.faults A.locations C.labels self.now.lock.table.shared.key.value.value.store.opened (entries_of pass.new.me.0.seen) }
+        requires reads { ReadsKey (world self.now) pass.old.me.0 (model_request call.now room) id.0 }
+        ensures at { IsAt (world self.now) pass.new }
+        ensures legal { IsLegal (world self.now) (entries_of pass.new.me.0.seen) }
         ensures known { IfOk result.1 (λ attributes. IsRanked pass.old.me.0 pass.new.me.0 (model_request call.now room) Plain result.0 pass.old.me.0.holding
-            (DecidesAfter D.contents D.moment D.faults A.faults A.locations C.labels self.now.lock.table.shared.key.value.value.store.opened (HasAttributes id.0 attributes))) }
+            (DecidesAfter (world self.now) (HasAttributes id.0 attributes))) }
         ensures refused { IfErr result.1 (λ status. IsRanked pass.old.me.0 pass.new.me.0 (model_request call.now room) (mark_of status) result.0 pass.old.me.0.holding
-            (DecidesAfter D.contents D.moment D.faults A.faults A.locations C.labels self.now.lock.table.shared.key.value.value.store.opened (IsRefused there_rows id.0 status))) }
+            (DecidesAfter (world self.now) (IsRefused there_rows id.0 status))) }
     {
         let before = Snapshot::of(pass);
         let mut turn = self.enter(rt, pass);
@@ -74,15 +75,15 @@ impl<D: Disk, A: Devices, C: Admission> SharedStore<D, A, C> {
         room: usize,
         id: KeyId,
     ) -> (u64, Result<(), NotDestroyed>)
-        requires at { IsAt self.now.lock.table.shared.table_id self.now.lock.table.shared.key.value.value.store.opened pass.old }
+        requires at { IsAt (world self.now) pass.old }
         requires left { 0 < pass.old.me.0.turns_left }
         requires destroys { model_request call.now room ≡ OnStore (model.Destroy id.0) }
-        ensures at { IsAt self.now.lock.table.shared.table_id self.now.lock.table.shared.key.value.value.store.opened pass.new }
-        ensures legal { IsLegal D.contents D.moment D.faults A.faults A.locations C.labels self.now.lock.table.shared.key.value.value.store.opened (entries_of pass.new.me.0.seen) }
+        ensures at { IsAt (world self.now) pass.new }
+        ensures legal { IsLegal (world self.now) (entries_of pass.new.me.0.seen) }
         ensures destroyed { OnOk result.1 (IsRanked pass.old.me.0 pass.new.me.0 (model_request call.now room) Plain result.0 pass.old.me.0.holding
-            (DecidesBefore D.contents D.moment D.faults A.faults A.locations C.labels self.now.lock.table.shared.key.value.value.store.opened (λ m. first_row (destroy_rows (map.get m.keys id.0) id.0) ≡ None))) }
+            (DecidesBefore (world self.now) (λ m. first_row (destroy_rows (map.get m.keys id.0) id.0) ≡ None))) }
         ensures failed { IfErr result.1 (λ why. IsRanked pass.old.me.0 pass.new.me.0 (model_request call.now room) (mark_undestroyed why) result.0 pass.old.me.0.holding
-            (DecidesBefore D.contents D.moment D.faults A.faults A.locations C.labels self.now.lock.table.shared.key.value.value.store.opened (IsUndestroyed id.0 why))) }
+            (DecidesBefore (world self.now) (IsUndestroyed id.0 why))) }
     {
         let before = Snapshot::of(pass);
         let mut turn = self.enter(rt, pass);
@@ -110,15 +111,15 @@ impl<D: Disk, A: Devices, C: Admission> SharedStore<D, A, C> {
         room: usize,
         id: KeyId,
     ) -> (u64, Result<(), Status>)
-        requires at { IsAt self.now.lock.table.shared.table_id self.now.lock.table.shared.key.value.value.store.opened pass.old }
+        requires at { IsAt (world self.now) pass.old }
         requires left { 0 < pass.old.me.0.turns_left }
-        requires leaves { LeavesAllKeys D.contents D.moment D.faults A.faults A.locations C.labels self.now.lock.table.shared.key.value.value.store.opened pass.old.me.0 (model_request call.now room) }
-        ensures at { IsAt self.now.lock.table.shared.table_id self.now.lock.table.shared.key.value.value.store.opened pass.new }
-        ensures legal { IsLegal D.contents D.moment D.faults A.faults A.locations C.labels self.now.lock.table.shared.key.value.value.store.opened (entries_of pass.new.me.0.seen) }
+        requires leaves { LeavesAllKeys (world self.now) pass.old.me.0 (model_request call.now room) }
+        ensures at { IsAt (world self.now) pass.new }
+        ensures legal { IsLegal (world self.now) (entries_of pass.new.me.0.seen) }
         ensures there { OnOk result.1 (IsRanked pass.old.me.0 pass.new.me.0 (model_request call.now room) Plain result.0 pass.old.me.0.holding
-            (DecidesAfter D.contents D.moment D.faults A.faults A.locations C.labels self.now.lock.table.shared.key.value.value.store.opened (λ m. there_rows (map.get m.keys id.0) ≡ None))) }
+            (DecidesAfter (world self.now) (λ m. there_rows (map.get m.keys id.0) ≡ None))) }
         ensures missing { IfErr result.1 (λ status. (status ≡ InvalidHandle) × IsRanked pass.old.me.0 pass.new.me.0 (model_request call.now room) Plain result.0 pass.old.me.0.holding
-            (DecidesAfter D.contents D.moment D.faults A.faults A.locations C.labels self.now.lock.table.shared.key.value.value.store.opened (λ m. there_rows (map.get m.keys id.0) ≡ Some status))) }
+            (DecidesAfter (world self.now) (λ m. there_rows (map.get m.keys id.0) ≡ Some status))) }
     {
         let before = Snapshot::of(pass);
         let mut turn = self.enter(rt, pass);

@@ -10,6 +10,7 @@ ghost use Rattle.store_model.specs.Laws.{may_change_keys};
 ghost use Rattle.store_core.specs.Uses.{IsLent, IsRefused, mark_of};
 ghost use Rattle.shared_store.specs.Standing.{HoldsHistory};
 ghost use Rattle.shared_store.specs.Turning.{DecidesAfter, HasRoomForLease, IsAt, IsBegun, IsEnteredAfter, IsLater, IsLegal, IsRanked, ReadsKey, lease_pair, without_pair};
+ghost use Rattle.shared_store.specs.Shared.{world};
 
 use crate::changes::{Change, Met};
 use crate::held::{Held, SharedStore};
@@ -40,19 +41,19 @@ impl<D: Disk, A: Devices, C: Admission> SharedStore<D, A, C> {
         wanted: KeyUse,
         spare: Secret,
     ) -> (u64, Result<Lease, (Status, Secret)>)
-        requires at { IsAt self.now.lock.table.shared.table_id self.now.lock.table.shared.key.value.value.store.opened pass.old }
+        requires at { IsAt (world self.now) pass.old }
         requires left { 0 < pass.old.me.0.turns_left }
         requires space { HasRoomForLease pass.old.me.0.holding }
         requires spare { IsClear spare }
         requires quiet { may_change_keys (model_request call.now room) ≡ false }
-        requires reads { ReadsKey D.contents D.moment D.faults A.faults A.locations C.labels self.now.lock.table.shared.key.value.value.store.opened pass.old.me.0 (model_request call.now room) id.0 }
-        ensures at { IsAt self.now.lock.table.shared.table_id self.now.lock.table.shared.key.value.value.store.opened pass.new }
-        ensures legal { IsLegal D.contents D.moment D.faults A.faults A.locations C.labels self.now.lock.table.shared.key.value.value.store.opened (entries_of pass.new.me.0.seen) }
+        requires reads { ReadsKey (world self.now) pass.old.me.0 (model_request call.now room) id.0 }
+        ensures at { IsAt (world self.now) pass.new }
+        ensures legal { IsLegal (world self.now) (entries_of pass.new.me.0.seen) }
         ensures lent { IfOk result.1 (λ lease. IsRanked pass.old.me.0 pass.new.me.0 (model_request call.now room) Plain result.0 (lease_pair lease ∷ pass.old.me.0.holding)
-            (DecidesAfter D.contents D.moment D.faults A.faults A.locations C.labels self.now.lock.table.shared.key.value.value.store.opened (IsLent (use_refusal wanted) id.0 lease))) }
+            (DecidesAfter (world self.now) (IsLent (use_refusal wanted) id.0 lease))) }
         ensures fits { IfOk result.1 (λ lease. FitsUse wanted (bytes_of lease.buffer)) }
         ensures refused { IfErr result.1 (λ refused. IsRanked pass.old.me.0 pass.new.me.0 (model_request call.now room) (mark_of refused.0) result.0 pass.old.me.0.holding
-            (DecidesAfter D.contents D.moment D.faults A.faults A.locations C.labels self.now.lock.table.shared.key.value.value.store.opened (IsRefused (use_refusal wanted) id.0 refused.0))) }
+            (DecidesAfter (world self.now) (IsRefused (use_refusal wanted) id.0 refused.0))) }
         ensures spare { IfErr result.1 (λ refused. IsClear refused.1) }
     {
         let before = Snapshot::of(pass);
@@ -72,21 +73,21 @@ impl<D: Disk, A: Devices, C: Admission> SharedStore<D, A, C> {
         wanted: KeyUse,
         spare: Secret,
     ) -> (u64, Result<Lease, (Status, Secret)>)
-        requires begun { IsBegun self.now.lock.table.shared.table_id self.now.lock.table.shared.key.value.value.store.opened before.value.me.0 pass.old turn.entries }
-        requires stands { HoldsHistory D.contents D.may_leave D.moment D.left_since D.faults D.size A.keys A.faults A.locations C.labels turn.value.value.store (entries_of pass.old.me.0.seen) pass.old.me.0.holdings }
-        requires opened { turn.value.value.store.opened ≡ self.now.lock.table.shared.key.value.value.store.opened }
+        requires begun { IsBegun (world self.now) before.value.me.0 pass.old turn.entries }
+        requires stands { HoldsHistory D.Disk A.Devices C.Admission turn.value.value.store (entries_of pass.old.me.0.seen) pass.old.me.0.holdings }
+        requires opened { turn.value.value.store.opened ≡ (world self.now).opened }
         requires holding { IsHolding before.value.me.0.holding }
         requires space { HasRoomForLease before.value.me.0.holding }
         requires spare { IsClear spare }
         requires quiet { may_change_keys (model_request call.now room) ≡ false }
-        requires reads { ReadsKey D.contents D.moment D.faults A.faults A.locations C.labels self.now.lock.table.shared.key.value.value.store.opened before.value.me.0 (model_request call.now room) id.0 }
-        ensures at { IsAt self.now.lock.table.shared.table_id self.now.lock.table.shared.key.value.value.store.opened pass.new }
-        ensures legal { IsLegal D.contents D.moment D.faults A.faults A.locations C.labels self.now.lock.table.shared.key.value.value.store.opened (entries_of pass.new.me.0.seen) }
+        requires reads { ReadsKey (world self.now) before.value.me.0 (model_request call.now room) id.0 }
+        ensures at { IsAt (world self.now) pass.new }
+        ensures legal { IsLegal (world self.now) (entries_of pass.new.me.0.seen) }
         ensures lent { IfOk result.1 (λ lease. IsEnteredAfter before.value.me.0 pass.new.me.0 (model_request call.now room) Plain result.0 (lease_pair lease ∷ before.value.me.0.holding) (entries_of pass.old.me.0.seen)
-            (DecidesAfter D.contents D.moment D.faults A.faults A.locations C.labels self.now.lock.table.shared.key.value.value.store.opened (IsLent (use_refusal wanted) id.0 lease))) }
+            (DecidesAfter (world self.now) (IsLent (use_refusal wanted) id.0 lease))) }
         ensures fits { IfOk result.1 (λ lease. FitsUse wanted (bytes_of lease.buffer)) }
         ensures refused { IfErr result.1 (λ refused. IsEnteredAfter before.value.me.0 pass.new.me.0 (model_request call.now room) (mark_of refused.0) result.0 before.value.me.0.holding (entries_of pass.old.me.0.seen)
-            (DecidesAfter D.contents D.moment D.faults A.faults A.locations C.labels self.now.lock.table.shared.key.value.value.store.opened (IsRefused (use_refusal wanted) id.0 refused.0))) }
+            (DecidesAfter (world self.now) (IsRefused (use_refusal wanted) id.0 refused.0))) }
         ensures spare { IfErr result.1 (λ refused. IsClear refused.1) }
     {
         match turn.value().store.look(id, wanted, spare) {
@@ -120,11 +121,11 @@ impl<D: Disk, A: Devices, C: Admission> SharedStore<D, A, C> {
 
     /// Gives a lease back, and answers its spare, which is clear. No rank.
     pub fn give_back<R: Wait>(&self, rt: &R, pass: &mut Pass<Held<D, A, C>>, lease: Lease) -> Secret
-        requires at { IsAt self.now.lock.table.shared.table_id self.now.lock.table.shared.key.value.value.store.opened pass.old }
+        requires at { IsAt (world self.now) pass.old }
         requires left { 0 < pass.old.me.0.turns_left }
         requires out { 0 < names lease.slot (lease.creation + 1) pass.old.me.0.holding }
-        ensures at { IsAt self.now.lock.table.shared.table_id self.now.lock.table.shared.key.value.value.store.opened pass.new }
-        ensures legal { IsLegal D.contents D.moment D.faults A.faults A.locations C.labels self.now.lock.table.shared.key.value.value.store.opened (entries_of pass.new.me.0.seen) }
+        ensures at { IsAt (world self.now) pass.new }
+        ensures legal { IsLegal (world self.now) (entries_of pass.new.me.0.seen) }
         ensures later { IsLater pass.old.me.0 pass.new.me.0 (without_pair (lease_pair lease) pass.old.me.0.holding) }
         ensures clear { IsClear result }
     {

@@ -14,5 +14,5 @@ mod plain_turns;
 
 pub use changes::{Change, Met};
 pub use elements::Looked;
-pub use held::{Entry, Held, SharedStore};
+pub use held::{Entry, Held, Seen, SharedStore};
 pub use opening::{Shared, end};

@@ -9,6 +9,7 @@ ghost use Rattle.store_model.specs.Faults.{Plain};
 ghost use Rattle.store_model.specs.Sound.{HasNumber};
 ghost use Rattle.store_core.specs.Uses.{HasAttributes, IsRefused, mark_of, there_rows};
 ghost use Rattle.shared_store.specs.Turning.{DecidesAfter, IsAt, IsLegal, IsRanked, LeavesAllKeys, ReadsKey};
+ghost use Rattle.shared_store.specs.Shared.{world};
 
 use crate::changes::{Change, Met};
 use crate::held::{Held, SharedStore};
@@ -33,11 +34,11 @@ impl<D: Disk, A: Devices, C: Admission> SharedStore<D, A, C> {
         call: &Call<'_>,
         room: usize,
     ) -> u64
-        requires at { IsAt self.now.lock.table.shared.table_id self.now.lock.table.shared.key.value.value.store.opened pass.old }
+        requires at { IsAt (world self.now) pass.old }
         requires left { 0 < pass.old.me.0.turns_left }
-        requires leaves { LeavesAllKeys D.contents D.moment D.faults A.faults A.locations C.labels self.now.lock.table.shared.key.value.value.store.opened pass.old.me.0 (model_request call.now room) }
-        ensures at { IsAt self.now.lock.table.shared.table_id self.now.lock.table.shared.key.value.value.store.opened pass.new }
-        ensures legal { IsLegal D.contents D.moment D.faults A.faults A.locations C.labels self.now.lock.table.shared.key.value.value.store.opened (entries_of pass.new.me.0.seen) }
+        requires leaves { LeavesAllKeys (world self.now) pass.old.me.0 (model_request call.now room) }
+        ensures at { IsAt (world self.now) pass.new }
+        ensures legal { IsLegal (world self.now) (entries_of pass.new.me.0.seen) }
         ensures counted { IsRanked pass.old.me.0 pass.new.me.0 (model_request call.now room) Plain result pass.old.me.0.holding (λ before e. Unit {0}) }
     {
         let before = Snapshot::of(pass);
@@ -64,16 +65,16 @@ impl<D: Disk, A: Devices, C: Admission> SharedStore<D, A, C> {
         room: usize,
         lease: &Lease,
     ) -> (u64, Result<(), Status>)
-        requires at { IsAt self.now.lock.table.shared.table_id self.now.lock.table.shared.key.value.value.store.opened pass.old }
+        requires at { IsAt (world self.now) pass.old }
         requires left { 0 < pass.old.me.0.turns_left }
         requires out { 0 < names lease.now.slot (lease.now.creation + 1) pass.old.me.0.holding }
-        requires leaves { LeavesAllKeys D.contents D.moment D.faults A.faults A.locations C.labels self.now.lock.table.shared.key.value.value.store.opened pass.old.me.0 (model_request call.now room) }
-        ensures at { IsAt self.now.lock.table.shared.table_id self.now.lock.table.shared.key.value.value.store.opened pass.new }
-        ensures legal { IsLegal D.contents D.moment D.faults A.faults A.locations C.labels self.now.lock.table.shared.key.value.value.store.opened (entries_of pass.new.me.0.seen) }
+        requires leaves { LeavesAllKeys (world self.now) pass.old.me.0 (model_request call.now room) }
+        ensures at { IsAt (world self.now) pass.new }
+        ensures legal { IsLegal (world self.now) (entries_of pass.new.me.0.seen) }
         ensures alive { OnOk result.1 (IsRanked pass.old.me.0 pass.new.me.0 (model_request call.now room) Plain result.0 pass.old.me.0.holding
-            (DecidesAfter D.contents D.moment D.faults A.faults A.locations C.labels self.now.lock.table.shared.key.value.value.store.opened (λ m. HasNumber m lease.now.creation))) }
+            (DecidesAfter (world self.now) (λ m. HasNumber m lease.now.creation))) }
         ensures gone { OnErr result.1 (IsRanked pass.old.me.0 pass.new.me.0 (model_request call.now room) Plain result.0 pass.old.me.0.holding
-            (DecidesAfter D.contents D.moment D.faults A.faults A.locations C.labels self.now.lock.table.shared.key.value.value.store.opened (λ m. HasNumber m lease.now.creation → ⊥))) }
+            (DecidesAfter (world self.now) (λ m. HasNumber m lease.now.creation → ⊥))) }
         ensures status { IfErr result.1 (λ status. status ≡ InvalidHandle) }
     {
         let before = Snapshot::of(pass);

@@ -1,4 +1,7 @@
 -- Turns in which the secure element computes.
+use Rattle.disk_face.specs.declared.Disk as Disk
+use Rattle.driver_dispatch.specs.declared.devices.Devices as Devices
+use Rattle.admission.specs.declared.rules.Admission as Admission
 use Rattle.std.proofs.Common.{◌≡◌, ◌∙◌, ℕ, Bool, true, false, List, [], ◌∷◌, ◌++◌, length, refl, sym, ap, subst, cond, IsTrue, arith}
 use Rattle.std.specs.Prelude.{Option, None, Some, is_some, IsErrOf, Result, Ok, Err, MatchOption, not, ◌&&◌, ◌||◌, ◌==◌}
 use Rattle.std.specs.FinMap as map
@@ -9,7 +12,6 @@ use Rattle.psa_status.proofs.Rows.{first_row-back, first_row-front, unless-ok}
 use Rattle.alg_encoding.specs.declared.table.Class.{Class}
 use Rattle.key_attributes.specs.declared.Attributes.{Attributes}
 use Rattle.key_attributes.specs.Checks.{attribute_rows, checked, filled, location, persistence}
-use Rattle.policy_rules.specs.declared.narrowing.Label.{Label}
 use Rattle.driver_dispatch.specs.Held.{HeldKey, HeldKeys, held_key}
 use Rattle.driver_dispatch.specs.Calls.{HoldsHandle, IsSomeKey}
 use Rattle.key_slots.specs.Holdings.{Pairs}
@@ -163,23 +165,22 @@ unused held id call old m key status there refused =
 
 -- THE TURN
 
-module _ {D A C : Type 0} (told : D → Option (List ℕ)) (may_leave : D → List ℕ → Type 0) (moment : D → ℕ) (left_since : D → ℕ → List ℕ → Type 0)
-    (faults : D → ℕ) (held : A → Option HeldKeys) (hard : A → ℕ) (locations : A → List ℕ) (labels : C → List Label)
-    (only_now : (disk : D) (image : List ℕ) → left_since disk (moment disk) image → may_leave disk image)
+module _ {D A C : Type 0} (disks : Disk.Ghosts D) (elements : Devices.Ghosts A) (admits : Admission.Ghosts C)
+    (only_now : (disk : D) (image : List ℕ) → disks.left_since disk (disks.moment disk) image → disks.may_leave disk image)
     (old : Store D A C) (devices : A) (start : Service) (opening : Opening) (h : List Entry) (all : List Pairs) (e : Entry) where
   -- with what a device is that computed
   abbrev pub computed_by : Store D A C
   computed_by = record old { devices = devices }
 
   abbrev pub new : Store D A C
-  new = turned told may_leave moment left_since faults held hard locations labels computed_by old.slots
+  new = turned disks elements admits computed_by old.slots
 
   abbrev Known : Type 0
-  Known = IsTold (told old.file.cells.disk) start (h ++ e ∷ [])
+  Known = IsTold (disks.contents old.file.cells.disk) start (h ++ e ∷ [])
 
-  device_computed : (s : HoldsHere told may_leave moment left_since faults held hard locations labels Known old start opening h all) →
-      held devices ≡ held old.devices → locations devices ≡ locations old.devices →
-      (n : HoldsHere told may_leave moment left_since faults held hard locations labels Known computed_by start opening h all) × (n.model ≡ s.model)
+  device_computed : (s : HoldsHere disks elements admits Known old start opening h all) →
+      elements.keys devices ≡ elements.keys old.devices → elements.locations devices ≡ elements.locations old.devices →
+      (n : HoldsHere disks elements admits Known computed_by start opening h all) × (n.model ≡ s.model)
   device_computed s same there = (
     record {
       model = s.model;
@@ -209,21 +210,21 @@ module _ {D A C : Type 0} (told : D → Option (List ℕ)) (may_leave : D → Li
   )
 
   -- a turn ends in which the element was asked or not
-  pub ends_computed : (call : Call) (mark : FaultMark) (P : model.Store → Type 0) → (s : StandsHere told may_leave moment left_since faults held hard locations labels old start opening h all) →
-      e.call ≡ OnStore call → may_change_keys (OnStore call) ≡ false → held devices ≡ held old.devices → locations devices ≡ locations old.devices →
-      HasFault (is_some (told old.file.cells.disk)) (last_counts opening.counts h) e mark →
+  pub ends_computed : (call : Call) (mark : FaultMark) (P : model.Store → Type 0) → (s : StandsHere disks elements admits old start opening h all) →
+      e.call ≡ OnStore call → may_change_keys (OnStore call) ≡ false → elements.keys devices ≡ elements.keys old.devices → elements.locations devices ≡ elements.locations old.devices →
+      HasFault (is_some (disks.contents old.file.cells.disk)) (last_counts opening.counts h) e mark →
       ((service : Service) → service.store ≡ s.holds.model → MayBeMarked service e.caller (OnStore call) mark) → P (counted s.holds.model) →
-      IsTurn told may_leave moment left_since faults held hard locations labels new mark e →
-      (n : StandsHere told may_leave moment left_since faults held hard locations labels new start opening (h ++ e ∷ []) all) × P n.holds.model
+      IsTurn disks elements admits new mark e →
+      (n : StandsHere disks elements admits new start opening (h ++ e ∷ []) all) × P n.holds.model
   ends_computed call mark P s is still same there fault may holds turn =
-      let told_here = told old.file.cells.disk in
-      let n = goes_on told may_leave moment left_since faults held hard locations labels old start opening h old.file old.slots old.buffer all Known
-      (left_alone told may_leave moment left_since faults held hard locations labels old.file) (told_before told_here start h e) s.holds s.holds.slots in
+      let told_here = disks.contents old.file.cells.disk in
+      let n = goes_on disks elements admits old start opening h old.file old.slots old.buffer all Known
+      (left_alone disks elements admits old.file) (told_before told_here start h e) s.holds s.holds.slots in
       let d = device_computed n.0 same there in
       let model_is : d.0.model ≡ s.holds.model = d.1 ∙ n.1 in
-      let ends = ends_quiet told may_leave moment left_since faults held hard locations labels only_now computed_by old.slots mark start opening h all all e d.0 d.0.slots d.0.holdings fault
+      let ends = ends_quiet disks elements admits only_now computed_by old.slots mark start opening h all all e d.0 d.0.slots d.0.holdings fault
       (λ k. subst (λ request. MayBeMarked (replay start h) e.caller request mark) (sym is) (may (replay start h) (sym (d.0.replayed k) ∙ model_is)))
-      (quiet_leaves told may_leave moment left_since faults held hard locations labels computed_by start h e (ap may_change_keys is ∙ still)) turn in
+      (quiet_leaves disks elements admits computed_by start h e (ap may_change_keys is ∙ still)) turn in
       (ends.0, subst P (sym (ends.1 ∙ ap counted model_is)) holds)
 
 -- the element failed

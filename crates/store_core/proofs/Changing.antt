@@ -1,10 +1,11 @@
 -- A ranked turn that changes keys.
+use Rattle.disk_face.specs.declared.Disk as Disk
+use Rattle.driver_dispatch.specs.declared.devices.Devices as Devices
+use Rattle.admission.specs.declared.rules.Admission as Admission
 use Rattle.std.proofs.Common.{◌≡◌, ◌⊎◌, ℕ, ◌+◌, ◌≤◌, List, [], ◌∷◌, ◌++◌, true, Option, is_some, sym, ◌∙◌, ap, subst, arith, inl, inr, ⊎_elim, length-append}
 use Rattle.std.specs.Prelude.{slice_index, ⊤}
 use Rattle.disk_face.specs.Moments.{Within}
 use Rattle.disk_face.proofs.Moments.{promise_goes_on}
-use Rattle.policy_rules.specs.declared.narrowing.Label.{Label}
-use Rattle.driver_dispatch.specs.Held.{HeldKeys}
 use Rattle.key_cells.specs.Contents.{IsSure}
 use Rattle.key_file.specs.Files.{StandsForKeys, FitsKeys, Leads}
 use Rattle.key_file.proofs.Leading.{stands_fits}
@@ -29,15 +30,14 @@ pub retold : (old new : Option (List ℕ)) (start : Service) (h : List Entry) �
 retold old new start h same (inl tells) = inl (sym same ∙ tells)
 retold old new start h same (inr none) = inr none
 
-module _ {D A C : Type 0} (told : D → Option (List ℕ)) (may_leave : D → List ℕ → Type 0) (moment : D → ℕ) (left_since : D → ℕ → List ℕ → Type 0)
-    (faults : D → ℕ) (held : A → Option HeldKeys) (hard : A → ℕ) (locations : A → List ℕ) (labels : C → List Label) where
+module _ {D A C : Type 0} (disks : Disk.Ghosts D) (elements : Devices.Ghosts A) (admits : Admission.Ghosts C) where
   -- what a ranked turn makes of a store, and of the model that it holds, where S holds of the service before it
   pub record Turns (S : Service → Type 0) (old new : Store D A C) (all : List Pairs) (e : Entry) (mark : FaultMark) (before : FaultCounts) (m m' : model.Store) : Type 0 where
     pub becomes : (service : Service) → S service → m ≡ service.store → m' ≡ (outcome_of service e).service.store
     pub sound : IsSoundStore m'
     pub settings : m'.settings ≡ m.settings
-    pub rules : labels new.rules ≡ labels old.rules
-    pub devices : locations new.devices ≡ locations old.devices
+    pub rules : admits.labels new.rules ≡ admits.labels old.rules
+    pub devices : elements.locations new.devices ≡ elements.locations old.devices
     pub found : m'.found ≡ new.found
     pub few : new.found ≤ 512
     pub calls : m'.calls ≡ new.ranked
@@ -48,19 +48,19 @@ module _ {D A C : Type 0} (told : D → Option (List ℕ)) (may_leave : D → Li
     pub slots : Agrees new.slots.table.slots m' all
     pub holdings : AreHoldings all
     pub directory : IsDirectory new.file.cells.slots.items m'
-    pub device : HoldsKeys (held new.devices) m'
-    pub tells : is_some (told new.file.cells.disk) ≡ is_some (told old.file.cells.disk)
-    pub leads : (s : Course) → S s.service → m ≡ s.service.store → StandsForKeys told may_leave old.file.cells.disk old.file.cells.slots.items (durable_keys m) s.doubt →
-        Leads told may_leave moment left_since old.file.cells.disk new.file.cells.disk old.file.cells.slots.items new.file.cells.slots.items (durable_keys m) s.doubt (durable_keys m') (doubt_after e s)
+    pub device : HoldsKeys (elements.keys new.devices) m'
+    pub tells : is_some (disks.contents new.file.cells.disk) ≡ is_some (disks.contents old.file.cells.disk)
+    pub leads : (s : Course) → S s.service → m ≡ s.service.store → StandsForKeys disks.contents disks.may_leave old.file.cells.disk old.file.cells.slots.items (durable_keys m) s.doubt →
+        Leads disks.contents disks.may_leave disks.moment disks.left_since old.file.cells.disk new.file.cells.disk old.file.cells.slots.items new.file.cells.slots.items (durable_keys m) s.doubt (durable_keys m') (doubt_after e s)
     -- where nothing is in doubt afterwards, no cell is
     pub settles : (s : Course) → S s.service → m ≡ s.service.store → (s.doubt ≡ [] → IsSure old.file.cells.slots.items) → doubt_after e s ≡ [] → IsSure new.file.cells.slots.items
-    pub fault : HasFault (is_some (told new.file.cells.disk)) before e mark
+    pub fault : HasFault (is_some (disks.contents new.file.cells.disk)) before e mark
     pub may : (service : Service) → S service → m ≡ service.store → MayBeMarked service e.caller e.call mark
 
-  module _ (only_now : (disk : D) (image : List ℕ) → left_since disk (moment disk) image → may_leave disk image)
+  module _ (only_now : (disk : D) (image : List ℕ) → disks.left_since disk (disks.moment disk) image → disks.may_leave disk image)
       (S : Service → Type 0) (K : Type 0) (old new : Store D A C) (start : Service) (opening : Opening) (h : List Entry) (all more : List Pairs) (e : Entry) (mark : FaultMark) (m' : model.Store)
-      (s : HoldsHere told may_leave moment left_since faults held hard locations labels K old start opening h all) (know : IsTold (told new.file.cells.disk) start (h ++ e ∷ []) → K)
-      (holds_before : IsTold (told new.file.cells.disk) start (h ++ e ∷ []) → S (replay start h)) (t : Turns S old new more e mark (last_counts opening.counts h) s.model m') where
+      (s : HoldsHere disks elements admits K old start opening h all) (know : IsTold (disks.contents new.file.cells.disk) start (h ++ e ∷ []) → K)
+      (holds_before : IsTold (disks.contents new.file.cells.disk) start (h ++ e ∷ []) → S (replay start h)) (t : Turns S old new more e mark (last_counts opening.counts h) s.model m') where
     abbrev m : model.Store
     m = s.model
 
@@ -74,15 +74,15 @@ module _ {D A C : Type 0} (told : D → Option (List ℕ)) (may_leave : D → Li
     course = course_of start h
 
     abbrev Known : Type 0
-    Known = IsTold (told now) start (h ++ e ∷ [])
+    Known = IsTold (disks.contents now) start (h ++ e ∷ [])
 
-    before : Known → IsTold (told past) start h
-    before k = retold (told past) (told now) start h t.tells (told_before (told now) start h e k)
+    before : Known → IsTold (disks.contents past) start h
+    before k = retold (disks.contents past) (disks.contents now) start h t.tells (told_before (disks.contents now) start h e k)
 
-    tells_before : is_some (told now) ≡ true → is_some (told past) ≡ true
+    tells_before : is_some (disks.contents now) ≡ true → is_some (disks.contents past) ≡ true
     tells_before is = sym t.tells ∙ is
 
-    module _ (is : is_some (told now) ≡ true) where
+    module _ (is : is_some (disks.contents now) ≡ true) where
       of_course : m ≡ course.service.store
       of_course = s.replayed (know (inl is)) ∙ ap (λ (x : Service). x.store) (sym (course_service start h))
 
@@ -92,7 +92,7 @@ module _ {D A C : Type 0} (told : D → Option (List ℕ)) (may_leave : D → Li
       after_course : m' ≡ (after e course).service.store
       after_course = t.becomes course.service before_course of_course
 
-      leads_here : Leads told may_leave moment left_since past now old.file.cells.slots.items new.file.cells.slots.items (durable_keys m) course.doubt (durable_keys m') (doubt_after e course)
+      leads_here : Leads disks.contents disks.may_leave disks.moment disks.left_since past now old.file.cells.slots.items new.file.cells.slots.items (durable_keys m) course.doubt (durable_keys m') (doubt_after e course)
       leads_here = t.leads course before_course of_course (s.file (tells_before is))
 
       fits_old : (image : List ℕ) → FitsKeys (durable_keys m) course.doubt image → FitsCourse course image
@@ -101,23 +101,23 @@ module _ {D A C : Type 0} (told : D → Option (List ℕ)) (may_leave : D → Li
       fits_new : (image : List ℕ) → FitsKeys (durable_keys m') (doubt_after e course) image → FitsCourse (after e course) image
       fits_new image fits = subst (λ (x : model.Store). FitsKeys (durable_keys x) (doubt_after e course) image) after_course fits
 
-      within_here : Within (moment past) (moment now) (left_since past) (left_since now) (λ image. FitsCourse course image ⊎ FitsCourse (after e course) image)
+      within_here : Within (disks.moment past) (disks.moment now) (disks.left_since past) (disks.left_since now) (λ image. FitsCourse course image ⊎ FitsCourse (after e course) image)
       within_here = record {
         later = leads_here.within.later;
         each = λ at image le left. ⊎_elim (λ had. inl had) (λ fits. inr (⊎_elim (λ f. inl (fits_old image f)) (λ f. inr (fits_new image f)) fits)) (leads_here.within.each at image le left);
       }
 
-      fits_now : (image : List ℕ) → left_since now (moment now) image → FitsCourse (after e course) image
+      fits_now : (image : List ℕ) → disks.left_since now (disks.moment now) image → FitsCourse (after e course) image
       fits_now image left =
-          fits_new image (stands_fits told may_leave moment left_since now new.file.cells.slots.items (durable_keys m') (doubt_after e course) image leads_here.stands (only_now now image left))
+          fits_new image (stands_fits disks.contents disks.may_leave disks.moment disks.left_since now new.file.cells.slots.items (durable_keys m') (doubt_after e course) image leads_here.stands (only_now now image left))
 
-    pub turns : IsTurn told may_leave moment left_since faults held hard locations labels new mark e → StandsHere told may_leave moment left_since faults held hard locations labels new start opening (h ++ e ∷ []) more
+    pub turns : IsTurn disks elements admits new mark e → StandsHere disks elements admits new start opening (h ++ e ∷ []) more
     turns is = record { holds = holds; counts = counts_push opening.counts h e ∙ counted_here }
       where
-        counted_here : counts_of e.faults e.hard ≡ counts_of (faults now) (hard new.devices)
-        counted_here = ap (λ (n : ℕ). counts_of n e.hard) is.disk_faults ∙ ap (counts_of (faults now)) is.device_faults
+        counted_here : counts_of e.faults e.hard ≡ counts_of (disks.faults now) (elements.faults new.devices)
+        counted_here = ap (λ (n : ℕ). counts_of n e.hard) is.disk_faults ∙ ap (counts_of (disks.faults now)) is.device_faults
 
-        holds : HoldsHere told may_leave moment left_since faults held hard locations labels Known new start opening (h ++ e ∷ []) more
+        holds : HoldsHere disks elements admits Known new start opening (h ++ e ∷ []) more
         holds = record {
           model = m';
           replayed = λ k. t.becomes (replay start h) (holds_before k) (s.replayed (know k)) ∙ ap (λ (x : Service). x.store) (sym (replay_push start h e));
@@ -136,22 +136,22 @@ module _ {D A C : Type 0} (told : D → Option (List ℕ)) (may_leave : D → Li
           holdings = t.holdings;
           directory = t.directory;
           device = t.device;
-          file = λ tells. subst (StandsForKeys told may_leave now new.file.cells.slots.items (durable_keys m')) (sym (ap (λ (c : Course). c.doubt) (course_push start h e))) (leads_here tells).stands;
+          file = λ tells. subst (StandsForKeys disks.contents disks.may_leave now new.file.cells.slots.items (durable_keys m')) (sym (ap (λ (c : Course). c.doubt) (course_push start h e))) (leads_here tells).stands;
           sure = λ tells none. t.settles course (before_course tells) (of_course tells) (s.sure (tells_before tells)) (sym (ap (λ (c : Course). c.doubt) (course_push start h e)) ∙ none);
-          promise = λ tells. promise_goes_on after FitsCourse (opened start) (λ (x : Entry). x.done) (left_since past) (left_since now) (moment past) (moment now) opening.moment h e (s.promise (tells_before tells))
+          promise = λ tells. promise_goes_on after FitsCourse (opened start) (λ (x : Entry). x.done) (disks.left_since past) (disks.left_since now) (disks.moment past) (disks.moment now) opening.moment h e (s.promise (tells_before tells))
               (within_here tells) (fits_now tells) is.done;
-          caused = go_on (is_some (told now)) opening.counts h e (subst (λ b. IsCaused b opening.counts h) (sym t.tells) s.caused)
-              (subst (HasFault (is_some (told now)) (last_counts opening.counts h) e) (sym is.marked) t.fault);
+          caused = go_on (is_some (disks.contents now)) opening.counts h e (subst (λ b. IsCaused b opening.counts h) (sym t.tells) s.caused)
+              (subst (HasFault (is_some (disks.contents now)) (last_counts opening.counts h) e) (sym is.marked) t.fault);
           allowed = λ k. allowed_go_on start h e (s.allowed (before k)) (subst (MayBeMarked (replay start h) e.caller e.call) (sym is.marked) (t.may (replay start h) (holds_before k) (s.replayed (know k))));
         }
 
   -- a turn of a store that stands for something, whatever the service before it is
-  module _ (only_now : (disk : D) (image : List ℕ) → left_since disk (moment disk) image → may_leave disk image)
+  module _ (only_now : (disk : D) (image : List ℕ) → disks.left_since disk (disks.moment disk) image → disks.may_leave disk image)
       (old new : Store D A C) (start : Service) (opening : Opening) (h : List Entry) (all more : List Pairs) (e : Entry) (mark : FaultMark) (m' : model.Store)
-      (s : StandsHere told may_leave moment left_since faults held hard locations labels old start opening h all) where
-    pub turns_standing : Turns (λ service. ⊤) old new more e mark (counts_of (faults old.file.cells.disk) (hard old.devices)) s.holds.model m' →
-        IsTurn told may_leave moment left_since faults held hard locations labels new mark e → StandsHere told may_leave moment left_since faults held hard locations labels new start opening (h ++ e ∷ []) more
+      (s : StandsHere disks elements admits old start opening h all) where
+    pub turns_standing : Turns (λ service. ⊤) old new more e mark (counts_of (disks.faults old.file.cells.disk) (elements.faults old.devices)) s.holds.model m' →
+        IsTurn disks elements admits new mark e → StandsHere disks elements admits new start opening (h ++ e ∷ []) more
     turns_standing t is =
-        turns only_now (λ service. ⊤) (IsTold (told old.file.cells.disk) start h) old new start opening h all more e mark m' s.holds
-        (λ k. retold (told old.file.cells.disk) (told new.file.cells.disk) start h t.tells (told_before (told new.file.cells.disk) start h e k)) (λ k. tt)
+        turns only_now (λ service. ⊤) (IsTold (disks.contents old.file.cells.disk) start h) old new start opening h all more e mark m' s.holds
+        (λ k. retold (disks.contents old.file.cells.disk) (disks.contents new.file.cells.disk) start h t.tells (told_before (disks.contents new.file.cells.disk) start h e k)) (λ k. tt)
         (subst (λ (c : FaultCounts). Turns (λ service. ⊤) old new more e mark c s.holds.model m') (sym s.counts) t) is

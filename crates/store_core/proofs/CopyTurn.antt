@@ -1,13 +1,14 @@
 -- A turn that copies a key.
+use Rattle.disk_face.specs.declared.Disk as Disk
+use Rattle.driver_dispatch.specs.declared.devices.Devices as Devices
+use Rattle.admission.specs.declared.rules.Admission as Admission
 use Rattle.std.proofs.Common.{◌≡◌, ◌∙◌, ℕ, ◌+◌, Bool, true, false, cond, List, [], ◌∷◌, ◌++◌, length, refl, sym, ap, subst, Option, None, Some, is_some}
 use Rattle.std.specs.Prelude.{Ok, Err, IsErrOf, Result, if◌then◌else◌}
 use Rattle.std.specs.FinMap as map
 use Rattle.psa_status.specs.declared.Status.{Status}
 use Rattle.psa_status.specs.declared.Status.TheVariants.{InvalidHandle}
 use Rattle.psa_status.specs.Causes.{Rose}
-use Rattle.policy_rules.specs.declared.narrowing.Label.{Label}
 use Rattle.key_attributes.specs.declared.Attributes.{Attributes}
-use Rattle.driver_dispatch.specs.Held.{HeldKeys}
 use Rattle.driver_dispatch.specs.Calls.{HoldsHandle}
 use Rattle.secret_bytes.specs.Buffer.{Buffer, bytes_of, buffer_of}
 use Rattle.slot_table.specs.Slots.{Slot}
@@ -75,14 +76,13 @@ module _ (e : Entry) (caller source : ℕ) (stated : Attributes) (by : e.caller 
     answers = copy_reply service ∙ outcome_is (λ (o : Outcome). o.reply) service m (Err status) (bytes_at m source) same decided refl;
   }
 
-  module _ {D A C : Type 0} (told : D → Option (List ℕ)) (may_leave : D → List ℕ → Type 0) (moment : D → ℕ) (left_since : D → ℕ → List ℕ → Type 0)
-      (faults : D → ℕ) (held : A → Option HeldKeys) (hard : A → ℕ) (locations : A → List ℕ) (labels : C → List Label)
+  module _ {D A C : Type 0} (disks : Disk.Ghosts D) (elements : Devices.Ghosts A) (admits : Admission.Ghosts C)
       (mid : Store D A C) (start : Service) (opening : Opening) (h : List Entry) (all : List Pairs)
-      (n : HoldsHere told may_leave moment left_since faults held hard locations labels (IsTold (told mid.file.cells.disk) start (h ++ e ∷ [])) mid start opening h all) where
-    pub reads_kept : is_persistent_key (map.get n.model.keys source) ≡ true → IsTold (told mid.file.cells.disk) start (h ++ e ∷ []) → reads_persistent (replay start h) e.caller e.call ≡ true
+      (n : HoldsHere disks elements admits (IsTold (disks.contents mid.file.cells.disk) start (h ++ e ∷ [])) mid start opening h all) where
+    pub reads_kept : is_persistent_key (map.get n.model.keys source) ≡ true → IsTold (disks.contents mid.file.cells.disk) start (h ++ e ∷ []) → reads_persistent (replay start h) e.caller e.call ≡ true
     reads_kept is k = reads_it (replay start h) e.caller e.call source n.model (reads_source (replay start h)) (n.replayed k) ∙ is
 
-    pub refused_here : (status : Status) → copied_at n.model caller source stated ≡ Err status → IsTold (told mid.file.cells.disk) start (h ++ e ∷ []) → IsRefusedAt e status (replay start h)
+    pub refused_here : (status : Status) → copied_at n.model caller source stated ≡ Err status → IsTold (disks.contents mid.file.cells.disk) start (h ++ e ∷ []) → IsRefusedAt e status (replay start h)
     refused_here status decided k = refused_copy (replay start h) n.model status (n.replayed k) decided
 
     -- THE COPY OF A SLOT'S KEY
@@ -98,27 +98,27 @@ module _ (e : Entry) (caller source : ℕ) (stated : Attributes) (by : e.caller 
       pub decided_here : copied_at n.model caller source stated ≡ Ok recorded
       decided_here = ap (λ (o : Option Key). recorded_copy n.model caller o stated) there ∙ sym decided
 
-      pub material : IsMaterial told may_leave moment left_since faults held hard locations labels filled_store recorded material_of key.bytes
+      pub material : IsMaterial disks elements admits filled_store recorded material_of key.bytes
       material = go (is_opaque slot.attributes) (ap is_opaque has.attributes) where
         own : is_opaque recorded ≡ is_opaque key.attributes
         own = (copies n.model caller key stated recorded (sym decided)).opaque
 
-        go : (b : Bool) → b ≡ is_opaque key.attributes → IsMaterial told may_leave moment left_since faults held hard locations labels filled_store recorded (cond b (Some slot.creation) None) key.bytes
+        go : (b : Bool) → b ≡ is_opaque key.attributes → IsMaterial disks elements admits filled_store recorded (cond b (Some slot.creation) None) key.bytes
         go true is = (
           own ∙ sym is,
-          subst (λ number. HoldsHandle (held mid.devices) number (λ h. h ≡ record { key_type = recorded.key_type.0; bytes = key.bytes })) (sym has.number)
-              (subst (λ t. HoldsHandle (held mid.devices) key.number (λ h. h ≡ record { key_type = t; bytes = key.bytes })) (sym (ap (λ (t : _). t.0) (copies n.model caller key stated recorded (sym decided)).key_type))
+          subst (λ number. HoldsHandle (elements.keys mid.devices) number (λ h. h ≡ record { key_type = recorded.key_type.0; bytes = key.bytes })) (sym has.number)
+              (subst (λ t. HoldsHandle (elements.keys mid.devices) key.number (λ h. h ≡ record { key_type = t; bytes = key.bytes })) (sym (ap (λ (t : _). t.0) (copies n.model caller key stated recorded (sym decided)).key_type))
               (n.device.there source key there (sym is))),
         )
         go false is = ap bytes_of filled ∙ (bytes-buffer_of (bytes_of slot.buffer) ∙ (has.bytes ∙ ap (λ b. cond b [] key.bytes) (sym is)))
 
-      abbrev pub ready : IsReady told may_leave moment left_since faults held hard locations labels filled_store caller recorded material_of start opening h all e
+      abbrev pub ready : IsReady disks elements admits filled_store caller recorded material_of start opening h all e
       ready =
           let c = copies n.model caller key stated recorded (sym decided) in
-          let f = with_buffer told may_leave moment left_since faults held hard locations labels (IsTold (told mid.file.cells.disk) start (h ++ e ∷ [])) mid buffer start opening h all n in
+          let f = with_buffer disks elements admits (IsTold (disks.contents mid.file.cells.disk) start (h ++ e ∷ [])) mid buffer start opening h all n in
           record { holds = f.0; bytes = key.bytes; material = material; stated = c.copy; decided = subst (λ (m : model.Store). recorded_of m caller c.copy (length key.bytes) ≡ Ok recorded) (sym f.1) c.decided }
 
-      pub making : IsMaking told may_leave moment left_since faults held hard locations labels filled_store start h e caller recorded key.bytes
+      pub making : IsMaking disks elements admits filled_store start h e caller recorded key.bytes
       making = record {
         by = by;
         keeps = keeps;
@@ -136,44 +136,43 @@ either Missing X missing unread = missing refl
 either Disk X missing unread = unread (λ e. cc)
 either Corrupt X missing unread = unread (λ e. cc)
 
-module _ {D A C : Type 0} (told : D → Option (List ℕ)) (may_leave : D → List ℕ → Type 0) (moment : D → ℕ) (left_since : D → ℕ → List ℕ → Type 0)
-    (faults : D → ℕ) (held : A → Option HeldKeys) (hard : A → ℕ) (locations : A → List ℕ) (labels : C → List Label)
-    (only_now : (disk : D) (image : List ℕ) → left_since disk (moment disk) image → may_leave disk image)
+module _ {D A C : Type 0} (disks : Disk.Ghosts D) (elements : Devices.Ghosts A) (admits : Admission.Ghosts C)
+    (only_now : (disk : D) (image : List ℕ) → disks.left_since disk (disks.moment disk) image → disks.may_leave disk image)
     (old mid : Store D A C) (slots : KeySlots) (start : Service) (opening : Opening) (h : List Entry) (all less : List Pairs) (e : Entry) (caller source : ℕ) (stated : Attributes) (by : e.caller ≡ caller) (call : e.call ≡ OnStore (Copy source stated))
-    (s : StandsHere told may_leave moment left_since faults held hard locations labels old start opening h all) (agrees : (m : model.Store) → Agrees mid.slots.table.slots m all → Agrees slots.table.slots m less) (law : AreHoldings less) where
+    (s : StandsHere disks elements admits old start opening h all) (agrees : (m : model.Store) → Agrees mid.slots.table.slots m all → Agrees slots.table.slots m less) (law : AreHoldings less) where
   abbrev Brought : (model.Store → Type 0) → Type 0
-  Brought P = (n : HoldsHere told may_leave moment left_since faults held hard locations labels (IsTold (told mid.file.cells.disk) start (h ++ e ∷ [])) mid start opening h all) × P n.model
+  Brought P = (n : HoldsHere disks elements admits (IsTold (disks.contents mid.file.cells.disk) start (h ++ e ∷ [])) mid start opening h all) × P n.model
 
   abbrev ended : Store D A C
   ended = record mid { slots = slots; ranked = mid.ranked + 1 }
 
   abbrev Ends : (model.Store → Type 0) → Type 0
-  Ends P = StandsHere told may_leave moment left_since faults held hard locations labels ended start opening (h ++ e ∷ []) less × (m : model.Store) × (IsTold (told mid.file.cells.disk) start (h ++ e ∷ []) → m ≡ (replay start h).store) × P m
+  Ends P = StandsHere disks elements admits ended start opening (h ++ e ∷ []) less × (m : model.Store) × (IsTold (disks.contents mid.file.cells.disk) start (h ++ e ∷ []) → m ≡ (replay start h).store) × P m
 
   pub uncopied : (why : Unread) → (IsWhy why Missing → Brought (λ m. map.get m.keys source ≡ None)) → ((IsWhy why Missing → ⊥) → Brought (λ m. is_persistent_key (map.get m.keys source) ≡ true)) →
-      (IsWhy why Disk → Rose (faults old.file.cells.disk) (faults mid.file.cells.disk)) → (IsWhy why Corrupt → is_some (told mid.file.cells.disk) ≡ false) →
-      IsTurn told may_leave moment left_since faults held hard locations labels ended (mark_of (status_of why)) e → Ends (IsRefused there_rows source (status_of why))
+      (IsWhy why Disk → Rose (disks.faults old.file.cells.disk) (disks.faults mid.file.cells.disk)) → (IsWhy why Corrupt → is_some (disks.contents mid.file.cells.disk) ≡ false) →
+      IsTurn disks elements admits ended (mark_of (status_of why)) e → Ends (IsRefused there_rows source (status_of why))
   uncopied Missing missing not_read rose blind is =
       let n = missing refl in (
-        refuses told may_leave moment left_since faults held hard locations labels only_now mid slots start opening h all less e (keeps e caller source stated by call) InvalidHandle n.0
-            (refused_here e caller source stated by call told may_leave moment left_since faults held hard locations labels mid start opening h all n.0 InvalidHandle (ap (λ (o : Option Key). recorded_copy n.0.model caller o stated) n.1)) (agrees n.0.model n.0.slots) law is,
+        refuses disks elements admits only_now mid slots start opening h all less e (keeps e caller source stated by call) InvalidHandle n.0
+            (refused_here e caller source stated by call disks elements admits mid start opening h all n.0 InvalidHandle (ap (λ (o : Option Key). recorded_copy n.0.model caller o stated) n.1)) (agrees n.0.model n.0.slots) law is,
         n.0.model,
         n.0.replayed,
         ap there_rows n.1,
       )
   uncopied Disk missing not_read rose blind is =
       let n = not_read (λ e. cc) in (
-        unread told may_leave moment left_since faults held hard locations labels only_now mid slots start opening h all less e (keeps e caller source stated by call) (Storage Reading) tt n.0
-            (reads_kept e caller source stated by call told may_leave moment left_since faults held hard locations labels mid start opening h all n.0 n.1) (agrees n.0.model n.0.slots) law
-            (subst (Rose _) (sym is.disk_faults) (subst (λ (f : ℕ). Rose f (faults mid.file.cells.disk)) (sym (ap (λ (c : FaultCounts). c.faults) s.counts)) (rose refl))) is,
+        unread disks elements admits only_now mid slots start opening h all less e (keeps e caller source stated by call) (Storage Reading) tt n.0
+            (reads_kept e caller source stated by call disks elements admits mid start opening h all n.0 n.1) (agrees n.0.model n.0.slots) law
+            (subst (Rose _) (sym is.disk_faults) (subst (λ (f : ℕ). Rose f (disks.faults mid.file.cells.disk)) (sym (ap (λ (c : FaultCounts). c.faults) s.counts)) (rose refl))) is,
         n.0.model,
         n.0.replayed,
         n.1,
       )
   uncopied Corrupt missing not_read rose blind is =
       let n = not_read (λ e. cc) in (
-        unread told may_leave moment left_since faults held hard locations labels only_now mid slots start opening h all less e (keeps e caller source stated by call) fault.Corrupt tt n.0
-            (reads_kept e caller source stated by call told may_leave moment left_since faults held hard locations labels mid start opening h all n.0 n.1) (agrees n.0.model n.0.slots) law (blind refl) is,
+        unread disks elements admits only_now mid slots start opening h all less e (keeps e caller source stated by call) fault.Corrupt tt n.0
+            (reads_kept e caller source stated by call disks elements admits mid start opening h all n.0 n.1) (agrees n.0.model n.0.slots) law (blind refl) is,
         n.0.model,
         n.0.replayed,
         n.1,

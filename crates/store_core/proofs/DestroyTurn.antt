@@ -1,10 +1,12 @@
 -- A ranked turn that destroys a key.
-use Rattle.std.proofs.Common.{◌≡◌, ◌⊎◌, ◌∙◌, ℕ, ◌+◌, ◌-◌, ◌/◌, ◌^◌, ◌<◌, true, false, not, List, [], ◌∷◌, ◌++◌, length, set, refl, sym, ap, subst, arith, Option, None, Some, is_some}
+use Rattle.disk_face.specs.declared.Disk as Disk
+use Rattle.driver_dispatch.specs.declared.devices.Devices as Devices
+use Rattle.admission.specs.declared.rules.Admission as Admission
+use Rattle.std.proofs.Common.{◌≡◌, ◌⊎◌, ◌∙◌, ℕ, ◌+◌, ◌-◌, ◌/◌, ◌^◌, ◌<◌, true, false, not, List, [], ◌∷◌, ◌++◌, length, set, refl, sym, ap, subst, arith, None, Some, is_some}
 use Rattle.std.specs.Prelude.{slice_index, slice_set}
 use Rattle.std.specs.Option.{option_map}
 use Rattle.std.specs.FinMap as map
-use Rattle.policy_rules.specs.declared.narrowing.Label.{Label}
-use Rattle.driver_dispatch.specs.Held.{HeldKeys, without_key}
+use Rattle.driver_dispatch.specs.Held.{without_key}
 use Rattle.key_cells.specs.declared.slot.Slot as cell
 use Rattle.key_cells.specs.declared.slot.Slot.TheVariants.{Free}
 use Rattle.key_cells.specs.Contents.{HasNoKey, IsSure, cell_slot, has_id, creation_of_slot, settled_slots}
@@ -49,9 +51,8 @@ slot_key cells slots m all id i d none agrees lt holds =
     let k = key_of_slot slots m all id i agrees lt holds in
     record { key = k.0; there = k.1; volatile = in_no_cell cells m id k.0 d none k.1; has = k.2 }
 
-module _ {D A C : Type 0} (told : D → Option (List ℕ)) (may_leave : D → List ℕ → Type 0) (moment : D → ℕ) (left_since : D → ℕ → List ℕ → Type 0)
-    (faults : D → ℕ) (held : A → Option HeldKeys) (hard : A → ℕ) (locations : A → List ℕ) (labels : C → List Label)
-    (only_now : (disk : D) (image : List ℕ) → left_since disk (moment disk) image → may_leave disk image)
+module _ {D A C : Type 0} (disks : Disk.Ghosts D) (elements : Devices.Ghosts A) (admits : Admission.Ghosts C)
+    (only_now : (disk : D) (image : List ℕ) → disks.left_since disk (disks.moment disk) image → disks.may_leave disk image)
     (old : Store D A C) (start : Service) (opening : Opening) (h : List Entry) (all : List Pairs) (e : Entry) (id : ℕ) (call : e.call ≡ OnStore (Destroy id)) where
   abbrev disk : D
   disk = old.file.cells.disk
@@ -60,17 +61,17 @@ module _ {D A C : Type 0} (told : D → Option (List ℕ)) (may_leave : D → Li
   cells = old.file.cells.slots.items
 
   abbrev StandsOld : Type 0
-  StandsOld = StandsHere told may_leave moment left_since faults held hard locations labels old start opening h all
+  StandsOld = StandsHere disks elements admits old start opening h all
 
   abbrev StandsNew : Store D A C → Type 0
-  StandsNew new = StandsHere told may_leave moment left_since faults held hard locations labels new start opening (h ++ e ∷ []) all
+  StandsNew new = StandsHere disks elements admits new start opening (h ++ e ∷ []) all
 
   abbrev IsTurnTo : Store D A C → FaultMark → Type 0
-  IsTurnTo new mark = IsTurn told may_leave moment left_since faults held hard locations labels new mark e
+  IsTurnTo new mark = IsTurn disks elements admits new mark e
 
   -- there is no key to destroy
   pub nothing : (s : StandsOld) → map.get s.holds.model.keys id ≡ None → IsTurnTo (ranked_on old) Plain → StandsNew (ranked_on old)
-  nothing s none is = let m = s.holds.model in turns_standing told may_leave moment left_since faults held hard locations labels only_now old (ranked_on old) start opening h all all e Plain (counted m) s (record {
+  nothing s none is = let m = s.holds.model in turns_standing disks elements admits only_now old (ranked_on old) start opening h all all e Plain (counted m) s (record {
     becomes = λ service known same. ap counted same ∙ sym (entry_stays e id call service is.marked (ap (λ (x : model.Store). map.get x.keys id) (sym same) ∙ none));
     sound = counted_sound m s.holds.sound;
     settings = refl;
@@ -86,11 +87,11 @@ module _ {D A C : Type 0} (told : D → Option (List ℕ)) (may_leave : D → Li
     slots = quiet old.slots.table.slots m (counted m) all s.holds.slots (record { keys = refl; given = omega arith });
     holdings = s.holds.holdings;
     directory = same_directory cells m s.holds.directory;
-    device = same_device (held old.devices) m s.holds.device;
+    device = same_device (elements.keys old.devices) m s.holds.device;
     tells = refl;
-    leads = λ c known same stands. subst (Leads told may_leave moment left_since disk disk cells cells (durable_keys m) c.doubt (durable_keys m))
+    leads = λ c known same stands. subst (Leads disks.contents disks.may_leave disks.moment disks.left_since disk disk cells cells (durable_keys m) c.doubt (durable_keys m))
         (sym (doubt_here e id call c Plain None is.marked (ap (λ (x : model.Store). durable_keys x id) (sym same) ∙ ap kept none)))
-        (stays told may_leave moment left_since disk cells (durable_keys m) (durable_keys m) c.doubt (λ q. refl) stands);
+        (stays disks.contents disks.may_leave disks.moment disks.left_since disk cells (durable_keys m) (durable_keys m) c.doubt (λ q. refl) stands);
     settles = λ c known same sure empty. sure (sym (doubt_here e id call c Plain None is.marked (ap (λ (x : model.Store). durable_keys x id) (sym same) ∙ ap kept none)) ∙ empty);
     fault = tt;
     may = λ service known same. tt;
@@ -106,9 +107,9 @@ module _ {D A C : Type 0} (told : D → Option (List ℕ)) (may_leave : D → Li
     pub key : has_id id (cell_slot cells c) ≡ true
     pub sized : length file.cells.slots.items ≡ 512
     pub missing : settled_slots file.cells.slots.items ≡ set (settled_slots cells) c Free
-    pub tells : is_some (told file.cells.disk) ≡ is_some (told disk)
-    pub leads : (keys keys' : Keys) (doubt : Doubt) (key : Stored) → StandsForKeys told may_leave disk cells keys doubt → keys id ≡ Some key → IsPut keys keys' id None →
-        Leads told may_leave moment left_since disk file.cells.disk cells file.cells.slots.items keys doubt keys' (doubt_by mark true key doubt)
+    pub tells : is_some (disks.contents file.cells.disk) ≡ is_some (disks.contents disk)
+    pub leads : (keys keys' : Keys) (doubt : Doubt) (key : Stored) → StandsForKeys disks.contents disks.may_leave disk cells keys doubt → keys id ≡ Some key → IsPut keys keys' id None →
+        Leads disks.contents disks.may_leave disks.moment disks.left_since disk file.cells.disk cells file.cells.slots.items keys doubt keys' (doubt_by mark true key doubt)
     pub settles : (key : Stored) (doubt : Doubt) → doubt_by mark true key doubt ≡ [] → IsSure file.cells.slots.items
 
   -- a store without a key of its file
@@ -117,7 +118,7 @@ module _ {D A C : Type 0} (told : D → Option (List ℕ)) (may_leave : D → Li
 
   -- the key of a cell is destroyed
   pub destroys_kept : (file : KeyFile D) (slots : KeySlots) (mark : FaultMark) (c : ℕ) (s : StandsOld) → IsUnfiled file mark c → Forgets slots →
-      HasFault (is_some (told file.cells.disk)) (counts_of (faults disk) (hard old.devices)) e mark →
+      HasFault (is_some (disks.contents file.cells.disk)) (counts_of (disks.faults disk) (elements.faults old.devices)) e mark →
       ((service : Service) → is_persistent_key (key_changed service e.caller e.call) ≡ true → MayBeMarked service e.caller e.call mark) →
       IsTurnTo (unfiled file slots) mark → StandsNew (unfiled file slots)
   destroys_kept file slots mark c s f forgets fault may is =
@@ -128,7 +129,7 @@ module _ {D A C : Type 0} (told : D → Option (List ℕ)) (may_leave : D → Li
       let persistent = own.2 in
       let fewer = fewer_kept m id key there s.holds.sound persistent in
       let was = s.holds.kept in
-      turns_standing told may_leave moment left_since faults held hard locations labels only_now old (unfiled file slots) start opening h all all e mark (gone m id) s (record {
+      turns_standing disks elements admits only_now old (unfiled file slots) start opening h all all e mark (gone m id) s (record {
         becomes = λ service known same. ap (λ (x : model.Store). gone x id) same ∙ sym (entry_removes e id call service key (ap (λ (x : model.Store). map.get x.keys id) (sym same) ∙ there));
         sound = destroyed_sound m id s.holds.sound;
         settings = refl;
@@ -144,9 +145,9 @@ module _ {D A C : Type 0} (told : D → Option (List ℕ)) (may_leave : D → Li
         slots = forgets m (gone m id) all s.holds.slots s.holds.sound (takes_out m id);
         holdings = s.holds.holdings;
         directory = directory_emptied m id key there cells file.cells.slots.items c (creation_of_slot (cell_slot cells c)) (record { sized = f.sized; inside = f.within; settled = f.missing }) (opens_with (cell_slot cells c) id f.key) s.holds.directory;
-        device = device_stays m id key there (held old.devices) s.holds.device;
+        device = device_stays m id key there (elements.keys old.devices) s.holds.device;
         tells = f.tells;
-        leads = λ course known same stands. subst (Leads told may_leave moment left_since disk file.cells.disk cells file.cells.slots.items (durable_keys m) course.doubt (durable_keys (gone m id)))
+        leads = λ course known same stands. subst (Leads disks.contents disks.may_leave disks.moment disks.left_since disk file.cells.disk cells file.cells.slots.items (durable_keys m) course.doubt (durable_keys (gone m id)))
             (sym (doubt_here e id call course mark _ is.marked (ap (λ (x : model.Store). durable_keys x id) (sym same) ∙ kept_here m id key there false persistent)))
             (f.leads (durable_keys m) (durable_keys (gone m id)) course.doubt (stored key.number key.attributes key.bytes) stands (kept_here m id key there false persistent) (without_kept m id));
         settles = λ course known same sure none. f.settles (stored key.number key.attributes key.bytes) course.doubt
@@ -161,8 +162,8 @@ module _ {D A C : Type 0} (told : D → Option (List ℕ)) (may_leave : D → Li
 
   -- the key of a slot that no cell has is destroyed
   pub destroys_volatile : (devices : A) (slots : KeySlots) (caller : ℕ) (mark : FaultMark) (slot : Slot) (s : StandsOld) → IsInSlot s.holds.model id slot → Forgets slots →
-      1024 + caller ≡ id / 2 ^ 20 → locations devices ≡ locations old.devices → ((held devices ≡ held old.devices) ⊎ (held devices ≡ option_map (without_key slot.creation) (held old.devices))) →
-      HasFault (is_some (told disk)) (counts_of (faults disk) (hard old.devices)) e mark →
+      1024 + caller ≡ id / 2 ^ 20 → elements.locations devices ≡ elements.locations old.devices → ((elements.keys devices ≡ elements.keys old.devices) ⊎ (elements.keys devices ≡ option_map (without_key slot.creation) (elements.keys old.devices))) →
+      HasFault (is_some (disks.contents disk)) (counts_of (disks.faults disk) (elements.faults old.devices)) e mark →
       ((service : Service) → key_changed service e.caller e.call ≡ map.get s.holds.model.keys id → MayBeMarked service e.caller e.call mark) →
       IsTurnTo (unslotted devices slots caller) mark → StandsNew (unslotted devices slots caller)
   destroys_volatile devices slots caller mark slot s k forgets named places loses fault may is =
@@ -170,7 +171,7 @@ module _ {D A C : Type 0} (told : D → Option (List ℕ)) (may_leave : D → Li
       let key = k.key in
       let there = k.there in
       let volatile = k.volatile in
-      turns_standing told may_leave moment left_since faults held hard locations labels only_now old (unslotted devices slots caller) start opening h all all e mark (gone m id) s (record {
+      turns_standing disks elements admits only_now old (unslotted devices slots caller) start opening h all all e mark (gone m id) s (record {
         becomes = λ service known same. ap (λ (x : model.Store). gone x id) same ∙ sym (entry_removes e id call service key (ap (λ (x : model.Store). map.get x.keys id) (sym same) ∙ there));
         sound = destroyed_sound m id s.holds.sound;
         settings = refl;
@@ -186,12 +187,12 @@ module _ {D A C : Type 0} (told : D → Option (List ℕ)) (may_leave : D → Li
         slots = forgets m (gone m id) all s.holds.slots s.holds.sound (takes_out m id);
         holdings = s.holds.holdings;
         directory = directory_stays m id key there cells volatile s.holds.directory;
-        device = device_loses m id key there (held old.devices) (held devices) s.holds.sound
-            (subst (λ (n : ℕ). (held devices ≡ held old.devices) ⊎ (held devices ≡ option_map (without_key n) (held old.devices))) k.has.number loses) s.holds.device;
+        device = device_loses m id key there (elements.keys old.devices) (elements.keys devices) s.holds.sound
+            (subst (λ (n : ℕ). (elements.keys devices ≡ elements.keys old.devices) ⊎ (elements.keys devices ≡ option_map (without_key n) (elements.keys old.devices))) k.has.number loses) s.holds.device;
         tells = refl;
-        leads = λ course known same stands. subst (Leads told may_leave moment left_since disk disk cells cells (durable_keys m) course.doubt (durable_keys (gone m id)))
+        leads = λ course known same stands. subst (Leads disks.contents disks.may_leave disks.moment disks.left_since disk disk cells cells (durable_keys m) course.doubt (durable_keys (gone m id)))
             (sym (doubt_here e id call course mark None is.marked (ap (λ (x : model.Store). durable_keys x id) (sym same) ∙ kept_here m id key there true volatile)))
-            (stays told may_leave moment left_since disk cells (durable_keys m) (durable_keys (gone m id)) course.doubt (kept_same m id key there volatile) stands);
+            (stays disks.contents disks.may_leave disks.moment disks.left_since disk cells (durable_keys m) (durable_keys (gone m id)) course.doubt (kept_same m id key there volatile) stands);
         settles = λ course known same sure none. sure (sym (doubt_here e id call course mark None is.marked (ap (λ (x : model.Store). durable_keys x id) (sym same) ∙ kept_here m id key there true volatile)) ∙ none);
         fault = fault;
         may = λ service known same. may service (changes_it e id call service ∙ ap (λ (x : model.Store). map.get x.keys id) (sym same));

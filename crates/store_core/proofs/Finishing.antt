@@ -1,11 +1,12 @@
 -- Turns that finish a creation: what was decided of it, and how the turn ends.
+use Rattle.disk_face.specs.declared.Disk as Disk
+use Rattle.driver_dispatch.specs.declared.devices.Devices as Devices
+use Rattle.admission.specs.declared.rules.Admission as Admission
 use Rattle.std.proofs.Common.{◌≡◌, ◌∙◌, ℕ, ◌+◌, ◌≤◌, List, [], ◌∷◌, ◌++◌, refl, sym, ap, subst, arith, inl, inr, Option, None, Some, is_some, true, false}
 use Rattle.std.specs.Prelude.{Ok, Err, Result}
 use Rattle.psa_status.specs.declared.Status.{Status}
 use Rattle.psa_status.specs.declared.Status.TheVariants.{InvalidHandle}
-use Rattle.policy_rules.specs.declared.narrowing.Label.{Label}
 use Rattle.key_attributes.specs.declared.Attributes.{Attributes}
-use Rattle.driver_dispatch.specs.Held.{HeldKeys}
 use Rattle.secret_bytes.specs.Buffer.{Buffer}
 use Rattle.slot_table.specs.Lent as lent
 use Rattle.std.specs.Option.{option_map_or}
@@ -47,70 +48,69 @@ IsReadFault Plain = ⊥
 IsReadFault Hardware = ⊥
 IsReadFault (Storage (Writing closed_first)) = ⊥
 
-module _ {D A C : Type 0} (told : D → Option (List ℕ)) (may_leave : D → List ℕ → Type 0) (moment : D → ℕ) (left_since : D → ℕ → List ℕ → Type 0)
-    (faults : D → ℕ) (held : A → Option HeldKeys) (hard : A → ℕ) (locations : A → List ℕ) (labels : C → List Label) where
+module _ {D A C : Type 0} (disks : Disk.Ghosts D) (elements : Devices.Ghosts A) (admits : Admission.Ghosts C) where
   abbrev HoldsWith : Store D A C → Service → Opening → List Entry → List Pairs → Entry → Type 0
-  HoldsWith store start opening h all e = HoldsHere told may_leave moment left_since faults held hard locations labels (IsTold (told store.file.cells.disk) start (h ++ e ∷ [])) store start opening h all
+  HoldsWith store start opening h all e = HoldsHere disks elements admits (IsTold (disks.contents store.file.cells.disk) start (h ++ e ∷ [])) store start opening h all
 
   -- a store that stands for something, with another buffer, as a turn that ends with an entry sees it
   pub within : (old : Store D A C) (buffer : Buffer) (start : Service) (opening : Opening) (h : List Entry) (all : List Pairs) (e : Entry) →
-      (s : StandsHere told may_leave moment left_since faults held hard locations labels old start opening h all) → (n : HoldsWith (record old { buffer = buffer }) start opening h all e) × (n.model ≡ s.holds.model)
+      (s : StandsHere disks elements admits old start opening h all) → (n : HoldsWith (record old { buffer = buffer }) start opening h all e) × (n.model ≡ s.holds.model)
   within old buffer start opening h all e s =
-      goes_on told may_leave moment left_since faults held hard locations labels old start opening h old.file old.slots buffer all (IsTold (told old.file.cells.disk) start (h ++ e ∷ []))
-      (left_alone told may_leave moment left_since faults held hard locations labels old.file) (told_before (told old.file.cells.disk) start h e) s.holds s.holds.slots
+      goes_on disks elements admits old start opening h old.file old.slots buffer all (IsTold (disks.contents old.file.cells.disk) start (h ++ e ∷ []))
+      (left_alone disks elements admits old.file) (told_before (disks.contents old.file.cells.disk) start h e) s.holds s.holds.slots
 
-  pub rebuffered : (store : Store D A C) (buffer : Buffer) (start : Service) (opening : Opening) (h : List Entry) (all : List Pairs) → StandsHere told may_leave moment left_since faults held hard locations labels store start opening h all →
-      StandsHere told may_leave moment left_since faults held hard locations labels (record store { buffer = buffer }) start opening h all
+  pub rebuffered : (store : Store D A C) (buffer : Buffer) (start : Service) (opening : Opening) (h : List Entry) (all : List Pairs) → StandsHere disks elements admits store start opening h all →
+      StandsHere disks elements admits (record store { buffer = buffer }) start opening h all
   rebuffered store buffer start opening h all s = record {
-    holds = (goes_on told may_leave moment left_since faults held hard locations labels store start opening h store.file store.slots buffer all (IsTold (told store.file.cells.disk) start h)
-        (left_alone told may_leave moment left_since faults held hard locations labels store.file) (λ k. k) s.holds s.holds.slots).0;
+    holds = (goes_on disks elements admits store start opening h store.file store.slots buffer all (IsTold (disks.contents store.file.cells.disk) start h)
+        (left_alone disks elements admits store.file) (λ k. k) s.holds s.holds.slots).0;
     counts = s.counts;
   }
 
-  pub since_stands : (old : Store D A C) (buffer : Buffer) (start : Service) (opening : Opening) (h : List Entry) (all : List Pairs) → StandsHere told may_leave moment left_since faults held hard locations labels old start opening h all →
-      IsSince told may_leave moment left_since faults held hard locations labels (record old { buffer = buffer }) (last_counts opening.counts h)
+  pub since_stands : (old : Store D A C) (buffer : Buffer) (start : Service) (opening : Opening) (h : List Entry) (all : List Pairs) → StandsHere disks elements admits old start opening h all →
+      IsSince disks elements admits (record old { buffer = buffer }) (last_counts opening.counts h)
   since_stands old buffer start opening h all s = record {
     faults_since = (let same = ap (λ (c : FaultCounts). c.faults) s.counts in omega arith);
     hard_since = (let same = ap (λ (c : FaultCounts). c.hard) s.counts in omega arith);
   }
 
-  pub since_later : (old mid : Store D A C) (counts : FaultCounts) → counts ≡ counts_of (faults old.file.cells.disk) (hard old.devices) → faults old.file.cells.disk ≤ faults mid.file.cells.disk → mid.devices ≡ old.devices →
-      IsSince told may_leave moment left_since faults held hard locations labels mid counts
+  pub since_later : (old mid : Store D A C) (counts : FaultCounts) → counts ≡ counts_of (disks.faults old.file.cells.disk) (elements.faults old.devices) → disks.faults old.file.cells.disk ≤ disks.faults mid.file.cells.disk → mid.devices ≡ old.devices →
+      IsSince disks elements admits mid counts
   since_later old mid counts is later same = record {
     faults_since = (let at = ap (λ (c : FaultCounts). c.faults) is in omega arith);
-    hard_since = (let at = ap (λ (c : FaultCounts). c.hard) is in let here = ap hard same in omega arith);
+    hard_since = (let at = ap (λ (c : FaultCounts). c.hard) is in let here = ap elements.faults same in omega arith);
   }
 
   -- the request makes the key that was decided
   pub is_making : (old mid : Store D A C) (start : Service) (h : List Entry) (e : Entry) (caller : ℕ) (records : model.Store → Result Attributes Status → Type 0) (bytes : model.Store → List ℕ) (m : model.Store) (recorded : Attributes) (b : List ℕ) →
-      told mid.file.cells.disk ≡ told old.file.cells.disk → IsCreating told may_leave moment left_since faults held hard locations labels old start h e caller records bytes → (IsTold (told mid.file.cells.disk) start (h ++ e ∷ []) → m ≡ (replay start h).store) →
-      records m (Ok recorded) → bytes m ≡ b → IsMaking told may_leave moment left_since faults held hard locations labels mid start h e caller recorded b
+      disks.contents mid.file.cells.disk ≡ disks.contents old.file.cells.disk → IsCreating disks elements admits old start h e caller records bytes → (IsTold (disks.contents mid.file.cells.disk) start (h ++ e ∷ []) → m ≡ (replay start h).store) →
+      records m (Ok recorded) → bytes m ≡ b → IsMaking disks elements admits mid start h e caller recorded b
   is_making old mid start h e caller records bytes m recorded b same creating replayed decided is = record {
     by = creating.by;
     keeps = creating.keeps;
     leaves = λ k. creating.leaves (before k) (Ok recorded) (of_replay k) ∙ ap (λ (x : List ℕ). (created_unless (replay start h).store caller (Ok recorded) x).store) (bytes_are k);
     answers = λ k. creating.answers (before k) (Ok recorded) (of_replay k) ∙ ap (λ (x : List ℕ). (created_unless (replay start h).store caller (Ok recorded) x).reply) (bytes_are k);
   } where
-    before : IsTold (told mid.file.cells.disk) start (h ++ e ∷ []) → IsTold (told old.file.cells.disk) start h
-    before k = subst (λ (t : Option (List ℕ)). IsTold t start h) same (told_before (told mid.file.cells.disk) start h e k)
+    before : IsTold (disks.contents mid.file.cells.disk) start (h ++ e ∷ []) → IsTold (disks.contents old.file.cells.disk) start h
+    before k = subst (λ (t : Option (List ℕ)). IsTold t start h) same (told_before (disks.contents mid.file.cells.disk) start h e k)
 
-    of_replay : IsTold (told mid.file.cells.disk) start (h ++ e ∷ []) → records (replay start h).store (Ok recorded)
+    of_replay : IsTold (disks.contents mid.file.cells.disk) start (h ++ e ∷ []) → records (replay start h).store (Ok recorded)
     of_replay k = subst (λ (x : model.Store). records x (Ok recorded)) (replayed k) decided
 
-    bytes_are : IsTold (told mid.file.cells.disk) start (h ++ e ∷ []) → bytes (replay start h).store ≡ b
+    bytes_are : IsTold (disks.contents mid.file.cells.disk) start (h ++ e ∷ []) → bytes (replay start h).store ≡ b
     bytes_are k = ap bytes (sym (replayed k)) ∙ is
 
   -- or is refused
   pub refused_at : (old : Store D A C) (start : Service) (h : List Entry) (e : Entry) (caller : ℕ) (records : model.Store → Result Attributes Status → Type 0) (bytes : model.Store → List ℕ) (m : model.Store) (status : Status) →
-      IsCreating told may_leave moment left_since faults held hard locations labels old start h e caller records bytes → (IsTold (told old.file.cells.disk) start (h ++ e ∷ []) → m ≡ (replay start h).store) →
-      records m (Err status) → IsTold (told old.file.cells.disk) start (h ++ e ∷ []) → IsRefusedAt e status (replay start h)
+      IsCreating disks elements admits old start h e caller records bytes → (IsTold (disks.contents old.file.cells.disk) start (h ++ e ∷ []) → m ≡ (replay start h).store) →
+      records m (Err status) → IsTold (disks.contents old.file.cells.disk) start (h ++ e ∷ []) → IsRefusedAt e status (replay start h)
   refused_at old start h e caller records bytes m status creating replayed decided k =
-      let before = told_before (told old.file.cells.disk) start h e k in
+      let before = told_before (disks.contents old.file.cells.disk) start h e k in
       let of_replay = subst (λ (x : model.Store). records x (Err status)) (replayed k) decided in
       record { leaves = creating.leaves before (Err status) of_replay; answers = creating.answers before (Err status) of_replay }
 
   -- A creation that makes no key: its slot is given up.
-  module _ (only_now : (disk : D) (image : List ℕ) → left_since disk (moment disk) image → may_leave disk image)
+  module _ (only_now : (disk : D) (image : List ℕ) → disks.left_since disk (disks.moment disk) image → disks.may_leave disk image)
       (mid : Store D A C) (slots : KeySlots) (start : Service) (opening : Opening) (h : List Entry) (all less : List Pairs) (e : Entry) (keeps : is_destruction e.call ≡ false) where
     abbrev pub given_up : Store D A C
     given_up = record mid { slots = slots; ranked = mid.ranked + 1 }
@@ -118,11 +118,11 @@ module _ {D A C : Type 0} (told : D → Option (List ℕ)) (may_leave : D → Li
     abbrev disk : D
     disk = mid.file.cells.disk
 
-    pub gives_up : (S : Service → Type 0) (mark : FaultMark) (s : HoldsWith mid start opening h all e) → (IsTold (told disk) start (h ++ e ∷ []) → S (replay start h)) → Agrees slots.table.slots s.model less → AreHoldings less →
+    pub gives_up : (S : Service → Type 0) (mark : FaultMark) (s : HoldsWith mid start opening h all e) → (IsTold (disks.contents disk) start (h ++ e ∷ []) → S (replay start h)) → Agrees slots.table.slots s.model less → AreHoldings less →
         ((service : Service) → S service → (outcome_of service e).service.store ≡ counted service.store) → ((c : Course) → S c.service → doubt_after e c ≡ c.doubt) →
-        HasFault (is_some (told disk)) (last_counts opening.counts h) e mark → ((service : Service) → S service → s.model ≡ service.store → MayBeMarked service e.caller e.call mark) →
-        IsTurn told may_leave moment left_since faults held hard locations labels given_up mark e → StandsHere told may_leave moment left_since faults held hard locations labels given_up start opening (h ++ e ∷ []) less
-    gives_up S mark s before agrees law counts doubts fault may is = unmade told may_leave moment left_since faults held hard locations labels only_now mid given_up start opening h all less e S mark s keeps before law (record {
+        HasFault (is_some (disks.contents disk)) (last_counts opening.counts h) e mark → ((service : Service) → S service → s.model ≡ service.store → MayBeMarked service e.caller e.call mark) →
+        IsTurn disks elements admits given_up mark e → StandsHere disks elements admits given_up start opening (h ++ e ∷ []) less
+    gives_up S mark s before agrees law counts doubts fault may is = unmade disks elements admits only_now mid given_up start opening h all less e S mark s keeps before law (record {
       rules = refl;
       devices = refl;
       found = refl;
@@ -132,17 +132,17 @@ module _ {D A C : Type 0} (told : D → Option (List ℕ)) (may_leave : D → Li
       ranked = refl;
       slots = quiet slots.table.slots s.model (counted s.model) less agrees (record { keys = refl; given = omega arith });
       directory = same_directory mid.file.cells.slots.items s.model s.directory;
-      device = same_device (held mid.devices) s.model s.device;
+      device = same_device (elements.keys mid.devices) s.model s.device;
       tells = refl;
     }) counts
-        (λ c known at stands. subst (Leads told may_leave moment left_since disk disk mid.file.cells.slots.items mid.file.cells.slots.items (durable_keys s.model) c.doubt (durable_keys s.model)) (sym (doubts c known))
-        (stays told may_leave moment left_since disk mid.file.cells.slots.items (durable_keys s.model) (durable_keys s.model) c.doubt (λ q. refl) stands))
+        (λ c known at stands. subst (Leads disks.contents disks.may_leave disks.moment disks.left_since disk disk mid.file.cells.slots.items mid.file.cells.slots.items (durable_keys s.model) c.doubt (durable_keys s.model)) (sym (doubts c known))
+        (stays disks.contents disks.may_leave disks.moment disks.left_since disk mid.file.cells.slots.items (durable_keys s.model) (durable_keys s.model) c.doubt (λ q. refl) stands))
         (λ c known at sure none. sure (sym (doubts c known) ∙ none))
         fault may is
 
     -- since it is refused
-    pub refuses : (status : Status) (s : HoldsWith mid start opening h all e) → (IsTold (told disk) start (h ++ e ∷ []) → IsRefusedAt e status (replay start h)) → Agrees slots.table.slots s.model less → AreHoldings less →
-        IsTurn told may_leave moment left_since faults held hard locations labels given_up Plain e → StandsHere told may_leave moment left_since faults held hard locations labels given_up start opening (h ++ e ∷ []) less
+    pub refuses : (status : Status) (s : HoldsWith mid start opening h all e) → (IsTold (disks.contents disk) start (h ++ e ∷ []) → IsRefusedAt e status (replay start h)) → Agrees slots.table.slots s.model less → AreHoldings less →
+        IsTurn disks elements admits given_up Plain e → StandsHere disks elements admits given_up start opening (h ++ e ∷ []) less
     refuses status s refused agrees law is = gives_up (IsRefusedAt e status) Plain s refused agrees law (λ service known. plain_counts e keeps service is.marked ∙ known.leaves)
         (λ c known. doubted e keeps c Plain None None is.marked (changes_none e keeps status c.service known) refl) tt (λ service known at. tt) is
 
@@ -173,9 +173,9 @@ module _ {D A C : Type 0} (told : D → Option (List ℕ)) (may_leave : D → Li
     may_read (Storage (Writing closed_first)) is service reads = absurd is
 
     -- or since its source could not be read
-    pub unread : (mark : FaultMark) → IsReadFault mark → (s : HoldsWith mid start opening h all e) → (IsTold (told disk) start (h ++ e ∷ []) → Reads (replay start h)) → Agrees slots.table.slots s.model less → AreHoldings less →
-        HasFault (is_some (told disk)) (last_counts opening.counts h) e mark →
-        IsTurn told may_leave moment left_since faults held hard locations labels given_up mark e → StandsHere told may_leave moment left_since faults held hard locations labels given_up start opening (h ++ e ∷ []) less
+    pub unread : (mark : FaultMark) → IsReadFault mark → (s : HoldsWith mid start opening h all e) → (IsTold (disks.contents disk) start (h ++ e ∷ []) → Reads (replay start h)) → Agrees slots.table.slots s.model less → AreHoldings less →
+        HasFault (is_some (disks.contents disk)) (last_counts opening.counts h) e mark →
+        IsTurn disks elements admits given_up mark e → StandsHere disks elements admits given_up start opening (h ++ e ∷ []) less
     unread mark kind s reads agrees law fault is = gives_up Reads mark s reads agrees law
         (λ service known. ap (λ (x : FaultMark). (serve service e.caller e.call x).service.store) is.marked ∙ marked_counts service e.caller e.call mark (failing mark kind) keeps)
         (λ c known. doubted e keeps c mark (key_changed c.service e.caller e.call) (kept (key_changed c.service e.caller e.call)) is.marked refl refl ∙ same_doubt mark kind (kept (key_changed c.service e.caller e.call)) c.doubt)

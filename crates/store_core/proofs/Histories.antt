@@ -1,4 +1,7 @@
 -- A history with one more entry.
+use Rattle.disk_face.specs.declared.Disk as Disk
+use Rattle.driver_dispatch.specs.declared.devices.Devices as Devices
+use Rattle.admission.specs.declared.rules.Admission as Admission
 use Rattle.std.proofs.Common.{◌≡◌, ℕ, Bool, true, false, List, [], ◌∷◌, ◌++◌, refl, sym, ◌∙◌, ap, subst, inl, inr}
 use Rattle.std.proofs.lemmas.Bool.{false≢true}
 use Rattle.std.specs.Prelude.{Option, None, Some, not, ◌&&◌, ◌==◌}
@@ -9,8 +12,6 @@ use Rattle.psa_status.specs.Rows.{first_row}
 use Rattle.disk_face.specs.Moments.{after_all}
 use Rattle.disk_face.proofs.Moments.{after_all_push}
 use Rattle.key_file.specs.Files.{Stored}
-use Rattle.policy_rules.specs.declared.narrowing.Label.{Label}
-use Rattle.driver_dispatch.specs.Held.{HeldKeys}
 use Rattle.store_model.specs.Store.{Key, Store}
 use Rattle.store_model.specs.Call.{Destroy, Reply}
 use Rattle.store_model.specs.Faults.{FaultMark, Plain}
@@ -131,10 +132,9 @@ refused_counts service caller (OnHandle handle call) fails = ap (λ (s : Service
 
 -- REQUESTS THAT LEAVE ALL KEYS
 
-module _ {D A C : Type 0} (told : D → Option (List ℕ)) (may_leave : D → List ℕ → Type 0) (moment : D → ℕ) (left_since : D → ℕ → List ℕ → Type 0)
-    (faults : D → ℕ) (held : A → Option HeldKeys) (hard : A → ℕ) (locations : A → List ℕ) (labels : C → List Label) (store : core.Store D A C) (start : Service) (h : List Entry) (e : Entry) where
+module _ {D A C : Type 0} (disks : Disk.Ghosts D) (elements : Devices.Ghosts A) (admits : Admission.Ghosts C) (store : core.Store D A C) (start : Service) (h : List Entry) (e : Entry) where
   abbrev Leaves : Type 0
-  Leaves = LeavesKeys told may_leave moment left_since faults held hard locations labels store start h e
+  Leaves = LeavesKeys disks elements admits store start h e
 
   -- one that may change no key
   pub quiet_leaves : may_change_keys e.call ≡ false → Leaves
@@ -144,7 +144,7 @@ module _ {D A C : Type 0} (told : D → Option (List ℕ)) (may_leave : D → Li
   }
 
   -- and one that is refused though no device failed
-  pub refused_leaves : e.mark ≡ Plain → (IsTold (told store.file.cells.disk) start (h ++ e ∷ []) → IsRefusal (plain_step (replay start h) e.caller e.call).reply) → Leaves
+  pub refused_leaves : e.mark ≡ Plain → (IsTold (disks.contents store.file.cells.disk) start (h ++ e ∷ []) → IsRefusal (plain_step (replay start h) e.caller e.call).reply) → Leaves
   refused_leaves plain refused = record {
     counted_only = λ t.
         subst (λ (mark : FaultMark). (serve (replay start h) e.caller e.call mark).service.store ≡ counted (replay start h).store) (sym plain) (refused_counts (replay start h) e.caller e.call (refused t));

@@ -1,8 +1,10 @@
 -- A store that holds keys, after a turn that leaves all.
+use Rattle.disk_face.specs.declared.Disk as Disk
+use Rattle.driver_dispatch.specs.declared.devices.Devices as Devices
+use Rattle.admission.specs.declared.rules.Admission as Admission
 use Rattle.std.proofs.Common.{◌≡◌, ◌⊎◌, ℕ, ◌+◌, ◌≤◌, List, [], ◌∷◌, ◌++◌, length, true, Option, is_some, refl, sym, ◌∙◌, ap, subst, arith, inl, inr, ⊎_elim, length-append}
 use Rattle.disk_face.specs.Moments.{Within, KeepsPromise, FitsFrom}
 use Rattle.disk_face.proofs.Moments.{promise_goes_on, within_none, fits_whole, fits_least}
-use Rattle.policy_rules.specs.declared.narrowing.Label.{Label}
 use Rattle.driver_dispatch.specs.Held.{HeldKeys}
 use Rattle.key_cells.specs.Contents.{IsSure}
 use Rattle.key_file.specs.declared.file.KeyFile.{KeyFile}
@@ -49,23 +51,22 @@ same_directory slots m d = record { sized = d.sized; there = d.there; only = d.o
 pub same_device : (held : Option HeldKeys) (m : model.Store) → HoldsKeys held m → HoldsKeys held (counted m)
 same_device held m d = record { there = d.there; new = λ handle le. d.new handle (omega (arith, le)) }
 
-module _ {D A C : Type 0} (told : D → Option (List ℕ)) (may_leave : D → List ℕ → Type 0) (moment : D → ℕ) (left_since : D → ℕ → List ℕ → Type 0)
-    (faults : D → ℕ) (held : A → Option HeldKeys) (hard : A → ℕ) (locations : A → List ℕ) (labels : C → List Label) where
+module _ {D A C : Type 0} (disks : Disk.Ghosts D) (elements : Devices.Ghosts A) (admits : Admission.Ghosts C) where
   -- the definitions over these
   abbrev pub HoldsHere : Type 0 → Store D A C → Service → Opening → List Entry → List Pairs → Type 0
-  HoldsHere = Holds told may_leave moment left_since faults held hard locations labels
+  HoldsHere = Holds disks elements admits
 
   abbrev pub StandsHere : Store D A C → Service → Opening → List Entry → List Pairs → Type 0
-  StandsHere = StandsFor told may_leave moment left_since faults held hard locations labels
+  StandsHere = StandsFor disks elements admits
 
   abbrev pub IsTurn : Store D A C → FaultMark → Entry → Type 0
-  IsTurn = IsEntry told may_leave moment left_since faults held hard locations labels
+  IsTurn = IsEntry disks elements admits
 
   abbrev pub LeavesHere : Store D A C → Service → List Entry → Entry → Type 0
-  LeavesHere = LeavesKeys told may_leave moment left_since faults held hard locations labels
+  LeavesHere = LeavesKeys disks elements admits
 
   abbrev pub IsReadingHere : Store D A C → Service → List Entry → Entry → ℕ → Type 0
-  IsReadingHere = IsReading told may_leave moment left_since faults held hard locations labels
+  IsReadingHere = IsReading disks elements admits
 
   -- a store after its file was read
   abbrev pub moved : Store D A C → KeyFile D → KeySlots → Buffer → Store D A C
@@ -77,21 +78,21 @@ module _ {D A C : Type 0} (told : D → Option (List ℕ)) (may_leave : D → Li
 
   -- a file that was read, or left alone
   pub record IsReadOn (old new : KeyFile D) : Type 0 where
-    pub same : told new.cells.disk ≡ told old.cells.disk
+    pub same : disks.contents new.cells.disk ≡ disks.contents old.cells.disk
     pub slots : new.cells.slots ≡ old.cells.slots
-    pub keeps : (keys : Keys) (doubt : Doubt) → StandsForKeys told may_leave old.cells.disk old.cells.slots.items keys doubt →
-        Leads told may_leave moment left_since old.cells.disk new.cells.disk old.cells.slots.items new.cells.slots.items keys doubt keys doubt
+    pub keeps : (keys : Keys) (doubt : Doubt) → StandsForKeys disks.contents disks.may_leave old.cells.disk old.cells.slots.items keys doubt →
+        Leads disks.contents disks.may_leave disks.moment disks.left_since old.cells.disk new.cells.disk old.cells.slots.items new.cells.slots.items keys doubt keys doubt
 
   pub left_alone : (file : KeyFile D) → IsReadOn file file
   left_alone file = record {
     same = refl;
     slots = refl;
-    keeps = λ keys doubt s. stays told may_leave moment left_since file.cells.disk file.cells.slots.items keys keys doubt (λ id. refl) s;
+    keeps = λ keys doubt s. stays disks.contents disks.may_leave disks.moment disks.left_since file.cells.disk file.cells.slots.items keys keys doubt (λ id. refl) s;
   }
 
   module _ (old : Store D A C) (start : Service) (opening : Opening) (h : List Entry) where
     abbrev tells : Type 0
-    tells = is_some (told old.file.cells.disk) ≡ true
+    tells = is_some (disks.contents old.file.cells.disk) ≡ true
 
     -- what the keys of the model are, over a disk that tells
     fits_now : (m : model.Store) → m ≡ (replay start h).store → (image : List ℕ) → FitsKeys (durable_keys m) (course_of start h).doubt image → FitsCourse (course_of start h) image
@@ -99,8 +100,8 @@ module _ {D A C : Type 0} (told : D → Option (List ℕ)) (may_leave : D → Li
         subst (λ (x : model.Store). FitsKeys (durable_keys x) (course_of start h).doubt image) (is ∙ ap (λ (s : Service). s.store) (sym (course_service start h))) fits
 
     -- no key changes, and no entry is added
-    pub goes_on : (file : KeyFile D) (slots : KeySlots) (buffer : Buffer) (all : List Pairs) (K : Type 0) → IsReadOn old.file file → (K → IsTold (told old.file.cells.disk) start h) →
-        (s : HoldsHere (IsTold (told old.file.cells.disk) start h) old start opening h all) → Agrees slots.table.slots s.model all →
+    pub goes_on : (file : KeyFile D) (slots : KeySlots) (buffer : Buffer) (all : List Pairs) (K : Type 0) → IsReadOn old.file file → (K → IsTold (disks.contents old.file.cells.disk) start h) →
+        (s : HoldsHere (IsTold (disks.contents old.file.cells.disk) start h) old start opening h all) → Agrees slots.table.slots s.model all →
         (n : HoldsHere K (moved old file slots buffer) start opening h all) × (n.model ≡ s.model)
     goes_on file slots buffer all K read known s agrees = (
       record {
@@ -123,7 +124,7 @@ module _ {D A C : Type 0} (told : D → Option (List ℕ)) (may_leave : D → Li
         device = s.device;
         file = λ is. (leads is).stands;
         sure = λ is none. subst (λ (c : _). IsSure c.items) (sym read.slots) (s.sure (before is) none);
-        promise = λ is. promise_stays (left_since old.file.cells.disk) (left_since file.cells.disk) (moment old.file.cells.disk) (moment file.cells.disk) opening.moment start h
+        promise = λ is. promise_stays (disks.left_since old.file.cells.disk) (disks.left_since file.cells.disk) (disks.moment old.file.cells.disk) (disks.moment file.cells.disk) opening.moment start h
             (FitsEitherKeys (durable_keys s.model) (course_of start h).doubt (durable_keys s.model) (course_of start h).doubt) (s.promise (before is)) (leads is).within
             (λ image fits. fits_now s.model (s.replayed (inl (before is))) image (⊎_elim (λ f. f) (λ f. f) fits));
         caused = subst (λ (t : Option (List ℕ)). IsCaused (is_some t) opening.counts h) (sym read.same) s.caused;
@@ -131,11 +132,11 @@ module _ {D A C : Type 0} (told : D → Option (List ℕ)) (may_leave : D → Li
       },
       refl,
     ) where
-      before : is_some (told file.cells.disk) ≡ true → tells
+      before : is_some (disks.contents file.cells.disk) ≡ true → tells
       before is = ap is_some (sym read.same) ∙ is
 
-      leads : is_some (told file.cells.disk) ≡ true →
-          Leads told may_leave moment left_since old.file.cells.disk file.cells.disk old.file.cells.slots.items file.cells.slots.items (durable_keys s.model) (course_of start h).doubt (durable_keys s.model) (course_of start h).doubt
+      leads : is_some (disks.contents file.cells.disk) ≡ true →
+          Leads disks.contents disks.may_leave disks.moment disks.left_since old.file.cells.disk file.cells.disk old.file.cells.slots.items file.cells.slots.items (durable_keys s.model) (course_of start h).doubt (durable_keys s.model) (course_of start h).doubt
       leads is = read.keeps (durable_keys s.model) (course_of start h).doubt (s.file (before is))
 
     -- a turn without rank
@@ -201,33 +202,33 @@ module _ {D A C : Type 0} (told : D → Option (List ℕ)) (may_leave : D → Li
   )
 
   -- A ranked turn ends whose request leaves all keys.
-  module _ (only_now : (disk : D) (image : List ℕ) → left_since disk (moment disk) image → may_leave disk image)
+  module _ (only_now : (disk : D) (image : List ℕ) → disks.left_since disk (disks.moment disk) image → disks.may_leave disk image)
       (old : Store D A C) (slots : KeySlots) (mark : FaultMark) (start : Service) (opening : Opening) (h : List Entry) (all more : List Pairs) (e : Entry) where
     abbrev disk_here : D
     disk_here = old.file.cells.disk
 
     abbrev Known : Type 0
-    Known = IsTold (told disk_here) start (h ++ e ∷ [])
+    Known = IsTold (disks.contents disk_here) start (h ++ e ∷ [])
 
     counted_now : LeavesHere old start h e → Known → (m : model.Store) → m ≡ (replay start h).store → counted m ≡ (outcome_of (replay start h) e).service.store
     counted_now still known m is = ap counted is ∙ sym (still.counted_only known)
 
     -- the disk fits the course with the entry
-    fits_after : LeavesHere old start h e → Known → (m : model.Store) → m ≡ (replay start h).store → StandsForKeys told may_leave disk_here old.file.cells.slots.items (durable_keys m) (course_of start h).doubt →
-        (image : List ℕ) → left_since disk_here (moment disk_here) image → FitsCourse (after e (course_of start h)) image
+    fits_after : LeavesHere old start h e → Known → (m : model.Store) → m ≡ (replay start h).store → StandsForKeys disks.contents disks.may_leave disk_here old.file.cells.slots.items (durable_keys m) (course_of start h).doubt →
+        (image : List ℕ) → disks.left_since disk_here (disks.moment disk_here) image → FitsCourse (after e (course_of start h)) image
     fits_after still known m is stands image left =
         let same : counted m ≡ (after e (course_of start h)).service.store = counted_now still known m is ∙ ap (λ (s : Service). (outcome_of s e).service.store) (sym (course_service start h)) in
-        let fits = stands_fits told may_leave moment left_since disk_here old.file.cells.slots.items (durable_keys m) (course_of start h).doubt image stands (only_now disk_here image left) in
+        let fits = stands_fits disks.contents disks.may_leave disks.moment disks.left_since disk_here old.file.cells.slots.items (durable_keys m) (course_of start h).doubt image stands (only_now disk_here image left) in
         subst (λ (x : model.Store). FitsKeys (durable_keys x) (after e (course_of start h)).doubt image) same
         (subst (λ (d : Doubt). FitsKeys (durable_keys m) d image) (sym (course_doubt start h e (still.changes_none known))) fits)
 
-    pub ends_quiet : (s : HoldsHere Known old start opening h all) → Agrees slots.table.slots s.model more → AreHoldings more → HasFault (is_some (told disk_here)) (last_counts opening.counts h) e mark →
+    pub ends_quiet : (s : HoldsHere Known old start opening h all) → Agrees slots.table.slots s.model more → AreHoldings more → HasFault (is_some (disks.contents disk_here)) (last_counts opening.counts h) e mark →
         (Known → MayBeMarked (replay start h) e.caller e.call mark) → LeavesHere old start h e → IsTurn (turned old slots) mark e →
         (after : StandsHere (turned old slots) start opening (h ++ e ∷ []) more) × (after.holds.model ≡ counted s.model)
     ends_quiet s agrees holdings fault may still is = (record { holds = holds; counts = counts_push opening.counts h e ∙ counted_here }, refl)
       where
-        counted_here : counts_of e.faults e.hard ≡ counts_of (faults disk_here) (hard old.devices)
-        counted_here = ap (λ (n : ℕ). counts_of n e.hard) is.disk_faults ∙ ap (counts_of (faults disk_here)) is.device_faults
+        counted_here : counts_of e.faults e.hard ≡ counts_of (disks.faults disk_here) (elements.faults old.devices)
+        counted_here = ap (λ (n : ℕ). counts_of n e.hard) is.disk_faults ∙ ap (counts_of (disks.faults disk_here)) is.device_faults
 
         holds : HoldsHere Known (turned old slots) start opening (h ++ e ∷ []) more
         holds = record {
@@ -247,21 +248,21 @@ module _ {D A C : Type 0} (told : D → Option (List ℕ)) (may_leave : D → Li
           slots = quiet slots.table.slots s.model (counted s.model) more agrees (record { keys = refl; given = omega arith });
           holdings = holdings;
           directory = same_directory old.file.cells.slots.items s.model s.directory;
-          device = same_device (held old.devices) s.model s.device;
-          file = λ tells. subst (StandsForKeys told may_leave disk_here old.file.cells.slots.items (durable_keys s.model)) (sym (doubt_stays start h e (still.changes_none (inl tells)))) (s.file tells);
+          device = same_device (elements.keys old.devices) s.model s.device;
+          file = λ tells. subst (StandsForKeys disks.contents disks.may_leave disk_here old.file.cells.slots.items (durable_keys s.model)) (sym (doubt_stays start h e (still.changes_none (inl tells)))) (s.file tells);
           sure = λ tells none. s.sure tells (sym (doubt_stays start h e (still.changes_none (inl tells))) ∙ none);
-          promise = λ tells. promise_goes_on after FitsCourse (opened start) (λ (x : Entry). x.done) (left_since disk_here) (left_since disk_here) (moment disk_here) (moment disk_here) opening.moment h e (s.promise tells)
-              (within_none (moment disk_here) (left_since disk_here) _) (fits_after still (inl tells) s.model (s.replayed (inl tells)) (s.file tells)) is.done;
-          caused = go_on (is_some (told disk_here)) opening.counts h e s.caused (subst (HasFault (is_some (told disk_here)) (last_counts opening.counts h) e) (sym is.marked) fault);
-          allowed = λ k. allowed_go_on start h e (s.allowed (told_before (told disk_here) start h e k)) (subst (MayBeMarked (replay start h) e.caller e.call) (sym is.marked) (may k));
+          promise = λ tells. promise_goes_on after FitsCourse (opened start) (λ (x : Entry). x.done) (disks.left_since disk_here) (disks.left_since disk_here) (disks.moment disk_here) (disks.moment disk_here) opening.moment h e (s.promise tells)
+              (within_none (disks.moment disk_here) (disks.left_since disk_here) _) (fits_after still (inl tells) s.model (s.replayed (inl tells)) (s.file tells)) is.done;
+          caused = go_on (is_some (disks.contents disk_here)) opening.counts h e s.caused (subst (HasFault (is_some (disks.contents disk_here)) (last_counts opening.counts h) e) (sym is.marked) fault);
+          allowed = λ k. allowed_go_on start h e (s.allowed (told_before (disks.contents disk_here) start h e k)) (subst (MayBeMarked (replay start h) e.caller e.call) (sym is.marked) (may k));
         }
 
   -- and one that leaves the file
-  pub counts_on : (only_now : (disk : D) (image : List ℕ) → left_since disk (moment disk) image → may_leave disk image) (old : Store D A C) (slots : KeySlots) (start : Service) (opening : Opening) (h : List Entry) (all : List Pairs) (e : Entry) →
+  pub counts_on : (only_now : (disk : D) (image : List ℕ) → disks.left_since disk (disks.moment disk) image → disks.may_leave disk image) (old : Store D A C) (slots : KeySlots) (start : Service) (opening : Opening) (h : List Entry) (all : List Pairs) (e : Entry) →
       (s : StandsHere old start opening h all) → Agrees slots.table.slots s.holds.model all → LeavesHere old start h e → IsTurn (turned old slots) Plain e →
       (n : StandsHere (turned old slots) start opening (h ++ e ∷ []) all) × (n.holds.model ≡ counted s.holds.model)
   counts_on only_now old slots start opening h all e s agrees still is =
-      let told_here = told old.file.cells.disk in
+      let told_here = disks.contents old.file.cells.disk in
       let n = goes_on old start opening h old.file old.slots old.buffer all (IsTold told_here start (h ++ e ∷ [])) (left_alone old.file) (told_before told_here start h e) s.holds s.holds.slots in
       let ends = ends_quiet only_now old slots Plain start opening h all all e n.0 (subst (λ (m : model.Store). Agrees slots.table.slots m all) (sym n.1) agrees) n.0.holdings tt (λ k. tt) still is in
       (ends.0, ends.1 ∙ ap counted n.1)

@@ -1,12 +1,13 @@
 -- A key that was loaded from the file.
+use Rattle.disk_face.specs.declared.Disk as Disk
+use Rattle.driver_dispatch.specs.declared.devices.Devices as Devices
+use Rattle.admission.specs.declared.rules.Admission as Admission
 use Rattle.std.proofs.Common.{◌≡◌, ◌∙◌, ℕ, ◌<◌, Bool, true, false, cond, List, [], ◌∷◌, ◌++◌, refl, sym, ap, subst, arith, inl, inr, Option, None, Some, is_some, nat_lt}
 use Rattle.std.proofs.lemmas.Bool.{false≢true}
 use Rattle.std.specs.Option.{option_and_then}
 use Rattle.std.specs.FinMap as map
-use Rattle.policy_rules.specs.declared.narrowing.Label.{Label}
 use Rattle.key_attributes.specs.declared.Attributes.{Attributes}
 use Rattle.secret_bytes.specs.Buffer.{Buffer}
-use Rattle.driver_dispatch.specs.Held.{HeldKeys}
 use Rattle.key_cells.specs.Contents.{cell_slot, has_id, creation_of_slot}
 use Rattle.key_cells.specs.Body.{IsKeyOf}
 use Rattle.key_file.specs.declared.file.KeyFile.{KeyFile}
@@ -80,25 +81,24 @@ stays_put m id key there = record { here = there; others = λ q other. refl; giv
 pub gains_one : (all : List Pairs) (p : ℕ × ℕ) → Gains all ((p ∷ []) ∷ all) p
 gains_one all p = λ i n. omega arith
 
-module _ {D A C : Type 0} (told : D → Option (List ℕ)) (may_leave : D → List ℕ → Type 0) (moment : D → ℕ) (left_since : D → ℕ → List ℕ → Type 0)
-    (faults : D → ℕ) (held : A → Option HeldKeys) (hard : A → ℕ) (locations : A → List ℕ) (labels : C → List Label)
+module _ {D A C : Type 0} (disks : Disk.Ghosts D) (elements : Devices.Ghosts A) (admits : Admission.Ghosts C)
     (old : Store D A C) (file : KeyFile D) (slots : KeySlots) (buffer : Buffer) (start : Service) (opening : Opening) (h : List Entry) (all : List Pairs) (e : Entry) where
   abbrev told_here : Option (List ℕ)
-  told_here = told old.file.cells.disk
+  told_here = disks.contents old.file.cells.disk
 
   abbrev pub HoldsBefore : Type 0
-  HoldsBefore = HoldsHere told may_leave moment left_since faults held hard locations labels (IsTold told_here start h) old start opening h all
+  HoldsBefore = HoldsHere disks elements admits (IsTold told_here start h) old start opening h all
 
   abbrev pub HoldsAfter : Type 0
-  HoldsAfter = HoldsHere told may_leave moment left_since faults held hard locations labels (IsTold (told file.cells.disk) start (h ++ e ∷ [])) (moved told may_leave moment left_since faults held hard locations labels old file slots buffer) start opening h all
+  HoldsAfter = HoldsHere disks elements admits (IsTold (disks.contents file.cells.disk) start (h ++ e ∷ [])) (moved disks elements admits old file slots buffer) start opening h all
 
-  known : told file.cells.disk ≡ told_here → IsTold (told file.cells.disk) start (h ++ e ∷ []) → IsTold told_here start (h ++ e ∷ [])
+  known : disks.contents file.cells.disk ≡ told_here → IsTold (disks.contents file.cells.disk) start (h ++ e ∷ []) → IsTold told_here start (h ++ e ∷ [])
   known same k = subst (λ (t : Option (List ℕ)). IsTold t start (h ++ e ∷ [])) same k
 
   -- the store holds the keys that it held
-  pub brings : (P : model.Store → Type 0) → IsReadOn told may_leave moment left_since faults held hard locations labels old.file file → (s : HoldsBefore) → Agrees slots.table.slots s.model all → P s.model → (n : HoldsAfter) × P n.model
+  pub brings : (P : model.Store → Type 0) → IsReadOn disks elements admits old.file file → (s : HoldsBefore) → Agrees slots.table.slots s.model all → P s.model → (n : HoldsAfter) × P n.model
   brings P read s agrees is =
-      let n = goes_on told may_leave moment left_since faults held hard locations labels old start opening h file slots buffer all (IsTold (told file.cells.disk) start (h ++ e ∷ [])) read
+      let n = goes_on disks elements admits old start opening h file slots buffer all (IsTold (disks.contents file.cells.disk) start (h ++ e ∷ [])) read
       (λ k. told_before told_here start h e (known read.same k)) s agrees in
       (n.0, subst P (sym n.1) is)
 
@@ -110,7 +110,7 @@ module _ {D A C : Type 0} (told : D → Option (List ℕ)) (may_leave : D → Li
     IsFound = (n : HoldsAfter) × HasLoaded n.model id number a bytes
 
     -- the store holds the key that was loaded, in its slot
-    pub loads : IsReadOn told may_leave moment left_since faults held hard locations labels old.file file → (s : HoldsBefore) →
+    pub loads : IsReadOn disks elements admits old.file file → (s : HoldsBefore) →
         (IsTold told_here start h → id_read (replay start h) e.caller e.call ≡ Some id) → c < 512 → has_id id (cell_slot old.file.cells.slots.items c) ≡ true → IsKeyOf a bytes → a.id.0 ≡ id →
         (is_some told_here ≡ true → durable_keys s.model id ≡ Some (stored number a bytes)) → NoKey id old.slots.table.slots →
         ((m : model.Store) → Agrees old.slots.table.slots m all → HasLoaded m id number a bytes → Agrees slots.table.slots m all) → IsFound
@@ -118,7 +118,7 @@ module _ {D A C : Type 0} (told : D → Option (List ℕ)) (may_leave : D → Li
       own : HasCellKey s.model id number
       own = key_of_cell old.file.cells.slots.items s.model id c s.directory lt has
 
-      blind_again : is_some told_here ≡ false → is_some (told file.cells.disk) ≡ true → ⊥
+      blind_again : is_some told_here ≡ false → is_some (disks.contents file.cells.disk) ≡ true → ⊥
       blind_again blind tells = false≢true (sym blind ∙ (ap is_some (sym read.same) ∙ tells))
 
       go : (b : Bool) → is_some told_here ≡ b → IsFound
@@ -145,7 +145,7 @@ module _ {D A C : Type 0} (told : D → Option (List ℕ)) (may_leave : D → Li
               slots = fills (replaced s.model id new) (agrees_after s.model id own.0 a bytes own.1 own.2 key named old.slots.table.slots all none s.slots) there;
               holdings = s.holdings;
               directory = subst (λ (l : _). IsDirectory l.items (replaced s.model id new)) (sym read.slots) (directory_after s.model id own.0 a bytes own.1 own.2 key named old.file.cells.slots.items s.directory);
-              device = device_after s.model id own.0 a bytes own.1 own.2 key named (held old.devices) s.device;
+              device = device_after s.model id own.0 a bytes own.1 own.2 key named (elements.keys old.devices) s.device;
               file = λ tells. absurd (blind_again blind tells);
               sure = λ tells none. absurd (blind_again blind tells);
               promise = λ tells. absurd (blind_again blind tells);

@@ -1,4 +1,7 @@
 -- A ranked turn that creates a key.
+use Rattle.disk_face.specs.declared.Disk as Disk
+use Rattle.driver_dispatch.specs.declared.devices.Devices as Devices
+use Rattle.admission.specs.declared.rules.Admission as Admission
 use Rattle.std.proofs.Common.{◌≡◌, ◌∙◌, ℕ, ◌+◌, ◌-◌, ◌^◌, ◌≤◌, Bool, true, false, cond, min, List, [], ◌∷◌, ◌++◌, length, refl, sym, ap, subst, arith, Option, None, Some, is_some}
 use Rattle.std.proofs.lemmas.Bool.{false≢true}
 use Rattle.std.specs.Prelude.{slice_index}
@@ -6,9 +9,7 @@ use Rattle.std.specs.Option.{option_map_or}
 use Rattle.std.specs.FinMap as map
 use Rattle.psa_status.specs.declared.Status.{Status}
 use Rattle.psa_status.specs.Causes.{Rose}
-use Rattle.policy_rules.specs.declared.narrowing.Label.{Label}
 use Rattle.key_attributes.specs.declared.Attributes.{Attributes}
-use Rattle.driver_dispatch.specs.Held.{HeldKeys}
 use Rattle.key_cells.specs.Contents.{IsSure}
 use Rattle.key_file.specs.Files.{Stored, stored, Doubt, StandsForKeys, Leads}
 use Rattle.key_slots.specs.Holdings.{Pairs, AreHoldings}
@@ -100,26 +101,25 @@ rose_since before past now le rose = least before past now le rose where
   least : (b p n : ℕ) → b ≤ p → min (p + 1) (2 ^ 64 - 1) ≤ n → min (b + 1) (2 ^ 64 - 1) ≤ n
   least b p n le at = omega (arith, le, at)
 
-module _ {D A C : Type 0} (told : D → Option (List ℕ)) (may_leave : D → List ℕ → Type 0) (moment : D → ℕ) (left_since : D → ℕ → List ℕ → Type 0)
-    (faults : D → ℕ) (held : A → Option HeldKeys) (hard : A → ℕ) (locations : A → List ℕ) (labels : C → List Label)
-    (only_now : (disk : D) (image : List ℕ) → left_since disk (moment disk) image → may_leave disk image)
+module _ {D A C : Type 0} (disks : Disk.Ghosts D) (elements : Devices.Ghosts A) (admits : Admission.Ghosts C)
+    (only_now : (disk : D) (image : List ℕ) → disks.left_since disk (disks.moment disk) image → disks.may_leave disk image)
     (old new : Store D A C) (start : Service) (opening : Opening) (h : List Entry) (all less : List Pairs) (e : Entry) where
   abbrev disk : D
   disk = old.file.cells.disk
 
   abbrev HoldsOld : Type 0
-  HoldsOld = HoldsHere told may_leave moment left_since faults held hard locations labels (IsTold (told disk) start (h ++ e ∷ [])) old start opening h all
+  HoldsOld = HoldsHere disks elements admits (IsTold (disks.contents disk) start (h ++ e ∷ [])) old start opening h all
 
   abbrev StandsNew : Type 0
-  StandsNew = StandsHere told may_leave moment left_since faults held hard locations labels new start opening (h ++ e ∷ []) less
+  StandsNew = StandsHere disks elements admits new start opening (h ++ e ∷ []) less
 
   abbrev IsTurnTo : FaultMark → Type 0
-  IsTurnTo mark = IsTurn told may_leave moment left_since faults held hard locations labels new mark e
+  IsTurnTo mark = IsTurn disks elements admits new mark e
 
   -- what a turn leaves of a store, whatever key it makes
   pub record IsSameBut (m' : model.Store) : Type 0 where
-    pub rules : labels new.rules ≡ labels old.rules
-    pub devices : locations new.devices ≡ locations old.devices
+    pub rules : admits.labels new.rules ≡ admits.labels old.rules
+    pub devices : elements.locations new.devices ≡ elements.locations old.devices
     pub found : new.found ≡ old.found
     pub made : m'.made ≡ new.made
     pub live : (caller : ℕ) → caller ≤ 16 → live_volatile m'.keys caller ≡ slice_index new.live caller
@@ -127,20 +127,20 @@ module _ {D A C : Type 0} (told : D → Option (List ℕ)) (may_leave : D → Li
     pub ranked : new.ranked ≡ old.ranked + 1
     pub slots : Agrees new.slots.table.slots m' less
     pub directory : IsDirectory new.file.cells.slots.items m'
-    pub device : HoldsKeys (held new.devices) m'
-    pub tells : is_some (told new.file.cells.disk) ≡ is_some (told disk)
+    pub device : HoldsKeys (elements.keys new.devices) m'
+    pub tells : is_some (disks.contents new.file.cells.disk) ≡ is_some (disks.contents disk)
 
   -- a key was made
   pub makes : (caller : ℕ) (recorded : Attributes) (bytes : List ℕ) (s : HoldsOld) → 1 ≤ caller → caller ≤ 16 → MayBeKept s.model caller recorded (length bytes) → is_destruction e.call ≡ false →
-      (IsTold (told disk) start (h ++ e ∷ []) → IsMakingAt e caller recorded bytes (replay start h)) → AreHoldings less → IsSameBut (created s.model caller recorded bytes).store →
-      ((doubt : Doubt) → StandsForKeys told may_leave disk old.file.cells.slots.items (durable_keys s.model) doubt →
-      Leads told may_leave moment left_since disk new.file.cells.disk old.file.cells.slots.items new.file.cells.slots.items (durable_keys s.model) doubt (durable_keys (created s.model caller recorded bytes).store)
+      (IsTold (disks.contents disk) start (h ++ e ∷ []) → IsMakingAt e caller recorded bytes (replay start h)) → AreHoldings less → IsSameBut (created s.model caller recorded bytes).store →
+      ((doubt : Doubt) → StandsForKeys disks.contents disks.may_leave disk old.file.cells.slots.items (durable_keys s.model) doubt →
+      Leads disks.contents disks.may_leave disks.moment disks.left_since disk new.file.cells.disk old.file.cells.slots.items new.file.cells.slots.items (durable_keys s.model) doubt (durable_keys (created s.model caller recorded bytes).store)
       (cond (is_volatile recorded) doubt [])) →
       ((doubt : Doubt) → (doubt ≡ [] → IsSure old.file.cells.slots.items) → cond (is_volatile recorded) doubt [] ≡ [] → IsSure new.file.cells.slots.items) →
       IsTurnTo Plain → StandsNew
   makes caller recorded bytes s first last may keeps making holdings same leads settles is =
-      turns told may_leave moment left_since faults held hard locations labels only_now (IsMakingAt e caller recorded bytes) (IsTold (told disk) start (h ++ e ∷ [])) old new start opening h all less e Plain (created s.model caller recorded bytes).store s
-      (retold (told disk) (told new.file.cells.disk) start (h ++ e ∷ []) same.tells) (λ k. making (retold (told disk) (told new.file.cells.disk) start (h ++ e ∷ []) same.tells k)) (record {
+      turns disks elements admits only_now (IsMakingAt e caller recorded bytes) (IsTold (disks.contents disk) start (h ++ e ∷ [])) old new start opening h all less e Plain (created s.model caller recorded bytes).store s
+      (retold (disks.contents disk) (disks.contents new.file.cells.disk) start (h ++ e ∷ []) same.tells) (λ k. making (retold (disks.contents disk) (disks.contents new.file.cells.disk) start (h ++ e ∷ []) same.tells k)) (record {
         becomes = λ service known at. ap (λ (x : model.Store). (created x caller recorded bytes).store) at ∙ sym (plain_counts e keeps service is.marked ∙ known.leaves);
         sound = created_sound s.model caller recorded bytes first last s.sound may;
         settings = refl;
@@ -158,7 +158,7 @@ module _ {D A C : Type 0} (told : D → Option (List ℕ)) (may_leave : D → Li
         directory = same.directory;
         device = same.device;
         tells = same.tells;
-        leads = λ c known at stands. subst (Leads told may_leave moment left_since disk new.file.cells.disk old.file.cells.slots.items new.file.cells.slots.items (durable_keys s.model) c.doubt (durable_keys (created s.model caller recorded bytes).store))
+        leads = λ c known at stands. subst (Leads disks.contents disks.may_leave disks.moment disks.left_since disk new.file.cells.disk old.file.cells.slots.items new.file.cells.slots.items (durable_keys s.model) c.doubt (durable_keys (created s.model caller recorded bytes).store))
             (sym (doubt_is c known at)) (leads c.doubt stands);
         settles = λ c known at sure none. settles c.doubt sure (sym (doubt_is c known at) ∙ none);
         fault = tt;
@@ -178,16 +178,16 @@ module _ {D A C : Type 0} (told : D → Option (List ℕ)) (may_leave : D → Li
           by_kind false = refl
 
   -- none was made
-  pub unmade : (S : Service → Type 0) (mark : FaultMark) (s : HoldsOld) → is_destruction e.call ≡ false → (IsTold (told disk) start (h ++ e ∷ []) → S (replay start h)) → AreHoldings less → IsSameBut (counted s.model) →
+  pub unmade : (S : Service → Type 0) (mark : FaultMark) (s : HoldsOld) → is_destruction e.call ≡ false → (IsTold (disks.contents disk) start (h ++ e ∷ []) → S (replay start h)) → AreHoldings less → IsSameBut (counted s.model) →
       ((service : Service) → S service → (outcome_of service e).service.store ≡ counted service.store) →
-      ((c : Course) → S c.service → s.model ≡ c.service.store → StandsForKeys told may_leave disk old.file.cells.slots.items (durable_keys s.model) c.doubt →
-      Leads told may_leave moment left_since disk new.file.cells.disk old.file.cells.slots.items new.file.cells.slots.items (durable_keys s.model) c.doubt (durable_keys s.model) (doubt_after e c)) →
+      ((c : Course) → S c.service → s.model ≡ c.service.store → StandsForKeys disks.contents disks.may_leave disk old.file.cells.slots.items (durable_keys s.model) c.doubt →
+      Leads disks.contents disks.may_leave disks.moment disks.left_since disk new.file.cells.disk old.file.cells.slots.items new.file.cells.slots.items (durable_keys s.model) c.doubt (durable_keys s.model) (doubt_after e c)) →
       ((c : Course) → S c.service → s.model ≡ c.service.store → (c.doubt ≡ [] → IsSure old.file.cells.slots.items) → doubt_after e c ≡ [] → IsSure new.file.cells.slots.items) →
-      HasFault (is_some (told new.file.cells.disk)) (last_counts opening.counts h) e mark → ((service : Service) → S service → s.model ≡ service.store → MayBeMarked service e.caller e.call mark) →
+      HasFault (is_some (disks.contents new.file.cells.disk)) (last_counts opening.counts h) e mark → ((service : Service) → S service → s.model ≡ service.store → MayBeMarked service e.caller e.call mark) →
       IsTurnTo mark → StandsNew
   unmade S mark s keeps before holdings same counts leads settles fault may is =
-      turns told may_leave moment left_since faults held hard locations labels only_now S (IsTold (told disk) start (h ++ e ∷ [])) old new start opening h all less e mark (counted s.model) s
-      (retold (told disk) (told new.file.cells.disk) start (h ++ e ∷ []) same.tells) (λ k. before (retold (told disk) (told new.file.cells.disk) start (h ++ e ∷ []) same.tells k)) (record {
+      turns disks elements admits only_now S (IsTold (disks.contents disk) start (h ++ e ∷ [])) old new start opening h all less e mark (counted s.model) s
+      (retold (disks.contents disk) (disks.contents new.file.cells.disk) start (h ++ e ∷ []) same.tells) (λ k. before (retold (disks.contents disk) (disks.contents new.file.cells.disk) start (h ++ e ∷ []) same.tells k)) (record {
         becomes = λ service known at. ap counted at ∙ sym (counts service known);
         sound = counted_sound s.model s.sound;
         settings = refl;

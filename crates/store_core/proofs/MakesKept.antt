@@ -1,11 +1,12 @@
 -- A ranked turn that creates a key of the file.
+use Rattle.disk_face.specs.declared.Disk as Disk
+use Rattle.driver_dispatch.specs.declared.devices.Devices as Devices
+use Rattle.admission.specs.declared.rules.Admission as Admission
 use Rattle.std.proofs.Common.{◌≡◌, ◌∙◌, ℕ, ◌+◌, ◌^◌, ◌<◌, ◌≤◌, Bool, true, false, not, cond, List, [], ◌∷◌, ◌++◌, length, set, refl, sym, ap, subst, arith, Option, None, Some, is_some}
 use Rattle.std.proofs.lemmas.Bool.{false≢true}
 use Rattle.std.specs.FinMap as map
 use Rattle.psa_status.specs.Causes.{Rose}
-use Rattle.policy_rules.specs.declared.narrowing.Label.{Label}
 use Rattle.key_attributes.specs.declared.Attributes.{Attributes}
-use Rattle.driver_dispatch.specs.Held.{HeldKeys}
 use Rattle.secret_bytes.specs.Buffer.{bytes_of}
 use Rattle.key_cells.specs.declared.slot.Slot as cell
 use Rattle.key_cells.specs.declared.slot.Slot.TheVariants.{Open}
@@ -41,10 +42,9 @@ use Rattle.store_core.proofs.Added.{none_stated, few_kept, puts, is_new, named_a
 use Rattle.store_core.proofs.Checked.{key_of_checked, kept_local, in_no_cell, in_no_slot, full_counts}
 use Rattle.store_core.proofs.Makes.{IsMakingAt, makes, unmade, marked_counts, doubted, changes_new, rose_since}
 
-module _ {D A C : Type 0} (told : D → Option (List ℕ)) (may_leave : D → List ℕ → Type 0) (moment : D → ℕ) (left_since : D → ℕ → List ℕ → Type 0)
-    (faults : D → ℕ) (held : A → Option HeldKeys) (hard : A → ℕ) (locations : A → List ℕ) (labels : C → List Label)
+module _ {D A C : Type 0} (disks : Disk.Ghosts D) (elements : Devices.Ghosts A) (admits : Admission.Ghosts C)
     (old : Store D A C) (caller : ℕ) (a : Attributes) (source : Option ℕ) (start : Service) (opening : Opening) (h : List Entry) (all : List Pairs) (e : Entry)
-    (r : IsReady told may_leave moment left_since faults held hard locations labels old caller a source start opening h all e) where
+    (r : IsReady disks elements admits old caller a source start opening h all e) where
   abbrev m : model.Store
   m = r.holds.model
 
@@ -60,7 +60,7 @@ module _ {D A C : Type 0} (told : D → Option (List ℕ)) (may_leave : D → Li
   -- the bytes of a local key are in the buffer
   pub in_buffer : is_opaque a ≡ false → bytes_of old.buffer ≡ r.bytes
   in_buffer local = go source r.material where
-    go : (s : Option ℕ) → IsMaterial told may_leave moment left_since faults held hard locations labels old a s r.bytes → bytes_of old.buffer ≡ r.bytes
+    go : (s : Option ℕ) → IsMaterial disks elements admits old a s r.bytes → bytes_of old.buffer ≡ r.bytes
     go None is = is
     go (Some number) is = absurd (false≢true (sym local ∙ is.0))
 
@@ -86,8 +86,8 @@ module _ {D A C : Type 0} (told : D → Option (List ℕ)) (may_leave : D → Li
         let few = few_kept m caller a r.bytes first last r.holds.sound ready_may persistent in
         omega arith
 
-    module _ (only_now : (d : D) (image : List ℕ) → left_since d (moment d) image → may_leave d image)
-        (file : KeyFile D) (slots : KeySlots) (less : List Pairs) (making : IsMaking told may_leave moment left_since faults held hard locations labels old start h e caller a r.bytes) (holdings : AreHoldings less) where
+    module _ (only_now : (d : D) (image : List ℕ) → disks.left_since d (disks.moment d) image → disks.may_leave d image)
+        (file : KeyFile D) (slots : KeySlots) (less : List Pairs) (making : IsMaking disks elements admits old start h e caller a r.bytes) (holdings : AreHoldings less) where
       abbrev number : ℕ
       number = old.found + old.ranked
 
@@ -103,7 +103,7 @@ module _ {D A C : Type 0} (told : D → Option (List ℕ)) (may_leave : D → Li
       abbrev own : Key
       own = new_key m caller (new_id m caller a) a r.bytes
 
-      is_making : Told told may_leave moment left_since faults held hard locations labels old start (h ++ e ∷ []) → IsMakingAt e caller a r.bytes (replay start h)
+      is_making : Told disks elements admits old start (h ++ e ∷ []) → IsMakingAt e caller a r.bytes (replay start h)
       is_making k = record { leaves = making.leaves k; answers = making.answers k }
 
       -- the key as the slots and the file take it
@@ -121,7 +121,7 @@ module _ {D A C : Type 0} (told : D → Option (List ℕ)) (may_leave : D → Li
           (local_fills m caller a r.bytes first last r.holds.sound ready_may local)))
 
       abbrev Leading : Keys → Doubt → Keys → Doubt → Type 0
-      Leading keys doubt keys' doubt' = Leads told may_leave moment left_since disk file.cells.disk cells file.cells.slots.items keys doubt keys' doubt'
+      Leading keys doubt keys' doubt' = Leads disks.contents disks.may_leave disks.moment disks.left_since disk file.cells.disk cells file.cells.slots.items keys doubt keys' doubt'
 
       -- what the file makes of a new key
       pub record IsFiled : Type 0 where
@@ -129,8 +129,8 @@ module _ {D A C : Type 0} (told : D → Option (List ℕ)) (may_leave : D → Li
         pub without : IsFirstWithoutKey cells c
         pub placed : file.cells.slots.items ≡ set (settled_slots cells) c (Open a.id.0 number)
         pub sized : length file.cells.slots.items ≡ 512
-        pub tells : is_some (told file.cells.disk) ≡ is_some (told disk)
-        pub leads : (keys keys' : Keys) (doubt : Doubt) → StandsForKeys told may_leave disk cells keys doubt → IsPut keys keys' a.id.0 (Some (stored number a (bytes_of old.buffer))) → Leading keys doubt keys' []
+        pub tells : is_some (disks.contents file.cells.disk) ≡ is_some (disks.contents disk)
+        pub leads : (keys keys' : Keys) (doubt : Doubt) → StandsForKeys disks.contents disks.may_leave disk cells keys doubt → IsPut keys keys' a.id.0 (Some (stored number a (bytes_of old.buffer))) → Leading keys doubt keys' []
 
       kept_own : kept (Some own) ≡ Some (stored number a (bytes_of old.buffer))
       kept_own = persistent_kept m caller a r.bytes first last r.holds.sound ready_may persistent
@@ -145,8 +145,8 @@ module _ {D A C : Type 0} (told : D → Option (List ℕ)) (may_leave : D → Li
       with_kept = record old { file = file; slots = slots; kept = old.kept + 1; ranked = old.ranked + 1 }
 
       pub makes_kept : IsFiled → Agrees slots.table.slots after less →
-          IsTurn told may_leave moment left_since faults held hard locations labels with_kept Plain e → StandsHere told may_leave moment left_since faults held hard locations labels with_kept start opening (h ++ e ∷ []) less
-      makes_kept f agrees is = makes told may_leave moment left_since faults held hard locations labels only_now old with_kept start opening h all less e caller a r.bytes r.holds first last ready_may making.keeps is_making holdings (record {
+          IsTurn disks elements admits with_kept Plain e → StandsHere disks elements admits with_kept start opening (h ++ e ∷ []) less
+      makes_kept f agrees is = makes disks elements admits only_now old with_kept start opening h all less e caller a r.bytes r.holds first last ready_may making.keeps is_making holdings (record {
         rules = refl;
         devices = refl;
         found = refl;
@@ -157,7 +157,7 @@ module _ {D A C : Type 0} (told : D → Option (List ℕ)) (may_leave : D → Li
         slots = agrees;
         directory = directory_placed m caller a r.bytes first last r.holds.sound ready_may cells file.cells.slots.items f.c persistent r.holds.directory f.without f.sized
             (f.placed ∙ ap (λ n. set (settled_slots cells) f.c (Open a.id.0 n)) number_is);
-        device = device_same m caller a r.bytes first last r.holds.sound ready_may (held old.devices) local r.holds.device;
+        device = device_same m caller a r.bytes first last r.holds.sound ready_may (elements.keys old.devices) local r.holds.device;
         tells = f.tells;
       }) (λ doubt stands. subst (λ b. Leading (durable_keys m) doubt (durable_keys after) (cond b doubt [])) (sym persistent) (f.leads (durable_keys m) (durable_keys after) doubt stands put_stated))
           (λ doubt sure none. set_sure cells file.cells.slots.items f.c (Open a.id.0 number) refl f.placed) is
@@ -166,17 +166,17 @@ module _ {D A C : Type 0} (told : D → Option (List ℕ)) (may_leave : D → Li
       pub record IsUnfiled (closed_first : Bool) : Type 0 where
         pub settled : settled_slots file.cells.slots.items ≡ settled_slots cells
         pub sized : length file.cells.slots.items ≡ 512
-        pub tells : is_some (told file.cells.disk) ≡ is_some (told disk)
-        pub leads : (keys : Keys) (doubt : Doubt) → StandsForKeys told may_leave disk cells keys doubt → Leading keys doubt keys (doubt_unmade (Disk closed_first) a (bytes_of old.buffer) doubt)
+        pub tells : is_some (disks.contents file.cells.disk) ≡ is_some (disks.contents disk)
+        pub leads : (keys : Keys) (doubt : Doubt) → StandsForKeys disks.contents disks.may_leave disk cells keys doubt → Leading keys doubt keys (doubt_unmade (Disk closed_first) a (bytes_of old.buffer) doubt)
         pub unclosed : closed_first ≡ false → IsSure cells → ⊥
-        pub rose : Rose (faults disk) (faults file.cells.disk)
+        pub rose : Rose (disks.faults disk) (disks.faults file.cells.disk)
 
       abbrev pub with_none : Store D A C
       with_none = record old { file = file; slots = slots; ranked = old.ranked + 1 }
 
-      pub fails_kept : (closed_first : Bool) → IsUnfiled closed_first → Agrees slots.table.slots m less → IsSince told may_leave moment left_since faults held hard locations labels old (last_counts opening.counts h) →
-          IsTurn told may_leave moment left_since faults held hard locations labels with_none (Storage (Writing closed_first)) e → StandsHere told may_leave moment left_since faults held hard locations labels with_none start opening (h ++ e ∷ []) less
-      fails_kept closed_first f agrees since is = unmade told may_leave moment left_since faults held hard locations labels only_now old with_none start opening h all less e (IsMakingAt e caller a r.bytes) (Storage (Writing closed_first)) r.holds making.keeps is_making holdings (record {
+      pub fails_kept : (closed_first : Bool) → IsUnfiled closed_first → Agrees slots.table.slots m less → IsSince disks elements admits old (last_counts opening.counts h) →
+          IsTurn disks elements admits with_none (Storage (Writing closed_first)) e → StandsHere disks elements admits with_none start opening (h ++ e ∷ []) less
+      fails_kept closed_first f agrees since is = unmade disks elements admits only_now old with_none start opening h all less e (IsMakingAt e caller a r.bytes) (Storage (Writing closed_first)) r.holds making.keeps is_making holdings (record {
         rules = refl;
         devices = refl;
         found = refl;
@@ -186,12 +186,12 @@ module _ {D A C : Type 0} (told : D → Option (List ℕ)) (may_leave : D → Li
         ranked = refl;
         slots = quiet slots.table.slots m (counted m) less agrees (record { keys = refl; given = omega arith });
         directory = same_directory file.cells.slots.items m (directory_settled cells file.cells.slots.items m f.sized f.settled r.holds.directory);
-        device = same_device (held old.devices) m r.holds.device;
+        device = same_device (elements.keys old.devices) m r.holds.device;
         tells = f.tells;
       }) (λ service known. marked_outcome service is.marked)
           (λ c known at stands. subst (Leading (durable_keys m) c.doubt (durable_keys m)) (sym (doubt_is c known at)) (f.leads (durable_keys m) c.doubt stands))
           (λ c known at sure none. absurd (in_doubt closed_first c.doubt f.unclosed sure (sym (doubt_is c known at) ∙ none)))
-          (rose_since (last_counts opening.counts h).faults (faults disk) e.faults since.faults_since (subst (Rose (faults disk)) (sym is.disk_faults) f.rose))
+          (rose_since (last_counts opening.counts h).faults (disks.faults disk) e.faults since.faults_since (subst (Rose (disks.faults disk)) (sym is.disk_faults) f.rose))
           (λ service known at. is_persistent_changed service known at) is
         where
           marked_outcome : (service : Service) → e.mark ≡ Storage (Writing closed_first) → (outcome_of service e).service.store ≡ counted service.store

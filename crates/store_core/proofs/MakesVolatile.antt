@@ -1,10 +1,12 @@
 -- A ranked turn that creates a volatile key, in memory or in the device.
+use Rattle.disk_face.specs.declared.Disk as Disk
+use Rattle.driver_dispatch.specs.declared.devices.Devices as Devices
+use Rattle.admission.specs.declared.rules.Admission as Admission
 use Rattle.std.proofs.Common.{◌≡◌, ◌⊎◌, ◌∙◌, ℕ, ◌+◌, ◌||◌, ◌^◌, ◌<◌, ◌≤◌, true, false, cond, List, [], ◌∷◌, ◌++◌, length, refl, sym, ap, subst, arith, Option, None, Some}
 use Rattle.std.specs.Prelude.{slice_index, slice_set, ⊤, IfSome}
 use Rattle.std.specs.Option.{option_map}
 use Rattle.std.specs.FinMap as map
 use Rattle.psa_status.specs.Causes.{Rose}
-use Rattle.policy_rules.specs.declared.narrowing.Label.{Label}
 use Rattle.key_attributes.specs.declared.Attributes.{Attributes}
 use Rattle.key_attributes.specs.Checks.{is_key_type, permits_size}
 use Rattle.driver_dispatch.specs.Held.{HeldKey, HeldKeys, with_held_key, with_copy, with_key_or_same}
@@ -40,10 +42,9 @@ use Rattle.store_core.proofs.Destroyed.{holds_some}
 use Rattle.store_core.proofs.Makes.{IsMakingAt, makes, unmade, marked_counts, doubted, changes_new, rose_since}
 use Rattle.store_core.proofs.MakesKept.{ready_may, in_buffer}
 
-module _ {D A C : Type 0} (told : D → Option (List ℕ)) (may_leave : D → List ℕ → Type 0) (moment : D → ℕ) (left_since : D → ℕ → List ℕ → Type 0)
-    (faults : D → ℕ) (held : A → Option HeldKeys) (hard : A → ℕ) (locations : A → List ℕ) (labels : C → List Label)
+module _ {D A C : Type 0} (disks : Disk.Ghosts D) (elements : Devices.Ghosts A) (admits : Admission.Ghosts C)
     (old : Store D A C) (caller : ℕ) (a : Attributes) (source : Option ℕ) (start : Service) (opening : Opening) (h : List Entry) (all : List Pairs) (e : Entry)
-    (r : IsReady told may_leave moment left_since faults held hard locations labels old caller a source start opening h all e) (first : 1 ≤ caller) (last : caller ≤ 16) (volatile : is_volatile a ≡ true) where
+    (r : IsReady disks elements admits old caller a source start opening h all e) (first : 1 ≤ caller) (last : caller ≤ 16) (volatile : is_volatile a ≡ true) where
   abbrev m : model.Store
   m = r.holds.model
 
@@ -51,7 +52,7 @@ module _ {D A C : Type 0} (told : D → Option (List ℕ)) (may_leave : D → Li
   disk = old.file.cells.disk
 
   abbrev may : MayBeKept m caller a (length r.bytes)
-  may = ready_may told may_leave moment left_since faults held hard locations labels old caller a source start opening h all e r
+  may = ready_may disks elements admits old caller a source start opening h all e r
 
   abbrev number : ℕ
   number = old.found + old.ranked
@@ -91,7 +92,7 @@ module _ {D A C : Type 0} (told : D → Option (List ℕ)) (may_leave : D → Li
   local_takes local =
       subst (λ n. SlotHasKey (full_slot n (identified a next) (bytes_of old.buffer)) own) (sym number_is)
       (subst (λ n. SlotHasKey (full_slot (m.found + m.calls) (identified a n) (bytes_of old.buffer)) own) next_is
-      (subst (λ (b : List ℕ). SlotHasKey (full_slot (m.found + m.calls) (identified a (new_id m caller a)) b) own) (sym (in_buffer told may_leave moment left_since faults held hard locations labels old caller a source start opening h all e r local))
+      (subst (λ (b : List ℕ). SlotHasKey (full_slot (m.found + m.calls) (identified a (new_id m caller a)) b) own) (sym (in_buffer disks elements admits old caller a source start opening h all e r local))
       (local_fills m caller a r.bytes first last r.holds.sound may local)))
 
   pub opaque_takes : is_opaque a ≡ true → SlotHasKey (full_slot number (identified a next) []) own
@@ -102,12 +103,12 @@ module _ {D A C : Type 0} (told : D → Option (List ℕ)) (may_leave : D → Li
   -- WHAT THE DEVICE IS GIVEN
 
   abbrev known_devices : Option HeldKeys
-  known_devices = held old.devices
+  known_devices = elements.keys old.devices
 
   abbrev held_key : HeldKey
   held_key = record { key_type = a.key_type.0; bytes = r.bytes }
 
-  pub ready_element : is_opaque a ≡ true → has_element (locations old.devices) ≡ true
+  pub ready_element : is_opaque a ≡ true → has_element (elements.locations old.devices) ≡ true
   ready_element opaque = ap has_element (sym r.holds.locations_are) ∙ element_is a r.bytes (has_secure_element m) may.checks opaque
 
   pub ready_handle : Lacks known_devices number
@@ -118,13 +119,13 @@ module _ {D A C : Type 0} (told : D → Option (List ℕ)) (may_leave : D → Li
 
   pub ready_size : source ≡ None → permits_size a.key_type.0 (length (bytes_of old.buffer)) ≡ true
   ready_size none = ap (λ (b : List ℕ). permits_size a.key_type.0 (length b)) (from source none r.material) ∙ known_size a r.bytes (has_secure_element m) may.checks where
-    from : (s : Option ℕ) → s ≡ None → IsMaterial told may_leave moment left_since faults held hard locations labels old a s r.bytes → bytes_of old.buffer ≡ r.bytes
+    from : (s : Option ℕ) → s ≡ None → IsMaterial disks elements admits old a s r.bytes → bytes_of old.buffer ≡ r.bytes
     from None none is = is
     from (Some number) none is = cc
 
   pub ready_source : IfSome source (λ from. HoldsHandle known_devices from (λ key. ⊤))
   ready_source = go source r.material where
-    go : (s : Option ℕ) → IsMaterial told may_leave moment left_since faults held hard locations labels old a s r.bytes → IfSome s (λ from. HoldsHandle known_devices from (λ key. ⊤))
+    go : (s : Option ℕ) → IsMaterial disks elements admits old a s r.bytes → IfSome s (λ from. HoldsHandle known_devices from (λ key. ⊤))
     go None is = tt
     go (Some number) is = holds_some known_devices number (λ h. h ≡ held_key) is.1
 
@@ -143,7 +144,7 @@ module _ {D A C : Type 0} (told : D → Option (List ℕ)) (may_leave : D → Li
   pub is_taken : (now : Option HeldKeys) (given_bytes : List ℕ) → given_bytes ≡ bytes_of old.buffer → (source ≡ None → now ≡ option_map (with_held_key number (record { key_type = a.key_type.0; bytes = given_bytes })) known_devices) →
       IfSome source (λ from. now ≡ option_map (with_copy from number) known_devices) → now ≡ option_map (with_held_key number held_key) known_devices
   is_taken now given_bytes same given copies = go source refl r.material copies where
-    go : (s : Option ℕ) → source ≡ s → IsMaterial told may_leave moment left_since faults held hard locations labels old a s r.bytes → IfSome s (λ from. now ≡ option_map (with_copy from number) known_devices) →
+    go : (s : Option ℕ) → source ≡ s → IsMaterial disks elements admits old a s r.bytes → IfSome s (λ from. now ≡ option_map (with_copy from number) known_devices) →
         now ≡ option_map (with_held_key number held_key) known_devices
     go None is material copies = given is ∙ ap (λ (b : List ℕ). option_map (with_held_key number (record { key_type = a.key_type.0; bytes = b })) known_devices) (same ∙ material)
     go (Some from) is material copies = copies ∙ copied from material.1
@@ -154,18 +155,18 @@ module _ {D A C : Type 0} (told : D → Option (List ℕ)) (may_leave : D → Li
   pub is_either : (now : Option HeldKeys) (given_bytes : List ℕ) → given_bytes ≡ bytes_of old.buffer → (source ≡ None → IsEither known_devices (option_map (with_held_key number (record { key_type = a.key_type.0; bytes = given_bytes })) known_devices) now) →
       IfSome source (λ from. IsEither known_devices (option_map (with_copy from number) known_devices) now) → IsEither known_devices (option_map (with_held_key number held_key) known_devices) now
   is_either now given_bytes same given copies = go source refl r.material copies where
-    go : (s : Option ℕ) → source ≡ s → IsMaterial told may_leave moment left_since faults held hard locations labels old a s r.bytes → IfSome s (λ from. IsEither known_devices (option_map (with_copy from number) known_devices) now) →
+    go : (s : Option ℕ) → source ≡ s → IsMaterial disks elements admits old a s r.bytes → IfSome s (λ from. IsEither known_devices (option_map (with_copy from number) known_devices) now) →
         IsEither known_devices (option_map (with_held_key number held_key) known_devices) now
     go None is material copies = subst (λ (b : List ℕ). IsEither known_devices (option_map (with_held_key number (record { key_type = a.key_type.0; bytes = b })) known_devices) now) (same ∙ material) (given is)
     go (Some from) is material copies = subst (λ (x : Option HeldKeys). IsEither known_devices x now) (copied from material.1) copies
 
-  module _ (only_now : (d : D) (image : List ℕ) → left_since d (moment d) image → may_leave d image)
-      (devices : A) (slots : KeySlots) (buffer : Buffer) (less : List Pairs) (making : IsMaking told may_leave moment left_since faults held hard locations labels old start h e caller a r.bytes) (holdings : AreHoldings less) where
-    is_making : Told told may_leave moment left_since faults held hard locations labels old start (h ++ e ∷ []) → IsMakingAt e caller a r.bytes (replay start h)
+  module _ (only_now : (d : D) (image : List ℕ) → disks.left_since d (disks.moment d) image → disks.may_leave d image)
+      (devices : A) (slots : KeySlots) (buffer : Buffer) (less : List Pairs) (making : IsMaking disks elements admits old start h e caller a r.bytes) (holdings : AreHoldings less) where
+    is_making : Told disks elements admits old start (h ++ e ∷ []) → IsMakingAt e caller a r.bytes (replay start h)
     is_making k = record { leaves = making.leaves k; answers = making.answers k }
 
     abbrev Leading : Doubt → model.Store → Doubt → Type 0
-    Leading doubt m' doubt' = Leads told may_leave moment left_since disk disk old.file.cells.slots.items old.file.cells.slots.items (durable_keys m) doubt (durable_keys m') doubt'
+    Leading doubt m' doubt' = Leads disks.contents disks.may_leave disks.moment disks.left_since disk disk old.file.cells.slots.items old.file.cells.slots.items (durable_keys m) doubt (durable_keys m') doubt'
 
     abbrev pub with_volatile : Store D A C
     with_volatile = record old {
@@ -177,9 +178,9 @@ module _ {D A C : Type 0} (told : D → Option (List ℕ)) (may_leave : D → Li
       ranked = old.ranked + 1;
     }
 
-    pub makes_volatile : length old.live ≡ 17 → locations devices ≡ locations old.devices → HoldsKeys (held devices) after → Agrees slots.table.slots after less →
-        IsTurn told may_leave moment left_since faults held hard locations labels with_volatile Plain e → StandsHere told may_leave moment left_since faults held hard locations labels with_volatile start opening (h ++ e ∷ []) less
-    makes_volatile sized places device agrees is = makes told may_leave moment left_since faults held hard locations labels only_now old with_volatile start opening h all less e caller a r.bytes r.holds first last may making.keeps is_making holdings (record {
+    pub makes_volatile : length old.live ≡ 17 → elements.locations devices ≡ elements.locations old.devices → HoldsKeys (elements.keys devices) after → Agrees slots.table.slots after less →
+        IsTurn disks elements admits with_volatile Plain e → StandsHere disks elements admits with_volatile start opening (h ++ e ∷ []) less
+    makes_volatile sized places device agrees is = makes disks elements admits only_now old with_volatile start opening h all less e caller a r.bytes r.holds first last may making.keeps is_making holdings (record {
       rules = refl;
       devices = places;
       found = refl;
@@ -192,26 +193,26 @@ module _ {D A C : Type 0} (told : D → Option (List ℕ)) (may_leave : D → Li
       device = device;
       tells = refl;
     }) (λ doubt stands. subst (λ b. Leading doubt after (cond b doubt [])) (sym volatile)
-        (stays told may_leave moment left_since disk old.file.cells.slots.items (durable_keys m) (durable_keys after) doubt (volatile_kept m caller a r.bytes first last r.holds.sound may volatile) stands))
+        (stays disks.contents disks.may_leave disks.moment disks.left_since disk old.file.cells.slots.items (durable_keys m) (durable_keys after) doubt (volatile_kept m caller a r.bytes first last r.holds.sound may volatile) stands))
         (λ doubt sure none. sure (subst (λ b. cond b doubt [] ≡ []) volatile none)) is
 
     -- a key that no device is to hold
-    pub local_device : is_opaque a ≡ false → held devices ≡ held old.devices → HoldsKeys (held devices) after
-    local_device local same = subst (λ (x : Option HeldKeys). HoldsKeys x after) (sym same) (device_same m caller a r.bytes first last r.holds.sound may (held old.devices) local r.holds.device)
+    pub local_device : is_opaque a ≡ false → elements.keys devices ≡ elements.keys old.devices → HoldsKeys (elements.keys devices) after
+    local_device local same = subst (λ (x : Option HeldKeys). HoldsKeys x after) (sym same) (device_same m caller a r.bytes first last r.holds.sound may (elements.keys old.devices) local r.holds.device)
 
     -- and one that it took
-    pub taken_device : held devices ≡ option_map (with_held_key number held_key) (held old.devices) → HoldsKeys (held devices) after
+    pub taken_device : elements.keys devices ≡ option_map (with_held_key number held_key) (elements.keys old.devices) → HoldsKeys (elements.keys devices) after
     taken_device more = subst (λ (x : Option HeldKeys). HoldsKeys x after) (sym more)
-        (subst (λ n. HoldsKeys (option_map (with_held_key n held_key) (held old.devices)) after) (sym number_is) (device_gains m caller a r.bytes first last r.holds.sound may (held old.devices) r.holds.device))
+        (subst (λ n. HoldsKeys (option_map (with_held_key n held_key) (elements.keys old.devices)) after) (sym number_is) (device_gains m caller a r.bytes first last r.holds.sound may (elements.keys old.devices) r.holds.device))
 
     abbrev pub with_failed : Store D A C
     with_failed = record old { slots = slots; devices = devices; ranked = old.ranked + 1 }
 
     -- the device failed
-    pub fails_volatile : is_opaque a ≡ true → locations devices ≡ locations old.devices → ((held devices ≡ held old.devices) ⊎ (held devices ≡ option_map (with_held_key number held_key) (held old.devices))) →
-        Rose (hard old.devices) (hard devices) → Agrees slots.table.slots m less → IsSince told may_leave moment left_since faults held hard locations labels old (last_counts opening.counts h) →
-        IsTurn told may_leave moment left_since faults held hard locations labels with_failed Hardware e → StandsHere told may_leave moment left_since faults held hard locations labels with_failed start opening (h ++ e ∷ []) less
-    fails_volatile opaque places changes rose agrees since is = unmade told may_leave moment left_since faults held hard locations labels only_now old with_failed start opening h all less e (IsMakingAt e caller a r.bytes) Hardware r.holds making.keeps is_making holdings (record {
+    pub fails_volatile : is_opaque a ≡ true → elements.locations devices ≡ elements.locations old.devices → ((elements.keys devices ≡ elements.keys old.devices) ⊎ (elements.keys devices ≡ option_map (with_held_key number held_key) (elements.keys old.devices))) →
+        Rose (elements.faults old.devices) (elements.faults devices) → Agrees slots.table.slots m less → IsSince disks elements admits old (last_counts opening.counts h) →
+        IsTurn disks elements admits with_failed Hardware e → StandsHere disks elements admits with_failed start opening (h ++ e ∷ []) less
+    fails_volatile opaque places changes rose agrees since is = unmade disks elements admits only_now old with_failed start opening h all less e (IsMakingAt e caller a r.bytes) Hardware r.holds making.keeps is_making holdings (record {
       rules = refl;
       devices = places;
       found = refl;
@@ -221,13 +222,13 @@ module _ {D A C : Type 0} (told : D → Option (List ℕ)) (may_leave : D → Li
       ranked = refl;
       slots = quiet slots.table.slots m (counted m) less agrees (record { keys = refl; given = omega arith });
       directory = same_directory old.file.cells.slots.items m r.holds.directory;
-      device = device_failed m caller a r.bytes first last r.holds.sound may (held old.devices) (held devices)
-          (subst (λ n. (held devices ≡ held old.devices) ⊎ (held devices ≡ option_map (with_held_key n held_key) (held old.devices))) number_is changes) r.holds.device;
+      device = device_failed m caller a r.bytes first last r.holds.sound may (elements.keys old.devices) (elements.keys devices)
+          (subst (λ n. (elements.keys devices ≡ elements.keys old.devices) ⊎ (elements.keys devices ≡ option_map (with_held_key n held_key) (elements.keys old.devices))) number_is changes) r.holds.device;
       tells = refl;
     }) (λ service known. ap (λ (x : FaultMark). (serve service e.caller e.call x).service.store) is.marked ∙ marked_counts service e.caller e.call Hardware tt making.keeps)
-        (λ c known at stands. subst (Leading c.doubt m) (sym (doubt_is c known at)) (stays told may_leave moment left_since disk old.file.cells.slots.items (durable_keys m) (durable_keys m) c.doubt (λ q. refl) stands))
+        (λ c known at stands. subst (Leading c.doubt m) (sym (doubt_is c known at)) (stays disks.contents disks.may_leave disks.moment disks.left_since disk old.file.cells.slots.items (durable_keys m) (durable_keys m) c.doubt (λ q. refl) stands))
         (λ c known at sure none. sure (sym (doubt_is c known at) ∙ none))
-        (rose_since (last_counts opening.counts h).hard (hard old.devices) e.hard since.hard_since (subst (Rose (hard old.devices)) (sym is.device_faults) rose))
+        (rose_since (last_counts opening.counts h).hard (elements.faults old.devices) e.hard since.hard_since (subst (Rose (elements.faults old.devices)) (sym is.device_faults) rose))
         (λ service known at. ap (λ b. b || asks_device service e.caller e.call) (ap is_opaque_key (changed service known at) ∙ opaque)) is
       where
         changed : (service : Service) → IsMakingAt e caller a r.bytes service → m ≡ service.store → key_changed service e.caller e.call ≡ Some own

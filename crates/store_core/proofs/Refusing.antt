@@ -1,12 +1,13 @@
 -- A ranked turn that looked for a key.
+use Rattle.disk_face.specs.declared.Disk as Disk
+use Rattle.driver_dispatch.specs.declared.devices.Devices as Devices
+use Rattle.admission.specs.declared.rules.Admission as Admission
 use Rattle.std.proofs.Common.{◌≡◌, ◌∙◌, ℕ, ◌<◌, ◌-◌, ◌^◌, arith, true, false, List, [], ◌∷◌, ◌++◌, refl, sym, ap, subst, Option, None, Some, is_some}
 use Rattle.std.specs.Prelude.{Err, IsErrOf}
 use Rattle.std.specs.FinMap as map
 use Rattle.psa_status.specs.declared.Status.{Status}
 use Rattle.psa_status.specs.declared.Status.TheVariants.{InvalidHandle}
 use Rattle.psa_status.specs.Causes.{Rose}
-use Rattle.policy_rules.specs.declared.narrowing.Label.{Label}
-use Rattle.driver_dispatch.specs.Held.{HeldKeys}
 use Rattle.slot_table.specs.Slots.{Slot, slot_at}
 use Rattle.key_slots.specs.declared.slots.KeySlots.{KeySlots}
 use Rattle.key_slots.specs.Holdings.{Pairs, AreHoldings}
@@ -56,66 +57,65 @@ few_readers slots m all i a law inside =
 abbrev pub asks_for : ℕ → Entry
 asks_for id = record { caller = 1; call = OnStore (GetAttributes id); mark = Plain; done = 0; faults = 0; hard = 0 }
 
-module _ {D A C : Type 0} (told : D → Option (List ℕ)) (may_leave : D → List ℕ → Type 0) (moment : D → ℕ) (left_since : D → ℕ → List ℕ → Type 0)
-    (faults : D → ℕ) (held : A → Option HeldKeys) (hard : A → ℕ) (locations : A → List ℕ) (labels : C → List Label)
-    (only_now : (disk : D) (image : List ℕ) → left_since disk (moment disk) image → may_leave disk image)
+module _ {D A C : Type 0} (disks : Disk.Ghosts D) (elements : Devices.Ghosts A) (admits : Admission.Ghosts C)
+    (only_now : (disk : D) (image : List ℕ) → disks.left_since disk (disks.moment disk) image → disks.may_leave disk image)
     (old mid : Store D A C) (start : Service) (opening : Opening) (h : List Entry) (all : List Pairs) (e : Entry) (id : ℕ) where
   abbrev new : Store D A C
-  new = turned told may_leave moment left_since faults held hard locations labels mid mid.slots
+  new = turned disks elements admits mid mid.slots
 
   -- what was brought
   abbrev Brought : (model.Store → Type 0) → Type 0
-  Brought P = (n : HoldsHere told may_leave moment left_since faults held hard locations labels (IsTold (told mid.file.cells.disk) start (h ++ e ∷ [])) mid start opening h all) × P n.model
+  Brought P = (n : HoldsHere disks elements admits (IsTold (disks.contents mid.file.cells.disk) start (h ++ e ∷ [])) mid start opening h all) × P n.model
 
   abbrev SameTold : Type 0
-  SameTold = told mid.file.cells.disk ≡ told old.file.cells.disk
+  SameTold = disks.contents mid.file.cells.disk ≡ disks.contents old.file.cells.disk
 
   -- the entry reads a persistent key
-  read_persistent : SameTold → IsReadingHere told may_leave moment left_since faults held hard locations labels old start h e id → Brought (λ m. is_persistent_key (map.get m.keys id) ≡ true) →
-      IsTold (told mid.file.cells.disk) start (h ++ e ∷ []) → reads_persistent (replay start h) e.caller e.call ≡ true
+  read_persistent : SameTold → IsReadingHere disks elements admits old start h e id → Brought (λ m. is_persistent_key (map.get m.keys id) ≡ true) →
+      IsTold (disks.contents mid.file.cells.disk) start (h ++ e ∷ []) → reads_persistent (replay start h) e.caller e.call ≡ true
   read_persistent same is n k =
-      let known = told_before (told old.file.cells.disk) start h e (subst (λ (t : Option (List ℕ)). IsTold t start (h ++ e ∷ [])) same k) in
+      let known = told_before (disks.contents old.file.cells.disk) start h e (subst (λ (t : Option (List ℕ)). IsTold t start (h ++ e ∷ [])) same k) in
       reads_it (replay start h) e.caller e.call id n.0.model (is.reads known) (n.0.replayed k) ∙ n.1
 
   -- the turn ends with what was brought
   abbrev pub Ends : (model.Store → Type 0) → Type 0
-  Ends P = (n : StandsHere told may_leave moment left_since faults held hard locations labels new start opening (h ++ e ∷ []) all) × P n.holds.model
+  Ends P = (n : StandsHere disks elements admits new start opening (h ++ e ∷ []) all) × P n.holds.model
 
   -- its key was found, and is lent or not
-  pub ends_found : (slots : KeySlots) (more : List Pairs) (P : model.Store → Type 0) → IsReadingHere told may_leave moment left_since faults held hard locations labels old start h e id →
-      (n : HoldsHere told may_leave moment left_since faults held hard locations labels (IsTold (told mid.file.cells.disk) start (h ++ e ∷ [])) mid start opening h all) → P (counted n.model) → Agrees slots.table.slots n.model more → AreHoldings more →
-      IsTurn told may_leave moment left_since faults held hard locations labels (turned told may_leave moment left_since faults held hard locations labels mid slots) Plain e →
-      (after : StandsHere told may_leave moment left_since faults held hard locations labels (turned told may_leave moment left_since faults held hard locations labels mid slots) start opening (h ++ e ∷ []) more) × P after.holds.model
+  pub ends_found : (slots : KeySlots) (more : List Pairs) (P : model.Store → Type 0) → IsReadingHere disks elements admits old start h e id →
+      (n : HoldsHere disks elements admits (IsTold (disks.contents mid.file.cells.disk) start (h ++ e ∷ [])) mid start opening h all) → P (counted n.model) → Agrees slots.table.slots n.model more → AreHoldings more →
+      IsTurn disks elements admits (turned disks elements admits mid slots) Plain e →
+      (after : StandsHere disks elements admits (turned disks elements admits mid slots) start opening (h ++ e ∷ []) more) × P after.holds.model
   ends_found slots more P is n holds agrees holdings turn =
-      let ends = ends_quiet told may_leave moment left_since faults held hard locations labels only_now mid slots Plain start opening h all more e n agrees holdings tt (λ k. tt) (quiet_leaves told may_leave moment left_since faults held hard locations labels mid start h e is.quiet) turn in
+      let ends = ends_quiet disks elements admits only_now mid slots Plain start opening h all more e n agrees holdings tt (λ k. tt) (quiet_leaves disks elements admits mid start h e is.quiet) turn in
       (ends.0, subst P (sym ends.1) holds)
 
   -- a row refuses it
-  pub ends_refused : (rows : Option Key → Option Status) (status : Status) → IsPlain status → IsReadingHere told may_leave moment left_since faults held hard locations labels old start h e id →
-      (n : HoldsHere told may_leave moment left_since faults held hard locations labels (IsTold (told mid.file.cells.disk) start (h ++ e ∷ [])) mid start opening h all) → rows (map.get n.model.keys id) ≡ Some status →
-      IsTurn told may_leave moment left_since faults held hard locations labels new (mark_of status) e → Ends (IsRefused rows id status)
+  pub ends_refused : (rows : Option Key → Option Status) (status : Status) → IsPlain status → IsReadingHere disks elements admits old start h e id →
+      (n : HoldsHere disks elements admits (IsTold (disks.contents mid.file.cells.disk) start (h ++ e ∷ [])) mid start opening h all) → rows (map.get n.model.keys id) ≡ Some status →
+      IsTurn disks elements admits new (mark_of status) e → Ends (IsRefused rows id status)
   ends_refused rows status plain is n refused turn =
       ends_found mid.slots all (IsRefused rows id status) is n (plain.1 rows id (counted n.model) refused) n.slots n.holdings
-      (subst (λ (mark : FaultMark). IsTurn told may_leave moment left_since faults held hard locations labels new mark e) plain.0 turn)
+      (subst (λ (mark : FaultMark). IsTurn disks elements admits new mark e) plain.0 turn)
 
   -- its key is not there, or could not be read
   pub ends_unread : (rows : Option Key → Option Status) (why : Unread) → rows None ≡ Some InvalidHandle → SameTold →
-      StandsHere told may_leave moment left_since faults held hard locations labels old start opening h all → IsReadingHere told may_leave moment left_since faults held hard locations labels old start h e id →
+      StandsHere disks elements admits old start opening h all → IsReadingHere disks elements admits old start h e id →
       (IsWhy why Missing → Brought (λ m. map.get m.keys id ≡ None)) → ((IsWhy why Missing → ⊥) → Brought (λ m. is_persistent_key (map.get m.keys id) ≡ true)) →
-      (IsWhy why Disk → Rose (faults old.file.cells.disk) (faults mid.file.cells.disk)) → (IsWhy why Corrupt → is_some (told mid.file.cells.disk) ≡ false) →
-      IsTurn told may_leave moment left_since faults held hard locations labels new (mark_of (status_of why)) e → Ends (IsRefused rows id (status_of why))
+      (IsWhy why Disk → Rose (disks.faults old.file.cells.disk) (disks.faults mid.file.cells.disk)) → (IsWhy why Corrupt → is_some (disks.contents mid.file.cells.disk) ≡ false) →
+      IsTurn disks elements admits new (mark_of (status_of why)) e → Ends (IsRefused rows id (status_of why))
   ends_unread rows Missing none same s is missing unread rose blind turn =
       let n = missing refl in
-      let ends = ends_quiet told may_leave moment left_since faults held hard locations labels only_now mid mid.slots _ start opening h all all e n.0 n.0.slots n.0.holdings tt (λ k. tt) (quiet_leaves told may_leave moment left_since faults held hard locations labels mid start h e is.quiet) turn in
+      let ends = ends_quiet disks elements admits only_now mid mid.slots _ start opening h all all e n.0 n.0.slots n.0.holdings tt (λ k. tt) (quiet_leaves disks elements admits mid start h e is.quiet) turn in
       (ends.0, subst (λ (m : model.Store). rows (map.get m.keys id) ≡ Some InvalidHandle) (sym ends.1) (ap rows n.1 ∙ none))
   ends_unread rows Disk none same s is missing unread rose blind turn =
       let n = unread (λ e. cc) in
-      let ends = ends_quiet told may_leave moment left_since faults held hard locations labels only_now mid mid.slots _ start opening h all all e n.0 n.0.slots n.0.holdings
-      (subst (Rose _) (sym turn.disk_faults) (subst (λ (f : ℕ). Rose f (faults mid.file.cells.disk)) (sym (ap (λ (c : FaultCounts). c.faults) s.counts)) (rose refl)))
-      (λ k. read_persistent same is n k) (quiet_leaves told may_leave moment left_since faults held hard locations labels mid start h e is.quiet) turn in
+      let ends = ends_quiet disks elements admits only_now mid mid.slots _ start opening h all all e n.0 n.0.slots n.0.holdings
+      (subst (Rose _) (sym turn.disk_faults) (subst (λ (f : ℕ). Rose f (disks.faults mid.file.cells.disk)) (sym (ap (λ (c : FaultCounts). c.faults) s.counts)) (rose refl)))
+      (λ k. read_persistent same is n k) (quiet_leaves disks elements admits mid start h e is.quiet) turn in
       (ends.0, subst (λ (m : model.Store). is_persistent_key (map.get m.keys id) ≡ true) (sym ends.1) n.1)
   ends_unread rows Corrupt none same s is missing unread rose blind turn =
       let n = unread (λ e. cc) in
-      let ends = ends_quiet told may_leave moment left_since faults held hard locations labels only_now mid mid.slots _ start opening h all all e n.0 n.0.slots n.0.holdings (blind refl)
-      (λ k. read_persistent same is n k) (quiet_leaves told may_leave moment left_since faults held hard locations labels mid start h e is.quiet) turn in
+      let ends = ends_quiet disks elements admits only_now mid mid.slots _ start opening h all all e n.0 n.0.slots n.0.holdings (blind refl)
+      (λ k. read_persistent same is n k) (quiet_leaves disks elements admits mid start h e is.quiet) turn in
       (ends.0, subst (λ (m : model.Store). is_persistent_key (map.get m.keys id) ≡ true) (sym ends.1) n.1)

@@ -1,4 +1,7 @@
 -- A store that was opened stands for a start, before any call.
+use Rattle.disk_face.specs.declared.Disk as Disk
+use Rattle.driver_dispatch.specs.declared.devices.Devices as Devices
+use Rattle.admission.specs.declared.rules.Admission as Admission
 use Rattle.std.proofs.Common.{◌≡◌, ◌∙◌, ℕ, zero, suc, ◌+◌, ◌≤◌, Bool, true, false, List, [], length, replicate, count_by, is_some, refl, sym, ap, subst, arith, Option, None, Some, IfSome}
 use Rattle.std.proofs.lemmas.Bool.{false≢true}
 use Rattle.std.proofs.lemmas.Bool.Decides.{nat_tests}
@@ -8,7 +11,6 @@ use Rattle.std.proofs.lemmas.List.Elements.{All-replicate}
 use Rattle.std.specs.Prelude.{slice_get, slice_index, slice_index_or, nat_lt, ◌↔◌}
 use Rattle.std.specs.FinMap as map
 use Rattle.key_attributes.specs.declared.Attributes.{Attributes}
-use Rattle.policy_rules.specs.declared.narrowing.Label.{Label}
 use Rattle.key_cells.specs.declared.slot.Slot as cell
 use Rattle.key_cells.specs.declared.slot.Slot.TheVariants.{Open}
 use Rattle.key_cells.specs.declared.reading.OpenFault.TheVariants.{Memory}
@@ -117,17 +119,16 @@ module _ (told : Option (List ℕ)) (slots : List cell.Slot) (found : List Opene
 
 -- A STORE THAT WAS OPENED
 
-module _ {D A C : Type 0} (told : D → Option (List ℕ)) (may_leave : D → List ℕ → Type 0) (moment : D → ℕ) (left_since : D → ℕ → List ℕ → Type 0)
-    (faults : D → ℕ) (held : A → Option HeldKeys) (hard : A → ℕ) (locations : A → List ℕ) (labels : C → List Label) where
+module _ {D A C : Type 0} (disks : Disk.Ghosts D) (elements : Devices.Ghosts A) (admits : Admission.Ghosts C) where
   abbrev Start : Opened D A C → Service → Type 0
-  Start = IsStart told moment faults hard locations labels
+  Start = IsStart disks elements admits
 
   abbrev opening : Opened D A C → Opening
-  opening = opening_of told moment faults hard locations labels
+  opening = opening_of disks elements admits
 
   -- a store as it is made of a file that was opened
   pub record IsNew (first : D) (store : Store D A C) : Type 0 where
-    pub file : IsOpened told may_leave moment left_since first store.file.cells.disk store.file.cells.slots.items
+    pub file : IsOpened disks.contents disks.may_leave disks.moment disks.left_since first store.file.cells.disk store.file.cells.slots.items
     pub slots : store.slots.table.slots ≡ replicate 384 empty_slot
     pub made : store.made ≡ replicate 17 0
     pub live : store.live ≡ replicate 17 0
@@ -138,33 +139,33 @@ module _ {D A C : Type 0} (told : D → Option (List ℕ)) (may_leave : D → Li
     pub saw_devices : store.opened.devices.value ≡ store.devices
     pub saw_rules : store.opened.rules.value ≡ store.rules
 
-  module _ (first : D) (store : Store D A C) (new : IsNew first store) (reads : IfSome (told store.file.cells.disk) (may_leave store.file.cells.disk)) where
+  module _ (first : D) (store : Store D A C) (new : IsNew first store) (reads : IfSome (disks.contents store.file.cells.disk) (disks.may_leave store.file.cells.disk)) where
     abbrev disk : D
     disk = store.file.cells.disk
 
     abbrev slots : List cell.Slot
     slots = store.file.cells.slots.items
 
-    keys_of : (start : Service) → (s : Start store.opened start) → AreOpened (told disk) slots s.found
-    keys_of start s = subst (λ (f : KeyFile D). AreOpened (told f.cells.disk) f.cells.slots.items s.found) new.saw_file s.keys
+    keys_of : (start : Service) → (s : Start store.opened start) → AreOpened (disks.contents disk) slots s.found
+    keys_of start s = subst (λ (f : KeyFile D). AreOpened (disks.contents f.cells.disk) f.cells.slots.items s.found) new.saw_file s.keys
 
-    sounds : IfSome (told first) (λ image. (read : List ℕ) → may_leave disk read → Sound slots (found_in image) read)
-    sounds = some_weaker (told first) (λ image. StandsForContents told may_leave disk slots (found_in image)) (λ image. (read : List ℕ) → may_leave disk read → Sound slots (found_in image) read) (λ image s. s.each) new.file.stands
+    sounds : IfSome (disks.contents first) (λ image. (read : List ℕ) → disks.may_leave disk read → Sound slots (found_in image) read)
+    sounds = some_weaker (disks.contents first) (λ image. StandsForContents disks.contents disks.may_leave disk slots (found_in image)) (λ image. (read : List ℕ) → disks.may_leave disk read → Sound slots (found_in image) read) (λ image s. s.each) new.file.stands
 
     -- there is a start
-    pub starts : (settings : Settings) → settings.seed ≡ store.opened.seed.value → settings.labels ≡ labels store.rules → settings.locations ≡ locations store.devices → settings.has_file ≡ true → (start : Service) × Start store.opened start
+    pub starts : (settings : Settings) → settings.seed ≡ store.opened.seed.value → settings.labels ≡ admits.labels store.rules → settings.locations ≡ elements.locations store.devices → settings.has_file ≡ true → (start : Service) × Start store.opened start
     starts settings seed_is labels_are locations_are has_file =
-        let keys = some_opened (told disk) slots new.file.sized new.file.numbered (cell_key slots (told first) (told disk) (may_leave disk) new.file.named new.file.tells new.file.found sounds reads) in (
+        let keys = some_opened (disks.contents disk) slots new.file.sized new.file.numbered (cell_key slots (disks.contents first) (disks.contents disk) (disks.may_leave disk) new.file.named new.file.tells new.file.found sounds reads) in (
           service_start settings keys.0,
           record {
             settings = settings;
             found = keys.0;
             is = refl;
             seed_is = seed_is;
-            labels_are = labels_are ∙ ap labels (sym new.saw_rules);
-            locations_are = locations_are ∙ ap locations (sym new.saw_devices);
+            labels_are = labels_are ∙ ap admits.labels (sym new.saw_rules);
+            locations_are = locations_are ∙ ap elements.locations (sym new.saw_devices);
             has_file = has_file;
-            keys = subst (λ (f : KeyFile D). AreOpened (told f.cells.disk) f.cells.slots.items keys.0) (sym new.saw_file) keys.1;
+            keys = subst (λ (f : KeyFile D). AreOpened (disks.contents f.cells.disk) f.cells.slots.items keys.0) (sym new.saw_file) keys.1;
           },
         )
 
@@ -172,9 +173,9 @@ module _ {D A C : Type 0} (told : D → Option (List ℕ)) (may_leave : D → Li
     abbrev HasThose : List OpenedKey → List ℕ → Type 0
     HasThose found image = (a : Attributes) (bytes : List ℕ) → HasKey a bytes image ↔ ((number : ℕ) × (slice_get found number ≡ Some (record { attributes = a; bytes = bytes })))
 
-    those : (found : List OpenedKey) → AreOpened (told disk) slots found → IfSome (told first) (HasThose found)
+    those : (found : List OpenedKey) → AreOpened (disks.contents disk) slots found → IfSome (disks.contents first) (HasThose found)
     those found are =
-        told_twice slots (may_leave disk) (told first) (told disk) new.file.tells new.file.found sounds reads (λ before now. AreOpened now slots found → IfSome before (HasThose found))
+        told_twice slots (disks.may_leave disk) (disks.contents first) (disks.contents disk) new.file.tells new.file.found sounds reads (λ before now. AreOpened now slots found → IfSome before (HasThose found))
         (λ keys. tt)
         (λ image read are keys a bytes. (
           key_found slots image read are new.file.sized new.file.numbered found keys a bytes,
@@ -182,87 +183,87 @@ module _ {D A C : Type 0} (told : D → Option (List ℕ)) (may_leave : D → Li
         ))
         are
 
-    pub exactly : IfSome (told first) (λ image. (start : Service) (s : Start store.opened start) (a : Attributes) (bytes : List ℕ) → HasKey a bytes image ↔ ((number : ℕ) × (slice_get s.found number ≡ Some (record { attributes = a; bytes = bytes }))))
-    exactly = of (told first) (λ found are. those found are)
+    pub exactly : IfSome (disks.contents first) (λ image. (start : Service) (s : Start store.opened start) (a : Attributes) (bytes : List ℕ) → HasKey a bytes image ↔ ((number : ℕ) × (slice_get s.found number ≡ Some (record { attributes = a; bytes = bytes }))))
+    exactly = of (disks.contents first) (λ found are. those found are)
       where
-        of : (o : Option (List ℕ)) → ((found : List OpenedKey) → AreOpened (told disk) slots found → IfSome o (HasThose found)) → IfSome o (λ image. (start : Service) (s : Start store.opened start) → HasThose s.found image)
+        of : (o : Option (List ℕ)) → ((found : List OpenedKey) → AreOpened (disks.contents disk) slots found → IfSome o (HasThose found)) → IfSome o (λ image. (start : Service) (s : Start store.opened start) → HasThose s.found image)
         of None each = tt
         of (Some image) each = λ start s. each s.found (keys_of start s)
 
     -- THE HISTORY WITHOUT AN ENTRY
 
-    with_those : (keys : Keys) (o : Option (List ℕ)) → IfSome o (λ image. (k : Keys) → AreFound image slots k → StandsForKeys told may_leave disk slots k []) → IfSome o (λ image. AreFound image slots keys) → is_some o ≡ true →
-        StandsForKeys told may_leave disk slots keys []
+    with_those : (keys : Keys) (o : Option (List ℕ)) → IfSome o (λ image. (k : Keys) → AreFound image slots k → StandsForKeys disks.contents disks.may_leave disk slots k []) → IfSome o (λ image. AreFound image slots keys) → is_some o ≡ true →
+        StandsForKeys disks.contents disks.may_leave disk slots keys []
     with_those keys None each are tells = absurd (false≢true tells)
     with_those keys (Some image) each are tells = each keys are
 
-    found_durable : (settings : Settings) (found : List OpenedKey) → AreOpened (told disk) slots found → HasEachOnce found → IfSome (told first) (λ image. AreFound image slots (durable_keys (start_of settings found)))
+    found_durable : (settings : Settings) (found : List OpenedKey) → AreOpened (disks.contents disk) slots found → HasEachOnce found → IfSome (disks.contents first) (λ image. AreFound image slots (durable_keys (start_of settings found)))
     found_durable settings found are once =
-        told_twice slots (may_leave disk) (told first) (told disk) new.file.tells new.file.found sounds reads (λ before now. AreOpened now slots found → IfSome before (λ image. AreFound image slots (durable_keys (start_of settings found))))
+        told_twice slots (disks.may_leave disk) (disks.contents first) (disks.contents disk) new.file.tells new.file.found sounds reads (λ before now. AreOpened now slots found → IfSome before (λ image. AreFound image slots (durable_keys (start_of settings found))))
         (λ keys. tt)
         (λ image read are keys. durable_found slots image read are new.file.sized new.file.numbered found keys settings once)
         are
 
-    file_starts : (settings : Settings) (found : List OpenedKey) → AreOpened (told disk) slots found → HasEachOnce found → is_some (told disk) ≡ true → StandsForKeys told may_leave disk slots (durable_keys (start_of settings found)) []
+    file_starts : (settings : Settings) (found : List OpenedKey) → AreOpened (disks.contents disk) slots found → HasEachOnce found → is_some (disks.contents disk) ≡ true → StandsForKeys disks.contents disks.may_leave disk slots (durable_keys (start_of settings found)) []
     file_starts settings found are once tells =
-        with_those (durable_keys (start_of settings found)) (told first) (found_stands told may_leave moment left_since first disk slots new.file) (found_durable settings found are once) (sym new.file.tells ∙ tells)
+        with_those (durable_keys (start_of settings found)) (disks.contents first) (found_stands disks.contents disks.may_leave disks.moment disks.left_since first disk slots new.file) (found_durable settings found are once) (sym new.file.tells ∙ tells)
 
-    same_moment : moment store.opened.file.value.cells.disk ≡ moment disk
-    same_moment = ap (λ (f : KeyFile D). moment f.cells.disk) new.saw_file
+    same_moment : disks.moment store.opened.file.value.cells.disk ≡ disks.moment disk
+    same_moment = ap (λ (f : KeyFile D). disks.moment f.cells.disk) new.saw_file
 
-    promise_starts : (start : Service) → ((image : List ℕ) → left_since disk (moment disk) image → may_leave disk image) → StandsForKeys told may_leave disk slots (durable_keys start.store) [] →
-        KeepsKeys (left_since disk) (moment disk) (opening store.opened).moment start []
+    promise_starts : (start : Service) → ((image : List ℕ) → disks.left_since disk (disks.moment disk) image → disks.may_leave disk image) → StandsForKeys disks.contents disks.may_leave disk slots (durable_keys start.store) [] →
+        KeepsKeys (disks.left_since disk) (disks.moment disk) (opening store.opened).moment start []
     promise_starts start only_now s = record {
       opened = (let same = same_moment in omega arith);
       entered = λ k lt. absurd (omega arith);
-      since_opening = λ image left. (0, omega arith, omega arith, stands_fits told may_leave moment left_since disk slots (durable_keys start.store) [] image s (only_now image (subst (λ (t : ℕ). left_since disk t image) same_moment left)));
+      since_opening = λ image left. (0, omega arith, omega arith, stands_fits disks.contents disks.may_leave disks.moment disks.left_since disk slots (durable_keys start.store) [] image s (only_now image (subst (λ (t : ℕ). disks.left_since disk t image) same_moment left)));
       since_done = λ k lt. absurd (omega arith);
     }
 
     -- it stands for each start
-    pub stands : ((handle : ℕ) → Lacks (held store.devices) handle) → ((image : List ℕ) → left_since disk (moment disk) image → may_leave disk image) → (start : Service) (callers : ℕ) → Start store.opened start → callers ≤ 16 →
-        StandsFor told may_leave moment left_since faults held hard locations labels store start (opening store.opened) [] (replicate callers [])
+    pub stands : ((handle : ℕ) → Lacks (elements.keys store.devices) handle) → ((image : List ℕ) → disks.left_since disk (disks.moment disk) image → disks.may_leave disk image) → (start : Service) (callers : ℕ) → Start store.opened start → callers ≤ 16 →
+        StandsFor disks elements admits store start (opening store.opened) [] (replicate callers [])
     stands lacks only_now start callers s few =
         let found : List OpenedKey = s.found in
         let settings : Settings = s.settings in
         let m : model.Store = start_of settings found in
         let sized = new.file.sized in
         let numbered_by = new.file.numbered in
-        let are : AreOpened (told disk) slots found = keys_of start s in
-        let kept : AreKept found = are_kept (told disk) slots found sized numbered_by are in
-        let once : HasEachOnce found = each_once (told disk) slots found sized numbered_by are new.file.one in
-        let few_keys : length found ≤ 512 = few_found (told disk) slots found settings kept once sized numbered_by new.file.one are in
-        let file : is_some (told disk) ≡ true → StandsForKeys told may_leave disk slots (durable_keys m) [] = file_starts settings found are once in
+        let are : AreOpened (disks.contents disk) slots found = keys_of start s in
+        let kept : AreKept found = are_kept (disks.contents disk) slots found sized numbered_by are in
+        let once : HasEachOnce found = each_once (disks.contents disk) slots found sized numbered_by are new.file.one in
+        let few_keys : length found ≤ 512 = few_found (disks.contents disk) slots found settings kept once sized numbered_by new.file.one are in
+        let file : is_some (disks.contents disk) ≡ true → StandsForKeys disks.contents disks.may_leave disk slots (durable_keys m) [] = file_starts settings found are once in
         let store_is : m ≡ start.store = ap (λ (x : Service). x.store) (sym s.is) in
         record {
           holds = record {
             model = m;
             replayed = λ k. store_is;
             sound = store_starts settings found (are_found m found kept once) few_keys;
-            labels_are = s.labels_are ∙ ap labels new.saw_rules;
-            locations_are = s.locations_are ∙ ap locations new.saw_devices;
+            labels_are = s.labels_are ∙ ap admits.labels new.saw_rules;
+            locations_are = s.locations_are ∙ ap elements.locations new.saw_devices;
             has_file = s.has_file;
             found = are.count ∙ sym new.found;
             few = omega (arith, new.found, count_by-le-length is_open slots, new.file.sized);
             calls = sym new.ranked;
             made = sym new.made;
-            live = λ caller le. none_live (told disk) slots found settings kept once caller ∙ sym (ap (λ (l : List ℕ). slice_index l caller) new.live ∙ zero_at 17 caller);
-            kept = all_persistent (told disk) slots found settings kept once ∙ (are.count ∙ sym new.kept);
+            live = λ caller le. none_live (disks.contents disk) slots found settings kept once caller ∙ sym (ap (λ (l : List ℕ). slice_index l caller) new.live ∙ zero_at 17 caller);
+            kept = all_persistent (disks.contents disk) slots found settings kept once ∙ (are.count ∙ sym new.kept);
             ranked = new.ranked;
-            slots = subst (λ l. Agrees l m (replicate callers [])) (sym new.slots) (empty_ones m callers (none_volatile (told disk) slots found settings kept once));
+            slots = subst (λ l. Agrees l m (replicate callers [])) (sym new.slots) (empty_ones m callers (none_volatile (disks.contents disk) slots found settings kept once));
             holdings = none_out callers few;
-            directory = directory_starts (told disk) slots found settings kept once sized numbered_by new.file.one are;
-            device = device_starts (told disk) slots found settings kept once (held store.devices) lacks;
+            directory = directory_starts (disks.contents disk) slots found settings kept once sized numbered_by new.file.one are;
+            device = device_starts (disks.contents disk) slots found settings kept once (elements.keys store.devices) lacks;
             file = file;
-            sure = λ tells none. opened_sure (told first) slots sized new.file.found (sym new.file.tells ∙ tells);
-            promise = λ tells. promise_starts start only_now (subst (λ (x : model.Store). StandsForKeys told may_leave disk slots (durable_keys x) []) store_is (file tells));
+            sure = λ tells none. opened_sure (disks.contents first) slots sized new.file.found (sym new.file.tells ∙ tells);
+            promise = λ tells. promise_starts start only_now (subst (λ (x : model.Store). StandsForKeys disks.contents disks.may_leave disk slots (durable_keys x) []) store_is (file tells));
             caused = tt;
             allowed = λ t. tt;
           };
-          counts = ap (λ (f : KeyFile D). record { faults = faults f.cells.disk; hard = hard store.opened.devices.value }) new.saw_file ∙ ap (λ (v : A). record { faults = faults disk; hard = hard v }) new.saw_devices;
+          counts = ap (λ (f : KeyFile D). record { faults = disks.faults f.cells.disk; hard = elements.faults store.opened.devices.value }) new.saw_file ∙ ap (λ (v : A). record { faults = disks.faults disk; hard = elements.faults v }) new.saw_devices;
         }
 
   -- an opening that had no memory left the disk as it was
-  pub without_memory : (first : D) → IsRefused told may_leave moment left_since faults first first Memory
+  pub without_memory : (first : D) → IsRefused disks.contents disks.may_leave disks.moment disks.left_since disks.faults first first Memory
   without_memory first =
-      refused_calm told may_leave moment left_since faults first first Memory (calm_none told may_leave moment left_since faults first) (for_told (told first) _ (λ image is. tt)) (λ h. absurd h) (λ h. absurd h)
+      refused_calm disks.contents disks.may_leave disks.moment disks.left_since disks.faults first first Memory (calm_none disks.contents disks.may_leave disks.moment disks.left_since disks.faults first) (for_told (disks.contents first) _ (λ image is. tt)) (λ h. absurd h) (λ h. absurd h)

@@ -1,4 +1,7 @@
 -- Cells that stay zeros over the calls of a turn.
+use Rattle.disk_face.specs.declared.Disk as Disk
+use Rattle.driver_dispatch.specs.declared.devices.Devices as Devices
+use Rattle.admission.specs.declared.rules.Admission as Admission
 use Rattle.std.proofs.Common.{◌≡◌, ◌∙◌, ⊎_elim, ℕ, ◌<◌, ◌==◌, cond, true, List, [], ◌∷◌, Option, None, Some, length, refl, sym, ap, subst, set, arith}
 use Rattle.std.proofs.lemmas.Bool.{false≢true, eqb-true}
 use Rattle.std.proofs.lemmas.List.{get_or-set_same, length-map}
@@ -11,8 +14,6 @@ use Rattle.key_file.specs.declared.file.KeyFile.{KeyFile}
 use Rattle.key_file.specs.Files.{Stored, Keys, Doubt, StandsForKeys, Leads}
 use Rattle.key_file.proofs.Leading.{stays}
 use Rattle.std.specs.FinMap as finmap
-use Rattle.policy_rules.specs.declared.narrowing.Label.{Label}
-use Rattle.driver_dispatch.specs.Held.{HeldKeys}
 use Rattle.store_model.specs.Store as model
 use Rattle.store_model.specs.Store.{Key}
 use Rattle.store_core.specs.Represents.{IsDirectory}
@@ -69,25 +70,24 @@ pub untouched : {D : Type 0} (moment : D → ℕ) (left_since : D → ℕ → Li
 untouched moment left_since old new same = subst (LeavesZeros moment left_since old) (sym same) (λ c lt free still. within_none (moment old.cells.disk) (left_since old.cells.disk) (HasZeros c))
 
 -- over many turns
-module _ {D A C : Type 0} (told : D → Option (List ℕ)) (may_leave : D → List ℕ → Type 0) (moment : D → ℕ) (left_since : D → ℕ → List ℕ → Type 0)
-    (faults : D → ℕ) (held : A → Option HeldKeys) (hard : A → ℕ) (locations : A → List ℕ) (labels : C → List Label) (cell : ℕ) (within : cell < 512) where
+module _ {D A C : Type 0} (disks : Disk.Ghosts D) (elements : Devices.Ghosts A) (admits : Admission.Ghosts C) (cell : ℕ) (within : cell < 512) where
   abbrev disk_of : Store D A C → D
   disk_of store = store.file.cells.disk
 
   abbrev IsWithin : (first last : Store D A C) → Type 0
-  IsWithin first last = Within (moment (disk_of first)) (moment (disk_of last)) (left_since (disk_of first)) (left_since (disk_of last)) (HasZeros cell)
+  IsWithin first last = Within (disks.moment (disk_of first)) (disks.moment (disk_of last)) (disks.left_since (disk_of first)) (disks.left_since (disk_of last)) (HasZeros cell)
 
   pub stays_zeros : (store : Store D A C) (turns : List (Store D A C)) → cell_slot store.file.cells.slots.items cell ≡ Free →
-      StaysFree told may_leave moment left_since faults held hard locations labels cell store turns → IsWithin store (last_store store turns)
-  stays_zeros store [] free turns = within_none (moment (disk_of store)) (left_since (disk_of store)) (HasZeros cell)
+      StaysFree disks elements admits cell store turns → IsWithin store (last_store store turns)
+  stays_zeros store [] free turns = within_none (disks.moment (disk_of store)) (disks.left_since (disk_of store)) (HasZeros cell)
   stays_zeros store (next ∷ rest) free turns =
       let turn = turns.0 in
       let at = turn.stands in
       let last = disk_of (last_store next rest) in
-      within_both (moment (disk_of store)) (moment (disk_of next)) (moment last) (left_since (disk_of store)) (left_since (disk_of next)) (left_since last) (HasZeros cell) (HasZeros cell) (HasZeros cell)
+      within_both (disks.moment (disk_of store)) (disks.moment (disk_of next)) (disks.moment last) (disks.left_since (disk_of store)) (disks.left_since (disk_of next)) (disks.left_since last) (HasZeros cell) (HasZeros cell) (HasZeros cell)
       (turn.zeros at.0 at.1 at.2 at.3 at.4 turn.tells cell within free turn.free) (stays_zeros next rest turn.free turns.1) (λ image z. z) (λ image z. z)
 
   -- a crash since the first of them has left zeros, as one at that moment would have
-  pub left_zeros : (first last : Store D A C) → ((image : List ℕ) → left_since (disk_of first) (moment (disk_of first)) image → HasZeros cell image) → IsWithin first last →
-      (image : List ℕ) → left_since (disk_of last) (moment (disk_of first)) image → HasZeros cell image
-  left_zeros first last here turns image left = ⊎_elim (here image) (λ z. z) (turns.each (moment (disk_of first)) image (omega arith) left)
+  pub left_zeros : (first last : Store D A C) → ((image : List ℕ) → disks.left_since (disk_of first) (disks.moment (disk_of first)) image → HasZeros cell image) → IsWithin first last →
+      (image : List ℕ) → disks.left_since (disk_of last) (disks.moment (disk_of first)) image → HasZeros cell image
+  left_zeros first last here turns image left = ⊎_elim (here image) (λ z. z) (turns.each (disks.moment (disk_of first)) image (omega arith) left)

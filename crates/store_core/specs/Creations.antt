@@ -1,11 +1,12 @@
 -- What a turn that creates a key decides, and what it makes of the store.
+use Rattle.disk_face.specs.declared.Disk as Disk
+use Rattle.driver_dispatch.specs.declared.devices.Devices as Devices
+use Rattle.admission.specs.declared.rules.Admission as Admission
 use Rattle.std.specs.Prelude.{◌≡◌, ◌<◌, ◌≤◌, ◌⊎◌, ◌+◌, ℕ, true, false, List, [], ◌∷◌, ◌++◌, length, Option, Some, None, Result, Ok, Err}
 use Rattle.std.specs.FinMap as map
 use Rattle.psa_status.specs.declared.Status.{Status}
 use Rattle.psa_status.specs.declared.Status.TheVariants.{InvalidHandle, StorageFailure, HardwareFailure}
 use Rattle.key_attributes.specs.declared.Attributes.{Attributes}
-use Rattle.policy_rules.specs.declared.narrowing.Label.{Label}
-use Rattle.driver_dispatch.specs.Held.{HeldKeys}
 use Rattle.driver_dispatch.specs.Calls.{HoldsHandle}
 use Rattle.secret_bytes.specs.Buffer.{bytes_of}
 use Rattle.slot_table.specs.Lent as lent
@@ -101,19 +102,18 @@ abbrev pub IsAmong : Option lent.Reading → List Pairs → Type 0
 IsAmong None all = Unit {0}
 IsAmong (Some lease) all = 0 < named lease.slot (lease.creation + 1) all
 
-module _ {D A C : Type 0} (told : D → Option (List ℕ)) (may_leave : D → List ℕ → Type 0) (moment : D → ℕ) (left_since : D → ℕ → List ℕ → Type 0)
-    (faults : D → ℕ) (held : A → Option HeldKeys) (hard : A → ℕ) (locations : A → List ℕ) (labels : C → List Label) where
+module _ {D A C : Type 0} (disks : Disk.Ghosts D) (elements : Devices.Ghosts A) (admits : Admission.Ghosts C) where
   abbrev ToldHere : Store D A C → Service → List Entry → Type 0
-  ToldHere = Told told may_leave moment left_since faults held hard locations labels
+  ToldHere = Told disks elements admits
 
   abbrev HoldsHere : Type 0 → Store D A C → Service → Opening → List Entry → List Pairs → Type 0
-  HoldsHere = Holds told may_leave moment left_since faults held hard locations labels
+  HoldsHere = Holds disks elements admits
 
   abbrev StandsForHere : Store D A C → Service → Opening → List Entry → List Pairs → Type 0
-  StandsForHere = StandsFor told may_leave moment left_since faults held hard locations labels
+  StandsForHere = StandsFor disks elements admits
 
   abbrev IsEntryHere : Store D A C → FaultMark → Entry → Type 0
-  IsEntryHere = IsEntry told may_leave moment left_since faults held hard locations labels
+  IsEntryHere = IsEntry disks elements admits
 
   -- the store stands for something, of which the lease is out, where there is one; and a pair is
   abbrev pub StandsLent : Store D A C → Option lent.Reading → Type 0
@@ -155,7 +155,7 @@ module _ {D A C : Type 0} (told : D → Option (List ℕ)) (may_leave : D → Li
   -- the bytes of a new key are those in the buffer, or those of a key that the device has under a number
   abbrev pub IsMaterial : Store D A C → Attributes → (source : Option ℕ) → List ℕ → Type 0
   IsMaterial store recorded None bytes = bytes_of store.buffer ≡ bytes
-  IsMaterial store recorded (Some number) bytes = (is_opaque recorded ≡ true) × HoldsHandle (held store.devices) number (λ h. h ≡ record { key_type = recorded.key_type.0; bytes = bytes })
+  IsMaterial store recorded (Some number) bytes = (is_opaque recorded ≡ true) × HoldsHandle (elements.keys store.devices) number (λ h. h ≡ record { key_type = recorded.key_type.0; bytes = bytes })
 
   -- a store is about to make a key: the table of creations has decided what is recorded, and the bytes are there
   pub record IsReady (store : Store D A C) (caller : ℕ) (recorded : Attributes) (source : Option ℕ) (start : Service) (opening : Opening) (h : List Entry) (all : List Pairs) (e : Entry) : Type 0 where
@@ -181,8 +181,8 @@ module _ {D A C : Type 0} (told : D → Option (List ℕ)) (may_leave : D → Li
 
   -- no device has failed less often than at the last entry
   pub record IsSince (store : Store D A C) (counts : FaultCounts) : Type 0 where
-    pub faults_since : counts.faults ≤ faults store.file.cells.disk
-    pub hard_since : counts.hard ≤ hard store.devices
+    pub faults_since : counts.faults ≤ disks.faults store.file.cells.disk
+    pub hard_since : counts.hard ≤ elements.faults store.devices
 
   -- the turn ends with the key made, or not, and P holds of the model before
   abbrev pub Enters : (old new : Store D A C) (caller : ℕ) → Attributes → (source : Option ℕ) → ℕ × ℕ → FaultMark → (model.Store → Type 0) → Type 0

@@ -1,9 +1,11 @@
 -- Turns in which the secure element computes.
+use Rattle.disk_face.specs.declared.Disk as Disk
+use Rattle.driver_dispatch.specs.declared.devices.Devices as Devices
+use Rattle.admission.specs.declared.rules.Admission as Admission
 use Rattle.std.specs.Prelude.{ℕ, ◌≡◌, true, List, [], ◌∷◌, ◌++◌, length, drop, Option, is_some, Result, Err, MatchOption}
 use Rattle.std.specs.FinMap as map
 use Rattle.psa_status.specs.declared.Status.{Status}
 use Rattle.psa_status.specs.Rows.{first_row}
-use Rattle.policy_rules.specs.declared.narrowing.Label.{Label}
 use Rattle.driver_dispatch.specs.Held.{HeldKeys}
 use Rattle.key_slots.specs.Holdings.{Pairs}
 use Rattle.store_model.specs.Store as model
@@ -31,11 +33,10 @@ pub record IsAnswered (held : Option HeldKeys) (id : ℕ) (call : ElementCall) (
   pub kept : (status : Status) → result ≡ Err (Refused status) → new ≡ old
   pub rest : drop (needed_by call) new ≡ drop (needed_by call) old
 
-module _ {D A C : Type 0} (told : D → Option (List ℕ)) (may_leave : D → List ℕ → Type 0) (moment : D → ℕ) (left_since : D → ℕ → List ℕ → Type 0)
-    (faults : D → ℕ) (held : A → Option HeldKeys) (hard : A → ℕ) (locations : A → List ℕ) (labels : C → List Label) (old new : Store D A C) where
+module _ {D A C : Type 0} (disks : Disk.Ghosts D) (elements : Devices.Ghosts A) (admits : Admission.Ghosts C) (old new : Store D A C) where
   -- a ranked turn that makes a call of the model, of whose model P holds afterwards
   abbrev pub Makes : Call → FaultMark → (model.Store → Type 0) → Type 0
   Makes call mark P = (start : Service) (opening : Opening) (h : List Entry) (all : List Pairs) (e : Entry) →
-      StandsFor told may_leave moment left_since faults held hard locations labels old start opening h all → e.call ≡ OnStore call →
-      IsEntry told may_leave moment left_since faults held hard locations labels new mark e →
-      (n : StandsFor told may_leave moment left_since faults held hard locations labels new start opening (h ++ e ∷ []) all) × P n.holds.model
+      StandsFor disks elements admits old start opening h all → e.call ≡ OnStore call →
+      IsEntry disks elements admits new mark e →
+      (n : StandsFor disks elements admits new start opening (h ++ e ∷ []) all) × P n.holds.model

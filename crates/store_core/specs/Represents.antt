@@ -1,4 +1,7 @@
 -- What it is for a store to stand for a start, a history and what the callers have out; and what its turns make of these.
+use Rattle.disk_face.specs.declared.Disk as Disk
+use Rattle.driver_dispatch.specs.declared.devices.Devices as Devices
+use Rattle.admission.specs.declared.rules.Admission as Admission
 use Rattle.std.specs.Prelude.{◌≡◌, ◌<◌, ◌≤◌, ◌⊎◌, ℕ, ◌+◌, true, false, List, [], ◌∷◌, ◌++◌, length, slice_index, Option, None, Some, is_some}
 use Rattle.std.specs.FinMap as map
 use Rattle.key_cells.specs.declared.slot.Slot as cell
@@ -7,7 +10,6 @@ use Rattle.key_cells.specs.Contents.{cell_slot, IsSure}
 use Rattle.key_file.specs.Files.{StandsForKeys}
 use Rattle.key_slots.specs.Holdings.{Pairs, Gains, AreHoldings, named}
 use Rattle.key_slots.specs.Standing.{Agrees}
-use Rattle.policy_rules.specs.declared.narrowing.Label.{Label}
 use Rattle.driver_dispatch.specs.Held.{HeldKeys}
 use Rattle.driver_dispatch.specs.Calls.{HoldsHandle, Lacks}
 use Rattle.store_model.specs.Store as model
@@ -57,11 +59,10 @@ pub record Opening : Type 0 where
   pub moment : ℕ
   pub counts : FaultCounts
 
-module _ {D A C : Type 0} (told : D → Option (List ℕ)) (may_leave : D → List ℕ → Type 0) (moment : D → ℕ) (left_since : D → ℕ → List ℕ → Type 0)
-    (faults : D → ℕ) (held : A → Option HeldKeys) (hard : A → ℕ) (locations : A → List ℕ) (labels : C → List Label) where
+module _ {D A C : Type 0} (disks : Disk.Ghosts D) (elements : Devices.Ghosts A) (admits : Admission.Ghosts C) where
   -- whether what the history makes of the keys is told
   abbrev pub Told : Store D A C → Service → List Entry → Type 0
-  Told store start h = IsTold (told store.file.cells.disk) start h
+  Told store start h = IsTold (disks.contents store.file.cells.disk) start h
 
   -- The store holds the keys of a model: its slots, its directory and its device have them, and its file those that are
   -- durable. Where K holds, the model is the one-thread store after the history. Where no key is in doubt, no cell is. Each
@@ -70,8 +71,8 @@ module _ {D A C : Type 0} (told : D → Option (List ℕ)) (may_leave : D → Li
     pub model : model.Store
     pub replayed : K → model ≡ (replay start h).store
     pub sound : IsSoundStore model
-    pub labels_are : model.settings.labels ≡ labels store.rules
-    pub locations_are : model.settings.locations ≡ locations store.devices
+    pub labels_are : model.settings.labels ≡ admits.labels store.rules
+    pub locations_are : model.settings.locations ≡ elements.locations store.devices
     pub has_file : model.settings.has_file ≡ true
     pub found : model.found ≡ store.found
     pub few : store.found ≤ 512
@@ -83,28 +84,28 @@ module _ {D A C : Type 0} (told : D → Option (List ℕ)) (may_leave : D → Li
     pub slots : Agrees store.slots.table.slots model all
     pub holdings : AreHoldings all
     pub directory : IsDirectory store.file.cells.slots.items model
-    pub device : HoldsKeys (held store.devices) model
-    pub file : is_some (told store.file.cells.disk) ≡ true →
-        StandsForKeys told may_leave store.file.cells.disk store.file.cells.slots.items (durable_keys model) (course_of start h).doubt
-    pub sure : is_some (told store.file.cells.disk) ≡ true → (course_of start h).doubt ≡ [] → IsSure store.file.cells.slots.items
-    pub promise : is_some (told store.file.cells.disk) ≡ true → KeepsKeys (left_since store.file.cells.disk) (moment store.file.cells.disk) opening.moment start h
-    pub caused : IsCaused (is_some (told store.file.cells.disk)) opening.counts h
+    pub device : HoldsKeys (elements.keys store.devices) model
+    pub file : is_some (disks.contents store.file.cells.disk) ≡ true →
+        StandsForKeys disks.contents disks.may_leave store.file.cells.disk store.file.cells.slots.items (durable_keys model) (course_of start h).doubt
+    pub sure : is_some (disks.contents store.file.cells.disk) ≡ true → (course_of start h).doubt ≡ [] → IsSure store.file.cells.slots.items
+    pub promise : is_some (disks.contents store.file.cells.disk) ≡ true → KeepsKeys (disks.left_since store.file.cells.disk) (disks.moment store.file.cells.disk) opening.moment start h
+    pub caused : IsCaused (is_some (disks.contents store.file.cells.disk)) opening.counts h
     pub allowed : Told store start h → AreAllowed start h
 
   -- The store stands for a start, a history and holdings: it holds the keys of the one-thread store after the history, as far
   -- as that is told, and no device was called since the last entry.
   pub record StandsFor (store : Store D A C) (start : Service) (opening : Opening) (h : List Entry) (all : List Pairs) : Type 0 where
     pub holds : Holds (Told store start h) store start opening h all
-    pub counts : last_counts opening.counts h ≡ record { faults = faults store.file.cells.disk; hard = hard store.devices }
+    pub counts : last_counts opening.counts h ≡ record { faults = disks.faults store.file.cells.disk; hard = elements.faults store.devices }
 
   -- an entry as a ranked turn leaves it: by one of sixteen callers, with its mark, the disk's moment and both counts
   pub record IsEntry (store : Store D A C) (mark : FaultMark) (e : Entry) : Type 0 where
     pub from_first : 1 ≤ e.caller
     pub to_last : e.caller ≤ 16
     pub marked : e.mark ≡ mark
-    pub done : e.done ≡ moment store.file.cells.disk
-    pub disk_faults : e.faults ≡ faults store.file.cells.disk
-    pub device_faults : e.hard ≡ hard store.devices
+    pub done : e.done ≡ disks.moment store.file.cells.disk
+    pub disk_faults : e.faults ≡ disks.faults store.file.cells.disk
+    pub device_faults : e.hard ≡ elements.faults store.devices
 
   -- The request of an entry leaves all keys: as far as that is told, the one-thread store is as it was but for the count of
   -- calls, and no key is made or destroyed.

@@ -1,11 +1,13 @@
 -- What an opening found: the start of each history, and from when on a crash is spoken of.
+use Rattle.disk_face.specs.declared.Disk as Disk
+use Rattle.driver_dispatch.specs.declared.devices.Devices as Devices
+use Rattle.admission.specs.declared.rules.Admission as Admission
 use Rattle.std.specs.Prelude.{◌≡◌, ◌<◌, ℕ, true, List, length, count_by, slice_get, Option, Some, IfSome}
 use Rattle.key_cells.specs.declared.slot.Slot as cell
 use Rattle.key_cells.specs.declared.slot.Slot.TheVariants.{Open}
 use Rattle.key_cells.specs.Layout.{body}
 use Rattle.key_cells.specs.Contents.{cell_slot, is_open}
 use Rattle.key_cells.specs.Body.{IsKeyOf, HoldsKey}
-use Rattle.policy_rules.specs.declared.narrowing.Label.{Label}
 use Rattle.store_model.specs.Store.{OpenedKey, Settings}
 use Rattle.store_model.specs.Handles.{Service, service_start}
 use Rattle.store_core.specs.declared.store.Opened.{Opened}
@@ -18,21 +20,21 @@ pub record AreOpened (told : Option (List ℕ)) (slots : List cell.Slot) (found 
   pub each : (c id number : ℕ) → c < 512 → cell_slot slots c ≡ Open id number →
       (key : OpenedKey) × (slice_get found number ≡ Some key) × (key.attributes.id.0 ≡ id) × IsKeyOf key.attributes key.bytes × IfSome told (λ image. HoldsKey key.attributes key.bytes (body c image))
 
-module _ {D A C : Type 0} (told : D → Option (List ℕ)) (moment : D → ℕ) (faults : D → ℕ) (hard : A → ℕ) (locations : A → List ℕ) (labels : C → List Label) where
+module _ {D A C : Type 0} (disks : Disk.Ghosts D) (elements : Devices.Ghosts A) (admits : Admission.Ghosts C) where
   -- the service before any call: no operation, no random word drawn, and the keys that were found
   pub record IsStart (opened : Opened D A C) (start : Service) : Type 0 where
     pub settings : Settings
     pub found : List OpenedKey
     pub is : start ≡ service_start settings found
     pub seed_is : settings.seed ≡ opened.seed.value
-    pub labels_are : settings.labels ≡ labels opened.rules.value
-    pub locations_are : settings.locations ≡ locations opened.devices.value
+    pub labels_are : settings.labels ≡ admits.labels opened.rules.value
+    pub locations_are : settings.locations ≡ elements.locations opened.devices.value
     pub has_file : settings.has_file ≡ true
-    pub keys : AreOpened (told opened.file.value.cells.disk) opened.file.value.cells.slots.items found
+    pub keys : AreOpened (disks.contents opened.file.value.cells.disk) opened.file.value.cells.slots.items found
 
   -- the disk's moment and the counts of faults as the opening answered
   abbrev pub opening_of : Opened D A C → Opening
   opening_of opened = record {
-    moment = moment opened.file.value.cells.disk;
-    counts = record { faults = faults opened.file.value.cells.disk; hard = hard opened.devices.value };
+    moment = disks.moment opened.file.value.cells.disk;
+    counts = record { faults = disks.faults opened.file.value.cells.disk; hard = elements.faults opened.devices.value };
   }

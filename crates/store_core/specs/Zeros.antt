@@ -1,4 +1,7 @@
 -- What is zeros in a file: the cells that are free, and so all that have no key where nothing is in doubt.
+use Rattle.disk_face.specs.declared.Disk as Disk
+use Rattle.driver_dispatch.specs.declared.devices.Devices as Devices
+use Rattle.admission.specs.declared.rules.Admission as Admission
 use Rattle.std.specs.Prelude.{◌≡◌, ◌<◌, ◌⊎◌, ℕ, true, List, [], ◌∷◌, Option, Some, is_some}
 use Rattle.disk_face.specs.Moments.{Within}
 use Rattle.key_cells.specs.declared.slot.Slot.TheVariants.{Free}
@@ -8,8 +11,6 @@ use Rattle.key_cells.specs.Body.{HoldsKey}
 use Rattle.key_file.specs.declared.file.KeyFile.{KeyFile}
 use Rattle.key_file.specs.Files.{Stored, Keys, Doubt, StandsForKeys}
 use Rattle.key_slots.specs.Holdings.{Pairs}
-use Rattle.policy_rules.specs.declared.narrowing.Label.{Label}
-use Rattle.driver_dispatch.specs.Held.{HeldKeys}
 use Rattle.store_model.specs.Handles.{Service}
 use Rattle.store_model.specs.Replay.{Entry}
 use Rattle.store_core.specs.declared.store.Store.{Store}
@@ -29,10 +30,9 @@ abbrev pub FileStaysZeros : {D : Type 0} (told : D → Option (List ℕ)) (may_l
 FileStaysZeros told may_leave moment left_since old new = (keys : Keys) (doubt : Doubt) → StandsForKeys told may_leave old.cells.disk old.cells.slots.items keys doubt → LeavesZeros moment left_since old new
 
 -- and in the file of a store that stands for some history, where the disk tells its bytes
-abbrev pub StaysZeros : {D A C : Type 0} (told : D → Option (List ℕ)) (may_leave : D → List ℕ → Type 0) (moment : D → ℕ) (left_since : D → ℕ → List ℕ → Type 0)
-    (faults : D → ℕ) (held : A → Option HeldKeys) (hard : A → ℕ) (locations : A → List ℕ) (labels : C → List Label) (old new : Store D A C) → Type 0
-StaysZeros told may_leave moment left_since faults held hard locations labels old new = (start : Service) (opening : Opening) (h : List Entry) (all : List Pairs) →
-    StandsFor told may_leave moment left_since faults held hard locations labels old start opening h all → is_some (told old.file.cells.disk) ≡ true → LeavesZeros moment left_since old.file new.file
+abbrev pub StaysZeros : {D A C : Type 0} (disks : Disk.Ghosts D) (elements : Devices.Ghosts A) (admits : Admission.Ghosts C) (old new : Store D A C) → Type 0
+StaysZeros disks elements admits old new = (start : Service) (opening : Opening) (h : List Entry) (all : List Pairs) →
+    StandsFor disks elements admits old start opening h all → is_some (disks.contents old.file.cells.disk) ≡ true → LeavesZeros disks.moment disks.left_since old.file new.file
 
 -- OVER MANY TURNS
 
@@ -41,13 +41,12 @@ abbrev pub last_store : {D A C : Type 0} → Store D A C → List (Store D A C) 
 last_store store [] = store
 last_store store (next ∷ rest) = last_store next rest
 
-module _ {D A C : Type 0} (told : D → Option (List ℕ)) (may_leave : D → List ℕ → Type 0) (moment : D → ℕ) (left_since : D → ℕ → List ℕ → Type 0)
-    (faults : D → ℕ) (held : A → Option HeldKeys) (hard : A → ℕ) (locations : A → List ℕ) (labels : C → List Label) where
+module _ {D A C : Type 0} (disks : Disk.Ghosts D) (elements : Devices.Ghosts A) (admits : Admission.Ghosts C) where
   -- a turn of a store that stands for some history, over a disk that tells its bytes, ends with this cell free
   pub record LeavesFree (cell : ℕ) (old new : Store D A C) : Type 0 where
-    pub stands : Stands told may_leave moment left_since faults held hard locations labels old
-    pub tells : is_some (told old.file.cells.disk) ≡ true
-    pub zeros : StaysZeros told may_leave moment left_since faults held hard locations labels old new
+    pub stands : Stands disks elements admits old
+    pub tells : is_some (disks.contents old.file.cells.disk) ≡ true
+    pub zeros : StaysZeros disks elements admits old new
     pub free : cell_slot new.file.cells.slots.items cell ≡ Free
 
   -- and so does each of some turns, one after another

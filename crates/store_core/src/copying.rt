@@ -59,20 +59,20 @@ impl<D: Disk, A: Devices, C: Admission> Store<D, A, C> {
     ) -> Result<KeyId, NotCopied>
         requires first { 1 ≤ caller }
         requires last { caller ≤ 16 }
-        requires out { HasOut D.contents D.may_leave D.moment D.left_since D.faults A.keys A.faults A.locations C.labels self.old (filling.slot, 0) }
+        requires out { HasOut D.Disk A.Devices C.Admission self.old (filling.slot, 0) }
         requires size { D.size self.old.file.cells.disk ≡ 557120 }
         requires clear { IsClear self.old.buffer }
         requires few { self.old.ranked < 2 ^ 62 }
         ensures size { D.size self.new.file.cells.disk ≡ 557120 }
         ensures clear { IsClear self.new.buffer }
-        ensures made { IfOk result (λ id. Copies D.contents D.may_leave D.moment D.left_since D.faults A.keys A.faults A.locations C.labels self.old self.new caller source.0 attributes.now (filling.slot, 0) Plain
+        ensures made { IfOk result (λ id. Copies D.Disk A.Devices C.Admission self.old self.new caller source.0 attributes.now (filling.slot, 0) Plain
             (IsMade (RecordsCopy caller source.0 attributes.now) caller id.0)) }
-        ensures uncopied { IfErr result (λ why. Copies D.contents D.may_leave D.moment D.left_since D.faults A.keys A.faults A.locations C.labels self.old self.new caller source.0 attributes.now (filling.slot, 0) (mark_uncopied why)
+        ensures uncopied { IfErr result (λ why. Copies D.Disk A.Devices C.Admission self.old self.new caller source.0 attributes.now (filling.slot, 0) (mark_uncopied why)
             (IsUncopied (RecordsCopy caller source.0 attributes.now) source.0 why)) }
         ensures wipes { (slot : ℕ) × EndsOnly self.old.slots.table.slots self.new.slots.table.slots (λ i s. IsFillingOf filling.slot i s ⊎ IsTakenOf slot i s) }
         ensures emptied { OnErr result (slot_at self.new.slots.table.slots filling.slot ≡ empty_slot) }
         ensures unread { IfErr result (λ why. OnUnread why (KeepsOrEmpties self.old.slots.table.slots self.new.slots.table.slots)) }
-        ensures zeros { StaysZeros D.contents D.may_leave D.moment D.left_since D.faults A.keys A.faults A.locations C.labels self.old self.new }
+        ensures zeros { StaysZeros D.Disk A.Devices C.Admission self.old self.new }
         ensures later { NoFewerFaults D.faults A.faults self.old self.new }
         ensures tells { StillTells (D.contents self.old.file.cells.disk) (D.contents self.new.file.cells.disk) }
         ensures knows { is_some (A.keys self.new.devices) ≡ is_some (A.keys self.old.devices) }
@@ -93,15 +93,15 @@ impl<D: Disk, A: Devices, C: Admission> Store<D, A, C> {
     ) -> Result<KeyId, NotCopied>
         requires first { 1 ≤ caller }
         requires last { caller ≤ 16 }
-        requires out { HasOut D.contents D.may_leave D.moment D.left_since D.faults A.keys A.faults A.locations C.labels self.old (filling.slot, 0) }
+        requires out { HasOut D.Disk A.Devices C.Admission self.old (filling.slot, 0) }
         requires size { D.size self.old.file.cells.disk ≡ 557120 }
         requires clear { IsClear self.old.buffer }
         requires few { self.old.ranked < 2 ^ 62 }
         ensures size { D.size self.new.file.cells.disk ≡ 557120 }
         ensures clear { IsClear self.new.buffer }
-        ensures made { IfOk result (λ id. Copies D.contents D.may_leave D.moment D.left_since D.faults A.keys A.faults A.locations C.labels self.old (ranked_on self.new) caller source.0 attributes.now (filling.slot, 0) Plain
+        ensures made { IfOk result (λ id. Copies D.Disk A.Devices C.Admission self.old (ranked_on self.new) caller source.0 attributes.now (filling.slot, 0) Plain
             (IsMade (RecordsCopy caller source.0 attributes.now) caller id.0)) }
-        ensures uncopied { IfErr result (λ why. Copies D.contents D.may_leave D.moment D.left_since D.faults A.keys A.faults A.locations C.labels self.old (ranked_on self.new) caller source.0 attributes.now (filling.slot, 0) (mark_uncopied why)
+        ensures uncopied { IfErr result (λ why. Copies D.Disk A.Devices C.Admission self.old (ranked_on self.new) caller source.0 attributes.now (filling.slot, 0) (mark_uncopied why)
             (IsUncopied (RecordsCopy caller source.0 attributes.now) source.0 why)) }
         ensures wipes { (slot : ℕ) × EndsOnly self.old.slots.table.slots self.new.slots.table.slots (λ i s. IsFillingOf filling.slot i s ⊎ IsTakenOf slot i s) }
         ensures emptied { OnErr result (slot_at self.new.slots.table.slots filling.slot ≡ empty_slot) }
@@ -146,7 +146,7 @@ impl<D: Disk, A: Devices, C: Admission> Store<D, A, C> {
     ) -> Result<Attributes, Status>
         requires last { caller ≤ 16 }
         requires full { (slot_at self.now.slots.table.slots slot).state ≡ Full }
-        ensures value { HoldsWithin D.contents D.may_leave D.moment D.left_since D.faults A.keys A.faults A.locations C.labels self.now
+        ensures value { HoldsWithin D.Disk A.Devices C.Admission self.now
             (λ m. (id : ℕ) (key : Key) → map.get m.keys id ≡ Some key → SlotHasKey (slot_at self.now.slots.table.slots slot) key → result ≡ recorded_copy m caller (Some key) attributes.now) }
     {
         let source = self.slots.attributes(slot);

@@ -88,20 +88,20 @@ impl<D: Disk, A: Devices, C: Admission> Store<D, A, C> {
     ) -> Result<KeyId, NotMade>
         requires first { 1 ≤ caller }
         requires last { caller ≤ 16 }
-        requires out { HasOutBeside D.contents D.may_leave D.moment D.left_since D.faults A.keys A.faults A.locations C.labels self.old (filling.slot, 0) (option_map (λ l. l.now) lease) }
+        requires out { HasOutBeside D.Disk A.Devices C.Admission self.old (filling.slot, 0) (option_map (λ l. l.now) lease) }
         requires size { D.size self.old.file.cells.disk ≡ 557120 }
         requires few { self.old.ranked < 2 ^ 62 }
         ensures size { D.size self.new.file.cells.disk ≡ 557120 }
         ensures clear { IsClear self.old.buffer → IsClear self.new.buffer }
-        ensures made { IfOk result (λ id. Creates D.contents D.may_leave D.moment D.left_since D.faults A.keys A.faults A.locations C.labels self.old self.new caller (option_map (λ l. l.now) lease.entry)
+        ensures made { IfOk result (λ id. Creates D.Disk A.Devices C.Admission self.old self.new caller (option_map (λ l. l.now) lease.entry)
             (RecordsStated (option_map (λ l. l.now) lease.entry) caller attributes.now (length bytes.now)) (λ m. bytes.now) (filling.slot, 0) Plain
             (IsMade (RecordsStated (option_map (λ l. l.now) lease.entry) caller attributes.now (length bytes.now)) caller id.0)) }
-        ensures unmade { IfErr result (λ why. Creates D.contents D.may_leave D.moment D.left_since D.faults A.keys A.faults A.locations C.labels self.old self.new caller (option_map (λ l. l.now) lease.entry)
+        ensures unmade { IfErr result (λ why. Creates D.Disk A.Devices C.Admission self.old self.new caller (option_map (λ l. l.now) lease.entry)
             (RecordsStated (option_map (λ l. l.now) lease.entry) caller attributes.now (length bytes.now)) (λ m. bytes.now) (filling.slot, 0) (mark_unmade why)
             (IsUnmade (RecordsStated (option_map (λ l. l.now) lease.entry) caller attributes.now (length bytes.now)) why)) }
         ensures wipes { EndsOnly self.old.slots.table.slots self.new.slots.table.slots (IsFillingOf filling.slot) }
         ensures emptied { OnErr result (slot_at self.new.slots.table.slots filling.slot ≡ empty_slot) }
-        ensures zeros { StaysZeros D.contents D.may_leave D.moment D.left_since D.faults A.keys A.faults A.locations C.labels self.old self.new }
+        ensures zeros { StaysZeros D.Disk A.Devices C.Admission self.old self.new }
         ensures later { NoFewerFaults D.faults A.faults self.old self.new }
         ensures tells { StillTells (D.contents self.old.file.cells.disk) (D.contents self.new.file.cells.disk) }
         ensures knows { is_some (A.keys self.new.devices) ≡ is_some (A.keys self.old.devices) }
@@ -123,15 +123,15 @@ impl<D: Disk, A: Devices, C: Admission> Store<D, A, C> {
     ) -> Result<KeyId, NotMade>
         requires first { 1 ≤ caller }
         requires last { caller ≤ 16 }
-        requires out { HasOutBeside D.contents D.may_leave D.moment D.left_since D.faults A.keys A.faults A.locations C.labels self.old (filling.slot, 0) (option_map (λ l. l.now) lease) }
+        requires out { HasOutBeside D.Disk A.Devices C.Admission self.old (filling.slot, 0) (option_map (λ l. l.now) lease) }
         requires size { D.size self.old.file.cells.disk ≡ 557120 }
         requires few { self.old.ranked < 2 ^ 62 }
         ensures size { D.size self.new.file.cells.disk ≡ 557120 }
         ensures clear { IsClear self.old.buffer → IsClear self.new.buffer }
-        ensures made { IfOk result (λ id. Creates D.contents D.may_leave D.moment D.left_since D.faults A.keys A.faults A.locations C.labels self.old (ranked_on self.new) caller (option_map (λ l. l.now) lease.entry)
+        ensures made { IfOk result (λ id. Creates D.Disk A.Devices C.Admission self.old (ranked_on self.new) caller (option_map (λ l. l.now) lease.entry)
             (RecordsStated (option_map (λ l. l.now) lease.entry) caller attributes.now (length bytes.now)) (λ m. bytes.now) (filling.slot, 0) Plain
             (IsMade (RecordsStated (option_map (λ l. l.now) lease.entry) caller attributes.now (length bytes.now)) caller id.0)) }
-        ensures unmade { IfErr result (λ why. Creates D.contents D.may_leave D.moment D.left_since D.faults A.keys A.faults A.locations C.labels self.old (ranked_on self.new) caller (option_map (λ l. l.now) lease.entry)
+        ensures unmade { IfErr result (λ why. Creates D.Disk A.Devices C.Admission self.old (ranked_on self.new) caller (option_map (λ l. l.now) lease.entry)
             (RecordsStated (option_map (λ l. l.now) lease.entry) caller attributes.now (length bytes.now)) (λ m. bytes.now) (filling.slot, 0) (mark_unmade why)
             (IsUnmade (RecordsStated (option_map (λ l. l.now) lease.entry) caller attributes.now (length bytes.now)) why)) }
         ensures wipes { EndsOnly self.old.slots.table.slots self.new.slots.table.slots (IsFillingOf filling.slot) }
@@ -169,8 +169,8 @@ impl<D: Disk, A: Devices, C: Admission> Store<D, A, C> {
         lease: Option<&Lease>,
     ) -> Result<Attributes, Status>
         requires last { caller ≤ 16 }
-        requires lent { StandsLent D.contents D.may_leave D.moment D.left_since D.faults A.keys A.faults A.locations C.labels self.now (option_map (λ l. l.now) lease) }
-        ensures value { HoldsLent D.contents D.may_leave D.moment D.left_since D.faults A.keys A.faults A.locations C.labels self.now (option_map (λ l. l.now) lease.entry)
+        requires lent { StandsLent D.Disk A.Devices C.Admission self.now (option_map (λ l. l.now) lease) }
+        ensures value { HoldsLent D.Disk A.Devices C.Admission self.now (option_map (λ l. l.now) lease.entry)
             (λ m. RecordsStated (option_map (λ l. l.now) lease.entry) caller attributes.now bytes m result) }
         ensures short { OnOk result (bytes ≤ 1024) }
     {
@@ -194,13 +194,13 @@ impl<D: Disk, A: Devices, C: Admission> Store<D, A, C> {
     ) -> Result<KeyId, Unkept>
         requires first { 1 ≤ caller }
         requires last { caller ≤ 16 }
-        requires ready { IsSomeReady D.contents D.may_leave D.moment D.left_since D.faults A.keys A.faults A.locations C.labels self.old caller recorded source (filling.slot, 0) }
+        requires ready { IsSomeReady D.Disk A.Devices C.Admission self.old caller recorded source (filling.slot, 0) }
         requires size { D.size self.old.file.cells.disk ≡ 557120 }
         requires few { self.old.ranked < 2 ^ 62 }
         ensures size { D.size self.new.file.cells.disk ≡ 557120 }
-        ensures made { IfOk result (λ id. Enters D.contents D.may_leave D.moment D.left_since D.faults A.keys A.faults A.locations C.labels self.old (ranked_on self.new) caller recorded source (filling.slot, 0) Plain
+        ensures made { IfOk result (λ id. Enters D.Disk A.Devices C.Admission self.old (ranked_on self.new) caller recorded source (filling.slot, 0) Plain
             (λ m. id.0 ≡ new_id m caller recorded)) }
-        ensures unkept { IfErr result (λ why. Enters D.contents D.may_leave D.moment D.left_since D.faults A.keys A.faults A.locations C.labels self.old (ranked_on self.new) caller recorded source (filling.slot, 0) (mark_unkept why)
+        ensures unkept { IfErr result (λ why. Enters D.Disk A.Devices C.Admission self.old (ranked_on self.new) caller recorded source (filling.slot, 0) (mark_unkept why)
             (λ m. IsUnkept recorded why)) }
         ensures wipes { EndsOnly self.old.slots.table.slots self.new.slots.table.slots (IsFillingOf filling.slot) }
         ensures emptied { OnErr result (slot_at self.new.slots.table.slots filling.slot ≡ empty_slot) }
@@ -232,13 +232,13 @@ impl<D: Disk, A: Devices, C: Admission> Store<D, A, C> {
         requires first { 1 ≤ caller }
         requires last { caller ≤ 16 }
         requires persistent { is_volatile recorded ≡ false }
-        requires ready { IsSomeReady D.contents D.may_leave D.moment D.left_since D.faults A.keys A.faults A.locations C.labels self.old caller recorded source (filling.slot, 0) }
+        requires ready { IsSomeReady D.Disk A.Devices C.Admission self.old caller recorded source (filling.slot, 0) }
         requires size { D.size self.old.file.cells.disk ≡ 557120 }
         requires few { self.old.ranked < 2 ^ 62 }
         ensures size { D.size self.new.file.cells.disk ≡ 557120 }
-        ensures made { IfOk result (λ id. Enters D.contents D.may_leave D.moment D.left_since D.faults A.keys A.faults A.locations C.labels self.old (ranked_on self.new) caller recorded source (filling.slot, 0) Plain
+        ensures made { IfOk result (λ id. Enters D.Disk A.Devices C.Admission self.old (ranked_on self.new) caller recorded source (filling.slot, 0) Plain
             (λ m. id.0 ≡ new_id m caller recorded)) }
-        ensures unkept { IfErr result (λ why. Enters D.contents D.may_leave D.moment D.left_since D.faults A.keys A.faults A.locations C.labels self.old (ranked_on self.new) caller recorded source (filling.slot, 0) (mark_unkept why)
+        ensures unkept { IfErr result (λ why. Enters D.Disk A.Devices C.Admission self.old (ranked_on self.new) caller recorded source (filling.slot, 0) (mark_unkept why)
             (λ m. IsUnkept recorded why)) }
         ensures wipes { EndsOnly self.old.slots.table.slots self.new.slots.table.slots (IsFillingOf filling.slot) }
         ensures emptied { OnErr result (slot_at self.new.slots.table.slots filling.slot ≡ empty_slot) }
@@ -277,13 +277,13 @@ impl<D: Disk, A: Devices, C: Admission> Store<D, A, C> {
         requires last { caller ≤ 16 }
         requires volatile { is_volatile recorded ≡ true }
         requires opaque { is_opaque recorded ≡ true }
-        requires ready { IsSomeReady D.contents D.may_leave D.moment D.left_since D.faults A.keys A.faults A.locations C.labels self.old caller recorded source (filling.slot, 0) }
+        requires ready { IsSomeReady D.Disk A.Devices C.Admission self.old caller recorded source (filling.slot, 0) }
         requires size { D.size self.old.file.cells.disk ≡ 557120 }
         requires few { self.old.ranked < 2 ^ 62 }
         ensures size { D.size self.new.file.cells.disk ≡ 557120 }
-        ensures made { IfOk result (λ id. Enters D.contents D.may_leave D.moment D.left_since D.faults A.keys A.faults A.locations C.labels self.old (ranked_on self.new) caller recorded source (filling.slot, 0) Plain
+        ensures made { IfOk result (λ id. Enters D.Disk A.Devices C.Admission self.old (ranked_on self.new) caller recorded source (filling.slot, 0) Plain
             (λ m. id.0 ≡ new_id m caller recorded)) }
-        ensures unkept { IfErr result (λ why. Enters D.contents D.may_leave D.moment D.left_since D.faults A.keys A.faults A.locations C.labels self.old (ranked_on self.new) caller recorded source (filling.slot, 0) (mark_unkept why)
+        ensures unkept { IfErr result (λ why. Enters D.Disk A.Devices C.Admission self.old (ranked_on self.new) caller recorded source (filling.slot, 0) (mark_unkept why)
             (λ m. IsUnkept recorded why)) }
         ensures wipes { EndsOnly self.old.slots.table.slots self.new.slots.table.slots (IsFillingOf filling.slot) }
         ensures emptied { OnErr result (slot_at self.new.slots.table.slots filling.slot ≡ empty_slot) }

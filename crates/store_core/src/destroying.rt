@@ -56,20 +56,20 @@ impl<D: Disk, A: Devices, C: Admission> Store<D, A, C> {
     /// Destroys a key. Its slot is wiped where nobody reads it, and else waits for its last reader. On success its cell is free,
     /// and so all zeros, and the secure element has the key no more. Destroying no key, by the identifier 0, succeeds. Ranked.
     pub fn destroy(&mut self, id: KeyId) -> Result<(), NotDestroyed>
-        requires stands { Stands D.contents D.may_leave D.moment D.left_since D.faults A.keys A.faults A.locations C.labels self.old }
+        requires stands { Stands D.Disk A.Devices C.Admission self.old }
         requires size { D.size self.old.file.cells.disk ≡ 557120 }
         requires few { self.old.ranked < 2 ^ 62 }
         ensures size { D.size self.new.file.cells.disk ≡ 557120 }
-        ensures destroyed { OnOk result (Destroys D.contents D.may_leave D.moment D.left_since D.faults A.keys A.faults A.locations C.labels self.old self.new id.0 Plain
+        ensures destroyed { OnOk result (Destroys D.Disk A.Devices C.Admission self.old self.new id.0 Plain
             (λ m. first_row (destroy_rows (map.get m.keys id.0) id.0) ≡ None)) }
-        ensures failed { IfErr result (λ why. Destroys D.contents D.may_leave D.moment D.left_since D.faults A.keys A.faults A.locations C.labels self.old self.new id.0 (mark_undestroyed why)
+        ensures failed { IfErr result (λ why. Destroys D.Disk A.Devices C.Admission self.old self.new id.0 (mark_undestroyed why)
             (IsUndestroyed id.0 why)) }
         ensures wipes { EndsOnly self.old.slots.table.slots self.new.slots.table.slots (λ i s. holds_key id.0 s ≡ true) }
         ensures ended { (i : ℕ) → holds_key id.0 (slot_at self.old.slots.table.slots i) ≡ true → slot_at self.new.slots.table.slots i ≡ destroyed_slot (slot_at self.old.slots.table.slots i) }
         ensures forgotten { OnOk result ((i : ℕ) → i < 384 → holds_key id.0 (slot_at self.old.slots.table.slots i) ≡ true → IsForgotten (slot_at self.old.slots.table.slots i) (A.keys self.old.devices) (A.keys self.new.devices)) }
         ensures unasked { NoKey id.0 self.old.slots.table.slots → self.new.devices ≡ self.old.devices }
         ensures freed { OnOk result ((cell : ℕ) → cell < 512 → has_id id.0 (cell_slot self.old.file.cells.slots.items cell) ≡ true → cell_slot self.new.file.cells.slots.items cell ≡ Free) }
-        ensures zeros { StaysZeros D.contents D.may_leave D.moment D.left_since D.faults A.keys A.faults A.locations C.labels self.old self.new }
+        ensures zeros { StaysZeros D.Disk A.Devices C.Admission self.old self.new }
         ensures later { NoFewerFaults D.faults A.faults self.old self.new }
         ensures tells { StillTells (D.contents self.old.file.cells.disk) (D.contents self.new.file.cells.disk) }
         ensures knows { is_some (A.keys self.new.devices) ≡ is_some (A.keys self.old.devices) }
@@ -83,12 +83,12 @@ impl<D: Disk, A: Devices, C: Admission> Store<D, A, C> {
 
     // Destroys a key, in all but the count of the turn.
     fn remove(&mut self, id: KeyId) -> Result<(), NotDestroyed>
-        requires stands { Stands D.contents D.may_leave D.moment D.left_since D.faults A.keys A.faults A.locations C.labels self.old }
+        requires stands { Stands D.Disk A.Devices C.Admission self.old }
         requires size { D.size self.old.file.cells.disk ≡ 557120 }
         ensures size { D.size self.new.file.cells.disk ≡ 557120 }
-        ensures destroyed { OnOk result (Destroys D.contents D.may_leave D.moment D.left_since D.faults A.keys A.faults A.locations C.labels self.old (ranked_on self.new) id.0 Plain
+        ensures destroyed { OnOk result (Destroys D.Disk A.Devices C.Admission self.old (ranked_on self.new) id.0 Plain
             (λ m. first_row (destroy_rows (map.get m.keys id.0) id.0) ≡ None)) }
-        ensures failed { IfErr result (λ why. Destroys D.contents D.may_leave D.moment D.left_since D.faults A.keys A.faults A.locations C.labels self.old (ranked_on self.new) id.0 (mark_undestroyed why)
+        ensures failed { IfErr result (λ why. Destroys D.Disk A.Devices C.Admission self.old (ranked_on self.new) id.0 (mark_undestroyed why)
             (IsUndestroyed id.0 why)) }
         ensures wipes { EndsOnly self.old.slots.table.slots self.new.slots.table.slots (λ i s. holds_key id.0 s ≡ true) }
         ensures ended { (i : ℕ) → holds_key id.0 (slot_at self.old.slots.table.slots i) ≡ true → slot_at self.new.slots.table.slots i ≡ destroyed_slot (slot_at self.old.slots.table.slots i) }
@@ -117,13 +117,13 @@ impl<D: Disk, A: Devices, C: Admission> Store<D, A, C> {
 
     // Destroys the key of a cell.
     fn remove_kept(&mut self, id: KeyId, cell: usize) -> Result<(), NotDestroyed>
-        requires stands { Stands D.contents D.may_leave D.moment D.left_since D.faults A.keys A.faults A.locations C.labels self.old }
+        requires stands { Stands D.Disk A.Devices C.Admission self.old }
         requires size { D.size self.old.file.cells.disk ≡ 557120 }
         requires there { IsFirstWithKey self.old.file.cells.slots.items id.0 cell }
         ensures size { D.size self.new.file.cells.disk ≡ 557120 }
-        ensures destroyed { OnOk result (Destroys D.contents D.may_leave D.moment D.left_since D.faults A.keys A.faults A.locations C.labels self.old (ranked_on self.new) id.0 Plain
+        ensures destroyed { OnOk result (Destroys D.Disk A.Devices C.Admission self.old (ranked_on self.new) id.0 Plain
             (λ m. first_row (destroy_rows (map.get m.keys id.0) id.0) ≡ None)) }
-        ensures failed { IfErr result (λ why. Destroys D.contents D.may_leave D.moment D.left_since D.faults A.keys A.faults A.locations C.labels self.old (ranked_on self.new) id.0 (mark_undestroyed why)
+        ensures failed { IfErr result (λ why. Destroys D.Disk A.Devices C.Admission self.old (ranked_on self.new) id.0 (mark_undestroyed why)
             (IsUndestroyed id.0 why)) }
         ensures wipes { EndsOnly self.old.slots.table.slots self.new.slots.table.slots (λ i s. holds_key id.0 s ≡ true) }
         ensures ended { (i : ℕ) → holds_key id.0 (slot_at self.old.slots.table.slots i) ≡ true → slot_at self.new.slots.table.slots i ≡ destroyed_slot (slot_at self.old.slots.table.slots i) }
@@ -151,16 +151,16 @@ impl<D: Disk, A: Devices, C: Admission> Store<D, A, C> {
 
     // Destroys the key of a slot that no cell has.
     fn remove_volatile(&mut self, id: KeyId, slot: u32) -> Result<(), NotDestroyed>
-        requires stands { Stands D.contents D.may_leave D.moment D.left_since D.faults A.keys A.faults A.locations C.labels self.old }
+        requires stands { Stands D.Disk A.Devices C.Admission self.old }
         requires size { D.size self.old.file.cells.disk ≡ 557120 }
         requires absent { HasNoKey self.old.file.cells.slots.items id.0 }
         requires within { slot < 384 }
         requires full { (slot_at self.old.slots.table.slots slot).state ≡ Full }
         requires there { holds_key id.0 (slot_at self.old.slots.table.slots slot) ≡ true }
         ensures size { D.size self.new.file.cells.disk ≡ 557120 }
-        ensures destroyed { OnOk result (Destroys D.contents D.may_leave D.moment D.left_since D.faults A.keys A.faults A.locations C.labels self.old (ranked_on self.new) id.0 Plain
+        ensures destroyed { OnOk result (Destroys D.Disk A.Devices C.Admission self.old (ranked_on self.new) id.0 Plain
             (λ m. first_row (destroy_rows (map.get m.keys id.0) id.0) ≡ None)) }
-        ensures failed { IfErr result (λ why. Destroys D.contents D.may_leave D.moment D.left_since D.faults A.keys A.faults A.locations C.labels self.old (ranked_on self.new) id.0 (mark_undestroyed why)
+        ensures failed { IfErr result (λ why. Destroys D.Disk A.Devices C.Admission self.old (ranked_on self.new) id.0 (mark_undestroyed why)
             (IsUndestroyed id.0 why)) }
         ensures wipes { EndsOnly self.old.slots.table.slots self.new.slots.table.slots (λ i s. holds_key id.0 s ≡ true) }
         ensures ended { (i : ℕ) → holds_key id.0 (slot_at self.old.slots.table.slots i) ≡ true → slot_at self.new.slots.table.slots i ≡ destroyed_slot (slot_at self.old.slots.table.slots i) }

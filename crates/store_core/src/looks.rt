@@ -31,23 +31,23 @@ impl<D: Disk, A: Devices, C: Admission> Store<D, A, C> {
         wanted: KeyUse,
         spare: Secret,
     ) -> Result<Lease, (Status, Secret)>
-        requires stands { Stands D.contents D.may_leave D.moment D.left_since D.faults A.keys A.faults A.locations C.labels self.old }
+        requires stands { Stands D.Disk A.Devices C.Admission self.old }
         requires size { D.size self.old.file.cells.disk ≡ 557120 }
         requires clear { IsClear self.old.buffer }
         requires spare { IsClear spare }
         requires few { self.old.ranked < 2 ^ 62 }
         ensures size { D.size self.new.file.cells.disk ≡ 557120 }
         ensures clear { IsClear self.new.buffer }
-        ensures lent { IfOk result (λ lease. ReadsAndGives D.contents D.may_leave D.moment D.left_since D.faults A.keys A.faults A.locations C.labels self.old self.new id.0 (lease.slot, lease.creation + 1)
+        ensures lent { IfOk result (λ lease. ReadsAndGives D.Disk A.Devices C.Admission self.old self.new id.0 (lease.slot, lease.creation + 1)
             (IsLent (use_refusal wanted) id.0 lease)) }
         ensures fits { IfOk result (λ lease. FitsUse wanted (bytes_of lease.buffer)) }
-        ensures refused { IfErr result (λ refused. Reads D.contents D.may_leave D.moment D.left_since D.faults A.keys A.faults A.locations C.labels self.old self.new id.0 (mark_of refused.0)
+        ensures refused { IfErr result (λ refused. Reads D.Disk A.Devices C.Admission self.old self.new id.0 (mark_of refused.0)
             (IsRefused (use_refusal wanted) id.0 refused.0)) }
         ensures spare { IfErr result (λ refused. IsClear refused.1) }
         ensures wipes { TakesOne self.old.slots.table.slots self.new.slots.table.slots }
         ensures unmoved { IfErr result (λ refused. refused.0 ≡ InvalidHandle → self.new.slots ≡ self.old.slots) }
         ensures emptied { IfErr result (λ refused. (mark_of refused.0 ≡ Plain → ⊥) → KeepsOrEmpties self.old.slots.table.slots self.new.slots.table.slots) }
-        ensures zeros { StaysZeros D.contents D.may_leave D.moment D.left_since D.faults A.keys A.faults A.locations C.labels self.old self.new }
+        ensures zeros { StaysZeros D.Disk A.Devices C.Admission self.old self.new }
         ensures later { NoFewerFaults D.faults A.faults self.old self.new }
         ensures tells { StillTells (D.contents self.old.file.cells.disk) (D.contents self.new.file.cells.disk) }
         ensures devices { self.new.devices ≡ self.old.devices }

@@ -21,7 +21,7 @@ use key_uses::check_use;
 impl<D: Disk, A: Devices, C: Admission> Store<D, A, C> {
     /// Whether a key is the secure element's. No rank, and no device is called.
     pub fn is_opaque(&self, id: KeyId) -> bool
-        ensures { HoldsOf D.contents D.may_leave D.moment D.left_since D.faults A.keys A.faults A.locations C.labels self.now
+        ensures { HoldsOf D.Disk A.Devices C.Admission self.now
             (λ m. is_opaque_key (map.get m.keys id.0) ≡ result) }
     {
         match self.slots.find(id) {
@@ -39,11 +39,11 @@ impl<D: Disk, A: Devices, C: Admission> Store<D, A, C> {
         call: &ElementCall,
         out: &mut [u8],
     ) -> Result<usize, NotComputed>
-        requires stands { Stands D.contents D.may_leave D.moment D.left_since D.faults A.keys A.faults A.locations C.labels self.old }
+        requires stands { Stands D.Disk A.Devices C.Admission self.old }
         requires few { self.old.ranked < 2 ^ 62 }
-        requires opaque { HoldsOf D.contents D.may_leave D.moment D.left_since D.faults A.keys A.faults A.locations C.labels self.old
+        requires opaque { HoldsOf D.Disk A.Devices C.Admission self.old
             (λ m. is_opaque_key (map.get m.keys id.0) ≡ true) }
-        ensures made { Makes D.contents D.may_leave D.moment D.left_since D.faults A.keys A.faults A.locations C.labels self.old self.new
+        ensures made { Makes D.Disk A.Devices C.Admission self.old self.new
             (model_call call.now id.0 (length out.old)) (mark_computed result) (IsAnswered (A.keys self.old.devices) id.0 call.now out.old out.new result) }
         ensures served { IsOfServed result → AsksElement call.now → Rose (A.served self.old.devices) (A.served self.new.devices) }
         ensures unasked { IsRefusedBefore result → self.new.devices ≡ self.old.devices }

@@ -54,10 +54,10 @@ impl<D: Disk, A: Devices, C: Admission> Store<D, A, C> {
         seed: &[u8; 32],
     ) -> Result<Store<D, A, C>, Unopened<D, A>>
         requires empty { (handle : ℕ) → Lacks (A.keys devices) handle }
-        ensures stands { IfOk result (λ store. (start : Service) (callers : ℕ) → IsStart D.contents D.moment D.faults A.faults A.locations C.labels store.opened start → callers ≤ 16 →
-            StandsFor D.contents D.may_leave D.moment D.left_since D.faults A.keys A.faults A.locations C.labels store start (opening_of D.contents D.moment D.faults A.faults A.locations C.labels store.opened) [] (replicate callers [])) }
-        ensures starts { IfOk result (λ store. (start : Service) × IsStart D.contents D.moment D.faults A.faults A.locations C.labels store.opened start) }
-        ensures keys { IfOk result (λ store. IfSome (D.contents disk) (λ image. (start : Service) (s : IsStart D.contents D.moment D.faults A.faults A.locations C.labels store.opened start) (a : Attributes) (bytes : List ℕ) →
+        ensures stands { IfOk result (λ store. (start : Service) (callers : ℕ) → IsStart D.Disk A.Devices C.Admission store.opened start → callers ≤ 16 →
+            StandsFor D.Disk A.Devices C.Admission store start (opening_of D.Disk A.Devices C.Admission store.opened) [] (replicate callers [])) }
+        ensures starts { IfOk result (λ store. (start : Service) × IsStart D.Disk A.Devices C.Admission store.opened start) }
+        ensures keys { IfOk result (λ store. IfSome (D.contents disk) (λ image. (start : Service) (s : IsStart D.Disk A.Devices C.Admission store.opened start) (a : Attributes) (bytes : List ℕ) →
             HasKey a bytes image ↔ ((number : ℕ) × (slice_get s.found number ≡ Some (record { attributes = a; bytes = bytes }))))) }
         ensures opened { IfOk result (λ store. IsOpened D.contents D.may_leave D.moment D.left_since disk store.file.cells.disk store.file.cells.slots.items) }
         ensures later { IfOk result (λ store. D.faults disk ≤ D.faults store.file.cells.disk) }

@@ -45,18 +45,18 @@ impl Unread {
 impl<D: Disk, A: Devices, C: Admission> Store<D, A, C> {
     /// The slot of a key. One that is in the file alone is loaded. Where it can't be, the slot is given up.
     pub(crate) fn bring(&mut self, id: KeyId) -> Result<u32, Unread>
-        requires stands { Stands D.contents D.may_leave D.moment D.left_since D.faults A.keys A.faults A.locations C.labels self.old }
+        requires stands { Stands D.Disk A.Devices C.Admission self.old }
         requires size { D.size self.old.file.cells.disk ≡ 557120 }
         requires clear { IsClear self.old.buffer }
         ensures size { D.size self.new.file.cells.disk ≡ 557120 }
         ensures clear { IsClear self.new.buffer }
         ensures within { IfOk result (λ i. i < 384) }
         ensures full { IfOk result (λ i. (slot_at self.new.slots.table.slots i).state ≡ Full) }
-        ensures found { IfOk result (λ i. Brings D.contents D.may_leave D.moment D.left_since D.faults A.keys A.faults A.locations C.labels self.old self.new id.0
+        ensures found { IfOk result (λ i. Brings D.Disk A.Devices C.Admission self.old self.new id.0
             (IsBrought id.0 (slot_at self.new.slots.table.slots i))) }
-        ensures missing { IsErrOf result unread.Missing → Brings D.contents D.may_leave D.moment D.left_since D.faults A.keys A.faults A.locations C.labels self.old self.new id.0
+        ensures missing { IsErrOf result unread.Missing → Brings D.Disk A.Devices C.Admission self.old self.new id.0
             (λ m. map.get m.keys id.0 ≡ None) }
-        ensures unread { OnErr result ((IsErrOf result unread.Missing → ⊥) → Brings D.contents D.may_leave D.moment D.left_since D.faults A.keys A.faults A.locations C.labels self.old self.new id.0
+        ensures unread { OnErr result ((IsErrOf result unread.Missing → ⊥) → Brings D.Disk A.Devices C.Admission self.old self.new id.0
             (λ m. is_persistent_key (map.get m.keys id.0) ≡ true)) }
         ensures disk { IsErrOf result unread.Disk → Rose (D.faults self.old.file.cells.disk) (D.faults self.new.file.cells.disk) }
         ensures corrupt { IsErrOf result unread.Corrupt → is_some (D.contents self.new.file.cells.disk) ≡ false }
@@ -93,7 +93,7 @@ impl<D: Disk, A: Devices, C: Admission> Store<D, A, C> {
 
     // Loads the key of a cell, which no slot has, into a slot. Where it can't be, the slot is given up.
     fn load(&mut self, id: KeyId, cell: usize) -> Result<u32, Unread>
-        requires stands { Stands D.contents D.may_leave D.moment D.left_since D.faults A.keys A.faults A.locations C.labels self.old }
+        requires stands { Stands D.Disk A.Devices C.Admission self.old }
         requires size { D.size self.old.file.cells.disk ≡ 557120 }
         requires clear { IsClear self.old.buffer }
         requires unknown { NoKey id.0 self.old.slots.table.slots }
@@ -102,10 +102,10 @@ impl<D: Disk, A: Devices, C: Admission> Store<D, A, C> {
         ensures clear { IsClear self.new.buffer }
         ensures within { IfOk result (λ i. i < 384) }
         ensures full { IfOk result (λ i. (slot_at self.new.slots.table.slots i).state ≡ Full) }
-        ensures found { IfOk result (λ i. Brings D.contents D.may_leave D.moment D.left_since D.faults A.keys A.faults A.locations C.labels self.old self.new id.0
+        ensures found { IfOk result (λ i. Brings D.Disk A.Devices C.Admission self.old self.new id.0
             (IsBrought id.0 (slot_at self.new.slots.table.slots i))) }
         ensures missing { IsErrOf result unread.Missing → ⊥ }
-        ensures unread { OnErr result ((IsErrOf result unread.Missing → ⊥) → Brings D.contents D.may_leave D.moment D.left_since D.faults A.keys A.faults A.locations C.labels self.old self.new id.0
+        ensures unread { OnErr result ((IsErrOf result unread.Missing → ⊥) → Brings D.Disk A.Devices C.Admission self.old self.new id.0
             (λ m. is_persistent_key (map.get m.keys id.0) ≡ true)) }
         ensures disk { IsErrOf result unread.Disk → Rose (D.faults self.old.file.cells.disk) (D.faults self.new.file.cells.disk) }
         ensures corrupt { IsErrOf result unread.Corrupt → is_some (D.contents self.new.file.cells.disk) ≡ false }

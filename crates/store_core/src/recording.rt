@@ -27,7 +27,7 @@ impl<D: Disk, A: Devices, C: Admission> Store<D, A, C> {
         bytes: usize,
     ) -> Result<Attributes, Status>
         requires { caller ≤ 16 }
-        ensures value { HoldsWithin D.contents D.may_leave D.moment D.left_since D.faults A.keys A.faults A.locations C.labels self.now
+        ensures value { HoldsWithin D.Disk A.Devices C.Admission self.now
             (λ m. result ≡ recorded_of m caller attributes.now bytes) }
         ensures short { OnOk result (bytes ≤ 1024) }
     {
@@ -49,9 +49,9 @@ impl<D: Disk, A: Devices, C: Admission> Store<D, A, C> {
     // Whether there is room for a caller's key with these attributes.
     fn check_room(&self, caller: u8, attributes: &Attributes) -> Result<(), Status>
         requires { caller ≤ 16 }
-        ensures free { OnOk result (HoldsWithin D.contents D.may_leave D.moment D.left_since D.faults A.keys A.faults A.locations C.labels self.now
+        ensures free { OnOk result (HoldsWithin D.Disk A.Devices C.Admission self.now
             (λ m. first_row (room_for_key_rows m caller attributes.now) ≡ None)) }
-        ensures refused { IfErr result (λ status. HoldsWithin D.contents D.may_leave D.moment D.left_since D.faults A.keys A.faults A.locations C.labels self.now
+        ensures refused { IfErr result (λ status. HoldsWithin D.Disk A.Devices C.Admission self.now
             (λ m. first_row (room_for_key_rows m caller attributes.now) ≡ Some status)) }
     {
         if attributes.lifetime.0 % 256 == 0 {

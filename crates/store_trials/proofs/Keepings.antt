@@ -25,58 +25,60 @@ use Rattle.store_core.specs.Opaque.{Makes}
 use Rattle.store_core.proofs.Histories.{quiet_leaves}
 use Rattle.store_trials.specs.Keeping.{GivesLease, Keeps, StaysOut, first_has}
 use Rattle.store_trials.proofs.Outs.{are_one, hold, lease_beside, filling_alone, first_gains, is_out}
+use Rattle.disk_face.specs.declared.Disk as Disk
+use Rattle.driver_dispatch.specs.declared.devices.Devices as Devices
+use Rattle.admission.specs.declared.rules.Admission as Admission
 
-module _ {D A C : Type 0} (told : D → Option (List ℕ)) (may_leave : D → List ℕ → Type 0) (moment : D → ℕ) (left_since : D → ℕ → List ℕ → Type 0)
-    (faults : D → ℕ) (held : A → Option HeldKeys) (hard : A → ℕ) (locations : A → List ℕ) (labels : C → List Label) (size : D → ℕ) where
+module _ {D A C : Type 0} (disks : Disk.Ghosts D) (elements : Devices.Ghosts A) (admits : Admission.Ghosts C) where
   abbrev KeepsHere : Store D A C → List Pairs → Type 0
-  KeepsHere = Keeps told may_leave moment left_since faults held hard locations labels size
+  KeepsHere = Keeps disks elements admits
 
   -- the store stands for something
-  pub somehow : (store : Store D A C) (all : List Pairs) → KeepsHere store all → Stands told may_leave moment left_since faults held hard locations labels store
+  pub somehow : (store : Store D A C) (all : List Pairs) → KeepsHere store all → Stands disks elements admits store
   somehow store all k = (k.start, k.opening, k.h, all, k.stands)
 
   -- and a pair is out of it
-  pub out : (store : Store D A C) (all less : List Pairs) (p : ℕ × ℕ) → Gains less all p → KeepsHere store all → HasOut told may_leave moment left_since faults held hard locations labels store p
+  pub out : (store : Store D A C) (all less : List Pairs) (p : ℕ × ℕ) → Gains less all p → KeepsHere store all → HasOut disks elements admits store p
   out store all less p gains k = (k.start, k.opening, k.h, all, k.stands, is_out less all p gains)
 
-  pub out_alone : (store : Store D A C) (all less : List Pairs) (p : ℕ × ℕ) → Gains less all p → KeepsHere store all → HasOutBeside told may_leave moment left_since faults held hard locations labels store p None
+  pub out_alone : (store : Store D A C) (all less : List Pairs) (p : ℕ × ℕ) → Gains less all p → KeepsHere store all → HasOutBeside disks elements admits store p None
   out_alone store all less p gains k = (k.start, k.opening, k.h, all, k.stands, is_out less all p gains, tt)
 
   -- TURNS WITHOUT RANK
 
   module _ (old new : Store D A C) (file : new.file ≡ old.file) (buffer : new.buffer ≡ old.buffer) where
-    pub given : (all more : List Pairs) (p : ℕ × ℕ) → Gives told may_leave moment left_since faults held hard locations labels old new p → Gains all more p → AreHoldings more → KeepsHere old all → KeepsHere new more
+    pub given : (all more : List Pairs) (p : ℕ × ℕ) → Gives disks elements admits old new p → Gains all more p → AreHoldings more → KeepsHere old all → KeepsHere new more
     given all more p gives gains law k = record {
       start = k.start;
       opening = k.opening;
       h = k.h;
       stands = gives k.start k.opening k.h all more k.stands gains law;
-      sized = ap (λ (f : KeyFile D). size f.cells.disk) file ∙ k.sized;
+      sized = ap (λ (f : KeyFile D). disks.size f.cells.disk) file ∙ k.sized;
       clear = subst (λ (b : Buffer). IsClear b) (sym buffer) k.clear;
     }
 
-    pub taken : (all less : List Pairs) (p : ℕ × ℕ) → Takes told may_leave moment left_since faults held hard locations labels old new p → Gains less all p → AreHoldings less → KeepsHere old all → KeepsHere new less
+    pub taken : (all less : List Pairs) (p : ℕ × ℕ) → Takes disks elements admits old new p → Gains less all p → AreHoldings less → KeepsHere old all → KeepsHere new less
     taken all less p takes gains law k = record {
       start = k.start;
       opening = k.opening;
       h = k.h;
       stands = takes k.start k.opening k.h all less k.stands gains law;
-      sized = ap (λ (f : KeyFile D). size f.cells.disk) file ∙ k.sized;
+      sized = ap (λ (f : KeyFile D). disks.size f.cells.disk) file ∙ k.sized;
       clear = subst (λ (b : Buffer). IsClear b) (sym buffer) k.clear;
     }
 
     -- they count no turn
-    pub few_given : (all more : List Pairs) (p : ℕ × ℕ) → Gives told may_leave moment left_since faults held hard locations labels old new p → Gains all more p → AreHoldings more → KeepsHere old all → old.ranked < 2 ^ 60 → new.ranked < 2 ^ 60
+    pub few_given : (all more : List Pairs) (p : ℕ × ℕ) → Gives disks elements admits old new p → Gains all more p → AreHoldings more → KeepsHere old all → old.ranked < 2 ^ 60 → new.ranked < 2 ^ 60
     few_given all more p gives gains law k few =
         let n = gives k.start k.opening k.h all more k.stands gains law in
         let same : new.ranked ≡ old.ranked = n.holds.ranked ∙ sym k.stands.holds.ranked in
         omega (arith, same, few)
 
     -- a slot is reserved for the first caller, who has nothing out
-    pub reserved : (slot : ℕ) → Gives told may_leave moment left_since faults held hard locations labels old new (slot, 0) → KeepsHere old (first_has []) → KeepsHere new (first_has ((slot, 0) ∷ []))
+    pub reserved : (slot : ℕ) → Gives disks elements admits old new (slot, 0) → KeepsHere old (first_has []) → KeepsHere new (first_has ((slot, 0) ∷ []))
     reserved slot gives k = let p : ℕ × ℕ = (slot, 0) in given (first_has []) (first_has (p ∷ [])) p gives (first_gains [] p) (are_one (p ∷ []) (filling_alone slot)) k
 
-    pub few_reserved : (slot : ℕ) → Gives told may_leave moment left_since faults held hard locations labels old new (slot, 0) → KeepsHere old (first_has []) → old.ranked < 2 ^ 60 → new.ranked < 2 ^ 60
+    pub few_reserved : (slot : ℕ) → Gives disks elements admits old new (slot, 0) → KeepsHere old (first_has []) → old.ranked < 2 ^ 60 → new.ranked < 2 ^ 60
     few_reserved slot gives k few = let p : ℕ × ℕ = (slot, 0) in few_given (first_has []) (first_has (p ∷ [])) p gives (first_gains [] p) (are_one (p ∷ []) (filling_alone slot)) k few
 
   -- RANKED TURNS
@@ -84,16 +86,16 @@ module _ {D A C : Type 0} (told : D → Option (List ℕ)) (may_leave : D → Li
   module _ (old new : Store D A C) (all : List Pairs) where
     -- the entry of a caller's call, as the turn leaves it
     abbrev entry : ℕ → Request → FaultMark → Entry
-    entry caller request mark = record { caller = caller; call = request; mark = mark; done = moment new.file.cells.disk; faults = faults new.file.cells.disk; hard = hard new.devices }
+    entry caller request mark = record { caller = caller; call = request; mark = mark; done = disks.moment new.file.cells.disk; faults = disks.faults new.file.cells.disk; hard = elements.faults new.devices }
 
-    is_entry : (caller : ℕ) (request : Request) (mark : FaultMark) → 1 ≤ caller → caller ≤ 16 → IsEntry told may_leave moment left_since faults held hard locations labels new mark (entry caller request mark)
+    is_entry : (caller : ℕ) (request : Request) (mark : FaultMark) → 1 ≤ caller → caller ≤ 16 → IsEntry disks elements admits new mark (entry caller request mark)
     is_entry caller request mark first last = record { from_first = first; to_last = last; marked = refl; done = refl; disk_faults = refl; device_faults = refl }
 
-    module _ (sized : size new.file.cells.disk ≡ 557120) (clear : IsClear new.buffer) where
-      pub added : (P : model.Store → Type 0) → AddsAs told may_leave moment left_since faults held hard locations labels old new P → KeepsHere old all → KeepsHere new all
+    module _ (sized : disks.size new.file.cells.disk ≡ 557120) (clear : IsClear new.buffer) where
+      pub added : (P : model.Store → Type 0) → AddsAs disks elements admits old new P → KeepsHere old all → KeepsHere new all
       added P adds k =
           let e = entry 1 (OnStore (GetAttributes 0)) Plain in
-          let leaves = quiet_leaves told may_leave moment left_since faults held hard locations labels old k.start k.h e refl in
+          let leaves = quiet_leaves disks elements admits old k.start k.h e refl in
           record {
             start = k.start;
             opening = k.opening;
@@ -103,10 +105,10 @@ module _ {D A C : Type 0} (told : D → Option (List ℕ)) (may_leave : D → Li
             clear = clear;
           }
 
-      pub stepped : Adds told may_leave moment left_since faults held hard locations labels old new → KeepsHere old all → KeepsHere new all
+      pub stepped : Adds disks elements admits old new → KeepsHere old all → KeepsHere new all
       stepped adds k =
           let e = entry 1 (OnStore (GetAttributes 0)) Plain in
-          let leaves = quiet_leaves told may_leave moment left_since faults held hard locations labels old k.start k.h e refl in
+          let leaves = quiet_leaves disks elements admits old k.start k.h e refl in
           record {
             start = k.start;
             opening = k.opening;
@@ -116,7 +118,7 @@ module _ {D A C : Type 0} (told : D → Option (List ℕ)) (may_leave : D → Li
             clear = clear;
           }
 
-      pub read : (id : ℕ) (mark : FaultMark) (P : model.Store → Type 0) → Reads told may_leave moment left_since faults held hard locations labels old new id mark P → KeepsHere old all → KeepsHere new all
+      pub read : (id : ℕ) (mark : FaultMark) (P : model.Store → Type 0) → Reads disks elements admits old new id mark P → KeepsHere old all → KeepsHere new all
       read id mark P reads k =
           let e = entry 1 (OnStore (GetAttributes id)) mark in
           record {
@@ -128,7 +130,7 @@ module _ {D A C : Type 0} (told : D → Option (List ℕ)) (may_leave : D → Li
             clear = clear;
           }
 
-      pub read_and_lent : (more : List Pairs) (id : ℕ) (p : ℕ × ℕ) (P : model.Store → Type 0) → ReadsAndGives told may_leave moment left_since faults held hard locations labels old new id p P →
+      pub read_and_lent : (more : List Pairs) (id : ℕ) (p : ℕ × ℕ) (P : model.Store → Type 0) → ReadsAndGives disks elements admits old new id p P →
           Gains all more p → AreHoldings more → KeepsHere old all → KeepsHere new more
       read_and_lent more id p P reads gains law k =
           let e = entry 1 (OnStore (Export id 0)) Plain in
@@ -141,7 +143,7 @@ module _ {D A C : Type 0} (told : D → Option (List ℕ)) (may_leave : D → Li
             clear = clear;
           }
 
-      pub destroyed : (id : ℕ) (mark : FaultMark) (P : model.Store → Type 0) → Destroys told may_leave moment left_since faults held hard locations labels old new id mark P → KeepsHere old all → KeepsHere new all
+      pub destroyed : (id : ℕ) (mark : FaultMark) (P : model.Store → Type 0) → Destroys disks elements admits old new id mark P → KeepsHere old all → KeepsHere new all
       destroyed id mark P destroys k =
           let e = entry 1 (OnStore (Destroy id)) mark in
           record {
@@ -153,7 +155,7 @@ module _ {D A C : Type 0} (told : D → Option (List ℕ)) (may_leave : D → Li
             clear = clear;
           }
 
-      pub computed : (call : Call) (mark : FaultMark) (P : model.Store → Type 0) → Makes told may_leave moment left_since faults held hard locations labels old new call mark P → KeepsHere old all → KeepsHere new all
+      pub computed : (call : Call) (mark : FaultMark) (P : model.Store → Type 0) → Makes disks elements admits old new call mark P → KeepsHere old all → KeepsHere new all
       computed call mark P makes k =
           let e = entry 1 (OnStore call) mark in
           record {
@@ -167,7 +169,7 @@ module _ {D A C : Type 0} (told : D → Option (List ℕ)) (may_leave : D → Li
 
       -- an import is a creation
       imports : (start : Service) (h : List Entry) (caller : ℕ) (a : Attributes) (bytes : List ℕ) (mark : FaultMark) →
-          IsCreating told may_leave moment left_since faults held hard locations labels old start h (entry caller (OnStore (Import a bytes)) mark) caller (RecordsStated None caller a (length bytes)) (λ m. bytes)
+          IsCreating disks elements admits old start h (entry caller (OnStore (Import a bytes)) mark) caller (RecordsStated None caller a (length bytes)) (λ m. bytes)
       imports start h caller a bytes mark = record {
         by = refl;
         keeps = refl;
@@ -176,7 +178,7 @@ module _ {D A C : Type 0} (told : D → Option (List ℕ)) (may_leave : D → Li
       }
 
       pub made : (less : List Pairs) (caller : ℕ) (a : Attributes) (bytes : List ℕ) (p : ℕ × ℕ) (mark : FaultMark) (P : model.Store → Type 0) → 1 ≤ caller → caller ≤ 16 →
-          Creates told may_leave moment left_since faults held hard locations labels old new caller None (RecordsStated None caller a (length bytes)) (λ m. bytes) p mark P →
+          Creates disks elements admits old new caller None (RecordsStated None caller a (length bytes)) (λ m. bytes) p mark P →
           Gains less all p → AreHoldings less → KeepsHere old all → KeepsHere new less
       made less caller a bytes p mark P first last creates gains law k =
           let e = entry caller (OnStore (Import a bytes)) mark in
@@ -190,7 +192,7 @@ module _ {D A C : Type 0} (told : D → Option (List ℕ)) (may_leave : D → Li
           }
 
       pub made_counted : (less : List Pairs) (caller : ℕ) (a : Attributes) (bytes : List ℕ) (p : ℕ × ℕ) (mark : FaultMark) (P : model.Store → Type 0) → 1 ≤ caller → caller ≤ 16 →
-          Creates told may_leave moment left_since faults held hard locations labels old new caller None (RecordsStated None caller a (length bytes)) (λ m. bytes) p mark P →
+          Creates disks elements admits old new caller None (RecordsStated None caller a (length bytes)) (λ m. bytes) p mark P →
           Gains less all p → AreHoldings less → KeepsHere old all → new.ranked ≡ old.ranked + 1
       made_counted less caller a bytes p mark P first last creates gains law k =
           let e = entry caller (OnStore (Import a bytes)) mark in
@@ -200,48 +202,48 @@ module _ {D A C : Type 0} (told : D → Option (List ℕ)) (may_leave : D → Li
       -- WHATEVER A CALL ANSWERED
 
       pub made_or_not : {R E : Type 0} (result : Result R E) (less : List Pairs) (caller : ℕ) (a : Attributes) (bytes : List ℕ) (p : ℕ × ℕ) (mark : E → FaultMark) (P : R → model.Store → Type 0) (Q : E → model.Store → Type 0) → 1 ≤ caller → caller ≤ 16 →
-          IfOk result (λ id. Creates told may_leave moment left_since faults held hard locations labels old new caller None (RecordsStated None caller a (length bytes)) (λ m. bytes) p Plain (P id)) →
-          IfErr result (λ why. Creates told may_leave moment left_since faults held hard locations labels old new caller None (RecordsStated None caller a (length bytes)) (λ m. bytes) p (mark why) (Q why)) →
+          IfOk result (λ id. Creates disks elements admits old new caller None (RecordsStated None caller a (length bytes)) (λ m. bytes) p Plain (P id)) →
+          IfErr result (λ why. Creates disks elements admits old new caller None (RecordsStated None caller a (length bytes)) (λ m. bytes) p (mark why) (Q why)) →
           Gains less all p → AreHoldings less → KeepsHere old all → KeepsHere new less
       made_or_not (Ok id) less caller a bytes p mark P Q first last done not gains law k = made less caller a bytes p Plain (P id) first last done gains law k
       made_or_not (Err why) less caller a bytes p mark P Q first last done not gains law k = made less caller a bytes p (mark why) (Q why) first last not gains law k
 
       pub counted_or_not : {R E : Type 0} (result : Result R E) (less : List Pairs) (caller : ℕ) (a : Attributes) (bytes : List ℕ) (p : ℕ × ℕ) (mark : E → FaultMark) (P : R → model.Store → Type 0) (Q : E → model.Store → Type 0) → 1 ≤ caller → caller ≤ 16 →
-          IfOk result (λ id. Creates told may_leave moment left_since faults held hard locations labels old new caller None (RecordsStated None caller a (length bytes)) (λ m. bytes) p Plain (P id)) →
-          IfErr result (λ why. Creates told may_leave moment left_since faults held hard locations labels old new caller None (RecordsStated None caller a (length bytes)) (λ m. bytes) p (mark why) (Q why)) →
+          IfOk result (λ id. Creates disks elements admits old new caller None (RecordsStated None caller a (length bytes)) (λ m. bytes) p Plain (P id)) →
+          IfErr result (λ why. Creates disks elements admits old new caller None (RecordsStated None caller a (length bytes)) (λ m. bytes) p (mark why) (Q why)) →
           Gains less all p → AreHoldings less → KeepsHere old all → new.ranked ≡ old.ranked + 1
       counted_or_not (Ok id) less caller a bytes p mark P Q first last done not gains law k = made_counted less caller a bytes p Plain (P id) first last done gains law k
       counted_or_not (Err why) less caller a bytes p mark P Q first last done not gains law k = made_counted less caller a bytes p (mark why) (Q why) first last not gains law k
 
       pub destroyed_or_not : {R E : Type 0} (result : Result R E) (id : ℕ) (mark : E → FaultMark) (P : model.Store → Type 0) (Q : E → model.Store → Type 0) →
-          OnOk result (Destroys told may_leave moment left_since faults held hard locations labels old new id Plain P) →
-          IfErr result (λ why. Destroys told may_leave moment left_since faults held hard locations labels old new id (mark why) (Q why)) → KeepsHere old all → KeepsHere new all
+          OnOk result (Destroys disks elements admits old new id Plain P) →
+          IfErr result (λ why. Destroys disks elements admits old new id (mark why) (Q why)) → KeepsHere old all → KeepsHere new all
       destroyed_or_not (Ok _) id mark P Q done not k = destroyed id Plain P done k
       destroyed_or_not (Err why) id mark P Q done not k = destroyed id (mark why) (Q why) not k
 
       pub read_or_not : {R E : Type 0} (result : Result R E) (id : ℕ) (mark : E → FaultMark) (P : R → model.Store → Type 0) (Q : E → model.Store → Type 0) →
-          IfOk result (λ r. Reads told may_leave moment left_since faults held hard locations labels old new id Plain (P r)) →
-          IfErr result (λ why. Reads told may_leave moment left_since faults held hard locations labels old new id (mark why) (Q why)) → KeepsHere old all → KeepsHere new all
+          IfOk result (λ r. Reads disks elements admits old new id Plain (P r)) →
+          IfErr result (λ why. Reads disks elements admits old new id (mark why) (Q why)) → KeepsHere old all → KeepsHere new all
       read_or_not (Ok r) id mark P Q done not k = read id Plain (P r) done k
       read_or_not (Err why) id mark P Q done not k = read id (mark why) (Q why) not k
 
       pub added_or_not : {R E : Type 0} (result : Result R E) (P : model.Store → Type 0) (Is : E → Type 0) (Q : E → model.Store → Type 0) →
-          OnOk result (AddsAs told may_leave moment left_since faults held hard locations labels old new P) →
-          IfErr result (λ why. Is why × AddsAs told may_leave moment left_since faults held hard locations labels old new (Q why)) → KeepsHere old all → KeepsHere new all
+          OnOk result (AddsAs disks elements admits old new P) →
+          IfErr result (λ why. Is why × AddsAs disks elements admits old new (Q why)) → KeepsHere old all → KeepsHere new all
       added_or_not (Ok _) P Is Q done not k = added P done k
       added_or_not (Err why) P Is Q done not k = added (Q why) not.1 k
 
   -- UNDER LEASES
 
-  module _ (old new : Store D A C) (sized : size new.file.cells.disk ≡ 557120) (clear : IsClear new.buffer) where
+  module _ (old new : Store D A C) (sized : disks.size new.file.cells.disk ≡ 557120) (clear : IsClear new.buffer) where
     pub lends : {E : Type 0} (result : Result Reading E) (id : ℕ) (P : Reading → model.Store → Type 0) →
-        IfOk result (λ l. ReadsAndGives told may_leave moment left_since faults held hard locations labels old new id (l.slot, l.creation + 1) (P l)) → IfOk result (λ l. GivesLease told may_leave moment left_since faults held hard locations labels size old new 4 (l.slot, l.creation + 1))
+        IfOk result (λ l. ReadsAndGives disks elements admits old new id (l.slot, l.creation + 1) (P l)) → IfOk result (λ l. GivesLease disks elements admits old new 4 (l.slot, l.creation + 1))
     lends (Ok l) id P reads = λ own leases k.
         let p : ℕ × ℕ = (l.slot, l.creation + 1) in
         read_and_lent old new (first_has own) sized clear (first_has (p ∷ own)) id p (P l) reads (first_gains own p) (hold (p ∷ own) 5 (omega arith) (lease_beside own 4 l.slot l.creation leases)) k
     lends (Err why) id P reads = tt
 
     pub lends_not : {R X : Type 0} (result : Result R (Status × X)) (id : ℕ) (rows : Option Key → Option Status) →
-        IfErr result (λ r. Reads told may_leave moment left_since faults held hard locations labels old new id (mark_of r.0) (IsRefused rows id r.0)) → IfErr result (λ r. StaysOut told may_leave moment left_since faults held hard locations labels size old new 4)
+        IfErr result (λ r. Reads disks elements admits old new id (mark_of r.0) (IsRefused rows id r.0)) → IfErr result (λ r. StaysOut disks elements admits old new 4)
     lends_not (Ok l) id rows reads = tt
     lends_not (Err r) id rows reads = λ own leases k. read old new (first_has own) sized clear id (mark_of r.0) (IsRefused rows id r.0) reads k

@@ -8,6 +8,9 @@ use Rattle.store_core.specs.declared.store.Store.{Store}
 use Rattle.store_core.specs.Represents.{Opening, StandsFor}
 use Rattle.store_model.specs.Handles.{Service}
 use Rattle.store_model.specs.Replay.{Entry}
+use Rattle.disk_face.specs.declared.Disk as Disk
+use Rattle.driver_dispatch.specs.declared.devices.Devices as Devices
+use Rattle.admission.specs.declared.rules.Admission as Admission
 
 -- nothing is out of the store
 abbrev pub none_out : List Pairs
@@ -27,20 +30,18 @@ pub record AreLeases (own : Pairs) (most : ℕ) : Type 0 where
   pub fillings : count_by (λ p. p.1 == 0) own ≡ 0
 
 -- A store stands for some history, with these pairs out; its disk has its full length, and its buffer is clear.
-pub record Keeps {D A C : Type 0} (told : D → Option (List ℕ)) (may_leave : D → List ℕ → Type 0) (moment : D → ℕ) (left_since : D → ℕ → List ℕ → Type 0)
-    (faults : D → ℕ) (held : A → Option HeldKeys) (hard : A → ℕ) (locations : A → List ℕ) (labels : C → List Label) (size : D → ℕ)
+pub record Keeps {D A C : Type 0} (disks : Disk.Ghosts D) (elements : Devices.Ghosts A) (admits : Admission.Ghosts C)
     (store : Store D A C) (all : List Pairs) : Type 0 where
   pub start : Service
   pub opening : Opening
   pub h : List Entry
-  pub stands : StandsFor told may_leave moment left_since faults held hard locations labels store start opening h all
-  pub sized : size store.file.cells.disk ≡ 557120
+  pub stands : StandsFor disks elements admits store start opening h all
+  pub sized : disks.size store.file.cells.disk ≡ 557120
   pub clear : IsClear store.buffer
 
-module _ {D A C : Type 0} (told : D → Option (List ℕ)) (may_leave : D → List ℕ → Type 0) (moment : D → ℕ) (left_since : D → ℕ → List ℕ → Type 0)
-    (faults : D → ℕ) (held : A → Option HeldKeys) (hard : A → ℕ) (locations : A → List ℕ) (labels : C → List Label) (size : D → ℕ) where
+module _ {D A C : Type 0} (disks : Disk.Ghosts D) (elements : Devices.Ghosts A) (admits : Admission.Ghosts C) where
   abbrev KeepsHere : Store D A C → List Pairs → Type 0
-  KeepsHere = Keeps told may_leave moment left_since faults held hard locations labels size
+  KeepsHere = Keeps disks elements admits
 
   -- it does so with some leases of the first caller out, so many at most, and perhaps with this one further
   abbrev pub KeepsLeases : Store D A C → (most : ℕ) → Type 0

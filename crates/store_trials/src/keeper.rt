@@ -33,7 +33,7 @@ impl<D: Disk, A: Devices, C: Admission> Model for Keeper<D, A, C> {
 
     ghost view = { λ k. k.store };
 
-    ghost invariant = { λ k. Keeps D.contents D.may_leave D.moment D.left_since D.faults A.keys A.faults A.locations C.labels D.size k.store none_out
+    ghost invariant = { λ k. Keeps D.Disk A.Devices C.Admission k.store none_out
         × IfSome k.spare (λ spare. IsClear spare) };
 }
 

@@ -29,11 +29,11 @@ pub fn look<D: Disk, A: Devices, C: Admission>(
     id: KeyId,
     spare: Secret,
 ) -> Result<Lease, (Status, Secret)>
-    requires keeps { KeepsLeases D.contents D.may_leave D.moment D.left_since D.faults A.keys A.faults A.locations C.labels D.size store.old 4 }
+    requires keeps { KeepsLeases D.Disk A.Devices C.Admission store.old 4 }
     requires few { store.old.ranked < 2 ^ 60 }
     requires clear { IsClear spare }
-    ensures lent { IfOk result (λ lease. GivesLease D.contents D.may_leave D.moment D.left_since D.faults A.keys A.faults A.locations C.labels D.size store.old store.new 4 (lease.slot, lease.creation + 1)) }
-    ensures refused { IfErr result (λ refused. StaysOut D.contents D.may_leave D.moment D.left_since D.faults A.keys A.faults A.locations C.labels D.size store.old store.new 4) }
+    ensures lent { IfOk result (λ lease. GivesLease D.Disk A.Devices C.Admission store.old store.new 4 (lease.slot, lease.creation + 1)) }
+    ensures refused { IfErr result (λ refused. StaysOut D.Disk A.Devices C.Admission store.old store.new 4) }
     ensures spare { IfErr result (λ refused. IsClear refused.1) }
 {
     store.look(id, KeyUse::Export, spare)
@@ -45,8 +45,8 @@ pub fn import<D: Disk, A: Devices, C: Admission>(
     attributes: &Attributes,
     bytes: &[u8],
 ) -> Option<u32>
-    requires keeps { KeepsLeases D.contents D.may_leave D.moment D.left_since D.faults A.keys A.faults A.locations C.labels D.size store.old 5 }
-    ensures stays { StaysOut D.contents D.may_leave D.moment D.left_since D.faults A.keys A.faults A.locations C.labels D.size store.old store.new 5 }
+    requires keeps { KeepsLeases D.Disk A.Devices C.Admission store.old 5 }
+    ensures stays { StaysOut D.Disk A.Devices C.Admission store.old store.new 5 }
 {
     if is_over(store) {
         return None;
@@ -60,8 +60,8 @@ pub fn import<D: Disk, A: Devices, C: Admission>(
 
 /// Destroys a key, unless there were too many turns. Whether it did.
 pub fn destroy<D: Disk, A: Devices, C: Admission>(store: &mut Store<D, A, C>, id: KeyId) -> bool
-    requires keeps { KeepsLeases D.contents D.may_leave D.moment D.left_since D.faults A.keys A.faults A.locations C.labels D.size store.old 5 }
-    ensures stays { StaysOut D.contents D.may_leave D.moment D.left_since D.faults A.keys A.faults A.locations C.labels D.size store.old store.new 5 }
+    requires keeps { KeepsLeases D.Disk A.Devices C.Admission store.old 5 }
+    ensures stays { StaysOut D.Disk A.Devices C.Admission store.old store.new 5 }
 {
     if is_over(store) {
         return false;
@@ -74,8 +74,8 @@ pub fn step<D: Disk, A: Devices, C: Admission>(
     store: &mut Store<D, A, C>,
     lease: &Lease,
 ) -> Option<Result<(), Status>>
-    requires keeps { KeepsBeside D.contents D.may_leave D.moment D.left_since D.faults A.keys A.faults A.locations C.labels D.size store.old 4 (lease.now.slot, lease.now.creation + 1) }
-    ensures stays { KeepsLease D.contents D.may_leave D.moment D.left_since D.faults A.keys A.faults A.locations C.labels D.size store.old store.new 4 (lease.now.slot, lease.now.creation + 1) }
+    requires keeps { KeepsBeside D.Disk A.Devices C.Admission store.old 4 (lease.now.slot, lease.now.creation + 1) }
+    ensures stays { KeepsLease D.Disk A.Devices C.Admission store.old store.new 4 (lease.now.slot, lease.now.creation + 1) }
 {
     if is_over(store) {
         return None;

@@ -33,8 +33,8 @@ fn read_under<D: Disk, A: Devices, C: Admission>(
     seen: &mut Seen,
 )
     requires few { out ≤ 4 }
-    requires keeps { KeepsLeases D.contents D.may_leave D.moment D.left_since D.faults A.keys A.faults A.locations C.labels D.size store.old out }
-    ensures stays { StaysOut D.contents D.may_leave D.moment D.left_since D.faults A.keys A.faults A.locations C.labels D.size store.old store.new out }
+    requires keeps { KeepsLeases D.Disk A.Devices C.Admission store.old out }
+    ensures stays { StaysOut D.Disk A.Devices C.Admission store.old store.new out }
 {
     if out == 4 {
         destroy(store, key.id);

@@ -1,6 +1,6 @@
 use Rattle.std.proofs.Common.{◌∙◌, ◌<◌, ap, sym, subst, arith, get_or, length}
 use Rattle.callers.specs.Ready.{IsReady}
-use Rattle.callers.specs.Worlds.{world}
+use Rattle.shared_store.specs.Shared.{world}
 use Rattle.callers.specs.Retired.{MakesNoCall}
 use Rattle.caller_service.proofs.Ended.{one_retired}
 use Rattle.caller_service.proofs.Lists.{get_same}
@@ -16,14 +16,14 @@ loop-caller-init g c = record {
 pub retire-requires-clause-ready : goal.retire-requires-clause-ready
 retire-requires-clause-ready g c κs within =
     let i = c.loop-caller.invariant in let at = c.loop-caller.caller-index in
-    let w = world g.D.Disk.contents g.D.Disk.moment g.D.Disk.faults g.A.Devices.keys g.A.Devices.faults g.A.Devices.locations g.C.Admission.labels c.args.shared.now.lock.table.shared.table_id c.args.shared.now.lock.table.shared.key.value.value.store.opened in
+    let w = world c.args.shared.now in
     subst (IsReady w 0) (sym (i.rest at c.caller-item.result (omega arith))) (c.requires.ready at c.caller-item.result (let lt = c.loop-caller-test.true in let n = i.as_many in omega arith))
 
 pub loop-caller-preserved : goal.loop-caller-preserved
 loop-caller-preserved g c =
     let i = c.loop-caller.invariant in let at = c.loop-caller.caller-index in
     let lt : at < length c.loop-caller.caller-items = (let l = c.loop-caller-test.true in let n = ap length c.deref_mut-caller-items.ensures.value in let m = i.as_many in omega arith) in
-    one_retired c.args.shared.now.lock.table.shared.table_id c.args.shared.now.lock.table.shared.key.value.value.store.opened at c.args.callers.now.items c.loop-caller.caller-items c.retire.new.self i lt
+    one_retired (world c.args.shared.now) at c.args.callers.now.items c.loop-caller.caller-items c.retire.new.self i lt
     (λ d. record {
       retired = c.retire.ensures.retired;
       quiet = subst (λ x. MakesNoCall x.pass.me.0 c.retire.new.self.pass.me.0)

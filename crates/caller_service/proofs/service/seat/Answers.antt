@@ -1,7 +1,7 @@
 use Rattle.std.proofs.Common.{◌∙◌, ◌++◌, ◌∷◌, [], length, sym, ap, arith, length-append, append_assoc}
 use Rattle.std.specs.Option.{option_to_list}
 use Rattle.std.proofs.Common.{get_or}
-use Rattle.callers.specs.Worlds.{world}
+use Rattle.shared_store.specs.Shared.{world}
 use Rattle.caller_service.specs.Rooms.{IsRoom}
 use Rattle.caller_service.proofs.Lists.{all_front, get_mid}
 use Rattle.caller_service.proofs.Ended.{new_each}
@@ -14,7 +14,7 @@ loop-pass-preserved g c =
     let yielded = length-append c.loop-pass.yielded (c.in-Some.pass ∷ []) in
     let pushed = c.push_reserved.ensures.items in
     let passes = i.passes ∙ ap (λ l. c.loop-pass.yielded ++ l) c.in-Some.ensures.steps.0 in
-    let w = world g.D.Disk.contents g.D.Disk.moment g.D.Disk.faults g.A.Devices.keys g.A.Devices.faults g.A.Devices.locations g.C.Admission.labels c.args.shared.now.lock.table.shared.table_id c.args.shared.now.lock.table.shared.key.value.value.store.opened in
+    let w = world c.args.shared.now in
     let at = length c.loop-pass.yielded in
     let there = (c.requires.passes.each at c.in-Some.pass (let a = ap length passes in let b = length-append c.loop-pass.yielded (c.in-Some.pass ∷ c.next.new.self.rest.items) in omega arith)).1 in
     let fresh = ap (λ p. p.me) (sym (ap (λ l. get_or l at c.in-Some.pass) passes ∙ get_mid c.loop-pass.yielded c.next.new.self.rest.items c.in-Some.pass c.in-Some.pass)) ∙ there in

@@ -1,6 +1,6 @@
 use Rattle.std.proofs.Common.{◌≡◌, ◌≤◌, ◌<◌, ◌+◌, ◌++◌, ℕ, All, length, get_or}
 use Rattle.std.specs.Prelude.{vec_capacity}
-use Rattle.callers.specs.Worlds.{world}
+use Rattle.shared_store.specs.Shared.{world}
 use Rattle.callers.specs.declared.caller.Caller.{Caller}
 use Rattle.caller_service.specs.Rooms.{IsRoom}
 use Rattle.caller_service.specs.Staff.{IsNewCaller}
@@ -13,6 +13,6 @@ invariant-loop-pass g l = record {
   number : l.number ≡ length l.yielded;
   passes : l.fn.passes.items ≡ l.yielded ++ l.pass-iterator.rest.items;
   callers : length l.callers.items ≡ length l.yielded;
-  each : (k : ℕ) (d : Caller _ _ _) → k < length l.callers.items → IsNewCaller (world g.D.Disk.contents g.D.Disk.moment g.D.Disk.faults g.A.Devices.keys g.A.Devices.faults g.A.Devices.locations g.C.Admission.labels l.fn.shared.lock.table.shared.table_id l.fn.shared.lock.table.shared.key.value.value.store.opened) (k + 1) (get_or l.callers.items k d);
+  each : (k : ℕ) (d : Caller _ _ _) → k < length l.callers.items → IsNewCaller (world l.fn.shared) (k + 1) (get_or l.callers.items k d);
   space : 16 ≤ vec_capacity l.callers;
 }

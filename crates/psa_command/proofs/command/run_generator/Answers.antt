@@ -10,8 +10,8 @@ returns-in-Ok-replies-clause-ends g c = λ given left named.
     let e = c.of-in-Ok-replies.ensures in let ran = c.answer_lines-replies.result in
     let a = match_ok _ _ ran.replies c.in-Ok-replies.replies c.in-Ok-replies.is c.answer_lines-replies.ensures in
     rw (e.disk, e.devices, e.exit)
-    (answered_ends g.D.Disk.contents g.D.Disk.may_leave g.D.Disk.moment g.D.Disk.left_since g.D.Disk.faults g.A.Devices.keys g.A.Devices.faults g.A.Devices.locations g.C.Admission.labels given left c.args.disk c.args.devices (commands.Generate c.args.count) ran.disk ran.devices c.write_summary_of.result _ _ a.replies
-    (of_answered g.D.Disk.contents g.D.Disk.may_leave g.D.Disk.moment g.D.Disk.left_since g.D.Disk.faults g.A.Devices.keys g.A.Devices.faults g.A.Devices.locations g.C.Admission.labels given left c.args.disk c.args.devices (commands.Generate c.args.count) ran.disk ran.devices (g.C.Admission.labels c.args.rules) _ 1 c.deref.result.now a.replies
+    (answered_ends g.D.Disk g.A.Devices g.C.Admission given left c.args.disk c.args.devices (commands.Generate c.args.count) ran.disk ran.devices c.write_summary_of.result _ _ a.replies
+    (of_answered g.D.Disk g.A.Devices g.C.Admission given left c.args.disk c.args.devices (commands.Generate c.args.count) ran.disk ran.devices (g.C.Admission.labels c.args.rules) _ 1 c.deref.result.now a.replies
     named refl refl (c.deref.ensures.value ∙ c.in-Ok.ensures.lines) a.answered)
     (c.write_summary_of.ensures.written a.replies (subst (λ k. AreAllKept Unranked k a.replies) (sym c.deref-in-Ok-replies.ensures.value) a.all)))
 
@@ -20,5 +20,5 @@ returns-clause-ends g c = λ given left named.
     let e = c.of-in-Err-replies.ensures in let ran = c.answer_lines-replies.result in
     let u = match_err _ _ ran.replies c.in-Err-replies.why c.in-Err-replies.is c.answer_lines-replies.ensures in
     rw (e.disk, e.devices, e.exit, c.unanswered.ensures)
-    (of_unanswered g.D.Disk.contents g.D.Disk.may_leave g.D.Disk.moment g.D.Disk.left_since g.D.Disk.faults g.A.Devices.keys g.A.Devices.faults g.A.Devices.locations g.C.Admission.labels given left c.args.disk c.args.devices (commands.Generate c.args.count) ran.disk ran.devices (g.C.Admission.labels c.args.rules) _ c.in-Err-replies.why _ _ c.deref.result.now
+    (of_unanswered g.D.Disk g.A.Devices g.C.Admission given left c.args.disk c.args.devices (commands.Generate c.args.count) ran.disk ran.devices (g.C.Admission.labels c.args.rules) _ c.in-Err-replies.why _ _ c.deref.result.now
     named refl (c.deref.ensures.value ∙ c.in-Ok.ensures.lines) u)

@@ -15,7 +15,7 @@ returns-in-Ok-replies-clause-ends g c = λ given named.
     let lines = subst (λ ls. IfSome left (λ text. script_of text ≡ Ok ls)) (sym c.lines.ensures) c.in-Ok.ensures.calls in
     let written = subst (λ t. IsWritten t (g.K.Sink.taken c.args.sink.now) (g.K.Sink.taken c.write_replies.new.sink) c.write_replies.result) (ap (flat_map text) c.deref.ensures.value ∙ a.all.text) c.write_replies.ensures.written in
     rw (e.disk, e.devices, e.exit)
-    (answered_ends g.D.Disk.contents g.D.Disk.may_leave g.D.Disk.moment g.D.Disk.left_since g.D.Disk.faults g.A.Devices.keys g.A.Devices.faults g.A.Devices.locations g.C.Admission.labels given left c.args.disk c.args.devices (commands.Run c.args.options.now) ran.disk ran.devices c.write_replies.result _ _ a.replies
-    (of_answered g.D.Disk.contents g.D.Disk.may_leave g.D.Disk.moment g.D.Disk.left_since g.D.Disk.faults g.A.Devices.keys g.A.Devices.faults g.A.Devices.locations g.C.Admission.labels given left c.args.disk c.args.devices (commands.Run c.args.options.now) ran.disk ran.devices (g.C.Admission.labels c.args.rules) c.args.options.now.seed c.args.options.now.workers c.lines.result.now a.replies
+    (answered_ends g.D.Disk g.A.Devices g.C.Admission given left c.args.disk c.args.devices (commands.Run c.args.options.now) ran.disk ran.devices c.write_replies.result _ _ a.replies
+    (of_answered g.D.Disk g.A.Devices g.C.Admission given left c.args.disk c.args.devices (commands.Run c.args.options.now) ran.disk ran.devices (g.C.Admission.labels c.args.rules) c.args.options.now.seed c.args.options.now.workers c.lines.result.now a.replies
     named refl refl lines a.answered)
     written)

@@ -2,6 +2,7 @@ use Rattle.std.proofs.Common.{◌∙◌, ◌+◌, ap, sym, subst, [], ◌∷◌,
 use Rattle.turn_history.specs.Passes.{IsIdle, weight_of}
 use Rattle.turn_history.proofs.Lists.{All_next, none_more}
 use Rattle.turn_history.proofs.Passes.{weight_snoc, new_weight}
+use Rattle.shared_store.specs.Shared.{lock_of, opened_of}
 use Rattle.service_tests.proofs.Ending.{idle}
 use Rattle.service_tests.proofs.shared.end_all.Goals as goal
 
@@ -13,6 +14,7 @@ loop-pass-init g c = let a = c.start_ending-ending.ensures in record {
 }
 
 pub take-requires : goal.take-requires
+unfolding lock_of opened_of
 take-requires g c = let i = c.loop-pass.invariant in let z = c.args.shared.lock.table.shared.table_id in
     subst (λ l. IsIdle l.table.shared.table_id c.in-Some.pass) (sym i.lock)
     (All_next (IsIdle z) c.args.passes.items c.loop-pass.yielded c.in-Some.pass c.next.new.self.rest.items (idle z _ _ c.args.passes.items c.requires) (i.items ∙ ap (λ l. c.loop-pass.yielded ++ l) c.in-Some.ensures.steps.0))

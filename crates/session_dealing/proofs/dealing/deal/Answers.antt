@@ -2,7 +2,7 @@ use Rattle.std.proofs.Common.{◌≡◌, ◌<◌, ◌-◌, ◌+◌, ℕ, length,
 use Rattle.std.specs.Prelude.{◌%◌}
 use Rattle.std.proofs.lemmas.List.{get_or_default}
 use Rattle.std.proofs.lemmas.Nat.{mod_below}
-use Rattle.callers.specs.Worlds.{world}
+use Rattle.shared_store.specs.Shared.{world}
 use Rattle.caller_service.specs.Staff.{IsNewCaller}
 use Rattle.session_workers.specs.declared.worker.Worker.{Worker}
 use Rattle.session_workers.specs.Working.{HasSeated, numbers_of}
@@ -20,7 +20,7 @@ seat-requires-after_bounds g c κs within =
 
 pub loop-preserved : goal.loop-preserved
 loop-preserved g c =
-    let w = world g.D.Disk.contents g.D.Disk.moment g.D.Disk.faults g.A.Devices.keys g.A.Devices.faults g.A.Devices.locations g.C.Admission.labels c.args.service.now.shared.lock.table.shared.table_id c.args.service.now.shared.lock.table.shared.key.value.value.store.opened in
+    let w = world c.args.service.now.shared in
     let v = c.loop.invariant in let j = c.loop.counter in let workers = c.loop.workers in let staff = c.args.callers.now.items in let x = c.index-workers-number.result in
     let caller = c.in-Some.caller in
     let number : c.len-number.result ≡ 16 - j = (let a = c.len-number.ensures in let b = ap length v.callers in let e = length-take (16 - j) staff in let f = c.requires.staff.sixteen in omega arith) in
@@ -43,6 +43,6 @@ loop-preserved g c =
 
 pub returns-clause-dealt : goal.returns-clause-dealt
 returns-clause-dealt g c =
-    let w = world g.D.Disk.contents g.D.Disk.moment g.D.Disk.faults g.A.Devices.keys g.A.Devices.faults g.A.Devices.locations g.C.Admission.labels c.args.service.now.shared.lock.table.shared.table_id c.args.service.now.shared.lock.table.shared.key.value.value.store.opened in
+    let w = world c.args.service.now.shared in
     let v = c.loop.invariant in
     all_dealt w c.args.form c.loop.workers (subst (λ j. IsDealing w c.args.form j c.loop.workers) (let a = c.loop-test.false in let b = c.loop.auto.counter-end in omega arith) v.dealing)

@@ -1,4 +1,5 @@
 use Rattle.std.proofs.Common.{ap, arith}
+use Rattle.shared_store.specs.Shared.{world}
 use Rattle.session_host.specs.Running.{all_replies}
 use Rattle.session_host.specs.Runs.{IsOpening}
 use Rattle.session_host.proofs.Ran.{answered, broken}
@@ -10,12 +11,12 @@ close-disk-requires-clause-ready g c κs within = λ k d lt.
 
 pub returns-in-Ok-ran : goal.returns-in-Ok-ran
 returns-in-Ok-ran g c =
-    let o = c.in-Ok.ensures in
-    let opening : IsOpening g.D.Disk.contents g.D.Disk.may_leave g.D.Disk.moment g.D.Disk.left_since g.D.Disk.faults g.A.Devices.keys g.A.Devices.faults g.A.Devices.locations g.C.Admission.labels c.args.disk c.args.devices (g.C.Admission.labels c.args.rules) c.args.seed.now c.in-Ok.opened.0.shared.lock.table.shared.key.value.value.store.opened = record { start = o.starts.0; starts = o.starts.1; sound = o.sound; keys = o.keys; found = o.opened; later = o.later; devices_are = o.devices; seed_is = o.seed; rules_are = ap g.C.Admission.labels o.rules } in
+    let o = c.in-Ok.ensures in let w = world c.in-Ok.opened.0.shared in
+    let opening : IsOpening w c.args.disk c.args.devices (g.C.Admission.labels c.args.rules) c.args.seed.now = record { start = o.starts.0; starts = o.starts.1; sound = o.sound; keys = o.keys; found = o.opened; later = o.later; devices_are = o.devices; seed_is = o.seed; rules_are = ap g.C.Admission.labels o.rules } in
     let k = c.in-Ok-ran.ensures.answered in record {
       replies = all_replies k.told;
       answered =
-          answered g.D.Disk.contents g.D.Disk.may_leave g.D.Disk.moment g.D.Disk.left_since g.D.Disk.faults g.A.Devices.keys g.A.Devices.faults g.A.Devices.locations g.C.Admission.labels c.in-Ok.opened.0.shared.lock.table.shared.table_id c.in-Ok.opened.0.shared.lock.table.shared.key.value.value.store.opened c.args.disk c.args.devices (g.C.Admission.labels c.args.rules) c.args.seed.now c.close-disk.result.disk c.close-disk.result.devices
+          answered g.D.Disk g.A.Devices g.C.Admission w.lock w.opened c.args.disk c.args.devices (g.C.Admission.labels c.args.rules) c.args.seed.now c.close-disk.result.disk c.close-disk.result.devices
           opening c.args.lines.now c.requires.sessions c.run_sessions-ran.new.callers.items c.run_sessions-ran.ensures.made c.close-disk.ensures.closed k.told c.args.workers k.answered c.in-Ok-ran.ensures.one_worker;
       all = k.all;
       sixteen = k.sixteen;
@@ -23,7 +24,7 @@ returns-in-Ok-ran g c =
 
 pub returns : goal.returns
 returns g c =
-    let o = c.in-Ok.ensures in
-    let opening : IsOpening g.D.Disk.contents g.D.Disk.may_leave g.D.Disk.moment g.D.Disk.left_since g.D.Disk.faults g.A.Devices.keys g.A.Devices.faults g.A.Devices.locations g.C.Admission.labels c.args.disk c.args.devices (g.C.Admission.labels c.args.rules) c.args.seed.now c.in-Ok.opened.0.shared.lock.table.shared.key.value.value.store.opened = record { start = o.starts.0; starts = o.starts.1; sound = o.sound; keys = o.keys; found = o.opened; later = o.later; devices_are = o.devices; seed_is = o.seed; rules_are = ap g.C.Admission.labels o.rules } in
-    broken g.D.Disk.contents g.D.Disk.may_leave g.D.Disk.moment g.D.Disk.left_since g.D.Disk.faults g.A.Devices.keys g.A.Devices.faults g.A.Devices.locations g.C.Admission.labels c.in-Ok.opened.0.shared.lock.table.shared.table_id c.in-Ok.opened.0.shared.lock.table.shared.key.value.value.store.opened c.args.disk c.args.devices (g.C.Admission.labels c.args.rules) c.args.seed.now c.close-disk.result.disk c.close-disk.result.devices
+    let o = c.in-Ok.ensures in let w = world c.in-Ok.opened.0.shared in
+    let opening : IsOpening w c.args.disk c.args.devices (g.C.Admission.labels c.args.rules) c.args.seed.now = record { start = o.starts.0; starts = o.starts.1; sound = o.sound; keys = o.keys; found = o.opened; later = o.later; devices_are = o.devices; seed_is = o.seed; rules_are = ap g.C.Admission.labels o.rules } in
+    broken g.D.Disk g.A.Devices g.C.Admission w.lock w.opened c.args.disk c.args.devices (g.C.Admission.labels c.args.rules) c.args.seed.now c.close-disk.result.disk c.close-disk.result.devices
     opening c.args.lines.now c.requires.sessions c.run_sessions-ran.new.callers.items c.run_sessions-ran.ensures.made c.close-disk.ensures.closed

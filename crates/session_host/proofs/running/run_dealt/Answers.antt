@@ -1,5 +1,5 @@
 use Rattle.std.proofs.Common.{◌∙◌}
-use Rattle.callers.specs.Worlds.{world}
+use Rattle.shared_store.specs.Shared.{world}
 use Rattle.session_host.proofs.Gathered.{have_kept, have_made, have_seen, own_after}
 use Rattle.session_host.proofs.running.run_dealt.Goals as goal
 
@@ -8,17 +8,17 @@ run_workers-requires-clause-begun g c κs within = c.deal.ensures.dealt.begun
 
 pub gather-requires-clause-dealt : goal.gather-requires-clause-dealt
 gather-requires-clause-dealt g c κs within =
-    own_after (world g.D.Disk.contents g.D.Disk.moment g.D.Disk.faults g.A.Devices.keys g.A.Devices.faults g.A.Devices.locations g.C.Admission.labels c.args.service.now.shared.lock.table.shared.table_id c.args.service.now.shared.lock.table.shared.key.value.value.store.opened) c.args.lines.now c.deal.new.workers c.run_workers.new.workers c.args.form c.deal.ensures.dealt c.run_workers.auto.workers c.run_workers.ensures
+    own_after (world c.args.service.now.shared) c.args.lines.now c.deal.new.workers c.run_workers.new.workers c.args.form c.deal.ensures.dealt c.run_workers.auto.workers c.run_workers.ensures
 
 pub returns-clause-made : goal.returns-clause-made
 returns-clause-made g c =
-    have_made (world g.D.Disk.contents g.D.Disk.moment g.D.Disk.faults g.A.Devices.keys g.A.Devices.faults g.A.Devices.locations g.C.Admission.labels c.args.service.now.shared.lock.table.shared.table_id c.args.service.now.shared.lock.table.shared.key.value.value.store.opened) c.args.lines.now c.deal.new.workers c.run_workers.new.workers c.args.form c.deal.ensures.dealt c.run_workers.auto.workers c.run_workers.ensures c.gather.new.callers.items c.gather.new.replies.items c.gather.ensures.gathered
+    have_made (world c.args.service.now.shared) c.args.lines.now c.deal.new.workers c.run_workers.new.workers c.args.form c.deal.ensures.dealt c.run_workers.auto.workers c.run_workers.ensures c.gather.new.callers.items c.gather.new.replies.items c.gather.ensures.gathered
 
 pub returns-clause-answered : goal.returns-clause-answered
 returns-clause-answered g c = λ whole.
-    have_kept (world g.D.Disk.contents g.D.Disk.moment g.D.Disk.faults g.A.Devices.keys g.A.Devices.faults g.A.Devices.locations g.C.Admission.labels c.args.service.now.shared.lock.table.shared.table_id c.args.service.now.shared.lock.table.shared.key.value.value.store.opened) c.args.lines.now c.deal.new.workers c.run_workers.new.workers c.args.form c.deal.ensures.dealt c.run_workers.auto.workers c.run_workers.ensures c.gather.new.callers.items c.gather.new.replies.items c.gather.ensures.gathered (c.are_whole-whole.ensures whole)
+    have_kept (world c.args.service.now.shared) c.args.lines.now c.deal.new.workers c.run_workers.new.workers c.args.form c.deal.ensures.dealt c.run_workers.auto.workers c.run_workers.ensures c.gather.new.callers.items c.gather.new.replies.items c.gather.ensures.gathered (c.are_whole-whole.ensures whole)
 
 pub returns-clause-one_worker : goal.returns-clause-one_worker
 returns-clause-one_worker g c = λ whole one.
-    have_seen (world g.D.Disk.contents g.D.Disk.moment g.D.Disk.faults g.A.Devices.keys g.A.Devices.faults g.A.Devices.locations g.C.Admission.labels c.args.service.now.shared.lock.table.shared.table_id c.args.service.now.shared.lock.table.shared.key.value.value.store.opened) c.args.lines.now c.deal.new.workers c.run_workers.new.workers c.args.form c.deal.ensures.dealt c.run_workers.auto.workers c.run_workers.ensures c.gather.new.callers.items c.gather.new.replies.items c.gather.ensures.gathered (c.are_whole-whole.ensures whole)
+    have_seen (world c.args.service.now.shared) c.args.lines.now c.deal.new.workers c.run_workers.new.workers c.args.form c.deal.ensures.dealt c.run_workers.auto.workers c.run_workers.ensures c.gather.new.callers.items c.gather.new.replies.items c.gather.ensures.gathered (c.are_whole-whole.ensures whole)
     (c.run_workers.auto.workers ∙ (c.deal.ensures.count ∙ one)) c.requires.sessions

@@ -1,5 +1,5 @@
 use Rattle.std.proofs.Common.{◌≡◌, ℕ, zero, suc, List, [], ◌∷◌, ◌++◌, All, length, take, refl, sym, ap, subst, arith}
-use Rattle.callers.specs.Worlds.{world}
+use Rattle.shared_store.specs.Shared.{world}
 use Rattle.session_host.proofs.Gathered.{none_made}
 use Rattle.session_host.proofs.running.run_sessions.Goals as goal
 
@@ -11,10 +11,10 @@ kept (x ∷ xs) ys zero is = absurd (omega arith)
 kept (x ∷ xs) ys (suc n) is = ap (λ l. x ∷ l) (kept xs ys n (omega arith))
 
 pub returns-in_default-clause-made : goal.returns-in_default-clause-made
-returns-in_default-clause-made g c = none_made (world g.D.Disk.contents g.D.Disk.moment g.D.Disk.faults g.A.Devices.keys g.A.Devices.faults g.A.Devices.locations g.C.Admission.labels c.args.service.now.shared.lock.table.shared.table_id c.args.service.now.shared.lock.table.shared.key.value.value.store.opened) c.args.lines.now c.args.callers.now.items c.requires.staff
+returns-in_default-clause-made g c = none_made (world c.args.service.now.shared) c.args.lines.now c.args.callers.now.items c.requires.staff
 
 pub returns-in_err-workers-clause-made : goal.returns-in_err-workers-clause-made
-returns-in_err-workers-clause-made g c = none_made (world g.D.Disk.contents g.D.Disk.moment g.D.Disk.faults g.A.Devices.keys g.A.Devices.faults g.A.Devices.locations g.C.Admission.labels c.args.service.now.shared.lock.table.shared.table_id c.args.service.now.shared.lock.table.shared.key.value.value.store.opened) c.args.lines.now c.args.callers.now.items c.requires.staff
+returns-in_err-workers-clause-made g c = none_made (world c.args.service.now.shared) c.args.lines.now c.args.callers.now.items c.requires.staff
 
 pub free-requires-after_bounds : goal.free-requires-after_bounds
 free-requires-after_bounds g c κs within =

@@ -4,7 +4,7 @@ use denote.Param.Send.{arg_send, arg_sync, param_send, param_sync, sendable}
 use Rattle.std.proofs.Common.{get_or, subst}
 use Rattle.std.proofs.Crossing.{crosses}
 use Rattle.std.proofs.Crossing as heap
-use Rattle.callers.specs.Worlds.{world}
+use Rattle.shared_store.specs.Shared.{world}
 use Rattle.caller_service.specs.contracts.service.Service as Service
 use Rattle.script_lang.specs.contracts.script.ScriptLine as ScriptLine
 use Rattle.session_workers.specs.Working.{HasWorked}
@@ -22,6 +22,6 @@ for_each_mut-requires-sync-F g c κs within =
 
 pub returns : goal.returns
 returns g c k d within =
-    let w = world g.D.Disk.contents g.D.Disk.moment g.D.Disk.faults g.A.Devices.keys g.A.Devices.faults g.A.Devices.locations g.C.Admission.labels c.args.service.now.shared.lock.table.shared.table_id c.args.service.now.shared.lock.table.shared.key.value.value.store.opened in
+    let w = world c.args.service.now.shared in
     let e = (c.for_each_mut.ensures k d within).1 in
     subst (λ y. HasWorked w c.args.lines.now (get_or c.args.workers.now k d) y) e.left (subst (λ x. HasWorked w c.args.lines.now x e.after_call.now) e.argument_is e.call)

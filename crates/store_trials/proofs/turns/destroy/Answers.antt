@@ -16,6 +16,6 @@ returns g c = record {
       let v = g.A.Devices in
       let e = c.destroy.ensures in
       let id = c.args.id.0 in
-      destroyed_or_not d.contents d.may_leave d.moment d.left_since d.faults v.keys v.faults v.locations g.C.Admission.labels d.size c.args.store.now c.destroy.new.self (first_has own) e.size (subst (λ (b : Buffer). IsClear b) (sym e.buffer) k.clear)
+      destroyed_or_not d v g.C.Admission c.args.store.now c.destroy.new.self (first_has own) e.size (subst (λ (b : Buffer). IsClear b) (sym e.buffer) k.clear)
       c.destroy.result id mark_undestroyed (λ m. first_row (destroy_rows (map.get m.keys id) id) ≡ None) (IsUndestroyed id) e.destroyed e.failed k;
 }

@@ -9,11 +9,11 @@ returns-clause-lent g c =
     let d = g.D.Disk in
     let v = g.A.Devices in
     let e = c.look.ensures in
-    lends d.contents d.may_leave d.moment d.left_since d.faults v.keys v.faults v.locations g.C.Admission.labels d.size c.args.store.now c.look.new.self e.size e.clear c.look.result c.args.id.0 (IsLent (use_refusal wanted.Export) c.args.id.0) e.lent
+    lends d v g.C.Admission c.args.store.now c.look.new.self e.size e.clear c.look.result c.args.id.0 (IsLent (use_refusal wanted.Export) c.args.id.0) e.lent
 
 pub returns-clause-refused : goal.returns-clause-refused
 returns-clause-refused g c =
     let d = g.D.Disk in
     let v = g.A.Devices in
     let e = c.look.ensures in
-    lends_not d.contents d.may_leave d.moment d.left_since d.faults v.keys v.faults v.locations g.C.Admission.labels d.size c.args.store.now c.look.new.self e.size e.clear c.look.result c.args.id.0 (use_refusal wanted.Export) e.refused
+    lends_not d v g.C.Admission c.args.store.now c.look.new.self e.size e.clear c.look.result c.args.id.0 (use_refusal wanted.Export) e.refused

@@ -12,7 +12,7 @@ step_operation-requires-clause-out g c = λ κs within.
     let v = g.A.Devices in
     let own = c.requires.keeps.0 in
     let p : ℕ × ℕ = (c.args.lease.now.slot, c.args.lease.now.creation + 1) in
-    out d.contents d.may_leave d.moment d.left_since d.faults v.keys v.faults v.locations g.C.Admission.labels d.size c.args.store.now (first_has (p ∷ own)) (first_has own) p (first_gains own p) c.requires.keeps.2
+    out d v g.C.Admission c.args.store.now (first_has (p ∷ own)) (first_has own) p (first_gains own p) c.requires.keeps.2
 
 pub returns : goal.returns
 returns g c = record {
@@ -21,6 +21,6 @@ returns g c = record {
       let v = g.A.Devices in
       let e = c.step_operation.ensures in
       let p : ℕ × ℕ = (c.args.lease.now.slot, c.args.lease.now.creation + 1) in
-      stepped d.contents d.may_leave d.moment d.left_since d.faults v.keys v.faults v.locations g.C.Admission.labels d.size c.args.store.now c.step_operation.new.self (first_has (p ∷ own))
+      stepped d v g.C.Admission c.args.store.now c.step_operation.new.self (first_has (p ∷ own))
       (ap (λ (f : KeyFile _). d.size f.cells.disk) e.file ∙ k.sized) (subst (λ (b : Buffer). IsClear b) (sym e.buffer) k.clear) e.adds k;
 }

@@ -33,7 +33,7 @@ leave-clear-requires-clause-out g t c = λ κs within.
     let beside = lease_beside own c.args.out lease.slot lease.creation leases in
     let two = c.read_under.ensures.stays (p ∷ own) beside (c.in-Ok-look.ensures.lent own (weaker own c.args.out 4 below leases) k) in
     let three = c.step.ensures.stays own (weaker own c.args.out 4 below leases) two in
-    out d.contents d.may_leave d.moment d.left_since d.faults v.keys v.faults v.locations g.C.Admission.labels d.size c.step.new.store (first_has (p ∷ own)) (first_has own) p (first_gains own p) three
+    out d v g.C.Admission c.step.new.store (first_has (p ∷ own)) (first_has own) p (first_gains own p) three
 
 pub import-requires-2-clause-keeps : goal.import-requires-2-clause-keeps
 import-requires-2-clause-keeps g t c = λ κs within.
@@ -51,7 +51,7 @@ import-requires-2-clause-keeps g t c = λ κs within.
     let two = c.read_under.ensures.stays (p ∷ own) beside (c.in-Ok-look.ensures.lent own (weaker own c.args.out 4 below leases) k) in
     let three = c.step.ensures.stays own (weaker own c.args.out 4 below leases) two in
     let e = c.leave-clear.ensures in
-    let four = taken d.contents d.may_leave d.moment d.left_since d.faults v.keys v.faults v.locations g.C.Admission.labels d.size c.step.new.store c.leave-clear.new.self e.file e.buffer (first_has (p ∷ own)) (first_has own) p e.takes (first_gains own p) (hold own 4 (omega arith) (weaker own c.args.out 4 below leases)) three in
+    let four = taken d v g.C.Admission c.step.new.store c.leave-clear.new.self e.file e.buffer (first_has (p ∷ own)) (first_has own) p e.takes (first_gains own p) (hold own 4 (omega arith) (weaker own c.args.out 4 below leases)) three in
     (own, weaker own c.args.out 5 (omega (arith, few)) leases, four)
 
 pub returns : goal.returns
@@ -68,6 +68,6 @@ returns g t c = record {
       let two = c.read_under.ensures.stays (p ∷ own) beside (c.in-Ok-look.ensures.lent own (weaker own c.args.out 4 below leases) k) in
       let three = c.step.ensures.stays own (weaker own c.args.out 4 below leases) two in
       let e = c.leave-clear.ensures in
-      let four = taken d.contents d.may_leave d.moment d.left_since d.faults v.keys v.faults v.locations g.C.Admission.labels d.size c.step.new.store c.leave-clear.new.self e.file e.buffer (first_has (p ∷ own)) (first_has own) p e.takes (first_gains own p) (hold own 4 (omega arith) (weaker own c.args.out 4 below leases)) three in
+      let four = taken d v g.C.Admission c.step.new.store c.leave-clear.new.self e.file e.buffer (first_has (p ∷ own)) (first_has own) p e.takes (first_gains own p) (hold own 4 (omega arith) (weaker own c.args.out 4 below leases)) three in
       c.import-2.ensures.stays own (weaker own c.args.out 5 (omega (arith, few)) leases) four;
 }

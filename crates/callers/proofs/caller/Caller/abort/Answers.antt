@@ -2,14 +2,14 @@ use Rattle.std.proofs.Common.{refl, ap}
 use Rattle.service_calls.specs.Meanings.{model_request}
 use Rattle.store_model.specs.Faults.{Plain}
 use Rattle.store_model.specs.Operations.{Inactive}
-use Rattle.callers.specs.Worlds.{world}
+use Rattle.shared_store.specs.Shared.{world}
 use Rattle.callers.proofs.Aborting.{aborted, aborted_answered}
 use Rattle.callers.proofs.Handling.{has_room, one_turn, out, same_out}
 use Rattle.callers.proofs.caller.Caller.abort.Goals as goal
 
 pub give_back-requires-clause-out : goal.give_back-requires-clause-out
 give_back-requires-clause-out g c κs within =
-    let w = world g.D.Disk.contents g.D.Disk.moment g.D.Disk.faults g.A.Devices.keys g.A.Devices.faults g.A.Devices.locations g.C.Admission.labels c.args.shared.now.lock.table.shared.table_id c.args.shared.now.lock.table.shared.key.value.value.store.opened in
+    let w = world c.args.shared.now in
     let old = c.args.self.now in let request = model_request c.args.call.now c.args.room in let counted = c.count-rank.ensures.counted in let before = counted.before in let e = counted.after.entry in let i = counted.after.entered in
     let settled = record c.args.self.now { pass = c.count-rank.new.pass; handles = c.abort-lease.new.self } in let lease = c.abort-lease.result in let last = c.abort-lease.ensures.last in
     let r = c.requires.ready in
@@ -17,7 +17,7 @@ give_back-requires-clause-out g c κs within =
 
 pub give_back-requires-clause-room : goal.give_back-requires-clause-room
 give_back-requires-clause-room g c κs within =
-    let w = world g.D.Disk.contents g.D.Disk.moment g.D.Disk.faults g.A.Devices.keys g.A.Devices.faults g.A.Devices.locations g.C.Admission.labels c.args.shared.now.lock.table.shared.table_id c.args.shared.now.lock.table.shared.key.value.value.store.opened in
+    let w = world c.args.shared.now in
     let old = c.args.self.now in let request = model_request c.args.call.now c.args.room in let counted = c.count-rank.ensures.counted in let before = counted.before in let e = counted.after.entry in let i = counted.after.entered in
     let settled = record c.args.self.now { pass = c.count-rank.new.pass; handles = c.abort-lease.new.self } in let lease = c.abort-lease.result in let last = c.abort-lease.ensures.last in
     let r = c.requires.ready in
@@ -25,7 +25,7 @@ give_back-requires-clause-room g c κs within =
 
 pub returns-clause-ready : goal.returns-clause-ready
 returns-clause-ready g c =
-    let w = world g.D.Disk.contents g.D.Disk.moment g.D.Disk.faults g.A.Devices.keys g.A.Devices.faults g.A.Devices.locations g.C.Admission.labels c.args.shared.now.lock.table.shared.table_id c.args.shared.now.lock.table.shared.key.value.value.store.opened in
+    let w = world c.args.shared.now in
     let old = c.args.self.now in let request = model_request c.args.call.now c.args.room in let counted = c.count-rank.ensures.counted in let before = counted.before in let e = counted.after.entry in let i = counted.after.entered in
     let settled = record c.args.self.now { pass = c.count-rank.new.pass; handles = c.abort-lease.new.self } in let lease = c.abort-lease.result in let last = c.abort-lease.ensures.last in
     aborted w old settled c.give_back.new.self c.requires.ready request c.count-rank.result before e c.args.op lease c.requires.counted i c.abort-lease.ensures.changed c.give_back.ensures.back
@@ -33,7 +33,7 @@ returns-clause-ready g c =
 
 pub returns-clause-answered : goal.returns-clause-answered
 returns-clause-answered g c = λ buffer.
-    let w = world g.D.Disk.contents g.D.Disk.moment g.D.Disk.faults g.A.Devices.keys g.A.Devices.faults g.A.Devices.locations g.C.Admission.labels c.args.shared.now.lock.table.shared.table_id c.args.shared.now.lock.table.shared.key.value.value.store.opened in
+    let w = world c.args.shared.now in
     let old = c.args.self.now in let request = model_request c.args.call.now c.args.room in let counted = c.count-rank.ensures.counted in let before = counted.before in let e = counted.after.entry in let i = counted.after.entered in
     let settled = record c.args.self.now { pass = c.count-rank.new.pass; handles = c.abort-lease.new.self } in let lease = c.abort-lease.result in let last = c.abort-lease.ensures.last in
     let r = c.requires.ready in

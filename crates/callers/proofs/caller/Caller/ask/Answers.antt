@@ -1,7 +1,7 @@
 use Rattle.std.proofs.Common.{◌+◌, ◌-◌, ◌<◌, length, sym, ap, ◌∙◌, subst, arith}
 use Rattle.std.specs.Option.{option_map}
 use Rattle.service_calls.specs.Meanings.{model_request}
-use Rattle.callers.specs.Worlds.{world}
+use Rattle.shared_store.specs.Shared.{world}
 use Rattle.callers.proofs.Asking.{asked_with, asked_without}
 use Rattle.callers.proofs.CellLists.{cell_at, named_alike, names_lease}
 use Rattle.callers.proofs.caller.Caller.ask.Goals as goal
@@ -17,7 +17,7 @@ step-rank-requires-clause-out g c κs within =
 
 pub returns-in-Some-clause-ranked : goal.returns-in-Some-clause-ranked
 returns-in-Some-clause-ranked g c =
-    let w = world g.D.Disk.contents g.D.Disk.moment g.D.Disk.faults g.A.Devices.keys g.A.Devices.faults g.A.Devices.locations g.C.Admission.labels c.args.shared.now.lock.table.shared.table_id c.args.shared.now.lock.table.shared.key.value.value.store.opened in
+    let w = world c.args.shared.now in
     let ready = c.requires.ready in
     let inside : c.args.op - 1 < length c.args.self.now.handles.cells.items = let z = ready.stand.cells_are in let y = c.lease.ensures.last in omega arith in
     let cell = cell_at c.args.self.now.handles.cells.items (c.args.op - 1) inside in
@@ -27,7 +27,7 @@ returns-in-Some-clause-ranked g c =
 
 pub returns-in-None-clause-ranked : goal.returns-in-None-clause-ranked
 returns-in-None-clause-ranked g c =
-    let w = world g.D.Disk.contents g.D.Disk.moment g.D.Disk.faults g.A.Devices.keys g.A.Devices.faults g.A.Devices.locations g.C.Admission.labels c.args.shared.now.lock.table.shared.table_id c.args.shared.now.lock.table.shared.key.value.value.store.opened in
+    let w = world c.args.shared.now in
     let ready = c.requires.ready in
     let inside : c.args.op - 1 < length c.args.self.now.handles.cells.items = let z = ready.stand.cells_are in let y = c.lease.ensures.last in omega arith in
     let cell = cell_at c.args.self.now.handles.cells.items (c.args.op - 1) inside in

@@ -7,13 +7,13 @@ use Rattle.service_calls.specs.Answered.{AnswersReply}
 use Rattle.store_model.specs.Call.{buffer_after}
 use Rattle.store_model.specs.Faults.{Plain}
 use Rattle.store_model.specs.Operations.{Inactive}
-use Rattle.callers.specs.Worlds.{world}
+use Rattle.shared_store.specs.Shared.{world}
 use Rattle.callers.proofs.Beginning.{at_handle, bare_answered, bare_ready}
 use Rattle.callers.proofs.caller.Caller.begin.Goals as goal
 
 pub returns-in-Ok-clause-ready : goal.returns-in-Ok-clause-ready
 returns-in-Ok-clause-ready g c =
-    let w = world g.D.Disk.contents g.D.Disk.moment g.D.Disk.faults g.A.Devices.keys g.A.Devices.faults g.A.Devices.locations g.C.Admission.labels c.args.shared.now.lock.table.shared.table_id c.args.shared.now.lock.table.shared.key.value.value.store.opened in
+    let w = world c.args.shared.now in
     let old = c.args.self.now in let r = c.requires.ready in let request = model_request c.args.call.now c.args.room in let asks = ap (λ x. model_request x c.args.room) c.requires.call in
     let counted = c.count-rank.ensures.counted in let before = counted.before in let e = counted.after.entry in let i = counted.after.entered in let first = c.begin.ensures.first in let last = c.begin.ensures.last in
     let new = record old { pass = c.count-rank.new.pass; handles = c.begin.new.self; spent = old.spent + 1 } in
@@ -22,7 +22,7 @@ returns-in-Ok-clause-ready g c =
 
 pub returns-in-Ok-clause-answered : goal.returns-in-Ok-clause-answered
 returns-in-Ok-clause-answered g c = λ buffer.
-    let w = world g.D.Disk.contents g.D.Disk.moment g.D.Disk.faults g.A.Devices.keys g.A.Devices.faults g.A.Devices.locations g.C.Admission.labels c.args.shared.now.lock.table.shared.table_id c.args.shared.now.lock.table.shared.key.value.value.store.opened in
+    let w = world c.args.shared.now in
     let old = c.args.self.now in let r = c.requires.ready in let request = model_request c.args.call.now c.args.room in let asks = ap (λ x. model_request x c.args.room) c.requires.call in
     let counted = c.count-rank.ensures.counted in let before = counted.before in let e = counted.after.entry in let i = counted.after.entered in let first = c.begin.ensures.first in let last = c.begin.ensures.last in
     let new = record old { pass = c.count-rank.new.pass; handles = c.begin.new.self; spent = old.spent + 1 } in
@@ -31,7 +31,7 @@ returns-in-Ok-clause-answered g c = λ buffer.
 
 pub returns-in-Err-clause-ready : goal.returns-in-Err-clause-ready
 returns-in-Err-clause-ready g c =
-    let w = world g.D.Disk.contents g.D.Disk.moment g.D.Disk.faults g.A.Devices.keys g.A.Devices.faults g.A.Devices.locations g.C.Admission.labels c.args.shared.now.lock.table.shared.table_id c.args.shared.now.lock.table.shared.key.value.value.store.opened in
+    let w = world c.args.shared.now in
     let old = c.args.self.now in let r = c.requires.ready in let request = model_request c.args.call.now c.args.room in let asks = ap (λ x. model_request x c.args.room) c.requires.call in
     let counted = c.count-rank.ensures.counted in let before = counted.before in let e = counted.after.entry in let i = counted.after.entered in let first = c.begin.ensures.first in let last = c.begin.ensures.last in
     let new = record old { pass = c.count-rank.new.pass; handles = c.begin.new.self } in
@@ -40,7 +40,7 @@ returns-in-Err-clause-ready g c =
 
 pub returns-in-Err-clause-answered : goal.returns-in-Err-clause-answered
 returns-in-Err-clause-answered g c = λ buffer.
-    let w = world g.D.Disk.contents g.D.Disk.moment g.D.Disk.faults g.A.Devices.keys g.A.Devices.faults g.A.Devices.locations g.C.Admission.labels c.args.shared.now.lock.table.shared.table_id c.args.shared.now.lock.table.shared.key.value.value.store.opened in
+    let w = world c.args.shared.now in
     let old = c.args.self.now in let r = c.requires.ready in let request = model_request c.args.call.now c.args.room in let asks = ap (λ x. model_request x c.args.room) c.requires.call in
     let counted = c.count-rank.ensures.counted in let before = counted.before in let e = counted.after.entry in let i = counted.after.entered in let first = c.begin.ensures.first in let last = c.begin.ensures.last in
     let new = record old { pass = c.count-rank.new.pass; handles = c.begin.new.self } in

@@ -9,7 +9,7 @@ use Rattle.store_model.specs.Faults.{Plain}
 use Rattle.store_model.specs.Operations.{Inactive}
 use Rattle.store_core.specs.Uses.{IsLent, IsRefused, mark_of}
 use Rattle.shared_store.specs.Turning.{DecidesAfter, IsRanked, lease_pair}
-use Rattle.callers.specs.Worlds.{world}
+use Rattle.shared_store.specs.Shared.{world}
 use Rattle.callers.proofs.Beginning.{at_handle, lent_answered, lent_ready, reads_key, refuses, stayed_answered, stayed_ready}
 use Rattle.callers.proofs.Failing.{refused_tells, use_plainly}
 use Rattle.callers.proofs.Looking.{has_room_for_lease, has_spare, popped}
@@ -18,19 +18,19 @@ use Rattle.callers.proofs.caller.Caller.begin_with.Goals as goal
 
 pub unreachable-requires : goal.unreachable-requires
 unreachable-requires g c =
-    let w = world g.D.Disk.contents g.D.Disk.moment g.D.Disk.faults g.A.Devices.keys g.A.Devices.faults g.A.Devices.locations g.C.Admission.labels c.args.shared.now.lock.table.shared.table_id c.args.shared.now.lock.table.shared.key.value.value.store.opened in
+    let w = world c.args.shared.now in
     false≢true (ap is_some (sym c.in_default.is) ∙ c.pop.ensures.variant.1 (has_spare w 4 c.args.self.now c.requires.ready))
 
 pub look-rank-requires-clause-reads : goal.look-rank-requires-clause-reads
 look-rank-requires-clause-reads g c κs within =
-    let w = world g.D.Disk.contents g.D.Disk.moment g.D.Disk.faults g.A.Devices.keys g.A.Devices.faults g.A.Devices.locations g.C.Admission.labels c.args.shared.now.lock.table.shared.table_id c.args.shared.now.lock.table.shared.key.value.value.store.opened in
+    let w = world c.args.shared.now in
     let old = c.args.self.now in let r = c.requires.ready in let request = model_request c.args.call.now c.args.room in let asks = ap (λ x. model_request x c.args.room) c.requires.call in
     let first = c.requires.first in let last = c.requires.last in let free = at_handle (λ o. o ≡ Inactive) old.handles.cells.items r.operations c.args.op r.stand first last c.requires.free in
     reads_key w old r request c.args.op c.args.setup c.args.key c.args.wanted first last asks c.requires.keyed free
 
 pub look-rank-requires-clause-space : goal.look-rank-requires-clause-space
 look-rank-requires-clause-space g c κs within =
-    let w = world g.D.Disk.contents g.D.Disk.moment g.D.Disk.faults g.A.Devices.keys g.A.Devices.faults g.A.Devices.locations g.C.Admission.labels c.args.shared.now.lock.table.shared.table_id c.args.shared.now.lock.table.shared.key.value.value.store.opened in
+    let w = world c.args.shared.now in
     has_room_for_lease w 4 c.args.self.now c.requires.ready
 
 pub look-rank-requires-clause-spare : goal.look-rank-requires-clause-spare
@@ -39,10 +39,10 @@ look-rank-requires-clause-spare g c κs within =
 
 pub returns-in-Ok-clause-ready : goal.returns-in-Ok-clause-ready
 returns-in-Ok-clause-ready g c =
-    let w = world g.D.Disk.contents g.D.Disk.moment g.D.Disk.faults g.A.Devices.keys g.A.Devices.faults g.A.Devices.locations g.C.Admission.labels c.args.shared.now.lock.table.shared.table_id c.args.shared.now.lock.table.shared.key.value.value.store.opened in
+    let w = world c.args.shared.now in
     let old = c.args.self.now in let r = c.requires.ready in let request = model_request c.args.call.now c.args.room in let asks = ap (λ x. model_request x c.args.room) c.requires.call in
     let first = c.requires.first in let last = c.requires.last in let free = at_handle (λ o. o ≡ Inactive) old.handles.cells.items r.operations c.args.op r.stand first last c.requires.free in
-    let lease = c.in-Ok.lease in let looked = if_ok (λ lease. IsRanked old.pass.me.0 c.look-rank.new.pass.me.0 request Plain c.look-rank.result.0 (lease_pair lease ∷ old.pass.me.0.holding) (DecidesAfter w.told w.moment w.faults w.hard w.locations w.labels w.opened (IsLent (use_refusal c.args.wanted) c.args.key.0 lease)))
+    let lease = c.in-Ok.lease in let looked = if_ok (λ lease. IsRanked old.pass.me.0 c.look-rank.new.pass.me.0 request Plain c.look-rank.result.0 (lease_pair lease ∷ old.pass.me.0.holding) (DecidesAfter w (IsLent (use_refusal c.args.wanted) c.args.key.0 lease)))
     c.look-rank.result.1 c.in-Ok.is c.look-rank.ensures.lent in
     let new = record old { pass = c.look-rank.new.pass; spares = c.pop.new.self; handles = c.begin_with.new.self; spent = old.spent + 1 } in
     let pop = popped old.spares c.pop.new.self c.pop.result c.in-Some.spare c.in-Some.is c.pop.ensures.items r.clear in
@@ -52,20 +52,20 @@ returns-in-Ok-clause-ready g c =
 
 pub returns-in-Ok-clause-answered : goal.returns-in-Ok-clause-answered
 returns-in-Ok-clause-answered g c =
-    let w = world g.D.Disk.contents g.D.Disk.moment g.D.Disk.faults g.A.Devices.keys g.A.Devices.faults g.A.Devices.locations g.C.Admission.labels c.args.shared.now.lock.table.shared.table_id c.args.shared.now.lock.table.shared.key.value.value.store.opened in
+    let w = world c.args.shared.now in
     let old = c.args.self.now in let r = c.requires.ready in let request = model_request c.args.call.now c.args.room in let asks = ap (λ x. model_request x c.args.room) c.requires.call in
     let first = c.requires.first in let last = c.requires.last in let free = at_handle (λ o. o ≡ Inactive) old.handles.cells.items r.operations c.args.op r.stand first last c.requires.free in
-    let lease = c.in-Ok.lease in let looked = if_ok (λ lease. IsRanked old.pass.me.0 c.look-rank.new.pass.me.0 request Plain c.look-rank.result.0 (lease_pair lease ∷ old.pass.me.0.holding) (DecidesAfter w.told w.moment w.faults w.hard w.locations w.labels w.opened (IsLent (use_refusal c.args.wanted) c.args.key.0 lease)))
+    let lease = c.in-Ok.lease in let looked = if_ok (λ lease. IsRanked old.pass.me.0 c.look-rank.new.pass.me.0 request Plain c.look-rank.result.0 (lease_pair lease ∷ old.pass.me.0.holding) (DecidesAfter w (IsLent (use_refusal c.args.wanted) c.args.key.0 lease)))
     c.look-rank.result.1 c.in-Ok.is c.look-rank.ensures.lent in
     let new = record old { pass = c.look-rank.new.pass; spares = c.pop.new.self; handles = c.begin_with.new.self; spent = old.spent + 1 } in
     lent_answered w old new r request Plain c.look-rank.result.0 (lease_pair lease ∷ old.pass.me.0.holding) looked.before looked.after.entry looked.after.entered c.args.op first last c.args.setup c.args.key c.args.wanted asks c.requires.keyed free lease refl looked.after.decided
 
 pub returns-in-Err-clause-ready : goal.returns-in-Err-clause-ready
 returns-in-Err-clause-ready g c =
-    let w = world g.D.Disk.contents g.D.Disk.moment g.D.Disk.faults g.A.Devices.keys g.A.Devices.faults g.A.Devices.locations g.C.Admission.labels c.args.shared.now.lock.table.shared.table_id c.args.shared.now.lock.table.shared.key.value.value.store.opened in
+    let w = world c.args.shared.now in
     let old = c.args.self.now in let r = c.requires.ready in let request = model_request c.args.call.now c.args.room in let asks = ap (λ x. model_request x c.args.room) c.requires.call in
     let first = c.requires.first in let last = c.requires.last in let free = at_handle (λ o. o ≡ Inactive) old.handles.cells.items r.operations c.args.op r.stand first last c.requires.free in
-    let why = c.in-Err.status in let looked = if_err (λ refused. IsRanked old.pass.me.0 c.look-rank.new.pass.me.0 request (mark_of refused.0) c.look-rank.result.0 old.pass.me.0.holding (DecidesAfter w.told w.moment w.faults w.hard w.locations w.labels w.opened (IsRefused (use_refusal c.args.wanted) c.args.key.0 refused.0)))
+    let why = c.in-Err.status in let looked = if_err (λ refused. IsRanked old.pass.me.0 c.look-rank.new.pass.me.0 request (mark_of refused.0) c.look-rank.result.0 old.pass.me.0.holding (DecidesAfter w (IsRefused (use_refusal c.args.wanted) c.args.key.0 refused.0)))
     c.look-rank.result.1 c.in-Err.is c.look-rank.ensures.refused in
     let new = record old { pass = c.look-rank.new.pass; spares = c.push_reserved.new.self } in
     let pop = popped old.spares c.pop.new.self c.pop.result c.in-Some.spare c.in-Some.is c.pop.ensures.items r.clear in
@@ -77,10 +77,10 @@ returns-in-Err-clause-ready g c =
 
 pub returns-in-Err-clause-answered : goal.returns-in-Err-clause-answered
 returns-in-Err-clause-answered g c =
-    let w = world g.D.Disk.contents g.D.Disk.moment g.D.Disk.faults g.A.Devices.keys g.A.Devices.faults g.A.Devices.locations g.C.Admission.labels c.args.shared.now.lock.table.shared.table_id c.args.shared.now.lock.table.shared.key.value.value.store.opened in
+    let w = world c.args.shared.now in
     let old = c.args.self.now in let r = c.requires.ready in let request = model_request c.args.call.now c.args.room in let asks = ap (λ x. model_request x c.args.room) c.requires.call in
     let first = c.requires.first in let last = c.requires.last in let free = at_handle (λ o. o ≡ Inactive) old.handles.cells.items r.operations c.args.op r.stand first last c.requires.free in
-    let why = c.in-Err.status in let looked = if_err (λ refused. IsRanked old.pass.me.0 c.look-rank.new.pass.me.0 request (mark_of refused.0) c.look-rank.result.0 old.pass.me.0.holding (DecidesAfter w.told w.moment w.faults w.hard w.locations w.labels w.opened (IsRefused (use_refusal c.args.wanted) c.args.key.0 refused.0)))
+    let why = c.in-Err.status in let looked = if_err (λ refused. IsRanked old.pass.me.0 c.look-rank.new.pass.me.0 request (mark_of refused.0) c.look-rank.result.0 old.pass.me.0.holding (DecidesAfter w (IsRefused (use_refusal c.args.wanted) c.args.key.0 refused.0)))
     c.look-rank.result.1 c.in-Err.is c.look-rank.ensures.refused in
     let new = record old { pass = c.look-rank.new.pass; spares = c.push_reserved.new.self } in
     λ buffer. stayed_answered w old new r request (mark_of why) c.look-rank.result.0 old.pass.me.0.holding looked.before looked.after.entry looked.after.entered c.args.op first last Inactive free why (refuses w old new r request (mark_of why) c.look-rank.result.0 old.pass.me.0.holding looked.before looked.after.entry looked.after.entered c.args.op first last c.args.setup c.args.key c.args.wanted asks c.requires.keyed free why refl looked.after.decided) buffer

@@ -11,7 +11,7 @@ use Rattle.std.specs.FinMap as map
 use Rattle.random_streams.specs.RandomWords.{drawn_from, next_bytes}
 use Rattle.keyed_calls.specs.Keyed.{computed_by}
 use Rattle.callers.specs.Called.{IsReplied}
-use Rattle.callers.specs.Worlds.{world}
+use Rattle.shared_store.specs.Shared.{world}
 use Rattle.callers.proofs.Computing.{computed_answered, computed_ready, lent_answered, lent_ready, refused_answered, refused_ready}
 use Rattle.callers.proofs.Looking.{has_spare, popped}
 use Rattle.callers.proofs.Storing.{decided_known}
@@ -20,15 +20,15 @@ use Rattle.callers.proofs.caller.Caller.compute_or_look.Goals as goal
 
 pub unreachable-requires : goal.unreachable-requires
 unreachable-requires g c =
-    let w = world g.D.Disk.contents g.D.Disk.moment g.D.Disk.faults g.A.Devices.keys g.A.Devices.faults g.A.Devices.locations g.C.Admission.labels c.args.shared.now.lock.table.shared.table_id c.args.shared.now.lock.table.shared.key.value.value.store.opened in
+    let w = world c.args.shared.now in
     false≢true (ap is_some (sym c.in_default.is) ∙ c.pop.ensures.variant.1 (has_spare w 4 c.args.self.now c.requires.ready))
 
 pub returns-in-Computed-clause-ready : goal.returns-in-Computed-clause-ready
 returns-in-Computed-clause-ready g c =
-    let w = world g.D.Disk.contents g.D.Disk.moment g.D.Disk.faults g.A.Devices.keys g.A.Devices.faults g.A.Devices.locations g.C.Admission.labels c.args.shared.now.lock.table.shared.table_id c.args.shared.now.lock.table.shared.key.value.value.store.opened in
+    let w = world c.args.shared.now in
     let old = c.args.self.now in let r = c.requires.ready in let shown = c.args.out.now in let room = length shown in let request = model_request c.args.call.now room in let asks = ap (λ x. model_request x room) c.requires.call in
     let given = c.look_or_compute-rank.new.out in let rank = c.look_or_compute-rank.result.0 in
-    let looked = subst (IsLooked w.told w.moment w.faults w.hard w.locations w.labels w.keys w.opened old.pass.me.0 c.look_or_compute-rank.new.pass.me.0 request rank c.args.key.0 c.args.usage c.args.element.now shown given) c.in-Computed.is c.look_or_compute-rank.ensures.looked in
+    let looked = subst (IsLooked w old.pass.me.0 c.look_or_compute-rank.new.pass.me.0 request rank c.args.key.0 c.args.usage c.args.element.now shown given) c.in-Computed.is c.look_or_compute-rank.ensures.looked in
     let ranked = looked.1 in
     let new = record old { pass = c.look_or_compute-rank.new.pass; spares = c.push_reserved.new.self; stream = c.draw_vector.new.stream } in
     let pop = popped old.spares c.pop.new.self c.pop.result c.in-Some.spare c.in-Some.is c.pop.ensures.items r.clear in let quiet = ap may_change_keys (ranked.after.entered.call_is ∙ asks) ∙ quiet_call c.args.asked.now room c.args.key.0 c.args.usage c.requires.keyed in
@@ -39,10 +39,10 @@ returns-in-Computed-clause-ready g c =
 
 pub returns-in-Computed-clause-answered : goal.returns-in-Computed-clause-answered
 returns-in-Computed-clause-answered g c =
-    let w = world g.D.Disk.contents g.D.Disk.moment g.D.Disk.faults g.A.Devices.keys g.A.Devices.faults g.A.Devices.locations g.C.Admission.labels c.args.shared.now.lock.table.shared.table_id c.args.shared.now.lock.table.shared.key.value.value.store.opened in
+    let w = world c.args.shared.now in
     let old = c.args.self.now in let r = c.requires.ready in let shown = c.args.out.now in let room = length shown in let request = model_request c.args.call.now room in let asks = ap (λ x. model_request x room) c.requires.call in
     let given = c.look_or_compute-rank.new.out in let rank = c.look_or_compute-rank.result.0 in
-    let looked = subst (IsLooked w.told w.moment w.faults w.hard w.locations w.labels w.keys w.opened old.pass.me.0 c.look_or_compute-rank.new.pass.me.0 request rank c.args.key.0 c.args.usage c.args.element.now shown given) c.in-Computed.is c.look_or_compute-rank.ensures.looked in
+    let looked = subst (IsLooked w old.pass.me.0 c.look_or_compute-rank.new.pass.me.0 request rank c.args.key.0 c.args.usage c.args.element.now shown given) c.in-Computed.is c.look_or_compute-rank.ensures.looked in
     let ranked = looked.1 in
     let new = record old { pass = c.look_or_compute-rank.new.pass; spares = c.push_reserved.new.self; stream = c.draw_vector.new.stream } in
     let quiet = ap may_change_keys (ranked.after.entered.call_is ∙ asks) ∙ quiet_call c.args.asked.now room c.args.key.0 c.args.usage c.requires.keyed in
@@ -51,10 +51,10 @@ returns-in-Computed-clause-answered g c =
 
 pub returns-in-Lent-clause-ready : goal.returns-in-Lent-clause-ready
 returns-in-Lent-clause-ready g c =
-    let w = world g.D.Disk.contents g.D.Disk.moment g.D.Disk.faults g.A.Devices.keys g.A.Devices.faults g.A.Devices.locations g.C.Admission.labels c.args.shared.now.lock.table.shared.table_id c.args.shared.now.lock.table.shared.key.value.value.store.opened in
+    let w = world c.args.shared.now in
     let old = c.args.self.now in let r = c.requires.ready in let shown = c.args.out.now in let room = length shown in let request = model_request c.args.call.now room in let asks = ap (λ x. model_request x room) c.requires.call in
     let given = c.look_or_compute-rank.new.out in let rank = c.look_or_compute-rank.result.0 in
-    let looked = subst (IsLooked w.told w.moment w.faults w.hard w.locations w.labels w.keys w.opened old.pass.me.0 c.look_or_compute-rank.new.pass.me.0 request rank c.args.key.0 c.args.usage c.args.element.now shown given) c.in-Lent.is c.look_or_compute-rank.ensures.looked in
+    let looked = subst (IsLooked w old.pass.me.0 c.look_or_compute-rank.new.pass.me.0 request rank c.args.key.0 c.args.usage c.args.element.now shown given) c.in-Lent.is c.look_or_compute-rank.ensures.looked in
     let ranked = looked.2 in let lease = c.in-Lent.lease in
     let mid = record old { pass = c.look_or_compute-rank.new.pass; spares = c.pop.new.self } in
     let pop = popped old.spares c.pop.new.self c.pop.result c.in-Some.spare c.in-Some.is c.pop.ensures.items r.clear in let quiet = ap may_change_keys (ranked.after.entered.call_is ∙ asks) ∙ quiet_call c.args.asked.now room c.args.key.0 c.args.usage c.requires.keyed in
@@ -63,10 +63,10 @@ returns-in-Lent-clause-ready g c =
 
 pub returns-in-Lent-clause-answered : goal.returns-in-Lent-clause-answered
 returns-in-Lent-clause-answered g c =
-    let w = world g.D.Disk.contents g.D.Disk.moment g.D.Disk.faults g.A.Devices.keys g.A.Devices.faults g.A.Devices.locations g.C.Admission.labels c.args.shared.now.lock.table.shared.table_id c.args.shared.now.lock.table.shared.key.value.value.store.opened in
+    let w = world c.args.shared.now in
     let old = c.args.self.now in let r = c.requires.ready in let shown = c.args.out.now in let room = length shown in let request = model_request c.args.call.now room in let asks = ap (λ x. model_request x room) c.requires.call in
     let given = c.look_or_compute-rank.new.out in let rank = c.look_or_compute-rank.result.0 in
-    let looked = subst (IsLooked w.told w.moment w.faults w.hard w.locations w.labels w.keys w.opened old.pass.me.0 c.look_or_compute-rank.new.pass.me.0 request rank c.args.key.0 c.args.usage c.args.element.now shown given) c.in-Lent.is c.look_or_compute-rank.ensures.looked in
+    let looked = subst (IsLooked w old.pass.me.0 c.look_or_compute-rank.new.pass.me.0 request rank c.args.key.0 c.args.usage c.args.element.now shown given) c.in-Lent.is c.look_or_compute-rank.ensures.looked in
     let ranked = looked.2 in let lease = c.in-Lent.lease in
     let mid = record old { pass = c.look_or_compute-rank.new.pass; spares = c.pop.new.self } in
     let quiet = ap may_change_keys (ranked.after.entered.call_is ∙ asks) ∙ quiet_call c.args.asked.now room c.args.key.0 c.args.usage c.requires.keyed in
@@ -76,10 +76,10 @@ returns-in-Lent-clause-answered g c =
 
 pub returns-in-Refused-clause-ready : goal.returns-in-Refused-clause-ready
 returns-in-Refused-clause-ready g c =
-    let w = world g.D.Disk.contents g.D.Disk.moment g.D.Disk.faults g.A.Devices.keys g.A.Devices.faults g.A.Devices.locations g.C.Admission.labels c.args.shared.now.lock.table.shared.table_id c.args.shared.now.lock.table.shared.key.value.value.store.opened in
+    let w = world c.args.shared.now in
     let old = c.args.self.now in let r = c.requires.ready in let shown = c.args.out.now in let room = length shown in let request = model_request c.args.call.now room in let asks = ap (λ x. model_request x room) c.requires.call in
     let given = c.look_or_compute-rank.new.out in let rank = c.look_or_compute-rank.result.0 in
-    let looked = subst (IsLooked w.told w.moment w.faults w.hard w.locations w.labels w.keys w.opened old.pass.me.0 c.look_or_compute-rank.new.pass.me.0 request rank c.args.key.0 c.args.usage c.args.element.now shown given) c.in-Refused.is c.look_or_compute-rank.ensures.looked in
+    let looked = subst (IsLooked w old.pass.me.0 c.look_or_compute-rank.new.pass.me.0 request rank c.args.key.0 c.args.usage c.args.element.now shown given) c.in-Refused.is c.look_or_compute-rank.ensures.looked in
     let ranked = looked.2 in
     let new = record old { pass = c.look_or_compute-rank.new.pass; spares = c.push_reserved-in-Refused.new.self } in
     let pop = popped old.spares c.pop.new.self c.pop.result c.in-Some.spare c.in-Some.is c.pop.ensures.items r.clear in let quiet = ap may_change_keys (ranked.after.entered.call_is ∙ asks) ∙ quiet_call c.args.asked.now room c.args.key.0 c.args.usage c.requires.keyed in
@@ -91,10 +91,10 @@ returns-in-Refused-clause-ready g c =
 
 pub returns-in-Refused-clause-answered : goal.returns-in-Refused-clause-answered
 returns-in-Refused-clause-answered g c =
-    let w = world g.D.Disk.contents g.D.Disk.moment g.D.Disk.faults g.A.Devices.keys g.A.Devices.faults g.A.Devices.locations g.C.Admission.labels c.args.shared.now.lock.table.shared.table_id c.args.shared.now.lock.table.shared.key.value.value.store.opened in
+    let w = world c.args.shared.now in
     let old = c.args.self.now in let r = c.requires.ready in let shown = c.args.out.now in let room = length shown in let request = model_request c.args.call.now room in let asks = ap (λ x. model_request x room) c.requires.call in
     let given = c.look_or_compute-rank.new.out in let rank = c.look_or_compute-rank.result.0 in
-    let looked = subst (IsLooked w.told w.moment w.faults w.hard w.locations w.labels w.keys w.opened old.pass.me.0 c.look_or_compute-rank.new.pass.me.0 request rank c.args.key.0 c.args.usage c.args.element.now shown given) c.in-Refused.is c.look_or_compute-rank.ensures.looked in
+    let looked = subst (IsLooked w old.pass.me.0 c.look_or_compute-rank.new.pass.me.0 request rank c.args.key.0 c.args.usage c.args.element.now shown given) c.in-Refused.is c.look_or_compute-rank.ensures.looked in
     let ranked = looked.2 in
     let new = record old { pass = c.look_or_compute-rank.new.pass; spares = c.push_reserved-in-Refused.new.self } in
     let quiet = ap may_change_keys (ranked.after.entered.call_is ∙ asks) ∙ quiet_call c.args.asked.now room c.args.key.0 c.args.usage c.requires.keyed in

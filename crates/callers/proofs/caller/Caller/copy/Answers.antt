@@ -15,7 +15,7 @@ use Rattle.store_model.specs.Requests.{OnStore}
 use Rattle.store_core.specs.Creations.{IsMade, IsUncopied, RecordsCopy, mark_uncopied}
 use Rattle.shared_store.specs.Turning.{DecidesBefore, IsRanked, filling_pair, without_pair}
 use Rattle.callers.specs.Failures.{failure_told}
-use Rattle.callers.specs.Worlds.{world}
+use Rattle.shared_store.specs.Shared.{world}
 use Rattle.callers.proofs.Creating.{created_answered, created_in, created_ready, has_no_filling}
 use Rattle.callers.proofs.Failing.{uncopied_tells}
 use Rattle.callers.proofs.Made.{made_gives, undrawn, uncopied_gives}
@@ -24,25 +24,25 @@ use Rattle.callers.proofs.caller.Caller.copy.Goals as goal
 
 pub reserve-filling-requires-clause-space : goal.reserve-filling-requires-clause-space
 reserve-filling-requires-clause-space g c κs within =
-    let w = world g.D.Disk.contents g.D.Disk.moment g.D.Disk.faults g.A.Devices.keys g.A.Devices.faults g.A.Devices.locations g.C.Admission.labels c.args.shared.now.lock.table.shared.table_id c.args.shared.now.lock.table.shared.key.value.value.store.opened in
+    let w = world c.args.shared.now in
     has_no_filling w 4 c.args.self.now c.requires.ready
 
 pub returns-in-Ok-clause-ready : goal.returns-in-Ok-clause-ready
 returns-in-Ok-clause-ready g c =
-    let w = world g.D.Disk.contents g.D.Disk.moment g.D.Disk.faults g.A.Devices.keys g.A.Devices.faults g.A.Devices.locations g.C.Admission.labels c.args.shared.now.lock.table.shared.table_id c.args.shared.now.lock.table.shared.key.value.value.store.opened in
+    let w = world c.args.shared.now in
     let old = c.args.self.now in let new = record old { pass = c.copy-rank.new.pass } in let r = c.requires.ready in let request = model_request c.args.call.now c.args.room in let asks = ap (λ x. model_request x c.args.room) c.requires.call in let rank = c.copy-rank.result.0 in
     let filling = c.reserve-filling.result in let u = c.reserve-filling.new.pass.me.0 in let source = c.args.source.0 in let stated = c.args.attributes in let call = Copy source stated in let records = RecordsCopy old.number source stated in
-    let id = c.in-Ok.id in let decided = λ (id : KeyId). DecidesBefore w.told w.moment w.faults w.hard w.locations w.labels w.opened (IsMade records old.number id.0) in
+    let id = c.in-Ok.id in let decided = λ (id : KeyId). DecidesBefore w (IsMade records old.number id.0) in
     let created = created_in old.pass.me.0 u new.pass.me.0 filling request Plain rank (decided id) c.reserve-filling.ensures.later
     (if_ok (λ id. IsRanked u new.pass.me.0 request Plain rank (without_pair (filling_pair filling) u.holding) (decided id)) c.copy-rank.result.1 c.in-Ok.is c.copy-rank.ensures.made) in
     created_ready w old new r request call asks Plain rank (decided id) created (record { number = refl; spent = refl; stream = refl; spares = refl; handles = refl }) (λ store caller random. undrawn store caller (recorded_copy store caller (map.get store.keys source) stated) (bytes_of (map.get store.keys source))) c.copy-rank.ensures.at c.copy-rank.ensures.legal
 
 pub returns-in-Ok-clause-answered : goal.returns-in-Ok-clause-answered
 returns-in-Ok-clause-answered g c =
-    λ buffer. let w = world g.D.Disk.contents g.D.Disk.moment g.D.Disk.faults g.A.Devices.keys g.A.Devices.faults g.A.Devices.locations g.C.Admission.labels c.args.shared.now.lock.table.shared.table_id c.args.shared.now.lock.table.shared.key.value.value.store.opened in
+    λ buffer. let w = world c.args.shared.now in
     let old = c.args.self.now in let new = record old { pass = c.copy-rank.new.pass } in let r = c.requires.ready in let request = model_request c.args.call.now c.args.room in let asks = ap (λ x. model_request x c.args.room) c.requires.call in let rank = c.copy-rank.result.0 in
     let filling = c.reserve-filling.result in let u = c.reserve-filling.new.pass.me.0 in let source = c.args.source.0 in let stated = c.args.attributes in let call = Copy source stated in let records = RecordsCopy old.number source stated in
-    let id = c.in-Ok.id in let decided = λ (id : KeyId). DecidesBefore w.told w.moment w.faults w.hard w.locations w.labels w.opened (IsMade records old.number id.0) in
+    let id = c.in-Ok.id in let decided = λ (id : KeyId). DecidesBefore w (IsMade records old.number id.0) in
     let created = created_in old.pass.me.0 u new.pass.me.0 filling request Plain rank (decided id) c.reserve-filling.ensures.later
     (if_ok (λ id. IsRanked u new.pass.me.0 request Plain rank (without_pair (filling_pair filling) u.holding) (decided id)) c.copy-rank.result.1 c.in-Ok.is c.copy-rank.ensures.made) in
     created_answered w old new r request call asks Plain rank (decided id) created (Ok (output.Identifier id)) buffer (λ start is. refl) (λ start is tells.
@@ -50,20 +50,20 @@ returns-in-Ok-clause-answered g c =
 
 pub returns-in-Err-clause-ready : goal.returns-in-Err-clause-ready
 returns-in-Err-clause-ready g c =
-    let w = world g.D.Disk.contents g.D.Disk.moment g.D.Disk.faults g.A.Devices.keys g.A.Devices.faults g.A.Devices.locations g.C.Admission.labels c.args.shared.now.lock.table.shared.table_id c.args.shared.now.lock.table.shared.key.value.value.store.opened in
+    let w = world c.args.shared.now in
     let old = c.args.self.now in let new = record old { pass = c.copy-rank.new.pass } in let r = c.requires.ready in let request = model_request c.args.call.now c.args.room in let asks = ap (λ x. model_request x c.args.room) c.requires.call in let rank = c.copy-rank.result.0 in
     let filling = c.reserve-filling.result in let u = c.reserve-filling.new.pass.me.0 in let source = c.args.source.0 in let stated = c.args.attributes in let call = Copy source stated in let records = RecordsCopy old.number source stated in
-    let why = c.in-Err.why in let decided = λ (why : NotCopied). DecidesBefore w.told w.moment w.faults w.hard w.locations w.labels w.opened (IsUncopied records source why) in
+    let why = c.in-Err.why in let decided = λ (why : NotCopied). DecidesBefore w (IsUncopied records source why) in
     let created = created_in old.pass.me.0 u new.pass.me.0 filling request (mark_uncopied why) rank (decided why) c.reserve-filling.ensures.later
     (if_err (λ why. IsRanked u new.pass.me.0 request (mark_uncopied why) rank (without_pair (filling_pair filling) u.holding) (decided why)) c.copy-rank.result.1 c.in-Err.is c.copy-rank.ensures.uncopied) in
     created_ready w old new r request call asks (mark_uncopied why) rank (decided why) created (record { number = refl; spent = refl; stream = refl; spares = refl; handles = refl }) (λ store caller random. undrawn store caller (recorded_copy store caller (map.get store.keys source) stated) (bytes_of (map.get store.keys source))) c.copy-rank.ensures.at c.copy-rank.ensures.legal
 
 pub returns-in-Err-clause-answered : goal.returns-in-Err-clause-answered
 returns-in-Err-clause-answered g c =
-    λ buffer. let w = world g.D.Disk.contents g.D.Disk.moment g.D.Disk.faults g.A.Devices.keys g.A.Devices.faults g.A.Devices.locations g.C.Admission.labels c.args.shared.now.lock.table.shared.table_id c.args.shared.now.lock.table.shared.key.value.value.store.opened in
+    λ buffer. let w = world c.args.shared.now in
     let old = c.args.self.now in let new = record old { pass = c.copy-rank.new.pass } in let r = c.requires.ready in let request = model_request c.args.call.now c.args.room in let asks = ap (λ x. model_request x c.args.room) c.requires.call in let rank = c.copy-rank.result.0 in
     let filling = c.reserve-filling.result in let u = c.reserve-filling.new.pass.me.0 in let source = c.args.source.0 in let stated = c.args.attributes in let call = Copy source stated in let records = RecordsCopy old.number source stated in
-    let why = c.in-Err.why in let decided = λ (why : NotCopied). DecidesBefore w.told w.moment w.faults w.hard w.locations w.labels w.opened (IsUncopied records source why) in
+    let why = c.in-Err.why in let decided = λ (why : NotCopied). DecidesBefore w (IsUncopied records source why) in
     let created = created_in old.pass.me.0 u new.pass.me.0 filling request (mark_uncopied why) rank (decided why) c.reserve-filling.ensures.later
     (if_err (λ why. IsRanked u new.pass.me.0 request (mark_uncopied why) rank (without_pair (filling_pair filling) u.holding) (decided why)) c.copy-rank.result.1 c.in-Err.is c.copy-rank.ensures.uncopied) in
     created_answered w old new r request call asks (mark_uncopied why) rank (decided why) created (Err c.status.result) buffer

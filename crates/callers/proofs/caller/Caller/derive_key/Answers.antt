@@ -14,7 +14,7 @@ use Rattle.store_core.specs.declared.creating.NotMade.{NotMade}
 use Rattle.operation_cells.specs.Cells.{IsOperation}
 use Rattle.shared_store.specs.Turning.{DecidesBefore, IsRanked, filling_pair, without_pair}
 use Rattle.callers.specs.Handles.{operation_at, with_operation_at}
-use Rattle.callers.specs.Worlds.{world}
+use Rattle.shared_store.specs.Shared.{world}
 use Rattle.callers.proofs.Beginning.{at_handle}
 use Rattle.callers.proofs.CellLists.{cell_at, tally-cons}
 use Rattle.callers.proofs.Creating.{created_in, creates_on, has_no_filling}
@@ -27,7 +27,7 @@ use Rattle.callers.proofs.caller.Caller.derive_key.Goals as goal
 
 pub reserve-filling-requires-clause-space : goal.reserve-filling-requires-clause-space
 reserve-filling-requires-clause-space g c κs within =
-    let w = world g.D.Disk.contents g.D.Disk.moment g.D.Disk.faults g.A.Devices.keys g.A.Devices.faults g.A.Devices.locations g.C.Admission.labels c.args.shared.now.lock.table.shared.table_id c.args.shared.now.lock.table.shared.key.value.value.store.opened in
+    let w = world c.args.shared.now in
     has_no_filling w 4 c.args.self.now c.requires.ready
 
 pub output_key-count-requires-clause-some : goal.output_key-count-requires-clause-some
@@ -36,7 +36,7 @@ output_key-count-requires-clause-some g c =
 
 pub finish-rank-requires-clause-lent : goal.finish-rank-requires-clause-lent
 finish-rank-requires-clause-lent g c κs within =
-    let w = world g.D.Disk.contents g.D.Disk.moment g.D.Disk.faults g.A.Devices.keys g.A.Devices.faults g.A.Devices.locations g.C.Admission.labels c.args.shared.now.lock.table.shared.table_id c.args.shared.now.lock.table.shared.key.value.value.store.opened in
+    let w = world c.args.shared.now in
     let old = c.args.self.now in let r = c.requires.ready in let op = c.args.op in let a = c.args.attributes in let first = c.requires.first in let last = c.requires.last in let request = model_request c.args.call.now c.args.room in
     let asks = ap (λ x. model_request x c.args.room) c.requires.call in let u = c.reserve-filling.new.pass.me.0 in let filling = c.reserve-filling.result in
     let passes = at_handle (λ o. output_key_refusal (part_of derivation_part o) a ≡ None) old.handles.cells.items r.operations op r.stand first last c.requires.due in
@@ -55,7 +55,7 @@ finish-rank-requires-clause-lent g c κs within =
 
 pub finish-rank-requires-clause-creates : goal.finish-rank-requires-clause-creates
 finish-rank-requires-clause-creates g c κs within =
-    let w = world g.D.Disk.contents g.D.Disk.moment g.D.Disk.faults g.A.Devices.keys g.A.Devices.faults g.A.Devices.locations g.C.Admission.labels c.args.shared.now.lock.table.shared.table_id c.args.shared.now.lock.table.shared.key.value.value.store.opened in
+    let w = world c.args.shared.now in
     let old = c.args.self.now in let r = c.requires.ready in let op = c.args.op in let a = c.args.attributes in let first = c.requires.first in let last = c.requires.last in let request = model_request c.args.call.now c.args.room in
     let asks = ap (λ x. model_request x c.args.room) c.requires.call in let u = c.reserve-filling.new.pass.me.0 in let filling = c.reserve-filling.result in
     let passes = at_handle (λ o. output_key_refusal (part_of derivation_part o) a ≡ None) old.handles.cells.items r.operations op r.stand first last c.requires.due in
@@ -74,7 +74,7 @@ finish-rank-requires-clause-creates g c κs within =
 
 pub returns-in-Ok-clause-ready : goal.returns-in-Ok-clause-ready
 returns-in-Ok-clause-ready g c =
-    let w = world g.D.Disk.contents g.D.Disk.moment g.D.Disk.faults g.A.Devices.keys g.A.Devices.faults g.A.Devices.locations g.C.Admission.labels c.args.shared.now.lock.table.shared.table_id c.args.shared.now.lock.table.shared.key.value.value.store.opened in
+    let w = world c.args.shared.now in
     let old = c.args.self.now in let r = c.requires.ready in let op = c.args.op in let a = c.args.attributes in let first = c.requires.first in let last = c.requires.last in let request = model_request c.args.call.now c.args.room in
     let asks = ap (λ x. model_request x c.args.room) c.requires.call in let u = c.reserve-filling.new.pass.me.0 in let filling = c.reserve-filling.result in
     let passes = at_handle (λ o. output_key_refusal (part_of derivation_part o) a ≡ None) old.handles.cells.items r.operations op r.stand first last c.requires.due in
@@ -89,7 +89,7 @@ returns-in-Ok-clause-ready g c =
     let lease = option_map (λ l. l.now) c.lease-lease.result in
     let of = subst (λ l. IsLeaseOf l (key_of_operation (operation_at r.operations op))) (sym held) (lease_of cell.0 given stands (λ over. let clash : true ≡ false = over in cc)) in
     let new = record old { pass = c.finish-rank.new.pass; handles = c.output_key-count.new.self } in let rank = c.finish-rank.result.0 in let records = RecordsStated lease old.number a (length bytes) in
-    let id = c.in-Ok.id in let decided = λ (id : KeyId). DecidesBefore w.told w.moment w.faults w.hard w.locations w.labels w.opened (IsMade records old.number id.0) in
+    let id = c.in-Ok.id in let decided = λ (id : KeyId). DecidesBefore w (IsMade records old.number id.0) in
     let created = created_in old.pass.me.0 u new.pass.me.0 filling request Plain rank (decided id) c.reserve-filling.ensures.later
     (if_ok (λ id. IsRanked u new.pass.me.0 request Plain rank (without_pair (filling_pair filling) u.holding) (decided id)) c.finish-rank.result.1 c.in-Ok.is c.finish-rank.ensures.made) in
     let made = decided_known w (IsMade records old.number id.0) created.before created.entry created.decided in
@@ -97,7 +97,7 @@ returns-in-Ok-clause-ready g c =
 
 pub returns-in-Ok-clause-answered : goal.returns-in-Ok-clause-answered
 returns-in-Ok-clause-answered g c =
-    λ buffer. let w = world g.D.Disk.contents g.D.Disk.moment g.D.Disk.faults g.A.Devices.keys g.A.Devices.faults g.A.Devices.locations g.C.Admission.labels c.args.shared.now.lock.table.shared.table_id c.args.shared.now.lock.table.shared.key.value.value.store.opened in
+    λ buffer. let w = world c.args.shared.now in
     let old = c.args.self.now in let r = c.requires.ready in let op = c.args.op in let a = c.args.attributes in let first = c.requires.first in let last = c.requires.last in let request = model_request c.args.call.now c.args.room in
     let asks = ap (λ x. model_request x c.args.room) c.requires.call in let u = c.reserve-filling.new.pass.me.0 in let filling = c.reserve-filling.result in
     let passes = at_handle (λ o. output_key_refusal (part_of derivation_part o) a ≡ None) old.handles.cells.items r.operations op r.stand first last c.requires.due in
@@ -112,7 +112,7 @@ returns-in-Ok-clause-answered g c =
     let lease = option_map (λ l. l.now) c.lease-lease.result in
     let of = subst (λ l. IsLeaseOf l (key_of_operation (operation_at r.operations op))) (sym held) (lease_of cell.0 given stands (λ over. let clash : true ≡ false = over in cc)) in
     let new = record old { pass = c.finish-rank.new.pass; handles = c.output_key-count.new.self } in let rank = c.finish-rank.result.0 in let records = RecordsStated lease old.number a (length bytes) in
-    let id = c.in-Ok.id in let decided = λ (id : KeyId). DecidesBefore w.told w.moment w.faults w.hard w.locations w.labels w.opened (IsMade records old.number id.0) in
+    let id = c.in-Ok.id in let decided = λ (id : KeyId). DecidesBefore w (IsMade records old.number id.0) in
     let created = created_in old.pass.me.0 u new.pass.me.0 filling request Plain rank (decided id) c.reserve-filling.ensures.later
     (if_ok (λ id. IsRanked u new.pass.me.0 request Plain rank (without_pair (filling_pair filling) u.holding) (decided id)) c.finish-rank.result.1 c.in-Ok.is c.finish-rank.ensures.made) in
     let made = decided_known w (IsMade records old.number id.0) created.before created.entry created.decided in
@@ -120,7 +120,7 @@ returns-in-Ok-clause-answered g c =
 
 pub give_back-requires-clause-out : goal.give_back-requires-clause-out
 give_back-requires-clause-out g c κs within =
-    let w = world g.D.Disk.contents g.D.Disk.moment g.D.Disk.faults g.A.Devices.keys g.A.Devices.faults g.A.Devices.locations g.C.Admission.labels c.args.shared.now.lock.table.shared.table_id c.args.shared.now.lock.table.shared.key.value.value.store.opened in
+    let w = world c.args.shared.now in
     let old = c.args.self.now in let r = c.requires.ready in let op = c.args.op in let a = c.args.attributes in let first = c.requires.first in let last = c.requires.last in let request = model_request c.args.call.now c.args.room in
     let asks = ap (λ x. model_request x c.args.room) c.requires.call in let u = c.reserve-filling.new.pass.me.0 in let filling = c.reserve-filling.result in
     let passes = at_handle (λ o. output_key_refusal (part_of derivation_part o) a ≡ None) old.handles.cells.items r.operations op r.stand first last c.requires.due in
@@ -136,7 +136,7 @@ give_back-requires-clause-out g c κs within =
     let of = subst (λ l. IsLeaseOf l (key_of_operation (operation_at r.operations op))) (sym held) (lease_of cell.0 given stands (λ over. let clash : true ≡ false = over in cc)) in
     let rank = c.finish-rank.result.0 in let records = RecordsStated lease old.number a (length bytes) in
     let settled = record old { pass = c.finish-rank.new.pass; handles = c.fail_output-lease.new.self } in
-    let why = c.in-Err.why in let decided = λ (why : NotMade). DecidesBefore w.told w.moment w.faults w.hard w.locations w.labels w.opened (IsUnmade records why) in
+    let why = c.in-Err.why in let decided = λ (why : NotMade). DecidesBefore w (IsUnmade records why) in
     let created = created_in old.pass.me.0 u settled.pass.me.0 filling request (mark_unmade why) rank (decided why) c.reserve-filling.ensures.later
     (if_err (λ why. IsRanked u settled.pass.me.0 request (mark_unmade why) rank (without_pair (filling_pair filling) u.holding) (decided why)) c.finish-rank.result.1 c.in-Err.is c.finish-rank.ensures.unmade) in
     let unmade = decided_known w (IsUnmade records why) created.before created.entry created.decided in
@@ -147,7 +147,7 @@ give_back-requires-clause-out g c κs within =
 
 pub give_back-requires-clause-room : goal.give_back-requires-clause-room
 give_back-requires-clause-room g c κs within =
-    let w = world g.D.Disk.contents g.D.Disk.moment g.D.Disk.faults g.A.Devices.keys g.A.Devices.faults g.A.Devices.locations g.C.Admission.labels c.args.shared.now.lock.table.shared.table_id c.args.shared.now.lock.table.shared.key.value.value.store.opened in
+    let w = world c.args.shared.now in
     let old = c.args.self.now in let r = c.requires.ready in let op = c.args.op in let a = c.args.attributes in let first = c.requires.first in let last = c.requires.last in let request = model_request c.args.call.now c.args.room in
     let asks = ap (λ x. model_request x c.args.room) c.requires.call in let u = c.reserve-filling.new.pass.me.0 in let filling = c.reserve-filling.result in
     let passes = at_handle (λ o. output_key_refusal (part_of derivation_part o) a ≡ None) old.handles.cells.items r.operations op r.stand first last c.requires.due in
@@ -163,7 +163,7 @@ give_back-requires-clause-room g c κs within =
     let of = subst (λ l. IsLeaseOf l (key_of_operation (operation_at r.operations op))) (sym held) (lease_of cell.0 given stands (λ over. let clash : true ≡ false = over in cc)) in
     let rank = c.finish-rank.result.0 in let records = RecordsStated lease old.number a (length bytes) in
     let settled = record old { pass = c.finish-rank.new.pass; handles = c.fail_output-lease.new.self } in
-    let why = c.in-Err.why in let decided = λ (why : NotMade). DecidesBefore w.told w.moment w.faults w.hard w.locations w.labels w.opened (IsUnmade records why) in
+    let why = c.in-Err.why in let decided = λ (why : NotMade). DecidesBefore w (IsUnmade records why) in
     let created = created_in old.pass.me.0 u settled.pass.me.0 filling request (mark_unmade why) rank (decided why) c.reserve-filling.ensures.later
     (if_err (λ why. IsRanked u settled.pass.me.0 request (mark_unmade why) rank (without_pair (filling_pair filling) u.holding) (decided why)) c.finish-rank.result.1 c.in-Err.is c.finish-rank.ensures.unmade) in
     let unmade = decided_known w (IsUnmade records why) created.before created.entry created.decided in
@@ -174,7 +174,7 @@ give_back-requires-clause-room g c κs within =
 
 pub returns-in-Err-clause-ready : goal.returns-in-Err-clause-ready
 returns-in-Err-clause-ready g c =
-    let w = world g.D.Disk.contents g.D.Disk.moment g.D.Disk.faults g.A.Devices.keys g.A.Devices.faults g.A.Devices.locations g.C.Admission.labels c.args.shared.now.lock.table.shared.table_id c.args.shared.now.lock.table.shared.key.value.value.store.opened in
+    let w = world c.args.shared.now in
     let old = c.args.self.now in let r = c.requires.ready in let op = c.args.op in let a = c.args.attributes in let first = c.requires.first in let last = c.requires.last in let request = model_request c.args.call.now c.args.room in
     let asks = ap (λ x. model_request x c.args.room) c.requires.call in let u = c.reserve-filling.new.pass.me.0 in let filling = c.reserve-filling.result in
     let passes = at_handle (λ o. output_key_refusal (part_of derivation_part o) a ≡ None) old.handles.cells.items r.operations op r.stand first last c.requires.due in
@@ -190,7 +190,7 @@ returns-in-Err-clause-ready g c =
     let of = subst (λ l. IsLeaseOf l (key_of_operation (operation_at r.operations op))) (sym held) (lease_of cell.0 given stands (λ over. let clash : true ≡ false = over in cc)) in
     let new = c.give_back.new.self in let rank = c.finish-rank.result.0 in let records = RecordsStated lease old.number a (length bytes) in
     let settled = record old { pass = c.finish-rank.new.pass; handles = c.fail_output-lease.new.self } in
-    let why = c.in-Err.why in let decided = λ (why : NotMade). DecidesBefore w.told w.moment w.faults w.hard w.locations w.labels w.opened (IsUnmade records why) in
+    let why = c.in-Err.why in let decided = λ (why : NotMade). DecidesBefore w (IsUnmade records why) in
     let created = created_in old.pass.me.0 u settled.pass.me.0 filling request (mark_unmade why) rank (decided why) c.reserve-filling.ensures.later
     (if_err (λ why. IsRanked u settled.pass.me.0 request (mark_unmade why) rank (without_pair (filling_pair filling) u.holding) (decided why)) c.finish-rank.result.1 c.in-Err.is c.finish-rank.ensures.unmade) in
     let unmade = decided_known w (IsUnmade records why) created.before created.entry created.decided in
@@ -202,7 +202,7 @@ returns-in-Err-clause-ready g c =
 
 pub returns-in-Err-clause-answered : goal.returns-in-Err-clause-answered
 returns-in-Err-clause-answered g c =
-    λ buffer. let w = world g.D.Disk.contents g.D.Disk.moment g.D.Disk.faults g.A.Devices.keys g.A.Devices.faults g.A.Devices.locations g.C.Admission.labels c.args.shared.now.lock.table.shared.table_id c.args.shared.now.lock.table.shared.key.value.value.store.opened in
+    λ buffer. let w = world c.args.shared.now in
     let old = c.args.self.now in let r = c.requires.ready in let op = c.args.op in let a = c.args.attributes in let first = c.requires.first in let last = c.requires.last in let request = model_request c.args.call.now c.args.room in
     let asks = ap (λ x. model_request x c.args.room) c.requires.call in let u = c.reserve-filling.new.pass.me.0 in let filling = c.reserve-filling.result in
     let passes = at_handle (λ o. output_key_refusal (part_of derivation_part o) a ≡ None) old.handles.cells.items r.operations op r.stand first last c.requires.due in
@@ -218,7 +218,7 @@ returns-in-Err-clause-answered g c =
     let of = subst (λ l. IsLeaseOf l (key_of_operation (operation_at r.operations op))) (sym held) (lease_of cell.0 given stands (λ over. let clash : true ≡ false = over in cc)) in
     let new = c.give_back.new.self in let rank = c.finish-rank.result.0 in let records = RecordsStated lease old.number a (length bytes) in
     let settled = record old { pass = c.finish-rank.new.pass; handles = c.fail_output-lease.new.self } in
-    let why = c.in-Err.why in let decided = λ (why : NotMade). DecidesBefore w.told w.moment w.faults w.hard w.locations w.labels w.opened (IsUnmade records why) in
+    let why = c.in-Err.why in let decided = λ (why : NotMade). DecidesBefore w (IsUnmade records why) in
     let created = created_in old.pass.me.0 u settled.pass.me.0 filling request (mark_unmade why) rank (decided why) c.reserve-filling.ensures.later
     (if_err (λ why. IsRanked u settled.pass.me.0 request (mark_unmade why) rank (without_pair (filling_pair filling) u.holding) (decided why)) c.finish-rank.result.1 c.in-Err.is c.finish-rank.ensures.unmade) in
     let unmade = decided_known w (IsUnmade records why) created.before created.entry created.decided in

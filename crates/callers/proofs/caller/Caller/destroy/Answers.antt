@@ -11,7 +11,7 @@ use Rattle.store_core.specs.Uses.{IsUndestroyed, mark_undestroyed}
 use Rattle.store_model.specs.Replay.{replay}
 use Rattle.shared_store.specs.Turning.{DecidesBefore, IsRanked}
 use Rattle.callers.specs.Failures.{failure_told}
-use Rattle.callers.specs.Worlds.{world}
+use Rattle.shared_store.specs.Shared.{world}
 use Rattle.callers.proofs.Failing.{undestroyed_tells}
 use Rattle.callers.proofs.KeyReplies.{destroyed_gives, destroy_draws, undestroyed_gives}
 use Rattle.callers.proofs.Storing.{decided_known, if_err, on_ok, stored_answered, stored_ready}
@@ -19,7 +19,7 @@ use Rattle.callers.proofs.caller.Caller.destroy.Goals as goal
 
 pub returns-in-Ok-clause-ready : goal.returns-in-Ok-clause-ready
 returns-in-Ok-clause-ready g c =
-    let w = world g.D.Disk.contents g.D.Disk.moment g.D.Disk.faults g.A.Devices.keys g.A.Devices.faults g.A.Devices.locations g.C.Admission.labels c.args.shared.now.lock.table.shared.table_id c.args.shared.now.lock.table.shared.key.value.value.store.opened in
+    let w = world c.args.shared.now in
     let old = c.args.self.now in let new = record old { pass = c.destroy-rank.new.pass } in let r = c.requires.ready in let request = model_request c.args.call.now c.args.room in
     let call = Destroy c.args.key.0 in let asks = ap (λ x. model_request x c.args.room) c.requires.call in let ranked = on_ok c.destroy-rank.result.1 c.in-Ok.is c.destroy-rank.ensures.destroyed in
     let before = ranked.before in let e = ranked.after.entry in let i = ranked.after.entered in
@@ -27,7 +27,7 @@ returns-in-Ok-clause-ready g c =
 
 pub returns-in-Ok-clause-answered : goal.returns-in-Ok-clause-answered
 returns-in-Ok-clause-answered g c = λ buffer.
-    let w = world g.D.Disk.contents g.D.Disk.moment g.D.Disk.faults g.A.Devices.keys g.A.Devices.faults g.A.Devices.locations g.C.Admission.labels c.args.shared.now.lock.table.shared.table_id c.args.shared.now.lock.table.shared.key.value.value.store.opened in
+    let w = world c.args.shared.now in
     let old = c.args.self.now in let new = record old { pass = c.destroy-rank.new.pass } in let r = c.requires.ready in let request = model_request c.args.call.now c.args.room in
     let call = Destroy c.args.key.0 in let asks = ap (λ x. model_request x c.args.room) c.requires.call in let ranked = on_ok c.destroy-rank.result.1 c.in-Ok.is c.destroy-rank.ensures.destroyed in
     let before = ranked.before in let e = ranked.after.entry in let i = ranked.after.entered in
@@ -36,17 +36,17 @@ returns-in-Ok-clause-answered g c = λ buffer.
 
 pub returns-in-Err-clause-ready : goal.returns-in-Err-clause-ready
 returns-in-Err-clause-ready g c =
-    let w = world g.D.Disk.contents g.D.Disk.moment g.D.Disk.faults g.A.Devices.keys g.A.Devices.faults g.A.Devices.locations g.C.Admission.labels c.args.shared.now.lock.table.shared.table_id c.args.shared.now.lock.table.shared.key.value.value.store.opened in
+    let w = world c.args.shared.now in
     let old = c.args.self.now in let new = record old { pass = c.destroy-rank.new.pass } in let r = c.requires.ready in let request = model_request c.args.call.now c.args.room in
-    let call = Destroy c.args.key.0 in let asks = ap (λ x. model_request x c.args.room) c.requires.call in let ranked = if_err (λ why. IsRanked old.pass.me.0 new.pass.me.0 request (mark_undestroyed why) c.destroy-rank.result.0 old.pass.me.0.holding (DecidesBefore w.told w.moment w.faults w.hard w.locations w.labels w.opened (IsUndestroyed c.args.key.0 why))) c.destroy-rank.result.1 c.in-Err.is c.destroy-rank.ensures.failed in
+    let call = Destroy c.args.key.0 in let asks = ap (λ x. model_request x c.args.room) c.requires.call in let ranked = if_err (λ why. IsRanked old.pass.me.0 new.pass.me.0 request (mark_undestroyed why) c.destroy-rank.result.0 old.pass.me.0.holding (DecidesBefore w (IsUndestroyed c.args.key.0 why))) c.destroy-rank.result.1 c.in-Err.is c.destroy-rank.ensures.failed in
     let before = ranked.before in let e = ranked.after.entry in let i = ranked.after.entered in
     stored_ready w old new r request call asks (mark_undestroyed c.in-Err.why) c.destroy-rank.result.0 old.pass.me.0.holding before e i refl (record { number = refl; spent = refl; stream = refl; spares = refl; handles = refl }) (λ store caller random. destroy_draws store c.args.key.0) c.destroy-rank.ensures.at c.destroy-rank.ensures.legal
 
 pub returns-in-Err-clause-answered : goal.returns-in-Err-clause-answered
 returns-in-Err-clause-answered g c = λ buffer.
-    let w = world g.D.Disk.contents g.D.Disk.moment g.D.Disk.faults g.A.Devices.keys g.A.Devices.faults g.A.Devices.locations g.C.Admission.labels c.args.shared.now.lock.table.shared.table_id c.args.shared.now.lock.table.shared.key.value.value.store.opened in
+    let w = world c.args.shared.now in
     let old = c.args.self.now in let new = record old { pass = c.destroy-rank.new.pass } in let r = c.requires.ready in let request = model_request c.args.call.now c.args.room in
-    let call = Destroy c.args.key.0 in let asks = ap (λ x. model_request x c.args.room) c.requires.call in let ranked = if_err (λ why. IsRanked old.pass.me.0 new.pass.me.0 request (mark_undestroyed why) c.destroy-rank.result.0 old.pass.me.0.holding (DecidesBefore w.told w.moment w.faults w.hard w.locations w.labels w.opened (IsUndestroyed c.args.key.0 why))) c.destroy-rank.result.1 c.in-Err.is c.destroy-rank.ensures.failed in
+    let call = Destroy c.args.key.0 in let asks = ap (λ x. model_request x c.args.room) c.requires.call in let ranked = if_err (λ why. IsRanked old.pass.me.0 new.pass.me.0 request (mark_undestroyed why) c.destroy-rank.result.0 old.pass.me.0.holding (DecidesBefore w (IsUndestroyed c.args.key.0 why))) c.destroy-rank.result.1 c.in-Err.is c.destroy-rank.ensures.failed in
     let before = ranked.before in let e = ranked.after.entry in let i = ranked.after.entered in
     stored_answered w old new r request call asks (mark_undestroyed c.in-Err.why) c.destroy-rank.result.0 old.pass.me.0.holding before e i (Err c.status.result) buffer buffer (λ start is. ap failure_told c.status.ensures ∙ undestroyed_tells c.in-Err.why) (λ start is tells.
     let gives = undestroyed_gives (replay start before) old.number c.args.key.0 c.in-Err.why (decided_known w (IsUndestroyed c.args.key.0 c.in-Err.why) before e ranked.after.decided start is tells) in rw c.status.ensures (gives.answers, gives.unwritten buffer))

@@ -3,7 +3,7 @@ use Rattle.psa_status.specs.declared.Status.{Status}
 use Rattle.service_calls.specs.Meanings.{model_request}
 use Rattle.store_model.specs.Call.{Generate}
 use Rattle.store_model.specs.Faults.{Plain}
-use Rattle.callers.specs.Worlds.{world}
+use Rattle.shared_store.specs.Shared.{world}
 use Rattle.callers.proofs.Generating.{no_bytes_drawn}
 use Rattle.callers.proofs.Storing.{stored_ready}
 use Rattle.callers.proofs.caller.Caller.generate.Goals as goal
@@ -13,7 +13,7 @@ clash e = cc
 
 pub returns-then-not-says_bytes-clause-ready : goal.returns-then-not-says_bytes-clause-ready
 returns-then-not-says_bytes-clause-ready g c =
-    let w = world g.D.Disk.contents g.D.Disk.moment g.D.Disk.faults g.A.Devices.keys g.A.Devices.faults g.A.Devices.locations g.C.Admission.labels c.args.shared.now.lock.table.shared.table_id c.args.shared.now.lock.table.shared.key.value.value.store.opened in
+    let w = world c.args.shared.now in
     let old = c.args.self.now in let new = record old { pass = c.count-rank.new.pass } in let r = c.requires.ready in let request = model_request c.args.call.now c.args.room in let ranked = c.count-rank.ensures.counted in
     stored_ready w old new r request (Generate c.args.attributes) (ap (λ x. model_request x c.args.room) c.requires.call) Plain c.count-rank.result old.pass.me.0.holding ranked.before ranked.after.entry ranked.after.entered refl
     (record { number = refl; spent = refl; stream = refl; spares = refl; handles = refl }) (no_bytes_drawn c.args.attributes (λ none. clash (sym (c.says_bytes.ensures.no c.if-not-says_bytes.true) ∙ none))) c.count-rank.ensures.at c.count-rank.ensures.legal

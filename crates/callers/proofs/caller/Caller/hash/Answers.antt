@@ -8,7 +8,7 @@ use Rattle.store_model.specs.Handles.{Service, next_random}
 use Rattle.store_model.specs.Replay.{replay}
 use Rattle.store_model.specs.Requests.{OnStore, plain_step}
 use Rattle.store_model.proofs.Unmarked.{answers_plainly}
-use Rattle.callers.specs.Worlds.{world}
+use Rattle.shared_store.specs.Shared.{world}
 use Rattle.keyed_calls.proofs.Models.{hashes}
 use Rattle.callers.proofs.Failing.{answers_plain}
 use Rattle.callers.proofs.Storing.{stored_answered, stored_ready}
@@ -16,7 +16,7 @@ use Rattle.callers.proofs.caller.Caller.hash.Goals as goal
 
 pub returns-clause-ready : goal.returns-clause-ready
 returns-clause-ready g c =
-    let w = world g.D.Disk.contents g.D.Disk.moment g.D.Disk.faults g.A.Devices.keys g.A.Devices.faults g.A.Devices.locations g.C.Admission.labels c.args.shared.now.lock.table.shared.table_id c.args.shared.now.lock.table.shared.key.value.value.store.opened in
+    let w = world c.args.shared.now in
     let old = c.args.self.now in let new = record old { pass = c.count-rank.new.pass } in let r = c.requires.ready in let request = model_request c.args.call.now (length c.args.out.now) in
     let call = model_store_call c.args.asked.now (length c.args.out.now) in let asks = ap (λ x. model_request x (length c.args.out.now)) c.requires.call in let ranked = c.count-rank.ensures.counted in
     let before = ranked.before in let e = ranked.after.entry in let i = ranked.after.entered in
@@ -25,7 +25,7 @@ returns-clause-ready g c =
 
 pub returns-clause-answered : goal.returns-clause-answered
 returns-clause-answered g c =
-    let w = world g.D.Disk.contents g.D.Disk.moment g.D.Disk.faults g.A.Devices.keys g.A.Devices.faults g.A.Devices.locations g.C.Admission.labels c.args.shared.now.lock.table.shared.table_id c.args.shared.now.lock.table.shared.key.value.value.store.opened in
+    let w = world c.args.shared.now in
     let old = c.args.self.now in let new = record old { pass = c.count-rank.new.pass } in let r = c.requires.ready in let request = model_request c.args.call.now (length c.args.out.now) in
     let call = model_store_call c.args.asked.now (length c.args.out.now) in let asks = ap (λ x. model_request x (length c.args.out.now)) c.requires.call in let ranked = c.count-rank.ensures.counted in
     let before = ranked.before in let e = ranked.after.entry in let i = ranked.after.entered in

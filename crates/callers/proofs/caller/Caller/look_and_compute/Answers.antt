@@ -9,7 +9,7 @@ use Rattle.store_model.specs.Faults.{Plain}
 use Rattle.store_model.specs.Laws.{may_change_keys}
 use Rattle.store_core.specs.Uses.{IsLent, IsRefused, mark_of}
 use Rattle.shared_store.specs.Turning.{DecidesAfter, IsRanked, lease_pair}
-use Rattle.callers.specs.Worlds.{world}
+use Rattle.shared_store.specs.Shared.{world}
 use Rattle.callers.proofs.Computing.{lent_answered, lent_ready, refused_answered, refused_ready}
 use Rattle.callers.proofs.Looking.{has_spare, popped}
 use Rattle.callers.proofs.Storing.{if_err, if_ok}
@@ -18,14 +18,14 @@ use Rattle.callers.proofs.caller.Caller.look_and_compute.Goals as goal
 
 pub unreachable-requires : goal.unreachable-requires
 unreachable-requires g c =
-    let w = world g.D.Disk.contents g.D.Disk.moment g.D.Disk.faults g.A.Devices.keys g.A.Devices.faults g.A.Devices.locations g.C.Admission.labels c.args.shared.now.lock.table.shared.table_id c.args.shared.now.lock.table.shared.key.value.value.store.opened in
+    let w = world c.args.shared.now in
     false≢true (ap is_some (sym c.in_default.is) ∙ c.pop.ensures.variant.1 (has_spare w 4 c.args.self.now c.requires.ready))
 
 pub returns-in-Ok-clause-ready : goal.returns-in-Ok-clause-ready
 returns-in-Ok-clause-ready g c =
-    let w = world g.D.Disk.contents g.D.Disk.moment g.D.Disk.faults g.A.Devices.keys g.A.Devices.faults g.A.Devices.locations g.C.Admission.labels c.args.shared.now.lock.table.shared.table_id c.args.shared.now.lock.table.shared.key.value.value.store.opened in
+    let w = world c.args.shared.now in
     let old = c.args.self.now in let r = c.requires.ready in let room = length c.args.out.now in let request = model_request c.args.call.now room in let asks = ap (λ x. model_request x room) c.requires.call in
-    let lease = c.in-Ok.lease in let ranked = if_ok (λ lease. IsRanked old.pass.me.0 c.look-rank.new.pass.me.0 request Plain c.look-rank.result.0 (lease_pair lease ∷ old.pass.me.0.holding) (DecidesAfter w.told w.moment w.faults w.hard w.locations w.labels w.opened (IsLent (use_refusal c.args.usage) c.args.key.0 lease)))
+    let lease = c.in-Ok.lease in let ranked = if_ok (λ lease. IsRanked old.pass.me.0 c.look-rank.new.pass.me.0 request Plain c.look-rank.result.0 (lease_pair lease ∷ old.pass.me.0.holding) (DecidesAfter w (IsLent (use_refusal c.args.usage) c.args.key.0 lease)))
     c.look-rank.result.1 c.in-Ok.is c.look-rank.ensures.lent in
     let looked = record old { pass = c.look-rank.new.pass; spares = c.pop.new.self } in
     let pop = popped old.spares c.pop.new.self c.pop.result c.in-Some.spare c.in-Some.is c.pop.ensures.items r.clear in
@@ -35,9 +35,9 @@ returns-in-Ok-clause-ready g c =
 
 pub returns-in-Ok-clause-answered : goal.returns-in-Ok-clause-answered
 returns-in-Ok-clause-answered g c =
-    let w = world g.D.Disk.contents g.D.Disk.moment g.D.Disk.faults g.A.Devices.keys g.A.Devices.faults g.A.Devices.locations g.C.Admission.labels c.args.shared.now.lock.table.shared.table_id c.args.shared.now.lock.table.shared.key.value.value.store.opened in
+    let w = world c.args.shared.now in
     let old = c.args.self.now in let r = c.requires.ready in let room = length c.args.out.now in let request = model_request c.args.call.now room in let asks = ap (λ x. model_request x room) c.requires.call in
-    let lease = c.in-Ok.lease in let ranked = if_ok (λ lease. IsRanked old.pass.me.0 c.look-rank.new.pass.me.0 request Plain c.look-rank.result.0 (lease_pair lease ∷ old.pass.me.0.holding) (DecidesAfter w.told w.moment w.faults w.hard w.locations w.labels w.opened (IsLent (use_refusal c.args.usage) c.args.key.0 lease)))
+    let lease = c.in-Ok.lease in let ranked = if_ok (λ lease. IsRanked old.pass.me.0 c.look-rank.new.pass.me.0 request Plain c.look-rank.result.0 (lease_pair lease ∷ old.pass.me.0.holding) (DecidesAfter w (IsLent (use_refusal c.args.usage) c.args.key.0 lease)))
     c.look-rank.result.1 c.in-Ok.is c.look-rank.ensures.lent in
     let looked = record old { pass = c.look-rank.new.pass; spares = c.pop.new.self } in
     let quiet = ap may_change_keys (ranked.after.entered.call_is ∙ asks) ∙ quiet_call c.args.asked.now room c.args.key.0 c.args.usage c.requires.keyed in
@@ -46,9 +46,9 @@ returns-in-Ok-clause-answered g c =
 
 pub returns-in-Err-clause-ready : goal.returns-in-Err-clause-ready
 returns-in-Err-clause-ready g c =
-    let w = world g.D.Disk.contents g.D.Disk.moment g.D.Disk.faults g.A.Devices.keys g.A.Devices.faults g.A.Devices.locations g.C.Admission.labels c.args.shared.now.lock.table.shared.table_id c.args.shared.now.lock.table.shared.key.value.value.store.opened in
+    let w = world c.args.shared.now in
     let old = c.args.self.now in let r = c.requires.ready in let room = length c.args.out.now in let request = model_request c.args.call.now room in let asks = ap (λ x. model_request x room) c.requires.call in
-    let ranked = if_err (λ refused. IsRanked old.pass.me.0 c.look-rank.new.pass.me.0 request (mark_of refused.0) c.look-rank.result.0 old.pass.me.0.holding (DecidesAfter w.told w.moment w.faults w.hard w.locations w.labels w.opened (IsRefused (use_refusal c.args.usage) c.args.key.0 refused.0)))
+    let ranked = if_err (λ refused. IsRanked old.pass.me.0 c.look-rank.new.pass.me.0 request (mark_of refused.0) c.look-rank.result.0 old.pass.me.0.holding (DecidesAfter w (IsRefused (use_refusal c.args.usage) c.args.key.0 refused.0)))
     c.look-rank.result.1 c.in-Err.is c.look-rank.ensures.refused in
     let new = record old { pass = c.look-rank.new.pass; spares = c.push_reserved.new.self } in
     let pop = popped old.spares c.pop.new.self c.pop.result c.in-Some.spare c.in-Some.is c.pop.ensures.items r.clear in
@@ -61,9 +61,9 @@ returns-in-Err-clause-ready g c =
 
 pub returns-in-Err-clause-answered : goal.returns-in-Err-clause-answered
 returns-in-Err-clause-answered g c =
-    let w = world g.D.Disk.contents g.D.Disk.moment g.D.Disk.faults g.A.Devices.keys g.A.Devices.faults g.A.Devices.locations g.C.Admission.labels c.args.shared.now.lock.table.shared.table_id c.args.shared.now.lock.table.shared.key.value.value.store.opened in
+    let w = world c.args.shared.now in
     let old = c.args.self.now in let r = c.requires.ready in let room = length c.args.out.now in let request = model_request c.args.call.now room in let asks = ap (λ x. model_request x room) c.requires.call in
-    let ranked = if_err (λ refused. IsRanked old.pass.me.0 c.look-rank.new.pass.me.0 request (mark_of refused.0) c.look-rank.result.0 old.pass.me.0.holding (DecidesAfter w.told w.moment w.faults w.hard w.locations w.labels w.opened (IsRefused (use_refusal c.args.usage) c.args.key.0 refused.0)))
+    let ranked = if_err (λ refused. IsRanked old.pass.me.0 c.look-rank.new.pass.me.0 request (mark_of refused.0) c.look-rank.result.0 old.pass.me.0.holding (DecidesAfter w (IsRefused (use_refusal c.args.usage) c.args.key.0 refused.0)))
     c.look-rank.result.1 c.in-Err.is c.look-rank.ensures.refused in
     let new = record old { pass = c.look-rank.new.pass; spares = c.push_reserved.new.self } in
     let quiet = ap may_change_keys (ranked.after.entered.call_is ∙ asks) ∙ quiet_call c.args.asked.now room c.args.key.0 c.args.usage c.requires.keyed in

@@ -1,10 +1,10 @@
 use Rattle.std.proofs.Common.{ℕ, List, refl, ap, ◌∙◌, arith}
 use Rattle.random_streams.specs.RandomWords.{RandomStream}
-use Rattle.callers.specs.Worlds.{world}
+use Rattle.shared_store.specs.Shared.{world}
 use Rattle.callers.proofs.Starting.{starts_ready}
 use Rattle.callers.proofs.caller.Caller.new.Goals as goal
 
 pub returns-clause-ready : goal.returns-clause-ready
 returns-clause-ready g c =
-    let w = world g.D.Disk.contents g.D.Disk.moment g.D.Disk.faults g.A.Devices.keys g.A.Devices.faults g.A.Devices.locations g.C.Admission.labels c.args._shared.now.lock.table.shared.table_id c.args._shared.now.lock.table.shared.key.value.value.store.opened in
+    let w = world c.args._shared.now in
     let r = c.requires in starts_ready w _ r.table r.fresh r.first r.last r.sound r.four r.inactive r.five r.clear (let ok = c.args.spares.ok in let five = r.five in omega arith) (c.new.ensures ∙ ap (λ (s : List ℕ). let x : RandomStream = record { seed = s; caller = c.args.number; place = 0 } in x) r.seed) refl

@@ -11,7 +11,7 @@ use Rattle.store_model.specs.Faults.{Plain}
 use Rattle.store_model.proofs.Tables.{NoFault}
 use Rattle.keyed_calls.proofs.Draws.{draws_none}
 use Rattle.callers.specs.Handles.{AreOperations, IsChanged, operation_at}
-use Rattle.callers.specs.Worlds.{world}
+use Rattle.shared_store.specs.Shared.{world}
 use Rattle.callers.proofs.Beginning.{at_handle}
 use Rattle.callers.proofs.Failing.{key_refused_plainly, told_plainly}
 use Rattle.callers.proofs.Handling.{few_turns, handled_answered, handled_ready, has_room, made, one_turn, out, same_out, waits}
@@ -24,7 +24,7 @@ refuse_key-refused-requires g c =
 
 pub give_back-requires-clause-out : goal.give_back-requires-clause-out
 give_back-requires-clause-out g c κs within =
-    let w = world g.D.Disk.contents g.D.Disk.moment g.D.Disk.faults g.A.Devices.keys g.A.Devices.faults g.A.Devices.locations g.C.Admission.labels c.args.shared.now.lock.table.shared.table_id c.args.shared.now.lock.table.shared.key.value.value.store.opened in
+    let w = world c.args.shared.now in
     let old = c.args.self.now in let r = c.requires.ready in let asked = c.ask-rank.ensures in let same = asked.same in let request = model_request c.args.call.now c.args.room in
     let settled = record c.ask-rank.new.self { handles = c.refuse_key-refused.new.self } in let op = c.args.op in let lease = c.refuse_key-refused.result.1 in
     let after = key_refused c.ask-rank.result.1 (operation_at r.operations op) c.args.step in let before = asked.ranked.before in let e = asked.ranked.after.entry in let i = asked.ranked.after.entered in
@@ -34,7 +34,7 @@ give_back-requires-clause-out g c κs within =
 
 pub give_back-requires-clause-room : goal.give_back-requires-clause-room
 give_back-requires-clause-room g c κs within =
-    let w = world g.D.Disk.contents g.D.Disk.moment g.D.Disk.faults g.A.Devices.keys g.A.Devices.faults g.A.Devices.locations g.C.Admission.labels c.args.shared.now.lock.table.shared.table_id c.args.shared.now.lock.table.shared.key.value.value.store.opened in
+    let w = world c.args.shared.now in
     let old = c.args.self.now in let r = c.requires.ready in let asked = c.ask-rank.ensures in let same = asked.same in let request = model_request c.args.call.now c.args.room in
     let settled = record c.ask-rank.new.self { handles = c.refuse_key-refused.new.self } in let op = c.args.op in let lease = c.refuse_key-refused.result.1 in
     let after = key_refused c.ask-rank.result.1 (operation_at r.operations op) c.args.step in let before = asked.ranked.before in let e = asked.ranked.after.entry in let i = asked.ranked.after.entered in
@@ -44,7 +44,7 @@ give_back-requires-clause-room g c κs within =
 
 pub returns-in-Ok-clause-ready : goal.returns-in-Ok-clause-ready
 returns-in-Ok-clause-ready g c =
-    let w = world g.D.Disk.contents g.D.Disk.moment g.D.Disk.faults g.A.Devices.keys g.A.Devices.faults g.A.Devices.locations g.C.Admission.labels c.args.shared.now.lock.table.shared.table_id c.args.shared.now.lock.table.shared.key.value.value.store.opened in
+    let w = world c.args.shared.now in
     let old = c.args.self.now in let r = c.requires.ready in let asked = c.ask-rank.ensures in let same = asked.same in let request = model_request c.args.call.now c.args.room in
     let settled = record c.ask-rank.new.self { handles = c.refuse_key-refused.new.self } in let op = c.args.op in let lease = c.refuse_key-refused.result.1 in
     let after = key_refused c.ask-rank.result.1 (operation_at r.operations op) c.args.step in let before = asked.ranked.before in let e = asked.ranked.after.entry in let i = asked.ranked.after.entered in
@@ -62,7 +62,7 @@ returns-in-Ok-clause-ready g c =
 
 pub returns-in-Err-clause-ready : goal.returns-in-Err-clause-ready
 returns-in-Err-clause-ready g c =
-    let w = world g.D.Disk.contents g.D.Disk.moment g.D.Disk.faults g.A.Devices.keys g.A.Devices.faults g.A.Devices.locations g.C.Admission.labels c.args.shared.now.lock.table.shared.table_id c.args.shared.now.lock.table.shared.key.value.value.store.opened in
+    let w = world c.args.shared.now in
     let old = c.args.self.now in let r = c.requires.ready in let asked = c.ask-rank.ensures in let same = asked.same in let request = model_request c.args.call.now c.args.room in
     let settled = record c.ask-rank.new.self { handles = c.refuse_key-refused.new.self } in let op = c.args.op in let lease = c.refuse_key-refused.result.1 in
     let after = key_refused c.ask-rank.result.1 (operation_at r.operations op) c.args.step in let before = asked.ranked.before in let e = asked.ranked.after.entry in let i = asked.ranked.after.entered in
@@ -80,7 +80,7 @@ returns-in-Err-clause-ready g c =
 
 pub returns-in-Ok-clause-answered : goal.returns-in-Ok-clause-answered
 returns-in-Ok-clause-answered g c =
-    λ buffer. let w = world g.D.Disk.contents g.D.Disk.moment g.D.Disk.faults g.A.Devices.keys g.A.Devices.faults g.A.Devices.locations g.C.Admission.labels c.args.shared.now.lock.table.shared.table_id c.args.shared.now.lock.table.shared.key.value.value.store.opened in
+    λ buffer. let w = world c.args.shared.now in
     let old = c.args.self.now in let r = c.requires.ready in let asked = c.ask-rank.ensures in let same = asked.same in let request = model_request c.args.call.now c.args.room in
     let settled = record c.ask-rank.new.self { handles = c.refuse_key-refused.new.self } in let op = c.args.op in let lease = c.refuse_key-refused.result.1 in
     let after = key_refused c.ask-rank.result.1 (operation_at r.operations op) c.args.step in let before = asked.ranked.before in let e = asked.ranked.after.entry in let i = asked.ranked.after.entered in
@@ -95,7 +95,7 @@ returns-in-Ok-clause-answered g c =
 
 pub returns-in-Err-clause-answered : goal.returns-in-Err-clause-answered
 returns-in-Err-clause-answered g c =
-    λ buffer. let w = world g.D.Disk.contents g.D.Disk.moment g.D.Disk.faults g.A.Devices.keys g.A.Devices.faults g.A.Devices.locations g.C.Admission.labels c.args.shared.now.lock.table.shared.table_id c.args.shared.now.lock.table.shared.key.value.value.store.opened in
+    λ buffer. let w = world c.args.shared.now in
     let old = c.args.self.now in let r = c.requires.ready in let asked = c.ask-rank.ensures in let same = asked.same in let request = model_request c.args.call.now c.args.room in
     let settled = record c.ask-rank.new.self { handles = c.refuse_key-refused.new.self } in let op = c.args.op in let lease = c.refuse_key-refused.result.1 in
     let after = key_refused c.ask-rank.result.1 (operation_at r.operations op) c.args.step in let before = asked.ranked.before in let e = asked.ranked.after.entry in let i = asked.ranked.after.entered in

@@ -11,7 +11,7 @@ use Rattle.store_model.specs.Faults.{Plain}
 use Rattle.store_model.proofs.Tables.{NoFault}
 use Rattle.keyed_calls.proofs.Draws.{draws_none}
 use Rattle.callers.specs.Handles.{AreOperations, IsChanged, operation_at}
-use Rattle.callers.specs.Worlds.{world}
+use Rattle.shared_store.specs.Shared.{world}
 use Rattle.callers.proofs.Beginning.{at_handle}
 use Rattle.callers.proofs.Failing.{derived_plainly, told_plainly}
 use Rattle.callers.proofs.Handling.{few_turns, handled_answered, handled_ready, has_room, made, one_turn, out, same_out, waits}
@@ -27,14 +27,14 @@ refuse_output_key-status-requires-clause-refused g c =
 
 pub ask-rank-requires-clause-leaves : goal.ask-rank-requires-clause-leaves
 ask-rank-requires-clause-leaves g c κs within =
-    let w = world g.D.Disk.contents g.D.Disk.moment g.D.Disk.faults g.A.Devices.keys g.A.Devices.faults g.A.Devices.locations g.C.Admission.labels c.args.shared.now.lock.table.shared.table_id c.args.shared.now.lock.table.shared.key.value.value.store.opened in
+    let w = world c.args.shared.now in
     let r = c.requires.ready in
     undue_leaves w c.args.self.now r (model_request c.args.call.now c.args.room) c.args.op c.args.attributes c.requires.first c.requires.last (ap (λ x. model_request x c.args.room) c.requires.call)
     (at_handle (λ o. output_key_refusal (part_of derivation_part o) c.args.attributes ≡ None → ⊥) c.args.self.now.handles.cells.items r.operations c.args.op r.stand c.requires.first c.requires.last c.requires.refused)
 
 pub give_back-requires-clause-out : goal.give_back-requires-clause-out
 give_back-requires-clause-out g c κs within =
-    let w = world g.D.Disk.contents g.D.Disk.moment g.D.Disk.faults g.A.Devices.keys g.A.Devices.faults g.A.Devices.locations g.C.Admission.labels c.args.shared.now.lock.table.shared.table_id c.args.shared.now.lock.table.shared.key.value.value.store.opened in
+    let w = world c.args.shared.now in
     let old = c.args.self.now in let r = c.requires.ready in let asked = c.ask-rank.ensures in let same = asked.same in let request = model_request c.args.call.now c.args.room in
     let settled = record c.ask-rank.new.self { handles = c.refuse_output_key-status.new.self } in let op = c.args.op in let lease = c.refuse_output_key-status.result.1 in
     let after = derived_key_refused c.ask-rank.result.1 (operation_at r.operations op) c.args.attributes in let before = asked.ranked.before in let e = asked.ranked.after.entry in let i = asked.ranked.after.entered in
@@ -44,7 +44,7 @@ give_back-requires-clause-out g c κs within =
 
 pub give_back-requires-clause-room : goal.give_back-requires-clause-room
 give_back-requires-clause-room g c κs within =
-    let w = world g.D.Disk.contents g.D.Disk.moment g.D.Disk.faults g.A.Devices.keys g.A.Devices.faults g.A.Devices.locations g.C.Admission.labels c.args.shared.now.lock.table.shared.table_id c.args.shared.now.lock.table.shared.key.value.value.store.opened in
+    let w = world c.args.shared.now in
     let old = c.args.self.now in let r = c.requires.ready in let asked = c.ask-rank.ensures in let same = asked.same in let request = model_request c.args.call.now c.args.room in
     let settled = record c.ask-rank.new.self { handles = c.refuse_output_key-status.new.self } in let op = c.args.op in let lease = c.refuse_output_key-status.result.1 in
     let after = derived_key_refused c.ask-rank.result.1 (operation_at r.operations op) c.args.attributes in let before = asked.ranked.before in let e = asked.ranked.after.entry in let i = asked.ranked.after.entered in
@@ -54,7 +54,7 @@ give_back-requires-clause-room g c κs within =
 
 pub returns-clause-ready : goal.returns-clause-ready
 returns-clause-ready g c =
-    let w = world g.D.Disk.contents g.D.Disk.moment g.D.Disk.faults g.A.Devices.keys g.A.Devices.faults g.A.Devices.locations g.C.Admission.labels c.args.shared.now.lock.table.shared.table_id c.args.shared.now.lock.table.shared.key.value.value.store.opened in
+    let w = world c.args.shared.now in
     let old = c.args.self.now in let r = c.requires.ready in let asked = c.ask-rank.ensures in let same = asked.same in let request = model_request c.args.call.now c.args.room in
     let settled = record c.ask-rank.new.self { handles = c.refuse_output_key-status.new.self } in let op = c.args.op in let lease = c.refuse_output_key-status.result.1 in
     let after = derived_key_refused c.ask-rank.result.1 (operation_at r.operations op) c.args.attributes in let before = asked.ranked.before in let e = asked.ranked.after.entry in let i = asked.ranked.after.entered in
@@ -72,7 +72,7 @@ returns-clause-ready g c =
 
 pub returns-clause-answered : goal.returns-clause-answered
 returns-clause-answered g c =
-    λ buffer. let w = world g.D.Disk.contents g.D.Disk.moment g.D.Disk.faults g.A.Devices.keys g.A.Devices.faults g.A.Devices.locations g.C.Admission.labels c.args.shared.now.lock.table.shared.table_id c.args.shared.now.lock.table.shared.key.value.value.store.opened in
+    λ buffer. let w = world c.args.shared.now in
     let old = c.args.self.now in let r = c.requires.ready in let asked = c.ask-rank.ensures in let same = asked.same in let request = model_request c.args.call.now c.args.room in
     let settled = record c.ask-rank.new.self { handles = c.refuse_output_key-status.new.self } in let op = c.args.op in let lease = c.refuse_output_key-status.result.1 in
     let after = derived_key_refused c.ask-rank.result.1 (operation_at r.operations op) c.args.attributes in let before = asked.ranked.before in let e = asked.ranked.after.entry in let i = asked.ranked.after.entered in

@@ -1,10 +1,10 @@
 use Rattle.std.proofs.Common.{◌≡◌, subst, arith}
 use Rattle.callers.specs.Retired.{IsRetiring}
-use Rattle.callers.specs.Worlds.{world}
+use Rattle.shared_store.specs.Shared.{world}
 use Rattle.callers.proofs.Retiring.{ends}
 use Rattle.callers.proofs.caller.Caller.retire.Goals as goal
 
 pub returns-clause-retired : goal.returns-clause-retired
 returns-clause-retired g c =
-    let w = world g.D.Disk.contents g.D.Disk.moment g.D.Disk.faults g.A.Devices.keys g.A.Devices.faults g.A.Devices.locations g.C.Admission.labels c.args.shared.now.lock.table.shared.table_id c.args.shared.now.lock.table.shared.key.value.value.store.opened in
+    let w = world c.args.shared.now in
     ends w c.loop-place.self (subst (λ n. IsRetiring w n c.loop-place.self) (let low = c.loop-place-test.false in let high = c.loop-place.auto.place-end in let e : c.loop-place.place ≡ 4 = omega arith in e) c.loop-place.invariant.retiring)

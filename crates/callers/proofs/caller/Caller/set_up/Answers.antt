@@ -4,14 +4,14 @@ use Rattle.service_calls.specs.Meanings.{model_request}
 use Rattle.store_model.specs.Faults.{Plain}
 use Rattle.store_model.specs.Operations.{is_inactive}
 use Rattle.callers.specs.Handles.{operation_at}
-use Rattle.callers.specs.Worlds.{world}
+use Rattle.shared_store.specs.Shared.{world}
 use Rattle.callers.proofs.Beginning.{at_handle, stayed_answered, stayed_ready, twice}
 use Rattle.callers.proofs.SettingUp.{is_free}
 use Rattle.callers.proofs.caller.Caller.set_up.Goals as goal
 
 pub returns-then-not-is_inactive-clause-ready : goal.returns-then-not-is_inactive-clause-ready
 returns-then-not-is_inactive-clause-ready g c =
-    let w = world g.D.Disk.contents g.D.Disk.moment g.D.Disk.faults g.A.Devices.keys g.A.Devices.faults g.A.Devices.locations g.C.Admission.labels c.args.shared.now.lock.table.shared.table_id c.args.shared.now.lock.table.shared.key.value.value.store.opened in
+    let w = world c.args.shared.now in
     let old = c.args.self.now in let r = c.requires.ready in let request = model_request c.args.call.now c.args.room in let asks = ap (λ x. model_request x c.args.room) c.requires.call in
     let counted = c.count-rank.ensures.counted in let first = c.is_inactive.ensures.first in let last = c.is_inactive.ensures.last in let new = record old { pass = c.count-rank.new.pass } in let there = operation_at r.operations c.args.op in
     let begun = sym (at_handle (λ o. c.is_inactive.result ≡ is_inactive o) old.handles.cells.items r.operations c.args.op r.stand first last c.is_inactive.ensures.inactive) ∙ c.if-not-is_inactive.true in
@@ -20,7 +20,7 @@ returns-then-not-is_inactive-clause-ready g c =
 
 pub returns-then-not-is_inactive-clause-answered : goal.returns-then-not-is_inactive-clause-answered
 returns-then-not-is_inactive-clause-answered g c =
-    let w = world g.D.Disk.contents g.D.Disk.moment g.D.Disk.faults g.A.Devices.keys g.A.Devices.faults g.A.Devices.locations g.C.Admission.labels c.args.shared.now.lock.table.shared.table_id c.args.shared.now.lock.table.shared.key.value.value.store.opened in
+    let w = world c.args.shared.now in
     let old = c.args.self.now in let r = c.requires.ready in let request = model_request c.args.call.now c.args.room in let asks = ap (λ x. model_request x c.args.room) c.requires.call in
     let counted = c.count-rank.ensures.counted in let first = c.is_inactive.ensures.first in let last = c.is_inactive.ensures.last in let new = record old { pass = c.count-rank.new.pass } in let there = operation_at r.operations c.args.op in
     let begun = sym (at_handle (λ o. c.is_inactive.result ≡ is_inactive o) old.handles.cells.items r.operations c.args.op r.stand first last c.is_inactive.ensures.inactive) ∙ c.if-not-is_inactive.true in

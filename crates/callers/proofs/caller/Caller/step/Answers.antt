@@ -4,7 +4,7 @@ use Rattle.service_calls.specs.Meanings.{model_request, model_step}
 use Rattle.operation_cells.specs.Steps.{stepped_by}
 use Rattle.store_model.specs.Faults.{Plain}
 use Rattle.callers.specs.Handles.{AreOperations, IsChanged, operation_at}
-use Rattle.callers.specs.Worlds.{world}
+use Rattle.shared_store.specs.Shared.{world}
 use Rattle.callers.proofs.Failing.{answers_plain, stepped_plainly}
 use Rattle.callers.proofs.Handling.{few_turns, handled_answered, handled_ready, has_room, made, one_turn, out, same_out, waits}
 use Rattle.callers.proofs.Stepping.{applies}
@@ -12,7 +12,7 @@ use Rattle.callers.proofs.caller.Caller.step.Goals as goal
 
 pub give_back-requires-clause-out : goal.give_back-requires-clause-out
 give_back-requires-clause-out g c κs within =
-    let w = world g.D.Disk.contents g.D.Disk.moment g.D.Disk.faults g.A.Devices.keys g.A.Devices.faults g.A.Devices.locations g.C.Admission.labels c.args.shared.now.lock.table.shared.table_id c.args.shared.now.lock.table.shared.key.value.value.store.opened in
+    let w = world c.args.shared.now in
     let old = c.args.self.now in let r = c.requires.ready in let asked = c.ask-rank.ensures in let same = asked.same in let request = model_request c.args.call.now (length c.args.out.now) in
     let settled = record c.ask-rank.new.self { handles = c.step-result.new.self; stream = c.step-result.new.stream } in
     let after = stepped_by c.ask-rank.result.1 (next_bytes c.ask-rank.new.self.stream 16) (operation_at r.operations c.args.op) (model_step c.args.step (length c.args.out.now)) in
@@ -22,7 +22,7 @@ give_back-requires-clause-out g c κs within =
 
 pub give_back-requires-clause-room : goal.give_back-requires-clause-room
 give_back-requires-clause-room g c κs within =
-    let w = world g.D.Disk.contents g.D.Disk.moment g.D.Disk.faults g.A.Devices.keys g.A.Devices.faults g.A.Devices.locations g.C.Admission.labels c.args.shared.now.lock.table.shared.table_id c.args.shared.now.lock.table.shared.key.value.value.store.opened in
+    let w = world c.args.shared.now in
     let old = c.args.self.now in let r = c.requires.ready in let asked = c.ask-rank.ensures in let same = asked.same in let request = model_request c.args.call.now (length c.args.out.now) in
     let settled = record c.ask-rank.new.self { handles = c.step-result.new.self; stream = c.step-result.new.stream } in
     let after = stepped_by c.ask-rank.result.1 (next_bytes c.ask-rank.new.self.stream 16) (operation_at r.operations c.args.op) (model_step c.args.step (length c.args.out.now)) in
@@ -32,7 +32,7 @@ give_back-requires-clause-room g c κs within =
 
 pub returns-clause-ready : goal.returns-clause-ready
 returns-clause-ready g c =
-    let w = world g.D.Disk.contents g.D.Disk.moment g.D.Disk.faults g.A.Devices.keys g.A.Devices.faults g.A.Devices.locations g.C.Admission.labels c.args.shared.now.lock.table.shared.table_id c.args.shared.now.lock.table.shared.key.value.value.store.opened in
+    let w = world c.args.shared.now in
     let old = c.args.self.now in let r = c.requires.ready in let asked = c.ask-rank.ensures in let same = asked.same in let request = model_request c.args.call.now (length c.args.out.now) in
     let settled = record c.ask-rank.new.self { handles = c.step-result.new.self; stream = c.step-result.new.stream } in
     let after = stepped_by c.ask-rank.result.1 (next_bytes c.ask-rank.new.self.stream 16) (operation_at r.operations c.args.op) (model_step c.args.step (length c.args.out.now)) in
@@ -51,7 +51,7 @@ returns-clause-ready g c =
 
 pub returns-clause-answered : goal.returns-clause-answered
 returns-clause-answered g c =
-    let w = world g.D.Disk.contents g.D.Disk.moment g.D.Disk.faults g.A.Devices.keys g.A.Devices.faults g.A.Devices.locations g.C.Admission.labels c.args.shared.now.lock.table.shared.table_id c.args.shared.now.lock.table.shared.key.value.value.store.opened in
+    let w = world c.args.shared.now in
     let old = c.args.self.now in let r = c.requires.ready in let asked = c.ask-rank.ensures in let same = asked.same in let request = model_request c.args.call.now (length c.args.out.now) in
     let settled = record c.ask-rank.new.self { handles = c.step-result.new.self; stream = c.step-result.new.stream } in
     let after = stepped_by c.ask-rank.result.1 (next_bytes c.ask-rank.new.self.stream 16) (operation_at r.operations c.args.op) (model_step c.args.step (length c.args.out.now)) in

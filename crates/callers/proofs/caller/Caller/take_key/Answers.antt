@@ -9,7 +9,7 @@ use Rattle.store_model.specs.Faults.{Plain}
 use Rattle.store_core.specs.Uses.{IsLent, IsRefused, mark_of}
 use Rattle.operation_cells.specs.KeyInputs.{TakesKeyAt}
 use Rattle.shared_store.specs.Turning.{DecidesAfter, IsRanked, lease_pair}
-use Rattle.callers.specs.Worlds.{world}
+use Rattle.shared_store.specs.Shared.{world}
 use Rattle.callers.proofs.Beginning.{at_handle}
 use Rattle.callers.proofs.Inputting.{failed_answered, failed_ready, given_answered, given_ready, reads_secret}
 use Rattle.callers.proofs.Looking.{has_room_for_lease, has_spare, popped}
@@ -18,17 +18,17 @@ use Rattle.callers.proofs.caller.Caller.take_key.Goals as goal
 
 pub unreachable-requires : goal.unreachable-requires
 unreachable-requires g c =
-    let w = world g.D.Disk.contents g.D.Disk.moment g.D.Disk.faults g.A.Devices.keys g.A.Devices.faults g.A.Devices.locations g.C.Admission.labels c.args.shared.now.lock.table.shared.table_id c.args.shared.now.lock.table.shared.key.value.value.store.opened in
+    let w = world c.args.shared.now in
     false≢true (ap is_some (sym c.in_default.is) ∙ c.pop.ensures.variant.1 (has_spare w 4 c.args.self.now c.requires.ready))
 
 pub look-rank-requires-clause-space : goal.look-rank-requires-clause-space
 look-rank-requires-clause-space g c κs within =
-    let w = world g.D.Disk.contents g.D.Disk.moment g.D.Disk.faults g.A.Devices.keys g.A.Devices.faults g.A.Devices.locations g.C.Admission.labels c.args.shared.now.lock.table.shared.table_id c.args.shared.now.lock.table.shared.key.value.value.store.opened in
+    let w = world c.args.shared.now in
     has_room_for_lease w 4 c.args.self.now c.requires.ready
 
 pub look-rank-requires-clause-reads : goal.look-rank-requires-clause-reads
 look-rank-requires-clause-reads g c κs within =
-    let w = world g.D.Disk.contents g.D.Disk.moment g.D.Disk.faults g.A.Devices.keys g.A.Devices.faults g.A.Devices.locations g.C.Admission.labels c.args.shared.now.lock.table.shared.table_id c.args.shared.now.lock.table.shared.key.value.value.store.opened in
+    let w = world c.args.shared.now in
     let old = c.args.self.now in let r = c.requires.ready in let request = model_request c.args.call.now c.args.room in let asks = ap (λ x. model_request x c.args.room) c.requires.call in let first = c.requires.first in let last = c.requires.last in
     let takes = at_handle (λ o. TakesKeyAt o c.args.step c.args.wanted) old.handles.cells.items r.operations c.args.op r.stand first last (λ cell operation at is. (c.requires.takes cell operation at is).0) in
     reads_secret w old r request c.args.op c.args.step c.args.key.0 c.args.wanted first last asks takes
@@ -38,10 +38,10 @@ input_key-requires-clause-takes g c = λ cell operation at is. let takes = (c.re
 
 pub returns-in-Ok-clause-ready : goal.returns-in-Ok-clause-ready
 returns-in-Ok-clause-ready g c =
-    let w = world g.D.Disk.contents g.D.Disk.moment g.D.Disk.faults g.A.Devices.keys g.A.Devices.faults g.A.Devices.locations g.C.Admission.labels c.args.shared.now.lock.table.shared.table_id c.args.shared.now.lock.table.shared.key.value.value.store.opened in
+    let w = world c.args.shared.now in
     let old = c.args.self.now in let r = c.requires.ready in let request = model_request c.args.call.now c.args.room in let asks = ap (λ x. model_request x c.args.room) c.requires.call in let first = c.requires.first in let last = c.requires.last in
     let takes = at_handle (λ o. TakesKeyAt o c.args.step c.args.wanted) old.handles.cells.items r.operations c.args.op r.stand first last (λ cell operation at is. (c.requires.takes cell operation at is).0) in
-    let lease = c.in-Ok.lease in let ranked = if_ok (λ lease. IsRanked old.pass.me.0 c.look-rank.new.pass.me.0 request Plain c.look-rank.result.0 (lease_pair lease ∷ old.pass.me.0.holding) (DecidesAfter w.told w.moment w.faults w.hard w.locations w.labels w.opened (IsLent (use_refusal c.args.wanted) c.args.key.0 lease)))
+    let lease = c.in-Ok.lease in let ranked = if_ok (λ lease. IsRanked old.pass.me.0 c.look-rank.new.pass.me.0 request Plain c.look-rank.result.0 (lease_pair lease ∷ old.pass.me.0.holding) (DecidesAfter w (IsLent (use_refusal c.args.wanted) c.args.key.0 lease)))
     c.look-rank.result.1 c.in-Ok.is c.look-rank.ensures.lent in
     let new = record old { pass = c.look-rank.new.pass; spares = c.pop.new.self; handles = c.input_key.new.self } in
     let pop = popped old.spares c.pop.new.self c.pop.result c.in-Some.spare c.in-Some.is c.pop.ensures.items r.clear in
@@ -51,20 +51,20 @@ returns-in-Ok-clause-ready g c =
 
 pub returns-in-Ok-clause-answered : goal.returns-in-Ok-clause-answered
 returns-in-Ok-clause-answered g c =
-    let w = world g.D.Disk.contents g.D.Disk.moment g.D.Disk.faults g.A.Devices.keys g.A.Devices.faults g.A.Devices.locations g.C.Admission.labels c.args.shared.now.lock.table.shared.table_id c.args.shared.now.lock.table.shared.key.value.value.store.opened in
+    let w = world c.args.shared.now in
     let old = c.args.self.now in let r = c.requires.ready in let request = model_request c.args.call.now c.args.room in let asks = ap (λ x. model_request x c.args.room) c.requires.call in let first = c.requires.first in let last = c.requires.last in
     let takes = at_handle (λ o. TakesKeyAt o c.args.step c.args.wanted) old.handles.cells.items r.operations c.args.op r.stand first last (λ cell operation at is. (c.requires.takes cell operation at is).0) in
-    let lease = c.in-Ok.lease in let ranked = if_ok (λ lease. IsRanked old.pass.me.0 c.look-rank.new.pass.me.0 request Plain c.look-rank.result.0 (lease_pair lease ∷ old.pass.me.0.holding) (DecidesAfter w.told w.moment w.faults w.hard w.locations w.labels w.opened (IsLent (use_refusal c.args.wanted) c.args.key.0 lease)))
+    let lease = c.in-Ok.lease in let ranked = if_ok (λ lease. IsRanked old.pass.me.0 c.look-rank.new.pass.me.0 request Plain c.look-rank.result.0 (lease_pair lease ∷ old.pass.me.0.holding) (DecidesAfter w (IsLent (use_refusal c.args.wanted) c.args.key.0 lease)))
     c.look-rank.result.1 c.in-Ok.is c.look-rank.ensures.lent in
     let new = record old { pass = c.look-rank.new.pass; spares = c.pop.new.self; handles = c.input_key.new.self } in
     given_answered w old new r request Plain c.look-rank.result.0 (lease_pair lease ∷ old.pass.me.0.holding) ranked.before ranked.after.entry ranked.after.entered c.args.op c.args.step c.args.key.0 c.args.wanted first last asks takes refl lease ranked.after.decided
 
 pub returns-in-Err-clause-ready : goal.returns-in-Err-clause-ready
 returns-in-Err-clause-ready g c =
-    let w = world g.D.Disk.contents g.D.Disk.moment g.D.Disk.faults g.A.Devices.keys g.A.Devices.faults g.A.Devices.locations g.C.Admission.labels c.args.shared.now.lock.table.shared.table_id c.args.shared.now.lock.table.shared.key.value.value.store.opened in
+    let w = world c.args.shared.now in
     let old = c.args.self.now in let r = c.requires.ready in let request = model_request c.args.call.now c.args.room in let asks = ap (λ x. model_request x c.args.room) c.requires.call in let first = c.requires.first in let last = c.requires.last in
     let takes = at_handle (λ o. TakesKeyAt o c.args.step c.args.wanted) old.handles.cells.items r.operations c.args.op r.stand first last (λ cell operation at is. (c.requires.takes cell operation at is).0) in
-    let why = c.in-Err.status in let ranked = if_err (λ refused. IsRanked old.pass.me.0 c.look-rank.new.pass.me.0 request (mark_of refused.0) c.look-rank.result.0 old.pass.me.0.holding (DecidesAfter w.told w.moment w.faults w.hard w.locations w.labels w.opened (IsRefused (use_refusal c.args.wanted) c.args.key.0 refused.0)))
+    let why = c.in-Err.status in let ranked = if_err (λ refused. IsRanked old.pass.me.0 c.look-rank.new.pass.me.0 request (mark_of refused.0) c.look-rank.result.0 old.pass.me.0.holding (DecidesAfter w (IsRefused (use_refusal c.args.wanted) c.args.key.0 refused.0)))
     c.look-rank.result.1 c.in-Err.is c.look-rank.ensures.refused in
     let new = record old { pass = c.look-rank.new.pass; spares = c.push_reserved.new.self; handles = c.fail_derivation.new.self } in
     let pop = popped old.spares c.pop.new.self c.pop.result c.in-Some.spare c.in-Some.is c.pop.ensures.items r.clear in
@@ -77,10 +77,10 @@ returns-in-Err-clause-ready g c =
 
 pub returns-in-Err-clause-answered : goal.returns-in-Err-clause-answered
 returns-in-Err-clause-answered g c =
-    let w = world g.D.Disk.contents g.D.Disk.moment g.D.Disk.faults g.A.Devices.keys g.A.Devices.faults g.A.Devices.locations g.C.Admission.labels c.args.shared.now.lock.table.shared.table_id c.args.shared.now.lock.table.shared.key.value.value.store.opened in
+    let w = world c.args.shared.now in
     let old = c.args.self.now in let r = c.requires.ready in let request = model_request c.args.call.now c.args.room in let asks = ap (λ x. model_request x c.args.room) c.requires.call in let first = c.requires.first in let last = c.requires.last in
     let takes = at_handle (λ o. TakesKeyAt o c.args.step c.args.wanted) old.handles.cells.items r.operations c.args.op r.stand first last (λ cell operation at is. (c.requires.takes cell operation at is).0) in
-    let why = c.in-Err.status in let ranked = if_err (λ refused. IsRanked old.pass.me.0 c.look-rank.new.pass.me.0 request (mark_of refused.0) c.look-rank.result.0 old.pass.me.0.holding (DecidesAfter w.told w.moment w.faults w.hard w.locations w.labels w.opened (IsRefused (use_refusal c.args.wanted) c.args.key.0 refused.0)))
+    let why = c.in-Err.status in let ranked = if_err (λ refused. IsRanked old.pass.me.0 c.look-rank.new.pass.me.0 request (mark_of refused.0) c.look-rank.result.0 old.pass.me.0.holding (DecidesAfter w (IsRefused (use_refusal c.args.wanted) c.args.key.0 refused.0)))
     c.look-rank.result.1 c.in-Err.is c.look-rank.ensures.refused in
     let new = record old { pass = c.look-rank.new.pass; spares = c.push_reserved.new.self; handles = c.fail_derivation.new.self } in
     failed_answered w old new r request (mark_of why) c.look-rank.result.0 old.pass.me.0.holding ranked.before ranked.after.entry ranked.after.entered c.args.op c.args.step c.args.key.0 c.args.wanted first last asks takes why refl ranked.after.decided

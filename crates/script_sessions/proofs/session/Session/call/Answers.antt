@@ -6,7 +6,7 @@ use Rattle.service_calls.specs.Meanings.{model_request}
 use Rattle.script_lang.specs.Commands.{request_of}
 use Rattle.store_model.specs.Call.{Reply}
 use Rattle.callers.specs.Called.{IsAnswered}
-use Rattle.callers.specs.Worlds.{world}
+use Rattle.shared_store.specs.Shared.{world}
 use Rattle.script_lang.specs.declared.replies.Replies.{Replies}
 use Rattle.callers.specs.Failures.{failure_in}
 use Rattle.script_sessions.specs.Replying.{Answer, Answers, Fills, Notes, Tells}
@@ -23,7 +23,7 @@ made_so (Err full) old new rank T told M made n = made (λ reply. Unit {0}) (λ 
 
 pub returns-clause-made : goal.returns-clause-made
 returns-clause-made g c =
-    let w = world g.D.Disk.contents g.D.Disk.moment g.D.Disk.faults g.A.Devices.keys g.A.Devices.faults g.A.Devices.locations g.C.Admission.labels c.args.service.now.shared.lock.table.shared.table_id c.args.service.now.shared.lock.table.shared.key.value.value.store.opened in
+    let w = world c.args.service.now.shared in
     let v = c.args.self.now.caller.pass.me.0 in let u = c.call-ranked.new.caller.pass.me.0 in let rank = c.in-Some.rank in
     let before = take c.room.result c.args.buffer.now in let out = c.call-ranked.new.out in let result = c.call-ranked.result.1 in
     let asked = model_request c.value-call.result (length before) in let wanted = request_of c.args.self.now.given.items c.args.line.now.call in

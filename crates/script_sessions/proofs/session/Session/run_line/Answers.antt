@@ -1,7 +1,7 @@
 use Rattle.std.proofs.Common.{◌≡◌, ◌∙◌, ◌++◌, ◌∷◌, [], ap, subst, inr, sym}
 use Rattle.std.specs.Prelude.{MatchResult, Result, Ok, Err}
 use Rattle.script_lang.specs.Commands.{request_of}
-use Rattle.callers.specs.Worlds.{world}
+use Rattle.shared_store.specs.Shared.{world}
 use Rattle.script_sessions.specs.Replying.{Answers, Tells}
 use Rattle.script_sessions.specs.Running.{IsMade}
 use Rattle.script_sessions.proofs.Told.{answered_more, made_more}
@@ -15,7 +15,7 @@ in_err r e P Q is m = subst (λ r. MatchResult r P Q) is m
 
 pub returns-in-Ok-clause-ran : goal.returns-in-Ok-clause-ran
 returns-in-Ok-clause-ran g c lines h =
-    let w = world g.D.Disk.contents g.D.Disk.moment g.D.Disk.faults g.A.Devices.keys g.A.Devices.faults g.A.Devices.locations g.C.Admission.labels c.args.service.now.shared.lock.table.shared.table_id c.args.service.now.shared.lock.table.shared.key.value.value.store.opened in
+    let w = world c.args.service.now.shared in
     let old = c.args.self.now in let called = c.call.new.self in let line = c.args.line.now in let e = c.call.ensures in
     let rank = e.made.0 in
     let m = in_ok c.call.result c.in-Ok.id _ _ c.in-Ok.is e.made.1 in
@@ -26,7 +26,7 @@ returns-in-Ok-clause-ran g c lines h =
 
 pub returns-in-Err-clause-ran : goal.returns-in-Err-clause-ran
 returns-in-Err-clause-ran g c lines h =
-    let w = world g.D.Disk.contents g.D.Disk.moment g.D.Disk.faults g.A.Devices.keys g.A.Devices.faults g.A.Devices.locations g.C.Admission.labels c.args.service.now.shared.lock.table.shared.table_id c.args.service.now.shared.lock.table.shared.key.value.value.store.opened in
+    let w = world c.args.service.now.shared in
     let old = c.args.self.now in let called = c.call.new.self in let line = c.args.line.now in let e = c.call.ensures in
     let m = in_err c.call.result c.in-Err.field-0 _ _ c.in-Err.is e.made.1 in
     let made = subst (λ ids. IsMade w old.caller.pass.me.0 called.caller.pass.me.0 (request_of ids line.call) e.made.0 (λ reply. Unit {0}) (λ failure. Unit {0})) c.reserve.ensures.items m in

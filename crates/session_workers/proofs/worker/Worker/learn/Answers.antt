@@ -2,7 +2,7 @@ use Rattle.std.proofs.Common.{sym, ◌∙◌, subst, get_or-set_same}
 use Rattle.std.proofs.lemmas.List.{get_or_default}
 use Rattle.turn_history.specs.History.{entries_of, StartsWith}
 use Rattle.callers.specs.Ready.{IsReady}
-use Rattle.callers.specs.Worlds.{world}
+use Rattle.shared_store.specs.Shared.{world}
 use Rattle.callers.proofs.Journeys.{seen_begins}
 use Rattle.session_workers.specs.Working.{HasLearned}
 use Rattle.session_workers.proofs.Meeting.{changes_set, has_learned}
@@ -10,12 +10,12 @@ use Rattle.session_workers.proofs.worker.Worker.learn.Goals as goal
 
 pub learn-requires-clause-ready : goal.learn-requires-clause-ready
 learn-requires-clause-ready g c κs within =
-    let w = world g.D.Disk.contents g.D.Disk.moment g.D.Disk.faults g.A.Devices.keys g.A.Devices.faults g.A.Devices.locations g.C.Admission.labels c.args.service.now.shared.lock.table.shared.table_id c.args.service.now.shared.lock.table.shared.key.value.value.store.opened in
+    let w = world c.args.service.now.shared in
     subst (λ s. IsReady w 0 s.caller) (sym c.index_mut.ensures.value) (c.requires.ready c.index_mut.result.now)
 
 pub returns-clause-learned : goal.returns-clause-learned
 returns-clause-learned g c =
-    let w = world g.D.Disk.contents g.D.Disk.moment g.D.Disk.faults g.A.Devices.keys g.A.Devices.faults g.A.Devices.locations g.C.Admission.labels c.args.service.now.shared.lock.table.shared.table_id c.args.service.now.shared.lock.table.shared.key.value.value.store.opened in
+    let w = world c.args.service.now.shared in
     let s = c.index_mut.result.now in let items = c.args.self.now.sessions.items in let i = c.args.place in let new = record s { caller = c.learn.new.self } in
     changes_set (HasLearned w) items i new c.requires.place
     (λ d. subst (λ x. HasLearned w x new) (c.index_mut.ensures.value ∙ get_or_default items i s d c.requires.place)

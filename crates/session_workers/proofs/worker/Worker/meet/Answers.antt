@@ -2,20 +2,20 @@ use Rattle.std.proofs.Common.{◌<◌, length, get_or, sym, ap, subst, IfSome}
 use Rattle.turn_history.specs.History.{entries_of, StartsWith}
 use Rattle.callers.specs.Called.{Legal}
 use Rattle.callers.specs.Ready.{IsReady}
-use Rattle.callers.specs.Worlds.{world}
+use Rattle.shared_store.specs.Shared.{world}
 use Rattle.session_workers.specs.Working.{ChangesAt, HasLearned}
 use Rattle.session_workers.proofs.Meeting.{changes_none, item_of, learned_nothing}
 use Rattle.session_workers.proofs.worker.Worker.meet.Goals as goal
 
 pub returns-in_default-clause-learned : goal.returns-in_default-clause-learned
 returns-in_default-clause-learned g c =
-    let w = world g.D.Disk.contents g.D.Disk.moment g.D.Disk.faults g.A.Devices.keys g.A.Devices.faults g.A.Devices.locations g.C.Admission.labels c.args.service.now.shared.lock.table.shared.table_id c.args.service.now.shared.lock.table.shared.key.value.value.store.opened in
+    let w = world c.args.service.now.shared in
     let items = c.args.self.now.sessions.items in
     changes_none (HasLearned w) items c.args.place (λ d. learned_nothing w (get_or items c.args.place d) (c.requires.ready c.args.place d c.requires.place))
 
 pub learn-requires-clause-ready : goal.learn-requires-clause-ready
 learn-requires-clause-ready g c κs within = λ d.
-    let w = world g.D.Disk.contents g.D.Disk.moment g.D.Disk.faults g.A.Devices.keys g.A.Devices.faults g.A.Devices.locations g.C.Admission.labels c.args.service.now.shared.lock.table.shared.table_id c.args.service.now.shared.lock.table.shared.key.value.value.store.opened in
+    let w = world c.args.service.now.shared in
     subst (λ xs. IsReady w 0 (get_or xs c.args.place d).caller) (sym c.watch-watcher.ensures.items) (c.requires.ready c.args.place d c.requires.place)
 
 pub learn-requires-clause-weightless : goal.learn-requires-clause-weightless
@@ -26,7 +26,7 @@ learn-requires-clause-weightless g c κs within =
 
 pub learn-requires-clause-legal : goal.learn-requires-clause-legal
 learn-requires-clause-legal g c κs within =
-    let w = world g.D.Disk.contents g.D.Disk.moment g.D.Disk.faults g.A.Devices.keys g.A.Devices.faults g.A.Devices.locations g.C.Admission.labels c.args.service.now.shared.lock.table.shared.table_id c.args.service.now.shared.lock.table.shared.key.value.value.store.opened in
+    let w = world c.args.service.now.shared in
     let items = c.args.self.now.sessions.items in
     let inside : c.in-Some.last < length items = subst (λ o. IfSome o (λ last. last < length items)) c.in-Some.is c.requires.last in
     let d = item_of items c.in-Some.last inside in
@@ -34,7 +34,7 @@ learn-requires-clause-legal g c κs within =
 
 pub returns-then-last-place-clause-learned : goal.returns-then-last-place-clause-learned
 returns-then-last-place-clause-learned g c =
-    let w = world g.D.Disk.contents g.D.Disk.moment g.D.Disk.faults g.A.Devices.keys g.A.Devices.faults g.A.Devices.locations g.C.Admission.labels c.args.service.now.shared.lock.table.shared.table_id c.args.service.now.shared.lock.table.shared.key.value.value.store.opened in
+    let w = world c.args.service.now.shared in
     subst (λ xs. ChangesAt c.args.place (HasLearned w) xs c.learn.new.self.sessions.items) c.watch-watcher.ensures.items c.learn.ensures.learned
 
 pub returns-then-last-place-clause-met : goal.returns-then-last-place-clause-met
@@ -45,6 +45,6 @@ returns-then-last-place-clause-met g c =
 
 pub returns-else-last-place-clause-learned : goal.returns-else-last-place-clause-learned
 returns-else-last-place-clause-learned g c =
-    let w = world g.D.Disk.contents g.D.Disk.moment g.D.Disk.faults g.A.Devices.keys g.A.Devices.faults g.A.Devices.locations g.C.Admission.labels c.args.service.now.shared.lock.table.shared.table_id c.args.service.now.shared.lock.table.shared.key.value.value.store.opened in
+    let w = world c.args.service.now.shared in
     let items = c.args.self.now.sessions.items in
     changes_none (HasLearned w) items c.args.place (λ d. learned_nothing w (get_or items c.args.place d) (c.requires.ready c.args.place d c.requires.place))

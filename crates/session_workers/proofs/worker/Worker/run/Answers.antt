@@ -1,11 +1,11 @@
 use Rattle.std.proofs.Common.{◌∙◌, false, take, refl}
-use Rattle.callers.specs.Worlds.{world}
+use Rattle.shared_store.specs.Shared.{world}
 use Rattle.session_workers.proofs.Working.{ran_next, stopped}
 use Rattle.session_workers.proofs.worker.Worker.run.Goals as goal
 
 pub loop-line-preserved : goal.loop-line-preserved
 loop-line-preserved g c =
-    let w = world g.D.Disk.contents g.D.Disk.moment g.D.Disk.faults g.A.Devices.keys g.A.Devices.faults g.A.Devices.locations g.C.Admission.labels c.args.service.now.shared.lock.table.shared.table_id c.args.service.now.shared.lock.table.shared.key.value.value.store.opened in
+    let w = world c.args.service.now.shared in
     let i = c.loop-line.line-index in let lines = c.args.lines.now in let v = c.loop-line.invariant in record {
       ran = ran_next w lines i c.line-item.result c.loop-line-test.true c.line-item.is c.run_line.new.self (c.in-Ok.ensures.ran (take i lines) v.ran);
       numbers = c.run_line.ensures.numbers ∙ v.numbers;
@@ -15,7 +15,7 @@ loop-line-preserved g c =
 
 pub returns-in_default : goal.returns-in_default
 returns-in_default g c =
-    let w = world g.D.Disk.contents g.D.Disk.moment g.D.Disk.faults g.A.Devices.keys g.A.Devices.faults g.A.Devices.locations g.C.Admission.labels c.args.service.now.shared.lock.table.shared.table_id c.args.service.now.shared.lock.table.shared.key.value.value.store.opened in
+    let w = world c.args.service.now.shared in
     let i = c.loop-line.line-index in let lines = c.args.lines.now in let v = c.loop-line.invariant in
     stopped w lines i c.line-item.result c.loop-line-test.true c.line-item.is c.args.self.now (record c.run_line.new.self { whole = false })
     (c.run_line.ensures.numbers ∙ v.numbers) (λ form had. c.run_line.ensures.form form (v.form form had)) (c.in_default.ensures.ran (take i lines) v.ran) refl

@@ -1,14 +1,14 @@
 use Rattle.std.proofs.Common.{◌≡◌, ◌<◌, ◌≢◌, ◌≤◌, length, get_or, refl, ap, subst, arith, All}
 use Rattle.std.specs.Prelude.{Some}
 use Rattle.std.specs.Vec.{with_item, with_items}
-use Rattle.callers.specs.Worlds.{world}
+use Rattle.shared_store.specs.Shared.{world}
 use Rattle.script_sessions.specs.declared.session.Session.{Session}
 use Rattle.session_workers.proofs.Working.{answered_here, few_replies, ran_line, ran_none, same_form, same_numbers}
 use Rattle.session_workers.proofs.worker.Worker.run_line.Goals as goal
 
 pub returns-in_default-clause-ran : goal.returns-in_default-clause-ran
 returns-in_default-clause-ran g c = λ lines h.
-    let w = world g.D.Disk.contents g.D.Disk.moment g.D.Disk.faults g.A.Devices.keys g.A.Devices.faults g.A.Devices.locations g.C.Admission.labels c.args.service.now.shared.lock.table.shared.table_id c.args.service.now.shared.lock.table.shared.key.value.value.store.opened in
+    let w = world c.args.service.now.shared in
     ran_none w lines c.args.line.now c.args.self.now h (subst (All (λ (s : Session _ _ _). s.caller.number ≢ c.args.line.now.session)) c.deref.ensures.value c.in_default.ensures.none)
 
 pub meet-requires-clause-ready : goal.meet-requires-clause-ready
@@ -16,20 +16,20 @@ meet-requires-clause-ready g c κs within = λ k d lt. (c.requires.1.answered k 
 
 pub run_line-ran-requires-clause-ready : goal.run_line-ran-requires-clause-ready
 run_line-ran-requires-clause-ready g c κs within =
-    let w = world g.D.Disk.contents g.D.Disk.moment g.D.Disk.faults g.A.Devices.keys g.A.Devices.faults g.A.Devices.locations g.C.Admission.labels c.args.service.now.shared.lock.table.shared.table_id c.args.service.now.shared.lock.table.shared.key.value.value.store.opened in
+    let w = world c.args.service.now.shared in
     let found = subst (λ xs. (c.in-Some.place < length xs) × ((d : Session _ _ _) → (get_or xs c.in-Some.place d).caller.number ≡ c.args.line.now.session)) c.deref.ensures.value c.in-Some.ensures.found in
     (answered_here w c.requires.0 c.args.line.now c.args.self.now c.meet.new.self.sessions.items c.in-Some.place c.index_mut.result.now c.index_mut.result.now c.requires.1 found.0 found.1 c.meet.ensures.learned c.index_mut.ensures.value).made.ready
 
 pub run_line-ran-requires-clause-kept : goal.run_line-ran-requires-clause-kept
 run_line-ran-requires-clause-kept g c κs within =
-    let w = world g.D.Disk.contents g.D.Disk.moment g.D.Disk.faults g.A.Devices.keys g.A.Devices.faults g.A.Devices.locations g.C.Admission.labels c.args.service.now.shared.lock.table.shared.table_id c.args.service.now.shared.lock.table.shared.key.value.value.store.opened in
+    let w = world c.args.service.now.shared in
     let found = subst (λ xs. (c.in-Some.place < length xs) × ((d : Session _ _ _) → (get_or xs c.in-Some.place d).caller.number ≡ c.args.line.now.session)) c.deref.ensures.value c.in-Some.ensures.found in
     let s = c.index_mut.result.now in
     few_replies w c.requires.0 s (answered_here w c.requires.0 c.args.line.now c.args.self.now c.meet.new.self.sessions.items c.in-Some.place s s c.requires.1 found.0 found.1 c.meet.ensures.learned c.index_mut.ensures.value) c.requires.2
 
 pub returns-clause-ran : goal.returns-clause-ran
 returns-clause-ran g c = λ lines h.
-    let w = world g.D.Disk.contents g.D.Disk.moment g.D.Disk.faults g.A.Devices.keys g.A.Devices.faults g.A.Devices.locations g.C.Admission.labels c.args.service.now.shared.lock.table.shared.table_id c.args.service.now.shared.lock.table.shared.key.value.value.store.opened in
+    let w = world c.args.service.now.shared in
     let found = subst (λ xs. (c.in-Some.place < length xs) × ((d : Session _ _ _) → (get_or xs c.in-Some.place d).caller.number ≡ c.args.line.now.session)) c.deref.ensures.value c.in-Some.ensures.found in
     let t = c.args.self.now in let s = c.index_mut.result.now in
     let known = answered_here w lines c.args.line.now t c.meet.new.self.sessions.items c.in-Some.place s c.run_line-ran.new.self h found.0 found.1 c.meet.ensures.learned c.index_mut.ensures.value in
@@ -41,12 +41,12 @@ returns-clause-ran g c = λ lines h.
 
 pub returns-clause-numbers : goal.returns-clause-numbers
 returns-clause-numbers g c =
-    let w = world g.D.Disk.contents g.D.Disk.moment g.D.Disk.faults g.A.Devices.keys g.A.Devices.faults g.A.Devices.locations g.C.Admission.labels c.args.service.now.shared.lock.table.shared.table_id c.args.service.now.shared.lock.table.shared.key.value.value.store.opened in
+    let w = world c.args.service.now.shared in
     let found = subst (λ xs. (c.in-Some.place < length xs) × ((d : Session _ _ _) → (get_or xs c.in-Some.place d).caller.number ≡ c.args.line.now.session)) c.deref.ensures.value c.in-Some.ensures.found in
     same_numbers w c.requires.0 c.args.line.now c.args.self.now c.meet.new.self.sessions.items c.in-Some.place c.index_mut.result.now c.run_line-ran.new.self c.requires.1 found.0 found.1 c.meet.ensures.learned c.index_mut.ensures.value c.run_line-ran.ensures.number
 
 pub returns-clause-form : goal.returns-clause-form
 returns-clause-form g c =
-    let w = world g.D.Disk.contents g.D.Disk.moment g.D.Disk.faults g.A.Devices.keys g.A.Devices.faults g.A.Devices.locations g.C.Admission.labels c.args.service.now.shared.lock.table.shared.table_id c.args.service.now.shared.lock.table.shared.key.value.value.store.opened in
+    let w = world c.args.service.now.shared in
     let found = subst (λ xs. (c.in-Some.place < length xs) × ((d : Session _ _ _) → (get_or xs c.in-Some.place d).caller.number ≡ c.args.line.now.session)) c.deref.ensures.value c.in-Some.ensures.found in
     same_form w c.requires.0 c.args.line.now c.args.self.now c.meet.new.self.sessions.items c.in-Some.place c.index_mut.result.now c.run_line-ran.new.self c.requires.1 found.0 found.1 c.meet.ensures.learned c.index_mut.ensures.value c.run_line-ran.ensures.number c.run_line-ran.ensures.form

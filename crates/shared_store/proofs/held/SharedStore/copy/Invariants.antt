@@ -6,6 +6,6 @@ use Rattle.shared_store.proofs.held.SharedStore.copy.Given as goal
 -- the call is the entry of its turn
 abbrev pub ghosts-leave_ranked : goal.ghosts-leave_ranked
 ghosts-leave_ranked g a = record {
-  entry = Some (turn_entry g.D.Disk.moment g.D.Disk.faults g.A.Devices.faults a.turn.value.value.store a.pass.now.me.0.number (model_request a.call.now a.room) (mark_met a.met));
+  entry = Some (turn_entry g.D.Disk g.A.Devices a.turn.value.value.store a.pass.now.me.0.number (model_request a.call.now a.room) (mark_met a.met));
   holding = after_change a.change.now a.pass.now.me.0.holding;
 }

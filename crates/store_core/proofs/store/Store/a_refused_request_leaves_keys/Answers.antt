@@ -5,4 +5,4 @@ pub returns : goal.returns
 returns g c = λ start h e plain refused.
     let d = g.D.Disk in
     let v = g.A.Devices in
-    refused_leaves d.contents d.may_leave d.moment d.left_since d.faults v.keys v.faults v.locations g.C.Admission.labels c.args.self.now start h e plain refused
+    refused_leaves d v g.C.Admission c.args.self.now start h e plain refused

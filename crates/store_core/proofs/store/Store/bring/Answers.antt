@@ -14,8 +14,8 @@ returns-in-Some-clause-found g c = λ start opening h all e s is.
     let d = g.D.Disk in
     let v = g.A.Devices in
     let old = c.args.self.now in
-    brings d.contents d.may_leave d.moment d.left_since d.faults v.keys v.faults v.locations g.C.Admission.labels old old.file old.slots old.buffer start opening h all e
-    (IsBrought c.args.id.0 (slot_at old.slots.table.slots c.in-Some.slot)) (left_alone d.contents d.may_leave d.moment d.left_since d.faults v.keys v.faults v.locations g.C.Admission.labels old.file) s.holds s.holds.slots
+    brings d v g.C.Admission old old.file old.slots old.buffer start opening h all e
+    (IsBrought c.args.id.0 (slot_at old.slots.table.slots c.in-Some.slot)) (left_alone d v g.C.Admission old.file) s.holds s.holds.slots
     (c.in-Some.ensures.key s.holds.model all s.holds.slots)
 
 pub returns-in_default-find-clause-missing : goal.returns-in_default-find-clause-missing
@@ -24,8 +24,8 @@ returns-in_default-find-clause-missing g c = λ is_missing start opening h all e
     let v = g.A.Devices in
     let old = c.args.self.now in
     let m = s.holds.model in
-    brings d.contents d.may_leave d.moment d.left_since d.faults v.keys v.faults v.locations g.C.Admission.labels old old.file old.slots old.buffer start opening h all e
-    (λ n. map.get n.keys c.args.id.0 ≡ None) (left_alone d.contents d.may_leave d.moment d.left_since d.faults v.keys v.faults v.locations g.C.Admission.labels old.file) s.holds s.holds.slots
+    brings d v g.C.Admission old old.file old.slots old.buffer start opening h all e
+    (λ n. map.get n.keys c.args.id.0 ≡ None) (left_alone d v g.C.Admission old.file) s.holds s.holds.slots
     (no_key old.file.cells.slots.items m c.args.id.0 s.holds.directory c.in_default-find.ensures (c.in_default.ensures.none m all s.holds.slots))
 
 pub returns-in_default-find-clause-emptied : goal.returns-in_default-find-clause-emptied
@@ -37,8 +37,8 @@ returns-then-id-eq0-clause-missing g c = λ is_missing start opening h all e s i
     let v = g.A.Devices in
     let old = c.args.self.now in
     let m = s.holds.model in
-    brings d.contents d.may_leave d.moment d.left_since d.faults v.keys v.faults v.locations g.C.Admission.labels old old.file old.slots old.buffer start opening h all e
-    (λ n. map.get n.keys c.args.id.0 ≡ None) (left_alone d.contents d.may_leave d.moment d.left_since d.faults v.keys v.faults v.locations g.C.Admission.labels old.file) s.holds s.holds.slots
+    brings d v g.C.Admission old old.file old.slots old.buffer start opening h all e
+    (λ n. map.get n.keys c.args.id.0 ≡ None) (left_alone d v g.C.Admission old.file) s.holds s.holds.slots
     (none_of_zero m s.holds.sound c.args.id.0 c.if-id-eq0.true)
 
 pub returns-then-id-eq0-clause-emptied : goal.returns-then-id-eq0-clause-emptied
@@ -50,8 +50,8 @@ returns-then-id-gt-LAST_STATED_ID-clause-missing g c = λ is_missing start openi
     let v = g.A.Devices in
     let old = c.args.self.now in
     let m = s.holds.model in
-    brings d.contents d.may_leave d.moment d.left_since d.faults v.keys v.faults v.locations g.C.Admission.labels old old.file old.slots old.buffer start opening h all e
-    (λ n. map.get n.keys c.args.id.0 ≡ None) (left_alone d.contents d.may_leave d.moment d.left_since d.faults v.keys v.faults v.locations g.C.Admission.labels old.file) s.holds s.holds.slots
+    brings d v g.C.Admission old old.file old.slots old.buffer start opening h all e
+    (λ n. map.get n.keys c.args.id.0 ≡ None) (left_alone d v g.C.Admission old.file) s.holds s.holds.slots
     (none_above m s.holds.sound c.args.id.0 c.if-id-gt-LAST_STATED_ID.true (c.in_default.ensures.none m all s.holds.slots))
 
 pub returns-then-id-gt-LAST_STATED_ID-clause-emptied : goal.returns-then-id-gt-LAST_STATED_ID-clause-emptied

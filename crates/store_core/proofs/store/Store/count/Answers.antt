@@ -6,4 +6,4 @@ returns-clause-adds g c = λ start opening h all e s still is.
     let d = g.D.Disk in
     let v = g.A.Devices in
     let old = c.args.self.now in
-    (counts_on d.contents d.may_leave d.moment d.left_since d.faults v.keys v.faults v.locations g.C.Admission.labels g.met.D.Disk.only_now old old.slots start opening h all e s s.holds.slots still is).0
+    (counts_on d v g.C.Admission g.met.D.Disk.only_now old old.slots start opening h all e s s.holds.slots still is).0

@@ -16,21 +16,21 @@ add-requires-clause-unknown g c κs within =
     let d = g.D.Disk in
     let v = g.A.Devices in
     let q = c.requires.ready in
-    ready_slots d.contents d.may_leave d.moment d.left_since d.faults v.keys v.faults v.locations g.C.Admission.labels c.args.self.now c.args.caller c.args.recorded c.args.source q.0 q.1 q.2 q.3 q.4 q.5 c.requires.first c.requires.last (volatile_by c.args.recorded c.if-recorded-ne0.false) c.args.self.now.slots.lawful.sized
+    ready_slots d v g.C.Admission c.args.self.now c.args.caller c.args.recorded c.args.source q.0 q.1 q.2 q.3 q.4 q.5 c.requires.first c.requires.last (volatile_by c.args.recorded c.if-recorded-ne0.false) c.args.self.now.slots.lawful.sized
 
 pub add-requires-clause-made : goal.add-requires-clause-made
 add-requires-clause-made g c κs within =
     let d = g.D.Disk in
     let v = g.A.Devices in
     let q = c.requires.ready in
-    ready_made d.contents d.may_leave d.moment d.left_since d.faults v.keys v.faults v.locations g.C.Admission.labels c.args.self.now c.args.caller c.args.recorded c.args.source q.0 q.1 q.2 q.3 q.4 q.5 c.requires.first c.requires.last (volatile_by c.args.recorded c.if-recorded-ne0.false)
+    ready_made d v g.C.Admission c.args.self.now c.args.caller c.args.recorded c.args.source q.0 q.1 q.2 q.3 q.4 q.5 c.requires.first c.requires.last (volatile_by c.args.recorded c.if-recorded-ne0.false)
 
 pub add-requires-clause-live : goal.add-requires-clause-live
 add-requires-clause-live g c κs within =
     let d = g.D.Disk in
     let v = g.A.Devices in
     let q = c.requires.ready in
-    ready_live d.contents d.may_leave d.moment d.left_since d.faults v.keys v.faults v.locations g.C.Admission.labels c.args.self.now c.args.caller c.args.recorded c.args.source q.0 q.1 q.2 q.3 q.4 q.5 c.requires.first c.requires.last (volatile_by c.args.recorded c.if-recorded-ne0.false)
+    ready_live d v g.C.Admission c.args.self.now c.args.caller c.args.recorded c.args.source q.0 q.1 q.2 q.3 q.4 q.5 c.requires.first c.requires.last (volatile_by c.args.recorded c.if-recorded-ne0.false)
 
 pub returns-clause-made : goal.returns-clause-made
 returns-clause-made g c = λ start opening h all less e r since gains law making is.
@@ -48,12 +48,12 @@ returns-clause-made g c = λ start opening h all less e r since gains law making
     let local = local_by a c.if-recorded-eq1.false in
     let id = c.add.ensures.id in
     let rest = c.add.ensures.rest in
-    let agrees = c.add.ensures.fills m after all less own r.holds.slots gains (subst (λ n. Puts m after n (Some own)) (sym id) (next_puts d.contents d.may_leave d.moment d.left_since d.faults v.keys v.faults v.locations g.C.Admission.labels old caller a c.args.source start opening h all e r first last volatile))
-    (subst (λ n. SlotHasKey (full_slot (old.found + old.ranked) (identified a n) (bytes_of old.buffer)) own) (sym id) (local_takes d.contents d.may_leave d.moment d.left_since d.faults v.keys v.faults v.locations g.C.Admission.labels old caller a c.args.source start opening h all e r first last volatile local))
-    (subst (λ n. IsThereOrNew m n own) (sym id) (next_new d.contents d.may_leave d.moment d.left_since d.faults v.keys v.faults v.locations g.C.Admission.labels old caller a c.args.source start opening h all e r first last volatile)) in (
-      subst (λ (s : Store _ _ _). StandsHere d.contents d.may_leave d.moment d.left_since d.faults v.keys v.faults v.locations g.C.Admission.labels (ranked_on s) start opening (h ++ e ∷ []) less) (sym rest)
-          (makes_volatile d.contents d.may_leave d.moment d.left_since d.faults v.keys v.faults v.locations g.C.Admission.labels old caller a c.args.source start opening h all e r first last volatile g.met.D.Disk.only_now old.devices c.add.new.self.slots old.buffer less making law c.add.ensures.sized refl
-          (local_device d.contents d.may_leave d.moment d.left_since d.faults v.keys v.faults v.locations g.C.Admission.labels old caller a c.args.source start opening h all e r first last volatile g.met.D.Disk.only_now old.devices c.add.new.self.slots old.buffer less making law local refl) agrees
-          (subst (λ (s : Store _ _ _). IsTurn d.contents d.may_leave d.moment d.left_since d.faults v.keys v.faults v.locations g.C.Admission.labels (ranked_on s) Plain e) rest is)),
-      id ∙ sym (next_is d.contents d.may_leave d.moment d.left_since d.faults v.keys v.faults v.locations g.C.Admission.labels old caller a c.args.source start opening h all e r first last volatile),
+    let agrees = c.add.ensures.fills m after all less own r.holds.slots gains (subst (λ n. Puts m after n (Some own)) (sym id) (next_puts d v g.C.Admission old caller a c.args.source start opening h all e r first last volatile))
+    (subst (λ n. SlotHasKey (full_slot (old.found + old.ranked) (identified a n) (bytes_of old.buffer)) own) (sym id) (local_takes d v g.C.Admission old caller a c.args.source start opening h all e r first last volatile local))
+    (subst (λ n. IsThereOrNew m n own) (sym id) (next_new d v g.C.Admission old caller a c.args.source start opening h all e r first last volatile)) in (
+      subst (λ (s : Store _ _ _). StandsHere d v g.C.Admission (ranked_on s) start opening (h ++ e ∷ []) less) (sym rest)
+          (makes_volatile d v g.C.Admission old caller a c.args.source start opening h all e r first last volatile g.met.D.Disk.only_now old.devices c.add.new.self.slots old.buffer less making law c.add.ensures.sized refl
+          (local_device d v g.C.Admission old caller a c.args.source start opening h all e r first last volatile g.met.D.Disk.only_now old.devices c.add.new.self.slots old.buffer less making law local refl) agrees
+          (subst (λ (s : Store _ _ _). IsTurn d v g.C.Admission (ranked_on s) Plain e) rest is)),
+      id ∙ sym (next_is d v g.C.Admission old caller a c.args.source start opening h all e r first last volatile),
     )

@@ -8,5 +8,5 @@ pub returns-clause-takes : goal.returns-clause-takes
 returns-clause-takes g c = λ start opening h all less s gains law.
     let d = g.D.Disk in
     let v = g.A.Devices in
-    unranked d.contents d.may_leave d.moment d.left_since d.faults v.keys v.faults v.locations g.C.Admission.labels c.args.self.now start opening h c.take_back.new.self all less
+    unranked d v g.C.Admission c.args.self.now start opening h c.take_back.new.self all less
     s (c.take_back.ensures.takes s.holds.model all less s.holds.slots gains) law

@@ -53,7 +53,7 @@ returns-in-Ok-clause-found g c = λ start opening h all e s is.
     let sized = s.holds.directory.sized in
     let there = c.requires.there.within in
     let numbered = c.creation-number.ensures in
-    let found = loads d.contents d.may_leave d.moment d.left_since d.faults v.keys v.faults v.locations g.C.Admission.labels old c.load.new.self c.fill-slot.new.self c.wipe.new.self start opening h all e id c.args.cell a bytes
+    let found = loads d v g.C.Admission old c.load.new.self c.fill-slot.new.self c.wipe.new.self start opening h all e id c.args.cell a bytes
     (record { same = c.load.ensures.same; slots = c.load.ensures.slots; keeps = c.load.ensures.keeps }) s.holds is (omega arith) c.requires.there.here key c.in-Ok.ensures.named
     (λ tells. subst (λ (b : List ℕ). durable_keys m id ≡ Some (stored (creation_of_slot (cell_slot old.file.cells.slots.items c.args.cell)) a b)) (sym list) (c.in-Ok.ensures.loaded (durable_keys m) (course_of start h).doubt (s.holds.file tells)))
     c.requires.unknown
@@ -84,7 +84,7 @@ returns-in-Disk-clause-unread g c = λ failed start opening h all e s is.
     let sized = s.holds.directory.sized in
     let there = c.requires.there.within in
     let key = key_of_cell old.file.cells.slots.items m c.args.id.0 c.args.cell s.holds.directory (omega arith) c.requires.there.here in
-    brings d.contents d.may_leave d.moment d.left_since d.faults v.keys v.faults v.locations g.C.Admission.labels old c.load.new.self c.give_up.new.self c.load.new.out start opening h all e
+    brings d v g.C.Admission old c.load.new.self c.give_up.new.self c.load.new.out start opening h all e
     (λ n. is_persistent_key (map.get n.keys c.args.id.0) ≡ true)
     (record { same = c.load.ensures.same; slots = c.load.ensures.slots; keeps = c.load.ensures.keeps }) s.holds
     (c.give_up.ensures.takes m more all (c.reserve-filling.ensures.gives m all more s.holds.slots gains) gains) (is_persistent (map.get m.keys c.args.id.0) key.0 key.1 key.2)
@@ -101,7 +101,7 @@ returns-in-Corrupt-clause-unread g c = λ failed start opening h all e s is.
     let sized = s.holds.directory.sized in
     let there = c.requires.there.within in
     let key = key_of_cell old.file.cells.slots.items m c.args.id.0 c.args.cell s.holds.directory (omega arith) c.requires.there.here in
-    brings d.contents d.may_leave d.moment d.left_since d.faults v.keys v.faults v.locations g.C.Admission.labels old c.load.new.self c.give_up.new.self c.load.new.out start opening h all e
+    brings d v g.C.Admission old c.load.new.self c.give_up.new.self c.load.new.out start opening h all e
     (λ n. is_persistent_key (map.get n.keys c.args.id.0) ≡ true)
     (record { same = c.load.ensures.same; slots = c.load.ensures.slots; keeps = c.load.ensures.keeps }) s.holds
     (c.give_up.ensures.takes m more all (c.reserve-filling.ensures.gives m all more s.holds.slots gains) gains) (is_persistent (map.get m.keys c.args.id.0) key.0 key.1 key.2)

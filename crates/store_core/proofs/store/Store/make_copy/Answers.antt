@@ -44,15 +44,15 @@ returns-in-Ok-made-clause-made g c = λ start opening h all less e s gains law b
     let full : buffer ≡ buffer_of (bytes_of slot.buffer) = c.fill_from.ensures ∙ ap buffer_of c.bytes.ensures.list in
     let filled : Store _ _ _ = record mid { buffer = buffer } in
     let new = ranked_on c.create-made.new.self in
-    let held : Option ℕ = material_of e caller source stated by call d.contents d.may_leave d.moment d.left_since d.faults v.keys v.faults v.locations g.C.Admission.labels mid start opening h all n slot key there has a decided buffer full in
-    let enters = subst (λ (o : Option ℕ). Enters d.contents d.may_leave d.moment d.left_since d.faults v.keys v.faults v.locations g.C.Admission.labels filled new caller a o (c.args.filling.slot, 0) Plain (λ m. c.in-Ok-made.id.0 ≡ new_id m caller a)) c.held_number-held.ensures c.in-Ok-made.ensures.made in
-    let turn : IsTurn d.contents d.may_leave d.moment d.left_since d.faults v.keys v.faults v.locations g.C.Admission.labels new Plain e = record { from_first = is.from_first; to_last = is.to_last; marked = is.marked; done = is.done; disk_faults = is.disk_faults; device_faults = is.device_faults } in
-    let entered = enters start opening h all less e (ready e caller source stated by call d.contents d.may_leave d.moment d.left_since d.faults v.keys v.faults v.locations g.C.Admission.labels mid start opening h all n slot key there has a decided buffer full) (since_later d.contents d.may_leave d.moment d.left_since d.faults v.keys v.faults v.locations g.C.Admission.labels old filled (last_counts opening.counts h) s.counts c.in-Ok.ensures.later c.in-Ok.ensures.devices) gains law (making e caller source stated by call d.contents d.may_leave d.moment d.left_since d.faults v.keys v.faults v.locations g.C.Admission.labels mid start opening h all n slot key there has a decided buffer full) turn in
+    let held : Option ℕ = material_of e caller source stated by call d v g.C.Admission mid start opening h all n slot key there has a decided buffer full in
+    let enters = subst (λ (o : Option ℕ). Enters d v g.C.Admission filled new caller a o (c.args.filling.slot, 0) Plain (λ m. c.in-Ok-made.id.0 ≡ new_id m caller a)) c.held_number-held.ensures c.in-Ok-made.ensures.made in
+    let turn : IsTurn d v g.C.Admission new Plain e = record { from_first = is.from_first; to_last = is.to_last; marked = is.marked; done = is.done; disk_faults = is.disk_faults; device_faults = is.device_faults } in
+    let entered = enters start opening h all less e (ready e caller source stated by call d v g.C.Admission mid start opening h all n slot key there has a decided buffer full) (since_later d v g.C.Admission old filled (last_counts opening.counts h) s.counts c.in-Ok.ensures.later c.in-Ok.ensures.devices) gains law (making e caller source stated by call d v g.C.Admission mid start opening h all n slot key there has a decided buffer full) turn in
     let tells = c.create-made.ensures.tells in (
-      rebuffered d.contents d.may_leave d.moment d.left_since d.faults v.keys v.faults v.locations g.C.Admission.labels new c.wipe.new.self start opening (h ++ e ∷ []) less entered.0,
+      rebuffered d v g.C.Admission new c.wipe.new.self start opening (h ++ e ∷ []) less entered.0,
       n.model,
       (λ k. n.replayed (retold (d.contents mid.file.cells.disk) (d.contents c.create-made.new.self.file.cells.disk) start (h ++ e ∷ []) tells k)),
-      (a, sym (decided_here e caller source stated by call d.contents d.may_leave d.moment d.left_since d.faults v.keys v.faults v.locations g.C.Admission.labels mid start opening h all n slot key there has a decided buffer full), entered.1 ∙ ap (λ (m : model.Store). new_id m caller a) (with_buffer d.contents d.may_leave d.moment d.left_since d.faults v.keys v.faults v.locations g.C.Admission.labels (IsTold (d.contents mid.file.cells.disk) start (h ++ e ∷ [])) mid buffer start opening h all n).1),
+      (a, sym (decided_here e caller source stated by call d v g.C.Admission mid start opening h all n slot key there has a decided buffer full), entered.1 ∙ ap (λ (m : model.Store). new_id m caller a) (with_buffer d v g.C.Admission (IsTold (d.contents mid.file.cells.disk) start (h ++ e ∷ [])) mid buffer start opening h all n).1),
     )
 
 pub returns-in-Err-made-clause-uncopied : goal.returns-in-Err-made-clause-uncopied
@@ -76,15 +76,15 @@ returns-in-Err-made-clause-uncopied g c = λ start opening h all less e s gains 
     let full : buffer ≡ buffer_of (bytes_of slot.buffer) = c.fill_from.ensures ∙ ap buffer_of c.bytes.ensures.list in
     let filled : Store _ _ _ = record mid { buffer = buffer } in
     let new = ranked_on c.create-made.new.self in
-    let held : Option ℕ = material_of e caller source stated by call d.contents d.may_leave d.moment d.left_since d.faults v.keys v.faults v.locations g.C.Admission.labels mid start opening h all n slot key there has a decided buffer full in
-    let enters = subst (λ (o : Option ℕ). Enters d.contents d.may_leave d.moment d.left_since d.faults v.keys v.faults v.locations g.C.Admission.labels filled new caller a o (c.args.filling.slot, 0) (mark_unkept c.in-Err-made.why) (λ m. IsUnkept a c.in-Err-made.why)) c.held_number-held.ensures c.in-Err-made.ensures.unkept in
-    let turn : IsTurn d.contents d.may_leave d.moment d.left_since d.faults v.keys v.faults v.locations g.C.Admission.labels new (mark_unkept c.in-Err-made.why) e = record { from_first = is.from_first; to_last = is.to_last; marked = is.marked; done = is.done; disk_faults = is.disk_faults; device_faults = is.device_faults } in
-    let entered = enters start opening h all less e (ready e caller source stated by call d.contents d.may_leave d.moment d.left_since d.faults v.keys v.faults v.locations g.C.Admission.labels mid start opening h all n slot key there has a decided buffer full) (since_later d.contents d.may_leave d.moment d.left_since d.faults v.keys v.faults v.locations g.C.Admission.labels old filled (last_counts opening.counts h) s.counts c.in-Ok.ensures.later c.in-Ok.ensures.devices) gains law (making e caller source stated by call d.contents d.may_leave d.moment d.left_since d.faults v.keys v.faults v.locations g.C.Admission.labels mid start opening h all n slot key there has a decided buffer full) turn in
+    let held : Option ℕ = material_of e caller source stated by call d v g.C.Admission mid start opening h all n slot key there has a decided buffer full in
+    let enters = subst (λ (o : Option ℕ). Enters d v g.C.Admission filled new caller a o (c.args.filling.slot, 0) (mark_unkept c.in-Err-made.why) (λ m. IsUnkept a c.in-Err-made.why)) c.held_number-held.ensures c.in-Err-made.ensures.unkept in
+    let turn : IsTurn d v g.C.Admission new (mark_unkept c.in-Err-made.why) e = record { from_first = is.from_first; to_last = is.to_last; marked = is.marked; done = is.done; disk_faults = is.disk_faults; device_faults = is.device_faults } in
+    let entered = enters start opening h all less e (ready e caller source stated by call d v g.C.Admission mid start opening h all n slot key there has a decided buffer full) (since_later d v g.C.Admission old filled (last_counts opening.counts h) s.counts c.in-Ok.ensures.later c.in-Ok.ensures.devices) gains law (making e caller source stated by call d v g.C.Admission mid start opening h all n slot key there has a decided buffer full) turn in
     let tells = c.create-made.ensures.tells in (
-      rebuffered d.contents d.may_leave d.moment d.left_since d.faults v.keys v.faults v.locations g.C.Admission.labels new c.wipe.new.self start opening (h ++ e ∷ []) less entered.0,
+      rebuffered d v g.C.Admission new c.wipe.new.self start opening (h ++ e ∷ []) less entered.0,
       n.model,
       (λ k. n.replayed (retold (d.contents mid.file.cells.disk) (d.contents c.create-made.new.self.file.cells.disk) start (h ++ e ∷ []) tells k)),
-      (a, sym (decided_here e caller source stated by call d.contents d.may_leave d.moment d.left_since d.faults v.keys v.faults v.locations g.C.Admission.labels mid start opening h all n slot key there has a decided buffer full), entered.1),
+      (a, sym (decided_here e caller source stated by call d v g.C.Admission mid start opening h all n slot key there has a decided buffer full), entered.1),
     )
 
 pub returns-in-Err-decide_copy-clause-uncopied : goal.returns-in-Err-decide_copy-clause-uncopied
@@ -104,7 +104,7 @@ returns-in-Err-decide_copy-clause-uncopied g c = λ start opening h all less e s
     let has = brought.1.2 in
     let status = c.in-Err-decide_copy.status in
     let decided = ap (λ (o : Option Key). recorded_copy n.model caller o stated) there ∙ sym (c.in-Err-decide_copy.ensures.value start opening h all e n source key there has) in (
-      refuses d.contents d.may_leave d.moment d.left_since d.faults v.keys v.faults v.locations g.C.Admission.labels g.met.D.Disk.only_now mid c.give_up-in-Err-decide_copy.new.self start opening h all less e (keeps e caller source stated by call) status n (refused_here e caller source stated by call d.contents d.may_leave d.moment d.left_since d.faults v.keys v.faults v.locations g.C.Admission.labels mid start opening h all n status decided)
+      refuses d v g.C.Admission g.met.D.Disk.only_now mid c.give_up-in-Err-decide_copy.new.self start opening h all less e (keeps e caller source stated by call) status n (refused_here e caller source stated by call d v g.C.Admission mid start opening h all n status decided)
           (c.give_up-in-Err-decide_copy.ensures.takes n.model all less n.slots gains) law is,
       n.model,
       n.replayed,
@@ -120,7 +120,7 @@ returns-in-Err-clause-uncopied g c = λ start opening h all less e s gains law b
     let source = c.args.source.0 in
     let b = c.in-Err.ensures in
     let reads = reads_source e c.args.caller source c.args.attributes.now by call (replay start h) in
-    uncopied d.contents d.may_leave d.moment d.left_since d.faults v.keys v.faults v.locations g.C.Admission.labels g.met.D.Disk.only_now old mid c.give_up.new.self start opening h all less e c.args.caller source c.args.attributes.now by call s (λ m agrees. c.give_up.ensures.takes m all less agrees gains) law c.in-Err.why
+    uncopied d v g.C.Admission g.met.D.Disk.only_now old mid c.give_up.new.self start opening h all less e c.args.caller source c.args.attributes.now by call s (λ m agrees. c.give_up.ensures.takes m all less agrees gains) law c.in-Err.why
     (λ why. b.missing why start opening h all e s (λ k. reads)) (λ why. b.unread why start opening h all e s (λ k. reads)) b.disk b.corrupt is
 
 pub give_up-requires : goal.give_up-requires
@@ -159,8 +159,8 @@ create-made-requires-clause-ready g c = λ κs lives.
     let decided = c.in-Ok-decide_copy.ensures.value own.0 own.1 own.2 own.3 e n source key there has in
     let buffer = c.fill_from.new.self in
     let full : buffer ≡ buffer_of (bytes_of slot.buffer) = c.fill_from.ensures ∙ ap buffer_of c.bytes.ensures.list in
-    let r = subst (λ (o : Option ℕ). IsReady d.contents d.may_leave d.moment d.left_since d.faults v.keys v.faults v.locations g.C.Admission.labels (record mid { buffer = buffer }) caller a o own.0 own.1 own.2 own.3 e) (sym c.held_number-held.ensures)
-    (ready e caller source stated refl refl d.contents d.may_leave d.moment d.left_since d.faults v.keys v.faults v.locations g.C.Admission.labels mid own.0 own.1 own.2 own.3 n slot key there has a decided buffer full) in
+    let r = subst (λ (o : Option ℕ). IsReady d v g.C.Admission (record mid { buffer = buffer }) caller a o own.0 own.1 own.2 own.3 e) (sym c.held_number-held.ensures)
+    (ready e caller source stated refl refl d v g.C.Admission mid own.0 own.1 own.2 own.3 n slot key there has a decided buffer full) in
     (own.0, own.1, own.2, own.3, e, r, own.5)
 
 pub returns-in-Ok-made-clause-wipes : goal.returns-in-Ok-made-clause-wipes

@@ -10,7 +10,7 @@ use Rattle.store_core.proofs.store.Store.open.Goals as goal
 is_new : (g : _) (c : goal.After-with_file g) →
     let d = g.D.Disk in
     let v = g.A.Devices in
-    IsNew d.contents d.may_leave d.moment d.left_since d.faults v.keys v.faults v.locations g.C.Admission.labels c.args.disk c.with_file.result
+    IsNew d v g.C.Admission c.args.disk c.with_file.result
 is_new g c =
     let d = g.D.Disk in
     let e = c.with_file.ensures in
@@ -32,7 +32,7 @@ returns-in-Ok-open-clause-stands g c = λ start callers s few.
     let d = g.D.Disk in
     let v = g.A.Devices in
     let store = c.with_file.result in
-    stands d.contents d.may_leave d.moment d.left_since d.faults v.keys v.faults v.locations g.C.Admission.labels c.args.disk store (is_new g c) (g.met.D.Disk.read_is_image store.file.cells.disk)
+    stands d v g.C.Admission c.args.disk store (is_new g c) (g.met.D.Disk.read_is_image store.file.cells.disk)
     (λ handle. subst (λ x. Lacks (v.keys x) handle) (sym c.with_file.ensures.devices) (c.requires.empty handle)) (g.met.D.Disk.only_now store.file.cells.disk) start callers s few
 
 pub returns-in-Ok-open-clause-starts : goal.returns-in-Ok-open-clause-starts
@@ -40,7 +40,7 @@ returns-in-Ok-open-clause-starts g c =
     let d = g.D.Disk in
     let v = g.A.Devices in
     let store = c.with_file.result in
-    starts d.contents d.may_leave d.moment d.left_since d.faults v.keys v.faults v.locations g.C.Admission.labels c.args.disk store (is_new g c) (g.met.D.Disk.read_is_image store.file.cells.disk)
+    starts d v g.C.Admission c.args.disk store (is_new g c) (g.met.D.Disk.read_is_image store.file.cells.disk)
     (record { seed = store.opened.seed.value; labels = g.C.Admission.labels store.rules; locations = v.locations store.devices; has_file = true }) refl refl refl refl
 
 pub returns-in-Ok-open-clause-keys : goal.returns-in-Ok-open-clause-keys
@@ -48,4 +48,4 @@ returns-in-Ok-open-clause-keys g c =
     let d = g.D.Disk in
     let v = g.A.Devices in
     let store = c.with_file.result in
-    exactly d.contents d.may_leave d.moment d.left_since d.faults v.keys v.faults v.locations g.C.Admission.labels c.args.disk store (is_new g c) (g.met.D.Disk.read_is_image store.file.cells.disk)
+    exactly d v g.C.Admission c.args.disk store (is_new g c) (g.met.D.Disk.read_is_image store.file.cells.disk)

@@ -15,7 +15,7 @@ returns-then-not-has-clause-missing g c = (
       let v = g.A.Devices in
       let old = c.args.self.now in
       let m = s.holds.model in
-      let n = counts_on d.contents d.may_leave d.moment d.left_since d.faults v.keys v.faults v.locations g.C.Admission.labels g.met.D.Disk.only_now old old.slots start opening h all e s s.holds.slots still is in
+      let n = counts_on d v g.C.Admission g.met.D.Disk.only_now old old.slots start opening h all e s s.holds.slots still is in
       (n.0, subst (λ (x : model.Store). there_rows (map.get x.keys c.args.id.0) ≡ Some InvalidHandle) (sym n.1) (is_missing (map.get m.keys c.args.id.0) (c.if-not-has.ensures m all s.holds.slots s.holds.directory))),
 )
 
@@ -25,5 +25,5 @@ returns-clause-there g c = λ start opening h all e s still is.
     let v = g.A.Devices in
     let old = c.args.self.now in
     let m = s.holds.model in
-    let n = counts_on d.contents d.may_leave d.moment d.left_since d.faults v.keys v.faults v.locations g.C.Admission.labels g.met.D.Disk.only_now old c.purge.new.self start opening h all e s (c.purge.ensures.stays m all s.holds.slots) still is in
+    let n = counts_on d v g.C.Admission g.met.D.Disk.only_now old c.purge.new.self start opening h all e s (c.purge.ensures.stays m all s.holds.slots) still is in
     (n.0, subst (λ (x : model.Store). there_rows (map.get x.keys c.args.id.0) ≡ None) (sym n.1) (is_there (map.get m.keys c.args.id.0) (c.if-not-has.ensures m all s.holds.slots s.holds.directory)))

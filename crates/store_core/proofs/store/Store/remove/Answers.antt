@@ -12,7 +12,7 @@ returns-then-id-eq0-clause-destroyed g c = λ start opening h all e s call is.
     let v = g.A.Devices in
     let m = s.holds.model in
     let zero = c.if-id-eq0.true in (
-      nothing d.contents d.may_leave d.moment d.left_since d.faults v.keys v.faults v.locations g.C.Admission.labels g.met.D.Disk.only_now c.args.self.now start opening h all e c.args.id.0 call s (none_at_zero m c.args.id.0 s.holds.sound zero) is,
+      nothing d v g.C.Admission g.met.D.Disk.only_now c.args.self.now start opening h all e c.args.id.0 call s (none_at_zero m c.args.id.0 s.holds.sound zero) is,
       rows_zero c.args.id.0 (map.get m.keys c.args.id.0) zero,
     )
 
@@ -22,7 +22,7 @@ returns-in_default-find-clause-failed g c = λ start opening h all e s call is.
     let v = g.A.Devices in
     let m = s.holds.model in
     let none = no_key c.args.self.now.file.cells.slots.items m c.args.id.0 s.holds.directory c.in_default.ensures (c.in_default-find.ensures.none m all s.holds.slots) in (
-      nothing d.contents d.may_leave d.moment d.left_since d.faults v.keys v.faults v.locations g.C.Admission.labels g.met.D.Disk.only_now c.args.self.now start opening h all e c.args.id.0 call s none is,
+      nothing d v g.C.Admission g.met.D.Disk.only_now c.args.self.now start opening h all e c.args.id.0 call s none is,
       rows_missing c.args.id.0 (map.get m.keys c.args.id.0) c.if-id-eq0.false none,
     )
 

@@ -34,7 +34,7 @@ returns-in-Ok-clause-destroyed g c = λ start opening h all e s call is.
     let there = c.requires.there.within in
     let within : c.args.cell < 512 = omega arith in
     let key = key_of_cell c.args.self.now.file.cells.slots.items m c.args.id.0 c.args.cell s.holds.directory within c.requires.there.here in (
-      destroys_kept d.contents d.may_leave d.moment d.left_since d.faults v.keys v.faults v.locations g.C.Admission.labels g.met.D.Disk.only_now c.args.self.now start opening h all e c.args.id.0 call c.destroy-closed.new.self c.destroy.new.self Plain c.args.cell s
+      destroys_kept d v g.C.Admission g.met.D.Disk.only_now c.args.self.now start opening h all e c.args.id.0 call c.destroy-closed.new.self c.destroy.new.self Plain c.args.cell s
           (record { within = within; key = c.requires.there.here; sized = ensures.slots; missing = ensures.missing; tells = ensures.tells; leads = λ keys keys' doubt own stands there put. ensures.destroyed keys keys' doubt stands put; settles = λ own doubt none. set_sure c.args.self.now.file.cells.slots.items c.destroy-closed.new.self.cells.slots.items c.args.cell Free refl ensures.gone })
           c.destroy.ensures.forgets tt (λ service persistent. tt) is,
       rows_there c.args.id.0 (map.get m.keys c.args.id.0) key.0 key.1,
@@ -53,7 +53,7 @@ returns-in-Err-clause-failed g c = λ start opening h all e s call is.
     let there = c.requires.there.within in
     let within : c.args.cell < 512 = omega arith in
     let key = key_of_cell old.slots.items m c.args.id.0 c.args.cell s.holds.directory within c.requires.there.here in (
-      destroys_kept d.contents d.may_leave d.moment d.left_since d.faults v.keys v.faults v.locations g.C.Admission.labels g.met.D.Disk.only_now c.args.self.now start opening h all e c.args.id.0 call c.destroy-closed.new.self c.destroy.new.self (Storage (Writing closed)) c.args.cell s
+      destroys_kept d v g.C.Admission g.met.D.Disk.only_now c.args.self.now start opening h all e c.args.id.0 call c.destroy-closed.new.self c.destroy.new.self (Storage (Writing closed)) c.args.cell s
           (record {
             within = within;
             key = c.requires.there.here;

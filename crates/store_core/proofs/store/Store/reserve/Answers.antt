@@ -12,5 +12,5 @@ pub returns-clause-gives : goal.returns-clause-gives
 returns-clause-gives g c = λ start opening h all more s gains law.
     let d = g.D.Disk in
     let v = g.A.Devices in
-    unranked d.contents d.may_leave d.moment d.left_since d.faults v.keys v.faults v.locations g.C.Admission.labels c.args.self.now start opening h c.reserve.new.self all more
+    unranked d v g.C.Admission c.args.self.now start opening h c.reserve.new.self all more
     s (c.reserve.ensures.gives s.holds.model all more s.holds.slots gains) law

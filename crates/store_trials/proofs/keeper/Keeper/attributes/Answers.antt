@@ -10,6 +10,6 @@ invariant_of-self g c =
     let v = g.A.Devices in
     let e = c.attributes.ensures in
     let id = c.args.id.0 in (
-      read_or_not d.contents d.may_leave d.moment d.left_since d.faults v.keys v.faults v.locations g.C.Admission.labels d.size c.self.inside.store c.attributes.new.self (first_has []) e.size e.clear c.attributes.result id mark_of (HasAttributes id) (IsRefused there_rows id) e.known e.refused c.self.invariant.0,
+      read_or_not d v g.C.Admission c.self.inside.store c.attributes.new.self (first_has []) e.size e.clear c.attributes.result id mark_of (HasAttributes id) (IsRefused there_rows id) e.known e.refused c.self.invariant.0,
       c.self.invariant.1,
     )

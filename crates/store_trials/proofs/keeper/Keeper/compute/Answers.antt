@@ -14,7 +14,7 @@ invariant_of-self g c =
     let v = g.A.Devices in
     let e = c.opaque_call.ensures in
     let out = c.args.out.now in (
-      computed d.contents d.may_leave d.moment d.left_since d.faults v.keys v.faults v.locations g.C.Admission.labels d.size c.self.inside.store c.opaque_call.new.self (first_has [])
+      computed d v g.C.Admission c.self.inside.store c.opaque_call.new.self (first_has [])
           (ap (λ (f : KeyFile _). d.size f.cells.disk) e.file ∙ c.self.invariant.0.sized) (subst (λ (b : Buffer). IsClear b) (sym e.buffer) c.self.invariant.0.clear)
           (model_call c.args.call.now c.args.id.0 (length out)) (mark_computed c.opaque_call.result) (IsAnswered (v.keys c.self.inside.store.devices) c.args.id.0 c.args.call.now out c.opaque_call.new.out c.opaque_call.result) e.made c.self.invariant.0,
       c.self.invariant.1,

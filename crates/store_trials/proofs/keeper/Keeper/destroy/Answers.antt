@@ -15,6 +15,6 @@ invariant_of-self g c =
     let v = g.A.Devices in
     let e = c.destroy.ensures in
     let id = c.args.id.0 in (
-      destroyed_or_not d.contents d.may_leave d.moment d.left_since d.faults v.keys v.faults v.locations g.C.Admission.labels d.size c.self.inside.store c.destroy.new.self (first_has []) e.size (subst (λ (b : Buffer). IsClear b) (sym e.buffer) c.self.invariant.0.clear) c.destroy.result id mark_undestroyed (λ m. first_row (destroy_rows (map.get m.keys id) id) ≡ None) (IsUndestroyed id) e.destroyed e.failed c.self.invariant.0,
+      destroyed_or_not d v g.C.Admission c.self.inside.store c.destroy.new.self (first_has []) e.size (subst (λ (b : Buffer). IsClear b) (sym e.buffer) c.self.invariant.0.clear) c.destroy.result id mark_undestroyed (λ m. first_row (destroy_rows (map.get m.keys id) id) ≡ None) (IsUndestroyed id) e.destroyed e.failed c.self.invariant.0,
       c.self.invariant.1,
     )

@@ -10,8 +10,8 @@ give_up-requires-clause-out g c = λ κs within.
     let v = g.A.Devices in
     let r = c.reserve-filling in
     let p : ℕ × ℕ = (r.result.slot, 0) in
-    out d.contents d.may_leave d.moment d.left_since d.faults v.keys v.faults v.locations g.C.Admission.labels d.size r.new.self (first_has (p ∷ [])) (first_has []) p (first_gains [] p)
-    (reserved d.contents d.may_leave d.moment d.left_since d.faults v.keys v.faults v.locations g.C.Admission.labels d.size c.self.inside.store r.new.self r.ensures.file r.ensures.buffer p.0 r.ensures.gives c.self.invariant.0)
+    out d v g.C.Admission r.new.self (first_has (p ∷ [])) (first_has []) p (first_gains [] p)
+    (reserved d v g.C.Admission c.self.inside.store r.new.self r.ensures.file r.ensures.buffer p.0 r.ensures.gives c.self.invariant.0)
 
 pub invariant_of-self : goal.invariant_of-self
 invariant_of-self g c =
@@ -20,6 +20,6 @@ invariant_of-self g c =
     let r = c.reserve-filling in
     let p : ℕ × ℕ = (r.result.slot, 0) in
     let e = c.give_up.ensures in (
-      taken d.contents d.may_leave d.moment d.left_since d.faults v.keys v.faults v.locations g.C.Admission.labels d.size r.new.self c.give_up.new.self e.file e.buffer (first_has (p ∷ [])) (first_has []) p e.takes (first_gains [] p) none (reserved d.contents d.may_leave d.moment d.left_since d.faults v.keys v.faults v.locations g.C.Admission.labels d.size c.self.inside.store r.new.self r.ensures.file r.ensures.buffer p.0 r.ensures.gives c.self.invariant.0),
+      taken d v g.C.Admission r.new.self c.give_up.new.self e.file e.buffer (first_has (p ∷ [])) (first_has []) p e.takes (first_gains [] p) none (reserved d v g.C.Admission c.self.inside.store r.new.self r.ensures.file r.ensures.buffer p.0 r.ensures.gives c.self.invariant.0),
       c.self.invariant.1,
     )

@@ -9,7 +9,7 @@ leave-spare-requires-clause-out g c = λ κs within.
     let d = g.D.Disk in
     let v = g.A.Devices in
     let p : ℕ × ℕ = (c.in-Ok.lease.slot, c.in-Ok.lease.creation + 1) in
-    out d.contents d.may_leave d.moment d.left_since d.faults v.keys v.faults v.locations g.C.Admission.labels d.size c.look.new.store (first_has (p ∷ [])) (first_has []) p (first_gains [] p) (c.in-Ok.ensures.lent [] (no_leases 4) c.self.invariant.0)
+    out d v g.C.Admission c.look.new.store (first_has (p ∷ [])) (first_has []) p (first_gains [] p) (c.in-Ok.ensures.lent [] (no_leases 4) c.self.invariant.0)
 
 pub invariant_of-self-in-Ok : goal.invariant_of-self-in-Ok
 invariant_of-self-in-Ok g c =
@@ -17,7 +17,7 @@ invariant_of-self-in-Ok g c =
     let v = g.A.Devices in
     let e = c.leave-spare.ensures in
     let p : ℕ × ℕ = (c.in-Ok.lease.slot, c.in-Ok.lease.creation + 1) in (
-      taken d.contents d.may_leave d.moment d.left_since d.faults v.keys v.faults v.locations g.C.Admission.labels d.size c.look.new.store c.leave-spare.new.self e.file e.buffer (first_has (p ∷ [])) (first_has []) p e.takes (first_gains [] p) none (c.in-Ok.ensures.lent [] (no_leases 4) c.self.invariant.0),
+      taken d v g.C.Admission c.look.new.store c.leave-spare.new.self e.file e.buffer (first_has (p ∷ [])) (first_has []) p e.takes (first_gains [] p) none (c.in-Ok.ensures.lent [] (no_leases 4) c.self.invariant.0),
       e.clear,
     )
 

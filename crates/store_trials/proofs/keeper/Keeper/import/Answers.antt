@@ -13,8 +13,8 @@ finish-requires-clause-out g c = λ κs within.
     let v = g.A.Devices in
     let r = c.reserve-filling in
     let p : ℕ × ℕ = (r.result.slot, 0) in
-    out_alone d.contents d.may_leave d.moment d.left_since d.faults v.keys v.faults v.locations g.C.Admission.labels d.size r.new.self (first_has (p ∷ [])) (first_has []) p (first_gains [] p)
-    (reserved d.contents d.may_leave d.moment d.left_since d.faults v.keys v.faults v.locations g.C.Admission.labels d.size c.self.inside.store r.new.self r.ensures.file r.ensures.buffer p.0 r.ensures.gives c.self.invariant.0)
+    out_alone d v g.C.Admission r.new.self (first_has (p ∷ [])) (first_has []) p (first_gains [] p)
+    (reserved d v g.C.Admission c.self.inside.store r.new.self r.ensures.file r.ensures.buffer p.0 r.ensures.gives c.self.invariant.0)
 
 pub finish-requires-clause-few : goal.finish-requires-clause-few
 finish-requires-clause-few g c = λ κs within.
@@ -24,7 +24,7 @@ finish-requires-clause-few g c = λ κs within.
     let p : ℕ × ℕ = (r.result.slot, 0) in
     let before = c.is_over.ensures c.if-is_over.false in
     let same = ap (λ (s : Store _ _ _). s.ranked) c.self.view_is in
-    let few = few_reserved d.contents d.may_leave d.moment d.left_since d.faults v.keys v.faults v.locations g.C.Admission.labels d.size c.self.inside.store r.new.self r.ensures.file r.ensures.buffer p.0 r.ensures.gives c.self.invariant.0 (omega (arith, before, same)) in
+    let few = few_reserved d v g.C.Admission c.self.inside.store r.new.self r.ensures.file r.ensures.buffer p.0 r.ensures.gives c.self.invariant.0 (omega (arith, before, same)) in
     omega (arith, few)
 
 pub invariant_of-self : goal.invariant_of-self
@@ -34,10 +34,10 @@ invariant_of-self g c =
     let r = c.reserve-filling in
     let p : ℕ × ℕ = (r.result.slot, 0) in
     let e = c.finish.ensures in
-    let k = reserved d.contents d.may_leave d.moment d.left_since d.faults v.keys v.faults v.locations g.C.Admission.labels d.size c.self.inside.store r.new.self r.ensures.file r.ensures.buffer p.0 r.ensures.gives c.self.invariant.0 in
+    let k = reserved d v g.C.Admission c.self.inside.store r.new.self r.ensures.file r.ensures.buffer p.0 r.ensures.gives c.self.invariant.0 in
     let a = c.args.attributes.now in
     let bytes = c.args.bytes.now in
     let records = RecordsStated None 1 a (length bytes) in (
-      made_or_not d.contents d.may_leave d.moment d.left_since d.faults v.keys v.faults v.locations g.C.Admission.labels d.size r.new.self c.finish.new.self (first_has (p ∷ [])) e.size (e.clear k.clear) c.finish.result (first_has []) 1 a bytes p mark_unmade (λ id. IsMade records 1 id.0) (IsUnmade records) (omega arith) (omega arith) e.made e.unmade (first_gains [] p) none k,
+      made_or_not d v g.C.Admission r.new.self c.finish.new.self (first_has (p ∷ [])) e.size (e.clear k.clear) c.finish.result (first_has []) 1 a bytes p mark_unmade (λ id. IsMade records 1 id.0) (IsUnmade records) (omega arith) (omega arith) e.made e.unmade (first_gains [] p) none k,
       c.self.invariant.1,
     )

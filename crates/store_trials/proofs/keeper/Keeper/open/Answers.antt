@@ -10,7 +10,7 @@ invariant_of-result g c =
     let store = c.in-Ok-open.store in (
       record {
         start = e.starts.0;
-        opening = opening_of d.contents d.moment d.faults v.faults v.locations g.C.Admission.labels store.opened;
+        opening = opening_of d v g.C.Admission store.opened;
         h = [];
         stands = e.stands e.starts.0 16 e.starts.1 (omega arith);
         sized = e.size;

@@ -15,6 +15,6 @@ invariant_of-self g c =
     let v = g.A.Devices in
     let e = c.purge.ensures in
     let id = c.args.id.0 in (
-      added_or_not d.contents d.may_leave d.moment d.left_since d.faults v.keys v.faults v.locations g.C.Admission.labels d.size c.self.inside.store c.purge.new.self (first_has []) (ap (λ (f : KeyFile _). d.size f.cells.disk) e.file ∙ c.self.invariant.0.sized) (subst (λ (b : Buffer). IsClear b) (sym e.buffer) c.self.invariant.0.clear) c.purge.result (λ m. there_rows (map.get m.keys id) ≡ None) (λ status. status ≡ InvalidHandle) (λ status m. there_rows (map.get m.keys id) ≡ Some status) e.there e.missing c.self.invariant.0,
+      added_or_not d v g.C.Admission c.self.inside.store c.purge.new.self (first_has []) (ap (λ (f : KeyFile _). d.size f.cells.disk) e.file ∙ c.self.invariant.0.sized) (subst (λ (b : Buffer). IsClear b) (sym e.buffer) c.self.invariant.0.clear) c.purge.result (λ m. there_rows (map.get m.keys id) ≡ None) (λ status. status ≡ InvalidHandle) (λ status m. there_rows (map.get m.keys id) ≡ Some status) e.there e.missing c.self.invariant.0,
       c.self.invariant.1,
     )
