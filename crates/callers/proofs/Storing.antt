@@ -5,7 +5,6 @@ use Rattle.psa_status.specs.declared.Status.{Status}
 use Rattle.turn_history.specs.History.{entries_of}
 use Rattle.key_slots.specs.Holdings.{Pairs}
 use Rattle.store_model.specs.Store as model
-use Rattle.store_model.specs.Store.{Key}
 use Rattle.store_model.specs.Call.{Call}
 use Rattle.store_model.specs.Draws.{Random}
 use Rattle.store_model.specs.Faults.{FaultMark}

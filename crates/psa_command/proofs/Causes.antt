@@ -9,7 +9,6 @@ use Rattle.key_cells.specs.Image.{IsFirstDamaged, IsNoStore}
 use Rattle.key_cells.specs.Opening.{IsFoundIn}
 use Rattle.key_cells.specs.declared.reading.OpenFault.{OpenFault}
 use Rattle.key_cells.specs.declared.reading.OpenFault.TheVariants as opening
-use Rattle.driver_dispatch.specs.Held.{HeldKeys}
 use Rattle.script_lang.specs.declared.script.ScriptLine.{ScriptLine}
 use Rattle.script_lang.specs.Replies.{ReplyLine}
 use Rattle.script_lang.specs.declared.faults.ScriptFault.{ScriptFault}

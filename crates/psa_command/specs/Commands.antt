@@ -4,7 +4,6 @@ use Rattle.std.specs.Io.KnownBytes.{Appends}
 use Rattle.policy_rules.specs.declared.narrowing.Label.{Label}
 use Rattle.admission.specs.Apply.{picked}
 use Rattle.key_cells.specs.Image.{Opens}
-use Rattle.driver_dispatch.specs.Held.{HeldKeys}
 use Rattle.script_lang.specs.declared.script.ScriptLine.{ScriptLine}
 use Rattle.script_lang.specs.Replies.{ReplyLine}
 use Rattle.script_lang.specs.Lines.{script_of}

@@ -1,6 +1,6 @@
 -- What is known of a run, from its opening, its callers and its close.
-use Rattle.std.proofs.Common.{◌≡◌, ℕ, List, subst, sym, arith}
-use Rattle.std.specs.Prelude.{All, Option, is_some, take}
+use Rattle.std.proofs.Common.{◌≡◌, ℕ, List, subst, arith}
+use Rattle.std.specs.Prelude.{All, is_some, take}
 use Rattle.atomic_table.specs.Seated.{TableId}
 use Rattle.policy_rules.specs.declared.narrowing.Label.{Label}
 use Rattle.store_model.specs.Marks.{FaultCounts}

@@ -2,8 +2,6 @@
 use Rattle.std.proofs.Common.{◌≡◌, ℕ, ◌<◌, ◌≤◌, List, All, ◌∙◌, subst, inl, Option}
 use Rattle.turn_history.specs.declared.pass.Account.{Account}
 use Rattle.turn_history.specs.History.{entries_of, calls_by, StartsWith}
-use Rattle.policy_rules.specs.declared.narrowing.Label.{Label}
-use Rattle.driver_dispatch.specs.Held.{HeldKeys}
 use Rattle.key_slots.specs.Holdings.{Pairs}
 use Rattle.store_model.specs.Store as model
 use Rattle.store_model.specs.Replay.{Entry}

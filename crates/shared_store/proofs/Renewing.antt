@@ -7,8 +7,6 @@ use Rattle.turn_history.specs.declared.pass.View.{View}
 use Rattle.turn_history.specs.History.{entries_of, option_list}
 use Rattle.turn_history.specs.Holdings.{with_own}
 use Rattle.turn_history.specs.Views.{OwnCalls, after_turn}
-use Rattle.policy_rules.specs.declared.narrowing.Label.{Label}
-use Rattle.driver_dispatch.specs.Held.{HeldKeys}
 use Rattle.key_slots.specs.Holdings.{Pairs, AreHoldings, IsHolding}
 use Rattle.store_model.specs.Store as model
 use Rattle.store_model.specs.Faults.{FaultMark}

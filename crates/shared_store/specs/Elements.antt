@@ -1,5 +1,5 @@
 -- What comes of a look for a key that the secure element may hold.
-use Rattle.std.specs.Prelude.{◌≡◌, ℕ, Bool, true, false, List, ◌∷◌, Option}
+use Rattle.std.specs.Prelude.{◌≡◌, ℕ, Bool, true, false, List, ◌∷◌}
 use Rattle.std.specs.FinMap as map
 use Rattle.secret_bytes.specs.Buffer.{IsClear, bytes_of}
 use Rattle.turn_history.specs.declared.pass.View.{View}

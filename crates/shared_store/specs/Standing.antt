@@ -1,5 +1,5 @@
 -- What it is for the store under the lock to stand for a history, and for what the callers have out of it.
-use Rattle.std.specs.Prelude.{◌≡◌, ℕ, List, Option, is_some}
+use Rattle.std.specs.Prelude.{◌≡◌, ℕ, List, is_some}
 use Rattle.std.specs.List.{AllByRecursion}
 use Rattle.secret_bytes.specs.Buffer.{IsClear}
 use Rattle.disk_face.specs.declared.Disk as disk

@@ -3,8 +3,6 @@ use Rattle.std.proofs.Common.{◌≡◌, ◌∙◌, ◌≤◌, ◌<◌, ◌+◌,
 use Rattle.std.specs.Prelude.{Result, Ok, Err, OnOk, IfOk, IfErr}
 use Rattle.psa_status.specs.declared.Status.{Status}
 use Rattle.key_attributes.specs.declared.Attributes.{Attributes}
-use Rattle.policy_rules.specs.declared.narrowing.Label.{Label}
-use Rattle.driver_dispatch.specs.Held.{HeldKeys}
 use Rattle.secret_bytes.specs.Buffer.{IsClear, Buffer}
 use Rattle.key_file.specs.declared.file.KeyFile.{KeyFile}
 use Rattle.slot_table.specs.Lent.{Reading}

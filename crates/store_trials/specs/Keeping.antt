@@ -1,8 +1,6 @@
 -- What holds of a store between the calls of its only user.
-use Rattle.std.specs.Prelude.{◌≡◌, ◌≤◌, ◌==◌, ℕ, nat_lt, count_by, List, [], ◌∷◌, replicate, Option}
-use Rattle.driver_dispatch.specs.Held.{HeldKeys}
+use Rattle.std.specs.Prelude.{◌≡◌, ◌≤◌, ◌==◌, ℕ, nat_lt, count_by, List, [], ◌∷◌, replicate}
 use Rattle.key_slots.specs.Holdings.{Pairs}
-use Rattle.policy_rules.specs.declared.narrowing.Label.{Label}
 use Rattle.secret_bytes.specs.Buffer.{IsClear}
 use Rattle.store_core.specs.declared.store.Store.{Store}
 use Rattle.store_core.specs.Represents.{Opening, StandsFor}
