@@ -1,5 +1,5 @@
 -- How the program ends, and its status.
-use Rattle.std.specs.Prelude.{ℕ, ◌≡◌, Option, None, IsSome, ⊤, ⊥}
+use Rattle.std.specs.Prelude.{ℕ, ◌≡◌, Option, None, IsSome, ⊤}
 use Rattle.command_words.specs.declared.command.Command.{Command}
 use Rattle.psa_command.specs.Ends.{status_of}
 use Rattle.psa_command.specs.declared.exit.Exit.TheVariants as exit
