@@ -23,6 +23,7 @@ use Rattle.command_words.proofs.Rows.{option_built, HasValues, texts_are_in}
 use Rattle.command_words.proofs.RunWalk.{run_rules, run_shape, between, Ends, follows}
 use Rattle.command_words.proofs.Settings.{text_at, reads_all}
 
+-- what `clap` builds of `generate`, and of the whole
 abbrev generate_rules : List Rule
 generate_rules = with_index 1 (filled (new_rule (codes "count"))) ∷ []
 

@@ -1,7 +1,7 @@
 -- Good values don't begin with a hyphen.
 use Rattle.std.proofs.Common.{◌≡◌, ℕ, ◌<◌, ◌^◌, ◌==◌, Bool, true, false, cond, List, [], ◌∷◌, refl, sym, ap, ◌∙◌, arith, eqb-true, get_or}
 use Rattle.std.specs.Prelude.{Option, Some, None, bytes_eq, option_and_then, replicate, Err}
-use Rattle.std.specs.List.{slice_split}
+use Rattle.std.specs.List.{slice_split, onto_first}
 use Rattle.std.specs.Fmt.{decimal}
 use Rattle.std.specs.Result.{result_ok}
 use Rattle.std.proofs.lemmas.Fmt.{first_decimal}
@@ -9,6 +9,7 @@ use Rattle.std.proofs.lemmas.Option.{none-some, option_and_then_some}
 use Rattle.std.proofs.lemmas.Slice.Eq.{bytes_eq-Decides}
 use Rattle.clap.specs.Lexer.{strip_byte, long_of, long_of_rest, short_of, short_of_rest}
 use Rattle.hex.specs.Hex.{decode_pairs}
+use Rattle.hex.specs.declared.error.FromHexError.TheVariants.{OddLength, InvalidStringLength}
 use Rattle.policy_rules.specs.declared.narrowing.Label.{Label}
 use Rattle.policy_rules.specs.declared.narrowing.Label.TheVariants.{NoExport, NoCopy, NoEcb, Aes256}
 use Rattle.admission.specs.Words.{label_word, label_named, labels_named, labels_in}
@@ -21,9 +22,11 @@ use Rattle.command_words.specs.declared.options.RunOption.TheVariants.{Workers, 
 use Rattle.command_words.proofs.Numbers.{not_written}
 use Rattle.command_words.proofs.Settings.{text_at}
 
+-- a text that begins with no hyphen
 abbrev pub IsBare : List ℕ → Type 0
 IsBare text = strip_byte 45 text ≡ None
 
+-- what is read of a text, where that is nothing behind a hyphen
 pub record TakesNoHyphen {X : Type 0} (read : List ℕ → Option X) : Type 0 where
   pub none : (rest : List ℕ) → read (45 ∷ rest) ≡ None
 
@@ -53,7 +56,7 @@ no_seed = record { none = λ rest. sized rest _ _ }
     pairs [] = refl
     pairs (low ∷ rest) = refl
 
-    sized : (rest : List ℕ) (odd full : Bool) → result_ok (cond odd (Err Rattle.hex.specs.declared.error.FromHexError.TheVariants.OddLength) (cond full (decode_pairs 0 (45 ∷ rest)) (Err Rattle.hex.specs.declared.error.FromHexError.TheVariants.InvalidStringLength))) ≡ None
+    sized : (rest : List ℕ) (odd full : Bool) → result_ok (cond odd (Err OddLength) (cond full (decode_pairs 0 (45 ∷ rest)) (Err InvalidStringLength))) ≡ None
     sized rest true full = refl
     sized rest false true = pairs rest
     sized rest false false = refl
@@ -74,7 +77,7 @@ no_word given = record { none = λ rest. go given rest }
 pub no_labels : (given : List Label) → TakesNoHyphen (labels_in given)
 no_labels given = record { none = λ rest. go (slice_split (λ byte. byte == 44) rest) }
   where
-    go : (parts : List (List ℕ)) → labels_named given (Rattle.std.specs.List.onto_first 45 parts) ≡ None
+    go : (parts : List (List ℕ)) → labels_named given (onto_first 45 parts) ≡ None
     go [] = rw ((no_word given).none []) refl
     go (part ∷ parts) = rw ((no_word given).none part) refl
 

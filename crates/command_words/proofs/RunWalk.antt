@@ -2,7 +2,7 @@
 use Rattle.std.proofs.Common.{◌≡◌, ℕ, Bool, true, false, List, [], ◌∷◌, refl, sym, ◌∙◌, subst}
 use Rattle.std.specs.Prelude.{Option, Some, None, bytes_eq, option_and_then, fold, codes}
 use Rattle.std.proofs.lemmas.Option.{none-some, same_Some}
-use Rattle.clap.specs.Walk.{Held, Row, Rule, Text, Waiting, Walk, idle, option as for_option, walked, settled, reacted, pushed, used, finished, with_default, has_row, nothing_held, rows_after, walk}
+use Rattle.clap.specs.Walk.{Held, Row, Rule, Waiting, Walk, idle, option as for_option, walked, settled, reacted, arg_by_id, arg_by_long}
 use Rattle.clap.specs.Simple.{Shape, new_shape}
 use Rattle.clap.specs.Takes.{walk_passes, turn_passes, settle_passes, use_passes}
 use Rattle.command_words.specs.Options.{Texts, is_of, option_in}
@@ -15,6 +15,7 @@ use Rattle.command_words.proofs.OptionWords.{long_of_option, not_dashes}
 use Rattle.command_words.proofs.Rows.{option_built, HasValues, no_row, has_next}
 use Rattle.command_words.proofs.Settings.{text_at, put, put_at, same_option, with_is}
 
+-- what `clap` builds of `run`
 abbrev pub run_rules : List Rule
 run_rules = option_built Workers ∷ option_built Seed ∷ option_built Rules ∷ []
 
@@ -34,12 +35,12 @@ record Turns (before : Walk) (word : List ℕ) (after : Walk) : Type 0 where
   passes : turn_passes run_shape [] before word ≡ true
   next : walked run_rules [] before word ≡ after
 
-by_long : (option : RunOption) → Rattle.clap.specs.Walk.arg_by_long run_rules (option_id option) ≡ Some (option_built option)
+by_long : (option : RunOption) → arg_by_long run_rules (option_id option) ≡ Some (option_built option)
 by_long Workers = refl
 by_long Seed = refl
 by_long Rules = refl
 
-by_id : (option : RunOption) → Rattle.clap.specs.Walk.arg_by_id run_rules (option_id option) ≡ Some (option_built option)
+by_id : (option : RunOption) → arg_by_id run_rules (option_id option) ≡ Some (option_built option)
 by_id Workers = refl
 by_id Seed = refl
 by_id Rules = refl
