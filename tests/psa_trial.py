@@ -38,11 +38,12 @@ sys.exit(int(status))
 """
 
 NO_ANSWER = "checked: no-answer: {}\nraces: not looked for, since a kit has no ThreadSanitizer\nrun=no-answer proved=no\n"
+OUTPUTS = "standard output or to standard error"
 ANSWERS = (  # of the toolchain, and the statuses that ./psa ends with
     (0, "checked: ended status=0\nrun=ended status=0 runners=1 races=unchecked proved=no\n", 0),
     (2, "line 1: bad key\nchecked: ended status=2\nrun=ended status=2 runners=1 races=unchecked proved=no\n", 2),
     (6, NO_ANSWER.format("the program did not end within the time limit"), 124),
-    (6, NO_ANSWER.format("the program wrote more than 1048576 bytes to standard output or to standard error, the limit on each"), 124),
+    (6, NO_ANSWER.format(f"the program wrote more than 1048576 bytes to {OUTPUTS}, the limit on each"), 124),
     (6, NO_ANSWER.format("AddressSanitizer cannot start here"), 125),
     (1, "error: the crate has a fault\nrun=none proved=no\n", 125),
     (1, "", 125),
