@@ -5,10 +5,10 @@ use Rattle.std.proofs.lemmas.Bool.{MatchBool-at_true, MatchBool-at_false}
 use Rattle.crypto_specs.specs.Aes.{aes_encrypt}
 use Rattle.crypto_specs.specs.Ccm.{ccm_tag, ccm_text}
 use Rattle.crypto_specs.specs.Gcm.{gcm_tag, gcm_text}
-use Rattle.gcm_states.specs.States.{HoldsGcmData, HoldsGcmText}
-use Rattle.ccm_states.specs.States.{HoldsCcmData, HoldsCcmText}
-use Rattle.gcm_states.proofs.Texts.{length-gcm_text}
-use Rattle.ccm_states.proofs.Payloads.{length-ccm_text}
+use Rattle.aead_streams.specs.GcmStates.{HoldsGcmData, HoldsGcmText}
+use Rattle.aead_streams.specs.CcmStates.{HoldsCcmData, HoldsCcmText}
+use Rattle.aead_streams.proofs.GcmTexts.{length-gcm_text}
+use Rattle.aead_streams.proofs.CcmPayloads.{length-ccm_text}
 use Rattle.store_model.specs.Aeads.{aead_tag, aead_text, is_ccm}
 use Rattle.store_model.specs.Algorithms.{tag_bytes}
 use Rattle.aead_states.specs.declared.parts.Parts.{Parts}

@@ -1,9 +1,9 @@
 -- Keys and algorithms that an operation takes, as tests.
 use Rattle.std.specs.Prelude.{ℕ, Bool, ◌&&◌, List}
 use Rattle.alg_encoding.specs.Table.{permits_length}
-use Rattle.algorithm_facts.specs.declared.algorithms.AeadAlgorithm.{AeadAlgorithm}
-use Rattle.algorithm_facts.specs.Keys.{is_key}
-use Rattle.algorithm_facts.specs.Names.{tag_lengths}
+use Rattle.key_policy.specs.declared.algorithms.AeadAlgorithm.{AeadAlgorithm}
+use Rattle.key_policy.specs.Keys.{is_key}
+use Rattle.key_policy.specs.Names.{tag_lengths}
 
 -- a key and an AEAD to compute with
 abbrev pub is_ready : AeadAlgorithm → List ℕ → Bool

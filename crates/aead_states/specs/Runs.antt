@@ -3,8 +3,8 @@ use Rattle.std.specs.Prelude.{ℕ, Bool, List, MatchBool}
 use Rattle.crypto_specs.specs.Aes.{aes_encrypt}
 use Rattle.crypto_specs.specs.Ccm.{ccm_text}
 use Rattle.crypto_specs.specs.Gcm.{gcm_text}
-use Rattle.gcm_states.specs.States.{HoldsGcmData, HoldsGcmText, IsClearGcm}
-use Rattle.ccm_states.specs.States.{HoldsCcmData, HoldsCcmText, IsClearCcm}
+use Rattle.aead_streams.specs.GcmStates.{HoldsGcmData, HoldsGcmText, IsClearGcm}
+use Rattle.aead_streams.specs.CcmStates.{HoldsCcmData, HoldsCcmText, IsClearCcm}
 use Rattle.store_model.specs.Aeads.{is_ccm}
 use Rattle.store_model.specs.Algorithms.{tag_bytes}
 use Rattle.aead_states.specs.declared.parts.Parts.{Parts}

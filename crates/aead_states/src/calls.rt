@@ -5,10 +5,10 @@ ghost use Rattle.store_model.specs.Call.{buffer_after};
 ghost use Rattle.store_model.specs.Operations.{Operation};
 ghost use Rattle.store_model.specs.AeadOperations.{AeadFinish, AeadGenerateNonce, AeadSetLengths, AeadSetNonce, AeadUpdate, AeadUpdateAd, AeadVerify, AeadWork, aead_step};
 ghost use Rattle.aead_states.specs.Holding.{IsAeadOperation};
-ghost use Rattle.operation_phase.specs.Turns.{on_active};
+ghost use Rattle.multipart.specs.Turns.{on_active};
 
 use crate::AeadState;
-use operation_phase::Phase;
+use multipart::Phase;
 use psa_status::Status;
 
 impl AeadState {

@@ -6,10 +6,10 @@ ghost use Rattle.store_model.specs.AeadOperations.{AeadWork, aead_step};
 ghost use Rattle.service_calls.specs.Meanings.{model_aead_step};
 ghost use Rattle.aead_states.specs.Holding.{IsAeadOperation};
 ghost use Rattle.service_calls.specs.Random.{takes_nonce_bytes};
-ghost use Rattle.operation_phase.specs.Turns.{loses_key};
+ghost use Rattle.multipart.specs.Turns.{loses_key};
 
 use crate::state::AeadState;
-use operation_phase::Family;
+use multipart::Family;
 use psa_status::Status;
 use service_calls::{AeadStep, Output, bytes, plain};
 

@@ -12,7 +12,7 @@ ghost use Rattle.aead_states.specs.Holding.{HoldsAead};
 
 use crate::declared::{is_whole_ad, is_whole_payload};
 use crate::running::RunningAead;
-use operation_phase::{give_front, is_front};
+use multipart::{give_front, is_front};
 use psa_status::Status;
 
 impl RunningAead {

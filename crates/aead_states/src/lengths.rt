@@ -2,7 +2,7 @@
 ghost use Rattle.std.specs.Prelude.{◌≡◌, ◌≤◌, nat_lt};
 ghost use Rattle.store_model.specs.Rules.{total_limit};
 
-use algorithm_facts::TOTAL_LIMIT;
+use key_policy::TOTAL_LIMIT;
 
 // The bytes of associated data and of payload that were declared.
 #[derive(Clone, Copy, Drop)]

@@ -5,7 +5,7 @@ ghost use Rattle.psa_status.specs.Rows.{first_row};
 ghost use Rattle.store_model.specs.Call.{buffer_after};
 ghost use Rattle.store_model.specs.Outcome.{given, reply_unless};
 ghost use Rattle.store_model.specs.Aeads as model;
-ghost use Rattle.algorithm_facts.specs.Names.{is_ccm, permits_nonce_by};
+ghost use Rattle.key_policy.specs.Names.{is_ccm, permits_nonce_by};
 ghost use Rattle.store_model.specs.Rules.{total_limit};
 ghost use Rattle.store_model.specs.AeadOperations.{AeadGenerateNonce, AeadWork, aead_step, declared_payload, generate_nonce_rows, nonce_length, set_nonce_rows, takes_nonce, with_nonce};
 ghost use Rattle.aead_states.specs.DeclaredLengths.{lengths_of};
@@ -13,8 +13,8 @@ ghost use Rattle.aead_states.specs.Holding.{HoldsAead};
 
 use crate::declared::{declared_ad, declared_payload};
 use crate::running::RunningAead;
-use algorithm_facts::AeadKind;
-use operation_phase::give;
+use key_policy::AeadKind;
+use multipart::give;
 use psa_status::Status;
 
 // The bytes of a nonce that is generated: with CCM the most that leave room for the payload's length.

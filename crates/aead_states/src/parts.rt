@@ -5,14 +5,13 @@ ghost use Rattle.store_model.specs.Aeads.{aead_tag, aead_text};
 ghost use Rattle.store_model.specs.Aeads as model;
 ghost use Rattle.store_model.specs.Algorithms.{tag_bytes};
 ghost use Rattle.store_model.specs.Rules.{total_limit};
-ghost use Rattle.algorithm_facts.specs.Names.{IsTagLength, NamesAead, is_ccm, permits_nonce_by};
+ghost use Rattle.key_policy.specs.Names.{IsTagLength, NamesAead, is_ccm, permits_nonce_by};
 ghost use Rattle.aead_states.specs.Directions.{cipher_of, plain_of};
 ghost use Rattle.aead_states.specs.Runs.{HoldsData, HoldsText, IsClear};
 
+use aead_streams::{CcmState, GcmState};
 use aes_core::AesKey;
-use algorithm_facts::{AeadAlgorithm, AeadKind};
-use ccm_states::CcmState;
-use gcm_states::GcmState;
+use key_policy::{AeadAlgorithm, AeadKind};
 
 // Both algorithms' states side by side, of which the operation's algorithm takes one.
 #[derive(Drop)]

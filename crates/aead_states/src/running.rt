@@ -2,13 +2,13 @@
 ghost use Rattle.std.specs.Prelude.{◌≡◌, ◌≤◌, ℕ, Bool, true, IsTrue};
 ghost use Rattle.crypto_specs.specs.Aes.{IsKey};
 ghost use Rattle.store_model.specs.Rules.{total_limit};
-ghost use Rattle.algorithm_facts.specs.Names.{IsTagLength, NamesAead};
+ghost use Rattle.key_policy.specs.Names.{IsTagLength, NamesAead};
 ghost use Rattle.aead_states.specs.Ready.{is_ready};
 
 use crate::lengths::Lengths;
 use crate::parts::Parts;
 use aes_core::AesKey;
-use algorithm_facts::{AeadAlgorithm, AeadKind, aes_key};
+use key_policy::{AeadAlgorithm, AeadKind, aes_key};
 
 // What was said and given to an operation: its algorithm and key, the declared lengths, whether the nonce is there,
 // how many bytes of associated data and of text there are, and whether any text was given.

@@ -5,14 +5,14 @@ ghost use Rattle.service_calls.specs.Answers.{plain_reply};
 ghost use Rattle.store_model.specs.Operations.{Operation};
 ghost use Rattle.store_model.specs.AeadOperations.{AeadWork};
 ghost use Rattle.alg_encoding.specs.declared.table.Class.TheVariants.{Aead};
-ghost use Rattle.algorithm_facts.specs.Names.{IsOfClass};
+ghost use Rattle.key_policy.specs.Names.{IsOfClass};
 ghost use Rattle.aead_states.specs.Holding.{IsAeadOperation};
 ghost use Rattle.aead_states.specs.Setups.{aead_setup};
 
 use crate::AeadState;
 use alg_encoding::Alg;
-use algorithm_facts::aead_algorithm;
-use operation_phase::Phase;
+use key_policy::aead_algorithm;
+use multipart::Phase;
 use psa_status::Status;
 
 impl AeadState {

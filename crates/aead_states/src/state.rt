@@ -1,12 +1,12 @@
 // The state of an operation, and how its phase changes.
 ghost use Rattle.std.specs.Prelude.{◌≡◌};
 ghost use Rattle.store_model.specs.Operations.{Inactive, Operation, is_inactive};
-ghost use Rattle.operation_phase.specs.Turns.{is_active};
+ghost use Rattle.multipart.specs.Turns.{is_active};
 ghost use Rattle.store_model.specs.AeadOperations.{AeadWork};
 ghost use Rattle.aead_states.specs.Holding.{IsAeadOperation, IsClearAead};
 
 use crate::running::RunningAead;
-use operation_phase::OperationState;
+use multipart::OperationState;
 use psa_status::Status;
 
 /// An AEAD in several parts: a setup with a key, the lengths and the nonce, associated data, text, and a finish, which

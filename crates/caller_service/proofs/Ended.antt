@@ -6,10 +6,10 @@ use Rattle.turn_history.specs.declared.pass.Account.{Account}
 use Rattle.turn_history.specs.History.{calls_by, entries_of, StartsWith}
 use Rattle.turn_history.specs.Views.{account_of}
 use Rattle.store_model.specs.Replay.{Entry}
-use Rattle.shared_store.specs.Closed.{IsClosed}
-use Rattle.shared_store.specs.Standing.{caller_of}
+use Rattle.locked_store.specs.Closed.{IsClosed}
+use Rattle.locked_store.specs.Standing.{caller_of}
 use Rattle.callers.specs.Ready.{IsReady}
-use Rattle.shared_store.specs.Worlds.{World}
+use Rattle.locked_store.specs.Worlds.{World}
 use Rattle.callers.specs.declared.caller.Caller.{Caller}
 use Rattle.turn_history.proofs.Lists.{entries-append}
 use Rattle.callers.proofs.Journeys.{begins_through}

@@ -7,9 +7,9 @@ use Rattle.store_model.specs.Marks.{last_counts}
 use Rattle.store_core.specs.Durability.{KeepsKeys, course_of, durable_keys}
 use Rattle.store_core.specs.Start.{opening_of}
 use Rattle.store_core.specs.Zeros.{HasKeyOrZeros}
-use Rattle.shared_store.specs.Standing.{caller_of}
-use Rattle.shared_store.specs.Turning.{IsLegal, IsStartOf}
-use Rattle.shared_store.specs.Worlds.{World}
+use Rattle.locked_store.specs.Standing.{caller_of}
+use Rattle.locked_store.specs.Turning.{IsLegal, IsStartOf}
+use Rattle.locked_store.specs.Worlds.{World}
 use Rattle.callers.specs.Retired.{IsRetired, MakesNoCall}
 use Rattle.callers.specs.declared.caller.Caller.{Caller}
 

@@ -14,7 +14,7 @@ use Rattle.callers.specs.Ready.{IsReady}
 use Rattle.disk_face.specs.declared.Disk as Disk
 use Rattle.driver_dispatch.specs.declared.devices.Devices as Devices
 use Rattle.admission.specs.declared.rules.Admission as Admission
-use Rattle.shared_store.specs.Shared.{world}
+use Rattle.locked_store.specs.Shared.{world}
 use Rattle.callers.specs.declared.caller.Caller.{Caller}
 use Rattle.caller_service.specs.declared.replies.Reply.{Reply}
 use Rattle.caller_service.specs.declared.service.Service.{Service}

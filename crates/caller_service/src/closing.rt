@@ -3,14 +3,14 @@ ghost use Rattle.std.specs.Prelude.{◌≡◌, ◌<◌, ◌+◌, ◌++◌, ℕ, 
 ghost use Rattle.turn_history.specs.Views.{account_of};
 ghost use Rattle.callers.specs.Ready.{IsReady};
 ghost use Rattle.callers.specs.Retired.{IsRetired};
-ghost use Rattle.shared_store.specs.Shared.{world};
+ghost use Rattle.locked_store.specs.Shared.{world};
 ghost use Rattle.caller_service.specs.Closing.{WereRetired, backwards};
 
 use admission::Admission;
 use callers::Caller;
 use disk_face::Disk;
 use driver_dispatch::Devices;
-use shared_store::{Held, SharedStore};
+use locked_store::{Held, SharedStore};
 use std::sync::Wait;
 use turn_history::Ending;
 

@@ -1,11 +1,11 @@
 // The buffers of the callers, which are taken before a store is opened.
 ghost use Rattle.std.specs.Prelude.{◌≡◌, ◌≤◌, [], All, IfOk, length, vec_capacity};
 ghost use Rattle.secret_bytes.specs.Buffer.{IsClear};
-ghost use Rattle.operation_cells.specs.States.{AreInactive};
+ghost use Rattle.operation_handles.specs.States.{AreInactive};
 ghost use Rattle.callers.specs.Handles.{AreIdle};
 ghost use Rattle.caller_service.specs.Rooms.{IsRoom};
 
-use operation_cells::{Cell, FamilyStates};
+use operation_handles::{Cell, FamilyStates};
 use psa_status::Memory;
 use secret_bytes::Secret;
 use std::alloc::Global;

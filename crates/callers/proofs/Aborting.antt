@@ -13,13 +13,13 @@ use Rattle.store_model.specs.Handles.{HandleOperation, applied}
 use Rattle.store_model.specs.Requests.{Request, OnHandle}
 use Rattle.store_model.specs.Replay.{Entry, outcome_of, replay}
 use Rattle.service_calls.specs.declared.output.Output.TheVariants.{Done}
-use Rattle.shared_store.specs.Turning.{IsAt, IsEntered}
+use Rattle.locked_store.specs.Turning.{IsAt, IsEntered}
 use Rattle.std.specs.Prelude.{Ok}
 use Rattle.callers.specs.Called.{IsAnswered, KnowsBefore, Legal}
 use Rattle.callers.specs.Handles.{AreOperations, IsChanged, busy, operation_at, with_operation_at}
 use Rattle.callers.specs.Parts.{IsBack}
 use Rattle.callers.specs.Ready.{IsReady}
-use Rattle.shared_store.specs.Worlds.{World}
+use Rattle.locked_store.specs.Worlds.{World}
 use Rattle.callers.specs.declared.caller.Caller.{Caller}
 use Rattle.callers.proofs.CellLists.{busy_put, once}
 use Rattle.callers.proofs.Handling.{few_turns, handled_answered, handled_ready, one_turn, same_out, spent_by}

@@ -7,7 +7,7 @@ use Rattle.psa_status.specs.declared.Status.{Status}
 use Rattle.std.specs.Option.{option_map}
 use Rattle.psa_status.specs.declared.Status.TheVariants.{Success}
 use Rattle.slot_table.specs.Lent.{Reading}
-use Rattle.operation_phase.specs.Turns.{is_active}
+use Rattle.multipart.specs.Turns.{is_active}
 use Rattle.store_model.specs.Store as model
 use Rattle.store_model.specs.Faults.{Plain}
 use Rattle.store_model.specs.Operations.{Operation, Inactive, InError, Active}
@@ -20,15 +20,15 @@ use Rattle.store_model.specs.Replay.{Entry, outcome_of, replay}
 use Rattle.store_model.proofs.LeftAll.{leaves_all}
 use Rattle.store_model.proofs.Others.{leaves_shared}
 use Rattle.store_model.proofs.SoundService.{by_number}
-use Rattle.operation_cells.specs.Families.{embed_of}
-use Rattle.operation_cells.specs.Cells.{IsOperation}
-use Rattle.operation_cells.specs.declared.cell.Cell.{Cell}
+use Rattle.operation_handles.specs.Families.{embed_of}
+use Rattle.operation_handles.specs.Cells.{IsOperation}
+use Rattle.operation_handles.specs.declared.cell.Cell.{Cell}
 use Rattle.store_core.proofs.Histories.{replay_push}
-use Rattle.shared_store.specs.Turning.{DecidesAfter, IsRanked, LeavesAllKeys}
+use Rattle.locked_store.specs.Turning.{DecidesAfter, IsRanked, LeavesAllKeys}
 use Rattle.callers.specs.Called.{IsCalled, KnowsBefore}
 use Rattle.callers.specs.Handles.{operation_at}
 use Rattle.callers.specs.Ready.{IsReady}
-use Rattle.shared_store.specs.Worlds.{World}
+use Rattle.locked_store.specs.Worlds.{World}
 use Rattle.callers.specs.declared.caller.Caller.{Caller}
 use Rattle.callers.proofs.Journeys.{called, told_front}
 use Rattle.callers.proofs.Readying.{known, outcome_is}

@@ -9,8 +9,8 @@ use Rattle.psa_status.specs.declared.Status.TheVariants as status
 use Rattle.secret_bytes.specs.Buffer.{IsClear}
 use Rattle.slot_table.specs.Lent.{Reading}
 use Rattle.key_attributes.specs.declared.KeyId.{KeyId}
-use Rattle.key_uses.specs.declared.key_use.KeyUse.{KeyUse}
-use Rattle.key_uses.specs.Uses.{use_refusal}
+use Rattle.key_policy.specs.declared.key_use.KeyUse.{KeyUse}
+use Rattle.key_policy.specs.Uses.{use_refusal}
 use Rattle.turn_history.specs.History.{entries_of}
 use Rattle.key_slots.specs.Holdings.{Pairs}
 use Rattle.service_calls.specs.declared.output.Output.{Output}
@@ -28,16 +28,16 @@ use Rattle.store_model.specs.Handles.{Held, HandleOperation, Served, applied, op
 use Rattle.store_model.specs.Requests.{Request, OnHandle}
 use Rattle.store_model.specs.Replay.{Entry, outcome_of, replay}
 use Rattle.store_core.specs.Uses.{IsLent, IsRefused, mark_of}
-use Rattle.operation_cells.specs.Cells.{IsOperation}
-use Rattle.operation_cells.specs.Setups.{refusal_without_key, set_up_by, set_up_for, set_up_without_key, setup_use, work_begun}
-use Rattle.operation_cells.specs.declared.cell.Cell.{Cell}
-use Rattle.operation_cells.proofs.Served.{setups}
-use Rattle.shared_store.specs.Turning.{DecidesAfter, IsAt, IsEntered, ReadsKey, lease_pair}
+use Rattle.operation_handles.specs.Cells.{IsOperation}
+use Rattle.operation_handles.specs.Setups.{refusal_without_key, set_up_by, set_up_for, set_up_without_key, setup_use, work_begun}
+use Rattle.operation_handles.specs.declared.cell.Cell.{Cell}
+use Rattle.operation_handles.proofs.Served.{setups}
+use Rattle.locked_store.specs.Turning.{DecidesAfter, IsAt, IsEntered, ReadsKey, lease_pair}
 use Rattle.callers.specs.Called.{IsAnswered, IsCalled, KnowsBefore, Legal, TellsFailure}
 use Rattle.callers.specs.Failures.{failure_marked}
 use Rattle.callers.specs.Handles.{AreOperations, ArePairs, HoldsLease, IsChanged, busy, leases_of, operation_at, with_operation_at}
 use Rattle.callers.specs.Ready.{IsOwnPart, IsReady}
-use Rattle.shared_store.specs.Worlds.{World}
+use Rattle.locked_store.specs.Worlds.{World}
 use Rattle.callers.specs.declared.caller.Caller.{Caller}
 use Rattle.callers.proofs.CellLists.{busy_put, cell_at, few, once, tally-cons}
 use Rattle.callers.proofs.Failing.{answers_plain, set_up_plainly}

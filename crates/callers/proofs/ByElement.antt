@@ -13,15 +13,15 @@ use Rattle.service_calls.specs.Answered.{AnswersReply}
 use Rattle.service_calls.specs.Meanings.{model_store_call}
 use Rattle.service_calls.specs.declared.output.Output.{Output}
 use Rattle.service_calls.specs.declared.store_calls.StoreCall.{StoreCall}
-use Rattle.element_calls.specs.Answers.{AnswersCall, IsOfElement, mark_computed}
-use Rattle.element_calls.specs.Calls.{element_reply, model_call, rows_before}
-use Rattle.element_calls.specs.Replies.{HasDrawn, all_rows, key_rows, reply_on}
-use Rattle.element_calls.specs.declared.calls.ElementCall.{ElementCall}
-use Rattle.element_calls.specs.declared.calls.ElementCall.TheVariants.{MacCompute, MacVerify, CtrEncrypt, CtrDecrypt}
-use Rattle.element_calls.specs.declared.calls.NotComputed.{NotComputed}
-use Rattle.element_calls.specs.declared.calls.NotComputed.TheVariants.{Failed, Refused}
-use Rattle.element_calls.proofs.Answering.{refused_before}
-use Rattle.element_calls.proofs.Replying.{asks, replies_are}
+use Rattle.secure_element_calls.specs.Answers.{AnswersCall, IsOfElement, mark_computed}
+use Rattle.secure_element_calls.specs.Calls.{element_reply, model_call, rows_before}
+use Rattle.secure_element_calls.specs.Replies.{HasDrawn, all_rows, key_rows, reply_on}
+use Rattle.secure_element_calls.specs.declared.calls.ElementCall.{ElementCall}
+use Rattle.secure_element_calls.specs.declared.calls.ElementCall.TheVariants.{MacCompute, MacVerify, CtrEncrypt, CtrDecrypt}
+use Rattle.secure_element_calls.specs.declared.calls.NotComputed.{NotComputed}
+use Rattle.secure_element_calls.specs.declared.calls.NotComputed.TheVariants.{Failed, Refused}
+use Rattle.secure_element_calls.proofs.Answering.{refused_before}
+use Rattle.secure_element_calls.proofs.Replying.{asks, replies_are}
 use Rattle.store_model.specs.Call.{Call, Reply}
 use Rattle.store_model.specs.Ciphers.{Ctr, enciphered}
 use Rattle.store_model.specs.Draws.{Random}
@@ -35,7 +35,7 @@ use Rattle.store_model.specs.Sound.{IsSound}
 use Rattle.store_model.specs.Step.{step}
 use Rattle.store_model.specs.Store.{Key, Store, is_opaque_key}
 use Rattle.store_core.specs.Opaque.{IsAnswered}
-use Rattle.keyed_calls.specs.Elements.{has_vector, takes_vector}
+use Rattle.single_part.specs.Elements.{has_vector, takes_vector}
 use Rattle.callers.specs.Called.{IsReplied}
 use Rattle.callers.specs.Parts.{drawn_by}
 use Rattle.callers.specs.Ready.{IsOwnPart}

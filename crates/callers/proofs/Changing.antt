@@ -4,12 +4,12 @@ use Rattle.std.specs.Prelude.{◌⊎◌, count_by}
 use Rattle.std.proofs.lemmas.List.Sums.{sum_by-append}
 use Rattle.slot_table.specs.Lent.{Reading}
 use Rattle.key_slots.specs.Holdings.{Pairs}
-use Rattle.operation_phase.specs.Turns.{is_active}
+use Rattle.multipart.specs.Turns.{is_active}
 use Rattle.store_model.specs.Handles.{HandleOperation}
-use Rattle.operation_cells.specs.Cells.{IsOperation}
-use Rattle.operation_cells.specs.declared.cell.Cell.{Cell}
+use Rattle.operation_handles.specs.Cells.{IsOperation}
+use Rattle.operation_handles.specs.declared.cell.Cell.{Cell}
 use Rattle.std.proofs.lemmas.Bool.{false≢true}
-use Rattle.shared_store.specs.Turning.{lease_pair}
+use Rattle.locked_store.specs.Turning.{lease_pair}
 use Rattle.callers.specs.Handles.{AreOperations, ArePairs, HoldsLease, IsChanged, leases_of, pairs_of}
 use Rattle.callers.proofs.CellLists.{leases_put, names_lease, put_cell, tally-cons}
 

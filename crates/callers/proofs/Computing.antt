@@ -11,8 +11,8 @@ use Rattle.secret_bytes.specs.Buffer.{IsClear, bytes_of}
 use Rattle.slot_table.specs.Lent.{Reading}
 use Rattle.turn_history.specs.History.{entries_of}
 use Rattle.key_slots.specs.Holdings.{Pairs, names, same}
-use Rattle.key_uses.specs.declared.key_use.KeyUse.{KeyUse}
-use Rattle.key_uses.specs.Uses.{use_refusal}
+use Rattle.key_policy.specs.declared.key_use.KeyUse.{KeyUse}
+use Rattle.key_policy.specs.Uses.{use_refusal}
 use Rattle.service_calls.specs.Answered.{AnswersReply}
 use Rattle.service_calls.specs.declared.output.Output.{Output}
 use Rattle.service_calls.specs.declared.store_calls.StoreCall.{StoreCall}
@@ -26,21 +26,21 @@ use Rattle.store_model.specs.Outcome.{Computed, Outcome, counted, with_computed}
 use Rattle.store_model.specs.Requests.{Request, OnStore}
 use Rattle.store_model.specs.Replay.{Entry, replay}
 use Rattle.store_model.specs.Step.{step}
-use Rattle.element_calls.specs.Answers.{AnswersCall, mark_computed}
-use Rattle.element_calls.specs.Calls.{model_call}
-use Rattle.element_calls.specs.Replies.{HasDrawn}
-use Rattle.element_calls.specs.declared.calls.ElementCall.{ElementCall}
-use Rattle.element_calls.specs.declared.calls.NotComputed.{NotComputed}
+use Rattle.secure_element_calls.specs.Answers.{AnswersCall, mark_computed}
+use Rattle.secure_element_calls.specs.Calls.{model_call}
+use Rattle.secure_element_calls.specs.Replies.{HasDrawn}
+use Rattle.secure_element_calls.specs.declared.calls.ElementCall.{ElementCall}
+use Rattle.secure_element_calls.specs.declared.calls.NotComputed.{NotComputed}
 use Rattle.store_core.specs.Opaque.{IsAnswered as IsOfElement}
 use Rattle.store_core.specs.Uses.{IsLent, IsRefused, mark_of}
-use Rattle.shared_store.specs.Turning.{DecidesAfter, DecidesBefore, IsAt, IsEntered, lease_pair, without_pair}
-use Rattle.keyed_calls.specs.Elements.{has_vector, takes_vector}
-use Rattle.keyed_calls.specs.Keyed.{computed_by, wanted_by}
-use Rattle.keyed_calls.proofs.Draws.{draws_none, few}
+use Rattle.locked_store.specs.Turning.{DecidesAfter, DecidesBefore, IsAt, IsEntered, lease_pair, without_pair}
+use Rattle.single_part.specs.Elements.{has_vector, takes_vector}
+use Rattle.single_part.specs.Keyed.{computed_by, wanted_by}
+use Rattle.single_part.proofs.Draws.{draws_none, few}
 use Rattle.callers.specs.Called.{IsReplied, IsAnswered, IsCalled, KnowsBefore, Legal}
 use Rattle.callers.specs.Parts.{IsGivenBack, drawn_by}
 use Rattle.callers.specs.Ready.{IsOwnPart, IsReady}
-use Rattle.shared_store.specs.Worlds.{World}
+use Rattle.locked_store.specs.Worlds.{World}
 use Rattle.callers.specs.declared.caller.Caller.{Caller}
 use Rattle.callers.proofs.ByElement.{element_fits, element_own}
 use Rattle.callers.proofs.CellLists.{tally-cons, without}

@@ -17,14 +17,14 @@ use Rattle.store_model.specs.Faults.{FaultMark}
 use Rattle.store_model.specs.Handles.{next_random, own_of}
 use Rattle.store_model.specs.Requests.{Request, OnStore, serve}
 use Rattle.store_model.specs.Replay.{Entry, replay}
-use Rattle.shared_store.specs.Turning.{CreatesKey, HasNoFilling, IsAt, IsLater, IsRanked, filling_pair, without_pair}
+use Rattle.locked_store.specs.Turning.{CreatesKey, HasNoFilling, IsAt, IsLater, IsRanked, filling_pair, without_pair}
 use Rattle.store_core.specs.declared.store.Opened.{Opened}
-use Rattle.operation_cells.specs.declared.cell.Cell.{Cell}
+use Rattle.operation_handles.specs.declared.cell.Cell.{Cell}
 use Rattle.callers.specs.Called.{IsAnswered, KnowsBefore, Legal, TellsFailure}
 use Rattle.callers.specs.Handles.{leases_of, pairs_of}
 use Rattle.callers.specs.Parts.{IsCreated, SameButPass}
 use Rattle.callers.specs.Ready.{IsOwnPart, IsReady}
-use Rattle.shared_store.specs.Worlds.{World}
+use Rattle.locked_store.specs.Worlds.{World}
 use Rattle.callers.specs.declared.caller.Caller.{Caller}
 use Rattle.std.proofs.lemmas.Bool.Decides.{nat_tests}
 use Rattle.callers.proofs.CellLists.{once, tally-append, tally-cons, without}
@@ -34,7 +34,7 @@ use Rattle.callers.proofs.KeyReplies.{Gives}
 use Rattle.callers.proofs.Owned.{undrawn_own}
 use Rattle.callers.proofs.Readying.{known}
 use Rattle.callers.proofs.Storing.{DrawsNone, kept_answered, kept_ready}
-use Rattle.keyed_calls.proofs.Draws.{draws_none}
+use Rattle.single_part.proofs.Draws.{draws_none}
 
 -- no lease is a filling
 one_lease : (lease : Option lent.Reading) → count_by (λ p. p.1 == 0) (pairs_of lease) ≡ 0

@@ -21,8 +21,8 @@ use Rattle.store_core.specs.Creations.{IsUnmade, RecordsStated, mark_unmade, sta
 use Rattle.store_core.specs.declared.creating.NotMade.{NotMade}
 use Rattle.store_core.specs.declared.creating.NotMade.TheVariants as unmade
 use Rattle.store_core.specs.declared.creating.Unkept.TheVariants as unkept
-use Rattle.operation_cells.specs.Laws.{has_live_key}
-use Rattle.operation_cells.proofs.ServedOutputs.{outputs}
+use Rattle.operation_handles.specs.Laws.{has_live_key}
+use Rattle.operation_handles.proofs.ServedOutputs.{outputs}
 use Rattle.callers.proofs.KeySizes.{few_recorded, front_recorded}
 use Rattle.callers.proofs.SettingUp.{undrawn_own}
 

@@ -9,10 +9,10 @@ use Rattle.psa_status.specs.Rows.{first_row}
 use Rattle.alg_encoding.specs.Encoding.{is_concrete}
 use Rattle.key_attributes.specs.declared.Attributes.{Attributes}
 use Rattle.slot_table.specs.Lent as lent
-use Rattle.key_uses.specs.declared.key_use.KeyUse.{KeyUse}
-use Rattle.key_uses.specs.declared.key_use.KeyUse.TheVariants.{Export, Algorithm, Derivation}
-use Rattle.key_uses.specs.Permissions.{export_refusal, pattern_refusal}
-use Rattle.key_uses.specs.Uses.{use_refusal}
+use Rattle.key_policy.specs.declared.key_use.KeyUse.{KeyUse}
+use Rattle.key_policy.specs.declared.key_use.KeyUse.TheVariants.{Export, Algorithm, Derivation}
+use Rattle.key_policy.specs.Permissions.{export_refusal, pattern_refusal}
+use Rattle.key_policy.specs.Uses.{use_refusal}
 use Rattle.service_calls.specs.Answered.{AnswersReply}
 use Rattle.service_calls.specs.declared.handle_calls.Setup.{Setup}
 use Rattle.service_calls.specs.declared.handle_calls.Setup.TheVariants as setup
@@ -42,17 +42,17 @@ use Rattle.store_model.proofs.Steps.{aead_is_step, cipher_is_step, hash_is_step,
 use Rattle.store_model.proofs.StoreShape.{used_plainly}
 use Rattle.store_model.proofs.Tables.{NoFault, RefusesPlainly, refuses_plainly}
 use Rattle.store_model.proofs.Unmarked.{answers_plainly}
-use Rattle.element_calls.specs.Answers.{IsOfElement, mark_computed, status_of}
-use Rattle.element_calls.specs.Replies.{all_rows}
-use Rattle.element_calls.specs.declared.calls.ElementCall.{ElementCall}
-use Rattle.element_calls.specs.declared.calls.ElementCall.TheVariants as element
-use Rattle.element_calls.specs.declared.calls.NotComputed.{NotComputed}
-use Rattle.element_calls.specs.declared.calls.NotComputed.TheVariants.{Failed, Refused}
-use Rattle.keyed_calls.specs.Keyed.{computed_by}
-use Rattle.operation_cells.specs.KeyInputs.{key_refused}
-use Rattle.operation_cells.specs.KeyOutputs.{derived_key_refused}
-use Rattle.operation_cells.specs.Setups.{refusal_without_key}
-use Rattle.operation_cells.specs.Steps.{on_part, stepped_by}
+use Rattle.secure_element_calls.specs.Answers.{IsOfElement, mark_computed, status_of}
+use Rattle.secure_element_calls.specs.Replies.{all_rows}
+use Rattle.secure_element_calls.specs.declared.calls.ElementCall.{ElementCall}
+use Rattle.secure_element_calls.specs.declared.calls.ElementCall.TheVariants as element
+use Rattle.secure_element_calls.specs.declared.calls.NotComputed.{NotComputed}
+use Rattle.secure_element_calls.specs.declared.calls.NotComputed.TheVariants.{Failed, Refused}
+use Rattle.single_part.specs.Keyed.{computed_by}
+use Rattle.operation_handles.specs.KeyInputs.{key_refused}
+use Rattle.operation_handles.specs.KeyOutputs.{derived_key_refused}
+use Rattle.operation_handles.specs.Setups.{refusal_without_key}
+use Rattle.operation_handles.specs.Steps.{on_part, stepped_by}
 use Rattle.store_core.specs.Creations.{IsUncopied, IsUnmade, RecordsCopy, RecordsStated, mark_uncopied, mark_unmade, status_uncopied, status_unmade}
 use Rattle.store_core.specs.Uses.{IsRefused, mark_of, mark_undestroyed, status_undestroyed, there_rows}
 use Rattle.store_core.specs.declared.copying.NotCopied.{NotCopied}

@@ -25,10 +25,10 @@ use Rattle.store_core.specs.Creations.{IsMade, IsUnmade, RecordsStated, mark_unm
 use Rattle.store_core.specs.declared.creating.NotMade.{NotMade}
 use Rattle.store_core.specs.declared.creating.NotMade.TheVariants as unmade
 use Rattle.store_core.specs.declared.creating.Unkept.TheVariants as unkept
-use Rattle.shared_store.specs.Turning.{CreatesKey, GoesOn}
+use Rattle.locked_store.specs.Turning.{CreatesKey, GoesOn}
 use Rattle.callers.specs.Called.{IsToldTo, Starts}
 use Rattle.callers.specs.Ready.{IsOwnPart, IsReady}
-use Rattle.shared_store.specs.Worlds.{World}
+use Rattle.locked_store.specs.Worlds.{World}
 use Rattle.callers.specs.declared.caller.Caller.{Caller}
 use Rattle.callers.proofs.Owned.{failed_own, stored_own}
 use Rattle.callers.proofs.Readying.{random_there}

@@ -20,12 +20,12 @@ use Rattle.store_model.specs.Operations.{After, is_inactive}
 use Rattle.store_model.specs.Handles.{Held, HandleOperation, Served, applied, own_of}
 use Rattle.store_model.specs.Requests.{Request}
 use Rattle.store_model.specs.Replay.{Entry, outcome_of, replay}
-use Rattle.shared_store.specs.Turning.{IsAt, IsEntered, lease_pair, without_pair}
+use Rattle.locked_store.specs.Turning.{IsAt, IsEntered, lease_pair, without_pair}
 use Rattle.callers.specs.Called.{IsAnswered, IsCalled, KnowsBefore, Legal, TellsFailure}
 use Rattle.callers.specs.Handles.{AreOperations, ArePairs, IsChanged, busy, leases_of, operation_at, pairs_of, with_operation_at}
 use Rattle.callers.specs.Parts.{IsBack}
 use Rattle.callers.specs.Ready.{IsOwnPart, IsReady}
-use Rattle.shared_store.specs.Worlds.{World}
+use Rattle.locked_store.specs.Worlds.{World}
 use Rattle.callers.specs.declared.caller.Caller.{Caller}
 use Rattle.callers.proofs.CellLists.{busy_put, few, named_alike, once, tally-cons, without}
 use Rattle.callers.proofs.Journeys.{called, called_then}

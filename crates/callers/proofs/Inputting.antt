@@ -8,8 +8,8 @@ use Rattle.secret_bytes.specs.Buffer.{IsClear, bytes_of}
 use Rattle.slot_table.specs.Lent.{Reading}
 use Rattle.turn_history.specs.History.{entries_of}
 use Rattle.key_slots.specs.Holdings.{Pairs}
-use Rattle.key_uses.specs.declared.key_use.KeyUse.{KeyUse}
-use Rattle.key_uses.specs.Uses.{use_refusal}
+use Rattle.key_policy.specs.declared.key_use.KeyUse.{KeyUse}
+use Rattle.key_policy.specs.Uses.{use_refusal}
 use Rattle.service_calls.specs.declared.output.Output.TheVariants as output
 use Rattle.store_model.specs.DerivationOperations.{DerivationWork, key_step_rows, with_key}
 use Rattle.store_model.specs.Faults.{FaultMark, Plain}
@@ -23,15 +23,15 @@ use Rattle.store_model.specs.Outcome.{counted, done, refusal}
 use Rattle.store_model.specs.Replay.{Entry, outcome_of, replay}
 use Rattle.store_model.specs.Requests.{Request, OnHandle, serve}
 use Rattle.store_core.specs.Uses.{IsLent, IsRefused, mark_of}
-use Rattle.operation_cells.specs.KeyInputs.{RefusesKeyAt, TakesKeyAt, key_refused}
-use Rattle.operation_cells.specs.Steps.{on_part}
-use Rattle.operation_cells.proofs.ServedInputs.{inputs}
-use Rattle.shared_store.specs.Turning.{DecidesAfter, IsAt, IsEntered, ReadsKey, lease_pair}
+use Rattle.operation_handles.specs.KeyInputs.{RefusesKeyAt, TakesKeyAt, key_refused}
+use Rattle.operation_handles.specs.Steps.{on_part}
+use Rattle.operation_handles.proofs.ServedInputs.{inputs}
+use Rattle.locked_store.specs.Turning.{DecidesAfter, IsAt, IsEntered, ReadsKey, lease_pair}
 use Rattle.callers.specs.Called.{IsAnswered, IsCalled, KnowsBefore, Legal}
 use Rattle.callers.specs.Failures.{failure_marked}
 use Rattle.callers.specs.Handles.{HoldsLease, IsChanged, busy, leases_of, operation_at, with_operation_at}
 use Rattle.callers.specs.Ready.{IsReady}
-use Rattle.shared_store.specs.Worlds.{World}
+use Rattle.locked_store.specs.Worlds.{World}
 use Rattle.callers.specs.declared.caller.Caller.{Caller}
 use Rattle.callers.proofs.Beginning.{begun_answered, begun_ready}
 use Rattle.callers.proofs.CellLists.{busy_put, once, tally-cons}

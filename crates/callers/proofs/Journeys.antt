@@ -10,8 +10,8 @@ use Rattle.store_model.specs.Requests.{Request}
 use Rattle.store_model.specs.Replay.{Entry, outcome_of, replay}
 use Rattle.store_model.proofs.Others.{leaves_callers}
 use Rattle.store_core.specs.Represents.{IsTold, ReadsNone}
-use Rattle.shared_store.specs.Standing.{caller_of}
-use Rattle.shared_store.specs.Turning.{GoesOn, IsEntered, IsLater}
+use Rattle.locked_store.specs.Standing.{caller_of}
+use Rattle.locked_store.specs.Turning.{GoesOn, IsEntered, IsLater}
 use Rattle.callers.specs.Called.{IsCalled}
 
 -- VIEWS

@@ -10,12 +10,12 @@ use Rattle.key_slots.specs.Holdings.{IsHolding}
 use Rattle.store_model.specs.Handles.{own_of}
 use Rattle.store_model.specs.Replay.{Entry, replay}
 use Rattle.store_core.specs.declared.store.Opened.{Opened}
-use Rattle.shared_store.specs.Standing.{caller_of}
+use Rattle.locked_store.specs.Standing.{caller_of}
 use Rattle.callers.specs.Called.{IsToldTo, Legal}
 use Rattle.callers.specs.Handles.{AreOperations, leases_of}
 use Rattle.callers.specs.Parts.{SameButPass}
 use Rattle.callers.specs.Ready.{IsOwnPart, IsReady}
-use Rattle.shared_store.specs.Worlds.{World}
+use Rattle.locked_store.specs.Worlds.{World}
 use Rattle.callers.specs.declared.caller.Caller.{Caller}
 use Rattle.callers.proofs.Journeys.{own_later, seen_begins, told_front}
 

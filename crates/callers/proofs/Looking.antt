@@ -7,11 +7,11 @@ use Rattle.std.proofs.lemmas.List.Elements.{All-pop}
 use Rattle.secret_bytes.specs.Buffer.{Buffer, IsClear}
 use Rattle.std.proofs.lemmas.List.Sums.{count_by-le-length}
 use Rattle.slot_table.specs.Lent.{Reading}
-use Rattle.operation_cells.specs.declared.cell.Cell.{Cell}
-use Rattle.shared_store.specs.Turning.{HasRoomForLease}
+use Rattle.operation_handles.specs.declared.cell.Cell.{Cell}
+use Rattle.locked_store.specs.Turning.{HasRoomForLease}
 use Rattle.callers.specs.Handles.{leases_of, pairs_of}
 use Rattle.callers.specs.Ready.{IsReady}
-use Rattle.shared_store.specs.Worlds.{World}
+use Rattle.locked_store.specs.Worlds.{World}
 use Rattle.callers.specs.declared.caller.Caller.{Caller}
 
 few_leases : (cells : List Cell) → length (leases_of cells) ≤ length cells

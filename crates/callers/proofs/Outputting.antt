@@ -7,15 +7,15 @@ use Rattle.psa_status.specs.declared.Status.TheVariants.{Success, InsufficientDa
 use Rattle.psa_status.proofs.Rows.{first_row-back}
 use Rattle.store_model.proofs.Tables.{refused_by}
 use Rattle.key_slots.specs.Holdings.{Pairs}
-use Rattle.operation_cells.specs.Laws.{has_live_key}
-use Rattle.operation_cells.specs.Steps.{on_part}
+use Rattle.operation_handles.specs.Laws.{has_live_key}
+use Rattle.operation_handles.specs.Steps.{on_part}
 use Rattle.key_attributes.specs.declared.Attributes.{Attributes}
 use Rattle.key_attributes.specs.declared.KeyId.{KeyId}
 use Rattle.random_streams.specs.RandomWords.{RandomStream}
 use Rattle.slot_table.specs.Lent.{Reading}
 use Rattle.turn_history.specs.History.{entries_of}
 use Rattle.derivation_states.specs.KeySteps.{output_key_refusal}
-use Rattle.operation_phase.specs.Turns.{is_active}
+use Rattle.multipart.specs.Turns.{is_active}
 use Rattle.service_calls.specs.declared.output.Output.TheVariants as output
 use Rattle.store_model.specs.Creation.{created, stated_bytes}
 use Rattle.store_model.specs.DerivationOperations.{DerivationWork, exhausted, next_derived, output_key_rows, taken_from, without}
@@ -31,18 +31,18 @@ use Rattle.store_model.specs.Sound.{IsSound}
 use Rattle.store_core.specs.Creations.{IsMade, IsUnmade, RecordsStated, mark_unmade, status_unmade}
 use Rattle.store_core.specs.Durability.{is_destruction}
 use Rattle.store_core.specs.declared.creating.NotMade.{NotMade}
-use Rattle.operation_cells.specs.Cells.{IsOperation}
-use Rattle.operation_cells.specs.KeyOutputs.{IsDerivedKey, derived_key_refused}
-use Rattle.operation_cells.proofs.ServedOutputs.{outputs}
+use Rattle.operation_handles.specs.Cells.{IsOperation}
+use Rattle.operation_handles.specs.KeyOutputs.{IsDerivedKey, derived_key_refused}
+use Rattle.operation_handles.proofs.ServedOutputs.{outputs}
 use Rattle.derivation_states.specs.KeySteps as alone
 use Rattle.psa_status.specs.Rows.{first_row}
-use Rattle.operation_cells.specs.declared.cell.Cell.{Cell}
-use Rattle.shared_store.specs.Turning.{CreatesKey, IsAt, IsOwn, LeavesAllKeys}
+use Rattle.operation_handles.specs.declared.cell.Cell.{Cell}
+use Rattle.locked_store.specs.Turning.{CreatesKey, IsAt, IsOwn, LeavesAllKeys}
 use Rattle.callers.specs.Called.{IsReplied, IsAnswered, IsCalled, KnowsBefore, Legal, TellsFailure}
 use Rattle.callers.specs.Handles.{AreOperations, IsChanged, leases_of, operation_at, with_operation_at}
 use Rattle.callers.specs.Parts.{IsBack, IsCreated}
 use Rattle.callers.specs.Ready.{IsOwnPart, IsReady}
-use Rattle.shared_store.specs.Worlds.{World}
+use Rattle.locked_store.specs.Worlds.{World}
 use Rattle.callers.specs.declared.caller.Caller.{Caller}
 use Rattle.callers.proofs.Asking.{leased_key, unleased_key}
 use Rattle.callers.proofs.CellLists.{busy_put, named_alike, names_is, names_lease, once}
@@ -53,7 +53,7 @@ use Rattle.callers.proofs.Made.{made_gives}
 use Rattle.callers.proofs.Owned.{set_operation, set_own, sound_replay}
 use Rattle.callers.proofs.Readying.{known, outcome_is, own_there, ready}
 use Rattle.callers.proofs.SettingUp.{undrawn_own}
-use Rattle.keyed_calls.proofs.Draws.{draws_none}
+use Rattle.single_part.proofs.Draws.{draws_none}
 use Rattle.store_model.specs.Store.{Store, start_of}
 use Rattle.secret_bytes.specs.Buffer.{IsClear}
 

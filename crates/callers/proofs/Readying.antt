@@ -12,9 +12,9 @@ use Rattle.store_model.specs.Sound.{IsSound}
 use Rattle.store_model.specs.Requests.{Request, serve}
 use Rattle.store_model.specs.Replay.{Entry, outcome_of, replay}
 use Rattle.store_model.proofs.Others.{leaves_settings}
-use Rattle.shared_store.specs.Turning.{GoesOn, IsAt}
+use Rattle.locked_store.specs.Turning.{GoesOn, IsAt}
 use Rattle.callers.specs.Called.{IsCalled, IsToldTo, KnowsBefore, Legal, Starts}
-use Rattle.shared_store.specs.Worlds.{World}
+use Rattle.locked_store.specs.Worlds.{World}
 use Rattle.callers.specs.Handles.{AreOperations, ArePairs, busy, leases_of}
 use Rattle.callers.specs.Ready.{IsOwnPart, IsReady}
 use Rattle.callers.specs.declared.caller.Caller.{Caller}

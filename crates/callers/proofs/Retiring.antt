@@ -11,18 +11,18 @@ use Rattle.turn_history.specs.declared.pass.View.{View}
 use Rattle.turn_history.specs.History.{StartsWith, entries_of}
 use Rattle.turn_history.proofs.Lists.{begins_itself}
 use Rattle.key_slots.specs.Holdings.{Pairs, names}
-use Rattle.operation_phase.specs.Turns.{is_active}
+use Rattle.multipart.specs.Turns.{is_active}
 use Rattle.store_model.specs.Operations.{Inactive}
 use Rattle.store_model.specs.Replay.{Entry}
-use Rattle.operation_cells.specs.Cells.{IsOperation}
-use Rattle.operation_cells.specs.declared.cell.Cell.{Cell}
-use Rattle.shared_store.specs.Turning.{IsAt, IsLater, lease_pair, without_pair}
+use Rattle.operation_handles.specs.Cells.{IsOperation}
+use Rattle.operation_handles.specs.declared.cell.Cell.{Cell}
+use Rattle.locked_store.specs.Turning.{IsAt, IsLater, lease_pair, without_pair}
 use Rattle.callers.specs.Called.{Legal}
 use Rattle.callers.specs.Handles.{AreIdle, AreOperations, ArePairs, IsChanged, leases_of, operation_at, pairs_of, with_operation_at}
 use Rattle.callers.specs.Parts.{IsBack}
 use Rattle.callers.specs.Ready.{IsReady}
 use Rattle.callers.specs.Retired.{IsRetired, IsRetiring, MakesNoCall}
-use Rattle.shared_store.specs.Worlds.{World}
+use Rattle.locked_store.specs.Worlds.{World}
 use Rattle.callers.specs.declared.caller.Caller.{Caller}
 use Rattle.callers.proofs.CellLists.{named_alike, tally-cons, without}
 use Rattle.callers.proofs.Changing.{length_alike}

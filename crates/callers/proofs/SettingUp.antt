@@ -9,8 +9,8 @@ use Rattle.psa_status.specs.declared.Status.TheVariants as status
 use Rattle.secret_bytes.specs.Buffer.{bytes_of}
 use Rattle.slot_table.specs.Lent.{Reading}
 use Rattle.key_attributes.specs.declared.KeyId.{KeyId}
-use Rattle.key_uses.specs.declared.key_use.KeyUse.{KeyUse}
-use Rattle.key_uses.specs.Uses.{use_refusal}
+use Rattle.key_policy.specs.declared.key_use.KeyUse.{KeyUse}
+use Rattle.key_policy.specs.Uses.{use_refusal}
 use Rattle.random_streams.specs.RandomWords.{words_used}
 use Rattle.service_calls.specs.declared.handle_calls.Setup.{Setup}
 use Rattle.service_calls.specs.declared.handle_calls.Setup.TheVariants as setup
@@ -27,8 +27,8 @@ use Rattle.store_model.specs.Handles.{Held, HandleOperation, Own, Service, appli
 use Rattle.store_model.specs.Requests.{OnHandle, failed_step, serve}
 use Rattle.store_model.specs.Store.{Key, Store}
 use Rattle.store_core.specs.Uses.{IsLent, IsRefused, mark_of}
-use Rattle.operation_cells.specs.Setups.{set_up_by, set_up_for, setup_use, work_begun}
-use Rattle.operation_cells.proofs.Served.{setups}
+use Rattle.operation_handles.specs.Setups.{set_up_by, set_up_for, setup_use, work_begun}
+use Rattle.operation_handles.proofs.Served.{setups}
 use Rattle.callers.proofs.CellLists.{once}
 
 pub quiet : (handle : ℕ) (s : Setup) → may_change_keys (OnHandle handle (model_setup s)) ≡ false

@@ -14,13 +14,13 @@ use Rattle.store_model.specs.Sound.{IsSoundStore}
 use Rattle.store_model.specs.Replay.{Entry, replay}
 use Rattle.store_model.proofs.Operations.{start_own}
 use Rattle.store_core.specs.declared.store.Opened.{Opened}
-use Rattle.operation_cells.specs.Cells.{IsOperation}
-use Rattle.operation_cells.specs.declared.cell.Cell.{Cell}
-use Rattle.shared_store.specs.Standing.{caller_of}
+use Rattle.operation_handles.specs.Cells.{IsOperation}
+use Rattle.operation_handles.specs.declared.cell.Cell.{Cell}
+use Rattle.locked_store.specs.Standing.{caller_of}
 use Rattle.callers.specs.Called.{Legal, Starts}
 use Rattle.callers.specs.Handles.{AreIdle, AreOperations}
 use Rattle.callers.specs.Ready.{IsOwnPart, IsReady}
-use Rattle.shared_store.specs.Worlds.{World}
+use Rattle.locked_store.specs.Worlds.{World}
 use Rattle.callers.specs.declared.caller.Caller.{Caller}
 use Rattle.callers.proofs.Retiring.{no_lease_left}
 

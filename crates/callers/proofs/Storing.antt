@@ -15,14 +15,14 @@ use Rattle.store_model.specs.Step.{step}
 use Rattle.store_model.specs.Outcome.{counted}
 use Rattle.secret_bytes.specs.Buffer.{IsClear}
 use Rattle.service_calls.specs.declared.output.Output.{Output}
-use Rattle.shared_store.specs.Turning.{DecidesAfter, DecidesBefore, IsAt, IsEntered}
+use Rattle.locked_store.specs.Turning.{DecidesAfter, DecidesBefore, IsAt, IsEntered}
 use Rattle.random_streams.specs.RandomWords.{RandomStream, drawn_from, words_used}
-use Rattle.keyed_calls.proofs.Draws.{draws_none}
+use Rattle.single_part.proofs.Draws.{draws_none}
 use Rattle.callers.specs.Called.{IsReplied, IsAnswered, IsCalled, KnowsBefore, Legal, TellsFailure, TellsReply}
 use Rattle.callers.specs.Parts.{SameButPass}
 use Rattle.callers.specs.Handles.{AreOperations, ArePairs, leases_of}
 use Rattle.callers.specs.Ready.{IsOwnPart, IsReady}
-use Rattle.shared_store.specs.Worlds.{World}
+use Rattle.locked_store.specs.Worlds.{World}
 use Rattle.callers.specs.declared.caller.Caller.{Caller}
 use Rattle.store_model.specs.Laws.{may_change_keys}
 use Rattle.store_model.proofs.Others.{leaves_shared}

@@ -7,8 +7,8 @@ use Rattle.psa_status.specs.declared.Status.TheVariants as status
 use Rattle.random_streams.specs.RandomWords.{words_used}
 use Rattle.secret_bytes.specs.Buffer.{bytes_of}
 use Rattle.slot_table.specs.Lent.{Reading}
-use Rattle.key_uses.specs.declared.key_use.KeyUse.{KeyUse}
-use Rattle.key_uses.specs.Uses.{use_refusal}
+use Rattle.key_policy.specs.declared.key_use.KeyUse.{KeyUse}
+use Rattle.key_policy.specs.Uses.{use_refusal}
 use Rattle.service_calls.specs.Meanings.{model_store_call}
 use Rattle.service_calls.specs.declared.store_calls.StoreCall.{StoreCall}
 use Rattle.store_model.specs.Call.{Call}
@@ -23,10 +23,10 @@ use Rattle.store_model.specs.Sound.{IsSound}
 use Rattle.store_model.specs.Step.{step}
 use Rattle.store_model.specs.Store.{Store, is_opaque_key}
 use Rattle.store_core.specs.Uses.{IsLent, IsRefused, mark_of}
-use Rattle.keyed_calls.specs.Elements.{is_of_element}
-use Rattle.keyed_calls.specs.Keyed.{computed_by, wanted_by}
-use Rattle.keyed_calls.proofs.Keys.{keyed as reads}
-use Rattle.keyed_calls.proofs.Models.{keyed}
+use Rattle.single_part.specs.Elements.{is_of_element}
+use Rattle.single_part.specs.Keyed.{computed_by, wanted_by}
+use Rattle.single_part.proofs.Keys.{keyed as reads}
+use Rattle.single_part.proofs.Models.{keyed}
 use Rattle.callers.specs.Ready.{IsOwnPart}
 use Rattle.callers.proofs.KeyReplies.{Gives, refusal_gives}
 use Rattle.callers.proofs.Owned.{failed_own, stored_own}

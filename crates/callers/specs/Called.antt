@@ -12,9 +12,9 @@ use Rattle.store_model.specs.Marks.{asks_device}
 use Rattle.store_model.specs.Requests.{Request}
 use Rattle.store_model.specs.Replay.{Entry, outcome_of, replay}
 use Rattle.store_core.specs.declared.store.Opened.{Opened}
-use Rattle.shared_store.specs.Turning.{GoesOn, IsLegal, IsStartOf, ToldBy}
+use Rattle.locked_store.specs.Turning.{GoesOn, IsLegal, IsStartOf, ToldBy}
 use Rattle.callers.specs.Failures.{failure_in, failure_marked}
-use Rattle.shared_store.specs.Worlds.{World}
+use Rattle.locked_store.specs.Worlds.{World}
 
 -- From one view of a caller to a later one so many turns were spent, and in one of them this entry was added, after the history
 -- `before`, at the place r: it is the caller's own, of this call with this mark, and no other of its own was added.

@@ -2,12 +2,12 @@
 use Rattle.std.specs.Prelude.{◌≡◌, ◌<◌, ℕ, ◌+◌, ◌-◌, Bool, false, not, count_by, get_or, List, [], ◌∷◌, ◌++◌, All, length, slice_set, Option, Some, None}
 use Rattle.slot_table.specs.Lent.{Reading}
 use Rattle.key_slots.specs.Holdings.{Pairs, names}
-use Rattle.operation_phase.specs.Turns.{is_active}
+use Rattle.multipart.specs.Turns.{is_active}
 use Rattle.store_model.specs.Operations.{Inactive, is_inactive}
 use Rattle.store_model.specs.Handles.{HandleOperation}
-use Rattle.operation_cells.specs.Cells.{IsOperation}
-use Rattle.operation_cells.specs.declared.cell.Cell.{Cell}
-use Rattle.shared_store.specs.Turning.{lease_pair}
+use Rattle.operation_handles.specs.Cells.{IsOperation}
+use Rattle.operation_handles.specs.declared.cell.Cell.{Cell}
+use Rattle.locked_store.specs.Turning.{lease_pair}
 
 -- each of the four cells stands for its handle's operation, and one whose operation isn't active holds no lease
 pub record AreOperations (cells : List Cell) (operations : List HandleOperation) : Type 0 where

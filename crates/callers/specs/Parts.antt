@@ -3,8 +3,8 @@ use Rattle.std.specs.Prelude.{◌≡◌, ◌&&◌, ℕ, Bool, List, [], ◌∷�
 use Rattle.secret_bytes.specs.Buffer.{Buffer, IsClear}
 use Rattle.slot_table.specs.Lent.{Reading}
 use Rattle.service_calls.specs.declared.store_calls.StoreCall.{StoreCall}
-use Rattle.keyed_calls.specs.Elements.{takes_vector}
-use Rattle.shared_store.specs.Turning.{IsLater, lease_pair, without_pair}
+use Rattle.single_part.specs.Elements.{takes_vector}
+use Rattle.locked_store.specs.Turning.{IsLater, lease_pair, without_pair}
 use Rattle.store_model.specs.Faults.{FaultMark}
 use Rattle.store_model.specs.Replay.{Entry}
 use Rattle.store_model.specs.Requests.{Request}

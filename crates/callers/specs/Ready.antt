@@ -7,10 +7,10 @@ use Rattle.store_model.specs.Operations.{Inactive}
 use Rattle.store_model.specs.Handles.{HandleOperation, Own, Service, own_of}
 use Rattle.store_model.specs.Sound.{IsSoundStore}
 use Rattle.store_model.specs.Replay.{replay}
-use Rattle.shared_store.specs.Turning.{IsAt}
+use Rattle.locked_store.specs.Turning.{IsAt}
 use Rattle.callers.specs.Called.{IsToldTo, Legal, Starts}
 use Rattle.callers.specs.Handles.{AreOperations, ArePairs, busy, leases_of, operation_at}
-use Rattle.shared_store.specs.Worlds.{World}
+use Rattle.locked_store.specs.Worlds.{World}
 use Rattle.callers.specs.declared.caller.Caller.{Caller}
 
 -- the model's own part of a caller has these operations at its handles, from 1 on, and has drawn so many random words

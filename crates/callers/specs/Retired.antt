@@ -7,10 +7,10 @@ use Rattle.turn_history.specs.Passes.{IsIdle}
 use Rattle.store_model.specs.Operations.{Inactive}
 use Rattle.store_model.specs.Handles.{HandleOperation}
 use Rattle.store_model.specs.Replay.{Entry}
-use Rattle.shared_store.specs.Turning.{IsAt}
+use Rattle.locked_store.specs.Turning.{IsAt}
 use Rattle.callers.specs.Called.{Legal}
 use Rattle.callers.specs.Handles.{AreIdle, AreOperations, ArePairs, leases_of, operation_at}
-use Rattle.shared_store.specs.Worlds.{World}
+use Rattle.locked_store.specs.Worlds.{World}
 use Rattle.callers.specs.declared.caller.Caller.{Caller}
 
 -- From one view of a caller to a later one the caller made no call.

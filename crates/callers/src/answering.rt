@@ -11,16 +11,16 @@ ghost use Rattle.callers.specs.Budget.{asked_for, counted_by, is_counted, begins
 ghost use Rattle.callers.specs.Called.{IsAnswered};
 ghost use Rattle.callers.specs.Handles.{AreOperations, operation_at};
 ghost use Rattle.callers.specs.Ready.{IsReady};
-ghost use Rattle.shared_store.specs.Shared.{world};
+ghost use Rattle.locked_store.specs.Shared.{world};
 
 use crate::caller::Caller;
 use crate::gates::Gate;
 use admission::Admission;
 use disk_face::Disk;
 use driver_dispatch::Devices;
+use locked_store::SharedStore;
 use psa_status::Status;
 use service_calls::{Call, HandleCall, Op, Output, StoreCall};
-use shared_store::SharedStore;
 use std::sync::Wait;
 
 // Whether a call begins an operation.

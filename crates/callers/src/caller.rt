@@ -4,19 +4,19 @@ ghost use Rattle.secret_bytes.specs.Buffer.{IsClear};
 ghost use Rattle.turn_history.specs.Views.{new_pass};
 ghost use Rattle.store_model.specs.Handles.{Service};
 ghost use Rattle.store_model.specs.Sound.{IsSoundStore};
-ghost use Rattle.shared_store.specs.Turning.{IsStartOf};
+ghost use Rattle.locked_store.specs.Turning.{IsStartOf};
 ghost use Rattle.callers.specs.Handles.{AreIdle};
 ghost use Rattle.callers.specs.Ready.{IsReady};
-ghost use Rattle.shared_store.specs.Shared.{world};
+ghost use Rattle.locked_store.specs.Shared.{world};
 
 use crate::handles::Handles;
 use admission::Admission;
 use disk_face::Disk;
 use driver_dispatch::Devices;
-use operation_cells::Cell;
+use locked_store::{Held, SharedStore};
+use operation_handles::Cell;
 use random_streams::Stream;
 use secret_bytes::Secret;
-use shared_store::{Held, SharedStore};
 use turn_history::Pass;
 
 /// One of the sixteen callers of a store that is shared: its right to take turns, its stream of random words, five spare

@@ -1,20 +1,20 @@
 // How a caller ends.
 ghost use Rattle.std.specs.Prelude.{◌≡◌, ◌-◌, All, None};
 ghost use Rattle.turn_history.specs.History.{entries_of};
-ghost use Rattle.shared_store.specs.Turning.{IsAt};
+ghost use Rattle.locked_store.specs.Turning.{IsAt};
 ghost use Rattle.callers.specs.Called.{Legal};
 ghost use Rattle.callers.specs.Handles.{AreIdle};
 ghost use Rattle.callers.specs.Ready.{IsReady};
 ghost use Rattle.callers.specs.Retired.{IsRetired, IsRetiring, MakesNoCall};
-ghost use Rattle.shared_store.specs.Shared.{world};
+ghost use Rattle.locked_store.specs.Shared.{world};
 
 use crate::caller::Caller;
 use crate::handles::Handles;
 use admission::Admission;
 use disk_face::Disk;
 use driver_dispatch::Devices;
+use locked_store::{Held, SharedStore};
 use service_calls::Op;
-use shared_store::{Held, SharedStore};
 use std::sync::Wait;
 use turn_history::Pass;
 

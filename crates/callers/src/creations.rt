@@ -6,11 +6,11 @@ ghost use Rattle.service_calls.specs.declared.call.Call.TheVariants.{OnStore};
 ghost use Rattle.service_calls.specs.declared.store_calls.StoreCall.TheVariants as store_calls;
 ghost use Rattle.store_model.specs.Faults.{Plain};
 ghost use Rattle.store_core.specs.Creations.{IsMade, IsUnmade, RecordsStated, mark_unmade};
-ghost use Rattle.shared_store.specs.Turning.{CreatesKey, DecidesBefore, HasNoFilling, IsAt};
+ghost use Rattle.locked_store.specs.Turning.{CreatesKey, DecidesBefore, HasNoFilling, IsAt};
 ghost use Rattle.callers.specs.Called.{IsAnswered, Legal};
 ghost use Rattle.callers.specs.Parts.{IsCreated, SameButPass};
 ghost use Rattle.callers.specs.Ready.{IsReady};
-ghost use Rattle.shared_store.specs.Shared.{world};
+ghost use Rattle.locked_store.specs.Shared.{world};
 
 use crate::caller::Caller;
 use crate::gates::{Gate, GatePoint};
@@ -18,9 +18,9 @@ use admission::Admission;
 use disk_face::Disk;
 use driver_dispatch::Devices;
 use key_attributes::{Attributes, KeyId};
+use locked_store::SharedStore;
 use psa_status::Status;
 use service_calls::{Call, Output};
-use shared_store::SharedStore;
 use std::sync::Wait;
 use store_core::NotMade;
 

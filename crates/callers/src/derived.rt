@@ -5,9 +5,9 @@ ghost use Rattle.store_model.specs.DerivationOperations.{DerivationWork, stated_
 ghost use Rattle.store_model.specs.Handles.{HandleOperation, Deriving, derivation_part, key_of_operation, part_of};
 ghost use Rattle.store_model.specs.Operations.{Active, InError};
 ghost use Rattle.store_model.specs.Outcome.{refusal};
-ghost use Rattle.operation_cells.specs.Cells.{IsOperation};
-ghost use Rattle.operation_cells.specs.KeyOutputs.{IsDerivedKey, derived_key_refused};
-ghost use Rattle.operation_cells.specs.declared.cell.Cell as cell;
+ghost use Rattle.operation_handles.specs.Cells.{IsOperation};
+ghost use Rattle.operation_handles.specs.KeyOutputs.{IsDerivedKey, derived_key_refused};
+ghost use Rattle.operation_handles.specs.declared.cell.Cell as cell;
 ghost use Rattle.callers.specs.Handles.{AreOperations, IsChanged, operation_at};
 
 use crate::handles::Handles;

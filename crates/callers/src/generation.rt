@@ -9,7 +9,7 @@ ghost use Rattle.service_calls.specs.declared.store_calls.StoreCall.TheVariants 
 ghost use Rattle.store_model.specs.Creation.{stated_bits_rows, stated_bytes};
 ghost use Rattle.callers.specs.Called.{IsAnswered};
 ghost use Rattle.callers.specs.Ready.{IsReady};
-ghost use Rattle.shared_store.specs.Shared.{world};
+ghost use Rattle.locked_store.specs.Shared.{world};
 
 use crate::caller::Caller;
 use crate::gates::Gate;
@@ -17,9 +17,9 @@ use admission::Admission;
 use disk_face::Disk;
 use driver_dispatch::Devices;
 use key_attributes::{Attributes, LONGEST_KEY};
+use locked_store::SharedStore;
 use psa_status::Status;
 use service_calls::{Call, Output};
-use shared_store::SharedStore;
 use std::sync::Wait;
 
 // The most bytes that stated bits may say; no key is longer than LONGEST_KEY.

@@ -2,20 +2,20 @@
 ghost use Rattle.std.specs.Prelude.{◌≡◌, true, length};
 ghost use Rattle.service_calls.specs.Meanings.{model_request};
 ghost use Rattle.service_calls.specs.declared.call.Call.TheVariants.{OnStore};
-ghost use Rattle.keyed_calls.specs.Hashing.{is_hash};
+ghost use Rattle.single_part.specs.Hashing.{is_hash};
 ghost use Rattle.callers.specs.Called.{IsAnswered};
 ghost use Rattle.callers.specs.Parts.{SameButPass};
 ghost use Rattle.callers.specs.Ready.{IsReady};
-ghost use Rattle.shared_store.specs.Shared.{world};
+ghost use Rattle.locked_store.specs.Shared.{world};
 
 use crate::caller::Caller;
 use admission::Admission;
 use disk_face::Disk;
 use driver_dispatch::Devices;
-use keyed_calls::compute_hash;
+use locked_store::SharedStore;
 use psa_status::Status;
 use service_calls::{Call, Output, StoreCall};
-use shared_store::SharedStore;
+use single_part::compute_hash;
 use std::sync::Wait;
 
 impl<D: Disk, A: Devices, C: Admission> Caller<D, A, C> {

@@ -4,12 +4,12 @@ ghost use Rattle.service_calls.specs.Meanings.{model_request};
 ghost use Rattle.service_calls.specs.declared.call.Call.TheVariants as calls;
 ghost use Rattle.service_calls.specs.declared.handle_calls.HandleCall.TheVariants as handle_calls;
 ghost use Rattle.store_model.specs.Handles.{HandleOperation};
-ghost use Rattle.operation_cells.specs.Cells.{IsOperation};
-ghost use Rattle.operation_cells.specs.KeyInputs.{RefusesKeyAt, TakesKeyAt};
-ghost use Rattle.operation_cells.specs.declared.cell.Cell.{Cell};
+ghost use Rattle.operation_handles.specs.Cells.{IsOperation};
+ghost use Rattle.operation_handles.specs.KeyInputs.{RefusesKeyAt, TakesKeyAt};
+ghost use Rattle.operation_handles.specs.declared.cell.Cell.{Cell};
 ghost use Rattle.callers.specs.Called.{IsAnswered};
 ghost use Rattle.callers.specs.Ready.{IsReady};
-ghost use Rattle.shared_store.specs.Shared.{world};
+ghost use Rattle.locked_store.specs.Shared.{world};
 
 use crate::caller::Caller;
 use crate::gates::{Gate, GatePoint};
@@ -17,10 +17,10 @@ use admission::Admission;
 use disk_face::Disk;
 use driver_dispatch::Devices;
 use key_attributes::KeyId;
-use key_uses::KeyUse;
+use key_policy::KeyUse;
+use locked_store::SharedStore;
 use psa_status::Status;
 use service_calls::{Call, Op, Output};
-use shared_store::SharedStore;
 use std::sync::Wait;
 
 impl<D: Disk, A: Devices, C: Admission> Caller<D, A, C> {

@@ -6,16 +6,16 @@ ghost use Rattle.service_calls.specs.declared.store_calls.StoreCall.TheVariants 
 ghost use Rattle.callers.specs.Called.{IsAnswered};
 ghost use Rattle.callers.specs.Parts.{SameButPass};
 ghost use Rattle.callers.specs.Ready.{IsReady};
-ghost use Rattle.shared_store.specs.Shared.{world};
+ghost use Rattle.locked_store.specs.Shared.{world};
 
 use crate::caller::Caller;
 use admission::Admission;
 use disk_face::Disk;
 use driver_dispatch::Devices;
 use key_attributes::KeyId;
+use locked_store::SharedStore;
 use psa_status::Status;
 use service_calls::{Call, Output};
-use shared_store::SharedStore;
 use std::sync::Wait;
 
 impl<D: Disk, A: Devices, C: Admission> Caller<D, A, C> {

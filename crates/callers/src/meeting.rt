@@ -6,18 +6,18 @@ ghost use Rattle.turn_history.specs.Views.{joined, watcher};
 ghost use Rattle.callers.specs.Called.{Legal};
 ghost use Rattle.callers.specs.Parts.{SameButPass};
 ghost use Rattle.callers.specs.Ready.{IsReady};
-ghost use Rattle.shared_store.specs.Shared.{world};
+ghost use Rattle.locked_store.specs.Shared.{world};
 
 use crate::caller::Caller;
 use admission::Admission;
 use disk_face::Disk;
 use driver_dispatch::Devices;
-use shared_store::{Held, SharedStore};
+use locked_store::{Held, SharedStore};
 use turn_history::Pass;
 
 impl<D: Disk, A: Devices, C: Admission> Caller<D, A, C> {
     /// A watcher that has seen the same, for another caller of the thread to learn from.
-    #[tactic(auto, unfolding(shared_store::specs::Shared::lock_of, shared_store::specs::Shared::opened_of))]
+    #[tactic(auto, unfolding(locked_store::specs::Shared::lock_of, locked_store::specs::Shared::opened_of))]
     pub fn watch(&mut self, shared: &SharedStore<D, A, C>) -> Pass<Held<D, A, C>>
         requires own { self.old.pass.table_id ≡ (world shared.now).lock }
         ensures same { self.new ≡ self.old }
@@ -28,7 +28,7 @@ impl<D: Disk, A: Devices, C: Admission> Caller<D, A, C> {
     }
 
     /// Takes a watcher in. The caller has then seen the longer of both histories.
-    #[tactic(auto, unfolding(shared_store::specs::Shared::lock_of, shared_store::specs::Shared::opened_of))]
+    #[tactic(auto, unfolding(locked_store::specs::Shared::lock_of, locked_store::specs::Shared::opened_of))]
     pub fn learn(&mut self, shared: &SharedStore<D, A, C>, watcher: Pass<Held<D, A, C>>)
         requires ready { IsReady (world shared.now) 0 self.old }
         requires idle { IsIdle (world shared.now).lock watcher }

@@ -6,13 +6,13 @@ ghost use Rattle.service_calls.specs.Answers.{plain_reply};
 ghost use Rattle.store_model.specs.DerivationOperations.{DerivationWork, key_step_rows, with_key};
 ghost use Rattle.store_model.specs.Handles.{HandleOperation, KeyCreation, Deriving, derivation_part, part_of};
 ghost use Rattle.store_model.specs.Operations.{Active, InError};
-ghost use Rattle.operation_cells.specs.Cells.{IsOperation};
-ghost use Rattle.operation_cells.specs.KeyInputs.{RefusesKeyAt, TakesKeyAt, key_refused};
-ghost use Rattle.operation_cells.specs.declared.cell.Cell as cell;
+ghost use Rattle.operation_handles.specs.Cells.{IsOperation};
+ghost use Rattle.operation_handles.specs.KeyInputs.{RefusesKeyAt, TakesKeyAt, key_refused};
+ghost use Rattle.operation_handles.specs.declared.cell.Cell as cell;
 ghost use Rattle.callers.specs.Handles.{AreOperations, HoldsLease, IsChanged, operation_at};
 
 use crate::handles::Handles;
-use key_uses::KeyUse;
+use key_policy::KeyUse;
 use psa_status::Status;
 use service_calls::Op;
 use slot_table::Lease;

@@ -6,12 +6,12 @@ ghost use Rattle.service_calls.specs.declared.call.Call.TheVariants as calls;
 ghost use Rattle.service_calls.specs.declared.handle_calls.HandleCall.TheVariants as handle_calls;
 ghost use Rattle.store_model.specs.Handles.{HandleOperation};
 ghost use Rattle.store_model.specs.Operations.{Inactive};
-ghost use Rattle.operation_cells.specs.Cells.{IsOperation};
-ghost use Rattle.operation_cells.specs.Setups.{setup_use};
-ghost use Rattle.operation_cells.specs.declared.cell.Cell.{Cell};
+ghost use Rattle.operation_handles.specs.Cells.{IsOperation};
+ghost use Rattle.operation_handles.specs.Setups.{setup_use};
+ghost use Rattle.operation_handles.specs.declared.cell.Cell.{Cell};
 ghost use Rattle.callers.specs.Called.{IsAnswered};
 ghost use Rattle.callers.specs.Ready.{IsReady};
-ghost use Rattle.shared_store.specs.Shared.{world};
+ghost use Rattle.locked_store.specs.Shared.{world};
 
 use crate::caller::Caller;
 use crate::gates::{Gate, GatePoint};
@@ -20,10 +20,10 @@ use alg_encoding::Class;
 use disk_face::Disk;
 use driver_dispatch::Devices;
 use key_attributes::{KeyId, Usage};
-use key_uses::KeyUse;
+use key_policy::KeyUse;
+use locked_store::SharedStore;
 use psa_status::Status;
 use service_calls::{Call, Op, Output, Setup};
-use shared_store::SharedStore;
 use std::sync::Wait;
 
 // The key of a setup and what it is looked for; `None` where the operation has no key.

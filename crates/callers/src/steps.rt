@@ -9,15 +9,15 @@ ghost use Rattle.store_model.specs.Operations.{is_inactive};
 ghost use Rattle.callers.specs.Called.{IsAnswered};
 ghost use Rattle.callers.specs.Handles.{AreOperations, operation_at};
 ghost use Rattle.callers.specs.Ready.{IsReady};
-ghost use Rattle.shared_store.specs.Shared.{world};
+ghost use Rattle.locked_store.specs.Shared.{world};
 
 use crate::caller::Caller;
 use admission::Admission;
 use disk_face::Disk;
 use driver_dispatch::Devices;
+use locked_store::SharedStore;
 use psa_status::Status;
 use service_calls::{Call, Op, Output, Step};
-use shared_store::SharedStore;
 use std::sync::Wait;
 
 impl<D: Disk, A: Devices, C: Admission> Caller<D, A, C> {

@@ -7,18 +7,18 @@ ghost use Rattle.service_calls.specs.Meanings.{model_request};
 ghost use Rattle.store_model.specs.Faults.{Plain};
 ghost use Rattle.store_model.specs.Operations.{Inactive};
 ghost use Rattle.store_model.specs.Handles.{is_alive, key_of_operation, operation_of};
-ghost use Rattle.shared_store.specs.Turning.{IsAt, IsLater, IsRanked, LeavesAllKeys, lease_pair, without_pair};
+ghost use Rattle.locked_store.specs.Turning.{IsAt, IsLater, IsRanked, LeavesAllKeys, lease_pair, without_pair};
 ghost use Rattle.callers.specs.Called.{KnowsBefore, Legal};
 ghost use Rattle.callers.specs.Ready.{IsReady};
-ghost use Rattle.shared_store.specs.Shared.{world};
+ghost use Rattle.locked_store.specs.Shared.{world};
 ghost use Rattle.callers.specs.Parts.{IsBack, SameButPass};
 
 use crate::caller::Caller;
 use admission::Admission;
 use disk_face::Disk;
 use driver_dispatch::Devices;
+use locked_store::SharedStore;
 use service_calls::{Call, Op};
-use shared_store::SharedStore;
 use slot_table::Lease;
 use std::sync::Wait;
 

@@ -3,8 +3,8 @@ use Rattle.std.proofs.Common.{◌≡◌, ℕ, Bool, true, false, not, List, [], 
 use Rattle.std.specs.Prelude.{◌&&◌, ◌||◌, ◌==◌}
 use Rattle.crypto_specs.specs.Aes.{aes_encrypt}
 use Rattle.crypto_specs.specs.Modes.{block_number}
-use Rattle.key_streams.specs.declared.width.CounterWidth.TheVariants.{Whole}
-use Rattle.key_streams.specs.Streams.{IsAt}
+use Rattle.aead_streams.specs.declared.counter_width.CounterWidth.TheVariants.{Whole}
+use Rattle.aead_streams.specs.Streams.{IsAt}
 use Rattle.store_model.specs.Ciphers.{Mode, Ctr, CbcNoPadding, CbcPkcs7, EcbNoPadding, iv_length, mode_of}
 use Rattle.store_model.specs.CipherOperations.{CipherWork, bytes_or_empty}
 use Rattle.cipher_states.specs.declared.running.RunningCipher.{RunningCipher}

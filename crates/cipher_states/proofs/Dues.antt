@@ -3,10 +3,10 @@ use Rattle.std.proofs.Common.{◌≡◌, ℕ, ◌%◌, ◌≤◌, Bool, true, fa
 use Rattle.std.proofs.lemmas.List.{length-append, take_at, drop_at, take-append-drop, take-append-le, take-take, length-take-le}
 use Rattle.crypto_specs.specs.Aes.{aes_encrypt}
 use Rattle.crypto_specs.specs.Modes.{ctr_xor, block_number}
-use Rattle.key_streams.specs.declared.width.CounterWidth.TheVariants.{Whole}
-use Rattle.key_streams.specs.Counters.{text_xor}
-use Rattle.key_streams.proofs.StreamLaws.{text_xor-append, length-text_xor}
-use Rattle.key_streams.proofs.ModeStreams.{aes_keeps_length, ctr_is, ctr_further}
+use Rattle.aead_streams.specs.declared.counter_width.CounterWidth.TheVariants.{Whole}
+use Rattle.aead_streams.specs.Counters.{text_xor}
+use Rattle.aead_streams.proofs.StreamLaws.{text_xor-append, length-text_xor}
+use Rattle.aead_streams.proofs.ModeStreams.{aes_keeps_length, ctr_is, ctr_further}
 use Rattle.store_model.specs.Ciphers.{Mode, Ctr, CbcNoPadding, CbcPkcs7, EcbNoPadding, mode_of}
 use Rattle.store_model.specs.CipherOperations.{bytes_or_empty, due_enciphered, due_deciphered}
 use Rattle.cipher_states.specs.Modes.{due_bytes, is_stream, keeps_last}

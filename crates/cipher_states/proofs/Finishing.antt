@@ -10,7 +10,7 @@ use Rattle.store_model.specs.Outcome.{given}
 use Rattle.store_model.specs.Operations.{ends}
 use Rattle.store_model.specs.Ciphers.{Mode, CbcPkcs7, mode_of}
 use Rattle.store_model.specs.CipherOperations.{CipherWork, bytes_or_empty, is_whole_text, last_length, last_part, takes_text, whole_text}
-use Rattle.algorithm_facts.specs.Modes.{model_mode}
+use Rattle.key_policy.specs.Modes.{model_mode}
 use Rattle.cipher_states.specs.declared.ways.Way.{Way}
 use Rattle.cipher_states.specs.declared.ways.Way.TheVariants.{CbcEncrypt, CbcDecrypt}
 use Rattle.cipher_states.specs.declared.running.RunningCipher.{RunningCipher}

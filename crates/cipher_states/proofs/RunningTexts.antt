@@ -7,14 +7,14 @@ use Rattle.psa_status.specs.declared.Status.TheVariants.{BufferTooSmall}
 use Rattle.psa_status.specs.Rows.{first_row}
 use Rattle.crypto_specs.specs.Aes.{aes_encrypt}
 use Rattle.crypto_specs.specs.Modes.{block_number}
-use Rattle.key_streams.specs.declared.width.CounterWidth.TheVariants.{Whole}
-use Rattle.key_streams.specs.Counters.{text_xor}
-use Rattle.key_streams.specs.Streams.{IsAt}
-use Rattle.key_streams.proofs.StreamLaws.{length-text_xor}
+use Rattle.aead_streams.specs.declared.counter_width.CounterWidth.TheVariants.{Whole}
+use Rattle.aead_streams.specs.Counters.{text_xor}
+use Rattle.aead_streams.specs.Streams.{IsAt}
+use Rattle.aead_streams.proofs.StreamLaws.{length-text_xor}
 use Rattle.store_model.specs.Rules.{room_rows, total_limit}
 use Rattle.store_model.specs.Ciphers.{Mode, Ctr, CbcNoPadding, CbcPkcs7, EcbNoPadding, mode_of}
 use Rattle.store_model.specs.CipherOperations.{CipherWork, cipher_fresh, cipher_update_rows, with_text, bytes_or_empty, takes_text}
-use Rattle.algorithm_facts.specs.Modes.{model_mode}
+use Rattle.key_policy.specs.Modes.{model_mode}
 use Rattle.cipher_states.specs.declared.running.RunningCipher.{RunningCipher}
 use Rattle.cipher_states.specs.Modes.{due_bytes, is_stream, keeps_last}
 use Rattle.cipher_states.specs.Ways.{way_of, processed, chains}

@@ -6,10 +6,10 @@ ghost use Rattle.store_model.specs.CipherOperations.{CipherWork, cipher_step};
 ghost use Rattle.service_calls.specs.Meanings.{model_cipher_step};
 ghost use Rattle.cipher_states.specs.States.{IsCipherOperation};
 ghost use Rattle.service_calls.specs.Random.{takes_iv_bytes};
-ghost use Rattle.operation_phase.specs.Turns.{loses_key};
+ghost use Rattle.multipart.specs.Turns.{loses_key};
 
 use crate::state::CipherState;
-use operation_phase::Family;
+use multipart::Family;
 use psa_status::Status;
 use service_calls::{CipherStep, Output, bytes, plain};
 

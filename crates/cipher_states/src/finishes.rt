@@ -8,7 +8,7 @@ ghost use Rattle.service_calls.specs.Answers.{AnswersOrSpoils};
 ghost use Rattle.store_model.specs.Operations.{InError, Inactive};
 ghost use Rattle.store_model.specs.Ciphers.{plain_or_zeros};
 ghost use Rattle.store_model.specs.CipherOperations.{CipherFinish, CipherWork, cipher_step, is_whole_text, last_length, last_part, takes_text, whole_text};
-ghost use Rattle.algorithm_facts.specs.Modes.{model_mode};
+ghost use Rattle.key_policy.specs.Modes.{model_mode};
 ghost use Rattle.cipher_states.specs.States.{HoldsCipher};
 
 use crate::running::RunningCipher;

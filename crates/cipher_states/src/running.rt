@@ -4,13 +4,13 @@ ghost use Rattle.psa_status.specs.Rows.{first_row, unless};
 ghost use Rattle.store_model.specs.Rules.{total_limit};
 ghost use Rattle.store_model.specs.CipherOperations.{CipherWork, cipher_finish_rows, cipher_fresh, cipher_update_rows, is_whole_text, last_length, takes_iv, takes_text, with_text};
 ghost use Rattle.store_model.specs.Ciphers.{mode_of};
-ghost use Rattle.algorithm_facts.specs.Modes.{model_mode};
+ghost use Rattle.key_policy.specs.Modes.{model_mode};
 ghost use Rattle.cipher_states.specs.Modes.{is_stream};
 
 use crate::block_text::BlockText;
+use aead_streams::KeyStream;
 use aes_core::AesKey;
-use algorithm_facts::{Mode, TOTAL_LIMIT, is_ciphertext_length, iv_length, takes_whole_blocks};
-use key_streams::KeyStream;
+use key_policy::{Mode, TOTAL_LIMIT, is_ciphertext_length, iv_length, takes_whole_blocks};
 use psa_status::Status;
 
 /// A text that is enciphered or deciphered piece by piece, and its key. Of the key stream and the blocks the mode uses

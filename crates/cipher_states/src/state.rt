@@ -5,15 +5,15 @@ ghost use Rattle.store_model.specs.Call.{buffer_after};
 ghost use Rattle.service_calls.specs.Answers.{AnswersLength, AnswersOrSpoils, plain_reply};
 ghost use Rattle.store_model.specs.Operations.{Operation, Inactive, is_inactive};
 ghost use Rattle.store_model.specs.CipherOperations.{CipherFinish, CipherGenerateIv, CipherSetIv, CipherUpdate, CipherWork, cipher_step};
-ghost use Rattle.operation_phase.specs.declared.Phase.TheVariants as phases;
+ghost use Rattle.multipart.specs.declared.Phase.TheVariants as phases;
 ghost use Rattle.alg_encoding.specs.declared.table.Class.TheVariants.{Cipher};
-ghost use Rattle.algorithm_facts.specs.Names.{IsOfClass};
-ghost use Rattle.algorithm_facts.specs.Keys.{is_key};
+ghost use Rattle.key_policy.specs.Names.{IsOfClass};
+ghost use Rattle.key_policy.specs.Keys.{is_key};
 
 use crate::running::RunningCipher;
 use alg_encoding::Alg;
-use algorithm_facts::cipher_algorithm;
-use operation_phase::{OperationState, Phase};
+use key_policy::cipher_algorithm;
+use multipart::{OperationState, Phase};
 use psa_status::Status;
 
 /// A cipher in several parts: a setup with a key, the initialisation vector where the mode has one, any number of
@@ -26,7 +26,7 @@ pub struct CipherState {
 
 impl CipherState {
     ghost use Rattle.cipher_states.specs.States.{IsCipherOperation, IsClearCipher};
-    ghost use Rattle.operation_phase.specs.Turns.{is_active, on_active};
+    ghost use Rattle.multipart.specs.Turns.{is_active, on_active};
     ghost use Rattle.cipher_states.specs.Setups.{cipher_setup};
 
     /// An inactive operation.

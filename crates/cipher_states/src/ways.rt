@@ -1,12 +1,12 @@
 // How ECB and CBC make blocks of blocks (SP 800-38A, sections 6.1 and 6.2).
 ghost use Rattle.std.specs.Prelude.{◌≡◌, ◌%◌, ◌++◌, true, length, drop};
 ghost use Rattle.crypto_specs.specs.Aes.{IsKey};
-ghost use Rattle.algorithm_facts.specs.Modes.{model_mode};
+ghost use Rattle.key_policy.specs.Modes.{model_mode};
 ghost use Rattle.cipher_states.specs.Ways.{cbc_way, chains, ecb_way, next_chain, processed, way_of};
 
 use aes_core::AesKey;
-use algorithm_facts::Mode;
 use cipher_modes::{cbc_decrypt, cbc_encrypt, ecb_decrypt, ecb_encrypt};
+use key_policy::Mode;
 
 /// A mode that takes whole blocks, and its direction.
 #[derive(Clone, Copy, Drop)]

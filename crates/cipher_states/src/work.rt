@@ -1,6 +1,6 @@
 // What the operations run, as their state knows it.
 use crate::running::RunningCipher;
-use operation_phase::Work;
+use multipart::Work;
 
 impl Work for RunningCipher {
     ghost use Rattle.store_model.specs.CipherOperations.{CipherWork};

@@ -8,10 +8,10 @@ use Rattle.hash_ops.specs.Hashes.{hash_of, block_length}
 use Rattle.store_model.specs.CipherOperations.{bytes_or_empty}
 use Rattle.store_model.specs.DerivationOperations.{DerivationWork, is_hkdf, number_or_zero}
 use Rattle.derivation_states.specs.Inputs.{HoldsInputs, given_bytes}
-use Rattle.algorithm_facts.specs.Names.{NamesDerivation}
+use Rattle.key_policy.specs.Names.{NamesDerivation}
 use Rattle.derivation_states.specs.Streams.{work_hash, work_block_length, hmac_key, block_at}
 use Rattle.derivation_states.specs.declared.inputs.Inputs.{Inputs}
-use Rattle.algorithm_facts.specs.declared.algorithms.KeyDerivation.{KeyDerivation}
+use Rattle.key_policy.specs.declared.algorithms.KeyDerivation.{KeyDerivation}
 use Rattle.derivation_states.proofs.Blocks.{block_of_hkdf, block_of_pbkdf2}
 
 mapped : (f : List ℕ → List ℕ) (o : Option (List ℕ)) → is_some o ≡ true → bytes_or_empty (option_map f o) ≡ f (bytes_or_empty o)

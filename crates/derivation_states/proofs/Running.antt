@@ -10,12 +10,12 @@ use Rattle.hash_ops.specs.declared.Hash.TheVariants.{Sha224, Sha256, Sha384, Sha
 use Rattle.hash_ops.proofs.Digests.{length-hash_of}
 use Rattle.store_model.specs.DerivationOperations.{DerivationWork, number_or_zero, next_derived, without}
 use Rattle.derivation_states.specs.Inputs.{HoldsInputs}
-use Rattle.algorithm_facts.specs.Names.{NamesDerivation}
+use Rattle.key_policy.specs.Names.{NamesDerivation}
 use Rattle.derivation_states.specs.Outputs.{IsRunning}
 use Rattle.derivation_states.specs.Streams.{block_at}
 use Rattle.derivation_states.specs.declared.inputs.Inputs.{Inputs}
 use Rattle.derivation_states.specs.declared.output.Output.{Output}
-use Rattle.algorithm_facts.specs.declared.algorithms.KeyDerivation.{KeyDerivation}
+use Rattle.key_policy.specs.declared.algorithms.KeyDerivation.{KeyDerivation}
 use Rattle.derivation_states.proofs.Lengths.{HasBlocks}
 use Rattle.derivation_states.proofs.Derived.{next_byte, next_derived_add, length-next_derived}
 

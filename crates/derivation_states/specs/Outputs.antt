@@ -3,7 +3,7 @@ use Rattle.std.specs.Prelude.{◌≡◌, ◌+◌, ◌*◌, ◌≤◌, false, is_
 use Rattle.hash_ops.specs.Hashes.{digest_length}
 use Rattle.store_model.specs.DerivationOperations.{DerivationWork}
 use Rattle.derivation_states.specs.Streams.{block_at}
-use Rattle.algorithm_facts.specs.Names.{NamesDerivation}
+use Rattle.key_policy.specs.Names.{NamesDerivation}
 use Rattle.derivation_states.specs.declared.output.Output.{Output}
 
 pub record IsClearOutput (o : Output) : Type 0 where

@@ -1,5 +1,5 @@
 -- What the state of a derivation stands for.
-use Rattle.operation_phase.specs.States.{IsOperation}
+use Rattle.multipart.specs.States.{IsOperation}
 use Rattle.store_model.specs.Operations.{Operation}
 use Rattle.store_model.specs.DerivationOperations.{DerivationWork}
 use Rattle.derivation_states.specs.Inputs.{IsClearInputs, HoldsInputs}

@@ -5,10 +5,10 @@ ghost use Rattle.store_model.specs.Operations.{Operation};
 ghost use Rattle.store_model.specs.DerivationOperations.{DerivationWork, derivation_step};
 ghost use Rattle.service_calls.specs.Meanings.{model_derivation_step};
 ghost use Rattle.derivation_states.specs.States.{IsDerivationOperation};
-ghost use Rattle.operation_phase.specs.Turns.{loses_key};
+ghost use Rattle.multipart.specs.Turns.{loses_key};
 
 use crate::DerivationState;
-use operation_phase::Family;
+use multipart::Family;
 use psa_status::Status;
 use service_calls::{DerivationStep, Output, bytes, number, plain};
 

@@ -4,12 +4,12 @@ ghost use Rattle.std.specs.Prelude.{◌≡◌, ◌≤◌, ◌+◌, ◌==◌, ℕ
 ghost use Rattle.std.specs.Option.{ForSome};
 ghost use Rattle.psa_status.specs.Rows.{first_row, unless};
 ghost use Rattle.store_model.specs.DerivationOperations.{DerivationWork, input_bytes_rows, input_integer_rows, is_due, is_salt_due, is_secret_due, key_step, key_step_rows, takes_bytes, with_bytes, with_key};
-ghost use Rattle.algorithm_facts.specs.Names.{NamesDerivation};
+ghost use Rattle.key_policy.specs.Names.{NamesDerivation};
 
 use crate::input::Input;
-use algorithm_facts::steps::{COST, INFO, PASSWORD, SALT, SECRET};
-use algorithm_facts::{KeyDerivation, Scheme};
 use kdf_core::hkdf_extract;
+use key_policy::steps::{COST, INFO, PASSWORD, SALT, SECRET};
+use key_policy::{KeyDerivation, Scheme};
 use psa_status::{Memory, Status};
 use std::alloc::Global;
 

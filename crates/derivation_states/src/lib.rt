@@ -12,10 +12,10 @@ ghost use Rattle.service_calls.specs.Answered.{number_reply};
 ghost use Rattle.derivation_states.specs.Replies.{AnswersFront};
 
 use alg_encoding::Alg;
-use algorithm_facts::derivation_algorithm;
 use derivation::RunningDerivation;
 use key_attributes::Attributes;
-use operation_phase::{OperationState, Phase};
+use key_policy::derivation_algorithm;
+use multipart::{OperationState, Phase};
 use psa_status::{Memory, Status};
 use std::alloc::Global;
 
@@ -37,7 +37,7 @@ pub struct DerivationState {
 
 impl DerivationState {
     ghost use Rattle.derivation_states.specs.States.{IsClearDerivation, IsDerivationOperation};
-    ghost use Rattle.operation_phase.specs.Turns.{is_active, loses_key, on_active};
+    ghost use Rattle.multipart.specs.Turns.{is_active, loses_key, on_active};
     ghost use Rattle.derivation_states.specs.KeySteps.{derivation_setup, derived_key, key_given, key_step_refusal, output_key_refusal};
 
     /// An inactive derivation; `Memory` where there is no room for its buffers.

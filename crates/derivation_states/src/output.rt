@@ -5,14 +5,14 @@ ghost use Rattle.psa_status.specs.declared.Status.TheVariants.{InsufficientData}
 ghost use Rattle.hash_ops.specs.Hashes.{digest_length};
 ghost use Rattle.store_model.specs.DerivationOperations.{DerivationWork, derivation_work, next_derived, without};
 ghost use Rattle.derivation_states.specs.Inputs.{HoldsInputs};
-ghost use Rattle.algorithm_facts.specs.Names.{NamesDerivation, block_limit};
+ghost use Rattle.key_policy.specs.Names.{NamesDerivation, block_limit};
 ghost use Rattle.derivation_states.specs.Streams.{block_at};
 
 use crate::KEY_ROOM;
 use crate::inputs::Inputs;
-use algorithm_facts::{KeyDerivation, Scheme};
 use hash_ops::Hash;
 use kdf_core::{hkdf_block, pbkdf2_block};
+use key_policy::{KeyDerivation, Scheme};
 use psa_status::Status;
 
 /// The bytes that can still be had, `capacity` of them. The current block is the one that the last byte was taken

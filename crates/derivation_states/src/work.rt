@@ -1,6 +1,6 @@
 // What the operations run, as their state knows it.
 use crate::derivation::RunningDerivation;
-use operation_phase::Work;
+use multipart::Work;
 
 impl Work for RunningDerivation {
     ghost use Rattle.store_model.specs.DerivationOperations.{DerivationWork};

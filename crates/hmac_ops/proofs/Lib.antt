@@ -1,2 +1,6 @@
 pub mod Codes
 pub mod Padding
+pub mod Choices
+pub mod Rotations
+pub mod ScheduleWords
+pub mod TwoBlocks

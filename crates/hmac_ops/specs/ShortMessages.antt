@@ -3,7 +3,7 @@ use Rattle.std.specs.Prelude.{ℕ, List}
 use Rattle.crypto_specs.specs.Hmac.{inner_pad, outer_pad}
 use Rattle.hash_ops.specs.Hashes.{hash_of, block_length}
 use Rattle.hash_ops.specs.declared.Hash.TheVariants.{Sha256}
-use Rattle.sha256_blocks.specs.FirstBlocks.{IsFirstBlock, IsWiped}
+use Rattle.hmac_ops.specs.FirstBlocks.{IsFirstBlock, IsWiped}
 use Rattle.hmac_ops.specs.declared.short_message_key.ShortMessageKey.{ShortMessageKey}
 
 -- the key has these bytes: its pads were taken in

@@ -5,15 +5,20 @@ ghost use Rattle.std.specs.Prelude.{◌≡◌, drop, take};
 ghost use Rattle.crypto_specs.specs.Hmac.{hmac};
 ghost use Rattle.hash_ops.specs.Hashes.{block_length, digest_length, hash_of};
 
+pub use first_block::FirstBlock;
 use hash_ops::Hash;
 pub use key::HmacKey;
 pub use short_message_key::ShortMessageKey;
 pub use state::HmacState;
 
+mod compression;
+mod first_block;
 mod key;
 mod pads;
+mod schedule;
 mod short_message_key;
 mod state;
+mod words;
 
 /// Writes the authentication code of a message to the front of `out`, whose rest stays, and answers
 /// its length.

@@ -6,9 +6,9 @@ ghost use Rattle.hash_ops.specs.declared.Hash.TheVariants.{Sha256};
 ghost use Rattle.hash_ops.specs.Hashes.{block_length, hash_of};
 ghost use Rattle.hmac_ops.specs.ShortMessages.{IsShortMessageKey, IsWipedShortMessageKey};
 
+use crate::first_block::FirstBlock;
 use crate::pads::{key_block, xored_with};
 use hash_ops::Hash;
-use sha256_blocks::FirstBlock;
 
 // The first half of a block with room for the longest, which is a block of SHA-256.
 fn front(block: &[u8; 128]) -> &[u8; 64]

@@ -5,7 +5,7 @@ ghost use Rattle.std.specs.Prelude.{◌≡◌, ◌≤◌, ℕ, All, Some, length
 ghost use Rattle.driver_dispatch.specs.Calls.{Lacks};
 ghost use Rattle.driver_dispatch.specs.Held.{no_keys};
 ghost use Rattle.callers.specs.Ready.{IsReady};
-ghost use Rattle.shared_store.specs.Shared.{world};
+ghost use Rattle.locked_store.specs.Shared.{world};
 ghost use Rattle.caller_service.specs.Replies.{MayCall};
 
 use admission::{Admission, Rules};

@@ -1,6 +1,5 @@
 // SHA-256 of two blocks, and HMAC under a key that is made ready for short messages and wiped.
-use hmac_ops::ShortMessageKey;
-use sha256_blocks::FirstBlock;
+use hmac_ops::{FirstBlock, ShortMessageKey};
 
 // The digest of 64 bytes 01 and 32 bytes 02, as Python's hashlib gives it.
 const DIGEST: [u8; 32] = [

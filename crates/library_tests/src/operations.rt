@@ -1,8 +1,8 @@
 // Operations with ample memory, and what a refused step leaves in its buffer.
 use alg_encoding::Alg;
-use algorithm_facts::cipher_algorithm;
 use cipher_states::CipherState;
 use derivation_states::DerivationState;
+use key_policy::cipher_algorithm;
 use mac_states::HashOpState;
 use psa_status::Status;
 use std::test::Fail;

@@ -1,7 +1,7 @@
 -- Whether a running CMAC has its key.
 use Rattle.std.specs.Prelude.{Bool}
 use Rattle.cmac_ops.specs.declared.state.CmacState.{CmacState}
-use Rattle.algorithm_facts.specs.Keys.{is_key}
+use Rattle.key_policy.specs.Keys.{is_key}
 
 -- the state isn't wiped
 abbrev pub has_key : CmacState → Bool

@@ -4,11 +4,11 @@ use Rattle.hash_ops.specs.declared.Hash.{Hash}
 use Rattle.hmac_ops.specs.States.{HoldsHmac, IsWipedHmac}
 use Rattle.cmac_ops.specs.States.{HoldsCmac, IsWipedCmac}
 use Rattle.store_model.specs.Algorithms.{tag_bytes, whole_mac}
-use Rattle.algorithm_facts.specs.declared.algorithms.MacKind.TheVariants.{Hmac, Cmac}
-use Rattle.algorithm_facts.specs.Names.{whole_mac_by}
+use Rattle.key_policy.specs.declared.algorithms.MacKind.TheVariants.{Hmac, Cmac}
+use Rattle.key_policy.specs.Names.{whole_mac_by}
 use Rattle.store_model.specs.Operations.{Operation}
 use Rattle.store_model.specs.MacOperations.{MacWork}
-use Rattle.operation_phase.specs.States.{IsOperation}
+use Rattle.multipart.specs.States.{IsOperation}
 use Rattle.mac_states.specs.declared.cmac_part.CmacPart.{CmacPart}
 use Rattle.mac_states.specs.declared.running_mac.RunningMac.{RunningMac}
 use Rattle.mac_states.specs.declared.mac_state.MacState.{MacState}

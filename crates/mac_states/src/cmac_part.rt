@@ -4,9 +4,9 @@ ghost use Rattle.crypto_specs.specs.Aes.{IsKey, aes_encrypt};
 ghost use Rattle.crypto_specs.specs.Cmac.{cmac};
 ghost use Rattle.mac_states.specs.Keyed.{has_key};
 
-use algorithm_facts::aes_key;
 use cmac_ops::CmacState;
-use operation_phase::move_to_front;
+use key_policy::aes_key;
+use multipart::move_to_front;
 
 /// A CMAC that runs, or a wiped one.
 #[derive(Drop)]

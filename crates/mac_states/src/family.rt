@@ -7,11 +7,11 @@ ghost use Rattle.store_model.specs.MacOperations.{MacWork, mac_step};
 ghost use Rattle.service_calls.specs.Meanings.{model_hash_step, model_mac_step};
 ghost use Rattle.mac_states.specs.HashStates.{IsHashOperation};
 ghost use Rattle.mac_states.specs.MacStates.{IsMacOperation};
-ghost use Rattle.operation_phase.specs.Turns.{loses_key};
+ghost use Rattle.multipart.specs.Turns.{loses_key};
 
 use crate::hash_state::HashOpState;
 use crate::mac_state::MacState;
-use operation_phase::Family;
+use multipart::Family;
 use psa_status::Status;
 use service_calls::{HashStep, MacStep, Output, bytes, plain};
 

@@ -4,16 +4,16 @@ ghost use Rattle.store_model.specs.Call.{buffer_after};
 ghost use Rattle.service_calls.specs.Answers.{AnswersLength, plain_reply};
 ghost use Rattle.store_model.specs.Operations.{Operation, Inactive, is_inactive};
 ghost use Rattle.store_model.specs.HashOperations.{HashFinish, HashUpdate, HashVerify, HashWork, hash_step};
-ghost use Rattle.operation_phase.specs.declared.Phase.TheVariants as phase;
+ghost use Rattle.multipart.specs.declared.Phase.TheVariants as phase;
 ghost use Rattle.mac_states.specs.HashStates.{IsClearHash, IsHashOperation};
-ghost use Rattle.operation_phase.specs.Turns.{is_active, on_active};
+ghost use Rattle.multipart.specs.Turns.{is_active, on_active};
 ghost use Rattle.mac_states.specs.Setups.{hash_setup};
 
 use crate::running_hash::RunningHash;
 use alg_encoding::Alg;
-use algorithm_facts::hash_algorithm;
 use hash_ops::Hash;
-use operation_phase::{OperationState, Phase};
+use key_policy::hash_algorithm;
+use multipart::{OperationState, Phase};
 use psa_status::Status;
 
 /// A hash in several parts: a setup, any number of updates, and a finish or a verify.

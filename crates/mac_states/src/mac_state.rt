@@ -8,15 +8,15 @@ ghost use Rattle.service_calls.specs.Answers.{AnswersLength, plain_reply};
 ghost use Rattle.store_model.specs.Operations.{Operation, Inactive, is_inactive};
 ghost use Rattle.store_model.specs.MacOperations.{MacSignFinish, MacUpdate, MacVerifyFinish, MacWork, mac_step};
 ghost use Rattle.alg_encoding.specs.declared.table.Class.TheVariants.{Mac};
-ghost use Rattle.algorithm_facts.specs.Names.{IsOfClass};
+ghost use Rattle.key_policy.specs.Names.{IsOfClass};
 ghost use Rattle.mac_states.specs.MacStates.{IsClearMac, IsMacOperation};
-ghost use Rattle.operation_phase.specs.Turns.{is_active, on_active};
+ghost use Rattle.multipart.specs.Turns.{is_active, on_active};
 ghost use Rattle.mac_states.specs.Setups.{mac_setup};
 
 use crate::running_mac::RunningMac;
 use alg_encoding::Alg;
-use algorithm_facts::mac_algorithm;
-use operation_phase::{OperationState, Phase};
+use key_policy::mac_algorithm;
+use multipart::{OperationState, Phase};
 use psa_status::Status;
 
 /// A MAC in several parts: a setup with a key, any number of updates, and a finish that makes the MAC or verifies one.

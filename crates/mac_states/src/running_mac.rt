@@ -8,15 +8,15 @@ ghost use Rattle.store_model.specs.HashOperations.{total_rows};
 ghost use Rattle.store_model.specs.MacOperations.{MacWork, mac_work, sign_rows, verify_rows};
 ghost use Rattle.store_model.specs.Call.{buffer_after};
 ghost use Rattle.store_model.specs.Outcome.{given, reply_unless};
-ghost use Rattle.algorithm_facts.specs.Names.{NamesMac, is_cmac};
+ghost use Rattle.key_policy.specs.Names.{NamesMac, is_cmac};
 ghost use Rattle.mac_states.specs.MacStates.{HoldsMac, IsClearRunningMac};
 
 use crate::cmac_part::CmacPart;
 use crate::total::Total;
-use algorithm_facts::{MacAlgorithm, MacKind};
 use hash_ops::Hash;
 use hmac_ops::HmacState;
-use operation_phase::{give_front, is_front};
+use key_policy::{MacAlgorithm, MacKind};
+use multipart::{give_front, is_front};
 use psa_status::Status;
 
 /// A message that is authenticated piece by piece: it stands for its pieces, one after another. Its MAC is made, or

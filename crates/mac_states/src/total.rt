@@ -5,7 +5,7 @@ ghost use Rattle.psa_status.specs.Rows.{first_row};
 ghost use Rattle.store_model.specs.Rules.{total_limit};
 ghost use Rattle.store_model.specs.HashOperations.{total_rows};
 
-use algorithm_facts::TOTAL_LIMIT;
+use key_policy::TOTAL_LIMIT;
 use psa_status::Status;
 
 /// The number of bytes that an operation's message has so far, which is limited.

@@ -1,7 +1,7 @@
 // What the operations run, as their state knows it.
 use crate::running_hash::RunningHash;
 use crate::running_mac::RunningMac;
-use operation_phase::Work;
+use multipart::Work;
 
 impl Work for RunningHash {
     ghost use Rattle.store_model.specs.HashOperations.{HashWork};

@@ -2,8 +2,8 @@
 use crate::jobs::Family;
 use aead_states::AeadState;
 use alg_encoding::Alg;
-use algorithm_facts::{aead_algorithm, cipher_algorithm, mac_algorithm};
 use cipher_states::CipherState;
+use key_policy::{aead_algorithm, cipher_algorithm, mac_algorithm};
 use mac_states::{HashOpState, MacState};
 use psa_status::Status;
 

@@ -1,7 +1,7 @@
 ghost use Rattle.std.specs.Prelude.{◌≡◌, ◌≤◌, ℕ, All, length};
 ghost use Rattle.driver_dispatch.specs.Calls.{Lacks};
 ghost use Rattle.callers.specs.Ready.{IsReady};
-ghost use Rattle.shared_store.specs.Shared.{world};
+ghost use Rattle.locked_store.specs.Shared.{world};
 ghost use Rattle.caller_service.specs.Replies.{MayCall};
 
 use crate::rooms::{no_devices, no_rules, sound_disk};

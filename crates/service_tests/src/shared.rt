@@ -1,9 +1,9 @@
 ghost use Rattle.std.specs.Prelude.{◌≡◌, ◌<◌, [], IfOk, Some};
 ghost use Rattle.driver_dispatch.specs.Held.{no_keys};
 ghost use Rattle.turn_history.specs.Passes.{AreNew};
-ghost use Rattle.shared_store.specs.Turning.{IsAt};
-ghost use Rattle.shared_store.specs.Closed.{AreAt};
-ghost use Rattle.shared_store.specs.Shared.{world};
+ghost use Rattle.locked_store.specs.Turning.{IsAt};
+ghost use Rattle.locked_store.specs.Closed.{AreAt};
+ghost use Rattle.locked_store.specs.Shared.{world};
 
 use crate::rooms::{no_rules, sound_disk};
 use admission::Admission;
@@ -11,10 +11,10 @@ use alg_encoding::Alg;
 use disk_face::Disk;
 use driver_dispatch::{Devices, Drivers};
 use key_attributes::{Attributes, KeyId, KeyType, Lifetime, Policy, Usage};
-use key_uses::KeyUse;
+use key_policy::KeyUse;
+use locked_store::{Held, Shared, SharedStore, end};
 use secret_bytes::Secret;
 use service_calls::{Call, StoreCall};
-use shared_store::{Held, Shared, SharedStore, end};
 use std::alloc::Global;
 use std::process::Abort;
 use std::sync::Wait;

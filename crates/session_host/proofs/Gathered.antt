@@ -5,7 +5,7 @@ use Rattle.std.proofs.lemmas.Grind.{flat_map-append}
 use Rattle.std.proofs.lemmas.List.Sums.{sum_by-append, sum_by-cons}
 use Rattle.std.proofs.lemmas.List.{get_or_default}
 use Rattle.turn_history.specs.History.{entries_of}
-use Rattle.shared_store.specs.Worlds.{World}
+use Rattle.locked_store.specs.Worlds.{World}
 use Rattle.callers.specs.declared.caller.Caller.{Caller}
 use Rattle.script_lang.specs.declared.script.ScriptLine.{ScriptLine}
 use Rattle.script_lang.specs.Replies.{AreAllKept, AreKept, ReplyLine, is_success, text_in}
@@ -13,13 +13,13 @@ use Rattle.script_lang.specs.declared.replies.Replies.{Replies}
 use Rattle.script_lang.specs.declared.replies.ReplyForm.{ReplyForm}
 use Rattle.script_lang.specs.Lines.{IsOfSession}
 use Rattle.caller_service.specs.Staff.{AreStaff}
-use Rattle.script_sessions.specs.declared.session.Session.{Session}
-use Rattle.script_sessions.specs.Printed.{AreFirstCalls}
-use Rattle.script_sessions.specs.Running.{HasMade, HasReplies, IsWithin, KnowsTurns}
-use Rattle.script_sessions.proofs.Told.{knows_none}
-use Rattle.session_workers.specs.declared.worker.Worker.{Worker}
-use Rattle.session_workers.specs.Working.{HasSeen, HasWorked, HaveRun, IsOurs}
-use Rattle.session_dealing.specs.Dealing.{AreDealt, AreTaken, HaveOwn, IsFrom, dealt}
+use Rattle.session_host.specs.declared.session.Session.{Session}
+use Rattle.session_host.specs.Printed.{AreFirstCalls}
+use Rattle.session_host.specs.Sessions.{HasMade, HasReplies, IsWithin, KnowsTurns}
+use Rattle.session_host.proofs.Told.{knows_none}
+use Rattle.session_host.specs.declared.worker.Worker.{Worker}
+use Rattle.session_host.specs.Workers.{HasSeen, HasWorked, HaveRun, IsOurs}
+use Rattle.session_host.specs.Dealing.{AreDealt, AreTaken, HaveOwn, IsFrom, dealt}
 use Rattle.session_host.specs.Running.{AreCallers, HaveKept, HaveMade, HaveSeen, all_replies}
 
 -- some element of a list that has one

@@ -4,8 +4,8 @@ use Rattle.std.specs.Prelude.{◌==◌, map}
 use Rattle.std.proofs.lemmas.List.{append-nil}
 use Rattle.std.proofs.lemmas.List.Elements.{filter-append}
 use Rattle.script_lang.specs.Replies.{ReplyLine}
-use Rattle.script_sessions.specs.Heads.{head_of, heads}
-use Rattle.script_sessions.specs.Printed.{replies_of}
+use Rattle.session_host.specs.Heads.{head_of, heads}
+use Rattle.session_host.specs.Printed.{replies_of}
 use Rattle.session_host.specs.Running.{all_replies}
 
 -- lines with a session's heads are all its own, and none is another's

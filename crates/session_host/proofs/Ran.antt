@@ -7,15 +7,15 @@ use Rattle.store_model.specs.Marks.{FaultCounts}
 use Rattle.store_core.specs.Represents.{Opening}
 use Rattle.store_core.specs.declared.store.Opened.{Opened}
 use Rattle.store_core.specs.Start.{opening_of}
-use Rattle.shared_store.specs.Worlds.{World, world_of}
+use Rattle.locked_store.specs.Worlds.{World, world_of}
 use Rattle.callers.specs.declared.caller.Caller.{Caller}
 use Rattle.caller_service.specs.Closing.{IsClosedOver}
 use Rattle.script_lang.specs.declared.script.ScriptLine.{ScriptLine}
 use Rattle.script_lang.specs.Replies.{ReplyLine}
 use Rattle.script_lang.specs.Lines.{IsOfSession}
-use Rattle.script_sessions.specs.Bounds.{AreBounded}
-use Rattle.script_sessions.proofs.Bounds.{bounded}
-use Rattle.script_sessions.proofs.FaultLines.{bounded_lines}
+use Rattle.session_host.specs.Bounds.{AreBounded}
+use Rattle.session_host.proofs.Bounds.{bounded}
+use Rattle.session_host.proofs.FaultLines.{bounded_lines}
 use Rattle.session_host.specs.Running.{HaveAnswered, HaveMade, HaveSeen, all_replies}
 use Rattle.session_host.specs.Runs.{IsAnswered, IsBroken, IsOpening, IsRun}
 use Rattle.session_host.proofs.Gathered.{some_of}

@@ -34,14 +34,14 @@ use Rattle.disk_face.specs.declared.Disk as disk
 use Rattle.driver_dispatch.specs.declared.devices.Devices as devices
 use Rattle.admission.specs.declared.rules.Admission as admission
 use Rattle.secret_bytes.specs.contracts.Secret as Secret
-use Rattle.shared_store.specs.contracts.held.Held as Held
-use Rattle.shared_store.specs.contracts.held.SharedStore as Shared
-use Rattle.operation_cells.specs.contracts.cell.Cell as Cell
+use Rattle.locked_store.specs.contracts.held.Held as Held
+use Rattle.locked_store.specs.contracts.held.SharedStore as Shared
+use Rattle.operation_handles.specs.contracts.cell.Cell as Cell
 use Rattle.callers.specs.contracts.caller.Caller as Caller
 use Rattle.caller_service.specs.contracts.service.Service as Service
 use Rattle.script_lang.specs.contracts.replies.Replies as Replies
-use Rattle.script_sessions.specs.contracts.session.Session as Session
-use Rattle.session_workers.specs.contracts.worker.Worker as Worker
+use Rattle.session_host.specs.contracts.session.Session as Session
+use Rattle.session_host.specs.contracts.worker.Worker as Worker
 
 secret_send : IsSend Secret.the_row
 secret_send = search (sendable, crosses) depth 40

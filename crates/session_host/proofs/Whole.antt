@@ -8,23 +8,23 @@ use Rattle.turn_history.specs.History.{choose, entries_of, calls_by, StartsWith}
 use Rattle.turn_history.proofs.Lists.{begins_itself}
 use Rattle.store_model.specs.Handles.{Service}
 use Rattle.store_model.specs.Replay.{Entry}
-use Rattle.shared_store.specs.Standing.{caller_of}
+use Rattle.locked_store.specs.Standing.{caller_of}
 use Rattle.callers.specs.Called.{IsToldTo, Starts}
 use Rattle.callers.specs.Failures.{failure_marked}
-use Rattle.shared_store.specs.Worlds.{World}
+use Rattle.locked_store.specs.Worlds.{World}
 use Rattle.callers.specs.declared.caller.Caller.{Caller}
 use Rattle.script_lang.specs.declared.script.ScriptLine.{ScriptLine}
 use Rattle.script_lang.specs.Replies.{ReplyLine}
 use Rattle.script_lang.specs.Lines.{IsOfSession, lines_of}
 use Rattle.script_lang.specs.PrintedOrder.{AreCalls, Turn, numbered, replies_to, turns_from, turns_of}
-use Rattle.script_sessions.specs.Heads.{failure_of, failures_of, failures_to, head_of, heads, heads_to, ranks_of}
-use Rattle.script_sessions.specs.Printed.{AreFirstCalls, AreFirstReplies, AreReplies, AreRepliesSoFar, IsInLineOrder, replies_of}
-use Rattle.script_sessions.specs.Running.{ElementTells, HasMade, IsWithin, KnowsTurns, session_turns}
-use Rattle.script_sessions.proofs.Fronts.{first_whole}
-use Rattle.script_sessions.proofs.History.{as_many_turns, chosen_length}
-use Rattle.script_sessions.proofs.Heads.{same_later}
-use Rattle.script_sessions.proofs.Order.{in_line_order, within_whole}
-use Rattle.script_sessions.proofs.Told.{knows_later, knows_none, own_calls}
+use Rattle.session_host.specs.Heads.{failure_of, failures_of, failures_to, head_of, heads, heads_to, ranks_of}
+use Rattle.session_host.specs.Printed.{AreFirstCalls, AreFirstReplies, AreReplies, AreRepliesSoFar, IsInLineOrder, replies_of}
+use Rattle.session_host.specs.Sessions.{ElementTells, HasMade, IsWithin, KnowsTurns, session_turns}
+use Rattle.session_host.proofs.Fronts.{first_whole}
+use Rattle.session_host.proofs.History.{as_many_turns, chosen_length}
+use Rattle.session_host.proofs.Heads.{same_later}
+use Rattle.session_host.proofs.Order.{in_line_order, within_whole}
+use Rattle.session_host.proofs.Told.{knows_later, knows_none, own_calls}
 use Rattle.session_host.specs.Running.{HaveAnswered, HaveSeen, all_replies}
 use Rattle.session_host.proofs.Own.{HaveHeads, own_replies}
 

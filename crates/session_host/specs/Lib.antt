@@ -1,2 +1,9 @@
 pub mod Running
 pub mod Runs
+pub mod Replying
+pub mod Printed
+pub mod Heads
+pub mod Sessions
+pub mod Bounds
+pub mod Workers
+pub mod Dealing

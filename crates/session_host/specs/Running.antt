@@ -1,13 +1,13 @@
 -- What is known of sixteen callers that make the calls of a script's lines.
 use Rattle.std.specs.Prelude.{ℕ, ◌≡◌, ◌⊎◌, ◌<◌, ◌+◌, List, [], length, flat_map, take, get_or}
 use Rattle.turn_history.specs.History.{entries_of}
-use Rattle.shared_store.specs.Worlds.{World}
+use Rattle.locked_store.specs.Worlds.{World}
 use Rattle.callers.specs.declared.caller.Caller.{Caller}
 use Rattle.script_lang.specs.declared.script.ScriptLine.{ScriptLine}
 use Rattle.script_lang.specs.Replies.{AreAllKept, ReplyLine}
 use Rattle.script_lang.specs.declared.replies.Replies.{Replies}
 use Rattle.script_lang.specs.declared.replies.ReplyForm.{ReplyForm}
-use Rattle.script_sessions.specs.Running.{HasMade, HasReplies, IsWithin}
+use Rattle.session_host.specs.Sessions.{HasMade, HasReplies, IsWithin}
 
 -- the replies of all sessions, in their order
 abbrev pub all_replies : List (List ReplyLine) → List ReplyLine

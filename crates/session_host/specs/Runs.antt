@@ -14,8 +14,8 @@ use Rattle.store_model.specs.Replay.{Entry}
 use Rattle.store_model.specs.Sound.{IsSoundStore}
 use Rattle.store_core.specs.declared.store.Opened.{Opened}
 use Rattle.store_core.specs.Start.{opening_of}
-use Rattle.shared_store.specs.Turning.{IsStartOf, ToldBy}
-use Rattle.shared_store.specs.Worlds.{World, world_of}
+use Rattle.locked_store.specs.Turning.{IsStartOf, ToldBy}
+use Rattle.locked_store.specs.Worlds.{World, world_of}
 use Rattle.caller_service.specs.Closing.{IsLeft}
 use Rattle.script_lang.specs.declared.script.ScriptLine.{ScriptLine}
 use Rattle.script_lang.specs.Replies.{AreAllKept, ReplyLine}
@@ -23,9 +23,9 @@ use Rattle.script_lang.specs.declared.replies.Replies.{Replies}
 use Rattle.script_lang.specs.declared.replies.ReplyForm.{ReplyForm}
 use Rattle.script_lang.specs.Lines.{lines_of}
 use Rattle.script_lang.specs.PrintedOrder.{AreCalls, turns_from, turns_of}
-use Rattle.script_sessions.specs.Bounds.{AreBounded, AreBoundedLines}
-use Rattle.script_sessions.specs.Heads.{head_of, heads_to, ranks_of}
-use Rattle.script_sessions.specs.Printed.{AreFirstCalls, AreReplies, AreRepliesSoFar, IsInLineOrder}
+use Rattle.session_host.specs.Bounds.{AreBounded, AreBoundedLines}
+use Rattle.session_host.specs.Heads.{head_of, heads_to, ranks_of}
+use Rattle.session_host.specs.Printed.{AreFirstCalls, AreReplies, AreRepliesSoFar, IsInLineOrder}
 use Rattle.session_host.specs.declared.lines.Unanswered.{Unanswered}
 use Rattle.session_host.specs.declared.lines.Unanswered.TheVariants.{NotOpened, Memory}
 use Rattle.disk_face.specs.declared.Disk as Disk

@@ -1,12 +1,14 @@
 // All sessions, run on worker threads.
 ghost use Rattle.std.specs.Prelude.{◌≡◌, ◌≤◌, ◌<◌, ◌*◌, [], ℕ, All, IfOk, true, length, get_or, vec_capacity};
-ghost use Rattle.shared_store.specs.Shared.{world};
+ghost use Rattle.locked_store.specs.Shared.{world};
 ghost use Rattle.caller_service.specs.Staff.{AreStaff};
 ghost use Rattle.script_lang.specs.Lines.{IsOfSession};
-ghost use Rattle.session_workers.specs.Working.{HasWorked, HaveRun};
-ghost use Rattle.session_dealing.specs.Dealing.{IsFree};
+ghost use Rattle.session_host.specs.Workers.{HasWorked, HaveRun};
+ghost use Rattle.session_host.specs.Dealing.{IsFree};
 ghost use Rattle.session_host.specs.Running.{HaveKept, HaveMade, HaveSeen};
 
+use crate::dealing::{SESSIONS, deal, free, gather, new_workers};
+use crate::worker::Worker;
 use admission::Admission;
 use caller_service::Service;
 use callers::{Caller, Gate};
@@ -14,8 +16,6 @@ use disk_face::Disk;
 use driver_dispatch::Devices;
 use psa_status::Memory;
 use script_lang::{Replies, ReplyForm, ScriptLine};
-use session_dealing::{SESSIONS, deal, free, gather, new_workers};
-use session_workers::Worker;
 use std::alloc::Global;
 use std::sync::Wait;
 use std::thread::{self, Threads};

@@ -1,2 +1,6 @@
 mod Ciphering
 mod Paddings
+pub mod Uses
+pub mod Models
+pub mod Keys
+pub mod Draws

@@ -1,1 +1,5 @@
 pub mod Modes
+pub mod Keyed
+pub mod Elements
+pub mod Hashing
+pub mod Laws

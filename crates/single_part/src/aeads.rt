@@ -5,11 +5,11 @@ ghost use Rattle.store_model.specs.Call.{buffer_after};
 ghost use Rattle.store_model.specs.Aeads as model;
 ghost use Rattle.service_calls.specs.Answers.{AnswersLength, AnswersOrSpoils};
 ghost use Rattle.alg_encoding.specs.declared.table.Class.TheVariants.{Aead};
-ghost use Rattle.algorithm_facts.specs.Names.{IsOfClass, IsTagLength, NamesAead, is_ccm, permits_lengths_by};
+ghost use Rattle.key_policy.specs.Names.{IsOfClass, IsTagLength, NamesAead, is_ccm, permits_lengths_by};
 
 use aes_core::AesKey;
 use alg_encoding::Alg;
-use algorithm_facts::{AeadAlgorithm, AeadKind, TOTAL_LIMIT, aead_algorithm, aes_key};
+use key_policy::{AeadAlgorithm, AeadKind, TOTAL_LIMIT, aead_algorithm, aes_key};
 use psa_status::Status;
 
 // Whether the algorithm takes so many bytes of a nonce, of associated data, and of a payload.

@@ -7,12 +7,12 @@ ghost use Rattle.store_model.specs.Call.{buffer_after};
 ghost use Rattle.store_model.specs.Ciphers.{mode_of, iv_length, takes_whole_blocks, enciphered_length, is_ciphertext_length, encrypt_rows, decrypt_rows, encrypted, decrypted_reply};
 ghost use Rattle.service_calls.specs.Answers.{AnswersLength, AnswersOrSpoils};
 ghost use Rattle.alg_encoding.specs.declared.table.Class.TheVariants.{Cipher};
-ghost use Rattle.algorithm_facts.specs.Modes.{model_mode};
-ghost use Rattle.algorithm_facts.specs.Names.{IsOfClass};
+ghost use Rattle.key_policy.specs.Modes.{model_mode};
+ghost use Rattle.key_policy.specs.Names.{IsOfClass};
 
 use crate::modes::{decipher, encipher_behind};
 use alg_encoding::Alg;
-use algorithm_facts::{
+use key_policy::{
     Mode, TOTAL_LIMIT, aes_key, cipher_algorithm, enciphered_length, is_ciphertext_length,
     iv_length, takes_whole_blocks,
 };

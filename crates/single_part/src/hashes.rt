@@ -5,9 +5,9 @@ ghost use Rattle.store_model.specs.Hashes.{compared_reply, hash_reply};
 ghost use Rattle.service_calls.specs.Answers.{AnswersLength, plain_reply};
 
 use alg_encoding::Alg;
-use algorithm_facts::hash_algorithm;
 use hash_ops::one_shot;
-use operation_phase::{give_front, is_front};
+use key_policy::hash_algorithm;
+use multipart::{give_front, is_front};
 use psa_status::Status;
 
 /// Writes the hash of a message to the front of a buffer that has room for it, and answers its length. `NotSupported`

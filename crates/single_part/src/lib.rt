@@ -1,14 +1,27 @@
-//! Hashes, MACs, ciphers and AEADs of a whole message, once it is decided that the key may be used: what a call of the API
-//! in one part computes. It sees no store.
+//! Calls in one part, once it is decided that the key may be used: hashes, MACs, ciphers and AEADs of a whole message, and the call
+//! as a value, computed with a key's bytes, by the secure element, or of its input alone, where it is a hash. No store and no lock
+//! is in sight.
 #![tactic(auto)]
 
 mod aeads;
 mod ciphers;
+mod computing;
+mod elements;
 mod hashes;
+mod hashing;
+mod laws;
 mod macs;
 mod modes;
+mod wanting;
 
 pub use aeads::{aead_decrypt, aead_encrypt};
 pub use ciphers::{cipher_decrypt, cipher_encrypt};
+pub use computing::compute;
+pub use elements::{computed_output, element_call, needs_vector, takes_vector};
 pub use hashes::{hash_compare, hash_compute};
+pub use hashing::compute_hash;
+pub use laws::{
+    hash_calls_are_the_models, keyed_calls_are_the_models, keyed_calls_draw, keyed_calls_read,
+};
 pub use macs::{mac_compute, mac_verify};
+pub use wanting::wanted;

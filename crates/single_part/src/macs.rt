@@ -8,13 +8,13 @@ ghost use Rattle.store_model.specs.Algorithms.{cmac_base, mac_of};
 ghost use Rattle.service_calls.specs.Answers.{AnswersLength, plain_reply};
 ghost use Rattle.store_model.specs.Macs.{mac_reply, verified_reply};
 ghost use Rattle.alg_encoding.specs.declared.table.Class.TheVariants.{Mac};
-ghost use Rattle.algorithm_facts.specs.Names.{IsOfClass, NamesMac, is_cmac, whole_length, whole_mac_by};
+ghost use Rattle.key_policy.specs.Names.{IsOfClass, NamesMac, is_cmac, whole_length, whole_mac_by};
 
 use alg_encoding::Alg;
-use algorithm_facts::{MacAlgorithm, MacKind, TOTAL_LIMIT, aes_key, mac_algorithm};
 use cmac_ops::cmac;
 use hmac_ops::hmac;
-use operation_phase::{give_front, is_front, move_to_front};
+use key_policy::{MacAlgorithm, MacKind, TOTAL_LIMIT, aes_key, mac_algorithm};
+use multipart::{give_front, is_front, move_to_front};
 use psa_status::Status;
 
 // Writes CMAC's whole MAC of a message to the front of `out`.

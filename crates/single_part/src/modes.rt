@@ -5,12 +5,12 @@ ghost use Rattle.crypto_specs.specs.Modes.{pkcs7_padded, pkcs7_unpadded};
 ghost use Rattle.store_model.specs.Call.{buffer_after};
 ghost use Rattle.store_model.specs.Ciphers.{mode_of, iv_length, takes_whole_blocks, enciphered, enciphered_length, deciphered, is_ciphertext_length, plain_or_zeros};
 ghost use Rattle.service_calls.specs.Answers.{AnswersOrSpoils};
-ghost use Rattle.algorithm_facts.specs.Modes.{model_mode};
+ghost use Rattle.key_policy.specs.Modes.{model_mode};
 ghost use Rattle.single_part.specs.Modes.{deciphered_blocks};
 
 use aes_core::AesKey;
-use algorithm_facts::{Mode, iv_length};
 use cipher_modes::{cbc_decrypt, cbc_encrypt, ctr_xor, ecb_decrypt, ecb_encrypt, unpad};
+use key_policy::{Mode, iv_length};
 use psa_status::Status;
 
 // The block of these bytes.

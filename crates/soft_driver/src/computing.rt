@@ -6,13 +6,13 @@ ghost use Rattle.crypto_specs.specs.Hmac.{hmac};
 ghost use Rattle.crypto_specs.specs.Modes.{ecb_encrypt};
 ghost use Rattle.hash_ops.specs.Hashes.{block_length, digest_length, hash_of};
 ghost use Rattle.store_model.specs.Algorithms.{mac_of};
-ghost use Rattle.algorithm_facts.specs.Names.{NamesMac, is_cmac, whole_length};
+ghost use Rattle.key_policy.specs.Names.{NamesMac, is_cmac, whole_length};
 
-use algorithm_facts::{MacAlgorithm, MacKind, aes_key};
 use cipher_modes::ecb_encrypt;
 use cmac_ops::cmac;
 use hash_ops::Hash;
 use hmac_ops::hmac;
+use key_policy::{MacAlgorithm, MacKind, aes_key};
 
 /// Enciphers whole blocks in place, each by itself.
 pub fn encipher_blocks(key: &[u8], blocks: &mut [u8])

@@ -13,9 +13,9 @@ ghost use Rattle.soft_driver.specs.Form.{after_computing, after_copy, after_dest
 use crate::computing::{encipher_blocks, fill_mac};
 use crate::room::KeyRoom;
 use alg_encoding::Alg;
-use algorithm_facts::mac_algorithm;
 use driver_dispatch::Driver;
 use key_attributes::KeyType;
+use key_policy::mac_algorithm;
 use psa_status::{Failed, Memory};
 use std::alloc::Global;
 use std::marker::Model;

@@ -14,7 +14,7 @@ use Rattle.driver_dispatch.specs.Calls.{HoldsHandle, IsSomeKey, Lacks}
 use Rattle.key_cells.specs.declared.slot.Slot as cell
 use Rattle.key_cells.specs.declared.slot.Slot.TheVariants.{Free, Open, Shut, Unsure}
 use Rattle.key_cells.specs.Contents.{cell_slot, is_open, settled_slots, settled_slot, IsFirstWithoutKey}
-use Rattle.key_file.specs.Files.{stored, IsPut}
+use Rattle.persistent_keys.specs.Files.{stored, IsPut}
 use Rattle.slot_table.proofs.AtSlots.{bytes-buffer_of}
 use Rattle.slot_table.specs.Changes.{full_slot}
 use Rattle.key_slots.specs.Standing.{Puts, SlotHasKey, IsThereOrNew}

@@ -31,14 +31,14 @@ use Rattle.store_model.specs.Rules.{fits_type, use_rows}
 use Rattle.store_model.specs.Sound.{IsSoundStore}
 use Rattle.store_model.proofs.Tables.{none_holds}
 use Rattle.std.proofs.lemmas.Bool.Decides.{nat_tests}
-use Rattle.element_calls.specs.declared.calls.ElementCall.{ElementCall}
-use Rattle.element_calls.specs.declared.calls.ElementCall.TheVariants.{MacCompute, MacVerify, CtrEncrypt, CtrDecrypt}
-use Rattle.element_calls.specs.declared.calls.NotComputed.{NotComputed}
-use Rattle.element_calls.specs.declared.calls.NotComputed.TheVariants.{Refused, Failed}
-use Rattle.element_calls.specs.Answers.{AnswersCall, IsComputed, IsOfElement, mark_computed, reply_to}
-use Rattle.element_calls.specs.Calls.{algorithm_asked, class_asked, element_reply, model_call, rows_before, usage_asked}
-use Rattle.element_calls.specs.Replies.{all_rows, key_rows, reply_on}
-use Rattle.element_calls.proofs.Replying.{asks}
+use Rattle.secure_element_calls.specs.declared.calls.ElementCall.{ElementCall}
+use Rattle.secure_element_calls.specs.declared.calls.ElementCall.TheVariants.{MacCompute, MacVerify, CtrEncrypt, CtrDecrypt}
+use Rattle.secure_element_calls.specs.declared.calls.NotComputed.{NotComputed}
+use Rattle.secure_element_calls.specs.declared.calls.NotComputed.TheVariants.{Refused, Failed}
+use Rattle.secure_element_calls.specs.Answers.{AnswersCall, IsComputed, IsOfElement, mark_computed, reply_to}
+use Rattle.secure_element_calls.specs.Calls.{algorithm_asked, class_asked, element_reply, model_call, rows_before, usage_asked}
+use Rattle.secure_element_calls.specs.Replies.{all_rows, key_rows, reply_on}
+use Rattle.secure_element_calls.proofs.Replying.{asks}
 use Rattle.store_core.specs.declared.store.Store.{Store}
 use Rattle.store_core.specs.Opaque.{IsAnswered}
 use Rattle.store_core.specs.Represents.{HoldsKeys, IsTold, Opening}

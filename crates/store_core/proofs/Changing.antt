@@ -7,8 +7,8 @@ use Rattle.std.specs.Prelude.{slice_index, ⊤}
 use Rattle.disk_face.specs.Moments.{Within}
 use Rattle.disk_face.proofs.Moments.{promise_goes_on}
 use Rattle.key_cells.specs.Contents.{IsSure}
-use Rattle.key_file.specs.Files.{StandsForKeys, FitsKeys, Leads}
-use Rattle.key_file.proofs.Leading.{stands_fits}
+use Rattle.persistent_keys.specs.Files.{StandsForKeys, FitsKeys, Leads}
+use Rattle.persistent_keys.proofs.Leading.{stands_fits}
 use Rattle.key_slots.specs.Holdings.{Pairs, AreHoldings}
 use Rattle.key_slots.specs.Standing.{Agrees}
 use Rattle.store_model.specs.Store as model

@@ -10,9 +10,9 @@ use Rattle.driver_dispatch.specs.Held.{without_key}
 use Rattle.key_cells.specs.declared.slot.Slot as cell
 use Rattle.key_cells.specs.declared.slot.Slot.TheVariants.{Free}
 use Rattle.key_cells.specs.Contents.{HasNoKey, IsSure, cell_slot, has_id, creation_of_slot, settled_slots}
-use Rattle.key_file.specs.declared.file.KeyFile.{KeyFile}
-use Rattle.key_file.specs.Files.{Stored, stored, Keys, Doubt, StandsForKeys, Leads, IsPut}
-use Rattle.key_file.proofs.Leading.{stays}
+use Rattle.persistent_keys.specs.declared.file.KeyFile.{KeyFile}
+use Rattle.persistent_keys.specs.Files.{Stored, stored, Keys, Doubt, StandsForKeys, Leads, IsPut}
+use Rattle.persistent_keys.proofs.Leading.{stays}
 use Rattle.slot_table.specs.Slots.{Slot, slot_at, holds_key}
 use Rattle.key_slots.specs.declared.slots.KeySlots.{KeySlots}
 use Rattle.key_slots.specs.Holdings.{Pairs}

@@ -17,7 +17,7 @@ use Rattle.driver_dispatch.specs.Calls.{HoldsHandle, IsSomeKey}
 use Rattle.key_cells.specs.declared.slot.Slot as cell
 use Rattle.key_cells.specs.declared.slot.Slot.TheVariants.{Free, Open, Shut, Unsure}
 use Rattle.key_cells.specs.Contents.{HasNoKey, has_id, creation_of_slot}
-use Rattle.key_file.specs.Files.{Stored, Doubt, doubt_undestroyed}
+use Rattle.persistent_keys.specs.Files.{Stored, Doubt, doubt_undestroyed}
 use Rattle.store_model.specs.Store as model
 use Rattle.store_model.specs.Store.{Key, KeyMap, is_volatile, is_opaque, is_volatile_of, live_volatile, count_persistent, has_secure_element}
 use Rattle.store_model.specs.Call.{Destroy}

@@ -10,8 +10,8 @@ use Rattle.key_attributes.specs.declared.Attributes.{Attributes}
 use Rattle.secret_bytes.specs.Buffer.{Buffer}
 use Rattle.slot_table.specs.Lent as lent
 use Rattle.std.specs.Option.{option_map_or}
-use Rattle.key_file.specs.Files.{Stored, Doubt, Leads}
-use Rattle.key_file.proofs.Leading.{stays}
+use Rattle.persistent_keys.specs.Files.{Stored, Doubt, Leads}
+use Rattle.persistent_keys.proofs.Leading.{stays}
 use Rattle.key_slots.specs.declared.slots.KeySlots.{KeySlots}
 use Rattle.key_slots.specs.Holdings.{Pairs, AreHoldings}
 use Rattle.key_slots.specs.Standing.{Agrees}

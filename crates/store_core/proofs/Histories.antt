@@ -11,7 +11,7 @@ use Rattle.psa_status.specs.declared.Status.TheVariants.{Success, InvalidHandle}
 use Rattle.psa_status.specs.Rows.{first_row}
 use Rattle.disk_face.specs.Moments.{after_all}
 use Rattle.disk_face.proofs.Moments.{after_all_push}
-use Rattle.key_file.specs.Files.{Stored}
+use Rattle.persistent_keys.specs.Files.{Stored}
 use Rattle.store_model.specs.Store.{Key, Store}
 use Rattle.store_model.specs.Call.{Destroy, Reply}
 use Rattle.store_model.specs.Faults.{FaultMark, Plain}

@@ -7,9 +7,9 @@ use Rattle.disk_face.specs.Moments.{Within, KeepsPromise, FitsFrom}
 use Rattle.disk_face.proofs.Moments.{promise_goes_on, within_none, fits_whole, fits_least}
 use Rattle.driver_dispatch.specs.Held.{HeldKeys}
 use Rattle.key_cells.specs.Contents.{IsSure}
-use Rattle.key_file.specs.declared.file.KeyFile.{KeyFile}
-use Rattle.key_file.specs.Files.{Keys, Doubt, StandsForKeys, FitsKeys, FitsEitherKeys, Leads}
-use Rattle.key_file.proofs.Leading.{stands_fits, stays}
+use Rattle.persistent_keys.specs.declared.file.KeyFile.{KeyFile}
+use Rattle.persistent_keys.specs.Files.{Keys, Doubt, StandsForKeys, FitsKeys, FitsEitherKeys, Leads}
+use Rattle.persistent_keys.proofs.Leading.{stands_fits, stays}
 use Rattle.secret_bytes.specs.Buffer.{Buffer}
 use Rattle.key_slots.specs.declared.slots.KeySlots.{KeySlots}
 use Rattle.key_slots.specs.Holdings.{Pairs, AreHoldings}

@@ -11,9 +11,9 @@ use Rattle.store_model.specs.Store.{Key, has_secure_element, is_volatile}
 use Rattle.store_model.specs.Creation.{identified}
 use Rattle.store_model.specs.Sound.{IsSoundKey, as_stated}
 use Rattle.store_model.proofs.Tables.{none_holds}
-use Rattle.key_uses.specs.declared.key_use.KeyUse.{KeyUse}
-use Rattle.key_uses.specs.Uses.{use_refusal}
-use Rattle.key_uses.proofs.Refusals.{local}
+use Rattle.key_policy.specs.declared.key_use.KeyUse.{KeyUse}
+use Rattle.key_policy.specs.Uses.{use_refusal}
+use Rattle.key_policy.proofs.Refusals.{local}
 
 -- the slot of a local key has its bytes
 pub has_bytes : (wanted : KeyUse) (key : Key) → use_refusal wanted (Some key) ≡ None → slot_bytes key ≡ key.bytes

@@ -10,8 +10,8 @@ use Rattle.key_attributes.specs.declared.Attributes.{Attributes}
 use Rattle.secret_bytes.specs.Buffer.{Buffer}
 use Rattle.key_cells.specs.Contents.{cell_slot, has_id, creation_of_slot}
 use Rattle.key_cells.specs.Body.{IsKeyOf}
-use Rattle.key_file.specs.declared.file.KeyFile.{KeyFile}
-use Rattle.key_file.specs.Files.{Stored, stored}
+use Rattle.persistent_keys.specs.declared.file.KeyFile.{KeyFile}
+use Rattle.persistent_keys.specs.Files.{Stored, stored}
 use Rattle.slot_table.specs.Slots.{Slot, NoKey}
 use Rattle.slot_table.specs.Changes.{full_slot}
 use Rattle.slot_table.proofs.AtSlots.{bytes-buffer_of}

@@ -11,7 +11,7 @@ use Rattle.psa_status.specs.declared.Status.{Status}
 use Rattle.psa_status.specs.Causes.{Rose}
 use Rattle.key_attributes.specs.declared.Attributes.{Attributes}
 use Rattle.key_cells.specs.Contents.{IsSure}
-use Rattle.key_file.specs.Files.{Stored, stored, Doubt, StandsForKeys, Leads}
+use Rattle.persistent_keys.specs.Files.{Stored, stored, Doubt, StandsForKeys, Leads}
 use Rattle.key_slots.specs.Holdings.{Pairs, AreHoldings}
 use Rattle.key_slots.specs.Standing.{Agrees}
 use Rattle.store_model.specs.Store as model

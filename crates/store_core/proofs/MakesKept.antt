@@ -12,9 +12,9 @@ use Rattle.key_cells.specs.declared.slot.Slot as cell
 use Rattle.key_cells.specs.declared.slot.Slot.TheVariants.{Open}
 use Rattle.key_cells.specs.Contents.{HasNoKey, IsFull, IsFirstWithoutKey, IsSure, settled_slots}
 use Rattle.key_cells.specs.Body.{IsKeyOf}
-use Rattle.key_file.specs.declared.file.KeyFile.{KeyFile}
-use Rattle.key_file.specs.Files.{Stored, stored, Keys, Doubt, StandsForKeys, Leads, IsPut, doubt_unmade}
-use Rattle.key_file.specs.declared.file.MakeFault.TheVariants.{Disk}
+use Rattle.persistent_keys.specs.declared.file.KeyFile.{KeyFile}
+use Rattle.persistent_keys.specs.Files.{Stored, stored, Keys, Doubt, StandsForKeys, Leads, IsPut, doubt_unmade}
+use Rattle.persistent_keys.specs.declared.file.MakeFault.TheVariants.{Disk}
 use Rattle.slot_table.specs.Slots.{NoKey}
 use Rattle.slot_table.specs.Changes.{full_slot}
 use Rattle.key_slots.specs.declared.slots.KeySlots.{KeySlots}

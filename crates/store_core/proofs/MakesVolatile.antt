@@ -13,8 +13,8 @@ use Rattle.driver_dispatch.specs.Held.{HeldKey, HeldKeys, with_held_key, with_co
 use Rattle.driver_dispatch.specs.Held as held_keys
 use Rattle.driver_dispatch.specs.Calls.{HoldsHandle, IsSomeKey, Lacks, has_element}
 use Rattle.secret_bytes.specs.Buffer.{Buffer, bytes_of}
-use Rattle.key_file.specs.Files.{stored, Doubt, Leads}
-use Rattle.key_file.proofs.Leading.{stays}
+use Rattle.persistent_keys.specs.Files.{stored, Doubt, Leads}
+use Rattle.persistent_keys.proofs.Leading.{stays}
 use Rattle.slot_table.specs.Slots.{NoKey}
 use Rattle.slot_table.specs.Changes.{full_slot}
 use Rattle.key_slots.specs.declared.slots.KeySlots.{KeySlots}

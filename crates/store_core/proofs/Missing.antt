@@ -10,9 +10,9 @@ use Rattle.store_model.specs.KeyUse.{export_rows}
 use Rattle.store_model.specs.Rules.{use_rows}
 use Rattle.store_model.specs.HandleCalls.{derivation_key_rows}
 use Rattle.store_model.proofs.Tables.{refused_by}
-use Rattle.key_uses.specs.declared.key_use.KeyUse.{KeyUse}
-use Rattle.key_uses.specs.declared.key_use.KeyUse.TheVariants.{Export, Algorithm, Derivation}
-use Rattle.key_uses.specs.Uses.{use_refusal}
+use Rattle.key_policy.specs.declared.key_use.KeyUse.{KeyUse}
+use Rattle.key_policy.specs.declared.key_use.KeyUse.TheVariants.{Export, Algorithm, Derivation}
+use Rattle.key_policy.specs.Uses.{use_refusal}
 use Rattle.store_core.specs.declared.reading.Unread.{Unread}
 use Rattle.store_core.specs.declared.reading.Unread.TheVariants.{Missing, Disk, Corrupt}
 use Rattle.store_core.specs.Uses.{status_of}

@@ -14,7 +14,7 @@ use Rattle.key_cells.specs.Image.{HasKey}
 use Rattle.key_cells.specs.Opening.{IsFoundIn, Finds, IsNumbered, IsNamed, found_in, content_of}
 use Rattle.key_cells.proofs.CellsRead.{content_there}
 use Rattle.key_cells.proofs.Bodies.{of_one_key}
-use Rattle.key_file.specs.Files.{Stored, stored, AreFound}
+use Rattle.persistent_keys.specs.Files.{Stored, stored, AreFound}
 use Rattle.store_model.specs.Store.{Key, OpenedKey, Settings, start_of}
 use Rattle.store_core.specs.Durability.{kept, durable_keys}
 use Rattle.store_core.specs.Start.{AreOpened}

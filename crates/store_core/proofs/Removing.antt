@@ -10,7 +10,7 @@ use Rattle.std.specs.FinMap as map
 use Rattle.key_cells.specs.declared.slot.Slot as cell
 use Rattle.key_cells.specs.declared.slot.Slot.TheVariants.{Free, Open, Shut, Unsure}
 use Rattle.key_cells.specs.Contents.{cell_slot, settled_slot, settled_slots}
-use Rattle.key_file.specs.Files.{Stored, stored, IsPut}
+use Rattle.persistent_keys.specs.Files.{Stored, stored, IsPut}
 use Rattle.driver_dispatch.specs.Held.{HeldKey, HeldKeys, held_key, without_key}
 use Rattle.driver_dispatch.specs.Calls.{HoldsHandle, IsSomeKey, Lacks}
 use Rattle.key_slots.specs.Standing.{Puts}

@@ -20,9 +20,9 @@ use Rattle.key_cells.specs.Opening.{IsNumbered, HasOneEach, found_in}
 use Rattle.key_cells.specs.Opened.{IsOpened, IsRefused}
 use Rattle.key_cells.proofs.CellsRead.{for_told, some_weaker}
 use Rattle.key_cells.proofs.Opened.{calm_none, refused_calm}
-use Rattle.key_file.specs.Files.{Keys, AreFound, StandsForKeys}
-use Rattle.key_file.proofs.Founding.{found_stands}
-use Rattle.key_file.proofs.Leading.{stands_fits}
+use Rattle.persistent_keys.specs.Files.{Keys, AreFound, StandsForKeys}
+use Rattle.persistent_keys.proofs.Founding.{found_stands}
+use Rattle.persistent_keys.proofs.Leading.{stands_fits}
 use Rattle.slot_table.specs.Slots.{empty_slot}
 use Rattle.key_slots.specs.Holdings.{Pairs, IsHolding, AreHoldings}
 use Rattle.key_slots.specs.Standing.{Agrees, IsVolatileKey}
@@ -34,7 +34,7 @@ use Rattle.store_model.specs.Store.{Key, OpenedKey, Settings, start_of, is_volat
 use Rattle.store_model.specs.Handles.{Service, service_start}
 use Rattle.store_model.proofs.Sound.{of_volatile}
 use Rattle.store_model.proofs.Starts.{store_starts}
-use Rattle.key_file.specs.declared.file.KeyFile.{KeyFile}
+use Rattle.persistent_keys.specs.declared.file.KeyFile.{KeyFile}
 use Rattle.store_core.specs.declared.store.Store.{Store}
 use Rattle.store_core.specs.declared.store.Opened.{Opened}
 use Rattle.store_core.specs.Durability.{durable_keys, KeepsKeys}

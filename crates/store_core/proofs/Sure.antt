@@ -9,8 +9,8 @@ use Rattle.key_cells.specs.Contents.{Content, Absent, Present, Doubtful, IsSure,
 use Rattle.key_cells.specs.Body.{HoldsKey}
 use Rattle.key_cells.specs.Opening.{Finds, IsFoundIn}
 use Rattle.key_cells.proofs.Clearing.{all_settled}
-use Rattle.key_file.specs.Files.{Stored, stored, Keys, Doubt, StandsForKeys, TellsCell}
-use Rattle.key_file.proofs.Filing.{settled_twice}
+use Rattle.persistent_keys.specs.Files.{Stored, stored, Keys, Doubt, StandsForKeys, TellsCell}
+use Rattle.persistent_keys.proofs.Filing.{settled_twice}
 use Rattle.store_core.specs.Zeros.{HasKeyOrZeros}
 use Rattle.store_core.proofs.Wiped.{shows_free}
 

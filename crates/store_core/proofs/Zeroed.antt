@@ -10,9 +10,9 @@ use Rattle.disk_face.proofs.Moments.{within_both, within_none}
 use Rattle.key_cells.specs.declared.slot.Slot as cell
 use Rattle.key_cells.specs.declared.slot.Slot.TheVariants.{Free, Open, Shut, Unsure}
 use Rattle.key_cells.specs.Contents.{HasZeros, cell_slot, has_id, settled_slot, settled_slots}
-use Rattle.key_file.specs.declared.file.KeyFile.{KeyFile}
-use Rattle.key_file.specs.Files.{Stored, Keys, Doubt, StandsForKeys, Leads}
-use Rattle.key_file.proofs.Leading.{stays}
+use Rattle.persistent_keys.specs.declared.file.KeyFile.{KeyFile}
+use Rattle.persistent_keys.specs.Files.{Stored, Keys, Doubt, StandsForKeys, Leads}
+use Rattle.persistent_keys.proofs.Leading.{stays}
 use Rattle.std.specs.FinMap as finmap
 use Rattle.store_model.specs.Store as model
 use Rattle.store_model.specs.Store.{Key}

@@ -3,7 +3,7 @@ use Rattle.std.specs.Prelude.{ℕ, Bool, true, false, List, [], ◌∷◌, take,
 use Rattle.std.specs.Option.{option_map_or}
 use Rattle.std.specs.FinMap as map
 use Rattle.disk_face.specs.Moments.{after_all, KeepsPromise}
-use Rattle.key_file.specs.Files.{Stored, stored, Keys, Doubt, FitsKeys}
+use Rattle.persistent_keys.specs.Files.{Stored, stored, Keys, Doubt, FitsKeys}
 use Rattle.store_model.specs.Store.{Key, Store, is_volatile}
 use Rattle.store_model.specs.Call.{Destroy}
 use Rattle.store_model.specs.Faults.{FaultMark, Plain, Storage, Hardware, Corrupt, Reading, Writing}

@@ -14,12 +14,12 @@ use Rattle.store_model.specs.Faults.{FaultMark, marked_reply}
 use Rattle.store_model.specs.Handles.{Service}
 use Rattle.store_model.specs.Replay.{Entry}
 use Rattle.store_model.specs.Requests.{OnStore}
-use Rattle.element_calls.specs.declared.calls.ElementCall.{ElementCall}
-use Rattle.element_calls.specs.declared.calls.NotComputed.{NotComputed}
-use Rattle.element_calls.specs.declared.calls.NotComputed.TheVariants.{Refused, Failed}
-use Rattle.element_calls.specs.Answers.{AnswersCall, IsOfElement, mark_computed}
-use Rattle.element_calls.specs.Calls.{needed_by}
-use Rattle.element_calls.specs.Replies.{all_rows, reply_on}
+use Rattle.secure_element_calls.specs.declared.calls.ElementCall.{ElementCall}
+use Rattle.secure_element_calls.specs.declared.calls.NotComputed.{NotComputed}
+use Rattle.secure_element_calls.specs.declared.calls.NotComputed.TheVariants.{Refused, Failed}
+use Rattle.secure_element_calls.specs.Answers.{AnswersCall, IsOfElement, mark_computed}
+use Rattle.secure_element_calls.specs.Calls.{needed_by}
+use Rattle.secure_element_calls.specs.Replies.{all_rows, reply_on}
 use Rattle.store_core.specs.declared.store.Store.{Store}
 use Rattle.store_core.specs.Represents.{IsEntry, Opening, StandsFor}
 

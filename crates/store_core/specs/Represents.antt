@@ -7,7 +7,7 @@ use Rattle.std.specs.FinMap as map
 use Rattle.key_cells.specs.declared.slot.Slot as cell
 use Rattle.key_cells.specs.declared.slot.Slot.TheVariants.{Open}
 use Rattle.key_cells.specs.Contents.{cell_slot, IsSure}
-use Rattle.key_file.specs.Files.{StandsForKeys}
+use Rattle.persistent_keys.specs.Files.{StandsForKeys}
 use Rattle.key_slots.specs.Holdings.{Pairs, Gains, AreHoldings, named}
 use Rattle.key_slots.specs.Standing.{Agrees}
 use Rattle.driver_dispatch.specs.Held.{HeldKeys}

@@ -8,8 +8,8 @@ use Rattle.key_cells.specs.declared.slot.Slot.TheVariants.{Free}
 use Rattle.key_cells.specs.Layout.{gate, body, opened_gate}
 use Rattle.key_cells.specs.Contents.{HasZeros, cell_slot}
 use Rattle.key_cells.specs.Body.{HoldsKey}
-use Rattle.key_file.specs.declared.file.KeyFile.{KeyFile}
-use Rattle.key_file.specs.Files.{Stored, Keys, Doubt, StandsForKeys}
+use Rattle.persistent_keys.specs.declared.file.KeyFile.{KeyFile}
+use Rattle.persistent_keys.specs.Files.{Stored, Keys, Doubt, StandsForKeys}
 use Rattle.key_slots.specs.Holdings.{Pairs}
 use Rattle.store_model.specs.Handles.{Service}
 use Rattle.store_model.specs.Replay.{Entry}

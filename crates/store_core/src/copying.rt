@@ -24,7 +24,7 @@ use admission::Admission;
 use disk_face::Disk;
 use driver_dispatch::Devices;
 use key_attributes::{Attributes, KeyId};
-use key_uses::copied_attributes;
+use key_policy::copied_attributes;
 use psa_status::Status;
 use slot_table::Filling;
 

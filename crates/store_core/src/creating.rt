@@ -26,7 +26,7 @@ use admission::Admission;
 use disk_face::Disk;
 use driver_dispatch::Devices;
 use key_attributes::{Attributes, KeyId, KeyType};
-use key_file::MakeFault;
+use persistent_keys::MakeFault;
 use psa_status::{Failed, Status};
 use slot_table::{Filling, Lease};
 

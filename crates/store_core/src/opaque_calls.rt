@@ -3,9 +3,9 @@ ghost use Rattle.std.specs.Prelude.{◌≡◌, ◌<◌, ◌^◌, ◌+◌, true, 
 ghost use Rattle.std.specs.FinMap as map;
 ghost use Rattle.psa_status.specs.Causes.{Rose};
 ghost use Rattle.store_model.specs.Store.{is_opaque_key};
-ghost use Rattle.element_calls.specs.Answers.{IsOfServed, IsRefusedBefore, mark_computed};
-ghost use Rattle.element_calls.specs.Calls.{AsksElement, model_call};
-ghost use Rattle.element_calls.specs.declared.calls.NotComputed.TheVariants as uncomputed;
+ghost use Rattle.secure_element_calls.specs.Answers.{IsOfServed, IsRefusedBefore, mark_computed};
+ghost use Rattle.secure_element_calls.specs.Calls.{AsksElement, model_call};
+ghost use Rattle.secure_element_calls.specs.declared.calls.NotComputed.TheVariants as uncomputed;
 ghost use Rattle.store_core.specs.Opaque.{IsAnswered, Makes};
 ghost use Rattle.store_core.specs.Represents.{HoldsOf, Stands};
 ghost use Rattle.store_core.specs.Rising.{NoFewerFaults};
@@ -14,9 +14,9 @@ use crate::Store;
 use admission::Admission;
 use disk_face::Disk;
 use driver_dispatch::Devices;
-use element_calls::{ElementCall, NotComputed, compute};
 use key_attributes::KeyId;
-use key_uses::check_use;
+use key_policy::check_use;
+use secure_element_calls::{ElementCall, NotComputed, compute};
 
 impl<D: Disk, A: Devices, C: Admission> Store<D, A, C> {
     /// Whether a key is the secure element's. No rank, and no device is called.

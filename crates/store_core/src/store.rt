@@ -2,8 +2,8 @@
 use admission::Admission;
 use disk_face::Disk;
 use driver_dispatch::Devices;
-use key_file::KeyFile;
 use key_slots::KeySlots;
+use persistent_keys::KeyFile;
 use secret_bytes::Secret;
 use std::snapshot::Snapshot;
 

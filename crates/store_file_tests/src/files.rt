@@ -5,7 +5,7 @@ use crate::rooms::{images, new_disk, new_secret, one_byte_key, open};
 use disk_face::{Disk, Fails, MemoryDisk};
 use key_attributes::Attributes;
 use key_cells::CellFault;
-use key_file::{KeyFile, MakeFault, Unclosed};
+use persistent_keys::{KeyFile, MakeFault, Unclosed};
 use secret_bytes::Secret;
 use std::alloc::Global;
 use std::process::Abort;

@@ -4,7 +4,7 @@ use Rattle.std.specs.Prelude.{Result, Ok, Err, OnOk, IfOk, IfErr}
 use Rattle.psa_status.specs.declared.Status.{Status}
 use Rattle.key_attributes.specs.declared.Attributes.{Attributes}
 use Rattle.secret_bytes.specs.Buffer.{IsClear, Buffer}
-use Rattle.key_file.specs.declared.file.KeyFile.{KeyFile}
+use Rattle.persistent_keys.specs.declared.file.KeyFile.{KeyFile}
 use Rattle.slot_table.specs.Lent.{Reading}
 use Rattle.key_slots.specs.Holdings.{Pairs, Gains, AreHoldings}
 use Rattle.store_model.specs.Store as model

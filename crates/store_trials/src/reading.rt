@@ -4,9 +4,9 @@ use crate::turns::look;
 use admission::Admission;
 use disk_face::Disk;
 use driver_dispatch::Devices;
-use element_calls::{ElementCall, NotComputed};
 use key_attributes::{Attributes, KeyId};
 use psa_status::Status;
+use secure_element_calls::{ElementCall, NotComputed};
 
 impl<D: Disk, A: Devices, C: Admission> Keeper<D, A, C> {
     /// What is known of a key beside its bytes.

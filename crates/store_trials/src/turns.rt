@@ -7,7 +7,7 @@ use admission::Admission;
 use disk_face::Disk;
 use driver_dispatch::Devices;
 use key_attributes::{Attributes, KeyId};
-use key_uses::KeyUse;
+use key_policy::KeyUse;
 use psa_status::Status;
 use secret_bytes::Secret;
 use slot_table::Lease;

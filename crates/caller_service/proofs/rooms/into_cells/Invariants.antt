@@ -1,6 +1,6 @@
 use Rattle.std.proofs.Common.{◌≡◌, ◌≤◌, ◌+◌, All, length}
 use Rattle.std.specs.Prelude.{vec_capacity, vec_len}
-use Rattle.operation_cells.specs.States.{AreInactive}
+use Rattle.operation_handles.specs.States.{AreInactive}
 use Rattle.callers.specs.Handles.{AreIdle}
 use Rattle.caller_service.proofs.rooms.into_cells.Given as goal
 

@@ -1,6 +1,6 @@
 use Rattle.std.proofs.Common.{◌≡◌, ◌≤◌, All, length}
 use Rattle.std.specs.Prelude.{vec_capacity}
-use Rattle.operation_cells.specs.States.{AreInactive}
+use Rattle.operation_handles.specs.States.{AreInactive}
 use Rattle.caller_service.proofs.rooms.new_states.Given as goal
 
 abbrev pub invariant-loop : goal.invariant-loop

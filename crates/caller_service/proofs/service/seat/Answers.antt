@@ -1,7 +1,7 @@
 use Rattle.std.proofs.Common.{◌∙◌, ◌++◌, ◌∷◌, [], length, sym, ap, arith, length-append, append_assoc}
 use Rattle.std.specs.Option.{option_to_list}
 use Rattle.std.proofs.Common.{get_or}
-use Rattle.shared_store.specs.Shared.{world}
+use Rattle.locked_store.specs.Shared.{world}
 use Rattle.caller_service.specs.Rooms.{IsRoom}
 use Rattle.caller_service.proofs.Lists.{all_front, get_mid}
 use Rattle.caller_service.proofs.Ended.{new_each}

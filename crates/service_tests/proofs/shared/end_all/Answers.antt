@@ -2,7 +2,7 @@ use Rattle.std.proofs.Common.{◌∙◌, ◌+◌, ap, sym, subst, [], ◌∷◌,
 use Rattle.turn_history.specs.Passes.{IsIdle, weight_of}
 use Rattle.turn_history.proofs.Lists.{All_next, none_more}
 use Rattle.turn_history.proofs.Passes.{weight_snoc, new_weight}
-use Rattle.shared_store.specs.Shared.{lock_of, opened_of}
+use Rattle.locked_store.specs.Shared.{lock_of, opened_of}
 use Rattle.service_tests.proofs.Ending.{idle}
 use Rattle.service_tests.proofs.shared.end_all.Goals as goal
 

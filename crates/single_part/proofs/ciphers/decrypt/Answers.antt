@@ -3,7 +3,7 @@ use Rattle.std.proofs.lemmas.Result.{err_from_is_err_and}
 use Rattle.psa_status.proofs.Rows.{unless-err}
 use Rattle.psa_status.specs.Rows.{first_row}
 use Rattle.store_model.specs.Ciphers.{iv_length, deciphered, plain_or_zeros, decrypt_rows}
-use Rattle.algorithm_facts.specs.Modes.{model_mode}
+use Rattle.key_policy.specs.Modes.{model_mode}
 use Rattle.single_part.proofs.Ciphering.{refused_or_spoilt, decrypted_buffer}
 use Rattle.single_part.proofs.ciphers.decrypt.Goals as goal
 

@@ -8,7 +8,7 @@ use Rattle.store_model.specs.Call.{buffer_after}
 use Rattle.store_model.specs.Outcome.{Computed, computed_unless, given}
 use Rattle.store_model.specs.Ciphers.{iv_length, encrypt_rows, enciphered, encrypted}
 use Rattle.service_calls.specs.Answers.{AnswersLength}
-use Rattle.algorithm_facts.specs.Modes.{model_mode}
+use Rattle.key_policy.specs.Modes.{model_mode}
 use Rattle.single_part.proofs.Ciphering.{vector_fits, sealed_is, sealed_buffer, part_length}
 use Rattle.single_part.proofs.ciphers.encrypt.Goals as goal
 

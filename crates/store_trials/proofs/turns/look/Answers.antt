@@ -1,5 +1,5 @@
-use Rattle.key_uses.specs.Uses.{use_refusal}
-use Rattle.key_uses.specs.declared.key_use.KeyUse.TheVariants as wanted
+use Rattle.key_policy.specs.Uses.{use_refusal}
+use Rattle.key_policy.specs.declared.key_use.KeyUse.TheVariants as wanted
 use Rattle.store_core.specs.Uses.{IsLent}
 use Rattle.store_trials.proofs.Keepings.{lends, lends_not}
 use Rattle.store_trials.proofs.turns.look.Goals as goal

@@ -1,5 +1,5 @@
 use Rattle.std.proofs.Common.{ℕ, ◌+◌, ◌∷◌, ◌∙◌, ap, subst, sym}
-use Rattle.key_file.specs.declared.file.KeyFile.{KeyFile}
+use Rattle.persistent_keys.specs.declared.file.KeyFile.{KeyFile}
 use Rattle.secret_bytes.specs.Buffer.{Buffer, IsClear}
 use Rattle.store_trials.specs.Keeping.{first_has}
 use Rattle.store_trials.proofs.Outs.{first_gains}

@@ -1,7 +1,7 @@
 use Rattle.std.proofs.Common.{◌≡◌}
 use Rattle.store_model.specs.AeadOperations.{aead_step}
 use Rattle.service_calls.specs.Meanings.{model_aead_step}
-use Rattle.operation_phase.proofs.Stepping.{step_at}
+use Rattle.multipart.proofs.Stepping.{step_at}
 use Rattle.aead_states.proofs.family.AeadStateFamilyAeadStep.draws.Goals as goal
 
 pub returns-in-GenerateNonce-clause-drawn : goal.returns-in-GenerateNonce-clause-drawn

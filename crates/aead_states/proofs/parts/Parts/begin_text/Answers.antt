@@ -1,5 +1,5 @@
 use Rattle.std.proofs.Common.{◌≡◌, ◌∙◌, ℕ, true, false, [], sym, subst}
-use Rattle.ccm_states.specs.States.{HoldsCcmData}
+use Rattle.aead_streams.specs.CcmStates.{HoldsCcmData}
 use Rattle.store_model.specs.Aeads.{is_ccm}
 use Rattle.store_model.specs.Algorithms.{tag_bytes}
 use Rattle.aead_states.proofs.Parting.{ccm_data, gcm_data, ccm_by_text, gcm_by_text, no_plain, no_cipher}

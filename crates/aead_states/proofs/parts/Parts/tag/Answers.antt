@@ -2,7 +2,7 @@ use Rattle.std.proofs.Common.{◌≡◌, ◌∙◌, ℕ, true, false, length, sy
 use Rattle.crypto_specs.specs.Aes.{aes_encrypt}
 use Rattle.crypto_specs.specs.Ccm.{ccm_text}
 use Rattle.crypto_specs.specs.Gcm.{gcm_text}
-use Rattle.ccm_states.specs.States.{HoldsCcmText}
+use Rattle.aead_streams.specs.CcmStates.{HoldsCcmText}
 use Rattle.store_model.specs.Aeads.{aead_text, is_ccm}
 use Rattle.store_model.specs.Algorithms.{tag_bytes}
 use Rattle.aead_states.specs.Directions.{cipher_of, plain_of}

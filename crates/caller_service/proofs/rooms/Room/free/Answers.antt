@@ -1,7 +1,7 @@
 use Rattle.std.proofs.Common.{◌∙◌, ◌++◌, ◌∷◌, [], ◌≡◌, ap}
 use Rattle.std.specs.Option.{option_to_list}
 use Rattle.store_model.specs.Operations.{Inactive}
-use Rattle.operation_cells.specs.Cells.{IsOperation}
+use Rattle.operation_handles.specs.Cells.{IsOperation}
 use Rattle.std.specs.Prelude.{None}
 use Rattle.caller_service.proofs.Lists.{all_front}
 use Rattle.caller_service.proofs.rooms.Room.free.Goals as goal

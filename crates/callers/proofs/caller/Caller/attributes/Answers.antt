@@ -7,8 +7,8 @@ use Rattle.store_model.specs.Faults.{Plain}
 use Rattle.store_model.specs.Laws.{may_change_keys}
 use Rattle.store_model.specs.Replay.{replay}
 use Rattle.store_core.specs.Uses.{HasAttributes, IsRefused, mark_of, there_rows}
-use Rattle.shared_store.specs.Turning.{DecidesAfter, IsRanked}
-use Rattle.shared_store.specs.Shared.{world}
+use Rattle.locked_store.specs.Turning.{DecidesAfter, IsRanked}
+use Rattle.locked_store.specs.Shared.{world}
 use Rattle.callers.proofs.Failing.{refused_tells, there_plainly}
 use Rattle.callers.proofs.KeyReplies.{known_gives, unknown_gives}
 use Rattle.callers.proofs.Storing.{decided_after, if_err, if_ok, stored_answered, stored_ready}

@@ -7,7 +7,7 @@ use Rattle.service_calls.specs.Answered.{AnswersReply}
 use Rattle.store_model.specs.Call.{buffer_after}
 use Rattle.store_model.specs.Faults.{Plain}
 use Rattle.store_model.specs.Operations.{Inactive}
-use Rattle.shared_store.specs.Shared.{world}
+use Rattle.locked_store.specs.Shared.{world}
 use Rattle.callers.proofs.Beginning.{at_handle, bare_answered, bare_ready}
 use Rattle.callers.proofs.caller.Caller.begin.Goals as goal
 

@@ -3,13 +3,13 @@ use Rattle.std.specs.Prelude.{All, IfSome, is_some}
 use Rattle.std.proofs.lemmas.Bool.{false≢true}
 use Rattle.std.proofs.lemmas.List.Elements.{All-pop, All-push}
 use Rattle.secret_bytes.specs.Buffer.{Buffer, IsClear}
-use Rattle.key_uses.specs.Uses.{use_refusal}
+use Rattle.key_policy.specs.Uses.{use_refusal}
 use Rattle.service_calls.specs.Meanings.{model_request}
 use Rattle.store_model.specs.Faults.{Plain}
 use Rattle.store_model.specs.Operations.{Inactive}
 use Rattle.store_core.specs.Uses.{IsLent, IsRefused, mark_of}
-use Rattle.shared_store.specs.Turning.{DecidesAfter, IsRanked, lease_pair}
-use Rattle.shared_store.specs.Shared.{world}
+use Rattle.locked_store.specs.Turning.{DecidesAfter, IsRanked, lease_pair}
+use Rattle.locked_store.specs.Shared.{world}
 use Rattle.callers.proofs.Beginning.{at_handle, lent_answered, lent_ready, reads_key, refuses, stayed_answered, stayed_ready}
 use Rattle.callers.proofs.Failing.{refused_tells, use_plainly}
 use Rattle.callers.proofs.Looking.{has_room_for_lease, has_spare, popped}

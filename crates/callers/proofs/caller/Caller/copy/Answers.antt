@@ -13,9 +13,9 @@ use Rattle.store_model.specs.Faults.{Plain}
 use Rattle.store_model.specs.Replay.{replay}
 use Rattle.store_model.specs.Requests.{OnStore}
 use Rattle.store_core.specs.Creations.{IsMade, IsUncopied, RecordsCopy, mark_uncopied}
-use Rattle.shared_store.specs.Turning.{DecidesBefore, IsRanked, filling_pair, without_pair}
+use Rattle.locked_store.specs.Turning.{DecidesBefore, IsRanked, filling_pair, without_pair}
 use Rattle.callers.specs.Failures.{failure_told}
-use Rattle.shared_store.specs.Shared.{world}
+use Rattle.locked_store.specs.Shared.{world}
 use Rattle.callers.proofs.Creating.{created_answered, created_in, created_ready, has_no_filling}
 use Rattle.callers.proofs.Failing.{uncopied_tells}
 use Rattle.callers.proofs.Made.{made_gives, undrawn, uncopied_gives}

@@ -11,12 +11,12 @@ use Rattle.store_model.specs.Faults.{Plain}
 use Rattle.store_model.specs.Replay.{replay}
 use Rattle.store_model.specs.Requests.{OnStore, plain_step}
 use Rattle.store_core.specs.Creations.{IsMade, IsUnmade, RecordsStated, mark_unmade}
-use Rattle.shared_store.specs.Turning.{DecidesBefore}
-use Rattle.keyed_calls.proofs.Draws.{draws_none}
+use Rattle.locked_store.specs.Turning.{DecidesBefore}
+use Rattle.single_part.proofs.Draws.{draws_none}
 use Rattle.store_model.proofs.DrawnBytes.{length-random}
 use Rattle.callers.specs.Parts.{IsCreated}
 use Rattle.callers.specs.Failures.{failure_told}
-use Rattle.shared_store.specs.Shared.{world}
+use Rattle.locked_store.specs.Shared.{world}
 use Rattle.callers.proofs.Creating.{created_answered, drew_ready, has_no_filling}
 use Rattle.callers.proofs.Generating.{made_own, random_creates, unmade_own}
 use Rattle.callers.proofs.Failing.{stated_plainly, unmade_tells}

@@ -11,10 +11,10 @@ use Rattle.store_model.specs.Handles.{HandleOperation, Deriving, derivation_part
 use Rattle.store_model.specs.Operations.{Active, Inactive, InError}
 use Rattle.store_core.specs.Creations.{IsMade, IsUnmade, RecordsStated, mark_unmade}
 use Rattle.store_core.specs.declared.creating.NotMade.{NotMade}
-use Rattle.operation_cells.specs.Cells.{IsOperation}
-use Rattle.shared_store.specs.Turning.{DecidesBefore, IsRanked, filling_pair, without_pair}
+use Rattle.operation_handles.specs.Cells.{IsOperation}
+use Rattle.locked_store.specs.Turning.{DecidesBefore, IsRanked, filling_pair, without_pair}
 use Rattle.callers.specs.Handles.{operation_at, with_operation_at}
-use Rattle.shared_store.specs.Shared.{world}
+use Rattle.locked_store.specs.Shared.{world}
 use Rattle.callers.proofs.Beginning.{at_handle}
 use Rattle.callers.proofs.CellLists.{cell_at, tally-cons}
 use Rattle.callers.proofs.Creating.{created_in, creates_on, has_no_filling}

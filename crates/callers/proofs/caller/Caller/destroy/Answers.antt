@@ -9,9 +9,9 @@ use Rattle.store_model.specs.Faults.{Plain}
 use Rattle.store_model.specs.KeyUse.{destroy_rows}
 use Rattle.store_core.specs.Uses.{IsUndestroyed, mark_undestroyed}
 use Rattle.store_model.specs.Replay.{replay}
-use Rattle.shared_store.specs.Turning.{DecidesBefore, IsRanked}
+use Rattle.locked_store.specs.Turning.{DecidesBefore, IsRanked}
 use Rattle.callers.specs.Failures.{failure_told}
-use Rattle.shared_store.specs.Shared.{world}
+use Rattle.locked_store.specs.Shared.{world}
 use Rattle.callers.proofs.Failing.{undestroyed_tells}
 use Rattle.callers.proofs.KeyReplies.{destroyed_gives, destroy_draws, undestroyed_gives}
 use Rattle.callers.proofs.Storing.{decided_known, if_err, on_ok, stored_answered, stored_ready}

@@ -3,7 +3,7 @@ use Rattle.psa_status.specs.declared.Status.{Status}
 use Rattle.service_calls.specs.Meanings.{model_request}
 use Rattle.store_model.specs.Call.{Generate}
 use Rattle.store_model.specs.Faults.{Plain}
-use Rattle.shared_store.specs.Shared.{world}
+use Rattle.locked_store.specs.Shared.{world}
 use Rattle.callers.proofs.Generating.{no_bytes_drawn}
 use Rattle.callers.proofs.Storing.{stored_ready}
 use Rattle.callers.proofs.caller.Caller.generate.Goals as goal

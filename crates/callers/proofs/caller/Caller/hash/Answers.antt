@@ -8,8 +8,8 @@ use Rattle.store_model.specs.Handles.{Service, next_random}
 use Rattle.store_model.specs.Replay.{replay}
 use Rattle.store_model.specs.Requests.{OnStore, plain_step}
 use Rattle.store_model.proofs.Unmarked.{answers_plainly}
-use Rattle.shared_store.specs.Shared.{world}
-use Rattle.keyed_calls.proofs.Models.{hashes}
+use Rattle.locked_store.specs.Shared.{world}
+use Rattle.single_part.proofs.Models.{hashes}
 use Rattle.callers.proofs.Failing.{answers_plain}
 use Rattle.callers.proofs.Storing.{stored_answered, stored_ready}
 use Rattle.callers.proofs.caller.Caller.hash.Goals as goal

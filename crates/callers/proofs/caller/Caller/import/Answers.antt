@@ -10,10 +10,10 @@ use Rattle.store_model.specs.Faults.{Plain}
 use Rattle.store_model.specs.Replay.{replay}
 use Rattle.store_model.specs.Requests.{OnStore}
 use Rattle.store_core.specs.Creations.{IsMade, IsUnmade, RecordsStated, mark_unmade}
-use Rattle.shared_store.specs.Turning.{DecidesBefore}
+use Rattle.locked_store.specs.Turning.{DecidesBefore}
 use Rattle.callers.specs.Parts.{IsCreated}
 use Rattle.callers.specs.Failures.{failure_told}
-use Rattle.shared_store.specs.Shared.{world}
+use Rattle.locked_store.specs.Shared.{world}
 use Rattle.callers.proofs.Creating.{created_answered, created_ready, has_no_filling}
 use Rattle.callers.proofs.Failing.{stated_plainly, unmade_tells}
 use Rattle.callers.proofs.Made.{made_gives, undrawn, unmade_gives}

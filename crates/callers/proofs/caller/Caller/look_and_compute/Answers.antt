@@ -3,13 +3,13 @@ use Rattle.std.specs.Prelude.{All, is_some}
 use Rattle.std.proofs.lemmas.Bool.{false≢true}
 use Rattle.std.proofs.lemmas.List.Elements.{All-push}
 use Rattle.secret_bytes.specs.Buffer.{Buffer, IsClear}
-use Rattle.key_uses.specs.Uses.{use_refusal}
+use Rattle.key_policy.specs.Uses.{use_refusal}
 use Rattle.service_calls.specs.Meanings.{model_request}
 use Rattle.store_model.specs.Faults.{Plain}
 use Rattle.store_model.specs.Laws.{may_change_keys}
 use Rattle.store_core.specs.Uses.{IsLent, IsRefused, mark_of}
-use Rattle.shared_store.specs.Turning.{DecidesAfter, IsRanked, lease_pair}
-use Rattle.shared_store.specs.Shared.{world}
+use Rattle.locked_store.specs.Turning.{DecidesAfter, IsRanked, lease_pair}
+use Rattle.locked_store.specs.Shared.{world}
 use Rattle.callers.proofs.Computing.{lent_answered, lent_ready, refused_answered, refused_ready}
 use Rattle.callers.proofs.Looking.{has_spare, popped}
 use Rattle.callers.proofs.Storing.{if_err, if_ok}

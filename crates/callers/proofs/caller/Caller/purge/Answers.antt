@@ -9,9 +9,9 @@ use Rattle.store_model.specs.Faults.{Plain}
 use Rattle.store_model.specs.Laws.{may_change_keys}
 use Rattle.store_model.specs.Replay.{replay}
 use Rattle.store_core.specs.Uses.{there_rows}
-use Rattle.shared_store.specs.Turning.{DecidesAfter, IsRanked}
+use Rattle.locked_store.specs.Turning.{DecidesAfter, IsRanked}
 use Rattle.callers.specs.Failures.{failure_told}
-use Rattle.shared_store.specs.Shared.{world}
+use Rattle.locked_store.specs.Shared.{world}
 use Rattle.callers.proofs.KeyReplies.{purged_gives, unpurged_gives}
 use Rattle.callers.proofs.Storing.{decided_after, if_err, on_ok, stored_answered, stored_ready}
 use Rattle.callers.proofs.caller.Caller.purge.Goals as goal

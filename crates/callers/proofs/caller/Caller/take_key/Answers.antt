@@ -3,13 +3,13 @@ use Rattle.std.specs.Prelude.{All, is_some}
 use Rattle.std.proofs.lemmas.Bool.{false≢true}
 use Rattle.std.proofs.lemmas.List.Elements.{All-push}
 use Rattle.secret_bytes.specs.Buffer.{Buffer, IsClear}
-use Rattle.key_uses.specs.Uses.{use_refusal}
+use Rattle.key_policy.specs.Uses.{use_refusal}
 use Rattle.service_calls.specs.Meanings.{model_request}
 use Rattle.store_model.specs.Faults.{Plain}
 use Rattle.store_core.specs.Uses.{IsLent, IsRefused, mark_of}
-use Rattle.operation_cells.specs.KeyInputs.{TakesKeyAt}
-use Rattle.shared_store.specs.Turning.{DecidesAfter, IsRanked, lease_pair}
-use Rattle.shared_store.specs.Shared.{world}
+use Rattle.operation_handles.specs.KeyInputs.{TakesKeyAt}
+use Rattle.locked_store.specs.Turning.{DecidesAfter, IsRanked, lease_pair}
+use Rattle.locked_store.specs.Shared.{world}
 use Rattle.callers.proofs.Beginning.{at_handle}
 use Rattle.callers.proofs.Inputting.{failed_answered, failed_ready, given_answered, given_ready, reads_secret}
 use Rattle.callers.proofs.Looking.{has_room_for_lease, has_spare, popped}

@@ -1,6 +1,6 @@
 use Rattle.std.proofs.Common.{◌-◌, ◌<◌, get_or, set, refl, sym, ap, ◌∙◌, subst, arith}
 use Rattle.secret_bytes.specs.Buffer.{bytes_of}
-use Rattle.operation_cells.specs.Setups.{begun_with}
+use Rattle.operation_handles.specs.Setups.{begun_with}
 use Rattle.callers.specs.Handles.{HoldsLease, operation_at}
 use Rattle.callers.proofs.Changing.{kept}
 use Rattle.callers.proofs.handles.Handles.begin_with.Goals as goal

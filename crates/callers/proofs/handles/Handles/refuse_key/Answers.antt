@@ -1,5 +1,5 @@
 use Rattle.std.proofs.Common.{◌-◌, ◌<◌, get_or, set, sym, ap, ◌∙◌, subst, arith}
-use Rattle.operation_cells.specs.KeyInputs.{key_refused}
+use Rattle.operation_handles.specs.KeyInputs.{key_refused}
 use Rattle.callers.specs.Handles.{IsChanged, operation_at}
 use Rattle.callers.proofs.Changing.{stepped}
 use Rattle.callers.proofs.handles.Handles.refuse_key.Goals as goal

@@ -1,7 +1,7 @@
 use Rattle.std.proofs.Common.{◌-◌, ◌<◌, length, get_or, set, sym, ap, ◌∙◌, subst, arith}
 use Rattle.random_streams.specs.RandomWords.{next_bytes}
 use Rattle.service_calls.specs.Meanings.{model_step}
-use Rattle.operation_cells.specs.Steps.{stepped_by}
+use Rattle.operation_handles.specs.Steps.{stepped_by}
 use Rattle.callers.specs.Handles.{IsChanged, operation_at}
 use Rattle.callers.proofs.Changing.{stepped}
 use Rattle.callers.proofs.handles.Handles.step.Goals as goal

@@ -1,7 +1,7 @@
 use Rattle.std.proofs.Common.{◌≡◌}
 use Rattle.store_model.specs.CipherOperations.{cipher_step}
 use Rattle.service_calls.specs.Meanings.{model_cipher_step}
-use Rattle.operation_phase.proofs.Stepping.{step_at}
+use Rattle.multipart.proofs.Stepping.{step_at}
 use Rattle.cipher_states.proofs.family.CipherStateFamilyCipherStep.draws.Goals as goal
 
 pub returns-in-GenerateIv-clause-drawn : goal.returns-in-GenerateIv-clause-drawn

@@ -1,8 +1,8 @@
 use Rattle.std.proofs.Common.{◌≡◌, ℕ, subst, true, Bool, []}
 use Rattle.crypto_specs.specs.Modes.{block_number}
-use Rattle.key_streams.specs.declared.width.CounterWidth.TheVariants.{Whole}
-use Rattle.key_streams.specs.Streams.{IsAt}
-use Rattle.algorithm_facts.specs.Modes.{model_mode}
+use Rattle.aead_streams.specs.declared.counter_width.CounterWidth.TheVariants.{Whole}
+use Rattle.aead_streams.specs.Streams.{IsAt}
+use Rattle.key_policy.specs.Modes.{model_mode}
 use Rattle.cipher_states.specs.declared.ways.Way.{Way}
 use Rattle.cipher_states.specs.Ways.{chains, way_of}
 use Rattle.cipher_states.specs.Texts.{RunsBlocks}

@@ -5,7 +5,7 @@ use Rattle.store_model.specs.Call.{buffer_after}
 use Rattle.service_calls.specs.Answers.{AnswersOrSpoils, GivesBytes}
 use Rattle.store_model.specs.Operations.{After, InError, Inactive}
 use Rattle.store_model.specs.CipherOperations.{CipherWork, last_length}
-use Rattle.algorithm_facts.specs.Modes.{model_mode}
+use Rattle.key_policy.specs.Modes.{model_mode}
 use Rattle.cipher_states.proofs.LastParts.{unpadded_end}
 use Rattle.cipher_states.proofs.Finishing.{not_none, room_is, block_buffer, ends_bare, part_kept, ends_padded, block_kept, ends_unpadded}
 use Rattle.cipher_states.proofs.running.RunningCipher.last_part.Goals as goal

@@ -1,7 +1,7 @@
 use Rattle.std.proofs.Common.{refl, ◌∙◌, ap}
 use Rattle.store_model.specs.CipherOperations.{cipher_work}
 use Rattle.store_model.specs.Ciphers.{mode_of}
-use Rattle.algorithm_facts.specs.Modes.{model_mode}
+use Rattle.key_policy.specs.Modes.{model_mode}
 use Rattle.cipher_states.proofs.Beginnings.{begun_work, no_stream, no_chain}
 use Rattle.cipher_states.proofs.running.RunningCipher.start.Goals as goal
 

@@ -4,7 +4,7 @@ use Rattle.std.proofs.lemmas.List.{length-take, take_more}
 use Rattle.store_model.specs.DerivationOperations.{next_derived, without}
 use Rattle.derivation_states.specs.Outputs.{HoldsOutput}
 use Rattle.derivation_states.proofs.Derived.{length-next_derived}
-use Rattle.operation_phase.proofs.ByteLists.{bytes_eq_push}
+use Rattle.multipart.proofs.ByteLists.{bytes_eq_push}
 use Rattle.derivation_states.proofs.Running.{has_blocks, inputs_without, none_taken, one_more, without_none, without_twice}
 use Rattle.derivation_states.proofs.output.Output.gives.Goals as goal
 

@@ -1,5 +1,5 @@
 use Rattle.std.proofs.Common.{◌∙◌, sym, ap}
-use Rattle.algorithm_facts.specs.Names.{is_hkdf}
+use Rattle.key_policy.specs.Names.{is_hkdf}
 use Rattle.derivation_states.proofs.Nexts.{hkdf_next, pbkdf2_next}
 use Rattle.derivation_states.proofs.output.Output.write_next.Goals as goal
 

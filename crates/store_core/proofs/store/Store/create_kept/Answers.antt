@@ -1,9 +1,9 @@
 use Rattle.std.proofs.Common.{◌+◌, ◌∙◌, ℕ, List, Some, sym, ap, subst}
 use Rattle.std.specs.Prelude.{Err}
 use Rattle.key_cells.specs.Body.{IsKeyOf}
-use Rattle.key_file.specs.Files.{stored, IsPut, Leads, doubt_unmade}
-use Rattle.key_file.specs.declared.file.MakeFault.{MakeFault}
-use Rattle.key_file.specs.declared.file.MakeFault.TheVariants.{Disk}
+use Rattle.persistent_keys.specs.Files.{stored, IsPut, Leads, doubt_unmade}
+use Rattle.persistent_keys.specs.declared.file.MakeFault.{MakeFault}
+use Rattle.persistent_keys.specs.declared.file.MakeFault.TheVariants.{Disk}
 use Rattle.slot_table.specs.Changes.{full_slot}
 use Rattle.key_slots.specs.Standing.{SlotHasKey}
 use Rattle.store_model.specs.Creation.{created, new_id, new_key}

@@ -2,7 +2,7 @@ use Rattle.std.proofs.Common.{◌≡◌, true, refl, ℕ, List, [], ◌∷◌, �
 use Rattle.std.specs.FinMap as map
 use Rattle.key_cells.specs.Body.{IsKeyOf}
 use Rattle.key_cells.specs.Contents.{cell_slot, creation_of_slot}
-use Rattle.key_file.specs.Files.{stored}
+use Rattle.persistent_keys.specs.Files.{stored}
 use Rattle.slot_table.specs.Slots.{slot_at}
 use Rattle.key_slots.specs.Holdings.{Pairs}
 use Rattle.key_slots.proofs.Pairs.{was_out}

@@ -6,8 +6,8 @@ use Rattle.key_attributes.specs.Checks.{permits_size}
 use Rattle.secret_bytes.specs.Buffer.{bytes_of}
 use Rattle.slot_table.specs.Lent as lent
 use Rattle.key_slots.specs.Holdings.{Gains}
-use Rattle.key_uses.specs.Uses.{FitsUse, use_refusal}
-use Rattle.key_uses.proofs.Refusals.{missing}
+use Rattle.key_policy.specs.Uses.{FitsUse, use_refusal}
+use Rattle.key_policy.proofs.Refusals.{missing}
 use Rattle.store_core.specs.Uses.{IsLent}
 use Rattle.store_core.proofs.Lending.{has_bytes, sized}
 use Rattle.store_core.proofs.Refusing.{asks_for, ends_found, ends_refused, ends_unread, few_readers, use_plain}

@@ -8,10 +8,10 @@ use Rattle.store_model.specs.Marks.{FaultCounts, last_counts}
 use Rattle.store_model.specs.Outcome.{counted}
 use Rattle.store_model.specs.Rules.{fits_type}
 use Rattle.store_model.specs.Store.{is_opaque_key}
-use Rattle.element_calls.specs.Answers.{mark_computed}
-use Rattle.element_calls.specs.Calls.{algorithm_asked, model_call}
-use Rattle.element_calls.specs.declared.calls.NotComputed.TheVariants.{Refused}
-use Rattle.element_calls.specs.Replies.{key_rows}
+use Rattle.secure_element_calls.specs.Answers.{mark_computed}
+use Rattle.secure_element_calls.specs.Calls.{algorithm_asked, model_call}
+use Rattle.secure_element_calls.specs.declared.calls.NotComputed.TheVariants.{Refused}
+use Rattle.secure_element_calls.specs.Replies.{key_rows}
 use Rattle.store_core.specs.Opaque.{IsAnswered}
 use Rattle.store_core.proofs.ByElement.{answered, checked_rows, ends_computed, fault_of, has_slot, held_of, holds_type, keeps_keys, mark_may, type_fits, unused}
 use Rattle.store_core.proofs.Destroyed.{element_there}

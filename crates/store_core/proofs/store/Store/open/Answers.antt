@@ -1,7 +1,7 @@
 use Rattle.std.proofs.Common.{◌∙◌, refl, sym, ap, subst, true, count_by}
 use Rattle.key_cells.specs.Contents.{is_open}
 use Rattle.key_cells.specs.Opened.{IsOpened}
-use Rattle.key_file.specs.declared.file.KeyFile.{KeyFile}
+use Rattle.persistent_keys.specs.declared.file.KeyFile.{KeyFile}
 use Rattle.key_slots.specs.declared.slots.KeySlots.{KeySlots}
 use Rattle.driver_dispatch.specs.Calls.{Lacks}
 use Rattle.store_core.proofs.Started.{IsNew, starts, exactly, stands}

@@ -1,8 +1,8 @@
 use Rattle.std.proofs.Common.{[], ◌∙◌, ap, length, subst, sym}
-use Rattle.key_file.specs.declared.file.KeyFile.{KeyFile}
+use Rattle.persistent_keys.specs.declared.file.KeyFile.{KeyFile}
 use Rattle.secret_bytes.specs.Buffer.{Buffer, IsClear}
-use Rattle.element_calls.specs.Answers.{mark_computed}
-use Rattle.element_calls.specs.Calls.{model_call}
+use Rattle.secure_element_calls.specs.Answers.{mark_computed}
+use Rattle.secure_element_calls.specs.Calls.{model_call}
 use Rattle.store_core.specs.Opaque.{IsAnswered}
 use Rattle.store_trials.specs.Keeping.{first_has}
 use Rattle.store_trials.proofs.Keepings.{computed}

@@ -1,0 +1,102 @@
+-- The stream of CCM is a key stream, as far as its counters go.
+use Rattle.std.proofs.Common.{◌≡◌, ℕ, zero, suc, ◌+◌, ◌-◌, ◌*◌, ◌/◌, ◌%◌, ◌^◌, ◌<◌, ◌≤◌, List, ◌∷◌, ◌++◌, length, take, drop, refl, sym, ap, ap₂, subst, ◌∙◌, arith}
+use Rattle.std.specs.Int.{bytes_high_first}
+use Rattle.std.proofs.lemmas.List.{take_at, drop_at, length-append}
+use Rattle.std.proofs.lemmas.Nat.{div-mul-add, mod-mul-add, div-add-mod'}
+use Rattle.std.proofs.Math.Nat.{pow-le-pow_right, mod-eq_of_lt}
+use Rattle.crypto_specs.specs.Modes.{block_count, block_number, number_block}
+use Rattle.crypto_specs.specs.Ccm.{in_bytes, ccm_counter_block, ccm_stream, ccm_text}
+use Rattle.crypto_specs.specs.Laws.{KeepsLength}
+use Rattle.cipher_blocks.proofs.BlockNumbers.{AreBytes, bytes-append, block_of_number, byte_at_is, length-bytes_high_first, power_of_256}
+use Rattle.aead_streams.specs.declared.counter_width.CounterWidth.TheVariants.{Whole}
+use Rattle.aead_streams.specs.Counters.{stream_block, text_xor}
+use Rattle.aead_streams.proofs.StreamLaws.{further_piece}
+use Rattle.aead_streams.proofs.HighFirst.{high_and_low, same_bytes, same_remainder}
+use Rattle.aead_streams.proofs.ModeStreams.{text_is}
+
+-- a number in q bytes, which are at most 8
+in_bytes_is : (q x : ℕ) → q ≤ 8 → in_bytes q x ≡ bytes_high_first q x
+in_bytes_is q x h =
+    let parts : 8 ≡ (8 - q) + q = omega arith in
+    ap (λ (n : ℕ). drop (8 - q) (bytes_high_first n x)) parts ∙ ap (drop (8 - q)) (high_and_low (8 - q) q x)
+    ∙ drop_at (bytes_high_first (8 - q) (x / 256 ^ q)) (bytes_high_first q x) (8 - q) (length-bytes_high_first (8 - q) (x / 256 ^ q))
+
+number_is : (h q x : ℕ) → h + q ≡ 16 → number_block x ≡ bytes_high_first h (x / 256 ^ q) ++ bytes_high_first q x
+unfolding number_block
+number_is h q x e = ap (λ (n : ℕ). bytes_high_first n x) (sym e) ∙ high_and_low h q x
+
+-- a block that ends in the number 1, counted up
+counted_up : (front : List ℕ) (q start n : ℕ) → length front + q ≡ 16 → n + 1 < 256 ^ q → number_block start ≡ front ++ bytes_high_first q 1
+    → number_block (start + n) ≡ front ++ bytes_high_first q (n + 1)
+counted_up front q start n sum below e =
+    let h : ℕ = length front in
+    let p : ℕ = 256 ^ q in
+    let high : List ℕ = bytes_high_first h (start / p) in
+    let long : length high ≡ h = length-bytes_high_first h (start / p) in
+    let parts : high ++ bytes_high_first q start ≡ front ++ bytes_high_first q 1 = sym (number_is h q start sum) ∙ e in
+    let first : high ≡ front = sym (take_at high (bytes_high_first q start) h long) ∙ ap (take h) parts ∙ take_at front (bytes_high_first q 1) h refl in
+    let last : bytes_high_first q start ≡ bytes_high_first q 1 = sym (drop_at high (bytes_high_first q start) h long) ∙ ap (drop h) parts ∙ drop_at front (bytes_high_first q 1) h refl in
+    let one : 1 % p ≡ 1 = mod-eq_of_lt (omega arith) in
+    let remainder : start % p ≡ 1 = same_remainder q start 1 last ∙ one in
+    let split : start + n ≡ start / p * p + (n + 1) = omega (arith, div-add-mod' start p) in
+    let quotient : (start + n) / p ≡ start / p = ap (λ (x : ℕ). x / p) split ∙ div-mul-add (start / p) p (n + 1) below in
+    let rest : (start + n) % p ≡ (n + 1) % p = ap (λ (x : ℕ). x % p) split ∙ mod-mul-add (start / p) p (n + 1) below ∙ sym (mod-eq_of_lt below) in
+    number_is h q (start + n) sum ∙ ap₂ (λ (a b : List ℕ). a ++ b) (ap (bytes_high_first h) quotient ∙ first) (same_bytes q (start + n) (n + 1) rest)
+
+wrapped : (x : ℕ) → number_block (x % 2 ^ 128) ≡ number_block x
+unfolding number_block
+wrapped x = same_bytes 16 (x % 2 ^ 128) x (omega arith)
+
+next_counter : (nonce : List ℕ) (start n : ℕ) → 7 ≤ length nonce → length nonce ≤ 13 → number_block start ≡ ccm_counter_block nonce 1 → n + 1 < 256 ^ (15 - length nonce)
+    → number_block ((start + n) % 2 ^ 128) ≡ ccm_counter_block nonce (n + 1)
+unfolding ccm_counter_block
+next_counter nonce start n low high e below =
+    let q : ℕ = 15 - length nonce in
+    let front : List ℕ = (q - 1) ∷ nonce in
+    wrapped (start + n)
+    ∙ counted_up front q start n (omega arith) below (e ∙ ap (λ (l : List ℕ). front ++ l) (in_bytes_is q 1 (omega arith)))
+    ∙ ap (λ (l : List ℕ). front ++ l) (sym (in_bytes_is q (n + 1) (omega arith)))
+
+-- there are fewer blocks than counters
+blocks_fit : (n q : ℕ) → 2 ≤ q → n < 2 ^ (8 * q) → block_count n < 256 ^ q
+blocks_fit n q h lt =
+    let same : 256 ^ q ≡ 2 ^ (8 * q) = power_of_256 q in
+    let some : 2 ^ 16 ≤ 2 ^ (8 * q) = pow-le-pow_right {n = 2} (omega arith) {i = 16} {j = 8 * q} (omega arith) in
+    omega arith
+
+bytes-cons : (x : ℕ) (xs : List ℕ) → x < 256 → AreBytes xs → AreBytes (x ∷ xs)
+bytes-cons x xs h all zero = h
+bytes-cons x xs h all (suc i) = all i
+
+bytes-high_first : (k n : ℕ) → AreBytes (bytes_high_first k n)
+bytes-high_first zero n i = omega arith
+bytes-high_first (suc k) n zero = omega (arith, byte_at_is k n)
+bytes-high_first (suc k) n (suc i) = bytes-high_first k n i
+
+module _ (e : List ℕ → List ℕ) (keeps : KeepsLength e) (nonce : List ℕ) (low : 7 ≤ length nonce) (high : length nonce ≤ 13) where
+  -- from the number of the first counter block
+  pub ccm_is_from : (start : ℕ) (text : List ℕ) → number_block start ≡ ccm_counter_block nonce 1 → length text < 2 ^ (8 * (15 - length nonce)) → ccm_text e nonce text ≡ text_xor e Whole start 0 text
+  unfolding ccm_text ccm_stream stream_block
+  ccm_is_from start text first fits =
+      let count : ℕ = block_count (length text) in
+      let below : count < 256 ^ (15 - length nonce) = blocks_fit (length text) (15 - length nonce) (omega arith) fits in
+      text_is e keeps Whole start count (ccm_stream e nonce) refl
+      (λ n h. ap (λ (b : List ℕ). ccm_stream e nonce n ++ e b) (sym (next_counter nonce start n low high first (omega arith)))) text (omega arith)
+
+  pub ccm_further_from : (start : ℕ) (before piece : List ℕ) → number_block start ≡ ccm_counter_block nonce 1 → length (before ++ piece) < 2 ^ (8 * (15 - length nonce))
+      → drop (length before) (ccm_text e nonce (before ++ piece)) ≡ text_xor e Whole start (length before) piece
+  ccm_further_from start before piece first fits =
+      ap (drop (length before)) (ccm_is_from start (before ++ piece) first fits) ∙ further_piece e Whole start before piece 0 ∙ ap (λ (n : ℕ). text_xor e Whole start n piece) (omega arith)
+
+  first_block_is : AreBytes nonce → number_block (block_number (ccm_counter_block nonce 1)) ≡ ccm_counter_block nonce 1
+  unfolding ccm_counter_block
+  first_block_is bytes =
+      let q : ℕ = 15 - length nonce in
+      let last : List ℕ = in_bytes q 1 in
+      let same : last ≡ bytes_high_first q 1 = in_bytes_is q 1 (omega arith) in
+      let long : length last ≡ q = ap length same ∙ length-bytes_high_first q 1 in
+      block_of_number ((q - 1) ∷ nonce ++ last) (omega (arith, length-append nonce last)) (λ i.
+      bytes-cons (q - 1) (nonce ++ last) (omega arith) (bytes-append nonce last bytes (subst (λ (l : List ℕ). AreBytes l) (sym same) (bytes-high_first q 1))) i)
+
+  pub ccm_is : AreBytes nonce → (text : List ℕ) → length text < 2 ^ (8 * (15 - length nonce)) → ccm_text e nonce text ≡ text_xor e Whole (block_number (ccm_counter_block nonce 1)) 0 text
+  ccm_is bytes text = ccm_is_from (block_number (ccm_counter_block nonce 1)) text (first_block_is bytes)

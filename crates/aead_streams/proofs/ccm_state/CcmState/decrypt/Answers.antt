@@ -1,0 +1,48 @@
+use Rattle.std.proofs.Common.{List, ℕ, ◌≡◌, ◌+◌, ◌++◌, ◌∙◌, length, ap, sym, subst, arith}
+use Rattle.std.proofs.lemmas.List.{append_assoc, length-append}
+use Rattle.crypto_specs.specs.Aes.{aes_encrypt}
+use Rattle.crypto_specs.specs.Ccm.{ccm_text, encoded_data, filled_blocks}
+use Rattle.aead_ccm.specs.Chaining.{chained_from}
+use Rattle.aead_streams.specs.declared.counter_width.CounterWidth.TheVariants.{Whole}
+use Rattle.aead_streams.specs.Counters.{text_xor}
+use Rattle.aead_streams.specs.Streams.{IsAt}
+use Rattle.aead_streams.specs.CcmStates.{chain_start}
+use Rattle.aead_streams.proofs.CcmPayloads.{piece_counted, length-ccm_text}
+use Rattle.aead_streams.proofs.ccm_state.CcmState.decrypt.Goals as goal
+
+pub returns-clause-text : goal.returns-clause-text
+returns-clause-text c = λ t nonce p ad cipher fits h.
+    let e = aes_encrypt c.args.key.now in
+    let piece = c.args.piece.now in
+    let start = h.counts.start in
+    let n : length (ccm_text e nonce cipher) ≡ length cipher = length-ccm_text c.args.key.now nonce cipher start p h.counts.nonce_length h.counts.payload_length h.counts.next (omega arith) in
+    piece_counted c.args.key.now nonce cipher piece c.xor.new.piece h.counts.start p h.counts.nonce_length h.counts.payload_length h.counts.next fits
+    (c.xor.ensures.text Whole start (length (ccm_text e nonce cipher)) h.counts.stream ∙ ap (λ (k : ℕ). text_xor e Whole start k piece) n)
+
+pub returns-clause-holds : goal.returns-clause-holds
+returns-clause-holds c = λ t nonce p ad cipher fits h.
+    let e = aes_encrypt c.args.key.now in
+    let key = c.args.key.now in
+    let piece = c.args.piece.now in
+    let out = c.xor.new.piece in
+    let start = h.counts.start in
+    let plain : List ℕ = ccm_text e nonce cipher in
+    let y : List ℕ = chained_from e (chain_start key t nonce (length ad) p) (filled_blocks (encoded_data ad)) in
+    let more : ccm_text e nonce (cipher ++ piece) ≡ plain ++ out = returns-clause-text c t nonce p ad cipher fits h in
+    let n : length plain ≡ length cipher = length-ccm_text key nonce cipher start p h.counts.nonce_length h.counts.payload_length h.counts.next (omega arith) in
+    let m : length (ccm_text e nonce (cipher ++ piece)) ≡ length (cipher ++ piece) =
+    length-ccm_text key nonce (cipher ++ piece) start p h.counts.nonce_length h.counts.payload_length h.counts.next (omega (arith, length-append cipher piece)) in
+    let place : length plain + length piece ≡ length (ccm_text e nonce (cipher ++ piece)) = omega (arith, length-append cipher piece) in
+    record {
+      counts = record {
+        nonce_length = h.counts.nonce_length;
+        payload_length = h.counts.payload_length;
+        first = h.counts.first;
+        start = h.counts.start;
+        next = h.counts.next;
+        stream = subst (λ (k : ℕ). IsAt c.xor.new.self e Whole start k) place (c.xor.ensures.at Whole start (length plain) h.counts.stream);
+      };
+      within = omega (arith, length-append cipher piece);
+      chain = λ rest. c.absorb.ensures rest ∙ h.chain (out ++ rest)
+          ∙ ap (λ (l : List ℕ). chained_from e y (filled_blocks l)) (sym (append_assoc plain out rest) ∙ ap (λ (l : List ℕ). l ++ rest) (sym more));
+    }

@@ -1,0 +1,34 @@
+use Rattle.std.proofs.Common.{List, ℕ, ◌++◌, ◌∙◌, length, ap, sym, subst, arith}
+use Rattle.std.proofs.lemmas.List.{append_assoc, length-append}
+use Rattle.crypto_specs.specs.Aes.{aes_encrypt}
+use Rattle.crypto_specs.specs.Ccm.{encoded_data, filled_blocks}
+use Rattle.aead_ccm.specs.Chaining.{chained_from}
+use Rattle.aead_streams.specs.declared.counter_width.CounterWidth.TheVariants.{Whole}
+use Rattle.aead_streams.specs.Streams.{IsAt}
+use Rattle.aead_streams.specs.CcmStates.{chain_start}
+use Rattle.aead_streams.proofs.CcmPayloads.{piece_counted}
+use Rattle.aead_streams.proofs.ccm_state.CcmState.encrypt.Goals as goal
+
+pub returns-clause-holds : goal.returns-clause-holds
+returns-clause-holds c = λ t nonce p ad plain fits h.
+    let e = aes_encrypt c.args.key.now in
+    let piece = c.args.piece.now in
+    let start = h.counts.start in
+    let y : List ℕ = chained_from e (chain_start c.args.key.now t nonce (length ad) p) (filled_blocks (encoded_data ad)) in
+    record {
+      counts = record {
+        nonce_length = h.counts.nonce_length;
+        payload_length = h.counts.payload_length;
+        first = h.counts.first;
+        start = h.counts.start;
+        next = h.counts.next;
+        stream = subst (λ (n : ℕ). IsAt c.xor.new.self e Whole start n) (sym (length-append plain piece)) (c.xor.ensures.at Whole start (length plain) h.counts.stream);
+      };
+      within = omega (arith, length-append plain piece);
+      chain = λ rest. c.absorb.ensures rest ∙ h.chain (piece ++ rest) ∙ ap (λ (l : List ℕ). chained_from e y (filled_blocks l)) (sym (append_assoc plain piece rest));
+    }
+
+pub returns-clause-text : goal.returns-clause-text
+returns-clause-text c = λ t nonce p ad plain fits h.
+    piece_counted c.args.key.now nonce plain c.args.piece.now c.xor.new.piece h.counts.start p h.counts.nonce_length h.counts.payload_length h.counts.next fits
+    (c.xor.ensures.text Whole h.counts.start (length plain) h.counts.stream)

@@ -1,0 +1,7 @@
+use Rattle.std.proofs.Common.{arith}
+use Rattle.crypto_specs.specs.Gcm.{increased}
+use Rattle.aead_streams.proofs.counter_width.CounterWidth.next.Goals as goal
+
+pub returns-in-Low32 : goal.returns-in-Low32
+unfolding increased
+returns-in-Low32 c = rw c.in-Low32.is (omega arith)

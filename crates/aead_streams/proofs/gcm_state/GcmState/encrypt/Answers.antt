@@ -1,0 +1,31 @@
+use Rattle.std.proofs.Common.{ℕ, List, ◌≡◌, ◌+◌, ◌++◌, length, sym, subst, arith}
+use Rattle.std.proofs.lemmas.List.{length-append}
+use Rattle.crypto_specs.specs.Aes.{aes_encrypt}
+use Rattle.crypto_specs.specs.Gcm.{gcm_text, initial_counter_block, hash_subkey, increased, numbers_of}
+use Rattle.crypto_specs.specs.Ghash.{ghash_from}
+use Rattle.aead_streams.specs.declared.counter_width.CounterWidth.TheVariants.{Low32}
+use Rattle.aead_streams.specs.Streams.{IsAt}
+use Rattle.aead_streams.proofs.GcmTexts.{further, length-gcm_text}
+use Rattle.aead_streams.specs.TextHashes.{HasTaken}
+use Rattle.aead_streams.proofs.gcm_state.GcmState.encrypt.Goals as goal
+
+pub returns-clause-text : goal.returns-clause-text
+returns-clause-text c = λ nonce ad plain holds.
+    let key = c.args.key.now in
+    further key nonce plain c.args.piece.now c.xor.new.piece _ (length-gcm_text key nonce plain) (c.xor.ensures.text _ _ _ holds.stream)
+
+pub returns-clause-holds : goal.returns-clause-holds
+returns-clause-holds c = λ nonce ad plain holds.
+    let key = c.args.key.now in
+    let piece = c.args.piece.now in
+    let e = aes_encrypt key in
+    let h : ℕ = hash_subkey e in
+    let before = gcm_text e nonce plain in
+    let after = returns-clause-text c nonce ad plain holds in
+    let place : length before + length piece ≡ length (gcm_text e nonce (plain ++ piece)) =
+    omega (arith, length-gcm_text key nonce plain, length-gcm_text key nonce (plain ++ piece), length-append plain piece) in
+    record {
+      hash = subst (λ (l : List ℕ). HasTaken c.update.new.self h (ghash_from h 0 (numbers_of ad)) l) (sym after) (c.update.ensures _ _ before holds.hash);
+      stream = subst (λ (n : ℕ). IsAt c.xor.new.self e Low32 (increased (initial_counter_block e nonce) 1) n) place (c.xor.ensures.at _ _ _ holds.stream);
+      first = holds.first;
+    }

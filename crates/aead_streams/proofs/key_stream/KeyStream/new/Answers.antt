@@ -1,0 +1,6 @@
+use Rattle.std.proofs.Common.{refl, arith}
+use Rattle.aead_streams.proofs.StreamPlaces.{started}
+use Rattle.aead_streams.proofs.key_stream.KeyStream.new.Goals as goal
+
+pub returns : goal.returns
+returns c = λ e. started _ e c.args.width c.args.start refl refl (omega arith) refl

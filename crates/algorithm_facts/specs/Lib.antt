@@ -1,4 +1,0 @@
-pub mod Modes
-pub mod Parse
-pub mod Names
-pub mod Keys

@@ -1,8 +1,0 @@
-use Rattle.std.proofs.Common.{◌∙◌, ap}
-use Rattle.crypto_specs.specs.Modes.{block_number}
-use Rattle.block_buffers.proofs.Filling.{number_of_used}
-use Rattle.block_buffers.proofs.BlockBuffer.take.Goals as goal
-
-pub returns-clause-number : goal.returns-clause-number
-returns-clause-number c =
-    c.number_of-number.ensures.number ∙ number_of_used c.self.inside.used c.self.inside.block c.self.invariant ∙ ap block_number c.self.view_is

@@ -1,3 +1,0 @@
-pub mod Absorbing
-pub mod Payloads
-pub mod Tags

@@ -1,7 +1,0 @@
-use Rattle.crypto_specs.specs.Aes.{aes_encrypt}
-use Rattle.ccm_states.proofs.Absorbing.{front_absorbed}
-use Rattle.ccm_states.proofs.chain.Chain.absorb_front.Goals as goal
-
-pub returns : goal.returns
-returns c = λ rest.
-    front_absorbed (aes_encrypt c.args.key.now) c.args.self.now.value c.filled_number.result c.encrypt_number-self.result c.args.self.now.waiting c.args.piece.now rest c.requires.none c.requires.long c.filled_number.ensures.block c.encrypt_number-self.ensures

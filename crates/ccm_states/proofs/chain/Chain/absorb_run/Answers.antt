@@ -1,9 +1,0 @@
-use Rattle.std.proofs.Common.{◌∙◌, ◌++◌}
-use Rattle.crypto_specs.specs.Aes.{aes_encrypt}
-use Rattle.ccm_states.proofs.Absorbing.{put_waits}
-use Rattle.ccm_states.proofs.chain.Chain.absorb_run.Goals as goal
-
-pub returns-clause-chain : goal.returns-clause-chain
-returns-clause-chain c = λ rest.
-    put_waits (aes_encrypt c.args.key.now) c.make_room.new.self.value c.make_room.new.self.waiting c.put.new.self c.args.piece.now rest c.put.result c.put.ensures.bytes
-    ∙ c.make_room.ensures.chain (c.args.piece.now ++ rest)

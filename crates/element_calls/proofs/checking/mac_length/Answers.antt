@@ -1,5 +1,0 @@
-use Rattle.element_calls.proofs.Lengths.{length-mac}
-use Rattle.element_calls.proofs.checking.mac_length.Goals as goal
-
-pub returns-clause-whole : goal.returns-clause-whole
-returns-clause-whole c = length-mac c.args.alg.0 c.in-Ok.mac c.from.result c.in-Ok.ensures.names c.from.ensures

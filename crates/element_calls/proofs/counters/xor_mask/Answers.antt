@@ -1,6 +1,0 @@
-use Rattle.std.proofs.Common.{add-one, arith}
-use Rattle.crypto_specs.proofs.XorBytes.{xor_bytes_next}
-use Rattle.element_calls.proofs.counters.xor_mask.Goals as goal
-
-pub bytes-preserved : goal.bytes-preserved
-bytes-preserved c = rw (add-one, c.bytes.invariant) (xor_bytes_next c.args.text.now c.args.mask.now c.bytes.i (omega arith) (omega arith))

@@ -1,6 +1,0 @@
-use Rattle.std.proofs.Common.{◌≡◌, ◌++◌, take, drop}
-use Rattle.crypto_specs.specs.Bytes.{xor_bytes}
-use Rattle.element_calls.proofs.counters.xor_mask.Given as goal
-
-abbrev pub invariant-bytes : goal.invariant-bytes
-invariant-bytes l = l.text ≡ xor_bytes (take l.i l.fn.text) l.mask ++ drop l.i l.fn.text

@@ -1,3 +1,0 @@
-pub mod HashSteps
-pub mod TextHashing
-pub mod Texts

@@ -1,2 +1,0 @@
-pub mod TextHashes
-pub mod States

@@ -1,0 +1,6 @@
+use Rattle.std.proofs.Common.{◌≡◌, length, take}
+use Rattle.sha2.specs.Sha256.{first_words}
+use Rattle.hmac_ops.proofs.schedule.put_block_words.Given as goal
+
+abbrev pub invariant-words : goal.invariant-words
+invariant-words l = (length l.words ≡ 64) × (take l.t l.words ≡ first_words l.block l.t)

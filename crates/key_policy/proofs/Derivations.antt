@@ -1,0 +1,19 @@
+-- A key as the secret of a derivation, by whether the algorithm's number is concrete.
+use Rattle.std.proofs.Common.{◌≡◌, ℕ, Bool, true, false, cond, refl, ap}
+use Rattle.std.specs.Prelude.{Option, Some}
+use Rattle.psa_status.specs.Rows.{first_row}
+use Rattle.alg_encoding.specs.Encoding.{IsConcrete, is_concrete}
+use Rattle.store_model.specs.Store.{Key}
+use Rattle.store_model.specs.HandleCalls.{derivation_key_rows}
+use Rattle.key_policy.specs.Permissions.{derivation_refusal, pattern_refusal}
+
+not_true : (b : Bool) → (b ≡ true → ⊥) → b ≡ false
+not_true true h = absurd (h refl)
+not_true false h = refl
+
+module _ (step alg : ℕ) (found : Option Key) where
+  pub of_concrete : IsConcrete alg → derivation_refusal step alg found ≡ first_row (derivation_key_rows found step alg)
+  of_concrete is = ap (λ b. cond b (first_row (derivation_key_rows found step alg)) (Some (pattern_refusal found))) is
+
+  pub of_pattern : (IsConcrete alg → ⊥) → derivation_refusal step alg found ≡ Some (pattern_refusal found)
+  of_pattern is = ap (λ b. cond b (first_row (derivation_key_rows found step alg)) (Some (pattern_refusal found))) (not_true (is_concrete alg) is)

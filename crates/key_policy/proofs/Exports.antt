@@ -1,0 +1,32 @@
+-- EXPORT's rows, of which that of the room comes last.
+use Rattle.std.proofs.Common.{◌≡◌, ℕ, Bool, true, false, cond, length, refl}
+use Rattle.std.specs.Prelude.{◌==◌, bit_and, Option, Some, None}
+use Rattle.psa_status.specs.declared.Status.{Status}
+use Rattle.psa_status.specs.declared.Status.TheVariants.{NotPermitted, NotSupported}
+use Rattle.psa_status.specs.Rows.{first_row}
+use Rattle.store_model.specs.Store.{Key, is_opaque}
+use Rattle.store_model.specs.KeyUse.{export_rows}
+use Rattle.store_model.specs.Rules.{room_rows}
+use Rattle.key_policy.specs.Permissions.{export_refusal}
+
+last_alone : (a b : Bool) (last : Option Status) → cond a (Some NotPermitted) (cond b (Some NotSupported) None) ≡ None → cond a (Some NotPermitted) (cond b (Some NotSupported) last) ≡ last
+last_alone true b last is = cc
+last_alone false true last is = cc
+last_alone false false last is = refl
+
+refused_before : (a b : Bool) (last : Option Status) (status : Status) → cond a (Some NotPermitted) (cond b (Some NotSupported) None) ≡ Some status →
+    cond a (Some NotPermitted) (cond b (Some NotSupported) last) ≡ Some status
+refused_before true b last status is = is
+refused_before false true last status is = is
+refused_before false false last status is = cc
+
+module _ (key : Key) (room : ℕ) where
+  abbrev unflagged : Bool
+  unflagged = bit_and key.attributes.policy.usage.0 1 == 0
+
+  -- the room alone is left to be refused
+  pub by_room : export_refusal (Some key) ≡ None → first_row (export_rows (Some key) room) ≡ first_row (room_rows (length key.bytes) room)
+  by_room = last_alone unflagged (is_opaque key.attributes) (first_row (room_rows (length key.bytes) room))
+
+  pub before_room : (status : Status) → export_refusal (Some key) ≡ Some status → first_row (export_rows (Some key) room) ≡ Some status
+  before_room = refused_before unflagged (is_opaque key.attributes) (first_row (room_rows (length key.bytes) room))

@@ -1,0 +1,5 @@
+pub mod Parsing
+pub mod Devices
+pub mod Exports
+pub mod Derivations
+pub mod Refusals

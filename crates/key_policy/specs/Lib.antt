@@ -1,0 +1,7 @@
+pub mod Modes
+pub mod Parse
+pub mod Names
+pub mod Keys
+pub mod Permissions
+pub mod Uses
+pub mod Copies

@@ -1,0 +1,36 @@
+-- The refusals of a key's uses that the model's tables don't have by themselves, and what a key that may be used is.
+use Rattle.std.specs.Prelude.{ℕ, ◌≡◌, ◌≤◌, false, List, length, take, if◌then◌else◌, Option, Some, None}
+use Rattle.psa_status.specs.declared.Status.{Status}
+use Rattle.psa_status.specs.declared.Status.TheVariants.{NotPermitted, InvalidHandle}
+use Rattle.psa_status.specs.Rows.{first_row}
+use Rattle.alg_encoding.specs.declared.table.Class.{Class}
+use Rattle.alg_encoding.specs.declared.table.Class.TheVariants.{Cipher, Aead}
+use Rattle.alg_encoding.specs.Encoding.{base_of, is_concrete}
+use Rattle.crypto_specs.specs.Aes.{IsKey}
+use Rattle.store_model.specs.Store.{Key}
+use Rattle.store_model.specs.Algorithms.{is_hmac, cmac_base}
+use Rattle.store_model.specs.HandleCalls.{derivation_key_rows}
+use Rattle.store_model.specs.KeyUse.{export_rows}
+use Rattle.key_policy.specs.Names.{IsOfClass}
+
+-- the rows of EXPORT but for that of the room, which comes last
+abbrev pub export_refusal : Option Key → Option Status
+export_refusal found = first_row (take 2 (export_rows found 0))
+
+-- no policy permits a number that isn't concrete, so that a key that is there isn't permitted
+abbrev pub pattern_refusal : Option Key → Status
+pattern_refusal None = InvalidHandle
+pattern_refusal (Some key) = NotPermitted
+
+-- a derivation's key: the algorithm of each derivation is concrete
+abbrev pub derivation_refusal : (step alg : ℕ) → Option Key → Option Status
+derivation_refusal step alg found = if is_concrete alg then first_row (derivation_key_rows found step alg) else Some (pattern_refusal found)
+
+-- the number names an algorithm of the class, and the bytes are a key for it: an AES key for each but HMAC
+pub record IsKeyFor (class : Class) (alg : ℕ) (bytes : List ℕ) : Type 0 where
+  pub algorithm : IsOfClass class alg
+  pub short : length bytes ≤ 1024
+  pub aes : is_hmac alg ≡ false → IsKey bytes
+  pub cmac : base_of alg ≡ cmac_base → IsKey bytes
+  pub cipher : class ≡ Cipher → IsKey bytes
+  pub aead : class ≡ Aead → IsKey bytes

@@ -1,0 +1,261 @@
+// What an algorithm's number names.
+ghost use Rattle.std.specs.Prelude.{◌≡◌, ◌%◌, ◌^◌, IfSome, IfOk, Some, is_some, if◌then◌else◌};
+ghost use Rattle.std.specs.Result.{result_err};
+ghost use Rattle.psa_status.specs.Rows.{first_row};
+ghost use Rattle.psa_status.specs.declared.Status.TheVariants.{InvalidArgument, NotSupported};
+ghost use Rattle.alg_encoding.specs.declared.table.Class.TheVariants as class;
+ghost use Rattle.alg_encoding.specs.Encoding.{class_of, is_concrete};
+ghost use Rattle.store_model.specs.Algorithms.{is_hmac};
+ghost use Rattle.store_model.specs.Rules.{class_rows};
+ghost use Rattle.key_policy.specs.Names.{Names, block_limit, is_hkdf, NamesAead, NamesDerivation, NamesHash, NamesMac, NamesMode};
+ghost use Rattle.key_policy.specs.Parse.{aead_at, algorithm_at, class_in, derivation_at, hashed, is_hmac_in, mac_at};
+
+use crate::modes::Mode;
+use alg_encoding::{Alg, Class};
+use hash_ops::Hash;
+use psa_status::Status;
+
+/// What a MAC is made of.
+#[derive(Clone, Copy, Drop)]
+pub enum MacKind {
+    Hmac(Hash),
+    Cmac,
+}
+
+/// A MAC, of which the first `length` bytes are given.
+#[derive(Clone, Copy, Drop)]
+pub struct MacAlgorithm {
+    pub kind: MacKind,
+    pub length: u8,
+}
+
+#[derive(Clone, Copy, Drop)]
+pub enum AeadKind {
+    Ccm,
+    Gcm,
+}
+
+/// An AEAD whose tag has `tag_length` bytes.
+#[derive(Clone, Copy, Drop)]
+pub struct AeadAlgorithm {
+    pub kind: AeadKind,
+    pub tag_length: u8,
+}
+
+/// HKDF (RFC 5869) and PBKDF2 with HMAC (RFC 8018).
+#[derive(Clone, Copy, Drop)]
+pub enum Scheme {
+    Hkdf,
+    Pbkdf2,
+}
+
+/// A scheme over a hash function.
+#[derive(Clone, Copy, Drop)]
+pub struct KeyDerivation {
+    pub scheme: Scheme,
+    pub hash: Hash,
+}
+
+/// An algorithm that a number names.
+#[derive(Clone, Copy, Drop)]
+pub enum Algorithm {
+    Hash(Hash),
+    Mac(MacAlgorithm),
+    Cipher(Mode),
+    Aead(AeadAlgorithm),
+    Derivation(KeyDerivation),
+}
+
+// The MAC whose number states this length.
+fn mac(kind: MacKind, length: Option<u8>) -> Option<Algorithm>
+    ensures { result ≡ mac_at kind length }
+{
+    let length = length?;
+    Some(Algorithm::Mac(MacAlgorithm { kind, length }))
+}
+
+// The AEAD whose number states this length of the tag.
+fn aead(kind: AeadKind, tag_length: Option<u8>) -> Option<Algorithm>
+    ensures { result ≡ aead_at kind tag_length }
+{
+    let tag_length = tag_length?;
+    Some(Algorithm::Aead(AeadAlgorithm { kind, tag_length }))
+}
+
+fn derivation(scheme: Scheme, hash: Hash) -> Option<Algorithm>
+    ensures { result ≡ derivation_at scheme hash }
+{
+    Some(Algorithm::Derivation(KeyDerivation { scheme, hash }))
+}
+
+// The algorithm of a base that ends with the low byte of this hash function, by the bits before that.
+fn hashed(family: u32, hash: Hash, tag: Option<u8>) -> Option<Algorithm>
+    ensures { result ≡ hashed family hash tag }
+{
+    match family {
+        0x02_0000 => Some(Algorithm::Hash(hash)),
+        0x03_8000 => mac(MacKind::Hmac(hash), tag),
+        0x08_0001 => derivation(Scheme::Hkdf, hash),
+        0x08_8001 => derivation(Scheme::Pbkdf2, hash),
+        _ => None,
+    }
+}
+
+// The algorithm of a base, with the tag length that the number states (PSA Certified Crypto API 1.2, appendix B).
+fn algorithm_at(base: u32, tag: Option<u8>) -> Option<Algorithm>
+    ensures { result ≡ algorithm_at base tag }
+{
+    match base {
+        0x03c0_0200 => mac(MacKind::Cmac, tag),
+        0x04c0_1000 => Some(Algorithm::Cipher(Mode::Ctr)),
+        0x0440_4000 => Some(Algorithm::Cipher(Mode::CbcNoPadding)),
+        0x0440_4100 => Some(Algorithm::Cipher(Mode::CbcPkcs7)),
+        0x0440_4400 => Some(Algorithm::Cipher(Mode::EcbNoPadding)),
+        0x0540_0100 => aead(AeadKind::Ccm, tag),
+        0x0540_0200 => aead(AeadKind::Gcm, tag),
+        _ => hashed(base >> 8, Hash::from_low_byte((base & 0xff) as u8)?, tag),
+    }
+}
+
+impl Algorithm {
+    /// The algorithm that a number names; `None` exactly for one that names no one algorithm, as a number outside the
+    /// table or one that permits several tag lengths.
+    pub fn of(alg: Alg) -> Option<Algorithm>
+        ensures concrete { is_some result ≡ is_concrete alg.0 }
+        ensures class { IfSome result (λ algorithm. class_of alg.0 ≡ Some (class_in algorithm)) }
+        ensures hmac { IfSome result (λ algorithm. is_hmac alg.0 ≡ is_hmac_in algorithm) }
+        ensures names { IfSome result (Names alg.0) }
+    {
+        if alg.is_concrete() {
+            algorithm_at(alg.base(), alg.tag_length())
+        } else {
+            None
+        }
+    }
+
+    /// The algorithm of this class that a number names. `NotSupported` where the number is outside the table of
+    /// algorithms, and `InvalidArgument` where it names no one algorithm of the class.
+    pub fn of_class(class: Class, alg: Alg) -> Result<Algorithm, Status>
+        ensures refusal { result_err result ≡ first_row (class_rows class alg.0) }
+        ensures class { IfOk result (λ algorithm. class_in algorithm ≡ class) }
+        ensures hmac { IfOk result (λ algorithm. is_hmac alg.0 ≡ is_hmac_in algorithm) }
+    {
+        match Algorithm::of(alg) {
+            Some(algorithm) if algorithm.class() == class => Ok(algorithm),
+            _ => Err(refusal(alg)),
+        }
+    }
+
+    pub fn class(self) -> Class
+        ensures { result ≡ class_in self }
+    {
+        match self {
+            Algorithm::Hash(_) => Class::Hash,
+            Algorithm::Mac(_) => Class::Mac,
+            Algorithm::Cipher(_) => Class::Cipher,
+            Algorithm::Aead(_) => Class::Aead,
+            Algorithm::Derivation(_) => Class::Derivation,
+        }
+    }
+
+    /// Whether it is HMAC, which has a type of keys of its own.
+    pub fn is_hmac(self) -> bool
+        ensures { result ≡ is_hmac_in self }
+    {
+        matches!(
+            self,
+            Algorithm::Mac(MacAlgorithm {
+                kind: MacKind::Hmac(_),
+                ..
+            })
+        )
+    }
+}
+
+impl Scheme {
+    pub fn is_hkdf(self) -> bool
+        ensures { result ≡ is_hkdf self }
+    {
+        matches!(self, Scheme::Hkdf)
+    }
+
+    /// The most blocks that it can make: HKDF counts them by a byte, PBKDF2 by four.
+    pub fn block_limit(self) -> u32
+        ensures { result ≡ block_limit self }
+    {
+        match self {
+            Scheme::Hkdf => 255,
+            Scheme::Pbkdf2 => u32::MAX,
+        }
+    }
+}
+
+// The refusal of a number that has no class, that has another one than is asked for, or that isn't concrete.
+fn refusal(alg: Alg) -> Status
+    ensures { result ≡ (if is_some (class_of alg.0) then InvalidArgument else NotSupported) }
+{
+    match alg.class() {
+        Some(_) => Status::InvalidArgument,
+        None => Status::NotSupported,
+    }
+}
+
+/// The hash function that a number names. `NotSupported` where it is outside the table of algorithms, and
+/// `InvalidArgument` where it names no one hash function.
+pub fn hash_algorithm(alg: Alg) -> Result<Hash, Status>
+    ensures refusal { result_err result ≡ first_row (class_rows class.Hash alg.0) }
+    ensures names { IfOk result (NamesHash alg.0) }
+{
+    match Algorithm::of(alg) {
+        Some(Algorithm::Hash(hash)) => Ok(hash),
+        _ => Err(refusal(alg)),
+    }
+}
+
+/// The MAC that a number names. `NotSupported` where it is outside the table of algorithms, and `InvalidArgument` where
+/// it names no one MAC.
+pub fn mac_algorithm(alg: Alg) -> Result<MacAlgorithm, Status>
+    ensures refusal { result_err result ≡ first_row (class_rows class.Mac alg.0) }
+    ensures names { IfOk result (NamesMac alg.0) }
+{
+    match Algorithm::of(alg) {
+        Some(Algorithm::Mac(mac)) => Ok(mac),
+        _ => Err(refusal(alg)),
+    }
+}
+
+/// The mode of the cipher that a number names. `NotSupported` where it is outside the table of algorithms, and
+/// `InvalidArgument` where it names no cipher.
+pub fn cipher_algorithm(alg: Alg) -> Result<Mode, Status>
+    ensures refusal { result_err result ≡ first_row (class_rows class.Cipher alg.0) }
+    ensures names { IfOk result (NamesMode alg.0) }
+{
+    match Algorithm::of(alg) {
+        Some(Algorithm::Cipher(mode)) => Ok(mode),
+        _ => Err(refusal(alg)),
+    }
+}
+
+/// The AEAD that a number names. `NotSupported` where it is outside the table of algorithms, and `InvalidArgument`
+/// where it names no one AEAD.
+pub fn aead_algorithm(alg: Alg) -> Result<AeadAlgorithm, Status>
+    ensures refusal { result_err result ≡ first_row (class_rows class.Aead alg.0) }
+    ensures names { IfOk result (NamesAead alg.0) }
+{
+    match Algorithm::of(alg) {
+        Some(Algorithm::Aead(aead)) => Ok(aead),
+        _ => Err(refusal(alg)),
+    }
+}
+
+/// The derivation that a number names. `NotSupported` where it is outside the table of algorithms, and
+/// `InvalidArgument` where it names no derivation.
+pub fn derivation_algorithm(alg: Alg) -> Result<KeyDerivation, Status>
+    ensures refusal { result_err result ≡ first_row (class_rows class.Derivation alg.0) }
+    ensures names { IfOk result (NamesDerivation alg.0) }
+{
+    match Algorithm::of(alg) {
+        Some(Algorithm::Derivation(derivation)) => Ok(derivation),
+        _ => Err(refusal(alg)),
+    }
+}

@@ -1,0 +1,24 @@
+//! What algorithm numbers name, read once: the family, the hash function, the mode and the length of the tag; what the code that
+//! computes with an algorithm has to know of it; and what a key may be used for, by what is known of it beside its bytes.
+#![tactic(auto)]
+
+mod aeads;
+mod algorithms;
+mod checks;
+mod copies;
+mod key_use;
+mod keys;
+mod lengths;
+mod modes;
+pub mod steps;
+
+pub use algorithms::{
+    AeadAlgorithm, AeadKind, Algorithm, KeyDerivation, MacAlgorithm, MacKind, Scheme,
+    aead_algorithm, cipher_algorithm, derivation_algorithm, hash_algorithm, mac_algorithm,
+};
+pub use checks::check_use;
+pub use copies::copied_attributes;
+pub use key_use::KeyUse;
+pub use keys::aes_key;
+pub use lengths::TOTAL_LIMIT;
+pub use modes::{Mode, enciphered_length, is_ciphertext_length, iv_length, takes_whole_blocks};

@@ -1,6 +1,0 @@
-use Rattle.std.proofs.Common.{refl, arith}
-use Rattle.key_streams.proofs.StreamPlaces.{started}
-use Rattle.key_streams.proofs.stream.KeyStream.new.Goals as goal
-
-pub returns : goal.returns
-returns c = λ e. started _ e c.args.width c.args.start refl refl (omega arith) refl

@@ -1,5 +1,0 @@
-use Rattle.std.proofs.Common.{List, ℕ, ◌++◌, drop, ap}
-use Rattle.key_streams.proofs.stream.KeyStream.xor_run.Goals as goal
-
-pub returns-clause-text : goal.returns-clause-text
-returns-clause-text c = λ width start n h. ap (λ (l : List ℕ). l ++ drop 16 c.args.piece.now) (c.xor_block.ensures.text width start n h)

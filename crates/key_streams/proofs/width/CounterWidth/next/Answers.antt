@@ -1,7 +1,0 @@
-use Rattle.std.proofs.Common.{arith}
-use Rattle.crypto_specs.specs.Gcm.{increased}
-use Rattle.key_streams.proofs.width.CounterWidth.next.Goals as goal
-
-pub returns-in-Low32 : goal.returns-in-Low32
-unfolding increased
-returns-in-Low32 c = rw c.in-Low32.is (omega arith)

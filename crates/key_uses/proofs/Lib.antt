@@ -1,4 +1,0 @@
-pub mod Devices
-pub mod Exports
-pub mod Derivations
-pub mod Refusals

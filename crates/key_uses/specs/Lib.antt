@@ -1,3 +1,0 @@
-pub mod Permissions
-pub mod Uses
-pub mod Copies

@@ -1,4 +1,0 @@
-pub mod Uses
-pub mod Models
-pub mod Keys
-pub mod Draws

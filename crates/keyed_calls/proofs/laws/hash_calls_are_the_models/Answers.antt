@@ -1,9 +1,0 @@
-use Rattle.keyed_calls.proofs.Keys as keys
-use Rattle.keyed_calls.proofs.Models as models
-use Rattle.keyed_calls.proofs.laws.hash_calls_are_the_models.Goals as goal
-
-pub returns-clause-replies : goal.returns-clause-replies
-returns-clause-replies c = models.hashes
-
-pub returns-clause-reads : goal.returns-clause-reads
-returns-clause-reads c = keys.hashes

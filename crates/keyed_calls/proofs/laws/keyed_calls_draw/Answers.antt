@@ -1,8 +1,0 @@
-use Rattle.keyed_calls.proofs.Draws.{exact, few}
-use Rattle.keyed_calls.proofs.laws.keyed_calls_draw.Goals as goal
-
-pub returns-clause-few : goal.returns-clause-few
-returns-clause-few c = few
-
-pub returns-clause-exact : goal.returns-clause-exact
-returns-clause-exact c = exact

@@ -1,4 +1,0 @@
-pub mod Keyed
-pub mod Elements
-pub mod Hashing
-pub mod Laws

@@ -1,0 +1,55 @@
+-- What is known once all passes are handed in.
+use Rattle.std.proofs.Common.{◌≡◌, ℕ, ◌<◌, ◌≤◌, List, All, ◌∙◌, subst, inl, Option}
+use Rattle.turn_history.specs.declared.pass.Account.{Account}
+use Rattle.turn_history.specs.History.{entries_of, calls_by, StartsWith}
+use Rattle.key_slots.specs.Holdings.{Pairs}
+use Rattle.store_model.specs.Store as model
+use Rattle.store_model.specs.Replay.{Entry}
+use Rattle.store_core.specs.declared.store.Opened.{Opened}
+use Rattle.store_core.specs.declared.store.Store.{Store}
+use Rattle.store_core.specs.Durability.{course_of, durable_keys}
+use Rattle.store_core.specs.Zeros.{HasKeyOrZeros}
+use Rattle.store_core.proofs.Sure.{sure_cells}
+use Rattle.locked_store.specs.Worlds.{World}
+use Rattle.locked_store.specs.Closed.{IsClosed}
+use Rattle.locked_store.specs.Standing.{HoldsHistory, caller_of}
+use Rattle.locked_store.proofs.Renewing.{legal}
+
+module _ {D A C : Type 0} (w : World D A C)
+    (only_now : (disk : D) (image : List ℕ) → w.disk.left_since disk (w.disk.moment disk) image → w.disk.may_leave disk image) where
+  abbrev opened : Opened D A C
+  opened = w.opened
+
+  -- the same store, with what another opening saw
+  abbrev At : Opened D A C → World D A C
+  At o = record w { opened = o }
+
+  closed_here : (store : Store D A C) (turns : List (Option Entry)) (all : List Pairs) (accounts : List (Account Entry)) → HoldsHistory w.disk w.devices w.rules store (entries_of turns) all →
+      All (λ (e : Entry). (0 < e.caller) × (e.caller ≤ 16)) (entries_of turns) → All (λ (a : Account Entry). StartsWith turns a.seen) accounts →
+      All (λ (a : Account Entry). 0 < a.number → calls_by caller_of a.number (entries_of turns) ≡ a.calls) accounts →
+      IsClosed (At store.opened) store.file.cells.disk store.devices accounts
+  closed_here store turns all accounts s signed seen called = record {
+    turns = turns;
+    signed = signed;
+    seen = seen;
+    called = called;
+    legal = legal w store (entries_of turns) all s;
+    counts = (s.each s.start s.starts).counts;
+    tells = s.tells;
+    promise = λ tells start is. (s.each start is).holds.promise (s.tells ∙ tells);
+    cells = λ tells start is none image left cell lt.
+        let disk = store.file.cells.disk in
+        let holds = (s.each start is).holds in
+        let now = s.tells ∙ tells in
+        subst (λ (m : model.Store). HasKeyOrZeros (durable_keys m) cell image) (holds.replayed (inl now))
+        (sure_cells w.disk.contents w.disk.may_leave disk store.file.cells.slots.items (durable_keys holds.model) (course_of start (entries_of turns)).doubt (holds.file now) (holds.sure now none) image (only_now disk image left) cell lt);
+  }
+
+  pub closed : (store : Store D A C) (passes : ℕ) (turns : List (Option Entry)) (all : List Pairs) (accounts : List (Account Entry)) → store.opened ≡ opened → passes ≡ 16 →
+      HoldsHistory w.disk w.devices w.rules store (entries_of turns) all →
+      All (λ (e : Entry). (0 < e.caller) × (e.caller ≤ passes)) (entries_of turns) → All (λ (a : Account Entry). StartsWith turns a.seen) accounts →
+      All (λ (a : Account Entry). 0 < a.number → calls_by caller_of a.number (entries_of turns) ≡ a.calls) accounts →
+      IsClosed w store.file.cells.disk store.devices accounts
+  closed store passes turns all accounts same sixteen s signed seen called =
+      subst (λ o. IsClosed (At o) store.file.cells.disk store.devices accounts) same
+      (closed_here store turns all accounts s (subst (λ n. All (λ (e : Entry). (0 < e.caller) × (e.caller ≤ n)) (entries_of turns)) sixteen signed) seen called)

@@ -1,0 +1,42 @@
+use Rattle.std.proofs.Common.{◌≡◌, ◌↔◌, ℕ, List, ap, sym, subst, inr, arith, Some, IfSome, is_some}
+use Rattle.std.specs.Prelude.{slice_get}
+use Rattle.key_attributes.specs.declared.Attributes.{Attributes}
+use Rattle.key_cells.specs.Image.{HasKey}
+use Rattle.store_model.specs.Handles.{Service}
+use Rattle.store_model.specs.Sound.{IsSoundStore}
+use Rattle.store_core.specs.Start.{IsStart}
+use Rattle.locked_store.specs.Shared.{lock_of, opened_of}
+use Rattle.locked_store.proofs.held.SharedStore.open.Goals as goal
+
+pub new-requires-clause-stands : goal.new-requires-clause-stands
+unfolding lock_of opened_of
+new-requires-clause-stands g c = let e = c.in_ok-store.ensures in record {
+  start = e.starts.0;
+  starts = e.starts.1;
+  each = λ start is. e.stands start 16 is (omega arith);
+  signed = tt;
+  rising = tt;
+  sized = e.size;
+  clear = e.clear;
+  tells = ap (λ f. is_some (g.D.Disk.contents f.cells.disk)) (sym e.saw_file);
+  knows = ap (λ d. is_some (g.A.Devices.keys d)) (sym e.saw_devices);
+}
+
+pub returns-in-Ok-clause-starts : goal.returns-in-Ok-clause-starts
+unfolding lock_of opened_of
+returns-in-Ok-clause-starts g c = subst (λ o. (start : Service) × IsStart g.D.Disk g.A.Devices g.C.Admission o start) (sym c.in-Ok.ensures.lock.1) c.in_ok-store.ensures.starts
+
+-- nothing was read before the first call: each start is the model of what the store stands for
+pub returns-in-Ok-clause-sound : goal.returns-in-Ok-clause-sound
+unfolding lock_of opened_of
+returns-in-Ok-clause-sound g c = subst (λ o. (start : Service) → IsStart g.D.Disk g.A.Devices g.C.Admission o start → IsSoundStore start.store) (sym c.in-Ok.ensures.lock.1)
+    (λ start is. let holds = (c.in_ok-store.ensures.stands start 16 is (omega arith)).holds in subst IsSoundStore (holds.replayed (inr tt)) holds.sound)
+
+pub returns-in-Ok-clause-keys : goal.returns-in-Ok-clause-keys
+unfolding lock_of opened_of
+returns-in-Ok-clause-keys g c = subst (λ o. IfSome (g.D.Disk.contents c.args.disk) (λ image. (start : Service) (s : IsStart g.D.Disk g.A.Devices g.C.Admission o start) (a : Attributes) (bytes : List ℕ) →
+    HasKey a bytes image ↔ ((number : ℕ) × (slice_get s.found number ≡ Some (record { attributes = a; bytes = bytes }))))) (sym c.in-Ok.ensures.lock.1) c.in_ok-store.ensures.keys
+
+pub invariant_of-seen : goal.invariant_of-seen
+unfolding lock_of opened_of
+invariant_of-seen g c = record { starts = subst (λ o. ∥ ((start : Service) × IsStart g.D.Disk g.A.Devices g.C.Admission o start) ∥₁) (sym c.of.ensures) ∣ c.in_ok-store.ensures.starts ∣₁ }

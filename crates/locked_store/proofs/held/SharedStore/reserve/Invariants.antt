@@ -1,0 +1,7 @@
+use Rattle.std.proofs.Common.{None}
+use Rattle.locked_store.specs.Turning.{after_change}
+use Rattle.locked_store.proofs.held.SharedStore.reserve.Given as goal
+
+-- a turn without entry
+abbrev pub ghosts-leave_unranked : goal.ghosts-leave_unranked
+ghosts-leave_unranked g a = record { entry = None; holding = after_change a.change.now a.pass.now.me.0.holding }

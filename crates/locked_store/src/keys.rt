@@ -1,0 +1,138 @@
+//! Turns that ask for a key, destroy it, or forget it in memory.
+ghost use Rattle.std.specs.Prelude.{◌≡◌, ◌<◌, false, Some, None, IfOk, IfErr, OnOk};
+ghost use Rattle.std.specs.FinMap as map;
+ghost use Rattle.turn_history.specs.History.{entries_of};
+ghost use Rattle.psa_status.specs.declared.Status.TheVariants.{InvalidHandle};
+ghost use Rattle.psa_status.specs.Rows.{first_row};
+ghost use Rattle.service_calls.specs.Meanings.{model_request};
+ghost use Rattle.store_model.specs.Call as model;
+ghost use Rattle.store_model.specs.Faults.{Plain};
+ghost use Rattle.store_model.specs.KeyUse.{destroy_rows};
+ghost use Rattle.store_model.specs.Laws.{may_change_keys};
+ghost use Rattle.store_model.specs.Requests.{OnStore};
+ghost use Rattle.store_core.specs.Uses.{HasAttributes, IsRefused, IsUndestroyed, mark_of, mark_undestroyed, there_rows};
+ghost use Rattle.locked_store.specs.Turning.{DecidesAfter, DecidesBefore, IsAt, IsLegal, IsRanked, LeavesAllKeys, ReadsKey};
+ghost use Rattle.locked_store.specs.Shared.{world};
+
+use crate::changes::{Change, Met};
+use crate::held::{Held, SharedStore};
+use admission::Admission;
+use disk_face::Disk;
+use driver_dispatch::Devices;
+use key_attributes::{Attributes, KeyId};
+use psa_status::Status;
+use service_calls::Call;
+use std::marker::Brand;
+use std::snapshot::Snapshot;
+use std::sync::Wait;
+use store_core::NotDestroyed;
+use turn_history::Pass;
+
+impl<D: Disk, A: Devices, C: Admission> SharedStore<D, A, C> {
+    /// What is known of the key that a call reads, beside its bytes. The call has an output buffer of so many bytes. Ranked.
+    pub fn attributes<R: Wait>(
+        &self,
+        rt: &R,
+        pass: &mut Pass<Held<D, A, C>>,
+        call: &Call<'_>,
+        room: usize,
+        id: KeyId,
+    ) -> (u64, Result<Attributes, Status>)
+        requires at { IsAt (world self.now) pass.old }
+        requires left { 0 < pass.old.me.0.turns_left }
+        requires quiet { may_change_keys (model_request call.now room) ≡ false }
+        requires reads { ReadsKey (world self.now) pass.old.me.0 (model_request call.now room) id.0 }
+        ensures at { IsAt (world self.now) pass.new }
+        ensures legal { IsLegal (world self.now) (entries_of pass.new.me.0.seen) }
+        ensures known { IfOk result.1 (λ attributes. IsRanked pass.old.me.0 pass.new.me.0 (model_request call.now room) Plain result.0 pass.old.me.0.holding
+            (DecidesAfter (world self.now) (HasAttributes id.0 attributes))) }
+        ensures refused { IfErr result.1 (λ status. IsRanked pass.old.me.0 pass.new.me.0 (model_request call.now room) (mark_of status) result.0 pass.old.me.0.holding
+            (DecidesAfter (world self.now) (IsRefused there_rows id.0 status))) }
+    {
+        let before = Snapshot::of(pass);
+        let mut turn = self.enter(rt, pass);
+        let kept = Change::Nothing;
+        match turn.value().store.attributes(id) {
+            Ok(attributes) => {
+                let met = Met::Nothing;
+                let rank = self.leave_ranked::<Brand>(pass, turn, before, call, room, met, &kept);
+                (rank, Ok(attributes))
+            }
+            Err(status) => {
+                let met = Met::Unread(status);
+                let rank = self.leave_ranked::<Brand>(pass, turn, before, call, room, met, &kept);
+                (rank, Err(status))
+            }
+        }
+    }
+
+    /// Destroys a key. Ranked.
+    pub fn destroy<R: Wait>(
+        &self,
+        rt: &R,
+        pass: &mut Pass<Held<D, A, C>>,
+        call: &Call<'_>,
+        room: usize,
+        id: KeyId,
+    ) -> (u64, Result<(), NotDestroyed>)
+        requires at { IsAt (world self.now) pass.old }
+        requires left { 0 < pass.old.me.0.turns_left }
+        requires destroys { model_request call.now room ≡ OnStore (model.Destroy id.0) }
+        ensures at { IsAt (world self.now) pass.new }
+        ensures legal { IsLegal (world self.now) (entries_of pass.new.me.0.seen) }
+        ensures destroyed { OnOk result.1 (IsRanked pass.old.me.0 pass.new.me.0 (model_request call.now room) Plain result.0 pass.old.me.0.holding
+            (DecidesBefore (world self.now) (λ m. first_row (destroy_rows (map.get m.keys id.0) id.0) ≡ None))) }
+        ensures failed { IfErr result.1 (λ why. IsRanked pass.old.me.0 pass.new.me.0 (model_request call.now room) (mark_undestroyed why) result.0 pass.old.me.0.holding
+            (DecidesBefore (world self.now) (IsUndestroyed id.0 why))) }
+    {
+        let before = Snapshot::of(pass);
+        let mut turn = self.enter(rt, pass);
+        let kept = Change::Nothing;
+        match turn.value().store.destroy(id) {
+            Ok(()) => {
+                let met = Met::Nothing;
+                let rank = self.leave_ranked::<Brand>(pass, turn, before, call, room, met, &kept);
+                (rank, Ok(()))
+            }
+            Err(why) => {
+                let met = Met::Undestroyed(why);
+                let rank = self.leave_ranked::<Brand>(pass, turn, before, call, room, met, &kept);
+                (rank, Err(why))
+            }
+        }
+    }
+
+    /// Forgets a key in memory that is in the file too and that nobody reads. Ranked.
+    pub fn purge<R: Wait>(
+        &self,
+        rt: &R,
+        pass: &mut Pass<Held<D, A, C>>,
+        call: &Call<'_>,
+        room: usize,
+        id: KeyId,
+    ) -> (u64, Result<(), Status>)
+        requires at { IsAt (world self.now) pass.old }
+        requires left { 0 < pass.old.me.0.turns_left }
+        requires leaves { LeavesAllKeys (world self.now) pass.old.me.0 (model_request call.now room) }
+        ensures at { IsAt (world self.now) pass.new }
+        ensures legal { IsLegal (world self.now) (entries_of pass.new.me.0.seen) }
+        ensures there { OnOk result.1 (IsRanked pass.old.me.0 pass.new.me.0 (model_request call.now room) Plain result.0 pass.old.me.0.holding
+            (DecidesAfter (world self.now) (λ m. there_rows (map.get m.keys id.0) ≡ None))) }
+        ensures missing { IfErr result.1 (λ status. (status ≡ InvalidHandle) × IsRanked pass.old.me.0 pass.new.me.0 (model_request call.now room) Plain result.0 pass.old.me.0.holding
+            (DecidesAfter (world self.now) (λ m. there_rows (map.get m.keys id.0) ≡ Some status))) }
+    {
+        let before = Snapshot::of(pass);
+        let mut turn = self.enter(rt, pass);
+        let (met, kept) = (Met::Nothing, Change::Nothing);
+        match turn.value().store.purge(id) {
+            Ok(()) => {
+                let rank = self.leave_ranked::<Brand>(pass, turn, before, call, room, met, &kept);
+                (rank, Ok(()))
+            }
+            Err(status) => {
+                let rank = self.leave_ranked::<Brand>(pass, turn, before, call, room, met, &kept);
+                (rank, Err(status))
+            }
+        }
+    }
+}

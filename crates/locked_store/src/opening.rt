@@ -1,0 +1,94 @@
+//! How the store under its lock is opened, and how it ends.
+ghost use Rattle.std.specs.Prelude.{◌≡◌, ◌≤◌, ◌<◌, ◌↔◌, ◌⊎◌, ℕ, List, [], IfOk, IfErr, IfSome, slice_get};
+ghost use Rattle.key_attributes.specs.declared.Attributes.{Attributes};
+ghost use Rattle.key_cells.specs.declared.slot.Slot as cell;
+ghost use Rattle.key_cells.specs.declared.reading.OpenFault.TheVariants as fault;
+ghost use Rattle.key_cells.specs.Image.{HasKey};
+ghost use Rattle.key_cells.specs.Opened.{IsOpened, IsRefused};
+ghost use Rattle.driver_dispatch.specs.Calls.{Lacks};
+ghost use Rattle.turn_history.specs.Passes.{AreNew};
+ghost use Rattle.store_model.specs.Handles.{Service};
+ghost use Rattle.store_model.specs.Sound.{IsSoundStore};
+ghost use Rattle.locked_store.specs.Closed.{AreAt, IsClosed};
+ghost use Rattle.locked_store.specs.Turning.{IsStartOf};
+ghost use Rattle.locked_store.specs.Shared.{world};
+ghost use Rattle.locked_store.specs.Worlds.{world_of};
+
+use crate::held::{Held, Seen, SharedStore};
+use admission::Admission;
+use disk_face::Disk;
+use driver_dispatch::Devices;
+use key_cells::OpenFault;
+use std::alloc::Global;
+use std::snapshot::Snapshot;
+use store_core::{Store, Unopened};
+use turn_history::{Ending, HistoryLock, Pass, Refused};
+
+/// A store under its lock, and the passes of its callers, by their numbers from 1 on.
+pub type Shared<D, A, C> = (SharedStore<D, A, C>, Vec<Pass<Held<D, A, C>>>);
+
+impl<D: Disk, A: Devices, C: Admission> SharedStore<D, A, C> {
+    /// Opens the store of a disk, or makes one on a disk of length 0, for sixteen callers whose
+    /// random words have this seed. Where it isn't opened the disk and
+    /// the devices come back; `Memory` too where there is no room for the lock, and then the disk is as the opening left it.
+    #[tactic(auto, unfolding(crate::specs::Shared::lock_of, crate::specs::Shared::opened_of))]
+    pub fn open(
+        alloc: Global,
+        disk: D,
+        devices: A,
+        rules: C,
+        seed: &[u8; 32],
+    ) -> Result<Shared<D, A, C>, Unopened<D, A>>
+        requires empty { (handle : ℕ) → Lacks (A.keys devices) handle }
+        ensures passes { IfOk result (λ made. AreNew (world made.0).lock (world made.0).opened 16 made.1.items) }
+        ensures at { IfOk result (λ made. AreAt (world made.0) made.1.items) }
+        ensures starts { IfOk result (λ made. (start : Service) × IsStartOf (world made.0) start) }
+        ensures sound { IfOk result (λ made. (start : Service) → IsStartOf (world made.0) start → IsSoundStore start.store) }
+        ensures keys { IfOk result (λ made. IfSome (D.contents disk) (λ image. (start : Service) (s : IsStartOf (world made.0) start) (a : Attributes) (bytes : List ℕ) →
+            HasKey a bytes image ↔ ((number : ℕ) × (slice_get s.found number ≡ Some (record { attributes = a; bytes = bytes }))))) }
+        ensures opened { IfOk result (λ made. IsOpened D.contents D.may_leave D.moment D.left_since disk (world made.0).opened.file.value.cells.disk (world made.0).opened.file.value.cells.slots.items) }
+        ensures later { IfOk result (λ made. D.faults disk ≤ D.faults (world made.0).opened.file.value.cells.disk) }
+        ensures devices { IfOk result (λ made. (world made.0).opened.devices.value ≡ devices) }
+        ensures seed { IfOk result (λ made. (world made.0).opened.seed.value ≡ seed.now) }
+        ensures rules { IfOk result (λ made. (world made.0).opened.rules.value ≡ rules) }
+        ensures refused { IfErr result (λ unopened. IsRefused D.contents D.may_leave D.moment D.left_since D.faults disk unopened.disk unopened.fault
+            ⊎ ((unopened.fault ≡ fault.Memory) × ((slots : List cell.Slot) × IsOpened D.contents D.may_leave D.moment D.left_since disk unopened.disk slots) × (D.faults disk ≤ D.faults unopened.disk))) }
+        ensures returned { IfErr result (λ unopened. unopened.devices ≡ devices) }
+    {
+        let store = Store::open(alloc, disk, devices, rules, seed)?;
+        let seen = Seen {
+            opened: Snapshot::of(&store.opened),
+        };
+        match HistoryLock::new(alloc, Held { store }, 16) {
+            Ok((lock, passes)) => Ok((SharedStore { lock, seen }, passes)),
+            Err(Refused { value }) => {
+                let Held { store } = value;
+                let (disk, devices) = store.into_disk();
+                Err(Unopened {
+                    disk,
+                    devices,
+                    fault: OpenFault::Memory,
+                })
+            }
+        }
+    }
+
+    /// An end for which no pass was handed in.
+    pub fn start_ending(self) -> Ending<Held<D, A, C>>
+        ensures lock { result.lock ≡ self.lock }
+        ensures nothing { (result.last.me.0.accounts ≡ []) × (result.last.me.0.weight ≡ 0) }
+    {
+        let SharedStore { lock, seen: _ } = self;
+        lock.start_ending()
+    }
+}
+
+/// The disk and the devices of a store, once all passes are handed in.
+pub fn end<D: Disk, A: Devices, C: Admission>(ending: Ending<Held<D, A, C>>) -> (D, A)
+    requires sixteen { ending.lock.table.shared.key.passes ≡ 16 }
+    requires whole { ending.last.me.0.weight ≡ 16 }
+    ensures closed { IsClosed (world_of D.Disk A.Devices C.Admission ending.lock.table.shared.table_id ending.lock.table.shared.key.value.value.store.opened) result.0 result.1 ending.last.me.0.accounts }
+{
+    let Held { store } = ending.end();
+    store.into_disk()
+}

@@ -1,0 +1,12 @@
+-- What a state stands for, by its phase.
+use Rattle.store_model.specs.Operations as model
+use Rattle.store_model.specs.Operations.{Operation}
+use Rattle.multipart.specs.declared.Phase.{Phase}
+use Rattle.multipart.specs.declared.Phase.TheVariants as phase
+
+-- A state of this phase stands for an operation of the same one. Of an active one it holds the work; any other is clear.
+abbrev pub StandsFor : {W : Type 0} → Phase → (clear : Type 0) → (holds : W → Type 0) → Operation W → Type 0
+StandsFor phase.Active clear holds (model.Active work) = holds work
+StandsFor phase.Inactive clear holds model.Inactive = clear
+StandsFor phase.InError clear holds model.InError = clear
+StandsFor _ clear holds _ = ⊥

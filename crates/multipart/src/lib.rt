@@ -1,0 +1,71 @@
+//! The phases of an operation in several parts and how it gives bytes, which all families share.
+#![tactic(auto)]
+
+ghost use Rattle.std.specs.Prelude.{◌≡◌, if◌then◌else◌, IfOk, IfErr};
+ghost use Rattle.psa_status.specs.declared.Status.TheVariants.{BadState};
+ghost use Rattle.multipart.specs.declared.Phase.TheVariants as phase;
+
+pub use comparing::is_front;
+pub use family::{Family, compute, drawn};
+pub use outputs::{give, give_front, move_to_front};
+use psa_status::Status;
+pub use state::{OperationState, Work};
+
+mod comparing;
+mod family;
+mod outputs;
+mod state;
+
+/// How an operation stands: it waits for a setup, it has failed and waits for its abort, or it is active.
+#[derive(Clone, Copy, Debug, Drop, PartialEq, Eq)]
+pub enum Phase {
+    Inactive,
+    InError,
+    Active,
+}
+
+impl Phase {
+    // This phase where a call succeeded, and else in error.
+    fn unless_failed(self, succeeded: bool) -> Phase
+        ensures { result ≡ (if succeeded then self else phase.InError) }
+    {
+        if succeeded { self } else { Phase::InError }
+    }
+
+    /// The phase after a step: active where it succeeded, and else in error.
+    pub fn after_step(succeeded: bool) -> Phase
+        ensures { result ≡ (if succeeded then phase.Active else phase.InError) }
+    {
+        Phase::Active.unless_failed(succeeded)
+    }
+
+    /// The phase after a finish: inactive where it succeeded, and else in error.
+    pub fn after_finish(succeeded: bool) -> Phase
+        ensures phase { result ≡ (if succeeded then phase.Inactive else phase.InError) }
+        ensures ended { result ≡ phase.Active → ⊥ }
+    {
+        Phase::Inactive.unless_failed(succeeded)
+    }
+
+    /// `BadState` exactly where the operation isn't inactive, as a setup asks.
+    pub fn check_inactive(self) -> Result<(), Status>
+        ensures inactive { IfOk result (λ _. self ≡ phase.Inactive) }
+        ensures refused { IfErr result (λ status. (status ≡ BadState) × (self ≡ phase.Inactive → ⊥)) }
+    {
+        match self {
+            Phase::Inactive => Ok(()),
+            Phase::InError | Phase::Active => Err(Status::BadState),
+        }
+    }
+
+    /// `BadState` exactly where the operation isn't active, as a step and a finish ask.
+    pub fn check_active(self) -> Result<(), Status>
+        ensures active { IfOk result (λ _. self ≡ phase.Active) }
+        ensures refused { IfErr result (λ status. (status ≡ BadState) × (self ≡ phase.Active → ⊥)) }
+    {
+        match self {
+            Phase::Active => Ok(()),
+            Phase::Inactive | Phase::InError => Err(Status::BadState),
+        }
+    }
+}

@@ -1,5 +1,0 @@
-use Rattle.operation_cells.proofs.Ended as laws
-use Rattle.operation_cells.proofs.laws.an_ended_operation_is_clear.Goals as goal
-
-pub returns : goal.returns
-returns c = laws.ended

@@ -1,0 +1,41 @@
+-- Setups and steps on a handle, as the service serves them.
+use Rattle.std.proofs.Common.{◌≡◌, ℕ, refl, sym, ap, ◌∙◌}
+use Rattle.psa_status.specs.declared.Status.{Status}
+use Rattle.psa_status.specs.declared.Status.TheVariants.{BadState}
+use Rattle.store_model.specs.Outcome.{counted, refusal}
+use Rattle.store_model.specs.Operations.{Operation, Inactive, InError, Active, After, stays}
+use Rattle.store_model.specs.Handles.{Own, Service, Work, applied, operation_of, own_of, stepped, untouched, with_own}
+use Rattle.store_model.proofs.Operations.{same_own, same_service}
+use Rattle.service_calls.specs.declared.handle_calls.Setup.TheVariants as setup
+use Rattle.service_calls.specs.declared.steps.Step.TheVariants as steps
+use Rattle.operation_handles.specs.Steps.{on_part}
+use Rattle.operation_handles.specs.Laws.{SetupsAreTheModels, StepsAreTheModels, has_live_key}
+
+-- an operation that stays as it was
+pub untouched_is : (service : Service) (caller handle : ℕ) (status : Status) → untouched service status ≡ applied service caller handle (stays (operation_of service caller handle) status)
+untouched_is service caller handle status =
+    sym (ap (λ (own : Own). record { service = with_own service (counted service.store) caller own; reply = refusal status }) (same_own (own_of service caller) handle)
+    ∙ ap (λ (s : Service). record { service = s; reply = refusal status }) (same_service service (counted service.store) caller))
+
+pub stepped_is : {W : Type 0} (service : Service) (caller handle : ℕ) (embed : W → Work) (own : Operation W) (f : W → After W) →
+    stepped service caller handle embed own f ≡ applied service caller handle (on_part (operation_of service caller handle) embed own (has_live_key service caller handle) f)
+stepped_is service caller handle embed (Active w) f = refl
+stepped_is service caller handle embed Inactive f = untouched_is service caller handle BadState
+stepped_is service caller handle embed InError f = untouched_is service caller handle BadState
+
+pub setups : SetupsAreTheModels
+setups service caller handle (setup.Hash alg) = refl
+setups service caller handle (setup.MacSign key alg) = refl
+setups service caller handle (setup.MacVerify key alg) = refl
+setups service caller handle (setup.CipherEncrypt key alg) = refl
+setups service caller handle (setup.CipherDecrypt key alg) = refl
+setups service caller handle (setup.AeadEncrypt key alg) = refl
+setups service caller handle (setup.AeadDecrypt key alg) = refl
+setups service caller handle (setup.Derivation alg) = refl
+
+pub steps_are : StepsAreTheModels
+steps_are service caller handle (steps.Hash s) room = stepped_is service caller handle _ _ _
+steps_are service caller handle (steps.Mac s) room = stepped_is service caller handle _ _ _
+steps_are service caller handle (steps.Cipher s) room = stepped_is service caller handle _ _ _
+steps_are service caller handle (steps.Aead s) room = stepped_is service caller handle _ _ _
+steps_are service caller handle (steps.Derivation s) room = stepped_is service caller handle _ _ _

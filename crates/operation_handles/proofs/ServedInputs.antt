@@ -1,0 +1,87 @@
+-- A key as the secret of a handle's derivation, as the service serves it.
+use Rattle.std.proofs.Common.{◌≡◌, ℕ, Bool, true, false, refl, sym, ap, ◌∙◌}
+use Rattle.std.specs.Prelude.{Option, Some, None, cond}
+use Rattle.std.specs.FinMap as map
+use Rattle.psa_status.specs.declared.Status.{Status}
+use Rattle.psa_status.specs.declared.Status.TheVariants.{BadState}
+use Rattle.psa_status.specs.Rows.{first_row}
+use Rattle.psa_status.proofs.Rows.{first_row-front, first_row-back}
+use Rattle.alg_encoding.specs.Encoding.{is_concrete}
+use Rattle.key_policy.specs.declared.key_use.KeyUse.{KeyUse}
+use Rattle.key_policy.specs.Permissions.{pattern_refusal}
+use Rattle.key_policy.specs.Uses.{use_refusal}
+use Rattle.store_model.specs.Store.{Key}
+use Rattle.store_model.specs.Outcome.{done}
+use Rattle.store_model.specs.KeyUse.{bytes_of}
+use Rattle.store_model.specs.Operations.{Operation, Inactive, InError, Active, fails, goes_on, unless_failed, with_live_key}
+use Rattle.store_model.specs.DerivationOperations.{DerivationWork, key_step_rows, with_key}
+use Rattle.store_model.specs.Handles.{Deriving, HandleOperation, KeyCreation, Service, Served, applied, derivation_part, held_after, is_alive, key_of_operation, operation_of, part_of}
+use Rattle.store_model.specs.HandleCalls.{creation_of, derivation_key_rows, input_key, input_key_rows}
+use Rattle.operation_handles.specs.KeyInputs.{TakesKeyAt}
+use Rattle.operation_handles.specs.Steps.{on_part}
+use Rattle.operation_handles.specs.Laws.{KeyInputsAreTheModels, has_live_key}
+use Rattle.operation_handles.proofs.Served.{untouched_is}
+use Rattle.operation_handles.proofs.Steps.{same_work}
+
+-- what comes of a key, by whether the one before is alive and by the first row
+abbrev input_by : Service → (caller handle : ℕ) → DerivationWork → Option Key → (id : ℕ) → Bool → Option Status → Served
+input_by service caller handle w found id alive refused =
+    applied service caller handle (held_after (creation_of id found) Deriving (with_live_key alive (unless_failed refused (goes_on (with_key w (bytes_of found)) done))))
+
+-- A KEY THAT ISN'T LOOKED AT
+
+dead_or_failed : (service : Service) (caller handle : ℕ) (key other : Option KeyCreation) (w : DerivationWork) (status : Status) (alive : Bool) →
+    applied service caller handle (held_after key Deriving (with_live_key alive (fails status))) ≡ applied service caller handle (held_after other Deriving (with_live_key alive (fails status)))
+dead_or_failed service caller handle key other w status true = refl
+dead_or_failed service caller handle key other w status false = refl
+
+untimely_by : (service : Service) (caller handle step id : ℕ) (w : DerivationWork) (refused : Option Status) → first_row (key_step_rows w step) ≡ refused → (refused ≡ None → ⊥) →
+    input_key service caller handle (Active w) step id
+    ≡ applied service caller handle (on_part (operation_of service caller handle) Deriving (Active w) (has_live_key service caller handle) (λ v. unless_failed (first_row (key_step_rows v step)) (goes_on v done)))
+untimely_by service caller handle step id w None e refuses = absurd (refuses refl)
+untimely_by service caller handle step id w (Some status) e refuses =
+    let found : Option Key = map.get service.store.keys id in
+    let key : Option KeyCreation = key_of_operation (operation_of service caller handle) in
+    let alive = has_live_key service caller handle in
+    ap (input_by service caller handle w found id alive) (first_row-front (key_step_rows w step) (derivation_key_rows found step w.alg) status e)
+    ∙ dead_or_failed service caller handle (creation_of id found) key w status alive
+    ∙ sym (ap (λ o. applied service caller handle (held_after key Deriving (with_live_key alive (unless_failed o (goes_on w done))))) e)
+
+untimely_of : (service : Service) (caller handle step id : ℕ) (own : Operation DerivationWork) → ((w : DerivationWork) → own ≡ Active w → first_row (key_step_rows w step) ≡ None → ⊥) →
+    input_key service caller handle own step id
+    ≡ applied service caller handle (on_part (operation_of service caller handle) Deriving own (has_live_key service caller handle) (λ v. unless_failed (first_row (key_step_rows v step)) (goes_on v done)))
+untimely_of service caller handle step id (Active w) refuses = untimely_by service caller handle step id w (first_row (key_step_rows w step)) refl (refuses w refl)
+untimely_of service caller handle step id Inactive refuses = untouched_is service caller handle BadState
+untimely_of service caller handle step id InError refuses = untouched_is service caller handle BadState
+
+-- A KEY THAT IS LOOKED AT
+
+concrete_refusal : (b : Bool) (step alg : ℕ) (found : Option Key) → b ≡ true → cond b (first_row (derivation_key_rows found step alg)) (Some (pattern_refusal found)) ≡ first_row (derivation_key_rows found step alg)
+concrete_refusal true step alg found e = refl
+concrete_refusal false step alg found e = cc
+
+-- what the key is refused is what its rows say
+refusal_is : (operation : HandleOperation) (step : ℕ) (wanted : KeyUse) (found : Option Key) (h : TakesKeyAt operation step wanted) → use_refusal wanted found ≡ first_row (derivation_key_rows found step h.w.alg)
+refusal_is operation step wanted found h = ap (λ u. use_refusal u found) h.wanted_is ∙ concrete_refusal (is_concrete h.w.alg) step h.w.alg found h.concrete
+
+looked_at : (service : Service) (caller handle step id : ℕ) (wanted : KeyUse) → (h : TakesKeyAt (operation_of service caller handle) step wanted) →
+    input_key service caller handle (part_of derivation_part (operation_of service caller handle)) step id
+    ≡ input_by service caller handle h.w (map.get service.store.keys id) id true (use_refusal wanted (map.get service.store.keys id))
+looked_at service caller handle step id wanted h =
+    let found : Option Key = map.get service.store.keys id in
+    ap (λ o. input_key service caller handle o step id) h.derives
+    ∙ ap (λ k. input_by service caller handle h.w found id (is_alive service.store k) (first_row (input_key_rows h.w found step))) h.no_key
+    ∙ ap (input_by service caller handle h.w found id true)
+    (first_row-back (key_step_rows h.w step) (derivation_key_rows found step h.w.alg) h.due ∙ sym (refusal_is (operation_of service caller handle) step wanted found h))
+
+pub inputs : KeyInputsAreTheModels
+inputs = record {
+  untimely = λ service caller handle step id refuses. untimely_of service caller handle step id (part_of derivation_part (operation_of service caller handle)) refuses;
+  unfit = λ service caller handle step id wanted status h refused.
+      looked_at service caller handle step id wanted h
+      ∙ ap (input_by service caller handle h.w (map.get service.store.keys id) id true) refused;
+  taken = λ service caller handle step id wanted w h derives passes.
+      looked_at service caller handle step id wanted h
+      ∙ ap (input_by service caller handle h.w (map.get service.store.keys id) id true) passes
+      ∙ ap (λ v. input_by service caller handle v (map.get service.store.keys id) id true None) (same_work h.w w (sym h.derives ∙ derives));
+}

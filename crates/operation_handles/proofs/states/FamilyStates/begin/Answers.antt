@@ -1,0 +1,45 @@
+use Rattle.std.proofs.Common.{◌≡◌, refl, sym, ◌∙◌, subst}
+use Rattle.std.specs.Prelude.{None}
+use Rattle.psa_status.specs.Rows.{first_row}
+use Rattle.alg_encoding.specs.declared.table.Class.TheVariants as class
+use Rattle.service_calls.specs.Answers.{plain_reply}
+use Rattle.store_model.specs.Operations.{Inactive}
+use Rattle.store_model.specs.Handles.{Hashing, Deriving}
+use Rattle.store_model.specs.HashOperations.{hash_work}
+use Rattle.store_model.specs.DerivationOperations.{derivation_work}
+use Rattle.store_model.specs.Rules.{class_rows}
+use Rattle.operation_handles.specs.Families.{Hashes, Derivations}
+use Rattle.operation_handles.specs.Setups.{set_up_without_key}
+use Rattle.operation_handles.specs.States.{AreStates}
+use Rattle.operation_handles.specs.declared.states.FamilyStates.{FamilyStates}
+use Rattle.operation_handles.proofs.Deriving.{set_up_has, set_up_may}
+use Rattle.operation_handles.proofs.Families.{put_hash, put_derivation}
+use Rattle.operation_handles.proofs.Fresh.{set_up_are, set_up_reply}
+use Rattle.operation_handles.proofs.states.FamilyStates.begin.Goals as goal
+
+pub returns-in-Hash-clause-state : goal.returns-in-Hash-clause-state
+returns-in-Hash-clause-state c = λ all.
+    let s = c.args.self.now in
+    let t : FamilyStates = record s { hash = c.hash_setup.new.self } in
+    subst (λ setup. AreStates t None (set_up_without_key Inactive setup).operation) (sym c.in-Hash.is)
+    (set_up_are Hashes s t (first_row (class_rows class.Hash c.in-Hash.alg.0)) (hash_work c.in-Hash.alg.0) (put_hash s c.hash_setup.new.self) all (c.hash_setup.ensures.state Inactive (all Hashes)) refl)
+
+pub returns-in-Hash-clause-reply : goal.returns-in-Hash-clause-reply
+returns-in-Hash-clause-reply c = λ all.
+    subst (λ setup. plain_reply c.hash_setup.result ≡ (set_up_without_key Inactive setup).reply) (sym c.in-Hash.is)
+    (c.hash_setup.ensures.reply Inactive (all Hashes) ∙ set_up_reply (first_row (class_rows class.Hash c.in-Hash.alg.0)) None Hashing (hash_work c.in-Hash.alg.0))
+
+pub returns-in-Derivation-clause-state : goal.returns-in-Derivation-clause-state
+returns-in-Derivation-clause-state c = λ all.
+    let s = c.args.self.now in
+    let t : FamilyStates = record s { derivation = c.key_derivation_setup.new.self; alg = c.in-Derivation.alg } in
+    let refused = first_row (class_rows class.Derivation c.in-Derivation.alg.0) in
+    let work = derivation_work c.in-Derivation.alg.0 in
+    subst (λ setup. AreStates t None (set_up_without_key Inactive setup).operation) (sym c.in-Derivation.is)
+    (set_up_are Derivations s t refused work (put_derivation s c.key_derivation_setup.new.self c.in-Derivation.alg) all
+    (record { state = c.key_derivation_setup.ensures.state Inactive (all Derivations).state; algorithm = set_up_has class.Derivation c.in-Derivation.alg.0 }) (set_up_may refused work))
+
+pub returns-in-Derivation-clause-reply : goal.returns-in-Derivation-clause-reply
+returns-in-Derivation-clause-reply c = λ all.
+    subst (λ setup. plain_reply c.key_derivation_setup.result ≡ (set_up_without_key Inactive setup).reply) (sym c.in-Derivation.is)
+    (c.key_derivation_setup.ensures.reply Inactive (all Derivations).state ∙ set_up_reply (first_row (class_rows class.Derivation c.in-Derivation.alg.0)) None Deriving (derivation_work c.in-Derivation.alg.0))

@@ -1,0 +1,81 @@
+-- Laws of operations, and how their calls are those of the model's service.
+use Rattle.std.specs.Prelude.{ℕ, ◌≡◌, Bool, true, false, Some, None}
+use Rattle.std.specs.FinMap as map
+use Rattle.psa_status.specs.declared.Status.{Status}
+use Rattle.psa_status.specs.declared.Status.TheVariants.{InvalidHandle}
+use Rattle.key_attributes.specs.declared.Attributes.{Attributes}
+use Rattle.key_policy.specs.declared.key_use.KeyUse.{KeyUse}
+use Rattle.key_policy.specs.Uses.{use_refusal}
+use Rattle.derivation_states.specs.KeySteps.{output_key_refusal}
+use Rattle.store_model.specs.Outcome.{done}
+use Rattle.store_model.specs.Creation.{recorded_of}
+use Rattle.store_model.specs.KeyUse.{bytes_of}
+use Rattle.store_model.specs.Operations.{Active, fails, goes_on}
+use Rattle.store_model.specs.DerivationOperations.{DerivationWork, stated_bytes, with_key}
+use Rattle.store_model.specs.Handles.{HandleOperation, Deriving, Service, applied, derivation_part, is_alive, key_of_operation, operation_of, part_of}
+use Rattle.store_model.specs.HandleCalls.{InputKey, OutputKey, creation_of, derived_key, handle_step, random_of}
+use Rattle.service_calls.specs.Meanings.{model_setup, model_step}
+use Rattle.service_calls.specs.declared.handle_calls.Setup.{Setup}
+use Rattle.service_calls.specs.declared.steps.Step.{Step}
+use Rattle.multipart.specs.Turns.{is_active}
+use Rattle.operation_handles.specs.States.{AreClear}
+use Rattle.operation_handles.specs.Cells.{IsOperation}
+use Rattle.operation_handles.specs.Setups.{set_up_by}
+use Rattle.operation_handles.specs.Steps.{stepped_by}
+use Rattle.operation_handles.specs.KeyInputs.{RefusesKeyAt, TakesKeyAt, key_refused}
+use Rattle.operation_handles.specs.KeyOutputs.{derived_key_refused}
+use Rattle.operation_handles.specs.declared.cell.Cell.{Cell}
+
+abbrev pub EndedOperationsAreClear : Type 0
+EndedOperationsAreClear = (c : Cell) (operation : HandleOperation) → IsOperation c operation → is_active operation ≡ false → AreClear c.states
+
+-- whether the key of a handle's operation is still there
+abbrev pub has_live_key : Service → (caller handle : ℕ) → Bool
+has_live_key service caller handle = is_alive service.store (key_of_operation (operation_of service caller handle))
+
+abbrev pub SetupsAreTheModels : Type 0
+SetupsAreTheModels = (service : Service) (caller handle : ℕ) (setup : Setup) →
+    handle_step service caller handle (model_setup setup)
+    ≡ applied service caller handle (set_up_by service.store (operation_of service caller handle) setup)
+
+abbrev pub StepsAreTheModels : Type 0
+StepsAreTheModels = (service : Service) (caller handle : ℕ) (step : Step) (room : ℕ) →
+    handle_step service caller handle (model_step step room)
+    ≡ applied service caller handle (stepped_by (has_live_key service caller handle) (random_of service caller) (operation_of service caller handle) (model_step step room))
+
+-- A KEY AS A SECRET
+
+pub record KeyInputsAreTheModels : Type 0 where
+  -- refused before it is looked at
+  pub untimely : (service : Service) (caller handle step id : ℕ) → RefusesKeyAt (operation_of service caller handle) step →
+      handle_step service caller handle (InputKey step id)
+      ≡ applied service caller handle (key_refused (has_live_key service caller handle) (operation_of service caller handle) step)
+  -- looked at, and refused
+  pub unfit : (service : Service) (caller handle step id : ℕ) (wanted : KeyUse) (status : Status) →
+      TakesKeyAt (operation_of service caller handle) step wanted → use_refusal wanted (map.get service.store.keys id) ≡ Some status →
+      handle_step service caller handle (InputKey step id) ≡ applied service caller handle (fails status)
+  -- taken
+  pub taken : (service : Service) (caller handle step id : ℕ) (wanted : KeyUse) (w : DerivationWork) →
+      TakesKeyAt (operation_of service caller handle) step wanted → part_of derivation_part (operation_of service caller handle) ≡ Active w →
+      use_refusal wanted (map.get service.store.keys id) ≡ None →
+      handle_step service caller handle (InputKey step id)
+      ≡ applied service caller handle (goes_on (record { key = creation_of id (map.get service.store.keys id); work = Deriving (with_key w (bytes_of (map.get service.store.keys id))) }) done)
+
+-- A KEY OF DERIVED BYTES
+
+pub record KeyOutputsAreTheModels : Type 0 where
+  -- refused by the derivation
+  pub refused : (service : Service) (caller handle : ℕ) (a : Attributes) →
+      (output_key_refusal (part_of derivation_part (operation_of service caller handle)) a ≡ None → ⊥) →
+      handle_step service caller handle (OutputKey a)
+      ≡ applied service caller handle (derived_key_refused (has_live_key service caller handle) (operation_of service caller handle) a)
+  -- the derivation's own key is gone
+  pub lost : (service : Service) (caller handle : ℕ) (a : Attributes) (w : DerivationWork) →
+      part_of derivation_part (operation_of service caller handle) ≡ Active w → has_live_key service caller handle ≡ false →
+      handle_step service caller handle (OutputKey a) ≡ applied service caller handle (fails InvalidHandle)
+  -- to be created
+  pub due : (service : Service) (caller handle : ℕ) (a : Attributes) (w : DerivationWork) →
+      part_of derivation_part (operation_of service caller handle) ≡ Active w → has_live_key service caller handle ≡ true →
+      output_key_refusal (part_of derivation_part (operation_of service caller handle)) a ≡ None →
+      handle_step service caller handle (OutputKey a)
+      ≡ derived_key service caller handle (key_of_operation (operation_of service caller handle)) w (stated_bytes a) (recorded_of service.store caller a (stated_bytes a))

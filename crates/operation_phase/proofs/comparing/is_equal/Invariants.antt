@@ -1,6 +1,0 @@
-use Rattle.std.proofs.Common.{◌≡◌, take}
-use Rattle.std.specs.Prelude.{bytes_eq}
-use Rattle.operation_phase.proofs.comparing.is_equal.Given as goal
-
-abbrev pub invariant-bytes : goal.invariant-bytes
-invariant-bytes l = record { same : l.same ≡ bytes_eq (take l.i l.given) (take l.i l.computed) }

@@ -1,0 +1,328 @@
+-- A filed store after a change of its cells.
+use Rattle.std.proofs.Common.{◌≡◌, ◌≢◌, ⊎_elim, ℕ, ◌<◌, eq-eqb, ne_eqb, true, false, cond, List, [], ◌∷◌, length, set, Option, None, Some, refl, sym, ◌∙◌, ap, subst, arith}
+use Rattle.std.proofs.lemmas.Bool.{cases_eq}
+use Rattle.std.proofs.lemmas.List.{length-map, length-set, get_or-map, get_or-set_same, get_or-set_other}
+use Rattle.key_cells.specs.declared.slot.Slot.{Slot}
+use Rattle.key_cells.specs.declared.slot.Slot.TheVariants.{Free, Open, Shut, Unsure}
+use Rattle.key_cells.specs.Contents.{Content, Absent, Present, Doubtful, cell_slot, content_at, has_id, is_open, settled_slot, settled_slots, settled_content, settled}
+use Rattle.key_attributes.specs.declared.Attributes.{Attributes}
+use Rattle.key_cells.specs.Body.{HoldsKey, HoldsId}
+use Rattle.persistent_keys.specs.Files.{Stored, stored, Keys, Doubt, IsDoubted, IsDoubtedIn, TellsCell, IsOf, IsFiled, IsPut}
+use Rattle.key_cells.proofs.Moves.{settled_open}
+use Rattle.key_cells.proofs.Bodies.{of_one_key}
+use Rattle.persistent_keys.proofs.Fitting.{tells_open}
+
+-- what is in doubt is in doubt there too
+abbrev pub IsWider : Doubt → Doubt → Type 0
+IsWider doubt doubt' = (a : Attributes) (bytes : List ℕ) → IsDoubted doubt a bytes → IsDoubted doubt' a bytes
+
+pub no_doubt : (doubt : Doubt) → IsWider [] doubt
+no_doubt doubt a bytes d = absurd d
+
+pub same_doubt : (doubt : Doubt) → IsWider doubt doubt
+same_doubt doubt a bytes d = d
+
+has_settled : (id : ℕ) (slot : Slot) → has_id id (settled_slot slot) ≡ has_id id slot
+has_settled id Free = refl
+has_settled id (Open own creation) = refl
+has_settled id Shut = refl
+has_settled id Unsure = refl
+
+-- what is in doubt is gone
+tells_sure : (keys : Keys) (doubt doubt' : Doubt) (slot : Slot) (content : Content) → TellsCell keys doubt slot content → TellsCell keys doubt' slot (settled_content content)
+tells_sure keys doubt doubt' Free Absent t = tt
+tells_sure keys doubt doubt' Free (Present body) t = absurd t
+tells_sure keys doubt doubt' Free (Doubtful body) t = tt
+tells_sure keys doubt doubt' (Open id creation) Absent t = absurd t
+tells_sure keys doubt doubt' (Open id creation) (Present body) t = t
+tells_sure keys doubt doubt' (Open id creation) (Doubtful body) t = absurd t
+tells_sure keys doubt doubt' Shut Absent t = tt
+tells_sure keys doubt doubt' Shut (Present body) t = absurd t
+tells_sure keys doubt doubt' Shut (Doubtful body) t = tt
+tells_sure keys doubt doubt' Unsure Absent t = tt
+tells_sure keys doubt doubt' Unsure (Present body) t = absurd t
+tells_sure keys doubt doubt' Unsure (Doubtful body) t = tt
+
+of_settled : (id : ℕ) (content : Content) → IsOf id (settled_content content) → IsOf id content
+of_settled id Absent is = is
+of_settled id (Present body) is = is
+of_settled id (Doubtful body) is = absurd is
+
+-- another slot that is as good once nothing is in doubt
+closed_alike : (keys : Keys) (doubt : Doubt) (slot slot' : Slot) (content : Content) → is_open slot ≡ false → is_open slot' ≡ false → TellsCell keys doubt slot content → TellsCell keys doubt slot' content
+closed_alike keys doubt slot slot' content shut shut' t = to slot' content shut' (from slot content shut t)
+  where
+    from : (slot : Slot) (content : Content) → is_open slot ≡ false → TellsCell keys doubt slot content → TellsCell keys doubt Free content
+    from Free content shut t = t
+    from (Open id creation) content shut t = cc
+    from Shut Absent shut t = t
+    from Shut (Present body) shut t = t
+    from Shut (Doubtful body) shut t = t
+    from Unsure Absent shut t = t
+    from Unsure (Present body) shut t = t
+    from Unsure (Doubtful body) shut t = t
+
+    to : (slot : Slot) (content : Content) → is_open slot ≡ false → TellsCell keys doubt Free content → TellsCell keys doubt slot content
+    to Free content shut t = t
+    to (Open id creation) content shut t = cc
+    to Shut Absent shut t = t
+    to Shut (Present body) shut t = t
+    to Shut (Doubtful body) shut t = t
+    to Unsure Absent shut t = t
+    to Unsure (Present body) shut t = t
+    to Unsure (Doubtful body) shut t = t
+
+tells_alike : (keys : Keys) (doubt : Doubt) (slot slot' : Slot) (content : Content) → settled_slot slot' ≡ settled_slot slot → TellsCell keys doubt slot content → TellsCell keys doubt slot' content
+tells_alike keys doubt Free Free content same t = t
+tells_alike keys doubt Free (Open id creation) content same t = cc
+tells_alike keys doubt Free Shut content same t = closed_alike keys doubt Free Shut content refl refl t
+tells_alike keys doubt Free Unsure content same t = closed_alike keys doubt Free Unsure content refl refl t
+tells_alike keys doubt (Open id creation) slot' content same t = open_same slot' same
+  where
+    open_same : (slot' : Slot) → settled_slot slot' ≡ Open id creation → TellsCell keys doubt slot' content
+    open_same Free e = cc
+    open_same (Open id' creation') e = subst (λ (s : Slot). TellsCell keys doubt s content) (sym e) t
+    open_same Shut e = cc
+    open_same Unsure e = cc
+tells_alike keys doubt Shut Free content same t = closed_alike keys doubt Shut Free content refl refl t
+tells_alike keys doubt Shut (Open id creation) content same t = cc
+tells_alike keys doubt Shut Shut content same t = t
+tells_alike keys doubt Shut Unsure content same t = closed_alike keys doubt Shut Unsure content refl refl t
+tells_alike keys doubt Unsure Free content same t = closed_alike keys doubt Unsure Free content refl refl t
+tells_alike keys doubt Unsure (Open id creation) content same t = cc
+tells_alike keys doubt Unsure Shut content same t = closed_alike keys doubt Unsure Shut content refl refl t
+tells_alike keys doubt Unsure Unsure content same t = t
+
+-- other keys, where the cell's own is the same
+tells_moved : (keys keys' : Keys) (doubt doubt' : Doubt) (slot : Slot) (content : Content) → ((id : ℕ) → has_id id slot ≡ true → keys' id ≡ keys id) → IsWider doubt doubt' → TellsCell keys doubt slot content → TellsCell keys' doubt' slot content
+tells_moved keys keys' doubt doubt' Free Absent same wider t = tt
+tells_moved keys keys' doubt doubt' Free (Present body) same wider t = absurd t
+tells_moved keys keys' doubt doubt' Free (Doubtful body) same wider t = (t.0, t.1, t.2, wider t.0 t.1 t.3)
+tells_moved keys keys' doubt doubt' (Open id creation) Absent same wider t = absurd t
+tells_moved keys keys' doubt doubt' (Open id creation) (Present body) same wider t = (t.0, t.1, t.2, t.3, same id (eq-eqb id id refl) ∙ t.4)
+tells_moved keys keys' doubt doubt' (Open id creation) (Doubtful body) same wider t = absurd t
+tells_moved keys keys' doubt doubt' Shut Absent same wider t = tt
+tells_moved keys keys' doubt doubt' Shut (Present body) same wider t = absurd t
+tells_moved keys keys' doubt doubt' Shut (Doubtful body) same wider t = (t.0, t.1, t.2, wider t.0 t.1 t.3)
+tells_moved keys keys' doubt doubt' Unsure Absent same wider t = tt
+tells_moved keys keys' doubt doubt' Unsure (Present body) same wider t = absurd t
+tells_moved keys keys' doubt doubt' Unsure (Doubtful body) same wider t = (t.0, t.1, t.2, wider t.0 t.1 t.3)
+
+has_no_id : (id : ℕ) (slot : Slot) → is_open slot ≡ false → has_id id slot ≡ false
+has_no_id id Free shut = refl
+has_no_id id (Open own creation) shut = cc
+has_no_id id Shut shut = refl
+has_no_id id Unsure shut = refl
+
+settled_slot_at : (slots : List Slot) (cell : ℕ) → length slots ≡ 512 → cell < 512 → cell_slot (settled_slots slots) cell ≡ settled_slot (cell_slot slots cell)
+settled_slot_at slots cell sized lt = get_or-map settled_slot slots cell Free Free (omega (arith, sized))
+
+pub settled_twice : (slots : List Slot) → settled_slots (settled_slots slots) ≡ settled_slots slots
+settled_twice [] = refl
+settled_twice (Free ∷ slots) = ap (λ (l : List Slot). Free ∷ l) (settled_twice slots)
+settled_twice (Open id creation ∷ slots) = ap (λ (l : List Slot). Open id creation ∷ l) (settled_twice slots)
+settled_twice (Shut ∷ slots) = ap (λ (l : List Slot). Free ∷ l) (settled_twice slots)
+settled_twice (Unsure ∷ slots) = ap (λ (l : List Slot). Free ∷ l) (settled_twice slots)
+
+-- nothing is in doubt any more
+pub settles : (keys : Keys) (doubt doubt' : Doubt) (slots : List Slot) (contents : List Content) → length contents ≡ 512 → IsFiled keys doubt slots contents → IsFiled keys doubt' slots (settled contents)
+settles keys doubt doubt' slots contents count f = record {
+  sized = f.sized;
+  each = λ cell lt. rw (get_or-map settled_content contents cell Absent Absent (omega (arith, count))) (tells_sure keys doubt doubt' (cell_slot slots cell) (content_at contents cell) (f.each cell lt));
+  found = f.found;
+  apart = λ id cell other lt lt' is is'. f.apart id cell other lt lt' (was id cell lt is) (was id other lt' is');
+}
+  where
+    was : (id cell : ℕ) → cell < 512 → IsOf id (content_at (settled contents) cell) → IsOf id (content_at contents cell)
+    was id cell lt is = of_settled id (content_at contents cell) (subst (λ (c : Content). IsOf id c) (get_or-map settled_content contents cell Absent Absent (omega (arith, count))) is)
+
+-- a directory that is as good once nothing is in doubt
+pub resettles : (keys : Keys) (doubt : Doubt) (slots slots' : List Slot) (contents : List Content) → settled_slots slots' ≡ settled_slots slots → IsFiled keys doubt slots contents → IsFiled keys doubt slots' contents
+resettles keys doubt slots slots' contents same f = record {
+  sized = sized;
+  each = λ cell lt. tells_alike keys doubt (cell_slot slots cell) (cell_slot slots' cell) (content_at contents cell) (alike cell lt) (f.each cell lt);
+  found = λ id key is. let c = f.found id key is in (c.0, c.1, has id c.0 c.1 ∙ c.2);
+  apart = f.apart;
+}
+  where
+    sized : length slots' ≡ 512
+    sized = sym (length-map slots' settled_slot) ∙ (ap length same ∙ (length-map slots settled_slot ∙ f.sized))
+
+    alike : (cell : ℕ) → cell < 512 → settled_slot (cell_slot slots' cell) ≡ settled_slot (cell_slot slots cell)
+    alike cell lt = sym (settled_slot_at slots' cell sized lt) ∙ (ap (λ (l : List Slot). cell_slot l cell) same ∙ settled_slot_at slots cell f.sized lt)
+
+    has : (id cell : ℕ) → cell < 512 → has_id id (cell_slot slots' cell) ≡ has_id id (cell_slot slots cell)
+    has id cell lt = sym (has_settled id (cell_slot slots' cell)) ∙ (ap (has_id id) (alike cell lt) ∙ has_settled id (cell_slot slots cell))
+
+-- the same keys, and more in doubt
+pub refiled : (keys keys' : Keys) (doubt doubt' : Doubt) (slots : List Slot) (contents : List Content) → ((id : ℕ) → keys' id ≡ keys id) → IsWider doubt doubt' → IsFiled keys doubt slots contents → IsFiled keys' doubt' slots contents
+refiled keys keys' doubt doubt' slots contents same wider f = record {
+  sized = f.sized;
+  each = λ cell lt. tells_moved keys keys' doubt doubt' (cell_slot slots cell) (content_at contents cell) (λ id has. same id) wider (f.each cell lt);
+  found = λ id key is. f.found id key (sym (same id) ∙ is);
+  apart = f.apart;
+}
+
+-- an identifier is that of one slot
+pub one : (keys : Keys) (doubt : Doubt) (slots : List Slot) (contents : List Content) → IsFiled keys doubt slots contents → (id cell other : ℕ) → cell < 512 → other < 512 → has_id id (cell_slot slots cell) ≡ true → has_id id (cell_slot slots other) ≡ true → cell ≡ other
+one keys doubt slots contents f id cell other lt lt' has has' = f.apart id cell other lt lt' (of_open cell lt has) (of_open other lt' has')
+  where
+    of_open : (k : ℕ) → k < 512 → has_id id (cell_slot slots k) ≡ true → IsOf id (content_at contents k)
+    of_open k less h =
+        let o = tells_open keys doubt (cell_slot slots k) (content_at contents k) id h (f.each k less) in
+        subst (λ (c : Content). IsOf id c) (sym o.5) (o.2, o.3, o.6, o.7)
+
+-- one cell changes
+each_set : (keys : Keys) (doubt : Doubt) (slots : List Slot) (contents : List Content) (cell : ℕ) (slot : Slot) (content : Content) → length slots ≡ 512 → length contents ≡ 512 → cell < 512 → TellsCell keys doubt slot content
+    → ((other : ℕ) → other < 512 → other ≢ cell → TellsCell keys doubt (cell_slot slots other) (content_at contents other))
+    → (other : ℕ) → other < 512 → TellsCell keys doubt (cell_slot (set slots cell slot) other) (content_at (set contents cell content) other)
+each_set keys doubt slots contents cell slot content sized count lt here else other less = ⊎_elim
+    (λ is. rw is (rw (get_or-set_same slots cell slot Free (omega (arith, sized)), get_or-set_same contents cell content Absent (omega (arith, count))) here))
+    (λ differs. rw (get_or-set_other slots cell other slot Free differs, get_or-set_other contents cell other content Absent differs) (else other less differs))
+    (cases_eq other cell)
+
+tells_shut : (keys : Keys) (doubt : Doubt) (slot : Slot) (body : List ℕ) → is_open slot ≡ false → IsDoubtedIn doubt body → TellsCell keys doubt slot (Doubtful body)
+tells_shut keys doubt Free body shut d = d
+tells_shut keys doubt (Open id creation) body shut d = cc
+tells_shut keys doubt Shut body shut d = d
+tells_shut keys doubt Unsure body shut d = d
+
+-- the content of one cell changes to one of an identifier that no other cell has
+apart_set : (contents : List Content) (cell : ℕ) (content : Content) → length contents ≡ 512 → cell < 512
+    → ((id a b : ℕ) → a < 512 → b < 512 → IsOf id (content_at contents a) → IsOf id (content_at contents b) → a ≡ b)
+    → ((id other : ℕ) → other < 512 → other ≢ cell → IsOf id content → IsOf id (content_at contents other) → ⊥)
+    → (id a b : ℕ) → a < 512 → b < 512 → IsOf id (content_at (set contents cell content) a) → IsOf id (content_at (set contents cell content) b) → a ≡ b
+apart_set contents cell content count lt apart alone id a b la lb is is' =
+    ⊎_elim
+    (λ e. ⊎_elim (λ e'. e ∙ sym e') (λ ne'. absurd (alone id b lb ne' (here a e is) (there b ne' is'))) (cases_eq b cell))
+    (λ ne. ⊎_elim (λ e'. absurd (alone id a la ne (here b e' is') (there a ne is))) (λ ne'. apart id a b la lb (there a ne is) (there b ne' is')) (cases_eq b cell))
+    (cases_eq a cell)
+  where
+    here : (k : ℕ) → k ≡ cell → IsOf id (content_at (set contents cell content) k) → IsOf id content
+    here k e is = subst (λ (c : Content). IsOf id c) (get_or-set_same contents cell content Absent (omega (arith, count))) (subst (λ (j : ℕ). IsOf id (content_at (set contents cell content) j)) e is)
+
+    there : (k : ℕ) → k ≢ cell → IsOf id (content_at (set contents cell content) k) → IsOf id (content_at contents k)
+    there k ne is = subst (λ (c : Content). IsOf id c) (get_or-set_other contents cell k content Absent ne) is
+
+-- two bodies of one key have one identifier
+pub one_id : (id other : ℕ) (body : List ℕ) → HoldsId id body → HoldsId other body → id ≡ other
+one_id id other body h k = sym h.3 ∙ (ap (λ (a : Attributes). a.id.0) (of_one_key h.0 k.0 h.1 k.1 body h.2 k.2).0 ∙ k.3)
+
+-- no cell has a key of this identifier, for sure or in doubt
+abbrev pub HasNone : ℕ → List Content → Type 0
+HasNone id contents = (cell : ℕ) → cell < 512 → IsOf id (content_at contents cell) → ⊥
+
+-- once nothing is in doubt, a key that the file hasn't is in no cell
+pub none_settled : (keys : Keys) (doubt : Doubt) (slots : List Slot) (contents : List Content) (id : ℕ) → length contents ≡ 512 → keys id ≡ None → IsFiled keys doubt slots (settled contents) → HasNone id (settled contents)
+none_settled keys doubt slots contents id count none f cell lt is =
+    by (cell_slot slots cell) (content_at contents cell) (subst (λ (c : Content). TellsCell keys doubt (cell_slot slots cell) c) at (f.each cell lt)) (subst (λ (c : Content). IsOf id c) at is)
+  where
+    at : content_at (settled contents) cell ≡ settled_content (content_at contents cell)
+    at = get_or-map settled_content contents cell Absent Absent (omega (arith, count))
+
+    by : (slot : Slot) (content : Content) → TellsCell keys doubt slot (settled_content content) → IsOf id (settled_content content) → ⊥
+    by slot Absent t is = is
+    by Free (Present body) t is = t
+    by (Open own creation) (Present body) t is =
+        let same : own ≡ id = one_id own id body (t.0, t.1, t.2, t.3) is in
+        let z : None ≡ Some (stored creation t.0 t.1) = sym none ∙ (ap keys (sym same) ∙ t.4) in cc
+    by Shut (Present body) t is = t
+    by Unsure (Present body) t is = t
+    by slot (Doubtful body) t is = is
+
+-- a key is in doubt in a cell that has none
+pub doubts : (keys : Keys) (doubt : Doubt) (slots : List Slot) (contents : List Content) (cell id : ℕ) (body : List ℕ) → length contents ≡ 512 → cell < 512 → is_open (cell_slot slots cell) ≡ false → HoldsId id body → IsDoubtedIn doubt body → HasNone id contents
+    → IsFiled keys doubt slots contents → IsFiled keys doubt slots (set contents cell (Doubtful body))
+doubts keys doubt slots contents cell id body count lt shut holds d none f = record {
+  sized = f.sized;
+  each = λ other less. ⊎_elim
+      (λ is. rw is (rw (get_or-set_same contents cell (Doubtful body) Absent (omega (arith, count))) (tells_shut keys doubt (cell_slot slots cell) body shut d)))
+      (λ differs. rw (get_or-set_other contents cell other (Doubtful body) Absent differs) (f.each other less))
+      (cases_eq other cell);
+  found = f.found;
+  apart = apart_set contents cell (Doubtful body) count lt f.apart (λ q other less differs is is'. none other less (subst (λ (n : ℕ). IsOf n (content_at contents other)) (one_id q id body is holds) is'));
+}
+
+-- a key is put into a cell that has none
+pub adds : (keys keys' : Keys) (doubt : Doubt) (slots : List Slot) (contents : List Content) (cell creation : ℕ) (a : Attributes) (bytes body : List ℕ) → length contents ≡ 512 → cell < 512 → is_open (cell_slot slots cell) ≡ false → HoldsKey a bytes body → keys a.id.0 ≡ None → HasNone a.id.0 contents
+    → IsPut keys keys' a.id.0 (Some (stored creation a bytes)) → IsFiled keys doubt slots contents → IsFiled keys' doubt (set slots cell (Open a.id.0 creation)) (set contents cell (Present body))
+adds keys keys' doubt slots contents cell creation a bytes body count lt shut holds none none_there put f = record {
+  sized = length-set slots cell (Open id creation) ∙ f.sized;
+  each = each_set keys' doubt slots contents cell (Open id creation) (Present body) f.sized count lt (a, bytes, holds, refl, hit)
+      (λ other less differs. tells_moved keys keys' doubt doubt (cell_slot slots other) (content_at contents other) (λ q has. miss q (λ e. not_there other less (ap (λ i. has_id i (cell_slot slots other)) (sym e) ∙ has))) (same_doubt doubt) (f.each other less));
+  found = λ q key is. ⊎_elim
+      (λ e. (cell, lt, ap (has_id q) at_cell ∙ eq-eqb id q (sym e)))
+      (λ ne. let c = f.found q key (sym (miss q ne) ∙ is) in (c.0, c.1, ap (has_id q) (at_other c.0 (λ e. closed q (ap (λ k. has_id q (cell_slot slots k)) (sym e) ∙ c.2))) ∙ c.2))
+      (cases_eq q id);
+  apart = apart_set contents cell (Present body) count lt f.apart (λ q other less differs is is'. none_there other less (subst (λ (n : ℕ). IsOf n (content_at contents other)) (one_id q id body is (a, bytes, holds, refl)) is'));
+}
+  where
+    id : ℕ
+    id = a.id.0
+
+    at_cell : cell_slot (set slots cell (Open id creation)) cell ≡ Open id creation
+    at_cell = get_or-set_same slots cell (Open id creation) Free (omega (arith, f.sized))
+
+    at_other : (other : ℕ) → other ≢ cell → cell_slot (set slots cell (Open id creation)) other ≡ cell_slot slots other
+    at_other other differs = get_or-set_other slots cell other (Open id creation) Free differs
+
+    hit : keys' id ≡ Some (stored creation a bytes)
+    hit = put id ∙ ap (λ t. cond t (Some (stored creation a bytes)) (keys id)) (eq-eqb id id refl)
+
+    miss : (q : ℕ) → q ≢ id → keys' q ≡ keys q
+    miss q ne = put q ∙ ap (λ t. cond t (Some (stored creation a bytes)) (keys q)) (ne_eqb q id ne)
+
+    closed : (q : ℕ) → has_id q (cell_slot slots cell) ≡ true → ⊥
+    closed q has = let z : false ≡ true = sym (has_no_id q (cell_slot slots cell) shut) ∙ has in cc
+
+    not_there : (other : ℕ) → other < 512 → has_id id (cell_slot slots other) ≡ true → ⊥
+    not_there other less has = let o = tells_open keys doubt (cell_slot slots other) (content_at contents other) id has (f.each other less) in let z : None ≡ Some (stored o.0 o.2 o.3) = sym none ∙ o.8 in cc
+
+-- the key of a cell is taken away, or in doubt there
+pub removes : (keys keys' : Keys) (doubt doubt' : Doubt) (slots : List Slot) (contents : List Content) (cell id : ℕ) (slot : Slot) (content : Content) → length contents ≡ 512 → cell < 512 → has_id id (cell_slot slots cell) ≡ true → is_open slot ≡ false
+    → TellsCell keys' doubt' slot content → ((q : ℕ) → IsOf q content → IsOf q (content_at contents cell)) → IsWider doubt doubt' → IsPut keys keys' id None → IsFiled keys doubt slots contents → IsFiled keys' doubt' (set slots cell slot) (set contents cell content)
+removes keys keys' doubt doubt' slots contents cell id slot content count lt has shut here same_of wider put f = record {
+  sized = length-set slots cell slot ∙ f.sized;
+  each = each_set keys' doubt' slots contents cell slot content f.sized count lt here
+      (λ other less differs. tells_moved keys keys' doubt doubt' (cell_slot slots other) (content_at contents other) (λ q is. miss q (λ e. differs (one keys doubt slots contents f id other cell less lt (ap (λ i. has_id i (cell_slot slots other)) (sym e) ∙ is) has))) wider (f.each other less));
+  found = λ q key is. let ne = not_id q key is in let c = f.found q key (sym (miss q ne) ∙ is) in
+      (c.0, c.1, ap (has_id q) (at_other c.0 (λ e. ne (same_id q (ap (λ k. has_id q (cell_slot slots k)) (sym e) ∙ c.2)))) ∙ c.2);
+  apart = apart_set contents cell content count lt f.apart (λ q other less differs is is'. differs (f.apart q other cell less lt is' (same_of q is)));
+}
+  where
+    miss : (q : ℕ) → q ≢ id → keys' q ≡ keys q
+    miss q ne = put q ∙ ap (λ t. cond t None (keys q)) (ne_eqb q id ne)
+
+    not_id : (q : ℕ) (key : Stored) → keys' q ≡ Some key → q ≢ id
+    not_id q key is e = let z : None ≡ Some key = sym (put q ∙ ap (λ t. cond t None (keys q)) (eq-eqb q id e)) ∙ is in cc
+
+    same_id : (q : ℕ) → has_id q (cell_slot slots cell) ≡ true → q ≡ id
+    same_id q is = let a = tells_open keys doubt (cell_slot slots cell) (content_at contents cell) q is (f.each cell lt) in let b = tells_open keys doubt (cell_slot slots cell) (content_at contents cell) id has (f.each cell lt) in
+        let z : Open q a.0 ≡ Open id b.0 = sym a.4 ∙ b.4 in cc
+
+    at_other : (other : ℕ) → other ≢ cell → cell_slot (set slots cell slot) other ≡ cell_slot slots other
+    at_other other differs = get_or-set_other slots cell other slot Free differs
+
+-- a cell that has no key has none of this identifier, and where each has none, neither has the file
+pub no_key : (keys : Keys) (doubt : Doubt) (slots : List Slot) (contents : List Content) (id : ℕ) → ((cell : ℕ) → cell < length slots → has_id id (cell_slot slots cell) ≡ false) → IsFiled keys doubt slots contents → keys id ≡ None
+no_key keys doubt slots contents id none f = go (keys id) refl
+  where
+    go : (o : Option Stored) → keys id ≡ o → o ≡ None
+    go None e = refl
+    go (Some key) e = let c = f.found id key e in let z : false ≡ true = sym (none c.0 (omega (arith, f.sized, c.1))) ∙ c.2 in cc
+
+-- a cell that has a key has it while those in doubt are closed
+pub still_has : (slots slots' : List Slot) (id cell : ℕ) → length slots ≡ 512 → cell < 512 → settled_slots slots' ≡ settled_slots slots → has_id id (cell_slot slots cell) ≡ true → has_id id (cell_slot slots' cell) ≡ true
+still_has slots slots' id cell sized lt same has =
+    let sized' : length slots' ≡ 512 = sym (length-map slots' settled_slot) ∙ (ap length same ∙ (length-map slots settled_slot ∙ sized)) in
+    let alike : settled_slot (cell_slot slots' cell) ≡ settled_slot (cell_slot slots cell) = sym (settled_slot_at slots' cell sized' lt) ∙ (ap (λ (l : List Slot). cell_slot l cell) same ∙ settled_slot_at slots cell sized lt) in
+    sym (has_settled id (cell_slot slots' cell)) ∙ (ap (has_id id) alike ∙ (has_settled id (cell_slot slots cell) ∙ has))
+
+pub has_is_open : (id : ℕ) (slot : Slot) → has_id id slot ≡ true → is_open slot ≡ true
+has_is_open id Free has = cc
+has_is_open id (Open own creation) has = refl
+has_is_open id Shut has = cc
+has_is_open id Unsure has = cc
+
+pub settled_shut : (slots : List Slot) (cell : ℕ) → length slots ≡ 512 → cell < 512 → is_open (cell_slot slots cell) ≡ false → is_open (cell_slot (settled_slots slots) cell) ≡ false
+settled_shut slots cell sized lt shut = ap is_open (settled_slot_at slots cell sized lt) ∙ (settled_open (cell_slot slots cell) ∙ shut)

@@ -1,0 +1,190 @@
+// The store file.
+ghost use Rattle.std.specs.Prelude.{◌≡◌, ◌≤◌, ◌<◌, ◌↔◌, ℕ, List, length, set, Bool, [], true, false, None, Some, IfOk, IfErr, IfSome, OnOk, OnErr, IsErrOf, MatchOption, count_by};
+ghost use Rattle.psa_status.specs.Causes.{HasCause, Rose};
+ghost use Rattle.disk_face.specs.Disk.{StillTells};
+ghost use Rattle.key_cells.specs.declared.slot.Slot.TheVariants.{Free, Open};
+ghost use Rattle.key_cells.specs.Contents.{HasNoKey, IsFirstWithKey, IsFirstWithoutKey, IsFull, IsSure, has_id, is_open, creation_of_slot, settled_slots, cell_slot};
+ghost use Rattle.persistent_keys.specs.Files.{Stored, stored, Keys, Doubt, StandsForKeys, Leads, IsPut, AreFound, doubt_unmade, doubt_undestroyed};
+ghost use Rattle.persistent_keys.specs.declared.file.MakeFault.TheVariants.{Disk};
+ghost use Rattle.secret_bytes.specs.Buffer.{bytes_of, IsClear};
+ghost use Rattle.key_cells.specs.Body.{IsKeyOf};
+ghost use Rattle.key_cells.specs.Opened.{IsOpened, IsRefused};
+
+use disk_face::Disk;
+use key_attributes::Attributes;
+use key_cells::{CellFault, Cells, OpenFault};
+use secret_bytes::Secret;
+use std::alloc::Global;
+
+/// The keys of a store file.
+#[derive(Drop)]
+pub struct KeyFile<D: Disk> {
+    pub cells: Cells<D>,
+}
+
+/// A fault of the disk in a write, and whether the cells that were in doubt had been closed.
+#[derive(Clone, Copy, Debug, PartialEq, Eq, Drop)]
+pub struct Unclosed {
+    pub closed_first: bool,
+}
+
+/// Why no key was made.
+#[derive(Clone, Copy, Debug, PartialEq, Eq, Drop)]
+pub enum MakeFault {
+    Full,
+    Disk { closed_first: bool },
+}
+
+impl<D: Disk> KeyFile<D> {
+    /// Opens the file of a disk, or makes one on a disk of length 0. Nothing is in doubt then.
+    pub fn open(alloc: Global, disk: D) -> Result<KeyFile<D>, (D, OpenFault)>
+        ensures size { IfOk result (λ file. D.size file.cells.disk ≡ 557120) }
+        ensures slots { IfOk result (λ file. length file.cells.slots.items ≡ 512) }
+        ensures opened { IfOk result (λ file. IsOpened D.contents D.may_leave D.moment D.left_since disk file.cells.disk file.cells.slots.items) }
+        ensures keys { IfOk result (λ file. IfSome (D.contents disk) (λ image. (keys : Keys) → AreFound image file.cells.slots.items keys →
+            StandsForKeys D.contents D.may_leave file.cells.disk file.cells.slots.items keys [])) }
+        ensures found { IfOk result (λ file. IfSome (D.contents disk) (λ image. (keys : Keys) × AreFound image file.cells.slots.items keys)) }
+        ensures later { IfOk result (λ file. D.faults disk ≤ D.faults file.cells.disk) }
+        ensures refused { IfErr result (λ refused. IsRefused D.contents D.may_leave D.moment D.left_since D.faults disk refused.0 refused.1) }
+    {
+        match Cells::open(alloc, disk) {
+            Ok(cells) => Ok(KeyFile { cells }),
+            Err(fault) => Err(fault),
+        }
+    }
+
+    /// The cell of a key.
+    pub fn find(&self, id: u32) -> Option<usize>
+        ensures { MatchOption result (HasNoKey self.now.cells.slots.items id) (λ cell. IsFirstWithKey self.now.cells.slots.items id cell) }
+    {
+        self.cells.find(id)
+    }
+
+    /// The attributes of a key, and its bytes, which come into the buffer. After a refusal the buffer is clear. `Disk` only
+    /// where the disk's faults rose; over a disk that tells its bytes, `Corrupt` never comes.
+    pub fn load(&mut self, id: u32, cell: usize, out: &mut Secret) -> Result<Attributes, CellFault>
+        requires size { D.size self.old.cells.disk ≡ 557120 }
+        requires slots { length self.old.cells.slots.items ≡ 512 }
+        requires within { cell < 512 }
+        requires key { has_id id (cell_slot self.old.cells.slots.items cell) ≡ true }
+        ensures size { D.size self.new.cells.disk ≡ 557120 }
+        ensures slots { self.new.cells.slots ≡ self.old.cells.slots }
+        ensures same { D.contents self.new.cells.disk ≡ D.contents self.old.cells.disk }
+        ensures named { IfOk result (λ attributes. attributes.id.0 ≡ id) }
+        ensures key { IfOk result (λ attributes. IsKeyOf attributes (bytes_of out.new)) }
+        ensures loaded { IfOk result (λ attributes. (keys : Keys) (doubt : Doubt) → StandsForKeys D.contents D.may_leave self.old.cells.disk self.old.cells.slots.items keys doubt →
+            keys id ≡ Some (stored (creation_of_slot (cell_slot self.old.cells.slots.items cell)) attributes (bytes_of out.new))) }
+        ensures keeps { (keys : Keys) (doubt : Doubt) → StandsForKeys D.contents D.may_leave self.old.cells.disk self.old.cells.slots.items keys doubt →
+            Leads D.contents D.may_leave D.moment D.left_since self.old.cells.disk self.new.cells.disk self.old.cells.slots.items self.new.cells.slots.items keys doubt keys doubt }
+        ensures clear { OnErr result (IsClear out.new) }
+        ensures disk { IsErrOf result CellFault.Disk → Rose (D.faults self.old.cells.disk) (D.faults self.new.cells.disk) }
+        ensures corrupt { IsErrOf result CellFault.Corrupt → (keys : Keys) (doubt : Doubt) → StandsForKeys D.contents D.may_leave self.old.cells.disk self.old.cells.slots.items keys doubt → ⊥ }
+        ensures full { IsErrOf result CellFault.Full → ⊥ }
+        ensures later { D.faults self.old.cells.disk ≤ D.faults self.new.cells.disk }
+    {
+        self.cells.load(cell, out)
+    }
+
+    /// Makes a key in the first cell that has none. `Full` exactly where each cell has a key, and then nothing is done. A
+    /// fault leaves the key in doubt, alone where the cells in doubt before had been closed; they hadn't been only where
+    /// there were some.
+    pub fn make(
+        &mut self,
+        creation: u64,
+        attributes: &Attributes,
+        bytes: &[u8],
+    ) -> Result<(), MakeFault>
+        requires size { D.size self.old.cells.disk ≡ 557120 }
+        requires slots { length self.old.cells.slots.items ≡ 512 }
+        requires key { IsKeyOf attributes.now bytes.now }
+        requires none { HasNoKey self.old.cells.slots.items attributes.now.id.0 }
+        ensures size { D.size self.new.cells.disk ≡ 557120 }
+        ensures slots { length self.new.cells.slots.items ≡ 512 }
+        ensures made { OnOk result ((keys keys' : Keys) (doubt : Doubt) → StandsForKeys D.contents D.may_leave self.old.cells.disk self.old.cells.slots.items keys doubt →
+            IsPut keys keys' attributes.now.id.0 (Some (stored creation attributes.now bytes.now)) →
+            Leads D.contents D.may_leave D.moment D.left_since self.old.cells.disk self.new.cells.disk self.old.cells.slots.items self.new.cells.slots.items keys doubt keys' []) }
+        ensures failed { IfErr result (λ fault. (keys : Keys) (doubt : Doubt) → StandsForKeys D.contents D.may_leave self.old.cells.disk self.old.cells.slots.items keys doubt →
+            Leads D.contents D.may_leave D.moment D.left_since self.old.cells.disk self.new.cells.disk self.old.cells.slots.items self.new.cells.slots.items keys doubt keys (doubt_unmade fault attributes.now bytes.now doubt)) }
+        ensures placed { OnOk result ((cell : ℕ) × IsFirstWithoutKey self.old.cells.slots.items cell ×
+            (self.new.cells.slots.items ≡ set (settled_slots self.old.cells.slots.items) cell (Open attributes.now.id.0 creation))) }
+        ensures unplaced { OnErr result (settled_slots self.new.cells.slots.items ≡ settled_slots self.old.cells.slots.items) }
+        ensures tells { StillTells (D.contents self.old.cells.disk) (D.contents self.new.cells.disk) }
+        ensures full { IsErrOf result MakeFault.Full ↔ IsFull self.old.cells.slots.items }
+        ensures nothing { IsErrOf result MakeFault.Full → (self.new.cells.disk ≡ self.old.cells.disk) × (self.new.cells.slots ≡ self.old.cells.slots) }
+        ensures unclosed { IsErrOf result (Disk false) → IsSure self.old.cells.slots.items → ⊥ }
+        ensures cause { (closed_first : Bool) → IsErrOf result (Disk closed_first) → Rose (D.faults self.old.cells.disk) (D.faults self.new.cells.disk) }
+        ensures later { D.faults self.old.cells.disk ≤ D.faults self.new.cells.disk }
+    {
+        match self.cells.settle() {
+            Ok(()) => {}
+            Err(_) => {
+                return Err(MakeFault::Disk {
+                    closed_first: false,
+                });
+            }
+        }
+        match self.cells.create(creation, attributes, bytes) {
+            Ok(_cell) => Ok(()),
+            Err(CellFault::Full) => Err(MakeFault::Full),
+            Err(CellFault::Disk) => Err(MakeFault::Disk { closed_first: true }),
+            Err(CellFault::Corrupt) => Err(MakeFault::Disk { closed_first: true }),
+        }
+    }
+
+    /// Destroys the key of a cell. After a fault it is gone or in doubt.
+    pub fn destroy(&mut self, id: u32, cell: usize) -> Result<(), Unclosed>
+        requires size { D.size self.old.cells.disk ≡ 557120 }
+        requires slots { length self.old.cells.slots.items ≡ 512 }
+        requires within { cell < 512 }
+        requires key { has_id id (cell_slot self.old.cells.slots.items cell) ≡ true }
+        ensures size { D.size self.new.cells.disk ≡ 557120 }
+        ensures slots { length self.new.cells.slots.items ≡ 512 }
+        ensures gone { OnOk result (self.new.cells.slots.items ≡ set (settled_slots self.old.cells.slots.items) cell Free) }
+        ensures missing { settled_slots self.new.cells.slots.items ≡ set (settled_slots self.old.cells.slots.items) cell Free }
+        ensures destroyed { OnOk result ((keys keys' : Keys) (doubt : Doubt) → StandsForKeys D.contents D.may_leave self.old.cells.disk self.old.cells.slots.items keys doubt →
+            IsPut keys keys' id None →
+            Leads D.contents D.may_leave D.moment D.left_since self.old.cells.disk self.new.cells.disk self.old.cells.slots.items self.new.cells.slots.items keys doubt keys' []) }
+        ensures failed { IfErr result (λ fault. (keys keys' : Keys) (doubt : Doubt) (key : Stored) → StandsForKeys D.contents D.may_leave self.old.cells.disk self.old.cells.slots.items keys doubt →
+            keys id ≡ Some key → IsPut keys keys' id None →
+            Leads D.contents D.may_leave D.moment D.left_since self.old.cells.disk self.new.cells.disk self.old.cells.slots.items self.new.cells.slots.items keys doubt keys' (doubt_undestroyed fault.closed_first key.attributes key.bytes doubt)) }
+        ensures unclosed { IfErr result (λ fault. fault.closed_first ≡ false → IsSure self.old.cells.slots.items → ⊥) }
+        ensures tells { StillTells (D.contents self.old.cells.disk) (D.contents self.new.cells.disk) }
+        ensures cause { HasCause (D.faults self.old.cells.disk) (D.faults self.new.cells.disk) result }
+    {
+        match self.cells.settle() {
+            Ok(()) => {}
+            Err(_) => {
+                self.cells.give_up(cell);
+                return Err(Unclosed {
+                    closed_first: false,
+                });
+            }
+        }
+        match self.cells.destroy(cell) {
+            Ok(()) => Ok(()),
+            Err(_) => Err(Unclosed { closed_first: true }),
+        }
+    }
+
+    /// The creation number of a cell's key.
+    pub fn creation(&self, cell: usize) -> u64
+        requires { cell < length self.now.cells.slots.items }
+        ensures { result ≡ creation_of_slot (cell_slot self.now.cells.slots.items cell) }
+    {
+        self.cells.creation(cell)
+    }
+
+    /// How many keys there are that aren't in doubt.
+    pub fn count(&self) -> usize
+        ensures { result ≡ count_by is_open self.now.cells.slots.items }
+    {
+        self.cells.count()
+    }
+
+    /// The disk.
+    pub fn into_disk(self) -> D
+        ensures { result ≡ self.cells.disk }
+    {
+        self.cells.into_disk()
+    }
+}

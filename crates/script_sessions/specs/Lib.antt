@@ -1,5 +1,0 @@
-pub mod Replying
-pub mod Printed
-pub mod Heads
-pub mod Running
-pub mod Bounds

@@ -1,0 +1,77 @@
+-- Marks have causes, and so there are no more of them than failures.
+use Rattle.std.proofs.Common.{◌≡◌, ◌≤◌, ◌<◌, ℕ, ◌+◌, ◌-◌, ◌^◌, Bool, true, false, List, [], ◌∷◌, refl, ap, subst, arith, cond}
+use Rattle.psa_status.specs.Causes.{Rose}
+use Rattle.store_model.specs.Faults.{FaultMark, Plain, Storage, Hardware, Corrupt}
+use Rattle.store_model.specs.Marks.{FaultCounts, HasFault, IsCaused, last_counts}
+use Rattle.store_model.specs.Replay.{Entry}
+use Rattle.store_core.specs.Represents.{Opening}
+use Rattle.store_core.specs.Rising.{AreRising, opening_after}
+use Rattle.session_host.specs.Bounds.{AreBounded, is_storage, is_hardware, is_corrupt, marked}
+
+abbrev one : Bool → ℕ
+one b = cond b 1 0
+
+abbrev counts_of : Entry → FaultCounts
+counts_of e = record { faults = e.faults; hard = e.hard }
+
+-- the last counts are none below those before
+last_faults : (tells : Bool) (before : Opening) (h : List Entry) → AreRising tells before h → before.counts.faults ≤ (last_counts before.counts h).faults
+last_faults tells before [] rising = omega arith
+last_faults tells before (e ∷ h) rising = let a = rising.0.faults in let b = last_faults tells (opening_after e) h rising.1 in omega arith
+
+last_hard : (tells : Bool) (before : Opening) (h : List Entry) → AreRising tells before h → before.counts.hard ≤ (last_counts before.counts h).hard
+last_hard tells before [] rising = omega arith
+last_hard tells before (e ∷ h) rising = let a = rising.0.hard in let b = last_hard tells (opening_after e) h rising.1 in omega arith
+
+rose_by_one : (before now : ℕ) → Rose before now → now < 2 ^ 64 - 1 → before + 1 ≤ now
+rose_by_one before now rose below = grind arith
+
+-- an entry more, marked or not
+counted : (marked : Bool) (before here after more : ℕ) → before ≤ here → (marked ≡ true → Rose before here) → here ≤ after → after < 2 ^ 64 - 1 → here + more ≤ after →
+    before + (cond marked 1 0 + more) ≤ after
+counted true before here after more later rose reached below rest = let r = rose_by_one before here (rose refl) (omega arith) in omega arith
+counted false before here after more later rose reached below rest = omega arith
+
+by_storage : (tells : Bool) (before : FaultCounts) (e : Entry) (mark : FaultMark) → HasFault tells before e mark → is_storage mark ≡ true → Rose before.faults e.faults
+by_storage tells before e Plain fault is = cc
+by_storage tells before e (Storage access) fault is = fault
+by_storage tells before e Hardware fault is = cc
+by_storage tells before e Corrupt fault is = cc
+
+by_hardware : (tells : Bool) (before : FaultCounts) (e : Entry) (mark : FaultMark) → HasFault tells before e mark → is_hardware mark ≡ true → Rose before.hard e.hard
+by_hardware tells before e Plain fault is = cc
+by_hardware tells before e (Storage access) fault is = cc
+by_hardware tells before e Hardware fault is = fault
+by_hardware tells before e Corrupt fault is = cc
+
+not_corrupt : (before : FaultCounts) (e : Entry) (mark : FaultMark) → HasFault true before e mark → is_corrupt mark ≡ false
+not_corrupt before e Plain fault = refl
+not_corrupt before e (Storage access) fault = refl
+not_corrupt before e Hardware fault = refl
+not_corrupt before e Corrupt fault = cc
+
+storage_bound : (tells : Bool) (before : Opening) (h : List Entry) → IsCaused tells before.counts h → AreRising tells before h → (last_counts before.counts h).faults < 2 ^ 64 - 1 →
+    before.counts.faults + marked is_storage h ≤ (last_counts before.counts h).faults
+storage_bound tells before [] caused rising below = omega arith
+storage_bound tells before (e ∷ h) caused rising below =
+    counted (is_storage e.mark) before.counts.faults e.faults (last_counts (counts_of e) h).faults (marked is_storage h) rising.0.faults
+    (by_storage tells before.counts e e.mark caused.0) (last_faults tells (opening_after e) h rising.1) below (storage_bound tells (opening_after e) h caused.1 rising.1 below)
+
+hardware_bound : (tells : Bool) (before : Opening) (h : List Entry) → IsCaused tells before.counts h → AreRising tells before h → (last_counts before.counts h).hard < 2 ^ 64 - 1 →
+    before.counts.hard + marked is_hardware h ≤ (last_counts before.counts h).hard
+hardware_bound tells before [] caused rising below = omega arith
+hardware_bound tells before (e ∷ h) caused rising below =
+    counted (is_hardware e.mark) before.counts.hard e.hard (last_counts (counts_of e) h).hard (marked is_hardware h) rising.0.hard
+    (by_hardware tells before.counts e e.mark caused.0) (last_hard tells (opening_after e) h rising.1) below (hardware_bound tells (opening_after e) h caused.1 rising.1 below)
+
+none_corrupt : (before : FaultCounts) (h : List Entry) → IsCaused true before h → marked is_corrupt h ≡ 0
+none_corrupt before [] caused = refl
+none_corrupt before (e ∷ h) caused =
+    let here : cond (is_corrupt e.mark) 1 0 ≡ one false = ap one (not_corrupt before e e.mark caused.0) in let rest = none_corrupt (counts_of e) h caused.1 in let z : one false ≡ 0 = refl in omega (arith, here, rest, z)
+
+pub bounded : (tells : Bool) (before : Opening) (h : List Entry) → IsCaused tells before.counts h → AreRising tells before h → AreBounded tells before.counts (last_counts before.counts h) h
+bounded tells before h caused rising = record {
+  storage = storage_bound tells before h caused rising;
+  hardware = hardware_bound tells before h caused rising;
+  corrupt = λ t. none_corrupt before.counts h (subst (λ b. IsCaused b before.counts h) t caused);
+}

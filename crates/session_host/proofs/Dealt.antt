@@ -1,0 +1,324 @@
+-- The numbers of the sessions that are dealt to a worker.
+use Rattle.std.proofs.Common.{◌≡◌, ◌≢◌, ℕ, zero, suc, ◌+◌, ◌-◌, ◌≤◌, ◌<◌, Bool, true, false, List, [], ◌∷◌, ◌++◌, length, get_or, refl, sym, ap, ◌∙◌, subst, arith, cond, length-append, length-set, get_or-set_same, get_or-set_other, set, eq-eqb, ne_eqb, inl, inr, append_assoc}
+use Rattle.std.specs.Prelude.{◌%◌, ◌==◌}
+use Rattle.std.proofs.lemmas.Bool.Decides.{eqb_tells}
+use Rattle.std.proofs.lemmas.List.{append-nil, get_or_push, map-append}
+use Rattle.session_host.specs.declared.session.Session.{Session}
+use Rattle.session_host.specs.declared.worker.Worker.{Worker}
+use Rattle.std.specs.Prelude.{All, None, vec_capacity}
+use Rattle.locked_store.specs.Worlds.{World}
+use Rattle.callers.specs.declared.caller.Caller.{Caller}
+use Rattle.caller_service.specs.Staff.{IsNewCaller}
+use Rattle.script_lang.specs.Replies.{AreKept}
+use Rattle.script_lang.specs.declared.replies.Replies.{Replies}
+use Rattle.script_lang.specs.declared.replies.ReplyForm.{ReplyForm}
+use Rattle.session_host.specs.Dealing.{AreDealt, AreTaken, HaveOwn, IsFree, IsFrom, dealt}
+use Rattle.std.specs.Prelude.{IfSome}
+use Rattle.std.proofs.Common.{take}
+use Rattle.std.proofs.lemmas.List.{get_or-map, take_more}
+use Rattle.std.proofs.lemmas.List.Elements.{All-nil, All-push, All-set, All-weaker}
+use Rattle.turn_history.specs.History.{entries_of}
+use Rattle.session_host.specs.Heads.{failures_of, heads, ranks_of}
+use Rattle.session_host.specs.Printed.{AreFirstCalls, AreFirstReplies}
+use Rattle.session_host.specs.Sessions.{AreFirstGiven, HasAnswered, HasMade, KnowsTurns}
+use Rattle.session_host.proofs.Told.{knows_none}
+use Rattle.session_host.specs.Workers.{HasSeated, HasSeen, numbers_of}
+use Rattle.session_host.specs.Workers as working
+
+abbrev AreApart : List ℕ → Type 0
+AreApart l = (i k : ℕ) → i < length l → k < length l → get_or l i 0 ≡ get_or l k 0 → i ≡ k
+
+get_left : (l : List ℕ) (x i : ℕ) → i < length l → get_or (l ++ x ∷ []) i 0 ≡ get_or l i 0
+get_left [] x i lt = absurd (omega arith)
+get_left (y ∷ l) x zero lt = refl
+get_left (y ∷ l) x (suc i) lt = get_left l x i (omega arith)
+
+-- one more number, which is none of those
+apart_more : (l : List ℕ) (x : ℕ) → AreApart l → ((i : ℕ) → i < length l → get_or l i 0 ≢ x) → AreApart (l ++ x ∷ [])
+apart_more l x apart other i k lt le same = elim (eqb_tells i (length l)) [
+  | inl a ↦ elim (eqb_tells k (length l)) [
+    | inl b ↦ a.1 ∙ sym b.1
+    | inr b ↦
+        let low : k < length l = (let n = length-append l (x ∷ []) in let ne = b.1 in omega arith) in
+        absurd (other k low (sym (get_left l x k low) ∙ (sym same ∙ get_or_push l x 0 i (sym a.1))))
+  ]
+  | inr a ↦
+      let here : i < length l = (let n = length-append l (x ∷ []) in let ne = a.1 in omega arith) in
+      elim (eqb_tells k (length l)) [
+        | inl b ↦ absurd (other i here (sym (get_left l x i here) ∙ (same ∙ get_or_push l x 0 k (sym b.1))))
+        | inr b ↦
+            let low : k < length l = (let n = length-append l (x ∷ []) in let ne = b.1 in omega arith) in
+            apart i k here low (sym (get_left l x i here) ∙ (same ∙ get_left l x k low))
+      ]
+]
+
+-- ALL NUMBERS OF A WORKER
+
+above_more : (l : List ℕ) (x least : ℕ) (b : Bool) → ((i : ℕ) → i < length l → x < get_or l i 0) → (i : ℕ) → i < length (l ++ cond b (x ∷ []) []) → x ≤ get_or (l ++ cond b (x ∷ []) []) i 0
+above_more l x least true above i lt = elim (eqb_tells i (length l)) [
+  | inl a ↦ let e : get_or (l ++ x ∷ []) i 0 ≡ x = get_or_push l x 0 i (sym a.1) in omega arith
+  | inr a ↦
+      let here : i < length l = (let n = length-append l (x ∷ []) in let ne = a.1 in omega arith) in
+      let e = get_left l x i here in let f = above i here in omega arith
+]
+above_more l x least false above i lt =
+    let same : l ++ [] ≡ l = append-nil l in
+    let here : i < length l = (let e = ap length same in omega arith) in
+    let e : get_or (l ++ []) i 0 ≡ get_or l i 0 = ap (λ m. get_or m i 0) same in let f = above i here in omega arith
+
+-- each is above those that are still to come
+pub dealt_above : (n r j : ℕ) → j ≤ 16 → (i : ℕ) → i < length (dealt n r j) → 17 ≤ get_or (dealt n r j) i 0 + j
+dealt_above n r zero le i lt = absurd (omega arith)
+dealt_above n r (suc j) le i lt =
+    let a = above_more (dealt n r j) (16 - j) 0 ((16 - j) % n == r) (λ k here. let d = dealt_above n r j (omega arith) k here in omega arith) i lt in omega arith
+
+apart_cond : (l : List ℕ) (x : ℕ) (b : Bool) → AreApart l → ((i : ℕ) → i < length l → get_or l i 0 ≢ x) → AreApart (l ++ cond b (x ∷ []) [])
+apart_cond l x true apart other = apart_more l x apart other
+apart_cond l x false apart other = subst AreApart (sym (append-nil l)) apart
+
+pub dealt_apart : (n r j : ℕ) → j ≤ 16 → AreApart (dealt n r j)
+dealt_apart n r zero le = λ i k lt. absurd (omega arith)
+dealt_apart n r (suc j) le =
+    apart_cond (dealt n r j) (16 - j) ((16 - j) % n == r) (dealt_apart n r j (omega arith)) (λ i here same. let d = dealt_above n r j (omega arith) i here in omega arith)
+
+length_cond : (x : ℕ) (b : Bool) → length (cond b (x ∷ []) []) ≤ 1
+length_cond x true = omega arith
+length_cond x false = omega arith
+
+pub dealt_few : (n r j : ℕ) → length (dealt n r j) ≤ j
+dealt_few n r zero = omega arith
+dealt_few n r (suc j) =
+    let a = dealt_few n r j in let b = length_cond (16 - j) ((16 - j) % n == r) in let c = length-append (dealt n r j) (cond ((16 - j) % n == r) ((16 - j) ∷ []) []) in omega arith
+
+-- WORKERS
+
+same_number : (a b : ℕ) → a ≡ b → (a == b) ≡ true
+same_number a b e = eq-eqb a b e
+
+module _ {D A C : Type 0} where
+  names_more : (old new : List (Session D A C)) (s : Session D A C) → new ≡ old ++ s ∷ [] → numbers_of new ≡ numbers_of old ++ s.caller.number ∷ []
+  names_more old new s is = ap numbers_of is ∙ map-append (λ (s : Session D A C). s.caller.number) old (s ∷ [])
+
+  -- one more session is dealt
+  pub dealt_one : (j : ℕ) (workers : List (Worker D A C)) (t : Worker D A C) (s : Session D A C) → HaveOwn j workers → (16 - j) % length workers < length workers →
+      ((d : Worker D A C) → HasSeated (get_or workers ((16 - j) % length workers) d) t s) → s.caller.number ≡ 16 - j → HaveOwn (j + 1) (set workers ((16 - j) % length workers) t)
+  dealt_one j workers t s own within seated number i d lt =
+      let r : ℕ = (16 - j) % length workers in
+      let count : length (set workers r t) ≡ length workers = length-set workers r t in
+      let one : j + 1 ≡ suc j = omega arith in
+      subst (λ n. numbers_of (get_or (set workers r t) i d).sessions.items ≡ dealt n i (j + 1)) (sym count)
+      (subst (λ k. numbers_of (get_or (set workers r t) i d).sessions.items ≡ dealt (length workers) i k) (sym one)
+      (elim (eqb_tells i r) [
+        | inl here ↦
+            ap (λ (x : Worker D A C). numbers_of x.sessions.items) (ap (λ k. get_or (set workers r t) k d) here.1 ∙ get_or-set_same workers r t d within)
+            ∙ (names_more (get_or workers r d).sessions.items t.sessions.items s (seated d).sessions
+            ∙ (ap (λ l. l ++ s.caller.number ∷ []) (own r d within ∙ ap (λ k. dealt (length workers) k j) (sym here.1))
+            ∙ (ap (λ n. dealt (length workers) i j ++ n ∷ []) number
+            ∙ ap (λ b. dealt (length workers) i j ++ cond b ((16 - j) ∷ []) []) (sym (same_number r i (sym here.1))))))
+        | inr other ↦
+            ap (λ (x : Worker D A C). numbers_of x.sessions.items) (get_or-set_other workers r i t d other.1)
+            ∙ (own i d (omega (arith, lt, count))
+            ∙ (sym (append-nil (dealt (length workers) i j))
+            ∙ ap (λ b. dealt (length workers) i j ++ cond b ((16 - j) ∷ []) []) (sym (ne_eqb r i (λ same. other.1 (sym same))))))
+      ]))
+
+-- a session that has made no call
+pub record IsFreshSession {D A C : Type 0} (w : World D A C) (form : ReplyForm) (s : Session D A C) : Type 0 where
+  pub number : ℕ
+  pub caller : IsNewCaller w number s.caller
+  pub replies : AreKept s.replies []
+  pub session : s.replies.session ≡ s.caller.number
+  pub form_is : s.replies.form ≡ form
+  pub given : s.given.items ≡ []
+
+-- so many sessions are dealt, none of which has made a call
+pub record IsDealing {D A C : Type 0} (w : World D A C) (form : ReplyForm) (j : ℕ) (workers : List (Worker D A C)) : Type 0 where
+  pub own : HaveOwn j workers
+  pub fresh : (i : ℕ) (d : Worker D A C) → i < length workers → All (IsFreshSession w form) (get_or workers i d).sessions.items
+  pub space : (i : ℕ) (d : Worker D A C) → i < length workers → 16 ≤ vec_capacity (get_or workers i d).sessions
+  pub buffer : (i : ℕ) (d : Worker D A C) → i < length workers → 16448 ≤ length (get_or workers i d).buffer.items
+  pub last : (i : ℕ) (d : Worker D A C) → i < length workers → (get_or workers i d).last ≡ None
+
+pub same_long : {D A C : Type 0} (sessions : List (Session D A C)) → length (numbers_of sessions) ≡ length sessions
+same_long [] = refl
+same_long (s ∷ sessions) = ap suc (same_long sessions)
+
+module _ {D A C : Type 0} (w : World D A C) (form : ReplyForm) where
+  -- nothing is dealt yet
+  pub dealing_none : (workers : List (Worker D A C)) → All IsFree workers → IsDealing w form 0 workers
+  dealing_none workers free = record {
+    own = λ i d lt. ap numbers_of (free i d lt).none;
+    fresh = λ i d lt. subst (All (IsFreshSession w form)) (sym (free i d lt).none) (All-nil (IsFreshSession w form));
+    space = λ i d lt. (free i d lt).space;
+    buffer = λ i d lt. (free i d lt).buffer;
+    last = λ i d lt. (free i d lt).fresh;
+  }
+
+  pub dealing_one : (j : ℕ) (workers : List (Worker D A C)) (t : Worker D A C) (s : Session D A C) → IsDealing w form j workers → (16 - j) % length workers < length workers →
+      ((d : Worker D A C) → HasSeated (get_or workers ((16 - j) % length workers) d) t s) → IsFreshSession w form s → s.caller.number ≡ 16 - j → IsDealing w form (j + 1) (set workers ((16 - j) % length workers) t)
+  dealing_one j workers t s h within seated f number =
+      let r : ℕ = (16 - j) % length workers in let was = seated t in record {
+        own = dealt_one j workers t s h.own within seated number;
+        fresh = All-set (λ x. All (IsFreshSession w form) x.sessions.items) workers r t (subst (All (IsFreshSession w form)) (sym was.sessions) (All-push (IsFreshSession w form) (get_or workers r t).sessions.items s (h.fresh r t within) f)) h.fresh;
+        space = All-set (λ x. 16 ≤ vec_capacity x.sessions) workers r t (let a = was.space in let b = h.space r t within in omega arith) h.space;
+        buffer = All-set (λ x. 16448 ≤ length x.buffer.items) workers r t (let a = ap (λ b. length b.items) was.buffer in let b = h.buffer r t within in omega arith) h.buffer;
+        last = All-set (λ x. x.last ≡ None) workers r t (was.last ∙ h.last r t within) h.last;
+      }
+
+  none_made : (n : ℕ) (c : Caller D A C) → IsNewCaller w n c → HasMade w [] c
+  none_made n c new = record {
+    ready = new.ready;
+    spent = let s = new.spent in omega arith;
+    count = ap length new.uncalled;
+    calls = subst (λ s. KnowsTurns w c.number (entries_of s) (AreFirstCalls [])) (sym new.unseen) (knows_none w c.number (AreFirstCalls []) tt);
+  }
+
+  none_answered : (s : Session D A C) → IsFreshSession w form s → HasAnswered w [] s
+  none_answered s f = record {
+    made = none_made f.number s.caller f.caller;
+    replies = record {
+      told = [];
+      kept = f.replies;
+      session = f.session;
+      replies = record {
+        count = refl;
+        known = subst (λ v. KnowsTurns w s.caller.number (entries_of v) (AreFirstReplies [])) (sym f.caller.unseen) (knows_none w s.caller.number (AreFirstReplies []) refl);
+        heads = subst (λ v. [] ≡ heads s.caller.number 1 (ranks_of s.caller.number 0 (entries_of v))) (sym f.caller.unseen) refl;
+        failures = λ start is. subst (λ v. [] ≡ failures_of s.caller.number 0 (entries_of v)) (sym f.caller.unseen) refl;
+      };
+    };
+    given_count = ap length f.given;
+    given = subst (λ v. KnowsTurns w s.caller.number (entries_of v) (AreFirstGiven s.given.items)) (sym f.caller.unseen) (knows_none w s.caller.number (AreFirstGiven s.given.items) refl);
+  }
+
+  apart_by_numbers : (sessions : List (Session D A C)) (l : List ℕ) → numbers_of sessions ≡ l → AreApart l → working.AreApart sessions
+  apart_by_numbers sessions l is apart = λ i j d li lj same.
+      let long : length l ≡ length sessions = sym (ap length is) ∙ same_long sessions in
+      let at = λ (k : ℕ) (lt : k < length sessions). ap (λ m. get_or m k 0) (sym is) ∙ get_or-map (λ s. s.caller.number) sessions k d 0 lt in
+      apart i j (omega arith) (omega arith) (at i li ∙ (same ∙ sym (at j lj)))
+
+  -- all are dealt
+  pub all_dealt : (workers : List (Worker D A C)) → IsDealing w form 16 workers → AreDealt w form workers
+  all_dealt workers h = record {
+    own = h.own;
+    forms = λ i d lt. All-weaker (IsFreshSession w form) (λ s. s.replies.form ≡ form) (λ s f. f.form_is) (get_or workers i d).sessions.items (h.fresh i d lt);
+    begun = λ i d lt. record {
+      room = h.buffer i d lt;
+      apart = apart_by_numbers (get_or workers i d).sessions.items (dealt (length workers) i 16) (h.own i d lt) (dealt_apart (length workers) i 16 (omega arith));
+      answered = All-weaker (IsFreshSession w form) (HasAnswered w []) none_answered (get_or workers i d).sessions.items (h.fresh i d lt);
+      last = subst (λ o. IfSome o (λ k. k < length (get_or workers i d).sessions.items)) (sym (h.last i d lt)) tt;
+      order = λ all. subst (HasSeen [] (get_or workers i d).sessions.items) (sym (h.last i d lt)) refl;
+    };
+  }
+
+-- SESSIONS THAT ARE TAKEN BACK
+
+pub snoc_parts : {X : Type 0} (xs ys : List X) (x y : X) → xs ++ x ∷ [] ≡ ys ++ y ∷ [] → (xs ≡ ys) × (x ≡ y)
+snoc_parts [] [] x y e = (refl, head_is x y [] [] e)
+  where
+    head_is : {X : Type 0} (a b : X) (more less : List X) → a ∷ more ≡ b ∷ less → a ≡ b
+    head_is a b more less e = cc
+snoc_parts [] (y ∷ ys) x z e = absurd (let n = ap length e ∙ length-append (y ∷ ys) (z ∷ []) in let m : length (x ∷ []) ≡ 1 = refl in omega arith)
+snoc_parts (x ∷ xs) [] y z e = absurd (let n = sym (length-append (x ∷ xs) (y ∷ [])) ∙ ap length e in let m : length (z ∷ []) ≡ 1 = refl in omega arith)
+snoc_parts (x ∷ xs) (y ∷ ys) a b e =
+    let heads : x ≡ y = cc in let tails : xs ++ a ∷ [] ≡ ys ++ b ∷ [] = cc in
+    let r = snoc_parts xs ys a b tails in ((λ i. heads i ∷ r.0 i), r.1)
+
+get_snoc : {X : Type 0} (xs : List X) (x d : X) → get_or (xs ++ x ∷ []) (length xs) d ≡ x
+get_snoc xs x d = get_or_push xs x d (length xs) refl
+
+get_front : {X : Type 0} (xs more : List X) (i : ℕ) (d : X) → i < length xs → get_or (xs ++ more) i d ≡ get_or xs i d
+get_front [] more i d lt = absurd (omega arith)
+get_front (y ∷ xs) more zero d lt = refl
+get_front (y ∷ xs) more (suc i) d lt = get_front xs more i d (omega arith)
+
+get_middle : {X : Type 0} (xs more : List X) (x d : X) → get_or (xs ++ x ∷ more) (length xs) d ≡ x
+get_middle [] more x d = refl
+get_middle (y ∷ xs) more x d = get_middle xs more x d
+
+module _ {D A C : Type 0} where
+  -- all sessions but those of the last so many numbers were taken, each from the end of its worker's list
+  pub record IsTaking (left : ℕ) (old now : List (Worker D A C)) (callers : List (Caller D A C)) (replies : List Replies) : Type 0 where
+    pub count : length now ≡ length old
+    pub own : HaveOwn left now
+    pub fronts : (i : ℕ) (d : Worker D A C) → i < length old → (rest : List (Session D A C)) × ((get_or old i d).sessions.items ≡ (get_or now i d).sessions.items ++ rest)
+    pub taken : AreTaken (16 - left) old callers replies
+
+  last_is : (m : ℕ) (now : List (Worker D A C)) → HaveOwn (suc m) now → (16 - m) % length now < length now → (d : Worker D A C) →
+      numbers_of (get_or now ((16 - m) % length now) d).sessions.items ≡ dealt (length now) ((16 - m) % length now) m ++ (16 - m) ∷ []
+  last_is m now own within d =
+      let r : ℕ = (16 - m) % length now in
+      own r d within ∙ ap (λ b. dealt (length now) r m ++ cond b ((16 - m) ∷ []) []) (same_number r r refl)
+
+  -- the next session is there
+  pub is_there : (m : ℕ) (now : List (Worker D A C)) (items : List (Session D A C)) → HaveOwn (suc m) now → (16 - m) % length now < length now → (d : Worker D A C) →
+      (get_or now ((16 - m) % length now) d).sessions.items ≡ items → items ≡ [] → ⊥
+  is_there m now items own within d is none =
+      let e : numbers_of {D = D} {A = A} {C = C} [] ≡ dealt (length now) ((16 - m) % length now) m ++ (16 - m) ∷ [] = sym (ap numbers_of (is ∙ none)) ∙ last_is m now own within d in
+      let n = ap length e ∙ length-append (dealt (length now) ((16 - m) % length now) m) ((16 - m) ∷ []) in
+      let z : length (numbers_of {D = D} {A = A} {C = C} []) ≡ 0 = refl in omega arith
+
+  pub one_taken : (m : ℕ) (old now : List (Worker D A C)) (callers : List (Caller D A C)) (replies : List Replies) (t : Worker D A C) (s : Session D A C) → m < 16 → IsTaking (suc m) old now callers replies →
+      (16 - m) % length now < length now → ((d : Worker D A C) → (get_or now ((16 - m) % length now) d).sessions.items ≡ t.sessions.items ++ s ∷ []) →
+      IsTaking m old (set now ((16 - m) % length now) t) (callers ++ s.caller ∷ []) (replies ++ s.replies ∷ [])
+  one_taken m old now callers replies t s few i within parts =
+      let n : ℕ = length now in let r : ℕ = (16 - m) % n in
+      let both = snoc_parts (numbers_of t.sessions.items) (dealt n r m) s.caller.number (16 - m) (sym (names_more t.sessions.items (get_or now r (get_or now r t)).sessions.items s (parts (get_or now r t))) ∙ last_is m now i.own within (get_or now r t)) in
+      let there : r < length old = (let c = i.count in omega arith) in
+      record {
+        count = length-set now r t ∙ i.count;
+        own = λ k d lt.
+            subst (λ c. numbers_of (get_or (set now r t) k d).sessions.items ≡ dealt c k m) (sym (length-set now r t))
+            (elim (eqb_tells k r) [
+              | inl here ↦ ap (λ j. numbers_of (get_or (set now r t) j d).sessions.items) here.1 ∙ (ap (λ (x : Worker D A C). numbers_of x.sessions.items) (get_or-set_same now r t d within) ∙ (both.0 ∙ ap (λ j. dealt n j m) (sym here.1)))
+              | inr other ↦
+                  ap (λ (x : Worker D A C). numbers_of x.sessions.items) (get_or-set_other now r k t d other.1)
+                  ∙ (i.own k d (let c = length-set now r t in omega arith)
+                  ∙ (ap (λ b. dealt n k m ++ cond b ((16 - m) ∷ []) []) (ne_eqb r k (λ same. other.1 (sym same))) ∙ append-nil (dealt n k m)))
+            ]);
+        fronts = λ k d lt. elim (eqb_tells k r) [
+          | inl here ↦
+              let f = i.fronts k d lt in (
+                s ∷ f.0,
+                f.1 ∙ (ap (λ l. l ++ f.0) (ap (λ j. (get_or now j d).sessions.items) here.1 ∙ parts d) ∙ (append_assoc t.sessions.items (s ∷ []) f.0
+                    ∙ ap (λ (x : Worker D A C). x.sessions.items ++ s ∷ f.0) (sym (ap (λ j. get_or (set now r t) j d) here.1 ∙ get_or-set_same now r t d within)))),
+              )
+          | inr other ↦ let f = i.fronts k d lt in (f.0, f.1 ∙ ap (λ (x : Worker D A C). x.sessions.items ++ f.0) (sym (get_or-set_other now r k t d other.1)))
+        ];
+        taken = record {
+          callers_are = length-append callers (s.caller ∷ []) ∙ (let c = i.taken.callers_are in omega arith);
+          replies_are = length-append replies (s.replies ∷ []) ∙ (let c = i.taken.replies_are in omega arith);
+          each = λ k c y lt. elim (eqb_tells k (length callers)) [
+            | inl last ↦
+                let place : k ≡ 15 - m = (let e = last.1 in let f = i.taken.callers_are in omega arith) in
+                let kc : get_or (callers ++ s.caller ∷ []) k c ≡ s.caller = get_or_push callers s.caller c k (sym last.1) in
+                let kr : get_or (replies ++ s.replies ∷ []) k y ≡ s.replies = get_or_push replies s.replies y k (let e = last.1 in let f = i.taken.callers_are in let g = i.taken.replies_are in omega arith) in
+                let whole = λ (d : Worker D A C). (let f = i.fronts r d there in f.1 ∙ (ap (λ l. l ++ f.0) (parts d) ∙ append_assoc t.sessions.items (s ∷ []) f.0)) in
+                subst (λ z. IsFrom old (k + 1) z (get_or (replies ++ s.replies ∷ []) k y)) (sym kc)
+                (subst (λ z. IsFrom old (k + 1) s.caller z) (sym kr) (record {
+                  worker = r;
+                  place = length t.sessions.items;
+                  there = there;
+                  within = λ d. (let e = ap length (whole d) ∙ length-append t.sessions.items (s ∷ (i.fronts r d there).0) in omega arith);
+                  number_is = both.1 ∙ (omega arith);
+                  caller_is = λ d x. ap (λ z. z.caller) (ap (λ l. get_or l (length t.sessions.items) x) (whole d) ∙ get_middle t.sessions.items (i.fronts r d there).0 s x);
+                  replies_are = λ d x. ap (λ z. z.replies) (ap (λ l. get_or l (length t.sessions.items) x) (whole d) ∙ get_middle t.sessions.items (i.fronts r d there).0 s x);
+                }))
+            | inr other ↦
+                let low : k < length callers = (let f = i.taken.callers_are in let ne = other.1 in omega arith) in
+                let lowr : k < length replies = (let f = i.taken.callers_are in let g = i.taken.replies_are in omega arith) in
+                subst (λ z. IsFrom old (k + 1) z (get_or (replies ++ s.replies ∷ []) k y)) (sym (get_front callers (s.caller ∷ []) k c low))
+                (subst (λ z. IsFrom old (k + 1) (get_or callers k c) z) (sym (get_front replies (s.replies ∷ []) k y lowr)) (i.taken.each k c y (let f = i.taken.callers_are in omega arith)))
+          ];
+        };
+      }
+
+pub none_left : {D A C : Type 0} (sessions : List (Session D A C)) → numbers_of sessions ≡ [] → sessions ≡ []
+none_left [] e = refl
+none_left (s ∷ sessions) e = absurd (empty_not s.caller.number (numbers_of sessions) e)
+  where
+    empty_not : (x : ℕ) (xs : List ℕ) → x ∷ xs ≡ [] → ⊥
+    empty_not x xs f = cc
+
+pub last_of : {X : Type 0} (xs rest : List X) (n : ℕ) (x : X) → n < length xs → take (n + 1) xs ≡ rest ++ x ∷ [] → (take n xs ≡ rest) × (get_or xs n x ≡ x)
+last_of xs rest n x lt e = snoc_parts (take n xs) rest (get_or xs n x) x (sym (take_more xs n x lt) ∙ e)

@@ -1,0 +1,73 @@
+-- What stands for a session's calls in a history that goes on, and the heads of its replies.
+use Rattle.std.proofs.Common.{◌≡◌, ℕ, ◌+◌, eqb, Bool, true, false, List, [], ◌∷◌, ◌++◌, length, refl, sym, ap, ap₂, ◌∙◌, arith, cond, map, eq-eqb}
+use Rattle.std.proofs.lemmas.List.{append-nil, length-map, map-append}
+use Rattle.turn_history.specs.History.{calls_by, StartsWith}
+use Rattle.store_model.specs.Replay.{Entry}
+use Rattle.locked_store.specs.Standing.{caller_of}
+use Rattle.script_lang.specs.Replies.{ReplyLine}
+use Rattle.session_host.specs.Heads.{head_of, heads, of_calls}
+use Rattle.session_host.proofs.History.{last_call, none_after, none_chosen}
+
+module _ {X : Type 0} (at : ℕ → Entry → X) where
+  cond_append : (b : Bool) (x : X) (xs ys : List X) → cond b (x ∷ (xs ++ ys)) (xs ++ ys) ≡ cond b (x ∷ xs) xs ++ ys
+  cond_append true x xs ys = refl
+  cond_append false x xs ys = refl
+
+  calls-append : (session rank : ℕ) (xs ys : List Entry) → of_calls at session rank (xs ++ ys) ≡ of_calls at session rank xs ++ of_calls at session (rank + length xs) ys
+  calls-append session rank [] ys = ap (λ k. of_calls at session k ys) (let m : rank ≡ rank + 0 = omega arith in m)
+  calls-append session rank (x ∷ xs) ys =
+      let front : List X = of_calls at session (rank + 1) xs in
+      let later : of_calls at session (rank + 1) (xs ++ ys) ≡ front ++ of_calls at session (rank + length (x ∷ xs)) ys =
+      calls-append session (rank + 1) xs ys ∙ ap (λ k. front ++ of_calls at session k ys) (let m : rank + 1 + length xs ≡ rank + length (x ∷ xs) = omega arith in m) in
+      ap (λ ps. cond (eqb x.caller session) (at rank x ∷ ps) ps) later ∙ cond_append (eqb x.caller session) (at rank x) front (of_calls at session (rank + length (x ∷ xs)) ys)
+
+  -- where no entry is the session's, nothing stands for one
+  no_calls : (session rank : ℕ) (h : List Entry) → calls_by caller_of session h ≡ [] → of_calls at session rank h ≡ []
+  no_calls session rank [] none = refl
+  no_calls session rank (e ∷ es) none =
+      none_chosen (eqb e.caller session) e (calls_by caller_of session es) (at rank e) (of_calls at session (rank + 1) es) none (no_calls session (rank + 1) es)
+
+  -- in a history that goes on without a call of the session's the same stands for its calls
+  pub same_later : (session : ℕ) (before after : List Entry) → StartsWith after before → calls_by caller_of session after ≡ calls_by caller_of session before →
+      of_calls at session 0 after ≡ of_calls at session 0 before
+  same_later session before after s same =
+      ap (of_calls at session 0) s.1
+      ∙ (calls-append session 0 before s.0
+      ∙ (ap (λ ps. of_calls at session 0 before ++ ps) (no_calls session (0 + length before) s.0 (none_after session after before s same))
+      ∙ append-nil (of_calls at session 0 before)))
+
+  -- one more call of the session
+
+  last_of : (session : ℕ) (before : List Entry) (e : Entry) → e.caller ≡ session → of_calls at session 0 (before ++ e ∷ []) ≡ of_calls at session 0 before ++ at (length before) e ∷ []
+  last_of session before e by =
+      calls-append session 0 before (e ∷ [])
+      ∙ (ap (λ b. of_calls at session 0 before ++ cond b (at (0 + length before) e ∷ []) []) (eq-eqb e.caller session by)
+      ∙ ap (λ k. of_calls at session 0 before ++ at k e ∷ []) (let z : 0 + length before ≡ length before = omega arith in z))
+
+  pub one_more_of : (session : ℕ) (old before new : List Entry) (e : Entry) → StartsWith before old → calls_by caller_of session before ≡ calls_by caller_of session old → e.caller ≡ session →
+      StartsWith new (before ++ e ∷ []) → calls_by caller_of session new ≡ calls_by caller_of session old ++ e ∷ [] → of_calls at session 0 new ≡ of_calls at session 0 old ++ at (length before) e ∷ []
+  one_more_of session old before new e since same by seen calls =
+      same_later session (before ++ e ∷ []) new seen (calls ∙ sym (last_call session before e by ∙ ap (λ l. l ++ e ∷ []) same))
+      ∙ (last_of session before e by
+      ∙ ap (λ ps. ps ++ at (length before) e ∷ []) (same_later session old before since same))
+
+-- one more reply
+
+heads_length : (session number : ℕ) (ranks : List ℕ) → length (heads session number ranks) ≡ length ranks
+heads_length session number [] = refl
+heads_length session number (rank ∷ ranks) = omega (arith, heads_length session (number + 1) ranks)
+
+heads_more : (session number : ℕ) (ranks : List ℕ) (rank : ℕ) → heads session number (ranks ++ rank ∷ []) ≡ heads session number ranks ++ (session, number + length ranks, rank) ∷ []
+heads_more session number [] rank = let m : number ≡ number + 0 = omega arith in ap (λ k. (session, k, rank) ∷ []) m
+heads_more session number (first ∷ ranks) rank =
+    let m : number + 1 + length ranks ≡ number + length (first ∷ ranks) = omega arith in
+    ap (λ hs. (session, number, first) ∷ hs) (heads_more session (number + 1) ranks rank ∙ ap (λ k. heads session (number + 1) ranks ++ (session, k, rank) ∷ []) m)
+
+pub one_more_head : (session : ℕ) (replies : List ReplyLine) (ranks : List ℕ) (r : ReplyLine) → map head_of replies ≡ heads session 1 ranks → r.session ≡ session → r.number ≡ length replies + 1 →
+    map head_of (replies ++ r ∷ []) ≡ heads session 1 (ranks ++ r.rank ∷ [])
+one_more_head session replies ranks r known own number =
+    let place : r.number ≡ 1 + length ranks = (let a = sym (length-map replies head_of) ∙ (ap length known ∙ heads_length session 1 ranks) in omega (arith, a, number)) in
+    map-append head_of replies (r ∷ [])
+    ∙ (ap₂ (λ s n. map head_of replies ++ (s, n, r.rank) ∷ []) own place
+    ∙ (ap (λ hs. hs ++ (session, 1 + length ranks, r.rank) ∷ []) known
+    ∙ sym (heads_more session 1 ranks r.rank)))

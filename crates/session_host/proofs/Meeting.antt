@@ -1,0 +1,101 @@
+-- Callers that have seen what others of their thread had.
+use Rattle.std.proofs.Common.{◌≡◌, ℕ, ◌<◌, List, [], ◌∷◌, length, get_or, set, refl, sym, ap, ap₂, ◌∙◌, subst, arith, zero, suc, length-set, get_or-set_same, get_or-set_other}
+use Rattle.turn_history.specs.History.{entries_of, calls_by, StartsWith}
+use Rattle.locked_store.specs.Standing.{caller_of}
+use Rattle.turn_history.specs.declared.pass.View.{View}
+use Rattle.turn_history.specs.Views.{joined}
+use Rattle.turn_history.proofs.Lists.{begins_itself}
+use Rattle.store_model.specs.Replay.{Entry}
+use Rattle.store_core.specs.declared.store.Opened.{Opened}
+use Rattle.callers.specs.Parts.{SameButPass}
+use Rattle.callers.proofs.Journeys.{seen_begins}
+use Rattle.std.specs.Global.{Vec}
+use Rattle.script_lang.specs.Replies.{AreKept}
+use Rattle.script_lang.specs.declared.replies.Replies.{Replies}
+use Rattle.callers.specs.Ready.{IsReady}
+use Rattle.locked_store.specs.Worlds.{World}
+use Rattle.callers.specs.declared.caller.Caller.{Caller}
+use Rattle.script_lang.specs.declared.script.ScriptLine.{ScriptLine}
+use Rattle.script_lang.specs.Lines.{lines_of}
+use Rattle.session_host.specs.declared.session.Session.{Session}
+use Rattle.callers.specs.Failures.{failure_marked}
+use Rattle.session_host.specs.Heads.{failures_of, heads, ranks_of}
+use Rattle.session_host.specs.Printed.{AreFirstCalls, AreFirstReplies}
+use Rattle.session_host.specs.Sessions.{AreFirstGiven, HasAnswered, KnowsTurns}
+use Rattle.session_host.proofs.Heads.{same_later}
+use Rattle.session_host.proofs.Told.{knows_later, own_calls}
+use Rattle.session_host.specs.Workers.{ChangesAt, HasLearned}
+
+module _ {D A C : Type 0} (w : World D A C) where
+  -- A CALLER THAT HAS SEEN MORE
+
+  pub learned : (lines : List ScriptLine) (old new : Session D A C) → HasLearned w old new → HasAnswered w lines old → HasAnswered w lines new
+  learned lines old new l h =
+      let n : ℕ = old.caller.number in let c : Caller D A C = old.caller in let d : Caller D A C = new.caller in
+      let was : calls_by caller_of n (entries_of c.pass.me.0.seen) ≡ c.pass.me.0.calls = own_calls w c h.made.ready in
+      let now : calls_by caller_of n (entries_of d.pass.me.0.seen) ≡ d.pass.me.0.calls = subst (λ k. calls_by caller_of k (entries_of d.pass.me.0.seen) ≡ d.pass.me.0.calls) l.number (own_calls w d l.ready) in
+      let same : calls_by caller_of n (entries_of d.pass.me.0.seen) ≡ calls_by caller_of n (entries_of c.pass.me.0.seen) = now ∙ (l.calls ∙ sym was) in
+      record {
+        made = record {
+          ready = l.ready;
+          spent = let a = h.made.spent in let b = l.spent in omega arith;
+          count = let a = ap length l.calls in let b = h.made.count in let e = ap (λ k. length (lines_of k lines)) l.number in omega arith;
+          calls = subst (λ k. KnowsTurns w k (entries_of d.pass.me.0.seen) (AreFirstCalls (lines_of k lines))) (sym l.number)
+              (knows_later w n (entries_of d.pass.me.0.seen) (entries_of c.pass.me.0.seen) (AreFirstCalls (lines_of n lines)) l.seen same h.made.calls);
+        };
+        replies = let r = h.replies.replies in record {
+          told = h.replies.told;
+          kept = subst (λ k. AreKept k h.replies.told) (sym l.replies) h.replies.kept;
+          session = ap (λ k. k.session) l.replies ∙ (h.replies.session ∙ sym l.number);
+          replies = record {
+            count = let b = r.count in let e = ap (λ k. length (lines_of k lines)) l.number in omega arith;
+            known = subst (λ k. KnowsTurns w k (entries_of d.pass.me.0.seen) (AreFirstReplies h.replies.told)) (sym l.number)
+                (knows_later w n (entries_of d.pass.me.0.seen) (entries_of c.pass.me.0.seen) (AreFirstReplies h.replies.told) l.seen same r.known);
+            heads = r.heads
+                ∙ ap₂ (λ k ranks. heads k 1 ranks) (sym l.number)
+                (sym (ap (λ k. ranks_of k 0 (entries_of d.pass.me.0.seen)) l.number ∙ same_later (λ k e. k) n (entries_of c.pass.me.0.seen) (entries_of d.pass.me.0.seen) l.seen same));
+            failures = λ start is. r.failures start is
+                ∙ sym (ap (λ k. failures_of k 0 (entries_of d.pass.me.0.seen)) l.number ∙ same_later (λ k e. failure_marked e.mark) n (entries_of c.pass.me.0.seen) (entries_of d.pass.me.0.seen) l.seen same);
+          };
+        };
+        given_count = let a = ap (λ r. length r.items) l.given in let b = h.given_count in let e = ap (λ k. length (lines_of k lines)) l.number in omega arith;
+        given = subst (λ k. KnowsTurns w k (entries_of d.pass.me.0.seen) (AreFirstGiven new.given.items)) (sym l.number)
+            (subst (λ r. KnowsTurns w n (entries_of d.pass.me.0.seen) (AreFirstGiven r.items)) (sym l.given)
+            (knows_later w n (entries_of d.pass.me.0.seen) (entries_of c.pass.me.0.seen) (AreFirstGiven old.given.items) l.seen same h.given));
+      }
+
+  pub has_learned : (old new : Caller D A C) (replies : Replies) (given : Vec ℕ) (other : View Entry (Opened D A C)) → IsReady w 0 new → new.pass.me.0 ≡ joined old.pass.me.0 other → StartsWith new.pass.me.0.seen old.pass.me.0.seen →
+      SameButPass old new → HasLearned w (record { caller = old; replies = replies; given = given }) (record { caller = new; replies = replies; given = given })
+  has_learned old new replies given other ready is seen same = record {
+    ready = ready;
+    number = same.number;
+    spent = same.spent;
+    calls = ap (λ (v : View Entry (Opened D A C)). v.calls) is;
+    seen = seen_begins old.pass.me.0 new.pass.me.0 seen;
+    replies = refl;
+    given = refl;
+  }
+
+-- A SESSION AMONG OTHERS
+
+pub item_of : {X : Type 0} (xs : List X) (i : ℕ) → i < length xs → X
+item_of [] i lt = absurd (omega arith)
+item_of (x ∷ xs) i lt = x
+
+pub set_itself : {X : Type 0} (xs : List X) (i : ℕ) (x : X) → i < length xs → x ≡ get_or xs i x → set xs i x ≡ xs
+set_itself [] i x lt is = absurd (omega arith)
+set_itself (y ∷ ys) zero x lt is = ap (λ z. z ∷ ys) is
+set_itself (y ∷ ys) (suc i) x lt is = ap (λ zs. y ∷ zs) (set_itself ys i x (omega arith) is)
+
+pub changes_set : {X : Type 0} (R : X → X → Type 0) (xs : List X) (place : ℕ) (x : X) → place < length xs → ((d : X) → R (get_or xs place d) x) → ChangesAt place R xs (set xs place x)
+changes_set R xs place x lt here = record {
+  as_many = length-set xs place x;
+  here = λ d. subst (R (get_or xs place d)) (sym (get_or-set_same xs place x d lt)) (here d);
+  others = λ k d other. get_or-set_other xs place k x d other;
+}
+
+pub changes_none : {X : Type 0} (R : X → X → Type 0) (xs : List X) (place : ℕ) → ((d : X) → R (get_or xs place d) (get_or xs place d)) → ChangesAt place R xs xs
+changes_none R xs place here = record { as_many = refl; here = here; others = λ k d other. refl }
+
+pub learned_nothing : {D A C : Type 0} (w : World D A C) (s : Session D A C) → IsReady w 0 s.caller → HasLearned w s s
+learned_nothing w s ready = record { ready = ready; number = refl; spent = refl; calls = refl; seen = begins_itself (entries_of s.caller.pass.me.0.seen); replies = refl; given = refl }

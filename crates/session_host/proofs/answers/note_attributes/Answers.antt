@@ -1,0 +1,10 @@
+use Rattle.std.proofs.Common.{◌∙◌, subst}
+use Rattle.std.specs.Prelude.{IfOk}
+use Rattle.psa_status.specs.declared.Status.TheVariants.{Success}
+use Rattle.session_host.specs.Replying.{Notes}
+use Rattle.session_host.proofs.answers.note_attributes.Goals as goal
+
+pub returns-in-Ok-clause-noted : goal.returns-in-Ok-clause-noted
+returns-in-Ok-clause-noted c =
+    subst (λ bytes. IfOk c.note_bytes.result (λ given. Notes c.args.replies.now c.note_bytes.new.replies c.args.rank (record { status = Success; bytes = bytes; id = 0 })))
+    (c.deref.ensures.value ∙ c.in-Ok.ensures) c.note_bytes.ensures.noted

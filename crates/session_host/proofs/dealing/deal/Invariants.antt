@@ -1,0 +1,14 @@
+use Rattle.std.proofs.Common.{◌≡◌, ◌≤◌, ◌-◌, length, take}
+use Rattle.std.specs.Prelude.{vec_capacity}
+use Rattle.locked_store.specs.Shared.{world}
+use Rattle.session_host.proofs.Dealt.{IsDealing}
+use Rattle.session_host.proofs.dealing.deal.Given as goal
+
+abbrev pub invariant-loop : goal.invariant-loop
+invariant-loop g l = record {
+  callers : l.callers.items ≡ take (16 - l.counter) l.fn.callers.items;
+  space : 16 ≤ vec_capacity l.callers;
+  dealing : IsDealing (world l.service.shared) l.form l.counter l.workers;
+  count : length l.workers ≡ length l.fn.workers;
+  counted : l.count ≡ length l.fn.workers;
+}

@@ -1,0 +1,11 @@
+use Rattle.std.proofs.Common.{◌≡◌, ◌≤◌, All, length}
+use Rattle.std.specs.Prelude.{vec_capacity}
+use Rattle.session_host.specs.Dealing.{IsFree}
+use Rattle.session_host.proofs.dealing.new_workers.Given as goal
+
+abbrev pub invariant-loop : goal.invariant-loop
+invariant-loop g l = record {
+  count : length l.workers.items ≡ l.counter;
+  free : All IsFree l.workers.items;
+  room : l.fn.count ≤ vec_capacity l.workers;
+}

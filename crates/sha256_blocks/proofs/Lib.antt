@@ -1,4 +1,0 @@
-pub mod Choices
-pub mod Rotations
-pub mod ScheduleWords
-pub mod TwoBlocks

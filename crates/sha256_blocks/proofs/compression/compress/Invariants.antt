@@ -1,6 +1,0 @@
-use Rattle.std.proofs.Common.{◌≡◌, ◌*◌}
-use Rattle.sha2.specs.Sha256.{rounds}
-use Rattle.sha256_blocks.proofs.compression.compress.Given as goal
-
-abbrev pub invariant-turns : goal.invariant-turns
-invariant-turns l = l.variables ≡ rounds l.hash_value l.words (8 * l.turn)

@@ -1,7 +1,0 @@
-use Rattle.std.proofs.Common.{rules}
-use Rattle.sha2.specs.Sha256.{schedule}
-use Rattle.sha256_blocks.proofs.schedule.message_schedule.Goals as goal
-
-pub turns-init : goal.turns-init
-unfolding schedule
-turns-init c = (search rules, c.put_block_words.ensures)

@@ -1,6 +1,0 @@
-use Rattle.std.proofs.Common.{◌≡◌, ◌-◌, ◌*◌, length, take}
-use Rattle.sha2.specs.Sha256.{schedule}
-use Rattle.sha256_blocks.proofs.schedule.message_schedule.Given as goal
-
-abbrev pub invariant-turns : goal.invariant-turns
-invariant-turns l = (length l.words ≡ 64) × (take (8 * l.turn) l.words ≡ schedule l.block (8 * l.turn - 16))

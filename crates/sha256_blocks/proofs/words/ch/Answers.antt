@@ -1,6 +1,0 @@
-use Rattle.std.proofs.Common.{arith}
-use Rattle.sha256_blocks.proofs.Choices.{ch_by_three}
-use Rattle.sha256_blocks.proofs.words.ch.Goals as goal
-
-pub returns : goal.returns
-returns c = ch_by_three c.args.x c.args.y c.args.z (omega arith) (omega arith) (omega arith)

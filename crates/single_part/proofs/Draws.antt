@@ -1,0 +1,102 @@
+-- What calls with a key draw.
+use Rattle.std.proofs.Common.{◌≡◌, ◌≤◌, ◌+◌, ℕ, Bool, true, List, ◌++◌, length, refl, arith}
+use Rattle.std.specs.Prelude.{Option, Some, None}
+use Rattle.std.specs.FinMap as map
+use Rattle.psa_status.specs.declared.Status.{Status}
+use Rattle.psa_status.specs.declared.Status.TheVariants.{Success}
+use Rattle.psa_status.specs.Rows.{first_row}
+use Rattle.alg_encoding.specs.declared.table.Class.{Class}
+use Rattle.alg_encoding.specs.declared.table.Class.TheVariants.{Cipher}
+use Rattle.random_streams.specs.RandomWords.{RandomStream, drawn_from, words_used}
+use Rattle.store_model.specs.Call.{Reply}
+use Rattle.store_model.specs.Ciphers.{Ctr, CbcNoPadding, CbcPkcs7, EcbNoPadding, Mode, encrypt_rows, enciphered, is_ctr, iv_length, mode_of}
+use Rattle.store_model.specs.KeyUse.{bytes_of}
+use Rattle.store_model.specs.Outcome.{Computed, computed_unless, given, replies}
+use Rattle.store_model.specs.Rules.{cipher_usage, use_rows}
+use Rattle.store_model.specs.Store.{Key}
+use Rattle.store_model.proofs.Tables.{refused_by}
+use Rattle.service_calls.specs.declared.store_calls.StoreCall.TheVariants.{Import, Generate, Copy, Destroy, Purge, GetAttributes, Export, HashCompute, HashCompare, MacCompute, MacVerify, CipherEncrypt, CipherDecrypt, AeadEncrypt, AeadDecrypt}
+use Rattle.single_part.specs.Laws.{DrawsAVector, DrawsOnSuccess}
+
+-- nothing is drawn from a stream
+pub draws_none : (stream : RandomStream) → stream ≡ drawn_from stream 0
+draws_none stream = let words : stream.place ≡ stream.place + words_used 0 = omega arith in λ i. record stream { place = words i }
+
+vector_within : (mode : Mode) → iv_length mode ≤ 16
+vector_within Ctr = omega arith
+vector_within CbcNoPadding = omega arith
+vector_within CbcPkcs7 = omega arith
+vector_within EcbNoPadding = omega arith
+
+one_vector : (o : Option Status) (mode : Mode) (reply : Reply) → (computed_unless o (record { reply = reply; drawn = iv_length mode })).drawn ≤ 16
+one_vector None mode reply = vector_within mode
+one_vector (Some status) mode reply = omega arith
+
+pub few : DrawsAVector
+few (CipherEncrypt id alg input) key random room =
+    let vector : List ℕ = random (iv_length (mode_of alg.0)) in
+    one_vector (first_row (encrypt_rows (mode_of alg.0) (length input.now) room)) (mode_of alg.0) (given (vector ++ enciphered (mode_of alg.0) key vector input.now))
+few (Export id) key random room = omega arith
+few (MacCompute id alg input) key random room = omega arith
+few (MacVerify id alg input mac) key random room = omega arith
+few (CipherDecrypt id alg input) key random room = omega arith
+few (AeadEncrypt id alg nonce ad input) key random room = omega arith
+few (AeadDecrypt id alg nonce ad input) key random room = omega arith
+few (Import attributes bytes) key random room = omega arith
+few (Generate attributes) key random room = omega arith
+few (Copy source attributes) key random room = omega arith
+few (Destroy id) key random room = omega arith
+few (Purge id) key random room = omega arith
+few (GetAttributes id) key random room = omega arith
+few (HashCompute alg input) key random room = omega arith
+few (HashCompare alg input hash) key random room = omega arith
+
+-- no row answers SUCCESS
+
+abbrev Refuses : Status → Type 0
+Refuses status = status ≡ Success → ⊥
+
+use_refuses : (on_device : Bool) (class : Class) (usage alg : ℕ) (found : Option Key) (status : Status) → first_row (use_rows on_device class usage alg found) ≡ Some status → Refuses status
+use_refuses on_device class usage alg None = refused_by Refuses (use_rows on_device class usage alg None) (λ on is. cc, tt)
+use_refuses on_device class usage alg (Some key) =
+    refused_by Refuses (use_rows on_device class usage alg (Some key)) (λ on is. cc, (λ on is. cc, (λ on is. cc, (λ on is. cc, (λ on is. cc, tt)))))
+
+encrypt_refuses : (mode : Mode) (bytes room : ℕ) (status : Status) → first_row (encrypt_rows mode bytes room) ≡ Some status → Refuses status
+encrypt_refuses mode bytes room = refused_by Refuses (encrypt_rows mode bytes room) (λ on is. cc, (λ on is. cc, tt))
+
+-- a vector is drawn exactly where the call succeeds
+abbrev Draws : ℕ → Computed → Type 0
+Draws n computed = (computed.reply.status ≡ Success → computed.drawn ≡ n) × ((computed.reply.status ≡ Success → ⊥) → computed.drawn ≡ 0)
+
+draws_nothing : (o : Option Status) (reply : Reply) → Draws 0 (computed_unless o (replies reply))
+draws_nothing None reply = (λ is. refl, λ is. refl)
+draws_nothing (Some status) reply = (λ is. refl, λ is. refl)
+
+draws_unless : (o p : Option Status) (bytes : List ℕ) (n : ℕ) → ((status : Status) → o ≡ Some status → Refuses status) → ((status : Status) → p ≡ Some status → Refuses status) →
+    Draws n (computed_unless o (computed_unless p (record { reply = given bytes; drawn = n })))
+draws_unless None None bytes n first second = (λ is. refl, λ is. absurd (is refl))
+draws_unless None (Some status) bytes n first second = (λ is. absurd (second status refl is), λ is. refl)
+draws_unless (Some status) p bytes n first second = (λ is. absurd (first status refl is), λ is. refl)
+
+pub exact : DrawsOnSuccess
+exact store caller random (CipherEncrypt id alg input) room is =
+    let mode : Mode = mode_of alg.0 in
+    let found : Option Key = map.get store.keys id.0 in
+    let vector : List ℕ = random (iv_length mode) in
+    draws_unless (first_row (use_rows (is_ctr mode) Cipher (cipher_usage true) alg.0 found)) (first_row (encrypt_rows mode (length input.now) room))
+    (vector ++ enciphered mode (bytes_of found) vector input.now) (iv_length mode)
+    (use_refuses (is_ctr mode) Cipher (cipher_usage true) alg.0 found) (encrypt_refuses mode (length input.now) room)
+exact store caller random (Export id) room is = (λ is. refl, λ is. refl)
+exact store caller random (MacCompute id alg input) room is = draws_nothing _ _
+exact store caller random (MacVerify id alg input mac) room is = draws_nothing _ _
+exact store caller random (CipherDecrypt id alg input) room is = draws_nothing _ _
+exact store caller random (AeadEncrypt id alg nonce ad input) room is = draws_nothing _ _
+exact store caller random (AeadDecrypt id alg nonce ad input) room is = draws_nothing _ _
+exact store caller random (Import attributes bytes) room is = absurd (cc)
+exact store caller random (Generate attributes) room is = absurd (cc)
+exact store caller random (Copy source attributes) room is = absurd (cc)
+exact store caller random (Destroy id) room is = absurd (cc)
+exact store caller random (Purge id) room is = absurd (cc)
+exact store caller random (GetAttributes id) room is = absurd (cc)
+exact store caller random (HashCompute alg input) room is = absurd (cc)
+exact store caller random (HashCompare alg input hash) room is = absurd (cc)
