@@ -2,7 +2,8 @@
 ghost use Rattle.std.specs.Prelude.{◌≤◌, []};
 ghost use Rattle.service_calls.specs.declared.call.Call.TheVariants as calls;
 ghost use Rattle.service_calls.specs.declared.handle_calls.HandleCall.TheVariants as handle_calls;
-ghost use Rattle.service_calls.specs.declared.handle_calls.Setup.TheVariants as setups;
+ghost use Rattle.service_calls.specs.Asked.{sets_up_with};
+ghost use Rattle.service_calls.specs.declared.handle_calls.Purpose.TheVariants as purposes;
 ghost use Rattle.service_calls.specs.declared.steps.Step.TheVariants as steps;
 ghost use Rattle.service_calls.specs.declared.steps.CipherStep.TheVariants as cipher_steps;
 ghost use Rattle.service_calls.specs.declared.steps.AeadStep.TheVariants as aead_steps;
@@ -17,7 +18,7 @@ use callers::{Caller, Gate};
 use disk_face::Disk;
 use driver_dispatch::Devices;
 use key_attributes::KeyId;
-use service_calls::{AeadStep, Call, CipherStep, HandleCall, Op, Setup, Step};
+use service_calls::{AeadStep, Call, CipherStep, HandleCall, Op, Purpose, Step};
 use std::sync::Wait;
 
 impl<D: Disk, A: Devices, C: Admission, G: Gate> Service<D, A, C, G> {
@@ -31,9 +32,12 @@ impl<D: Disk, A: Devices, C: Admission, G: Gate> Service<D, A, C, G> {
         alg: Alg,
     ) -> Reply<()>
         requires { MayCall self.now caller.old }
-        ensures { IsReply self.now (calls.OnHandle op (handle_calls.Setup (setups.CipherEncrypt key alg))) nothing caller.old caller.new [] [] result }
+        ensures { IsReply self.now (sets_up_with op key purposes.EncryptCipher alg) nothing caller.old caller.new [] [] result }
     {
-        let call = Call::OnHandle(op, HandleCall::Setup(Setup::CipherEncrypt { key, alg }));
+        let call = Call::OnHandle(
+            op,
+            HandleCall::set_up_with(key, Purpose::EncryptCipher, alg),
+        );
         self.tell(rt, caller, &call)
     }
 
@@ -47,9 +51,12 @@ impl<D: Disk, A: Devices, C: Admission, G: Gate> Service<D, A, C, G> {
         alg: Alg,
     ) -> Reply<()>
         requires { MayCall self.now caller.old }
-        ensures { IsReply self.now (calls.OnHandle op (handle_calls.Setup (setups.CipherDecrypt key alg))) nothing caller.old caller.new [] [] result }
+        ensures { IsReply self.now (sets_up_with op key purposes.DecryptCipher alg) nothing caller.old caller.new [] [] result }
     {
-        let call = Call::OnHandle(op, HandleCall::Setup(Setup::CipherDecrypt { key, alg }));
+        let call = Call::OnHandle(
+            op,
+            HandleCall::set_up_with(key, Purpose::DecryptCipher, alg),
+        );
         self.tell(rt, caller, &call)
     }
 
@@ -128,9 +135,9 @@ impl<D: Disk, A: Devices, C: Admission, G: Gate> Service<D, A, C, G> {
         alg: Alg,
     ) -> Reply<()>
         requires { MayCall self.now caller.old }
-        ensures { IsReply self.now (calls.OnHandle op (handle_calls.Setup (setups.AeadEncrypt key alg))) nothing caller.old caller.new [] [] result }
+        ensures { IsReply self.now (sets_up_with op key purposes.EncryptAead alg) nothing caller.old caller.new [] [] result }
     {
-        let call = Call::OnHandle(op, HandleCall::Setup(Setup::AeadEncrypt { key, alg }));
+        let call = Call::OnHandle(op, HandleCall::set_up_with(key, Purpose::EncryptAead, alg));
         self.tell(rt, caller, &call)
     }
 
@@ -144,9 +151,9 @@ impl<D: Disk, A: Devices, C: Admission, G: Gate> Service<D, A, C, G> {
         alg: Alg,
     ) -> Reply<()>
         requires { MayCall self.now caller.old }
-        ensures { IsReply self.now (calls.OnHandle op (handle_calls.Setup (setups.AeadDecrypt key alg))) nothing caller.old caller.new [] [] result }
+        ensures { IsReply self.now (sets_up_with op key purposes.DecryptAead alg) nothing caller.old caller.new [] [] result }
     {
-        let call = Call::OnHandle(op, HandleCall::Setup(Setup::AeadDecrypt { key, alg }));
+        let call = Call::OnHandle(op, HandleCall::set_up_with(key, Purpose::DecryptAead, alg));
         self.tell(rt, caller, &call)
     }
 

@@ -2,7 +2,8 @@
 ghost use Rattle.std.specs.Prelude.{◌≤◌, []};
 ghost use Rattle.service_calls.specs.declared.call.Call.TheVariants as calls;
 ghost use Rattle.service_calls.specs.declared.handle_calls.HandleCall.TheVariants as handle_calls;
-ghost use Rattle.service_calls.specs.declared.handle_calls.Setup.TheVariants as setups;
+ghost use Rattle.service_calls.specs.Asked.{sets_up};
+ghost use Rattle.service_calls.specs.declared.handle_calls.KeylessSetup.TheVariants as keyless;
 ghost use Rattle.service_calls.specs.declared.steps.Step.TheVariants as steps;
 ghost use Rattle.service_calls.specs.declared.steps.DerivationStep.TheVariants as derivation_steps;
 ghost use Rattle.caller_service.specs.Given.{identifier_of, length_of, nothing, number_of};
@@ -16,7 +17,7 @@ use callers::{Caller, Gate};
 use disk_face::Disk;
 use driver_dispatch::Devices;
 use key_attributes::{Attributes, KeyId};
-use service_calls::{Call, DerivationStep, HandleCall, Op, Setup, Step};
+use service_calls::{Call, DerivationStep, HandleCall, KeylessSetup, Op, Step};
 use std::sync::Wait;
 
 impl<D: Disk, A: Devices, C: Admission, G: Gate> Service<D, A, C, G> {
@@ -29,9 +30,9 @@ impl<D: Disk, A: Devices, C: Admission, G: Gate> Service<D, A, C, G> {
         alg: Alg,
     ) -> Reply<()>
         requires { MayCall self.now caller.old }
-        ensures { IsReply self.now (calls.OnHandle op (handle_calls.Setup (setups.Derivation alg))) nothing caller.old caller.new [] [] result }
+        ensures { IsReply self.now (sets_up op (keyless.Derivation alg)) nothing caller.old caller.new [] [] result }
     {
-        let call = Call::OnHandle(op, HandleCall::Setup(Setup::Derivation(alg)));
+        let call = Call::OnHandle(op, HandleCall::set_up(KeylessSetup::Derivation(alg)));
         self.tell(rt, caller, &call)
     }
 

@@ -1,7 +1,10 @@
 // Calls on keys, and computations in one part.
 ghost use Rattle.std.specs.Prelude.{◌≤◌, []};
-ghost use Rattle.service_calls.specs.declared.call.Call.TheVariants as calls;
-ghost use Rattle.service_calls.specs.declared.store_calls.StoreCall.TheVariants as store_calls;
+ghost use Rattle.service_calls.specs.Asked.{changes, computes, creates, hashes};
+ghost use Rattle.service_calls.specs.declared.store_calls.Creation.TheVariants as creations;
+ghost use Rattle.service_calls.specs.declared.store_calls.HashCall.TheVariants as hash_calls;
+ghost use Rattle.service_calls.specs.declared.store_calls.KeyChange.TheVariants as key_changes;
+ghost use Rattle.service_calls.specs.declared.store_calls.KeyedCall.TheVariants as keyed;
 ghost use Rattle.caller_service.specs.Given.{description_of, identifier_of, length_of, nothing};
 ghost use Rattle.caller_service.specs.Replies.{IsReply, MayCall};
 
@@ -13,7 +16,7 @@ use callers::{Caller, Gate};
 use disk_face::Disk;
 use driver_dispatch::Devices;
 use key_attributes::{Attributes, KeyId};
-use service_calls::{Call, StoreCall};
+use service_calls::{Call, Creation, HashCall, KeyChange, KeyedCall, StoreCall};
 use std::sync::Wait;
 
 impl<D: Disk, A: Devices, C: Admission, G: Gate> Service<D, A, C, G> {
@@ -27,12 +30,12 @@ impl<D: Disk, A: Devices, C: Admission, G: Gate> Service<D, A, C, G> {
         bytes: &[u8],
     ) -> Reply<KeyId>
         requires { MayCall self.now caller.old }
-        ensures { IsReply self.now (calls.OnStore (store_calls.Import attributes.now bytes.entry)) identifier_of caller.old caller.new [] [] result }
+        ensures { IsReply self.now (creates (creations.Import attributes.now bytes.entry)) identifier_of caller.old caller.new [] [] result }
     {
-        let call = Call::OnStore(StoreCall::Import {
+        let call = Call::OnStore(StoreCall::Create(Creation::Import {
             attributes: *attributes,
             bytes,
-        });
+        }));
         self.tell(rt, caller, &call)
     }
 
@@ -45,9 +48,9 @@ impl<D: Disk, A: Devices, C: Admission, G: Gate> Service<D, A, C, G> {
         attributes: &Attributes,
     ) -> Reply<KeyId>
         requires { MayCall self.now caller.old }
-        ensures { IsReply self.now (calls.OnStore (store_calls.Generate attributes.now)) identifier_of caller.old caller.new [] [] result }
+        ensures { IsReply self.now (creates (creations.Generate attributes.now)) identifier_of caller.old caller.new [] [] result }
     {
-        let call = Call::OnStore(StoreCall::Generate(*attributes));
+        let call = Call::OnStore(StoreCall::Create(Creation::Generate(*attributes)));
         self.tell(rt, caller, &call)
     }
 
@@ -61,12 +64,12 @@ impl<D: Disk, A: Devices, C: Admission, G: Gate> Service<D, A, C, G> {
         attributes: &Attributes,
     ) -> Reply<KeyId>
         requires { MayCall self.now caller.old }
-        ensures { IsReply self.now (calls.OnStore (store_calls.Copy source attributes.now)) identifier_of caller.old caller.new [] [] result }
+        ensures { IsReply self.now (changes (key_changes.Copy source attributes.now)) identifier_of caller.old caller.new [] [] result }
     {
-        let call = Call::OnStore(StoreCall::Copy {
+        let call = Call::OnStore(StoreCall::Change(KeyChange::Copy {
             source,
             attributes: *attributes,
-        });
+        }));
         self.tell(rt, caller, &call)
     }
 
@@ -79,18 +82,18 @@ impl<D: Disk, A: Devices, C: Admission, G: Gate> Service<D, A, C, G> {
         key: KeyId,
     ) -> Reply<()>
         requires { MayCall self.now caller.old }
-        ensures { IsReply self.now (calls.OnStore (store_calls.Destroy key)) nothing caller.old caller.new [] [] result }
+        ensures { IsReply self.now (changes (key_changes.Destroy key)) nothing caller.old caller.new [] [] result }
     {
-        let call = Call::OnStore(StoreCall::Destroy(key));
+        let call = Call::OnStore(StoreCall::Change(KeyChange::Destroy(key)));
         self.tell(rt, caller, &call)
     }
 
     /// Lets a persistent key leave the memory; it stays in the store. `InvalidHandle` where there is no such key.
     pub fn purge_key<R: Wait>(&self, rt: &R, caller: &mut Caller<D, A, C>, key: KeyId) -> Reply<()>
         requires { MayCall self.now caller.old }
-        ensures { IsReply self.now (calls.OnStore (store_calls.Purge key)) nothing caller.old caller.new [] [] result }
+        ensures { IsReply self.now (changes (key_changes.Purge key)) nothing caller.old caller.new [] [] result }
     {
-        let call = Call::OnStore(StoreCall::Purge(key));
+        let call = Call::OnStore(StoreCall::Change(KeyChange::Purge(key)));
         self.tell(rt, caller, &call)
     }
 
@@ -102,9 +105,9 @@ impl<D: Disk, A: Devices, C: Admission, G: Gate> Service<D, A, C, G> {
         key: KeyId,
     ) -> Reply<Attributes>
         requires { MayCall self.now caller.old }
-        ensures { IsReply self.now (calls.OnStore (store_calls.GetAttributes key)) description_of caller.old caller.new [] [] result }
+        ensures { IsReply self.now (changes (key_changes.GetAttributes key)) description_of caller.old caller.new [] [] result }
     {
-        let call = Call::OnStore(StoreCall::GetAttributes(key));
+        let call = Call::OnStore(StoreCall::Change(KeyChange::GetAttributes(key)));
         self.tell(rt, caller, &call)
     }
 
@@ -118,9 +121,9 @@ impl<D: Disk, A: Devices, C: Admission, G: Gate> Service<D, A, C, G> {
         out: &mut [u8],
     ) -> Reply<usize>
         requires { MayCall self.now caller.old }
-        ensures { IsReply self.now (calls.OnStore (store_calls.Export key)) length_of caller.old caller.new out.old out.new result }
+        ensures { IsReply self.now (computes key keyed.Export) length_of caller.old caller.new out.old out.new result }
     {
-        let call = Call::OnStore(StoreCall::Export(key));
+        let call = Call::OnStore(StoreCall::compute(key, KeyedCall::Export));
         self.ask(rt, caller, &call, out)
     }
 
@@ -134,9 +137,9 @@ impl<D: Disk, A: Devices, C: Admission, G: Gate> Service<D, A, C, G> {
         out: &mut [u8],
     ) -> Reply<usize>
         requires { MayCall self.now caller.old }
-        ensures { IsReply self.now (calls.OnStore (store_calls.HashCompute alg input.entry)) length_of caller.old caller.new out.old out.new result }
+        ensures { IsReply self.now (hashes (hash_calls.Compute alg input.entry)) length_of caller.old caller.new out.old out.new result }
     {
-        let call = Call::OnStore(StoreCall::HashCompute { alg, input });
+        let call = Call::OnStore(StoreCall::Hash(HashCall::Compute { alg, input }));
         self.ask(rt, caller, &call, out)
     }
 
@@ -150,9 +153,9 @@ impl<D: Disk, A: Devices, C: Admission, G: Gate> Service<D, A, C, G> {
         hash: &[u8],
     ) -> Reply<()>
         requires { MayCall self.now caller.old }
-        ensures { IsReply self.now (calls.OnStore (store_calls.HashCompare alg input.entry hash.entry)) nothing caller.old caller.new [] [] result }
+        ensures { IsReply self.now (hashes (hash_calls.Compare alg input.entry hash.entry)) nothing caller.old caller.new [] [] result }
     {
-        let call = Call::OnStore(StoreCall::HashCompare { alg, input, hash });
+        let call = Call::OnStore(StoreCall::Hash(HashCall::Compare { alg, input, hash }));
         self.tell(rt, caller, &call)
     }
 
@@ -167,9 +170,9 @@ impl<D: Disk, A: Devices, C: Admission, G: Gate> Service<D, A, C, G> {
         out: &mut [u8],
     ) -> Reply<usize>
         requires { MayCall self.now caller.old }
-        ensures { IsReply self.now (calls.OnStore (store_calls.MacCompute key alg input.entry)) length_of caller.old caller.new out.old out.new result }
+        ensures { IsReply self.now (computes key (keyed.MacCompute alg input.entry)) length_of caller.old caller.new out.old out.new result }
     {
-        let call = Call::OnStore(StoreCall::MacCompute { key, alg, input });
+        let call = Call::OnStore(StoreCall::compute(key, KeyedCall::MacCompute { alg, input }));
         self.ask(rt, caller, &call, out)
     }
 
@@ -184,14 +187,9 @@ impl<D: Disk, A: Devices, C: Admission, G: Gate> Service<D, A, C, G> {
         mac: &[u8],
     ) -> Reply<()>
         requires { MayCall self.now caller.old }
-        ensures { IsReply self.now (calls.OnStore (store_calls.MacVerify key alg input.entry mac.entry)) nothing caller.old caller.new [] [] result }
+        ensures { IsReply self.now (computes key (keyed.MacVerify alg input.entry mac.entry)) nothing caller.old caller.new [] [] result }
     {
-        let call = Call::OnStore(StoreCall::MacVerify {
-            key,
-            alg,
-            input,
-            mac,
-        });
+        let call = Call::OnStore(StoreCall::compute(key, KeyedCall::MacVerify { alg, input, mac }));
         self.tell(rt, caller, &call)
     }
 
@@ -207,9 +205,9 @@ impl<D: Disk, A: Devices, C: Admission, G: Gate> Service<D, A, C, G> {
         out: &mut [u8],
     ) -> Reply<usize>
         requires { MayCall self.now caller.old }
-        ensures { IsReply self.now (calls.OnStore (store_calls.CipherEncrypt key alg input.entry)) length_of caller.old caller.new out.old out.new result }
+        ensures { IsReply self.now (computes key (keyed.CipherEncrypt alg input.entry)) length_of caller.old caller.new out.old out.new result }
     {
-        let call = Call::OnStore(StoreCall::CipherEncrypt { key, alg, input });
+        let call = Call::OnStore(StoreCall::compute(key, KeyedCall::CipherEncrypt { alg, input }));
         self.ask(rt, caller, &call, out)
     }
 
@@ -225,9 +223,9 @@ impl<D: Disk, A: Devices, C: Admission, G: Gate> Service<D, A, C, G> {
         out: &mut [u8],
     ) -> Reply<usize>
         requires { MayCall self.now caller.old }
-        ensures { IsReply self.now (calls.OnStore (store_calls.CipherDecrypt key alg input.entry)) length_of caller.old caller.new out.old out.new result }
+        ensures { IsReply self.now (computes key (keyed.CipherDecrypt alg input.entry)) length_of caller.old caller.new out.old out.new result }
     {
-        let call = Call::OnStore(StoreCall::CipherDecrypt { key, alg, input });
+        let call = Call::OnStore(StoreCall::compute(key, KeyedCall::CipherDecrypt { alg, input }));
         self.ask(rt, caller, &call, out)
     }
 
@@ -245,15 +243,17 @@ impl<D: Disk, A: Devices, C: Admission, G: Gate> Service<D, A, C, G> {
         out: &mut [u8],
     ) -> Reply<usize>
         requires { MayCall self.now caller.old }
-        ensures { IsReply self.now (calls.OnStore (store_calls.AeadEncrypt key alg nonce.entry ad.entry input.entry)) length_of caller.old caller.new out.old out.new result }
+        ensures { IsReply self.now (computes key (keyed.AeadEncrypt alg nonce.entry ad.entry input.entry)) length_of caller.old caller.new out.old out.new result }
     {
-        let call = Call::OnStore(StoreCall::AeadEncrypt {
+        let call = Call::OnStore(StoreCall::compute(
             key,
-            alg,
-            nonce,
-            ad,
-            input,
-        });
+            KeyedCall::AeadEncrypt {
+                alg,
+                nonce,
+                ad,
+                input,
+            },
+        ));
         self.ask(rt, caller, &call, out)
     }
 
@@ -271,15 +271,17 @@ impl<D: Disk, A: Devices, C: Admission, G: Gate> Service<D, A, C, G> {
         out: &mut [u8],
     ) -> Reply<usize>
         requires { MayCall self.now caller.old }
-        ensures { IsReply self.now (calls.OnStore (store_calls.AeadDecrypt key alg nonce.entry ad.entry input.entry)) length_of caller.old caller.new out.old out.new result }
+        ensures { IsReply self.now (computes key (keyed.AeadDecrypt alg nonce.entry ad.entry input.entry)) length_of caller.old caller.new out.old out.new result }
     {
-        let call = Call::OnStore(StoreCall::AeadDecrypt {
+        let call = Call::OnStore(StoreCall::compute(
             key,
-            alg,
-            nonce,
-            ad,
-            input,
-        });
+            KeyedCall::AeadDecrypt {
+                alg,
+                nonce,
+                ad,
+                input,
+            },
+        ));
         self.ask(rt, caller, &call, out)
     }
 }

@@ -2,7 +2,9 @@
 ghost use Rattle.std.specs.Prelude.{◌≤◌, []};
 ghost use Rattle.service_calls.specs.declared.call.Call.TheVariants as calls;
 ghost use Rattle.service_calls.specs.declared.handle_calls.HandleCall.TheVariants as handle_calls;
-ghost use Rattle.service_calls.specs.declared.handle_calls.Setup.TheVariants as setups;
+ghost use Rattle.service_calls.specs.Asked.{sets_up, sets_up_with};
+ghost use Rattle.service_calls.specs.declared.handle_calls.KeylessSetup.TheVariants as keyless;
+ghost use Rattle.service_calls.specs.declared.handle_calls.Purpose.TheVariants as purposes;
 ghost use Rattle.service_calls.specs.declared.steps.Step.TheVariants as steps;
 ghost use Rattle.service_calls.specs.declared.steps.HashStep.TheVariants as hash_steps;
 ghost use Rattle.service_calls.specs.declared.steps.MacStep.TheVariants as mac_steps;
@@ -17,7 +19,7 @@ use callers::{Caller, Gate};
 use disk_face::Disk;
 use driver_dispatch::Devices;
 use key_attributes::KeyId;
-use service_calls::{Call, HandleCall, HashStep, MacStep, Op, Setup, Step};
+use service_calls::{Call, HandleCall, HashStep, KeylessSetup, MacStep, Op, Purpose, Step};
 use std::sync::Wait;
 
 impl<D: Disk, A: Devices, C: Admission, G: Gate> Service<D, A, C, G> {
@@ -30,9 +32,9 @@ impl<D: Disk, A: Devices, C: Admission, G: Gate> Service<D, A, C, G> {
         alg: Alg,
     ) -> Reply<()>
         requires { MayCall self.now caller.old }
-        ensures { IsReply self.now (calls.OnHandle op (handle_calls.Setup (setups.Hash alg))) nothing caller.old caller.new [] [] result }
+        ensures { IsReply self.now (sets_up op (keyless.Hash alg)) nothing caller.old caller.new [] [] result }
     {
-        let call = Call::OnHandle(op, HandleCall::Setup(Setup::Hash(alg)));
+        let call = Call::OnHandle(op, HandleCall::set_up(KeylessSetup::Hash(alg)));
         self.tell(rt, caller, &call)
     }
 
@@ -91,9 +93,9 @@ impl<D: Disk, A: Devices, C: Admission, G: Gate> Service<D, A, C, G> {
         alg: Alg,
     ) -> Reply<()>
         requires { MayCall self.now caller.old }
-        ensures { IsReply self.now (calls.OnHandle op (handle_calls.Setup (setups.MacSign key alg))) nothing caller.old caller.new [] [] result }
+        ensures { IsReply self.now (sets_up_with op key purposes.SignMac alg) nothing caller.old caller.new [] [] result }
     {
-        let call = Call::OnHandle(op, HandleCall::Setup(Setup::MacSign { key, alg }));
+        let call = Call::OnHandle(op, HandleCall::set_up_with(key, Purpose::SignMac, alg));
         self.tell(rt, caller, &call)
     }
 
@@ -107,9 +109,9 @@ impl<D: Disk, A: Devices, C: Admission, G: Gate> Service<D, A, C, G> {
         alg: Alg,
     ) -> Reply<()>
         requires { MayCall self.now caller.old }
-        ensures { IsReply self.now (calls.OnHandle op (handle_calls.Setup (setups.MacVerify key alg))) nothing caller.old caller.new [] [] result }
+        ensures { IsReply self.now (sets_up_with op key purposes.VerifyMac alg) nothing caller.old caller.new [] [] result }
     {
-        let call = Call::OnHandle(op, HandleCall::Setup(Setup::MacVerify { key, alg }));
+        let call = Call::OnHandle(op, HandleCall::set_up_with(key, Purpose::VerifyMac, alg));
         self.tell(rt, caller, &call)
     }
 

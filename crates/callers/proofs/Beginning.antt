@@ -2,20 +2,21 @@
 use Rattle.std.proofs.Common.{◌≡◌, ℕ, ◌+◌, ◌-◌, ◌^◌, ◌<◌, ◌≤◌, true, false, cond, not, List, [], ◌∷◌, get_or, length, refl, sym, ap, ◌∙◌, subst, arith, Some, None}
 use Rattle.std.specs.Prelude.{All, count_by, vec_capacity, Result, Ok, Err}
 use Rattle.std.specs.Result.{is_ok}
-use Rattle.std.specs.Option.{option_map}
 use Rattle.std.proofs.lemmas.List.{set-get_or}
 use Rattle.psa_status.specs.declared.Status.{Status}
 use Rattle.psa_status.specs.declared.Status.TheVariants as status
 use Rattle.secret_bytes.specs.Buffer.{IsClear}
 use Rattle.slot_table.specs.Lent.{Reading}
-use Rattle.key_attributes.specs.declared.KeyId.{KeyId}
 use Rattle.key_policy.specs.declared.key_use.KeyUse.{KeyUse}
-use Rattle.key_policy.specs.Uses.{use_refusal}
+use Rattle.key_policy.specs.Uses.{use_refusal, used_for}
 use Rattle.turn_history.specs.History.{entries_of}
 use Rattle.key_slots.specs.Holdings.{Pairs}
 use Rattle.service_calls.specs.declared.output.Output.{Output}
 use Rattle.service_calls.specs.declared.output.Output.TheVariants as output
+use Rattle.service_calls.specs.declared.handle_calls.KeyedSetup.{KeyedSetup}
+use Rattle.service_calls.specs.declared.handle_calls.KeylessSetup.{KeylessSetup}
 use Rattle.service_calls.specs.declared.handle_calls.Setup.{Setup}
+use Rattle.service_calls.specs.declared.handle_calls.Setup.TheVariants.{Keyless, Keyed}
 use Rattle.service_calls.specs.Answered.{AnswersReply}
 use Rattle.service_calls.specs.Answers.{plain_reply}
 use Rattle.service_calls.specs.Meanings.{model_setup}
@@ -29,7 +30,7 @@ use Rattle.store_model.specs.Requests.{Request, OnHandle}
 use Rattle.store_model.specs.Replay.{Entry, outcome_of, replay}
 use Rattle.store_core.specs.Uses.{IsLent, IsRefused, mark_of}
 use Rattle.operation_handles.specs.Cells.{IsOperation}
-use Rattle.operation_handles.specs.Setups.{refusal_without_key, set_up_by, set_up_for, set_up_without_key, setup_use, work_begun}
+use Rattle.operation_handles.specs.Setups.{refusal_without_key, set_up_by, set_up_with_key, set_up_without_key, work_without_key}
 use Rattle.operation_handles.specs.declared.cell.Cell.{Cell}
 use Rattle.operation_handles.proofs.Served.{setups}
 use Rattle.locked_store.specs.Turning.{DecidesAfter, IsAt, IsEntered, ReadsKey, lease_pair}
@@ -131,13 +132,12 @@ module _ {D A C : Type 0} (w : World D A C) (old new : Caller D A C) (r : IsRead
         sets_up s asks plain start is tells ∙ ap (applied (replay start before) old.number handle) (set_up_twice (replay start before).store (operation_at r.operations handle) s begun)
 
     -- a setup without a key
-    module _ (s : Setup) (asks : request ≡ OnHandle handle (model_setup s)) (plain : mark ≡ Plain) (uses : setup_use s ≡ None) where
+    module _ (s : KeylessSetup) (asks : request ≡ OnHandle handle (model_setup (Keyless s))) (plain : mark ≡ Plain) where
       abbrev bare : After Held
       bare = set_up_without_key (operation_at r.operations handle) s
 
       bare_applies : KnowsBefore w (λ service. outcome_of service e ≡ applied service old.number handle bare) before e
-      bare_applies start is tells =
-          sets_up s asks plain start is tells ∙ ap (λ l. applied (replay start before) old.number handle (set_up_for (replay start before).store (operation_at r.operations handle) s l)) uses
+      bare_applies = sets_up (Keyless s) asks plain
 
       pub bare_ready : (result : Result (Unit {0}) Status) → plain_reply result ≡ bare.reply → operation_at r.operations handle ≡ Inactive → IsChanged old.handles.cells.items new.handles.cells.items r.operations handle bare.operation None →
           own ≡ old.pass.me.0.holding → new.number ≡ old.number → new.stream ≡ old.stream → new.spares ≡ old.spares → new.spent ≡ old.spent + cond (is_ok result) 1 0 → old.spent < 2 ^ 48 → IsAt w new.pass →
@@ -145,7 +145,7 @@ module _ {D A C : Type 0} (w : World D A C) (old new : Caller D A C) (r : IsRead
       bare_ready result reply free change held number stream spares spent worn = begun_ready bare bare_applies (once (is_ok result)) (record {
         number = number;
         stream = stream;
-        drawn = draws_none (operation_at r.operations handle) (refusal_without_key s) (record { key = None; work = work_begun s [] });
+        drawn = draws_none (operation_at r.operations handle) (refusal_without_key s) (record { key = None; work = work_without_key s });
         stand = change.stand;
         leases = λ f. ap (count_by f) held ∙ (r.leases f ∙ sym (change.leases f));
         clear = subst (λ v. All IsClear v.items) (sym spares) r.clear;
@@ -153,7 +153,7 @@ module _ {D A C : Type 0} (w : World D A C) (old new : Caller D A C) (r : IsRead
         room = let a = ap vec_capacity spares in let f = r.room in omega arith;
         waits = waits_by r.operations handle bare.operation (once (is_ok result)) last first r.stand.count free
             (subst (λ o. once (not (is_inactive (set_up_without_key o s).operation)) ≤ once (is_ok result)) (sym free)
-            (counts (refusal_without_key s) (record { key = None; work = work_begun s [] }) result (reply ∙ ap (λ o. (set_up_without_key o s).reply) free)));
+            (counts (refusal_without_key s) (record { key = None; work = work_without_key s }) result (reply ∙ ap (λ o. (set_up_without_key o s).reply) free)));
         few = few (is_ok result);
         spent = spent;
       }) (let f = few (is_ok result) in omega arith)
@@ -188,28 +188,28 @@ module _ {D A C : Type 0} (w : World D A C) (old new : Caller D A C) (r : IsRead
       stayed_answered buffer failure = begun_answered (stays o why) applies (Err why) buffer failure (refl, refl) refl
 
     -- a setup with its key
-    module _ (s : Setup) (key : KeyId) (wanted : KeyUse) (asks : request ≡ OnHandle handle (model_setup s)) (uses : setup_use s ≡ Some (key, wanted)) (free : operation_at r.operations handle ≡ Inactive) where
+    module _ (s : KeyedSetup) (wanted : KeyUse) (asks : request ≡ OnHandle handle (model_setup (Keyed s))) (uses : wanted ≡ used_for s.purpose s.alg) (free : operation_at r.operations handle ≡ Inactive) where
       unchanging : may_change_keys e.call ≡ false
-      unchanging = ap may_change_keys (i.call_is ∙ asks) ∙ quiet handle s
+      unchanging = ap may_change_keys (i.call_is ∙ asks) ∙ quiet handle (Keyed s)
 
-      pub refuses : (why : Status) → mark ≡ mark_of why → DecidesAfter w (IsRefused (use_refusal wanted) key.0 why) before e →
+      pub refuses : (why : Status) → mark ≡ mark_of why → DecidesAfter w (IsRefused (use_refusal wanted) s.key.0 why) before e →
           KnowsBefore w (λ service. outcome_of service e ≡ applied service old.number handle (stays Inactive why)) before e
       refuses why marked decided start is tells =
           let service = replay start before in
           let k = known w 4 old new r 1 request mark rank before e made start is tells in
-          let row = decided_after w (IsRefused (use_refusal wanted) key.0 why) before e unchanging decided start is tells in
-          outcome_is service e old.number (OnHandle handle (model_setup s)) (mark_of why) (i.by ∙ r.number) (i.call_is ∙ asks) (i.mark_is ∙ marked)
-          ∙ set_up_refused service old.number handle s key wanted why uses (k.own.each handle first last ∙ free) row
+          let row = decided_after w (IsRefused (use_refusal wanted) s.key.0 why) before e unchanging decided start is tells in
+          outcome_is service e old.number (OnHandle handle (model_setup (Keyed s))) (mark_of why) (i.by ∙ r.number) (i.call_is ∙ asks) (i.mark_is ∙ marked)
+          ∙ set_up_refused service old.number handle s wanted why uses (k.own.each handle first last ∙ free) row
 
-      module _ (lease : Reading) (plain : mark ≡ Plain) (decided : DecidesAfter w (IsLent (use_refusal wanted) key.0 lease) before e) where
+      module _ (lease : Reading) (plain : mark ≡ Plain) (decided : DecidesAfter w (IsLent (use_refusal wanted) s.key.0 lease) before e) where
         abbrev begun : After Held
-        begun = begun_lent s key lease
+        begun = begun_lent s lease
 
         lends : KnowsBefore w (λ service. outcome_of service e ≡ applied service old.number handle begun) before e
         lends start is tells =
             let service = replay start before in
-            let lent = decided_after w (IsLent (use_refusal wanted) key.0 lease) before e unchanging decided start is tells in
-            sets_up s asks plain start is tells ∙ ap (applied service old.number handle) (ap (λ o. set_up_by service.store o s) free ∙ set_up_lent service.store s key wanted lease uses lent)
+            let lent = decided_after w (IsLent (use_refusal wanted) s.key.0 lease) before e unchanging decided start is tells in
+            sets_up (Keyed s) asks plain start is tells ∙ ap (applied service old.number handle) (ap (λ o. set_up_with_key service.store o s) free ∙ set_up_lent service.store s wanted lease uses lent)
 
         pub lent_ready : HoldsLease old.handles.cells.items new.handles.cells.items r.operations handle begun.operation lease → own ≡ lease_pair lease ∷ old.pass.me.0.holding →
             new.number ≡ old.number → new.stream ≡ old.stream → new.spent ≡ old.spent + 1 → All IsClear new.spares.items → length new.spares.items + 1 ≡ length old.spares.items → 5 ≤ vec_capacity new.spares →
@@ -234,10 +234,10 @@ module _ {D A C : Type 0} (w : World D A C) (old new : Caller D A C) (r : IsRead
         lent_answered buffer = begun_answered begun lends (Ok output.Done) buffer (λ start is. ap failure_marked (sym plain)) refl refl
 
 -- the call reads its key, in whatever history it is entered
-pub reads_key : {D A C : Type 0} (w : World D A C) (old : Caller D A C) (r : IsReady w 4 old) (request : Request) (handle : ℕ) (s : Setup) (key : KeyId) (wanted : KeyUse) → 1 ≤ handle → handle ≤ 4 → request ≡ OnHandle handle (model_setup s) →
-    setup_use s ≡ Some (key, wanted) → operation_at r.operations handle ≡ Inactive → ReadsKey w old.pass.me.0 request key.0
-reads_key w old r request handle s key wanted first last asks uses free start is h on tells =
+pub reads_key : {D A C : Type 0} (w : World D A C) (old : Caller D A C) (r : IsReady w 4 old) (request : Request) (handle : ℕ) (s : KeyedSetup) → 1 ≤ handle → handle ≤ 4 →
+    request ≡ OnHandle handle (model_setup (Keyed s)) → operation_at r.operations handle ≡ Inactive → ReadsKey w old.pass.me.0 request s.key.0
+reads_key w old r request handle s first last asks free start is h on tells =
     let own = own_there w 4 old r start h is on tells in
     let inactive : is_inactive (operation_of (replay start h) old.number handle) ≡ true = ap is_inactive (own.each handle first last ∙ free) in
     ap (λ n. id_read (replay start h) n request) r.number
-    ∙ (ap (id_read (replay start h) old.number) asks ∙ (reads (replay start h) old.number handle s inactive ∙ ap (option_map (λ (l : KeyId × KeyUse). l.0.0)) uses))
+    ∙ (ap (id_read (replay start h) old.number) asks ∙ reads (replay start h) old.number handle s inactive)

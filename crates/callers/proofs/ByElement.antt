@@ -10,9 +10,9 @@ use Rattle.psa_status.proofs.Rows.{first_row-back, first_row-front}
 use Rattle.random_streams.specs.RandomWords.{words_used}
 use Rattle.driver_dispatch.specs.Held.{HeldKeys}
 use Rattle.service_calls.specs.Answered.{AnswersReply}
-use Rattle.service_calls.specs.Meanings.{model_store_call}
+use Rattle.service_calls.specs.Meanings.{model_keyed_call}
 use Rattle.service_calls.specs.declared.output.Output.{Output}
-use Rattle.service_calls.specs.declared.store_calls.StoreCall.{StoreCall}
+use Rattle.service_calls.specs.declared.store_calls.KeyedCall.{KeyedCall}
 use Rattle.secure_element_calls.specs.Answers.{AnswersCall, IsOfElement, mark_computed}
 use Rattle.secure_element_calls.specs.Calls.{element_reply, model_call, rows_before}
 use Rattle.secure_element_calls.specs.Replies.{HasDrawn, all_rows, key_rows, reply_on}
@@ -96,13 +96,13 @@ module _ (store : Store) (caller : ℕ) (random : Random) (id room : ℕ) (resul
 
 -- THE ANSWER
 
-module _ (service : Service) (caller id : ℕ) (asked : StoreCall) (element : ElementCall) (held : Option HeldKeys) (old new : List ℕ) (result : Result ℕ NotComputed)
-    (model : model_store_call asked (length old) ≡ model_call element id (length old)) (a : IsAnswered held id element old new result (counted service.store)) where
+module _ (service : Service) (caller id : ℕ) (asked : KeyedCall) (element : ElementCall) (held : Option HeldKeys) (old new : List ℕ) (result : Result ℕ NotComputed)
+    (model : model_keyed_call asked id (length old) ≡ model_call element id (length old)) (a : IsAnswered held id element old new result (counted service.store)) where
   abbrev here : Option Key
   here = map.get service.store.keys id
 
   abbrev call : Call
-  call = model_store_call asked (length old)
+  call = model_keyed_call asked id (length old)
 
   -- a row refuses before the element is asked
   refused_on : (status : Status) → first_row (all_rows element (length old) here) ≡ Some status → reply_on element (length old) here ≡ refusal status

@@ -15,8 +15,8 @@ use Rattle.key_policy.specs.declared.key_use.KeyUse.{KeyUse}
 use Rattle.key_policy.specs.Uses.{use_refusal}
 use Rattle.service_calls.specs.Answered.{AnswersReply}
 use Rattle.service_calls.specs.declared.output.Output.{Output}
-use Rattle.service_calls.specs.declared.store_calls.StoreCall.{StoreCall}
-use Rattle.service_calls.specs.Meanings.{model_store_call}
+use Rattle.service_calls.specs.declared.store_calls.KeyedCall.{KeyedCall}
+use Rattle.service_calls.specs.Meanings.{model_keyed_call}
 use Rattle.store_model.specs.Call.{Reply}
 use Rattle.store_model.specs.Faults.{Plain}
 use Rattle.store_model.specs.Store.{is_opaque_key}
@@ -62,8 +62,8 @@ first_named p own = let one : same p.0 p.1 p ≡ 1 = here p.0 p.1 in omega arith
     here : (i k : ℕ) → same i k (i, k) ≡ 1
     here i k = grind (arith, nat_tests)
 
-module _ {D A C : Type 0} (w : World D A C) (old : Caller D A C) (r : IsReady w 4 old) (asked : StoreCall) (room id : ℕ) (wanted : KeyUse) (uses : wanted_by asked ≡ Some (id, wanted)) (request : Request)
-    (asks : request ≡ OnStore (model_store_call asked room)) (rank : ℕ) (before : List Entry) (e : Entry) (quiet : may_change_keys e.call ≡ false) (local : KnowsBefore w (λ service. IsLocal asked id service.store) before e) where
+module _ {D A C : Type 0} (w : World D A C) (old : Caller D A C) (r : IsReady w 4 old) (asked : KeyedCall) (id room : ℕ) (wanted : KeyUse) (uses : wanted ≡ wanted_by asked) (request : Request)
+    (asks : request ≡ OnStore (model_keyed_call asked id room)) (rank : ℕ) (before : List Entry) (e : Entry) (quiet : may_change_keys e.call ≡ false) (local : KnowsBefore w (λ service. IsLocal asked id service.store) before e) where
   -- THE KEY IS LENT: it is computed with, and the lease goes back
   module _ (looked settled new : Caller D A C) (lease : Reading) (i : IsEntered old.pass.me.0 looked.pass.me.0 request Plain rank (lease_pair lease ∷ old.pass.me.0.holding) before e)
       (decided : DecidesAfter w (IsLent (use_refusal wanted) id lease) before e)
@@ -72,12 +72,12 @@ module _ {D A C : Type 0} (w : World D A C) (old : Caller D A C) (r : IsReady w 
     made = called_then old.pass.me.0 settled.pass.me.0 new.pass.me.0 1 request Plain rank (without_pair (lease_pair lease) settled.pass.me.0.holding) before e
         (subst (λ p. IsCalled old.pass.me.0 p.me.0 1 request Plain rank before e) (sym passed) (called old.pass.me.0 looked.pass.me.0 request Plain rank (lease_pair lease ∷ old.pass.me.0.holding) before e i)) back.later
 
-    steps : KnowsBefore w (λ service. step service.store old.number (next_random service old.number) (model_store_call asked room)
+    steps : KnowsBefore w (λ service. step service.store old.number (next_random service old.number) (model_keyed_call asked id room)
         ≡ with_computed service.store (computed_by asked (bytes_of lease.buffer) (next_bytes old.stream) room)) before e
     steps start is tells =
         let service = replay start before in
         let k = known w 4 old new r 2 request Plain rank before e made start is tells in
-        lent_step asked room id wanted uses service.store old.number (next_random service old.number) lease (local start is tells)
+        lent_step asked id room wanted uses service.store old.number (next_random service old.number) lease (local start is tells)
         (decided_after w (IsLent (use_refusal wanted) id lease) before e quiet decided start is tells)
         ∙ (λ j. with_computed service.store (computed_by asked (bytes_of lease.buffer) (λ n. k.random n j) room))
 
@@ -91,7 +91,7 @@ module _ {D A C : Type 0} (w : World D A C) (old : Caller D A C) (r : IsReady w 
         All IsClear settled.spares.items → length settled.spares.items + 1 ≡ length old.spares.items → vec_capacity settled.spares ≡ vec_capacity old.spares →
         IsAt w new.pass → Legal w (entries_of new.pass.me.0.seen) → IsReady w 0 new
     lent_ready number spent handles stream clear many capacity at legal =
-        kept_ready w old new r 2 request (model_store_call asked room) asks Plain rank before e made lent.drawn (let f = few asked (bytes_of lease.buffer) (next_bytes old.stream) room in omega arith) (omega arith) (record {
+        kept_ready w old new r 2 request (model_keyed_call asked id room) asks Plain rank before e made lent.drawn (let f = few asked (bytes_of lease.buffer) (next_bytes old.stream) room in omega arith) (omega arith) (record {
           number = back.number ∙ number;
           spent = back.spent ∙ spent;
           handles = back.handles ∙ handles;
@@ -105,12 +105,12 @@ module _ {D A C : Type 0} (w : World D A C) (old : Caller D A C) (r : IsReady w 
         }) at legal (λ start is tells.
         let service = replay start before in
         let k = known w 4 old new r 2 request Plain rank before e made start is tells in
-        stored_own service old.number (step service.store old.number (next_random service old.number) (model_store_call asked room)) r.operations old.stream.place new.stream.place k.sound r.last k.own
+        stored_own service old.number (step service.store old.number (next_random service old.number) (model_keyed_call asked id room)) r.operations old.stream.place new.stream.place k.sound r.last k.own
         (let a = ap (λ (s : RandomStream). s.place) (back.stream ∙ stream) in let b = ap (λ (o : Outcome). words_used o.drawn) (steps start is tells) in omega arith))
 
     pub lent_answered : (result : Result Output Status) (shown given : List ℕ) → IsReplied result shown given lent.reply → IsAnswered w old.pass.me.0 new.pass.me.0 request rank result shown given
     lent_answered result shown given fits =
-        kept_answered w old new r 2 request (model_store_call asked room) asks Plain rank before e made result shown given
+        kept_answered w old new r 2 request (model_keyed_call asked id room) asks Plain rank before e made result shown given
         (λ start is. answers_plain result lent.reply fits.0 (computed_plainly asked (bytes_of lease.buffer) (next_bytes old.stream) room))
         (λ start is tells told. subst (IsReplied result shown given) (sym (ap (λ (o : Outcome). o.reply) (steps start is tells))) fits)
 
@@ -120,14 +120,14 @@ module _ {D A C : Type 0} (w : World D A C) (old : Caller D A C) (r : IsReady w 
     abbrev turned : IsCalled old.pass.me.0 new.pass.me.0 1 request (mark_of why) rank before e
     turned = called old.pass.me.0 new.pass.me.0 request (mark_of why) rank old.pass.me.0.holding before e i
 
-    refuses : KnowsBefore w (λ service. IsRefusal service old.number (model_store_call asked room) (mark_of why) why) before e
+    refuses : KnowsBefore w (λ service. IsRefusal service old.number (model_keyed_call asked id room) (mark_of why) why) before e
     refuses start is tells =
-        refusal_of asked room id wanted uses (replay start before) old.number why (local start is tells) (decided_after w (IsRefused (use_refusal wanted) id why) before e quiet decided start is tells)
+        refusal_of asked id room wanted uses (replay start before) old.number why (local start is tells) (decided_after w (IsRefused (use_refusal wanted) id why) before e quiet decided start is tells)
 
     pub refused_ready : new.number ≡ old.number → new.spent ≡ old.spent → new.handles ≡ old.handles → new.stream ≡ old.stream → All IsClear new.spares.items → length new.spares.items ≡ length old.spares.items →
         vec_capacity new.spares ≡ vec_capacity old.spares → IsAt w new.pass → Legal w (entries_of new.pass.me.0.seen) → IsReady w 0 new
     refused_ready number spent handles stream clear many capacity at legal =
-        kept_ready w old new r 1 request (model_store_call asked room) asks (mark_of why) rank before e turned 0 (omega arith) (omega arith) (record {
+        kept_ready w old new r 1 request (model_keyed_call asked id room) asks (mark_of why) rank before e turned 0 (omega arith) (omega arith) (record {
           number = number;
           spent = spent;
           handles = handles;
@@ -143,13 +143,13 @@ module _ {D A C : Type 0} (w : World D A C) (old : Caller D A C) (r : IsReady w 
 
     pub refused_answered : (shown given : List ℕ) → given ≡ shown → IsAnswered w old.pass.me.0 new.pass.me.0 request rank (Err why) shown given
     refused_answered shown given left =
-        kept_answered w old new r 1 request (model_store_call asked room) asks (mark_of why) rank before e turned (Err why) shown given
+        kept_answered w old new r 1 request (model_keyed_call asked id room) asks (mark_of why) rank before e turned (Err why) shown given
         (λ start is. let d = decided start is in refused_tells (use_refusal wanted) (use_plainly wanted) id why d.0 d.2)
         (λ start is tells told. let gives = (refuses start is tells).gives in (gives.answers, left ∙ gives.unwritten shown))
 
 -- THE SECURE ELEMENT HAS THE KEY, and has computed, or refused or failed to
-module _ {D A C : Type 0} (w : World D A C) (old new : Caller D A C) (r : IsReady w 4 old) (asked : StoreCall) (element : ElementCall) (id : ℕ) (shown given : List ℕ) (result : Result ℕ NotComputed) (request : Request)
-    (asks : request ≡ OnStore (model_store_call asked (length shown))) (model : model_store_call asked (length shown) ≡ model_call element id (length shown)) (rank : ℕ) (before : List Entry) (e : Entry)
+module _ {D A C : Type 0} (w : World D A C) (old new : Caller D A C) (r : IsReady w 4 old) (asked : KeyedCall) (element : ElementCall) (id : ℕ) (shown given : List ℕ) (result : Result ℕ NotComputed) (request : Request)
+    (asks : request ≡ OnStore (model_keyed_call asked id (length shown))) (model : model_keyed_call asked id (length shown) ≡ model_call element id (length shown)) (rank : ℕ) (before : List Entry) (e : Entry)
     (quiet : may_change_keys e.call ≡ false) (i : IsEntered old.pass.me.0 new.pass.me.0 request (mark_computed result) rank old.pass.me.0.holding before e)
     (decided : DecidesAfter w (IsOfElement (w.devices.keys w.opened.devices.value) id element shown given result) before e) where
   abbrev asked_of : IsCalled old.pass.me.0 new.pass.me.0 1 request (mark_computed result) rank before e
@@ -161,7 +161,7 @@ module _ {D A C : Type 0} (w : World D A C) (old new : Caller D A C) (r : IsRead
   pub computed_ready : has_vector element ≡ takes_vector asked → new.number ≡ old.number → new.spent ≡ old.spent → new.handles ≡ old.handles → new.stream ≡ drawn_from old.stream (drawn_by asked (is_ok result)) →
       All IsClear new.spares.items → length new.spares.items ≡ length old.spares.items → vec_capacity new.spares ≡ vec_capacity old.spares → IsAt w new.pass → Legal w (entries_of new.pass.me.0.seen) → IsReady w 0 new
   computed_ready draws number spent handles stream clear many capacity at legal =
-      kept_ready w old new r 1 request (model_store_call asked (length shown)) asks (mark_computed result) rank before e asked_of (drawn_by asked (is_ok result)) (few_drawn (is_ok result && takes_vector asked)) (omega arith) (record {
+      kept_ready w old new r 1 request (model_keyed_call asked id (length shown)) asks (mark_computed result) rank before e asked_of (drawn_by asked (is_ok result)) (few_drawn (is_ok result && takes_vector asked)) (omega arith) (record {
         number = number;
         spent = spent;
         handles = handles;
@@ -178,7 +178,7 @@ module _ {D A C : Type 0} (w : World D A C) (old new : Caller D A C) (r : IsRead
   pub computed_answered : HasDrawn element (next_bytes old.stream 16) → DecidesBefore w (λ m. is_opaque_key (map.get m.keys id) ≡ true) before e → (answer : Result Output Status) →
       ((reply : Reply) → AnswersCall element result reply → AnswersReply answer reply) → AnswersAs result answer → IsAnswered w old.pass.me.0 new.pass.me.0 request rank answer shown given
   computed_answered vector opaque answer answers agrees =
-      kept_answered w old new r 1 request (model_store_call asked (length shown)) asks (mark_computed result) rank before e asked_of answer shown given
+      kept_answered w old new r 1 request (model_keyed_call asked id (length shown)) asks (mark_computed result) rank before e asked_of answer shown given
       (λ start is. let d = decided start is in element_tells element (length shown) (map.get d.0.keys id) result answer d.2.decided agrees) (λ start is tells told.
       let service = replay start before in
       let k = known w 4 old new r 1 request (mark_computed result) rank before e asked_of start is tells in

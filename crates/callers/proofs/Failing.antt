@@ -14,11 +14,11 @@ use Rattle.key_policy.specs.declared.key_use.KeyUse.TheVariants.{Export, Algorit
 use Rattle.key_policy.specs.Permissions.{export_refusal, pattern_refusal}
 use Rattle.key_policy.specs.Uses.{use_refusal}
 use Rattle.service_calls.specs.Answered.{AnswersReply}
-use Rattle.service_calls.specs.declared.handle_calls.Setup.{Setup}
-use Rattle.service_calls.specs.declared.handle_calls.Setup.TheVariants as setup
+use Rattle.service_calls.specs.declared.handle_calls.KeylessSetup.{KeylessSetup}
+use Rattle.service_calls.specs.declared.handle_calls.KeylessSetup.TheVariants as setup
 use Rattle.service_calls.specs.declared.output.Output.{Output}
-use Rattle.service_calls.specs.declared.store_calls.StoreCall.{StoreCall}
-use Rattle.service_calls.specs.declared.store_calls.StoreCall.TheVariants as call
+use Rattle.service_calls.specs.declared.store_calls.KeyedCall.{KeyedCall}
+use Rattle.service_calls.specs.declared.store_calls.KeyedCall.TheVariants as call
 use Rattle.alg_encoding.specs.declared.table.Class.TheVariants as class
 use Rattle.store_model.specs.Aeads as aeads
 use Rattle.store_model.specs.Call.{Copy, Reply}
@@ -163,19 +163,18 @@ opened_plainly alg key nonce ad cipher tag =
     let plain : List ℕ = aeads.aead_text alg key nonce cipher in
     text_or_spoiled (bytes_eq tag (aeads.aead_tag alg key nonce ad plain cipher)) (given plain) (spoiled InvalidSignature (length cipher)) refl refl
 
-pub computed_plainly : (asked : StoreCall) (key : List ℕ) (random : Random) (room : ℕ) → NoFault (computed_by asked key random room).reply.status
-computed_plainly (call.Export id) key random room = unless_plain (first_row (room_rows (length key) room)) (given key) (refuses_plainly (room_rows (length key) room) refl) refl
-computed_plainly (call.MacCompute id alg input) key random room = unless_plain _ _ (refuses_plainly (macs.compute_rows alg.0 (length input.now) room) refl) refl
-computed_plainly (call.MacVerify id alg input mac) key random room = unless_plain _ _ (refuses_plainly (macs.verify_rows alg.0 key input.now mac.now) refl) refl
-computed_plainly (call.CipherEncrypt id alg input) key random room = computed_plain _ _ (refuses_plainly (ciphers.encrypt_rows (ciphers.mode_of alg.0) (length input.now) room) refl) refl
-computed_plainly (call.CipherDecrypt id alg input) key random room =
+pub computed_plainly : (asked : KeyedCall) (key : List ℕ) (random : Random) (room : ℕ) → NoFault (computed_by asked key random room).reply.status
+computed_plainly call.Export key random room = unless_plain (first_row (room_rows (length key) room)) (given key) (refuses_plainly (room_rows (length key) room) refl) refl
+computed_plainly (call.MacCompute alg input) key random room = unless_plain _ _ (refuses_plainly (macs.compute_rows alg.0 (length input.now) room) refl) refl
+computed_plainly (call.MacVerify alg input mac) key random room = unless_plain _ _ (refuses_plainly (macs.verify_rows alg.0 key input.now mac.now) refl) refl
+computed_plainly (call.CipherEncrypt alg input) key random room = computed_plain _ _ (refuses_plainly (ciphers.encrypt_rows (ciphers.mode_of alg.0) (length input.now) room) refl) refl
+computed_plainly (call.CipherDecrypt alg input) key random room =
     unless_plain _ _ (refuses_plainly (ciphers.decrypt_rows (ciphers.mode_of alg.0) (length input.now) room) refl) (text_or_zeros _ _)
-computed_plainly (call.AeadEncrypt id alg nonce ad input) key random room =
+computed_plainly (call.AeadEncrypt alg nonce ad input) key random room =
     unless_plain _ _ (refuses_plainly (aeads.encrypt_rows alg.0 (length nonce.now) (length ad.now) (length input.now) room) refl) refl
-computed_plainly (call.AeadDecrypt id alg nonce ad input) key random room =
+computed_plainly (call.AeadDecrypt alg nonce ad input) key random room =
     unless_plain _ _ (refuses_plainly (aeads.decrypt_rows alg.0 (length nonce.now) (length ad.now) (length input.now) room) refl)
     (opened_plainly alg.0 key nonce.now ad.now (take (length input.now - tag_bytes alg.0) input.now) (drop (length input.now - tag_bytes alg.0) input.now))
-computed_plainly _ key random room = refl
 
 -- WHAT THE SECURE ELEMENT COMPUTES
 
@@ -253,10 +252,9 @@ derived_plainly alive operation a =
 
 -- SETUPS WITHOUT A KEY
 
-without_key_plainly : (s : Setup) → RefusesPlainly (refusal_without_key s)
+without_key_plainly : (s : KeylessSetup) → RefusesPlainly (refusal_without_key s)
 without_key_plainly (setup.Hash alg) = refuses_plainly (class_rows class.Hash alg.0) refl
 without_key_plainly (setup.Derivation alg) = refuses_plainly (class_rows class.Derivation alg.0) refl
-without_key_plainly _ = λ status is. cc
 
 set_up_plain : (operation : HandleOperation) (o : Option Status) (held : Held) → RefusesPlainly o → NoFault (set_up operation o held).reply.status
 set_up_plain Inactive None held refuses = refl
@@ -264,5 +262,5 @@ set_up_plain Inactive (Some status) held refuses = refuses status refl
 set_up_plain InError o held refuses = refl
 set_up_plain (Active other) o held refuses = refl
 
-pub set_up_plainly : (operation : HandleOperation) (s : Setup) (held : Held) → NoFault (set_up operation (refusal_without_key s) held).reply.status
+pub set_up_plainly : (operation : HandleOperation) (s : KeylessSetup) (held : Held) → NoFault (set_up operation (refusal_without_key s) held).reply.status
 set_up_plainly operation s held = set_up_plain operation (refusal_without_key s) held (without_key_plainly s)

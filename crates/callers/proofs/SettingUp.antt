@@ -1,23 +1,25 @@
 -- What the one-thread service makes of a setup.
-use Rattle.std.proofs.Common.{◌≡◌, ℕ, ◌+◌, ◌≤◌, true, false, cond, not, refl, sym, ap, ◌∙◌, arith, Option, Some, None}
+use Rattle.std.proofs.Common.{◌≡◌, ℕ, ◌+◌, ◌≤◌, Bool, true, false, cond, not, refl, sym, ap, ◌∙◌, arith, Option, Some, None}
 use Rattle.std.specs.Prelude.{if◌then◌else◌, Result, Ok, Err}
 use Rattle.std.specs.Result.{is_ok}
-use Rattle.std.specs.Option.{option_map}
 use Rattle.std.specs.FinMap as map
 use Rattle.psa_status.specs.declared.Status.{Status}
 use Rattle.psa_status.specs.declared.Status.TheVariants as status
 use Rattle.secret_bytes.specs.Buffer.{bytes_of}
 use Rattle.slot_table.specs.Lent.{Reading}
-use Rattle.key_attributes.specs.declared.KeyId.{KeyId}
 use Rattle.key_policy.specs.declared.key_use.KeyUse.{KeyUse}
-use Rattle.key_policy.specs.Uses.{use_refusal}
+use Rattle.key_policy.specs.Uses.{use_refusal, used_for}
 use Rattle.random_streams.specs.RandomWords.{words_used}
+use Rattle.service_calls.specs.declared.handle_calls.KeyedSetup.{KeyedSetup}
+use Rattle.service_calls.specs.declared.handle_calls.KeylessSetup.TheVariants as keyless
+use Rattle.service_calls.specs.declared.handle_calls.Purpose.{Purpose}
+use Rattle.service_calls.specs.declared.handle_calls.Purpose.TheVariants.{SignMac, VerifyMac, EncryptCipher, DecryptCipher, EncryptAead, DecryptAead}
 use Rattle.service_calls.specs.declared.handle_calls.Setup.{Setup}
-use Rattle.service_calls.specs.declared.handle_calls.Setup.TheVariants as setup
+use Rattle.service_calls.specs.declared.handle_calls.Setup.TheVariants.{Keyless, Keyed}
 use Rattle.service_calls.specs.Answers.{plain_reply}
-use Rattle.service_calls.specs.Meanings.{model_setup}
+use Rattle.service_calls.specs.Meanings.{model_keyed_setup, model_setup}
 use Rattle.store_model.specs.Call.{Reply}
-use Rattle.store_model.specs.HandleCalls.{creation_of, is_setup}
+use Rattle.store_model.specs.HandleCalls.{HandleCall, HashSetup, MacSetup, CipherSetup, AeadSetup, DerivationSetup, creation_of, is_setup}
 use Rattle.store_model.specs.KeyUse as held
 use Rattle.store_model.specs.Laws.{may_change_keys}
 use Rattle.store_model.specs.Marks.{id_read}
@@ -27,42 +29,50 @@ use Rattle.store_model.specs.Handles.{Held, HandleOperation, Own, Service, appli
 use Rattle.store_model.specs.Requests.{OnHandle, failed_step, serve}
 use Rattle.store_model.specs.Store.{Key, Store}
 use Rattle.store_core.specs.Uses.{IsLent, IsRefused, mark_of}
-use Rattle.operation_handles.specs.Setups.{set_up_by, set_up_for, setup_use, work_begun}
+use Rattle.operation_handles.specs.Setups.{set_up_by, set_up_with_key, work_begun}
 use Rattle.operation_handles.proofs.Served.{setups}
 use Rattle.callers.proofs.CellLists.{once}
 
-pub quiet : (handle : ℕ) (s : Setup) → may_change_keys (OnHandle handle (model_setup s)) ≡ false
-quiet handle (setup.Hash alg) = refl
-quiet handle (setup.MacSign key alg) = refl
-quiet handle (setup.MacVerify key alg) = refl
-quiet handle (setup.CipherEncrypt key alg) = refl
-quiet handle (setup.CipherDecrypt key alg) = refl
-quiet handle (setup.AeadEncrypt key alg) = refl
-quiet handle (setup.AeadDecrypt key alg) = refl
-quiet handle (setup.Derivation alg) = refl
+-- what is so of the setups without a key and of those with one
+each_setup : (P : HandleCall → Type 0) → ((alg : ℕ) → P (HashSetup alg)) → ((verifies : Bool) (key alg : ℕ) → P (MacSetup verifies key alg)) →
+    ((encrypts : Bool) (key alg : ℕ) → P (CipherSetup encrypts key alg)) → ((encrypts : Bool) (key alg : ℕ) → P (AeadSetup encrypts key alg)) →
+    ((alg : ℕ) → P (DerivationSetup alg)) → (s : Setup) → P (model_setup s)
+each_setup P hash mac cipher aead derivation (Keyless (keyless.Hash alg)) = hash alg.0
+each_setup P hash mac cipher aead derivation (Keyless (keyless.Derivation alg)) = derivation alg.0
+each_setup P hash mac cipher aead derivation (Keyed s) = by s.purpose
+  where
+    by : (purpose : Purpose) → P (model_keyed_setup purpose s.key.0 s.alg.0)
+    by SignMac = mac false s.key.0 s.alg.0
+    by VerifyMac = mac true s.key.0 s.alg.0
+    by EncryptCipher = cipher true s.key.0 s.alg.0
+    by DecryptCipher = cipher false s.key.0 s.alg.0
+    by EncryptAead = aead true s.key.0 s.alg.0
+    by DecryptAead = aead false s.key.0 s.alg.0
 
--- it reads its key where the operation is inactive
-pub reads : (service : Service) (caller handle : ℕ) (s : Setup) → is_inactive (operation_of service caller handle) ≡ true →
-    id_read service caller (OnHandle handle (model_setup s)) ≡ option_map (λ (l : KeyId × KeyUse). l.0.0) (setup_use s)
-reads service caller handle (setup.Hash alg) free = ap (λ b. if b then None else None) free
-reads service caller handle (setup.MacSign key alg) free = ap (λ b. if b then Some key.0 else None) free
-reads service caller handle (setup.MacVerify key alg) free = ap (λ b. if b then Some key.0 else None) free
-reads service caller handle (setup.CipherEncrypt key alg) free = ap (λ b. if b then Some key.0 else None) free
-reads service caller handle (setup.CipherDecrypt key alg) free = ap (λ b. if b then Some key.0 else None) free
-reads service caller handle (setup.AeadEncrypt key alg) free = ap (λ b. if b then Some key.0 else None) free
-reads service caller handle (setup.AeadDecrypt key alg) free = ap (λ b. if b then Some key.0 else None) free
-reads service caller handle (setup.Derivation alg) free = ap (λ b. if b then None else None) free
+pub quiet : (handle : ℕ) (s : Setup) → may_change_keys (OnHandle handle (model_setup s)) ≡ false
+quiet handle =
+    each_setup (λ call. may_change_keys (OnHandle handle call) ≡ false) (λ alg. refl) (λ verifies key alg. refl) (λ encrypts key alg. refl) (λ encrypts key alg. refl) (λ alg. refl)
+
+-- a setup reads its key where the operation is inactive
+pub reads : (service : Service) (caller handle : ℕ) (s : KeyedSetup) → is_inactive (operation_of service caller handle) ≡ true →
+    id_read service caller (OnHandle handle (model_setup (Keyed s))) ≡ Some s.key.0
+reads service caller handle s free = by s.purpose
+  where
+    by : (purpose : Purpose) → id_read service caller (OnHandle handle (model_keyed_setup purpose s.key.0 s.alg.0)) ≡ Some s.key.0
+    by SignMac = ap (λ b. if b then Some s.key.0 else None) free
+    by VerifyMac = ap (λ b. if b then Some s.key.0 else None) free
+    by EncryptCipher = ap (λ b. if b then Some s.key.0 else None) free
+    by DecryptCipher = ap (λ b. if b then Some s.key.0 else None) free
+    by EncryptAead = ap (λ b. if b then Some s.key.0 else None) free
+    by DecryptAead = ap (λ b. if b then Some s.key.0 else None) free
 
 -- an operation that is set up already stays
 pub set_up_twice : (store : Store) (operation : HandleOperation) (s : Setup) → is_inactive operation ≡ false → set_up_by store operation s ≡ stays operation status.BadState
-set_up_twice store operation s = by (setup_use s) operation
-  where
-    by : (o : Option (KeyId × KeyUse)) (operation : HandleOperation) → is_inactive operation ≡ false → set_up_for store operation s o ≡ stays operation status.BadState
-    by o Inactive e = cc
-    by None InError e = refl
-    by None (Active held) e = refl
-    by (Some l) InError e = refl
-    by (Some l) (Active held) e = refl
+set_up_twice store Inactive s begun = cc
+set_up_twice store InError (Keyless s) begun = refl
+set_up_twice store InError (Keyed s) begun = refl
+set_up_twice store (Active held) (Keyless s) begun = refl
+set_up_twice store (Active held) (Keyed s) begun = refl
 
 pub draws_none : {W : Type 0} (operation : Operation W) (refused : Option Status) (work : W) → (set_up operation refused work).drawn ≡ 0
 draws_none Inactive None work = refl
@@ -78,25 +88,27 @@ counts (Some s) held (Ok u) e = omega arith
 counts (Some s) held (Err t) e = omega arith
 
 -- what begins with the key that was lent
-abbrev pub begun_lent : Setup → KeyId → Reading → After Held
-begun_lent s key lease = goes_on (record { key = Some (record { id = key.0; number = lease.creation }); work = work_begun s (bytes_of lease.buffer) }) done
+abbrev pub begun_lent : KeyedSetup → Reading → After Held
+begun_lent s lease = goes_on (record { key = Some (record { id = s.key.0; number = lease.creation }); work = work_begun s.purpose s.alg.0 (bytes_of lease.buffer) }) done
 
-pub set_up_lent : (store : Store) (s : Setup) (key : KeyId) (wanted : KeyUse) (lease : Reading) → setup_use s ≡ Some (key, wanted) → IsLent (use_refusal wanted) key.0 lease (counted store) →
-    set_up_by store Inactive s ≡ begun_lent s key lease
-set_up_lent store s key wanted lease uses (k, found, free, is) =
-    ap (set_up_for store Inactive s) uses
-    ∙ ((λ i. set_up Inactive (use_refusal wanted (found i)) (record { key = creation_of key.0 (found i); work = work_begun s (held.bytes_of (found i)) }))
-    ∙ (λ i. set_up Inactive (free i) (record { key = Some (record { id = key.0; number = sym is.number i }); work = work_begun s (sym is.bytes i) })))
+-- a setup with its key, by what it looks it for
+by_use : (store : Store) (s : KeyedSetup) (wanted : KeyUse) → wanted ≡ used_for s.purpose s.alg →
+    set_up_with_key store Inactive s
+    ≡ set_up Inactive (use_refusal wanted (map.get store.keys s.key.0))
+    (record { key = creation_of s.key.0 (map.get store.keys s.key.0); work = work_begun s.purpose s.alg.0 (held.bytes_of (map.get store.keys s.key.0)) })
+by_use store s wanted uses =
+    ap (λ usage. set_up Inactive (use_refusal usage (map.get store.keys s.key.0))
+    (record { key = creation_of s.key.0 (map.get store.keys s.key.0); work = work_begun s.purpose s.alg.0 (held.bytes_of (map.get store.keys s.key.0)) })) (sym uses)
+
+pub set_up_lent : (store : Store) (s : KeyedSetup) (wanted : KeyUse) (lease : Reading) → wanted ≡ used_for s.purpose s.alg → IsLent (use_refusal wanted) s.key.0 lease (counted store) →
+    set_up_with_key store Inactive s ≡ begun_lent s lease
+set_up_lent store s wanted lease uses (k, found, free, is) =
+    by_use store s wanted uses
+    ∙ ((λ i. set_up Inactive (use_refusal wanted (found i)) (record { key = creation_of s.key.0 (found i); work = work_begun s.purpose s.alg.0 (held.bytes_of (found i)) }))
+    ∙ (λ i. set_up Inactive (free i) (record { key = Some (record { id = s.key.0; number = sym is.number i }); work = work_begun s.purpose s.alg.0 (sym is.bytes i) })))
 
 is_set_up : (s : Setup) → is_setup (model_setup s) ≡ true
-is_set_up (setup.Hash alg) = refl
-is_set_up (setup.MacSign key alg) = refl
-is_set_up (setup.MacVerify key alg) = refl
-is_set_up (setup.CipherEncrypt key alg) = refl
-is_set_up (setup.CipherDecrypt key alg) = refl
-is_set_up (setup.AeadEncrypt key alg) = refl
-is_set_up (setup.AeadDecrypt key alg) = refl
-is_set_up (setup.Derivation alg) = refl
+is_set_up = each_setup (λ call. is_setup call ≡ true) (λ alg. refl) (λ verifies key alg. refl) (λ encrypts key alg. refl) (λ encrypts key alg. refl) (λ alg. refl)
 
 pub still : (place n : ℕ) → n ≡ 0 → place ≡ place + words_used n
 still place n none = (let z : place ≡ place + words_used 0 = omega arith in z) ∙ ap (λ k. place + words_used k) (sym none)
@@ -111,17 +123,17 @@ left service caller handle s why free =
     (λ i. record { service = with_own service (counted service.store) caller (with_operation (own_of service caller) handle (if is_set_up s i then free i else InError)); reply = refusal why })
     ∙ ap (λ own. record { service = with_own service (counted service.store) caller own; reply = refusal why }) (undrawn_own (with_operation (own_of service caller) handle Inactive))
 
--- without a key, or with one that may not be used so
-pub set_up_refused : (service : Service) (caller handle : ℕ) (s : Setup) (key : KeyId) (wanted : KeyUse) (why : Status) → setup_use s ≡ Some (key, wanted) → operation_of service caller handle ≡ Inactive →
-    IsRefused (use_refusal wanted) key.0 why (counted service.store) → serve service caller (OnHandle handle (model_setup s)) (mark_of why) ≡ applied service caller handle (stays Inactive why)
-set_up_refused service caller handle s key wanted status.StorageFailure uses free refused = left service caller handle s status.StorageFailure free
-set_up_refused service caller handle s key wanted status.DataCorrupt uses free refused = left service caller handle s status.DataCorrupt free
-set_up_refused service caller handle s key wanted why uses free refused =
-    let found : Option Key = map.get service.store.keys key.0 in
-    setups service caller handle s
-    ∙ (ap (λ o. applied service caller handle (set_up_by service.store o s)) free
-    ∙ (ap (λ l. applied service caller handle (set_up_for service.store Inactive s l)) uses
-    ∙ ap (λ o. applied service caller handle (set_up Inactive o (record { key = creation_of key.0 found; work = work_begun s (held.bytes_of found) }))) refused))
+-- without its key, or with one that may not be used so
+pub set_up_refused : (service : Service) (caller handle : ℕ) (s : KeyedSetup) (wanted : KeyUse) (why : Status) → wanted ≡ used_for s.purpose s.alg → operation_of service caller handle ≡ Inactive →
+    IsRefused (use_refusal wanted) s.key.0 why (counted service.store) → serve service caller (OnHandle handle (model_setup (Keyed s))) (mark_of why) ≡ applied service caller handle (stays Inactive why)
+set_up_refused service caller handle s wanted status.StorageFailure uses free refused = left service caller handle (Keyed s) status.StorageFailure free
+set_up_refused service caller handle s wanted status.DataCorrupt uses free refused = left service caller handle (Keyed s) status.DataCorrupt free
+set_up_refused service caller handle s wanted why uses free refused =
+    let found : Option Key = map.get service.store.keys s.key.0 in
+    setups service caller handle (Keyed s)
+    ∙ (ap (λ o. applied service caller handle (set_up_with_key service.store o s)) free
+    ∙ (ap (applied service caller handle) (by_use service.store s wanted uses)
+    ∙ ap (λ o. applied service caller handle (set_up Inactive o (record { key = creation_of s.key.0 found; work = work_begun s.purpose s.alg.0 (held.bytes_of found) }))) refused))
 
 pub is_free : (o : HandleOperation) → is_inactive o ≡ true → o ≡ Inactive
 is_free Inactive e = refl

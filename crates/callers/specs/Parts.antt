@@ -2,7 +2,7 @@
 use Rattle.std.specs.Prelude.{◌≡◌, ◌&&◌, ℕ, Bool, List, [], ◌∷◌, ◌++◌, Option, Some, None, if◌then◌else◌, vec_capacity}
 use Rattle.secret_bytes.specs.Buffer.{Buffer, IsClear}
 use Rattle.slot_table.specs.Lent.{Reading}
-use Rattle.service_calls.specs.declared.store_calls.StoreCall.{StoreCall}
+use Rattle.service_calls.specs.declared.store_calls.KeyedCall.{KeyedCall}
 use Rattle.single_part.specs.Elements.{takes_vector}
 use Rattle.locked_store.specs.Turning.{IsLater, lease_pair, without_pair}
 use Rattle.store_model.specs.Faults.{FaultMark}
@@ -15,7 +15,7 @@ use Rattle.callers.specs.Handles.{ArePairs}
 use Rattle.callers.specs.declared.caller.Caller.{Caller}
 
 -- the random bytes that a call has drawn which the secure element computed, or failed to
-abbrev pub drawn_by : StoreCall → (computed : Bool) → ℕ
+abbrev pub drawn_by : KeyedCall → (computed : Bool) → ℕ
 drawn_by asked computed = if computed && takes_vector asked then 16 else 0
 
 module _ {D A C : Type 0} where

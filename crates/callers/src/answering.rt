@@ -2,6 +2,7 @@
 ghost use Rattle.std.specs.Prelude.{◌≡◌, ◌≤◌, ◌<◌, ◌+◌, ◌^◌, ℕ, true, false, cond, List, Some, None, Err, IfSome, IfNone, length};
 ghost use Rattle.std.specs.Result.{is_ok};
 ghost use Rattle.psa_status.specs.declared.Status.TheVariants.{PassWorn};
+ghost use Rattle.service_calls.specs.Asked.{changes, creates};
 ghost use Rattle.service_calls.specs.Meanings.{model_request};
 ghost use Rattle.service_calls.specs.declared.call.Call.TheVariants as calls;
 ghost use Rattle.service_calls.specs.declared.handle_calls.HandleCall.TheVariants as handle_calls;
@@ -20,7 +21,7 @@ use disk_face::Disk;
 use driver_dispatch::Devices;
 use locked_store::SharedStore;
 use psa_status::Status;
-use service_calls::{Call, HandleCall, Op, Output, StoreCall};
+use service_calls::{Call, Creation, HandleCall, KeyChange, Op, Output, StoreCall};
 use std::sync::Wait;
 
 // Whether a call begins an operation.
@@ -126,28 +127,62 @@ impl<D: Disk, A: Devices, C: Admission> Caller<D, A, C> {
     {
         let room = out.len();
         match *asked {
-            StoreCall::Import { attributes, bytes } => {
+            StoreCall::Create(creation) => self.create_key(rt, shared, gate, call, room, &creation),
+            StoreCall::Change(change) => self.change_key(rt, shared, gate, call, room, change),
+            StoreCall::Hash(hash) => self.hash(rt, shared, call, &hash, out),
+            StoreCall::Compute(keyed) => self.compute(rt, shared, gate, call, &keyed, out),
+        }
+    }
+
+    // Creates a key.
+    fn create_key<R: Wait, G: Gate>(
+        &mut self,
+        rt: &R,
+        shared: &SharedStore<D, A, C>,
+        gate: &G,
+        call: &Call<'_>,
+        room: usize,
+        asked: &Creation<'_>,
+    ) -> (u64, Result<Output, Status>)
+        requires ready { IsReady (world shared.now) 4 self.old }
+        requires call { call.now ≡ creates asked.now }
+        ensures ready { IsReady (world shared.now) 0 self.new }
+        ensures answered { (buffer : List ℕ) → IsAnswered (world shared.now) self.old.pass.me.0 self.new.pass.me.0 (model_request call.now room) result.0 result.1 buffer buffer }
+        ensures spent { self.new.spent ≡ self.old.spent }
+    {
+        match *asked {
+            Creation::Import { attributes, bytes } => {
                 self.import(rt, shared, gate, call, room, attributes, bytes)
             }
-            StoreCall::Generate(attributes) => self.generate(
+            Creation::Generate(attributes) => self.generate(
                 rt, shared, gate, call, room, attributes,
             ),
-            StoreCall::Copy { source, attributes } => {
+        }
+    }
+
+    // Does what is asked with a key as a whole.
+    fn change_key<R: Wait, G: Gate>(
+        &mut self,
+        rt: &R,
+        shared: &SharedStore<D, A, C>,
+        gate: &G,
+        call: &Call<'_>,
+        room: usize,
+        asked: KeyChange,
+    ) -> (u64, Result<Output, Status>)
+        requires ready { IsReady (world shared.now) 4 self.old }
+        requires call { call.now ≡ changes asked }
+        ensures ready { IsReady (world shared.now) 0 self.new }
+        ensures answered { (buffer : List ℕ) → IsAnswered (world shared.now) self.old.pass.me.0 self.new.pass.me.0 (model_request call.now room) result.0 result.1 buffer buffer }
+        ensures spent { self.new.spent ≡ self.old.spent }
+    {
+        match asked {
+            KeyChange::Copy { source, attributes } => {
                 self.copy(rt, shared, gate, call, room, source, attributes)
             }
-            StoreCall::Destroy(key) => self.destroy(rt, shared, call, room, key),
-            StoreCall::Purge(key) => self.purge(rt, shared, call, room, key),
-            StoreCall::GetAttributes(key) => self.attributes(rt, shared, call, room, key),
-            StoreCall::HashCompute { .. } | StoreCall::HashCompare { .. } => {
-                self.hash(rt, shared, call, asked, out)
-            }
-            StoreCall::Export(..)
-            | StoreCall::MacCompute { .. }
-            | StoreCall::MacVerify { .. }
-            | StoreCall::CipherEncrypt { .. }
-            | StoreCall::CipherDecrypt { .. }
-            | StoreCall::AeadEncrypt { .. }
-            | StoreCall::AeadDecrypt { .. } => self.compute(rt, shared, gate, call, asked, out),
+            KeyChange::Destroy(key) => self.destroy(rt, shared, call, room, key),
+            KeyChange::Purge(key) => self.purge(rt, shared, call, room, key),
+            KeyChange::GetAttributes(key) => self.attributes(rt, shared, call, room, key),
         }
     }
 

@@ -2,8 +2,9 @@
 ghost use Rattle.std.specs.Prelude.{◌≡◌, ◌≤◌, ℕ, List, None, IfOk, IfErr, length};
 ghost use Rattle.turn_history.specs.History.{entries_of};
 ghost use Rattle.service_calls.specs.Meanings.{model_request};
-ghost use Rattle.service_calls.specs.declared.call.Call.TheVariants.{OnStore};
-ghost use Rattle.service_calls.specs.declared.store_calls.StoreCall.TheVariants as store_calls;
+ghost use Rattle.service_calls.specs.Asked.{changes, creates};
+ghost use Rattle.service_calls.specs.declared.store_calls.Creation.TheVariants.{Import};
+ghost use Rattle.service_calls.specs.declared.store_calls.KeyChange.TheVariants.{Copy};
 ghost use Rattle.store_model.specs.Faults.{Plain};
 ghost use Rattle.store_core.specs.Creations.{IsMade, IsUnmade, RecordsStated, mark_unmade};
 ghost use Rattle.locked_store.specs.Turning.{CreatesKey, DecidesBefore, HasNoFilling, IsAt};
@@ -38,7 +39,7 @@ impl<D: Disk, A: Devices, C: Admission> Caller<D, A, C> {
         bytes: &[u8],
     ) -> (u64, Result<Output, Status>)
         requires ready { IsReady (world shared.now) 4 self.old }
-        requires call { call.now ≡ OnStore (store_calls.Import attributes bytes) }
+        requires call { call.now ≡ creates (Import attributes bytes) }
         ensures ready { IsReady (world shared.now) 0 self.new }
         ensures answered { (buffer : List ℕ) → IsAnswered (world shared.now) self.old.pass.me.0 self.new.pass.me.0 (model_request call.now room) result.0 result.1 buffer buffer }
         ensures same { SameButPass self.old self.new }
@@ -62,7 +63,7 @@ impl<D: Disk, A: Devices, C: Admission> Caller<D, A, C> {
         attributes: Attributes,
     ) -> (u64, Result<Output, Status>)
         requires ready { IsReady (world shared.now) 4 self.old }
-        requires call { call.now ≡ OnStore (store_calls.Copy source attributes) }
+        requires call { call.now ≡ changes (Copy source attributes) }
         ensures ready { IsReady (world shared.now) 0 self.new }
         ensures answered { (buffer : List ℕ) → IsAnswered (world shared.now) self.old.pass.me.0 self.new.pass.me.0 (model_request call.now room) result.0 result.1 buffer buffer }
         ensures same { SameButPass self.old self.new }

@@ -4,8 +4,8 @@ ghost use Rattle.psa_status.specs.Rows.{first_row};
 ghost use Rattle.psa_status.specs.declared.Status.TheVariants.{InvalidArgument};
 ghost use Rattle.random_streams.specs.RandomWords.{drawn_from, next_bytes};
 ghost use Rattle.service_calls.specs.Meanings.{model_request};
-ghost use Rattle.service_calls.specs.declared.call.Call.TheVariants.{OnStore};
-ghost use Rattle.service_calls.specs.declared.store_calls.StoreCall.TheVariants as store_calls;
+ghost use Rattle.service_calls.specs.Asked.{creates};
+ghost use Rattle.service_calls.specs.declared.store_calls.Creation.TheVariants.{Generate};
 ghost use Rattle.store_model.specs.Creation.{stated_bits_rows, stated_bytes};
 ghost use Rattle.callers.specs.Called.{IsAnswered};
 ghost use Rattle.callers.specs.Ready.{IsReady};
@@ -53,7 +53,7 @@ impl<D: Disk, A: Devices, C: Admission> Caller<D, A, C> {
         attributes: Attributes,
     ) -> (u64, Result<Output, Status>)
         requires ready { IsReady (world shared.now) 4 self.old }
-        requires call { call.now ≡ OnStore (store_calls.Generate attributes) }
+        requires call { call.now ≡ creates (Generate attributes) }
         ensures ready { IsReady (world shared.now) 0 self.new }
         ensures answered { (buffer : List ℕ) → IsAnswered (world shared.now) self.old.pass.me.0 self.new.pass.me.0 (model_request call.now room) result.0 result.1 buffer buffer }
         ensures spent { self.new.spent ≡ self.old.spent }
@@ -91,7 +91,7 @@ impl<D: Disk, A: Devices, C: Admission> Caller<D, A, C> {
         place: u64,
     ) -> (u64, Result<Output, Status>)
         requires ready { IsReady (world shared.now) 4 (record self.old { stream = record self.old.stream { place = place } }) }
-        requires call { call.now ≡ OnStore (store_calls.Generate attributes) }
+        requires call { call.now ≡ creates (Generate attributes) }
         requires whole { first_row (stated_bits_rows attributes) ≡ None }
         requires short { stated_bytes attributes ≤ 1024 }
         requires bytes { bytes.now ≡ next_bytes (record self.old.stream { place = place }) (stated_bytes attributes) }
@@ -123,7 +123,7 @@ impl<D: Disk, A: Devices, C: Admission> Caller<D, A, C> {
         bytes: &[u8],
     ) -> (u64, Result<Output, Status>)
         requires ready { IsReady (world shared.now) 4 self.old }
-        requires call { call.now ≡ OnStore (store_calls.Generate attributes) }
+        requires call { call.now ≡ creates (Generate attributes) }
         requires whole { first_row (stated_bits_rows attributes) ≡ None }
         requires long { 1024 < stated_bytes attributes }
         requires count { length bytes.now ≡ stated_bytes attributes }

@@ -1,11 +1,9 @@
 // The operations of a caller's four handles.
-ghost use Rattle.std.specs.Prelude.{◌≡◌, is_some, true, Some, ◌≤◌, ◌<◌, ◌+◌, ◌-◌, ◌^◌, List, None, get_or, length};
+ghost use Rattle.std.specs.Prelude.{◌≡◌, ◌≤◌, ◌<◌, ◌+◌, ◌-◌, ◌^◌, List, None, get_or, length};
 ghost use Rattle.std.specs.Option.{option_map};
 ghost use Rattle.random_streams.specs.RandomWords.{drawn_from, next_bytes};
 ghost use Rattle.secret_bytes.specs.Buffer.{bytes_of};
-ghost use Rattle.key_attributes.specs.declared.KeyId.{KeyId};
-ghost use Rattle.key_policy.specs.declared.key_use.KeyUse.{KeyUse};
-ghost use Rattle.key_policy.specs.Uses.{FitsUse};
+ghost use Rattle.key_policy.specs.Uses.{FitsUse, used_for};
 ghost use Rattle.service_calls.specs.Answers.{plain_reply};
 ghost use Rattle.service_calls.specs.Answered.{AnswersReply};
 ghost use Rattle.service_calls.specs.Meanings.{model_step};
@@ -14,15 +12,16 @@ ghost use Rattle.store_model.specs.Handles.{HandleOperation, KeyCreation};
 ghost use Rattle.store_model.specs.Operations.{Inactive, is_inactive};
 ghost use Rattle.operation_handles.specs.Cells.{IsOperation};
 ghost use Rattle.operation_handles.specs.Draws.{DrawsFew};
-ghost use Rattle.operation_handles.specs.Setups.{begun_with, set_up_without_key, setup_use};
+ghost use Rattle.operation_handles.specs.Setups.{begun_with, set_up_without_key};
 ghost use Rattle.operation_handles.specs.Steps.{stepped_by};
 ghost use Rattle.operation_handles.specs.declared.cell.Cell as cell;
 ghost use Rattle.callers.specs.Handles.{AreOperations, HoldsLease, IsChanged, operation_at};
 
+use alg_encoding::Alg;
 use operation_handles::Cell;
 use psa_status::Status;
 use random_streams::Stream;
-use service_calls::{Op, Output, Setup, Step};
+use service_calls::{KeylessSetup, Op, Output, Purpose, Step};
 use slot_table::Lease;
 
 /// A cell for each of the four handles.
@@ -60,8 +59,7 @@ impl Handles {
     }
 
     /// Sets up an inactive operation that has no key, as a cell does.
-    pub fn begin(&mut self, op: Op, setup: Setup) -> Result<(), Status>
-        requires keyless { setup_use setup ≡ None }
+    pub fn begin(&mut self, op: Op, setup: KeylessSetup) -> Result<(), Status>
         requires free { (c : cell.Cell) (operation : HandleOperation) → c ≡ get_or self.old.cells.items (op - 1) c → IsOperation c operation → operation ≡ Inactive }
         requires none { (c : cell.Cell) → c ≡ get_or self.old.cells.items (op - 1) c → c.lease ≡ None }
         ensures changed { (operations : List HandleOperation) → AreOperations self.old.cells.items operations →
@@ -75,17 +73,16 @@ impl Handles {
     }
 
     /// Sets up an inactive operation with its key, which may be used for it, and keeps the key's lease.
-    pub fn begin_with(&mut self, op: Op, setup: Setup, lease: Lease)
-        requires keyed { is_some (setup_use setup) ≡ true }
-        requires wanted { (id : KeyId) (wanted : KeyUse) → setup_use setup ≡ Some (id, wanted) → FitsUse wanted (bytes_of lease.buffer) }
+    pub fn begin_with(&mut self, op: Op, purpose: Purpose, alg: Alg, lease: Lease)
+        requires fits { FitsUse (used_for purpose alg) (bytes_of lease.buffer) }
         requires free { (c : cell.Cell) (operation : HandleOperation) → c ≡ get_or self.old.cells.items (op - 1) c → IsOperation c operation → operation ≡ Inactive }
         requires none { (c : cell.Cell) → c ≡ get_or self.old.cells.items (op - 1) c → c.lease ≡ None }
         ensures kept { (operations : List HandleOperation) (key : KeyCreation) → AreOperations self.old.cells.items operations → key.number ≡ lease.creation →
-            HoldsLease self.old.cells.items self.new.cells.items operations op (begun_with setup key (bytes_of lease.buffer)) lease }
+            HoldsLease self.old.cells.items self.new.cells.items operations op (begun_with purpose alg key (bytes_of lease.buffer)) lease }
         ensures first { 1 ≤ op }
         ensures last { op ≤ 4 }
     {
-        self.cells[Handles::place(op)].begin_with(setup, lease);
+        self.cells[Handles::place(op)].begin_with(purpose, alg, lease);
     }
 
     /// Takes a step of a handle's operation, by whether its key is still there, and hands out the lease of one that is over.

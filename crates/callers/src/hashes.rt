@@ -1,8 +1,7 @@
 // Calls in one part without a key.
-ghost use Rattle.std.specs.Prelude.{◌≡◌, true, length};
+ghost use Rattle.std.specs.Prelude.{◌≡◌, length};
 ghost use Rattle.service_calls.specs.Meanings.{model_request};
-ghost use Rattle.service_calls.specs.declared.call.Call.TheVariants.{OnStore};
-ghost use Rattle.single_part.specs.Hashing.{is_hash};
+ghost use Rattle.service_calls.specs.Asked.{hashes};
 ghost use Rattle.callers.specs.Called.{IsAnswered};
 ghost use Rattle.callers.specs.Parts.{SameButPass};
 ghost use Rattle.callers.specs.Ready.{IsReady};
@@ -14,7 +13,7 @@ use disk_face::Disk;
 use driver_dispatch::Devices;
 use locked_store::SharedStore;
 use psa_status::Status;
-use service_calls::{Call, Output, StoreCall};
+use service_calls::{Call, HashCall, Output};
 use single_part::compute_hash;
 use std::sync::Wait;
 
@@ -26,12 +25,11 @@ impl<D: Disk, A: Devices, C: Admission> Caller<D, A, C> {
         rt: &R,
         shared: &SharedStore<D, A, C>,
         call: &Call<'_>,
-        asked: &StoreCall<'_>,
+        asked: &HashCall<'_>,
         out: &mut [u8],
     ) -> (u64, Result<Output, Status>)
         requires ready { IsReady (world shared.now) 4 self.old }
-        requires call { call.now ≡ OnStore asked.now }
-        requires hash { is_hash asked.now ≡ true }
+        requires call { call.now ≡ hashes asked.now }
         ensures ready { IsReady (world shared.now) 0 self.new }
         ensures answered { IsAnswered (world shared.now) self.old.pass.me.0 self.new.pass.me.0 (model_request call.now (length out.old)) result.0 result.1 out.old out.new }
         ensures same { SameButPass self.old self.new }

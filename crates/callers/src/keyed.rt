@@ -1,15 +1,15 @@
 // Calls in one part with a key.
-ghost use Rattle.std.specs.Prelude.{◌≡◌, ◌&&◌, ◌≤◌, ◌<◌, ◌+◌, ◌^◌, ℕ, true, false, All, Some, Result, is_some, length, vec_capacity, vec_len};
+ghost use Rattle.std.specs.Prelude.{◌≡◌, ◌&&◌, ◌≤◌, ◌<◌, ◌+◌, ◌^◌, ℕ, true, false, All, Result, length, vec_capacity, vec_len};
 ghost use Rattle.std.specs.Result.{is_ok};
 ghost use Rattle.random_streams.specs.RandomWords.{drawn_from, next_bytes};
 ghost use Rattle.secret_bytes.specs.Buffer.{IsClear, bytes_of};
 ghost use Rattle.turn_history.specs.History.{entries_of};
 ghost use Rattle.key_slots.specs.Holdings.{names};
 ghost use Rattle.key_policy.specs.Uses.{FitsUse};
-ghost use Rattle.key_policy.specs.declared.key_use.KeyUse as uses;
 ghost use Rattle.service_calls.specs.Answered.{AnswersReply};
-ghost use Rattle.service_calls.specs.Meanings.{model_request, model_store_call};
+ghost use Rattle.service_calls.specs.Meanings.{model_keyed_call, model_request};
 ghost use Rattle.service_calls.specs.declared.call.Call.TheVariants.{OnStore};
+ghost use Rattle.service_calls.specs.declared.store_calls.StoreCall.TheVariants.{Compute};
 ghost use Rattle.store_model.specs.Call.{buffer_after};
 ghost use Rattle.secure_element_calls.specs.Calls.{model_call};
 ghost use Rattle.secure_element_calls.specs.Replies.{HasDrawn};
@@ -26,19 +26,17 @@ use crate::gates::{Gate, GatePoint};
 use admission::Admission;
 use disk_face::Disk;
 use driver_dispatch::Devices;
-use key_attributes::KeyId;
-use key_policy::KeyUse;
 use locked_store::{Looked, SharedStore};
 use psa_status::Status;
 use random_streams::Stream;
 use secure_element_calls::{ElementCall, NotComputed};
-use service_calls::{Call, Output, StoreCall};
+use service_calls::{Call, Keyed, KeyedCall, Output};
 use single_part::{compute, computed_output, element_call, needs_vector, takes_vector, wanted};
 use slot_table::Lease;
 use std::sync::Wait;
 
 // The initialisation vector that a call would draw next, where the secure element may compute on it. Nothing is drawn.
-fn next_vector(call: &StoreCall<'_>, stream: &mut Stream) -> [u8; 16]
+fn next_vector(call: &KeyedCall<'_>, stream: &mut Stream) -> [u8; 16]
     requires words { stream.old.place + 256 ≤ 2 ^ 60 }
     ensures vector { (takes_vector call.now && is_of_element call.now) ≡ true → result ≡ next_bytes stream.old 16 }
     ensures same { stream.new ≡ stream.old }
@@ -53,7 +51,7 @@ fn next_vector(call: &StoreCall<'_>, stream: &mut Stream) -> [u8; 16]
 }
 
 // Draws the initialisation vector with which the secure element has computed, where it took one.
-fn draw_vector(call: &StoreCall<'_>, computed: &Result<usize, NotComputed>, stream: &mut Stream)
+fn draw_vector(call: &KeyedCall<'_>, computed: &Result<usize, NotComputed>, stream: &mut Stream)
     requires words { stream.old.place + 256 ≤ 2 ^ 60 }
     ensures { stream.new ≡ drawn_from stream.old (drawn_by call.now (is_ok computed.now)) }
 {
@@ -71,27 +69,21 @@ impl<D: Disk, A: Devices, C: Admission> Caller<D, A, C> {
         shared: &SharedStore<D, A, C>,
         gate: &G,
         call: &Call<'_>,
-        asked: &StoreCall<'_>,
+        asked: &Keyed<'_>,
         out: &mut [u8],
     ) -> (u64, Result<Output, Status>)
         requires ready { IsReady (world shared.now) 4 self.old }
-        requires call { call.now ≡ OnStore asked.now }
-        requires keyed { is_some (wanted_by asked.now) ≡ true }
+        requires call { call.now ≡ OnStore (Compute asked.now) }
         ensures ready { IsReady (world shared.now) 0 self.new }
         ensures answered { IsAnswered (world shared.now) self.old.pass.me.0 self.new.pass.me.0 (model_request call.now (length out.old)) result.0 result.1 out.old out.new }
         ensures spent { self.new.spent ≡ self.old.spent }
         ensures handles { self.new.handles ≡ self.old.handles }
     {
-        let Some((key, usage)) = wanted(asked) else {
-            unreachable!()
-        };
-        let vector = next_vector(asked, &mut self.stream);
-        let here = *asked;
+        let vector = next_vector(&asked.call, &mut self.stream);
+        let here = asked.call;
         match element_call(&here, &vector) {
-            Some(element) => {
-                self.compute_or_look(rt, shared, gate, call, asked, key, usage, &element, out)
-            }
-            None => self.look_and_compute(rt, shared, gate, call, asked, key, usage, out),
+            Some(element) => self.compute_or_look(rt, shared, gate, call, asked, &element, out),
+            None => self.look_and_compute(rt, shared, gate, call, asked, out),
         }
     }
 
@@ -102,15 +94,12 @@ impl<D: Disk, A: Devices, C: Admission> Caller<D, A, C> {
         shared: &SharedStore<D, A, C>,
         gate: &G,
         call: &Call<'_>,
-        asked: &StoreCall<'_>,
-        key: KeyId,
-        usage: KeyUse,
+        asked: &Keyed<'_>,
         out: &mut [u8],
     ) -> (u64, Result<Output, Status>)
         requires ready { IsReady (world shared.now) 4 self.old }
-        requires call { call.now ≡ OnStore asked.now }
-        requires keyed { wanted_by asked.now ≡ Some (key.0, usage) }
-        requires local { is_of_element asked.now ≡ false }
+        requires call { call.now ≡ OnStore (Compute asked.now) }
+        requires local { is_of_element asked.now.call ≡ false }
         ensures ready { IsReady (world shared.now) 0 self.new }
         ensures answered { IsAnswered (world shared.now) self.old.pass.me.0 self.new.pass.me.0 (model_request call.now (length out.old)) result.0 result.1 out.old out.new }
         ensures spent { self.new.spent ≡ self.old.spent }
@@ -119,9 +108,21 @@ impl<D: Disk, A: Devices, C: Admission> Caller<D, A, C> {
         let Some(spare) = self.spares.pop() else {
             unreachable!()
         };
-        let (rank, looked) = shared.look(rt, &mut self.pass, call, out.len(), key, usage, spare);
+        let usage = wanted(&asked.call);
+        let (rank, looked) = shared.look(
+            rt,
+            &mut self.pass,
+            call,
+            out.len(),
+            asked.key,
+            usage,
+            spare,
+        );
         match looked {
-            Ok(lease) => (rank, self.compute_with(rt, shared, gate, asked, lease, out)),
+            Ok(lease) => (
+                rank,
+                self.compute_with(rt, shared, gate, &asked.call, lease, out),
+            ),
             Err((status, spare)) => {
                 self.spares.push_reserved(spare);
                 (rank, Err(status))
@@ -136,19 +137,16 @@ impl<D: Disk, A: Devices, C: Admission> Caller<D, A, C> {
         shared: &SharedStore<D, A, C>,
         gate: &G,
         call: &Call<'_>,
-        asked: &StoreCall<'_>,
-        key: KeyId,
-        usage: KeyUse,
+        asked: &Keyed<'_>,
         element: &ElementCall<'_>,
         out: &mut [u8],
     ) -> (u64, Result<Output, Status>)
         requires ready { IsReady (world shared.now) 4 self.old }
-        requires call { call.now ≡ OnStore asked.now }
-        requires keyed { wanted_by asked.now ≡ Some (key.0, usage) }
-        requires element { IsElementCall asked.now element.now }
-        requires model { model_store_call asked.now (length out.old) ≡ model_call element.now key.0 (length out.old) }
+        requires call { call.now ≡ OnStore (Compute asked.now) }
+        requires element { IsElementCall asked.now.call element.now }
+        requires model { (id room : ℕ) → model_keyed_call asked.now.call id room ≡ model_call element.now id room }
         requires vector { HasDrawn element.now (next_bytes self.old.stream 16) }
-        requires draws { has_vector element.now ≡ takes_vector asked.now }
+        requires draws { has_vector element.now ≡ takes_vector asked.now.call }
         ensures ready { IsReady (world shared.now) 0 self.new }
         ensures answered { IsAnswered (world shared.now) self.old.pass.me.0 self.new.pass.me.0 (model_request call.now (length out.old)) result.0 result.1 out.old out.new }
         ensures spent { self.new.spent ≡ self.old.spent }
@@ -157,11 +155,12 @@ impl<D: Disk, A: Devices, C: Admission> Caller<D, A, C> {
         let Some(spare) = self.spares.pop() else {
             unreachable!()
         };
+        let usage = wanted(&asked.call);
         let (rank, looked) = shared.look_or_compute(
             rt,
             &mut self.pass,
             call,
-            key,
+            asked.key,
             usage,
             spare,
             element,
@@ -170,10 +169,13 @@ impl<D: Disk, A: Devices, C: Admission> Caller<D, A, C> {
         match looked {
             Looked::Computed(computed, spare) => {
                 self.spares.push_reserved(spare);
-                draw_vector(asked, &computed, &mut self.stream);
-                (rank, computed_output(asked, computed))
+                draw_vector(&asked.call, &computed, &mut self.stream);
+                (rank, computed_output(&asked.call, computed))
             }
-            Looked::Lent(lease) => (rank, self.compute_with(rt, shared, gate, asked, lease, out)),
+            Looked::Lent(lease) => (
+                rank,
+                self.compute_with(rt, shared, gate, &asked.call, lease, out),
+            ),
             Looked::Refused(status, spare) => {
                 self.spares.push_reserved(spare);
                 (rank, Err(status))
@@ -187,12 +189,11 @@ impl<D: Disk, A: Devices, C: Admission> Caller<D, A, C> {
         rt: &R,
         shared: &SharedStore<D, A, C>,
         gate: &G,
-        asked: &StoreCall<'_>,
+        asked: &KeyedCall<'_>,
         lease: Lease,
         out: &mut [u8],
     ) -> Result<Output, Status>
-        requires keyed { is_some (wanted_by asked.now) ≡ true }
-        requires fits { (id : ℕ) (wanted : uses.KeyUse) → wanted_by asked.now ≡ Some (id, wanted) → FitsUse wanted (bytes_of lease.buffer) }
+        requires fits { FitsUse (wanted_by asked.now) (bytes_of lease.buffer) }
         requires words { self.old.stream.place + 256 ≤ 2 ^ 60 }
         requires at { IsAt (world shared.now) self.old.pass }
         requires number { self.old.pass.me.0.number ≡ self.old.number }

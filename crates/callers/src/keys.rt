@@ -1,8 +1,8 @@
 // Calls on a key that neither read its bytes nor make one.
 ghost use Rattle.std.specs.Prelude.{◌≡◌, ℕ, List};
 ghost use Rattle.service_calls.specs.Meanings.{model_request};
-ghost use Rattle.service_calls.specs.declared.call.Call.TheVariants.{OnStore};
-ghost use Rattle.service_calls.specs.declared.store_calls.StoreCall.TheVariants as store_calls;
+ghost use Rattle.service_calls.specs.Asked.{changes};
+ghost use Rattle.service_calls.specs.declared.store_calls.KeyChange.TheVariants.{Destroy, GetAttributes, Purge};
 ghost use Rattle.callers.specs.Called.{IsAnswered};
 ghost use Rattle.callers.specs.Parts.{SameButPass};
 ghost use Rattle.callers.specs.Ready.{IsReady};
@@ -30,7 +30,7 @@ impl<D: Disk, A: Devices, C: Admission> Caller<D, A, C> {
         key: KeyId,
     ) -> (u64, Result<Output, Status>)
         requires ready { IsReady (world shared.now) 4 self.old }
-        requires call { call.now ≡ OnStore (store_calls.Destroy key) }
+        requires call { call.now ≡ changes (Destroy key) }
         ensures ready { IsReady (world shared.now) 0 self.new }
         ensures answered { (buffer : List ℕ) → IsAnswered (world shared.now) self.old.pass.me.0 self.new.pass.me.0 (model_request call.now room) result.0 result.1 buffer buffer }
         ensures same { SameButPass self.old self.new }
@@ -52,7 +52,7 @@ impl<D: Disk, A: Devices, C: Admission> Caller<D, A, C> {
         key: KeyId,
     ) -> (u64, Result<Output, Status>)
         requires ready { IsReady (world shared.now) 4 self.old }
-        requires call { call.now ≡ OnStore (store_calls.Purge key) }
+        requires call { call.now ≡ changes (Purge key) }
         ensures ready { IsReady (world shared.now) 0 self.new }
         ensures answered { (buffer : List ℕ) → IsAnswered (world shared.now) self.old.pass.me.0 self.new.pass.me.0 (model_request call.now room) result.0 result.1 buffer buffer }
         ensures same { SameButPass self.old self.new }
@@ -74,7 +74,7 @@ impl<D: Disk, A: Devices, C: Admission> Caller<D, A, C> {
         key: KeyId,
     ) -> (u64, Result<Output, Status>)
         requires ready { IsReady (world shared.now) 4 self.old }
-        requires call { call.now ≡ OnStore (store_calls.GetAttributes key) }
+        requires call { call.now ≡ changes (GetAttributes key) }
         ensures ready { IsReady (world shared.now) 0 self.new }
         ensures answered { (buffer : List ℕ) → IsAnswered (world shared.now) self.old.pass.me.0 self.new.pass.me.0 (model_request call.now room) result.0 result.1 buffer buffer }
         ensures same { SameButPass self.old self.new }

@@ -1,13 +1,13 @@
 // Calls that begin an operation.
-ghost use Rattle.std.specs.Prelude.{◌≡◌, ◌≤◌, ◌<◌, ◌+◌, ◌-◌, ◌^◌, ℕ, List, Some, None, cond, get_or};
+ghost use Rattle.std.specs.Prelude.{◌≡◌, ◌≤◌, ◌<◌, ◌+◌, ◌-◌, ◌^◌, ℕ, List, cond, get_or};
 ghost use Rattle.std.specs.Result.{is_ok};
+ghost use Rattle.service_calls.specs.Asked.{sets_up, sets_up_with};
 ghost use Rattle.service_calls.specs.Meanings.{model_request};
 ghost use Rattle.service_calls.specs.declared.call.Call.TheVariants as calls;
 ghost use Rattle.service_calls.specs.declared.handle_calls.HandleCall.TheVariants as handle_calls;
 ghost use Rattle.store_model.specs.Handles.{HandleOperation};
 ghost use Rattle.store_model.specs.Operations.{Inactive};
 ghost use Rattle.operation_handles.specs.Cells.{IsOperation};
-ghost use Rattle.operation_handles.specs.Setups.{setup_use};
 ghost use Rattle.operation_handles.specs.declared.cell.Cell.{Cell};
 ghost use Rattle.callers.specs.Called.{IsAnswered};
 ghost use Rattle.callers.specs.Ready.{IsReady};
@@ -16,31 +16,13 @@ ghost use Rattle.locked_store.specs.Shared.{world};
 use crate::caller::Caller;
 use crate::gates::{Gate, GatePoint};
 use admission::Admission;
-use alg_encoding::Class;
 use disk_face::Disk;
 use driver_dispatch::Devices;
-use key_attributes::{KeyId, Usage};
 use key_policy::KeyUse;
 use locked_store::SharedStore;
 use psa_status::Status;
-use service_calls::{Call, Op, Output, Setup};
+use service_calls::{Call, KeyedSetup, KeylessSetup, Op, Output, Setup};
 use std::sync::Wait;
-
-// The key of a setup and what it is looked for; `None` where the operation has no key.
-fn setup_key(setup: Setup) -> Option<(KeyId, KeyUse)>
-    ensures { result ≡ setup_use setup }
-{
-    let (key, class, usage, alg) = match setup {
-        Setup::Hash(_) | Setup::Derivation(_) => return None,
-        Setup::MacSign { key, alg } => (key, Class::Mac, Usage::SIGN_MESSAGE, alg),
-        Setup::MacVerify { key, alg } => (key, Class::Mac, Usage::VERIFY_MESSAGE, alg),
-        Setup::CipherEncrypt { key, alg } => (key, Class::Cipher, Usage::ENCRYPT, alg),
-        Setup::CipherDecrypt { key, alg } => (key, Class::Cipher, Usage::DECRYPT, alg),
-        Setup::AeadEncrypt { key, alg } => (key, Class::Aead, Usage::ENCRYPT, alg),
-        Setup::AeadDecrypt { key, alg } => (key, Class::Aead, Usage::DECRYPT, alg),
-    };
-    Some((key, KeyUse::Algorithm { class, usage, alg }))
-}
 
 impl<D: Disk, A: Devices, C: Admission> Caller<D, A, C> {
     /// Sets a handle's inactive operation up, and answers its rank beside what it gives. The operation keeps the lease of its
@@ -66,11 +48,9 @@ impl<D: Disk, A: Devices, C: Admission> Caller<D, A, C> {
             let rank = shared.count(rt, &mut self.pass, call, room);
             return (rank, Err(Status::BadState));
         }
-        match setup_key(setup) {
-            Some((key, wanted)) => {
-                self.begin_with(rt, shared, gate, call, room, op, setup, key, wanted)
-            }
-            None => self.begin(rt, shared, call, room, op, setup),
+        match setup {
+            Setup::Keyed(setup) => self.begin_with(rt, shared, gate, call, room, op, setup),
+            Setup::Keyless(setup) => self.begin(rt, shared, call, room, op, setup),
         }
     }
 
@@ -82,13 +62,12 @@ impl<D: Disk, A: Devices, C: Admission> Caller<D, A, C> {
         call: &Call<'_>,
         room: usize,
         op: Op,
-        setup: Setup,
+        setup: KeylessSetup,
     ) -> (u64, Result<Output, Status>)
         requires ready { IsReady (world shared.now) 4 self.old }
-        requires call { call.now ≡ calls.OnHandle op (handle_calls.Setup setup) }
+        requires call { call.now ≡ sets_up op setup }
         requires worn { self.old.spent < 2 ^ 48 }
         requires free { (c : Cell) (operation : HandleOperation) → c ≡ get_or self.old.handles.cells.items (op - 1) c → IsOperation c operation → operation ≡ Inactive }
-        requires keyless { setup_use setup ≡ None }
         ensures ready { IsReady (world shared.now) 0 self.new }
         ensures answered { (buffer : List ℕ) → IsAnswered (world shared.now) self.old.pass.me.0 self.new.pass.me.0 (model_request call.now room) result.0 result.1 buffer buffer }
         ensures spent { self.new.spent ≡ self.old.spent + cond (is_ok result.1) 1 0 }
@@ -112,15 +91,12 @@ impl<D: Disk, A: Devices, C: Admission> Caller<D, A, C> {
         call: &Call<'_>,
         room: usize,
         op: Op,
-        setup: Setup,
-        key: KeyId,
-        wanted: KeyUse,
+        setup: KeyedSetup,
     ) -> (u64, Result<Output, Status>)
         requires ready { IsReady (world shared.now) 4 self.old }
-        requires call { call.now ≡ calls.OnHandle op (handle_calls.Setup setup) }
+        requires call { call.now ≡ sets_up_with op setup.key setup.purpose setup.alg }
         requires worn { self.old.spent < 2 ^ 48 }
         requires free { (c : Cell) (operation : HandleOperation) → c ≡ get_or self.old.handles.cells.items (op - 1) c → IsOperation c operation → operation ≡ Inactive }
-        requires keyed { setup_use setup ≡ Some (key, wanted) }
         requires first { 1 ≤ op }
         requires last { op ≤ 4 }
         ensures ready { IsReady (world shared.now) 0 self.new }
@@ -130,11 +106,12 @@ impl<D: Disk, A: Devices, C: Admission> Caller<D, A, C> {
         let Some(spare) = self.spares.pop() else {
             unreachable!()
         };
-        let (rank, looked) = shared.look(rt, &mut self.pass, call, room, key, wanted, spare);
+        let usage = KeyUse::of_purpose(setup.purpose, setup.alg);
+        let (rank, looked) = shared.look(rt, &mut self.pass, call, room, setup.key, usage, spare);
         match looked {
             Ok(lease) => {
                 gate.hold(self.number, &self.pass, GatePoint::Reading);
-                self.handles.begin_with(op, setup, lease);
+                self.handles.begin_with(op, setup.purpose, setup.alg, lease);
                 self.spent += 1;
                 (rank, Ok(Output::Done))
             }

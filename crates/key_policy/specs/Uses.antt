@@ -1,12 +1,29 @@
 -- What a key is looked for.
-use Rattle.std.specs.Prelude.{ℕ, ◌≤◌, false, List, length, Option}
+use Rattle.std.specs.Prelude.{ℕ, ◌≤◌, true, false, List, length, Option}
 use Rattle.psa_status.specs.declared.Status.{Status}
 use Rattle.psa_status.specs.Rows.{first_row}
+use Rattle.alg_encoding.specs.declared.algorithm.Alg.{Alg}
+use Rattle.alg_encoding.specs.declared.table.Class.{Class}
+use Rattle.alg_encoding.specs.declared.table.Class.TheVariants.{Mac, Cipher, Aead}
 use Rattle.store_model.specs.Store.{Key}
-use Rattle.store_model.specs.Rules.{use_rows}
+use Rattle.store_model.specs.Rules.{cipher_usage, mac_usage, use_rows}
+use Rattle.service_calls.specs.declared.handle_calls.Purpose.{Purpose}
+use Rattle.service_calls.specs.declared.handle_calls.Purpose.TheVariants.{SignMac, VerifyMac, EncryptCipher, DecryptCipher, EncryptAead, DecryptAead}
 use Rattle.key_policy.specs.declared.key_use.KeyUse.{KeyUse}
 use Rattle.key_policy.specs.declared.key_use.KeyUse.TheVariants.{Export, Algorithm, Derivation}
 use Rattle.key_policy.specs.Permissions.{IsKeyFor, derivation_refusal, export_refusal}
+
+-- what a key is looked for, where an operation or a call has this purpose
+abbrev pub use_with : Class → (usage : ℕ) → Alg → KeyUse
+use_with class usage alg = Algorithm class (record { 0 = usage }) alg
+
+abbrev pub used_for : Purpose → Alg → KeyUse
+used_for SignMac alg = use_with Mac (mac_usage false) alg
+used_for VerifyMac alg = use_with Mac (mac_usage true) alg
+used_for EncryptCipher alg = use_with Cipher (cipher_usage true) alg
+used_for DecryptCipher alg = use_with Cipher (cipher_usage false) alg
+used_for EncryptAead alg = use_with Aead (cipher_usage true) alg
+used_for DecryptAead alg = use_with Aead (cipher_usage false) alg
 
 -- the first refusal of what the map has at an identifier
 abbrev pub use_refusal : KeyUse → Option Key → Option Status

@@ -3,12 +3,13 @@ ghost use Rattle.std.specs.Prelude.{◌≡◌, ℕ, List, length, IsTrue, OnOk, 
 ghost use Rattle.psa_status.specs.Rows.{unless};
 ghost use Rattle.key_attributes.specs.Checks.{permits_size};
 ghost use Rattle.store_model.specs.Store.{Key};
-ghost use Rattle.key_policy.specs.Uses.{FitsUse, use_refusal};
+ghost use Rattle.key_policy.specs.Uses.{FitsUse, use_refusal, used_for};
 
 use crate::checks::{check_derivation, check_export, check_local, check_use};
 use alg_encoding::{Alg, Class};
 use key_attributes::{Attributes, Usage};
 use psa_status::Status;
+use service_calls::Purpose;
 
 /// What a key is looked for.
 #[derive(Clone, Copy, Drop)]
@@ -29,6 +30,21 @@ pub enum KeyUse {
 }
 
 impl KeyUse {
+    /// The use of a key for a purpose, by an algorithm.
+    pub fn of_purpose(purpose: Purpose, alg: Alg) -> KeyUse
+        ensures { result ≡ used_for purpose alg }
+    {
+        let (class, usage) = match purpose {
+            Purpose::SignMac => (Class::Mac, Usage::SIGN_MESSAGE),
+            Purpose::VerifyMac => (Class::Mac, Usage::VERIFY_MESSAGE),
+            Purpose::EncryptCipher => (Class::Cipher, Usage::ENCRYPT),
+            Purpose::DecryptCipher => (Class::Cipher, Usage::DECRYPT),
+            Purpose::EncryptAead => (Class::Aead, Usage::ENCRYPT),
+            Purpose::DecryptAead => (Class::Aead, Usage::DECRYPT),
+        };
+        KeyUse::Algorithm { class, usage, alg }
+    }
+
     /// The first refusal of a key with these attributes. Bytes that a key which isn't refused can have are fit for the use.
     pub fn check(&self, attributes: &Attributes) -> Result<(), Status>
         ensures refusal { (key : Key) → key.attributes ≡ attributes.now → result ≡ unless (use_refusal self.now (Some key)) tt }

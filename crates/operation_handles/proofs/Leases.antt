@@ -7,7 +7,9 @@ use Rattle.secret_bytes.specs.Buffer.{bytes_of}
 use Rattle.store_model.specs.Operations.{Inactive}
 use Rattle.store_model.specs.Handles.{HandleOperation, KeyCreation}
 use Rattle.multipart.specs.Turns.{is_active}
-use Rattle.service_calls.specs.declared.handle_calls.Setup.{Setup}
+use Rattle.alg_encoding.specs.declared.algorithm.Alg.{Alg}
+use Rattle.service_calls.specs.declared.handle_calls.KeylessSetup.{KeylessSetup}
+use Rattle.service_calls.specs.declared.handle_calls.Purpose.{Purpose}
 use Rattle.operation_handles.specs.States.{AreInactive, AreStates}
 use Rattle.operation_handles.specs.Cells.{IsOperation}
 use Rattle.operation_handles.specs.Setups.{begun_with, set_up_without_key}
@@ -28,16 +30,16 @@ pub inactive : (c : Cell) → AreInactive c.states → c.lease ≡ None → IsOp
 inactive c all none = record { key = None; leased = without_lease c.lease none; are = all_are c.states all }
 
 -- set up without a key
-pub begun : (c d : Cell) (operation : HandleOperation) (setup : Setup) → operation ≡ Inactive → c.lease ≡ None → d.lease ≡ c.lease →
+pub begun : (c d : Cell) (operation : HandleOperation) (setup : KeylessSetup) → operation ≡ Inactive → c.lease ≡ None → d.lease ≡ c.lease →
     (AreInactive c.states → AreStates d.states None (set_up_without_key Inactive setup).operation) → IsOperation c operation → IsOperation d (set_up_without_key operation setup).operation
 begun c d operation setup free none same code h =
     subst (λ o. IsOperation d (set_up_without_key o setup).operation) (sym free)
     (record { key = None; leased = without_lease d.lease (same ∙ none); are = code (all_inactive c.states h.key operation h.are free) })
 
 -- set up with a key, whose lease is kept
-pub begun_keyed : (c d : Cell) (operation : HandleOperation) (setup : Setup) (reading : Reading) (key : KeyCreation) → operation ≡ Inactive → d.lease ≡ Some reading → key.number ≡ reading.creation →
-    (AreInactive c.states → AreStates d.states (Some key) (begun_with setup key (bytes_of reading.buffer))) → IsOperation c operation → IsOperation d (begun_with setup key (bytes_of reading.buffer))
-begun_keyed c d operation setup reading key free kept number code h =
+pub begun_keyed : (c d : Cell) (operation : HandleOperation) (purpose : Purpose) (alg : Alg) (reading : Reading) (key : KeyCreation) → operation ≡ Inactive → d.lease ≡ Some reading → key.number ≡ reading.creation →
+    (AreInactive c.states → AreStates d.states (Some key) (begun_with purpose alg key (bytes_of reading.buffer))) → IsOperation c operation → IsOperation d (begun_with purpose alg key (bytes_of reading.buffer))
+begun_keyed c d operation purpose alg reading key free kept number code h =
     record { key = Some key; leased = with_lease d.lease reading key kept number; are = code (all_inactive c.states h.key operation h.are free) }
 
 -- a key beside the states

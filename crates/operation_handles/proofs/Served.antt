@@ -6,7 +6,15 @@ use Rattle.store_model.specs.Outcome.{counted, refusal}
 use Rattle.store_model.specs.Operations.{Operation, Inactive, InError, Active, After, stays}
 use Rattle.store_model.specs.Handles.{Own, Service, Work, applied, operation_of, own_of, stepped, untouched, with_own}
 use Rattle.store_model.proofs.Operations.{same_own, same_service}
-use Rattle.service_calls.specs.declared.handle_calls.Setup.TheVariants as setup
+use Rattle.alg_encoding.specs.declared.algorithm.Alg.{Alg}
+use Rattle.key_attributes.specs.declared.KeyId.{KeyId}
+use Rattle.service_calls.specs.Meanings.{model_keyed_setup}
+use Rattle.service_calls.specs.declared.handle_calls.KeylessSetup.TheVariants as keyless
+use Rattle.service_calls.specs.declared.handle_calls.Purpose.{Purpose}
+use Rattle.service_calls.specs.declared.handle_calls.Purpose.TheVariants.{SignMac, VerifyMac, EncryptCipher, DecryptCipher, EncryptAead, DecryptAead}
+use Rattle.service_calls.specs.declared.handle_calls.Setup.TheVariants.{Keyless, Keyed}
+use Rattle.store_model.specs.HandleCalls.{handle_step}
+use Rattle.operation_handles.specs.Setups.{set_up_with_key}
 use Rattle.service_calls.specs.declared.steps.Step.TheVariants as steps
 use Rattle.operation_handles.specs.Steps.{on_part}
 use Rattle.operation_handles.specs.Laws.{SetupsAreTheModels, StepsAreTheModels, has_live_key}
@@ -23,15 +31,21 @@ stepped_is service caller handle embed (Active w) f = refl
 stepped_is service caller handle embed Inactive f = untouched_is service caller handle BadState
 stepped_is service caller handle embed InError f = untouched_is service caller handle BadState
 
+-- a setup with a key, by what it is for
+with_key : (service : Service) (caller handle : ℕ) (purpose : Purpose) (key : KeyId) (alg : Alg) →
+    handle_step service caller handle (model_keyed_setup purpose key.0 alg.0)
+    ≡ applied service caller handle (set_up_with_key service.store (operation_of service caller handle) (record { key = key; purpose = purpose; alg = alg }))
+with_key service caller handle SignMac key alg = refl
+with_key service caller handle VerifyMac key alg = refl
+with_key service caller handle EncryptCipher key alg = refl
+with_key service caller handle DecryptCipher key alg = refl
+with_key service caller handle EncryptAead key alg = refl
+with_key service caller handle DecryptAead key alg = refl
+
 pub setups : SetupsAreTheModels
-setups service caller handle (setup.Hash alg) = refl
-setups service caller handle (setup.MacSign key alg) = refl
-setups service caller handle (setup.MacVerify key alg) = refl
-setups service caller handle (setup.CipherEncrypt key alg) = refl
-setups service caller handle (setup.CipherDecrypt key alg) = refl
-setups service caller handle (setup.AeadEncrypt key alg) = refl
-setups service caller handle (setup.AeadDecrypt key alg) = refl
-setups service caller handle (setup.Derivation alg) = refl
+setups service caller handle (Keyless (keyless.Hash alg)) = refl
+setups service caller handle (Keyless (keyless.Derivation alg)) = refl
+setups service caller handle (Keyed setup) = with_key service caller handle setup.purpose setup.key setup.alg
 
 pub steps_are : StepsAreTheModels
 steps_are service caller handle (steps.Hash s) room = stepped_is service caller handle _ _ _

@@ -1,59 +1,49 @@
 // What begins an operation.
-ghost use Rattle.std.specs.Prelude.{◌≡◌, true, is_some, Some, None};
+ghost use Rattle.std.specs.Prelude.{◌≡◌, Some, None};
 ghost use Rattle.secret_bytes.specs.Buffer.{bytes_of};
-ghost use Rattle.key_attributes.specs.declared.KeyId.{KeyId};
-ghost use Rattle.key_policy.specs.declared.key_use.KeyUse.{KeyUse};
-ghost use Rattle.key_policy.specs.Uses.{FitsUse};
+ghost use Rattle.key_policy.specs.Uses.{FitsUse, used_for};
 ghost use Rattle.service_calls.specs.Answers.{plain_reply};
 ghost use Rattle.store_model.specs.Handles.{HandleOperation, KeyCreation};
 ghost use Rattle.store_model.specs.Operations.{Inactive};
 ghost use Rattle.operation_handles.specs.Cells.{IsOperation};
-ghost use Rattle.operation_handles.specs.Setups.{begun_with, setup_use, set_up_without_key};
+ghost use Rattle.operation_handles.specs.Setups.{begun_with, set_up_without_key};
 ghost use Rattle.operation_handles.specs.States.{AreInactive, AreStates};
 
 use crate::cell::Cell;
 use crate::states::FamilyStates;
+use alg_encoding::Alg;
 use psa_status::Status;
-use service_calls::Setup;
+use service_calls::{KeylessSetup, Purpose};
 use slot_table::Lease;
 
 impl FamilyStates {
     // Sets up an operation that has no key.
-    fn begin(&mut self, setup: Setup) -> Result<(), Status>
-        requires { setup_use setup ≡ None }
+    fn begin(&mut self, setup: KeylessSetup) -> Result<(), Status>
         ensures state { AreInactive self.old → AreStates self.new None (set_up_without_key Inactive setup).operation }
         ensures reply { AreInactive self.old → plain_reply result ≡ (set_up_without_key Inactive setup).reply }
     {
         match setup {
-            Setup::Hash(alg) => self.hash.hash_setup(alg),
-            Setup::Derivation(alg) => {
+            KeylessSetup::Hash(alg) => self.hash.hash_setup(alg),
+            KeylessSetup::Derivation(alg) => {
                 self.alg = alg;
                 self.derivation.key_derivation_setup(alg)
             }
-            Setup::MacSign { .. }
-            | Setup::MacVerify { .. }
-            | Setup::CipherEncrypt { .. }
-            | Setup::CipherDecrypt { .. }
-            | Setup::AeadEncrypt { .. }
-            | Setup::AeadDecrypt { .. } => unreachable!(),
         }
     }
 
     // Sets up an operation with the bytes of its key, which are for it: no state refuses them.
-    fn begin_with(&mut self, setup: Setup, key: &[u8]) -> Result<(), Status>
-        requires keyed { is_some (setup_use setup) ≡ true }
-        requires fits { (id : KeyId) (wanted : KeyUse) → setup_use setup ≡ Some (id, wanted) → FitsUse wanted key.now }
+    fn begin_with(&mut self, purpose: Purpose, alg: Alg, key: &[u8]) -> Result<(), Status>
+        requires fits { FitsUse (used_for purpose alg) key.now }
         ensures { (creation : KeyCreation) → AreInactive self.old →
-            AreStates self.new (Some creation) (begun_with setup creation key.now) }
+            AreStates self.new (Some creation) (begun_with purpose alg creation key.now) }
     {
-        match setup {
-            Setup::MacSign { alg, .. } => self.mac.mac_sign_setup(key, alg),
-            Setup::MacVerify { alg, .. } => self.mac.mac_verify_setup(key, alg),
-            Setup::CipherEncrypt { alg, .. } => self.cipher.cipher_encrypt_setup(key, alg),
-            Setup::CipherDecrypt { alg, .. } => self.cipher.cipher_decrypt_setup(key, alg),
-            Setup::AeadEncrypt { alg, .. } => self.aead.aead_encrypt_setup(key, alg),
-            Setup::AeadDecrypt { alg, .. } => self.aead.aead_decrypt_setup(key, alg),
-            Setup::Hash(_) | Setup::Derivation(_) => unreachable!(),
+        match purpose {
+            Purpose::SignMac => self.mac.mac_sign_setup(key, alg),
+            Purpose::VerifyMac => self.mac.mac_verify_setup(key, alg),
+            Purpose::EncryptCipher => self.cipher.cipher_encrypt_setup(key, alg),
+            Purpose::DecryptCipher => self.cipher.cipher_decrypt_setup(key, alg),
+            Purpose::EncryptAead => self.aead.aead_encrypt_setup(key, alg),
+            Purpose::DecryptAead => self.aead.aead_decrypt_setup(key, alg),
         }
     }
 }
@@ -61,8 +51,7 @@ impl FamilyStates {
 impl Cell {
     /// Sets up an inactive operation that has no key: a hash or a derivation. The refusal of a number that names none
     /// leaves it inactive.
-    pub fn begin(&mut self, setup: Setup) -> Result<(), Status>
-        requires keyless { setup_use setup ≡ None }
+    pub fn begin(&mut self, setup: KeylessSetup) -> Result<(), Status>
         requires free { (operation : HandleOperation) → IsOperation self.old operation → operation ≡ Inactive }
         requires none { self.old.lease ≡ None }
         ensures state { (operation : HandleOperation) → IsOperation self.old operation →
@@ -75,16 +64,15 @@ impl Cell {
     }
 
     /// Sets up an inactive operation with its key, which may be used for it. The lease is kept.
-    pub fn begin_with(&mut self, setup: Setup, lease: Lease)
-        requires keyed { is_some (setup_use setup) ≡ true }
-        requires wanted { (id : KeyId) (wanted : KeyUse) → setup_use setup ≡ Some (id, wanted) → FitsUse wanted (bytes_of lease.buffer) }
+    pub fn begin_with(&mut self, purpose: Purpose, alg: Alg, lease: Lease)
+        requires fits { FitsUse (used_for purpose alg) (bytes_of lease.buffer) }
         requires free { (operation : HandleOperation) → IsOperation self.old operation → operation ≡ Inactive }
         requires none { self.old.lease ≡ None }
         ensures state { (operation : HandleOperation) (key : KeyCreation) → IsOperation self.old operation → key.number ≡ lease.creation →
-            IsOperation self.new (begun_with setup key (bytes_of lease.buffer)) }
+            IsOperation self.new (begun_with purpose alg key (bytes_of lease.buffer)) }
         ensures lease { self.new.lease ≡ Some lease }
     {
-        let _ = self.states.begin_with(setup, lease.as_slice());
+        let _ = self.states.begin_with(purpose, alg, lease.as_slice());
         self.keep(lease);
     }
 

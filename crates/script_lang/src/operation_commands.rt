@@ -8,7 +8,8 @@ use crate::field_list::Fields;
 use crate::fields::Field;
 use key_attributes::KeyId;
 use service_calls::{
-    AeadStep, CipherStep, DerivationStep, HandleCall, HashStep, MacStep, Setup, Step,
+    AeadStep, CipherStep, DerivationStep, HandleCall, HashStep, KeylessSetup, MacStep, Purpose,
+    Step,
 };
 
 /// A command on a hash operation.
@@ -75,7 +76,7 @@ impl HashCommand {
         ensures { model_handle_call result (room_at fields.now) ≡ hash_call self fields.now }
     {
         let step = match self {
-            HashCommand::Setup => return HandleCall::Setup(Setup::Hash(fields.alg())),
+            HashCommand::Setup => return HandleCall::set_up(KeylessSetup::Hash(fields.alg())),
             HashCommand::Update => HashStep::Update(fields.bytes(Field::Data)),
             HashCommand::Finish => HashStep::Finish,
             HashCommand::Verify => HashStep::Verify(fields.bytes(Field::Hash)),
@@ -91,8 +92,8 @@ impl MacCommand {
     {
         let alg = fields.alg();
         let step = match self {
-            MacCommand::SignSetup => return HandleCall::Setup(Setup::MacSign { key, alg }),
-            MacCommand::VerifySetup => return HandleCall::Setup(Setup::MacVerify { key, alg }),
+            MacCommand::SignSetup => return HandleCall::set_up_with(key, Purpose::SignMac, alg),
+            MacCommand::VerifySetup => return HandleCall::set_up_with(key, Purpose::VerifyMac, alg),
             MacCommand::Update => MacStep::Update(fields.bytes(Field::Data)),
             MacCommand::SignFinish => MacStep::SignFinish,
             MacCommand::VerifyFinish => MacStep::VerifyFinish(fields.bytes(Field::Mac)),
@@ -109,10 +110,10 @@ impl CipherCommand {
         let alg = fields.alg();
         let step = match self {
             CipherCommand::EncryptSetup => {
-                return HandleCall::Setup(Setup::CipherEncrypt { key, alg });
+                return HandleCall::set_up_with(key, Purpose::EncryptCipher, alg);
             }
             CipherCommand::DecryptSetup => {
-                return HandleCall::Setup(Setup::CipherDecrypt { key, alg });
+                return HandleCall::set_up_with(key, Purpose::DecryptCipher, alg);
             }
             CipherCommand::GenerateIv => CipherStep::GenerateIv,
             CipherCommand::SetIv => CipherStep::SetIv(fields.bytes(Field::Iv)),
@@ -131,10 +132,10 @@ impl AeadCommand {
         let alg = fields.alg();
         let step = match self {
             AeadCommand::EncryptSetup => {
-                return HandleCall::Setup(Setup::AeadEncrypt { key, alg });
+                return HandleCall::set_up_with(key, Purpose::EncryptAead, alg);
             }
             AeadCommand::DecryptSetup => {
-                return HandleCall::Setup(Setup::AeadDecrypt { key, alg });
+                return HandleCall::set_up_with(key, Purpose::DecryptAead, alg);
             }
             AeadCommand::GenerateNonce => AeadStep::GenerateNonce,
             AeadCommand::SetNonce => AeadStep::SetNonce(fields.bytes(Field::Nonce)),
@@ -158,7 +159,9 @@ impl DerivationCommand {
     {
         let step = fields.short(Field::Step, 0);
         let step = match self {
-            DerivationCommand::Setup => return HandleCall::Setup(Setup::Derivation(fields.alg())),
+            DerivationCommand::Setup => return HandleCall::set_up(KeylessSetup::Derivation(
+                fields.alg(),
+            )),
             DerivationCommand::GetCapacity => DerivationStep::GetCapacity,
             DerivationCommand::SetCapacity => {
                 DerivationStep::SetCapacity(fields.long(Field::Capacity))

@@ -7,7 +7,7 @@ ghost use Rattle.script_lang.specs.Fields.{room_at};
 use crate::field_list::Fields;
 use crate::fields::Field;
 use key_attributes::KeyId;
-use service_calls::StoreCall;
+use service_calls::{Creation, HashCall, KeyChange, KeyedCall, StoreCall};
 
 /// A command on the keys of the store.
 #[derive(Clone, Copy, Drop)]
@@ -40,19 +40,19 @@ impl KeyCommand {
         ensures { model_store_call result (room_at fields.now) ≡ key_call self key.0 fields.now }
     {
         match self {
-            KeyCommand::Import => StoreCall::Import {
+            KeyCommand::Import => StoreCall::Create(Creation::Import {
                 attributes: fields.attributes(),
                 bytes: fields.bytes(Field::Data),
-            },
-            KeyCommand::Generate => StoreCall::Generate(fields.attributes()),
-            KeyCommand::Copy => StoreCall::Copy {
+            }),
+            KeyCommand::Generate => StoreCall::Create(Creation::Generate(fields.attributes())),
+            KeyCommand::Copy => StoreCall::Change(KeyChange::Copy {
                 source: key,
                 attributes: fields.attributes(),
-            },
-            KeyCommand::Destroy => StoreCall::Destroy(key),
-            KeyCommand::Purge => StoreCall::Purge(key),
-            KeyCommand::Attributes => StoreCall::GetAttributes(key),
-            KeyCommand::Export => StoreCall::Export(key),
+            }),
+            KeyCommand::Destroy => StoreCall::Change(KeyChange::Destroy(key)),
+            KeyCommand::Purge => StoreCall::Change(KeyChange::Purge(key)),
+            KeyCommand::Attributes => StoreCall::Change(KeyChange::GetAttributes(key)),
+            KeyCommand::Export => StoreCall::compute(key, KeyedCall::Export),
         }
     }
 }
@@ -66,38 +66,34 @@ impl SinglePartCommand {
         let input = fields.bytes(Field::Data);
         let nonce = fields.bytes(Field::Nonce);
         let ad = fields.bytes(Field::Ad);
-        match self {
-            SinglePartCommand::HashCompute => StoreCall::HashCompute { alg, input },
+        let call = match self {
+            SinglePartCommand::HashCompute => {
+                return StoreCall::Hash(HashCall::Compute { alg, input });
+            }
             SinglePartCommand::HashCompare => {
                 let hash = fields.bytes(Field::Hash);
-                StoreCall::HashCompare { alg, input, hash }
+                return StoreCall::Hash(HashCall::Compare { alg, input, hash });
             }
-            SinglePartCommand::MacCompute => StoreCall::MacCompute { key, alg, input },
+            SinglePartCommand::MacCompute => KeyedCall::MacCompute { alg, input },
             SinglePartCommand::MacVerify => {
                 let mac = fields.bytes(Field::Mac);
-                StoreCall::MacVerify {
-                    key,
-                    alg,
-                    input,
-                    mac,
-                }
+                KeyedCall::MacVerify { alg, input, mac }
             }
-            SinglePartCommand::CipherEncrypt => StoreCall::CipherEncrypt { key, alg, input },
-            SinglePartCommand::CipherDecrypt => StoreCall::CipherDecrypt { key, alg, input },
-            SinglePartCommand::AeadEncrypt => StoreCall::AeadEncrypt {
-                key,
+            SinglePartCommand::CipherEncrypt => KeyedCall::CipherEncrypt { alg, input },
+            SinglePartCommand::CipherDecrypt => KeyedCall::CipherDecrypt { alg, input },
+            SinglePartCommand::AeadEncrypt => KeyedCall::AeadEncrypt {
                 alg,
                 nonce,
                 ad,
                 input,
             },
-            SinglePartCommand::AeadDecrypt => StoreCall::AeadDecrypt {
-                key,
+            SinglePartCommand::AeadDecrypt => KeyedCall::AeadDecrypt {
                 alg,
                 nonce,
                 ad,
                 input,
             },
-        }
+        };
+        StoreCall::compute(key, call)
     }
 }

@@ -19,6 +19,10 @@ use Rattle.service_calls.specs.declared.steps.DerivationStep.{DerivationStep}
 use Rattle.service_calls.specs.declared.steps.DerivationStep.TheVariants as derivation
 use Rattle.service_calls.specs.declared.steps.Step.{Step}
 use Rattle.service_calls.specs.declared.steps.Step.TheVariants as step
+use Rattle.service_calls.specs.declared.handle_calls.Purpose.{Purpose}
+use Rattle.service_calls.specs.declared.handle_calls.Purpose.TheVariants as purpose
+use Rattle.service_calls.specs.declared.handle_calls.KeylessSetup.{KeylessSetup}
+use Rattle.service_calls.specs.declared.handle_calls.KeylessSetup.TheVariants as keyless
 use Rattle.service_calls.specs.declared.handle_calls.Setup.{Setup}
 use Rattle.service_calls.specs.declared.handle_calls.Setup.TheVariants as setup
 use Rattle.service_calls.specs.declared.handle_calls.HandleCall.{HandleCall}
@@ -26,6 +30,14 @@ use Rattle.service_calls.specs.declared.handle_calls.HandleCall.TheVariants as c
 use Rattle.store_model.specs.Requests.{Request, OnStore, OnHandle}
 use Rattle.service_calls.specs.declared.call.Call.{Call}
 use Rattle.service_calls.specs.declared.call.Call.TheVariants as asked
+use Rattle.service_calls.specs.declared.store_calls.Creation.{Creation}
+use Rattle.service_calls.specs.declared.store_calls.Creation.TheVariants as creation
+use Rattle.service_calls.specs.declared.store_calls.KeyChange.{KeyChange}
+use Rattle.service_calls.specs.declared.store_calls.KeyChange.TheVariants as change
+use Rattle.service_calls.specs.declared.store_calls.HashCall.{HashCall}
+use Rattle.service_calls.specs.declared.store_calls.HashCall.TheVariants as hash_call
+use Rattle.service_calls.specs.declared.store_calls.KeyedCall.{KeyedCall}
+use Rattle.service_calls.specs.declared.store_calls.KeyedCall.TheVariants as keyed
 use Rattle.service_calls.specs.declared.store_calls.StoreCall.{StoreCall}
 use Rattle.service_calls.specs.declared.store_calls.StoreCall.TheVariants as store
 
@@ -69,15 +81,21 @@ model_step (step.Cipher s) room = model.OnCipher (model_cipher_step s room)
 model_step (step.Aead s) room = model.OnAead (model_aead_step s room)
 model_step (step.Derivation s) room = model.OnDerivation (model_derivation_step s room)
 
+abbrev pub model_keyless_setup : KeylessSetup → model.HandleCall
+model_keyless_setup (keyless.Hash alg) = model.HashSetup alg.0
+model_keyless_setup (keyless.Derivation alg) = model.DerivationSetup alg.0
+
+abbrev pub model_keyed_setup : Purpose → (key alg : ℕ) → model.HandleCall
+model_keyed_setup purpose.SignMac key alg = model.MacSetup false key alg
+model_keyed_setup purpose.VerifyMac key alg = model.MacSetup true key alg
+model_keyed_setup purpose.EncryptCipher key alg = model.CipherSetup true key alg
+model_keyed_setup purpose.DecryptCipher key alg = model.CipherSetup false key alg
+model_keyed_setup purpose.EncryptAead key alg = model.AeadSetup true key alg
+model_keyed_setup purpose.DecryptAead key alg = model.AeadSetup false key alg
+
 abbrev pub model_setup : Setup → model.HandleCall
-model_setup (setup.Hash alg) = model.HashSetup alg.0
-model_setup (setup.MacSign key alg) = model.MacSetup false key.0 alg.0
-model_setup (setup.MacVerify key alg) = model.MacSetup true key.0 alg.0
-model_setup (setup.CipherEncrypt key alg) = model.CipherSetup true key.0 alg.0
-model_setup (setup.CipherDecrypt key alg) = model.CipherSetup false key.0 alg.0
-model_setup (setup.AeadEncrypt key alg) = model.AeadSetup true key.0 alg.0
-model_setup (setup.AeadDecrypt key alg) = model.AeadSetup false key.0 alg.0
-model_setup (setup.Derivation alg) = model.DerivationSetup alg.0
+model_setup (setup.Keyless s) = model_keyless_setup s
+model_setup (setup.Keyed s) = model_keyed_setup s.purpose s.key.0 s.alg.0
 
 abbrev pub model_handle_call : HandleCall → (room : ℕ) → model.HandleCall
 model_handle_call (call.Setup s) room = model_setup s
@@ -86,22 +104,34 @@ model_handle_call (call.InputKey step key) room = model.InputKey step key.0
 model_handle_call (call.OutputKey attributes) room = model.OutputKey attributes
 model_handle_call call.Abort room = model.Abort
 
+abbrev pub model_creation : Creation → on_store.Call
+model_creation (creation.Import attributes bytes) = on_store.Import attributes bytes.now
+model_creation (creation.Generate attributes) = on_store.Generate attributes
+
+abbrev pub model_change : KeyChange → on_store.Call
+model_change (change.Copy source attributes) = on_store.Copy source.0 attributes
+model_change (change.Destroy key) = on_store.Destroy key.0
+model_change (change.Purge key) = on_store.Purge key.0
+model_change (change.GetAttributes key) = on_store.GetAttributes key.0
+
+abbrev pub model_hash_call : HashCall → (room : ℕ) → on_store.Call
+model_hash_call (hash_call.Compute alg input) room = on_store.HashCompute alg.0 input.now room
+model_hash_call (hash_call.Compare alg input hash) room = on_store.HashCompare alg.0 input.now hash.now
+
+abbrev pub model_keyed_call : KeyedCall → (key room : ℕ) → on_store.Call
+model_keyed_call keyed.Export key room = on_store.Export key room
+model_keyed_call (keyed.MacCompute alg input) key room = on_store.MacCompute key alg.0 input.now room
+model_keyed_call (keyed.MacVerify alg input mac) key room = on_store.MacVerify key alg.0 input.now mac.now
+model_keyed_call (keyed.CipherEncrypt alg input) key room = on_store.CipherEncrypt key alg.0 input.now room
+model_keyed_call (keyed.CipherDecrypt alg input) key room = on_store.CipherDecrypt key alg.0 input.now room
+model_keyed_call (keyed.AeadEncrypt alg nonce ad input) key room = on_store.AeadEncrypt key alg.0 nonce.now ad.now input.now room
+model_keyed_call (keyed.AeadDecrypt alg nonce ad input) key room = on_store.AeadDecrypt key alg.0 nonce.now ad.now input.now room
+
 abbrev pub model_store_call : StoreCall → (room : ℕ) → on_store.Call
-model_store_call (store.Import attributes bytes) room = on_store.Import attributes bytes.now
-model_store_call (store.Generate attributes) room = on_store.Generate attributes
-model_store_call (store.Copy source attributes) room = on_store.Copy source.0 attributes
-model_store_call (store.Destroy key) room = on_store.Destroy key.0
-model_store_call (store.Purge key) room = on_store.Purge key.0
-model_store_call (store.GetAttributes key) room = on_store.GetAttributes key.0
-model_store_call (store.Export key) room = on_store.Export key.0 room
-model_store_call (store.HashCompute alg input) room = on_store.HashCompute alg.0 input.now room
-model_store_call (store.HashCompare alg input hash) room = on_store.HashCompare alg.0 input.now hash.now
-model_store_call (store.MacCompute key alg input) room = on_store.MacCompute key.0 alg.0 input.now room
-model_store_call (store.MacVerify key alg input mac) room = on_store.MacVerify key.0 alg.0 input.now mac.now
-model_store_call (store.CipherEncrypt key alg input) room = on_store.CipherEncrypt key.0 alg.0 input.now room
-model_store_call (store.CipherDecrypt key alg input) room = on_store.CipherDecrypt key.0 alg.0 input.now room
-model_store_call (store.AeadEncrypt key alg nonce ad input) room = on_store.AeadEncrypt key.0 alg.0 nonce.now ad.now input.now room
-model_store_call (store.AeadDecrypt key alg nonce ad input) room = on_store.AeadDecrypt key.0 alg.0 nonce.now ad.now input.now room
+model_store_call (store.Create c) room = model_creation c
+model_store_call (store.Change c) room = model_change c
+model_store_call (store.Hash c) room = model_hash_call c room
+model_store_call (store.Compute c) room = model_keyed_call c.call c.key.0 room
 
 abbrev pub model_request : Call → (room : ℕ) → Request
 model_request (asked.OnStore c) room = OnStore (model_store_call c room)

@@ -9,8 +9,8 @@ mod steps;
 mod store_calls;
 
 pub use call::Call;
-pub use handle_calls::{HandleCall, Setup};
+pub use handle_calls::{HandleCall, KeyedSetup, KeylessSetup, Purpose, Setup};
 pub use op::Op;
 pub use output::{Output, bytes, description, identifier, number, plain};
 pub use steps::{AeadStep, CipherStep, DerivationStep, HashStep, MacStep, Step};
-pub use store_calls::StoreCall;
+pub use store_calls::{Creation, HashCall, KeyChange, Keyed, KeyedCall, StoreCall};

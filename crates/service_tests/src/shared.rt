@@ -14,7 +14,7 @@ use key_attributes::{Attributes, KeyId, KeyType, Lifetime, Policy, Usage};
 use key_policy::KeyUse;
 use locked_store::{Held, Shared, SharedStore, end};
 use secret_bytes::Secret;
-use service_calls::{Call, StoreCall};
+use service_calls::{Call, Creation, HashCall, KeyChange, KeyedCall, StoreCall};
 use std::alloc::Global;
 use std::process::Abort;
 use std::sync::Wait;
@@ -48,10 +48,10 @@ fn count_two<R: Abort + Wait, D: Disk, A: Devices, C: Admission>(
     requires at { IsAt (world shared.now) pass.old }
     requires left { 1 < pass.old.me.0.turns_left }
 {
-    let call = Call::OnStore(StoreCall::HashCompute {
+    let call = Call::OnStore(StoreCall::Hash(HashCall::Compute {
         alg: Alg(0x0200_0009),
         input: &[1, 2],
-    });
+    }));
     assert!(rt; shared.count(rt, pass, &call, 32) == 0);
     assert!(rt; shared.count(rt, pass, &call, 32) == 1);
 }
@@ -101,7 +101,7 @@ fn destroy_twice<R: Abort + Wait, D: Disk, A: Devices, C: Admission>(
     requires at { IsAt (world shared.now) pass.old }
     requires left { 1 < pass.old.me.0.turns_left }
 {
-    let destroy = Call::OnStore(StoreCall::Destroy(id));
+    let destroy = Call::OnStore(StoreCall::Change(KeyChange::Destroy(id)));
     assert!(rt; shared.destroy(rt, pass, &destroy, 0, id) == (2, Ok(())));
     let missing = Err(NotDestroyed::Missing);
     assert!(rt; shared.destroy(rt, pass, &destroy, 0, id) == (3, missing));
@@ -124,16 +124,16 @@ fn make_read_and_destroy<R: Abort + Wait, D: Disk, A: Devices, C: Admission>(
     };
     let bytes = [3u8, 5];
     let filling = shared.reserve(rt, pass);
-    let import = Call::OnStore(StoreCall::Import {
+    let import = Call::OnStore(StoreCall::Create(Creation::Import {
         attributes: RAW_DATA,
         bytes: &bytes,
-    });
+    }));
     let (rank, made) = shared.finish(rt, pass, &import, 0, 1, filling, &RAW_DATA, &bytes, None);
     assert!(rt; rank == 0);
     let Ok(id) = made else {
         return Err("import")?;
     };
-    let export = Call::OnStore(StoreCall::Export(id));
+    let export = Call::OnStore(StoreCall::compute(id, KeyedCall::Export));
     let (rank, looked) = shared.look(rt, pass, &export, 2, id, KeyUse::Export, spare);
     assert!(rt; rank == 1);
     let Ok(lease) = looked else {

@@ -15,7 +15,7 @@ use Rattle.store_model.specs.Outcome.{Computed, computed_unless, given, replies}
 use Rattle.store_model.specs.Rules.{cipher_usage, use_rows}
 use Rattle.store_model.specs.Store.{Key}
 use Rattle.store_model.proofs.Tables.{refused_by}
-use Rattle.service_calls.specs.declared.store_calls.StoreCall.TheVariants.{Import, Generate, Copy, Destroy, Purge, GetAttributes, Export, HashCompute, HashCompare, MacCompute, MacVerify, CipherEncrypt, CipherDecrypt, AeadEncrypt, AeadDecrypt}
+use Rattle.service_calls.specs.declared.store_calls.KeyedCall.TheVariants.{Export, MacCompute, MacVerify, CipherEncrypt, CipherDecrypt, AeadEncrypt, AeadDecrypt}
 use Rattle.single_part.specs.Laws.{DrawsAVector, DrawsOnSuccess}
 
 -- nothing is drawn from a stream
@@ -33,23 +33,15 @@ one_vector None mode reply = vector_within mode
 one_vector (Some status) mode reply = omega arith
 
 pub few : DrawsAVector
-few (CipherEncrypt id alg input) key random room =
+few (CipherEncrypt alg input) key random room =
     let vector : List ℕ = random (iv_length (mode_of alg.0)) in
     one_vector (first_row (encrypt_rows (mode_of alg.0) (length input.now) room)) (mode_of alg.0) (given (vector ++ enciphered (mode_of alg.0) key vector input.now))
-few (Export id) key random room = omega arith
-few (MacCompute id alg input) key random room = omega arith
-few (MacVerify id alg input mac) key random room = omega arith
-few (CipherDecrypt id alg input) key random room = omega arith
-few (AeadEncrypt id alg nonce ad input) key random room = omega arith
-few (AeadDecrypt id alg nonce ad input) key random room = omega arith
-few (Import attributes bytes) key random room = omega arith
-few (Generate attributes) key random room = omega arith
-few (Copy source attributes) key random room = omega arith
-few (Destroy id) key random room = omega arith
-few (Purge id) key random room = omega arith
-few (GetAttributes id) key random room = omega arith
-few (HashCompute alg input) key random room = omega arith
-few (HashCompare alg input hash) key random room = omega arith
+few Export key random room = omega arith
+few (MacCompute alg input) key random room = omega arith
+few (MacVerify alg input mac) key random room = omega arith
+few (CipherDecrypt alg input) key random room = omega arith
+few (AeadEncrypt alg nonce ad input) key random room = omega arith
+few (AeadDecrypt alg nonce ad input) key random room = omega arith
 
 -- no row answers SUCCESS
 
@@ -79,24 +71,16 @@ draws_unless None (Some status) bytes n first second = (λ is. absurd (second st
 draws_unless (Some status) p bytes n first second = (λ is. absurd (first status refl is), λ is. refl)
 
 pub exact : DrawsOnSuccess
-exact store caller random (CipherEncrypt id alg input) room is =
+exact store caller random (CipherEncrypt alg input) id room =
     let mode : Mode = mode_of alg.0 in
-    let found : Option Key = map.get store.keys id.0 in
+    let found : Option Key = map.get store.keys id in
     let vector : List ℕ = random (iv_length mode) in
     draws_unless (first_row (use_rows (is_ctr mode) Cipher (cipher_usage true) alg.0 found)) (first_row (encrypt_rows mode (length input.now) room))
     (vector ++ enciphered mode (bytes_of found) vector input.now) (iv_length mode)
     (use_refuses (is_ctr mode) Cipher (cipher_usage true) alg.0 found) (encrypt_refuses mode (length input.now) room)
-exact store caller random (Export id) room is = (λ is. refl, λ is. refl)
-exact store caller random (MacCompute id alg input) room is = draws_nothing _ _
-exact store caller random (MacVerify id alg input mac) room is = draws_nothing _ _
-exact store caller random (CipherDecrypt id alg input) room is = draws_nothing _ _
-exact store caller random (AeadEncrypt id alg nonce ad input) room is = draws_nothing _ _
-exact store caller random (AeadDecrypt id alg nonce ad input) room is = draws_nothing _ _
-exact store caller random (Import attributes bytes) room is = absurd (cc)
-exact store caller random (Generate attributes) room is = absurd (cc)
-exact store caller random (Copy source attributes) room is = absurd (cc)
-exact store caller random (Destroy id) room is = absurd (cc)
-exact store caller random (Purge id) room is = absurd (cc)
-exact store caller random (GetAttributes id) room is = absurd (cc)
-exact store caller random (HashCompute alg input) room is = absurd (cc)
-exact store caller random (HashCompare alg input hash) room is = absurd (cc)
+exact store caller random Export id room = (λ is. refl, λ is. refl)
+exact store caller random (MacCompute alg input) id room = draws_nothing _ _
+exact store caller random (MacVerify alg input mac) id room = draws_nothing _ _
+exact store caller random (CipherDecrypt alg input) id room = draws_nothing _ _
+exact store caller random (AeadEncrypt alg nonce ad input) id room = draws_nothing _ _
+exact store caller random (AeadDecrypt alg nonce ad input) id room = draws_nothing _ _

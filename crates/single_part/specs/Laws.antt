@@ -1,5 +1,5 @@
 -- What the calls that are computed here are in the model.
-use Rattle.std.specs.Prelude.{◌≡◌, ◌≤◌, ℕ, true, false, List, Some, None, is_some}
+use Rattle.std.specs.Prelude.{◌≡◌, ◌≤◌, ℕ, true, false, List, Some, None}
 use Rattle.std.specs.FinMap as map
 use Rattle.psa_status.specs.declared.Status.TheVariants.{Success}
 use Rattle.store_model.specs.Store.{Store, is_opaque_key}
@@ -11,48 +11,48 @@ use Rattle.store_model.specs.Handles.{Service}
 use Rattle.store_model.specs.Requests.{OnStore}
 use Rattle.store_model.specs.Marks.{id_read}
 use Rattle.store_model.specs.Laws.{may_change_keys}
-use Rattle.key_policy.specs.declared.key_use.KeyUse.{KeyUse}
 use Rattle.key_policy.specs.Uses.{use_refusal}
-use Rattle.service_calls.specs.Meanings.{model_store_call}
-use Rattle.service_calls.specs.declared.store_calls.StoreCall.{StoreCall}
+use Rattle.service_calls.specs.Meanings.{model_hash_call, model_keyed_call}
+use Rattle.service_calls.specs.declared.store_calls.HashCall.{HashCall}
+use Rattle.service_calls.specs.declared.store_calls.KeyedCall.{KeyedCall}
 use Rattle.single_part.specs.Keyed.{computed_by, vector_length, wanted_by}
 use Rattle.single_part.specs.Elements.{is_of_element}
-use Rattle.single_part.specs.Hashing.{hash_computed_by, is_hash}
+use Rattle.single_part.specs.Hashing.{hash_computed_by}
 
 -- a call whose key the secure element doesn't hold, or doesn't compute with: the first refusal of the key's use, and else what is
 -- computed with its bytes
 abbrev pub KeyedCallsAreTheModels : Type 0
 KeyedCallsAreTheModels =
-    (store : Store) (caller : ℕ) (random : Random) (call : StoreCall) (room id : ℕ) (wanted : KeyUse) → wanted_by call ≡ Some (id, wanted) →
+    (store : Store) (caller : ℕ) (random : Random) (call : KeyedCall) (id room : ℕ) →
     (is_of_element call ≡ true → is_opaque_key (map.get store.keys id) ≡ false) →
-    step store caller random (model_store_call call room)
-    ≡ with_computed store (computed_unless (use_refusal wanted (map.get store.keys id)) (computed_by call (bytes_of (map.get store.keys id)) random room))
+    step store caller random (model_keyed_call call id room)
+    ≡ with_computed store (computed_unless (use_refusal (wanted_by call) (map.get store.keys id)) (computed_by call (bytes_of (map.get store.keys id)) random room))
 
 -- a call with a key reads it, and changes no key
 abbrev pub KeyedCallsRead : Type 0
 KeyedCallsRead =
-    (service : Service) (caller : ℕ) (call : StoreCall) (room id : ℕ) (wanted : KeyUse) → wanted_by call ≡ Some (id, wanted) →
-    (id_read service caller (OnStore (model_store_call call room)) ≡ Some id) × (may_change_keys (OnStore (model_store_call call room)) ≡ false)
+    (service : Service) (caller : ℕ) (call : KeyedCall) (id room : ℕ) →
+    (id_read service caller (OnStore (model_keyed_call call id room)) ≡ Some id) × (may_change_keys (OnStore (model_keyed_call call id room)) ≡ false)
 
 -- no call with a key draws more than an initialisation vector
 abbrev pub DrawsAVector : Type 0
-DrawsAVector = (call : StoreCall) (key : List ℕ) (random : Random) (room : ℕ) → (computed_by call key random room).drawn ≤ 16
+DrawsAVector = (call : KeyedCall) (key : List ℕ) (random : Random) (room : ℕ) → (computed_by call key random room).drawn ≤ 16
 
 -- whoever computes it, a call with a key draws its vector where it succeeds, and nothing where it is refused
 abbrev pub DrawsOnSuccess : Type 0
 DrawsOnSuccess =
-    (store : Store) (caller : ℕ) (random : Random) (call : StoreCall) (room : ℕ) → is_some (wanted_by call) ≡ true →
-    let outcome : Outcome = step store caller random (model_store_call call room) in
+    (store : Store) (caller : ℕ) (random : Random) (call : KeyedCall) (id room : ℕ) →
+    let outcome : Outcome = step store caller random (model_keyed_call call id room) in
     (outcome.reply.status ≡ Success → outcome.drawn ≡ vector_length call) × ((outcome.reply.status ≡ Success → ⊥) → outcome.drawn ≡ 0)
 
 -- a hash is the model's
 abbrev pub HashCallsAreTheModels : Type 0
 HashCallsAreTheModels =
-    (store : Store) (caller : ℕ) (random : Random) (call : StoreCall) (room : ℕ) → is_hash call ≡ true →
-    step store caller random (model_store_call call room) ≡ with_computed store (replies (hash_computed_by call room))
+    (store : Store) (caller : ℕ) (random : Random) (call : HashCall) (room : ℕ) →
+    step store caller random (model_hash_call call room) ≡ with_computed store (replies (hash_computed_by call room))
 
 -- and reads no key, nor changes one
 abbrev pub HashCallsRead : Type 0
 HashCallsRead =
-    (service : Service) (caller : ℕ) (call : StoreCall) (room : ℕ) → is_hash call ≡ true →
-    (id_read service caller (OnStore (model_store_call call room)) ≡ None) × (may_change_keys (OnStore (model_store_call call room)) ≡ false)
+    (service : Service) (caller : ℕ) (call : HashCall) (room : ℕ) →
+    (id_read service caller (OnStore (model_hash_call call room)) ≡ None) × (may_change_keys (OnStore (model_hash_call call room)) ≡ false)

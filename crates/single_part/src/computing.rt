@@ -1,8 +1,7 @@
 // Calls in one part with the bytes of a key.
-ghost use Rattle.std.specs.Prelude.{◌≡◌, ◌≤◌, ◌+◌, ◌^◌, ℕ, true, is_some, length};
+ghost use Rattle.std.specs.Prelude.{◌≡◌, ◌≤◌, ◌+◌, ◌^◌, length};
 ghost use Rattle.random_streams.specs.RandomWords.{drawn_from, next_bytes};
 ghost use Rattle.key_policy.specs.Uses.{FitsUse};
-ghost use Rattle.key_policy.specs.declared.key_use.KeyUse.{KeyUse};
 ghost use Rattle.store_model.specs.Call.{buffer_after};
 ghost use Rattle.service_calls.specs.Answered.{AnswersReply};
 ghost use Rattle.service_calls.specs.Answers.{AnswersLength};
@@ -14,7 +13,7 @@ use crate::macs::{mac_compute, mac_verify};
 use multipart::give;
 use psa_status::Status;
 use random_streams::Stream;
-use service_calls::{Output, StoreCall, bytes, plain};
+use service_calls::{KeyedCall, Output, bytes, plain};
 
 // Gives the bytes of a key to the caller.
 fn export(key: &[u8], out: &mut [u8]) -> Result<usize, Status>
@@ -26,52 +25,36 @@ fn export(key: &[u8], out: &mut [u8]) -> Result<usize, Status>
 
 /// Computes a call with the bytes of a key that may be used for it. Bytes that it gives are written to the front of the buffer.
 pub fn compute(
-    call: &StoreCall<'_>,
+    call: &KeyedCall<'_>,
     key: &[u8],
     stream: &mut Stream,
     out: &mut [u8],
 ) -> Result<Output, Status>
-    requires keyed { is_some (wanted_by call.now) ≡ true }
-    requires fits { (id : ℕ) (wanted : KeyUse) → wanted_by call.now ≡ Some (id, wanted) → FitsUse wanted key.now }
+    requires fits { FitsUse (wanted_by call.now) key.now }
     requires words { stream.old.place + 256 ≤ 2 ^ 60 }
     ensures reply { AnswersReply result (computed_by call.now key.now (next_bytes stream.old) (length out.old)).reply }
     ensures buffer { out.new ≡ buffer_after out.old (computed_by call.now key.now (next_bytes stream.old) (length out.old)).reply }
     ensures stream { stream.new ≡ drawn_from stream.old (computed_by call.now key.now (next_bytes stream.old) (length out.old)).drawn }
 {
     match *call {
-        StoreCall::Export(..) => bytes(export(key, out)),
-        StoreCall::MacCompute { alg, input, .. } => bytes(mac_compute(alg, key, input, out)),
-        StoreCall::MacVerify {
-            alg,
-            input,
-            mac,
-            ..
-        } => plain(mac_verify(alg, key, input, mac)),
-        StoreCall::CipherEncrypt { alg, input, .. } => {
+        KeyedCall::Export => bytes(export(key, out)),
+        KeyedCall::MacCompute { alg, input } => bytes(mac_compute(alg, key, input, out)),
+        KeyedCall::MacVerify { alg, input, mac } => plain(mac_verify(alg, key, input, mac)),
+        KeyedCall::CipherEncrypt { alg, input } => {
             bytes(cipher_encrypt(stream, alg, key, input, out))
         }
-        StoreCall::CipherDecrypt { alg, input, .. } => bytes(cipher_decrypt(alg, key, input, out)),
-        StoreCall::AeadEncrypt {
+        KeyedCall::CipherDecrypt { alg, input } => bytes(cipher_decrypt(alg, key, input, out)),
+        KeyedCall::AeadEncrypt {
             alg,
             nonce,
             ad,
             input,
-            ..
         } => bytes(aead_encrypt(alg, key, nonce, ad, input, out)),
-        StoreCall::AeadDecrypt {
+        KeyedCall::AeadDecrypt {
             alg,
             nonce,
             ad,
             input,
-            ..
         } => bytes(aead_decrypt(alg, key, nonce, ad, input, out)),
-        StoreCall::Import { .. }
-        | StoreCall::Generate(..)
-        | StoreCall::Copy { .. }
-        | StoreCall::Destroy(..)
-        | StoreCall::Purge(..)
-        | StoreCall::GetAttributes(..)
-        | StoreCall::HashCompute { .. }
-        | StoreCall::HashCompare { .. } => unreachable!(),
     }
 }

@@ -2,89 +2,75 @@
 ghost use Rattle.std.specs.Prelude.{◌≡◌, ◌&&◌, ℕ, true, IfSome, MatchResult, is_some};
 ghost use Rattle.std.specs.Result.{is_ok};
 ghost use Rattle.store_model.specs.Call.{Reply};
-ghost use Rattle.key_policy.specs.declared.key_use.KeyUse.{KeyUse};
 ghost use Rattle.service_calls.specs.Answered.{AnswersReply};
-ghost use Rattle.service_calls.specs.Meanings.{model_store_call};
+ghost use Rattle.service_calls.specs.Meanings.{model_keyed_call};
 ghost use Rattle.secure_element_calls.specs.Answers.{AnswersCall, status_of};
 ghost use Rattle.secure_element_calls.specs.Calls.{model_call};
 ghost use Rattle.secure_element_calls.specs.Replies.{HasDrawn};
 ghost use Rattle.single_part.specs.Elements.{IsElementCall, has_vector, is_of_element, takes_vector};
-ghost use Rattle.single_part.specs.Keyed.{wanted_by};
 
 use alg_encoding::Alg;
 use psa_status::Status;
 use secure_element_calls::{ElementCall, NotComputed};
-use service_calls::{Output, StoreCall};
+use service_calls::{KeyedCall, Output};
 
 const CTR: Alg = Alg(0x04c0_1000);
 
 /// Whether a call begins with a fresh initialisation vector, which it draws where it succeeds; that of ECB has no bytes.
-pub fn takes_vector(call: &StoreCall<'_>) -> bool
+pub fn takes_vector(call: &KeyedCall<'_>) -> bool
     ensures { result ≡ takes_vector call.now }
 {
     match *call {
-        StoreCall::CipherEncrypt { .. } => true,
+        KeyedCall::CipherEncrypt { .. } => true,
         _ => false,
     }
 }
 
 /// Whether the secure element computes such a call, and on a fresh initialisation vector.
-pub fn needs_vector(call: &StoreCall<'_>) -> bool
+pub fn needs_vector(call: &KeyedCall<'_>) -> bool
     ensures { result ≡ (takes_vector call.now && is_of_element call.now) }
 {
     match *call {
-        StoreCall::CipherEncrypt { alg, .. } => alg == CTR,
+        KeyedCall::CipherEncrypt { alg, .. } => alg == CTR,
         _ => false,
     }
 }
 
 /// A call as the secure element computes it, on a fresh initialisation vector of these bytes where it takes one; `None` where
 /// the element computes no such call.
-pub fn element_call<'a>(call: &StoreCall<'a>, vector: &'a [u8; 16]) -> Option<ElementCall<'a>>
+pub fn element_call<'a>(call: &KeyedCall<'a>, vector: &'a [u8; 16]) -> Option<ElementCall<'a>>
     ensures is { is_some result ≡ is_of_element call.now }
     ensures call { IfSome result (λ element. IsElementCall call.now element) }
-    ensures model { IfSome result (λ element. (id room : ℕ) (wanted : KeyUse) → wanted_by call.now ≡ Some (id, wanted) →
-        model_store_call call.now room ≡ model_call element id room) }
+    ensures model { IfSome result (λ element. (id room : ℕ) → model_keyed_call call.now id room ≡ model_call element id room) }
     ensures vector { IfSome result (λ element. HasDrawn element vector.now) }
     ensures draws { IfSome result (λ element. has_vector element ≡ takes_vector call.now) }
 {
     match *call {
-        StoreCall::MacCompute { alg, input, .. } => Some(ElementCall::MacCompute { alg, input }),
-        StoreCall::MacVerify {
+        KeyedCall::MacCompute { alg, input } => Some(ElementCall::MacCompute { alg, input }),
+        KeyedCall::MacVerify { alg, input, mac } => Some(ElementCall::MacVerify {
             alg,
             input,
             mac,
-            ..
-        } => Some(ElementCall::MacVerify { alg, input, mac }),
-        StoreCall::CipherEncrypt { alg, input, .. } => {
+        }),
+        KeyedCall::CipherEncrypt { alg, input } => {
             if alg != CTR {
                 return None;
             }
             Some(ElementCall::CtrEncrypt { iv: vector, input })
         }
-        StoreCall::CipherDecrypt { alg, input, .. } => {
+        KeyedCall::CipherDecrypt { alg, input } => {
             if alg != CTR {
                 return None;
             }
             Some(ElementCall::CtrDecrypt { input })
         }
-        StoreCall::Import { .. }
-        | StoreCall::Generate(..)
-        | StoreCall::Copy { .. }
-        | StoreCall::Destroy(..)
-        | StoreCall::Purge(..)
-        | StoreCall::GetAttributes(..)
-        | StoreCall::Export(..)
-        | StoreCall::HashCompute { .. }
-        | StoreCall::HashCompare { .. }
-        | StoreCall::AeadEncrypt { .. }
-        | StoreCall::AeadDecrypt { .. } => None,
+        KeyedCall::Export | KeyedCall::AeadEncrypt { .. } | KeyedCall::AeadDecrypt { .. } => None,
     }
 }
 
 /// What a call answers that the secure element computed, or for which it failed.
 pub fn computed_output(
-    call: &StoreCall<'_>,
+    call: &KeyedCall<'_>,
     computed: Result<usize, NotComputed>,
 ) -> Result<Output, Status>
     ensures reply { (element : ElementCall) (reply : Reply) → IsElementCall call.now element → AnswersCall element computed reply → AnswersReply result reply }
@@ -92,7 +78,7 @@ pub fn computed_output(
 {
     match computed {
         Ok(length) => match *call {
-            StoreCall::MacVerify { .. } => Ok(Output::Done),
+            KeyedCall::MacVerify { .. } => Ok(Output::Done),
             _ => Ok(Output::Bytes(length)),
         },
         Err(why) => Err(why.status()),

@@ -1,33 +1,22 @@
-// The key that a call in one part computes with.
+// The use of the key that a call in one part computes with.
 ghost use Rattle.std.specs.Prelude.{◌≡◌};
-ghost use Rattle.std.specs.Option.{option_map};
 ghost use Rattle.single_part.specs.Keyed.{wanted_by};
 
-use alg_encoding::Class;
-use key_attributes::{KeyId, Usage};
 use key_policy::KeyUse;
-use service_calls::StoreCall;
+use service_calls::{KeyedCall, Purpose};
 
-/// The key that a call computes with, and for what use; `None` where it computes with no key's bytes.
-pub fn wanted(call: &StoreCall<'_>) -> Option<(KeyId, KeyUse)>
-    ensures { option_map (λ p. (p.0.0, p.1)) result ≡ wanted_by call.now }
+/// What a call looks its key for.
+pub fn wanted(call: &KeyedCall<'_>) -> KeyUse
+    ensures { result ≡ wanted_by call.now }
 {
-    let (key, class, usage, alg) = match *call {
-        StoreCall::Export(key) => return Some((key, KeyUse::Export)),
-        StoreCall::MacCompute { key, alg, .. } => (key, Class::Mac, Usage::SIGN_MESSAGE, alg),
-        StoreCall::MacVerify { key, alg, .. } => (key, Class::Mac, Usage::VERIFY_MESSAGE, alg),
-        StoreCall::CipherEncrypt { key, alg, .. } => (key, Class::Cipher, Usage::ENCRYPT, alg),
-        StoreCall::CipherDecrypt { key, alg, .. } => (key, Class::Cipher, Usage::DECRYPT, alg),
-        StoreCall::AeadEncrypt { key, alg, .. } => (key, Class::Aead, Usage::ENCRYPT, alg),
-        StoreCall::AeadDecrypt { key, alg, .. } => (key, Class::Aead, Usage::DECRYPT, alg),
-        StoreCall::Import { .. }
-        | StoreCall::Generate(..)
-        | StoreCall::Copy { .. }
-        | StoreCall::Destroy(..)
-        | StoreCall::Purge(..)
-        | StoreCall::GetAttributes(..)
-        | StoreCall::HashCompute { .. }
-        | StoreCall::HashCompare { .. } => return None,
+    let (purpose, alg) = match *call {
+        KeyedCall::Export => return KeyUse::Export,
+        KeyedCall::MacCompute { alg, .. } => (Purpose::SignMac, alg),
+        KeyedCall::MacVerify { alg, .. } => (Purpose::VerifyMac, alg),
+        KeyedCall::CipherEncrypt { alg, .. } => (Purpose::EncryptCipher, alg),
+        KeyedCall::CipherDecrypt { alg, .. } => (Purpose::DecryptCipher, alg),
+        KeyedCall::AeadEncrypt { alg, .. } => (Purpose::EncryptAead, alg),
+        KeyedCall::AeadDecrypt { alg, .. } => (Purpose::DecryptAead, alg),
     };
-    Some((key, KeyUse::Algorithm { class, usage, alg }))
+    KeyUse::of_purpose(purpose, alg)
 }

@@ -1,45 +1,48 @@
-use Rattle.std.proofs.Common.{true, false, refl, ap}
-use Rattle.alg_encoding.specs.declared.table.Class.TheVariants.{Mac, Cipher, Aead}
-use Rattle.store_model.specs.Rules.{cipher_usage, mac_usage}
-use Rattle.single_part.specs.Keyed.{use_with, wanted_by}
+use Rattle.std.proofs.Common.{◌≡◌, ℕ, List, refl, subst}
+use Rattle.key_policy.specs.Uses.{FitsUse}
+use Rattle.service_calls.specs.declared.store_calls.KeyedCall.{KeyedCall}
+use Rattle.single_part.specs.Keyed.{wanted_by}
 use Rattle.single_part.proofs.Draws.{draws_none}
 use Rattle.single_part.proofs.computing.compute.Goals as goal
 
+for_call : (a b : KeyedCall) (key : List ℕ) → a ≡ b → FitsUse (wanted_by a) key → FitsUse (wanted_by b) key
+for_call a b key is = subst (λ call. FitsUse (wanted_by call) key) is
+
 pub mac_compute-requires-clause-algorithm : goal.mac_compute-requires-clause-algorithm
-mac_compute-requires-clause-algorithm c = (c.requires.fits c.in-MacCompute.key.0 (use_with Mac (mac_usage false) c.in-MacCompute.alg) (ap wanted_by c.in-MacCompute.is)).algorithm
+mac_compute-requires-clause-algorithm c = (for_call _ _ c.args.key.now c.in-MacCompute.is c.requires.fits).algorithm
 
 pub mac_compute-requires-clause-key : goal.mac_compute-requires-clause-key
-mac_compute-requires-clause-key c = (c.requires.fits c.in-MacCompute.key.0 (use_with Mac (mac_usage false) c.in-MacCompute.alg) (ap wanted_by c.in-MacCompute.is)).cmac
+mac_compute-requires-clause-key c = (for_call _ _ c.args.key.now c.in-MacCompute.is c.requires.fits).cmac
 
 pub mac_verify-requires-clause-algorithm : goal.mac_verify-requires-clause-algorithm
-mac_verify-requires-clause-algorithm c = (c.requires.fits c.in-MacVerify.key.0 (use_with Mac (mac_usage true) c.in-MacVerify.alg) (ap wanted_by c.in-MacVerify.is)).algorithm
+mac_verify-requires-clause-algorithm c = (for_call _ _ c.args.key.now c.in-MacVerify.is c.requires.fits).algorithm
 
 pub mac_verify-requires-clause-key : goal.mac_verify-requires-clause-key
-mac_verify-requires-clause-key c = (c.requires.fits c.in-MacVerify.key.0 (use_with Mac (mac_usage true) c.in-MacVerify.alg) (ap wanted_by c.in-MacVerify.is)).cmac
+mac_verify-requires-clause-key c = (for_call _ _ c.args.key.now c.in-MacVerify.is c.requires.fits).cmac
 
 pub cipher_encrypt-requires-clause-algorithm : goal.cipher_encrypt-requires-clause-algorithm
-cipher_encrypt-requires-clause-algorithm c = (c.requires.fits c.in-CipherEncrypt.key.0 (use_with Cipher (cipher_usage true) c.in-CipherEncrypt.alg) (ap wanted_by c.in-CipherEncrypt.is)).algorithm
+cipher_encrypt-requires-clause-algorithm c = (for_call _ _ c.args.key.now c.in-CipherEncrypt.is c.requires.fits).algorithm
 
 pub cipher_encrypt-requires-clause-key : goal.cipher_encrypt-requires-clause-key
-cipher_encrypt-requires-clause-key c = (c.requires.fits c.in-CipherEncrypt.key.0 (use_with Cipher (cipher_usage true) c.in-CipherEncrypt.alg) (ap wanted_by c.in-CipherEncrypt.is)).cipher refl
+cipher_encrypt-requires-clause-key c = (for_call _ _ c.args.key.now c.in-CipherEncrypt.is c.requires.fits).cipher refl
 
 pub cipher_decrypt-requires-clause-algorithm : goal.cipher_decrypt-requires-clause-algorithm
-cipher_decrypt-requires-clause-algorithm c = (c.requires.fits c.in-CipherDecrypt.key.0 (use_with Cipher (cipher_usage false) c.in-CipherDecrypt.alg) (ap wanted_by c.in-CipherDecrypt.is)).algorithm
+cipher_decrypt-requires-clause-algorithm c = (for_call _ _ c.args.key.now c.in-CipherDecrypt.is c.requires.fits).algorithm
 
 pub cipher_decrypt-requires-clause-key : goal.cipher_decrypt-requires-clause-key
-cipher_decrypt-requires-clause-key c = (c.requires.fits c.in-CipherDecrypt.key.0 (use_with Cipher (cipher_usage false) c.in-CipherDecrypt.alg) (ap wanted_by c.in-CipherDecrypt.is)).cipher refl
+cipher_decrypt-requires-clause-key c = (for_call _ _ c.args.key.now c.in-CipherDecrypt.is c.requires.fits).cipher refl
 
 pub aead_encrypt-requires-clause-algorithm : goal.aead_encrypt-requires-clause-algorithm
-aead_encrypt-requires-clause-algorithm c = (c.requires.fits c.in-AeadEncrypt.key.0 (use_with Aead (cipher_usage true) c.in-AeadEncrypt.alg) (ap wanted_by c.in-AeadEncrypt.is)).algorithm
+aead_encrypt-requires-clause-algorithm c = (for_call _ _ c.args.key.now c.in-AeadEncrypt.is c.requires.fits).algorithm
 
 pub aead_encrypt-requires-clause-key : goal.aead_encrypt-requires-clause-key
-aead_encrypt-requires-clause-key c = (c.requires.fits c.in-AeadEncrypt.key.0 (use_with Aead (cipher_usage true) c.in-AeadEncrypt.alg) (ap wanted_by c.in-AeadEncrypt.is)).aead refl
+aead_encrypt-requires-clause-key c = (for_call _ _ c.args.key.now c.in-AeadEncrypt.is c.requires.fits).aead refl
 
 pub aead_decrypt-requires-clause-algorithm : goal.aead_decrypt-requires-clause-algorithm
-aead_decrypt-requires-clause-algorithm c = (c.requires.fits c.in-AeadDecrypt.key.0 (use_with Aead (cipher_usage false) c.in-AeadDecrypt.alg) (ap wanted_by c.in-AeadDecrypt.is)).algorithm
+aead_decrypt-requires-clause-algorithm c = (for_call _ _ c.args.key.now c.in-AeadDecrypt.is c.requires.fits).algorithm
 
 pub aead_decrypt-requires-clause-key : goal.aead_decrypt-requires-clause-key
-aead_decrypt-requires-clause-key c = (c.requires.fits c.in-AeadDecrypt.key.0 (use_with Aead (cipher_usage false) c.in-AeadDecrypt.alg) (ap wanted_by c.in-AeadDecrypt.is)).aead refl
+aead_decrypt-requires-clause-key c = (for_call _ _ c.args.key.now c.in-AeadDecrypt.is c.requires.fits).aead refl
 
 pub returns-in-Export-clause-reply : goal.returns-in-Export-clause-reply
 returns-in-Export-clause-reply c = rw c.in-Export.is (c.bytes.ensures.length _ c.export.ensures.reply)

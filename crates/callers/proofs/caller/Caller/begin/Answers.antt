@@ -17,7 +17,7 @@ returns-in-Ok-clause-ready g c =
     let old = c.args.self.now in let r = c.requires.ready in let request = model_request c.args.call.now c.args.room in let asks = ap (λ x. model_request x c.args.room) c.requires.call in
     let counted = c.count-rank.ensures.counted in let before = counted.before in let e = counted.after.entry in let i = counted.after.entered in let first = c.begin.ensures.first in let last = c.begin.ensures.last in
     let new = record old { pass = c.count-rank.new.pass; handles = c.begin.new.self; spent = old.spent + 1 } in
-    bare_ready w old new r request Plain c.count-rank.result old.pass.me.0.holding before e i c.args.op first last c.args.setup asks refl c.requires.keyless (Ok c.in-Ok.field-0) (ap plain_reply (sym c.in-Ok.is) ∙ c.begin.ensures.reply r.operations r.stand)
+    bare_ready w old new r request Plain c.count-rank.result old.pass.me.0.holding before e i c.args.op first last c.args.setup asks refl (Ok c.in-Ok.field-0) (ap plain_reply (sym c.in-Ok.is) ∙ c.begin.ensures.reply r.operations r.stand)
     (at_handle (λ o. o ≡ Inactive) old.handles.cells.items r.operations c.args.op r.stand first last c.requires.free) (c.begin.ensures.changed r.operations r.stand) refl refl refl refl refl c.requires.worn c.count-rank.ensures.at c.count-rank.ensures.legal
 
 pub returns-in-Ok-clause-answered : goal.returns-in-Ok-clause-answered
@@ -26,7 +26,7 @@ returns-in-Ok-clause-answered g c = λ buffer.
     let old = c.args.self.now in let r = c.requires.ready in let request = model_request c.args.call.now c.args.room in let asks = ap (λ x. model_request x c.args.room) c.requires.call in
     let counted = c.count-rank.ensures.counted in let before = counted.before in let e = counted.after.entry in let i = counted.after.entered in let first = c.begin.ensures.first in let last = c.begin.ensures.last in
     let new = record old { pass = c.count-rank.new.pass; handles = c.begin.new.self; spent = old.spent + 1 } in
-    bare_answered w old new r request Plain c.count-rank.result old.pass.me.0.holding before e i c.args.op first last c.args.setup asks refl c.requires.keyless (Ok output.Done) buffer
+    bare_answered w old new r request Plain c.count-rank.result old.pass.me.0.holding before e i c.args.op first last c.args.setup asks refl (Ok output.Done) buffer
     (sym (ap plain_reply (sym c.in-Ok.is) ∙ c.begin.ensures.reply r.operations r.stand)) (ap (buffer_after buffer) (ap plain_reply (sym c.in-Ok.is) ∙ c.begin.ensures.reply r.operations r.stand))
 
 pub returns-in-Err-clause-ready : goal.returns-in-Err-clause-ready
@@ -35,7 +35,7 @@ returns-in-Err-clause-ready g c =
     let old = c.args.self.now in let r = c.requires.ready in let request = model_request c.args.call.now c.args.room in let asks = ap (λ x. model_request x c.args.room) c.requires.call in
     let counted = c.count-rank.ensures.counted in let before = counted.before in let e = counted.after.entry in let i = counted.after.entered in let first = c.begin.ensures.first in let last = c.begin.ensures.last in
     let new = record old { pass = c.count-rank.new.pass; handles = c.begin.new.self } in
-    bare_ready w old new r request Plain c.count-rank.result old.pass.me.0.holding before e i c.args.op first last c.args.setup asks refl c.requires.keyless (Err c.in-Err.status) (ap plain_reply (sym c.in-Err.is) ∙ c.begin.ensures.reply r.operations r.stand)
+    bare_ready w old new r request Plain c.count-rank.result old.pass.me.0.holding before e i c.args.op first last c.args.setup asks refl (Err c.in-Err.status) (ap plain_reply (sym c.in-Err.is) ∙ c.begin.ensures.reply r.operations r.stand)
     (at_handle (λ o. o ≡ Inactive) old.handles.cells.items r.operations c.args.op r.stand first last c.requires.free) (c.begin.ensures.changed r.operations r.stand) refl refl refl refl (let z : old.spent ≡ old.spent + 0 = omega arith in z) c.requires.worn c.count-rank.ensures.at c.count-rank.ensures.legal
 
 pub returns-in-Err-clause-answered : goal.returns-in-Err-clause-answered
@@ -44,5 +44,5 @@ returns-in-Err-clause-answered g c = λ buffer.
     let old = c.args.self.now in let r = c.requires.ready in let request = model_request c.args.call.now c.args.room in let asks = ap (λ x. model_request x c.args.room) c.requires.call in
     let counted = c.count-rank.ensures.counted in let before = counted.before in let e = counted.after.entry in let i = counted.after.entered in let first = c.begin.ensures.first in let last = c.begin.ensures.last in
     let new = record old { pass = c.count-rank.new.pass; handles = c.begin.new.self } in
-    bare_answered w old new r request Plain c.count-rank.result old.pass.me.0.holding before e i c.args.op first last c.args.setup asks refl c.requires.keyless (Err c.in-Err.status) buffer
+    bare_answered w old new r request Plain c.count-rank.result old.pass.me.0.holding before e i c.args.op first last c.args.setup asks refl (Err c.in-Err.status) buffer
     (subst (AnswersReply (Err c.in-Err.status)) (ap plain_reply (sym c.in-Err.is) ∙ c.begin.ensures.reply r.operations r.stand) (refl, refl)) (ap (buffer_after buffer) (ap plain_reply (sym c.in-Err.is) ∙ c.begin.ensures.reply r.operations r.stand))
