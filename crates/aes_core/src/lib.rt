@@ -5,6 +5,7 @@ ghost use Rattle.std.specs.Prelude.{◌≡◌, ℕ, List, [], MatchOption};
 ghost use Rattle.crypto_specs.specs.Aes.{aes_encrypt, IsKey};
 ghost use Rattle.crypto_specs.specs.AesInverse.{aes_decrypt};
 ghost use Rattle.crypto_specs.specs.Modes.{number_block};
+ghost use Rattle.aes_core.specs.KeyFields.{IsWiped};
 
 use cipher_blocks::number_of;
 use inv_schedule::inv_key_expansion;
@@ -24,8 +25,7 @@ mod state;
 mod tables;
 
 /// A key with its schedules, for encryption and for decryption. A contract sees the key's bytes, and
-/// none of them once it is wiped.
-#[derive(Drop)]
+/// none of them once it is wiped. Where it is let go, it is wiped first.
 pub struct AesKey {
     rounds: usize,
     schedule: [u32; 60],
@@ -105,4 +105,22 @@ impl AesKey {
         self.schedule = [0; 60];
         self.inverse = [0; 60];
     }
+}
+
+impl Drop for AesKey {
+    fn drop(mut self) {
+        self.wipe();
+        let AesKey {
+            rounds,
+            schedule,
+            inverse,
+        } = self;
+        release(rounds, &schedule, &inverse);
+    }
+}
+
+// What is let go of a key: no rounds, and schedules of zeros.
+fn release(rounds: usize, schedule: &[u32; 60], inverse: &[u32; 60])
+    requires { IsWiped rounds schedule.now inverse.now }
+{
 }
