@@ -2,7 +2,7 @@
 //! which is the coefficient of x^0.
 #![tactic(auto)]
 
-ghost use Rattle.std.specs.Prelude.{◌≡◌, bit_xor};
+ghost use Rattle.std.specs.Prelude.{◌≡◌, bit_xor, replicate};
 ghost use Rattle.crypto_specs.specs.Ghash.{block_product};
 
 pub use bits::multiply;
@@ -12,8 +12,8 @@ use std::marker::Model;
 mod bits;
 mod groups;
 
-/// GHASH of the blocks so far. A contract sees the hash subkey and the value.
-#[derive(Drop)]
+/// GHASH of the blocks so far. A contract sees the hash subkey and the value. Where it is let go, it is
+/// cleared first.
 pub struct Ghash {
     products: [u128; 16],
     // Of the hash subkey's product by x^64.
@@ -71,3 +71,22 @@ impl Ghash {
         self.value = 0;
     }
 }
+
+impl Drop for Ghash {
+    fn drop(mut self) {
+        self.wipe();
+        let Ghash {
+            products,
+            far_products,
+            value,
+        } = self;
+        release(&products, &far_products, value);
+    }
+}
+
+// What is let go of a hash: zeros.
+fn release(products: &[u128; 16], far_products: &[u128; 16], value: u128)
+    requires products { products.now ≡ replicate 16 0 }
+    requires far_products { far_products.now ≡ replicate 16 0 }
+    requires value { value ≡ 0 }
+{}

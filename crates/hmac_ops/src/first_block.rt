@@ -1,7 +1,7 @@
 // SHA-256 block by block (FIPS 180-4, section 6.2), for messages of 96 bytes whose first block was
 // hashed before: a digest then takes one compression.
 
-ghost use Rattle.std.specs.Prelude.{◌≡◌, ℕ, List, ◌++◌, length};
+ghost use Rattle.std.specs.Prelude.{◌≡◌, ℕ, List, ◌++◌, length, replicate};
 ghost use Rattle.sha2.specs.Sha256.{digest_bytes, padding, sha256};
 ghost use Rattle.hmac_ops.specs.FirstBlocks.{IsFirstBlock, IsWiped};
 
@@ -50,8 +50,7 @@ fn digest_bytes(hash_value: &[u32; 8]) -> [u8; 32]
 }
 
 /// A message's first block that SHA-256 has taken in: the hash value after it, H(1) (FIPS 180-4,
-/// section 6.2.2).
-#[derive(Drop)]
+/// section 6.2.2). Where it is let go, it is zeros first.
 pub struct FirstBlock {
     hash_value: [u32; 8],
 }
@@ -81,3 +80,16 @@ impl FirstBlock {
         self.hash_value = [0; 8];
     }
 }
+
+impl Drop for FirstBlock {
+    fn drop(mut self) {
+        self.wipe();
+        let FirstBlock { hash_value } = self;
+        release(&hash_value);
+    }
+}
+
+// What is let go of a first block: zeros.
+fn release(hash_value: &[u32; 8])
+    requires { hash_value.now ≡ replicate 8 0 }
+{}

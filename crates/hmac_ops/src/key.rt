@@ -10,7 +10,7 @@ use crate::state::HmacState;
 use hash_ops::{Hash, HashState};
 
 /// A key made ready: hashes that have taken in the key's pads, which each message goes on from (RFC
-/// 2104, section 4).
+/// 2104, section 4). Where it is let go, each forgets them.
 #[derive(Drop)]
 pub struct HmacKey {
     inner: HashState,

@@ -21,7 +21,8 @@ fn front(block: &[u8; 128]) -> &[u8; 64]
 }
 
 /// A key of HMAC-SHA-256 made ready for messages of 32 bytes, which are as long as its codes: the
-/// hash values after its pads (RFC 2104, section 4). Each code takes two compressions.
+/// hash values after its pads (RFC 2104, section 4). Each code takes two compressions. Where it is let
+/// go, both hash values are zeros first.
 #[derive(Drop)]
 pub struct ShortMessageKey {
     inner: FirstBlock,

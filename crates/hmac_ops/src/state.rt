@@ -8,7 +8,8 @@ ghost use Rattle.hmac_ops.specs.States.{HoldsHmac, IsWipedHmac};
 use crate::key::HmacKey;
 use hash_ops::{Hash, HashState};
 
-/// A message that is authenticated piece by piece: it stands for its pieces, one after another.
+/// A message that is authenticated piece by piece: it stands for its pieces, one after another. Where it
+/// is let go, both hashes forget what they have taken in.
 #[derive(Drop)]
 pub struct HmacState {
     pub(crate) inner: HashState,
