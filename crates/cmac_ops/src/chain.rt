@@ -9,8 +9,8 @@ use aes_core::AesKey;
 use cipher_blocks::number_of;
 
 /// A message of which every block before the last one is chained into `value`. The last one is kept
-/// back, since a subkey is added to it: it is the first `used` bytes of `block`.
-#[derive(Drop)]
+/// back, since a subkey is added to it: it is the first `used` bytes of `block`. Where the chain is let
+/// go, it is cleared first.
 pub struct Chain {
     value: u128,
     block: [u8; 16],
@@ -125,6 +125,21 @@ impl Chain {
         self.used = 0;
     }
 }
+
+impl Drop for Chain {
+    fn drop(mut self) {
+        self.wipe();
+        let Chain { value, block, used } = self;
+        release(value, &block, used);
+    }
+}
+
+// What is let go of a chain: zeros.
+fn release(value: u128, block: &[u8; 16], used: usize)
+    requires value { value ≡ 0 }
+    requires block { block.now ≡ replicate 16 0 }
+    requires used { used ≡ 0 }
+{}
 
 // A block shifted left by one bit, modulo x^128 + x^7 + x^2 + x + 1 (SP 800-38B, section 6.1).
 fn doubled(block: u128) -> u128

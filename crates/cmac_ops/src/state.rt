@@ -9,7 +9,8 @@ use crate::chain::Chain;
 use aes_core::AesKey;
 
 /// A message that is authenticated piece by piece: it stands for its pieces, one after another. It
-/// has its key until it is wiped; no call but `wipe` takes it after that.
+/// has its key until it is wiped; no call but `wipe` takes it after that. Where it is let go, its key and
+/// its chain are cleared.
 #[derive(Drop)]
 pub struct CmacState {
     key: AesKey,
