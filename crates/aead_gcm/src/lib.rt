@@ -1,7 +1,7 @@
 //! GCM (SP 800-38D) over AES, on a whole text in place.
 #![tactic(auto)]
 
-ghost use Rattle.std.specs.Prelude.{◌≡◌, ℕ, ◌^◌, ◌<◌, length, take, replicate, IsTrue, ◌↔◌, MatchBool};
+ghost use Rattle.std.specs.Prelude.{◌≡◌, ℕ, ◌^◌, ◌<◌, ◌≤◌, length, take, replicate, IsTrue, ◌↔◌, MatchBool};
 ghost use Rattle.crypto_specs.specs.Aes.{aes_encrypt, IsKey};
 ghost use Rattle.crypto_specs.specs.Bytes.{xor_bytes};
 ghost use Rattle.crypto_specs.specs.Modes.{number_block};
@@ -27,10 +27,12 @@ pub fn seal(key: &AesKey, nonce: &[u8], ad: &[u8], text: &mut [u8], tag: &mut [u
     ensures text { text.new ≡ gcm_text (aes_encrypt key.now) nonce.now text.old }
     ensures tag { tag.new ≡ gcm_tag (aes_encrypt key.now) (length tag.old) nonce.now ad.now text.new }
 {
-    let subkey = hash_subkey(key);
+    let mut subkey = hash_subkey(key);
     let first = initial_counter_block(subkey, nonce);
     counters::xor_stream(key, first, text);
-    set_front(tag, whole_tag(key, subkey, first, ad, text));
+    let mut whole = whole_tag(key, subkey, first, ad, text);
+    clear(&mut subkey);
+    give_tag(tag, &mut whole);
 }
 
 /// Deciphers a text in place where the tag is its tag, and otherwise makes it zeros (SP 800-38D,
@@ -47,9 +49,11 @@ pub fn open(key: &AesKey, nonce: &[u8], ad: &[u8], text: &mut [u8], tag: &[u8]) 
         (text.new ≡ gcm_text (aes_encrypt key.now) nonce.now text.old)
         (text.new ≡ replicate (length text.old) 0) }
 {
-    let subkey = hash_subkey(key);
+    let mut subkey = hash_subkey(key);
     let first = initial_counter_block(subkey, nonce);
-    if is_front(tag, whole_tag(key, subkey, first, ad, text)) {
+    let mut whole = whole_tag(key, subkey, first, ad, text);
+    clear(&mut subkey);
+    if is_tag(tag, &mut whole) {
         counters::xor_stream(key, first, text);
         true
     } else {
@@ -67,5 +71,36 @@ fn whole_tag(key: &AesKey, subkey: u128, first: u128, ad: &[u8], text: &[u8]) ->
     ensures { number_block result ≡ xor_bytes (aes_encrypt key.now (number_block first))
         (number_block (ghash_of subkey ad.now text.now)) }
 {
-    key.encrypt_number(first) ^ hashing::ghash_of(subkey, ad, text)
+    let mut mask = key.encrypt_number(first);
+    let tag = mask ^ hashing::ghash_of(subkey, ad, text);
+    clear(&mut mask);
+    tag
+}
+
+// Overwrites a tag by the front of the whole one, which is then zeros.
+fn give_tag(tag: &mut [u8], whole: &mut u128)
+    requires { length tag.old ≤ 16 }
+    ensures front { tag.new ≡ take (length tag.old) (number_block whole.old) }
+    ensures cleared { whole.new ≡ 0 }
+{
+    set_front(tag, *whole);
+    clear(whole);
+}
+
+// Whether a tag is the front of the whole one, which is then zeros.
+fn is_tag(tag: &[u8], whole: &mut u128) -> bool
+    requires { length tag.now ≤ 16 }
+    ensures same { IsTrue result ↔ (tag.now ≡ take (length tag.now) (number_block whole.old)) }
+    ensures cleared { whole.new ≡ 0 }
+{
+    let same = is_front(tag, *whole);
+    clear(whole);
+    same
+}
+
+// Makes a block zeros.
+fn clear(block: &mut u128)
+    ensures { block.new ≡ 0 }
+{
+    *block = 0;
 }

@@ -13,5 +13,5 @@ returns-clause-text c =
 pub returns-clause-tag : goal.returns-clause-tag
 returns-clause-tag c =
     let e = aes_encrypt c.args.key.now in
-    c.set_front.ensures
-    ∙ tag_is e c.args.nonce.now c.args.ad.now c.xor_stream.new.text (number_block c.whole_tag.result) c.hash_subkey-subkey.result c.initial_counter_block-first.result (length c.args.tag.now) c.hash_subkey-subkey.ensures (c.initial_counter_block-first.ensures e) c.whole_tag.ensures
+    c.give_tag.ensures.front
+    ∙ tag_is e c.args.nonce.now c.args.ad.now c.xor_stream.new.text (number_block c.whole_tag-whole.result) c.hash_subkey-subkey.result c.initial_counter_block-first.result (length c.args.tag.now) c.hash_subkey-subkey.ensures (c.initial_counter_block-first.ensures e) c.whole_tag-whole.ensures
