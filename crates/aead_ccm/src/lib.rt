@@ -1,9 +1,10 @@
 //! CCM (SP 800-38C) over AES, on a whole payload in place, with the formats of its appendix A.
 #![tactic(auto)]
 
-ghost use Rattle.std.specs.Prelude.{◌≡◌, ◌^◌, ◌<◌, length, replicate, IsTrue, ◌↔◌, MatchBool};
+ghost use Rattle.std.specs.Prelude.{◌≡◌, ◌^◌, ◌<◌, ◌≤◌, length, replicate, take, bit_xor, IsTrue, ◌↔◌, MatchBool};
 ghost use Rattle.crypto_specs.specs.Aes.{aes_encrypt, IsKey};
 ghost use Rattle.crypto_specs.specs.Ccm.{ccm_tag, ccm_text};
+ghost use Rattle.crypto_specs.specs.Modes.{number_block};
 ghost use Rattle.aead_ccm.specs.Lengths.{IsNonceLength, IsPayloadLength, IsTagLength};
 
 use aes_core::AesKey;
@@ -29,8 +30,9 @@ pub fn seal(key: &AesKey, nonce: &[u8], ad: &[u8], text: &mut [u8], tag: &mut [u
 {
     let first = counter_block(nonce, 0);
     let chain = chain_front(key, tag.len(), nonce, ad, text.len());
-    let mac = seal_text(key, first, chain, text);
-    set_front(tag, mac ^ key.encrypt_number(first));
+    let mut mac = seal_text(key, first, chain, text);
+    let mut mask = key.encrypt_number(first);
+    give_tag(tag, &mut mac, &mut mask);
 }
 
 /// Deciphers a payload in place where the tag is its tag, and otherwise makes it zeros (SP 800-38C,
@@ -49,11 +51,37 @@ pub fn open(key: &AesKey, nonce: &[u8], ad: &[u8], text: &mut [u8], tag: &[u8]) 
 {
     let first = counter_block(nonce, 0);
     let chain = chain_front(key, tag.len(), nonce, ad, text.len());
-    let mac = open_text(key, first, chain, text);
-    if is_front(tag, mac ^ key.encrypt_number(first)) {
+    let mut mac = open_text(key, first, chain, text);
+    let mut mask = key.encrypt_number(first);
+    if is_tag(tag, &mut mac, &mut mask) {
         true
     } else {
         text.fill(0);
         false
     }
+}
+
+// Overwrites a tag by the front of a MAC under its mask, both of which are then zeros.
+fn give_tag(tag: &mut [u8], mac: &mut u128, mask: &mut u128)
+    requires { length tag.old ≤ 16 }
+    ensures front { tag.new ≡ take (length tag.old) (number_block (bit_xor mac.old mask.old)) }
+    ensures mac { mac.new ≡ 0 }
+    ensures mask { mask.new ≡ 0 }
+{
+    set_front(tag, *mac ^ *mask);
+    *mac = 0;
+    *mask = 0;
+}
+
+// Whether a tag is the front of a MAC under its mask, both of which are then zeros.
+fn is_tag(tag: &[u8], mac: &mut u128, mask: &mut u128) -> bool
+    requires { length tag.now ≤ 16 }
+    ensures same { IsTrue result ↔ (tag.now ≡ take (length tag.now) (number_block (bit_xor mac.old mask.old))) }
+    ensures mac { mac.new ≡ 0 }
+    ensures mask { mask.new ≡ 0 }
+{
+    let same = is_front(tag, *mac ^ *mask);
+    *mac = 0;
+    *mask = 0;
+    same
 }

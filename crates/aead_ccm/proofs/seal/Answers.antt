@@ -10,6 +10,6 @@ returns-clause-text c =
 
 pub returns-clause-tag : goal.returns-clause-tag
 returns-clause-tag c =
-    c.set_front.ensures
-    ∙ tag_is (aes_encrypt c.args.key.now) c.args.nonce.now c.args.ad.now c.args.text.now (length c.args.tag.now) c.chain_front-chain.result c.seal_text-mac.result c.counter_block-first.result c.encrypt_number.result
-    c.chain_front-chain.ensures c.seal_text-mac.ensures.chain c.counter_block-first.ensures c.encrypt_number.ensures
+    c.give_tag.ensures.front
+    ∙ tag_is (aes_encrypt c.args.key.now) c.args.nonce.now c.args.ad.now c.args.text.now (length c.args.tag.now) c.chain_front-chain.result c.seal_text-mac.result c.counter_block-first.result c.encrypt_number-mask.result
+    c.chain_front-chain.ensures c.seal_text-mac.ensures.chain c.counter_block-first.ensures c.encrypt_number-mask.ensures
