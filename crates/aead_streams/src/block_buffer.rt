@@ -7,8 +7,8 @@ use cipher_blocks::{number_of, put_at};
 use std::marker::Model;
 
 /// A block that fills up: its first `used` bytes are in use, and the others are zeros. A contract sees
-/// the bytes in use, at most 16; where there are none, all of the block is zeros.
-#[derive(Drop)]
+/// the bytes in use, at most 16; where there are none, all of the block is zeros. Where the buffer is let go,
+/// it is made zeros first.
 pub struct BlockBuffer {
     block: [u8; 16],
     used: usize,
@@ -84,3 +84,16 @@ impl BlockBuffer {
         self.used = 0;
     }
 }
+
+impl Drop for BlockBuffer {
+    fn drop(mut self) {
+        self.wipe();
+        let BlockBuffer { block, used: _ } = self;
+        release(&block);
+    }
+}
+
+// What is let go of a buffer: zeros.
+fn release(block: &[u8; 16])
+    requires { block.now ≡ replicate 16 0 }
+{}

@@ -12,7 +12,7 @@ use aes_core::AesKey;
 use cipher_blocks::filled_number;
 
 // The chain's value, and the bytes that wait: they fill no block yet, or one that is absorbed with what follows it.
-#[derive(Drop)]
+// Where the chain is let go, it is cleared first.
 pub(crate) struct Chain {
     value: u128,
     waiting: BlockBuffer,
@@ -132,3 +132,17 @@ impl Chain {
         self.value = key.encrypt_number(self.value ^ block);
     }
 }
+
+impl Drop for Chain {
+    fn drop(mut self) {
+        self.wipe();
+        let Chain { value, waiting } = self;
+        release(value, waiting);
+    }
+}
+
+// Lets a chain go, which is clear.
+fn release(value: u128, waiting: BlockBuffer)
+    requires value { value ≡ 0 }
+    requires waiting { waiting ≡ [] }
+{}

@@ -12,8 +12,7 @@ use aead_ccm::counter_block;
 use aes_core::AesKey;
 
 /// A running CCM. The key stands apart: each call takes it, and it has to be the same one. The associated data comes
-/// first and then the payload, each as long as was declared.
-#[derive(Drop)]
+/// first and then the payload, each as long as was declared. Where the state is let go, all of it is cleared.
 pub struct CcmState {
     chain: Chain,
     stream: KeyStream,
@@ -111,3 +110,21 @@ impl CcmState {
         (self.chain.finish(key) ^ key.encrypt_number(self.first)).to_be_bytes()
     }
 }
+
+impl Drop for CcmState {
+    fn drop(mut self) {
+        // Its other fields clear themselves.
+        self.first = 0;
+        let CcmState {
+            chain: _,
+            stream: _,
+            first,
+        } = self;
+        release(first);
+    }
+}
+
+// What is let go of a counter block: zeros.
+fn release(first: u128)
+    requires { first ≡ 0 }
+{}

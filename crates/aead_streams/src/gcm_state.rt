@@ -13,8 +13,7 @@ use aes_core::AesKey;
 
 /// GCM of associated data and a text that come in pieces: first all of the associated data, then
 /// `begin_text`, then the text. The key stands apart: each call that takes it has to be given the same
-/// one. `first` is the initial counter block J_0.
-#[derive(Drop)]
+/// one. `first` is the initial counter block J_0. Where the state is let go, all of it is cleared.
 pub struct GcmState {
     hash: TextHash,
     stream: KeyStream,
@@ -115,3 +114,21 @@ impl GcmState {
         self.first = 0;
     }
 }
+
+impl Drop for GcmState {
+    fn drop(mut self) {
+        // Its other fields clear themselves.
+        self.first = 0;
+        let GcmState {
+            hash: _,
+            stream: _,
+            first,
+        } = self;
+        release(first);
+    }
+}
+
+// What is let go of a counter block: zeros.
+fn release(first: u128)
+    requires { first ≡ 0 }
+{}

@@ -1,4 +1,4 @@
-ghost use Rattle.std.specs.Prelude.{◌≡◌, ℕ, ◌+◌, ◌<◌, ◌≤◌, List, ◌++◌, length, take, drop};
+ghost use Rattle.std.specs.Prelude.{◌≡◌, ℕ, ◌+◌, ◌<◌, ◌≤◌, List, ◌++◌, length, take, drop, replicate};
 ghost use Rattle.crypto_specs.specs.Aes.{aes_encrypt, IsKey};
 ghost use Rattle.crypto_specs.specs.Modes.{number_block};
 ghost use Rattle.aead_streams.specs.Counters.{counted, text_xor};
@@ -9,8 +9,8 @@ use aes_core::AesKey;
 use cipher_blocks::{number_of, set_number, xor_bytes_into};
 
 /// A place in the key stream that a cipher makes of the blocks from a first counter block on. The key
-/// stands apart: each call takes it, and it has to be the same one.
-#[derive(Clone, Copy, Drop)]
+/// stands apart: each call takes it, and it has to be the same one. Where the stream is let go, its buffers
+/// are cleared first.
 pub struct KeyStream {
     counter: u128,
     width: CounterWidth,
@@ -47,7 +47,10 @@ impl KeyStream {
     pub fn wipe(&mut self)
         ensures { IsClearStream self.new }
     {
-        *self = KeyStream::clear();
+        self.counter = 0;
+        self.width = CounterWidth::Whole;
+        self.block = [0; 16];
+        self.used = 16;
     }
 
     /// Enciphers or deciphers the next piece of a text.
@@ -150,3 +153,22 @@ impl KeyStream {
         block
     }
 }
+
+impl Drop for KeyStream {
+    fn drop(mut self) {
+        self.wipe();
+        let KeyStream {
+            counter,
+            width: _,
+            block,
+            used: _,
+        } = self;
+        release(counter, &block);
+    }
+}
+
+// What is let go of a stream: zeros.
+fn release(counter: u128, block: &[u8; 16])
+    requires counter { counter ≡ 0 }
+    requires block { block.now ≡ replicate 16 0 }
+{}

@@ -9,7 +9,7 @@ use aead_gcm::absorb;
 use ghash::Ghash;
 
 /// GHASH of a text of which every whole block is taken in; the bytes after them are in `buffer`, always
-/// fewer than a block.
+/// fewer than a block. Where it is let go, both are cleared.
 #[derive(Drop)]
 pub struct TextHash {
     ghash: Ghash,
