@@ -44,11 +44,12 @@ fn short_turn(key: &ShortMessageKey, turn: &mut [u8; 64]) -> usize
         → take 32 turn.new ≡ hmac (hash_of Sha256) (block_length Sha256) k (take 32 turn.old) }
     ensures rest { drop 32 turn.new ≡ drop 32 turn.old }
 {
-    let code = match turn.first_chunk::<32>() {
+    let mut code = match turn.first_chunk::<32>() {
         Some(last) => key.code(last),
         None => unreachable!(),
     };
     turn[..32].copy_from_slice(&code);
+    code.fill(0);
     32
 }
 
