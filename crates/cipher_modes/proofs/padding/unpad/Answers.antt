@@ -1,18 +1,23 @@
-use Rattle.std.proofs.Common.{true, false, inl, inr, arith}
-use Rattle.cipher_modes.proofs.PaddingRules.{none_out_of_range, by_comparison}
-use Rattle.cipher_modes.proofs.padding.unpad.Goals.{then-count-eq0-via-then-count-eq0, then-count-eq0-via-else-count-eq0+then-count-gt16}
+use Rattle.std.proofs.Common.{◌≡◌, length, take, refl, sym, ap, ◌∙◌, slice_index, arith}
+use Rattle.std.proofs.lemmas.Bool.Decides.{not_from_Decides}
+use Rattle.std.proofs.lemmas.List.{take_all}
+use Rattle.cipher_modes.proofs.PaddingRules.{fits, misfits}
 use Rattle.cipher_modes.proofs.padding.unpad.Goals as goal
 
-pub returns-then-count-eq0 : goal.returns-then-count-eq0
-returns-then-count-eq0 c =
-    none_out_of_range c.args.block.now c.from-count.result c.told-block c.from-count.ensures
-    (elim c.then-count-eq0.branch [
-      | then-count-eq0-via-then-count-eq0 w ↦ inl w.if-count-eq0.true
-      | then-count-eq0-via-else-count-eq0+then-count-gt16 w ↦ inr w.if-count-gt16.true
-    ])
+pub returns-then-fits : goal.returns-then-fits
+returns-then-fits c =
+    let block = c.args.block.now in
+    let padded = c.pad.new.block in
+    let whole : take (length padded) block ≡ block = take_all (length padded) block (omega (arith, c.pad.array_long, c.told-block)) in
+    let same : padded ≡ block = c.is_front-fits.ensures.0 c.if-fits.true ∙ (ap (take (length padded)) c.number_of.ensures.block ∙ whole) in
+    (c.kept_before-kept.ensures.bound,
+     fits block (slice_index block 15) c.kept_before-kept.result c.told-block refl c.kept_before-kept.ensures.count c.kept_before-kept.ensures.other (sym c.pad.ensures ∙ same))
 
-pub returns-then-ne : goal.returns-then-ne
-returns-then-ne c = by_comparison c.args.block.now c.from-count.result true c.told-block c.from-count.ensures (omega (arith, c.if-count-eq0.false)) c.if-count-gt16.false c.if-ne.ensures
-
-pub returns : goal.returns
-returns c = (omega (arith, c.if-count-eq0.false), by_comparison c.args.block.now c.from-count.result false c.told-block c.from-count.ensures (omega (arith, c.if-count-eq0.false)) c.if-count-gt16.false c.if-ne.ensures)
+pub returns-else-fits : goal.returns-else-fits
+returns-else-fits c =
+    let block = c.args.block.now in
+    let padded = c.pad.new.block in
+    let whole : take (length padded) block ≡ block = take_all (length padded) block (omega (arith, c.pad.array_long, c.told-block)) in
+    let is : take (length padded) block ≡ take (length padded) _ = ap (take (length padded)) (sym c.number_of.ensures.block) in
+    misfits block (slice_index block 15) c.kept_before-kept.result c.told-block refl c.kept_before-kept.ensures.count
+    (λ e. not_from_Decides c.is_front-fits.result c.is_front-fits.ensures c.if-fits.false (c.pad.ensures ∙ (e ∙ (sym whole ∙ is))))
