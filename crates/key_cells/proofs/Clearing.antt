@@ -1,4 +1,5 @@
 -- How cells are made zeros that are left over from a crash.
+use Rattle.disk_face.specs.declared.Disk as Disk
 use Rattle.std.proofs.Common.{◌≡◌, ⊎_elim, ℕ, ◌+◌, ◌<◌, ◌≤◌, List, length, get_or, set, take, drop, replicate, Option, None, Some, is_some, refl, sym, ◌∙◌, ap, subst, arith}
 use Rattle.std.proofs.lemmas.Bool.{cases_eq}
 use Rattle.std.proofs.lemmas.List.{get_or-set_same, get_or-set_other, get_or-map, length-map, ext_get_or}
@@ -87,15 +88,15 @@ held_around None told' now p n is holds = cc
 held_around (Some old) None now p n is holds = absurd holds
 held_around (Some old) (Some new) now p n is holds = let same : old ≡ now = cc in (new, refl, subst (λ (l : List ℕ). Torn p n l new) same holds)
 
-module _ {D : Type 0} (told : D → Option (List ℕ)) (may_leave : D → List ℕ → Type 0) (old new : D) (cell p n : ℕ) (first slots : List Slot) (contents : List Content) where
+module _ {D : Type 0} (disks : Disk.Ghosts D) (old new : D) (cell p n : ℕ) (first slots : List Slot) (contents : List Content) where
   -- a write that was done
-  pub clearing_done : (bytes : List ℕ) → Clearing told may_leave old first slots contents → length slots ≡ 512 → cell < cells → HoldsWritten (told old) p bytes (told new) → Follows (Torn p n) (may_leave old) (may_leave new)
+  pub clearing_done : (bytes : List ℕ) → Clearing disks old first slots contents → length slots ≡ 512 → cell < cells → HoldsWritten (disks.contents old) p bytes (disks.contents new) → Follows (Torn p n) (disks.may_leave old) (disks.may_leave new)
       → ((before image : List ℕ) → Torn p n before image → SoundBy Spares first contents before → SoundBy Spares first contents image)
       → ((read : List ℕ) → SoundBy Spares slots contents read → SoundBy Spares (set slots cell Free) contents (written read p bytes))
-      → Clearing told may_leave new first (set slots cell Free) contents
+      → Clearing disks new first (set slots cell Free) contents
   clearing_done bytes s count lt holds crash torn cleared = record {
     now = written s.now p bytes;
-    is_told = held (told old) (told new) s.now bytes p s.is_told holds;
+    is_told = held (disks.contents old) (disks.contents new) s.now bytes p s.is_told holds;
     reads = cleared s.now s.reads;
     each = λ image left. let from = crash image left in torn from.0 image from.2 (s.each from.0 from.1);
     shut = λ other less is. s.shut other less (still other less Shut is (λ e. cc));
@@ -110,12 +111,12 @@ module _ {D : Type 0} (told : D → Option (List ℕ)) (may_leave : D → List �
           (cases_eq other cell)
 
   -- a write that failed
-  pub clearing_failed : Clearing told may_leave old first slots contents → HoldsAround (told old) p n (told new) → Follows (Torn p n) (may_leave old) (may_leave new)
+  pub clearing_failed : Clearing disks old first slots contents → HoldsAround (disks.contents old) p n (disks.contents new) → Follows (Torn p n) (disks.may_leave old) (disks.may_leave new)
       → ((before image : List ℕ) → Torn p n before image → SoundBy Spares first contents before → SoundBy Spares first contents image)
       → ((before image : List ℕ) → Torn p n before image → SoundBy Spares slots contents before → SoundBy Spares slots contents image)
-      → Clearing told may_leave new first slots contents
+      → Clearing disks new first slots contents
   clearing_failed s holds crash torn torn_read =
-      let now = held_around (told old) (told new) s.now p n s.is_told holds in
+      let now = held_around (disks.contents old) (disks.contents new) s.now p n s.is_told holds in
       record {
         now = now.0;
         is_told = now.1;
@@ -125,12 +126,12 @@ module _ {D : Type 0} (told : D → Option (List ℕ)) (may_leave : D → List �
         unsure = s.unsure;
       }
 
-  pub clearing_within : (moment : D → ℕ) (left_since : D → ℕ → List ℕ → Type 0) → Clearing told may_leave old first slots contents → Follows (Torn p n) (may_leave old) (may_leave new)
-      → Elapses (moment old) (moment new) (left_since old) (left_since new) (may_leave new)
+  pub clearing_within : Clearing disks old first slots contents → Follows (Torn p n) (disks.may_leave old) (disks.may_leave new)
+      → Elapses (disks.moment old) (disks.moment new) (disks.left_since old) (disks.left_since new) (disks.may_leave new)
       → ((before image : List ℕ) → Torn p n before image → SoundBy Spares first contents before → SoundBy Spares first contents image)
-      → Within (moment old) (moment new) (left_since old) (left_since new) (SoundBy Spares first contents)
-  clearing_within moment left_since s crash time torn =
-      within_one (moment old) (moment new) (left_since old) (left_since new) (SoundBy Spares first contents) (may_leave new) time
+      → Within (disks.moment old) (disks.moment new) (disks.left_since old) (disks.left_since new) (SoundBy Spares first contents)
+  clearing_within s crash time torn =
+      within_one (disks.moment old) (disks.moment new) (disks.left_since old) (disks.left_since new) (SoundBy Spares first contents) (disks.may_leave new) time
       (λ image left. let from = crash image left in torn from.0 image from.2 (s.each from.0 from.1))
 
 -- once each cell was looked at, and that is made sure of, the directory stands
@@ -165,9 +166,9 @@ settled_settled slots slots' count is cell lt =
 pub all_settled : (slots : List Slot) → IsSettled (length slots) slots → slots ≡ settled_slots slots
 all_settled slots settled = ext_get_or Free slots (settled_slots slots) (sym (length-map slots settled_slot)) (λ i lt. settled i lt ∙ sym (get_or-map settled_slot slots i Free Free lt))
 
-module _ {D : Type 0} (told : D → Option (List ℕ)) (may_leave : D → List ℕ → Type 0) where
+module _ {D : Type 0} (disks : Disk.Ghosts D) where
   -- nothing was left over
-  pub clear_already : (disk : D) (slots : List Slot) (contents : List Content) → length contents ≡ 512 → IsSettled cells slots → Clearing told may_leave disk slots slots contents → StandsForContents told may_leave disk slots contents
+  pub clear_already : (disk : D) (slots : List Slot) (contents : List Content) → length contents ≡ 512 → IsSettled cells slots → Clearing disks disk slots slots contents → StandsForContents disks disk slots contents
   clear_already disk slots contents count settled s = record {
     tells = ap is_some s.is_told;
     count = count;
@@ -175,12 +176,12 @@ module _ {D : Type 0} (told : D → Option (List ℕ)) (may_leave : D → List �
   }
 
   -- all was made sure of
-  pub clear_sure : (old new : D) (first slots : List Slot) (contents : List Content) → length contents ≡ 512 → IsSettled cells slots → Clearing told may_leave old first slots contents
-      → told new ≡ told old → LeavesWhatIsRead (told old) (may_leave new) → StandsForContents told may_leave new slots contents
+  pub clear_sure : (old new : D) (first slots : List Slot) (contents : List Content) → length contents ≡ 512 → IsSettled cells slots → Clearing disks old first slots contents
+      → disks.contents new ≡ disks.contents old → LeavesWhatIsRead (disks.contents old) (disks.may_leave new) → StandsForContents disks new slots contents
   clear_sure old new first slots contents count settled s same durable = record {
     tells = ap is_some (same ∙ s.is_told);
     count = count;
     each = λ image left.
-        let only : LeavesWhatIsRead (Some s.now) (may_leave new) = subst (λ (o : Option (List ℕ)). LeavesWhatIsRead o (may_leave new)) s.is_told durable in
+        let only : LeavesWhatIsRead (Some s.now) (disks.may_leave new) = subst (λ (o : Option (List ℕ)). LeavesWhatIsRead o (disks.may_leave new)) s.is_told durable in
         subst (λ (x : List ℕ). Sound slots contents x) (sym (only image left)) (sure_sound slots contents s.now settled s.reads);
   }

@@ -1,4 +1,5 @@
 -- How the parts of an opening follow one another.
+use Rattle.disk_face.specs.declared.Disk as Disk
 use Rattle.std.proofs.Common.{◌≡◌, ◌≢◌, ◌⊎◌, inl, inr, ⊎_elim, ℕ, ◌+◌, ◌<◌, ◌≤◌, ◌==◌, is_some, Bool, true, false, cond, List, [], ◌∷◌, length, get_or, map, take, replicate, count_by, Option, None, Some, IfSome, refl, sym, ◌∙◌, ap, subst, arith}
 use Rattle.std.proofs.lemmas.Bool.{eqb-true}
 use Rattle.std.proofs.lemmas.List.{get_or-map, length-map, take-map, get_or-replicate, nil_from_length}
@@ -20,22 +21,22 @@ use Rattle.key_cells.specs.Opened.{IsOpened, IsRefused}
 use Rattle.key_cells.proofs.CellsRead.{content_there, for_told, length-contents_of}
 use Rattle.key_cells.proofs.Finding.{not_damaged}
 
-module _ {D : Type 0} (told : D → Option (List ℕ)) (may_leave : D → List ℕ → Type 0) (moment : D → ℕ) (left_since : D → ℕ → List ℕ → Type 0) (faults : D → ℕ) where
+module _ {D : Type 0} (disks : Disk.Ghosts D) where
   -- steps that write nothing
   pub record Calm (old new : D) : Type 0 where
-    pub same : told new ≡ told old
-    pub crash : NoNewImage (may_leave old) (may_leave new)
-    pub within : Within (moment old) (moment new) (left_since old) (left_since new) (may_leave old)
-    pub later : faults old ≤ faults new
+    pub same : disks.contents new ≡ disks.contents old
+    pub crash : NoNewImage (disks.may_leave old) (disks.may_leave new)
+    pub within : Within (disks.moment old) (disks.moment new) (disks.left_since old) (disks.left_since new) (disks.may_leave old)
+    pub later : disks.faults old ≤ disks.faults new
 
   pub calm_none : (disk : D) → Calm disk disk
-  calm_none disk = record { same = refl; crash = λ image left. left; within = within_none (moment disk) (left_since disk) (may_leave disk); later = omega arith }
+  calm_none disk = record { same = refl; crash = λ image left. left; within = within_none (disks.moment disk) (disks.left_since disk) (disks.may_leave disk); later = omega arith }
 
-  pub calm_one : (old new : D) → told new ≡ told old → NoNewImage (may_leave old) (may_leave new) → Elapses (moment old) (moment new) (left_since old) (left_since new) (may_leave new) → faults old ≤ faults new → Calm old new
+  pub calm_one : (old new : D) → disks.contents new ≡ disks.contents old → NoNewImage (disks.may_leave old) (disks.may_leave new) → Elapses (disks.moment old) (disks.moment new) (disks.left_since old) (disks.left_since new) (disks.may_leave new) → disks.faults old ≤ disks.faults new → Calm old new
   calm_one old new same crash time later = record {
     same = same;
     crash = crash;
-    within = within_one (moment old) (moment new) (left_since old) (left_since new) (may_leave old) (may_leave new) time crash;
+    within = within_one (disks.moment old) (disks.moment new) (disks.left_since old) (disks.left_since new) (disks.may_leave old) (disks.may_leave new) time crash;
     later = later;
   }
 
@@ -43,16 +44,16 @@ module _ {D : Type 0} (told : D → Option (List ℕ)) (may_leave : D → List �
   calm_both a b c first second = record {
     same = second.same ∙ first.same;
     crash = λ image left. first.crash image (second.crash image left);
-    within = within_both (moment a) (moment b) (moment c) (left_since a) (left_since b) (left_since c) (may_leave a) (may_leave b) (may_leave a) first.within second.within (λ image h. h) (λ image h. first.crash image h);
+    within = within_both (disks.moment a) (disks.moment b) (disks.moment c) (disks.left_since a) (disks.left_since b) (disks.left_since c) (disks.may_leave a) (disks.may_leave b) (disks.may_leave a) first.within second.within (λ image h. h) (λ image h. first.crash image h);
     later = omega (arith, first.later, second.later);
   }
 
-  spares_calm : (old new : D) → Calm old new → (image : List ℕ) → WithinSpares (moment old) (moment new) (left_since old) (left_since new) (may_leave old) image
+  spares_calm : (old new : D) → Calm old new → (image : List ℕ) → WithinSpares (disks.moment old) (disks.moment new) (disks.left_since old) (disks.left_since new) (disks.may_leave old) image
   spares_calm old new calm image = record { later = calm.within.later; each = λ t other le left. ⊎_elim (λ past. inl past) (λ h. inr (inl h)) (calm.within.each t other le left) }
 
   -- an opening that is refused before anything is written
-  pub refused_calm : (old new : D) (fault : OpenFault) → Calm old new → IfSome (told old) (λ image. IsCaused fault image) → (IsDisk fault → Rose (faults old) (faults new)) → (IsRefusal fault → LeavesWhatIsRead (told old) (may_leave new))
-      → IsRefused told may_leave moment left_since faults old new fault
+  pub refused_calm : (old new : D) (fault : OpenFault) → Calm old new → IfSome (disks.contents old) (λ image. IsCaused fault image) → (IsDisk fault → Rose (disks.faults old) (disks.faults new)) → (IsRefusal fault → LeavesWhatIsRead (disks.contents old) (disks.may_leave new))
+      → IsRefused disks old new fault
   refused_calm old new fault calm caused rose durable = record {
     caused = caused;
     tells = ap is_some calm.same;
@@ -62,8 +63,8 @@ module _ {D : Type 0} (told : D → Option (List ℕ)) (may_leave : D → List �
     unwritten = λ is. calm.crash;
     unwritten_within = λ is. calm.within;
     durable = durable;
-    spares = always (told old) (λ image. IsStoreFile image → WithinSpares (moment old) (moment new) (left_since old) (left_since new) (may_leave old) image) (λ image store. spares_calm old new calm image);
-    left = always (told old) (λ image. IsStoreFile image → NoNewImage (may_leave old) (may_leave new) ⊎ ((other : List ℕ) → may_leave new other → SparesOpen image other)) (λ image store. inl calm.crash);
+    spares = always (disks.contents old) (λ image. IsStoreFile image → WithinSpares (disks.moment old) (disks.moment new) (disks.left_since old) (disks.left_since new) (disks.may_leave old) image) (λ image store. spares_calm old new calm image);
+    left = always (disks.contents old) (λ image. IsStoreFile image → NoNewImage (disks.may_leave old) (disks.may_leave new) ⊎ ((other : List ℕ) → disks.may_leave new other → SparesOpen image other)) (λ image store. inl calm.crash);
   }
     where
       always : (o : Option (List ℕ)) (P : List ℕ → Type 0) → ((image : List ℕ) → P image) → IfSome o P
@@ -77,36 +78,36 @@ module _ {D : Type 0} (told : D → Option (List ℕ)) (may_leave : D → List �
       weaker None h = tt
       weaker (Some image) h = f image h
 
-  spares_after : (a b c : D) → Calm a b → (image : List ℕ) → (IsStoreFile image → WithinSpares (moment b) (moment c) (left_since b) (left_since c) (may_leave b) image) → IsStoreFile image → WithinSpares (moment a) (moment c) (left_since a) (left_since c) (may_leave a) image
+  spares_after : (a b c : D) → Calm a b → (image : List ℕ) → (IsStoreFile image → WithinSpares (disks.moment b) (disks.moment c) (disks.left_since b) (disks.left_since c) (disks.may_leave b) image) → IsStoreFile image → WithinSpares (disks.moment a) (disks.moment c) (disks.left_since a) (disks.left_since c) (disks.may_leave a) image
   spares_after a b c calm image later store =
-      within_both (moment a) (moment b) (moment c) (left_since a) (left_since b) (left_since c) (may_leave a) (λ other. may_leave b other ⊎ SparesOpen image other) (λ other. may_leave a other ⊎ SparesOpen image other)
+      within_both (disks.moment a) (disks.moment b) (disks.moment c) (disks.left_since a) (disks.left_since b) (disks.left_since c) (disks.may_leave a) (λ other. disks.may_leave b other ⊎ SparesOpen image other) (λ other. disks.may_leave a other ⊎ SparesOpen image other)
       calm.within (later store) (λ other h. inl h) (λ other h. ⊎_elim (λ left. inl (calm.crash other left)) (λ spared. inr spared) h)
 
   -- what an opening gives after steps that wrote nothing
-  pub opened_after : (a b c : D) (slots : List Slot) → Calm a b → IsOpened told may_leave moment left_since b c slots → IsOpened told may_leave moment left_since a c slots
+  pub opened_after : (a b c : D) (slots : List Slot) → Calm a b → IsOpened disks b c slots → IsOpened disks a c slots
   opened_after a b c slots calm o = record {
     sized = o.sized;
     one = o.one;
     numbered = o.numbered;
     named = o.named;
     tells = o.tells ∙ ap is_some calm.same;
-    found = after (told a) (told b) (λ image. IsFoundIn image slots) (λ image. IsFoundIn image slots) calm.same (λ image h. h) o.found;
-    stands = after (told a) (told b) (λ image. StandsForContents told may_leave c slots (found_in image)) (λ image. StandsForContents told may_leave c slots (found_in image)) calm.same (λ image h. h) o.stands;
-    spares = after (told a) (told b) _ _ calm.same (λ image h. spares_after a b c calm image h) o.spares;
+    found = after (disks.contents a) (disks.contents b) (λ image. IsFoundIn image slots) (λ image. IsFoundIn image slots) calm.same (λ image h. h) o.found;
+    stands = after (disks.contents a) (disks.contents b) (λ image. StandsForContents disks c slots (found_in image)) (λ image. StandsForContents disks c slots (found_in image)) calm.same (λ image h. h) o.stands;
+    spares = after (disks.contents a) (disks.contents b) _ _ calm.same (λ image h. spares_after a b c calm image h) o.spares;
   }
 
-  pub refused_after : (a b c : D) (fault : OpenFault) → Calm a b → IsRefused told may_leave moment left_since faults b c fault → IsRefused told may_leave moment left_since faults a c fault
+  pub refused_after : (a b c : D) (fault : OpenFault) → Calm a b → IsRefused disks b c fault → IsRefused disks a c fault
   refused_after a b c fault calm r = record {
-    caused = after (told a) (told b) (λ image. IsCaused fault image) (λ image. IsCaused fault image) calm.same (λ image h. h) r.caused;
+    caused = after (disks.contents a) (disks.contents b) (λ image. IsCaused fault image) (λ image. IsCaused fault image) calm.same (λ image h. h) r.caused;
     tells = r.tells ∙ ap is_some calm.same;
     later = omega (arith, calm.later, r.later);
     rose = λ is. omega (arith, calm.later, r.rose is);
     same = λ is. r.same is ∙ calm.same;
     unwritten = λ is other left. calm.crash other (r.unwritten is other left);
-    unwritten_within = λ is. within_both (moment a) (moment b) (moment c) (left_since a) (left_since b) (left_since c) (may_leave a) (may_leave b) (may_leave a) calm.within (r.unwritten_within is) (λ other h. h) (λ other h. calm.crash other h);
-    durable = λ is. subst (λ (o : Option (List ℕ)). LeavesWhatIsRead o (may_leave c)) calm.same (r.durable is);
-    spares = after (told a) (told b) _ _ calm.same (λ image h. spares_after a b c calm image h) r.spares;
-    left = after (told a) (told b) _ (λ image. IsStoreFile image → NoNewImage (may_leave a) (may_leave c) ⊎ ((other : List ℕ) → may_leave c other → SparesOpen image other)) calm.same
+    unwritten_within = λ is. within_both (disks.moment a) (disks.moment b) (disks.moment c) (disks.left_since a) (disks.left_since b) (disks.left_since c) (disks.may_leave a) (disks.may_leave b) (disks.may_leave a) calm.within (r.unwritten_within is) (λ other h. h) (λ other h. calm.crash other h);
+    durable = λ is. subst (λ (o : Option (List ℕ)). LeavesWhatIsRead o (disks.may_leave c)) calm.same (r.durable is);
+    spares = after (disks.contents a) (disks.contents b) _ _ calm.same (λ image h. spares_after a b c calm image h) r.spares;
+    left = after (disks.contents a) (disks.contents b) _ (λ image. IsStoreFile image → NoNewImage (disks.may_leave a) (disks.may_leave c) ⊎ ((other : List ℕ) → disks.may_leave c other → SparesOpen image other)) calm.same
         (λ image h store. ⊎_elim (λ none. inl (λ other left. calm.crash other (none other left))) (λ spared. inr spared) (h store)) r.left;
   }
 
@@ -216,19 +217,19 @@ pub of_nothing : (told : Option (List ℕ)) (size : ℕ) (P : List ℕ → Type 
 of_nothing None size P none measured h = tt
 of_nothing (Some image) size P none measured h = subst P (sym (nil_from_length image (measured ∙ none))) h
 
-pub refused_new : {D : Type 0} (told : D → Option (List ℕ)) (may_leave : D → List ℕ → Type 0) (moment : D → ℕ) (left_since : D → ℕ → List ℕ → Type 0) (faults : D → ℕ) (old new : D) (size : ℕ)
-    → size ≡ 0 → IfSome (told old) (λ image. length image ≡ size) → StillTells (told old) (told new) → faults old ≤ faults new → Rose (faults old) (faults new) → IsRefused told may_leave moment left_since faults old new Disk
-refused_new told may_leave moment left_since faults old new size none measured tells later rose = record {
+pub refused_new : {D : Type 0} (disks : Disk.Ghosts D) (old new : D) (size : ℕ)
+    → size ≡ 0 → IfSome (disks.contents old) (λ image. length image ≡ size) → StillTells (disks.contents old) (disks.contents new) → disks.faults old ≤ disks.faults new → Rose (disks.faults old) (disks.faults new) → IsRefused disks old new Disk
+refused_new disks old new size none measured tells later rose = record {
   tells = tells;
   later = later;
   unwritten = λ is. absurd is;
   unwritten_within = λ is. absurd is;
-  caused = of_nothing (told old) size (λ image. IsCaused Disk image) none measured tt;
+  caused = of_nothing (disks.contents old) size (λ image. IsCaused Disk image) none measured tt;
   rose = λ is. rose;
   same = λ is. absurd is;
   durable = λ is. absurd is;
-  spares = no_store (told old) size _ none measured;
-  left = no_store (told old) size _ none measured;
+  spares = no_store (disks.contents old) size _ none measured;
+  left = no_store (disks.contents old) size _ none measured;
 }
 
 -- a store that was read, of an image that isn't empty
@@ -255,11 +256,11 @@ none_open cell slots are lt open_now =
     let clash : false ≡ true = sym (ap is_open free) ∙ open_now in
     cc
 
-module _ {D : Type 0} (told : D → Option (List ℕ)) (may_leave : D → List ℕ → Type 0) (moment : D → ℕ) (left_since : D → ℕ → List ℕ → Type 0) (faults : D → ℕ) (disk mid : D) (slots : List Slot) (calm : Calm told may_leave moment left_since faults disk mid) (durable : LeavesWhatIsRead (told disk) (may_leave disk)) (store : IfSome (told disk) (λ image. IsStoreFile image)) (reads : IfSome (told disk) (λ image. ReadsBelow cells slots image)) where
+module _ {D : Type 0} (disks : Disk.Ghosts D) (disk mid : D) (slots : List Slot) (calm : Calm disks disk mid) (durable : LeavesWhatIsRead (disks.contents disk) (disks.may_leave disk)) (store : IfSome (disks.contents disk) (λ image. IsStoreFile image)) (reads : IfSome (disks.contents disk) (λ image. ReadsBelow cells slots image)) where
   -- what was read, before any cell that is left over is cleared
-  read_begins : (image : List ℕ) → told disk ≡ Some image → Clearing told may_leave mid slots slots (contents_of image)
+  read_begins : (image : List ℕ) → disks.contents disk ≡ Some image → Clearing disks mid slots slots (contents_of image)
   read_begins image is =
-      let only : LeavesWhatIsRead (Some image) (may_leave disk) = subst (λ (o : Option (List ℕ)). LeavesWhatIsRead o (may_leave disk)) is durable in
+      let only : LeavesWhatIsRead (Some image) (disks.may_leave disk) = subst (λ (o : Option (List ℕ)). LeavesWhatIsRead o (disks.may_leave disk)) is durable in
       let here : IsStoreFile image = subst (λ (o : Option (List ℕ)). IfSome o (λ image. IsStoreFile image)) is store in
       let read : ReadsBelow cells slots image = subst (λ (o : Option (List ℕ)). IfSome o (λ image. ReadsBelow cells slots image)) is reads in
       record {
@@ -272,53 +273,53 @@ module _ {D : Type 0} (told : D → Option (List ℕ)) (may_leave : D → List �
       }
 
   abbrev pub ClearsWithin : D → Type 0
-  ClearsWithin new = (contents : List Content) → Clearing told may_leave mid slots slots contents → Within (moment mid) (moment new) (left_since mid) (left_since new) (SoundBy Spares slots contents)
+  ClearsWithin new = (contents : List Content) → Clearing disks mid slots slots contents → Within (disks.moment mid) (disks.moment new) (disks.left_since mid) (disks.left_since new) (SoundBy Spares slots contents)
 
-  read_spares : (new : D) → ClearsWithin new → IfSome (told disk) (λ image. IsStoreFile image → WithinSpares (moment disk) (moment new) (left_since disk) (left_since new) (may_leave disk) image)
-  read_spares new within = for_told (told disk) _ (λ image is here.
-      within_both (moment disk) (moment mid) (moment new) (left_since disk) (left_since mid) (left_since new) (may_leave disk) (SoundBy Spares slots (contents_of image)) (λ other. may_leave disk other ⊎ SparesOpen image other)
+  read_spares : (new : D) → ClearsWithin new → IfSome (disks.contents disk) (λ image. IsStoreFile image → WithinSpares (disks.moment disk) (disks.moment new) (disks.left_since disk) (disks.left_since new) (disks.may_leave disk) image)
+  read_spares new within = for_told (disks.contents disk) _ (λ image is here.
+      within_both (disks.moment disk) (disks.moment mid) (disks.moment new) (disks.left_since disk) (disks.left_since mid) (disks.left_since new) (disks.may_leave disk) (SoundBy Spares slots (contents_of image)) (λ other. disks.may_leave disk other ⊎ SparesOpen image other)
       calm.within (within (contents_of image) (read_begins image is)) (λ other h. inl h) (λ other h. inr (spares_open slots image other h)))
 
-  pub read_opened : (new : D) (slots' : List Slot) → length slots ≡ 512 → slots' ≡ settled_slots slots → HasOneEach cells slots → IsNumbered cells slots → IsNamed cells slots → StillTells (told mid) (told new)
-      → ((contents : List Content) → length contents ≡ 512 → Clearing told may_leave mid slots slots contents → StandsForContents told may_leave new slots' contents) → ClearsWithin new
-      → IsOpened told may_leave moment left_since disk new slots'
+  pub read_opened : (new : D) (slots' : List Slot) → length slots ≡ 512 → slots' ≡ settled_slots slots → HasOneEach cells slots → IsNumbered cells slots → IsNamed cells slots → StillTells (disks.contents mid) (disks.contents new)
+      → ((contents : List Content) → length contents ≡ 512 → Clearing disks mid slots slots contents → StandsForContents disks new slots' contents) → ClearsWithin new
+      → IsOpened disks disk new slots'
   read_opened new slots' count is one numbered named tells stands within = record {
     sized = ap length is ∙ (length-map slots settled_slot ∙ count);
     one = settled_one slots slots' count is one;
     numbered = settled_numbered slots slots' count is numbered;
     named = settled_named slots slots' count is named;
     tells = tells ∙ ap is_some calm.same;
-    found = of_directory (told disk) slots' (for_told (told disk) _ (λ image told_is.
+    found = of_directory (disks.contents disk) slots' (for_told (disks.contents disk) _ (λ image told_is.
         let here : IsStoreFile image = subst (λ (o : Option (List ℕ)). IfSome o (λ image. IsStoreFile image)) told_is store in
         let read : ReadsBelow cells slots image = subst (λ (o : Option (List ℕ)). IfSome o (λ image. ReadsBelow cells slots image)) told_is reads in
         settled_directory slots slots' count is image here read one));
-    stands = of_store (told disk) (λ image contents. StandsForContents told may_leave new slots' contents) (for_told (told disk) _ (λ image told_is.
+    stands = of_store (disks.contents disk) (λ image contents. StandsForContents disks new slots' contents) (for_told (disks.contents disk) _ (λ image told_is.
         let here : IsStoreFile image = subst (λ (o : Option (List ℕ)). IfSome o (λ image. IsStoreFile image)) told_is store in
         (here, stands (contents_of image) (length-contents_of image) (read_begins image told_is))));
     spares = read_spares new within;
   }
 
-  pub read_refused : (new : D) → StillTells (told mid) (told new) → faults disk ≤ faults new → Rose (faults disk) (faults new)
-      → ((contents : List Content) → Clearing told may_leave mid slots slots contents → (image : List ℕ) → may_leave new image → SoundBy Spares slots contents image) → ClearsWithin new
-      → IsRefused told may_leave moment left_since faults disk new Disk
+  pub read_refused : (new : D) → StillTells (disks.contents mid) (disks.contents new) → disks.faults disk ≤ disks.faults new → Rose (disks.faults disk) (disks.faults new)
+      → ((contents : List Content) → Clearing disks mid slots slots contents → (image : List ℕ) → disks.may_leave new image → SoundBy Spares slots contents image) → ClearsWithin new
+      → IsRefused disks disk new Disk
   read_refused new tells later rose left within = record {
     tells = tells ∙ ap is_some calm.same;
     later = later;
     unwritten = λ is. absurd is;
     unwritten_within = λ is. absurd is;
-    caused = for_told (told disk) _ (λ image is. tt);
+    caused = for_told (disks.contents disk) _ (λ image is. tt);
     rose = λ is. rose;
     same = λ is. absurd is;
     durable = λ is. absurd is;
     spares = read_spares new within;
-    left = for_told (told disk) _ (λ image is here. inr (λ other has. spares_open slots image other (left (contents_of image) (read_begins image is) other has)));
+    left = for_told (disks.contents disk) _ (λ image is here. inr (λ other has. spares_open slots image other (left (contents_of image) (read_begins image is) other has)));
   }
 
 -- nothing is pending still
-pub durable_still : {D : Type 0} (told : D → Option (List ℕ)) (may_leave : D → List ℕ → Type 0) (old new : D) → LeavesWhatIsRead (told old) (may_leave old) → NoNewImage (may_leave old) (may_leave new) → LeavesWhatIsRead (told old) (may_leave new)
-durable_still told may_leave old new durable crash = by (told old) durable
+pub durable_still : {D : Type 0} (disks : Disk.Ghosts D) (old new : D) → LeavesWhatIsRead (disks.contents old) (disks.may_leave old) → NoNewImage (disks.may_leave old) (disks.may_leave new) → LeavesWhatIsRead (disks.contents old) (disks.may_leave new)
+durable_still disks old new durable crash = by (disks.contents old) durable
   where
-    by : (o : Option (List ℕ)) → LeavesWhatIsRead o (may_leave old) → LeavesWhatIsRead o (may_leave new)
+    by : (o : Option (List ℕ)) → LeavesWhatIsRead o (disks.may_leave old) → LeavesWhatIsRead o (disks.may_leave new)
     by None h = tt
     by (Some bytes) h = λ image left. h image (crash image left)
 

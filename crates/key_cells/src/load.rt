@@ -1,8 +1,9 @@
 // How the key of a cell is read.
 ghost use Rattle.std.specs.Prelude.{◌≡◌, ◌<◌, ◌≤◌, true, List, ℕ, length, IsErrOf, OnErr, IfOk};
 ghost use Rattle.psa_status.specs.Causes.{Rose};
-ghost use Rattle.key_cells.specs.Contents.{Content, Present, StandsForContents, Keeps, cell_slot, content_at, is_open, has_id};
-ghost use Rattle.key_cells.specs.Body.{IsKeyOf, HoldsKey, HoldsId};
+ghost use Rattle.key_cells.specs.Contents.{Keeps, cell_slot, is_open, has_id};
+ghost use Rattle.key_cells.specs.Body.{IsKeyOf};
+ghost use Rattle.key_cells.specs.Calls.{IsKeyOfCell, IsCorrupt};
 ghost use Rattle.key_cells.specs.History.{Nothing, AddsEntry};
 ghost use Rattle.secret_bytes.specs.Buffer.{bytes_of, IsClear};
 
@@ -27,14 +28,12 @@ impl<D: Disk> Cells<D> {
         ensures same { D.contents self.new.disk ≡ D.contents self.old.disk }
         ensures named { IfOk result (λ attributes. has_id attributes.id.0 (cell_slot self.old.slots.items cell) ≡ true) }
         ensures key { IfOk result (λ attributes. IsKeyOf attributes (bytes_of out.new)) }
-        ensures loaded { IfOk result (λ attributes. (contents : List Content) (body : List ℕ) → content_at contents cell ≡ Present body →
-            StandsForContents D.contents D.may_leave self.old.disk self.old.slots.items contents → HoldsKey attributes (bytes_of out.new) body) }
-        ensures keeps { Keeps D.contents D.may_leave D.moment D.left_since self.old.disk self.new.disk self.old.slots.items self.old.slots.items }
-        ensures entry { AddsEntry D.contents D.may_leave D.moment D.left_since self.old.disk self.new.disk self.old.slots.items self.old.slots.items Nothing }
+        ensures loaded { IfOk result (λ attributes. IsKeyOfCell D.Disk self.old cell attributes (bytes_of out.new)) }
+        ensures keeps { Keeps D.Disk self.old.disk self.new.disk self.old.slots.items self.old.slots.items }
+        ensures entry { AddsEntry D.Disk self.old.disk self.new.disk self.old.slots.items self.old.slots.items Nothing }
         ensures clear { OnErr result (IsClear out.new) }
         ensures disk { IsErrOf result CellFault.Disk → Rose (D.faults self.old.disk) (D.faults self.new.disk) }
-        ensures corrupt { IsErrOf result CellFault.Corrupt → (contents : List Content) (body : List ℕ) (id : ℕ) → content_at contents cell ≡ Present body →
-            StandsForContents D.contents D.may_leave self.old.disk self.old.slots.items contents → has_id id (cell_slot self.old.slots.items cell) ≡ true → HoldsId id body → ⊥ }
+        ensures corrupt { IsErrOf result CellFault.Corrupt → IsCorrupt D.Disk self.old cell }
         ensures full { IsErrOf result CellFault.Full → ⊥ }
         ensures later { D.faults self.old.disk ≤ D.faults self.new.disk }
     {
@@ -65,12 +64,10 @@ impl<D: Disk> Cells<D> {
         ensures same { D.contents self.new.disk ≡ D.contents self.old.disk }
         ensures named { IfOk result (λ attributes. has_id attributes.id.0 (cell_slot self.old.slots.items cell) ≡ true) }
         ensures key { IfOk result (λ attributes. IsKeyOf attributes (bytes_of out.new)) }
-        ensures loaded { IfOk result (λ attributes. (contents : List Content) (body : List ℕ) → content_at contents cell ≡ Present body →
-            StandsForContents D.contents D.may_leave self.old.disk self.old.slots.items contents → HoldsKey attributes (bytes_of out.new) body) }
-        ensures keeps { Keeps D.contents D.may_leave D.moment D.left_since self.old.disk self.new.disk self.old.slots.items self.old.slots.items }
+        ensures loaded { IfOk result (λ attributes. IsKeyOfCell D.Disk self.old cell attributes (bytes_of out.new)) }
+        ensures keeps { Keeps D.Disk self.old.disk self.new.disk self.old.slots.items self.old.slots.items }
         ensures disk { IsErrOf result CellFault.Disk → Rose (D.faults self.old.disk) (D.faults self.new.disk) }
-        ensures corrupt { IsErrOf result CellFault.Corrupt → (contents : List Content) (body : List ℕ) (id : ℕ) → content_at contents cell ≡ Present body →
-            StandsForContents D.contents D.may_leave self.old.disk self.old.slots.items contents → has_id id (cell_slot self.old.slots.items cell) ≡ true → HoldsId id body → ⊥ }
+        ensures corrupt { IsErrOf result CellFault.Corrupt → IsCorrupt D.Disk self.old cell }
         ensures full { IsErrOf result CellFault.Full → ⊥ }
         ensures later { D.faults self.old.disk ≤ D.faults self.new.disk }
     {

@@ -5,7 +5,8 @@ ghost use Rattle.disk_face.specs.Disk.{Follows, StillTells, Torn};
 ghost use Rattle.disk_face.specs.Moments.{AfterStep, LeavesWritten, Within};
 ghost use Rattle.key_cells.specs.Layout.{opened_gate, place};
 ghost use Rattle.key_cells.specs.declared.slot.Slot.TheVariants.{Free, Open, Shut, Unsure};
-ghost use Rattle.key_cells.specs.Contents.{Content, Present, Doubtful, StandsForContents, Moves, Keeps, StaysFree, cell_slot, content_at, settled_slots};
+ghost use Rattle.key_cells.specs.Contents.{Content, Present, Doubtful, Moves, Keeps, StaysFree, cell_slot, content_at, settled_slots};
+ghost use Rattle.key_cells.specs.Calls.{StandFor, ChangesCell};
 
 use crate::Slot;
 use crate::cells::{CLOSED, CellFault, Cells, OPENED, ZEROS, place};
@@ -39,7 +40,7 @@ impl<D: Disk> Cells<D> {
         ensures err { OnErr result (self.new.slots.items ≡ self.old.slots.items) }
         ensures slots { settled_slots self.new.slots.items ≡ settled_slots self.old.slots.items }
         ensures free { StaysFree self.old.slots.items self.new.slots.items }
-        ensures keeps { Keeps D.contents D.may_leave D.moment D.left_since self.old.disk self.new.disk self.old.slots.items self.new.slots.items }
+        ensures keeps { Keeps D.Disk self.old.disk self.new.disk self.old.slots.items self.new.slots.items }
         ensures tells { StillTells (D.contents self.old.disk) (D.contents self.new.disk) }
         ensures cause { HasCause (D.faults self.old.disk) (D.faults self.new.disk) result }
         ensures fault { IfErr result (λ fault. fault ≡ CellFault.Disk) }
@@ -64,7 +65,7 @@ impl<D: Disk> Cells<D> {
         ensures err { OnErr result (self.new.slots.items ≡ self.old.slots.items) }
         ensures slots { settled_slots self.new.slots.items ≡ settled_slots self.old.slots.items }
         ensures free { StaysFree self.old.slots.items self.new.slots.items }
-        ensures keeps { Keeps D.contents D.may_leave D.moment D.left_since self.old.disk self.new.disk self.old.slots.items self.new.slots.items }
+        ensures keeps { Keeps D.Disk self.old.disk self.new.disk self.old.slots.items self.new.slots.items }
         ensures tells { StillTells (D.contents self.old.disk) (D.contents self.new.disk) }
         ensures cause { HasCause (D.faults self.old.disk) (D.faults self.new.disk) result }
         ensures fault { IfErr result (λ fault. fault ≡ CellFault.Disk) }
@@ -89,8 +90,8 @@ impl<D: Disk> Cells<D> {
         ensures err { OnErr result (self.new.slots.items ≡ self.old.slots.items) }
         ensures slots { settled_slots self.new.slots.items ≡ settled_slots self.old.slots.items }
         ensures keeps { (contents : List Content) → content_at contents cell ≡ Doubtful body.now →
-            StandsForContents D.contents D.may_leave self.old.disk self.old.slots.items contents →
-            Moves D.contents D.may_leave D.moment D.left_since self.old.disk self.new.disk self.old.slots.items self.new.slots.items contents contents }
+            StandFor D.Disk self.old contents →
+            Moves D.Disk self.old.disk self.new.disk self.old.slots.items self.new.slots.items contents contents }
         ensures tells { StillTells (D.contents self.old.disk) (D.contents self.new.disk) }
         ensures cause { HasCause (D.faults self.old.disk) (D.faults self.new.disk) result }
         ensures fault { IfErr result (λ fault. fault ≡ CellFault.Disk) }
@@ -113,10 +114,8 @@ impl<D: Disk> Cells<D> {
         ensures size { D.size self.new.disk ≡ 557120 }
         ensures ok { OnOk result (self.new.slots.items ≡ set self.old.slots.items cell (Open id creation)) }
         ensures err { OnErr result (self.new.slots.items ≡ self.old.slots.items) }
-        ensures opened { OnOk result ((contents : List Content) (bytes : List ℕ) → content_at contents cell ≡ Doubtful bytes →
-            StandsForContents D.contents D.may_leave self.old.disk self.old.slots.items contents →
-            Moves D.contents D.may_leave D.moment D.left_since self.old.disk self.new.disk self.old.slots.items self.new.slots.items contents (set contents cell (Present bytes))) }
-        ensures failed { OnErr result (Keeps D.contents D.may_leave D.moment D.left_since self.old.disk self.new.disk self.old.slots.items self.new.slots.items) }
+        ensures opened { OnOk result ((bytes : List ℕ) → ChangesCell D.Disk self.old self.new cell (Doubtful bytes) (Present bytes)) }
+        ensures failed { OnErr result (Keeps D.Disk self.old.disk self.new.disk self.old.slots.items self.new.slots.items) }
         ensures tells { StillTells (D.contents self.old.disk) (D.contents self.new.disk) }
         ensures cause { HasCause (D.faults self.old.disk) (D.faults self.new.disk) result }
         ensures fault { IfErr result (λ fault. fault ≡ CellFault.Disk) }

@@ -22,7 +22,7 @@ returns-then-is_settled-clause-stands g c = λ contents count s.
     let d = g.D.Disk in
     let self = c.args.self.now in
     let settled = subst (λ (l : List Slot). IsSettled (length l) l) c.deref.ensures.value (c.if-is_settled.ensures refl) in
-    clear_already d.contents d.may_leave self.disk self.slots.items contents count (subst (λ (n : ℕ). IsSettled n self.slots.items) c.requires.slots settled) s
+    clear_already d self.disk self.slots.items contents count (subst (λ (n : ℕ). IsSettled n self.slots.items) c.requires.slots settled) s
 
 pub returns-then-is_settled-clause-within : goal.returns-then-is_settled-clause-within
 returns-then-is_settled-clause-within g c = λ contents s.
@@ -93,7 +93,7 @@ returns-clause-stands g c =
     on_ok_weaker c.sync.result
     (λ durable contents count s.
     let all : old.slots.items ≡ settled_slots first.slots.items = whole first.slots.items old.slots.items c.loop-cell.cell c.requires.slots i.count (omega arith) i.front in
-    clear_sure d.contents d.may_leave old.disk c.sync.new.self first.slots.items old.slots.items contents count (settled_settled first.slots.items old.slots.items c.requires.slots all) (i.clears contents s) c.sync.ensures.same durable)
+    clear_sure d old.disk c.sync.new.self first.slots.items old.slots.items contents count (settled_settled first.slots.items old.slots.items c.requires.slots all) (i.clears contents s) c.sync.ensures.same durable)
     c.sync.ensures.durable
 
 pub returns-clause-spares : goal.returns-clause-spares

@@ -15,7 +15,7 @@ returns-in-Ok-clause-clears g c = λ first contents s.
     let crash = subst (λ (k : ℕ). Follows (Torn k 1087) (d.may_leave old.disk) (d.may_leave c.write_at.new.self)) at e.crash in
     let torn = torn_shut cell c.requires.within first contents (s.shut cell c.requires.within c.requires.slot) in
     let holds = subst (λ (k : ℕ). HoldsWritten (d.contents old.disk) k (replicate 1087 0) (d.contents c.write_at.new.self)) at c.in-Ok.ensures.written in
-    clearing_done d.contents d.may_leave old.disk c.write_at.new.self cell (place cell + 1) 1087 first slots contents (replicate 1087 0) s c.requires.slots c.requires.within holds crash torn
+    clearing_done d old.disk c.write_at.new.self cell (place cell + 1) 1087 first slots contents (replicate 1087 0) s c.requires.slots c.requires.within holds crash torn
     (shut_cleared cell c.requires.within slots contents c.requires.slots c.requires.slot)
 
 pub returns-in-Err-clause-clears : goal.returns-in-Err-clause-clears
@@ -29,7 +29,7 @@ returns-in-Err-clause-clears g c = λ first contents s.
     let crash = subst (λ (k : ℕ). Follows (Torn k 1087) (d.may_leave old.disk) (d.may_leave c.write_at.new.self)) at e.crash in
     let torn = torn_shut cell c.requires.within first contents (s.shut cell c.requires.within c.requires.slot) in
     let holds = subst (λ (k : ℕ). HoldsAround (d.contents old.disk) k 1087 (d.contents c.write_at.new.self)) at c.in-Err.ensures.failed in
-    clearing_failed d.contents d.may_leave old.disk c.write_at.new.self cell (place cell + 1) 1087 first slots contents s holds crash torn
+    clearing_failed d old.disk c.write_at.new.self cell (place cell + 1) 1087 first slots contents s holds crash torn
     (torn_shut cell c.requires.within slots contents c.requires.slot)
 
 pub returns-in-Ok-clause-within : goal.returns-in-Ok-clause-within
@@ -42,7 +42,7 @@ returns-in-Ok-clause-within g c = λ first contents s.
     let at : c.place.result + 1 ≡ place cell + 1 = ap (λ (k : ℕ). k + 1) c.place.ensures in
     let crash = subst (λ (k : ℕ). Follows (Torn k 1087) (d.may_leave old.disk) (d.may_leave c.write_at.new.self)) at e.crash in
     let torn = torn_shut cell c.requires.within first contents (s.shut cell c.requires.within c.requires.slot) in
-    clearing_within d.contents d.may_leave old.disk c.write_at.new.self cell (place cell + 1) 1087 first slots contents d.moment d.left_since s crash e.time torn
+    clearing_within d old.disk c.write_at.new.self cell (place cell + 1) 1087 first slots contents s crash e.time torn
 
 pub returns-in-Err-clause-within : goal.returns-in-Err-clause-within
 returns-in-Err-clause-within g c = λ first contents s.
@@ -54,4 +54,4 @@ returns-in-Err-clause-within g c = λ first contents s.
     let at : c.place.result + 1 ≡ place cell + 1 = ap (λ (k : ℕ). k + 1) c.place.ensures in
     let crash = subst (λ (k : ℕ). Follows (Torn k 1087) (d.may_leave old.disk) (d.may_leave c.write_at.new.self)) at e.crash in
     let torn = torn_shut cell c.requires.within first contents (s.shut cell c.requires.within c.requires.slot) in
-    clearing_within d.contents d.may_leave old.disk c.write_at.new.self cell (place cell + 1) 1087 first slots contents d.moment d.left_since s crash e.time torn
+    clearing_within d old.disk c.write_at.new.self cell (place cell + 1) 1087 first slots contents s crash e.time torn

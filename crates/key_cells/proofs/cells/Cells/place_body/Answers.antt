@@ -23,10 +23,10 @@ returns-in_err-fill-clause-failed g c = on_err c.from_residual-in_err-fill.resul
     let here = ap (λ (l : List Slot). cell_slot l cell) c.deref.ensures.value in
     let free : cell_slot mid cell ≡ Free =
     ap (λ (l : List Slot). cell_slot l cell) is ∙ (get_or-map settled_slot old cell Free Free within ∙ (ap settled_slot (sym here) ∙ settled_free (cell_slot c.deref.result.now cell) first_cell.here)) in
-    let first = moves_settled d.contents d.may_leave d.moment d.left_since self.disk c.settle.new.self.disk old mid contents c.requires.slots is (c.settle.ensures.keeps contents stands) in
-    let absent = free_absent d.contents d.may_leave d.moment d.left_since cell c.settle.new.self.disk mid contents (omega (arith, within, c.requires.slots)) stands.count free first.stands (g.met.D.Disk.read_is_image c.settle.new.self.disk) in
+    let first = moves_settled d self.disk c.settle.new.self.disk old mid contents c.requires.slots is (c.settle.ensures.keeps contents stands) in
+    let absent = free_absent d cell c.settle.new.self.disk mid contents (omega (arith, within, c.requires.slots)) stands.count free first.stands (g.met.D.Disk.read_is_image c.settle.new.self.disk) in
     let second = c.in_err-fill.ensures.failed (settled contents) absent first.stands in
-    inr (cell, subst (λ (l : List Slot). IsFirstWithoutKey l cell) c.deref.ensures.value first_cell, moves_after_settled d.contents d.may_leave d.moment d.left_since self.disk c.settle.new.self.disk c.fill.new.self.disk old mid c.fill.new.self.slots.items contents (set (settled contents) cell (Doubtful c.args.body.now)) stands.count c.settle.ensures.free first second))
+    inr (cell, subst (λ (l : List Slot). IsFirstWithoutKey l cell) c.deref.ensures.value first_cell, moves_after_settled d self.disk c.settle.new.self.disk c.fill.new.self.disk old mid c.fill.new.self.slots.items contents (set (settled contents) cell (Doubtful c.args.body.now)) stands.count c.settle.ensures.free first second))
 
 pub returns-clause-created : goal.returns-clause-created
 returns-clause-created g c = λ contents stands.
@@ -41,16 +41,16 @@ returns-clause-created g c = λ contents stands.
     let here = ap (λ (l : List Slot). cell_slot l cell) c.deref.ensures.value in
     let free : cell_slot mid cell ≡ Free =
     ap (λ (l : List Slot). cell_slot l cell) is ∙ (get_or-map settled_slot old cell Free Free within ∙ (ap settled_slot (sym here) ∙ settled_free (cell_slot c.deref.result.now cell) first_cell.here)) in
-    let first = moves_settled d.contents d.may_leave d.moment d.left_since self.disk c.settle.new.self.disk old mid contents c.requires.slots is (c.settle.ensures.keeps contents stands) in
-    let absent = free_absent d.contents d.may_leave d.moment d.left_since cell c.settle.new.self.disk mid contents (omega (arith, within, c.requires.slots)) stands.count free first.stands (g.met.D.Disk.read_is_image c.settle.new.self.disk) in
+    let first = moves_settled d self.disk c.settle.new.self.disk old mid contents c.requires.slots is (c.settle.ensures.keeps contents stands) in
+    let absent = free_absent d cell c.settle.new.self.disk mid contents (omega (arith, within, c.requires.slots)) stands.count free first.stands (g.met.D.Disk.read_is_image c.settle.new.self.disk) in
     let second = c.in_ok-fill.ensures.filled (settled contents) absent first.stands in
-    moves_after_settled d.contents d.may_leave d.moment d.left_since self.disk c.settle.new.self.disk c.fill.new.self.disk old mid c.fill.new.self.slots.items contents (set (settled contents) cell (Present c.args.body.now)) stands.count c.settle.ensures.free first second
+    moves_after_settled d self.disk c.settle.new.self.disk c.fill.new.self.disk old mid c.fill.new.self.slots.items contents (set (settled contents) cell (Present c.args.body.now)) stands.count c.settle.ensures.free first second
 
 pub returns-clause-entry : goal.returns-clause-entry
 returns-clause-entry g c = λ opening first history h.
     let d = g.D.Disk in
     let self = c.args.self.now in
-    adds_entry d.contents d.may_leave d.moment d.left_since g.met.D.Disk.only_now self.disk c.fill.new.self.disk self.slots.items c.fill.new.self.slots.items (Created c.in-Some.cell c.args.body.now) opening first history h
+    adds_entry d g.met.D.Disk.only_now self.disk c.fill.new.self.disk self.slots.items c.fill.new.self.slots.items (Created c.in-Some.cell c.args.body.now) opening first history h
     (returns-clause-created g c (after_all after history first) h.stands)
 
 -- free cells stay free but for the one that is taken
@@ -75,8 +75,8 @@ pub returns-in_default-clause-failed_entry : goal.returns-in_default-clause-fail
 returns-in_default-clause-failed_entry g c =
     let d = g.D.Disk in
     let self = c.args.self.now in
-    inl (adds_nothing d.contents d.may_leave d.moment d.left_since g.met.D.Disk.only_now self.disk self.disk self.slots.items self.slots.items
-    (keeps_none d.contents d.may_leave d.moment d.left_since self.disk self.slots.items))
+    inl (adds_nothing d g.met.D.Disk.only_now self.disk self.disk self.slots.items self.slots.items
+    (keeps_none d self.disk self.slots.items))
 
 pub returns-in_err-settle-clause-failed_entry : goal.returns-in_err-settle-clause-failed_entry
 returns-in_err-settle-clause-failed_entry g c = on_err c.from_residual.result (inl c.settle.ensures.entry)
@@ -99,9 +99,9 @@ returns-in_err-fill-clause-failed_entry g c = on_err c.from_residual-in_err-fill
       let here = ap (λ (l : List Slot). cell_slot l cell) c.deref.ensures.value in
       let free : cell_slot mid cell ≡ Free =
       ap (λ (l : List Slot). cell_slot l cell) is ∙ (get_or-map settled_slot old cell Free Free within ∙ (ap settled_slot (sym here) ∙ settled_free (cell_slot c.deref.result.now cell) first_cell.here)) in
-      let settling = moves_settled d.contents d.may_leave d.moment d.left_since self.disk c.settle.new.self.disk old mid contents c.requires.slots is (c.settle.ensures.keeps contents stands) in
-      let absent = free_absent d.contents d.may_leave d.moment d.left_since cell c.settle.new.self.disk mid contents (omega (arith, within, c.requires.slots)) stands.count free settling.stands (g.met.D.Disk.read_is_image c.settle.new.self.disk) in
+      let settling = moves_settled d self.disk c.settle.new.self.disk old mid contents c.requires.slots is (c.settle.ensures.keeps contents stands) in
+      let absent = free_absent d cell c.settle.new.self.disk mid contents (omega (arith, within, c.requires.slots)) stands.count free settling.stands (g.met.D.Disk.read_is_image c.settle.new.self.disk) in
       let filling = c.in_err-fill.ensures.failed (settled contents) absent settling.stands in
-      adds_entry d.contents d.may_leave d.moment d.left_since g.met.D.Disk.only_now self.disk c.fill.new.self.disk old c.fill.new.self.slots.items (CreationFailed cell c.args.body.now) opening first history h
-      (moves_after_settled d.contents d.may_leave d.moment d.left_since self.disk c.settle.new.self.disk c.fill.new.self.disk old mid c.fill.new.self.slots.items contents (set (settled contents) cell (Doubtful c.args.body.now)) stands.count c.settle.ensures.free settling filling),
+      adds_entry d g.met.D.Disk.only_now self.disk c.fill.new.self.disk old c.fill.new.self.slots.items (CreationFailed cell c.args.body.now) opening first history h
+      (moves_after_settled d self.disk c.settle.new.self.disk c.fill.new.self.disk old mid c.fill.new.self.slots.items contents (set (settled contents) cell (Doubtful c.args.body.now)) stands.count c.settle.ensures.free settling filling),
 ))

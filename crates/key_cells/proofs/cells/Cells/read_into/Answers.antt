@@ -11,41 +11,41 @@ returns-in-Err-clause-keeps g c = λ contents stands.
     let d = g.D.Disk in
     let self = c.args.self.now in
     let e = c.read_cell.ensures in
-    read_keeps d.contents d.may_leave d.moment d.left_since self.disk c.read_cell.new.disk self.slots.items contents stands e.same e.crash e.time
+    read_keeps d self.disk c.read_cell.new.disk self.slots.items contents stands e.same e.crash e.time
 
 pub returns-in_default-clause-keeps : goal.returns-in_default-clause-keeps
 returns-in_default-clause-keeps g c = λ contents stands.
     let d = g.D.Disk in
     let self = c.args.self.now in
     let e = c.read_cell.ensures in
-    read_keeps d.contents d.may_leave d.moment d.left_since self.disk c.read_cell.new.disk self.slots.items contents stands e.same e.crash e.time
+    read_keeps d self.disk c.read_cell.new.disk self.slots.items contents stands e.same e.crash e.time
 
 pub returns-then-not-has-clause-keeps : goal.returns-then-not-has-clause-keeps
 returns-then-not-has-clause-keeps g c = λ contents stands.
     let d = g.D.Disk in
     let self = c.args.self.now in
     let e = c.read_cell.ensures in
-    read_keeps d.contents d.may_leave d.moment d.left_since self.disk c.read_cell.new.disk self.slots.items contents stands e.same e.crash e.time
+    read_keeps d self.disk c.read_cell.new.disk self.slots.items contents stands e.same e.crash e.time
 
 pub returns-clause-keeps : goal.returns-clause-keeps
 returns-clause-keeps g c = λ contents stands.
     let d = g.D.Disk in
     let self = c.args.self.now in
     let e = c.read_cell.ensures in
-    read_keeps d.contents d.may_leave d.moment d.left_since self.disk c.read_cell.new.disk self.slots.items contents stands e.same e.crash e.time
+    read_keeps d self.disk c.read_cell.new.disk self.slots.items contents stands e.same e.crash e.time
 
 pub returns-in_default-clause-corrupt : goal.returns-in_default-clause-corrupt
 returns-in_default-clause-corrupt g c = λ is contents body id present stands has holds.
     let d = g.D.Disk in
     let self = c.args.self.now in
-    let read = read_gives d.contents d.may_leave d.moment d.left_since self.disk c.read_cell.new.disk c.args.cell self.slots.items contents body c.read_cell.new.bytes c.requires.within present stands (g.met.D.Disk.read_is_image self.disk) c.in-Ok.ensures.bytes in
+    let read = read_gives d self.disk c.read_cell.new.disk c.args.cell self.slots.items contents body c.read_cell.new.bytes c.requires.within present stands (g.met.D.Disk.read_is_image self.disk) c.in-Ok.ensures.bytes in
     of_no_key id c.read_cell.new.bytes body read c.in_default.ensures holds
 
 pub returns-then-not-has-clause-corrupt : goal.returns-then-not-has-clause-corrupt
 returns-then-not-has-clause-corrupt g c = λ is contents body id present stands has holds.
     let d = g.D.Disk in
     let self = c.args.self.now in
-    let read = read_gives d.contents d.may_leave d.moment d.left_since self.disk c.read_cell.new.disk c.args.cell self.slots.items contents body c.read_cell.new.bytes c.requires.within present stands (g.met.D.Disk.read_is_image self.disk) c.in-Ok.ensures.bytes in
+    let read = read_gives d self.disk c.read_cell.new.disk c.args.cell self.slots.items contents body c.read_cell.new.bytes c.requires.within present stands (g.met.D.Disk.read_is_image self.disk) c.in-Ok.ensures.bytes in
     let slots = self.slots.items in
     let same = get_or_read slots c.args.cell c.index.result.now (omega (arith, c.requires.slots, c.requires.within)) c.index.ensures Free in
     of_other_key id c.in-Some.end c.in-Some.attributes c.index.result.now c.read_cell.new.bytes body read c.in-Some.ensures (sym c.if-not-has.ensures) (ap (has_id id) same ∙ has) holds
@@ -55,7 +55,7 @@ returns-clause-loaded g c = λ contents body present stands.
     let d = g.D.Disk in
     let self = c.args.self.now in
     let a = c.in-Some.attributes in
-    let read = read_gives d.contents d.may_leave d.moment d.left_since self.disk c.read_cell.new.disk c.args.cell self.slots.items contents body c.read_cell.new.bytes c.requires.within present stands (g.met.D.Disk.read_is_image self.disk) c.in-Ok.ensures.bytes in
+    let read = read_gives d self.disk c.read_cell.new.disk c.args.cell self.slots.items contents body c.read_cell.new.bytes c.requires.within present stands (g.met.D.Disk.read_is_image self.disk) c.in-Ok.ensures.bytes in
     let key : List ℕ = take (c.in-Some.end - 52) (drop 52 c.read_cell.new.bytes) in
     subst (λ (k : List ℕ). HoldsKey a k body) (sym (filled_with key c.fill_from.new.self c.fill_from.ensures)) (subst (λ (b : List ℕ). HoldsKey a key b) read c.in-Some.ensures.holds)
 

@@ -1,0 +1,71 @@
+-- What a call makes of whatever the cells stand for.
+use Rattle.disk_face.specs.declared.Disk as Disk
+use Rattle.std.specs.Prelude.{◌≡◌, ℕ, true, List, set}
+use Rattle.disk_face.specs.Moments.{Within}
+use Rattle.key_attributes.specs.declared.Attributes.{Attributes}
+use Rattle.key_cells.specs.declared.slot.Slot.{Slot}
+use Rattle.key_cells.specs.declared.cells.Cells.{Cells}
+use Rattle.key_cells.specs.Contents.{Content, Absent, Present, Doubtful, SoundBy, StandsForContents, Moves, MovesEither, CreationFailed, settled, content_at, cell_slot, has_id}
+use Rattle.key_cells.specs.Opening.{Clearing, Spares}
+use Rattle.key_cells.specs.Body.{HoldsKey, HoldsId}
+
+module _ {D : Type 0} (disks : Disk.Ghosts D) where
+  -- the disk and the directory of the cells stand for these contents
+  abbrev pub StandFor : Cells D → List Content → Type 0
+  StandFor cells contents = StandsForContents disks cells.disk cells.slots.items contents
+
+  -- it is the key of a cell
+  abbrev pub IsKeyOfCell : Cells D → ℕ → Attributes → List ℕ → Type 0
+  IsKeyOfCell cells cell a key = (contents : List Content) (body : List ℕ) → content_at contents cell ≡ Present body → StandFor cells contents → HoldsKey a key body
+
+  -- a cell has no body of a key whose identifier the directory has for it
+  abbrev pub IsCorrupt : Cells D → ℕ → Type 0
+  IsCorrupt cells cell = (contents : List Content) (body : List ℕ) (id : ℕ) → content_at contents cell ≡ Present body →
+      StandFor cells contents → has_id id (cell_slot cells.slots.items cell) ≡ true → HoldsId id body → ⊥
+
+  -- none of the cells that are left over from a crash was made zeros so far
+  abbrev pub BeginsClearing : Cells D → List Content → Type 0
+  BeginsClearing cells contents = Clearing disks cells.disk cells.slots.items cells.slots.items contents
+
+  module _ (old new : Cells D) where
+    -- the content of one cell changes
+    abbrev pub ChangesCell : ℕ → Content → Content → Type 0
+    ChangesCell cell before after = (contents : List Content) → content_at contents cell ≡ before → StandFor old contents →
+        Moves disks old.disk new.disk old.slots.items new.slots.items contents (set contents cell after)
+
+    -- a cell has a new key, and nothing is in doubt
+    abbrev pub Creates : ℕ → List ℕ → Type 0
+    Creates cell bytes = (contents : List Content) → StandFor old contents →
+        Moves disks old.disk new.disk old.slots.items new.slots.items contents (set (settled contents) cell (Present bytes))
+
+    abbrev pub FailsToCreate : List ℕ → Type 0
+    FailsToCreate bytes = (contents : List Content) → StandFor old contents →
+        CreationFailed disks old.disk new.disk old.slots.items new.slots.items contents bytes
+
+    -- the key of a cell is gone, and nothing is in doubt
+    abbrev pub Destroys : ℕ → Type 0
+    Destroys cell = (contents : List Content) (bytes : List ℕ) → content_at contents cell ≡ Present bytes → StandFor old contents →
+        Moves disks old.disk new.disk old.slots.items new.slots.items contents (set (settled contents) cell Absent)
+
+    -- it is in doubt, alone or with those that were
+    abbrev pub FailsToDestroy : ℕ → Type 0
+    FailsToDestroy cell = (contents : List Content) (bytes : List ℕ) → content_at contents cell ≡ Present bytes → StandFor old contents →
+        MovesEither disks old.disk new.disk old.slots.items new.slots.items contents (set contents cell (Doubtful bytes)) (set (settled contents) cell (Doubtful bytes))
+
+    -- it is in doubt, with no call of the disk
+    abbrev pub PutsInDoubt : ℕ → Type 0
+    PutsInDoubt cell = (contents : List Content) (bytes : List ℕ) → content_at contents cell ≡ Present bytes → StandFor old contents →
+        StandFor new (set contents cell (Doubtful bytes))
+
+    -- a step of making those cells zeros that are left over
+    abbrev pub GoesOnClearing : Type 0
+    GoesOnClearing = (first : List Slot) (contents : List Content) → Clearing disks old.disk first old.slots.items contents →
+        Clearing disks new.disk first new.slots.items contents
+
+    -- every image within calls has each open cell byte for byte
+    abbrev pub SparesWithin : List Slot → List Content → Type 0
+    SparesWithin first contents =
+        Within (disks.moment old.disk) (disks.moment new.disk) (disks.left_since old.disk) (disks.left_since new.disk) (SoundBy Spares first contents)
+
+    abbrev pub SparesWhileClearing : Type 0
+    SparesWhileClearing = (first : List Slot) (contents : List Content) → Clearing disks old.disk first old.slots.items contents → SparesWithin first contents
