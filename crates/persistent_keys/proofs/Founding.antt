@@ -1,4 +1,5 @@
 -- What a file stands for that was opened.
+use Rattle.disk_face.specs.declared.Disk as Disk
 use Rattle.std.proofs.Common.{◌≡◌, ◌≢◌, ⊎_elim, ℕ, zero, suc, ◌<◌, ◌≤◌, ◌+◌, ne_eqb, true, false, cond, ◌==◌, List, [], ◌∷◌, length, Option, None, Some, IfSome, refl, sym, ◌∙◌, ap, subst, arith}
 use Rattle.std.proofs.lemmas.Bool.{eqb-true, eq-eqb, cases_eq}
 use Rattle.std.proofs.lemmas.List.{get_or-replicate}
@@ -82,13 +83,13 @@ unfolding FoundIn
 found_each [] slots is cell lt = rw (ap (λ (l : List Slot). cell_slot l cell) is ∙ get_or-replicate 512 cell Free Free lt, get_or-replicate 512 cell Absent Absent lt) tt
 found_each (byte ∷ rest) slots is cell lt = rw (content_there cell (byte ∷ rest) lt) (found_cell (cell_slot slots cell) (gate cell (byte ∷ rest)) (body cell (byte ∷ rest)) (is.each cell lt))
 
-module _ {D : Type 0} (told : D → Option (List ℕ)) (may_leave : D → List ℕ → Type 0) (moment : D → ℕ) (left_since : D → ℕ → List ℕ → Type 0) where
-  pub found_stands : (old new : D) (slots : List Slot) → IsOpened told may_leave moment left_since old new slots
-      → IfSome (told old) (λ image. (keys : Keys) → AreFound image slots keys → StandsForKeys told may_leave new slots keys [])
-  found_stands old new slots o = by (told old) o.found o.stands
+module _ {D : Type 0} (disks : Disk.Ghosts D) where
+  pub found_stands : (old new : D) (slots : List Slot) → IsOpened disks old new slots
+      → IfSome (disks.contents old) (λ image. (keys : Keys) → AreFound image slots keys → StandsForKeys disks new slots keys [])
+  found_stands old new slots o = by (disks.contents old) o.found o.stands
     where
-      by : (x : Option (List ℕ)) → IfSome x (λ image. IsFoundIn image slots) → IfSome x (λ image. cells.StandsForContents told may_leave new slots (found_in image))
-          → IfSome x (λ image. (keys : Keys) → AreFound image slots keys → StandsForKeys told may_leave new slots keys [])
+      by : (x : Option (List ℕ)) → IfSome x (λ image. IsFoundIn image slots) → IfSome x (λ image. cells.StandsForContents disks new slots (found_in image))
+          → IfSome x (λ image. (keys : Keys) → AreFound image slots keys → StandsForKeys disks new slots keys [])
       by None found stands = tt
       by (Some image) found stands = λ keys are. record {
         contents = found_in image;

@@ -1,5 +1,6 @@
 -- How calls of the cells lead from keys to keys.
-use Rattle.std.proofs.Common.{◌≡◌, inl, inr, ⊎_elim, ℕ, ◌<◌, true, false, List, [], ◌∷◌, length, set, Option, None, Some, IfSome, refl, sym, ◌∙◌, ap, subst, arith}
+use Rattle.disk_face.specs.declared.Disk as Disk
+use Rattle.std.proofs.Common.{◌≡◌, inl, inr, ⊎_elim, ℕ, ◌<◌, true, false, List, [], ◌∷◌, length, set, None, Some, IfSome, refl, sym, ◌∙◌, ap, subst, arith}
 use Rattle.std.proofs.lemmas.List.{get_or-set_same, get_or-map, map-set, length-map}
 use Rattle.key_cells.specs.declared.slot.Slot.{Slot}
 use Rattle.key_cells.specs.declared.slot.Slot.TheVariants.{Free, Open, Shut, Unsure}
@@ -16,10 +17,10 @@ use Rattle.persistent_keys.specs.Files.{Stored, stored, Keys, Doubt, IsDoubted, 
 use Rattle.persistent_keys.proofs.Fitting.{filed_fits, tells_open}
 use Rattle.persistent_keys.proofs.Filing.{no_doubt, settles, resettles, settled_twice, adds, removes, doubts, still_has, settled_shut, refiled, no_key, none_settled}
 
-module _ {D : Type 0} (told : D → Option (List ℕ)) (may_leave : D → List ℕ → Type 0) (moment : D → ℕ) (left_since : D → ℕ → List ℕ → Type 0) where
+module _ {D : Type 0} (disks : Disk.Ghosts D) where
   -- contents before and after that are filed
   pub leads : (old new : D) (slots slots' : List Slot) (from to : List Content) (keys keys' : Keys) (doubt doubt' : Doubt) → length from ≡ 512
-      → IsFiled keys doubt slots from → IsFiled keys' doubt' slots' to → Moves told may_leave moment left_since old new slots slots' from to → Leads told may_leave moment left_since old new slots slots' keys doubt keys' doubt'
+      → IsFiled keys doubt slots from → IsFiled keys' doubt' slots' to → Moves disks old new slots slots' from to → Leads disks old new slots slots' keys doubt keys' doubt'
   leads old new slots slots' from to keys keys' doubt doubt' count before after m = record {
     stands = record { contents = to; stands = m.stands; filed = after };
     within = record {
@@ -33,34 +34,34 @@ module _ {D : Type 0} (told : D → Option (List ℕ)) (may_leave : D → List �
   }
 
   -- no call, where the keys are the same
-  pub stays : (disk : D) (slots : List Slot) (keys keys' : Keys) (doubt : Doubt) → ((id : ℕ) → keys' id ≡ keys id) → StandsForKeys told may_leave disk slots keys doubt → Leads told may_leave moment left_since disk disk slots slots keys doubt keys' doubt
+  pub stays : (disk : D) (slots : List Slot) (keys keys' : Keys) (doubt : Doubt) → ((id : ℕ) → keys' id ≡ keys id) → StandsForKeys disks disk slots keys doubt → Leads disks disk disk slots slots keys doubt keys' doubt
   stays disk slots keys keys' doubt same s =
-      leads disk disk slots slots s.contents s.contents keys keys' doubt doubt s.stands.count s.filed (refiled keys keys' doubt doubt slots s.contents same (λ i b z. z) s.filed) (moves_none told may_leave moment left_since disk slots s.contents s.contents s.stands)
+      leads disk disk slots slots s.contents s.contents keys keys' doubt doubt s.stands.count s.filed (refiled keys keys' doubt doubt slots s.contents same (λ i b z. z) s.filed) (moves_none disks disk slots s.contents s.contents s.stands)
 
   -- what a crash may leave now
-  pub stands_fits : (disk : D) (slots : List Slot) (keys : Keys) (doubt : Doubt) (image : List ℕ) → StandsForKeys told may_leave disk slots keys doubt → may_leave disk image → FitsKeys keys doubt image
+  pub stands_fits : (disk : D) (slots : List Slot) (keys : Keys) (doubt : Doubt) (image : List ℕ) → StandsForKeys disks disk slots keys doubt → disks.may_leave disk image → FitsKeys keys doubt image
   stands_fits disk slots keys doubt image s left = filed_fits keys doubt slots s.contents s.stands.count s.filed image (sound_fits slots s.contents image (s.stands.each image left))
 
   -- the file's key of an identifier, by its cell
-  pub key_of_cell : (disk : D) (slots : List Slot) (keys : Keys) (doubt : Doubt) (id cell : ℕ) → cell < 512 → has_id id (cell_slot slots cell) ≡ true → StandsForKeys told may_leave disk slots keys doubt → (key : Stored) × (keys id ≡ Some key)
+  pub key_of_cell : (disk : D) (slots : List Slot) (keys : Keys) (doubt : Doubt) (id cell : ℕ) → cell < 512 → has_id id (cell_slot slots cell) ≡ true → StandsForKeys disks disk slots keys doubt → (key : Stored) × (keys id ≡ Some key)
   key_of_cell disk slots keys doubt id cell lt has s = let o = tells_open keys doubt (cell_slot slots cell) (content_at s.contents cell) id has (s.filed.each cell lt) in (stored o.0 o.2 o.3, o.8)
 
   -- what was read of its cell is the file's key
-  pub loaded_key : (disk : D) (slots : List Slot) (keys : Keys) (doubt : Doubt) (id cell : ℕ) (a : Attributes) (bytes : List ℕ) → cell < 512 → has_id id (cell_slot slots cell) ≡ true → StandsForKeys told may_leave disk slots keys doubt
-      → ((contents : List Content) (body : List ℕ) → content_at contents cell ≡ Present body → cells.StandsForContents told may_leave disk slots contents → HoldsKey a bytes body) → keys id ≡ Some (stored (creation_of_slot (cell_slot slots cell)) a bytes)
+  pub loaded_key : (disk : D) (slots : List Slot) (keys : Keys) (doubt : Doubt) (id cell : ℕ) (a : Attributes) (bytes : List ℕ) → cell < 512 → has_id id (cell_slot slots cell) ≡ true → StandsForKeys disks disk slots keys doubt
+      → ((contents : List Content) (body : List ℕ) → content_at contents cell ≡ Present body → cells.StandsForContents disks disk slots contents → HoldsKey a bytes body) → keys id ≡ Some (stored (creation_of_slot (cell_slot slots cell)) a bytes)
   loaded_key disk slots keys doubt id cell a bytes lt has s loaded =
       let o = tells_open keys doubt (cell_slot slots cell) (content_at s.contents cell) id has (s.filed.each cell lt) in
       let same = of_one_key o.2 a o.3 bytes o.1 o.6 (loaded s.contents o.1 o.5 s.stands) in
       o.8 ∙ (ap (λ (n : ℕ). Some (stored n o.2 o.3)) (sym (ap creation_of_slot o.4)) ∙ (ap (λ (x : Attributes). Some (stored (creation_of_slot (cell_slot slots cell)) x o.3)) same.0 ∙ ap (λ (b : List ℕ). Some (stored (creation_of_slot (cell_slot slots cell)) a b)) same.1))
 
   -- there is none where no cell has it
-  pub no_key_in : (disk : D) (slots : List Slot) (keys : Keys) (doubt : Doubt) (id : ℕ) → cells.HasNoKey slots id → StandsForKeys told may_leave disk slots keys doubt → keys id ≡ None
+  pub no_key_in : (disk : D) (slots : List Slot) (keys : Keys) (doubt : Doubt) (id : ℕ) → cells.HasNoKey slots id → StandsForKeys disks disk slots keys doubt → keys id ≡ None
   no_key_in disk slots keys doubt id none s = no_key keys doubt slots s.contents id none s.filed
 
   -- a cell whose content is in doubt isn't open
-  doubtful_shut : (disk : D) (slots : List Slot) (contents : List Content) (cell : ℕ) (body' : List ℕ) → cell < 512 → content_at contents cell ≡ Doubtful body' → cells.StandsForContents told may_leave disk slots contents → IfSome (told disk) (may_leave disk) → is_open (cell_slot slots cell) ≡ false
+  doubtful_shut : (disk : D) (slots : List Slot) (contents : List Content) (cell : ℕ) (body' : List ℕ) → cell < 512 → content_at contents cell ≡ Doubtful body' → cells.StandsForContents disks disk slots contents → IfSome (disks.contents disk) (disks.may_leave disk) → is_open (cell_slot slots cell) ≡ false
   doubtful_shut disk slots contents cell body' lt is s read =
-      let image = some_image told may_leave moment left_since disk slots contents s read in
+      let image = some_image disks disk slots contents s read in
       shut (cell_slot slots cell) (gate cell image.0) (body cell image.0) (rw is at ((s.each image.0 image.1).each cell lt))
     where
       shut : (slot : Slot) (gate body : List ℕ) → Shows slot (Doubtful body') gate body → is_open slot ≡ false
@@ -71,17 +72,17 @@ module _ {D : Type 0} (told : D → Option (List ℕ)) (may_leave : D → List �
 
   -- a call that changes no contents
   pub keeps_leads : (old new : D) (slots slots' : List Slot) (keys : Keys) (doubt : Doubt) → settled_slots slots' ≡ settled_slots slots
-      → cells.Keeps told may_leave moment left_since old new slots slots' → StandsForKeys told may_leave old slots keys doubt → Leads told may_leave moment left_since old new slots slots' keys doubt keys doubt
+      → cells.Keeps disks old new slots slots' → StandsForKeys disks old slots keys doubt → Leads disks old new slots slots' keys doubt keys doubt
   keeps_leads old new slots slots' keys doubt same keeps s =
       leads old new slots slots' s.contents s.contents keys keys doubt doubt s.stands.count s.filed (resettles keys doubt slots slots' s.contents same s.filed) (keeps s.contents s.stands)
 
-  module _ (old mid : D) (slots slots' : List Slot) (keys : Keys) (doubt : Doubt) (s : StandsForKeys told may_leave old slots keys doubt) (are : slots' ≡ settled_slots slots) (keeps : cells.Keeps told may_leave moment left_since old mid slots slots') (free : cells.StaysFree slots slots') where
+  module _ (old mid : D) (slots slots' : List Slot) (keys : Keys) (doubt : Doubt) (s : StandsForKeys disks old slots keys doubt) (are : slots' ≡ settled_slots slots) (keeps : cells.Keeps disks old mid slots slots') (free : cells.StaysFree slots slots') where
     -- the contents once those in doubt are closed
     abbrev pub sure : List Content
     sure = settled s.contents
 
-    pub settling : Moves told may_leave moment left_since old mid slots slots' s.contents sure
-    settling = moves_settled told may_leave moment left_since old mid slots slots' s.contents s.filed.sized are (keeps s.contents s.stands)
+    pub settling : Moves disks old mid slots slots' s.contents sure
+    settling = moves_settled disks old mid slots slots' s.contents s.filed.sized are (keeps s.contents s.stands)
 
     same : settled_slots slots' ≡ settled_slots slots
     same = ap settled_slots are ∙ settled_twice slots
@@ -93,19 +94,19 @@ module _ {D : Type 0} (told : D → Option (List ℕ)) (may_leave : D → List �
     surer_filed doubt' = settles keys doubt doubt' slots' sure settling.stands.count (sure_filed doubt)
 
     -- and then a call that leads on from them
-    goes_on : (new : D) (last : List Slot) (to : List Content) (keys' : Keys) (doubt' : Doubt) → Moves told may_leave moment left_since mid new slots' last sure to → IsFiled keys' doubt' last to → Leads told may_leave moment left_since old new slots last keys doubt keys' doubt'
+    goes_on : (new : D) (last : List Slot) (to : List Content) (keys' : Keys) (doubt' : Doubt) → Moves disks mid new slots' last sure to → IsFiled keys' doubt' last to → Leads disks old new slots last keys doubt keys' doubt'
     goes_on new last to keys' doubt' m after =
-        leads old new slots last s.contents to keys keys' doubt doubt' s.stands.count s.filed after (moves_after_settled told may_leave moment left_since old mid new slots slots' last s.contents to s.stands.count free settling m)
+        leads old new slots last s.contents to keys keys' doubt doubt' s.stands.count s.filed after (moves_after_settled disks old mid new slots slots' last s.contents to s.stands.count free settling m)
 
     -- nothing more
-    pub settled_leads : Leads told may_leave moment left_since old mid slots slots' keys doubt keys doubt
+    pub settled_leads : Leads disks old mid slots slots' keys doubt keys doubt
     settled_leads = leads old mid slots slots' s.contents sure keys keys doubt doubt s.stands.count s.filed (sure_filed doubt) settling
 
     -- a key was made
     pub made_leads : (new : D) (last : List Slot) (keys' : Keys) (cell creation : ℕ) (a : Attributes) (bytes made : List ℕ) → cell < 512 → is_open (cell_slot slots' cell) ≡ false → last ≡ set (settled_slots slots') cell (Open a.id.0 creation)
         → HoldsKey a bytes made → keys a.id.0 ≡ None → IsPut keys keys' a.id.0 (Some (stored creation a bytes))
-        → ((contents : List Content) → cells.StandsForContents told may_leave mid slots' contents → Moves told may_leave moment left_since mid new slots' last contents (set (settled contents) cell (Present made)))
-        → Leads told may_leave moment left_since old new slots last keys doubt keys' []
+        → ((contents : List Content) → cells.StandsForContents disks mid slots' contents → Moves disks mid new slots' last contents (set (settled contents) cell (Present made)))
+        → Leads disks old new slots last keys doubt keys' []
     made_leads new last keys' cell creation a bytes made lt shut is holds none put created =
         let sized = (sure_filed []).sized in
         let filed = resettles keys [] slots' (settled_slots slots') (settled sure) (settled_twice slots') (surer_filed []) in
@@ -115,9 +116,9 @@ module _ {D : Type 0} (told : D → Option (List ℕ)) (may_leave : D → List �
         (none_settled keys [] (settled_slots slots') sure a.id.0 settling.stands.count none filed) put filed))
 
     -- no key was made, and it is in doubt
-    pub unmade_leads : (new : D) (last : List Slot) (a : Attributes) (bytes made : List ℕ) → settled_slots last ≡ settled_slots slots' → HoldsKey a bytes made → keys a.id.0 ≡ None → IfSome (told new) (may_leave new)
-        → ((contents : List Content) → cells.StandsForContents told may_leave mid slots' contents → CreationFailed told may_leave moment left_since mid new slots' last contents made)
-        → Leads told may_leave moment left_since old new slots last keys doubt keys ((a, bytes) ∷ [])
+    pub unmade_leads : (new : D) (last : List Slot) (a : Attributes) (bytes made : List ℕ) → settled_slots last ≡ settled_slots slots' → HoldsKey a bytes made → keys a.id.0 ≡ None → IfSome (disks.contents new) (disks.may_leave new)
+        → ((contents : List Content) → cells.StandsForContents disks mid slots' contents → CreationFailed disks mid new slots' last contents made)
+        → Leads disks old new slots last keys doubt keys ((a, bytes) ∷ [])
     unmade_leads new last a bytes made alike holds none read failed =
         let doubt' : Doubt = (a, bytes) ∷ [] in
         ⊎_elim
@@ -133,8 +134,8 @@ module _ {D : Type 0} (told : D → Option (List ℕ)) (may_leave : D → List �
 
     -- a key was destroyed
     pub destroyed_leads : (new : D) (last : List Slot) (keys' : Keys) (cell id : ℕ) → cell < 512 → has_id id (cell_slot slots cell) ≡ true → last ≡ set (settled_slots slots') cell Free → IsPut keys keys' id None
-        → ((contents : List Content) (bytes : List ℕ) → content_at contents cell ≡ Present bytes → cells.StandsForContents told may_leave mid slots' contents → Moves told may_leave moment left_since mid new slots' last contents (set (settled contents) cell Absent))
-        → Leads told may_leave moment left_since old new slots last keys doubt keys' []
+        → ((contents : List Content) (bytes : List ℕ) → content_at contents cell ≡ Present bytes → cells.StandsForContents disks mid slots' contents → Moves disks mid new slots' last contents (set (settled contents) cell Absent))
+        → Leads disks old new slots last keys doubt keys' []
     destroyed_leads new last keys' cell id lt has is put destroyed =
         let has' = still_has slots slots' id cell s.filed.sized lt same has in
         let o = tells_open keys [] (cell_slot slots' cell) (content_at sure cell) id has' ((sure_filed []).each cell lt) in
@@ -146,9 +147,9 @@ module _ {D : Type 0} (told : D → Option (List ℕ)) (may_leave : D → List �
 
     -- it failed once the others were closed, and the key is in doubt
     pub undestroyed_leads : (new : D) (last : List Slot) (keys' : Keys) (cell id : ℕ) (key : Stored) → cell < 512 → has_id id (cell_slot slots cell) ≡ true → settled_slots last ≡ set (settled_slots slots') cell Free → IsPut keys keys' id None → keys id ≡ Some key
-        → ((contents : List Content) (bytes : List ℕ) → content_at contents cell ≡ Present bytes → cells.StandsForContents told may_leave mid slots' contents
-        → MovesEither told may_leave moment left_since mid new slots' last contents (set contents cell (Doubtful bytes)) (set (settled contents) cell (Doubtful bytes)))
-        → Leads told may_leave moment left_since old new slots last keys doubt keys' ((key.attributes, key.bytes) ∷ [])
+        → ((contents : List Content) (bytes : List ℕ) → content_at contents cell ≡ Present bytes → cells.StandsForContents disks mid slots' contents
+        → MovesEither disks mid new slots' last contents (set contents cell (Doubtful bytes)) (set (settled contents) cell (Doubtful bytes)))
+        → Leads disks old new slots last keys doubt keys' ((key.attributes, key.bytes) ∷ [])
     undestroyed_leads new last keys' cell id key lt has alike put there failed =
         let doubt' : Doubt = (key.attributes, key.bytes) ∷ [] in
         let has' = still_has slots slots' id cell s.filed.sized lt same has in
@@ -166,9 +167,9 @@ module _ {D : Type 0} (told : D → Option (List ℕ)) (may_leave : D → List �
 
   -- it failed before the others were closed, and the key is in doubt like them
   pub unreached_leads : (old mid new : D) (slots slots' last : List Slot) (keys keys' : Keys) (doubt : Doubt) (cell id : ℕ) (key : Stored) → cell < 512 → has_id id (cell_slot slots cell) ≡ true → settled_slots slots' ≡ settled_slots slots → new ≡ mid → last ≡ set slots' cell Unsure
-      → IsPut keys keys' id None → keys id ≡ Some key → cells.Keeps told may_leave moment left_since old mid slots slots'
-      → ((contents : List Content) (bytes : List ℕ) → content_at contents cell ≡ Present bytes → cells.StandsForContents told may_leave mid slots' contents → cells.StandsForContents told may_leave new last (set contents cell (Doubtful bytes)))
-      → StandsForKeys told may_leave old slots keys doubt → Leads told may_leave moment left_since old new slots last keys doubt keys' ((key.attributes, key.bytes) ∷ doubt)
+      → IsPut keys keys' id None → keys id ≡ Some key → cells.Keeps disks old mid slots slots'
+      → ((contents : List Content) (bytes : List ℕ) → content_at contents cell ≡ Present bytes → cells.StandsForContents disks mid slots' contents → cells.StandsForContents disks new last (set contents cell (Doubtful bytes)))
+      → StandsForKeys disks old slots keys doubt → Leads disks old new slots last keys doubt keys' ((key.attributes, key.bytes) ∷ doubt)
   unreached_leads old mid new slots slots' last keys keys' doubt cell id key lt has same is_mid is put there keeps doubted s =
       let doubt' : Doubt = (key.attributes, key.bytes) ∷ doubt in
       let c = s.contents in
@@ -182,9 +183,9 @@ module _ {D : Type 0} (told : D → Option (List ℕ)) (may_leave : D → List �
       let free = free_set_after slots slots' last cell Unsure is (not_free_as last cell Unsure unsure (λ e. cc)) in
       let to = set c cell (Doubtful o.1) in
       let stands = doubted c o.1 o.5 m.stands in
-      let stands' : cells.StandsForContents told may_leave mid last to = subst (λ (d : D). cells.StandsForContents told may_leave d last to) is_mid stands in
-      let moves : Moves told may_leave moment left_since old mid slots last c to = doubt_after told may_leave moment left_since old mid slots slots' last c to free m stands' in
-      let moves' : Moves told may_leave moment left_since old new slots last c to = subst (λ (d : D). Moves told may_leave moment left_since old d slots last c to) (sym is_mid) moves in
+      let stands' : cells.StandsForContents disks mid last to = subst (λ (d : D). cells.StandsForContents disks d last to) is_mid stands in
+      let moves : Moves disks old mid slots last c to = doubt_after disks old mid slots slots' last c to free m stands' in
+      let moves' : Moves disks old new slots last c to = subst (λ (d : D). Moves disks old d slots last c to) (sym is_mid) moves in
       leads old new slots last c to keys keys' doubt doubt' s.stands.count s.filed
       (subst (λ (l : List Slot). IsFiled keys' doubt' l to) (sym is)
       (removes keys keys' doubt doubt' slots' c cell id Unsure (Doubtful o.1) s.stands.count lt (still_has slots slots' id cell s.filed.sized lt same has) refl (o.2, o.3, o.6, d) (λ q h. subst (λ (x : Content). IsOf q x) (sym o.5) h) (λ i b z. inr z) put

@@ -1,4 +1,5 @@
 -- What a store file stands for: keys by their identifiers, and keys in doubt.
+use Rattle.disk_face.specs.declared.Disk as Disk
 use Rattle.std.specs.Prelude.{◌≡◌, ◌⊎◌, ℕ, ◌<◌, ◌==◌, Bool, true, false, cond, List, [], ◌∷◌, length, Option, Some, ⊤}
 use Rattle.disk_face.specs.Moments.{Within}
 use Rattle.key_attributes.specs.declared.Attributes.{Attributes}
@@ -73,9 +74,9 @@ pub record IsFiled (keys : Keys) (doubt : Doubt) (slots : List Slot) (contents :
   pub apart : (id cell other : ℕ) → cell < 512 → other < 512 → IsOf id (content_at contents cell) → IsOf id (content_at contents other) → cell ≡ other
 
 -- a disk whose bytes are told, and a directory, stand for keys
-pub record StandsForKeys {D : Type 0} (told : D → Option (List ℕ)) (may_leave : D → List ℕ → Type 0) (disk : D) (slots : List Slot) (keys : Keys) (doubt : Doubt) : Type 0 where
+pub record StandsForKeys {D : Type 0} (disks : Disk.Ghosts D) (disk : D) (slots : List Slot) (keys : Keys) (doubt : Doubt) : Type 0 where
   pub contents : List Content
-  pub stands : cells.StandsForContents told may_leave disk slots contents
+  pub stands : cells.StandsForContents disks disk slots contents
   pub filed : IsFiled keys doubt slots contents
 
 abbrev pub FitsEitherKeys : Keys → Doubt → Keys → Doubt → List ℕ → Type 0
@@ -83,10 +84,10 @@ FitsEitherKeys keys doubt keys' doubt' image = FitsKeys keys doubt image ⊎ Fit
 
 -- A call leads from keys to keys, and a crash within it leaves either. A cell that is free before the call and after it
 -- is all zeros in every image that a crash within it leaves.
-pub record Leads {D : Type 0} (told : D → Option (List ℕ)) (may_leave : D → List ℕ → Type 0) (moment : D → ℕ) (left_since : D → ℕ → List ℕ → Type 0) (old new : D) (slots slots' : List Slot) (keys : Keys) (doubt : Doubt) (keys' : Keys) (doubt' : Doubt) : Type 0 where
-  pub stands : StandsForKeys told may_leave new slots' keys' doubt'
-  pub within : Within (moment old) (moment new) (left_since old) (left_since new) (FitsEitherKeys keys doubt keys' doubt')
-  pub zeros : (cell : ℕ) → cell < 512 → cell_slot slots cell ≡ Free → cell_slot slots' cell ≡ Free → Within (moment old) (moment new) (left_since old) (left_since new) (HasZeros cell)
+pub record Leads {D : Type 0} (disks : Disk.Ghosts D) (old new : D) (slots slots' : List Slot) (keys : Keys) (doubt : Doubt) (keys' : Keys) (doubt' : Doubt) : Type 0 where
+  pub stands : StandsForKeys disks new slots' keys' doubt'
+  pub within : Within (disks.moment old) (disks.moment new) (disks.left_since old) (disks.left_since new) (FitsEitherKeys keys doubt keys' doubt')
+  pub zeros : (cell : ℕ) → cell < 512 → cell_slot slots cell ≡ Free → cell_slot slots' cell ≡ Free → Within (disks.moment old) (disks.moment new) (disks.left_since old) (disks.left_since new) (HasZeros cell)
 
 -- keys that differ at one identifier
 abbrev pub IsPut : Keys → Keys → ℕ → Option Stored → Type 0

@@ -4,7 +4,8 @@ ghost use Rattle.psa_status.specs.Causes.{HasCause, Rose};
 ghost use Rattle.disk_face.specs.Disk.{StillTells};
 ghost use Rattle.key_cells.specs.declared.slot.Slot.TheVariants.{Free, Open};
 ghost use Rattle.key_cells.specs.Contents.{HasNoKey, IsFirstWithKey, IsFirstWithoutKey, IsFull, IsSure, has_id, is_open, creation_of_slot, settled_slots, cell_slot};
-ghost use Rattle.persistent_keys.specs.Files.{Stored, stored, Keys, Doubt, StandsForKeys, Leads, IsPut, AreFound, doubt_unmade, doubt_undestroyed};
+ghost use Rattle.persistent_keys.specs.Files.{stored, Keys, Doubt, AreFound};
+ghost use Rattle.persistent_keys.specs.Calls.{StandsForThese, HasStored, KeepsFile, PutsInFile, LeavesUnmade, LeavesUndestroyed};
 ghost use Rattle.persistent_keys.specs.declared.file.MakeFault.TheVariants.{Disk};
 ghost use Rattle.secret_bytes.specs.Buffer.{bytes_of, IsClear};
 ghost use Rattle.key_cells.specs.Body.{IsKeyOf};
@@ -40,12 +41,12 @@ impl<D: Disk> KeyFile<D> {
     pub fn open(alloc: Global, disk: D) -> Result<KeyFile<D>, (D, OpenFault)>
         ensures size { IfOk result (λ file. D.size file.cells.disk ≡ 557120) }
         ensures slots { IfOk result (λ file. length file.cells.slots.items ≡ 512) }
-        ensures opened { IfOk result (λ file. IsOpened D.contents D.may_leave D.moment D.left_since disk file.cells.disk file.cells.slots.items) }
+        ensures opened { IfOk result (λ file. IsOpened D.Disk disk file.cells.disk file.cells.slots.items) }
         ensures keys { IfOk result (λ file. IfSome (D.contents disk) (λ image. (keys : Keys) → AreFound image file.cells.slots.items keys →
-            StandsForKeys D.contents D.may_leave file.cells.disk file.cells.slots.items keys [])) }
+            StandsForThese D.Disk file keys [])) }
         ensures found { IfOk result (λ file. IfSome (D.contents disk) (λ image. (keys : Keys) × AreFound image file.cells.slots.items keys)) }
         ensures later { IfOk result (λ file. D.faults disk ≤ D.faults file.cells.disk) }
-        ensures refused { IfErr result (λ refused. IsRefused D.contents D.may_leave D.moment D.left_since D.faults disk refused.0 refused.1) }
+        ensures refused { IfErr result (λ refused. IsRefused D.Disk disk refused.0 refused.1) }
     {
         match Cells::open(alloc, disk) {
             Ok(cells) => Ok(KeyFile { cells }),
@@ -72,13 +73,12 @@ impl<D: Disk> KeyFile<D> {
         ensures same { D.contents self.new.cells.disk ≡ D.contents self.old.cells.disk }
         ensures named { IfOk result (λ attributes. attributes.id.0 ≡ id) }
         ensures key { IfOk result (λ attributes. IsKeyOf attributes (bytes_of out.new)) }
-        ensures loaded { IfOk result (λ attributes. (keys : Keys) (doubt : Doubt) → StandsForKeys D.contents D.may_leave self.old.cells.disk self.old.cells.slots.items keys doubt →
-            keys id ≡ Some (stored (creation_of_slot (cell_slot self.old.cells.slots.items cell)) attributes (bytes_of out.new))) }
-        ensures keeps { (keys : Keys) (doubt : Doubt) → StandsForKeys D.contents D.may_leave self.old.cells.disk self.old.cells.slots.items keys doubt →
-            Leads D.contents D.may_leave D.moment D.left_since self.old.cells.disk self.new.cells.disk self.old.cells.slots.items self.new.cells.slots.items keys doubt keys doubt }
+        ensures loaded { IfOk result (λ attributes. HasStored D.Disk self.old id
+            (stored (creation_of_slot (cell_slot self.old.cells.slots.items cell)) attributes (bytes_of out.new))) }
+        ensures keeps { KeepsFile D.Disk self.old self.new }
         ensures clear { OnErr result (IsClear out.new) }
         ensures disk { IsErrOf result CellFault.Disk → Rose (D.faults self.old.cells.disk) (D.faults self.new.cells.disk) }
-        ensures corrupt { IsErrOf result CellFault.Corrupt → (keys : Keys) (doubt : Doubt) → StandsForKeys D.contents D.may_leave self.old.cells.disk self.old.cells.slots.items keys doubt → ⊥ }
+        ensures corrupt { IsErrOf result CellFault.Corrupt → (keys : Keys) (doubt : Doubt) → StandsForThese D.Disk self.old keys doubt → ⊥ }
         ensures full { IsErrOf result CellFault.Full → ⊥ }
         ensures later { D.faults self.old.cells.disk ≤ D.faults self.new.cells.disk }
     {
@@ -100,11 +100,8 @@ impl<D: Disk> KeyFile<D> {
         requires none { HasNoKey self.old.cells.slots.items attributes.now.id.0 }
         ensures size { D.size self.new.cells.disk ≡ 557120 }
         ensures slots { length self.new.cells.slots.items ≡ 512 }
-        ensures made { OnOk result ((keys keys' : Keys) (doubt : Doubt) → StandsForKeys D.contents D.may_leave self.old.cells.disk self.old.cells.slots.items keys doubt →
-            IsPut keys keys' attributes.now.id.0 (Some (stored creation attributes.now bytes.now)) →
-            Leads D.contents D.may_leave D.moment D.left_since self.old.cells.disk self.new.cells.disk self.old.cells.slots.items self.new.cells.slots.items keys doubt keys' []) }
-        ensures failed { IfErr result (λ fault. (keys : Keys) (doubt : Doubt) → StandsForKeys D.contents D.may_leave self.old.cells.disk self.old.cells.slots.items keys doubt →
-            Leads D.contents D.may_leave D.moment D.left_since self.old.cells.disk self.new.cells.disk self.old.cells.slots.items self.new.cells.slots.items keys doubt keys (doubt_unmade fault attributes.now bytes.now doubt)) }
+        ensures made { OnOk result (PutsInFile D.Disk self.old self.new attributes.now.id.0 (Some (stored creation attributes.now bytes.now))) }
+        ensures failed { IfErr result (λ fault. LeavesUnmade D.Disk self.old self.new fault attributes.now bytes.now) }
         ensures placed { OnOk result ((cell : ℕ) × IsFirstWithoutKey self.old.cells.slots.items cell ×
             (self.new.cells.slots.items ≡ set (settled_slots self.old.cells.slots.items) cell (Open attributes.now.id.0 creation))) }
         ensures unplaced { OnErr result (settled_slots self.new.cells.slots.items ≡ settled_slots self.old.cells.slots.items) }
@@ -141,12 +138,8 @@ impl<D: Disk> KeyFile<D> {
         ensures slots { length self.new.cells.slots.items ≡ 512 }
         ensures gone { OnOk result (self.new.cells.slots.items ≡ set (settled_slots self.old.cells.slots.items) cell Free) }
         ensures missing { settled_slots self.new.cells.slots.items ≡ set (settled_slots self.old.cells.slots.items) cell Free }
-        ensures destroyed { OnOk result ((keys keys' : Keys) (doubt : Doubt) → StandsForKeys D.contents D.may_leave self.old.cells.disk self.old.cells.slots.items keys doubt →
-            IsPut keys keys' id None →
-            Leads D.contents D.may_leave D.moment D.left_since self.old.cells.disk self.new.cells.disk self.old.cells.slots.items self.new.cells.slots.items keys doubt keys' []) }
-        ensures failed { IfErr result (λ fault. (keys keys' : Keys) (doubt : Doubt) (key : Stored) → StandsForKeys D.contents D.may_leave self.old.cells.disk self.old.cells.slots.items keys doubt →
-            keys id ≡ Some key → IsPut keys keys' id None →
-            Leads D.contents D.may_leave D.moment D.left_since self.old.cells.disk self.new.cells.disk self.old.cells.slots.items self.new.cells.slots.items keys doubt keys' (doubt_undestroyed fault.closed_first key.attributes key.bytes doubt)) }
+        ensures destroyed { OnOk result (PutsInFile D.Disk self.old self.new id None) }
+        ensures failed { IfErr result (λ fault. LeavesUndestroyed D.Disk self.old self.new id fault.closed_first) }
         ensures unclosed { IfErr result (λ fault. fault.closed_first ≡ false → IsSure self.old.cells.slots.items → ⊥) }
         ensures tells { StillTells (D.contents self.old.cells.disk) (D.contents self.new.cells.disk) }
         ensures cause { HasCause (D.faults self.old.cells.disk) (D.faults self.new.cells.disk) result }

@@ -12,15 +12,15 @@ destroy-requires-clause-open g c = has_is_open c.args.id (cell_slot c.settle.new
 
 pub returns-in-Err-clause-failed : goal.returns-in-Err-clause-failed
 returns-in-Err-clause-failed g c = λ keys keys' doubt key s there put. let d = g.D.Disk in let e = c.give_up.ensures in
-    unreached_leads d.contents d.may_leave d.moment d.left_since _ _ _ _ _ _ keys keys' doubt c.args.cell c.args.id key c.requires.within c.requires.key c.settle.ensures.slots e.disk e.slots put there c.settle.ensures.keeps e.doubts s
+    unreached_leads d _ _ _ _ _ _ keys keys' doubt c.args.cell c.args.id key c.requires.within c.requires.key c.settle.ensures.slots e.disk e.slots put there c.settle.ensures.keeps e.doubts s
 
 pub returns-in-Ok-destroy-clause-destroyed : goal.returns-in-Ok-destroy-clause-destroyed
 returns-in-Ok-destroy-clause-destroyed g c = λ keys keys' doubt s put. let d = g.D.Disk in let e = c.in-Ok-destroy.ensures in
-    destroyed_leads d.contents d.may_leave d.moment d.left_since _ _ _ _ keys doubt s c.in-Ok.ensures.ok c.in-Ok.ensures.keeps c.in-Ok.ensures.free _ _ keys' c.args.cell c.args.id c.requires.within c.requires.key e.ok put e.destroyed
+    destroyed_leads d _ _ _ _ keys doubt s c.in-Ok.ensures.ok c.in-Ok.ensures.keeps c.in-Ok.ensures.free _ _ keys' c.args.cell c.args.id c.requires.within c.requires.key e.ok put e.destroyed
 
 pub returns-in-Err-destroy-clause-failed : goal.returns-in-Err-destroy-clause-failed
 returns-in-Err-destroy-clause-failed g c = λ keys keys' doubt key s there put. let d = g.D.Disk in let e = c.in-Err-destroy.ensures in
-    undestroyed_leads d.contents d.may_leave d.moment d.left_since _ _ _ _ keys doubt s c.in-Ok.ensures.ok c.in-Ok.ensures.keeps c.in-Ok.ensures.free _ _ keys' c.args.cell c.args.id key c.requires.within c.requires.key e.slots put there e.failed
+    undestroyed_leads d _ _ _ _ keys doubt s c.in-Ok.ensures.ok c.in-Ok.ensures.keeps c.in-Ok.ensures.free _ _ keys' c.args.cell c.args.id key c.requires.within c.requires.key e.slots put there e.failed
 
 pub returns-in-Err-clause-missing : goal.returns-in-Err-clause-missing
 returns-in-Err-clause-missing g c = missing_unsure c.args.self.now.cells.slots.items c.settle.new.self.slots.items c.give_up.new.self.slots.items c.args.cell c.settle.ensures.slots c.give_up.ensures.slots

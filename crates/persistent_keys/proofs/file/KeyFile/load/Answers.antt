@@ -9,14 +9,14 @@ use Rattle.persistent_keys.proofs.file.KeyFile.load.Goals as goal
 pub returns-clause-keeps : goal.returns-clause-keeps
 returns-clause-keeps g c = λ keys doubt s.
     let d = g.D.Disk in
-    keeps_leads d.contents d.may_leave d.moment d.left_since _ _ _ _ keys doubt (ap (λ v. settled_slots v.items) c.load.ensures.slots) (rw c.load.ensures.slots c.load.ensures.keeps) s
+    keeps_leads d _ _ _ _ keys doubt (ap (λ v. settled_slots v.items) c.load.ensures.slots) (rw c.load.ensures.slots c.load.ensures.keeps) s
 
 pub returns-clause-loaded : goal.returns-clause-loaded
 returns-clause-loaded g c =
     let d = g.D.Disk in
     let self = c.args.self.now.cells in
     IfOk-weaker c.load.result _ _
-    (λ a loaded keys doubt s. loaded_key d.contents d.may_leave d.moment d.left_since self.disk self.slots.items keys doubt c.args.id c.args.cell a (bytes_of c.load.new.out) c.requires.within c.requires.key s loaded)
+    (λ a loaded keys doubt s. loaded_key d self.disk self.slots.items keys doubt c.args.id c.args.cell a (bytes_of c.load.new.out) c.requires.within c.requires.key s loaded)
     c.load.ensures.loaded
 
 pub returns-clause-named : goal.returns-clause-named

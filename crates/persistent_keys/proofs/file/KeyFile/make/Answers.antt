@@ -7,7 +7,7 @@ use Rattle.persistent_keys.proofs.file.KeyFile.make.Goals as goal
 pub returns-in-Err-clause-failed : goal.returns-in-Err-clause-failed
 returns-in-Err-clause-failed g c = λ keys doubt s.
     let d = g.D.Disk in
-    keeps_leads d.contents d.may_leave d.moment d.left_since _ _ _ _ keys doubt c.in-Err.ensures.slots c.in-Err.ensures.keeps s
+    keeps_leads d _ _ _ _ keys doubt c.in-Err.ensures.slots c.in-Err.ensures.keeps s
 
 pub returns-in-Ok-create-clause-made : goal.returns-in-Ok-create-clause-made
 returns-in-Ok-create-clause-made g c = λ keys keys' doubt s put.
@@ -15,15 +15,15 @@ returns-in-Ok-create-clause-made g c = λ keys keys' doubt s put.
     let e = c.in-Ok-create.ensures in
     let a = c.args.attributes.now in
     let bytes = c.args.bytes.now in
-    let none = no_key_in d.contents d.may_leave d.moment d.left_since _ _ keys doubt a.id.0 c.requires.none s in
-    made_leads d.contents d.may_leave d.moment d.left_since _ _ _ _ keys doubt s c.in-Ok.ensures.ok c.in-Ok.ensures.keeps c.in-Ok.ensures.free _ _ keys' c.in-Ok-create._cell c.args.creation a bytes (body_of a bytes) (omega (arith, e.place.within, c.settle.ensures.count)) e.place.here e.ok
+    let none = no_key_in d _ _ keys doubt a.id.0 c.requires.none s in
+    made_leads d _ _ _ _ keys doubt s c.in-Ok.ensures.ok c.in-Ok.ensures.keeps c.in-Ok.ensures.free _ _ keys' c.in-Ok-create._cell c.args.creation a bytes (body_of a bytes) (omega (arith, e.place.within, c.settle.ensures.count)) e.place.here e.ok
     (record { is_key = c.requires.key; spelled = refl }) none put e.created
 
 pub returns-in-Err-Full-clause-failed : goal.returns-in-Err-Full-clause-failed
 returns-in-Err-Full-clause-failed g c = λ keys doubt s.
     let d = g.D.Disk in
     let n = c.in-Err-Full.ensures.nothing (ap Err c.in-Err-Full.field-0-is) in
-    rw (n.0, n.1) (settled_leads d.contents d.may_leave d.moment d.left_since _ _ _ _ keys doubt s c.in-Ok.ensures.ok c.in-Ok.ensures.keeps c.in-Ok.ensures.free)
+    rw (n.0, n.1) (settled_leads d _ _ _ _ keys doubt s c.in-Ok.ensures.ok c.in-Ok.ensures.keeps c.in-Ok.ensures.free)
 
 pub returns-in-Err-Disk-clause-failed : goal.returns-in-Err-Disk-clause-failed
 returns-in-Err-Disk-clause-failed g c = λ keys doubt s.
@@ -31,8 +31,8 @@ returns-in-Err-Disk-clause-failed g c = λ keys doubt s.
     let e = c.in-Err-Disk.ensures in
     let a = c.args.attributes.now in
     let bytes = c.args.bytes.now in
-    let none = no_key_in d.contents d.may_leave d.moment d.left_since _ _ keys doubt a.id.0 c.requires.none s in
-    unmade_leads d.contents d.may_leave d.moment d.left_since _ _ _ _ keys doubt s c.in-Ok.ensures.ok c.in-Ok.ensures.keeps c.in-Ok.ensures.free _ _ a bytes (body_of a bytes) e.err
+    let none = no_key_in d _ _ keys doubt a.id.0 c.requires.none s in
+    unmade_leads d _ _ _ _ keys doubt s c.in-Ok.ensures.ok c.in-Ok.ensures.keeps c.in-Ok.ensures.free _ _ a bytes (body_of a bytes) e.err
     (record { is_key = c.requires.key; spelled = refl }) none (g.met.D.Disk.read_is_image c.create.new.self.disk) e.failed
 
 pub returns-in-Ok-create-clause-placed : goal.returns-in-Ok-create-clause-placed
