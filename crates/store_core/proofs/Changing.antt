@@ -50,8 +50,8 @@ module _ {D A C : Type 0} (disks : Disk.Ghosts D) (elements : Devices.Ghosts A) 
     pub directory : IsDirectory new.file.cells.slots.items m'
     pub device : HoldsKeys (elements.keys new.devices) m'
     pub tells : is_some (disks.contents new.file.cells.disk) ≡ is_some (disks.contents old.file.cells.disk)
-    pub leads : (s : Course) → S s.service → m ≡ s.service.store → StandsForKeys disks.contents disks.may_leave old.file.cells.disk old.file.cells.slots.items (durable_keys m) s.doubt →
-        Leads disks.contents disks.may_leave disks.moment disks.left_since old.file.cells.disk new.file.cells.disk old.file.cells.slots.items new.file.cells.slots.items (durable_keys m) s.doubt (durable_keys m') (doubt_after e s)
+    pub leads : (s : Course) → S s.service → m ≡ s.service.store → StandsForKeys disks old.file.cells.disk old.file.cells.slots.items (durable_keys m) s.doubt →
+        Leads disks old.file.cells.disk new.file.cells.disk old.file.cells.slots.items new.file.cells.slots.items (durable_keys m) s.doubt (durable_keys m') (doubt_after e s)
     -- where nothing is in doubt afterwards, no cell is
     pub settles : (s : Course) → S s.service → m ≡ s.service.store → (s.doubt ≡ [] → IsSure old.file.cells.slots.items) → doubt_after e s ≡ [] → IsSure new.file.cells.slots.items
     pub fault : HasFault (is_some (disks.contents new.file.cells.disk)) before e mark
@@ -92,7 +92,7 @@ module _ {D A C : Type 0} (disks : Disk.Ghosts D) (elements : Devices.Ghosts A) 
       after_course : m' ≡ (after e course).service.store
       after_course = t.becomes course.service before_course of_course
 
-      leads_here : Leads disks.contents disks.may_leave disks.moment disks.left_since past now old.file.cells.slots.items new.file.cells.slots.items (durable_keys m) course.doubt (durable_keys m') (doubt_after e course)
+      leads_here : Leads disks past now old.file.cells.slots.items new.file.cells.slots.items (durable_keys m) course.doubt (durable_keys m') (doubt_after e course)
       leads_here = t.leads course before_course of_course (s.file (tells_before is))
 
       fits_old : (image : List ℕ) → FitsKeys (durable_keys m) course.doubt image → FitsCourse course image
@@ -109,7 +109,7 @@ module _ {D A C : Type 0} (disks : Disk.Ghosts D) (elements : Devices.Ghosts A) 
 
       fits_now : (image : List ℕ) → disks.left_since now (disks.moment now) image → FitsCourse (after e course) image
       fits_now image left =
-          fits_new image (stands_fits disks.contents disks.may_leave disks.moment disks.left_since now new.file.cells.slots.items (durable_keys m') (doubt_after e course) image leads_here.stands (only_now now image left))
+          fits_new image (stands_fits disks now new.file.cells.slots.items (durable_keys m') (doubt_after e course) image leads_here.stands (only_now now image left))
 
     pub turns : IsTurn disks elements admits new mark e → StandsHere disks elements admits new start opening (h ++ e ∷ []) more
     turns is = record { holds = holds; counts = counts_push opening.counts h e ∙ counted_here }
@@ -136,7 +136,7 @@ module _ {D A C : Type 0} (disks : Disk.Ghosts D) (elements : Devices.Ghosts A) 
           holdings = t.holdings;
           directory = t.directory;
           device = t.device;
-          file = λ tells. subst (StandsForKeys disks.contents disks.may_leave now new.file.cells.slots.items (durable_keys m')) (sym (ap (λ (c : Course). c.doubt) (course_push start h e))) (leads_here tells).stands;
+          file = λ tells. subst (StandsForKeys disks now new.file.cells.slots.items (durable_keys m')) (sym (ap (λ (c : Course). c.doubt) (course_push start h e))) (leads_here tells).stands;
           sure = λ tells none. t.settles course (before_course tells) (of_course tells) (s.sure (tells_before tells)) (sym (ap (λ (c : Course). c.doubt) (course_push start h e)) ∙ none);
           promise = λ tells. promise_goes_on after FitsCourse (opened start) (λ (x : Entry). x.done) (disks.left_since past) (disks.left_since now) (disks.moment past) (disks.moment now) opening.moment h e (s.promise (tells_before tells))
               (within_here tells) (fits_now tells) is.done;

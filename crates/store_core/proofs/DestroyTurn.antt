@@ -89,9 +89,9 @@ module _ {D A C : Type 0} (disks : Disk.Ghosts D) (elements : Devices.Ghosts A) 
     directory = same_directory cells m s.holds.directory;
     device = same_device (elements.keys old.devices) m s.holds.device;
     tells = refl;
-    leads = λ c known same stands. subst (Leads disks.contents disks.may_leave disks.moment disks.left_since disk disk cells cells (durable_keys m) c.doubt (durable_keys m))
+    leads = λ c known same stands. subst (Leads disks disk disk cells cells (durable_keys m) c.doubt (durable_keys m))
         (sym (doubt_here e id call c Plain None is.marked (ap (λ (x : model.Store). durable_keys x id) (sym same) ∙ ap kept none)))
-        (stays disks.contents disks.may_leave disks.moment disks.left_since disk cells (durable_keys m) (durable_keys m) c.doubt (λ q. refl) stands);
+        (stays disks disk cells (durable_keys m) (durable_keys m) c.doubt (λ q. refl) stands);
     settles = λ c known same sure empty. sure (sym (doubt_here e id call c Plain None is.marked (ap (λ (x : model.Store). durable_keys x id) (sym same) ∙ ap kept none)) ∙ empty);
     fault = tt;
     may = λ service known same. tt;
@@ -108,8 +108,8 @@ module _ {D A C : Type 0} (disks : Disk.Ghosts D) (elements : Devices.Ghosts A) 
     pub sized : length file.cells.slots.items ≡ 512
     pub missing : settled_slots file.cells.slots.items ≡ set (settled_slots cells) c Free
     pub tells : is_some (disks.contents file.cells.disk) ≡ is_some (disks.contents disk)
-    pub leads : (keys keys' : Keys) (doubt : Doubt) (key : Stored) → StandsForKeys disks.contents disks.may_leave disk cells keys doubt → keys id ≡ Some key → IsPut keys keys' id None →
-        Leads disks.contents disks.may_leave disks.moment disks.left_since disk file.cells.disk cells file.cells.slots.items keys doubt keys' (doubt_by mark true key doubt)
+    pub leads : (keys keys' : Keys) (doubt : Doubt) (key : Stored) → StandsForKeys disks disk cells keys doubt → keys id ≡ Some key → IsPut keys keys' id None →
+        Leads disks disk file.cells.disk cells file.cells.slots.items keys doubt keys' (doubt_by mark true key doubt)
     pub settles : (key : Stored) (doubt : Doubt) → doubt_by mark true key doubt ≡ [] → IsSure file.cells.slots.items
 
   -- a store without a key of its file
@@ -147,7 +147,7 @@ module _ {D A C : Type 0} (disks : Disk.Ghosts D) (elements : Devices.Ghosts A) 
         directory = directory_emptied m id key there cells file.cells.slots.items c (creation_of_slot (cell_slot cells c)) (record { sized = f.sized; inside = f.within; settled = f.missing }) (opens_with (cell_slot cells c) id f.key) s.holds.directory;
         device = device_stays m id key there (elements.keys old.devices) s.holds.device;
         tells = f.tells;
-        leads = λ course known same stands. subst (Leads disks.contents disks.may_leave disks.moment disks.left_since disk file.cells.disk cells file.cells.slots.items (durable_keys m) course.doubt (durable_keys (gone m id)))
+        leads = λ course known same stands. subst (Leads disks disk file.cells.disk cells file.cells.slots.items (durable_keys m) course.doubt (durable_keys (gone m id)))
             (sym (doubt_here e id call course mark _ is.marked (ap (λ (x : model.Store). durable_keys x id) (sym same) ∙ kept_here m id key there false persistent)))
             (f.leads (durable_keys m) (durable_keys (gone m id)) course.doubt (stored key.number key.attributes key.bytes) stands (kept_here m id key there false persistent) (without_kept m id));
         settles = λ course known same sure none. f.settles (stored key.number key.attributes key.bytes) course.doubt
@@ -190,9 +190,9 @@ module _ {D A C : Type 0} (disks : Disk.Ghosts D) (elements : Devices.Ghosts A) 
         device = device_loses m id key there (elements.keys old.devices) (elements.keys devices) s.holds.sound
             (subst (λ (n : ℕ). (elements.keys devices ≡ elements.keys old.devices) ⊎ (elements.keys devices ≡ option_map (without_key n) (elements.keys old.devices))) k.has.number loses) s.holds.device;
         tells = refl;
-        leads = λ course known same stands. subst (Leads disks.contents disks.may_leave disks.moment disks.left_since disk disk cells cells (durable_keys m) course.doubt (durable_keys (gone m id)))
+        leads = λ course known same stands. subst (Leads disks disk disk cells cells (durable_keys m) course.doubt (durable_keys (gone m id)))
             (sym (doubt_here e id call course mark None is.marked (ap (λ (x : model.Store). durable_keys x id) (sym same) ∙ kept_here m id key there true volatile)))
-            (stays disks.contents disks.may_leave disks.moment disks.left_since disk cells (durable_keys m) (durable_keys (gone m id)) course.doubt (kept_same m id key there volatile) stands);
+            (stays disks disk cells (durable_keys m) (durable_keys (gone m id)) course.doubt (kept_same m id key there volatile) stands);
         settles = λ course known same sure none. sure (sym (doubt_here e id call course mark None is.marked (ap (λ (x : model.Store). durable_keys x id) (sym same) ∙ kept_here m id key there true volatile)) ∙ none);
         fault = fault;
         may = λ service known same. may service (changes_it e id call service ∙ ap (λ (x : model.Store). map.get x.keys id) (sym same));

@@ -135,8 +135,8 @@ module _ {D A C : Type 0} (disks : Disk.Ghosts D) (elements : Devices.Ghosts A) 
       device = same_device (elements.keys mid.devices) s.model s.device;
       tells = refl;
     }) counts
-        (λ c known at stands. subst (Leads disks.contents disks.may_leave disks.moment disks.left_since disk disk mid.file.cells.slots.items mid.file.cells.slots.items (durable_keys s.model) c.doubt (durable_keys s.model)) (sym (doubts c known))
-        (stays disks.contents disks.may_leave disks.moment disks.left_since disk mid.file.cells.slots.items (durable_keys s.model) (durable_keys s.model) c.doubt (λ q. refl) stands))
+        (λ c known at stands. subst (Leads disks disk disk mid.file.cells.slots.items mid.file.cells.slots.items (durable_keys s.model) c.doubt (durable_keys s.model)) (sym (doubts c known))
+        (stays disks disk mid.file.cells.slots.items (durable_keys s.model) (durable_keys s.model) c.doubt (λ q. refl) stands))
         (λ c known at sure none. sure (sym (doubts c known) ∙ none))
         fault may is
 

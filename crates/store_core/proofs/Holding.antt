@@ -80,14 +80,14 @@ module _ {D A C : Type 0} (disks : Disk.Ghosts D) (elements : Devices.Ghosts A) 
   pub record IsReadOn (old new : KeyFile D) : Type 0 where
     pub same : disks.contents new.cells.disk ≡ disks.contents old.cells.disk
     pub slots : new.cells.slots ≡ old.cells.slots
-    pub keeps : (keys : Keys) (doubt : Doubt) → StandsForKeys disks.contents disks.may_leave old.cells.disk old.cells.slots.items keys doubt →
-        Leads disks.contents disks.may_leave disks.moment disks.left_since old.cells.disk new.cells.disk old.cells.slots.items new.cells.slots.items keys doubt keys doubt
+    pub keeps : (keys : Keys) (doubt : Doubt) → StandsForKeys disks old.cells.disk old.cells.slots.items keys doubt →
+        Leads disks old.cells.disk new.cells.disk old.cells.slots.items new.cells.slots.items keys doubt keys doubt
 
   pub left_alone : (file : KeyFile D) → IsReadOn file file
   left_alone file = record {
     same = refl;
     slots = refl;
-    keeps = λ keys doubt s. stays disks.contents disks.may_leave disks.moment disks.left_since file.cells.disk file.cells.slots.items keys keys doubt (λ id. refl) s;
+    keeps = λ keys doubt s. stays disks file.cells.disk file.cells.slots.items keys keys doubt (λ id. refl) s;
   }
 
   module _ (old : Store D A C) (start : Service) (opening : Opening) (h : List Entry) where
@@ -136,7 +136,7 @@ module _ {D A C : Type 0} (disks : Disk.Ghosts D) (elements : Devices.Ghosts A) 
       before is = ap is_some (sym read.same) ∙ is
 
       leads : is_some (disks.contents file.cells.disk) ≡ true →
-          Leads disks.contents disks.may_leave disks.moment disks.left_since old.file.cells.disk file.cells.disk old.file.cells.slots.items file.cells.slots.items (durable_keys s.model) (course_of start h).doubt (durable_keys s.model) (course_of start h).doubt
+          Leads disks old.file.cells.disk file.cells.disk old.file.cells.slots.items file.cells.slots.items (durable_keys s.model) (course_of start h).doubt (durable_keys s.model) (course_of start h).doubt
       leads is = read.keeps (durable_keys s.model) (course_of start h).doubt (s.file (before is))
 
     -- a turn without rank
@@ -214,11 +214,11 @@ module _ {D A C : Type 0} (disks : Disk.Ghosts D) (elements : Devices.Ghosts A) 
     counted_now still known m is = ap counted is ∙ sym (still.counted_only known)
 
     -- the disk fits the course with the entry
-    fits_after : LeavesHere old start h e → Known → (m : model.Store) → m ≡ (replay start h).store → StandsForKeys disks.contents disks.may_leave disk_here old.file.cells.slots.items (durable_keys m) (course_of start h).doubt →
+    fits_after : LeavesHere old start h e → Known → (m : model.Store) → m ≡ (replay start h).store → StandsForKeys disks disk_here old.file.cells.slots.items (durable_keys m) (course_of start h).doubt →
         (image : List ℕ) → disks.left_since disk_here (disks.moment disk_here) image → FitsCourse (after e (course_of start h)) image
     fits_after still known m is stands image left =
         let same : counted m ≡ (after e (course_of start h)).service.store = counted_now still known m is ∙ ap (λ (s : Service). (outcome_of s e).service.store) (sym (course_service start h)) in
-        let fits = stands_fits disks.contents disks.may_leave disks.moment disks.left_since disk_here old.file.cells.slots.items (durable_keys m) (course_of start h).doubt image stands (only_now disk_here image left) in
+        let fits = stands_fits disks disk_here old.file.cells.slots.items (durable_keys m) (course_of start h).doubt image stands (only_now disk_here image left) in
         subst (λ (x : model.Store). FitsKeys (durable_keys x) (after e (course_of start h)).doubt image) same
         (subst (λ (d : Doubt). FitsKeys (durable_keys m) d image) (sym (course_doubt start h e (still.changes_none known))) fits)
 
@@ -249,7 +249,7 @@ module _ {D A C : Type 0} (disks : Disk.Ghosts D) (elements : Devices.Ghosts A) 
           holdings = holdings;
           directory = same_directory old.file.cells.slots.items s.model s.directory;
           device = same_device (elements.keys old.devices) s.model s.device;
-          file = λ tells. subst (StandsForKeys disks.contents disks.may_leave disk_here old.file.cells.slots.items (durable_keys s.model)) (sym (doubt_stays start h e (still.changes_none (inl tells)))) (s.file tells);
+          file = λ tells. subst (StandsForKeys disks disk_here old.file.cells.slots.items (durable_keys s.model)) (sym (doubt_stays start h e (still.changes_none (inl tells)))) (s.file tells);
           sure = λ tells none. s.sure tells (sym (doubt_stays start h e (still.changes_none (inl tells))) ∙ none);
           promise = λ tells. promise_goes_on after FitsCourse (opened start) (λ (x : Entry). x.done) (disks.left_since disk_here) (disks.left_since disk_here) (disks.moment disk_here) (disks.moment disk_here) opening.moment h e (s.promise tells)
               (within_none (disks.moment disk_here) (disks.left_since disk_here) _) (fits_after still (inl tells) s.model (s.replayed (inl tells)) (s.file tells)) is.done;

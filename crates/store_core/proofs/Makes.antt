@@ -133,8 +133,8 @@ module _ {D A C : Type 0} (disks : Disk.Ghosts D) (elements : Devices.Ghosts A) 
   -- a key was made
   pub makes : (caller : ℕ) (recorded : Attributes) (bytes : List ℕ) (s : HoldsOld) → 1 ≤ caller → caller ≤ 16 → MayBeKept s.model caller recorded (length bytes) → is_destruction e.call ≡ false →
       (IsTold (disks.contents disk) start (h ++ e ∷ []) → IsMakingAt e caller recorded bytes (replay start h)) → AreHoldings less → IsSameBut (created s.model caller recorded bytes).store →
-      ((doubt : Doubt) → StandsForKeys disks.contents disks.may_leave disk old.file.cells.slots.items (durable_keys s.model) doubt →
-      Leads disks.contents disks.may_leave disks.moment disks.left_since disk new.file.cells.disk old.file.cells.slots.items new.file.cells.slots.items (durable_keys s.model) doubt (durable_keys (created s.model caller recorded bytes).store)
+      ((doubt : Doubt) → StandsForKeys disks disk old.file.cells.slots.items (durable_keys s.model) doubt →
+      Leads disks disk new.file.cells.disk old.file.cells.slots.items new.file.cells.slots.items (durable_keys s.model) doubt (durable_keys (created s.model caller recorded bytes).store)
       (cond (is_volatile recorded) doubt [])) →
       ((doubt : Doubt) → (doubt ≡ [] → IsSure old.file.cells.slots.items) → cond (is_volatile recorded) doubt [] ≡ [] → IsSure new.file.cells.slots.items) →
       IsTurnTo Plain → StandsNew
@@ -158,7 +158,7 @@ module _ {D A C : Type 0} (disks : Disk.Ghosts D) (elements : Devices.Ghosts A) 
         directory = same.directory;
         device = same.device;
         tells = same.tells;
-        leads = λ c known at stands. subst (Leads disks.contents disks.may_leave disks.moment disks.left_since disk new.file.cells.disk old.file.cells.slots.items new.file.cells.slots.items (durable_keys s.model) c.doubt (durable_keys (created s.model caller recorded bytes).store))
+        leads = λ c known at stands. subst (Leads disks disk new.file.cells.disk old.file.cells.slots.items new.file.cells.slots.items (durable_keys s.model) c.doubt (durable_keys (created s.model caller recorded bytes).store))
             (sym (doubt_is c known at)) (leads c.doubt stands);
         settles = λ c known at sure none. settles c.doubt sure (sym (doubt_is c known at) ∙ none);
         fault = tt;
@@ -180,8 +180,8 @@ module _ {D A C : Type 0} (disks : Disk.Ghosts D) (elements : Devices.Ghosts A) 
   -- none was made
   pub unmade : (S : Service → Type 0) (mark : FaultMark) (s : HoldsOld) → is_destruction e.call ≡ false → (IsTold (disks.contents disk) start (h ++ e ∷ []) → S (replay start h)) → AreHoldings less → IsSameBut (counted s.model) →
       ((service : Service) → S service → (outcome_of service e).service.store ≡ counted service.store) →
-      ((c : Course) → S c.service → s.model ≡ c.service.store → StandsForKeys disks.contents disks.may_leave disk old.file.cells.slots.items (durable_keys s.model) c.doubt →
-      Leads disks.contents disks.may_leave disks.moment disks.left_since disk new.file.cells.disk old.file.cells.slots.items new.file.cells.slots.items (durable_keys s.model) c.doubt (durable_keys s.model) (doubt_after e c)) →
+      ((c : Course) → S c.service → s.model ≡ c.service.store → StandsForKeys disks disk old.file.cells.slots.items (durable_keys s.model) c.doubt →
+      Leads disks disk new.file.cells.disk old.file.cells.slots.items new.file.cells.slots.items (durable_keys s.model) c.doubt (durable_keys s.model) (doubt_after e c)) →
       ((c : Course) → S c.service → s.model ≡ c.service.store → (c.doubt ≡ [] → IsSure old.file.cells.slots.items) → doubt_after e c ≡ [] → IsSure new.file.cells.slots.items) →
       HasFault (is_some (disks.contents new.file.cells.disk)) (last_counts opening.counts h) e mark → ((service : Service) → S service → s.model ≡ service.store → MayBeMarked service e.caller e.call mark) →
       IsTurnTo mark → StandsNew

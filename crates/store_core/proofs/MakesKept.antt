@@ -121,7 +121,7 @@ module _ {D A C : Type 0} (disks : Disk.Ghosts D) (elements : Devices.Ghosts A) 
           (local_fills m caller a r.bytes first last r.holds.sound ready_may local)))
 
       abbrev Leading : Keys → Doubt → Keys → Doubt → Type 0
-      Leading keys doubt keys' doubt' = Leads disks.contents disks.may_leave disks.moment disks.left_since disk file.cells.disk cells file.cells.slots.items keys doubt keys' doubt'
+      Leading keys doubt keys' doubt' = Leads disks disk file.cells.disk cells file.cells.slots.items keys doubt keys' doubt'
 
       -- what the file makes of a new key
       pub record IsFiled : Type 0 where
@@ -130,7 +130,7 @@ module _ {D A C : Type 0} (disks : Disk.Ghosts D) (elements : Devices.Ghosts A) 
         pub placed : file.cells.slots.items ≡ set (settled_slots cells) c (Open a.id.0 number)
         pub sized : length file.cells.slots.items ≡ 512
         pub tells : is_some (disks.contents file.cells.disk) ≡ is_some (disks.contents disk)
-        pub leads : (keys keys' : Keys) (doubt : Doubt) → StandsForKeys disks.contents disks.may_leave disk cells keys doubt → IsPut keys keys' a.id.0 (Some (stored number a (bytes_of old.buffer))) → Leading keys doubt keys' []
+        pub leads : (keys keys' : Keys) (doubt : Doubt) → StandsForKeys disks disk cells keys doubt → IsPut keys keys' a.id.0 (Some (stored number a (bytes_of old.buffer))) → Leading keys doubt keys' []
 
       kept_own : kept (Some own) ≡ Some (stored number a (bytes_of old.buffer))
       kept_own = persistent_kept m caller a r.bytes first last r.holds.sound ready_may persistent
@@ -167,7 +167,7 @@ module _ {D A C : Type 0} (disks : Disk.Ghosts D) (elements : Devices.Ghosts A) 
         pub settled : settled_slots file.cells.slots.items ≡ settled_slots cells
         pub sized : length file.cells.slots.items ≡ 512
         pub tells : is_some (disks.contents file.cells.disk) ≡ is_some (disks.contents disk)
-        pub leads : (keys : Keys) (doubt : Doubt) → StandsForKeys disks.contents disks.may_leave disk cells keys doubt → Leading keys doubt keys (doubt_unmade (Disk closed_first) a (bytes_of old.buffer) doubt)
+        pub leads : (keys : Keys) (doubt : Doubt) → StandsForKeys disks disk cells keys doubt → Leading keys doubt keys (doubt_unmade (Disk closed_first) a (bytes_of old.buffer) doubt)
         pub unclosed : closed_first ≡ false → IsSure cells → ⊥
         pub rose : Rose (disks.faults disk) (disks.faults file.cells.disk)
 

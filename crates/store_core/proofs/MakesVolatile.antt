@@ -166,7 +166,7 @@ module _ {D A C : Type 0} (disks : Disk.Ghosts D) (elements : Devices.Ghosts A) 
     is_making k = record { leaves = making.leaves k; answers = making.answers k }
 
     abbrev Leading : Doubt → model.Store → Doubt → Type 0
-    Leading doubt m' doubt' = Leads disks.contents disks.may_leave disks.moment disks.left_since disk disk old.file.cells.slots.items old.file.cells.slots.items (durable_keys m) doubt (durable_keys m') doubt'
+    Leading doubt m' doubt' = Leads disks disk disk old.file.cells.slots.items old.file.cells.slots.items (durable_keys m) doubt (durable_keys m') doubt'
 
     abbrev pub with_volatile : Store D A C
     with_volatile = record old {
@@ -193,7 +193,7 @@ module _ {D A C : Type 0} (disks : Disk.Ghosts D) (elements : Devices.Ghosts A) 
       device = device;
       tells = refl;
     }) (λ doubt stands. subst (λ b. Leading doubt after (cond b doubt [])) (sym volatile)
-        (stays disks.contents disks.may_leave disks.moment disks.left_since disk old.file.cells.slots.items (durable_keys m) (durable_keys after) doubt (volatile_kept m caller a r.bytes first last r.holds.sound may volatile) stands))
+        (stays disks disk old.file.cells.slots.items (durable_keys m) (durable_keys after) doubt (volatile_kept m caller a r.bytes first last r.holds.sound may volatile) stands))
         (λ doubt sure none. sure (subst (λ b. cond b doubt [] ≡ []) volatile none)) is
 
     -- a key that no device is to hold
@@ -226,7 +226,7 @@ module _ {D A C : Type 0} (disks : Disk.Ghosts D) (elements : Devices.Ghosts A) 
           (subst (λ n. (elements.keys devices ≡ elements.keys old.devices) ⊎ (elements.keys devices ≡ option_map (with_held_key n held_key) (elements.keys old.devices))) number_is changes) r.holds.device;
       tells = refl;
     }) (λ service known. ap (λ (x : FaultMark). (serve service e.caller e.call x).service.store) is.marked ∙ marked_counts service e.caller e.call Hardware tt making.keeps)
-        (λ c known at stands. subst (Leading c.doubt m) (sym (doubt_is c known at)) (stays disks.contents disks.may_leave disks.moment disks.left_since disk old.file.cells.slots.items (durable_keys m) (durable_keys m) c.doubt (λ q. refl) stands))
+        (λ c known at stands. subst (Leading c.doubt m) (sym (doubt_is c known at)) (stays disks disk old.file.cells.slots.items (durable_keys m) (durable_keys m) c.doubt (λ q. refl) stands))
         (λ c known at sure none. sure (sym (doubt_is c known at) ∙ none))
         (rose_since (last_counts opening.counts h).hard (elements.faults old.devices) e.hard since.hard_since (subst (Rose (elements.faults old.devices)) (sym is.device_faults) rose))
         (λ service known at. ap (λ b. b || asks_device service e.caller e.call) (ap is_opaque_key (changed service known at) ∙ opaque)) is

@@ -128,7 +128,7 @@ module _ {D A C : Type 0} (disks : Disk.Ghosts D) (elements : Devices.Ghosts A) 
 
   -- a store as it is made of a file that was opened
   pub record IsNew (first : D) (store : Store D A C) : Type 0 where
-    pub file : IsOpened disks.contents disks.may_leave disks.moment disks.left_since first store.file.cells.disk store.file.cells.slots.items
+    pub file : IsOpened disks first store.file.cells.disk store.file.cells.slots.items
     pub slots : store.slots.table.slots ≡ replicate 384 empty_slot
     pub made : store.made ≡ replicate 17 0
     pub live : store.live ≡ replicate 17 0
@@ -150,7 +150,7 @@ module _ {D A C : Type 0} (disks : Disk.Ghosts D) (elements : Devices.Ghosts A) 
     keys_of start s = subst (λ (f : KeyFile D). AreOpened (disks.contents f.cells.disk) f.cells.slots.items s.found) new.saw_file s.keys
 
     sounds : IfSome (disks.contents first) (λ image. (read : List ℕ) → disks.may_leave disk read → Sound slots (found_in image) read)
-    sounds = some_weaker (disks.contents first) (λ image. StandsForContents disks.contents disks.may_leave disk slots (found_in image)) (λ image. (read : List ℕ) → disks.may_leave disk read → Sound slots (found_in image) read) (λ image s. s.each) new.file.stands
+    sounds = some_weaker (disks.contents first) (λ image. StandsForContents disks disk slots (found_in image)) (λ image. (read : List ℕ) → disks.may_leave disk read → Sound slots (found_in image) read) (λ image s. s.each) new.file.stands
 
     -- there is a start
     pub starts : (settings : Settings) → settings.seed ≡ store.opened.seed.value → settings.labels ≡ admits.labels store.rules → settings.locations ≡ elements.locations store.devices → settings.has_file ≡ true → (start : Service) × Start store.opened start
@@ -192,8 +192,8 @@ module _ {D A C : Type 0} (disks : Disk.Ghosts D) (elements : Devices.Ghosts A) 
 
     -- THE HISTORY WITHOUT AN ENTRY
 
-    with_those : (keys : Keys) (o : Option (List ℕ)) → IfSome o (λ image. (k : Keys) → AreFound image slots k → StandsForKeys disks.contents disks.may_leave disk slots k []) → IfSome o (λ image. AreFound image slots keys) → is_some o ≡ true →
-        StandsForKeys disks.contents disks.may_leave disk slots keys []
+    with_those : (keys : Keys) (o : Option (List ℕ)) → IfSome o (λ image. (k : Keys) → AreFound image slots k → StandsForKeys disks disk slots k []) → IfSome o (λ image. AreFound image slots keys) → is_some o ≡ true →
+        StandsForKeys disks disk slots keys []
     with_those keys None each are tells = absurd (false≢true tells)
     with_those keys (Some image) each are tells = each keys are
 
@@ -204,19 +204,19 @@ module _ {D A C : Type 0} (disks : Disk.Ghosts D) (elements : Devices.Ghosts A) 
         (λ image read are keys. durable_found slots image read are new.file.sized new.file.numbered found keys settings once)
         are
 
-    file_starts : (settings : Settings) (found : List OpenedKey) → AreOpened (disks.contents disk) slots found → HasEachOnce found → is_some (disks.contents disk) ≡ true → StandsForKeys disks.contents disks.may_leave disk slots (durable_keys (start_of settings found)) []
+    file_starts : (settings : Settings) (found : List OpenedKey) → AreOpened (disks.contents disk) slots found → HasEachOnce found → is_some (disks.contents disk) ≡ true → StandsForKeys disks disk slots (durable_keys (start_of settings found)) []
     file_starts settings found are once tells =
-        with_those (durable_keys (start_of settings found)) (disks.contents first) (found_stands disks.contents disks.may_leave disks.moment disks.left_since first disk slots new.file) (found_durable settings found are once) (sym new.file.tells ∙ tells)
+        with_those (durable_keys (start_of settings found)) (disks.contents first) (found_stands disks first disk slots new.file) (found_durable settings found are once) (sym new.file.tells ∙ tells)
 
     same_moment : disks.moment store.opened.file.value.cells.disk ≡ disks.moment disk
     same_moment = ap (λ (f : KeyFile D). disks.moment f.cells.disk) new.saw_file
 
-    promise_starts : (start : Service) → ((image : List ℕ) → disks.left_since disk (disks.moment disk) image → disks.may_leave disk image) → StandsForKeys disks.contents disks.may_leave disk slots (durable_keys start.store) [] →
+    promise_starts : (start : Service) → ((image : List ℕ) → disks.left_since disk (disks.moment disk) image → disks.may_leave disk image) → StandsForKeys disks disk slots (durable_keys start.store) [] →
         KeepsKeys (disks.left_since disk) (disks.moment disk) (opening store.opened).moment start []
     promise_starts start only_now s = record {
       opened = (let same = same_moment in omega arith);
       entered = λ k lt. absurd (omega arith);
-      since_opening = λ image left. (0, omega arith, omega arith, stands_fits disks.contents disks.may_leave disks.moment disks.left_since disk slots (durable_keys start.store) [] image s (only_now image (subst (λ (t : ℕ). disks.left_since disk t image) same_moment left)));
+      since_opening = λ image left. (0, omega arith, omega arith, stands_fits disks disk slots (durable_keys start.store) [] image s (only_now image (subst (λ (t : ℕ). disks.left_since disk t image) same_moment left)));
       since_done = λ k lt. absurd (omega arith);
     }
 
@@ -233,7 +233,7 @@ module _ {D A C : Type 0} (disks : Disk.Ghosts D) (elements : Devices.Ghosts A) 
         let kept : AreKept found = are_kept (disks.contents disk) slots found sized numbered_by are in
         let once : HasEachOnce found = each_once (disks.contents disk) slots found sized numbered_by are new.file.one in
         let few_keys : length found ≤ 512 = few_found (disks.contents disk) slots found settings kept once sized numbered_by new.file.one are in
-        let file : is_some (disks.contents disk) ≡ true → StandsForKeys disks.contents disks.may_leave disk slots (durable_keys m) [] = file_starts settings found are once in
+        let file : is_some (disks.contents disk) ≡ true → StandsForKeys disks disk slots (durable_keys m) [] = file_starts settings found are once in
         let store_is : m ≡ start.store = ap (λ (x : Service). x.store) (sym s.is) in
         record {
           holds = record {
@@ -256,7 +256,7 @@ module _ {D A C : Type 0} (disks : Disk.Ghosts D) (elements : Devices.Ghosts A) 
             device = device_starts (disks.contents disk) slots found settings kept once (elements.keys store.devices) lacks;
             file = file;
             sure = λ tells none. opened_sure (disks.contents first) slots sized new.file.found (sym new.file.tells ∙ tells);
-            promise = λ tells. promise_starts start only_now (subst (λ (x : model.Store). StandsForKeys disks.contents disks.may_leave disk slots (durable_keys x) []) store_is (file tells));
+            promise = λ tells. promise_starts start only_now (subst (λ (x : model.Store). StandsForKeys disks disk slots (durable_keys x) []) store_is (file tells));
             caused = tt;
             allowed = λ t. tt;
           };
@@ -264,6 +264,6 @@ module _ {D A C : Type 0} (disks : Disk.Ghosts D) (elements : Devices.Ghosts A) 
         }
 
   -- an opening that had no memory left the disk as it was
-  pub without_memory : (first : D) → IsRefused disks.contents disks.may_leave disks.moment disks.left_since disks.faults first first Memory
+  pub without_memory : (first : D) → IsRefused disks first first Memory
   without_memory first =
-      refused_calm disks.contents disks.may_leave disks.moment disks.left_since disks.faults first first Memory (calm_none disks.contents disks.may_leave disks.moment disks.left_since disks.faults first) (for_told (disks.contents first) _ (λ image is. tt)) (λ h. absurd h) (λ h. absurd h)
+      refused_calm disks first first Memory (calm_none disks first) (for_told (disks.contents first) _ (λ image is. tt)) (λ h. absurd h) (λ h. absurd h)

@@ -1,4 +1,5 @@
 -- Directories without a cell in doubt, and what is in the cells of their files.
+use Rattle.disk_face.specs.declared.Disk as Disk
 use Rattle.std.proofs.Common.{◌≡◌, ◌⊎◌, ◌∙◌, ℕ, ◌<◌, true, List, [], ◌∷◌, length, set, refl, sym, ap, subst, arith, inl, inr, Option, None, Some, IfSome, is_some}
 use Rattle.std.proofs.lemmas.Bool.{false≢true}
 use Rattle.std.proofs.lemmas.List.{get_or-map, get_or-replicate, map-set}
@@ -47,9 +48,9 @@ sure_cell keys doubt (Open id number) (Doubtful bytes) g b sure shows tells = ab
 sure_cell keys doubt Shut content g b sure shows tells = cc
 sure_cell keys doubt Unsure content g b sure shows tells = cc
 
-pub sure_cells : {D : Type 0} (told : D → Option (List ℕ)) (may_leave : D → List ℕ → Type 0) (disk : D) (slots : List Slot) (keys : Keys) (doubt : Doubt) → StandsForKeys told may_leave disk slots keys doubt → IsSure slots →
-    (image : List ℕ) → may_leave disk image → (cell : ℕ) → cell < 512 → HasKeyOrZeros keys cell image
-sure_cells told may_leave disk slots keys doubt s sure image left cell lt =
+pub sure_cells : {D : Type 0} (disks : Disk.Ghosts D) (disk : D) (slots : List Slot) (keys : Keys) (doubt : Doubt) → StandsForKeys disks disk slots keys doubt → IsSure slots →
+    (image : List ℕ) → disks.may_leave disk image → (cell : ℕ) → cell < 512 → HasKeyOrZeros keys cell image
+sure_cells disks disk slots keys doubt s sure image left cell lt =
     let sized = s.filed.sized in
     let settled : settled_slot (cell_slot slots cell) ≡ cell_slot slots cell = sym (get_or-map settled_slot slots cell Free Free (omega arith)) ∙ ap (λ (l : List Slot). cell_slot l cell) sure in
     sure_cell keys doubt (cell_slot slots cell) (content_at s.contents cell) (gate cell image) (body cell image) settled ((s.stands.each image left).each cell lt) (s.filed.each cell lt)

@@ -11,7 +11,8 @@ use Rattle.key_cells.specs.declared.slot.Slot as cell
 use Rattle.key_cells.specs.declared.slot.Slot.TheVariants.{Free, Open, Shut, Unsure}
 use Rattle.key_cells.specs.Contents.{HasZeros, cell_slot, has_id, settled_slot, settled_slots}
 use Rattle.persistent_keys.specs.declared.file.KeyFile.{KeyFile}
-use Rattle.persistent_keys.specs.Files.{Stored, Keys, Doubt, StandsForKeys, Leads}
+use Rattle.persistent_keys.specs.Files.{Stored, Keys}
+use Rattle.persistent_keys.specs.Calls.{KeepsFile}
 use Rattle.persistent_keys.proofs.Leading.{stays}
 use Rattle.std.specs.FinMap as finmap
 use Rattle.store_model.specs.Store as model
@@ -24,19 +25,19 @@ use Rattle.store_core.specs.Zeros.{FileStaysZeros, LeavesZeros, StaysFree, last_
 abbrev pub keys_put : Keys → ℕ → Option Stored → Keys
 keys_put keys id key = λ other. cond (other == id) key (keys other)
 
-module _ {D : Type 0} (told : D → Option (List ℕ)) (may_leave : D → List ℕ → Type 0) (moment : D → ℕ) (left_since : D → ℕ → List ℕ → Type 0) where
+module _ {D : Type 0} (disks : Disk.Ghosts D) where
   -- no call
-  pub uncalled : (file : KeyFile D) → FileStaysZeros told may_leave moment left_since file file
-  uncalled file = λ keys doubt s. (stays told may_leave moment left_since file.cells.disk file.cells.slots.items keys keys doubt (λ id. refl) s).zeros
+  pub uncalled : (file : KeyFile D) → FileStaysZeros disks file file
+  uncalled file = λ keys doubt s. (stays disks file.cells.disk file.cells.slots.items keys keys doubt (λ id. refl) s).zeros
 
   -- a file that was read, and then changed
   pub read_first : (old mid new : KeyFile D) → mid.cells.slots ≡ old.cells.slots →
-      ((keys : Keys) (doubt : Doubt) → StandsForKeys told may_leave old.cells.disk old.cells.slots.items keys doubt → Leads told may_leave moment left_since old.cells.disk mid.cells.disk old.cells.slots.items mid.cells.slots.items keys doubt keys doubt) →
-      FileStaysZeros told may_leave moment left_since mid new → FileStaysZeros told may_leave moment left_since old new
+      KeepsFile disks old mid →
+      FileStaysZeros disks mid new → FileStaysZeros disks old new
   read_first old mid new same keeps then = λ keys doubt s c lt free still.
       let read = keeps keys doubt s in
       let between : cell_slot mid.cells.slots.items c ≡ Free = ap (λ (d : _). cell_slot d.items c) same ∙ free in
-      within_both (moment old.cells.disk) (moment mid.cells.disk) (moment new.cells.disk) (left_since old.cells.disk) (left_since mid.cells.disk) (left_since new.cells.disk) (HasZeros c) (HasZeros c) (HasZeros c)
+      within_both (disks.moment old.cells.disk) (disks.moment mid.cells.disk) (disks.moment new.cells.disk) (disks.left_since old.cells.disk) (disks.left_since mid.cells.disk) (disks.left_since new.cells.disk) (HasZeros c) (HasZeros c) (HasZeros c)
       (read.zeros c lt free between) (then keys doubt read.stands c lt between still) (λ image z. z) (λ image z. z)
 
 -- a cell that has an identifier is open
@@ -66,8 +67,8 @@ lacks_cell slots m id d none c lt has =
       apart key same = cc
 
 -- a file that stays as it is
-pub untouched : {D : Type 0} (moment : D → ℕ) (left_since : D → ℕ → List ℕ → Type 0) (old new : KeyFile D) → new ≡ old → LeavesZeros moment left_since old new
-untouched moment left_since old new same = subst (LeavesZeros moment left_since old) (sym same) (λ c lt free still. within_none (moment old.cells.disk) (left_since old.cells.disk) (HasZeros c))
+pub untouched : {D : Type 0} (disks : Disk.Ghosts D) (old new : KeyFile D) → new ≡ old → LeavesZeros disks old new
+untouched disks old new same = subst (LeavesZeros disks old) (sym same) (λ c lt free still. within_none (disks.moment old.cells.disk) (disks.left_since old.cells.disk) (HasZeros c))
 
 -- over many turns
 module _ {D A C : Type 0} (disks : Disk.Ghosts D) (elements : Devices.Ghosts A) (admits : Admission.Ghosts C) (cell : ℕ) (within : cell < 512) where

@@ -9,8 +9,10 @@ use Rattle.psa_status.specs.declared.Status.TheVariants.{InvalidHandle, StorageF
 use Rattle.key_attributes.specs.declared.Attributes.{Attributes}
 use Rattle.driver_dispatch.specs.Calls.{HoldsHandle}
 use Rattle.secret_bytes.specs.Buffer.{bytes_of}
+use Rattle.slot_table.specs.Slots as slots
 use Rattle.slot_table.specs.Lent as lent
 use Rattle.key_slots.specs.Holdings.{Pairs, Gains, AreHoldings, named}
+use Rattle.key_slots.specs.Standing.{Agrees, IsThereOrNew, Puts, SlotHasKey}
 use Rattle.store_model.specs.Store as model
 use Rattle.store_model.specs.Store.{is_volatile, is_opaque}
 use Rattle.store_model.specs.Faults.{FaultMark, Plain, Storage, Hardware, Writing}
@@ -140,6 +142,15 @@ module _ {D A C : Type 0} (disks : Disk.Ghosts D) (elements : Devices.Ghosts A) 
       IsCreating old start h e caller records bytes → IsEntryHere new mark e →
       StandsForHere new start opening (h ++ e ∷ []) less × P s.holds.model
 
+  -- one of these stated attributes and bytes, which ends with the key made, or not
+  abbrev pub CreatesMade : (old new : Store D A C) (caller : ℕ) → Option lent.Reading → Attributes → List ℕ → (filling id : ℕ) → Type 0
+  CreatesMade old new caller lease a bytes filling id =
+      Creates old new caller lease (RecordsStated lease caller a (length bytes)) (λ m. bytes) (filling, 0) Plain (IsMade (RecordsStated lease caller a (length bytes)) caller id)
+
+  abbrev pub CreatesUnmade : (old new : Store D A C) (caller : ℕ) → Option lent.Reading → Attributes → List ℕ → (filling : ℕ) → NotMade → Type 0
+  CreatesUnmade old new caller lease a bytes filling why =
+      Creates old new caller lease (RecordsStated lease caller a (length bytes)) (λ m. bytes) (filling, 0) (mark_unmade why) (IsUnmade (RecordsStated lease caller a (length bytes)) why)
+
   -- WITHIN A TURN
 
   -- P holds of the model, whatever the store holds keys for
@@ -191,9 +202,26 @@ module _ {D A C : Type 0} (disks : Disk.Ghosts D) (elements : Devices.Ghosts A) 
       IsMaking old start h e caller recorded r.bytes → IsEntryHere new mark e →
       StandsForHere new start opening (h ++ e ∷ []) less × P r.holds.model
 
+  abbrev pub EntersMade : (old new : Store D A C) (caller : ℕ) → Attributes → (source : Option ℕ) → (filling id : ℕ) → Type 0
+  EntersMade old new caller recorded source filling id = Enters old new caller recorded source (filling, 0) Plain (λ m. id ≡ new_id m caller recorded)
+
+  abbrev pub EntersUnkept : (old new : Store D A C) (caller : ℕ) → Attributes → (source : Option ℕ) → (filling : ℕ) → Unkept → Type 0
+  EntersUnkept old new caller recorded source filling why = Enters old new caller recorded source (filling, 0) (mark_unkept why) (λ m. IsUnkept recorded why)
+
   -- A ranked turn that is to copy a key for a caller, into the slot of a filling, whose pair is taken back. P holds of the
   -- one-thread store before it, as far as that is told with its source read.
   abbrev pub Copies : (old new : Store D A C) (caller source : ℕ) → Attributes → ℕ × ℕ → FaultMark → (model.Store → Type 0) → Type 0
   Copies old new caller source stated p mark P = (start : Service) (opening : Opening) (h : List Entry) (all less : List Pairs) (e : Entry) →
       StandsForHere old start opening h all → Gains less all p → AreHoldings less → e.caller ≡ caller → e.call ≡ OnStore (Copy source stated) → IsEntryHere new mark e →
       StandsForHere new start opening (h ++ e ∷ []) less × (m : model.Store) × (ToldHere new start (h ++ e ∷ []) → m ≡ (replay start h).store) × P m
+
+  abbrev pub CopiesMade : (old new : Store D A C) (caller source : ℕ) → Attributes → (filling id : ℕ) → Type 0
+  CopiesMade old new caller source stated filling id = Copies old new caller source stated (filling, 0) Plain (IsMade (RecordsCopy caller source stated) caller id)
+
+  abbrev pub CopiesUnmade : (old new : Store D A C) (caller source : ℕ) → Attributes → (filling : ℕ) → NotCopied → Type 0
+  CopiesUnmade old new caller source stated filling why = Copies old new caller source stated (filling, 0) (mark_uncopied why) (IsUncopied (RecordsCopy caller source stated) source why)
+
+-- whatever model the slots agree with, they agree with the one that has a new key, of one slot, under an identifier
+abbrev pub FillsWith : (old new : List slots.Slot) (filling : ℕ) → slots.Slot → (id : ℕ) → Type 0
+FillsWith old new filling slot id = (before after : model.Store) (all less : List Pairs) (key : model.Key) → Agrees old before all → Gains less all (filling, 0) →
+    Puts before after id (Some key) → SlotHasKey slot key → IsThereOrNew before id key → Agrees new after less

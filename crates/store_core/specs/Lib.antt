@@ -6,3 +6,5 @@ pub mod Uses
 pub mod Creations
 pub mod Opaque
 pub mod Zeros
+pub mod Promises
+pub mod Destructions

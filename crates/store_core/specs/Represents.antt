@@ -7,7 +7,7 @@ use Rattle.std.specs.FinMap as map
 use Rattle.key_cells.specs.declared.slot.Slot as cell
 use Rattle.key_cells.specs.declared.slot.Slot.TheVariants.{Open}
 use Rattle.key_cells.specs.Contents.{cell_slot, IsSure}
-use Rattle.persistent_keys.specs.Files.{StandsForKeys}
+use Rattle.persistent_keys.specs.Calls.{StandsForThese}
 use Rattle.key_slots.specs.Holdings.{Pairs, Gains, AreHoldings, named}
 use Rattle.key_slots.specs.Standing.{Agrees}
 use Rattle.driver_dispatch.specs.Held.{HeldKeys}
@@ -86,7 +86,7 @@ module _ {D A C : Type 0} (disks : Disk.Ghosts D) (elements : Devices.Ghosts A) 
     pub directory : IsDirectory store.file.cells.slots.items model
     pub device : HoldsKeys (elements.keys store.devices) model
     pub file : is_some (disks.contents store.file.cells.disk) ≡ true →
-        StandsForKeys disks.contents disks.may_leave store.file.cells.disk store.file.cells.slots.items (durable_keys model) (course_of start h).doubt
+        StandsForThese disks store.file (durable_keys model) (course_of start h).doubt
     pub sure : is_some (disks.contents store.file.cells.disk) ≡ true → (course_of start h).doubt ≡ [] → IsSure store.file.cells.slots.items
     pub promise : is_some (disks.contents store.file.cells.disk) ≡ true → KeepsKeys (disks.left_since store.file.cells.disk) (disks.moment store.file.cells.disk) opening.moment start h
     pub caused : IsCaused (is_some (disks.contents store.file.cells.disk)) opening.counts h

@@ -2,16 +2,19 @@
 use Rattle.disk_face.specs.declared.Disk as Disk
 use Rattle.driver_dispatch.specs.declared.devices.Devices as Devices
 use Rattle.admission.specs.declared.rules.Admission as Admission
-use Rattle.std.specs.Prelude.{◌≡◌, ◌<◌, ℕ, true, List, length, count_by, slice_get, Option, Some, IfSome}
+use Rattle.std.specs.Prelude.{◌≡◌, ◌<◌, ◌≤◌, ◌↔◌, ℕ, true, List, [], length, replicate, count_by, slice_get, Option, Some, IfSome}
 use Rattle.key_cells.specs.declared.slot.Slot as cell
 use Rattle.key_cells.specs.declared.slot.Slot.TheVariants.{Open}
 use Rattle.key_cells.specs.Layout.{body}
 use Rattle.key_cells.specs.Contents.{cell_slot, is_open}
+use Rattle.key_attributes.specs.declared.Attributes.{Attributes}
 use Rattle.key_cells.specs.Body.{IsKeyOf, HoldsKey}
+use Rattle.key_cells.specs.Image.{HasKey}
 use Rattle.store_model.specs.Store.{OpenedKey, Settings}
 use Rattle.store_model.specs.Handles.{Service, service_start}
 use Rattle.store_core.specs.declared.store.Opened.{Opened}
-use Rattle.store_core.specs.Represents.{Opening}
+use Rattle.store_core.specs.declared.store.Store.{Store}
+use Rattle.store_core.specs.Represents.{Opening, StandsFor}
 
 -- The keys of a directory's open cells, by their numbers. Where the disk tells its bytes, each is the key that its cell has
 -- there.
@@ -38,3 +41,13 @@ module _ {D A C : Type 0} (disks : Disk.Ghosts D) (elements : Devices.Ghosts A) 
     moment = disks.moment opened.file.value.cells.disk;
     counts = record { faults = disks.faults opened.file.value.cells.disk; hard = elements.faults opened.devices.value };
   }
+
+  -- a store stands for each such service, an empty history, and callers who have nothing out
+  abbrev pub BeginsAtStart : Store D A C → Type 0
+  BeginsAtStart store = (start : Service) (callers : ℕ) → IsStart store.opened start → callers ≤ 16 →
+      StandsFor disks elements admits store start (opening_of store.opened) [] (replicate callers [])
+
+  -- the keys that were found are those of an image
+  abbrev pub FindsKeysOf : Opened D A C → List ℕ → Type 0
+  FindsKeysOf opened image = (start : Service) (s : IsStart opened start) (a : Attributes) (bytes : List ℕ) →
+      HasKey a bytes image ↔ ((number : ℕ) × (slice_get s.found number ≡ Some (record { attributes = a; bytes = bytes })))

@@ -7,8 +7,12 @@ use Rattle.psa_status.specs.declared.Status.TheVariants.{InvalidHandle, StorageF
 use Rattle.psa_status.specs.Rows.{first_row}
 use Rattle.key_attributes.specs.declared.Attributes.{Attributes}
 use Rattle.secret_bytes.specs.Buffer.{bytes_of}
+use Rattle.key_cells.specs.declared.slot.Slot as cell
+use Rattle.key_cells.specs.declared.slot.Slot.TheVariants.{Free}
+use Rattle.key_cells.specs.Contents.{cell_slot, has_id}
 use Rattle.driver_dispatch.specs.Held.{HeldKeys, without_key}
-use Rattle.slot_table.specs.Slots.{Slot, empty_slot, slot_at}
+use Rattle.slot_table.specs.Slots.{Slot, empty_slot, holds_key, slot_at}
+use Rattle.slot_table.specs.Changes.{destroyed_slot}
 use Rattle.slot_table.specs.Lent as lent
 use Rattle.key_slots.specs.Standing.{SlotHasKey}
 use Rattle.key_slots.specs.Wiping.{Keeps}
@@ -43,10 +47,14 @@ pub record IsOfKey (lease : lent.Reading) (key : Key) : Type 0 where
 abbrev pub IsLent : (rows : Option Key → Option Status) → (id : ℕ) → lent.Reading → model.Store → Type 0
 IsLent rows id lease m = (key : Key) × (map.get m.keys id ≡ Some key) × (rows (Some key) ≡ None) × IsOfKey lease key
 
+-- the key of an identifier is a persistent one
+abbrev pub HasPersistent : (id : ℕ) → model.Store → Type 0
+HasPersistent id m = is_persistent_key (map.get m.keys id) ≡ true
+
 -- the status is that of the first row, or, where the file failed, the key is a persistent one
 abbrev pub IsRefused : (rows : Option Key → Option Status) → (id : ℕ) → Status → model.Store → Type 0
-IsRefused rows id StorageFailure m = is_persistent_key (map.get m.keys id) ≡ true
-IsRefused rows id DataCorrupt m = is_persistent_key (map.get m.keys id) ≡ true
+IsRefused rows id StorageFailure m = HasPersistent id m
+IsRefused rows id DataCorrupt m = HasPersistent id m
 IsRefused rows id status m = rows (map.get m.keys id) ≡ Some status
 
 -- the slot has the key of an identifier
@@ -81,9 +89,25 @@ mark_undestroyed undestroyed.Hardware = Hardware
 -- and what holds of the model before it
 abbrev pub IsUndestroyed : (id : ℕ) → NotDestroyed → model.Store → Type 0
 IsUndestroyed id undestroyed.Missing m = first_row (destroy_rows (map.get m.keys id) id) ≡ Some InvalidHandle
-IsUndestroyed id (undestroyed.Disk closed_first) m = is_persistent_key (map.get m.keys id) ≡ true
+IsUndestroyed id (undestroyed.Disk closed_first) m = HasPersistent id m
 IsUndestroyed id undestroyed.Hardware m = is_opaque_key (map.get m.keys id) ≡ true
+
+-- no row refuses to destroy the key of an identifier
+abbrev pub MayDestroy : (id : ℕ) → model.Store → Type 0
+MayDestroy id m = first_row (destroy_rows (map.get m.keys id) id) ≡ None
+
+-- each slot that has the key of an identifier is as a destruction leaves it
+abbrev pub EndsSlotsOf : (id : ℕ) → (old new : List Slot) → Type 0
+EndsSlotsOf id old new = (i : ℕ) → holds_key id (slot_at old i) ≡ true → slot_at new i ≡ destroyed_slot (slot_at old i)
+
+-- and each cell is free
+abbrev pub FreesCellsOf : (id : ℕ) → (old new : List cell.Slot) → Type 0
+FreesCellsOf id old new = (c : ℕ) → c < 512 → has_id id (cell_slot old c) ≡ true → cell_slot new c ≡ Free
 
 -- A device that tells its keys has lost the key of a slot, where it is the element's, and else has what it had.
 abbrev pub IsForgotten : Slot → (old new : Option HeldKeys) → Type 0
 IsForgotten slot old new = new ≡ (if is_opaque slot.attributes then option_map (without_key slot.creation) old else old)
+
+-- it has lost the key of an identifier
+abbrev pub Forgets : (id : ℕ) → List Slot → (old new : Option HeldKeys) → Type 0
+Forgets id slots old new = (i : ℕ) → i < 384 → holds_key id (slot_at slots i) ≡ true → IsForgotten (slot_at slots i) old new

@@ -2,14 +2,15 @@
 use Rattle.disk_face.specs.declared.Disk as Disk
 use Rattle.driver_dispatch.specs.declared.devices.Devices as Devices
 use Rattle.admission.specs.declared.rules.Admission as Admission
-use Rattle.std.specs.Prelude.{◌≡◌, ◌<◌, ◌⊎◌, ℕ, true, List, [], ◌∷◌, Option, Some, is_some}
+use Rattle.std.specs.Prelude.{◌≡◌, ◌<◌, ◌⊎◌, ℕ, true, List, [], ◌∷◌, Some, is_some}
 use Rattle.disk_face.specs.Moments.{Within}
 use Rattle.key_cells.specs.declared.slot.Slot.TheVariants.{Free}
 use Rattle.key_cells.specs.Layout.{gate, body, opened_gate}
 use Rattle.key_cells.specs.Contents.{HasZeros, cell_slot}
 use Rattle.key_cells.specs.Body.{HoldsKey}
 use Rattle.persistent_keys.specs.declared.file.KeyFile.{KeyFile}
-use Rattle.persistent_keys.specs.Files.{Stored, Keys, Doubt, StandsForKeys}
+use Rattle.persistent_keys.specs.Files.{Stored, Keys, Doubt}
+use Rattle.persistent_keys.specs.Calls.{StandsForThese}
 use Rattle.key_slots.specs.Holdings.{Pairs}
 use Rattle.store_model.specs.Handles.{Service}
 use Rattle.store_model.specs.Replay.{Entry}
@@ -21,18 +22,18 @@ abbrev pub HasKeyOrZeros : Keys → ℕ → List ℕ → Type 0
 HasKeyOrZeros keys cell image = ((id : ℕ) × (key : Stored) × (keys id ≡ Some key) × (gate cell image ≡ opened_gate) × HoldsKey key.attributes key.bytes (body cell image)) ⊎ HasZeros cell image
 
 -- a cell that is free before calls and after them is all zeros in every image that a crash within them leaves
-abbrev pub LeavesZeros : {D : Type 0} (moment : D → ℕ) (left_since : D → ℕ → List ℕ → Type 0) (old new : KeyFile D) → Type 0
-LeavesZeros moment left_since old new = (cell : ℕ) → cell < 512 → cell_slot old.cells.slots.items cell ≡ Free → cell_slot new.cells.slots.items cell ≡ Free →
-    Within (moment old.cells.disk) (moment new.cells.disk) (left_since old.cells.disk) (left_since new.cells.disk) (HasZeros cell)
+abbrev pub LeavesZeros : {D : Type 0} (disks : Disk.Ghosts D) (old new : KeyFile D) → Type 0
+LeavesZeros disks old new = (cell : ℕ) → cell < 512 → cell_slot old.cells.slots.items cell ≡ Free → cell_slot new.cells.slots.items cell ≡ Free →
+    Within (disks.moment old.cells.disk) (disks.moment new.cells.disk) (disks.left_since old.cells.disk) (disks.left_since new.cells.disk) (HasZeros cell)
 
 -- so it is in a file that stands for some keys
-abbrev pub FileStaysZeros : {D : Type 0} (told : D → Option (List ℕ)) (may_leave : D → List ℕ → Type 0) (moment : D → ℕ) (left_since : D → ℕ → List ℕ → Type 0) (old new : KeyFile D) → Type 0
-FileStaysZeros told may_leave moment left_since old new = (keys : Keys) (doubt : Doubt) → StandsForKeys told may_leave old.cells.disk old.cells.slots.items keys doubt → LeavesZeros moment left_since old new
+abbrev pub FileStaysZeros : {D : Type 0} (disks : Disk.Ghosts D) (old new : KeyFile D) → Type 0
+FileStaysZeros disks old new = (keys : Keys) (doubt : Doubt) → StandsForThese disks old keys doubt → LeavesZeros disks old new
 
 -- and in the file of a store that stands for some history, where the disk tells its bytes
 abbrev pub StaysZeros : {D A C : Type 0} (disks : Disk.Ghosts D) (elements : Devices.Ghosts A) (admits : Admission.Ghosts C) (old new : Store D A C) → Type 0
 StaysZeros disks elements admits old new = (start : Service) (opening : Opening) (h : List Entry) (all : List Pairs) →
-    StandsFor disks elements admits old start opening h all → is_some (disks.contents old.file.cells.disk) ≡ true → LeavesZeros disks.moment disks.left_since old.file new.file
+    StandsFor disks elements admits old start opening h all → is_some (disks.contents old.file.cells.disk) ≡ true → LeavesZeros disks old.file new.file
 
 -- OVER MANY TURNS
 

@@ -10,12 +10,11 @@ ghost use Rattle.key_slots.specs.Wiping.{EndsOnly, IsFillingOf, IsTakenOf};
 ghost use Rattle.store_model.specs.Store as model;
 ghost use Rattle.store_model.specs.Store.{Key, is_opaque};
 ghost use Rattle.store_model.specs.Copies.{recorded_copy};
-ghost use Rattle.store_model.specs.Faults.{Plain};
 ghost use Rattle.store_core.specs.Represents.{HasOut, ranked_on};
 ghost use Rattle.store_core.specs.Rising.{NoFewerFaults};
 ghost use Rattle.store_core.specs.Zeros.{FileStaysZeros, StaysZeros};
 ghost use Rattle.store_core.specs.Uses.{KeepsOrEmpties};
-ghost use Rattle.store_core.specs.Creations.{Copies, HoldsWithin, IsMade, IsUncopied, OnUnread, RecordsCopy, mark_uncopied, status_uncopied};
+ghost use Rattle.store_core.specs.Creations.{CopiesMade, CopiesUnmade, HoldsWithin, OnUnread, status_uncopied};
 
 use crate::Store;
 use crate::creating::NotMade;
@@ -65,10 +64,8 @@ impl<D: Disk, A: Devices, C: Admission> Store<D, A, C> {
         requires few { self.old.ranked < 2 ^ 62 }
         ensures size { D.size self.new.file.cells.disk ≡ 557120 }
         ensures clear { IsClear self.new.buffer }
-        ensures made { IfOk result (λ id. Copies D.Disk A.Devices C.Admission self.old self.new caller source.0 attributes.now (filling.slot, 0) Plain
-            (IsMade (RecordsCopy caller source.0 attributes.now) caller id.0)) }
-        ensures uncopied { IfErr result (λ why. Copies D.Disk A.Devices C.Admission self.old self.new caller source.0 attributes.now (filling.slot, 0) (mark_uncopied why)
-            (IsUncopied (RecordsCopy caller source.0 attributes.now) source.0 why)) }
+        ensures made { IfOk result (λ id. CopiesMade D.Disk A.Devices C.Admission self.old self.new caller source.0 attributes.now filling.slot id.0) }
+        ensures uncopied { IfErr result (λ why. CopiesUnmade D.Disk A.Devices C.Admission self.old self.new caller source.0 attributes.now filling.slot why) }
         ensures wipes { (slot : ℕ) × EndsOnly self.old.slots.table.slots self.new.slots.table.slots (λ i s. IsFillingOf filling.slot i s ⊎ IsTakenOf slot i s) }
         ensures emptied { OnErr result (slot_at self.new.slots.table.slots filling.slot ≡ empty_slot) }
         ensures unread { IfErr result (λ why. OnUnread why (KeepsOrEmpties self.old.slots.table.slots self.new.slots.table.slots)) }
@@ -99,14 +96,12 @@ impl<D: Disk, A: Devices, C: Admission> Store<D, A, C> {
         requires few { self.old.ranked < 2 ^ 62 }
         ensures size { D.size self.new.file.cells.disk ≡ 557120 }
         ensures clear { IsClear self.new.buffer }
-        ensures made { IfOk result (λ id. Copies D.Disk A.Devices C.Admission self.old (ranked_on self.new) caller source.0 attributes.now (filling.slot, 0) Plain
-            (IsMade (RecordsCopy caller source.0 attributes.now) caller id.0)) }
-        ensures uncopied { IfErr result (λ why. Copies D.Disk A.Devices C.Admission self.old (ranked_on self.new) caller source.0 attributes.now (filling.slot, 0) (mark_uncopied why)
-            (IsUncopied (RecordsCopy caller source.0 attributes.now) source.0 why)) }
+        ensures made { IfOk result (λ id. CopiesMade D.Disk A.Devices C.Admission self.old (ranked_on self.new) caller source.0 attributes.now filling.slot id.0) }
+        ensures uncopied { IfErr result (λ why. CopiesUnmade D.Disk A.Devices C.Admission self.old (ranked_on self.new) caller source.0 attributes.now filling.slot why) }
         ensures wipes { (slot : ℕ) × EndsOnly self.old.slots.table.slots self.new.slots.table.slots (λ i s. IsFillingOf filling.slot i s ⊎ IsTakenOf slot i s) }
         ensures emptied { OnErr result (slot_at self.new.slots.table.slots filling.slot ≡ empty_slot) }
         ensures unread { IfErr result (λ why. OnUnread why (KeepsOrEmpties self.old.slots.table.slots self.new.slots.table.slots)) }
-        ensures zeros { FileStaysZeros D.contents D.may_leave D.moment D.left_since self.old.file self.new.file }
+        ensures zeros { FileStaysZeros D.Disk self.old.file self.new.file }
         ensures later { NoFewerFaults D.faults A.faults self.old self.new }
         ensures tells { StillTells (D.contents self.old.file.cells.disk) (D.contents self.new.file.cells.disk) }
         ensures knows { is_some (A.keys self.new.devices) ≡ is_some (A.keys self.old.devices) }

@@ -9,17 +9,14 @@ ghost use Rattle.driver_dispatch.specs.Calls.{Changes, HoldsHandle, Lacks, has_e
 ghost use Rattle.secret_bytes.specs.Buffer.{IsClear, bytes_of};
 ghost use Rattle.slot_table.specs.Slots.{NoKey, empty_slot, slot_at};
 ghost use Rattle.slot_table.specs.Changes.{full_slot};
-ghost use Rattle.key_slots.specs.Holdings.{Pairs, Gains};
-ghost use Rattle.key_slots.specs.Standing.{Agrees, IsOut, IsThereOrNew, Puts, SlotHasKey};
+ghost use Rattle.key_slots.specs.Standing.{IsOut};
 ghost use Rattle.key_slots.specs.Wiping.{EndsOnly, IsFillingOf};
-ghost use Rattle.store_model.specs.Store as model;
-ghost use Rattle.store_model.specs.Store.{Key, first_volatile, is_opaque, is_volatile};
-ghost use Rattle.store_model.specs.Creation.{identified, new_id};
-ghost use Rattle.store_model.specs.Faults.{Plain};
+ghost use Rattle.store_model.specs.Store.{first_volatile, is_opaque, is_volatile};
+ghost use Rattle.store_model.specs.Creation.{identified};
 ghost use Rattle.store_core.specs.Represents.{ranked_on};
 ghost use Rattle.store_core.specs.Rising.{NoFewerFaults};
 ghost use Rattle.store_core.specs.Zeros.{FileStaysZeros, StaysZeros};
-ghost use Rattle.store_core.specs.Creations.{Creates, Enters, HasOutBeside, HoldsLent, IsMade, IsSomeReady, IsUnkept, IsUnmade, RecordsStated, StandsLent, mark_unkept, mark_unmade, status_unkept, status_unmade};
+ghost use Rattle.store_core.specs.Creations.{CreatesMade, CreatesUnmade, EntersMade, EntersUnkept, FillsWith, HasOutBeside, HoldsLent, IsSomeReady, RecordsStated, StandsLent, status_unkept, status_unmade};
 
 use crate::Store;
 use admission::Admission;
@@ -93,12 +90,10 @@ impl<D: Disk, A: Devices, C: Admission> Store<D, A, C> {
         requires few { self.old.ranked < 2 ^ 62 }
         ensures size { D.size self.new.file.cells.disk ≡ 557120 }
         ensures clear { IsClear self.old.buffer → IsClear self.new.buffer }
-        ensures made { IfOk result (λ id. Creates D.Disk A.Devices C.Admission self.old self.new caller (option_map (λ l. l.now) lease.entry)
-            (RecordsStated (option_map (λ l. l.now) lease.entry) caller attributes.now (length bytes.now)) (λ m. bytes.now) (filling.slot, 0) Plain
-            (IsMade (RecordsStated (option_map (λ l. l.now) lease.entry) caller attributes.now (length bytes.now)) caller id.0)) }
-        ensures unmade { IfErr result (λ why. Creates D.Disk A.Devices C.Admission self.old self.new caller (option_map (λ l. l.now) lease.entry)
-            (RecordsStated (option_map (λ l. l.now) lease.entry) caller attributes.now (length bytes.now)) (λ m. bytes.now) (filling.slot, 0) (mark_unmade why)
-            (IsUnmade (RecordsStated (option_map (λ l. l.now) lease.entry) caller attributes.now (length bytes.now)) why)) }
+        ensures made { IfOk result (λ id. CreatesMade D.Disk A.Devices C.Admission self.old self.new caller (option_map (λ l. l.now) lease.entry)
+            attributes.now bytes.now filling.slot id.0) }
+        ensures unmade { IfErr result (λ why. CreatesUnmade D.Disk A.Devices C.Admission self.old self.new caller (option_map (λ l. l.now) lease.entry)
+            attributes.now bytes.now filling.slot why) }
         ensures wipes { EndsOnly self.old.slots.table.slots self.new.slots.table.slots (IsFillingOf filling.slot) }
         ensures emptied { OnErr result (slot_at self.new.slots.table.slots filling.slot ≡ empty_slot) }
         ensures zeros { StaysZeros D.Disk A.Devices C.Admission self.old self.new }
@@ -128,15 +123,13 @@ impl<D: Disk, A: Devices, C: Admission> Store<D, A, C> {
         requires few { self.old.ranked < 2 ^ 62 }
         ensures size { D.size self.new.file.cells.disk ≡ 557120 }
         ensures clear { IsClear self.old.buffer → IsClear self.new.buffer }
-        ensures made { IfOk result (λ id. Creates D.Disk A.Devices C.Admission self.old (ranked_on self.new) caller (option_map (λ l. l.now) lease.entry)
-            (RecordsStated (option_map (λ l. l.now) lease.entry) caller attributes.now (length bytes.now)) (λ m. bytes.now) (filling.slot, 0) Plain
-            (IsMade (RecordsStated (option_map (λ l. l.now) lease.entry) caller attributes.now (length bytes.now)) caller id.0)) }
-        ensures unmade { IfErr result (λ why. Creates D.Disk A.Devices C.Admission self.old (ranked_on self.new) caller (option_map (λ l. l.now) lease.entry)
-            (RecordsStated (option_map (λ l. l.now) lease.entry) caller attributes.now (length bytes.now)) (λ m. bytes.now) (filling.slot, 0) (mark_unmade why)
-            (IsUnmade (RecordsStated (option_map (λ l. l.now) lease.entry) caller attributes.now (length bytes.now)) why)) }
+        ensures made { IfOk result (λ id. CreatesMade D.Disk A.Devices C.Admission self.old (ranked_on self.new) caller (option_map (λ l. l.now) lease.entry)
+            attributes.now bytes.now filling.slot id.0) }
+        ensures unmade { IfErr result (λ why. CreatesUnmade D.Disk A.Devices C.Admission self.old (ranked_on self.new) caller (option_map (λ l. l.now) lease.entry)
+            attributes.now bytes.now filling.slot why) }
         ensures wipes { EndsOnly self.old.slots.table.slots self.new.slots.table.slots (IsFillingOf filling.slot) }
         ensures emptied { OnErr result (slot_at self.new.slots.table.slots filling.slot ≡ empty_slot) }
-        ensures zeros { FileStaysZeros D.contents D.may_leave D.moment D.left_since self.old.file self.new.file }
+        ensures zeros { FileStaysZeros D.Disk self.old.file self.new.file }
         ensures later { NoFewerFaults D.faults A.faults self.old self.new }
         ensures tells { StillTells (D.contents self.old.file.cells.disk) (D.contents self.new.file.cells.disk) }
         ensures knows { is_some (A.keys self.new.devices) ≡ is_some (A.keys self.old.devices) }
@@ -198,13 +191,11 @@ impl<D: Disk, A: Devices, C: Admission> Store<D, A, C> {
         requires size { D.size self.old.file.cells.disk ≡ 557120 }
         requires few { self.old.ranked < 2 ^ 62 }
         ensures size { D.size self.new.file.cells.disk ≡ 557120 }
-        ensures made { IfOk result (λ id. Enters D.Disk A.Devices C.Admission self.old (ranked_on self.new) caller recorded source (filling.slot, 0) Plain
-            (λ m. id.0 ≡ new_id m caller recorded)) }
-        ensures unkept { IfErr result (λ why. Enters D.Disk A.Devices C.Admission self.old (ranked_on self.new) caller recorded source (filling.slot, 0) (mark_unkept why)
-            (λ m. IsUnkept recorded why)) }
+        ensures made { IfOk result (λ id. EntersMade D.Disk A.Devices C.Admission self.old (ranked_on self.new) caller recorded source filling.slot id.0) }
+        ensures unkept { IfErr result (λ why. EntersUnkept D.Disk A.Devices C.Admission self.old (ranked_on self.new) caller recorded source filling.slot why) }
         ensures wipes { EndsOnly self.old.slots.table.slots self.new.slots.table.slots (IsFillingOf filling.slot) }
         ensures emptied { OnErr result (slot_at self.new.slots.table.slots filling.slot ≡ empty_slot) }
-        ensures zeros { FileStaysZeros D.contents D.may_leave D.moment D.left_since self.old.file self.new.file }
+        ensures zeros { FileStaysZeros D.Disk self.old.file self.new.file }
         ensures later { NoFewerFaults D.faults A.faults self.old self.new }
         ensures tells { StillTells (D.contents self.old.file.cells.disk) (D.contents self.new.file.cells.disk) }
         ensures knows { is_some (A.keys self.new.devices) ≡ is_some (A.keys self.old.devices) }
@@ -236,13 +227,11 @@ impl<D: Disk, A: Devices, C: Admission> Store<D, A, C> {
         requires size { D.size self.old.file.cells.disk ≡ 557120 }
         requires few { self.old.ranked < 2 ^ 62 }
         ensures size { D.size self.new.file.cells.disk ≡ 557120 }
-        ensures made { IfOk result (λ id. Enters D.Disk A.Devices C.Admission self.old (ranked_on self.new) caller recorded source (filling.slot, 0) Plain
-            (λ m. id.0 ≡ new_id m caller recorded)) }
-        ensures unkept { IfErr result (λ why. Enters D.Disk A.Devices C.Admission self.old (ranked_on self.new) caller recorded source (filling.slot, 0) (mark_unkept why)
-            (λ m. IsUnkept recorded why)) }
+        ensures made { IfOk result (λ id. EntersMade D.Disk A.Devices C.Admission self.old (ranked_on self.new) caller recorded source filling.slot id.0) }
+        ensures unkept { IfErr result (λ why. EntersUnkept D.Disk A.Devices C.Admission self.old (ranked_on self.new) caller recorded source filling.slot why) }
         ensures wipes { EndsOnly self.old.slots.table.slots self.new.slots.table.slots (IsFillingOf filling.slot) }
         ensures emptied { OnErr result (slot_at self.new.slots.table.slots filling.slot ≡ empty_slot) }
-        ensures zeros { FileStaysZeros D.contents D.may_leave D.moment D.left_since self.old.file self.new.file }
+        ensures zeros { FileStaysZeros D.Disk self.old.file self.new.file }
         ensures later { NoFewerFaults D.faults A.faults self.old self.new }
         ensures tells { StillTells (D.contents self.old.file.cells.disk) (D.contents self.new.file.cells.disk) }
         ensures knows { is_some (A.keys self.new.devices) ≡ is_some (A.keys self.old.devices) }
@@ -281,13 +270,11 @@ impl<D: Disk, A: Devices, C: Admission> Store<D, A, C> {
         requires size { D.size self.old.file.cells.disk ≡ 557120 }
         requires few { self.old.ranked < 2 ^ 62 }
         ensures size { D.size self.new.file.cells.disk ≡ 557120 }
-        ensures made { IfOk result (λ id. Enters D.Disk A.Devices C.Admission self.old (ranked_on self.new) caller recorded source (filling.slot, 0) Plain
-            (λ m. id.0 ≡ new_id m caller recorded)) }
-        ensures unkept { IfErr result (λ why. Enters D.Disk A.Devices C.Admission self.old (ranked_on self.new) caller recorded source (filling.slot, 0) (mark_unkept why)
-            (λ m. IsUnkept recorded why)) }
+        ensures made { IfOk result (λ id. EntersMade D.Disk A.Devices C.Admission self.old (ranked_on self.new) caller recorded source filling.slot id.0) }
+        ensures unkept { IfErr result (λ why. EntersUnkept D.Disk A.Devices C.Admission self.old (ranked_on self.new) caller recorded source filling.slot why) }
         ensures wipes { EndsOnly self.old.slots.table.slots self.new.slots.table.slots (IsFillingOf filling.slot) }
         ensures emptied { OnErr result (slot_at self.new.slots.table.slots filling.slot ≡ empty_slot) }
-        ensures zeros { FileStaysZeros D.contents D.may_leave D.moment D.left_since self.old.file self.new.file }
+        ensures zeros { FileStaysZeros D.Disk self.old.file self.new.file }
         ensures later { NoFewerFaults D.faults A.faults self.old self.new }
         ensures tells { StillTells (D.contents self.old.file.cells.disk) (D.contents self.new.file.cells.disk) }
         ensures knows { is_some (A.keys self.new.devices) ≡ is_some (A.keys self.old.devices) }
@@ -322,8 +309,8 @@ impl<D: Disk, A: Devices, C: Admission> Store<D, A, C> {
         requires live { slice_index self.old.live caller < 16 }
         ensures id { result.0 ≡ first_volatile caller + slice_index self.old.made caller }
         ensures sized { length self.old.live ≡ 17 }
-        ensures fills { (old new : model.Store) (all less : List Pairs) (key : Key) → Agrees self.old.slots.table.slots old all → Gains less all (filling.slot, 0) →
-            Puts old new result.0 (Some key) → SlotHasKey (full_slot number (identified recorded result.0) (bytes_of self.old.buffer)) key → IsThereOrNew old result.0 key → Agrees self.new.slots.table.slots new less }
+        ensures fills { FillsWith self.old.slots.table.slots self.new.slots.table.slots filling.slot
+            (full_slot number (identified recorded result.0) (bytes_of self.old.buffer)) result.0 }
         ensures wipes { EndsOnly self.old.slots.table.slots self.new.slots.table.slots (IsFillingOf filling.slot) }
         ensures rest { self.new ≡ record self.old {
           slots = self.new.slots;

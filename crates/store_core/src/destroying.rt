@@ -18,8 +18,9 @@ ghost use Rattle.store_model.specs.Store.{is_opaque};
 ghost use Rattle.store_model.specs.KeyUse.{destroy_rows};
 ghost use Rattle.store_model.specs.Faults.{Plain};
 ghost use Rattle.store_core.specs.Represents.{Destroys, Stands, ranked_on};
+ghost use Rattle.store_core.specs.Destructions.{DestroysUnsure};
 ghost use Rattle.store_core.specs.Rising.{NoFewerFaults};
-ghost use Rattle.store_core.specs.Uses.{IsForgotten, IsUndestroyed, mark_undestroyed, status_undestroyed};
+ghost use Rattle.store_core.specs.Uses.{EndsSlotsOf, Forgets, FreesCellsOf, IsForgotten, MayDestroy, status_undestroyed};
 ghost use Rattle.store_core.specs.Zeros.{FileStaysZeros, StaysZeros};
 
 use crate::Store;
@@ -60,15 +61,13 @@ impl<D: Disk, A: Devices, C: Admission> Store<D, A, C> {
         requires size { D.size self.old.file.cells.disk ≡ 557120 }
         requires few { self.old.ranked < 2 ^ 62 }
         ensures size { D.size self.new.file.cells.disk ≡ 557120 }
-        ensures destroyed { OnOk result (Destroys D.Disk A.Devices C.Admission self.old self.new id.0 Plain
-            (λ m. first_row (destroy_rows (map.get m.keys id.0) id.0) ≡ None)) }
-        ensures failed { IfErr result (λ why. Destroys D.Disk A.Devices C.Admission self.old self.new id.0 (mark_undestroyed why)
-            (IsUndestroyed id.0 why)) }
+        ensures destroyed { OnOk result (Destroys D.Disk A.Devices C.Admission self.old self.new id.0 Plain (MayDestroy id.0)) }
+        ensures failed { IfErr result (λ why. DestroysUnsure D.Disk A.Devices C.Admission self.old self.new id.0 why) }
         ensures wipes { EndsOnly self.old.slots.table.slots self.new.slots.table.slots (λ i s. holds_key id.0 s ≡ true) }
-        ensures ended { (i : ℕ) → holds_key id.0 (slot_at self.old.slots.table.slots i) ≡ true → slot_at self.new.slots.table.slots i ≡ destroyed_slot (slot_at self.old.slots.table.slots i) }
-        ensures forgotten { OnOk result ((i : ℕ) → i < 384 → holds_key id.0 (slot_at self.old.slots.table.slots i) ≡ true → IsForgotten (slot_at self.old.slots.table.slots i) (A.keys self.old.devices) (A.keys self.new.devices)) }
+        ensures ended { EndsSlotsOf id.0 self.old.slots.table.slots self.new.slots.table.slots }
+        ensures forgotten { OnOk result (Forgets id.0 self.old.slots.table.slots (A.keys self.old.devices) (A.keys self.new.devices)) }
         ensures unasked { NoKey id.0 self.old.slots.table.slots → self.new.devices ≡ self.old.devices }
-        ensures freed { OnOk result ((cell : ℕ) → cell < 512 → has_id id.0 (cell_slot self.old.file.cells.slots.items cell) ≡ true → cell_slot self.new.file.cells.slots.items cell ≡ Free) }
+        ensures freed { OnOk result (FreesCellsOf id.0 self.old.file.cells.slots.items self.new.file.cells.slots.items) }
         ensures zeros { StaysZeros D.Disk A.Devices C.Admission self.old self.new }
         ensures later { NoFewerFaults D.faults A.faults self.old self.new }
         ensures tells { StillTells (D.contents self.old.file.cells.disk) (D.contents self.new.file.cells.disk) }
@@ -86,16 +85,14 @@ impl<D: Disk, A: Devices, C: Admission> Store<D, A, C> {
         requires stands { Stands D.Disk A.Devices C.Admission self.old }
         requires size { D.size self.old.file.cells.disk ≡ 557120 }
         ensures size { D.size self.new.file.cells.disk ≡ 557120 }
-        ensures destroyed { OnOk result (Destroys D.Disk A.Devices C.Admission self.old (ranked_on self.new) id.0 Plain
-            (λ m. first_row (destroy_rows (map.get m.keys id.0) id.0) ≡ None)) }
-        ensures failed { IfErr result (λ why. Destroys D.Disk A.Devices C.Admission self.old (ranked_on self.new) id.0 (mark_undestroyed why)
-            (IsUndestroyed id.0 why)) }
+        ensures destroyed { OnOk result (Destroys D.Disk A.Devices C.Admission self.old (ranked_on self.new) id.0 Plain (MayDestroy id.0)) }
+        ensures failed { IfErr result (λ why. DestroysUnsure D.Disk A.Devices C.Admission self.old (ranked_on self.new) id.0 why) }
         ensures wipes { EndsOnly self.old.slots.table.slots self.new.slots.table.slots (λ i s. holds_key id.0 s ≡ true) }
-        ensures ended { (i : ℕ) → holds_key id.0 (slot_at self.old.slots.table.slots i) ≡ true → slot_at self.new.slots.table.slots i ≡ destroyed_slot (slot_at self.old.slots.table.slots i) }
-        ensures forgotten { OnOk result ((i : ℕ) → i < 384 → holds_key id.0 (slot_at self.old.slots.table.slots i) ≡ true → IsForgotten (slot_at self.old.slots.table.slots i) (A.keys self.old.devices) (A.keys self.new.devices)) }
+        ensures ended { EndsSlotsOf id.0 self.old.slots.table.slots self.new.slots.table.slots }
+        ensures forgotten { OnOk result (Forgets id.0 self.old.slots.table.slots (A.keys self.old.devices) (A.keys self.new.devices)) }
         ensures unasked { NoKey id.0 self.old.slots.table.slots → self.new.devices ≡ self.old.devices }
-        ensures freed { OnOk result ((cell : ℕ) → cell < 512 → has_id id.0 (cell_slot self.old.file.cells.slots.items cell) ≡ true → cell_slot self.new.file.cells.slots.items cell ≡ Free) }
-        ensures zeros { FileStaysZeros D.contents D.may_leave D.moment D.left_since self.old.file self.new.file }
+        ensures freed { OnOk result (FreesCellsOf id.0 self.old.file.cells.slots.items self.new.file.cells.slots.items) }
+        ensures zeros { FileStaysZeros D.Disk self.old.file self.new.file }
         ensures later { NoFewerFaults D.faults A.faults self.old self.new }
         ensures tells { StillTells (D.contents self.old.file.cells.disk) (D.contents self.new.file.cells.disk) }
         ensures knows { is_some (A.keys self.new.devices) ≡ is_some (A.keys self.old.devices) }
@@ -121,16 +118,14 @@ impl<D: Disk, A: Devices, C: Admission> Store<D, A, C> {
         requires size { D.size self.old.file.cells.disk ≡ 557120 }
         requires there { IsFirstWithKey self.old.file.cells.slots.items id.0 cell }
         ensures size { D.size self.new.file.cells.disk ≡ 557120 }
-        ensures destroyed { OnOk result (Destroys D.Disk A.Devices C.Admission self.old (ranked_on self.new) id.0 Plain
-            (λ m. first_row (destroy_rows (map.get m.keys id.0) id.0) ≡ None)) }
-        ensures failed { IfErr result (λ why. Destroys D.Disk A.Devices C.Admission self.old (ranked_on self.new) id.0 (mark_undestroyed why)
-            (IsUndestroyed id.0 why)) }
+        ensures destroyed { OnOk result (Destroys D.Disk A.Devices C.Admission self.old (ranked_on self.new) id.0 Plain (MayDestroy id.0)) }
+        ensures failed { IfErr result (λ why. DestroysUnsure D.Disk A.Devices C.Admission self.old (ranked_on self.new) id.0 why) }
         ensures wipes { EndsOnly self.old.slots.table.slots self.new.slots.table.slots (λ i s. holds_key id.0 s ≡ true) }
-        ensures ended { (i : ℕ) → holds_key id.0 (slot_at self.old.slots.table.slots i) ≡ true → slot_at self.new.slots.table.slots i ≡ destroyed_slot (slot_at self.old.slots.table.slots i) }
-        ensures forgotten { OnOk result ((i : ℕ) → i < 384 → holds_key id.0 (slot_at self.old.slots.table.slots i) ≡ true → IsForgotten (slot_at self.old.slots.table.slots i) (A.keys self.old.devices) (A.keys self.new.devices)) }
+        ensures ended { EndsSlotsOf id.0 self.old.slots.table.slots self.new.slots.table.slots }
+        ensures forgotten { OnOk result (Forgets id.0 self.old.slots.table.slots (A.keys self.old.devices) (A.keys self.new.devices)) }
         ensures devices { self.new.devices ≡ self.old.devices }
-        ensures freed { OnOk result ((cell : ℕ) → cell < 512 → has_id id.0 (cell_slot self.old.file.cells.slots.items cell) ≡ true → cell_slot self.new.file.cells.slots.items cell ≡ Free) }
-        ensures zeros { FileStaysZeros D.contents D.may_leave D.moment D.left_since self.old.file self.new.file }
+        ensures freed { OnOk result (FreesCellsOf id.0 self.old.file.cells.slots.items self.new.file.cells.slots.items) }
+        ensures zeros { FileStaysZeros D.Disk self.old.file self.new.file }
         ensures later { NoFewerFaults D.faults A.faults self.old self.new }
         ensures tells { StillTells (D.contents self.old.file.cells.disk) (D.contents self.new.file.cells.disk) }
         ensures knows { is_some (A.keys self.new.devices) ≡ is_some (A.keys self.old.devices) }
@@ -158,13 +153,11 @@ impl<D: Disk, A: Devices, C: Admission> Store<D, A, C> {
         requires full { (slot_at self.old.slots.table.slots slot).state ≡ Full }
         requires there { holds_key id.0 (slot_at self.old.slots.table.slots slot) ≡ true }
         ensures size { D.size self.new.file.cells.disk ≡ 557120 }
-        ensures destroyed { OnOk result (Destroys D.Disk A.Devices C.Admission self.old (ranked_on self.new) id.0 Plain
-            (λ m. first_row (destroy_rows (map.get m.keys id.0) id.0) ≡ None)) }
-        ensures failed { IfErr result (λ why. Destroys D.Disk A.Devices C.Admission self.old (ranked_on self.new) id.0 (mark_undestroyed why)
-            (IsUndestroyed id.0 why)) }
+        ensures destroyed { OnOk result (Destroys D.Disk A.Devices C.Admission self.old (ranked_on self.new) id.0 Plain (MayDestroy id.0)) }
+        ensures failed { IfErr result (λ why. DestroysUnsure D.Disk A.Devices C.Admission self.old (ranked_on self.new) id.0 why) }
         ensures wipes { EndsOnly self.old.slots.table.slots self.new.slots.table.slots (λ i s. holds_key id.0 s ≡ true) }
-        ensures ended { (i : ℕ) → holds_key id.0 (slot_at self.old.slots.table.slots i) ≡ true → slot_at self.new.slots.table.slots i ≡ destroyed_slot (slot_at self.old.slots.table.slots i) }
-        ensures forgotten { OnOk result ((i : ℕ) → i < 384 → holds_key id.0 (slot_at self.old.slots.table.slots i) ≡ true → IsForgotten (slot_at self.old.slots.table.slots i) (A.keys self.old.devices) (A.keys self.new.devices)) }
+        ensures ended { EndsSlotsOf id.0 self.old.slots.table.slots self.new.slots.table.slots }
+        ensures forgotten { OnOk result (Forgets id.0 self.old.slots.table.slots (A.keys self.old.devices) (A.keys self.new.devices)) }
         ensures later { NoFewerFaults D.faults A.faults self.old self.new }
         ensures file { self.new.file ≡ self.old.file }
         ensures knows { is_some (A.keys self.new.devices) ≡ is_some (A.keys self.old.devices) }

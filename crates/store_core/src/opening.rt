@@ -1,15 +1,12 @@
 //! How a store is opened.
 ghost use Rattle.std.specs.Prelude.{◌≡◌, ◌≤◌, ◌↔◌, ℕ, List, [], length, replicate, count_by, slice_get, Some, IfOk, IfErr, IfSome};
-ghost use Rattle.key_attributes.specs.declared.Attributes.{Attributes};
 ghost use Rattle.secret_bytes.specs.Buffer.{IsClear};
 ghost use Rattle.key_cells.specs.Contents.{is_open};
-ghost use Rattle.key_cells.specs.Image.{HasKey};
 ghost use Rattle.key_cells.specs.Opened.{IsOpened, IsRefused};
 ghost use Rattle.slot_table.specs.Slots.{empty_slot};
 ghost use Rattle.driver_dispatch.specs.Calls.{Lacks};
 ghost use Rattle.store_model.specs.Handles.{Service};
-ghost use Rattle.store_core.specs.Represents.{StandsFor};
-ghost use Rattle.store_core.specs.Start.{IsStart, opening_of};
+ghost use Rattle.store_core.specs.Start.{BeginsAtStart, FindsKeysOf, IsStart};
 
 use crate::{Opened, Store};
 use admission::Admission;
@@ -54,12 +51,10 @@ impl<D: Disk, A: Devices, C: Admission> Store<D, A, C> {
         seed: &[u8; 32],
     ) -> Result<Store<D, A, C>, Unopened<D, A>>
         requires empty { (handle : ℕ) → Lacks (A.keys devices) handle }
-        ensures stands { IfOk result (λ store. (start : Service) (callers : ℕ) → IsStart D.Disk A.Devices C.Admission store.opened start → callers ≤ 16 →
-            StandsFor D.Disk A.Devices C.Admission store start (opening_of D.Disk A.Devices C.Admission store.opened) [] (replicate callers [])) }
+        ensures stands { IfOk result (λ store. BeginsAtStart D.Disk A.Devices C.Admission store) }
         ensures starts { IfOk result (λ store. (start : Service) × IsStart D.Disk A.Devices C.Admission store.opened start) }
-        ensures keys { IfOk result (λ store. IfSome (D.contents disk) (λ image. (start : Service) (s : IsStart D.Disk A.Devices C.Admission store.opened start) (a : Attributes) (bytes : List ℕ) →
-            HasKey a bytes image ↔ ((number : ℕ) × (slice_get s.found number ≡ Some (record { attributes = a; bytes = bytes }))))) }
-        ensures opened { IfOk result (λ store. IsOpened D.contents D.may_leave D.moment D.left_since disk store.file.cells.disk store.file.cells.slots.items) }
+        ensures keys { IfOk result (λ store. IfSome (D.contents disk) (λ image. FindsKeysOf D.Disk A.Devices C.Admission store.opened image)) }
+        ensures opened { IfOk result (λ store. IsOpened D.Disk disk store.file.cells.disk store.file.cells.slots.items) }
         ensures later { IfOk result (λ store. D.faults disk ≤ D.faults store.file.cells.disk) }
         ensures size { IfOk result (λ store. D.size store.file.cells.disk ≡ 557120) }
         ensures clear { IfOk result (λ store. IsClear store.buffer) }
@@ -71,7 +66,7 @@ impl<D: Disk, A: Devices, C: Admission> Store<D, A, C> {
         ensures saw_devices { IfOk result (λ store. store.opened.devices.value ≡ store.devices) }
         ensures saw_rules { IfOk result (λ store. store.opened.rules.value ≡ store.rules) }
         ensures saw_seed { IfOk result (λ store. store.opened.seed.value ≡ seed.now) }
-        ensures refused { IfErr result (λ unopened. IsRefused D.contents D.may_leave D.moment D.left_since D.faults disk unopened.disk unopened.fault) }
+        ensures refused { IfErr result (λ unopened. IsRefused D.Disk disk unopened.disk unopened.fault) }
         ensures returned { IfErr result (λ unopened. unopened.devices ≡ devices) }
     {
         let (slots, buffer) = match new_rooms(alloc) {

@@ -1,16 +1,15 @@
 //! How a turn finds a key: in its slot, or else in the file, from where it is loaded into a slot.
-ghost use Rattle.std.specs.Prelude.{◌≡◌, ◌<◌, ◌≤◌, ℕ, List, true, false, None, is_some, IfOk, IfErr, IsErrOf, OnErr};
+ghost use Rattle.std.specs.Prelude.{◌≡◌, ◌<◌, ◌≤◌, true, false, None, is_some, IfOk, IfErr, IsErrOf, OnErr};
 ghost use Rattle.std.specs.FinMap as map;
 ghost use Rattle.secret_bytes.specs.Buffer.{IsClear};
 ghost use Rattle.psa_status.specs.Causes.{Rose};
 ghost use Rattle.key_cells.specs.Contents.{IsFirstWithKey};
-ghost use Rattle.persistent_keys.specs.Files.{Doubt, Keys, Leads, StandsForKeys};
+ghost use Rattle.persistent_keys.specs.Calls.{KeepsFile};
 ghost use Rattle.slot_states.specs.declared.SlotState.TheVariants.{Full};
 ghost use Rattle.slot_table.specs.Slots.{slot_at, NoKey};
 ghost use Rattle.key_slots.specs.Wiping.{TakesOne};
-ghost use Rattle.store_model.specs.Store.{is_persistent_key};
 ghost use Rattle.store_core.specs.Represents.{Brings, Stands};
-ghost use Rattle.store_core.specs.Uses.{IsBrought, KeepsOrEmpties, status_of};
+ghost use Rattle.store_core.specs.Uses.{HasPersistent, IsBrought, KeepsOrEmpties, status_of};
 ghost use Rattle.store_core.specs.declared.reading.Unread.TheVariants as unread;
 
 use crate::Store;
@@ -56,8 +55,7 @@ impl<D: Disk, A: Devices, C: Admission> Store<D, A, C> {
             (IsBrought id.0 (slot_at self.new.slots.table.slots i))) }
         ensures missing { IsErrOf result unread.Missing → Brings D.Disk A.Devices C.Admission self.old self.new id.0
             (λ m. map.get m.keys id.0 ≡ None) }
-        ensures unread { OnErr result ((IsErrOf result unread.Missing → ⊥) → Brings D.Disk A.Devices C.Admission self.old self.new id.0
-            (λ m. is_persistent_key (map.get m.keys id.0) ≡ true)) }
+        ensures unread { OnErr result ((IsErrOf result unread.Missing → ⊥) → Brings D.Disk A.Devices C.Admission self.old self.new id.0 (HasPersistent id.0)) }
         ensures disk { IsErrOf result unread.Disk → Rose (D.faults self.old.file.cells.disk) (D.faults self.new.file.cells.disk) }
         ensures corrupt { IsErrOf result unread.Corrupt → is_some (D.contents self.new.file.cells.disk) ≡ false }
         ensures same { D.contents self.new.file.cells.disk ≡ D.contents self.old.file.cells.disk }
@@ -66,8 +64,7 @@ impl<D: Disk, A: Devices, C: Admission> Store<D, A, C> {
         ensures unmoved { IsErrOf result unread.Missing → self.new.slots ≡ self.old.slots }
         ensures emptied { OnErr result (KeepsOrEmpties self.old.slots.table.slots self.new.slots.table.slots) }
         ensures directory { self.new.file.cells.slots ≡ self.old.file.cells.slots }
-        ensures keeps { (keys : Keys) (doubt : Doubt) → StandsForKeys D.contents D.may_leave self.old.file.cells.disk self.old.file.cells.slots.items keys doubt →
-            Leads D.contents D.may_leave D.moment D.left_since self.old.file.cells.disk self.new.file.cells.disk self.old.file.cells.slots.items self.new.file.cells.slots.items keys doubt keys doubt }
+        ensures keeps { KeepsFile D.Disk self.old.file self.new.file }
         ensures devices { self.new.devices ≡ self.old.devices }
         ensures rules { self.new.rules ≡ self.old.rules }
         ensures made { self.new.made ≡ self.old.made }
@@ -105,8 +102,7 @@ impl<D: Disk, A: Devices, C: Admission> Store<D, A, C> {
         ensures found { IfOk result (λ i. Brings D.Disk A.Devices C.Admission self.old self.new id.0
             (IsBrought id.0 (slot_at self.new.slots.table.slots i))) }
         ensures missing { IsErrOf result unread.Missing → ⊥ }
-        ensures unread { OnErr result ((IsErrOf result unread.Missing → ⊥) → Brings D.Disk A.Devices C.Admission self.old self.new id.0
-            (λ m. is_persistent_key (map.get m.keys id.0) ≡ true)) }
+        ensures unread { OnErr result ((IsErrOf result unread.Missing → ⊥) → Brings D.Disk A.Devices C.Admission self.old self.new id.0 (HasPersistent id.0)) }
         ensures disk { IsErrOf result unread.Disk → Rose (D.faults self.old.file.cells.disk) (D.faults self.new.file.cells.disk) }
         ensures corrupt { IsErrOf result unread.Corrupt → is_some (D.contents self.new.file.cells.disk) ≡ false }
         ensures same { D.contents self.new.file.cells.disk ≡ D.contents self.old.file.cells.disk }
@@ -114,8 +110,7 @@ impl<D: Disk, A: Devices, C: Admission> Store<D, A, C> {
         ensures wipes { TakesOne self.old.slots.table.slots self.new.slots.table.slots }
         ensures emptied { OnErr result (KeepsOrEmpties self.old.slots.table.slots self.new.slots.table.slots) }
         ensures directory { self.new.file.cells.slots ≡ self.old.file.cells.slots }
-        ensures keeps { (keys : Keys) (doubt : Doubt) → StandsForKeys D.contents D.may_leave self.old.file.cells.disk self.old.file.cells.slots.items keys doubt →
-            Leads D.contents D.may_leave D.moment D.left_since self.old.file.cells.disk self.new.file.cells.disk self.old.file.cells.slots.items self.new.file.cells.slots.items keys doubt keys doubt }
+        ensures keeps { KeepsFile D.Disk self.old.file self.new.file }
         ensures devices { self.new.devices ≡ self.old.devices }
         ensures rules { self.new.rules ≡ self.old.rules }
         ensures made { self.new.made ≡ self.old.made }

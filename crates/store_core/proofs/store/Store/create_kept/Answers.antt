@@ -96,8 +96,8 @@ returns-clause-unkept g c = rw c.in-Err-Disk.closed_first-is (λ start opening h
             settled = ensures.unplaced;
             sized = ensures.slots;
             tells = ensures.tells;
-            leads = λ keys doubt stands. subst (λ (b : List ℕ). Leads d.contents d.may_leave d.moment d.left_since old.file.cells.disk c.make.new.self.cells.disk old.file.cells.slots.items c.make.new.self.cells.slots.items keys doubt keys (doubt_unmade (Disk closed) a b doubt)) c.as_slice.ensures.list
-                (subst (λ (f : MakeFault). Leads d.contents d.may_leave d.moment d.left_since old.file.cells.disk c.make.new.self.cells.disk old.file.cells.slots.items c.make.new.self.cells.slots.items keys doubt keys (doubt_unmade f a c.as_slice.result.now doubt)) c.in-Err-Disk.field-0-is (ensures.failed keys doubt stands));
+            leads = λ keys doubt stands. subst (λ (b : List ℕ). Leads d old.file.cells.disk c.make.new.self.cells.disk old.file.cells.slots.items c.make.new.self.cells.slots.items keys doubt keys (doubt_unmade (Disk closed) a b doubt)) c.as_slice.ensures.list
+                (subst (λ (f : MakeFault). Leads d old.file.cells.disk c.make.new.self.cells.disk old.file.cells.slots.items c.make.new.self.cells.slots.items keys doubt keys (doubt_unmade f a c.as_slice.result.now doubt)) c.in-Err-Disk.field-0-is (ensures.failed keys doubt stands));
             unclosed = λ unsettled. ensures.unclosed (failed ∙ ap (λ b. Err (Disk b)) unsettled);
             rose = ensures.cause closed failed;
           })

@@ -182,12 +182,12 @@ returns-in-Err-clause-wipes g c =
 pub returns-in-Ok-made-clause-zeros : goal.returns-in-Ok-made-clause-zeros
 returns-in-Ok-made-clause-zeros g c =
     let d = g.D.Disk in
-    read_first d.contents d.may_leave d.moment d.left_since c.args.self.now.file c.bring.new.self.file c.create-made.new.self.file c.bring.ensures.directory c.bring.ensures.keeps c.create-made.ensures.zeros
+    read_first d c.args.self.now.file c.bring.new.self.file c.create-made.new.self.file c.bring.ensures.directory c.bring.ensures.keeps c.create-made.ensures.zeros
 
 pub returns-in-Err-made-clause-zeros : goal.returns-in-Err-made-clause-zeros
 returns-in-Err-made-clause-zeros g c =
     let d = g.D.Disk in
-    read_first d.contents d.may_leave d.moment d.left_since c.args.self.now.file c.bring.new.self.file c.create-made.new.self.file c.bring.ensures.directory c.bring.ensures.keeps c.create-made.ensures.zeros
+    read_first d c.args.self.now.file c.bring.new.self.file c.create-made.new.self.file c.bring.ensures.directory c.bring.ensures.keeps c.create-made.ensures.zeros
 
 pub returns-in-Err-clause-unread : goal.returns-in-Err-clause-unread
 returns-in-Err-clause-unread g c =

@@ -15,7 +15,7 @@ is_new g c =
     let d = g.D.Disk in
     let e = c.with_file.ensures in
     record {
-      file = subst (λ (f : KeyFile _). IsOpened d.contents d.may_leave d.moment d.left_since c.args.disk f.cells.disk f.cells.slots.items) (sym e.file) c.in-Ok-open.ensures.opened;
+      file = subst (λ (f : KeyFile _). IsOpened d c.args.disk f.cells.disk f.cells.slots.items) (sym e.file) c.in-Ok-open.ensures.opened;
       slots = ap (λ (s : KeySlots). s.table.slots) e.slots ∙ c.in-Ok.ensures.slots;
       made = e.made;
       live = e.live;

@@ -60,7 +60,7 @@ returns-in-Err-clause-failed g c = λ start opening h all e s call is.
             sized = ensures.slots;
             missing = ensures.missing;
             tells = ensures.tells;
-            leads = λ keys keys' doubt own stands there put. subst (Leads d.contents d.may_leave d.moment d.left_since old.disk new.disk old.slots.items new.slots.items keys doubt keys') (undestroyed_doubt closed own doubt)
+            leads = λ keys keys' doubt own stands there put. subst (Leads d old.disk new.disk old.slots.items new.slots.items keys doubt keys') (undestroyed_doubt closed own doubt)
                 (ensures.failed keys keys' doubt own stands there put);
             settles = λ own doubt none. absurd (still_doubted closed own doubt none);
           })
@@ -77,7 +77,7 @@ returns-in-Err-clause-zeros g c = λ keys doubt stands.
     let old = c.args.self.now.file.cells in
     let sized = c.requires.stands.4.holds.directory.sized in
     let there = c.requires.there.within in
-    let k = file.key_of_cell d.contents d.may_leave d.moment d.left_since old.disk old.slots.items keys doubt c.args.id.0 c.args.cell (omega arith) c.requires.there.here stands in
+    let k = file.key_of_cell d old.disk old.slots.items keys doubt c.args.id.0 c.args.cell (omega arith) c.requires.there.here stands in
     (c.in-Err.ensures.failed keys (keys_put keys c.args.id.0 None) doubt k.0 stands k.1 (λ other. refl)).zeros
 
 pub returns-in-Ok-clause-freed : goal.returns-in-Ok-clause-freed
