@@ -13,41 +13,41 @@ use Rattle.single_part.proofs.Ciphering.{vector_fits, sealed_is, sealed_buffer, 
 use Rattle.single_part.proofs.ciphers.encrypt.Goals as goal
 
 -- no row refuses the call
-passed : (c : goal.After-wipe) → first_row (encrypt_rows (model_mode c.args.mode) (length c.args.input.now) (length c.args.out.now)) ≡ None
+passed : (c : goal.After-drop-aes) → first_row (encrypt_rows (model_mode c.args.mode) (length c.args.input.now) (length c.args.out.now)) ≡ None
 passed c = (unless-ok _ _ c.in_ok-needed.needed (sym c.in_ok-needed.ensures.value)).0
 
 -- how many bytes are drawn
-fits : (c : goal.After-wipe) → (c.iv_length.result ≤ c.in_ok-needed.needed) × (c.iv_length.result ≤ length c.args.out.now)
+fits : (c : goal.After-drop-aes) → (c.iv_length.result ≤ c.in_ok-needed.needed) × (c.iv_length.result ≤ length c.args.out.now)
 fits c =
     vector_fits (model_mode c.args.mode) (length c.args.input.now) c.in_ok-needed.needed (length c.args.out.now) c.iv_length.result c.in_ok-needed.ensures.value c.in_ok-needed.ensures.room
     c.iv_length.ensures.value
 
-size : (c : goal.After-wipe) → length (take c.iv_length.result c.args.out.now) ≡ c.iv_length.result
+size : (c : goal.After-drop-aes) → length (take c.iv_length.result c.args.out.now) ≡ c.iv_length.result
 size c = omega (arith, length-take c.iv_length.result c.args.out.now, (fits c).1)
 
-vector_size : (c : goal.After-wipe) → length (take c.iv_length.result c.args.out.now) ≡ iv_length (model_mode c.args.mode)
+vector_size : (c : goal.After-drop-aes) → length (take c.iv_length.result c.args.out.now) ≡ iv_length (model_mode c.args.mode)
 vector_size c = size c ∙ c.iv_length.ensures.value
 
-drawn_size : (c : goal.After-wipe) → length c.fill.new.out ≡ c.iv_length.result
+drawn_size : (c : goal.After-drop-aes) → length c.fill.new.out ≡ c.iv_length.result
 drawn_size c = c.fill.auto.out ∙ size c
 
 -- what is written
-abbrev Sealed : goal.After-wipe → Type 0
+abbrev Sealed : goal.After-drop-aes → Type 0
 Sealed c = c.encipher_behind.new.out ≡ c.fill.new.out ++ enciphered (model_mode c.args.mode) c.args.key.now c.fill.new.out c.args.input.now
 
-sealed : (c : goal.After-wipe) → Sealed c
+sealed : (c : goal.After-drop-aes) → Sealed c
 sealed c =
     sealed_is (model_mode c.args.mode) c.aes_key-aes.result c.args.key.now c.fill.new.out c.args.input.now c.args.out.now c.encipher_behind.new.out c.iv_length.result c.in_ok-needed.needed
     c.aes_key-aes.ensures c.iv_length.ensures.value (drawn_size c) (fits c).0 c.encipher_behind.ensures
 
-vector : (c : goal.After-wipe) → c.fill.new.out ≡ next_bytes c.args.stream.now (iv_length (model_mode c.args.mode))
+vector : (c : goal.After-drop-aes) → c.fill.new.out ≡ next_bytes c.args.stream.now (iv_length (model_mode c.args.mode))
 vector c = c.fill.ensures.bytes ∙ ap (next_bytes c.args.stream.now) (vector_size c)
 
-sealed_size : (c : goal.After-wipe) → length c.encipher_behind.new.out ≡ c.in_ok-needed.needed
+sealed_size : (c : goal.After-drop-aes) → length c.encipher_behind.new.out ≡ c.in_ok-needed.needed
 sealed_size c = c.encipher_behind.auto.out ∙ part_length c.args.out.now c.fill.new.out c.iv_length.result c.in_ok-needed.needed (drawn_size c) (fits c).1 c.in_ok-needed.ensures.room
 
 -- what the call computes, by the vector
-abbrev text : goal.After-wipe → Computed
+abbrev text : goal.After-drop-aes → Computed
 text c = record { reply = given (c.fill.new.out ++ enciphered (model_mode c.args.mode) c.args.key.now c.fill.new.out c.args.input.now); drawn = iv_length (model_mode c.args.mode) }
 
 pub returns-clause-reply : goal.returns-clause-reply
