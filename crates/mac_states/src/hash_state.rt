@@ -1,12 +1,11 @@
 // A hash in several parts.
-ghost use Rattle.std.specs.Prelude.{◌≡◌, Bool, length};
-ghost use Rattle.store_model.specs.Call.{buffer_after};
-ghost use Rattle.service_calls.specs.Answers.{AnswersLength, plain_reply};
+ghost use Rattle.std.specs.Prelude.{◌≡◌, Bool};
+ghost use Rattle.service_calls.specs.Answers.{plain_reply};
 ghost use Rattle.store_model.specs.Operations.{Operation, Inactive, is_inactive};
-ghost use Rattle.store_model.specs.HashOperations.{HashFinish, HashUpdate, HashVerify, HashWork, hash_step};
+ghost use Rattle.store_model.specs.HashOperations.{HashWork};
 ghost use Rattle.multipart.specs.declared.Phase.TheVariants as phase;
 ghost use Rattle.mac_states.specs.HashStates.{IsClearHash, IsHashOperation};
-ghost use Rattle.multipart.specs.Turns.{is_active, on_active};
+ghost use Rattle.multipart.specs.Turns.{is_active};
 ghost use Rattle.mac_states.specs.Setups.{hash_setup};
 
 use crate::running_hash::RunningHash;
@@ -67,49 +66,5 @@ impl HashOpState {
         self.state.work = RunningHash::new(which);
         self.state.phase = Phase::Active;
         Ok(())
-    }
-
-    /// Adds a piece to the message. `BadState` where the operation isn't active; `InvalidArgument`, and the operation
-    /// is in error, where the message would be longer than it may be.
-    pub fn hash_update(&mut self, input: &[u8]) -> Result<(), Status>
-        ensures state { (op : Operation HashWork) → IsHashOperation self.old op →
-            IsHashOperation self.new (on_active op (λ w. hash_step w (HashUpdate input.now))).operation }
-        ensures reply { (op : Operation HashWork) → IsHashOperation self.old op →
-            plain_reply result ≡ (on_active op (λ w. hash_step w (HashUpdate input.now))).reply }
-    {
-        self.state.phase.check_active()?;
-        let result = self.state.work.update(input);
-        self.state.settle(Phase::after_step(result.is_ok()));
-        result
-    }
-
-    /// Writes the hash to the front of a buffer and answers its length; the operation is then inactive. `BadState`
-    /// where it isn't active; `BufferTooSmall`, and the operation is in error, where the buffer has no room.
-    pub fn hash_finish(&mut self, out: &mut [u8]) -> Result<usize, Status>
-        ensures state { (op : Operation HashWork) → IsHashOperation self.old op →
-            IsHashOperation self.new (on_active op (λ w. hash_step w (HashFinish (length out.old)))).operation }
-        ensures reply { (op : Operation HashWork) → IsHashOperation self.old op →
-            AnswersLength result (on_active op (λ w. hash_step w (HashFinish (length out.old)))).reply }
-        ensures buffer { (op : Operation HashWork) → IsHashOperation self.old op →
-            out.new ≡ buffer_after out.old (on_active op (λ w. hash_step w (HashFinish (length out.old)))).reply }
-    {
-        self.state.phase.check_active()?;
-        let result = self.state.work.finish(out);
-        self.state.settle(Phase::after_finish(result.is_ok()));
-        result
-    }
-
-    /// Compares the hash, whole; the operation is then inactive. `BadState` where it isn't active;
-    /// `InvalidSignature`, and the operation is in error, where a byte or the length differs.
-    pub fn hash_verify(&mut self, expected: &[u8]) -> Result<(), Status>
-        ensures state { (op : Operation HashWork) → IsHashOperation self.old op →
-            IsHashOperation self.new (on_active op (λ w. hash_step w (HashVerify expected.now))).operation }
-        ensures reply { (op : Operation HashWork) → IsHashOperation self.old op →
-            plain_reply result ≡ (on_active op (λ w. hash_step w (HashVerify expected.now))).reply }
-    {
-        self.state.phase.check_active()?;
-        let result = self.state.work.verify(expected);
-        self.state.settle(Phase::after_finish(result.is_ok()));
-        result
     }
 }

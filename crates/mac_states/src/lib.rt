@@ -8,7 +8,6 @@ mod mac_state;
 mod running_hash;
 mod running_mac;
 mod total;
-mod work;
 
 pub use hash_state::HashOpState;
 pub use mac_state::MacState;

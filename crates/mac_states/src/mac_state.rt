@@ -1,16 +1,15 @@
 // A MAC in several parts.
-ghost use Rattle.std.specs.Prelude.{◌≡◌, Bool, true, false, length};
+ghost use Rattle.std.specs.Prelude.{◌≡◌, Bool, true, false};
 ghost use Rattle.crypto_specs.specs.Aes.{IsKey};
 ghost use Rattle.alg_encoding.specs.Encoding.{base_of};
 ghost use Rattle.store_model.specs.Algorithms.{cmac_base};
-ghost use Rattle.store_model.specs.Call.{buffer_after};
-ghost use Rattle.service_calls.specs.Answers.{AnswersLength, plain_reply};
+ghost use Rattle.service_calls.specs.Answers.{plain_reply};
 ghost use Rattle.store_model.specs.Operations.{Operation, Inactive, is_inactive};
-ghost use Rattle.store_model.specs.MacOperations.{MacSignFinish, MacUpdate, MacVerifyFinish, MacWork, mac_step};
+ghost use Rattle.store_model.specs.MacOperations.{MacWork};
 ghost use Rattle.alg_encoding.specs.declared.table.Class.TheVariants.{Mac};
 ghost use Rattle.key_policy.specs.Names.{IsOfClass};
 ghost use Rattle.mac_states.specs.MacStates.{IsClearMac, IsMacOperation};
-ghost use Rattle.multipart.specs.Turns.{is_active, on_active};
+ghost use Rattle.multipart.specs.Turns.{is_active};
 ghost use Rattle.mac_states.specs.Setups.{mac_setup};
 
 use crate::running_mac::RunningMac;
@@ -94,51 +93,5 @@ impl MacState {
             plain_reply result ≡ (mac_setup op true alg.0 key.now).reply }
     {
         self.setup(true, key, alg)
-    }
-
-    /// Adds a piece to the message. `BadState` where the operation isn't active; `InvalidArgument`, and the operation
-    /// is in error, where the message would be longer than it may be.
-    pub fn mac_update(&mut self, input: &[u8]) -> Result<(), Status>
-        ensures state { (op : Operation MacWork) → IsMacOperation self.old op →
-            IsMacOperation self.new (on_active op (λ w. mac_step w (MacUpdate input.now))).operation }
-        ensures reply { (op : Operation MacWork) → IsMacOperation self.old op →
-            plain_reply result ≡ (on_active op (λ w. mac_step w (MacUpdate input.now))).reply }
-    {
-        self.state.phase.check_active()?;
-        let result = self.state.work.update(input);
-        self.state.settle(Phase::after_step(result.is_ok()));
-        result
-    }
-
-    /// Writes the MAC to the front of a buffer and answers its length; the operation is then inactive. `BadState` where
-    /// it isn't active, and also, with the operation in error, where it verifies; `BufferTooSmall`, and the operation
-    /// is in error, where the buffer has no room.
-    pub fn mac_sign_finish(&mut self, out: &mut [u8]) -> Result<usize, Status>
-        ensures state { (op : Operation MacWork) → IsMacOperation self.old op →
-            IsMacOperation self.new (on_active op (λ w. mac_step w (MacSignFinish (length out.old)))).operation }
-        ensures reply { (op : Operation MacWork) → IsMacOperation self.old op →
-            AnswersLength result (on_active op (λ w. mac_step w (MacSignFinish (length out.old)))).reply }
-        ensures buffer { (op : Operation MacWork) → IsMacOperation self.old op →
-            out.new ≡ buffer_after out.old (on_active op (λ w. mac_step w (MacSignFinish (length out.old)))).reply }
-    {
-        self.state.phase.check_active()?;
-        let result = self.state.work.sign(out);
-        self.state.settle(Phase::after_finish(result.is_ok()));
-        result
-    }
-
-    /// Compares the MAC, whole; the operation is then inactive. `BadState` where it isn't active, and also, with the
-    /// operation in error, where it makes a MAC; `InvalidSignature`, and the operation is in error, where a byte or the
-    /// length differs.
-    pub fn mac_verify_finish(&mut self, expected: &[u8]) -> Result<(), Status>
-        ensures state { (op : Operation MacWork) → IsMacOperation self.old op →
-            IsMacOperation self.new (on_active op (λ w. mac_step w (MacVerifyFinish expected.now))).operation }
-        ensures reply { (op : Operation MacWork) → IsMacOperation self.old op →
-            plain_reply result ≡ (on_active op (λ w. mac_step w (MacVerifyFinish expected.now))).reply }
-    {
-        self.state.phase.check_active()?;
-        let result = self.state.work.verify(expected);
-        self.state.settle(Phase::after_finish(result.is_ok()));
-        result
     }
 }

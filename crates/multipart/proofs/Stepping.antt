@@ -1,8 +1,13 @@
 -- Steps of operations.
 use Rattle.std.proofs.Common.{◌≡◌, refl, sym, subst}
-use Rattle.std.specs.Prelude.{Option, Some, None}
+use Rattle.std.specs.Prelude.{Option, Some, None, Result, Ok, Err, OnOk, if◌then◌else◌}
+use Rattle.std.specs.Result.{is_ok, result_err}
 use Rattle.psa_status.specs.declared.Status.{Status}
-use Rattle.store_model.specs.Operations.{Operation, Inactive, InError, Active, After, unless_failed}
+use Rattle.store_model.specs.Call.{Reply}
+use Rattle.store_model.specs.Operations.{Operation, Inactive, InError, Active, After, ends, unless_failed}
+use Rattle.multipart.specs.Phases.{LeadsTo}
+use Rattle.multipart.specs.declared.Phase.{Phase}
+use Rattle.multipart.specs.declared.Phase.TheVariants as phase
 use Rattle.multipart.specs.Turns.{on_active}
 
 -- what is said of one step is said of the step that was asked for
@@ -19,3 +24,29 @@ pub on_active-drawn : {W : Type 0} (own : Operation W) (f : W → After W) → (
 on_active-drawn (Active w) f e = e w
 on_active-drawn Inactive f e = refl
 on_active-drawn InError f e = refl
+
+-- WHERE A STEP LEADS
+
+-- one after which the operation goes on with this work
+pub going_on : {S T : Type 0} (holds : S → Type 0) (result : Result T Status) (refused : Option Status) (work : S) (after : After S) (p : Phase) → after.operation ≡ Active work →
+    p ≡ (if is_ok result then phase.Active else phase.InError) → result_err result ≡ refused → OnOk result (holds work) → LeadsTo p holds (unless_failed refused after).operation
+going_on holds (Ok t) None work after phase.Active a e f h = subst (LeadsTo phase.Active holds) (sym a) h
+going_on holds (Ok t) None work after phase.Inactive a e f h = cc
+going_on holds (Ok t) None work after phase.InError a e f h = cc
+going_on holds (Err status) (Some refused) work after phase.InError a e f h = tt
+going_on holds (Err status) (Some refused) work after phase.Active a e f h = cc
+going_on holds (Err status) (Some refused) work after phase.Inactive a e f h = cc
+going_on holds (Ok t) (Some refused) work after p a e f h = cc
+going_on holds (Err status) None work after p a e f h = cc
+
+-- one that ends the operation
+pub ending : {S T : Type 0} (holds : S → Type 0) (result : Result T Status) (refused : Option Status) (reply : Reply) (p : Phase) → p ≡ (if is_ok result then phase.Inactive else phase.InError) →
+    result_err result ≡ refused → LeadsTo p holds (unless_failed refused (ends {W = S} reply)).operation
+ending holds (Ok t) None reply phase.Inactive e f = tt
+ending holds (Ok t) None reply phase.Active e f = cc
+ending holds (Ok t) None reply phase.InError e f = cc
+ending holds (Err status) (Some refused) reply phase.InError e f = tt
+ending holds (Err status) (Some refused) reply phase.Active e f = cc
+ending holds (Err status) (Some refused) reply phase.Inactive e f = cc
+ending holds (Ok t) (Some refused) reply p e f = cc
+ending holds (Err status) None reply p e f = cc

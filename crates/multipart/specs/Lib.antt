@@ -1,3 +1,4 @@
+pub mod Dues
 pub mod Phases
 pub mod States
 pub mod Turns

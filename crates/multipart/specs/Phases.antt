@@ -10,3 +10,7 @@ StandsFor phase.Active clear holds (model.Active work) = holds work
 StandsFor phase.Inactive clear holds model.Inactive = clear
 StandsFor phase.InError clear holds model.InError = clear
 StandsFor _ clear holds _ = ⊥
+
+-- An active operation comes to this phase: where it goes on, it holds the work.
+abbrev pub LeadsTo : {W : Type 0} → Phase → (holds : W → Type 0) → Operation W → Type 0
+LeadsTo phase holds op = StandsFor phase (Unit {0}) holds op

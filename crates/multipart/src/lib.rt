@@ -9,12 +9,14 @@ pub use comparing::is_front;
 pub use family::{Family, compute, drawn};
 pub use outputs::{give, give_front, move_to_front};
 use psa_status::Status;
-pub use state::{OperationState, Work};
+pub use state::{OperationState, Steps, Work};
+pub use stepped::Stepped;
 
 mod comparing;
 mod family;
 mod outputs;
 mod state;
+mod stepped;
 
 /// How an operation stands: it waits for a setup, it has failed and waits for its abort, or it is active.
 #[derive(Clone, Copy, Debug, Drop, PartialEq, Eq)]
