@@ -8,11 +8,11 @@ use Rattle.aead_streams.specs.Counters.{text_xor}
 use Rattle.aead_streams.proofs.StreamLaws.{text_xor-append, length-text_xor}
 use Rattle.aead_streams.proofs.ModeStreams.{aes_keeps_length, ctr_is, ctr_further}
 use Rattle.store_model.specs.Ciphers.{Mode, Ctr, CbcNoPadding, CbcPkcs7, EcbNoPadding, mode_of}
-use Rattle.store_model.specs.CipherOperations.{bytes_or_empty, due_enciphered, due_deciphered}
+use Rattle.store_model.specs.CipherOperations.{bytes_or_empty, cipher_due, due_enciphered, due_deciphered, with_text}
 use Rattle.cipher_states.specs.Modes.{due_bytes, is_stream, keeps_last}
 use Rattle.cipher_states.specs.declared.ways.Way.{Way}
 use Rattle.cipher_states.specs.Ways.{way_of, processed, chains, next_chain}
-use Rattle.cipher_states.specs.Laws.{DueGrows}
+use Rattle.multipart.specs.Dues.{DueGrows}
 use Rattle.cipher_states.proofs.TextPlaces.{due-whole, due-within, due-more}
 use Rattle.cipher_states.proofs.WayLaws.{processed_grows, processed_parts}
 
@@ -100,7 +100,7 @@ either CbcNoPadding = inr refl
 either CbcPkcs7 = inr refl
 either EcbNoPadding = inr refl
 
-pub due_grows : DueGrows
+pub due_grows : DueGrows cipher_due with_text
 due_grows w input = elim (either (mode_of w.alg)) [
   | inl e ↦ stream_grows (mode_of w.alg) w.encrypts w.key (bytes_or_empty w.iv) w.text input e
   | inr e ↦ blocks_grow (mode_of w.alg) w.encrypts w.key (bytes_or_empty w.iv) w.text input e

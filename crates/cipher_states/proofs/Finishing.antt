@@ -1,16 +1,19 @@
 -- What a finish gives, by the state.
 use Rattle.std.proofs.Common.{◌≡◌, ℕ, zero, suc, ◌+◌, ◌-◌, ◌%◌, ◌<◌, Bool, true, false, not, List, [], ◌++◌, length, take, drop, replicate, refl, sym, ap, ap₂, ◌∙◌, arith}
-use Rattle.std.specs.Prelude.{◌&&◌, ◌==◌}
+use Rattle.std.specs.Prelude.{◌&&◌, ◌==◌, if◌then◌else◌}
 use Rattle.std.proofs.lemmas.Bool.{eqb-true}
 use Rattle.std.proofs.lemmas.List.{length-drop, append-nil, drop_all}
 use Rattle.psa_status.specs.declared.Status.TheVariants.{Success}
 use Rattle.crypto_specs.specs.Modes.{pkcs7_padded, pkcs7_unpadded}
 use Rattle.store_model.specs.Call.{Bytes}
 use Rattle.store_model.specs.Outcome.{given}
-use Rattle.store_model.specs.Operations.{ends}
+use Rattle.store_model.specs.Operations.{Operation, Inactive, InError, Active, ends}
 use Rattle.store_model.specs.Ciphers.{Mode, CbcPkcs7, mode_of}
 use Rattle.store_model.specs.CipherOperations.{CipherWork, bytes_or_empty, is_whole_text, last_length, last_part, takes_text, whole_text}
 use Rattle.key_policy.specs.Modes.{model_mode}
+use Rattle.multipart.specs.Phases.{LeadsTo}
+use Rattle.multipart.specs.declared.Phase.{Phase}
+use Rattle.multipart.specs.declared.Phase.TheVariants as phase
 use Rattle.cipher_states.specs.declared.ways.Way.{Way}
 use Rattle.cipher_states.specs.declared.ways.Way.TheVariants.{CbcEncrypt, CbcDecrypt}
 use Rattle.cipher_states.specs.declared.running.RunningCipher.{RunningCipher}
@@ -123,3 +126,16 @@ module _ (s : RunningCipher) (w : CipherWork) (h : HoldsCipher s w) (ready : tak
           (t.chain chained ∙ ap₂ (λ (way : Way) (k : Bool). next_chain way s.key iv (take (due_bytes k (length w.text)) w.text)) plain_way plain_keeps)
           (ap length (t.chain chained) ∙ length-next_chain s.blocks.way s.key iv (take d w.text) ∙ t.vector chained)
           ∙ ap (λ (way : Way). unpadded_end (pkcs7_unpadded (processed way s.key s.blocks.chain last))) (sym plain_way)
+
+-- where a finish leads whose operation is told by whether it succeeded
+pub finished : {W : Type 0} (holds : W → Type 0) (ok : Bool) (op : Operation W) (p : Phase) → p ≡ (if ok then phase.Inactive else phase.InError) → op ≡ (if ok then Inactive else InError) → LeadsTo p holds op
+finished holds true Inactive phase.Inactive e f = tt
+finished holds false InError phase.InError e f = tt
+finished holds true op phase.Active e f = cc
+finished holds true op phase.InError e f = cc
+finished holds false op phase.Active e f = cc
+finished holds false op phase.Inactive e f = cc
+finished holds true InError phase.Inactive e f = cc
+finished holds false Inactive phase.InError e f = cc
+finished holds true (Active w) phase.Inactive e f = cc
+finished holds false (Active w) phase.InError e f = cc

@@ -7,7 +7,7 @@ use Rattle.cipher_states.specs.declared.ways.Way.TheVariants.{EcbEncrypt, EcbDec
 use Rattle.cipher_states.specs.declared.block_text.BlockText.{BlockText}
 use Rattle.cipher_states.specs.Modes.{due_bytes}
 use Rattle.cipher_states.specs.Ways.{chains, next_chain}
-use Rattle.cipher_states.specs.Texts.{HoldsText}
+use Rattle.cipher_states.specs.Texts.{HoldsBlockText}
 use Rattle.cipher_states.proofs.WayLaws.{next_chain_parts}
 
 -- ---- how much is due
@@ -42,7 +42,7 @@ first_chain EcbDecrypt key iv = refl
 first_chain CbcEncrypt key iv = append-nil iv
 first_chain CbcDecrypt key iv = append-nil iv
 
-pub fresh_text : (t : BlockText) (key iv : List ℕ) → t.used ≡ 0 → length t.chain ≡ 16 → (chains t.way ≡ true → t.chain ≡ iv) → HoldsText t key iv []
+pub fresh_text : (t : BlockText) (key iv : List ℕ) → t.used ≡ 0 → length t.chain ≡ 16 → (chains t.way ≡ true → t.chain ≡ iv) → HoldsBlockText t key iv []
 fresh_text t key iv u long e =
     let none : due_bytes t.keeps_last 0 ≡ 0 = due-zero t.keeps_last in
     record {
@@ -54,7 +54,7 @@ fresh_text t key iv u long e =
 
 -- ---- a further piece
 
-module _ (s : BlockText) (key iv text piece : List ℕ) (h : HoldsText s key iv text) where
+module _ (s : BlockText) (key iv text piece : List ℕ) (h : HoldsBlockText s key iv text) where
   -- what was due, what was kept and the piece
   parts : text ++ piece ≡ take (due_bytes s.keeps_last (length text)) text ++ (take s.used s.kept ++ piece)
   parts =
@@ -85,7 +85,7 @@ module _ (s : BlockText) (key iv text piece : List ℕ) (h : HoldsText s key iv 
     further_rest = ap (drop (due_bytes s.keeps_last (length (text ++ piece)))) whole ∙ drop_at (take (due_bytes s.keeps_last (length text)) text ++ out) rest _ front_length
 
   pub grown_text : (t : BlockText) (out : List ℕ) → length out ≡ due_bytes s.keeps_last (s.used + length piece) → out ++ take t.used t.kept ≡ take s.used s.kept ++ piece
-      → length out + t.used ≡ s.used + length piece → t.way ≡ s.way → t.keeps_last ≡ s.keeps_last → (chains s.way ≡ true → t.chain ≡ next_chain s.way key s.chain out) → HoldsText t key iv (text ++ piece)
+      → length out + t.used ≡ s.used + length piece → t.way ≡ s.way → t.keeps_last ≡ s.keeps_last → (chains s.way ≡ true → t.chain ≡ next_chain s.way key s.chain out) → HoldsBlockText t key iv (text ++ piece)
   grown_text t out size cut count ew ek ec =
       let d : ℕ = due_bytes s.keeps_last (length text) in
       let front : take (due_bytes s.keeps_last (length (text ++ piece))) (text ++ piece) ≡ take d text ++ out = further_front out (take t.used t.kept) size cut in

@@ -35,18 +35,18 @@ pub record HoldsCipher (s : RunningCipher) (w : CipherWork) : Type 0 where
   pub text : takes_text w ≡ true → RunsMode (mode_of w.alg) s w
 
 -- nothing of a key and a text is left
-pub record IsClearRunning (s : RunningCipher) : Type 0 where
+pub record IsClearRunningCipher (s : RunningCipher) : Type 0 where
   pub key : s.key ≡ []
   pub total : s.total ≡ 0
   pub stream : IsClearStream s.stream
   pub blocks : IsClearText s.blocks
 
 abbrev pub IsClearCipher : CipherState → Type 0
-IsClearCipher s = IsClearRunning s.state.work
+IsClearCipher s = IsClearRunningCipher s.state.work
 
 -- the state stands for this operation
 abbrev pub IsCipherOperation : CipherState → Operation CipherWork → Type 0
-IsCipherOperation s op = IsOperation IsClearRunning HoldsCipher s.state op
+IsCipherOperation s op = IsOperation IsClearRunningCipher HoldsCipher s.state op
 
 -- how many bytes of output so many bytes of input give
 abbrev pub due_now : RunningCipher → ℕ → ℕ

@@ -6,7 +6,7 @@ use Rattle.cipher_states.specs.Modes.{due_bytes}
 use Rattle.cipher_states.specs.Ways.{chains, next_chain}
 
 -- Of the text so much as is due was processed under the key from the initialisation vector on, and the rest is kept.
-pub record HoldsText (t : BlockText) (key iv text : List ℕ) : Type 0 where
+pub record HoldsBlockText (t : BlockText) (key iv text : List ℕ) : Type 0 where
   pub used : due_bytes t.keeps_last (length text) + t.used ≡ length text
   pub kept : take t.used t.kept ≡ drop (due_bytes t.keeps_last (length text)) text
   pub vector : chains t.way ≡ true → length iv ≡ 16
@@ -16,7 +16,7 @@ pub record HoldsText (t : BlockText) (key iv text : List ℕ) : Type 0 where
 pub record RunsBlocks (t : BlockText) (which : Way) (keeps : Bool) (key iv text : List ℕ) : Type 0 where
   pub way : t.way ≡ which
   pub keeps_last : t.keeps_last ≡ keeps
-  pub holds : HoldsText t key iv text
+  pub holds : HoldsBlockText t key iv text
 
 -- the buffers are zeros
 pub record IsClearText (t : BlockText) : Type 0 where

@@ -23,7 +23,7 @@ pub struct BlockText {
 }
 
 impl BlockText {
-    ghost use Rattle.cipher_states.specs.Texts.{HoldsText, IsClearText, RunsBlocks};
+    ghost use Rattle.cipher_states.specs.Texts.{HoldsBlockText, IsClearText, RunsBlocks};
 
     /// One that isn't in use: its buffers are zeros.
     pub fn clear() -> BlockText

@@ -1,17 +1,67 @@
 // Ciphers among the families of operations.
-ghost use Rattle.std.specs.Prelude.{◌≡◌};
+ghost use Rattle.std.specs.Prelude.{◌≡◌, IsTrue};
 ghost use Rattle.store_model.specs.Outcome.{refusal};
 ghost use Rattle.store_model.specs.Operations.{Operation};
 ghost use Rattle.store_model.specs.CipherOperations.{CipherWork, cipher_step};
 ghost use Rattle.service_calls.specs.Meanings.{model_cipher_step};
-ghost use Rattle.cipher_states.specs.States.{IsCipherOperation};
 ghost use Rattle.service_calls.specs.Random.{takes_iv_bytes};
+ghost use Rattle.key_policy.specs.Keys.{is_key};
 ghost use Rattle.multipart.specs.Turns.{loses_key};
+ghost use Rattle.cipher_states.specs.States.{HoldsCipher, IsCipherOperation, IsClearRunningCipher};
 
+use crate::running::RunningCipher;
 use crate::state::CipherState;
-use multipart::Family;
+use multipart::{Family, Stepped, Steps, Work};
 use psa_status::Status;
-use service_calls::{CipherStep, Output, bytes, plain};
+use service_calls::{CipherStep, Output};
+
+impl Work for RunningCipher {
+    ghost Said = { CipherWork };
+
+    ghost is_clear = { IsClearRunningCipher };
+
+    ghost holds = { HoldsCipher };
+
+    ghost runs = { λ s. IsTrue (is_key s.key) };
+
+    fn forget(&mut self) {
+        self.wipe();
+    }
+}
+
+impl<'a> Steps<CipherStep<'a>> for RunningCipher {
+    ghost Given = { CipherWork };
+
+    ghost has = { HoldsCipher };
+
+    ghost meaning = { λ random w step room. cipher_step random w (model_cipher_step step room) };
+
+    ghost takes = { takes_iv_bytes };
+
+    fn takes_random(step: &CipherStep<'a>) -> bool {
+        match step {
+            CipherStep::GenerateIv => true,
+            CipherStep::SetIv(_) | CipherStep::Update(_) | CipherStep::Finish => false,
+        }
+    }
+
+    fn draws(&self, step: &CipherStep<'a>, room: usize) -> usize {
+        match step {
+            CipherStep::GenerateIv => self.iv_draws(room),
+            CipherStep::SetIv(_) | CipherStep::Update(_) | CipherStep::Finish => 0,
+        }
+    }
+
+    #[tactic(auto, using(multipart::proofs::Stepping::going_on, crate::proofs::Finishing::finished))]
+    fn advance(&mut self, step: CipherStep<'a>, random: &[u8; 16], out: &mut [u8]) -> Stepped {
+        match step {
+            CipherStep::GenerateIv => Stepped::giving_bytes(self.generate_iv(random, out)),
+            CipherStep::SetIv(iv) => Stepped::going_on(self.set_iv(iv)),
+            CipherStep::Update(input) => Stepped::giving_bytes(self.update(input, out)),
+            CipherStep::Finish => Stepped::ending_with_bytes(self.finish(out)),
+        }
+    }
+}
 
 impl<'a> Family<CipherStep<'a>> for CipherState {
     ghost Work = { CipherWork };
@@ -30,17 +80,11 @@ impl<'a> Family<CipherStep<'a>> for CipherState {
     }
 
     fn takes_random(step: &CipherStep<'a>) -> bool {
-        match step {
-            CipherStep::GenerateIv => true,
-            CipherStep::SetIv(_) | CipherStep::Update(_) | CipherStep::Finish => false,
-        }
+        RunningCipher::takes_random(step)
     }
 
     fn draws(&self, step: &CipherStep<'a>, room: usize) -> usize {
-        match step {
-            CipherStep::GenerateIv => self.iv_draws(room),
-            CipherStep::SetIv(_) | CipherStep::Update(_) | CipherStep::Finish => 0,
-        }
+        self.state.draws(step, room)
     }
 
     fn step(
@@ -49,11 +93,6 @@ impl<'a> Family<CipherStep<'a>> for CipherState {
         random: &[u8; 16],
         out: &mut [u8],
     ) -> Result<Output, Status> {
-        match step {
-            CipherStep::GenerateIv => bytes(self.cipher_generate_iv(random, out)),
-            CipherStep::SetIv(iv) => plain(self.cipher_set_iv(iv)),
-            CipherStep::Update(input) => bytes(self.cipher_update(input, out)),
-            CipherStep::Finish => bytes(self.cipher_finish(out)),
-        }
+        self.state.step(step, random, out)
     }
 }

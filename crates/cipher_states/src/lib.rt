@@ -1,7 +1,8 @@
 //! A cipher in several parts: its operation, whatever the pieces in which the text comes.
 #![tactic(auto)]
 
-ghost use Rattle.cipher_states.specs.Laws.{DueGrows};
+ghost use Rattle.store_model.specs.CipherOperations.{cipher_due, with_text};
+ghost use Rattle.multipart.specs.Dues.{DueGrows};
 
 pub use state::CipherState;
 
@@ -13,9 +14,8 @@ mod starts;
 mod state;
 mod updates;
 mod ways;
-mod work;
 
 /// More text only adds to the output that is due.
 pub fn due_grows()
-    ensures { DueGrows }
+    ensures { DueGrows cipher_due with_text }
 {}

@@ -11,7 +11,7 @@ ghost use Rattle.store_model.specs.Outcome.{given, reply_unless};
 ghost use Rattle.store_model.specs.CipherOperations.{CipherGenerateIv, CipherWork, cipher_step, cipher_work, generate_iv_rows, set_iv_rows, takes_iv, with_iv};
 ghost use Rattle.key_policy.specs.Modes.{model_mode};
 ghost use Rattle.key_policy.specs.Names.{NamesMode};
-ghost use Rattle.cipher_states.specs.States.{HoldsCipher, IsClearRunning};
+ghost use Rattle.cipher_states.specs.States.{HoldsCipher, IsClearRunningCipher};
 ghost use Rattle.cipher_states.specs.Modes.{keeps_last};
 ghost use Rattle.cipher_states.specs.Texts.{RunsBlocks};
 ghost use Rattle.cipher_states.specs.Ways.{chains, way_of};
@@ -46,7 +46,7 @@ fn keeps_last(mode: Mode, encrypts: bool) -> bool
 impl RunningCipher {
     /// One without key and text.
     pub(crate) fn clear() -> RunningCipher
-        ensures { IsClearRunning result }
+        ensures { IsClearRunningCipher result }
     {
         RunningCipher {
             encrypts: false,
@@ -61,7 +61,7 @@ impl RunningCipher {
 
     /// Forgets key and text.
     pub(crate) fn wipe(&mut self)
-        ensures { IsClearRunning self.new }
+        ensures { IsClearRunningCipher self.new }
     {
         self.key.wipe();
         self.total = 0;
