@@ -9,7 +9,9 @@ use std::sync::Wait;
 use std::test::Fail;
 use std::thread::Threads;
 
-// What a second run prints that exports the keys 5 and 6.
+const EXPORTS: &str = "1 export #5\n1 export #6\n";
+
+// What these calls may print.
 const BOTH: &str = "1.1 @0 SUCCESS aaab\n1.2 @1 SUCCESS cccd\n";
 
 const ONLY_5: &str = "1.1 @0 SUCCESS aaab\n1.2 @1 INVALID_HANDLE\n";
@@ -84,7 +86,7 @@ fn leaves<R: Threads + Wait + Sync>(
             return Err("memory")?;
         };
         let image = sound_disk(alloc, image)?;
-        let again = run_script(rt, alloc, "1 export #5\n1 export #6\n", image)?;
+        let again = run_script(rt, alloc, EXPORTS, image)?;
         if again.exit != Exit::Done
             || !is_one_of(&again.text, texts)
             || !has_clean_cells(again.disk.bytes())
@@ -107,7 +109,7 @@ const STOPS: &[(&str, u64, &[&str])] = &[
     (CREATES, 8, &[NEITHER, ONLY_5]),
     (CREATES, 9, &[NEITHER, ONLY_5]),
     (CREATES, 10, &[ONLY_5]),
-    (DESTROYS, 10, &[NEITHER, ONLY_5]),
+    (DESTROYS, 10, &[ONLY_5]),
     (DESTROYS, 11, &[NEITHER, ONLY_5]),
     (DESTROYS, 12, &[NEITHER]),
     (DESTROYS, 13, &[NEITHER]),
@@ -120,8 +122,8 @@ fn a_key_is_whole_or_absent(rt: HostRuntime) -> Result<(), Fail> {
     for (script, call, texts) in STOPS {
         let disk = new_disk(alloc, Vec::new(alloc), Fails::From(*call))?;
         let ran = run_script(&rt, alloc, script, disk)?;
-        assert!(rt; ran.exit == Exit::Done, "{call}");
-        assert!(rt; leaves(&rt, alloc, &ran.disk, texts)?, "{call}");
+        assert!(rt; ran.exit == Exit::Done);
+        assert!(rt; leaves(&rt, alloc, &ran.disk, texts)?);
     }
     Ok(())
 }
@@ -195,9 +197,115 @@ fn goes_on<R: Threads + Wait + Sync>(
 fn a_fault_leaves_a_prefix(rt: HostRuntime) -> Result<(), Fail> {
     let alloc = rt.alloc();
     for call in 0..19u64 {
-        assert!(rt; goes_on(&rt, alloc, call, Fails::From(call))?, "{call}");
+        assert!(rt; goes_on(&rt, alloc, call, Fails::From(call))?);
         let listed = Fails::Listed(vec![in alloc; call]?);
-        assert!(rt; goes_on(&rt, alloc, call, listed)?, "{call}");
+        assert!(rt; goes_on(&rt, alloc, call, listed)?);
+    }
+    Ok(())
+}
+
+const CLOSINGS: &str = "1 import a life=1 id=6 type=1001 usage=1 alg=0 data=cccd
+1 import b life=1 id=5 type=1001 usage=1 alg=0 data=aaab
+1 destroy #5
+1 import c life=1 id=7 type=1001 usage=1 alg=0 data=eeef
+1 destroy #6
+1 import d life=1 id=7 type=1001 usage=1 alg=0 data=eeef
+1 export #6
+";
+
+const NOT_MADE: &str = "1.1 @0 SUCCESS 00000006
+1.2 @1 STORAGE_FAILURE
+1.3 @2 INVALID_HANDLE
+1.4 @3 STORAGE_FAILURE
+1.5 @4 STORAGE_FAILURE
+1.6 @5 SUCCESS 00000007
+1.7 @6 INVALID_HANDLE
+";
+
+const NOT_DESTROYED: &str = "1.1 @0 SUCCESS 00000006
+1.2 @1 SUCCESS 00000005
+1.3 @2 STORAGE_FAILURE
+1.4 @3 STORAGE_FAILURE
+1.5 @4 STORAGE_FAILURE
+1.6 @5 SUCCESS 00000007
+1.7 @6 INVALID_HANDLE
+";
+
+// Whether a creation or a destruction of key 5 that fails at this call leaves its cell to be closed, over a disk that also
+// fails the first calls of the next two closings: of a creation, which makes no key, and of a destruction, whose key is then
+// in doubt too. The creation after these closes both cells, and takes the first.
+fn closes<R: Threads + Wait + Sync>(rt: &R, alloc: Global, call: u64) -> Result<bool, Fail> {
+    let (next, last) = (call.saturating_add(1), call.saturating_add(2));
+    let fails = Fails::Listed(vec![in alloc; call, next, last]?);
+    let ran = run_script(
+        rt,
+        alloc,
+        CLOSINGS,
+        new_disk(alloc, Vec::new(alloc), fails)?,
+    )?;
+    let told = if call < 14 { NOT_MADE } else { NOT_DESTROYED };
+    let is_told = ran.exit == Exit::Done && ran.text.as_slice() == told.as_bytes();
+    let is_first = ran.disk.bytes().get(64) == Some(&0xa5);
+    let is_clean = has_clean_cells(ran.disk.bytes());
+    Ok(is_told && is_first && is_clean && leaves(rt, alloc, &ran.disk, &[NEITHER])?)
+}
+
+#[test]
+fn cells_in_doubt_are_closed(rt: HostRuntime) -> Result<(), Fail> {
+    // key 5 is made by the calls from 10 on, and destroyed by those from 14 on
+    for call in 10..18u64 {
+        assert!(rt; closes(&rt, rt.alloc(), call)?);
+    }
+    Ok(())
+}
+
+const FOUR_KEYS: &str = "1 import a life=1 id=5 type=1001 usage=1 alg=0 data=aaab
+1 import b life=1 id=6 type=1001 usage=1 alg=0 data=cccd
+1 import c life=1 id=7 type=1001 usage=1 alg=0 data=ee
+1 import d life=1 id=8 type=1001 usage=1 alg=0 data=ff
+";
+
+// The gates of the last two of four cells, and what closes them.
+const GATES: [(usize, u8); 2] = [(2240, 0), (3328, 0xa4)];
+
+// The bytes of a store with two keys and two closed cells that are left over.
+fn with_cells_left_over<R: Threads + Wait + Sync>(rt: &R, alloc: Global) -> Result<Vec<u8>, Fail> {
+    let made = run_script(rt, alloc, FOUR_KEYS, sound_disk(alloc, Vec::new(alloc))?)?;
+    let mut store = made.disk.bytes().to_vec(alloc)?;
+    for (gate, byte) in GATES {
+        if let Some(old) = store.get_mut(gate) {
+            *old = byte;
+        }
+    }
+    Ok(store)
+}
+
+// Whether an opening of these bytes, over a disk whose calls fail from this one on, ends as it has to, and each image that a
+// crash may leave then has both keys.
+fn keeps_both<R: Threads + Wait + Sync>(
+    rt: &R,
+    alloc: Global,
+    store: &[u8],
+    call: u64,
+) -> Result<bool, Fail> {
+    let disk = new_disk(alloc, store.to_vec(alloc)?, Fails::From(call))?;
+    let ran = run_script(rt, alloc, "", disk)?;
+    let is_opened = ran.exit == Exit::Done;
+    let is_refused = ran.exit == Exit::DiskFault;
+    let is_ended = if call < 518 { is_refused } else { is_opened };
+    let is_cleared = has_clean_cells(ran.disk.bytes()) == (call >= 517);
+    Ok(is_ended && is_cleared && leaves(rt, alloc, &ran.disk, &[BOTH])?)
+}
+
+// Calls of an opening: a sync, the length, the header, 512 cells, a write of each cell that is left over, and a sync.
+const CALLS: [u64; 9] = [0, 1, 2, 3, 514, 515, 516, 517, 518];
+
+#[test]
+fn cells_that_are_left_over_are_cleared(rt: HostRuntime) -> Result<(), Fail> {
+    let alloc = rt.alloc();
+    let store = with_cells_left_over(&rt, alloc)?;
+    for call in CALLS {
+        assert!(rt; keeps_both(&rt, alloc, &store, call)?);
     }
     Ok(())
 }

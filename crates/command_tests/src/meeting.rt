@@ -158,9 +158,19 @@ fn are(replies: Option<&Replies>, text: &str) -> bool {
     }
 }
 
-// Scripts of two sessions, the replies of session 1 without their ranks, and where it is held. The values are those of
+// The replies of session 2: SHA-256 of "abc", by FIPS 180-4, and a destruction or a creation.
+const DESTROYED: &str =
+    "2.1 SUCCESS ba7816bf8f01cfea414140de5dae2223b00361a396177a9cb410ff61f20015ad
+2.2 SUCCESS
+";
+
+const MADE: &str = "2.1 SUCCESS ba7816bf8f01cfea414140de5dae2223b00361a396177a9cb410ff61f20015ad
+2.2 SUCCESS 00000009
+";
+
+// Scripts of two sessions, their replies without ranks, and where session 1 is held. The values are those of
 // SP 800-38B (section D.1, example 2), FIPS 197 (appendix C.1) and GCM's specification by McGrew and Viega (test case 2).
-const MEETINGS: &[(&str, &str, u64)] = &[
+const MEETINGS: &[(&str, &str, &str, u64)] = &[
     (
         "1 import k life=1 id=7 type=2400 usage=400 alg=03c00200 data=2b7e151628aed2a6abf7158809cf4f3c
 1 mac_compute #7 alg=03c00200 data=6bc1bee22e409f96e93d7e117393172a
@@ -170,6 +180,7 @@ const MEETINGS: &[(&str, &str, u64)] = &[
         "1.1 SUCCESS 00000007
 1.2 SUCCESS 070a16b46b4d4144f79bdd9dd04a287c
 ",
+        DESTROYED,
         READING,
     ),
     (
@@ -181,6 +192,7 @@ const MEETINGS: &[(&str, &str, u64)] = &[
         "1.1 SUCCESS 00000007
 1.2 SUCCESS 69c4e0d86a7b0430d8cdb78070b4c55a
 ",
+        DESTROYED,
         READING,
     ),
     (
@@ -192,6 +204,7 @@ const MEETINGS: &[(&str, &str, u64)] = &[
         "1.1 SUCCESS 00000007
 1.2 SUCCESS 0388dace60b6a392f328c2b971b2fe78ab6e47d42cec13bdf53a67b21257bddf
 ",
+        DESTROYED,
         READING,
     ),
     (
@@ -203,14 +216,22 @@ const MEETINGS: &[(&str, &str, u64)] = &[
         "1.1 SUCCESS 00000007
 1.2 SUCCESS 40100000
 ",
+        DESTROYED,
+        FILLING,
+    ),
+    (
+        "1 import k life=1 id=7 type=1001 usage=1 alg=0 data=00
+1 import g life=1 id=9 type=1001 usage=1 alg=0 data=01
+2 hash_compute alg=02000009 data=616263
+2 import h life=1 id=9 type=1001 usage=1 alg=0 data=02
+",
+        "1.1 SUCCESS 00000007
+1.2 ALREADY_EXISTS
+",
+        MADE,
         FILLING,
     ),
 ];
-
-// The replies of session 2: SHA-256 of "abc", by FIPS 180-4, and a destruction.
-const SECOND: &str = "2.1 SUCCESS ba7816bf8f01cfea414140de5dae2223b00361a396177a9cb410ff61f20015ad
-2.2 SUCCESS
-";
 
 // Runs a script over a new store, through a gate.
 fn meet<R: Threads + Wait + Sync>(rt: &R, alloc: Global, script: &str) -> Result<Met, Fail> {
@@ -222,16 +243,15 @@ fn meet<R: Threads + Wait + Sync>(rt: &R, alloc: Global, script: &str) -> Result
     run_meeting(rt, alloc, &script, disk, no_devices(alloc), rules)
 }
 
-// A key is destroyed while another thread reads it or makes one: no call waits for the whole of another.
+// A key is destroyed while another thread reads it or makes one, and one of an identifier is made while another thread makes
+// it: no call waits for the whole of another.
 #[test]
 fn sessions_meet_within_calls(rt: HostRuntime) -> Result<(), Fail> {
-    for (script, replies, held_at) in MEETINGS {
+    for (script, first, second, held_at) in MEETINGS {
         let met = meet(&rt, rt.alloc(), script)?;
-        assert!(rt; met.limits == 0, "a hold reached its limit: {script}");
-        assert!(rt; met.held_at == *held_at, "{script}");
-        let first = are(met.replies.first(), replies);
-        let second = are(met.replies.get(1), SECOND);
-        assert!(rt; first && second, "{script}");
+        // no hold reached its limit
+        assert!(rt; met.limits == 0 && met.held_at == *held_at);
+        assert!(rt; are(met.replies.first(), first) && are(met.replies.get(1), second));
     }
     Ok(())
 }

@@ -1,17 +1,14 @@
 // What the top call runs over, in memory. What boxes are in stands at the tests alone: a run has any devices and rules.
-ghost use Rattle.std.specs.Prelude.{◌≡◌, ◌∷◌, [], ℕ, IfOk, Some};
+ghost use Rattle.std.specs.Prelude.{◌≡◌, ℕ, IfOk, Some};
 ghost use Rattle.driver_dispatch.specs.Held.{no_keys};
 ghost use Rattle.driver_dispatch.specs.Calls.{Lacks};
 
-use admission::Admission;
-use command_words::{RuleBook, RuleList};
+use admission::Rules;
+use command_words::RuleBook;
 use disk_face::{Fails, MemoryDisk};
 use driver_dispatch::{Devices, Driver, Drivers};
-use key_attributes::Attributes;
 use outside_io::{MemorySink, MemorySource};
-use policy_rules::{Label, Verdict, narrow};
 use psa_command::{Ended, Exit, run_command};
-use psa_status::Status;
 use soft_driver::SoftDriver;
 use std::alloc::Global;
 use std::sync::Wait;
@@ -59,25 +56,8 @@ pub fn new_element(alloc: Global, fails: Vec<u64>) -> Result<Drivers, Fail>
     Ok(without_keys(Drivers::new(list)))
 }
 
-/// A rule that stands alone.
-#[derive(Drop)]
-pub struct LoneRule {
-    pub label: Label,
-}
-
-impl Admission for LoneRule {
-    ghost labels = { λ rule. rule.label ∷ [] };
-
-    fn apply(&self, attributes: &Attributes) -> Result<Attributes, Status> {
-        match narrow(self.label, attributes) {
-            Verdict::Keep(kept) => Ok(kept),
-            Verdict::Refuse => Err(Status::NotPermitted),
-        }
-    }
-}
-
 /// No rules.
-pub fn no_rules(alloc: Global) -> RuleBook<LoneRule> {
+pub fn no_rules(alloc: Global) -> RuleBook<Rules> {
     RuleBook::new(alloc)
 }
 
@@ -89,15 +69,13 @@ pub struct Ran {
     pub text: Vec<u8>,
 }
 
-/// Runs the command that these words are, over a source and a sink that never fail.
-pub fn run<A: Devices, L: RuleList + Drop, R: Threads + Wait + Sync>(
+/// Runs a script by one worker, over a source and a sink that never fail, and without rules.
+pub fn run<A: Devices, R: Threads + Wait + Sync>(
     rt: &R,
     alloc: Global,
-    words: &[&str],
     script: &str,
     disk: MemoryDisk,
     devices: A,
-    rules: L,
 ) -> Result<Ran, Fail>
     requires { (handle : ℕ) → Lacks (A.keys devices) handle }
 {
@@ -110,31 +88,23 @@ pub fn run<A: Devices, L: RuleList + Drop, R: Threads + Wait + Sync>(
     } = run_command(
         rt,
         alloc,
-        words,
+        &["run"],
         &mut source,
         &mut sink,
         disk,
         devices,
-        rules,
+        no_rules(alloc),
     );
     let text = sink.as_slice().to_vec(alloc)?;
     Ok(Ran { exit, disk, text })
 }
 
-/// Runs a script by one worker, without devices and rules.
+/// The same without devices.
 pub fn run_script<R: Threads + Wait + Sync>(
     rt: &R,
     alloc: Global,
     script: &str,
     disk: MemoryDisk,
 ) -> Result<Ran, Fail> {
-    run(
-        rt,
-        alloc,
-        &["run"],
-        script,
-        disk,
-        no_devices(alloc),
-        no_rules(alloc),
-    )
+    run(rt, alloc, script, disk, no_devices(alloc))
 }
