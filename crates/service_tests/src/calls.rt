@@ -4,7 +4,7 @@ ghost use Rattle.callers.specs.Ready.{IsReady};
 ghost use Rattle.locked_store.specs.Shared.{world};
 ghost use Rattle.caller_service.specs.Replies.{MayCall};
 
-use crate::rooms::{no_devices, no_rules, sound_disk};
+use crate::rooms::{failing_element, new_disk, no_rules};
 use admission::Admission;
 use alg_encoding::Alg;
 use caller_service::{Closed, Service};
@@ -32,6 +32,10 @@ const SIGN: u32 = 0x400;
 
 const DECRYPT: u32 = 0x200;
 
+const VOLATILE: u32 = 0;
+
+const OF_THE_ELEMENT: u32 = 0x100;
+
 // Uses a budget up. A call that it doesn't suffice for has no rank and counts nothing; the end of an operation is never
 // refused.
 fn wear<D: Disk, A: Devices, C: Admission, R: Abort + Wait>(
@@ -53,11 +57,12 @@ fn wear<D: Disk, A: Devices, C: Admission, R: Abort + Wait>(
     assert!(rt; aborted.result == Ok(()) && aborted.rank.is_some() && caller.spent() == 3);
 }
 
-// Makes a volatile AES key. The answer is 0 where that fails.
+// Makes an AES key. The answer is 0 where that fails.
 fn import<D: Disk, A: Devices, C: Admission, R: Wait>(
     rt: &R,
     service: &Service<D, A, C, NoGate>,
     caller: &mut Caller<D, A, C>,
+    lifetime: u32,
     usage: u32,
     alg: u32,
     bytes: &[u8],
@@ -66,7 +71,7 @@ fn import<D: Disk, A: Devices, C: Admission, R: Wait>(
     ensures { MayCall service.now caller.new }
 {
     let attributes = Attributes {
-        lifetime: Lifetime(0),
+        lifetime: Lifetime(lifetime),
         id: KeyId(0),
         key_type: KeyType::AES,
         bits: 0,
@@ -98,7 +103,7 @@ fn compute_macs<D: Disk, A: Devices, C: Admission, R: Abort + Wait>(
         0x6b, 0xc1, 0xbe, 0xe2, 0x2e, 0x40, 0x9f, 0x96, 0xe9, 0x3d, 0x7e, 0x11, 0x73, 0x93, 0x17,
         0x2a,
     ];
-    let key = import(rt, service, caller, SIGN, CMAC, &bytes);
+    let key = import(rt, service, caller, VOLATILE, SIGN, CMAC, &bytes);
     let alg = Alg(CMAC);
     let mut mac = [7u8; 17];
     let computed = service.mac_compute(rt, caller, key, alg, &message, &mut mac);
@@ -129,7 +134,7 @@ fn open_sealed<D: Disk, A: Devices, C: Admission, R: Abort + Wait>(
         0x78, 0xab, 0x6e, 0x47, 0xd4, 0x2c, 0xec, 0x13, 0xbd, 0xf5, 0x3a, 0x67, 0xb2, 0x12, 0x57,
         0xbd, 0xdf,
     ];
-    let key = import(rt, service, caller, DECRYPT, GCM, &[0; 16]);
+    let key = import(rt, service, caller, VOLATILE, DECRYPT, GCM, &[0; 16]);
     let alg = Alg(GCM);
     let mut text = [7u8; 17];
     let opened = service.aead_decrypt(rt, caller, key, alg, &[0; 12], b"a", &sealed, &mut text);
@@ -151,7 +156,15 @@ fn decipher<D: Disk, A: Devices, C: Admission, R: Abort + Wait>(
         0x6b, 0x67, 0x54, 0xf7, 0x54, 0xf2, 0x92, 0xd8, 0x5b, 0xbd, 0x0d, 0x9b, 0x4a, 0xab, 0x99,
         0x89, 0x3b,
     ];
-    let key = import(rt, service, caller, DECRYPT, CBC_PKCS7, b"an AES key of 16");
+    let key = import(
+        rt,
+        service,
+        caller,
+        VOLATILE,
+        DECRYPT,
+        CBC_PKCS7,
+        b"an AES key of 16",
+    );
     let alg = Alg(CBC_PKCS7);
     let mut text = [7u8; 17];
     let whole = service.cipher_decrypt(rt, caller, key, alg, &input, &mut text);
@@ -163,7 +176,27 @@ fn decipher<D: Disk, A: Devices, C: Admission, R: Abort + Wait>(
     assert!(rt; text == *b"\0\0\0\0\0\0\0\0\0\0\0\0\0\0\0\0\x07");
 }
 
-// Makes the calls of a caller. The first four have some.
+// A MAC that the secure element fails at is zeros, and bytes past it stay. A buffer without room stays, and the element isn't
+// asked.
+fn fail_in_element<D: Disk, A: Devices, C: Admission, R: Abort + Wait>(
+    rt: &R,
+    service: &Service<D, A, C, NoGate>,
+    caller: &mut Caller<D, A, C>,
+)
+    requires { MayCall service.now caller.old }
+    ensures { MayCall service.now caller.new }
+{
+    let key = import(rt, service, caller, OF_THE_ELEMENT, SIGN, CMAC, &[0; 16]);
+    let alg = Alg(CMAC);
+    let mut mac = [7u8; 17];
+    let refused = service.mac_compute(rt, caller, key, alg, b"", &mut mac[..15]);
+    assert!(rt; refused.result == Err(Status::BufferTooSmall) && mac == [7; 17]);
+    let failed = service.mac_compute(rt, caller, key, alg, b"", &mut mac);
+    assert!(rt; failed.result == Err(Status::HardwareFailure));
+    assert!(rt; mac == *b"\0\0\0\0\0\0\0\0\0\0\0\0\0\0\0\0\x07");
+}
+
+// Makes the calls of a caller. The first five have some.
 fn make_calls<D: Disk, A: Devices, C: Admission, R: Abort + Wait>(
     rt: &R,
     service: &Service<D, A, C, NoGate>,
@@ -177,6 +210,7 @@ fn make_calls<D: Disk, A: Devices, C: Admission, R: Abort + Wait>(
         2 => compute_macs(rt, service, caller),
         3 => open_sealed(rt, service, caller),
         4 => decipher(rt, service, caller),
+        5 => fail_in_element(rt, service, caller),
         _ => {}
     }
 }
@@ -223,6 +257,11 @@ fn open_and_call<D: Disk + Drop, A: Devices, C: Admission, R: Abort + Wait>(
 #[test]
 fn calls_leave_budgets_and_buffers(rt: HostRuntime) -> Result<(), Fail> {
     let alloc = rt.alloc();
-    let disk = sound_disk(alloc, Vec::new(alloc))?;
-    open_and_call(&rt, alloc, disk, no_devices(alloc), no_rules(alloc))
+    open_and_call(
+        &rt,
+        alloc,
+        new_disk(alloc)?,
+        failing_element(alloc)?,
+        no_rules(alloc),
+    )
 }

@@ -1,42 +1,21 @@
-// Stores over disks in memory, for tests. What boxes are in stands at the tests alone: a trial has any devices and rules.
+// What a service is opened over, in memory. What boxes are in stands at the tests alone: a service has any devices and rules.
 ghost use Rattle.std.specs.Prelude.{◌≡◌, ℕ, IfOk, Some};
 ghost use Rattle.driver_dispatch.specs.Held.{no_keys};
 ghost use Rattle.driver_dispatch.specs.Calls.{Lacks};
 
-use admission::{Admission, Rules};
+use admission::Rules;
 use disk_face::{Fails, MemoryDisk};
 use driver_dispatch::{Devices, Driver, Drivers};
-use key_attributes::{Attributes, KeyId, KeyType, Lifetime, Policy, Usage};
 use soft_driver::SoftDriver;
 use std::alloc::Global;
 use std::test::Fail;
-use store_trials::Keeper;
 
-/// The attributes of a key of raw data that may be exported: a persistent one, or a volatile one of the identifier 0.
-pub fn raw_data(id: u32) -> Attributes {
-    Attributes {
-        lifetime: Lifetime(if id == 0 { 0 } else { 1 }),
-        id: KeyId(id),
-        key_type: KeyType::RAW_DATA,
-        bits: 0,
-        policy: Policy {
-            usage: Usage::EXPORT,
-            alg: 0,
-        },
-    }
-}
-
-/// A disk of these bytes that fails so.
-pub fn new_disk(alloc: Global, bytes: Vec<u8>, fails: Fails) -> Result<MemoryDisk, Fail> {
-    match MemoryDisk::new(alloc, bytes, fails) {
+/// An empty disk that never fails.
+pub fn new_disk(alloc: Global) -> Result<MemoryDisk, Fail> {
+    match MemoryDisk::new(alloc, Vec::new(alloc), Fails::From(u64::MAX)) {
         Ok(disk) => Ok(disk),
         Err(_) => Err("memory")?,
     }
-}
-
-/// A disk of these bytes that never fails.
-pub fn sound_disk(alloc: Global, bytes: Vec<u8>) -> Result<MemoryDisk, Fail> {
-    new_disk(alloc, bytes, Fails::From(u64::MAX))
 }
 
 // Devices that hold no key lack every handle.
@@ -47,18 +26,11 @@ fn without_keys<A: Devices>(devices: A) -> A
     devices
 }
 
-/// No devices.
-pub fn no_devices(alloc: Global) -> Drivers
-    ensures { (handle : ℕ) → Lacks (⟦<Drivers as Devices>⟧.keys result) handle }
-{
-    without_keys(Drivers::new(Vec::new(alloc)))
-}
-
-/// A secure element whose calls of these numbers fail.
-pub fn new_element(alloc: Global, fails: Vec<u64>) -> Result<Drivers, Fail>
+/// A secure element that takes a key, and fails at its second call.
+pub fn failing_element(alloc: Global) -> Result<Drivers, Fail>
     ensures { IfOk result (λ devices. (handle : ℕ) → Lacks (⟦<Drivers as Devices>⟧.keys devices) handle) }
 {
-    let driver = match SoftDriver::new(alloc, 1, fails) {
+    let driver = match SoftDriver::new(alloc, 1, vec![in alloc; 1u64]?) {
         Ok(driver) => driver,
         Err(_) => return Err("memory")?,
     };
@@ -70,19 +42,4 @@ pub fn new_element(alloc: Global, fails: Vec<u64>) -> Result<Drivers, Fail>
 /// No rules.
 pub fn no_rules(alloc: Global) -> Rules {
     Rules::pick(Vec::new(alloc), &[])
-}
-
-/// Opens the store of a disk over devices that hold no key.
-pub fn open<A: Devices, C: Admission>(
-    alloc: Global,
-    disk: MemoryDisk,
-    devices: A,
-    rules: C,
-) -> Result<Keeper<MemoryDisk, A, C>, Fail>
-    requires { (handle : ℕ) → Lacks (A.keys devices) handle }
-{
-    match Keeper::open(alloc, disk, devices, rules) {
-        Ok(keeper) => Ok(keeper),
-        Err(_unopened) => Err("open")?,
-    }
 }
