@@ -108,6 +108,50 @@ fn done<A: Devices, C: Admission>(
     Some((keys, store.into_disk()))
 }
 
+// Exports the keys from one on and up to another.
+fn export_each<D: Disk, A: Devices, C: Admission>(
+    store: &mut Keeper<D, A, C>,
+    first: u32,
+    last: u32,
+) -> Option<()>
+    requires few { last ≤ 512 }
+{
+    for id in first..last + 1 {
+        if !store.gives(KeyId(id), &KEY)?.ok()? {
+            return None;
+        }
+    }
+    Some(())
+}
+
+fn watched<A: Devices, C: Admission>(
+    alloc: Global,
+    disk: MemoryDisk,
+    devices: A,
+    rules: C,
+) -> Option<[bool; 5]>
+    requires { A.keys devices ≡ Some no_keys }
+{
+    let mut store = opened(alloc, disk, devices, rules)?;
+    let mut seen = [store.slot(KeyId(1)).is_some(); 5];
+    export_each(&mut store, 1, 384)?;
+    seen[1] = store.slot(KeyId(1)).is_some();
+    export_each(&mut store, 385, 385)?;
+    seen[2] = store.slot(KeyId(1)).is_some();
+    export_each(&mut store, 1, 1)?;
+    seen[3] = store.slot(KeyId(2)).is_some();
+    store.purge(KeyId(1))?.ok()?;
+    seen[4] = store.slot(KeyId(1)).is_some();
+    Some(seen)
+}
+
+/// Of a full store, whether key 1 is in memory at first, after the exports of 384 keys from it on, and after one more; whether
+/// key 2 is after key 1 was exported again; and whether key 1 is after it was purged then.
+pub fn watch(alloc: Global, disk: MemoryDisk) -> Option<[bool; 5]> {
+    let rules = Rules::pick(Vec::new(alloc), &[]);
+    watched(alloc, disk, Drivers::new(Vec::new(alloc)), rules)
+}
+
 /// Opens the store of a disk without devices and rules, does this with it, and hands the disk back. How many keys it had to do
 /// with. `None` where a call is refused.
 pub fn do_task(alloc: Global, disk: MemoryDisk, task: Task) -> Option<(u32, MemoryDisk)> {

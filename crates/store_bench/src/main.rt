@@ -5,7 +5,7 @@
 
 mod full;
 
-use full::{Task, do_task, full_disk};
+use full::{Task, do_task, full_disk, watch};
 use std::process::ExitCode;
 use std::{env, io};
 
@@ -19,12 +19,32 @@ fn exports(rt: &HostRuntime) -> Option<(u32, u32)> {
     Some((first, second))
 }
 
+// Which keys of a full store are in memory.
+fn watch_full(rt: &HostRuntime) -> Option<[bool; 5]> {
+    watch(rt.alloc(), full_disk(rt.alloc())?)
+}
+
+fn word(answer: bool) -> &'static str {
+    if answer { "yes" } else { "no" }
+}
+
 // Prints what becomes of a full store.
 fn try_all(rt: &HostRuntime) -> io::Result<bool> {
     let Some((first, second)) = exports(rt) else {
         return Ok(false);
     };
     println!(rt; "exported {first} of 600, and {second} once more")?;
+    let Some(seen) = watch_full(rt) else {
+        return Ok(false);
+    };
+    let (opened, filled, evicted) = (word(seen[0]), word(seen[1]), word(seen[2]));
+    let (other, purged) = (word(seen[3]), word(seen[4]));
+    println!(rt;
+        "key 1 in memory at first: {opened}, after 384 exports: {filled}, after one more: {evicted}"
+    )?;
+    println!(rt;
+        "key 2 in memory after key 1 was exported again: {other}, key 1 after a purge: {purged}"
+    )?;
     Ok(true)
 }
 

@@ -103,19 +103,6 @@ module _ {D A C : Type 0} (disks : Disk.Ghosts D) (elements : Devices.Ghosts A) 
             clear = clear;
           }
 
-      pub stepped : Adds disks elements admits old new → KeepsHere old all → KeepsHere new all
-      stepped adds k =
-          let e = entry 1 (OnStore (GetAttributes 0)) Plain in
-          let leaves = quiet_leaves disks elements admits old k.start k.h e refl in
-          record {
-            start = k.start;
-            opening = k.opening;
-            h = k.h ++ e ∷ [];
-            stands = adds k.start k.opening k.h all e k.stands leaves (is_entry 1 (OnStore (GetAttributes 0)) Plain (omega arith) (omega arith));
-            sized = sized;
-            clear = clear;
-          }
-
       pub read : (id : ℕ) (mark : FaultMark) (P : model.Store → Type 0) → Reads disks elements admits old new id mark P → KeepsHere old all → KeepsHere new all
       read id mark P reads k =
           let e = entry 1 (OnStore (GetAttributes id)) mark in
@@ -137,30 +124,6 @@ module _ {D A C : Type 0} (disks : Disk.Ghosts D) (elements : Devices.Ghosts A) 
             opening = k.opening;
             h = k.h ++ e ∷ [];
             stands = (reads k.start k.opening k.h all more e k.stands gains law (record { quiet = refl; reads = λ t. refl }) (is_entry 1 (OnStore (Export id 0)) Plain (omega arith) (omega arith))).0;
-            sized = sized;
-            clear = clear;
-          }
-
-      pub destroyed : (id : ℕ) (mark : FaultMark) (P : model.Store → Type 0) → Destroys disks elements admits old new id mark P → KeepsHere old all → KeepsHere new all
-      destroyed id mark P destroys k =
-          let e = entry 1 (OnStore (Destroy id)) mark in
-          record {
-            start = k.start;
-            opening = k.opening;
-            h = k.h ++ e ∷ [];
-            stands = (destroys k.start k.opening k.h all e k.stands refl (is_entry 1 (OnStore (Destroy id)) mark (omega arith) (omega arith))).0;
-            sized = sized;
-            clear = clear;
-          }
-
-      pub computed : (call : Call) (mark : FaultMark) (P : model.Store → Type 0) → Makes disks elements admits old new call mark P → KeepsHere old all → KeepsHere new all
-      computed call mark P makes k =
-          let e = entry 1 (OnStore call) mark in
-          record {
-            start = k.start;
-            opening = k.opening;
-            h = k.h ++ e ∷ [];
-            stands = (makes k.start k.opening k.h all e k.stands refl (is_entry 1 (OnStore call) mark (omega arith) (omega arith))).0;
             sized = sized;
             clear = clear;
           }
@@ -189,14 +152,6 @@ module _ {D A C : Type 0} (disks : Disk.Ghosts D) (elements : Devices.Ghosts A) 
             clear = clear;
           }
 
-      pub made_counted : (less : List Pairs) (caller : ℕ) (a : Attributes) (bytes : List ℕ) (p : ℕ × ℕ) (mark : FaultMark) (P : model.Store → Type 0) → 1 ≤ caller → caller ≤ 16 →
-          Creates disks elements admits old new caller None (RecordsStated None caller a (length bytes)) (λ m. bytes) p mark P →
-          Gains less all p → AreHoldings less → KeepsHere old all → new.ranked ≡ old.ranked + 1
-      made_counted less caller a bytes p mark P first last creates gains law k =
-          let e = entry caller (OnStore (Import a bytes)) mark in
-          let n = (creates k.start k.opening k.h all less e k.stands tt gains law (imports k.start k.h caller a bytes mark) (is_entry caller (OnStore (Import a bytes)) mark first last)).0 in
-          n.holds.ranked ∙ (length-append k.h (e ∷ []) ∙ ap (λ n. n + 1) (sym k.stands.holds.ranked))
-
       -- WHATEVER A CALL ANSWERED
 
       pub made_or_not : {R E : Type 0} (result : Result R E) (less : List Pairs) (caller : ℕ) (a : Attributes) (bytes : List ℕ) (p : ℕ × ℕ) (mark : E → FaultMark) (P : R → model.Store → Type 0) (Q : E → model.Store → Type 0) → 1 ≤ caller → caller ≤ 16 →
@@ -205,25 +160,6 @@ module _ {D A C : Type 0} (disks : Disk.Ghosts D) (elements : Devices.Ghosts A) 
           Gains less all p → AreHoldings less → KeepsHere old all → KeepsHere new less
       made_or_not (Ok id) less caller a bytes p mark P Q first last done not gains law k = made less caller a bytes p Plain (P id) first last done gains law k
       made_or_not (Err why) less caller a bytes p mark P Q first last done not gains law k = made less caller a bytes p (mark why) (Q why) first last not gains law k
-
-      pub counted_or_not : {R E : Type 0} (result : Result R E) (less : List Pairs) (caller : ℕ) (a : Attributes) (bytes : List ℕ) (p : ℕ × ℕ) (mark : E → FaultMark) (P : R → model.Store → Type 0) (Q : E → model.Store → Type 0) → 1 ≤ caller → caller ≤ 16 →
-          IfOk result (λ id. Creates disks elements admits old new caller None (RecordsStated None caller a (length bytes)) (λ m. bytes) p Plain (P id)) →
-          IfErr result (λ why. Creates disks elements admits old new caller None (RecordsStated None caller a (length bytes)) (λ m. bytes) p (mark why) (Q why)) →
-          Gains less all p → AreHoldings less → KeepsHere old all → new.ranked ≡ old.ranked + 1
-      counted_or_not (Ok id) less caller a bytes p mark P Q first last done not gains law k = made_counted less caller a bytes p Plain (P id) first last done gains law k
-      counted_or_not (Err why) less caller a bytes p mark P Q first last done not gains law k = made_counted less caller a bytes p (mark why) (Q why) first last not gains law k
-
-      pub destroyed_or_not : {R E : Type 0} (result : Result R E) (id : ℕ) (mark : E → FaultMark) (P : model.Store → Type 0) (Q : E → model.Store → Type 0) →
-          OnOk result (Destroys disks elements admits old new id Plain P) →
-          IfErr result (λ why. Destroys disks elements admits old new id (mark why) (Q why)) → KeepsHere old all → KeepsHere new all
-      destroyed_or_not (Ok _) id mark P Q done not k = destroyed id Plain P done k
-      destroyed_or_not (Err why) id mark P Q done not k = destroyed id (mark why) (Q why) not k
-
-      pub read_or_not : {R E : Type 0} (result : Result R E) (id : ℕ) (mark : E → FaultMark) (P : R → model.Store → Type 0) (Q : E → model.Store → Type 0) →
-          IfOk result (λ r. Reads disks elements admits old new id Plain (P r)) →
-          IfErr result (λ why. Reads disks elements admits old new id (mark why) (Q why)) → KeepsHere old all → KeepsHere new all
-      read_or_not (Ok r) id mark P Q done not k = read id Plain (P r) done k
-      read_or_not (Err why) id mark P Q done not k = read id (mark why) (Q why) not k
 
       pub added_or_not : {R E : Type 0} (result : Result R E) (P : model.Store → Type 0) (Is : E → Type 0) (Q : E → model.Store → Type 0) →
           OnOk result (AddsAs disks elements admits old new P) →

@@ -10,13 +10,6 @@ use Rattle.store_trials.specs.Keeping.{AreLeases, first_has, first_two_have}
 pub first_gains : (own : Pairs) (p : ℕ × ℕ) → Gains (first_has own) (first_has (p ∷ own)) p
 first_gains own p i n = let a = names i n own in omega arith
 
--- and the second does
-pub second_gains : (own other : Pairs) (p : ℕ × ℕ) → Gains (first_two_have own other) (first_two_have own (p ∷ other)) p
-second_gains own other p i n = let a = names i n own in omega arith
-
-pub first_of_two_gains : (own other : Pairs) (p : ℕ × ℕ) → Gains (first_two_have own other) (first_two_have (p ∷ own) other) p
-first_of_two_gains own other p i n = let a = names i n own in omega arith
-
 pub nothing : IsHolding []
 nothing = record { leases = omega arith; fillings = omega arith }
 
@@ -29,10 +22,6 @@ are_one own o = are_two own [] o nothing
 -- a filling alone
 pub filling_alone : (slot : ℕ) → IsHolding ((slot, 0) ∷ [])
 filling_alone slot = record { leases = omega arith; fillings = omega arith }
-
--- a lease alone
-pub lease_alone : (slot number : ℕ) → IsHolding ((slot, number + 1) ∷ [])
-lease_alone slot number = record { leases = grind (arith, nat_tests); fillings = grind (arith, nat_tests) }
 
 pub none : AreHoldings (first_has [])
 none = are_one [] nothing
@@ -63,14 +52,3 @@ lease_beside own most slot number l =
 
 pub hold : (own : Pairs) (most : ℕ) → most ≤ 5 → AreLeases own most → AreHoldings (first_has own)
 hold own most few l = let leases = l.leases in let fillings = l.fillings in are_one own (record { leases = omega (arith, leases, few); fillings = omega (arith, fillings) })
-
-pub hold_filling : (own : Pairs) (most slot : ℕ) → most ≤ 5 → AreLeases own most → AreHoldings (first_has ((slot, 0) ∷ own))
-hold_filling own most slot few l =
-    let leases = l.leases in
-    let fillings = l.fillings in
-    let none = counted (λ p. nat_lt 0 p.1) false (slot, 0) own (grind (arith, nat_tests)) in
-    let one = counted (λ p. p.1 == 0) true (slot, 0) own refl in
-    are_one ((slot, 0) ∷ own) (record { leases = omega (arith, none, leases, few); fillings = omega (arith, one, fillings) })
-
-pub weaker : (own : Pairs) (few most : ℕ) → few ≤ most → AreLeases own few → AreLeases own most
-weaker own few most le l = let leases = l.leases in record { leases = omega (arith, leases, le); fillings = l.fillings }

@@ -45,16 +45,10 @@ module _ {D A C : Type 0} (disks : Disk.Ghosts D) (elements : Devices.Ghosts A) 
   abbrev pub KeepsLeases : Store D A C → (most : ℕ) → Type 0
   KeepsLeases store most = (own : Pairs) × AreLeases own most × KeepsHere store (first_has own)
 
-  abbrev pub KeepsBeside : Store D A C → (most : ℕ) → ℕ × ℕ → Type 0
-  KeepsBeside store most p = (own : Pairs) × AreLeases own most × KeepsHere store (first_has (p ∷ own))
-
   -- a turn leaves what is out
   abbrev pub StaysOut : (old new : Store D A C) (most : ℕ) → Type 0
   StaysOut old new most = (own : Pairs) → AreLeases own most → KeepsHere old (first_has own) → KeepsHere new (first_has own)
 
-  -- or this further lease is out after it, or before it and after it
+  -- or this further lease is out after it
   abbrev pub GivesLease : (old new : Store D A C) (most : ℕ) → ℕ × ℕ → Type 0
   GivesLease old new most p = (own : Pairs) → AreLeases own most → KeepsHere old (first_has own) → KeepsHere new (first_has (p ∷ own))
-
-  abbrev pub KeepsLease : (old new : Store D A C) (most : ℕ) → ℕ × ℕ → Type 0
-  KeepsLease old new most p = (own : Pairs) → AreLeases own most → KeepsHere old (first_has (p ∷ own)) → KeepsHere new (first_has (p ∷ own))

@@ -75,11 +75,6 @@ impl<D: Disk, A: Devices, C: Admission> Keeper<D, A, C> {
         self.store.slots.find(id)
     }
 
-    /// The disk as it is.
-    pub fn disk(&self) -> &D {
-        &self.store.file.cells.disk
-    }
-
     /// The disk.
     pub fn into_disk(self) -> D {
         self.store.into_disk().0

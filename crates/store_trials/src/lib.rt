@@ -5,7 +5,5 @@ mod changing;
 mod keeper;
 mod reading;
 mod turns;
-mod under_leases;
 
 pub use keeper::Keeper;
-pub use under_leases::Seen;
