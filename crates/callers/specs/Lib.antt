@@ -5,3 +5,4 @@ pub mod Ready
 pub mod Retired
 pub mod Parts
 pub mod Budget
+pub mod Served

@@ -8,10 +8,11 @@ ghost use Rattle.service_calls.specs.declared.call.Call.TheVariants as calls;
 ghost use Rattle.service_calls.specs.declared.handle_calls.HandleCall.TheVariants as handle_calls;
 ghost use Rattle.store_model.specs.Handles.{HandleOperation};
 ghost use Rattle.store_model.specs.Operations.{is_inactive};
-ghost use Rattle.callers.specs.Budget.{asked_for, counted_by, is_counted, begins_operation};
+ghost use Rattle.callers.specs.Budget.{is_counted, begins_operation};
 ghost use Rattle.callers.specs.Called.{IsAnswered};
 ghost use Rattle.callers.specs.Handles.{AreOperations, operation_at};
 ghost use Rattle.callers.specs.Ready.{IsReady};
+ghost use Rattle.callers.specs.Served.{HasCounted, IsOverBudget, IsServed, IsServedUnwritten};
 ghost use Rattle.locked_store.specs.Shared.{world};
 
 use crate::caller::Caller;
@@ -53,10 +54,8 @@ impl<D: Disk, A: Devices, C: Admission> Caller<D, A, C> {
         ensures ready { IsReady (world shared.now) 0 self.new }
         ensures within { self.new.spent ≤ worn }
         ensures ranked { IfSome result.0 (λ rank. IsAnswered (world shared.now) self.old.pass.me.0 self.new.pass.me.0 (model_request call.now (length out.old)) rank result.1 out.old out.new) }
-        ensures counts { IfSome result.0 (λ rank. (operations : List HandleOperation) → AreOperations self.old.handles.cells.items operations →
-            (self.old.spent + asked_for call.now operations ≤ worn) × (self.new.spent ≡ self.old.spent + counted_by call.now operations result.1)) }
-        ensures worn { IfNone result.0 ((operations : List HandleOperation) → AreOperations self.old.handles.cells.items operations →
-            (worn < self.old.spent + asked_for call.now operations) × (result.1 ≡ Err PassWorn) × (self.new ≡ self.old) × (out.new ≡ out.old)) }
+        ensures counts { IfSome result.0 (λ rank. HasCounted self.old self.new worn call.now result.1) }
+        ensures worn { IfNone result.0 (IsOverBudget self.old self.new worn call.now result.1 out.old out.new) }
     {
         if let Some(op) = self.ends(call) {
             let rank = self.abort(rt, shared, call, out.len(), op);
@@ -101,7 +100,7 @@ impl<D: Disk, A: Devices, C: Admission> Caller<D, A, C> {
         requires ready { IsReady (world shared.now) 4 self.old }
         requires budget { self.old.spent + cond (begins_operation call.now) 1 0 ≤ 2 ^ 48 }
         ensures ready { IsReady (world shared.now) 0 self.new }
-        ensures answered { IsAnswered (world shared.now) self.old.pass.me.0 self.new.pass.me.0 (model_request call.now (length out.old)) result.0 result.1 out.old out.new }
+        ensures answered { IsServed (world shared.now) self.old self.new call.now result out.old out.new }
         ensures spent { self.new.spent ≡ self.old.spent + cond (begins_operation call.now) (cond (is_ok result.1) 1 0) 0 }
     {
         match *call {
@@ -123,7 +122,7 @@ impl<D: Disk, A: Devices, C: Admission> Caller<D, A, C> {
         requires ready { IsReady (world shared.now) 4 self.old }
         requires call { call.now ≡ calls.OnStore asked.now }
         ensures ready { IsReady (world shared.now) 0 self.new }
-        ensures answered { IsAnswered (world shared.now) self.old.pass.me.0 self.new.pass.me.0 (model_request call.now (length out.old)) result.0 result.1 out.old out.new }
+        ensures answered { IsServed (world shared.now) self.old self.new call.now result out.old out.new }
         ensures spent { self.new.spent ≡ self.old.spent }
     {
         let room = out.len();
@@ -148,7 +147,7 @@ impl<D: Disk, A: Devices, C: Admission> Caller<D, A, C> {
         requires ready { IsReady (world shared.now) 4 self.old }
         requires call { call.now ≡ creates asked.now }
         ensures ready { IsReady (world shared.now) 0 self.new }
-        ensures answered { (buffer : List ℕ) → IsAnswered (world shared.now) self.old.pass.me.0 self.new.pass.me.0 (model_request call.now room) result.0 result.1 buffer buffer }
+        ensures answered { IsServedUnwritten (world shared.now) self.old self.new call.now room result }
         ensures spent { self.new.spent ≡ self.old.spent }
     {
         match *asked {
@@ -174,7 +173,7 @@ impl<D: Disk, A: Devices, C: Admission> Caller<D, A, C> {
         requires ready { IsReady (world shared.now) 4 self.old }
         requires call { call.now ≡ changes asked }
         ensures ready { IsReady (world shared.now) 0 self.new }
-        ensures answered { (buffer : List ℕ) → IsAnswered (world shared.now) self.old.pass.me.0 self.new.pass.me.0 (model_request call.now room) result.0 result.1 buffer buffer }
+        ensures answered { IsServedUnwritten (world shared.now) self.old self.new call.now room result }
         ensures spent { self.new.spent ≡ self.old.spent }
     {
         match asked {
@@ -202,7 +201,7 @@ impl<D: Disk, A: Devices, C: Admission> Caller<D, A, C> {
         requires budget { self.old.spent + cond (begins_operation call.now) 1 0 ≤ 2 ^ 48 }
         requires call { call.now ≡ calls.OnHandle op asked.now }
         ensures ready { IsReady (world shared.now) 0 self.new }
-        ensures answered { IsAnswered (world shared.now) self.old.pass.me.0 self.new.pass.me.0 (model_request call.now (length out.old)) result.0 result.1 out.old out.new }
+        ensures answered { IsServed (world shared.now) self.old self.new call.now result out.old out.new }
         ensures spent { self.new.spent ≡ self.old.spent + cond (begins_operation call.now) (cond (is_ok result.1) 1 0) 0 }
     {
         let room = out.len();

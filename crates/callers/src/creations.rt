@@ -8,9 +8,10 @@ ghost use Rattle.service_calls.specs.declared.store_calls.KeyChange.TheVariants.
 ghost use Rattle.store_model.specs.Faults.{Plain};
 ghost use Rattle.store_core.specs.Creations.{IsMade, IsUnmade, RecordsStated, mark_unmade};
 ghost use Rattle.locked_store.specs.Turning.{CreatesKey, DecidesBefore, HasNoFilling, IsAt};
-ghost use Rattle.callers.specs.Called.{IsAnswered, Legal};
+ghost use Rattle.callers.specs.Called.{Legal};
 ghost use Rattle.callers.specs.Parts.{IsCreated, SameButPass};
 ghost use Rattle.callers.specs.Ready.{IsReady};
+ghost use Rattle.callers.specs.Served.{IsServedUnwritten};
 ghost use Rattle.locked_store.specs.Shared.{world};
 
 use crate::caller::Caller;
@@ -41,7 +42,7 @@ impl<D: Disk, A: Devices, C: Admission> Caller<D, A, C> {
         requires ready { IsReady (world shared.now) 4 self.old }
         requires call { call.now ≡ creates (Import attributes bytes) }
         ensures ready { IsReady (world shared.now) 0 self.new }
-        ensures answered { (buffer : List ℕ) → IsAnswered (world shared.now) self.old.pass.me.0 self.new.pass.me.0 (model_request call.now room) result.0 result.1 buffer buffer }
+        ensures answered { IsServedUnwritten (world shared.now) self.old self.new call.now room result }
         ensures same { SameButPass self.old self.new }
     {
         let (rank, made) = self.create(rt, shared, gate, call, room, &attributes, bytes);
@@ -65,7 +66,7 @@ impl<D: Disk, A: Devices, C: Admission> Caller<D, A, C> {
         requires ready { IsReady (world shared.now) 4 self.old }
         requires call { call.now ≡ changes (Copy source attributes) }
         ensures ready { IsReady (world shared.now) 0 self.new }
-        ensures answered { (buffer : List ℕ) → IsAnswered (world shared.now) self.old.pass.me.0 self.new.pass.me.0 (model_request call.now room) result.0 result.1 buffer buffer }
+        ensures answered { IsServedUnwritten (world shared.now) self.old self.new call.now room result }
         ensures same { SameButPass self.old self.new }
     {
         let filling = shared.reserve(rt, &mut self.pass);

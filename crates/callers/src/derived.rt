@@ -1,14 +1,15 @@
 // A key of a handle's derivation's next bytes.
 ghost use Rattle.std.specs.Prelude.{◌≡◌, ◌≤◌, ◌-◌, ◌/◌, List, None, get_or, min};
 ghost use Rattle.derivation_states.specs.KeySteps.{output_key_refusal};
-ghost use Rattle.store_model.specs.DerivationOperations.{DerivationWork, stated_bytes, without};
-ghost use Rattle.store_model.specs.Handles.{HandleOperation, Deriving, derivation_part, key_of_operation, part_of};
-ghost use Rattle.store_model.specs.Operations.{Active, InError};
+ghost use Rattle.store_model.specs.DerivationOperations.{DerivationWork, stated_bytes};
+ghost use Rattle.store_model.specs.Handles.{HandleOperation, derivation_part, part_of};
+ghost use Rattle.store_model.specs.Operations.{Active};
 ghost use Rattle.store_model.specs.Outcome.{refusal};
 ghost use Rattle.operation_handles.specs.Cells.{IsOperation};
 ghost use Rattle.operation_handles.specs.KeyOutputs.{IsDerivedKey, derived_key_refused};
 ghost use Rattle.operation_handles.specs.declared.cell.Cell as cell;
 ghost use Rattle.callers.specs.Handles.{AreOperations, IsChanged, operation_at};
+ghost use Rattle.callers.specs.Served.{FailsDerivation, without_bytes};
 
 use crate::handles::Handles;
 use derivation_states::KEY_ROOM;
@@ -58,7 +59,7 @@ impl Handles {
         requires due { (c : cell.Cell) (operation : HandleOperation) → c ≡ get_or self.old.cells.items (op - 1) c → IsOperation c operation →
             output_key_refusal (part_of derivation_part operation) attributes.now ≡ None }
         ensures taken { (operations : List HandleOperation) (w : DerivationWork) → AreOperations self.old.cells.items operations → part_of derivation_part (operation_at operations op) ≡ Active w →
-            IsChanged self.old.cells.items self.new.cells.items operations op (Active (record { key = key_of_operation (operation_at operations op); work = Deriving (without w (stated_bytes attributes.now)) })) None
+            IsChanged self.old.cells.items self.new.cells.items operations op (without_bytes (operation_at operations op) w (stated_bytes attributes.now)) None
             × IsDerivedKey w attributes.now result out.new }
         ensures length { result ≡ min (attributes.now.bits / 8) 1025 }
         ensures first { 1 ≤ op }
@@ -69,8 +70,7 @@ impl Handles {
 
     /// Puts an active derivation in error, and hands out its lease.
     pub fn fail_output(&mut self, op: Op) -> Option<Lease>
-        ensures { (operations : List HandleOperation) (w : DerivationWork) → AreOperations self.old.cells.items operations → part_of derivation_part (operation_at operations op) ≡ Active w →
-            IsChanged self.old.cells.items self.new.cells.items operations op InError result }
+        ensures { FailsDerivation self.old.cells.items self.new.cells.items op result }
     {
         let cell = &mut self.cells[Handles::place(op)];
         cell.fail_derivation();

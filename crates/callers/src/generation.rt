@@ -3,12 +3,11 @@ ghost use Rattle.std.specs.Prelude.{◌≡◌, ◌≤◌, ◌<◌, ℕ, List, So
 ghost use Rattle.psa_status.specs.Rows.{first_row};
 ghost use Rattle.psa_status.specs.declared.Status.TheVariants.{InvalidArgument};
 ghost use Rattle.random_streams.specs.RandomWords.{drawn_from, next_bytes};
-ghost use Rattle.service_calls.specs.Meanings.{model_request};
 ghost use Rattle.service_calls.specs.Asked.{creates};
 ghost use Rattle.service_calls.specs.declared.store_calls.Creation.TheVariants.{Generate};
 ghost use Rattle.store_model.specs.Creation.{stated_bits_rows, stated_bytes};
-ghost use Rattle.callers.specs.Called.{IsAnswered};
 ghost use Rattle.callers.specs.Ready.{IsReady};
+ghost use Rattle.callers.specs.Served.{IsServedUnwritten};
 ghost use Rattle.locked_store.specs.Shared.{world};
 
 use crate::caller::Caller;
@@ -55,7 +54,7 @@ impl<D: Disk, A: Devices, C: Admission> Caller<D, A, C> {
         requires ready { IsReady (world shared.now) 4 self.old }
         requires call { call.now ≡ creates (Generate attributes) }
         ensures ready { IsReady (world shared.now) 0 self.new }
-        ensures answered { (buffer : List ℕ) → IsAnswered (world shared.now) self.old.pass.me.0 self.new.pass.me.0 (model_request call.now room) result.0 result.1 buffer buffer }
+        ensures answered { IsServedUnwritten (world shared.now) self.old self.new call.now room result }
         ensures spent { self.new.spent ≡ self.old.spent }
         ensures handles { self.new.handles ≡ self.old.handles }
     {
@@ -97,7 +96,7 @@ impl<D: Disk, A: Devices, C: Admission> Caller<D, A, C> {
         requires bytes { bytes.now ≡ next_bytes (record self.old.stream { place = place }) (stated_bytes attributes) }
         requires drawn { self.old.stream ≡ drawn_from (record self.old.stream { place = place }) (stated_bytes attributes) }
         ensures ready { IsReady (world shared.now) 0 self.new }
-        ensures answered { (buffer : List ℕ) → IsAnswered (world shared.now) self.old.pass.me.0 self.new.pass.me.0 (model_request call.now room) result.0 result.1 buffer buffer }
+        ensures answered { IsServedUnwritten (world shared.now) self.old self.new call.now room result }
         ensures spent { self.new.spent ≡ self.old.spent }
         ensures handles { self.new.handles ≡ self.old.handles }
     {
@@ -128,7 +127,7 @@ impl<D: Disk, A: Devices, C: Admission> Caller<D, A, C> {
         requires long { 1024 < stated_bytes attributes }
         requires count { length bytes.now ≡ stated_bytes attributes }
         ensures ready { IsReady (world shared.now) 0 self.new }
-        ensures answered { (buffer : List ℕ) → IsAnswered (world shared.now) self.old.pass.me.0 self.new.pass.me.0 (model_request call.now room) result.0 result.1 buffer buffer }
+        ensures answered { IsServedUnwritten (world shared.now) self.old self.new call.now room result }
         ensures spent { self.new.spent ≡ self.old.spent }
         ensures handles { self.new.handles ≡ self.old.handles }
     {

@@ -1,21 +1,20 @@
 // The operations of a caller's four handles.
 ghost use Rattle.std.specs.Prelude.{◌≡◌, ◌≤◌, ◌<◌, ◌+◌, ◌-◌, ◌^◌, List, None, get_or, length};
 ghost use Rattle.std.specs.Option.{option_map};
-ghost use Rattle.random_streams.specs.RandomWords.{drawn_from, next_bytes};
+ghost use Rattle.random_streams.specs.RandomWords.{drawn_from};
 ghost use Rattle.secret_bytes.specs.Buffer.{bytes_of};
 ghost use Rattle.key_policy.specs.Uses.{FitsUse, used_for};
 ghost use Rattle.service_calls.specs.Answers.{plain_reply};
 ghost use Rattle.service_calls.specs.Answered.{AnswersReply};
-ghost use Rattle.service_calls.specs.Meanings.{model_step};
 ghost use Rattle.store_model.specs.Call.{buffer_after};
 ghost use Rattle.store_model.specs.Handles.{HandleOperation, KeyCreation};
 ghost use Rattle.store_model.specs.Operations.{Inactive, is_inactive};
 ghost use Rattle.operation_handles.specs.Cells.{IsOperation};
 ghost use Rattle.operation_handles.specs.Draws.{DrawsFew};
 ghost use Rattle.operation_handles.specs.Setups.{begun_with, set_up_without_key};
-ghost use Rattle.operation_handles.specs.Steps.{stepped_by};
 ghost use Rattle.operation_handles.specs.declared.cell.Cell as cell;
 ghost use Rattle.callers.specs.Handles.{AreOperations, HoldsLease, IsChanged, operation_at};
+ghost use Rattle.callers.specs.Served.{stepped_at};
 
 use alg_encoding::Alg;
 use operation_handles::Cell;
@@ -96,13 +95,13 @@ impl Handles {
     ) -> (Result<Output, Status>, Option<Lease>)
         requires words { stream.old.place + 256 ≤ 2 ^ 60 }
         ensures changed { (operations : List HandleOperation) → AreOperations self.old.cells.items operations →
-            IsChanged self.old.cells.items self.new.cells.items operations op (stepped_by alive (next_bytes stream.old 16) (operation_at operations op) (model_step step.entry (length out.old))).operation result.1 }
+            IsChanged self.old.cells.items self.new.cells.items operations op (stepped_at operations op alive stream.old step.entry (length out.old)).operation result.1 }
         ensures reply { (operations : List HandleOperation) → AreOperations self.old.cells.items operations →
-            AnswersReply result.0 (stepped_by alive (next_bytes stream.old 16) (operation_at operations op) (model_step step.entry (length out.old))).reply }
+            AnswersReply result.0 (stepped_at operations op alive stream.old step.entry (length out.old)).reply }
         ensures buffer { (operations : List HandleOperation) → AreOperations self.old.cells.items operations →
-            out.new ≡ buffer_after out.old (stepped_by alive (next_bytes stream.old 16) (operation_at operations op) (model_step step.entry (length out.old))).reply }
+            out.new ≡ buffer_after out.old (stepped_at operations op alive stream.old step.entry (length out.old)).reply }
         ensures stream { (operations : List HandleOperation) → AreOperations self.old.cells.items operations →
-            stream.new ≡ drawn_from stream.old (stepped_by alive (next_bytes stream.old 16) (operation_at operations op) (model_step step.entry (length out.old))).drawn }
+            stream.new ≡ drawn_from stream.old (stepped_at operations op alive stream.old step.entry (length out.old)).drawn }
         ensures few { DrawsFew stream.old stream.new }
         ensures first { 1 ≤ op }
         ensures last { op ≤ 4 }

@@ -1,10 +1,9 @@
 // Calls in one part without a key.
 ghost use Rattle.std.specs.Prelude.{◌≡◌, length};
-ghost use Rattle.service_calls.specs.Meanings.{model_request};
 ghost use Rattle.service_calls.specs.Asked.{hashes};
-ghost use Rattle.callers.specs.Called.{IsAnswered};
 ghost use Rattle.callers.specs.Parts.{SameButPass};
 ghost use Rattle.callers.specs.Ready.{IsReady};
+ghost use Rattle.callers.specs.Served.{IsServed};
 ghost use Rattle.locked_store.specs.Shared.{world};
 
 use crate::caller::Caller;
@@ -31,7 +30,7 @@ impl<D: Disk, A: Devices, C: Admission> Caller<D, A, C> {
         requires ready { IsReady (world shared.now) 4 self.old }
         requires call { call.now ≡ hashes asked.now }
         ensures ready { IsReady (world shared.now) 0 self.new }
-        ensures answered { IsAnswered (world shared.now) self.old.pass.me.0 self.new.pass.me.0 (model_request call.now (length out.old)) result.0 result.1 out.old out.new }
+        ensures answered { IsServed (world shared.now) self.old self.new call.now result out.old out.new }
         ensures same { SameButPass self.old self.new }
     {
         let rank = shared.count(rt, &mut self.pass, call, out.len());

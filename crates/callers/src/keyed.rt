@@ -2,23 +2,22 @@
 ghost use Rattle.std.specs.Prelude.{◌≡◌, ◌&&◌, ◌≤◌, ◌<◌, ◌+◌, ◌^◌, ℕ, true, false, All, Result, length, vec_capacity, vec_len};
 ghost use Rattle.std.specs.Result.{is_ok};
 ghost use Rattle.random_streams.specs.RandomWords.{drawn_from, next_bytes};
-ghost use Rattle.secret_bytes.specs.Buffer.{IsClear, bytes_of};
+ghost use Rattle.secret_bytes.specs.Buffer.{bytes_of};
 ghost use Rattle.turn_history.specs.History.{entries_of};
 ghost use Rattle.key_slots.specs.Holdings.{names};
 ghost use Rattle.key_policy.specs.Uses.{FitsUse};
-ghost use Rattle.service_calls.specs.Answered.{AnswersReply};
-ghost use Rattle.service_calls.specs.Meanings.{model_keyed_call, model_request};
+ghost use Rattle.service_calls.specs.Meanings.{model_keyed_call};
 ghost use Rattle.service_calls.specs.declared.call.Call.TheVariants.{OnStore};
 ghost use Rattle.service_calls.specs.declared.store_calls.StoreCall.TheVariants.{Compute};
-ghost use Rattle.store_model.specs.Call.{buffer_after};
 ghost use Rattle.secure_element_calls.specs.Calls.{model_call};
 ghost use Rattle.secure_element_calls.specs.Replies.{HasDrawn};
 ghost use Rattle.single_part.specs.Elements.{IsElementCall, has_vector, is_of_element, takes_vector};
 ghost use Rattle.single_part.specs.Keyed.{computed_by, wanted_by};
 ghost use Rattle.locked_store.specs.Turning.{IsAt};
-ghost use Rattle.callers.specs.Called.{IsReplied, IsAnswered, Legal};
+ghost use Rattle.callers.specs.Called.{IsReplied, Legal};
 ghost use Rattle.callers.specs.Parts.{IsGivenBack, drawn_by};
 ghost use Rattle.callers.specs.Ready.{IsReady};
+ghost use Rattle.callers.specs.Served.{IsServed};
 ghost use Rattle.locked_store.specs.Shared.{world};
 
 use crate::caller::Caller;
@@ -75,7 +74,7 @@ impl<D: Disk, A: Devices, C: Admission> Caller<D, A, C> {
         requires ready { IsReady (world shared.now) 4 self.old }
         requires call { call.now ≡ OnStore (Compute asked.now) }
         ensures ready { IsReady (world shared.now) 0 self.new }
-        ensures answered { IsAnswered (world shared.now) self.old.pass.me.0 self.new.pass.me.0 (model_request call.now (length out.old)) result.0 result.1 out.old out.new }
+        ensures answered { IsServed (world shared.now) self.old self.new call.now result out.old out.new }
         ensures spent { self.new.spent ≡ self.old.spent }
         ensures handles { self.new.handles ≡ self.old.handles }
     {
@@ -101,7 +100,7 @@ impl<D: Disk, A: Devices, C: Admission> Caller<D, A, C> {
         requires call { call.now ≡ OnStore (Compute asked.now) }
         requires local { is_of_element asked.now.call ≡ false }
         ensures ready { IsReady (world shared.now) 0 self.new }
-        ensures answered { IsAnswered (world shared.now) self.old.pass.me.0 self.new.pass.me.0 (model_request call.now (length out.old)) result.0 result.1 out.old out.new }
+        ensures answered { IsServed (world shared.now) self.old self.new call.now result out.old out.new }
         ensures spent { self.new.spent ≡ self.old.spent }
         ensures handles { self.new.handles ≡ self.old.handles }
     {
@@ -148,7 +147,7 @@ impl<D: Disk, A: Devices, C: Admission> Caller<D, A, C> {
         requires vector { HasDrawn element.now (next_bytes self.old.stream 16) }
         requires draws { has_vector element.now ≡ takes_vector asked.now.call }
         ensures ready { IsReady (world shared.now) 0 self.new }
-        ensures answered { IsAnswered (world shared.now) self.old.pass.me.0 self.new.pass.me.0 (model_request call.now (length out.old)) result.0 result.1 out.old out.new }
+        ensures answered { IsServed (world shared.now) self.old self.new call.now result out.old out.new }
         ensures spent { self.new.spent ≡ self.old.spent }
         ensures handles { self.new.handles ≡ self.old.handles }
     {

@@ -1,11 +1,10 @@
 // Calls on a key that neither read its bytes nor make one.
 ghost use Rattle.std.specs.Prelude.{◌≡◌, ℕ, List};
-ghost use Rattle.service_calls.specs.Meanings.{model_request};
 ghost use Rattle.service_calls.specs.Asked.{changes};
 ghost use Rattle.service_calls.specs.declared.store_calls.KeyChange.TheVariants.{Destroy, GetAttributes, Purge};
-ghost use Rattle.callers.specs.Called.{IsAnswered};
 ghost use Rattle.callers.specs.Parts.{SameButPass};
 ghost use Rattle.callers.specs.Ready.{IsReady};
+ghost use Rattle.callers.specs.Served.{IsServedUnwritten};
 ghost use Rattle.locked_store.specs.Shared.{world};
 
 use crate::caller::Caller;
@@ -32,7 +31,7 @@ impl<D: Disk, A: Devices, C: Admission> Caller<D, A, C> {
         requires ready { IsReady (world shared.now) 4 self.old }
         requires call { call.now ≡ changes (Destroy key) }
         ensures ready { IsReady (world shared.now) 0 self.new }
-        ensures answered { (buffer : List ℕ) → IsAnswered (world shared.now) self.old.pass.me.0 self.new.pass.me.0 (model_request call.now room) result.0 result.1 buffer buffer }
+        ensures answered { IsServedUnwritten (world shared.now) self.old self.new call.now room result }
         ensures same { SameButPass self.old self.new }
     {
         let (rank, destroyed) = shared.destroy(rt, &mut self.pass, call, room, key);
@@ -54,7 +53,7 @@ impl<D: Disk, A: Devices, C: Admission> Caller<D, A, C> {
         requires ready { IsReady (world shared.now) 4 self.old }
         requires call { call.now ≡ changes (Purge key) }
         ensures ready { IsReady (world shared.now) 0 self.new }
-        ensures answered { (buffer : List ℕ) → IsAnswered (world shared.now) self.old.pass.me.0 self.new.pass.me.0 (model_request call.now room) result.0 result.1 buffer buffer }
+        ensures answered { IsServedUnwritten (world shared.now) self.old self.new call.now room result }
         ensures same { SameButPass self.old self.new }
     {
         let (rank, purged) = shared.purge(rt, &mut self.pass, call, room, key);
@@ -76,7 +75,7 @@ impl<D: Disk, A: Devices, C: Admission> Caller<D, A, C> {
         requires ready { IsReady (world shared.now) 4 self.old }
         requires call { call.now ≡ changes (GetAttributes key) }
         ensures ready { IsReady (world shared.now) 0 self.new }
-        ensures answered { (buffer : List ℕ) → IsAnswered (world shared.now) self.old.pass.me.0 self.new.pass.me.0 (model_request call.now room) result.0 result.1 buffer buffer }
+        ensures answered { IsServedUnwritten (world shared.now) self.old self.new call.now room result }
         ensures same { SameButPass self.old self.new }
     {
         let (rank, known) = shared.attributes(rt, &mut self.pass, call, room, key);

@@ -1,15 +1,15 @@
 // A key as the secret or the password of a handle's derivation.
 ghost use Rattle.std.specs.Prelude.{◌≡◌, ◌≤◌, ◌-◌, List, Some, None, IfSome, IfNone, get_or, length};
-ghost use Rattle.psa_status.specs.Rows.{first_row};
 ghost use Rattle.secret_bytes.specs.Buffer.{bytes_of};
 ghost use Rattle.service_calls.specs.Answers.{plain_reply};
-ghost use Rattle.store_model.specs.DerivationOperations.{DerivationWork, key_step_rows, with_key};
-ghost use Rattle.store_model.specs.Handles.{HandleOperation, KeyCreation, Deriving, derivation_part, part_of};
-ghost use Rattle.store_model.specs.Operations.{Active, InError};
+ghost use Rattle.store_model.specs.DerivationOperations.{DerivationWork};
+ghost use Rattle.store_model.specs.Handles.{HandleOperation, KeyCreation, derivation_part, part_of};
+ghost use Rattle.store_model.specs.Operations.{Active};
 ghost use Rattle.operation_handles.specs.Cells.{IsOperation};
 ghost use Rattle.operation_handles.specs.KeyInputs.{RefusesKeyAt, TakesKeyAt, key_refused};
 ghost use Rattle.operation_handles.specs.declared.cell.Cell as cell;
 ghost use Rattle.callers.specs.Handles.{AreOperations, HoldsLease, IsChanged, operation_at};
+ghost use Rattle.callers.specs.Served.{FailsDerivation, MayTakeKey, with_secret};
 
 use crate::handles::Handles;
 use key_policy::KeyUse;
@@ -55,10 +55,10 @@ impl Handles {
         requires short { length (bytes_of lease.buffer) ≤ 1024 }
         requires none { (c : cell.Cell) → c ≡ get_or self.old.cells.items (op - 1) c → c.lease ≡ None }
         requires takes { (c : cell.Cell) (operation : HandleOperation) → c ≡ get_or self.old.cells.items (op - 1) c → IsOperation c operation →
-            (w : DerivationWork) × (part_of derivation_part operation ≡ Active w) × (first_row (key_step_rows w step) ≡ None) }
+            MayTakeKey operation step }
         ensures kept { (operations : List HandleOperation) (w : DerivationWork) (key : KeyCreation) → AreOperations self.old.cells.items operations →
             part_of derivation_part (operation_at operations op) ≡ Active w → key.number ≡ lease.creation →
-            HoldsLease self.old.cells.items self.new.cells.items operations op (Active (record { key = Some key; work = Deriving (with_key w (bytes_of lease.buffer)) })) lease }
+            HoldsLease self.old.cells.items self.new.cells.items operations op (with_secret w key lease) lease }
         ensures first { 1 ≤ op }
         ensures last { op ≤ 4 }
     {
@@ -68,8 +68,7 @@ impl Handles {
     /// Puts an active derivation in error that holds no lease.
     pub fn fail_derivation(&mut self, op: Op)
         requires { (c : cell.Cell) → c ≡ get_or self.old.cells.items (op - 1) c → c.lease ≡ None }
-        ensures changed { (operations : List HandleOperation) (w : DerivationWork) → AreOperations self.old.cells.items operations →
-            part_of derivation_part (operation_at operations op) ≡ Active w → IsChanged self.old.cells.items self.new.cells.items operations op InError None }
+        ensures changed { FailsDerivation self.old.cells.items self.new.cells.items op None }
         ensures first { 1 ≤ op }
         ensures last { op ≤ 4 }
     {

@@ -2,15 +2,14 @@
 ghost use Rattle.std.specs.Prelude.{◌≡◌, ◌≤◌, ◌<◌, ◌+◌, ◌-◌, ◌^◌, ℕ, List, cond, get_or};
 ghost use Rattle.std.specs.Result.{is_ok};
 ghost use Rattle.service_calls.specs.Asked.{sets_up, sets_up_with};
-ghost use Rattle.service_calls.specs.Meanings.{model_request};
 ghost use Rattle.service_calls.specs.declared.call.Call.TheVariants as calls;
 ghost use Rattle.service_calls.specs.declared.handle_calls.HandleCall.TheVariants as handle_calls;
 ghost use Rattle.store_model.specs.Handles.{HandleOperation};
 ghost use Rattle.store_model.specs.Operations.{Inactive};
 ghost use Rattle.operation_handles.specs.Cells.{IsOperation};
 ghost use Rattle.operation_handles.specs.declared.cell.Cell.{Cell};
-ghost use Rattle.callers.specs.Called.{IsAnswered};
 ghost use Rattle.callers.specs.Ready.{IsReady};
+ghost use Rattle.callers.specs.Served.{IsServedUnwritten};
 ghost use Rattle.locked_store.specs.Shared.{world};
 
 use crate::caller::Caller;
@@ -41,7 +40,7 @@ impl<D: Disk, A: Devices, C: Admission> Caller<D, A, C> {
         requires call { call.now ≡ calls.OnHandle op (handle_calls.Setup setup) }
         requires worn { self.old.spent < 2 ^ 48 }
         ensures ready { IsReady (world shared.now) 0 self.new }
-        ensures answered { (buffer : List ℕ) → IsAnswered (world shared.now) self.old.pass.me.0 self.new.pass.me.0 (model_request call.now room) result.0 result.1 buffer buffer }
+        ensures answered { IsServedUnwritten (world shared.now) self.old self.new call.now room result }
         ensures spent { self.new.spent ≡ self.old.spent + cond (is_ok result.1) 1 0 }
     {
         if !self.handles.is_inactive(op) {
@@ -69,7 +68,7 @@ impl<D: Disk, A: Devices, C: Admission> Caller<D, A, C> {
         requires worn { self.old.spent < 2 ^ 48 }
         requires free { (c : Cell) (operation : HandleOperation) → c ≡ get_or self.old.handles.cells.items (op - 1) c → IsOperation c operation → operation ≡ Inactive }
         ensures ready { IsReady (world shared.now) 0 self.new }
-        ensures answered { (buffer : List ℕ) → IsAnswered (world shared.now) self.old.pass.me.0 self.new.pass.me.0 (model_request call.now room) result.0 result.1 buffer buffer }
+        ensures answered { IsServedUnwritten (world shared.now) self.old self.new call.now room result }
         ensures spent { self.new.spent ≡ self.old.spent + cond (is_ok result.1) 1 0 }
     {
         let rank = shared.count(rt, &mut self.pass, call, room);
@@ -100,7 +99,7 @@ impl<D: Disk, A: Devices, C: Admission> Caller<D, A, C> {
         requires first { 1 ≤ op }
         requires last { op ≤ 4 }
         ensures ready { IsReady (world shared.now) 0 self.new }
-        ensures answered { (buffer : List ℕ) → IsAnswered (world shared.now) self.old.pass.me.0 self.new.pass.me.0 (model_request call.now room) result.0 result.1 buffer buffer }
+        ensures answered { IsServedUnwritten (world shared.now) self.old self.new call.now room result }
         ensures spent { self.new.spent ≡ self.old.spent + cond (is_ok result.1) 1 0 }
     {
         let Some(spare) = self.spares.pop() else {

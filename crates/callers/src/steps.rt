@@ -9,6 +9,7 @@ ghost use Rattle.store_model.specs.Operations.{is_inactive};
 ghost use Rattle.callers.specs.Called.{IsAnswered};
 ghost use Rattle.callers.specs.Handles.{AreOperations, operation_at};
 ghost use Rattle.callers.specs.Ready.{IsReady};
+ghost use Rattle.callers.specs.Served.{IsServed};
 ghost use Rattle.locked_store.specs.Shared.{world};
 
 use crate::caller::Caller;
@@ -35,7 +36,7 @@ impl<D: Disk, A: Devices, C: Admission> Caller<D, A, C> {
         requires ready { IsReady (world shared.now) 4 self.old }
         requires call { call.now ≡ calls.OnHandle op (handle_calls.Step step) }
         ensures ready { IsReady (world shared.now) 0 self.new }
-        ensures answered { IsAnswered (world shared.now) self.old.pass.me.0 self.new.pass.me.0 (model_request call.now (length out.old)) result.0 result.1 out.old out.new }
+        ensures answered { IsServed (world shared.now) self.old self.new call.now result out.old out.new }
         ensures spent { self.new.spent ≡ self.old.spent }
     {
         let (rank, alive) = self.ask(rt, shared, call, out.len(), op);

@@ -13,7 +13,7 @@ returns-clause-holds c = λ alg names.
     record {
       encrypts = b.encrypts;
       mode = ap model_mode b.mode ∙ names;
-      key = b.key ∙ c.aes_key-self.ensures;
+      key = b.key ∙ c.aes_key.ensures;
       vector = b.has_iv;
       total = b.total;
       before = λ e. refl;
