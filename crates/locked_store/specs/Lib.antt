@@ -4,3 +4,6 @@ pub mod Shared
 pub mod Turning
 pub mod Elements
 pub mod Closed
+pub mod Left
+pub mod Ranked
+pub mod Opening

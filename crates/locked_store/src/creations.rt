@@ -8,7 +8,8 @@ ghost use Rattle.store_model.specs.Call as model;
 ghost use Rattle.store_model.specs.Faults.{Plain};
 ghost use Rattle.store_model.specs.Requests.{OnStore};
 ghost use Rattle.store_core.specs.Creations.{IsMade, IsUncopied, IsUnmade, RecordsCopy, RecordsStated, mark_uncopied, mark_unmade};
-ghost use Rattle.locked_store.specs.Turning.{CreatesKey, DecidesBefore, HasNoFilling, IsAt, IsLater, IsLegal, IsOwn, IsRanked, filling_pair, without_pair};
+ghost use Rattle.locked_store.specs.Turning.{CreatesKey, HasNoFilling, IsAt, IsLater, IsLegal, IsOwn, filling_pair, without_pair};
+ghost use Rattle.locked_store.specs.Ranked.{RanksFilling};
 ghost use Rattle.locked_store.specs.Shared.{world};
 
 use crate::changes::{Change, Met};
@@ -82,10 +83,10 @@ impl<D: Disk, A: Devices, C: Admission> SharedStore<D, A, C> {
         requires creates { CreatesKey (world self.now) pass.old.me.0 caller (model_request call.now room) (RecordsStated (option_map (λ l. l.now) lease) caller attributes.now (length bytes.now)) bytes.now }
         ensures at { IsAt (world self.now) pass.new }
         ensures legal { IsLegal (world self.now) (entries_of pass.new.me.0.seen) }
-        ensures made { IfOk result.1 (λ id. IsRanked pass.old.me.0 pass.new.me.0 (model_request call.now room) Plain result.0 (without_pair (filling_pair filling) pass.old.me.0.holding)
-            (DecidesBefore (world self.now) (IsMade (RecordsStated (option_map (λ l. l.now) lease.entry) caller attributes.now (length bytes.now)) caller id.0))) }
-        ensures unmade { IfErr result.1 (λ why. IsRanked pass.old.me.0 pass.new.me.0 (model_request call.now room) (mark_unmade why) result.0 (without_pair (filling_pair filling) pass.old.me.0.holding)
-            (DecidesBefore (world self.now) (IsUnmade (RecordsStated (option_map (λ l. l.now) lease.entry) caller attributes.now (length bytes.now)) why))) }
+        ensures made { IfOk result.1 (λ id. RanksFilling self.now pass.old pass.new call.now room Plain result.0 filling
+            (IsMade (RecordsStated (option_map (λ l. l.now) lease.entry) caller attributes.now (length bytes.now)) caller id.0)) }
+        ensures unmade { IfErr result.1 (λ why. RanksFilling self.now pass.old pass.new call.now room (mark_unmade why) result.0 filling
+            (IsUnmade (RecordsStated (option_map (λ l. l.now) lease.entry) caller attributes.now (length bytes.now)) why)) }
     {
         let before = Snapshot::of(pass);
         let change = Change::TakesFilling(Snapshot::of(&filling));
@@ -127,10 +128,10 @@ impl<D: Disk, A: Devices, C: Admission> SharedStore<D, A, C> {
         requires copies { model_request call.now room ≡ OnStore (model.Copy source.0 attributes.now) }
         ensures at { IsAt (world self.now) pass.new }
         ensures legal { IsLegal (world self.now) (entries_of pass.new.me.0.seen) }
-        ensures made { IfOk result.1 (λ id. IsRanked pass.old.me.0 pass.new.me.0 (model_request call.now room) Plain result.0 (without_pair (filling_pair filling) pass.old.me.0.holding)
-            (DecidesBefore (world self.now) (IsMade (RecordsCopy caller source.0 attributes.now) caller id.0))) }
-        ensures uncopied { IfErr result.1 (λ why. IsRanked pass.old.me.0 pass.new.me.0 (model_request call.now room) (mark_uncopied why) result.0 (without_pair (filling_pair filling) pass.old.me.0.holding)
-            (DecidesBefore (world self.now) (IsUncopied (RecordsCopy caller source.0 attributes.now) source.0 why))) }
+        ensures made { IfOk result.1 (λ id. RanksFilling self.now pass.old pass.new call.now room Plain result.0 filling
+            (IsMade (RecordsCopy caller source.0 attributes.now) caller id.0)) }
+        ensures uncopied { IfErr result.1 (λ why. RanksFilling self.now pass.old pass.new call.now room (mark_uncopied why) result.0 filling
+            (IsUncopied (RecordsCopy caller source.0 attributes.now) source.0 why)) }
     {
         let before = Snapshot::of(pass);
         let change = Change::TakesFilling(Snapshot::of(&filling));

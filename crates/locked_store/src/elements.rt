@@ -12,7 +12,8 @@ ghost use Rattle.store_core.specs.Opaque.{IsAnswered};
 ghost use Rattle.store_core.specs.Represents.{HoldsOf};
 ghost use Rattle.locked_store.specs.Elements.{IsLooked};
 ghost use Rattle.locked_store.specs.Standing.{HoldsHistory};
-ghost use Rattle.locked_store.specs.Turning.{DecidesAfter, HasRoomForLease, IsAt, IsLegal, IsBegun, IsEnteredAfter};
+ghost use Rattle.locked_store.specs.Turning.{HasRoomForLease, IsAt, IsLegal, IsBegun};
+ghost use Rattle.locked_store.specs.Ranked.{EndsAfter};
 ghost use Rattle.locked_store.specs.Shared.{world};
 
 use crate::changes::{Change, Met};
@@ -94,8 +95,8 @@ impl<D: Disk, A: Devices, C: Admission> SharedStore<D, A, C> {
         requires computes { model_request call.now (length out.old) ≡ OnStore (model_call element.now id.0 (length out.old)) }
         ensures at { IsAt (world self.now) pass.new }
         ensures legal { IsLegal (world self.now) (entries_of pass.new.me.0.seen) }
-        ensures computed { IsEnteredAfter before.value.me.0 pass.new.me.0 (model_request call.now (length out.old)) (mark_computed result.1) result.0 before.value.me.0.holding (entries_of pass.old.me.0.seen)
-            (DecidesAfter (world self.now) (IsAnswered (A.keys (world self.now).opened.devices.value) id.0 element.now out.old out.new result.1)) }
+        ensures computed { EndsAfter self.now before.value pass.old pass.new call.now (length out.old) (mark_computed result.1) result.0
+            (IsAnswered (A.keys (world self.now).opened.devices.value) id.0 element.now out.old out.new result.1) }
     {
         let (room, kept) = (out.len(), Change::Nothing);
         match turn.value().store.opaque_call(id, element, out) {

@@ -1,11 +1,11 @@
 //! How a turn begins and ends.
-ghost use Rattle.std.specs.Prelude.{◌≡◌, ◌<◌, ◌++◌, ◌∷◌, [], Some, None, length};
+ghost use Rattle.std.specs.Prelude.{◌≡◌, ◌<◌, Some, None};
 ghost use Rattle.turn_history.specs.History.{entries_of};
-ghost use Rattle.turn_history.specs.Holdings.{with_own};
 ghost use Rattle.key_slots.specs.Holdings.{IsHolding};
 ghost use Rattle.service_calls.specs.Meanings.{model_request};
 ghost use Rattle.locked_store.specs.Standing.{HoldsHistory};
-ghost use Rattle.locked_store.specs.Turning.{IsAt, IsBegun, IsEntered, IsLater, IsLegal, after_change, turn_entry, mark_met};
+ghost use Rattle.locked_store.specs.Turning.{IsAt, IsBegun, IsEntered, IsLater, IsLegal, after_change, mark_met};
+ghost use Rattle.locked_store.specs.Left.{StandsRanked, StandsUnranked, entry_left};
 ghost use Rattle.locked_store.specs.Shared.{world};
 
 use crate::changes::{Change, Met};
@@ -48,15 +48,13 @@ impl<D: Disk, A: Devices, C: Admission> SharedStore<D, A, C> {
         change: &Change,
     ) -> u64
         requires begun { IsBegun (world self.now) before.value.me.0 pass.old turn.entries }
-        requires names { (N.entry ≡ Some (turn_entry D.Disk A.Devices turn.value.value.store pass.old.me.0.number (model_request call.now room) (mark_met met))) × (N.holding ≡ after_change change.now pass.old.me.0.holding) }
-        requires stands { HoldsHistory D.Disk A.Devices C.Admission turn.value.value.store
-            (entries_of pass.old.me.0.seen ++ turn_entry D.Disk A.Devices turn.value.value.store pass.old.me.0.number (model_request call.now room) (mark_met met) ∷ [])
-            (with_own pass.old.me.0.holdings pass.old.me.0.number (after_change change.now pass.old.me.0.holding)) }
+        requires names { (N.entry ≡ Some (entry_left D.Disk A.Devices turn.value.value.store pass.old (model_request call.now room) met)) × (N.holding ≡ after_change change.now pass.old.me.0.holding) }
+        requires stands { StandsRanked D.Disk A.Devices C.Admission turn.value.value.store pass.old (model_request call.now room) met change.now }
         requires opened { turn.value.value.store.opened ≡ (world self.now).opened }
         ensures at { IsAt (world self.now) pass.new }
         ensures legal { IsLegal (world self.now) (entries_of pass.new.me.0.seen) }
         ensures entered { IsEntered before.value.me.0 pass.new.me.0 (model_request call.now room) (mark_met met) result (after_change change.now before.value.me.0.holding)
-            (entries_of pass.old.me.0.seen) (turn_entry D.Disk A.Devices turn.value.value.store pass.old.me.0.number (model_request call.now room) (mark_met met)) }
+            (entries_of pass.old.me.0.seen) (entry_left D.Disk A.Devices turn.value.value.store pass.old (model_request call.now room) met) }
     {
         let _ = (before, call, room, met, change);
         let Some(rank) = self.lock.leave::<N>(pass, turn) else {
@@ -75,8 +73,7 @@ impl<D: Disk, A: Devices, C: Admission> SharedStore<D, A, C> {
     )
         requires begun { IsBegun (world self.now) before.value.me.0 pass.old turn.entries }
         requires names { (N.entry ≡ None) × (N.holding ≡ after_change change.now pass.old.me.0.holding) }
-        requires stands { HoldsHistory D.Disk A.Devices C.Admission turn.value.value.store (entries_of pass.old.me.0.seen)
-            (with_own pass.old.me.0.holdings pass.old.me.0.number (after_change change.now pass.old.me.0.holding)) }
+        requires stands { StandsUnranked D.Disk A.Devices C.Admission turn.value.value.store pass.old change.now }
         requires opened { turn.value.value.store.opened ≡ (world self.now).opened }
         ensures at { IsAt (world self.now) pass.new }
         ensures legal { IsLegal (world self.now) (entries_of pass.new.me.0.seen) }

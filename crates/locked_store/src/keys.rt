@@ -3,15 +3,14 @@ ghost use Rattle.std.specs.Prelude.{◌≡◌, ◌<◌, false, Some, None, IfOk,
 ghost use Rattle.std.specs.FinMap as map;
 ghost use Rattle.turn_history.specs.History.{entries_of};
 ghost use Rattle.psa_status.specs.declared.Status.TheVariants.{InvalidHandle};
-ghost use Rattle.psa_status.specs.Rows.{first_row};
 ghost use Rattle.service_calls.specs.Meanings.{model_request};
 ghost use Rattle.store_model.specs.Call as model;
 ghost use Rattle.store_model.specs.Faults.{Plain};
-ghost use Rattle.store_model.specs.KeyUse.{destroy_rows};
 ghost use Rattle.store_model.specs.Laws.{may_change_keys};
 ghost use Rattle.store_model.specs.Requests.{OnStore};
-ghost use Rattle.store_core.specs.Uses.{HasAttributes, IsRefused, IsUndestroyed, mark_of, mark_undestroyed, there_rows};
-ghost use Rattle.locked_store.specs.Turning.{DecidesAfter, DecidesBefore, IsAt, IsLegal, IsRanked, LeavesAllKeys, ReadsKey};
+ghost use Rattle.store_core.specs.Uses.{HasAttributes, IsUndestroyed, MayDestroy, mark_undestroyed, there_rows};
+ghost use Rattle.locked_store.specs.Turning.{IsAt, IsLegal, LeavesAllKeys, ReadsKey};
+ghost use Rattle.locked_store.specs.Ranked.{RanksAfter, RanksBefore, RanksRefused};
 ghost use Rattle.locked_store.specs.Shared.{world};
 
 use crate::changes::{Change, Met};
@@ -44,10 +43,8 @@ impl<D: Disk, A: Devices, C: Admission> SharedStore<D, A, C> {
         requires reads { ReadsKey (world self.now) pass.old.me.0 (model_request call.now room) id.0 }
         ensures at { IsAt (world self.now) pass.new }
         ensures legal { IsLegal (world self.now) (entries_of pass.new.me.0.seen) }
-        ensures known { IfOk result.1 (λ attributes. IsRanked pass.old.me.0 pass.new.me.0 (model_request call.now room) Plain result.0 pass.old.me.0.holding
-            (DecidesAfter (world self.now) (HasAttributes id.0 attributes))) }
-        ensures refused { IfErr result.1 (λ status. IsRanked pass.old.me.0 pass.new.me.0 (model_request call.now room) (mark_of status) result.0 pass.old.me.0.holding
-            (DecidesAfter (world self.now) (IsRefused there_rows id.0 status))) }
+        ensures known { IfOk result.1 (λ attributes. RanksAfter self.now pass.old pass.new call.now room Plain result.0 (HasAttributes id.0 attributes)) }
+        ensures refused { IfErr result.1 (λ status. RanksRefused self.now pass.old pass.new call.now room result.0 there_rows id.0 status) }
     {
         let before = Snapshot::of(pass);
         let mut turn = self.enter(rt, pass);
@@ -80,10 +77,8 @@ impl<D: Disk, A: Devices, C: Admission> SharedStore<D, A, C> {
         requires destroys { model_request call.now room ≡ OnStore (model.Destroy id.0) }
         ensures at { IsAt (world self.now) pass.new }
         ensures legal { IsLegal (world self.now) (entries_of pass.new.me.0.seen) }
-        ensures destroyed { OnOk result.1 (IsRanked pass.old.me.0 pass.new.me.0 (model_request call.now room) Plain result.0 pass.old.me.0.holding
-            (DecidesBefore (world self.now) (λ m. first_row (destroy_rows (map.get m.keys id.0) id.0) ≡ None))) }
-        ensures failed { IfErr result.1 (λ why. IsRanked pass.old.me.0 pass.new.me.0 (model_request call.now room) (mark_undestroyed why) result.0 pass.old.me.0.holding
-            (DecidesBefore (world self.now) (IsUndestroyed id.0 why))) }
+        ensures destroyed { OnOk result.1 (RanksBefore self.now pass.old pass.new call.now room Plain result.0 (MayDestroy id.0)) }
+        ensures failed { IfErr result.1 (λ why. RanksBefore self.now pass.old pass.new call.now room (mark_undestroyed why) result.0 (IsUndestroyed id.0 why)) }
     {
         let before = Snapshot::of(pass);
         let mut turn = self.enter(rt, pass);
@@ -116,10 +111,9 @@ impl<D: Disk, A: Devices, C: Admission> SharedStore<D, A, C> {
         requires leaves { LeavesAllKeys (world self.now) pass.old.me.0 (model_request call.now room) }
         ensures at { IsAt (world self.now) pass.new }
         ensures legal { IsLegal (world self.now) (entries_of pass.new.me.0.seen) }
-        ensures there { OnOk result.1 (IsRanked pass.old.me.0 pass.new.me.0 (model_request call.now room) Plain result.0 pass.old.me.0.holding
-            (DecidesAfter (world self.now) (λ m. there_rows (map.get m.keys id.0) ≡ None))) }
-        ensures missing { IfErr result.1 (λ status. (status ≡ InvalidHandle) × IsRanked pass.old.me.0 pass.new.me.0 (model_request call.now room) Plain result.0 pass.old.me.0.holding
-            (DecidesAfter (world self.now) (λ m. there_rows (map.get m.keys id.0) ≡ Some status))) }
+        ensures there { OnOk result.1 (RanksAfter self.now pass.old pass.new call.now room Plain result.0 (λ m. there_rows (map.get m.keys id.0) ≡ None)) }
+        ensures missing { IfErr result.1 (λ status. (status ≡ InvalidHandle) ×
+            RanksAfter self.now pass.old pass.new call.now room Plain result.0 (λ m. there_rows (map.get m.keys id.0) ≡ Some status)) }
     {
         let before = Snapshot::of(pass);
         let mut turn = self.enter(rt, pass);

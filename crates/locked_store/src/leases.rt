@@ -1,15 +1,15 @@
 //! Turns that lend a key, and take it back.
-ghost use Rattle.std.specs.Prelude.{◌≡◌, ◌<◌, ◌+◌, ◌∷◌, false, IfOk, IfErr};
+ghost use Rattle.std.specs.Prelude.{◌≡◌, ◌<◌, ◌+◌, false, IfOk, IfErr};
 ghost use Rattle.secret_bytes.specs.Buffer.{IsClear, bytes_of};
 ghost use Rattle.turn_history.specs.History.{entries_of};
 ghost use Rattle.key_slots.specs.Holdings.{IsHolding, names};
 ghost use Rattle.key_policy.specs.Uses.{FitsUse, use_refusal};
 ghost use Rattle.service_calls.specs.Meanings.{model_request};
-ghost use Rattle.store_model.specs.Faults.{Plain};
 ghost use Rattle.store_model.specs.Laws.{may_change_keys};
-ghost use Rattle.store_core.specs.Uses.{IsLent, IsRefused, mark_of};
+ghost use Rattle.store_core.specs.Uses.{IsLent};
 ghost use Rattle.locked_store.specs.Standing.{HoldsHistory};
-ghost use Rattle.locked_store.specs.Turning.{DecidesAfter, HasRoomForLease, IsAt, IsBegun, IsEnteredAfter, IsLater, IsLegal, IsRanked, ReadsKey, lease_pair, without_pair};
+ghost use Rattle.locked_store.specs.Turning.{HasRoomForLease, IsAt, IsBegun, IsLater, IsLegal, ReadsKey, lease_pair, without_pair};
+ghost use Rattle.locked_store.specs.Ranked.{EndsLent, EndsRefused, RanksLent, RanksRefused};
 ghost use Rattle.locked_store.specs.Shared.{world};
 
 use crate::changes::{Change, Met};
@@ -49,11 +49,9 @@ impl<D: Disk, A: Devices, C: Admission> SharedStore<D, A, C> {
         requires reads { ReadsKey (world self.now) pass.old.me.0 (model_request call.now room) id.0 }
         ensures at { IsAt (world self.now) pass.new }
         ensures legal { IsLegal (world self.now) (entries_of pass.new.me.0.seen) }
-        ensures lent { IfOk result.1 (λ lease. IsRanked pass.old.me.0 pass.new.me.0 (model_request call.now room) Plain result.0 (lease_pair lease ∷ pass.old.me.0.holding)
-            (DecidesAfter (world self.now) (IsLent (use_refusal wanted) id.0 lease))) }
+        ensures lent { IfOk result.1 (λ lease. RanksLent self.now pass.old pass.new call.now room result.0 lease (IsLent (use_refusal wanted) id.0 lease)) }
         ensures fits { IfOk result.1 (λ lease. FitsUse wanted (bytes_of lease.buffer)) }
-        ensures refused { IfErr result.1 (λ refused. IsRanked pass.old.me.0 pass.new.me.0 (model_request call.now room) (mark_of refused.0) result.0 pass.old.me.0.holding
-            (DecidesAfter (world self.now) (IsRefused (use_refusal wanted) id.0 refused.0))) }
+        ensures refused { IfErr result.1 (λ refused. RanksRefused self.now pass.old pass.new call.now room result.0 (use_refusal wanted) id.0 refused.0) }
         ensures spare { IfErr result.1 (λ refused. IsClear refused.1) }
     {
         let before = Snapshot::of(pass);
@@ -83,11 +81,11 @@ impl<D: Disk, A: Devices, C: Admission> SharedStore<D, A, C> {
         requires reads { ReadsKey (world self.now) before.value.me.0 (model_request call.now room) id.0 }
         ensures at { IsAt (world self.now) pass.new }
         ensures legal { IsLegal (world self.now) (entries_of pass.new.me.0.seen) }
-        ensures lent { IfOk result.1 (λ lease. IsEnteredAfter before.value.me.0 pass.new.me.0 (model_request call.now room) Plain result.0 (lease_pair lease ∷ before.value.me.0.holding) (entries_of pass.old.me.0.seen)
-            (DecidesAfter (world self.now) (IsLent (use_refusal wanted) id.0 lease))) }
+        ensures lent { IfOk result.1 (λ lease. EndsLent self.now before.value pass.old pass.new call.now room result.0 lease
+            (IsLent (use_refusal wanted) id.0 lease)) }
         ensures fits { IfOk result.1 (λ lease. FitsUse wanted (bytes_of lease.buffer)) }
-        ensures refused { IfErr result.1 (λ refused. IsEnteredAfter before.value.me.0 pass.new.me.0 (model_request call.now room) (mark_of refused.0) result.0 before.value.me.0.holding (entries_of pass.old.me.0.seen)
-            (DecidesAfter (world self.now) (IsRefused (use_refusal wanted) id.0 refused.0))) }
+        ensures refused { IfErr result.1 (λ refused. EndsRefused self.now before.value pass.old pass.new call.now room result.0
+            (use_refusal wanted) id.0 refused.0) }
         ensures spare { IfErr result.1 (λ refused. IsClear refused.1) }
     {
         match turn.value().store.look(id, wanted, spare) {

@@ -1,16 +1,12 @@
 //! How the store under its lock is opened, and how it ends.
-ghost use Rattle.std.specs.Prelude.{◌≡◌, ◌≤◌, ◌<◌, ◌↔◌, ◌⊎◌, ℕ, List, [], IfOk, IfErr, IfSome, slice_get};
-ghost use Rattle.key_attributes.specs.declared.Attributes.{Attributes};
-ghost use Rattle.key_cells.specs.declared.slot.Slot as cell;
-ghost use Rattle.key_cells.specs.declared.reading.OpenFault.TheVariants as fault;
-ghost use Rattle.key_cells.specs.Image.{HasKey};
-ghost use Rattle.key_cells.specs.Opened.{IsOpened, IsRefused};
+ghost use Rattle.std.specs.Prelude.{◌≡◌, ◌≤◌, ℕ, [], IfOk, IfErr, IfSome};
 ghost use Rattle.driver_dispatch.specs.Calls.{Lacks};
 ghost use Rattle.turn_history.specs.Passes.{AreNew};
 ghost use Rattle.store_model.specs.Handles.{Service};
 ghost use Rattle.store_model.specs.Sound.{IsSoundStore};
 ghost use Rattle.locked_store.specs.Closed.{AreAt, IsClosed};
 ghost use Rattle.locked_store.specs.Turning.{IsStartOf};
+ghost use Rattle.locked_store.specs.Opening.{FindsKeysIn, IsNotOpened, IsOpenedOn};
 ghost use Rattle.locked_store.specs.Shared.{world};
 ghost use Rattle.locked_store.specs.Worlds.{world_of};
 
@@ -44,15 +40,13 @@ impl<D: Disk, A: Devices, C: Admission> SharedStore<D, A, C> {
         ensures at { IfOk result (λ made. AreAt (world made.0) made.1.items) }
         ensures starts { IfOk result (λ made. (start : Service) × IsStartOf (world made.0) start) }
         ensures sound { IfOk result (λ made. (start : Service) → IsStartOf (world made.0) start → IsSoundStore start.store) }
-        ensures keys { IfOk result (λ made. IfSome (D.contents disk) (λ image. (start : Service) (s : IsStartOf (world made.0) start) (a : Attributes) (bytes : List ℕ) →
-            HasKey a bytes image ↔ ((number : ℕ) × (slice_get s.found number ≡ Some (record { attributes = a; bytes = bytes }))))) }
-        ensures opened { IfOk result (λ made. IsOpened D.contents D.may_leave D.moment D.left_since disk (world made.0).opened.file.value.cells.disk (world made.0).opened.file.value.cells.slots.items) }
+        ensures keys { IfOk result (λ made. IfSome (D.contents disk) (FindsKeysIn (world made.0))) }
+        ensures opened { IfOk result (λ made. IsOpenedOn (world made.0) disk) }
         ensures later { IfOk result (λ made. D.faults disk ≤ D.faults (world made.0).opened.file.value.cells.disk) }
         ensures devices { IfOk result (λ made. (world made.0).opened.devices.value ≡ devices) }
         ensures seed { IfOk result (λ made. (world made.0).opened.seed.value ≡ seed.now) }
         ensures rules { IfOk result (λ made. (world made.0).opened.rules.value ≡ rules) }
-        ensures refused { IfErr result (λ unopened. IsRefused D.contents D.may_leave D.moment D.left_since D.faults disk unopened.disk unopened.fault
-            ⊎ ((unopened.fault ≡ fault.Memory) × ((slots : List cell.Slot) × IsOpened D.contents D.may_leave D.moment D.left_since disk unopened.disk slots) × (D.faults disk ≤ D.faults unopened.disk))) }
+        ensures refused { IfErr result (λ unopened. IsNotOpened D.Disk disk unopened.disk unopened.fault) }
         ensures returned { IfErr result (λ unopened. unopened.devices ≡ devices) }
     {
         let store = Store::open(alloc, disk, devices, rules, seed)?;

@@ -8,7 +8,8 @@ ghost use Rattle.service_calls.specs.Meanings.{model_request};
 ghost use Rattle.store_model.specs.Faults.{Plain};
 ghost use Rattle.store_model.specs.Sound.{HasNumber};
 ghost use Rattle.store_core.specs.Uses.{HasAttributes, IsRefused, mark_of, there_rows};
-ghost use Rattle.locked_store.specs.Turning.{DecidesAfter, IsAt, IsLegal, IsRanked, LeavesAllKeys, ReadsKey};
+ghost use Rattle.locked_store.specs.Turning.{IsAt, IsLegal, IsRanked, LeavesAllKeys};
+ghost use Rattle.locked_store.specs.Ranked.{RanksAfter};
 ghost use Rattle.locked_store.specs.Shared.{world};
 
 use crate::changes::{Change, Met};
@@ -71,10 +72,8 @@ impl<D: Disk, A: Devices, C: Admission> SharedStore<D, A, C> {
         requires leaves { LeavesAllKeys (world self.now) pass.old.me.0 (model_request call.now room) }
         ensures at { IsAt (world self.now) pass.new }
         ensures legal { IsLegal (world self.now) (entries_of pass.new.me.0.seen) }
-        ensures alive { OnOk result.1 (IsRanked pass.old.me.0 pass.new.me.0 (model_request call.now room) Plain result.0 pass.old.me.0.holding
-            (DecidesAfter (world self.now) (λ m. HasNumber m lease.now.creation))) }
-        ensures gone { OnErr result.1 (IsRanked pass.old.me.0 pass.new.me.0 (model_request call.now room) Plain result.0 pass.old.me.0.holding
-            (DecidesAfter (world self.now) (λ m. HasNumber m lease.now.creation → ⊥))) }
+        ensures alive { OnOk result.1 (RanksAfter self.now pass.old pass.new call.now room Plain result.0 (λ m. HasNumber m lease.now.creation)) }
+        ensures gone { OnErr result.1 (RanksAfter self.now pass.old pass.new call.now room Plain result.0 (λ m. HasNumber m lease.now.creation → ⊥)) }
         ensures status { IfErr result.1 (λ status. status ≡ InvalidHandle) }
     {
         let before = Snapshot::of(pass);

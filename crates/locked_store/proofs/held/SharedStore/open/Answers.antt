@@ -1,10 +1,7 @@
-use Rattle.std.proofs.Common.{◌≡◌, ◌↔◌, ℕ, List, ap, sym, subst, inr, arith, Some, IfSome, is_some}
-use Rattle.std.specs.Prelude.{slice_get}
-use Rattle.key_attributes.specs.declared.Attributes.{Attributes}
-use Rattle.key_cells.specs.Image.{HasKey}
+use Rattle.std.proofs.Common.{ap, sym, subst, inr, arith, IfSome, is_some}
 use Rattle.store_model.specs.Handles.{Service}
 use Rattle.store_model.specs.Sound.{IsSoundStore}
-use Rattle.store_core.specs.Start.{IsStart}
+use Rattle.store_core.specs.Start.{FindsKeysOf, IsStart}
 use Rattle.locked_store.specs.Shared.{lock_of, opened_of}
 use Rattle.locked_store.proofs.held.SharedStore.open.Goals as goal
 
@@ -34,8 +31,7 @@ returns-in-Ok-clause-sound g c = subst (λ o. (start : Service) → IsStart g.D.
 
 pub returns-in-Ok-clause-keys : goal.returns-in-Ok-clause-keys
 unfolding lock_of opened_of
-returns-in-Ok-clause-keys g c = subst (λ o. IfSome (g.D.Disk.contents c.args.disk) (λ image. (start : Service) (s : IsStart g.D.Disk g.A.Devices g.C.Admission o start) (a : Attributes) (bytes : List ℕ) →
-    HasKey a bytes image ↔ ((number : ℕ) × (slice_get s.found number ≡ Some (record { attributes = a; bytes = bytes }))))) (sym c.in-Ok.ensures.lock.1) c.in_ok-store.ensures.keys
+returns-in-Ok-clause-keys g c = subst (λ o. IfSome (g.D.Disk.contents c.args.disk) (FindsKeysOf g.D.Disk g.A.Devices g.C.Admission o)) (sym c.in-Ok.ensures.lock.1) c.in_ok-store.ensures.keys
 
 pub invariant_of-seen : goal.invariant_of-seen
 unfolding lock_of opened_of
