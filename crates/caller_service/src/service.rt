@@ -1,16 +1,12 @@
 //! The service, and how it is opened and closed.
-ghost use Rattle.std.specs.Prelude.{◌≡◌, ◌≤◌, ◌<◌, ◌+◌, ◌^◌, ◌↔◌, ◌⊎◌, ℕ, List, [], All, IfOk, IfErr, IfSome, IfNone, Err, Some, length, slice_get, vec_capacity, vec_len};
+ghost use Rattle.std.specs.Prelude.{◌≡◌, ◌≤◌, ◌<◌, ◌+◌, ◌^◌, ℕ, List, [], All, IfOk, IfErr, IfSome, IfNone, Err, length, vec_capacity, vec_len};
 ghost use Rattle.psa_status.specs.declared.Status.TheVariants.{PassWorn};
-ghost use Rattle.key_attributes.specs.declared.Attributes.{Attributes};
-ghost use Rattle.key_cells.specs.declared.slot.Slot as cell;
-ghost use Rattle.key_cells.specs.declared.reading.OpenFault.TheVariants as fault;
-ghost use Rattle.key_cells.specs.Image.{HasKey};
-ghost use Rattle.key_cells.specs.Opened.{IsOpened, IsRefused};
 ghost use Rattle.driver_dispatch.specs.Calls.{Lacks};
 ghost use Rattle.turn_history.specs.Passes.{AreNew};
 ghost use Rattle.service_calls.specs.Meanings.{model_request};
 ghost use Rattle.store_model.specs.Handles.{HandleOperation, Service as model_Service};
 ghost use Rattle.store_model.specs.Sound.{IsSoundStore};
+ghost use Rattle.locked_store.specs.Opening.{FindsKeysIn, IsNotOpened, IsOpenedOn};
 ghost use Rattle.locked_store.specs.Turning.{IsStartOf};
 ghost use Rattle.callers.specs.Budget.{asked_for, counted_by};
 ghost use Rattle.callers.specs.Called.{IsAnswered};
@@ -125,15 +121,13 @@ impl<D: Disk, A: Devices, C: Admission, G: Gate> Service<D, A, C, G> {
         ensures worn { IfOk result (λ made. made.0.worn ≡ worn) }
         ensures starts { IfOk result (λ made. (start : model_Service) × IsStartOf (world made.0.shared) start) }
         ensures sound { IfOk result (λ made. (start : model_Service) → IsStartOf (world made.0.shared) start → IsSoundStore start.store) }
-        ensures keys { IfOk result (λ made. IfSome (D.contents disk) (λ image. (start : model_Service) (s : IsStartOf (world made.0.shared) start) (a : Attributes) (bytes : List ℕ) →
-            HasKey a bytes image ↔ ((number : ℕ) × (slice_get s.found number ≡ Some (record { attributes = a; bytes = bytes }))))) }
-        ensures opened { IfOk result (λ made. IsOpened D.contents D.may_leave D.moment D.left_since disk (world made.0.shared).opened.file.value.cells.disk (world made.0.shared).opened.file.value.cells.slots.items) }
+        ensures keys { IfOk result (λ made. IfSome (D.contents disk) (FindsKeysIn (world made.0.shared))) }
+        ensures opened { IfOk result (λ made. IsOpenedOn (world made.0.shared) disk) }
         ensures later { IfOk result (λ made. D.faults disk ≤ D.faults (world made.0.shared).opened.file.value.cells.disk) }
         ensures devices { IfOk result (λ made. (world made.0.shared).opened.devices.value ≡ devices) }
         ensures seed { IfOk result (λ made. (world made.0.shared).opened.seed.value ≡ seed.now) }
         ensures rules { IfOk result (λ made. (world made.0.shared).opened.rules.value ≡ rules) }
-        ensures refused { IfErr result (λ unopened. IsRefused D.contents D.may_leave D.moment D.left_since D.faults disk unopened.disk unopened.fault
-            ⊎ ((unopened.fault ≡ fault.Memory) × ((slots : List cell.Slot) × IsOpened D.contents D.may_leave D.moment D.left_since disk unopened.disk slots) × (D.faults disk ≤ D.faults unopened.disk))) }
+        ensures refused { IfErr result (λ unopened. IsNotOpened D.Disk disk unopened.disk unopened.fault) }
         ensures returned { IfErr result (λ unopened. unopened.devices ≡ devices) }
     {
         let (rooms, mut callers) = match take_memory(alloc) {

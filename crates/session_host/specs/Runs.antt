@@ -1,19 +1,15 @@
 -- What is known of a run: the disk that was opened, the one order of its calls, and what it leaves.
-use Rattle.std.specs.Prelude.{◌≡◌, ◌≤◌, ◌↔◌, ◌⊎◌, ℕ, true, List, [], length, map, take, slice_get, Some, IfSome, is_some}
+use Rattle.std.specs.Prelude.{◌≡◌, ◌≤◌, ℕ, true, List, [], length, map, take, IfSome, is_some}
 use Rattle.atomic_table.specs.Seated.{TableId}
 use Rattle.turn_history.specs.History.{StartsWith}
-use Rattle.key_attributes.specs.declared.Attributes.{Attributes}
 use Rattle.policy_rules.specs.declared.narrowing.Label.{Label}
-use Rattle.key_cells.specs.Image.{HasKey}
-use Rattle.key_cells.specs.declared.slot.Slot as cell
 use Rattle.key_cells.specs.declared.reading.OpenFault.{OpenFault}
-use Rattle.key_cells.specs.declared.reading.OpenFault.TheVariants as opening
-use Rattle.key_cells.specs.Opened.{IsOpened, IsRefused}
 use Rattle.store_model.specs.Handles.{Service}
 use Rattle.store_model.specs.Replay.{Entry}
 use Rattle.store_model.specs.Sound.{IsSoundStore}
 use Rattle.store_core.specs.declared.store.Opened.{Opened}
 use Rattle.store_core.specs.Start.{opening_of}
+use Rattle.locked_store.specs.Opening.{FindsKeysIn, IsNotOpened, IsOpenedOn}
 use Rattle.locked_store.specs.Turning.{IsStartOf, ToldBy}
 use Rattle.locked_store.specs.Worlds.{World, world_of}
 use Rattle.caller_service.specs.Closing.{IsLeft}
@@ -39,9 +35,8 @@ module _ {D A C : Type 0} (w : World D A C) where
     pub start : Service
     pub starts : IsStartOf w start
     pub sound : (start : Service) → IsStartOf w start → IsSoundStore start.store
-    pub keys : IfSome (w.disk.contents disk) (λ image. (start : Service) (s : IsStartOf w start) (a : Attributes) (bytes : List ℕ) →
-        HasKey a bytes image ↔ ((number : ℕ) × (slice_get s.found number ≡ Some (record { attributes = a; bytes = bytes }))))
-    pub found : IsOpened w.disk.contents w.disk.may_leave w.disk.moment w.disk.left_since disk w.opened.file.value.cells.disk w.opened.file.value.cells.slots.items
+    pub keys : IfSome (w.disk.contents disk) (FindsKeysIn w)
+    pub found : IsOpenedOn w disk
     pub later : w.disk.faults disk ≤ w.disk.faults w.opened.file.value.cells.disk
     pub devices_are : w.opened.devices.value ≡ devices
     pub seed_is : w.opened.seed.value ≡ seed
@@ -97,8 +92,7 @@ module _ {D A C : Type 0} (disks : Disk.Ghosts D) (elements : Devices.Ghosts A) 
 
   -- The store wasn't opened, for this fault, and the devices come back as they were.
   pub record IsUnopened (disk : D) (devices : A) (fault : OpenFault) (disk_after : D) (devices_after : A) : Type 0 where
-    pub refused : IsRefused disks.contents disks.may_leave disks.moment disks.left_since disks.faults disk disk_after fault
-        ⊎ ((fault ≡ opening.Memory) × ((slots : List cell.Slot) × IsOpened disks.contents disks.may_leave disks.moment disks.left_since disk disk_after slots) × (disks.faults disk ≤ disks.faults disk_after))
+    pub refused : IsNotOpened disks disk disk_after fault
     pub devices_are : devices_after ≡ devices
 
   -- The lines have no replies for this reason: their store wasn't opened, or memory ran out after that.
