@@ -1,5 +1,5 @@
 // The replies of a session, as text.
-ghost use Rattle.std.specs.Prelude.{◌≡◌, ◌<◌, ◌-◌, ◌+◌, ◌^◌, ◌++◌, ◌∷◌, [], List, OnErr, OnOk, codes, cond, length};
+ghost use Rattle.std.specs.Prelude.{◌≡◌, ◌<◌, ◌-◌, ◌+◌, ◌^◌, ◌++◌, ◌∷◌, [], List, OnErr, OnOk, codes, cond, length, replicate};
 ghost use Rattle.std.specs.Fmt.{decimal};
 ghost use Rattle.hex.specs.Hex.{encode_lower};
 ghost use Rattle.psa_status.specs.Status.{status_name};
@@ -23,7 +23,7 @@ pub enum ReplyForm {
 }
 
 /// The replies of a session: their lines, numbered from 1, as text; how many they are, and how many of them succeeded.
-#[derive(Drop)]
+/// Where they are let go, the text is zeros first.
 pub struct Replies {
     pub session: u8,
     pub form: ReplyForm,
@@ -165,3 +165,22 @@ impl Replies {
         Ok(())
     }
 }
+
+impl Drop for Replies {
+    fn drop(mut self) {
+        self.text.fill(0);
+        let Replies {
+            session: _,
+            form: _,
+            count: _,
+            successes: _,
+            text,
+        } = self;
+        release(text);
+    }
+}
+
+// Lets a text go, which is zeros.
+fn release(text: Vec<u8>)
+    requires { text.items ≡ replicate (length text.items) 0 }
+{}
