@@ -168,6 +168,7 @@ impl Replies {
 
 impl Drop for Replies {
     fn drop(mut self) {
+        let length = self.text.len();
         self.text.fill(0);
         let Replies {
             session: _,
@@ -176,11 +177,11 @@ impl Drop for Replies {
             successes: _,
             text,
         } = self;
-        release(text);
+        release(text, length);
     }
 }
 
-// Lets a text go, which is zeros.
-fn release(text: Vec<u8>)
-    requires { text.items ≡ replicate (length text.items) 0 }
+// Lets a text of so many bytes go, which are zeros.
+fn release(text: Vec<u8>, count: usize)
+    requires { text.items ≡ replicate count 0 }
 {}
