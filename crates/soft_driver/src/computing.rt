@@ -32,9 +32,10 @@ fn fill_cmac(key: &[u8], message: &[u8], tag: &mut [u8])
     ensures { tag.new ≡ take (length tag.old) (cmac (aes_encrypt key.now) message.now) }
 {
     let mut aes = aes_key(key);
-    let whole = cmac(&aes, message);
+    let mut whole = cmac(&aes, message);
     aes.wipe();
     tag.copy_from_slice(&whole[..tag.len()]);
+    whole.fill(0);
 }
 
 // Fills a tag with the front of a message's HMAC.
