@@ -1,5 +1,5 @@
 -- A store keeps what it has out over its turns.
-use Rattle.std.proofs.Common.{◌≡◌, ◌∙◌, ◌≤◌, ◌<◌, ◌+◌, ◌^◌, ℕ, List, [], ◌∷◌, ◌++◌, length, refl, sym, ap, subst, arith, length-append, Option, None}
+use Rattle.std.proofs.Common.{◌≡◌, ◌∙◌, ◌≤◌, ◌<◌, ◌+◌, ◌^◌, ℕ, List, [], ◌∷◌, ◌++◌, length, refl, sym, ap, subst, arith, Option, None}
 use Rattle.std.specs.Prelude.{Result, Ok, Err, OnOk, IfOk, IfErr}
 use Rattle.psa_status.specs.declared.Status.{Status}
 use Rattle.key_attributes.specs.declared.Attributes.{Attributes}
@@ -8,18 +8,17 @@ use Rattle.persistent_keys.specs.declared.file.KeyFile.{KeyFile}
 use Rattle.slot_table.specs.Lent.{Reading}
 use Rattle.key_slots.specs.Holdings.{Pairs, Gains, AreHoldings}
 use Rattle.store_model.specs.Store as model
-use Rattle.store_model.specs.Call.{Call, Import, Destroy, GetAttributes, Export}
+use Rattle.store_model.specs.Call.{Import, GetAttributes, Export}
 use Rattle.store_model.specs.Creation.{created_unless}
 use Rattle.store_model.specs.Faults.{FaultMark, Plain}
 use Rattle.store_model.specs.Handles.{Service}
 use Rattle.store_model.specs.Requests.{Request, OnStore}
 use Rattle.store_model.specs.Replay.{Entry, replay}
 use Rattle.store_core.specs.declared.store.Store.{Store}
-use Rattle.store_core.specs.Represents.{Adds, AddsAs, Destroys, Gives, HasOut, IsEntry, Reads, ReadsAndGives, Stands, Takes}
+use Rattle.store_core.specs.Represents.{AddsAs, Gives, HasOut, IsEntry, Reads, ReadsAndGives, Stands, Takes}
 use Rattle.store_core.specs.Creations.{Creates, HasOutBeside, IsCreating, RecordsStated}
 use Rattle.store_core.specs.Uses.{IsRefused, mark_of}
 use Rattle.store_model.specs.Store.{Key}
-use Rattle.store_core.specs.Opaque.{Makes}
 use Rattle.store_core.proofs.Histories.{quiet_leaves}
 use Rattle.store_trials.specs.Keeping.{GivesLease, Keeps, StaysOut, first_has}
 use Rattle.store_trials.proofs.Outs.{are_one, hold, lease_beside, filling_alone, first_gains, is_out}
