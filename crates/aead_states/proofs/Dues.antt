@@ -10,7 +10,8 @@ use Rattle.crypto_specs.proofs.Blocks.{length-aes_encrypt}
 use Rattle.crypto_specs.proofs.XorBytes.{length-xor_bytes}
 use Rattle.store_model.specs.CipherOperations.{bytes_or_empty}
 use Rattle.store_model.specs.Aeads.{is_ccm}
-use Rattle.aead_states.specs.Laws.{DueGrows}
+use Rattle.store_model.specs.AeadOperations.{aead_due, with_payload}
+use Rattle.multipart.specs.Dues.{DueGrows}
 
 -- a text that goes on, under a mask that goes on
 xor_begins : (text piece mask rest : List ℕ) → length text ≤ length mask → take (length text) (xor_bytes (text ++ piece) (mask ++ rest)) ≡ xor_bytes text mask
@@ -66,5 +67,5 @@ module _ (key nonce text piece : List ℕ) where
   either true = ccm_grows
   either false = gcm_grows
 
-pub due_grows : DueGrows
+pub due_grows : DueGrows aead_due with_payload
 due_grows w input = either w.key (bytes_or_empty w.nonce) w.text input (is_ccm w.alg)

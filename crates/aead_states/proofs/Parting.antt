@@ -13,7 +13,7 @@ use Rattle.store_model.specs.Aeads.{aead_tag, aead_text, is_ccm}
 use Rattle.store_model.specs.Algorithms.{tag_bytes}
 use Rattle.aead_states.specs.declared.parts.Parts.{Parts}
 use Rattle.aead_states.specs.Directions.{cipher_of, plain_of}
-use Rattle.aead_states.specs.Runs.{HoldsData, HoldsText}
+use Rattle.aead_states.specs.Runs.{HoldsData, HoldsPayload}
 
 by_true : (b : Bool) (P Q : Type 0) → b ≡ true → P → MatchBool b P Q
 by_true true P Q e h = h
@@ -46,16 +46,16 @@ module _ (r : Parts) (encrypts : Bool) (alg : ℕ) (key nonce : List ℕ) (p : �
   abbrev cipher : List ℕ
   cipher = cipher_of encrypts (gcm_text (aes_encrypt key) nonce) text
 
-  pub text_by_ccm : (other : List ℕ) → is_ccm alg ≡ true → plain ≡ other → HoldsText r encrypts alg key nonce p ad text → ByCcm other
+  pub text_by_ccm : (other : List ℕ) → is_ccm alg ≡ true → plain ≡ other → HoldsPayload r encrypts alg key nonce p ad text → ByCcm other
   text_by_ccm other e q h = subst ByCcm q (MatchBool-at_true (ByCcm plain) (ByGcm cipher) e h.part)
 
-  pub text_by_gcm : (other : List ℕ) → is_ccm alg ≡ false → cipher ≡ other → HoldsText r encrypts alg key nonce p ad text → ByGcm other
+  pub text_by_gcm : (other : List ℕ) → is_ccm alg ≡ false → cipher ≡ other → HoldsPayload r encrypts alg key nonce p ad text → ByGcm other
   text_by_gcm other e q h = subst ByGcm q (MatchBool-at_false (ByCcm plain) (ByGcm cipher) e h.part)
 
-  pub ccm_by_text : (other : List ℕ) → is_ccm alg ≡ true → plain ≡ other → ByCcm other → HoldsText r encrypts alg key nonce p ad text
+  pub ccm_by_text : (other : List ℕ) → is_ccm alg ≡ true → plain ≡ other → ByCcm other → HoldsPayload r encrypts alg key nonce p ad text
   ccm_by_text other e q h = record { part = by_true (is_ccm alg) (ByCcm plain) (ByGcm cipher) e (subst ByCcm (sym q) h) }
 
-  pub gcm_by_text : (other : List ℕ) → is_ccm alg ≡ false → cipher ≡ other → ByGcm other → HoldsText r encrypts alg key nonce p ad text
+  pub gcm_by_text : (other : List ℕ) → is_ccm alg ≡ false → cipher ≡ other → ByGcm other → HoldsPayload r encrypts alg key nonce p ad text
   gcm_by_text other e q h = record { part = by_false (is_ccm alg) (ByCcm plain) (ByGcm cipher) e (subst ByGcm (sym q) h) }
 
 -- ---- the text of no bytes

@@ -10,15 +10,15 @@ use Rattle.multipart.specs.States.{IsOperation}
 use Rattle.aead_states.specs.declared.running.RunningAead.{RunningAead}
 use Rattle.aead_states.specs.declared.state.AeadState.{AeadState}
 use Rattle.aead_states.specs.DeclaredLengths.{declared_ad, lengths_of}
-use Rattle.aead_states.specs.Runs.{HoldsData, HoldsText, IsClear}
+use Rattle.aead_states.specs.Runs.{HoldsData, HoldsPayload, IsClearParts}
 
 -- no key, and nothing that runs
-pub record IsClearRunning (s : RunningAead) : Type 0 where
+pub record IsClearRunningAead (s : RunningAead) : Type 0 where
   pub key : s.key ≡ []
-  pub parts : IsClear s.parts
+  pub parts : IsClearParts s.parts
 
 abbrev pub IsClearAead : AeadState → Type 0
-IsClearAead s = IsClearRunning s.state.work
+IsClearAead s = IsClearRunningAead s.state.work
 
 -- before the nonce is there nothing was given
 pub record IsUnbegun (w : AeadWork) : Type 0 where
@@ -35,7 +35,7 @@ pub record IsInData (s : RunningAead) (w : AeadWork) : Type 0 where
 pub record IsBegun (s : RunningAead) (w : AeadWork) : Type 0 where
   pub lengths : is_ccm w.alg ≡ true → is_some w.lengths ≡ true
   pub part : MatchBool s.has_text
-      (HoldsText s.parts w.encrypts w.alg w.key (bytes_or_empty w.nonce) (declared_payload w.lengths) w.ad w.text)
+      (HoldsPayload s.parts w.encrypts w.alg w.key (bytes_or_empty w.nonce) (declared_payload w.lengths) w.ad w.text)
       (IsInData s w)
 
 -- what was said and given, and what runs over it
@@ -54,4 +54,4 @@ pub record HoldsAead (s : RunningAead) (w : AeadWork) : Type 0 where
 
 -- the state stands for this operation
 abbrev pub IsAeadOperation : AeadState → Operation AeadWork → Type 0
-IsAeadOperation s op = IsOperation IsClearRunning HoldsAead s.state op
+IsAeadOperation s op = IsOperation IsClearRunningAead HoldsAead s.state op

@@ -4,5 +4,4 @@ pub mod DeclaredLengths
 pub mod Counted
 pub mod Runs
 pub mod Holding
-pub mod Laws
 pub mod Setups

@@ -11,7 +11,7 @@ use Rattle.aead_states.specs.declared.parts.Parts.{Parts}
 use Rattle.aead_states.specs.Directions.{cipher_of, plain_of}
 
 -- all buffers are zeros
-pub record IsClear (r : Parts) : Type 0 where
+pub record IsClearParts (r : Parts) : Type 0 where
   pub gcm : IsClearGcm r.gcm
   pub ccm : IsClearCcm r.ccm
 
@@ -22,7 +22,7 @@ pub record HoldsData (r : Parts) (alg : ℕ) (key nonce : List ℕ) (a p : ℕ) 
       (HoldsGcmData r.gcm key nonce ad)
 
 -- the associated data is taken in, and so much of the text: CCM's tag covers the plaintext, GCM's the ciphertext
-pub record HoldsText (r : Parts) (encrypts : Bool) (alg : ℕ) (key nonce : List ℕ) (p : ℕ) (ad text : List ℕ) : Type 0 where
+pub record HoldsPayload (r : Parts) (encrypts : Bool) (alg : ℕ) (key nonce : List ℕ) (p : ℕ) (ad text : List ℕ) : Type 0 where
   pub part : MatchBool (is_ccm alg)
       (HoldsCcmText r.ccm key (tag_bytes alg) nonce p ad (plain_of encrypts (ccm_text (aes_encrypt key) nonce) text))
       (HoldsGcmText r.gcm key nonce ad (cipher_of encrypts (gcm_text (aes_encrypt key) nonce) text))

@@ -1,9 +1,9 @@
 //! An AEAD in several parts, with GCM or CCM over AES: however a text is cut, its ciphertext and its tag are the same.
 #![tactic(auto)]
 
-ghost use Rattle.aead_states.specs.Laws.{DueGrows};
+ghost use Rattle.store_model.specs.AeadOperations.{aead_due, with_payload};
+ghost use Rattle.multipart.specs.Dues.{DueGrows};
 
-mod calls;
 mod declarations;
 mod declared;
 mod family;
@@ -15,11 +15,10 @@ mod running;
 mod setups;
 mod state;
 mod updates;
-mod work;
 
 pub use state::AeadState;
 
 /// More text only adds to the output that is due.
 pub fn due_grows()
-    ensures { DueGrows }
+    ensures { DueGrows aead_due with_payload }
 {}

@@ -7,7 +7,7 @@ ghost use Rattle.store_model.specs.Algorithms.{tag_bytes};
 ghost use Rattle.store_model.specs.Rules.{total_limit};
 ghost use Rattle.key_policy.specs.Names.{IsTagLength, NamesAead, is_ccm, permits_nonce_by};
 ghost use Rattle.aead_states.specs.Directions.{cipher_of, plain_of};
-ghost use Rattle.aead_states.specs.Runs.{HoldsData, HoldsText, IsClear};
+ghost use Rattle.aead_states.specs.Runs.{HoldsData, HoldsPayload, IsClearParts};
 
 use aead_streams::{CcmState, GcmState};
 use aes_core::AesKey;
@@ -22,7 +22,7 @@ pub(crate) struct Parts {
 
 impl Parts {
     pub(crate) fn new() -> Parts
-        ensures { IsClear result }
+        ensures { IsClearParts result }
     {
         Parts {
             gcm: GcmState::new(),
@@ -31,7 +31,7 @@ impl Parts {
     }
 
     pub(crate) fn wipe(&mut self)
-        ensures { IsClear self.new }
+        ensures { IsClearParts self.new }
     {
         self.gcm.wipe();
         self.ccm.wipe();
@@ -77,7 +77,7 @@ impl Parts {
     pub(crate) fn begin_text(&mut self, kind: AeadKind, key: &AesKey)
         requires { IsKey key.now }
         ensures { (alg : ℕ) → is_ccm kind ≡ model.is_ccm alg → (encrypts : Bool) (nonce : List ℕ) (a p : ℕ) (ad : List ℕ) → (model.is_ccm alg ≡ true → length ad ≡ a)
-            → HoldsData self.old alg key.now nonce a p ad → HoldsText self.new encrypts alg key.now nonce p ad [] }
+            → HoldsData self.old alg key.now nonce a p ad → HoldsPayload self.new encrypts alg key.now nonce p ad [] }
     {
         if kind.is_ccm() {
             self.ccm.begin_text(key);
@@ -90,11 +90,11 @@ impl Parts {
     pub(crate) fn xor(&mut self, encrypts: bool, kind: AeadKind, key: &AesKey, piece: &mut [u8])
         requires { IsKey key.now }
         ensures text { (alg : ℕ) → is_ccm kind ≡ model.is_ccm alg → (nonce : List ℕ) (p : ℕ) (ad text : List ℕ) → (model.is_ccm alg ≡ true → length text + length piece.old ≤ p)
-            → HoldsText self.old encrypts alg key.now nonce p ad text
+            → HoldsPayload self.old encrypts alg key.now nonce p ad text
             → aead_text alg key.now nonce (text ++ piece.old) ≡ aead_text alg key.now nonce text ++ piece.new }
         ensures holds { (alg : ℕ) → is_ccm kind ≡ model.is_ccm alg → (nonce : List ℕ) (p : ℕ) (ad text : List ℕ) → (model.is_ccm alg ≡ true → length text + length piece.old ≤ p)
-            → HoldsText self.old encrypts alg key.now nonce p ad text
-            → HoldsText self.new encrypts alg key.now nonce p ad (text ++ piece.old) }
+            → HoldsPayload self.old encrypts alg key.now nonce p ad text
+            → HoldsPayload self.new encrypts alg key.now nonce p ad (text ++ piece.old) }
     {
         match (kind, encrypts) {
             (AeadKind::Ccm, true) => self.ccm.encrypt(key, piece),
@@ -116,7 +116,7 @@ impl Parts {
         requires ad { ad_length ≤ total_limit }
         requires text { text_length ≤ total_limit }
         ensures { (alg : ℕ) → is_ccm kind ≡ model.is_ccm alg → (encrypts : Bool) (nonce : List ℕ) (p : ℕ) (ad text : List ℕ) → (model.is_ccm alg ≡ true → length text ≡ p)
-            → ad_length ≡ length ad → text_length ≡ length text → HoldsText self.old encrypts alg key.now nonce p ad text
+            → ad_length ≡ length ad → text_length ≡ length text → HoldsPayload self.old encrypts alg key.now nonce p ad text
             → take (tag_bytes alg) result ≡ aead_tag alg key.now nonce ad
             (plain_of encrypts (aead_text alg key.now nonce) text) (cipher_of encrypts (aead_text alg key.now nonce) text) }
     {

@@ -32,10 +32,10 @@ pub(crate) struct RunningAead {
 
 impl RunningAead {
     ghost use Rattle.store_model.specs.AeadOperations.{aead_work};
-    ghost use Rattle.aead_states.specs.Holding.{HoldsAead, IsClearRunning};
+    ghost use Rattle.aead_states.specs.Holding.{HoldsAead, IsClearRunningAead};
 
     pub(crate) fn new() -> RunningAead
-        ensures { IsClearRunning result }
+        ensures { IsClearRunningAead result }
     {
         let mut key = aes_key(&[0; 16]);
         key.wipe();
@@ -58,7 +58,7 @@ impl RunningAead {
 
     // Forgets key and text.
     pub(crate) fn wipe(&mut self)
-        ensures { IsClearRunning self.new }
+        ensures { IsClearRunningAead self.new }
     {
         self.has_key = false;
         self.has_nonce = false;
