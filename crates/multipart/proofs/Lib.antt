@@ -1,3 +1,2 @@
 pub mod ByteLists
-pub mod Standing
 pub mod Stepping
