@@ -5,7 +5,9 @@ use alg_encoding::Alg;
 use cipher_states::CipherState;
 use key_policy::{aead_algorithm, cipher_algorithm, mac_algorithm};
 use mac_states::{HashOpState, MacState};
+use multipart::Family as _;
 use psa_status::Status;
+use service_calls::{AeadStep, CipherStep, HashStep, MacStep};
 
 /// So many updates are made of one operation, which takes at most 2^32 - 1 bytes.
 const UPDATES: usize = 4096;
@@ -15,6 +17,9 @@ const KEY: [u8; 16] = [0; 16];
 const IV: [u8; 16] = [0; 16];
 
 const NONCE: [u8; 12] = [0; 12];
+
+// Random bytes for a step that takes none.
+const NO_RANDOM: [u8; 16] = [0; 16];
 
 impl Family {
     // The number of its algorithm.
@@ -68,7 +73,9 @@ impl States {
                 cipher_algorithm(alg)?;
                 self.cipher.wipe();
                 self.cipher.cipher_encrypt_setup(&KEY, alg)?;
-                self.cipher.cipher_set_iv(&IV)
+                self.cipher
+                    .step(CipherStep::SetIv(&IV), &NO_RANDOM, &mut [])?;
+                Ok(())
             }
             Family::Gcm | Family::Ccm => {
                 aead_algorithm(alg)?;
@@ -81,26 +88,31 @@ impl States {
 
     // Gives an AEAD its nonce, and CCM its lengths before.
     fn set_nonce(&mut self, family: Family) -> Result<(), Status> {
+        let mut nonce = &NONCE[..];
         if let Family::Ccm = family {
-            self.aead.aead_set_lengths(0, 0xffff_ffff)?;
+            let lengths = AeadStep::SetLengths {
+                ad: 0,
+                payload: 0xffff_ffff,
+            };
+            self.aead.step(lengths, &NO_RANDOM, &mut [])?;
             // 11 bytes leave room for the longest payload.
-            return self.aead.aead_set_nonce(&NONCE[..11]);
+            nonce = &NONCE[..11];
         }
-        self.aead.aead_set_nonce(&NONCE)
+        self.aead
+            .step(AeadStep::SetNonce(nonce), &NO_RANDOM, &mut [])?;
+        Ok(())
     }
 
     // One update, whose output goes to the front of `out`.
     fn update(&mut self, family: Family, text: &[u8], out: &mut [u8]) -> Result<(), Status> {
         match family {
-            Family::Sha256 => self.hash.hash_update(text)?,
-            Family::Hmac | Family::Cmac => self.mac.mac_update(text)?,
-            Family::Ctr | Family::Cbc => {
-                self.cipher.cipher_update(text, out)?;
-            }
-            Family::Gcm | Family::Ccm => {
-                self.aead.aead_update(text, out)?;
-            }
-        }
+            Family::Sha256 => self.hash.step(HashStep::Update(text), &NO_RANDOM, out)?,
+            Family::Hmac | Family::Cmac => self.mac.step(MacStep::Update(text), &NO_RANDOM, out)?,
+            Family::Ctr | Family::Cbc => self
+                .cipher
+                .step(CipherStep::Update(text), &NO_RANDOM, out)?,
+            Family::Gcm | Family::Ccm => self.aead.step(AeadStep::Update(text), &NO_RANDOM, out)?,
+        };
         Ok(())
     }
 }
