@@ -9,7 +9,7 @@ use Rattle.crypto_specs.specs.Pbkdf2.{pbkdf2_block, pbkdf2_blocks, pbkdf2}
 use Rattle.store_model.specs.CipherOperations.{bytes_or_empty}
 use Rattle.store_model.specs.DerivationOperations.{DerivationWork, is_hkdf, number_or_zero, derived, next_derived, without}
 use Rattle.derivation_states.specs.Streams.{work_hash, work_block_length, block_at}
-use Rattle.derivation_states.specs.Laws.{DueGrows}
+use Rattle.multipart.specs.Dues.{DueGrows}
 use Rattle.derivation_states.proofs.Joined.{joined, joined_same, front_begins, length-joined, front, one_byte}
 use Rattle.derivation_states.proofs.Blocks.{at_true, at_false, block_of_hkdf, block_of_pbkdf2}
 use Rattle.derivation_states.proofs.Lengths.{HasBlocks, length-block_at}
@@ -55,7 +55,7 @@ more_blocks (suc h) n m =
     le-div (block_count (suc h) n) (n + m + suc h - 1) (suc h) (omega arith) (omega (arith, div-mul-le_self (n + suc h - 1) (suc h)))
 
 -- more bytes begin with fewer ones, be the blocks of any length
-pub due_grows : DueGrows
+pub due_grows : (w : DerivationWork) → DueGrows (derived w) (λ n more. n + more)
 due_grows w n m =
     let h : ℕ = hash_length (work_hash w) in
     let i : ℕ = block_count h n in

@@ -3,5 +3,4 @@ pub mod Inputs
 pub mod Outputs
 pub mod States
 pub mod Replies
-pub mod Laws
 pub mod KeySteps

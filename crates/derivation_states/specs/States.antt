@@ -8,7 +8,7 @@ use Rattle.derivation_states.specs.declared.derivation.RunningDerivation.{Runnin
 use Rattle.derivation_states.specs.declared.DerivationState.{DerivationState}
 
 -- no input was given, and all buffers are zeros
-pub record IsClearRunning (s : RunningDerivation) : Type 0 where
+pub record IsClearRunningDerivation (s : RunningDerivation) : Type 0 where
   pub inputs : IsClearInputs s.inputs
   pub output : IsClearOutput s.output
 
@@ -17,7 +17,7 @@ pub record HoldsRunning (s : RunningDerivation) (w : DerivationWork) : Type 0 wh
   pub output : HoldsOutput s.output w
 
 abbrev pub IsClearDerivation : DerivationState → Type 0
-IsClearDerivation s = IsClearRunning s.state.work
+IsClearDerivation s = IsClearRunningDerivation s.state.work
 
 abbrev pub IsDerivationOperation : DerivationState → Operation DerivationWork → Type 0
-IsDerivationOperation s op = IsOperation IsClearRunning HoldsRunning s.state op
+IsDerivationOperation s op = IsOperation IsClearRunningDerivation HoldsRunning s.state op

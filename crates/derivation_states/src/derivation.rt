@@ -5,7 +5,7 @@ ghost use Rattle.psa_status.specs.declared.Status.TheVariants.{InsufficientData}
 ghost use Rattle.psa_status.specs.Rows.{first_row, unless};
 ghost use Rattle.store_model.specs.DerivationOperations.{DerivationWork, input_bytes_rows, input_integer_rows, key_step_rows, output_key_rows, output_rows, stated_bytes, with_key};
 ghost use Rattle.derivation_states.specs.Inputs.{stands_at};
-ghost use Rattle.derivation_states.specs.States.{HoldsRunning, IsClearRunning};
+ghost use Rattle.derivation_states.specs.States.{HoldsRunning, IsClearRunningDerivation};
 
 use crate::inputs::Inputs;
 use crate::output::Output;
@@ -23,7 +23,7 @@ pub(crate) struct RunningDerivation {
 impl RunningDerivation {
     // No inputs and no bytes; `Memory` where there is no room for the buffers.
     pub(crate) fn new(alloc: Global) -> Result<RunningDerivation, Memory>
-        ensures { IfOk result (λ s. IsClearRunning s) }
+        ensures { IfOk result (λ s. IsClearRunningDerivation s) }
     {
         let inputs = Inputs::new(alloc)?;
         Ok(RunningDerivation {
@@ -34,7 +34,7 @@ impl RunningDerivation {
 
     // Forgets all inputs and the output.
     pub(crate) fn wipe(&mut self)
-        ensures { IsClearRunning self.new }
+        ensures { IsClearRunningDerivation self.new }
     {
         self.inputs.wipe();
         self.output.wipe();

@@ -1,12 +1,12 @@
 //! The derivation of bytes and keys in several parts, by HKDF (RFC 5869) and PBKDF2 (RFC 8018).
 #![tactic(auto)]
 
-ghost use Rattle.std.specs.Prelude.{◌≡◌, ◌≤◌, ◌/◌, min, IfOk, OnOk, OnErr, length};
+ghost use Rattle.std.specs.Prelude.{◌≡◌, ◌≤◌, ◌+◌, ◌/◌, min, IfOk, OnOk, OnErr, length};
 ghost use Rattle.store_model.specs.Operations.{Operation, Inactive, InError, Active, is_inactive};
-ghost use Rattle.store_model.specs.DerivationOperations.{DerivationWork, derivation_step, GetCapacity, SetCapacity, InputBytes, InputInteger, OutputBytes, VerifyBytes};
+ghost use Rattle.store_model.specs.DerivationOperations.{DerivationWork, derivation_step, derived, GetCapacity, SetCapacity, InputBytes, InputInteger, OutputBytes, VerifyBytes};
 ghost use Rattle.service_calls.specs.Answers.{AnswersLength, plain_reply};
 ghost use Rattle.store_model.specs.Call.{buffer_after};
-ghost use Rattle.derivation_states.specs.Laws.{DueGrows};
+ghost use Rattle.multipart.specs.Dues.{DueGrows};
 ghost use Rattle.store_model.specs.Outcome.{refusal};
 ghost use Rattle.service_calls.specs.Answered.{number_reply};
 ghost use Rattle.derivation_states.specs.Replies.{AnswersFront};
@@ -271,5 +271,5 @@ impl DerivationState {
 
 /// More bytes only add to those that come first.
 pub fn due_grows()
-    ensures { DueGrows }
+    ensures { (w : DerivationWork) → DueGrows (derived w) (λ n more. n + more) }
 {}

@@ -4,11 +4,11 @@ use multipart::Work;
 
 impl Work for RunningDerivation {
     ghost use Rattle.store_model.specs.DerivationOperations.{DerivationWork};
-    ghost use Rattle.derivation_states.specs.States.{HoldsRunning, IsClearRunning};
+    ghost use Rattle.derivation_states.specs.States.{HoldsRunning, IsClearRunningDerivation};
 
     ghost Said = { DerivationWork };
 
-    ghost is_clear = { IsClearRunning };
+    ghost is_clear = { IsClearRunningDerivation };
 
     ghost holds = { HoldsRunning };
 
