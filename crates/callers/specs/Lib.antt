@@ -5,4 +5,5 @@ pub mod Ready
 pub mod Retired
 pub mod Parts
 pub mod Budget
+pub mod HandleCalls
 pub mod Served

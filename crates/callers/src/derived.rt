@@ -9,7 +9,7 @@ ghost use Rattle.operation_handles.specs.Cells.{IsOperation};
 ghost use Rattle.operation_handles.specs.KeyOutputs.{IsDerivedKey, derived_key_refused};
 ghost use Rattle.operation_handles.specs.declared.cell.Cell as cell;
 ghost use Rattle.callers.specs.Handles.{AreOperations, IsChanged, operation_at};
-ghost use Rattle.callers.specs.Served.{FailsDerivation, without_bytes};
+ghost use Rattle.callers.specs.HandleCalls.{FailsDerivation, without_bytes};
 
 use crate::handles::Handles;
 use derivation_states::KEY_ROOM;

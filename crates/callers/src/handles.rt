@@ -14,7 +14,7 @@ ghost use Rattle.operation_handles.specs.Draws.{DrawsFew};
 ghost use Rattle.operation_handles.specs.Setups.{begun_with, set_up_without_key};
 ghost use Rattle.operation_handles.specs.declared.cell.Cell as cell;
 ghost use Rattle.callers.specs.Handles.{AreOperations, HoldsLease, IsChanged, operation_at};
-ghost use Rattle.callers.specs.Served.{stepped_at};
+ghost use Rattle.callers.specs.HandleCalls.{stepped_at};
 
 use alg_encoding::Alg;
 use operation_handles::Cell;

@@ -9,7 +9,7 @@ ghost use Rattle.operation_handles.specs.Cells.{IsOperation};
 ghost use Rattle.operation_handles.specs.KeyInputs.{RefusesKeyAt, TakesKeyAt, key_refused};
 ghost use Rattle.operation_handles.specs.declared.cell.Cell as cell;
 ghost use Rattle.callers.specs.Handles.{AreOperations, HoldsLease, IsChanged, operation_at};
-ghost use Rattle.callers.specs.Served.{FailsDerivation, MayTakeKey, with_secret};
+ghost use Rattle.callers.specs.HandleCalls.{FailsDerivation, MayTakeKey, with_secret};
 
 use crate::handles::Handles;
 use key_policy::KeyUse;

@@ -28,7 +28,7 @@ returns-in-Computed-clause-ready g c =
     let w = world c.args.shared.now in
     let old = c.args.self.now in let r = c.requires.ready in let shown = c.args.out.now in let room = length shown in let request = model_request c.args.call.now room in let asks = ap (λ x. model_request x room) c.requires.call in
     let given = c.look_or_compute-rank.new.out in let rank = c.look_or_compute-rank.result.0 in
-    let looked = subst (IsLooked w old.pass.me.0 c.look_or_compute-rank.new.pass.me.0 request rank c.args.asked.now.key.0 c.wanted.result c.args.element.now shown given) c.in-Computed.is c.look_or_compute-rank.ensures.looked in
+    let looked = subst (IsLooked w old.pass.me.0 c.look_or_compute-rank.new.pass.me.0 request rank c.args.asked.now.key.0 c.wanted-usage.result c.args.element.now shown given) c.in-Computed.is c.look_or_compute-rank.ensures.looked in
     let ranked = looked.1 in
     let new = record old { pass = c.look_or_compute-rank.new.pass; spares = c.push_reserved.new.self; stream = c.draw_vector.new.stream } in
     let pop = popped old.spares c.pop.new.self c.pop.result c.in-Some.spare c.in-Some.is c.pop.ensures.items r.clear in let quiet = ap may_change_keys (ranked.after.entered.call_is ∙ asks) ∙ quiet_call c.args.asked.now.call c.args.asked.now.key.0 room in
@@ -42,7 +42,7 @@ returns-in-Computed-clause-answered g c =
     let w = world c.args.shared.now in
     let old = c.args.self.now in let r = c.requires.ready in let shown = c.args.out.now in let room = length shown in let request = model_request c.args.call.now room in let asks = ap (λ x. model_request x room) c.requires.call in
     let given = c.look_or_compute-rank.new.out in let rank = c.look_or_compute-rank.result.0 in
-    let looked = subst (IsLooked w old.pass.me.0 c.look_or_compute-rank.new.pass.me.0 request rank c.args.asked.now.key.0 c.wanted.result c.args.element.now shown given) c.in-Computed.is c.look_or_compute-rank.ensures.looked in
+    let looked = subst (IsLooked w old.pass.me.0 c.look_or_compute-rank.new.pass.me.0 request rank c.args.asked.now.key.0 c.wanted-usage.result c.args.element.now shown given) c.in-Computed.is c.look_or_compute-rank.ensures.looked in
     let ranked = looked.1 in
     let new = record old { pass = c.look_or_compute-rank.new.pass; spares = c.push_reserved.new.self; stream = c.draw_vector.new.stream } in
     let quiet = ap may_change_keys (ranked.after.entered.call_is ∙ asks) ∙ quiet_call c.args.asked.now.call c.args.asked.now.key.0 room in
@@ -54,11 +54,11 @@ returns-in-Lent-clause-ready g c =
     let w = world c.args.shared.now in
     let old = c.args.self.now in let r = c.requires.ready in let shown = c.args.out.now in let room = length shown in let request = model_request c.args.call.now room in let asks = ap (λ x. model_request x room) c.requires.call in
     let given = c.look_or_compute-rank.new.out in let rank = c.look_or_compute-rank.result.0 in
-    let looked = subst (IsLooked w old.pass.me.0 c.look_or_compute-rank.new.pass.me.0 request rank c.args.asked.now.key.0 c.wanted.result c.args.element.now shown given) c.in-Lent.is c.look_or_compute-rank.ensures.looked in
+    let looked = subst (IsLooked w old.pass.me.0 c.look_or_compute-rank.new.pass.me.0 request rank c.args.asked.now.key.0 c.wanted-usage.result c.args.element.now shown given) c.in-Lent.is c.look_or_compute-rank.ensures.looked in
     let ranked = looked.2 in let lease = c.in-Lent.lease in
     let mid = record old { pass = c.look_or_compute-rank.new.pass; spares = c.pop.new.self } in
     let pop = popped old.spares c.pop.new.self c.pop.result c.in-Some.spare c.in-Some.is c.pop.ensures.items r.clear in let quiet = ap may_change_keys (ranked.after.entered.call_is ∙ asks) ∙ quiet_call c.args.asked.now.call c.args.asked.now.key.0 room in
-    lent_ready w old r c.args.asked.now.call c.args.asked.now.key.0 room c.wanted.result c.wanted.ensures request asks rank ranked.before ranked.after.entry quiet (λ start is tells e. decided_known w (λ m. is_opaque_key (map.get m.keys c.args.asked.now.key.0) ≡ false) ranked.before ranked.after.entry ranked.after.decided.1 start is tells)
+    lent_ready w old r c.args.asked.now.call c.args.asked.now.key.0 room c.wanted-usage.result c.wanted-usage.ensures request asks rank ranked.before ranked.after.entry quiet (λ start is tells e. decided_known w (λ m. is_opaque_key (map.get m.keys c.args.asked.now.key.0) ≡ false) ranked.before ranked.after.entry ranked.after.decided.1 start is tells)
     mid _ c.compute_with.new.self lease ranked.after.entered ranked.after.decided.0 refl c.compute_with.ensures.back refl refl refl (ap (λ n. drawn_from old.stream (computed_by c.args.asked.now.call (bytes_of lease.buffer) (next_bytes old.stream) (length n)).drawn) looked.0) pop.0 pop.1 c.pop.ensures.capacity c.compute_with.ensures.at c.compute_with.ensures.legal
 
 pub returns-in-Lent-clause-answered : goal.returns-in-Lent-clause-answered
@@ -66,11 +66,11 @@ returns-in-Lent-clause-answered g c =
     let w = world c.args.shared.now in
     let old = c.args.self.now in let r = c.requires.ready in let shown = c.args.out.now in let room = length shown in let request = model_request c.args.call.now room in let asks = ap (λ x. model_request x room) c.requires.call in
     let given = c.look_or_compute-rank.new.out in let rank = c.look_or_compute-rank.result.0 in
-    let looked = subst (IsLooked w old.pass.me.0 c.look_or_compute-rank.new.pass.me.0 request rank c.args.asked.now.key.0 c.wanted.result c.args.element.now shown given) c.in-Lent.is c.look_or_compute-rank.ensures.looked in
+    let looked = subst (IsLooked w old.pass.me.0 c.look_or_compute-rank.new.pass.me.0 request rank c.args.asked.now.key.0 c.wanted-usage.result c.args.element.now shown given) c.in-Lent.is c.look_or_compute-rank.ensures.looked in
     let ranked = looked.2 in let lease = c.in-Lent.lease in
     let mid = record old { pass = c.look_or_compute-rank.new.pass; spares = c.pop.new.self } in
     let quiet = ap may_change_keys (ranked.after.entered.call_is ∙ asks) ∙ quiet_call c.args.asked.now.call c.args.asked.now.key.0 room in
-    lent_answered w old r c.args.asked.now.call c.args.asked.now.key.0 room c.wanted.result c.wanted.ensures request asks rank ranked.before ranked.after.entry quiet (λ start is tells e. decided_known w (λ m. is_opaque_key (map.get m.keys c.args.asked.now.key.0) ≡ false) ranked.before ranked.after.entry ranked.after.decided.1 start is tells)
+    lent_answered w old r c.args.asked.now.call c.args.asked.now.key.0 room c.wanted-usage.result c.wanted-usage.ensures request asks rank ranked.before ranked.after.entry quiet (λ start is tells e. decided_known w (λ m. is_opaque_key (map.get m.keys c.args.asked.now.key.0) ≡ false) ranked.before ranked.after.entry ranked.after.decided.1 start is tells)
     mid _ c.compute_with.new.self lease ranked.after.entered ranked.after.decided.0 refl c.compute_with.ensures.back c.compute_with.result shown c.compute_with.new.out
     (subst (λ n. IsReplied c.compute_with.result n c.compute_with.new.out (computed_by c.args.asked.now.call (bytes_of lease.buffer) (next_bytes old.stream) (length n)).reply) looked.0 c.compute_with.ensures.fits)
 
@@ -79,11 +79,11 @@ returns-in-Refused-clause-ready g c =
     let w = world c.args.shared.now in
     let old = c.args.self.now in let r = c.requires.ready in let shown = c.args.out.now in let room = length shown in let request = model_request c.args.call.now room in let asks = ap (λ x. model_request x room) c.requires.call in
     let given = c.look_or_compute-rank.new.out in let rank = c.look_or_compute-rank.result.0 in
-    let looked = subst (IsLooked w old.pass.me.0 c.look_or_compute-rank.new.pass.me.0 request rank c.args.asked.now.key.0 c.wanted.result c.args.element.now shown given) c.in-Refused.is c.look_or_compute-rank.ensures.looked in
+    let looked = subst (IsLooked w old.pass.me.0 c.look_or_compute-rank.new.pass.me.0 request rank c.args.asked.now.key.0 c.wanted-usage.result c.args.element.now shown given) c.in-Refused.is c.look_or_compute-rank.ensures.looked in
     let ranked = looked.2 in
     let new = record old { pass = c.look_or_compute-rank.new.pass; spares = c.push_reserved-in-Refused.new.self } in
     let pop = popped old.spares c.pop.new.self c.pop.result c.in-Some.spare c.in-Some.is c.pop.ensures.items r.clear in let quiet = ap may_change_keys (ranked.after.entered.call_is ∙ asks) ∙ quiet_call c.args.asked.now.call c.args.asked.now.key.0 room in
-    refused_ready w old r c.args.asked.now.call c.args.asked.now.key.0 room c.wanted.result c.wanted.ensures request asks rank ranked.before ranked.after.entry quiet (λ start is tells e. decided_known w (λ m. is_opaque_key (map.get m.keys c.args.asked.now.key.0) ≡ false) ranked.before ranked.after.entry ranked.after.decided.1 start is tells)
+    refused_ready w old r c.args.asked.now.call c.args.asked.now.key.0 room c.wanted-usage.result c.wanted-usage.ensures request asks rank ranked.before ranked.after.entry quiet (λ start is tells e. decided_known w (λ m. is_opaque_key (map.get m.keys c.args.asked.now.key.0) ≡ false) ranked.before ranked.after.entry ranked.after.decided.1 start is tells)
     new c.in-Refused.status ranked.after.entered ranked.after.decided.0 refl refl refl refl
     (subst (All IsClear) (sym {A = List Buffer} c.push_reserved-in-Refused.ensures.items) (All-push IsClear c.pop.new.self.items c.in-Refused.spare pop.0 looked.1))
     (let a = ap length c.push_reserved-in-Refused.ensures.items in let b = length-append c.pop.new.self.items (c.in-Refused.spare ∷ []) in let d = pop.1 in omega arith)
@@ -94,9 +94,9 @@ returns-in-Refused-clause-answered g c =
     let w = world c.args.shared.now in
     let old = c.args.self.now in let r = c.requires.ready in let shown = c.args.out.now in let room = length shown in let request = model_request c.args.call.now room in let asks = ap (λ x. model_request x room) c.requires.call in
     let given = c.look_or_compute-rank.new.out in let rank = c.look_or_compute-rank.result.0 in
-    let looked = subst (IsLooked w old.pass.me.0 c.look_or_compute-rank.new.pass.me.0 request rank c.args.asked.now.key.0 c.wanted.result c.args.element.now shown given) c.in-Refused.is c.look_or_compute-rank.ensures.looked in
+    let looked = subst (IsLooked w old.pass.me.0 c.look_or_compute-rank.new.pass.me.0 request rank c.args.asked.now.key.0 c.wanted-usage.result c.args.element.now shown given) c.in-Refused.is c.look_or_compute-rank.ensures.looked in
     let ranked = looked.2 in
     let new = record old { pass = c.look_or_compute-rank.new.pass; spares = c.push_reserved-in-Refused.new.self } in
     let quiet = ap may_change_keys (ranked.after.entered.call_is ∙ asks) ∙ quiet_call c.args.asked.now.call c.args.asked.now.key.0 room in
-    refused_answered w old r c.args.asked.now.call c.args.asked.now.key.0 room c.wanted.result c.wanted.ensures request asks rank ranked.before ranked.after.entry quiet (λ start is tells e. decided_known w (λ m. is_opaque_key (map.get m.keys c.args.asked.now.key.0) ≡ false) ranked.before ranked.after.entry ranked.after.decided.1 start is tells)
+    refused_answered w old r c.args.asked.now.call c.args.asked.now.key.0 room c.wanted-usage.result c.wanted-usage.ensures request asks rank ranked.before ranked.after.entry quiet (λ start is tells e. decided_known w (λ m. is_opaque_key (map.get m.keys c.args.asked.now.key.0) ≡ false) ranked.before ranked.after.entry ranked.after.decided.1 start is tells)
     new c.in-Refused.status ranked.after.entered ranked.after.decided.0 shown given looked.0
