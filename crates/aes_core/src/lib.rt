@@ -122,5 +122,4 @@ impl Drop for AesKey {
 // What is let go of a key: no rounds, and schedules of zeros.
 fn release(rounds: usize, schedule: &[u32; 60], inverse: &[u32; 60])
     requires { IsWiped rounds schedule.now inverse.now }
-{
-}
+{}

@@ -23,7 +23,7 @@ stepped_at operations op alive stream step room = stepped_by alive (next_bytes s
 abbrev pub with_secret : DerivationWork → KeyCreation → Reading → HandleOperation
 with_secret w key lease = Active (record { key = Some key; work = Deriving (with_key w (bytes_of lease.buffer)) })
 
--- the operation whose next bytes have become a key with these attributes
+-- the operation of which so many next bytes are taken
 abbrev pub without_bytes : HandleOperation → DerivationWork → (bytes : ℕ) → HandleOperation
 without_bytes operation w bytes = Active (record { key = key_of_operation operation; work = Deriving (without w bytes) })
 

@@ -1,4 +1,4 @@
-//! HMAC (RFC 2104) over SHA-224, SHA-256, SHA-384 and SHA-512.
+//! HMAC (RFC 2104) over SHA-224, SHA-256, SHA-384 and SHA-512, and SHA-256 of a block and 32 bytes after it.
 #![tactic(auto)]
 
 ghost use Rattle.std.specs.Prelude.{◌≡◌, drop, take};

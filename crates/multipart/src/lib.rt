@@ -1,4 +1,4 @@
-//! The phases of an operation in several parts and how it gives bytes, which all families share.
+//! Operations in several parts, as all families have them: phases, the one state and its step, and how bytes are given and compared.
 #![tactic(auto)]
 
 ghost use Rattle.std.specs.Prelude.{◌≡◌, if◌then◌else◌, IfOk, IfErr};

@@ -221,7 +221,7 @@ module _ {D A C : Type 0} (disks : Disk.Ghosts D) (elements : Devices.Ghosts A) 
   abbrev pub CopiesUnmade : (old new : Store D A C) (caller source : ℕ) → Attributes → (filling : ℕ) → NotCopied → Type 0
   CopiesUnmade old new caller source stated filling why = Copies old new caller source stated (filling, 0) (mark_uncopied why) (IsUncopied (RecordsCopy caller source stated) source why)
 
--- whatever model the slots agree with, they agree with the one that has a new key, of one slot, under an identifier
+-- whatever model the slots agreed with: once the filling's pair is taken back, they agree with the one that has this slot's key under the identifier
 abbrev pub FillsWith : (old new : List slots.Slot) (filling : ℕ) → slots.Slot → (id : ℕ) → Type 0
 FillsWith old new filling slot id = (before after : model.Store) (all less : List Pairs) (key : model.Key) → Agrees old before all → Gains less all (filling, 0) →
     Puts before after id (Some key) → SlotHasKey slot key → IsThereOrNew before id key → Agrees new after less

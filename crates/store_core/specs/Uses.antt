@@ -100,7 +100,7 @@ MayDestroy id m = first_row (destroy_rows (map.get m.keys id) id) ≡ None
 abbrev pub EndsSlotsOf : (id : ℕ) → (old new : List Slot) → Type 0
 EndsSlotsOf id old new = (i : ℕ) → holds_key id (slot_at old i) ≡ true → slot_at new i ≡ destroyed_slot (slot_at old i)
 
--- and each cell is free
+-- and each cell that has it is free
 abbrev pub FreesCellsOf : (id : ℕ) → (old new : List cell.Slot) → Type 0
 FreesCellsOf id old new = (c : ℕ) → c < 512 → has_id id (cell_slot old c) ≡ true → cell_slot new c ≡ Free
 

@@ -9,9 +9,10 @@ returns-then-fits c =
     let block = c.args.block.now in
     let padded = c.pad.new.block in
     let whole : take (length padded) block ≡ block = take_all (length padded) block (omega (arith, c.pad.array_long, c.told-block)) in
-    let same : padded ≡ block = c.is_front-fits.ensures.0 c.if-fits.true ∙ (ap (take (length padded)) c.number_of.ensures.block ∙ whole) in
-    (c.kept_before-kept.ensures.bound,
-     fits block (slice_index block 15) c.kept_before-kept.result c.told-block refl c.kept_before-kept.ensures.count c.kept_before-kept.ensures.other (sym c.pad.ensures ∙ same))
+    let same : padded ≡ block = c.is_front-fits.ensures.0 c.if-fits.true ∙ (ap (take (length padded)) c.number_of.ensures.block ∙ whole) in (
+      c.kept_before-kept.ensures.bound,
+      fits block (slice_index block 15) c.kept_before-kept.result c.told-block refl c.kept_before-kept.ensures.count c.kept_before-kept.ensures.other (sym c.pad.ensures ∙ same),
+    )
 
 pub returns-else-fits : goal.returns-else-fits
 returns-else-fits c =
