@@ -1,14 +1,17 @@
 // What the top call runs over, in memory. What boxes are in stands at the tests alone: a run has any devices and rules.
-ghost use Rattle.std.specs.Prelude.{◌≡◌, ℕ, IfOk, Some};
+ghost use Rattle.std.specs.Prelude.{◌≡◌, ◌∷◌, [], ℕ, IfOk, Some};
 ghost use Rattle.driver_dispatch.specs.Held.{no_keys};
 ghost use Rattle.driver_dispatch.specs.Calls.{Lacks};
 
-use admission::Rules;
+use admission::Admission;
 use command_words::RuleBook;
 use disk_face::{Fails, MemoryDisk};
 use driver_dispatch::{Devices, Driver, Drivers};
+use key_attributes::Attributes;
 use outside_io::{MemorySink, MemorySource};
+use policy_rules::{Label, Verdict, narrow};
 use psa_command::{Ended, Exit, run_command};
+use psa_status::Status;
 use soft_driver::SoftDriver;
 use std::alloc::Global;
 use std::sync::Wait;
@@ -56,8 +59,25 @@ pub fn new_element(alloc: Global, fails: Vec<u64>) -> Result<Drivers, Fail>
     Ok(without_keys(Drivers::new(list)))
 }
 
+/// A rule that stands alone.
+#[derive(Drop)]
+pub struct LoneRule {
+    pub label: Label,
+}
+
+impl Admission for LoneRule {
+    ghost labels = { λ rule. rule.label ∷ [] };
+
+    fn apply(&self, attributes: &Attributes) -> Result<Attributes, Status> {
+        match narrow(self.label, attributes) {
+            Verdict::Keep(kept) => Ok(kept),
+            Verdict::Refuse => Err(Status::NotPermitted),
+        }
+    }
+}
+
 /// No rules.
-pub fn no_rules(alloc: Global) -> RuleBook<Rules> {
+pub fn no_rules(alloc: Global) -> RuleBook<LoneRule> {
     RuleBook::new(alloc)
 }
 
