@@ -4,10 +4,7 @@ use Rattle.std.specs.Prelude.{min}
 use Rattle.std.specs.Int.Bits.{xor_zero_l}
 use Rattle.std.proofs.lemmas.List.{drop-drop, take_min, length-drop}
 use Rattle.std.proofs.lemmas.List.Sums.{fold-append}
-use Rattle.crypto_specs.specs.Bytes.{xor_bytes}
-use Rattle.crypto_specs.specs.Modes.{block_count, number_block}
-use Rattle.crypto_specs.specs.Cmac.{chain_step, chained}
-use Rattle.crypto_specs.specs.Ccm.{filled_blocks}
+use Rattle.crypto_specs.specs.Prelude.{xor_bytes, block_count, number_block, chain_step, chained, filled_blocks}
 use Rattle.cipher_blocks.proofs.BlockNumbers.{block_of_xor}
 use Rattle.aead_ccm.specs.Chaining.{filled_block, chained_from}
 use Rattle.aead_ccm.proofs.FilledBlocks.{filled_blocks-next, filled_blocks-empty}

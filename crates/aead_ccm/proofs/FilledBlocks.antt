@@ -3,9 +3,7 @@ use Rattle.std.proofs.Common.{◌≡◌, ℕ, suc, ◌-◌, ◌%◌, ◌<◌, Li
 use Rattle.std.specs.Prelude.{replicate}
 use Rattle.std.proofs.lemmas.Bool.{cases_lt}
 use Rattle.std.proofs.lemmas.List.{length-append, length-replicate, length-drop, length-take, take_all, take-append-le, drop-append-le, append-nil}
-use Rattle.crypto_specs.specs.Bytes.{zero_filled}
-use Rattle.crypto_specs.specs.Modes.{blocks, block_count}
-use Rattle.crypto_specs.specs.Ccm.{filled_blocks}
+use Rattle.crypto_specs.specs.Prelude.{zero_filled, blocks, block_count, filled_blocks}
 use Rattle.aead_ccm.specs.Chaining.{filled_block}
 
 filled_block-whole : (block : List ℕ) → length block ≡ 16 → filled_block block ≡ block

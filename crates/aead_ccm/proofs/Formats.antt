@@ -4,7 +4,7 @@ use Rattle.std.specs.Prelude.{replicate, min}
 use Rattle.std.specs.Int.{w16, w32, w64, w128, byte_at, to_be_bytes}
 use Rattle.std.proofs.lemmas.Bool.{eq-eqb, ne_eqb, lt-ltb, le-ltb}
 use Rattle.std.proofs.lemmas.List.{drop-drop, drop_min, drop-replicate, length-append}
-use Rattle.crypto_specs.specs.Ccm.{in_bytes, encoded_length, encoded_data}
+use Rattle.crypto_specs.specs.Prelude.{in_bytes, encoded_length, encoded_data}
 use Rattle.aead_ccm.specs.Chaining.{filled_block}
 
 -- ---- a number in its bytes

@@ -5,10 +5,7 @@ use Rattle.std.specs.Int.{w64, w128, byte_at, bytes_high_first, to_be_bytes}
 use Rattle.std.specs.Int.Bits.{xor_zero_l, xor_zero_r}
 use Rattle.std.proofs.Math.Nat.{div-eq_of_lt, pow-le-pow_right}
 use Rattle.std.proofs.lemmas.List.{length-append, length-replicate, length-drop, length-take, take-append-drop, drop-append-le, drop_at, drop-drop, drop-replicate, append_assoc, append-nil}
-use Rattle.crypto_specs.specs.Aes.{aes_encrypt}
-use Rattle.crypto_specs.specs.Bytes.{xor_bytes}
-use Rattle.crypto_specs.specs.Modes.{block_count, number_block}
-use Rattle.crypto_specs.specs.Ccm.{ccm_counter_block, ccm_stream, ccm_text, in_bytes}
+use Rattle.crypto_specs.specs.Prelude.{aes_encrypt, xor_bytes, block_count, number_block, ccm_counter_block, ccm_stream, ccm_text, in_bytes}
 use Rattle.crypto_specs.proofs.Blocks.{length-aes_encrypt}
 use Rattle.crypto_specs.proofs.XorBytes.{length-xor_bytes, xor_bytes-append, xor_bytes_to_end}
 use Rattle.cipher_blocks.proofs.BlockNumbers.{block_of_xor, byte_at_is, power_of_256}

@@ -1,9 +1,6 @@
 -- The tag of a payload.
 use Rattle.std.proofs.Common.{◌≡◌, ℕ, List, ◌∷◌, length, take, bit_xor, ap, ap₂, ◌∙◌}
-use Rattle.crypto_specs.specs.Bytes.{xor_bytes}
-use Rattle.crypto_specs.specs.Modes.{number_block}
-use Rattle.crypto_specs.specs.Cmac.{chained}
-use Rattle.crypto_specs.specs.Ccm.{ccm_counter_block, ccm_tag, control_block, encoded_data, filled_blocks, formatted_blocks}
+use Rattle.crypto_specs.specs.Prelude.{xor_bytes, number_block, chained, ccm_counter_block, ccm_tag, control_block, encoded_data, filled_blocks, formatted_blocks}
 use Rattle.cipher_blocks.proofs.BlockNumbers.{block_of_xor}
 use Rattle.aead_ccm.specs.Chaining.{chained_from}
 use Rattle.aead_ccm.proofs.Chains.{payload_chained}

@@ -1,7 +1,7 @@
 -- The chain of CCM, in parts.
 use Rattle.std.specs.Prelude.{ℕ, ◌-◌, List, ◌++◌, length, replicate}
 use Rattle.std.specs.List.{fold}
-use Rattle.crypto_specs.specs.Cmac.{chain_step}
+use Rattle.crypto_specs.specs.Prelude.{chain_step}
 
 -- a part of a block, filled with zeros
 abbrev pub filled_block : List ℕ → List ℕ

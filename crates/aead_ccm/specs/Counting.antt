@@ -1,6 +1,6 @@
 -- The key stream of CCM by counter blocks as numbers.
 use Rattle.std.specs.Prelude.{ℕ, zero, suc, ◌+◌, List, [], ◌++◌, bit_xor}
-use Rattle.crypto_specs.specs.Modes.{number_block}
+use Rattle.crypto_specs.specs.Prelude.{number_block}
 
 -- n blocks, from the counter block after `first` on: i is xored into the zeros that `first` ends in
 unfoldable pub masks : (List ℕ → List ℕ) → ℕ → ℕ → List ℕ

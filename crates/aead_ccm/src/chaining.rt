@@ -1,10 +1,7 @@
 // The CBC-MAC over the formatted blocks (SP 800-38C, section 6.1, steps 1 to 3), before the payload.
 
 ghost use Rattle.std.specs.Prelude.{◌≡◌, ◌^◌, ◌<◌, ◌∷◌, length};
-ghost use Rattle.crypto_specs.specs.Aes.{aes_encrypt, IsKey};
-ghost use Rattle.crypto_specs.specs.Modes.{number_block};
-ghost use Rattle.crypto_specs.specs.Cmac.{chained};
-ghost use Rattle.crypto_specs.specs.Ccm.{control_block, encoded_data, filled_blocks};
+ghost use Rattle.crypto_specs.specs.Prelude.{aes_encrypt, IsKey, number_block, chained, control_block, encoded_data, filled_blocks};
 ghost use Rattle.aead_ccm.specs.Chaining.{chained_from};
 ghost use Rattle.aead_ccm.specs.Lengths.{IsNonceLength, IsTagLength};
 

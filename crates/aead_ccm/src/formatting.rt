@@ -1,8 +1,7 @@
 // The blocks that CCM makes of lengths and the nonce (SP 800-38C, appendix A).
 
 ghost use Rattle.std.specs.Prelude.{◌≡◌, ℕ, ◌-◌, ◌+◌, ◌*◌, ◌^◌, ◌<◌, ◌≤◌, ◌∷◌, ◌++◌, length, take, drop, IsTrue, ◌↔◌};
-ghost use Rattle.crypto_specs.specs.Modes.{number_block};
-ghost use Rattle.crypto_specs.specs.Ccm.{ccm_counter_block, control_block, encoded_data, flags, in_bytes};
+ghost use Rattle.crypto_specs.specs.Prelude.{number_block, ccm_counter_block, control_block, encoded_data, flags, in_bytes};
 ghost use Rattle.aead_ccm.specs.Chaining.{filled_block};
 ghost use Rattle.aead_ccm.specs.Lengths.{IsNonceLength, IsPayloadLength, IsTagLength};
 

@@ -2,9 +2,7 @@
 #![tactic(auto)]
 
 ghost use Rattle.std.specs.Prelude.{◌≡◌, ◌^◌, ◌<◌, ◌≤◌, length, replicate, take, bit_xor, IsTrue, ◌↔◌, MatchBool};
-ghost use Rattle.crypto_specs.specs.Aes.{aes_encrypt, IsKey};
-ghost use Rattle.crypto_specs.specs.Ccm.{ccm_tag, ccm_text};
-ghost use Rattle.crypto_specs.specs.Modes.{number_block};
+ghost use Rattle.crypto_specs.specs.Prelude.{aes_encrypt, IsKey, ccm_tag, ccm_text, number_block};
 ghost use Rattle.aead_ccm.specs.Lengths.{IsNonceLength, IsPayloadLength, IsTagLength};
 
 use aes_core::AesKey;

@@ -2,10 +2,7 @@
 // 800-38C, section 6.1, steps 2, 3 and 5 to 8).
 
 ghost use Rattle.std.specs.Prelude.{◌≡◌, ◌+◌, ◌*◌, ◌^◌, ◌<◌, ◌≤◌, length, bit_xor};
-ghost use Rattle.crypto_specs.specs.Aes.{aes_encrypt, IsKey};
-ghost use Rattle.crypto_specs.specs.Bytes.{xor_bytes};
-ghost use Rattle.crypto_specs.specs.Ccm.{filled_blocks};
-ghost use Rattle.crypto_specs.specs.Modes.{block_count, number_block};
+ghost use Rattle.crypto_specs.specs.Prelude.{aes_encrypt, IsKey, xor_bytes, filled_blocks, block_count, number_block};
 ghost use Rattle.aead_ccm.specs.Chaining.{chained_from};
 ghost use Rattle.aead_ccm.specs.Counting.{masks};
 

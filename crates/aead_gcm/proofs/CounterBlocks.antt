@@ -2,9 +2,7 @@
 use Rattle.std.proofs.Common.{◌≡◌, ℕ, zero, suc, ◌+◌, ◌*◌, ◌/◌, ◌%◌, ◌^◌, List, [], ◌++◌, length, refl, ap, ◌∙◌, add-one, arith}
 use Rattle.std.proofs.lemmas.Bool.{eq-eqb, ne_eqb}
 use Rattle.std.proofs.lemmas.List.{length-append}
-use Rattle.crypto_specs.specs.Aes.{aes_encrypt}
-use Rattle.crypto_specs.specs.Modes.{block_number, number_block}
-use Rattle.crypto_specs.specs.Gcm.{gcm_stream, increased, ghash_of, initial_counter_block, hash_subkey}
+use Rattle.crypto_specs.specs.Prelude.{aes_encrypt, block_number, number_block, gcm_stream, increased, ghash_of, initial_counter_block, hash_subkey}
 use Rattle.crypto_specs.proofs.Blocks.{length-aes_encrypt}
 
 pub one_more : (b : ℕ) → b / 2 ^ 32 * 2 ^ 32 + (b % 2 ^ 32 + 1) % 2 ^ 32 ≡ increased b 1

@@ -2,9 +2,7 @@
 use Rattle.std.proofs.Common.{◌≡◌, ℕ, suc, ◌+◌, ◌-◌, ◌*◌, ◌<◌, List, [], ◌∷◌, ◌++◌, length, take, drop, bit_xor, refl, sym, ap, ap₂, ◌∙◌, arith}
 use Rattle.std.specs.Prelude.{map, min}
 use Rattle.std.proofs.lemmas.List.{drop-drop, take_min, length-drop}
-use Rattle.crypto_specs.specs.Ghash.{ghash_from, block_product}
-use Rattle.crypto_specs.specs.Modes.{blocks, block_count, block_number}
-use Rattle.crypto_specs.specs.Gcm.{numbers_of, ghash_of, length_block}
+use Rattle.crypto_specs.specs.Prelude.{ghash_from, block_product, blocks, block_count, block_number, numbers_of, ghash_of, length_block}
 
 -- GHASH of the n blocks that are left of a text
 abbrev pub rest_from : ℕ → ℕ → ℕ → List ℕ → ℕ

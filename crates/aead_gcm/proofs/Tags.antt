@@ -1,8 +1,6 @@
 -- The tag of a text, and the text.
 use Rattle.std.proofs.Common.{◌≡◌, ℕ, List, length, take, ap, ap₂, ◌∙◌}
-use Rattle.crypto_specs.specs.Bytes.{xor_bytes}
-use Rattle.crypto_specs.specs.Modes.{block_count, number_block}
-use Rattle.crypto_specs.specs.Gcm.{gcm_stream, ghash_of, initial_counter_block, hash_subkey, gcm_tag, gcm_text}
+use Rattle.crypto_specs.specs.Prelude.{xor_bytes, block_count, number_block, gcm_stream, ghash_of, initial_counter_block, hash_subkey, gcm_tag, gcm_text}
 
 pub tag_is : (e : List ℕ → List ℕ) (nonce ad text whole : List ℕ) (h y t : ℕ) → h ≡ hash_subkey e → (h ≡ hash_subkey e → y ≡ initial_counter_block e nonce)
     → whole ≡ xor_bytes (e (number_block y)) (number_block (ghash_of h ad text)) → take t whole ≡ gcm_tag e t nonce ad text

@@ -1,10 +1,7 @@
 // Counter blocks, and the key stream that they give (SP 800-38D, sections 6.2, 6.5 and 7.1).
 
 ghost use Rattle.std.specs.Prelude.{◌≡◌, ℕ, ◌+◌, ◌*◌, ◌/◌, ◌%◌, ◌^◌, ◌<◌, ◌≤◌, List, length};
-ghost use Rattle.crypto_specs.specs.Aes.{aes_encrypt, IsKey};
-ghost use Rattle.crypto_specs.specs.Bytes.{xor_bytes};
-ghost use Rattle.crypto_specs.specs.Modes.{block_count};
-ghost use Rattle.crypto_specs.specs.Gcm.{gcm_stream, hash_subkey, increased, initial_counter_block};
+ghost use Rattle.crypto_specs.specs.Prelude.{aes_encrypt, IsKey, xor_bytes, block_count, gcm_stream, hash_subkey, increased, initial_counter_block};
 
 use crate::hashing::ghash_of;
 use aes_core::AesKey;

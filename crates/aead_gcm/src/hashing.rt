@@ -1,9 +1,7 @@
 // GHASH of associated data and a text (SP 800-38D, section 7.1, steps 1, 4 and 5).
 
 ghost use Rattle.std.specs.Prelude.{◌≡◌, ℕ, ◌+◌, ◌*◌, ◌^◌, ◌<◌, length};
-ghost use Rattle.crypto_specs.specs.Aes.{aes_encrypt, IsKey};
-ghost use Rattle.crypto_specs.specs.Ghash.{ghash_from};
-ghost use Rattle.crypto_specs.specs.Gcm.{ghash_of, hash_subkey, length_block, numbers_of};
+ghost use Rattle.crypto_specs.specs.Prelude.{aes_encrypt, IsKey, ghash_from, ghash_of, hash_subkey, length_block, numbers_of};
 
 use aes_core::AesKey;
 use cipher_blocks::filled_number;

@@ -2,10 +2,7 @@
 #![tactic(auto)]
 
 ghost use Rattle.std.specs.Prelude.{◌≡◌, ℕ, ◌^◌, ◌<◌, ◌≤◌, length, take, replicate, IsTrue, ◌↔◌, MatchBool};
-ghost use Rattle.crypto_specs.specs.Aes.{aes_encrypt, IsKey};
-ghost use Rattle.crypto_specs.specs.Bytes.{xor_bytes};
-ghost use Rattle.crypto_specs.specs.Modes.{number_block};
-ghost use Rattle.crypto_specs.specs.Gcm.{gcm_tag, gcm_text, ghash_of};
+ghost use Rattle.crypto_specs.specs.Prelude.{aes_encrypt, IsKey, xor_bytes, number_block, gcm_tag, gcm_text, ghash_of};
 ghost use Rattle.aead_gcm.specs.Lengths.{IsNonceLength, IsTagLength};
 
 use aes_core::AesKey;

@@ -1,16 +1,10 @@
 -- More text only adds to the output that is due.
 use Rattle.std.proofs.Common.{◌≡◌, ℕ, zero, suc, ◌+◌, ◌-◌, ◌*◌, ◌≤◌, Bool, true, false, cond, List, [], ◌∷◌, ◌++◌, length, take, drop, bit_xor, refl, sym, ap, ap₂, ◌∙◌, arith}
 use Rattle.std.proofs.lemmas.List.{length-append, take_all, take-append-drop, take-append-le}
-use Rattle.crypto_specs.specs.Aes.{aes_encrypt}
-use Rattle.crypto_specs.specs.Bytes.{xor_bytes}
-use Rattle.crypto_specs.specs.Modes.{block_count, number_block}
-use Rattle.crypto_specs.specs.Ccm.{ccm_counter_block, ccm_stream, ccm_text}
-use Rattle.crypto_specs.specs.Gcm.{increased, initial_counter_block, gcm_stream, gcm_text}
+use Rattle.crypto_specs.specs.Prelude.{aes_encrypt, xor_bytes, block_count, number_block, ccm_counter_block, ccm_stream, ccm_text, increased, initial_counter_block, gcm_stream, gcm_text}
 use Rattle.crypto_specs.proofs.Blocks.{length-aes_encrypt}
 use Rattle.crypto_specs.proofs.XorBytes.{length-xor_bytes}
-use Rattle.store_model.specs.CipherOperations.{bytes_or_empty}
-use Rattle.store_model.specs.Aeads.{is_ccm}
-use Rattle.store_model.specs.AeadOperations.{aead_due, with_payload}
+use Rattle.store_model.specs.Prelude.{bytes_or_empty, is_ccm, aead_due, with_payload}
 use Rattle.multipart.specs.Dues.{DueGrows}
 
 -- a text that goes on, under a mask that goes on

@@ -2,15 +2,12 @@
 use Rattle.std.proofs.Common.{◌≡◌, ℕ, ◌≤◌, Bool, true, false, List, [], length, refl, sym, subst}
 use Rattle.std.specs.Prelude.{MatchBool}
 use Rattle.std.proofs.lemmas.Bool.{MatchBool-at_true, MatchBool-at_false}
-use Rattle.crypto_specs.specs.Aes.{aes_encrypt}
-use Rattle.crypto_specs.specs.Ccm.{ccm_tag, ccm_text}
-use Rattle.crypto_specs.specs.Gcm.{gcm_tag, gcm_text}
+use Rattle.crypto_specs.specs.Prelude.{aes_encrypt, ccm_tag, ccm_text, gcm_tag, gcm_text}
 use Rattle.aead_streams.specs.GcmStates.{HoldsGcmData, HoldsGcmText}
 use Rattle.aead_streams.specs.CcmStates.{HoldsCcmData, HoldsCcmText}
 use Rattle.aead_streams.proofs.GcmTexts.{length-gcm_text}
 use Rattle.aead_streams.proofs.CcmPayloads.{length-ccm_text}
-use Rattle.store_model.specs.Aeads.{aead_tag, aead_text, is_ccm}
-use Rattle.store_model.specs.Algorithms.{tag_bytes}
+use Rattle.store_model.specs.Prelude.{aead_tag, aead_text, is_ccm, tag_bytes}
 use Rattle.aead_states.specs.declared.parts.Parts.{Parts}
 use Rattle.aead_states.specs.Directions.{cipher_of, plain_of}
 use Rattle.aead_states.specs.Runs.{HoldsData, HoldsPayload}

@@ -6,10 +6,7 @@ use Rattle.std.proofs.lemmas.Bool.{le-ltb}
 use Rattle.psa_status.specs.declared.Status.{Status}
 use Rattle.psa_status.specs.Rows.{first_row}
 use Rattle.psa_status.proofs.Rows.{first_row-back}
-use Rattle.store_model.specs.Call.{buffer_after}
-use Rattle.store_model.specs.Outcome.{given, reply_unless}
-use Rattle.store_model.specs.Rules.{room_rows}
-use Rattle.store_model.specs.AeadOperations.{AeadWork, aead_due, aead_fresh, aead_update_rows, is_past_payload, is_whole_ad, with_payload}
+use Rattle.store_model.specs.Prelude.{buffer_after, given, reply_unless, room_rows, AeadWork, aead_due, aead_fresh, aead_update_rows, is_past_payload, is_whole_ad, with_payload}
 use Rattle.aead_states.specs.Counted.{aead_text_rows}
 
 second_row : (n whole past more : Bool) (s t : Status) → None ≡ cond (not n) (Some s) (cond ((not whole || past) || more) (Some t) None) → (whole ≡ true) × (past ≡ false)

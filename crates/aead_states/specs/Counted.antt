@@ -2,8 +2,7 @@
 use Rattle.std.specs.Prelude.{ℕ, ◌+◌, not, nat_lt, ◌||◌, true, [], ◌∷◌, length, is_some}
 use Rattle.psa_status.specs.declared.Status.TheVariants.{BadState, InvalidArgument}
 use Rattle.psa_status.specs.Rows.{Rows}
-use Rattle.store_model.specs.Rules.{total_limit}
-use Rattle.store_model.specs.AeadOperations.{AeadWork, is_past_payload, is_whole_ad}
+use Rattle.store_model.specs.Prelude.{total_limit, AeadWork, is_past_payload, is_whole_ad}
 
 -- the rows of aead_update before that of the room
 abbrev pub aead_text_rows : AeadWork → ℕ → Rows

@@ -1,11 +1,7 @@
 -- What the state of an AEAD operation stands for.
 use Rattle.std.specs.Prelude.{◌≡◌, true, false, [], length, is_some, MatchBool}
-use Rattle.store_model.specs.Aeads.{is_ccm}
-use Rattle.store_model.specs.Algorithms.{tag_bytes}
+use Rattle.store_model.specs.Prelude.{is_ccm, tag_bytes, Operation, bytes_or_empty, AeadWork, declared_payload}
 use Rattle.key_policy.specs.Names.{is_ccm as is_ccm_kind}
-use Rattle.store_model.specs.Operations.{Operation}
-use Rattle.store_model.specs.CipherOperations.{bytes_or_empty}
-use Rattle.store_model.specs.AeadOperations.{AeadWork, declared_payload}
 use Rattle.multipart.specs.States.{IsOperation}
 use Rattle.aead_states.specs.declared.running.RunningAead.{RunningAead}
 use Rattle.aead_states.specs.declared.state.AeadState.{AeadState}

@@ -1,12 +1,9 @@
 -- What runs over the associated data and the text.
 use Rattle.std.specs.Prelude.{ℕ, Bool, List, MatchBool}
-use Rattle.crypto_specs.specs.Aes.{aes_encrypt}
-use Rattle.crypto_specs.specs.Ccm.{ccm_text}
-use Rattle.crypto_specs.specs.Gcm.{gcm_text}
+use Rattle.crypto_specs.specs.Prelude.{aes_encrypt, ccm_text, gcm_text}
 use Rattle.aead_streams.specs.GcmStates.{HoldsGcmData, HoldsGcmText, IsClearGcm}
 use Rattle.aead_streams.specs.CcmStates.{HoldsCcmData, HoldsCcmText, IsClearCcm}
-use Rattle.store_model.specs.Aeads.{is_ccm}
-use Rattle.store_model.specs.Algorithms.{tag_bytes}
+use Rattle.store_model.specs.Prelude.{is_ccm, tag_bytes}
 use Rattle.aead_states.specs.declared.parts.Parts.{Parts}
 use Rattle.aead_states.specs.Directions.{cipher_of, plain_of}
 

@@ -2,7 +2,7 @@
 ghost use Rattle.std.specs.Prelude.{◌≡◌, OnOk};
 ghost use Rattle.std.specs.Result.{result_err};
 ghost use Rattle.psa_status.specs.Rows.{first_row};
-ghost use Rattle.store_model.specs.AeadOperations.{AeadWork, set_lengths_rows, with_lengths};
+ghost use Rattle.store_model.specs.Prelude.{AeadWork, set_lengths_rows, with_lengths};
 ghost use Rattle.aead_states.specs.Holding.{HoldsAead};
 
 use crate::lengths::{Lengths, is_past_limit};

@@ -1,7 +1,6 @@
 // What the declared lengths say.
 ghost use Rattle.std.specs.Prelude.{◌≡◌, ◌≤◌};
-ghost use Rattle.store_model.specs.Rules.{total_limit};
-ghost use Rattle.store_model.specs.AeadOperations.{declared_payload, is_past_ad, is_past_payload, is_whole_ad, is_whole_payload};
+ghost use Rattle.store_model.specs.Prelude.{total_limit, declared_payload, is_past_ad, is_past_payload, is_whole_ad, is_whole_payload};
 ghost use Rattle.aead_states.specs.DeclaredLengths.{declared_ad, lengths_of};
 
 use crate::lengths::Lengths;

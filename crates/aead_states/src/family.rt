@@ -1,8 +1,6 @@
 // AEADs among the families of operations.
 ghost use Rattle.std.specs.Prelude.{◌≡◌};
-ghost use Rattle.store_model.specs.Outcome.{refusal};
-ghost use Rattle.store_model.specs.Operations.{Operation};
-ghost use Rattle.store_model.specs.AeadOperations.{AeadWork, aead_step};
+ghost use Rattle.store_model.specs.Prelude.{refusal, Operation, AeadWork, aead_step};
 ghost use Rattle.service_calls.specs.Meanings.{model_aead_step};
 ghost use Rattle.service_calls.specs.Random.{takes_nonce_bytes};
 ghost use Rattle.multipart.specs.Turns.{loses_key};

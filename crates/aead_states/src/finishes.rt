@@ -3,11 +3,7 @@ ghost use Rattle.std.specs.Prelude.{◌≡◌, ◌≤◌, Bool, not, true, IfOk,
 ghost use Rattle.std.specs.Result.{result_err};
 ghost use Rattle.psa_status.specs.declared.Status.TheVariants.{InvalidSignature};
 ghost use Rattle.psa_status.specs.Rows.{first_row};
-ghost use Rattle.store_model.specs.Algorithms.{tag_bytes};
-ghost use Rattle.store_model.specs.Call.{buffer_after};
-ghost use Rattle.store_model.specs.Outcome.{given, reply_unless};
-ghost use Rattle.store_model.specs.Rules.{room_rows};
-ghost use Rattle.store_model.specs.AeadOperations.{AeadWork, is_whole_ad, is_whole_payload, whole_rows, work_tag};
+ghost use Rattle.store_model.specs.Prelude.{tag_bytes, buffer_after, given, reply_unless, room_rows, AeadWork, is_whole_ad, is_whole_payload, whole_rows, work_tag};
 ghost use Rattle.aead_states.specs.Holding.{HoldsAead};
 
 use crate::declared::{is_whole_ad, is_whole_payload};

@@ -1,6 +1,6 @@
 // The lengths that are declared.
 ghost use Rattle.std.specs.Prelude.{◌≡◌, ◌≤◌, nat_lt};
-ghost use Rattle.store_model.specs.Rules.{total_limit};
+ghost use Rattle.store_model.specs.Prelude.{total_limit};
 
 use key_policy::TOTAL_LIMIT;
 

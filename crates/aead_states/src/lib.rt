@@ -1,7 +1,7 @@
 //! An AEAD in several parts, with GCM or CCM over AES: however a text is cut, its ciphertext and its tag are the same.
 #![tactic(auto)]
 
-ghost use Rattle.store_model.specs.AeadOperations.{aead_due, with_payload};
+ghost use Rattle.store_model.specs.Prelude.{aead_due, with_payload};
 ghost use Rattle.multipart.specs.Dues.{DueGrows};
 
 mod declarations;

@@ -2,12 +2,9 @@
 ghost use Rattle.std.specs.Prelude.{◌≡◌, ◌≤◌, ℕ, List, true, IfOk, OnOk, IsTrue, length, take};
 ghost use Rattle.std.specs.Result.{result_err};
 ghost use Rattle.psa_status.specs.Rows.{first_row};
-ghost use Rattle.store_model.specs.Call.{buffer_after};
-ghost use Rattle.store_model.specs.Outcome.{given, reply_unless};
+ghost use Rattle.store_model.specs.Prelude.{buffer_after, given, reply_unless, total_limit, AeadGenerateNonce, AeadWork, aead_step, declared_payload, generate_nonce_rows, nonce_length, set_nonce_rows, takes_nonce, with_nonce};
 ghost use Rattle.store_model.specs.Aeads as model;
 ghost use Rattle.key_policy.specs.Names.{is_ccm, permits_nonce_by};
-ghost use Rattle.store_model.specs.Rules.{total_limit};
-ghost use Rattle.store_model.specs.AeadOperations.{AeadGenerateNonce, AeadWork, aead_step, declared_payload, generate_nonce_rows, nonce_length, set_nonce_rows, takes_nonce, with_nonce};
 ghost use Rattle.aead_states.specs.DeclaredLengths.{lengths_of};
 ghost use Rattle.aead_states.specs.Holding.{HoldsAead};
 

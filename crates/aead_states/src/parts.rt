@@ -1,10 +1,8 @@
 // What runs over the associated data and the text, with either algorithm.
 ghost use Rattle.std.specs.Prelude.{◌≡◌, ◌+◌, ◌≤◌, ℕ, List, Bool, true, ◌&&◌, [], ◌++◌, length, take, IsTrue};
-ghost use Rattle.crypto_specs.specs.Aes.{IsKey};
-ghost use Rattle.store_model.specs.Aeads.{aead_tag, aead_text};
+ghost use Rattle.crypto_specs.specs.Prelude.{IsKey};
+ghost use Rattle.store_model.specs.Prelude.{aead_tag, aead_text, tag_bytes, total_limit};
 ghost use Rattle.store_model.specs.Aeads as model;
-ghost use Rattle.store_model.specs.Algorithms.{tag_bytes};
-ghost use Rattle.store_model.specs.Rules.{total_limit};
 ghost use Rattle.key_policy.specs.Names.{IsTagLength, NamesAead, is_ccm, permits_nonce_by};
 ghost use Rattle.aead_states.specs.Directions.{cipher_of, plain_of};
 ghost use Rattle.aead_states.specs.Runs.{HoldsData, HoldsPayload, IsClearParts};

@@ -1,7 +1,7 @@
 // An operation that is active, or a wiped one.
 ghost use Rattle.std.specs.Prelude.{◌≡◌, ◌≤◌, ℕ, Bool, true, IsTrue};
-ghost use Rattle.crypto_specs.specs.Aes.{IsKey};
-ghost use Rattle.store_model.specs.Rules.{total_limit};
+ghost use Rattle.crypto_specs.specs.Prelude.{IsKey};
+ghost use Rattle.store_model.specs.Prelude.{total_limit};
 ghost use Rattle.key_policy.specs.Names.{IsTagLength, NamesAead};
 ghost use Rattle.aead_states.specs.Ready.{is_ready};
 
@@ -31,7 +31,7 @@ pub(crate) struct RunningAead {
 }
 
 impl RunningAead {
-    ghost use Rattle.store_model.specs.AeadOperations.{aead_work};
+    ghost use Rattle.store_model.specs.Prelude.{aead_work};
     ghost use Rattle.aead_states.specs.Holding.{HoldsAead, IsClearRunningAead};
 
     pub(crate) fn new() -> RunningAead

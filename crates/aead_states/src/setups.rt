@@ -1,9 +1,8 @@
 // Setups.
 ghost use Rattle.std.specs.Prelude.{◌≡◌, true, false};
-ghost use Rattle.crypto_specs.specs.Aes.{IsKey};
+ghost use Rattle.crypto_specs.specs.Prelude.{IsKey};
 ghost use Rattle.service_calls.specs.Answers.{plain_reply};
-ghost use Rattle.store_model.specs.Operations.{Operation};
-ghost use Rattle.store_model.specs.AeadOperations.{AeadWork};
+ghost use Rattle.store_model.specs.Prelude.{Operation, AeadWork};
 ghost use Rattle.alg_encoding.specs.declared.table.Class.TheVariants.{Aead};
 ghost use Rattle.key_policy.specs.Names.{IsOfClass};
 ghost use Rattle.aead_states.specs.Holding.{IsAeadOperation};

@@ -1,8 +1,7 @@
 // The state of an operation, and how its phase changes.
 ghost use Rattle.std.specs.Prelude.{◌≡◌};
-ghost use Rattle.store_model.specs.Operations.{Inactive, Operation, is_inactive};
+ghost use Rattle.store_model.specs.Prelude.{Inactive, Operation, is_inactive, AeadWork};
 ghost use Rattle.multipart.specs.Turns.{is_active};
-ghost use Rattle.store_model.specs.AeadOperations.{AeadWork};
 ghost use Rattle.aead_states.specs.Holding.{IsAeadOperation, IsClearAead};
 
 use crate::running::RunningAead;

@@ -2,10 +2,7 @@
 ghost use Rattle.std.specs.Prelude.{◌≡◌, ◌≤◌, ◌<◌, ◌+◌, ◌^◌, ◌++◌, true, false, IfOk, OnOk, length};
 ghost use Rattle.std.specs.Result.{result_err};
 ghost use Rattle.psa_status.specs.Rows.{first_row};
-ghost use Rattle.store_model.specs.Call.{buffer_after};
-ghost use Rattle.store_model.specs.Outcome.{given, reply_unless};
-ghost use Rattle.store_model.specs.Rules.{total_limit};
-ghost use Rattle.store_model.specs.AeadOperations.{AeadWork, aead_due, aead_fresh, aead_update_rows, is_past_payload, is_whole_ad, update_ad_rows, with_ad, with_payload};
+ghost use Rattle.store_model.specs.Prelude.{buffer_after, given, reply_unless, total_limit, AeadWork, aead_due, aead_fresh, aead_update_rows, is_past_payload, is_whole_ad, update_ad_rows, with_ad, with_payload};
 ghost use Rattle.aead_states.specs.Holding.{HoldsAead};
 ghost use Rattle.aead_states.specs.Counted.{aead_text_rows, with_begun_text};
 

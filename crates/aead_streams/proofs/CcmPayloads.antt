@@ -1,9 +1,7 @@
 -- A payload under the key stream, in pieces.
 use Rattle.std.proofs.Common.{◌≡◌, ℕ, ◌+◌, ◌≤◌, List, ◌++◌, length, sym, ap, ap₂, ◌∙◌, arith}
 use Rattle.std.proofs.lemmas.List.{length-append}
-use Rattle.crypto_specs.specs.Aes.{aes_encrypt}
-use Rattle.crypto_specs.specs.Modes.{number_block}
-use Rattle.crypto_specs.specs.Ccm.{ccm_counter_block, ccm_text}
+use Rattle.crypto_specs.specs.Prelude.{aes_encrypt, number_block, ccm_counter_block, ccm_text}
 use Rattle.aead_ccm.specs.Lengths.{IsNonceLength, IsPayloadLength}
 use Rattle.aead_streams.specs.declared.counter_width.CounterWidth.TheVariants.{Whole}
 use Rattle.aead_streams.specs.Counters.{text_xor}

@@ -4,9 +4,7 @@ use Rattle.std.specs.Int.{bytes_high_first}
 use Rattle.std.proofs.lemmas.List.{take_at, drop_at, length-append}
 use Rattle.std.proofs.lemmas.Nat.{div-mul-add, mod-mul-add, div-add-mod'}
 use Rattle.std.proofs.Math.Nat.{pow-le-pow_right, mod-eq_of_lt}
-use Rattle.crypto_specs.specs.Modes.{block_count, block_number, number_block}
-use Rattle.crypto_specs.specs.Ccm.{in_bytes, ccm_counter_block, ccm_stream, ccm_text}
-use Rattle.crypto_specs.specs.Laws.{KeepsLength}
+use Rattle.crypto_specs.specs.Prelude.{block_count, block_number, number_block, in_bytes, ccm_counter_block, ccm_stream, ccm_text, KeepsLength}
 use Rattle.cipher_blocks.proofs.BlockNumbers.{AreBytes, bytes-append, block_of_number, byte_at_is, length-bytes_high_first, power_of_256}
 use Rattle.aead_streams.specs.declared.counter_width.CounterWidth.TheVariants.{Whole}
 use Rattle.aead_streams.specs.Counters.{stream_block, text_xor}

@@ -3,10 +3,7 @@ use Rattle.std.proofs.Common.{◌≡◌, ℕ, ◌<◌, List, [], ◌∷◌, ◌+
 use Rattle.std.proofs.lemmas.Bool.Decides.{eqb_tells}
 use Rattle.std.proofs.lemmas.List.{append-nil}
 use Rattle.std.proofs.lemmas.List.Sums.{fold-append}
-use Rattle.crypto_specs.specs.Bytes.{xor_bytes}
-use Rattle.crypto_specs.specs.Modes.{number_block}
-use Rattle.crypto_specs.specs.Cmac.{chain_step, chained}
-use Rattle.crypto_specs.specs.Ccm.{ccm_counter_block, ccm_tag, control_block, encoded_data, encoded_length, filled_blocks, formatted_blocks}
+use Rattle.crypto_specs.specs.Prelude.{xor_bytes, number_block, chain_step, chained, ccm_counter_block, ccm_tag, control_block, encoded_data, encoded_length, filled_blocks, formatted_blocks}
 use Rattle.cipher_blocks.proofs.BlockNumbers.{block_of_xor}
 use Rattle.aead_ccm.specs.Chaining.{chained_from}
 use Rattle.aead_ccm.proofs.Formats.{no_data, some_data}

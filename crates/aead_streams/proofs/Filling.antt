@@ -2,7 +2,7 @@
 use Rattle.std.proofs.Common.{◌≡◌, ℕ, ◌+◌, ◌-◌, ◌≤◌, List, ◌++◌, length, take, drop, sym, ap, ◌∙◌, arith}
 use Rattle.std.specs.Prelude.{replicate}
 use Rattle.std.proofs.lemmas.List.{take-append-drop, drop_at, drop-replicate, length-append, length-take}
-use Rattle.crypto_specs.specs.Modes.{block_number}
+use Rattle.crypto_specs.specs.Prelude.{block_number}
 use Rattle.crypto_specs.proofs.Blocks.{number_of_filled}
 use Rattle.aead_streams.specs.Filled.{HasZerosPast}
 

@@ -1,10 +1,6 @@
 -- The text and the tag of GCM, part by part.
 use Rattle.std.proofs.Common.{◌≡◌, ℕ, ◌+◌, List, ◌++◌, length, take, bit_xor, refl, sym, ap, ap₂, ◌∙◌, arith}
-use Rattle.crypto_specs.specs.Aes.{aes_encrypt}
-use Rattle.crypto_specs.specs.Bytes.{xor_bytes}
-use Rattle.crypto_specs.specs.Ghash.{ghash_from, block_product}
-use Rattle.crypto_specs.specs.Modes.{number_block}
-use Rattle.crypto_specs.specs.Gcm.{initial_counter_block, gcm_tag, gcm_text, ghash_of, hash_subkey, increased, length_block, numbers_of}
+use Rattle.crypto_specs.specs.Prelude.{aes_encrypt, xor_bytes, ghash_from, block_product, number_block, initial_counter_block, gcm_tag, gcm_text, ghash_of, hash_subkey, increased, length_block, numbers_of}
 use Rattle.cipher_blocks.proofs.BlockNumbers.{block_of_xor}
 use Rattle.aead_gcm.proofs.GhashSteps.{in_turn}
 use Rattle.aead_gcm.proofs.Tags.{tag_is}

@@ -2,8 +2,7 @@
 use Rattle.std.proofs.Common.{◌≡◌, ℕ, zero, suc, ◌+◌, ◌*◌, ◌≤◌, List, [], ◌++◌, length, take, drop, bit_xor, refl, ap, ◌∙◌, arith}
 use Rattle.std.specs.Prelude.{map}
 use Rattle.std.proofs.lemmas.List.{drop-drop}
-use Rattle.crypto_specs.specs.Ghash.{ghash_from, block_product}
-use Rattle.crypto_specs.specs.Modes.{blocks, block_number}
+use Rattle.crypto_specs.specs.Prelude.{ghash_from, block_product, blocks, block_number}
 use Rattle.crypto_specs.proofs.Blocks.{blocks-append}
 use Rattle.aead_gcm.proofs.GhashSteps.{rest_from}
 

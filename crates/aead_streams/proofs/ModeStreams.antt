@@ -2,11 +2,7 @@
 use Rattle.std.proofs.Common.{◌≡◌, ℕ, zero, suc, ◌+◌, ◌-◌, ◌*◌, ◌/◌, ◌%◌, ◌<◌, ◌≤◌, List, [], ◌++◌, length, drop, slice_index, refl, ap, ap₂, ◌∙◌, inl, inr, arith}
 use Rattle.std.proofs.lemmas.Bool.{cases_lt}
 use Rattle.std.proofs.lemmas.List.{length-append, get_or_append_left, get_or-append_right}
-use Rattle.crypto_specs.specs.Bytes.{xor_bytes}
-use Rattle.crypto_specs.specs.Modes.{block_count, block_number, number_block, counter_block, key_stream, ctr_xor}
-use Rattle.crypto_specs.specs.Gcm.{increased, initial_counter_block, gcm_stream, gcm_text}
-use Rattle.crypto_specs.specs.Laws.{KeepsLength}
-use Rattle.crypto_specs.specs.Aes.{aes_encrypt}
+use Rattle.crypto_specs.specs.Prelude.{xor_bytes, block_count, block_number, number_block, counter_block, key_stream, ctr_xor, increased, initial_counter_block, gcm_stream, gcm_text, KeepsLength, aes_encrypt}
 use Rattle.crypto_specs.proofs.Blocks.{length-number_block, length-aes_encrypt}
 use Rattle.aead_streams.specs.declared.counter_width.CounterWidth.{CounterWidth}
 use Rattle.aead_streams.specs.declared.counter_width.CounterWidth.TheVariants.{Whole, Low32}

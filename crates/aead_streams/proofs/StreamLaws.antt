@@ -1,7 +1,7 @@
 -- Laws of the key stream.
 use Rattle.std.proofs.Common.{◌≡◌, ℕ, suc, ◌+◌, ◌<◌, ◌≤◌, List, [], ◌∷◌, ◌++◌, length, drop, slice_index, bit_xor, refl, ap, ap₂, ◌∙◌, arith}
 use Rattle.std.proofs.lemmas.List.{drop_at}
-use Rattle.crypto_specs.specs.Bytes.{xor_bytes}
+use Rattle.crypto_specs.specs.Prelude.{xor_bytes}
 use Rattle.aead_streams.specs.declared.counter_width.CounterWidth.{CounterWidth}
 use Rattle.aead_streams.specs.Counters.{byte_of_stream, text_xor}
 

@@ -2,9 +2,7 @@
 use Rattle.std.proofs.Common.{◌≡◌, ℕ, ◌+◌, ◌-◌, ◌/◌, ◌%◌, ◌^◌, ◌<◌, ◌≤◌, List, ◌++◌, length, take, drop, slice_index, sym, ap, ap₂, ◌∙◌, append_assoc, arith}
 use Rattle.std.proofs.Math.Seq.{take-add}
 use Rattle.std.proofs.lemmas.List.{get_or-drop, length-drop, length-take, take_at, drop_at, drop-drop}
-use Rattle.crypto_specs.specs.Bytes.{xor_bytes}
-use Rattle.crypto_specs.specs.Modes.{number_block}
-use Rattle.crypto_specs.specs.Gcm.{increased}
+use Rattle.crypto_specs.specs.Prelude.{xor_bytes, number_block, increased}
 use Rattle.aead_streams.specs.declared.counter_width.CounterWidth.{CounterWidth}
 use Rattle.aead_streams.specs.declared.counter_width.CounterWidth.TheVariants.{Whole, Low32}
 use Rattle.aead_streams.specs.declared.key_stream.KeyStream.{KeyStream}

@@ -3,9 +3,7 @@ use Rattle.std.proofs.Common.{◌≡◌, ℕ, ◌+◌, ◌-◌, ◌*◌, ◌/◌
 use Rattle.std.specs.Prelude.{◌⊎◌, min}
 use Rattle.std.proofs.lemmas.Bool.{cases_lt}
 use Rattle.std.proofs.lemmas.List.{length-append, length-drop, drop-append-le, length-take, take-append-drop, drop-drop, take_all, drop_all, append-nil}
-use Rattle.crypto_specs.specs.Ghash.{ghash_from, block_product}
-use Rattle.crypto_specs.specs.Modes.{blocks, block_count, block_number}
-use Rattle.crypto_specs.specs.Gcm.{numbers_of}
+use Rattle.crypto_specs.specs.Prelude.{ghash_from, block_product, blocks, block_count, block_number, numbers_of}
 use Rattle.aead_gcm.proofs.GhashSteps.{rest_from}
 use Rattle.aead_streams.specs.TextHashes.{HasTaken}
 use Rattle.aead_streams.specs.declared.text_hash.TextHash.{TextHash}

@@ -1,9 +1,6 @@
 -- What a running CCM stands for. A call has the key, a tag of t bytes, the nonce, and p bytes of payload.
 use Rattle.std.specs.Prelude.{◌≡◌, ℕ, ◌≤◌, List, [], ◌∷◌, ◌++◌, length}
-use Rattle.crypto_specs.specs.Aes.{aes_encrypt}
-use Rattle.crypto_specs.specs.Modes.{number_block}
-use Rattle.crypto_specs.specs.Cmac.{chained}
-use Rattle.crypto_specs.specs.Ccm.{ccm_counter_block, control_block, encoded_data, filled_blocks}
+use Rattle.crypto_specs.specs.Prelude.{aes_encrypt, number_block, chained, ccm_counter_block, control_block, encoded_data, filled_blocks}
 use Rattle.aead_ccm.specs.Chaining.{chained_from}
 use Rattle.aead_ccm.specs.Lengths.{IsNonceLength, IsPayloadLength}
 use Rattle.aead_streams.specs.declared.counter_width.CounterWidth.TheVariants.{Whole}

@@ -1,7 +1,6 @@
 -- What a running chain stands for.
 use Rattle.std.specs.Prelude.{◌≡◌, ℕ, List, [], ◌++◌, cond, eqb}
-use Rattle.crypto_specs.specs.Modes.{number_block}
-use Rattle.crypto_specs.specs.Ccm.{encoded_length, filled_blocks}
+use Rattle.crypto_specs.specs.Prelude.{number_block, encoded_length, filled_blocks}
 use Rattle.aead_ccm.specs.Chaining.{chained_from}
 use Rattle.aead_streams.specs.declared.ccm_chain.Chain.{Chain}
 

@@ -1,8 +1,6 @@
 -- What a running GCM (SP 800-38D) stands for.
 use Rattle.std.specs.Prelude.{◌≡◌, ℕ, List, length}
-use Rattle.crypto_specs.specs.Aes.{aes_encrypt}
-use Rattle.crypto_specs.specs.Ghash.{ghash_from}
-use Rattle.crypto_specs.specs.Gcm.{initial_counter_block, hash_subkey, increased, numbers_of}
+use Rattle.crypto_specs.specs.Prelude.{aes_encrypt, ghash_from, initial_counter_block, hash_subkey, increased, numbers_of}
 use Rattle.aead_streams.specs.declared.counter_width.CounterWidth.TheVariants.{Low32}
 use Rattle.aead_streams.specs.Streams.{IsAt, IsClearStream}
 use Rattle.aead_streams.specs.TextHashes.{HasTaken, IsClearHash}

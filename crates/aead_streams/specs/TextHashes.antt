@@ -1,7 +1,6 @@
 -- What a hash of a text taken in pieces stands for.
 use Rattle.std.specs.Prelude.{◌≡◌, ℕ, ◌*◌, ◌≤◌, ◌<◌, List, [], map, length, drop}
-use Rattle.crypto_specs.specs.Ghash.{ghash_from}
-use Rattle.crypto_specs.specs.Modes.{blocks, block_number}
+use Rattle.crypto_specs.specs.Prelude.{ghash_from, blocks, block_number}
 use Rattle.aead_streams.specs.declared.text_hash.TextHash.{TextHash}
 
 -- the value, from y on and under the hash key h, has the first blocks of the text, and the buffer what is left

@@ -1,7 +1,7 @@
 // The bytes of a text that don't fill a block of 16 bytes yet.
 
 ghost use Rattle.std.specs.Prelude.{◌≡◌, ℕ, ◌-◌, ◌≤◌, ◌↔◌, IsTrue, [], ◌++◌, length, take, min, replicate};
-ghost use Rattle.crypto_specs.specs.Modes.{block_number, number_block};
+ghost use Rattle.crypto_specs.specs.Prelude.{block_number, number_block};
 
 use cipher_blocks::{number_of, put_at};
 use std::marker::Model;

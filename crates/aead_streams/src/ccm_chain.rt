@@ -1,9 +1,7 @@
 // The CBC-MAC over texts in pieces, each text being filled with zeros to whole blocks (SP 800-38C, section 6.1,
 // steps 2 and 3).
 ghost use Rattle.std.specs.Prelude.{◌≡◌, ◌<◌, ◌≤◌, ℕ, List, [], ◌++◌, length, drop};
-ghost use Rattle.crypto_specs.specs.Aes.{aes_encrypt, IsKey};
-ghost use Rattle.crypto_specs.specs.Modes.{number_block};
-ghost use Rattle.crypto_specs.specs.Ccm.{filled_blocks};
+ghost use Rattle.crypto_specs.specs.Prelude.{aes_encrypt, IsKey, number_block, filled_blocks};
 ghost use Rattle.aead_ccm.specs.Chaining.{chained_from};
 ghost use Rattle.aead_streams.specs.Chains.{chain_after, IsClearChain};
 

@@ -1,7 +1,6 @@
 // The state of a call.
 ghost use Rattle.std.specs.Prelude.{◌≡◌, ◌+◌, ◌<◌, ◌≤◌, ◌^◌, ℕ, List, [], ◌++◌, length, take};
-ghost use Rattle.crypto_specs.specs.Aes.{aes_encrypt, IsKey};
-ghost use Rattle.crypto_specs.specs.Ccm.{ccm_tag, ccm_text};
+ghost use Rattle.crypto_specs.specs.Prelude.{aes_encrypt, IsKey, ccm_tag, ccm_text};
 ghost use Rattle.aead_ccm.specs.Lengths.{IsNonceLength, IsPayloadLength, IsTagLength};
 ghost use Rattle.aead_streams.specs.CcmStates.{HoldsCcmData, HoldsCcmText, IsClearCcm};
 

@@ -1,8 +1,7 @@
 // Associated data and a text that are taken in piece by piece.
 
 ghost use Rattle.std.specs.Prelude.{◌≡◌, ℕ, ◌^◌, ◌<◌, List, [], ◌++◌, length, take};
-ghost use Rattle.crypto_specs.specs.Aes.{aes_encrypt, IsKey};
-ghost use Rattle.crypto_specs.specs.Gcm.{gcm_tag, gcm_text};
+ghost use Rattle.crypto_specs.specs.Prelude.{aes_encrypt, IsKey, gcm_tag, gcm_text};
 ghost use Rattle.aead_gcm.specs.Lengths.{IsNonceLength};
 
 use crate::counter_width::CounterWidth;

@@ -1,6 +1,5 @@
 ghost use Rattle.std.specs.Prelude.{◌≡◌, ℕ, ◌+◌, ◌<◌, ◌≤◌, List, ◌++◌, length, take, drop, replicate};
-ghost use Rattle.crypto_specs.specs.Aes.{aes_encrypt, IsKey};
-ghost use Rattle.crypto_specs.specs.Modes.{number_block};
+ghost use Rattle.crypto_specs.specs.Prelude.{aes_encrypt, IsKey, number_block};
 ghost use Rattle.aead_streams.specs.Counters.{counted, text_xor};
 ghost use Rattle.aead_streams.specs.Streams.{IsAt, IsClearStream};
 

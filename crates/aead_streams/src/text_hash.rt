@@ -1,8 +1,7 @@
 // GHASH of a text that is taken in piece by piece (SP 800-38D, section 6.4).
 
 ghost use Rattle.std.specs.Prelude.{◌≡◌, ℕ, ◌+◌, ◌-◌, ◌≤◌, ◌<◌, List, [], ◌++◌, length, take, min, bit_xor};
-ghost use Rattle.crypto_specs.specs.Ghash.{block_product, ghash_from};
-ghost use Rattle.crypto_specs.specs.Gcm.{numbers_of};
+ghost use Rattle.crypto_specs.specs.Prelude.{block_product, ghash_from, numbers_of};
 
 use crate::block_buffer::BlockBuffer;
 use aead_gcm::absorb;

@@ -3,7 +3,7 @@ use Rattle.std.proofs.Common.{◌≡◌, ℕ, zero, suc, ◌+◌, ◌*◌, ◌%�
 use Rattle.std.specs.Int.{byte_at}
 use Rattle.std.specs.Int.Bits.{xor_assoc}
 use Rattle.std.proofs.lemmas.Nat.{xor_comm, be_bytes_4}
-use Rattle.crypto_specs.specs.Field.{gf_mul}
+use Rattle.crypto_specs.specs.Prelude.{gf_mul}
 use Rattle.crypto_specs.proofs.FieldLaws.{gf_mul-byte}
 use Rattle.aes_core.specs.Words.{bytes_of, mixed_column, products}
 use Rattle.aes_core.proofs.WordBytes.{byte_of_xor-0, byte_of_xor-1, byte_of_xor-2, byte_of_xor-3, row_0, row_1, row_2, row_3, four_words}

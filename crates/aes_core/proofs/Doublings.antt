@@ -3,7 +3,8 @@ use Rattle.std.proofs.Common.{◌≡◌, ℕ, ◌+◌, ◌-◌, ◌*◌, ◌%◌
 use Rattle.std.specs.Prelude.{nat_lt}
 use Rattle.std.specs.Int.Bits.{xor_zero_r, xor_assoc, xor_block}
 use Rattle.std.proofs.lemmas.Bool.{le-ltb}
-use Rattle.crypto_specs.specs.Field.{xtime, gf_mul, sum_of_shifts}
+use Rattle.crypto_specs.specs.Field.{sum_of_shifts}
+use Rattle.crypto_specs.specs.Prelude.{xtime, gf_mul}
 
 pub gf_mul-9 : (b : ℕ) → gf_mul 9 b ≡ bit_xor b (xtime (xtime (xtime b)))
 unfolding sum_of_shifts

@@ -3,8 +3,7 @@ use Rattle.std.proofs.Common.{◌≡◌, ℕ, zero, suc, ◌+◌, ◌-◌, ◌*�
 use Rattle.std.proofs.Math.Seq.{take-length}
 use Rattle.std.proofs.lemmas.Bool.{eq-eqb}
 use Rattle.std.proofs.lemmas.List.{get_or-take, take-append-le, take_more_set}
-use Rattle.crypto_specs.specs.Aes.{IsKey}
-use Rattle.crypto_specs.specs.KeyExpansion.{xor_words, sub_word, rot_word, power_of_x, schedule_core, next_word, add_word, expanded, key_schedule, round_count}
+use Rattle.crypto_specs.specs.Prelude.{IsKey, xor_words, sub_word, rot_word, power_of_x, schedule_core, next_word, add_word, expanded, key_schedule, round_count}
 use Rattle.aes_core.specs.Words.{bytes_of}
 use Rattle.aes_core.proofs.WordBytes.{bytes_of-take, bytes_of-append, bytes_of_xor, word_at_is}
 

@@ -1,10 +1,7 @@
 -- Round keys that InvMixColumns is taken of.
 use Rattle.std.proofs.Common.{◌≡◌, ℕ, ◌+◌, ◌-◌, ◌*◌, ◌<◌, ◌≤◌, List, [], ◌∷◌, ◌++◌, ◌⊎◌, slice_index, bit_xor, refl, sym, ap, ap₂, ◌∙◌, inl, inr, arith}
 use Rattle.std.specs.Int.{byte_at}
-use Rattle.crypto_specs.specs.Field.{gf_mul}
-use Rattle.crypto_specs.specs.Sbox.{sbox, inv_sbox}
-use Rattle.crypto_specs.specs.Aes.{state_of, entry, mixed, add_round_key}
-use Rattle.crypto_specs.specs.AesInverse.{inv_sub_bytes, inv_shift_rows, inv_mix_columns, inv_rounds}
+use Rattle.crypto_specs.specs.Prelude.{gf_mul, sbox, inv_sbox, state_of, entry, mixed, add_round_key, inv_sub_bytes, inv_shift_rows, inv_mix_columns, inv_rounds}
 use Rattle.crypto_specs.proofs.FieldLaws.{xor_four, gf_mul-xor}
 use Rattle.crypto_specs.proofs.CipherInverseBytes.{inv_sbox-byte, inv_sbox_of_sbox}
 use Rattle.aes_core.specs.Words.{bytes_of, mixed_column, inv_mixed_word}

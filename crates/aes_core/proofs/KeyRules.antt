@@ -1,8 +1,6 @@
 -- What the fields of a key say of the ciphers under it.
 use Rattle.std.proofs.Common.{◌≡◌, ℕ, ◌+◌, ◌-◌, ◌*◌, List, length, take, sym, ap, ◌∙◌, inl, inr, arith}
-use Rattle.crypto_specs.specs.Aes.{cipher, aes_encrypt, IsKey}
-use Rattle.crypto_specs.specs.AesInverse.{inv_cipher, aes_decrypt}
-use Rattle.crypto_specs.specs.KeyExpansion.{key_schedule}
+use Rattle.crypto_specs.specs.Prelude.{cipher, aes_encrypt, IsKey, inv_cipher, aes_decrypt, key_schedule}
 use Rattle.aes_core.specs.Words.{bytes_of}
 use Rattle.aes_core.proofs.WordBytes.{bytes_of-take}
 use Rattle.aes_core.specs.KeyFields.{IsScheduleOf, IsReadyOrWiped, key_of}

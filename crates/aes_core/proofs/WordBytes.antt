@@ -1,9 +1,7 @@
 -- The bytes of words: sums of words, words among others, and a block as four of them.
 use Rattle.std.proofs.Common.{◌≡◌, ℕ, zero, suc, ◌+◌, ◌*◌, ◌/◌, ◌%◌, ◌^◌, ◌<◌, List, [], ◌∷◌, ◌++◌, length, take, slice_index, bit_xor, refl, sym, ap, ap₂, ◌∙◌, arith}
 use Rattle.std.specs.Int.{byte_at}
-use Rattle.crypto_specs.specs.Modes.{number_block}
-use Rattle.crypto_specs.specs.Aes.{add_round_key}
-use Rattle.crypto_specs.specs.KeyExpansion.{word_at, xor_words}
+use Rattle.crypto_specs.specs.Prelude.{number_block, add_round_key, word_at, xor_words}
 use Rattle.cipher_blocks.proofs.BlockNumbers.{block_of_xor}
 use Rattle.aes_core.specs.Words.{bytes_of}
 

@@ -1,7 +1,6 @@
 -- What the fields of an AesKey stand for.
 use Rattle.std.specs.Prelude.{◌≡◌, ℕ, ◌+◌, ◌-◌, ◌*◌, ◌<◌, ◌≤◌, List, [], ◌∷◌, take, replicate, slice_index, ◌⊎◌}
-use Rattle.crypto_specs.specs.Aes.{IsKey}
-use Rattle.crypto_specs.specs.KeyExpansion.{key_schedule, round_count}
+use Rattle.crypto_specs.specs.Prelude.{IsKey, key_schedule, round_count}
 use Rattle.aes_core.specs.Words.{bytes_of, inv_mixed_word}
 
 -- the bytes of the key: the schedule begins with its words

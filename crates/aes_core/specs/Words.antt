@@ -1,8 +1,7 @@
 -- Words of 32 bits, four bytes each, first byte highest. The columns of a state are four such words.
 use Rattle.std.specs.Prelude.{ℕ, List, [], ◌∷◌, slice_index}
 use Rattle.std.specs.Int.{w32, byte_at, from_be_bytes}
-use Rattle.crypto_specs.specs.Field.{gf_mul}
-use Rattle.crypto_specs.specs.Aes.{mixed}
+use Rattle.crypto_specs.specs.Prelude.{gf_mul, mixed}
 
 -- the bytes of words
 abbrev pub bytes_of : List ℕ → List ℕ

@@ -2,9 +2,7 @@
 
 ghost use Rattle.std.specs.Prelude.{◌≡◌, ◌<◌, [], ◌∷◌};
 ghost use Rattle.std.specs.Int.{byte_at};
-ghost use Rattle.crypto_specs.specs.Modes.{number_block};
-ghost use Rattle.crypto_specs.specs.Sbox.{sbox};
-ghost use Rattle.crypto_specs.specs.Aes.{sub_bytes, shift_rows, mix_columns, add_round_key};
+ghost use Rattle.crypto_specs.specs.Prelude.{number_block, sbox, sub_bytes, shift_rows, mix_columns, add_round_key};
 ghost use Rattle.aes_core.specs.Words.{bytes_of};
 
 use crate::mixed_tables::mixed_column;

@@ -2,8 +2,7 @@
 
 ghost use Rattle.std.specs.Prelude.{◌≡◌, [], ◌∷◌};
 ghost use Rattle.std.specs.Int.{byte_at};
-ghost use Rattle.crypto_specs.specs.Sbox.{inv_sbox};
-ghost use Rattle.crypto_specs.specs.AesInverse.{inv_sub_bytes, inv_shift_rows, inv_mix_columns};
+ghost use Rattle.crypto_specs.specs.Prelude.{inv_sbox, inv_sub_bytes, inv_shift_rows, inv_mix_columns};
 ghost use Rattle.aes_core.specs.Words.{bytes_of, inv_mixed_word};
 
 use crate::columns::word_of;

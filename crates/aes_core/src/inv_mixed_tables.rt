@@ -2,7 +2,7 @@
 
 ghost use Rattle.std.specs.Prelude.{◌≡◌, [], ◌∷◌};
 ghost use Rattle.std.specs.Int.{byte_at};
-ghost use Rattle.crypto_specs.specs.Sbox.{inv_sbox};
+ghost use Rattle.crypto_specs.specs.Prelude.{inv_sbox};
 ghost use Rattle.aes_core.specs.Words.{bytes_of, mixed_column};
 
 const INV_MIXED_ROWS: [[u32; 256]; 4] = [

@@ -2,9 +2,7 @@
 #![tactic(auto)]
 
 ghost use Rattle.std.specs.Prelude.{◌≡◌, ℕ, List, [], MatchOption};
-ghost use Rattle.crypto_specs.specs.Aes.{aes_encrypt, IsKey};
-ghost use Rattle.crypto_specs.specs.AesInverse.{aes_decrypt};
-ghost use Rattle.crypto_specs.specs.Modes.{number_block};
+ghost use Rattle.crypto_specs.specs.Prelude.{aes_encrypt, IsKey, aes_decrypt, number_block};
 ghost use Rattle.aes_core.specs.KeyFields.{IsWiped};
 
 use cipher_blocks::number_of;

@@ -6,7 +6,7 @@
 
 ghost use Rattle.std.specs.Prelude.{◌≡◌, [], ◌∷◌};
 ghost use Rattle.std.specs.Int.{byte_at};
-ghost use Rattle.crypto_specs.specs.Sbox.{sbox};
+ghost use Rattle.crypto_specs.specs.Prelude.{sbox};
 ghost use Rattle.aes_core.specs.Words.{bytes_of, mixed_column};
 
 const MIXED_ROWS: [[u32; 256]; 4] = [

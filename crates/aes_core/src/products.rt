@@ -2,7 +2,7 @@
 // (FIPS 197 section 4.2.1).
 
 ghost use Rattle.std.specs.Prelude.{◌≡◌};
-ghost use Rattle.crypto_specs.specs.Field.{xtime, gf_mul};
+ghost use Rattle.crypto_specs.specs.Prelude.{xtime, gf_mul};
 
 // The product of `b` and x.
 pub(crate) fn xtime(b: u8) -> u8

@@ -1,9 +1,7 @@
 // The cipher and its inverse, round by round over the schedule (FIPS 197 sections 5.1 and 5.3).
 
 ghost use Rattle.std.specs.Prelude.{◌≡◌, ◌-◌, ◌%◌, ◌<◌, ◌≤◌, ℕ, List};
-ghost use Rattle.crypto_specs.specs.Modes.{number_block};
-ghost use Rattle.crypto_specs.specs.Aes.{cipher, rounds};
-ghost use Rattle.crypto_specs.specs.AesInverse.{inv_cipher, inv_rounds};
+ghost use Rattle.crypto_specs.specs.Prelude.{number_block, cipher, rounds, inv_cipher, inv_rounds};
 ghost use Rattle.aes_core.specs.Words.{bytes_of};
 ghost use Rattle.aes_core.specs.KeyFields.{IsInvScheduleOf};
 

@@ -2,8 +2,7 @@
 // room for the 60 words of the longest one.
 
 ghost use Rattle.std.specs.Prelude.{◌≡◌, ◌+◌, ◌-◌, ◌*◌, ◌/◌, ◌<◌, ◌≤◌, [], ◌∷◌, length, take};
-ghost use Rattle.crypto_specs.specs.Aes.{IsKey};
-ghost use Rattle.crypto_specs.specs.KeyExpansion.{xor_words, sub_word, rot_word, schedule_core, next_word, key_schedule, round_count};
+ghost use Rattle.crypto_specs.specs.Prelude.{IsKey, xor_words, sub_word, rot_word, schedule_core, next_word, key_schedule, round_count};
 ghost use Rattle.aes_core.specs.Words.{bytes_of};
 
 use crate::columns::word_of;

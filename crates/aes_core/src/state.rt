@@ -2,8 +2,7 @@
 // (FIPS 197 section 3.4).
 
 ghost use Rattle.std.specs.Prelude.{◌≡◌, ◌<◌};
-ghost use Rattle.crypto_specs.specs.Aes.{mixed, add_round_key};
-ghost use Rattle.crypto_specs.specs.AesInverse.{inv_sub_bytes, inv_shift_rows, inv_mix_columns};
+ghost use Rattle.crypto_specs.specs.Prelude.{mixed, add_round_key, inv_sub_bytes, inv_shift_rows, inv_mix_columns};
 ghost use Rattle.aes_core.specs.Words.{bytes_of};
 
 use crate::columns::{add_round_key, block_of, columns_of};

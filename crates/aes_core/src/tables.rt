@@ -1,7 +1,7 @@
 // The S-box and its inverse, byte by byte (FIPS 197 sections 5.1.1 and 5.3.2).
 
 ghost use Rattle.std.specs.Prelude.{◌≡◌};
-ghost use Rattle.crypto_specs.specs.Sbox.{sbox, inv_sbox};
+ghost use Rattle.crypto_specs.specs.Prelude.{sbox, inv_sbox};
 
 const SBOX: [u8; 256] = [
     0x63, 0x7c, 0x77, 0x7b, 0xf2, 0x6b, 0x6f, 0xc5, 0x30, 0x01, 0x67, 0x2b, 0xfe, 0xd7, 0xab, 0x76,

@@ -3,13 +3,10 @@ use Rattle.std.proofs.Common.{◌≡◌, ℕ, ◌<◌, ◌≤◌, ◌+◌, List,
 use Rattle.std.proofs.lemmas.Bool.Decides.{eqb_tells}
 use Rattle.caller_service.specs.Closing.{backwards}
 use Rattle.turn_history.specs.declared.pass.Account.{Account}
-use Rattle.turn_history.specs.History.{calls_by, entries_of, StartsWith}
-use Rattle.turn_history.specs.Views.{account_of}
-use Rattle.store_model.specs.Replay.{Entry}
-use Rattle.locked_store.specs.Closed.{IsClosed}
-use Rattle.locked_store.specs.Standing.{caller_of}
+use Rattle.turn_history.specs.Prelude.{calls_by, entries_of, StartsWith, account_of}
+use Rattle.store_model.specs.Prelude.{Entry}
+use Rattle.locked_store.specs.Prelude.{IsClosed, caller_of, World}
 use Rattle.callers.specs.Ready.{IsReady}
-use Rattle.locked_store.specs.Worlds.{World}
 use Rattle.callers.specs.declared.caller.Caller.{Caller}
 use Rattle.turn_history.proofs.Lists.{entries-append}
 use Rattle.callers.proofs.Journeys.{begins_through}

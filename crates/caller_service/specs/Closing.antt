@@ -1,15 +1,9 @@
 -- What is known once a service is closed.
 use Rattle.std.specs.Prelude.{◌≡◌, ◌<◌, ◌≤◌, ℕ, true, List, [], ◌∷◌, ◌++◌, All, length, get_or, is_some}
-use Rattle.turn_history.specs.History.{entries_of, calls_by, StartsWith}
-use Rattle.store_model.specs.Handles.{Service}
-use Rattle.store_model.specs.Replay.{Entry, replay}
-use Rattle.store_model.specs.Marks.{last_counts}
-use Rattle.store_core.specs.Durability.{KeepsKeys, course_of, durable_keys}
-use Rattle.store_core.specs.Start.{opening_of}
-use Rattle.store_core.specs.Zeros.{HasKeyOrZeros}
-use Rattle.locked_store.specs.Standing.{caller_of}
-use Rattle.locked_store.specs.Turning.{IsLegal, IsStartOf}
-use Rattle.locked_store.specs.Worlds.{World}
+use Rattle.turn_history.specs.Prelude.{entries_of, calls_by, StartsWith}
+use Rattle.store_model.specs.Prelude.{Service, Entry, replay, last_counts}
+use Rattle.store_core.specs.Prelude.{KeepsKeys, course_of, durable_keys, opening_of, HasKeyOrZeros}
+use Rattle.locked_store.specs.Prelude.{caller_of, IsLegal, IsStartOf, World}
 use Rattle.callers.specs.Retired.{IsRetired, MakesNoCall}
 use Rattle.callers.specs.declared.caller.Caller.{Caller}
 

@@ -6,7 +6,7 @@ use Rattle.psa_status.specs.declared.Status.TheVariants.{PassWorn}
 use Rattle.service_calls.specs.declared.call.Call.{Call}
 use Rattle.service_calls.specs.declared.output.Output.{Output}
 use Rattle.service_calls.specs.Meanings.{model_request}
-use Rattle.store_model.specs.Handles.{HandleOperation}
+use Rattle.store_model.specs.Prelude.{HandleOperation}
 use Rattle.callers.specs.Budget.{asked_for, counted_by}
 use Rattle.callers.specs.Called.{IsAnswered}
 use Rattle.callers.specs.Handles.{AreOperations}
@@ -14,7 +14,7 @@ use Rattle.callers.specs.Ready.{IsReady}
 use Rattle.disk_face.specs.declared.Disk as Disk
 use Rattle.driver_dispatch.specs.declared.devices.Devices as Devices
 use Rattle.admission.specs.declared.rules.Admission as Admission
-use Rattle.locked_store.specs.Shared.{world}
+use Rattle.locked_store.specs.Prelude.{world}
 use Rattle.callers.specs.declared.caller.Caller.{Caller}
 use Rattle.caller_service.specs.declared.replies.Reply.{Reply}
 use Rattle.caller_service.specs.declared.service.Service.{Service}

@@ -1,9 +1,9 @@
 // How the callers of a service end.
 ghost use Rattle.std.specs.Prelude.{◌≡◌, ◌<◌, ◌+◌, ◌++◌, ℕ, All, length, map};
-ghost use Rattle.turn_history.specs.Views.{account_of};
+ghost use Rattle.turn_history.specs.Prelude.{account_of};
 ghost use Rattle.callers.specs.Ready.{IsReady};
 ghost use Rattle.callers.specs.Retired.{IsRetired};
-ghost use Rattle.locked_store.specs.Shared.{world};
+ghost use Rattle.locked_store.specs.Prelude.{world};
 ghost use Rattle.caller_service.specs.Closing.{WereRetired, backwards};
 
 use admission::Admission;

@@ -2,17 +2,14 @@
 ghost use Rattle.std.specs.Prelude.{◌≡◌, ◌≤◌, ◌<◌, ◌+◌, ◌^◌, ℕ, List, [], All, IfOk, IfErr, IfSome, IfNone, Err, length, vec_capacity, vec_len};
 ghost use Rattle.psa_status.specs.declared.Status.TheVariants.{PassWorn};
 ghost use Rattle.driver_dispatch.specs.Calls.{Lacks};
-ghost use Rattle.turn_history.specs.Passes.{AreNew};
+ghost use Rattle.turn_history.specs.Prelude.{AreNew};
 ghost use Rattle.service_calls.specs.Meanings.{model_request};
-ghost use Rattle.store_model.specs.Handles.{HandleOperation, Service as model_Service};
-ghost use Rattle.store_model.specs.Sound.{IsSoundStore};
-ghost use Rattle.locked_store.specs.Opening.{FindsKeysIn, IsNotOpened, IsOpenedOn};
-ghost use Rattle.locked_store.specs.Turning.{IsStartOf};
+ghost use Rattle.store_model.specs.Prelude.{HandleOperation, Service as model_Service, IsSoundStore};
+ghost use Rattle.locked_store.specs.Prelude.{FindsKeysIn, IsNotOpened, IsOpenedOn, IsStartOf, world};
 ghost use Rattle.callers.specs.Budget.{asked_for, counted_by};
 ghost use Rattle.callers.specs.Called.{IsAnswered};
 ghost use Rattle.callers.specs.Handles.{AreOperations};
 ghost use Rattle.callers.specs.Ready.{IsReady};
-ghost use Rattle.locked_store.specs.Shared.{world};
 ghost use Rattle.caller_service.specs.Closing.{IsClosedOver, WereRetired};
 ghost use Rattle.caller_service.specs.Rooms.{IsRoom};
 ghost use Rattle.caller_service.specs.Staff.{AreStaff};
@@ -76,9 +73,7 @@ fn seat<D: Disk, A: Devices, C: Admission>(
     let mut number = 0;
     for pass in passes {
         number += 1;
-        let Some(Room { spares, cells }) = rooms.pop() else {
-            unreachable!()
-        };
+        let Room { spares, cells } = rooms.pop().unwrap();
         callers.push_reserved(Caller::new(shared, pass, number, seed, spares, cells));
     }
     rooms.destroy_empty();

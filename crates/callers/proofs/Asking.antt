@@ -9,14 +9,7 @@ use Rattle.psa_status.specs.declared.Status.TheVariants.{Success}
 use Rattle.slot_table.specs.Lent.{Reading}
 use Rattle.multipart.specs.Turns.{is_active}
 use Rattle.store_model.specs.Store as model
-use Rattle.store_model.specs.Faults.{Plain}
-use Rattle.store_model.specs.Operations.{Operation, Inactive, InError, Active}
-use Rattle.store_model.specs.Outcome.{counted}
-use Rattle.store_model.specs.Handles.{KeyCreation, Work, HandleOperation, Service, held_with, is_alive, key_of_operation, operation_of}
-use Rattle.store_model.specs.Requests.{Request, OnStore, OnHandle, plain_step}
-use Rattle.store_model.specs.Laws.{may_change_keys}
-use Rattle.store_model.specs.Sound.{HasNumber}
-use Rattle.store_model.specs.Replay.{Entry, outcome_of, replay}
+use Rattle.store_model.specs.Prelude.{Plain, Operation, Inactive, InError, Active, counted, KeyCreation, Work, HandleOperation, Service, held_with, is_alive, key_of_operation, operation_of, Request, OnStore, OnHandle, plain_step, may_change_keys, HasNumber, Entry, outcome_of, replay}
 use Rattle.store_model.proofs.LeftAll.{leaves_all}
 use Rattle.store_model.proofs.Others.{leaves_shared}
 use Rattle.store_model.proofs.SoundService.{by_number}
@@ -24,11 +17,10 @@ use Rattle.operation_handles.specs.Families.{embed_of}
 use Rattle.operation_handles.specs.Cells.{IsOperation}
 use Rattle.operation_handles.specs.declared.cell.Cell.{Cell}
 use Rattle.store_core.proofs.Histories.{replay_push}
-use Rattle.locked_store.specs.Turning.{DecidesAfter, IsRanked, LeavesAllKeys}
+use Rattle.locked_store.specs.Prelude.{DecidesAfter, IsRanked, LeavesAllKeys, World}
 use Rattle.callers.specs.Called.{IsCalled, KnowsBefore}
 use Rattle.callers.specs.Handles.{operation_at}
 use Rattle.callers.specs.Ready.{IsReady}
-use Rattle.locked_store.specs.Worlds.{World}
 use Rattle.callers.specs.declared.caller.Caller.{Caller}
 use Rattle.callers.proofs.Journeys.{called, told_front}
 use Rattle.callers.proofs.Readying.{known, outcome_is}

@@ -9,7 +9,7 @@ use Rattle.secret_bytes.specs.Buffer.{IsClear}
 use Rattle.slot_table.specs.Lent.{Reading}
 use Rattle.key_policy.specs.declared.key_use.KeyUse.{KeyUse}
 use Rattle.key_policy.specs.Uses.{use_refusal, used_for}
-use Rattle.turn_history.specs.History.{entries_of}
+use Rattle.turn_history.specs.Prelude.{entries_of}
 use Rattle.key_slots.specs.Holdings.{Pairs}
 use Rattle.service_calls.specs.declared.output.Output.{Output}
 use Rattle.service_calls.specs.declared.output.Output.TheVariants as output
@@ -20,25 +20,17 @@ use Rattle.service_calls.specs.declared.handle_calls.Setup.TheVariants.{Keyless,
 use Rattle.service_calls.specs.Answered.{AnswersReply}
 use Rattle.service_calls.specs.Answers.{plain_reply}
 use Rattle.service_calls.specs.Meanings.{model_setup}
-use Rattle.store_model.specs.Call.{buffer_after}
-use Rattle.store_model.specs.Faults.{FaultMark, Plain}
-use Rattle.store_model.specs.Laws.{may_change_keys}
-use Rattle.store_model.specs.Marks.{id_read}
-use Rattle.store_model.specs.Operations.{After, Inactive, is_inactive, stays}
-use Rattle.store_model.specs.Handles.{Held, HandleOperation, Served, applied, operation_of, own_of}
-use Rattle.store_model.specs.Requests.{Request, OnHandle}
-use Rattle.store_model.specs.Replay.{Entry, outcome_of, replay}
-use Rattle.store_core.specs.Uses.{IsLent, IsRefused, mark_of}
+use Rattle.store_model.specs.Prelude.{buffer_after, FaultMark, Plain, may_change_keys, id_read, After, Inactive, is_inactive, stays, Held, HandleOperation, Served, applied, operation_of, own_of, Request, OnHandle, Entry, outcome_of, replay}
+use Rattle.store_core.specs.Prelude.{IsLent, IsRefused, mark_of}
 use Rattle.operation_handles.specs.Cells.{IsOperation}
 use Rattle.operation_handles.specs.Setups.{refusal_without_key, set_up_by, set_up_with_key, set_up_without_key, work_without_key}
 use Rattle.operation_handles.specs.declared.cell.Cell.{Cell}
 use Rattle.operation_handles.proofs.Served.{setups}
-use Rattle.locked_store.specs.Turning.{DecidesAfter, IsAt, IsEntered, ReadsKey, lease_pair}
+use Rattle.locked_store.specs.Prelude.{DecidesAfter, IsAt, IsEntered, ReadsKey, lease_pair, World}
 use Rattle.callers.specs.Called.{IsAnswered, IsCalled, KnowsBefore, Legal, TellsFailure}
 use Rattle.callers.specs.Failures.{failure_marked}
 use Rattle.callers.specs.Handles.{AreOperations, ArePairs, HoldsLease, IsChanged, busy, leases_of, operation_at, with_operation_at}
 use Rattle.callers.specs.Ready.{IsOwnPart, IsReady}
-use Rattle.locked_store.specs.Worlds.{World}
 use Rattle.callers.specs.declared.caller.Caller.{Caller}
 use Rattle.callers.proofs.CellLists.{busy_put, cell_at, few, once, tally-cons}
 use Rattle.callers.proofs.Failing.{answers_plain, set_up_plainly}

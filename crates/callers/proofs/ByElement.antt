@@ -22,19 +22,8 @@ use Rattle.secure_element_calls.specs.declared.calls.NotComputed.{NotComputed}
 use Rattle.secure_element_calls.specs.declared.calls.NotComputed.TheVariants.{Failed, Refused}
 use Rattle.secure_element_calls.proofs.Answering.{refused_before}
 use Rattle.secure_element_calls.proofs.Replying.{asks, replies_are}
-use Rattle.store_model.specs.Call.{Call, Reply}
-use Rattle.store_model.specs.Ciphers.{Ctr, enciphered}
-use Rattle.store_model.specs.Draws.{Random}
-use Rattle.store_model.specs.Faults.{Hardware, marked_reply}
-use Rattle.store_model.specs.Handles.{HandleOperation, Service, next_random, own_of}
-use Rattle.store_model.specs.KeyUse.{bytes_of}
-use Rattle.store_model.specs.Marks.{asks_device}
-use Rattle.store_model.specs.Outcome.{computed_unless, counted, given, refusal, replies, reply_unless}
-use Rattle.store_model.specs.Requests.{OnStore, plain_step, serve}
-use Rattle.store_model.specs.Sound.{IsSound}
-use Rattle.store_model.specs.Step.{step}
-use Rattle.store_model.specs.Store.{Key, Store, is_opaque_key}
-use Rattle.store_core.specs.Opaque.{IsAnswered}
+use Rattle.store_model.specs.Prelude.{Call, Reply, Ctr, enciphered, Random, Hardware, marked_reply, HandleOperation, Service, next_random, own_of, bytes_of, asks_device, computed_unless, counted, given, refusal, replies, reply_unless, OnStore, plain_step, serve, IsSound, step, Key, Store, is_opaque_key}
+use Rattle.store_core.specs.Prelude.{IsAnswered}
 use Rattle.single_part.specs.Elements.{has_vector, takes_vector}
 use Rattle.callers.specs.Called.{IsReplied}
 use Rattle.callers.specs.Parts.{drawn_by}

@@ -7,11 +7,10 @@ use Rattle.std.proofs.lemmas.List.Sums.{sum_by-append, sum_by-cons}
 use Rattle.slot_table.specs.Lent.{Reading}
 use Rattle.key_slots.specs.Holdings.{Pairs, names, same}
 use Rattle.multipart.specs.Turns.{is_active}
-use Rattle.store_model.specs.Operations.{Inactive, is_inactive}
-use Rattle.store_model.specs.Handles.{HandleOperation}
+use Rattle.store_model.specs.Prelude.{Inactive, is_inactive, HandleOperation}
 use Rattle.operation_handles.specs.Cells.{IsOperation}
 use Rattle.operation_handles.specs.declared.cell.Cell.{Cell}
-use Rattle.locked_store.specs.Turning.{lease_pair, without_pair}
+use Rattle.locked_store.specs.Prelude.{lease_pair, without_pair}
 use Rattle.callers.specs.Handles.{AreOperations, ArePairs, busy, leases_of, pairs_of}
 
 -- OPERATIONS

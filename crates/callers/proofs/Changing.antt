@@ -5,11 +5,11 @@ use Rattle.std.proofs.lemmas.List.Sums.{sum_by-append}
 use Rattle.slot_table.specs.Lent.{Reading}
 use Rattle.key_slots.specs.Holdings.{Pairs}
 use Rattle.multipart.specs.Turns.{is_active}
-use Rattle.store_model.specs.Handles.{HandleOperation}
+use Rattle.store_model.specs.Prelude.{HandleOperation}
 use Rattle.operation_handles.specs.Cells.{IsOperation}
 use Rattle.operation_handles.specs.declared.cell.Cell.{Cell}
 use Rattle.std.proofs.lemmas.Bool.{false≢true}
-use Rattle.locked_store.specs.Turning.{lease_pair}
+use Rattle.locked_store.specs.Prelude.{lease_pair}
 use Rattle.callers.specs.Handles.{AreOperations, ArePairs, HoldsLease, IsChanged, leases_of, pairs_of}
 use Rattle.callers.proofs.CellLists.{leases_put, names_lease, put_cell, tally-cons}
 

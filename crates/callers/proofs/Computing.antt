@@ -9,7 +9,7 @@ use Rattle.psa_status.specs.declared.Status.{Status}
 use Rattle.random_streams.specs.RandomWords.{RandomStream, drawn_from, next_bytes, words_used}
 use Rattle.secret_bytes.specs.Buffer.{IsClear, bytes_of}
 use Rattle.slot_table.specs.Lent.{Reading}
-use Rattle.turn_history.specs.History.{entries_of}
+use Rattle.turn_history.specs.Prelude.{entries_of}
 use Rattle.key_slots.specs.Holdings.{Pairs, names, same}
 use Rattle.key_policy.specs.declared.key_use.KeyUse.{KeyUse}
 use Rattle.key_policy.specs.Uses.{use_refusal}
@@ -17,30 +17,20 @@ use Rattle.service_calls.specs.Answered.{AnswersReply}
 use Rattle.service_calls.specs.declared.output.Output.{Output}
 use Rattle.service_calls.specs.declared.store_calls.KeyedCall.{KeyedCall}
 use Rattle.service_calls.specs.Meanings.{model_keyed_call}
-use Rattle.store_model.specs.Call.{Reply}
-use Rattle.store_model.specs.Faults.{Plain}
-use Rattle.store_model.specs.Store.{is_opaque_key}
-use Rattle.store_model.specs.Handles.{next_random, own_of}
-use Rattle.store_model.specs.Laws.{may_change_keys}
-use Rattle.store_model.specs.Outcome.{Computed, Outcome, counted, with_computed}
-use Rattle.store_model.specs.Requests.{Request, OnStore}
-use Rattle.store_model.specs.Replay.{Entry, replay}
-use Rattle.store_model.specs.Step.{step}
+use Rattle.store_model.specs.Prelude.{Reply, Plain, is_opaque_key, next_random, own_of, may_change_keys, Computed, Outcome, counted, with_computed, Request, OnStore, Entry, replay, step}
 use Rattle.secure_element_calls.specs.Answers.{AnswersCall, mark_computed}
 use Rattle.secure_element_calls.specs.Calls.{model_call}
 use Rattle.secure_element_calls.specs.Replies.{HasDrawn}
 use Rattle.secure_element_calls.specs.declared.calls.ElementCall.{ElementCall}
 use Rattle.secure_element_calls.specs.declared.calls.NotComputed.{NotComputed}
-use Rattle.store_core.specs.Opaque.{IsAnswered as IsOfElement}
-use Rattle.store_core.specs.Uses.{IsLent, IsRefused, mark_of}
-use Rattle.locked_store.specs.Turning.{DecidesAfter, DecidesBefore, IsAt, IsEntered, lease_pair, without_pair}
+use Rattle.store_core.specs.Prelude.{IsAnswered as IsOfElement, IsLent, IsRefused, mark_of}
+use Rattle.locked_store.specs.Prelude.{DecidesAfter, DecidesBefore, IsAt, IsEntered, lease_pair, without_pair, World}
 use Rattle.single_part.specs.Elements.{has_vector, takes_vector}
 use Rattle.single_part.specs.Keyed.{computed_by, wanted_by}
 use Rattle.single_part.proofs.Draws.{draws_none, few}
 use Rattle.callers.specs.Called.{IsReplied, IsAnswered, IsCalled, KnowsBefore, Legal}
 use Rattle.callers.specs.Parts.{IsGivenBack, drawn_by}
 use Rattle.callers.specs.Ready.{IsOwnPart, IsReady}
-use Rattle.locked_store.specs.Worlds.{World}
 use Rattle.callers.specs.declared.caller.Caller.{Caller}
 use Rattle.callers.proofs.ByElement.{element_fits, element_own}
 use Rattle.callers.proofs.CellLists.{tally-cons, without}

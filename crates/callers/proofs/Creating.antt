@@ -8,23 +8,18 @@ use Rattle.std.specs.Prelude.{All}
 use Rattle.random_streams.specs.RandomWords.{RandomStream, drawn_from, words_used}
 use Rattle.slot_table.specs.Lent as lent
 use Rattle.turn_history.specs.declared.pass.View.{View}
-use Rattle.turn_history.specs.History.{entries_of}
+use Rattle.turn_history.specs.Prelude.{entries_of}
 use Rattle.key_slots.specs.Holdings.{Pairs, names}
 use Rattle.service_calls.specs.declared.output.Output.{Output}
 use Rattle.store_model.specs.Store as model
-use Rattle.store_model.specs.Call.{Call}
-use Rattle.store_model.specs.Faults.{FaultMark}
-use Rattle.store_model.specs.Handles.{next_random, own_of}
-use Rattle.store_model.specs.Requests.{Request, OnStore, serve}
-use Rattle.store_model.specs.Replay.{Entry, replay}
-use Rattle.locked_store.specs.Turning.{CreatesKey, HasNoFilling, IsAt, IsLater, IsRanked, filling_pair, without_pair}
+use Rattle.store_model.specs.Prelude.{Call, FaultMark, next_random, own_of, Request, OnStore, serve, Entry, replay}
+use Rattle.locked_store.specs.Prelude.{CreatesKey, HasNoFilling, IsAt, IsLater, IsRanked, filling_pair, without_pair, World}
 use Rattle.store_core.specs.declared.store.Opened.{Opened}
 use Rattle.operation_handles.specs.declared.cell.Cell.{Cell}
 use Rattle.callers.specs.Called.{IsAnswered, KnowsBefore, Legal, TellsFailure}
 use Rattle.callers.specs.Handles.{leases_of, pairs_of}
 use Rattle.callers.specs.Parts.{IsCreated, SameButPass}
 use Rattle.callers.specs.Ready.{IsOwnPart, IsReady}
-use Rattle.locked_store.specs.Worlds.{World}
 use Rattle.callers.specs.declared.caller.Caller.{Caller}
 use Rattle.std.proofs.lemmas.Bool.Decides.{nat_tests}
 use Rattle.callers.proofs.CellLists.{once, tally-append, tally-cons, without}

@@ -6,18 +6,11 @@ use Rattle.psa_status.specs.declared.Status.TheVariants as status
 use Rattle.key_attributes.specs.declared.Attributes.{Attributes}
 use Rattle.slot_table.specs.Lent.{Reading}
 use Rattle.derivation_states.specs.KeySteps.{output_key_refusal}
-use Rattle.store_model.specs.Creation.{created, created_unless, recorded_of, stated_bytes}
-use Rattle.store_model.specs.DerivationOperations.{DerivationWork, next_derived, without}
-use Rattle.store_model.specs.Faults.{Plain}
-use Rattle.store_model.specs.HandleCalls.{OutputKey, derived_key, handle_step, underived}
-use Rattle.store_model.specs.Handles.{HandleOperation, KeyCreation, Own, Served, Service, Deriving, applied, derivation_part, held_after, is_alive, key_of_operation, operation_of, own_of, part_of, with_operation, with_own}
-use Rattle.store_model.specs.Operations.{Active, InError, fails}
-use Rattle.store_model.specs.Outcome.{counted, refusal, spoiled}
-use Rattle.store_model.specs.Requests.{OnHandle, serve}
-use Rattle.store_model.specs.Sound.{HasNumber, IsSound}
+use Rattle.store_model.specs.Creation.{stated_bytes}
+use Rattle.store_model.specs.Prelude.{created, created_unless, recorded_of, DerivationWork, next_derived, without, Plain, OutputKey, derived_key, handle_step, underived, HandleOperation, KeyCreation, Own, Served, Service, Deriving, applied, derivation_part, held_after, is_alive, key_of_operation, operation_of, own_of, part_of, with_operation, with_own, Active, InError, fails, counted, refusal, spoiled, OnHandle, serve, HasNumber, IsSound}
 use Rattle.store_model.proofs.Recorded.{recorded_refused}
 use Rattle.store_model.proofs.SoundService.{by_number}
-use Rattle.store_core.specs.Creations.{IsUnmade, RecordsStated, mark_unmade, status_unmade}
+use Rattle.store_core.specs.Prelude.{IsUnmade, RecordsStated, mark_unmade, status_unmade}
 use Rattle.store_core.specs.declared.creating.NotMade.{NotMade}
 use Rattle.store_core.specs.declared.creating.NotMade.TheVariants as unmade
 use Rattle.store_core.specs.declared.creating.Unkept.TheVariants as unkept

@@ -21,21 +21,10 @@ use Rattle.service_calls.specs.declared.store_calls.KeyedCall.{KeyedCall}
 use Rattle.service_calls.specs.declared.store_calls.KeyedCall.TheVariants as call
 use Rattle.alg_encoding.specs.declared.table.Class.TheVariants as class
 use Rattle.store_model.specs.Aeads as aeads
-use Rattle.store_model.specs.Call.{Copy, Reply}
+use Rattle.store_model.specs.Prelude.{Copy, Reply, created_unless, DerivationWork, exhausted, key_step_rows, next_derived, output_key_rows, taken_from, without, Random, HandleCall, OnHash, OnMac, OnCipher, OnAead, OnDerivation, derivation_key_rows, Held, HandleOperation, Service, Work, Hashing, Authenticating, Ciphering, Sealing, Deriving, hash_part, mac_part, cipher_part, aead_part, derivation_part, part_of, bytes_of, export_rows, Active, After, InError, Inactive, Operation, set_up, unless_failed, goes_on, Computed, computed_unless, done, given, reply_unless, spoiled, tag_bytes, OnStore, class_rows, room_rows, Key, Store}
 use Rattle.store_model.specs.Ciphers as ciphers
-use Rattle.store_model.specs.Creation.{created_unless}
-use Rattle.store_model.specs.DerivationOperations.{DerivationWork, exhausted, key_step_rows, next_derived, output_key_rows, stated_bytes, taken_from, without}
-use Rattle.store_model.specs.Draws.{Random}
-use Rattle.store_model.specs.HandleCalls.{HandleCall, OnHash, OnMac, OnCipher, OnAead, OnDerivation, derivation_key_rows}
-use Rattle.store_model.specs.Handles.{Held, HandleOperation, Service, Work, Hashing, Authenticating, Ciphering, Sealing, Deriving, hash_part, mac_part, cipher_part, aead_part, derivation_part, part_of}
-use Rattle.store_model.specs.KeyUse.{bytes_of, export_rows}
+use Rattle.store_model.specs.DerivationOperations.{stated_bytes}
 use Rattle.store_model.specs.Macs as macs
-use Rattle.store_model.specs.Operations.{Active, After, InError, Inactive, Operation, set_up, unless_failed, goes_on}
-use Rattle.store_model.specs.Outcome.{Computed, computed_unless, done, given, reply_unless, spoiled}
-use Rattle.store_model.specs.Algorithms.{tag_bytes}
-use Rattle.store_model.specs.Requests.{OnStore}
-use Rattle.store_model.specs.Rules.{class_rows, room_rows}
-use Rattle.store_model.specs.Store.{Key, Store}
 use Rattle.store_model.proofs.Derivations.{derivation_is_step}
 use Rattle.store_model.proofs.Recorded.{recorded_refused}
 use Rattle.store_model.proofs.Steps.{aead_is_step, cipher_is_step, hash_is_step, mac_is_step}
@@ -53,8 +42,7 @@ use Rattle.operation_handles.specs.KeyInputs.{key_refused}
 use Rattle.operation_handles.specs.KeyOutputs.{derived_key_refused}
 use Rattle.operation_handles.specs.Setups.{refusal_without_key}
 use Rattle.operation_handles.specs.Steps.{on_part, stepped_by}
-use Rattle.store_core.specs.Creations.{IsUncopied, IsUnmade, RecordsCopy, RecordsStated, mark_uncopied, mark_unmade, status_uncopied, status_unmade}
-use Rattle.store_core.specs.Uses.{IsRefused, mark_of, mark_undestroyed, status_undestroyed, there_rows}
+use Rattle.store_core.specs.Prelude.{IsUncopied, IsUnmade, RecordsCopy, RecordsStated, mark_uncopied, mark_unmade, status_uncopied, status_unmade, IsRefused, mark_of, mark_undestroyed, status_undestroyed, there_rows}
 use Rattle.store_core.specs.declared.copying.NotCopied.{NotCopied}
 use Rattle.store_core.specs.declared.copying.NotCopied.TheVariants as uncopied
 use Rattle.store_core.specs.declared.creating.NotMade.{NotMade}

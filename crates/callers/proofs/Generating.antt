@@ -6,29 +6,17 @@ use Rattle.psa_status.specs.Rows.{first_row, unless, ◌>>=◌}
 use Rattle.key_attributes.specs.declared.Attributes.{Attributes}
 use Rattle.key_attributes.specs.declared.KeyId.{KeyId}
 use Rattle.random_streams.specs.RandomWords.{next_bytes, words_used}
-use Rattle.store_model.specs.Store.{Store, has_secure_element}
-use Rattle.store_model.specs.Call.{Generate}
-use Rattle.store_model.specs.Creation.{created_unless, recorded_of, stated_bits_rows, stated_bytes}
-use Rattle.store_model.specs.Draws.{Random}
-use Rattle.store_model.specs.Faults.{FaultMark, Plain}
-use Rattle.store_model.specs.Generation.{generated, generation_of}
-use Rattle.store_model.specs.Handles.{HandleOperation, Service, next_random, own_of}
-use Rattle.store_model.specs.Outcome.{Outcome}
-use Rattle.store_model.specs.Requests.{Request, OnStore, plain_step, serve}
-use Rattle.store_model.specs.Replay.{Entry, replay}
-use Rattle.store_model.specs.Sound.{IsSound}
-use Rattle.store_model.specs.Step.{step}
+use Rattle.store_model.specs.Prelude.{Store, has_secure_element, Generate, created_unless, recorded_of, stated_bits_rows, Random, FaultMark, Plain, generated, generation_of, HandleOperation, Service, next_random, own_of, Outcome, Request, OnStore, plain_step, serve, Entry, replay, IsSound, step}
+use Rattle.store_model.specs.Creation.{stated_bytes}
 use Rattle.store_model.proofs.DrawnBytes.{length-random}
 use Rattle.store_model.proofs.Recorded.{few_bytes, recorded}
-use Rattle.store_core.specs.Durability.{is_destruction}
-use Rattle.store_core.specs.Creations.{IsMade, IsUnmade, RecordsStated, mark_unmade}
+use Rattle.store_core.specs.Prelude.{is_destruction, IsMade, IsUnmade, RecordsStated, mark_unmade}
 use Rattle.store_core.specs.declared.creating.NotMade.{NotMade}
 use Rattle.store_core.specs.declared.creating.NotMade.TheVariants as unmade
 use Rattle.store_core.specs.declared.creating.Unkept.TheVariants as unkept
-use Rattle.locked_store.specs.Turning.{CreatesKey, GoesOn}
+use Rattle.locked_store.specs.Prelude.{CreatesKey, GoesOn, World}
 use Rattle.callers.specs.Called.{IsToldTo, Starts}
 use Rattle.callers.specs.Ready.{IsOwnPart, IsReady}
-use Rattle.locked_store.specs.Worlds.{World}
 use Rattle.callers.specs.declared.caller.Caller.{Caller}
 use Rattle.callers.proofs.Owned.{failed_own, stored_own}
 use Rattle.callers.proofs.Readying.{random_there}

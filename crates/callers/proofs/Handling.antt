@@ -7,25 +7,18 @@ use Rattle.std.proofs.lemmas.List.Elements.{All-push}
 use Rattle.psa_status.specs.declared.Status.{Status}
 use Rattle.secret_bytes.specs.Buffer.{Buffer, IsClear}
 use Rattle.turn_history.specs.declared.pass.View.{View}
-use Rattle.turn_history.specs.History.{entries_of}
-use Rattle.turn_history.specs.Views.{TURNS}
+use Rattle.turn_history.specs.Prelude.{entries_of, TURNS}
 use Rattle.random_streams.specs.RandomWords.{RandomStream, drawn_from}
 use Rattle.slot_table.specs.Lent.{Reading}
 use Rattle.key_slots.specs.Holdings.{Pairs, names}
 use Rattle.service_calls.specs.declared.output.Output.{Output}
 use Rattle.service_calls.specs.Answered.{AnswersReply}
-use Rattle.store_model.specs.Call.{buffer_after}
-use Rattle.store_model.specs.Faults.{FaultMark}
-use Rattle.store_model.specs.Operations.{After, is_inactive}
-use Rattle.store_model.specs.Handles.{Held, HandleOperation, Served, applied, own_of}
-use Rattle.store_model.specs.Requests.{Request}
-use Rattle.store_model.specs.Replay.{Entry, outcome_of, replay}
-use Rattle.locked_store.specs.Turning.{IsAt, IsEntered, lease_pair, without_pair}
+use Rattle.store_model.specs.Prelude.{buffer_after, FaultMark, After, is_inactive, Held, HandleOperation, Served, applied, own_of, Request, Entry, outcome_of, replay}
+use Rattle.locked_store.specs.Prelude.{IsAt, IsEntered, lease_pair, without_pair, World}
 use Rattle.callers.specs.Called.{IsAnswered, IsCalled, KnowsBefore, Legal, TellsFailure}
 use Rattle.callers.specs.Handles.{AreOperations, ArePairs, IsChanged, busy, leases_of, operation_at, pairs_of, with_operation_at}
 use Rattle.callers.specs.Parts.{IsBack}
 use Rattle.callers.specs.Ready.{IsOwnPart, IsReady}
-use Rattle.locked_store.specs.Worlds.{World}
 use Rattle.callers.specs.declared.caller.Caller.{Caller}
 use Rattle.callers.proofs.CellLists.{busy_put, few, named_alike, once, tally-cons, without}
 use Rattle.callers.proofs.Journeys.{called, called_then}

@@ -6,32 +6,22 @@ use Rattle.psa_status.specs.declared.Status.TheVariants as status
 use Rattle.psa_status.specs.Rows.{first_row}
 use Rattle.secret_bytes.specs.Buffer.{IsClear, bytes_of}
 use Rattle.slot_table.specs.Lent.{Reading}
-use Rattle.turn_history.specs.History.{entries_of}
+use Rattle.turn_history.specs.Prelude.{entries_of}
 use Rattle.key_slots.specs.Holdings.{Pairs}
 use Rattle.key_policy.specs.declared.key_use.KeyUse.{KeyUse}
 use Rattle.key_policy.specs.Uses.{use_refusal}
 use Rattle.service_calls.specs.declared.output.Output.TheVariants as output
-use Rattle.store_model.specs.DerivationOperations.{DerivationWork, key_step_rows, with_key}
-use Rattle.store_model.specs.Faults.{FaultMark, Plain}
-use Rattle.store_model.specs.HandleCalls.{InputKey, creation_of, handle_step}
-use Rattle.store_model.specs.Handles.{Held, HandleOperation, KeyCreation, Own, Service, Deriving, applied, derivation_part, is_alive, key_of_operation, operation_of, own_of, part_of, with_operation, with_own}
+use Rattle.store_model.specs.Prelude.{DerivationWork, key_step_rows, with_key, FaultMark, Plain, InputKey, creation_of, handle_step, Held, HandleOperation, KeyCreation, Own, Service, Deriving, applied, derivation_part, is_alive, key_of_operation, operation_of, own_of, part_of, with_operation, with_own, may_change_keys, id_read, takes_key, Active, After, Inactive, InError, Operation, fails, goes_on, is_inactive, unless_failed, counted, done, refusal, Entry, outcome_of, replay, Request, OnHandle, serve}
 use Rattle.store_model.specs.KeyUse as held
-use Rattle.store_model.specs.Laws.{may_change_keys}
-use Rattle.store_model.specs.Marks.{id_read, takes_key}
-use Rattle.store_model.specs.Operations.{Active, After, Inactive, InError, Operation, fails, goes_on, is_inactive, unless_failed}
-use Rattle.store_model.specs.Outcome.{counted, done, refusal}
-use Rattle.store_model.specs.Replay.{Entry, outcome_of, replay}
-use Rattle.store_model.specs.Requests.{Request, OnHandle, serve}
-use Rattle.store_core.specs.Uses.{IsLent, IsRefused, mark_of}
+use Rattle.store_core.specs.Prelude.{IsLent, IsRefused, mark_of}
 use Rattle.operation_handles.specs.KeyInputs.{RefusesKeyAt, TakesKeyAt, key_refused}
 use Rattle.operation_handles.specs.Steps.{on_part}
 use Rattle.operation_handles.proofs.ServedInputs.{inputs}
-use Rattle.locked_store.specs.Turning.{DecidesAfter, IsAt, IsEntered, ReadsKey, lease_pair}
+use Rattle.locked_store.specs.Prelude.{DecidesAfter, IsAt, IsEntered, ReadsKey, lease_pair, World}
 use Rattle.callers.specs.Called.{IsAnswered, IsCalled, KnowsBefore, Legal}
 use Rattle.callers.specs.Failures.{failure_marked}
 use Rattle.callers.specs.Handles.{HoldsLease, IsChanged, busy, leases_of, operation_at, with_operation_at}
 use Rattle.callers.specs.Ready.{IsReady}
-use Rattle.locked_store.specs.Worlds.{World}
 use Rattle.callers.specs.declared.caller.Caller.{Caller}
 use Rattle.callers.proofs.Beginning.{begun_answered, begun_ready}
 use Rattle.callers.proofs.CellLists.{busy_put, once, tally-cons}

@@ -1,17 +1,13 @@
 -- From a caller's view before a call to that after it, and what is the caller's own meanwhile.
 use Rattle.std.proofs.Common.{◌≡◌, ℕ, ◌+◌, eqb, Bool, true, false, List, [], ◌∷◌, ◌++◌, refl, sym, ap, ◌∙◌, subst, inl, inr, arith, append_assoc, Option}
 use Rattle.turn_history.specs.declared.pass.View.{View}
-use Rattle.turn_history.specs.History.{entries_of, choose, calls_by, StartsWith}
+use Rattle.turn_history.specs.Prelude.{entries_of, choose, calls_by, StartsWith}
 use Rattle.turn_history.proofs.Lists.{entries-append, calls-append, append_none}
 use Rattle.key_slots.specs.Holdings.{Pairs}
-use Rattle.store_model.specs.Faults.{FaultMark}
-use Rattle.store_model.specs.Handles.{Service, own_of}
-use Rattle.store_model.specs.Requests.{Request}
-use Rattle.store_model.specs.Replay.{Entry, outcome_of, replay}
+use Rattle.store_model.specs.Prelude.{FaultMark, Service, own_of, Request, Entry, outcome_of, replay}
 use Rattle.store_model.proofs.Others.{leaves_callers}
-use Rattle.store_core.specs.Represents.{IsTold, ReadsNone}
-use Rattle.locked_store.specs.Standing.{caller_of}
-use Rattle.locked_store.specs.Turning.{GoesOn, IsEntered, IsLater}
+use Rattle.store_core.specs.Prelude.{IsTold, ReadsNone}
+use Rattle.locked_store.specs.Prelude.{caller_of, GoesOn, IsEntered, IsLater}
 use Rattle.callers.specs.Called.{IsCalled}
 
 -- VIEWS

@@ -9,14 +9,8 @@ use Rattle.key_attributes.specs.declared.Attributes.{Attributes}
 use Rattle.service_calls.specs.declared.output.Output.{Output}
 use Rattle.service_calls.specs.declared.output.Output.TheVariants as output
 use Rattle.service_calls.specs.Answered.{AnswersReply}
-use Rattle.store_model.specs.Store.{Key, Store}
-use Rattle.store_model.specs.Call.{Destroy, Purge, GetAttributes, Reply, buffer_after}
-use Rattle.store_model.specs.Faults.{Plain}
-use Rattle.store_model.specs.Handles.{Service}
-use Rattle.store_model.specs.KeyUse.{attributes_reply, destroy_rows, destroyed, purge_reply, step_destroy}
-use Rattle.store_model.specs.Outcome.{counted, decided, done, refusal, spoiled}
-use Rattle.store_model.specs.Requests.{OnStore, serve}
-use Rattle.store_core.specs.Uses.{HasAttributes, IsRefused, IsUndestroyed, mark_of, mark_undestroyed, status_undestroyed, there_rows}
+use Rattle.store_model.specs.Prelude.{Key, Store, Destroy, Purge, GetAttributes, Reply, buffer_after, Plain, Service, attributes_reply, destroy_rows, destroyed, purge_reply, step_destroy, counted, decided, done, refusal, spoiled, OnStore, serve}
+use Rattle.store_core.specs.Prelude.{HasAttributes, IsRefused, IsUndestroyed, mark_of, mark_undestroyed, status_undestroyed, there_rows}
 use Rattle.store_core.specs.declared.destroying.NotDestroyed.{NotDestroyed}
 use Rattle.store_core.specs.declared.destroying.NotDestroyed.TheVariants as undestroyed
 

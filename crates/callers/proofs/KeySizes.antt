@@ -8,8 +8,7 @@ use Rattle.psa_status.specs.Rows.{first_row, unless, ◌>>=◌}
 use Rattle.key_attributes.specs.declared.Attributes.{Attributes}
 use Rattle.key_attributes.specs.Checks.{checked, filled, permits_size, is_lifetime, is_stated_id, is_key_type}
 use Rattle.policy_rules.specs.Narrow.{after_rules}
-use Rattle.store_model.specs.Store.{Store, has_secure_element}
-use Rattle.store_model.specs.Creation.{file_rows, room_for_key_rows, recorded_of}
+use Rattle.store_model.specs.Prelude.{Store, has_secure_element, file_rows, room_for_key_rows, recorded_of}
 use Rattle.store_model.proofs.Recorded.{recorded, few_bytes}
 
 many_cases : (aes : Bool) (n : ℕ) → 1024 < n → cond aes (n == 16 || n == 24 || n == 32) (nat_le 1 n && nat_le n 1024) ≡ false

@@ -3,19 +3,16 @@ use Rattle.std.proofs.Common.{◌≡◌, ◌⊎◌, ◌≤◌, Bool, true, false
 use Rattle.std.specs.Prelude.{All, count_by, nat_lt, vec_capacity}
 use Rattle.secret_bytes.specs.Buffer.{IsClear}
 use Rattle.turn_history.specs.declared.pass.View.{View}
-use Rattle.turn_history.specs.History.{StartsWith, calls_by, entries_of}
-use Rattle.turn_history.specs.Views.{OwnCalls, joined, longer}
+use Rattle.turn_history.specs.Prelude.{StartsWith, calls_by, entries_of, OwnCalls, joined, longer}
 use Rattle.turn_history.proofs.Using.{longer_left, longer_right}
 use Rattle.key_slots.specs.Holdings.{IsHolding}
-use Rattle.store_model.specs.Handles.{own_of}
-use Rattle.store_model.specs.Replay.{Entry, replay}
+use Rattle.store_model.specs.Prelude.{own_of, Entry, replay}
 use Rattle.store_core.specs.declared.store.Opened.{Opened}
-use Rattle.locked_store.specs.Standing.{caller_of}
+use Rattle.locked_store.specs.Prelude.{caller_of, World}
 use Rattle.callers.specs.Called.{IsToldTo, Legal}
 use Rattle.callers.specs.Handles.{AreOperations, leases_of}
 use Rattle.callers.specs.Parts.{SameButPass}
 use Rattle.callers.specs.Ready.{IsOwnPart, IsReady}
-use Rattle.locked_store.specs.Worlds.{World}
 use Rattle.callers.specs.declared.caller.Caller.{Caller}
 use Rattle.callers.proofs.Journeys.{own_later, seen_begins, told_front}
 

@@ -8,10 +8,9 @@ use Rattle.secret_bytes.specs.Buffer.{Buffer, IsClear}
 use Rattle.std.proofs.lemmas.List.Sums.{count_by-le-length}
 use Rattle.slot_table.specs.Lent.{Reading}
 use Rattle.operation_handles.specs.declared.cell.Cell.{Cell}
-use Rattle.locked_store.specs.Turning.{HasRoomForLease}
+use Rattle.locked_store.specs.Prelude.{HasRoomForLease, World}
 use Rattle.callers.specs.Handles.{leases_of, pairs_of}
 use Rattle.callers.specs.Ready.{IsReady}
-use Rattle.locked_store.specs.Worlds.{World}
 use Rattle.callers.specs.declared.caller.Caller.{Caller}
 
 few_leases : (cells : List Cell) → length (leases_of cells) ≤ length cells

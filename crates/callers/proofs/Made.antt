@@ -8,15 +8,8 @@ use Rattle.key_attributes.specs.declared.Attributes.{Attributes}
 use Rattle.key_attributes.specs.declared.KeyId.{KeyId}
 use Rattle.service_calls.specs.declared.output.Output.TheVariants as output
 use Rattle.store_model.specs.Call as model
-use Rattle.store_model.specs.Call.{Reply}
-use Rattle.store_model.specs.Creation.{created_unless}
-use Rattle.store_model.specs.Faults.{Plain}
-use Rattle.store_model.specs.Handles.{Service}
-use Rattle.store_model.specs.Outcome.{spoiled}
-use Rattle.store_model.specs.Requests.{Request, plain_step, serve}
-use Rattle.store_model.specs.Store.{Store}
-use Rattle.store_core.specs.Creations.{IsMade, IsUncopied, IsUnmade, mark_uncopied, mark_unmade, status_uncopied, status_unmade}
-use Rattle.store_core.specs.Uses.{IsRefused, mark_of, status_of, there_rows}
+use Rattle.store_model.specs.Prelude.{Reply, created_unless, Plain, Service, spoiled, Request, plain_step, serve, Store}
+use Rattle.store_core.specs.Prelude.{IsMade, IsUncopied, IsUnmade, mark_uncopied, mark_unmade, status_uncopied, status_unmade, IsRefused, mark_of, status_of, there_rows}
 use Rattle.store_core.specs.declared.copying.NotCopied.{NotCopied}
 use Rattle.store_core.specs.declared.copying.NotCopied.TheVariants as uncopied
 use Rattle.store_core.specs.declared.creating.NotMade.{NotMade}

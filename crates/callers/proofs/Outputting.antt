@@ -13,23 +13,13 @@ use Rattle.key_attributes.specs.declared.Attributes.{Attributes}
 use Rattle.key_attributes.specs.declared.KeyId.{KeyId}
 use Rattle.random_streams.specs.RandomWords.{RandomStream}
 use Rattle.slot_table.specs.Lent.{Reading}
-use Rattle.turn_history.specs.History.{entries_of}
+use Rattle.turn_history.specs.Prelude.{entries_of}
 use Rattle.derivation_states.specs.KeySteps.{output_key_refusal}
 use Rattle.multipart.specs.Turns.{is_active}
 use Rattle.service_calls.specs.declared.output.Output.TheVariants as output
-use Rattle.store_model.specs.Creation.{created, stated_bytes}
-use Rattle.store_model.specs.DerivationOperations.{DerivationWork, exhausted, next_derived, output_key_rows, taken_from, without}
-use Rattle.store_model.specs.Call.{Reply}
-use Rattle.store_model.specs.Outcome.{given as given_bytes}
-use Rattle.store_model.specs.Faults.{Plain}
-use Rattle.store_model.specs.HandleCalls.{OutputKey}
-use Rattle.store_model.specs.Handles.{HandleOperation, Served, Service, Deriving, applied, derivation_part, is_alive, key_of_operation, operation_of, own_of, part_of, with_operation}
-use Rattle.store_model.specs.Operations.{Active, Inactive, InError, Operation, fails, goes_on, unless_failed}
-use Rattle.store_model.specs.Replay.{Entry, outcome_of, replay}
-use Rattle.store_model.specs.Requests.{Request, OnHandle, plain_step}
-use Rattle.store_model.specs.Sound.{IsSound}
-use Rattle.store_core.specs.Creations.{IsMade, IsUnmade, RecordsStated, mark_unmade, status_unmade}
-use Rattle.store_core.specs.Durability.{is_destruction}
+use Rattle.store_model.specs.Creation.{stated_bytes}
+use Rattle.store_model.specs.Prelude.{created, DerivationWork, exhausted, next_derived, output_key_rows, taken_from, without, Reply, given as given_bytes, Plain, OutputKey, HandleOperation, Served, Service, Deriving, applied, derivation_part, is_alive, key_of_operation, operation_of, own_of, part_of, with_operation, Active, Inactive, InError, Operation, fails, goes_on, unless_failed, Entry, outcome_of, replay, Request, OnHandle, plain_step, IsSound, Store, start_of}
+use Rattle.store_core.specs.Prelude.{IsMade, IsUnmade, RecordsStated, mark_unmade, status_unmade, is_destruction}
 use Rattle.store_core.specs.declared.creating.NotMade.{NotMade}
 use Rattle.operation_handles.specs.Cells.{IsOperation}
 use Rattle.operation_handles.specs.KeyOutputs.{IsDerivedKey, derived_key_refused}
@@ -37,12 +27,11 @@ use Rattle.operation_handles.proofs.ServedOutputs.{outputs}
 use Rattle.derivation_states.specs.KeySteps as alone
 use Rattle.psa_status.specs.Rows.{first_row}
 use Rattle.operation_handles.specs.declared.cell.Cell.{Cell}
-use Rattle.locked_store.specs.Turning.{CreatesKey, IsAt, IsOwn, LeavesAllKeys}
+use Rattle.locked_store.specs.Prelude.{CreatesKey, IsAt, IsOwn, LeavesAllKeys, World}
 use Rattle.callers.specs.Called.{IsReplied, IsAnswered, IsCalled, KnowsBefore, Legal, TellsFailure}
 use Rattle.callers.specs.Handles.{AreOperations, IsChanged, leases_of, operation_at, with_operation_at}
 use Rattle.callers.specs.Parts.{IsBack, IsCreated}
 use Rattle.callers.specs.Ready.{IsOwnPart, IsReady}
-use Rattle.locked_store.specs.Worlds.{World}
 use Rattle.callers.specs.declared.caller.Caller.{Caller}
 use Rattle.callers.proofs.Asking.{leased_key, unleased_key}
 use Rattle.callers.proofs.CellLists.{busy_put, named_alike, names_is, names_lease, once}
@@ -54,7 +43,6 @@ use Rattle.callers.proofs.Owned.{set_operation, set_own, sound_replay}
 use Rattle.callers.proofs.Readying.{known, outcome_is, own_there, ready}
 use Rattle.callers.proofs.SettingUp.{undrawn_own}
 use Rattle.single_part.proofs.Draws.{draws_none}
-use Rattle.store_model.specs.Store.{Store, start_of}
 use Rattle.secret_bytes.specs.Buffer.{IsClear}
 
 -- the lease of a cell is of its operation's key

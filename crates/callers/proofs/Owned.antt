@@ -4,17 +4,7 @@ use Rattle.std.specs.List.{AllByRecursion}
 use Rattle.std.proofs.lemmas.Bool.Decides.{eqb_tells}
 use Rattle.std.proofs.lemmas.List.{get_or-set_same, get_or-set_other}
 use Rattle.random_streams.specs.RandomWords.{words_used}
-use Rattle.store_model.specs.Store.{Store}
-use Rattle.store_model.specs.Operations.{After, Inactive}
-use Rattle.store_model.specs.Call.{Call, Destroy}
-use Rattle.store_model.specs.Faults.{FaultMark, Plain, Storage, Hardware, Corrupt}
-use Rattle.store_model.specs.Outcome.{Outcome}
-use Rattle.store_model.specs.Step.{step}
-use Rattle.store_model.specs.Handles.{Held, HandleOperation, Own, Service, new_own, own_of, service_of, with_own, with_operation, with_drawn, applied, next_random}
-use Rattle.store_model.specs.Requests.{OnStore, failed_step, on_store, serve}
-use Rattle.store_model.specs.Sound.{IsSound, IsSoundStore, IsSoundOperation}
-use Rattle.store_model.specs.Origin.{IsCaller}
-use Rattle.store_model.specs.Replay.{Entry, outcome_of, replay}
+use Rattle.store_model.specs.Prelude.{Store, After, Inactive, Call, Destroy, FaultMark, Plain, Storage, Hardware, Corrupt, Outcome, step, Held, HandleOperation, Own, Service, new_own, own_of, service_of, with_own, with_operation, with_drawn, applied, next_random, OnStore, failed_step, on_store, serve, IsSound, IsSoundStore, IsSoundOperation, IsCaller, Entry, outcome_of, replay}
 use Rattle.store_model.proofs.Operations.{start_operation, start_own}
 use Rattle.store_model.proofs.SoundService as sound
 use Rattle.callers.specs.Ready.{IsOwnPart}

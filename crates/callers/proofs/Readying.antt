@@ -2,19 +2,12 @@
 use Rattle.std.proofs.Common.{◌≡◌, ℕ, ◌+◌, ◌*◌, ◌^◌, ◌≤◌, List, [], ◌∷◌, ◌++◌, length, refl, sym, ap, ◌∙◌, subst, arith}
 use Rattle.std.specs.Prelude.{All, vec_capacity}
 use Rattle.secret_bytes.specs.Buffer.{IsClear}
-use Rattle.turn_history.specs.History.{entries_of}
-use Rattle.turn_history.specs.Views.{TURNS}
+use Rattle.turn_history.specs.Prelude.{entries_of, TURNS}
 use Rattle.random_streams.specs.RandomWords.{next_bytes, random_bytes}
-use Rattle.store_model.specs.Store.{Settings, start_of}
-use Rattle.store_model.specs.Faults.{FaultMark}
-use Rattle.store_model.specs.Handles.{HandleOperation, Service, next_random, own_of}
-use Rattle.store_model.specs.Sound.{IsSound}
-use Rattle.store_model.specs.Requests.{Request, serve}
-use Rattle.store_model.specs.Replay.{Entry, outcome_of, replay}
+use Rattle.store_model.specs.Prelude.{Settings, start_of, FaultMark, HandleOperation, Service, next_random, own_of, IsSound, Request, serve, Entry, outcome_of, replay}
 use Rattle.store_model.proofs.Others.{leaves_settings}
-use Rattle.locked_store.specs.Turning.{GoesOn, IsAt}
+use Rattle.locked_store.specs.Prelude.{GoesOn, IsAt, World}
 use Rattle.callers.specs.Called.{IsCalled, IsToldTo, KnowsBefore, Legal, Starts}
-use Rattle.locked_store.specs.Worlds.{World}
 use Rattle.callers.specs.Handles.{AreOperations, ArePairs, busy, leases_of}
 use Rattle.callers.specs.Ready.{IsOwnPart, IsReady}
 use Rattle.callers.specs.declared.caller.Caller.{Caller}

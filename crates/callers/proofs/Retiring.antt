@@ -8,21 +8,19 @@ use Rattle.std.proofs.lemmas.List.{get_or-set_same, get_or-set_other}
 use Rattle.std.proofs.lemmas.List.Elements.{All-head, All-tail}
 use Rattle.slot_table.specs.Lent.{Reading}
 use Rattle.turn_history.specs.declared.pass.View.{View}
-use Rattle.turn_history.specs.History.{StartsWith, entries_of}
+use Rattle.turn_history.specs.Prelude.{StartsWith, entries_of}
 use Rattle.turn_history.proofs.Lists.{begins_itself}
 use Rattle.key_slots.specs.Holdings.{Pairs, names}
 use Rattle.multipart.specs.Turns.{is_active}
-use Rattle.store_model.specs.Operations.{Inactive}
-use Rattle.store_model.specs.Replay.{Entry}
+use Rattle.store_model.specs.Prelude.{Inactive, Entry}
 use Rattle.operation_handles.specs.Cells.{IsOperation}
 use Rattle.operation_handles.specs.declared.cell.Cell.{Cell}
-use Rattle.locked_store.specs.Turning.{IsAt, IsLater, lease_pair, without_pair}
+use Rattle.locked_store.specs.Prelude.{IsAt, IsLater, lease_pair, without_pair, World}
 use Rattle.callers.specs.Called.{Legal}
 use Rattle.callers.specs.Handles.{AreIdle, AreOperations, ArePairs, IsChanged, leases_of, operation_at, pairs_of, with_operation_at}
 use Rattle.callers.specs.Parts.{IsBack}
 use Rattle.callers.specs.Ready.{IsReady}
 use Rattle.callers.specs.Retired.{IsRetired, IsRetiring, MakesNoCall}
-use Rattle.locked_store.specs.Worlds.{World}
 use Rattle.callers.specs.declared.caller.Caller.{Caller}
 use Rattle.callers.proofs.CellLists.{named_alike, tally-cons, without}
 use Rattle.callers.proofs.Changing.{length_alike}

@@ -18,17 +18,9 @@ use Rattle.service_calls.specs.declared.handle_calls.Setup.{Setup}
 use Rattle.service_calls.specs.declared.handle_calls.Setup.TheVariants.{Keyless, Keyed}
 use Rattle.service_calls.specs.Answers.{plain_reply}
 use Rattle.service_calls.specs.Meanings.{model_keyed_setup, model_setup}
-use Rattle.store_model.specs.Call.{Reply}
-use Rattle.store_model.specs.HandleCalls.{HandleCall, HashSetup, MacSetup, CipherSetup, AeadSetup, DerivationSetup, creation_of, is_setup}
+use Rattle.store_model.specs.Prelude.{Reply, HandleCall, HashSetup, MacSetup, CipherSetup, AeadSetup, DerivationSetup, creation_of, is_setup, may_change_keys, id_read, Active, After, InError, Inactive, Operation, goes_on, is_inactive, set_up, stays, counted, done, refusal, Held, HandleOperation, Own, Service, applied, operation_of, own_of, with_drawn, with_operation, with_own, OnHandle, failed_step, serve, Key, Store}
 use Rattle.store_model.specs.KeyUse as held
-use Rattle.store_model.specs.Laws.{may_change_keys}
-use Rattle.store_model.specs.Marks.{id_read}
-use Rattle.store_model.specs.Operations.{Active, After, InError, Inactive, Operation, goes_on, is_inactive, set_up, stays}
-use Rattle.store_model.specs.Outcome.{counted, done, refusal}
-use Rattle.store_model.specs.Handles.{Held, HandleOperation, Own, Service, applied, operation_of, own_of, with_drawn, with_operation, with_own}
-use Rattle.store_model.specs.Requests.{OnHandle, failed_step, serve}
-use Rattle.store_model.specs.Store.{Key, Store}
-use Rattle.store_core.specs.Uses.{IsLent, IsRefused, mark_of}
+use Rattle.store_core.specs.Prelude.{IsLent, IsRefused, mark_of}
 use Rattle.operation_handles.specs.Setups.{set_up_by, set_up_with_key, work_begun}
 use Rattle.operation_handles.proofs.Served.{setups}
 use Rattle.callers.proofs.CellLists.{once}

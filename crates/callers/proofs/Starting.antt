@@ -3,24 +3,18 @@ use Rattle.std.proofs.Common.{◌≡◌, ◌<◌, ◌≤◌, ◌-◌, ℕ, zero,
 use Rattle.std.specs.Prelude.{All, count_by, vec_capacity}
 use Rattle.std.proofs.lemmas.List.Elements.{All-weaker}
 use Rattle.secret_bytes.specs.Buffer.{IsClear}
-use Rattle.turn_history.specs.History.{entries_of}
-use Rattle.turn_history.specs.Views.{IsOutside, Mine, OwnCalls, TURNS, new_pass}
+use Rattle.turn_history.specs.Prelude.{entries_of, IsOutside, Mine, OwnCalls, TURNS, new_pass}
 use Rattle.random_streams.specs.RandomWords.{RandomStream}
 use Rattle.key_slots.specs.Holdings.{IsHolding}
-use Rattle.store_model.specs.Store.{start_of}
-use Rattle.store_model.specs.Operations.{Inactive}
-use Rattle.store_model.specs.Handles.{HandleOperation, Service, own_of}
-use Rattle.store_model.specs.Sound.{IsSoundStore}
-use Rattle.store_model.specs.Replay.{Entry, replay}
+use Rattle.store_model.specs.Prelude.{start_of, Inactive, HandleOperation, Service, own_of, IsSoundStore, Entry, replay}
 use Rattle.store_model.proofs.Operations.{start_own}
 use Rattle.store_core.specs.declared.store.Opened.{Opened}
 use Rattle.operation_handles.specs.Cells.{IsOperation}
 use Rattle.operation_handles.specs.declared.cell.Cell.{Cell}
-use Rattle.locked_store.specs.Standing.{caller_of}
+use Rattle.locked_store.specs.Prelude.{caller_of, World}
 use Rattle.callers.specs.Called.{Legal, Starts}
 use Rattle.callers.specs.Handles.{AreIdle, AreOperations}
 use Rattle.callers.specs.Ready.{IsOwnPart, IsReady}
-use Rattle.locked_store.specs.Worlds.{World}
 use Rattle.callers.specs.declared.caller.Caller.{Caller}
 use Rattle.callers.proofs.Retiring.{no_lease_left}
 

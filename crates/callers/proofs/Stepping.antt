@@ -5,14 +5,11 @@ use Rattle.service_calls.specs.Meanings.{model_step}
 use Rattle.service_calls.specs.declared.steps.Step.{Step}
 use Rattle.operation_handles.specs.Steps.{stepped_by}
 use Rattle.operation_handles.proofs.Served.{steps_are}
-use Rattle.store_model.specs.Faults.{Plain}
-use Rattle.store_model.specs.Handles.{applied, is_alive, key_of_operation, operation_of}
-use Rattle.store_model.specs.Requests.{Request, OnHandle}
-use Rattle.store_model.specs.Replay.{Entry, outcome_of, replay}
+use Rattle.store_model.specs.Prelude.{Plain, applied, is_alive, key_of_operation, operation_of, Request, OnHandle, Entry, outcome_of, replay}
 use Rattle.callers.specs.Called.{IsCalled, KnowsBefore}
 use Rattle.callers.specs.Handles.{operation_at}
 use Rattle.callers.specs.Ready.{IsReady}
-use Rattle.locked_store.specs.Worlds.{World}
+use Rattle.locked_store.specs.Prelude.{World}
 use Rattle.callers.specs.declared.caller.Caller.{Caller}
 use Rattle.callers.proofs.Readying.{known, outcome_is}
 

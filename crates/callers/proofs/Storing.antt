@@ -2,29 +2,20 @@
 use Rattle.std.proofs.Common.{◌≡◌, ◌≤◌, ℕ, List, sym, ap, ◌∙◌, subst, arith}
 use Rattle.std.specs.Prelude.{All, count_by, length, Result, Ok, Err, OnOk, IfOk, IfErr, false, vec_capacity}
 use Rattle.psa_status.specs.declared.Status.{Status}
-use Rattle.turn_history.specs.History.{entries_of}
+use Rattle.turn_history.specs.Prelude.{entries_of}
 use Rattle.key_slots.specs.Holdings.{Pairs}
 use Rattle.store_model.specs.Store as model
-use Rattle.store_model.specs.Call.{Call}
-use Rattle.store_model.specs.Draws.{Random}
-use Rattle.store_model.specs.Faults.{FaultMark}
-use Rattle.store_model.specs.Handles.{Served, Service, next_random, own_of}
-use Rattle.store_model.specs.Requests.{Request, OnStore, serve}
-use Rattle.store_model.specs.Replay.{Entry, outcome_of, replay}
-use Rattle.store_model.specs.Step.{step}
-use Rattle.store_model.specs.Outcome.{counted}
+use Rattle.store_model.specs.Prelude.{Call, Random, FaultMark, Served, Service, next_random, own_of, Request, OnStore, serve, Entry, outcome_of, replay, step, counted, may_change_keys}
 use Rattle.secret_bytes.specs.Buffer.{IsClear}
 use Rattle.service_calls.specs.declared.output.Output.{Output}
-use Rattle.locked_store.specs.Turning.{DecidesAfter, DecidesBefore, IsAt, IsEntered}
+use Rattle.locked_store.specs.Prelude.{DecidesAfter, DecidesBefore, IsAt, IsEntered, World}
 use Rattle.random_streams.specs.RandomWords.{RandomStream, drawn_from, words_used}
 use Rattle.single_part.proofs.Draws.{draws_none}
 use Rattle.callers.specs.Called.{IsReplied, IsAnswered, IsCalled, KnowsBefore, Legal, TellsFailure, TellsReply}
 use Rattle.callers.specs.Parts.{SameButPass}
 use Rattle.callers.specs.Handles.{AreOperations, ArePairs, leases_of}
 use Rattle.callers.specs.Ready.{IsOwnPart, IsReady}
-use Rattle.locked_store.specs.Worlds.{World}
 use Rattle.callers.specs.declared.caller.Caller.{Caller}
-use Rattle.store_model.specs.Laws.{may_change_keys}
 use Rattle.store_model.proofs.Others.{leaves_shared}
 use Rattle.store_core.proofs.Histories.{replay_push}
 use Rattle.callers.proofs.Journeys.{called}

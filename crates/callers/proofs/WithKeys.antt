@@ -11,18 +11,9 @@ use Rattle.key_policy.specs.declared.key_use.KeyUse.{KeyUse}
 use Rattle.key_policy.specs.Uses.{use_refusal}
 use Rattle.service_calls.specs.Meanings.{model_keyed_call}
 use Rattle.service_calls.specs.declared.store_calls.KeyedCall.{KeyedCall}
-use Rattle.store_model.specs.Call.{Call}
-use Rattle.store_model.specs.Draws.{Random}
-use Rattle.store_model.specs.Faults.{FaultMark, Plain}
-use Rattle.store_model.specs.Handles.{HandleOperation, Service, next_random, own_of, service_start}
-use Rattle.store_model.specs.Laws.{may_change_keys}
+use Rattle.store_model.specs.Prelude.{Call, Random, FaultMark, Plain, HandleOperation, Service, next_random, own_of, service_start, may_change_keys, Outcome, computed_unless, counted, refused, with_computed, OnStore, serve, IsSound, step, Store, is_opaque_key}
 use Rattle.store_model.specs.KeyUse as held
-use Rattle.store_model.specs.Outcome.{Outcome, computed_unless, counted, refused, with_computed}
-use Rattle.store_model.specs.Requests.{OnStore, serve}
-use Rattle.store_model.specs.Sound.{IsSound}
-use Rattle.store_model.specs.Step.{step}
-use Rattle.store_model.specs.Store.{Store, is_opaque_key}
-use Rattle.store_core.specs.Uses.{IsLent, IsRefused, mark_of}
+use Rattle.store_core.specs.Prelude.{IsLent, IsRefused, mark_of}
 use Rattle.single_part.specs.Elements.{is_of_element}
 use Rattle.single_part.specs.Keyed.{computed_by, wanted_by}
 use Rattle.single_part.proofs.Keys.{keyed as reads}

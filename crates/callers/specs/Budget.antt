@@ -6,8 +6,7 @@ use Rattle.service_calls.specs.declared.call.Call.{Call}
 use Rattle.service_calls.specs.declared.call.Call.TheVariants.{OnHandle}
 use Rattle.service_calls.specs.declared.handle_calls.HandleCall.TheVariants.{Abort, Setup}
 use Rattle.service_calls.specs.declared.output.Output.{Output}
-use Rattle.store_model.specs.Handles.{HandleOperation}
-use Rattle.store_model.specs.Operations.{is_inactive}
+use Rattle.store_model.specs.Prelude.{HandleOperation, is_inactive}
 use Rattle.callers.specs.Handles.{operation_at}
 
 abbrev pub begins_operation : Call → Bool

@@ -2,19 +2,13 @@
 use Rattle.std.specs.Prelude.{◌≡◌, ◌⊎◌, ℕ, ◌+◌, true, false, List, [], ◌∷◌, ◌++◌, length, is_some, Result}
 use Rattle.psa_status.specs.declared.Status.{Status}
 use Rattle.turn_history.specs.declared.pass.View.{View}
-use Rattle.turn_history.specs.History.{entries_of, StartsWith}
+use Rattle.turn_history.specs.Prelude.{entries_of, StartsWith}
 use Rattle.service_calls.specs.declared.output.Output.{Output}
 use Rattle.service_calls.specs.Answered.{AnswersReply}
-use Rattle.store_model.specs.Call.{Reply, buffer_after}
-use Rattle.store_model.specs.Faults.{FaultMark}
-use Rattle.store_model.specs.Handles.{Service}
-use Rattle.store_model.specs.Marks.{asks_device}
-use Rattle.store_model.specs.Requests.{Request}
-use Rattle.store_model.specs.Replay.{Entry, outcome_of, replay}
+use Rattle.store_model.specs.Prelude.{Reply, buffer_after, FaultMark, Service, asks_device, Request, Entry, outcome_of, replay}
 use Rattle.store_core.specs.declared.store.Opened.{Opened}
-use Rattle.locked_store.specs.Turning.{GoesOn, IsLegal, IsStartOf, ToldBy}
+use Rattle.locked_store.specs.Prelude.{GoesOn, IsLegal, IsStartOf, ToldBy, World}
 use Rattle.callers.specs.Failures.{failure_in, failure_marked}
-use Rattle.locked_store.specs.Worlds.{World}
 
 -- From one view of a caller to a later one so many turns were spent, and in one of them this entry was added, after the history
 -- `before`, at the place r: it is the caller's own, of this call with this mark, and no other of its own was added.

@@ -3,7 +3,7 @@ use Rattle.std.specs.Prelude.{Option, Some, None, Result, Ok, Err}
 use Rattle.psa_status.specs.declared.Status.{Status}
 use Rattle.psa_status.specs.declared.Status.TheVariants.{StorageFailure, HardwareFailure, DataCorrupt}
 use Rattle.service_calls.specs.declared.output.Output.{Output}
-use Rattle.store_model.specs.Faults.{FaultMark, Plain, Storage, Hardware, Corrupt}
+use Rattle.store_model.specs.Prelude.{FaultMark, Plain, Storage, Hardware, Corrupt}
 
 -- the failure that a status tells of: the disk's, a driver's, or bytes that were no record
 abbrev pub failure_told : Status → Option Status

@@ -6,9 +6,7 @@ use Rattle.secret_bytes.specs.Buffer.{bytes_of}
 use Rattle.slot_table.specs.Lent.{Reading}
 use Rattle.service_calls.specs.Meanings.{model_step}
 use Rattle.service_calls.specs.declared.steps.Step.{Step}
-use Rattle.store_model.specs.DerivationOperations.{DerivationWork, key_step_rows, with_key, without}
-use Rattle.store_model.specs.Handles.{Deriving, HandleOperation, Held, KeyCreation, derivation_part, key_of_operation, part_of}
-use Rattle.store_model.specs.Operations.{Active, After, InError}
+use Rattle.store_model.specs.Prelude.{DerivationWork, key_step_rows, with_key, without, Deriving, HandleOperation, Held, KeyCreation, derivation_part, key_of_operation, part_of, Active, After, InError}
 use Rattle.operation_handles.specs.Steps.{stepped_by}
 use Rattle.operation_handles.specs.declared.cell.Cell.{Cell}
 use Rattle.callers.specs.Handles.{AreOperations, IsChanged, operation_at}

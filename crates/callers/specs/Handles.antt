@@ -3,11 +3,10 @@ use Rattle.std.specs.Prelude.{◌≡◌, ◌<◌, ℕ, ◌+◌, ◌-◌, Bool, f
 use Rattle.slot_table.specs.Lent.{Reading}
 use Rattle.key_slots.specs.Holdings.{Pairs, names}
 use Rattle.multipart.specs.Turns.{is_active}
-use Rattle.store_model.specs.Operations.{Inactive, is_inactive}
-use Rattle.store_model.specs.Handles.{HandleOperation}
+use Rattle.store_model.specs.Prelude.{Inactive, is_inactive, HandleOperation}
 use Rattle.operation_handles.specs.Cells.{IsOperation}
 use Rattle.operation_handles.specs.declared.cell.Cell.{Cell}
-use Rattle.locked_store.specs.Turning.{lease_pair}
+use Rattle.locked_store.specs.Prelude.{lease_pair}
 
 -- each of the four cells stands for its handle's operation, and one whose operation isn't active holds no lease
 pub record AreOperations (cells : List Cell) (operations : List HandleOperation) : Type 0 where

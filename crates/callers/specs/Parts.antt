@@ -4,10 +4,8 @@ use Rattle.secret_bytes.specs.Buffer.{Buffer, IsClear}
 use Rattle.slot_table.specs.Lent.{Reading}
 use Rattle.service_calls.specs.declared.store_calls.KeyedCall.{KeyedCall}
 use Rattle.single_part.specs.Elements.{takes_vector}
-use Rattle.locked_store.specs.Turning.{IsLater, lease_pair, without_pair}
-use Rattle.store_model.specs.Faults.{FaultMark}
-use Rattle.store_model.specs.Replay.{Entry}
-use Rattle.store_model.specs.Requests.{Request}
+use Rattle.locked_store.specs.Prelude.{IsLater, lease_pair, without_pair}
+use Rattle.store_model.specs.Prelude.{FaultMark, Entry, Request}
 use Rattle.store_core.specs.declared.store.Opened.{Opened}
 use Rattle.turn_history.specs.declared.pass.View.{View}
 use Rattle.callers.specs.Called.{IsCalled}

@@ -1,16 +1,11 @@
 -- What a caller is between its calls.
 use Rattle.std.specs.Prelude.{◌≡◌, ◌≤◌, ℕ, ◌+◌, ◌*◌, ◌^◌, get_or, List, All, length, vec_capacity}
 use Rattle.secret_bytes.specs.Buffer.{IsClear}
-use Rattle.turn_history.specs.History.{entries_of}
-use Rattle.turn_history.specs.Views.{TURNS}
-use Rattle.store_model.specs.Operations.{Inactive}
-use Rattle.store_model.specs.Handles.{HandleOperation, Own, Service, own_of}
-use Rattle.store_model.specs.Sound.{IsSoundStore}
-use Rattle.store_model.specs.Replay.{replay}
-use Rattle.locked_store.specs.Turning.{IsAt}
+use Rattle.turn_history.specs.Prelude.{entries_of, TURNS}
+use Rattle.store_model.specs.Prelude.{Inactive, HandleOperation, Own, Service, own_of, IsSoundStore, replay}
+use Rattle.locked_store.specs.Prelude.{IsAt, World}
 use Rattle.callers.specs.Called.{IsToldTo, Legal, Starts}
 use Rattle.callers.specs.Handles.{AreOperations, ArePairs, busy, leases_of, operation_at}
-use Rattle.locked_store.specs.Worlds.{World}
 use Rattle.callers.specs.declared.caller.Caller.{Caller}
 
 -- the model's own part of a caller has these operations at its handles, from 1 on, and has drawn so many random words

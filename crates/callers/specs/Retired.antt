@@ -2,15 +2,11 @@
 use Rattle.std.specs.Prelude.{◌≡◌, ◌≤◌, ℕ, ◌+◌, length, vec_capacity, List}
 use Rattle.atomic_table.specs.Seated.{TableId}
 use Rattle.turn_history.specs.declared.pass.View.{View}
-use Rattle.turn_history.specs.History.{StartsWith, entries_of}
-use Rattle.turn_history.specs.Passes.{IsIdle}
-use Rattle.store_model.specs.Operations.{Inactive}
-use Rattle.store_model.specs.Handles.{HandleOperation}
-use Rattle.store_model.specs.Replay.{Entry}
-use Rattle.locked_store.specs.Turning.{IsAt}
+use Rattle.turn_history.specs.Prelude.{StartsWith, entries_of, IsIdle}
+use Rattle.store_model.specs.Prelude.{Inactive, HandleOperation, Entry}
+use Rattle.locked_store.specs.Prelude.{IsAt, World}
 use Rattle.callers.specs.Called.{Legal}
 use Rattle.callers.specs.Handles.{AreIdle, AreOperations, ArePairs, leases_of, operation_at}
-use Rattle.locked_store.specs.Worlds.{World}
 use Rattle.callers.specs.declared.caller.Caller.{Caller}
 
 -- From one view of a caller to a later one the caller made no call.

@@ -5,8 +5,8 @@ use Rattle.psa_status.specs.declared.Status.TheVariants.{PassWorn}
 use Rattle.service_calls.specs.Meanings.{model_request}
 use Rattle.service_calls.specs.declared.call.Call.{Call}
 use Rattle.service_calls.specs.declared.output.Output.{Output}
-use Rattle.store_model.specs.Handles.{HandleOperation}
-use Rattle.locked_store.specs.Worlds.{World}
+use Rattle.store_model.specs.Prelude.{HandleOperation}
+use Rattle.locked_store.specs.Prelude.{World}
 use Rattle.callers.specs.Budget.{asked_for, counted_by}
 use Rattle.callers.specs.Called.{IsAnswered}
 use Rattle.callers.specs.Handles.{AreOperations}

@@ -6,14 +6,13 @@ ghost use Rattle.service_calls.specs.Asked.{changes, creates};
 ghost use Rattle.service_calls.specs.Meanings.{model_request};
 ghost use Rattle.service_calls.specs.declared.call.Call.TheVariants as calls;
 ghost use Rattle.service_calls.specs.declared.handle_calls.HandleCall.TheVariants as handle_calls;
-ghost use Rattle.store_model.specs.Handles.{HandleOperation};
-ghost use Rattle.store_model.specs.Operations.{is_inactive};
+ghost use Rattle.store_model.specs.Prelude.{HandleOperation, is_inactive};
 ghost use Rattle.callers.specs.Budget.{is_counted, begins_operation};
 ghost use Rattle.callers.specs.Called.{IsAnswered};
 ghost use Rattle.callers.specs.Handles.{AreOperations, operation_at};
 ghost use Rattle.callers.specs.Ready.{IsReady};
 ghost use Rattle.callers.specs.Served.{HasCounted, IsOverBudget, IsServed, IsServedUnwritten};
-ghost use Rattle.locked_store.specs.Shared.{world};
+ghost use Rattle.locked_store.specs.Prelude.{world};
 
 use crate::caller::Caller;
 use crate::gates::Gate;

@@ -1,13 +1,11 @@
 // A caller of the store.
 ghost use Rattle.std.specs.Prelude.{◌≡◌, ◌≤◌, ◌<◌, [], All, length};
 ghost use Rattle.secret_bytes.specs.Buffer.{IsClear};
-ghost use Rattle.turn_history.specs.Views.{new_pass};
-ghost use Rattle.store_model.specs.Handles.{Service};
-ghost use Rattle.store_model.specs.Sound.{IsSoundStore};
-ghost use Rattle.locked_store.specs.Turning.{IsStartOf};
+ghost use Rattle.turn_history.specs.Prelude.{new_pass};
+ghost use Rattle.store_model.specs.Prelude.{Service, IsSoundStore};
+ghost use Rattle.locked_store.specs.Prelude.{IsStartOf, world};
 ghost use Rattle.callers.specs.Handles.{AreIdle};
 ghost use Rattle.callers.specs.Ready.{IsReady};
-ghost use Rattle.locked_store.specs.Shared.{world};
 
 use crate::handles::Handles;
 use admission::Admission;

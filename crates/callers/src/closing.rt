@@ -1,12 +1,11 @@
 // How a caller ends.
 ghost use Rattle.std.specs.Prelude.{◌≡◌, ◌-◌, All, None};
-ghost use Rattle.turn_history.specs.History.{entries_of};
-ghost use Rattle.locked_store.specs.Turning.{IsAt};
+ghost use Rattle.turn_history.specs.Prelude.{entries_of};
+ghost use Rattle.locked_store.specs.Prelude.{IsAt, world};
 ghost use Rattle.callers.specs.Called.{Legal};
 ghost use Rattle.callers.specs.Handles.{AreIdle};
 ghost use Rattle.callers.specs.Ready.{IsReady};
 ghost use Rattle.callers.specs.Retired.{IsRetired, IsRetiring, MakesNoCall};
-ghost use Rattle.locked_store.specs.Shared.{world};
 
 use crate::caller::Caller;
 use crate::handles::Handles;
@@ -43,9 +42,7 @@ impl<D: Disk, A: Devices, C: Admission> Caller<D, A, C> {
         ensures number { self.new.number ≡ self.old.number }
     {
         for place in 0..4u8 {
-            let Some(op) = Op::new(place + 1) else {
-                unreachable!()
-            };
+            let op = Op::new(place + 1).unwrap();
             self.wipe(rt, shared, op);
         }
     }

@@ -1,18 +1,17 @@
 // Calls that create a key.
 ghost use Rattle.std.specs.Prelude.{◌≡◌, ◌≤◌, ℕ, List, None, IfOk, IfErr, length};
-ghost use Rattle.turn_history.specs.History.{entries_of};
+ghost use Rattle.turn_history.specs.Prelude.{entries_of};
 ghost use Rattle.service_calls.specs.Meanings.{model_request};
 ghost use Rattle.service_calls.specs.Asked.{changes, creates};
 ghost use Rattle.service_calls.specs.declared.store_calls.Creation.TheVariants.{Import};
 ghost use Rattle.service_calls.specs.declared.store_calls.KeyChange.TheVariants.{Copy};
-ghost use Rattle.store_model.specs.Faults.{Plain};
-ghost use Rattle.store_core.specs.Creations.{IsMade, IsUnmade, RecordsStated, mark_unmade};
-ghost use Rattle.locked_store.specs.Turning.{CreatesKey, DecidesBefore, HasNoFilling, IsAt};
+ghost use Rattle.store_model.specs.Prelude.{Plain};
+ghost use Rattle.store_core.specs.Prelude.{IsMade, IsUnmade, RecordsStated, mark_unmade};
+ghost use Rattle.locked_store.specs.Prelude.{CreatesKey, DecidesBefore, HasNoFilling, IsAt, world};
 ghost use Rattle.callers.specs.Called.{Legal};
 ghost use Rattle.callers.specs.Parts.{IsCreated, SameButPass};
 ghost use Rattle.callers.specs.Ready.{IsReady};
 ghost use Rattle.callers.specs.Served.{IsServedUnwritten};
-ghost use Rattle.locked_store.specs.Shared.{world};
 
 use crate::caller::Caller;
 use crate::gates::{Gate, GatePoint};

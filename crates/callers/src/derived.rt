@@ -1,10 +1,8 @@
 // A key of a handle's derivation's next bytes.
 ghost use Rattle.std.specs.Prelude.{◌≡◌, ◌≤◌, ◌-◌, ◌/◌, List, None, get_or, min};
 ghost use Rattle.derivation_states.specs.KeySteps.{output_key_refusal};
-ghost use Rattle.store_model.specs.DerivationOperations.{DerivationWork, stated_bytes};
-ghost use Rattle.store_model.specs.Handles.{HandleOperation, derivation_part, part_of};
-ghost use Rattle.store_model.specs.Operations.{Active};
-ghost use Rattle.store_model.specs.Outcome.{refusal};
+ghost use Rattle.store_model.specs.DerivationOperations.{stated_bytes};
+ghost use Rattle.store_model.specs.Prelude.{DerivationWork, HandleOperation, derivation_part, part_of, Active, refusal};
 ghost use Rattle.operation_handles.specs.Cells.{IsOperation};
 ghost use Rattle.operation_handles.specs.KeyOutputs.{IsDerivedKey, derived_key_refused};
 ghost use Rattle.operation_handles.specs.declared.cell.Cell as cell;

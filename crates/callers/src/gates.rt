@@ -1,6 +1,6 @@
 //! Places at which calls can be held.
 ghost use Rattle.std.specs.Prelude.{◌≡◌};
-ghost use Rattle.turn_history.specs.Views.{IsOutside};
+ghost use Rattle.turn_history.specs.Prelude.{IsOutside};
 
 use turn_history::{Historic, Pass};
 

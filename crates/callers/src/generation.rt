@@ -5,10 +5,11 @@ ghost use Rattle.psa_status.specs.declared.Status.TheVariants.{InvalidArgument};
 ghost use Rattle.random_streams.specs.RandomWords.{drawn_from, next_bytes};
 ghost use Rattle.service_calls.specs.Asked.{creates};
 ghost use Rattle.service_calls.specs.declared.store_calls.Creation.TheVariants.{Generate};
-ghost use Rattle.store_model.specs.Creation.{stated_bits_rows, stated_bytes};
+ghost use Rattle.store_model.specs.Creation.{stated_bytes};
+ghost use Rattle.store_model.specs.Prelude.{stated_bits_rows};
 ghost use Rattle.callers.specs.Ready.{IsReady};
 ghost use Rattle.callers.specs.Served.{IsServedUnwritten};
-ghost use Rattle.locked_store.specs.Shared.{world};
+ghost use Rattle.locked_store.specs.Prelude.{world};
 
 use crate::caller::Caller;
 use crate::gates::Gate;

@@ -2,13 +2,13 @@
 ghost use Rattle.std.specs.Prelude.{◌≡◌, ◌≤◌, ◌-◌, ℕ, List, Some, None, get_or};
 ghost use Rattle.service_calls.specs.declared.call.Call.TheVariants as calls;
 ghost use Rattle.service_calls.specs.declared.handle_calls.HandleCall.TheVariants as handle_calls;
-ghost use Rattle.store_model.specs.Handles.{HandleOperation};
+ghost use Rattle.store_model.specs.Prelude.{HandleOperation};
 ghost use Rattle.operation_handles.specs.Cells.{IsOperation};
 ghost use Rattle.operation_handles.specs.KeyInputs.{RefusesKeyAt, TakesKeyAt};
 ghost use Rattle.operation_handles.specs.declared.cell.Cell.{Cell};
 ghost use Rattle.callers.specs.Ready.{IsReady};
 ghost use Rattle.callers.specs.Served.{IsServedUnwritten};
-ghost use Rattle.locked_store.specs.Shared.{world};
+ghost use Rattle.locked_store.specs.Prelude.{world};
 
 use crate::caller::Caller;
 use crate::gates::{Gate, GatePoint};

@@ -3,7 +3,7 @@ ghost use Rattle.std.specs.Prelude.{◌≡◌, ◌&&◌, ◌≤◌, ◌<◌, ◌
 ghost use Rattle.std.specs.Result.{is_ok};
 ghost use Rattle.random_streams.specs.RandomWords.{drawn_from, next_bytes};
 ghost use Rattle.secret_bytes.specs.Buffer.{bytes_of};
-ghost use Rattle.turn_history.specs.History.{entries_of};
+ghost use Rattle.turn_history.specs.Prelude.{entries_of};
 ghost use Rattle.key_slots.specs.Holdings.{names};
 ghost use Rattle.key_policy.specs.Uses.{FitsUse};
 ghost use Rattle.service_calls.specs.Meanings.{model_keyed_call};
@@ -13,12 +13,11 @@ ghost use Rattle.secure_element_calls.specs.Calls.{model_call};
 ghost use Rattle.secure_element_calls.specs.Replies.{HasDrawn};
 ghost use Rattle.single_part.specs.Elements.{IsElementCall, has_vector, is_of_element, takes_vector};
 ghost use Rattle.single_part.specs.Keyed.{computed_by, wanted_by};
-ghost use Rattle.locked_store.specs.Turning.{IsAt};
+ghost use Rattle.locked_store.specs.Prelude.{IsAt, world};
 ghost use Rattle.callers.specs.Called.{IsReplied, Legal};
 ghost use Rattle.callers.specs.Parts.{IsGivenBack, drawn_by};
 ghost use Rattle.callers.specs.Ready.{IsReady};
 ghost use Rattle.callers.specs.Served.{IsServed};
-ghost use Rattle.locked_store.specs.Shared.{world};
 
 use crate::caller::Caller;
 use crate::gates::{Gate, GatePoint};

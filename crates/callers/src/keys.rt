@@ -5,7 +5,7 @@ ghost use Rattle.service_calls.specs.declared.store_calls.KeyChange.TheVariants.
 ghost use Rattle.callers.specs.Parts.{SameButPass};
 ghost use Rattle.callers.specs.Ready.{IsReady};
 ghost use Rattle.callers.specs.Served.{IsServedUnwritten};
-ghost use Rattle.locked_store.specs.Shared.{world};
+ghost use Rattle.locked_store.specs.Prelude.{world};
 
 use crate::caller::Caller;
 use admission::Admission;

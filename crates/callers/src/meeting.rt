@@ -1,12 +1,10 @@
 // Callers that one thread runs tell each other what they have seen.
 ghost use Rattle.std.specs.Prelude.{◌≡◌, []};
-ghost use Rattle.turn_history.specs.History.{StartsWith, entries_of};
-ghost use Rattle.turn_history.specs.Passes.{IsIdle};
-ghost use Rattle.turn_history.specs.Views.{joined, watcher};
+ghost use Rattle.turn_history.specs.Prelude.{StartsWith, entries_of, IsIdle, joined, watcher};
 ghost use Rattle.callers.specs.Called.{Legal};
 ghost use Rattle.callers.specs.Parts.{SameButPass};
 ghost use Rattle.callers.specs.Ready.{IsReady};
-ghost use Rattle.locked_store.specs.Shared.{world};
+ghost use Rattle.locked_store.specs.Prelude.{world};
 
 use crate::caller::Caller;
 use admission::Admission;

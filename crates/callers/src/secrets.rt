@@ -2,9 +2,7 @@
 ghost use Rattle.std.specs.Prelude.{◌≡◌, ◌≤◌, ◌-◌, List, Some, None, IfSome, IfNone, get_or, length};
 ghost use Rattle.secret_bytes.specs.Buffer.{bytes_of};
 ghost use Rattle.service_calls.specs.Answers.{plain_reply};
-ghost use Rattle.store_model.specs.DerivationOperations.{DerivationWork};
-ghost use Rattle.store_model.specs.Handles.{HandleOperation, KeyCreation, derivation_part, part_of};
-ghost use Rattle.store_model.specs.Operations.{Active};
+ghost use Rattle.store_model.specs.Prelude.{DerivationWork, HandleOperation, KeyCreation, derivation_part, part_of, Active};
 ghost use Rattle.operation_handles.specs.Cells.{IsOperation};
 ghost use Rattle.operation_handles.specs.KeyInputs.{RefusesKeyAt, TakesKeyAt, key_refused};
 ghost use Rattle.operation_handles.specs.declared.cell.Cell as cell;

@@ -4,13 +4,12 @@ ghost use Rattle.std.specs.Result.{is_ok};
 ghost use Rattle.service_calls.specs.Asked.{sets_up, sets_up_with};
 ghost use Rattle.service_calls.specs.declared.call.Call.TheVariants as calls;
 ghost use Rattle.service_calls.specs.declared.handle_calls.HandleCall.TheVariants as handle_calls;
-ghost use Rattle.store_model.specs.Handles.{HandleOperation};
-ghost use Rattle.store_model.specs.Operations.{Inactive};
+ghost use Rattle.store_model.specs.Prelude.{HandleOperation, Inactive};
 ghost use Rattle.operation_handles.specs.Cells.{IsOperation};
 ghost use Rattle.operation_handles.specs.declared.cell.Cell.{Cell};
 ghost use Rattle.callers.specs.Ready.{IsReady};
 ghost use Rattle.callers.specs.Served.{IsServedUnwritten};
-ghost use Rattle.locked_store.specs.Shared.{world};
+ghost use Rattle.locked_store.specs.Prelude.{world};
 
 use crate::caller::Caller;
 use crate::gates::{Gate, GatePoint};

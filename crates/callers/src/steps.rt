@@ -4,13 +4,12 @@ ghost use Rattle.service_calls.specs.Meanings.{model_request};
 ghost use Rattle.service_calls.specs.declared.call.Call.TheVariants as calls;
 ghost use Rattle.service_calls.specs.declared.handle_calls.HandleCall.TheVariants as handle_calls;
 ghost use Rattle.service_calls.specs.declared.output.Output.TheVariants.{Done};
-ghost use Rattle.store_model.specs.Handles.{HandleOperation};
-ghost use Rattle.store_model.specs.Operations.{is_inactive};
+ghost use Rattle.store_model.specs.Prelude.{HandleOperation, is_inactive};
 ghost use Rattle.callers.specs.Called.{IsAnswered};
 ghost use Rattle.callers.specs.Handles.{AreOperations, operation_at};
 ghost use Rattle.callers.specs.Ready.{IsReady};
 ghost use Rattle.callers.specs.Served.{IsServed};
-ghost use Rattle.locked_store.specs.Shared.{world};
+ghost use Rattle.locked_store.specs.Prelude.{world};
 
 use crate::caller::Caller;
 use admission::Admission;

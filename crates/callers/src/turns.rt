@@ -1,16 +1,13 @@
 // Parts that several shapes of calls have in common.
 ghost use Rattle.std.specs.Prelude.{◌≡◌, ◌≤◌, ◌<◌, ◌+◌, ◌∷◌, ◌++◌, [], All, IfSome, get_or, length, vec_capacity, vec_len};
 ghost use Rattle.secret_bytes.specs.Buffer.{IsClear};
-ghost use Rattle.turn_history.specs.History.{entries_of};
+ghost use Rattle.turn_history.specs.Prelude.{entries_of};
 ghost use Rattle.key_slots.specs.Holdings.{names};
 ghost use Rattle.service_calls.specs.Meanings.{model_request};
-ghost use Rattle.store_model.specs.Faults.{Plain};
-ghost use Rattle.store_model.specs.Operations.{Inactive};
-ghost use Rattle.store_model.specs.Handles.{is_alive, key_of_operation, operation_of};
-ghost use Rattle.locked_store.specs.Turning.{IsAt, IsLater, IsRanked, LeavesAllKeys, lease_pair, without_pair};
+ghost use Rattle.store_model.specs.Prelude.{Plain, Inactive, is_alive, key_of_operation, operation_of};
+ghost use Rattle.locked_store.specs.Prelude.{IsAt, IsLater, IsRanked, LeavesAllKeys, lease_pair, without_pair, world};
 ghost use Rattle.callers.specs.Called.{KnowsBefore, Legal};
 ghost use Rattle.callers.specs.Ready.{IsReady};
-ghost use Rattle.locked_store.specs.Shared.{world};
 ghost use Rattle.callers.specs.Parts.{IsBack, SameButPass};
 
 use crate::caller::Caller;

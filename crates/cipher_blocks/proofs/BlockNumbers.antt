@@ -4,8 +4,7 @@ use Rattle.std.specs.Int.{byte_at, bytes_high_first}
 use Rattle.std.proofs.Math.Nat.{pow-suc, mul_comm, mod-eq_of_lt}
 use Rattle.std.proofs.Math.Arith.{mod-mul}
 use Rattle.std.proofs.lemmas.Nat.{div-mul-add, mod-mul-add, mul-add-lt, xor_shr, xor_mod, pow-add}
-use Rattle.crypto_specs.specs.Bytes.{xor_bytes}
-use Rattle.crypto_specs.specs.Modes.{block_number, number_block}
+use Rattle.crypto_specs.specs.Prelude.{xor_bytes, block_number, number_block}
 
 -- the number of some bytes, first byte highest
 unfoldable value : List ℕ → ℕ

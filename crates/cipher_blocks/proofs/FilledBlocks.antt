@@ -3,7 +3,7 @@ use Rattle.std.proofs.Common.{◌≡◌, ℕ, zero, suc, ◌-◌, ◌≤◌, Boo
 use Rattle.std.specs.Prelude.{replicate, IsTrue, ◌↔◌}
 use Rattle.std.proofs.lemmas.Bool.{eqb-true, eq-eqb}
 use Rattle.std.proofs.lemmas.List.{length-append, length-replicate, drop-replicate, take_at}
-use Rattle.crypto_specs.specs.Modes.{block_number, number_block}
+use Rattle.crypto_specs.specs.Prelude.{block_number, number_block}
 use Rattle.crypto_specs.proofs.Blocks.{number_of_filled}
 use Rattle.cipher_blocks.proofs.BlockNumbers.{AreBytes, bytes-append, block_of_number}
 

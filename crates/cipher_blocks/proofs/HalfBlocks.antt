@@ -4,8 +4,7 @@ use Rattle.std.specs.Int.{w64, byte_at, bytes_high_first, to_be_bytes}
 use Rattle.std.proofs.lemmas.Nat.{shr-shr}
 use Rattle.std.proofs.lemmas.List.{append-nil, drop_all, drop_at, length-drop, length-take, take_all, take_at, take-append-drop}
 use borrow.Rule.Slice.PartMut.{put_mid}
-use Rattle.crypto_specs.specs.Bytes.{xor_bytes}
-use Rattle.crypto_specs.specs.Modes.{number_block}
+use Rattle.crypto_specs.specs.Prelude.{xor_bytes, number_block}
 use Rattle.crypto_specs.proofs.XorBytes.{length-xor_bytes, xor_bytes-append}
 use Rattle.cipher_blocks.proofs.BlockNumbers.{byte_at_is, power_of_256}
 

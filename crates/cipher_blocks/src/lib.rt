@@ -4,8 +4,7 @@
 
 ghost use Rattle.std.specs.Prelude.{◌≡◌, ◌+◌, ◌-◌, ◌≤◌, ◌++◌, ◌↔◌, IsTrue, length, take, drop, replicate};
 ghost use Rattle.std.specs.Int.{to_be_bytes, w64};
-ghost use Rattle.crypto_specs.specs.Bytes.{xor_bytes};
-ghost use Rattle.crypto_specs.specs.Modes.{block_number, number_block};
+ghost use Rattle.crypto_specs.specs.Prelude.{xor_bytes, block_number, number_block};
 
 /// The number of a block.
 pub fn number_of(block: &[u8]) -> u128

@@ -1,7 +1,6 @@
 -- CBC, one block at a time.
 use Rattle.std.proofs.Common.{◌≡◌, List, ℕ, ◌∷◌, sym, ap}
-use Rattle.crypto_specs.specs.Bytes.{xor_bytes}
-use Rattle.crypto_specs.specs.Modes.{cbc_blocks, cbc_plain_blocks}
+use Rattle.crypto_specs.specs.Prelude.{xor_bytes, cbc_blocks, cbc_plain_blocks}
 
 pub cbc_block : (e : List ℕ → List ℕ) (chain block out : List ℕ) → out ≡ e (xor_bytes block chain)
     → (rest : List (List ℕ)) → cbc_blocks e chain (block ∷ rest) ≡ out ∷ cbc_blocks e out rest

@@ -3,7 +3,7 @@ use Rattle.std.proofs.Common.{◌≡◌, ℕ, suc, ◌+◌, ◌-◌, ◌*◌, �
 use Rattle.std.proofs.lemmas.List.{drop-drop, append-nil, take_all, length-append, length-take, length-drop}
 use Rattle.std.proofs.lemmas.Slice.{take-put_mid, drop-put_mid}
 use borrow.Rule.Slice.PartMut.{put_mid}
-use Rattle.crypto_specs.specs.Modes.{blocks, joined}
+use Rattle.crypto_specs.specs.Prelude.{blocks, joined}
 
 -- the first n blocks as they are, and what the mode makes of the rest
 abbrev pub mode_from : (List (List ℕ) → List (List ℕ)) → ℕ → List ℕ → List ℕ

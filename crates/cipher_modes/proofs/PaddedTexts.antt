@@ -5,7 +5,7 @@ use Rattle.std.specs.Option.{option_map}
 use Rattle.std.proofs.Math.Seq.{drop-append-add, take-append-add}
 use Rattle.std.proofs.lemmas.Bool.{leb-true}
 use Rattle.std.proofs.lemmas.List.{length-append, get_or-append-add}
-use Rattle.crypto_specs.specs.Modes.{pkcs7_unpadded}
+use Rattle.crypto_specs.specs.Prelude.{pkcs7_unpadded}
 
 -- without the padding, by the last byte
 unpadded_at : List ℕ → ℕ → Option (List ℕ)

@@ -4,7 +4,7 @@ use Rattle.std.specs.Prelude.{bytes_eq, nat_le, ◌&&◌}
 use Rattle.std.proofs.lemmas.Bool.{le-leb, lt-leb, cases_lt}
 use Rattle.std.proofs.lemmas.List.{length-take, length-drop, drop_all, append-nil, drop_at, get_or_at, take-append-drop}
 use Rattle.std.proofs.lemmas.Slice.Eq.{bytes_eq-Decides}
-use Rattle.crypto_specs.specs.Modes.{pkcs7_padded, pkcs7_unpadded}
+use Rattle.crypto_specs.specs.Prelude.{pkcs7_padded, pkcs7_unpadded}
 
 -- the room after the first bytes, filled
 pub filled_to_end : (used : ℕ) (block filled : List ℕ) → length block ≡ 16 → used < 16 → filled ≡ replicate (length (take (16 - used) (drop used block))) (16 - used)

@@ -1,7 +1,5 @@
 ghost use Rattle.std.specs.Prelude.{◌≡◌, ◌%◌, length};
-ghost use Rattle.crypto_specs.specs.Aes.{aes_encrypt, IsKey};
-ghost use Rattle.crypto_specs.specs.AesInverse.{aes_decrypt};
-ghost use Rattle.crypto_specs.specs.Modes.{cbc_encrypt, cbc_decrypt};
+ghost use Rattle.crypto_specs.specs.Prelude.{aes_encrypt, IsKey, aes_decrypt, cbc_encrypt, cbc_decrypt};
 
 use aes_core::AesKey;
 use cipher_blocks::{number_of, set_number};

@@ -1,6 +1,5 @@
 ghost use Rattle.std.specs.Prelude.{◌≡◌};
-ghost use Rattle.crypto_specs.specs.Aes.{aes_encrypt, IsKey};
-ghost use Rattle.crypto_specs.specs.Modes.{ctr_xor};
+ghost use Rattle.crypto_specs.specs.Prelude.{aes_encrypt, IsKey, ctr_xor};
 
 use aes_core::AesKey;
 use cipher_blocks::{number_of, xor_into};

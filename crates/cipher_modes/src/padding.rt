@@ -1,5 +1,5 @@
 ghost use Rattle.std.specs.Prelude.{◌≡◌, ◌+◌, ◌<◌, ◌≤◌, ◌⊎◌, take, Some, None, MatchOption};
-ghost use Rattle.crypto_specs.specs.Modes.{pkcs7_padded, pkcs7_unpadded};
+ghost use Rattle.crypto_specs.specs.Prelude.{pkcs7_padded, pkcs7_unpadded};
 
 use cipher_blocks::{is_front, number_of};
 

@@ -1,12 +1,10 @@
 -- A text that begins.
 use Rattle.std.proofs.Common.{◌≡◌, ℕ, Bool, true, false, not, List, [], length, refl, sym, subst, inl, inr}
 use Rattle.std.specs.Prelude.{◌&&◌, ◌||◌, ◌==◌}
-use Rattle.crypto_specs.specs.Aes.{aes_encrypt}
-use Rattle.crypto_specs.specs.Modes.{block_number}
+use Rattle.crypto_specs.specs.Prelude.{aes_encrypt, block_number}
 use Rattle.aead_streams.specs.declared.counter_width.CounterWidth.TheVariants.{Whole}
 use Rattle.aead_streams.specs.Streams.{IsAt}
-use Rattle.store_model.specs.Ciphers.{Mode, Ctr, CbcNoPadding, CbcPkcs7, EcbNoPadding, iv_length, mode_of}
-use Rattle.store_model.specs.CipherOperations.{CipherWork, bytes_or_empty}
+use Rattle.store_model.specs.Prelude.{Mode, Ctr, CbcNoPadding, CbcPkcs7, EcbNoPadding, iv_length, mode_of, CipherWork, bytes_or_empty}
 use Rattle.cipher_states.specs.declared.running.RunningCipher.{RunningCipher}
 use Rattle.cipher_states.specs.Modes.{is_stream, keeps_last}
 use Rattle.cipher_states.specs.Ways.{way_of, chains}

@@ -1,8 +1,7 @@
 -- ECB and CBC of a text in two parts, of which the first is whole blocks.
 use Rattle.std.proofs.Common.{◌≡◌, ℕ, zero, suc, ◌+◌, ◌*◌, ◌/◌, ◌%◌, List, [], ◌∷◌, ◌++◌, length, take, drop, map, refl, sym, ap, ap₂, ◌∙◌, append_assoc, arith}
 use Rattle.std.proofs.lemmas.List.{length-append, length-take, length-drop, take-append-drop, take-append-le, drop-append-le, map-append, append-nil, drop-drop, drop_at}
-use Rattle.crypto_specs.specs.Bytes.{xor_bytes}
-use Rattle.crypto_specs.specs.Modes.{blocks, joined, cbc_blocks, cbc_plain_blocks, ecb_encrypt, ecb_decrypt, cbc_encrypt, cbc_decrypt}
+use Rattle.crypto_specs.specs.Prelude.{xor_bytes, blocks, joined, cbc_blocks, cbc_plain_blocks, ecb_encrypt, ecb_decrypt, cbc_encrypt, cbc_decrypt}
 use Rattle.crypto_specs.proofs.XorBytes.{length-xor_bytes}
 use Rattle.cipher_states.specs.Ways.{last_block}
 

@@ -2,9 +2,7 @@
 use Rattle.std.proofs.Common.{◌≡◌, ℕ, ◌-◌, ◌≤◌, List, [], ◌++◌, length, take, drop, replicate, refl, sym, ap, ◌∙◌, arith}
 use Rattle.std.specs.Prelude.{Option, Some, None}
 use Rattle.std.proofs.lemmas.List.{append-nil, length-take, drop_all}
-use Rattle.store_model.specs.Call.{Reply, buffer_after, buffer_bytes}
-use Rattle.store_model.specs.Ciphers.{mode_of}
-use Rattle.store_model.specs.CipherOperations.{CipherWork, last_length, last_part}
+use Rattle.store_model.specs.Prelude.{Reply, buffer_after, buffer_bytes, mode_of, CipherWork, last_length, last_part}
 
 pub front_written : (old : List ℕ) (n : ℕ) (reply : Reply) → reply.needed ≡ n → n ≤ length old → buffer_after (take n old) reply ++ drop n old ≡ buffer_after old reply
 front_written old n reply e h =

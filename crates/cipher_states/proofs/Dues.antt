@@ -1,14 +1,12 @@
 -- The output that is due, by the mode and the direction.
 use Rattle.std.proofs.Common.{◌≡◌, ℕ, ◌%◌, ◌≤◌, Bool, true, false, cond, ◌⊎◌, inl, inr, List, ◌++◌, length, take, drop, refl, sym, ap, ap₂, subst, ◌∙◌}
 use Rattle.std.proofs.lemmas.List.{length-append, take_at, drop_at, take-append-drop, take-append-le, take-take, length-take-le}
-use Rattle.crypto_specs.specs.Aes.{aes_encrypt}
-use Rattle.crypto_specs.specs.Modes.{ctr_xor, block_number}
+use Rattle.crypto_specs.specs.Prelude.{aes_encrypt, ctr_xor, block_number}
 use Rattle.aead_streams.specs.declared.counter_width.CounterWidth.TheVariants.{Whole}
 use Rattle.aead_streams.specs.Counters.{text_xor}
 use Rattle.aead_streams.proofs.StreamLaws.{text_xor-append, length-text_xor}
 use Rattle.aead_streams.proofs.ModeStreams.{aes_keeps_length, ctr_is, ctr_further}
-use Rattle.store_model.specs.Ciphers.{Mode, Ctr, CbcNoPadding, CbcPkcs7, EcbNoPadding, mode_of}
-use Rattle.store_model.specs.CipherOperations.{bytes_or_empty, cipher_due, due_enciphered, due_deciphered, with_text}
+use Rattle.store_model.specs.Prelude.{Mode, Ctr, CbcNoPadding, CbcPkcs7, EcbNoPadding, mode_of, bytes_or_empty, cipher_due, due_enciphered, due_deciphered, with_text}
 use Rattle.cipher_states.specs.Modes.{due_bytes, is_stream, keeps_last}
 use Rattle.cipher_states.specs.declared.ways.Way.{Way}
 use Rattle.cipher_states.specs.Ways.{way_of, processed, chains, next_chain}

@@ -4,12 +4,8 @@ use Rattle.std.specs.Prelude.{◌&&◌, ◌==◌, if◌then◌else◌}
 use Rattle.std.proofs.lemmas.Bool.{eqb-true}
 use Rattle.std.proofs.lemmas.List.{length-drop, append-nil, drop_all}
 use Rattle.psa_status.specs.declared.Status.TheVariants.{Success}
-use Rattle.crypto_specs.specs.Modes.{pkcs7_padded, pkcs7_unpadded}
-use Rattle.store_model.specs.Call.{Bytes}
-use Rattle.store_model.specs.Outcome.{given}
-use Rattle.store_model.specs.Operations.{Operation, Inactive, InError, Active, ends}
-use Rattle.store_model.specs.Ciphers.{Mode, CbcPkcs7, mode_of}
-use Rattle.store_model.specs.CipherOperations.{CipherWork, bytes_or_empty, is_whole_text, last_length, last_part, takes_text, whole_text}
+use Rattle.crypto_specs.specs.Prelude.{pkcs7_padded, pkcs7_unpadded}
+use Rattle.store_model.specs.Prelude.{Bytes, given, Operation, Inactive, InError, Active, ends, Mode, CbcPkcs7, mode_of, CipherWork, bytes_or_empty, is_whole_text, last_length, last_part, takes_text, whole_text}
 use Rattle.key_policy.specs.Modes.{model_mode}
 use Rattle.multipart.specs.Phases.{LeadsTo}
 use Rattle.multipart.specs.declared.Phase.{Phase}

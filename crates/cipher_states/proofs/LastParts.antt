@@ -5,14 +5,8 @@ use Rattle.std.specs.Option.{option_map}
 use Rattle.std.proofs.lemmas.Bool.Decides.{nat_tests}
 use Rattle.std.proofs.lemmas.List.{take_all, drop_all, drop_at, take-append-drop, length-take-le}
 use Rattle.psa_status.specs.declared.Status.TheVariants.{Success, InvalidPadding}
-use Rattle.crypto_specs.specs.Modes.{pkcs7_padded, pkcs7_unpadded, cbc_encrypt, cbc_decrypt, ecb_encrypt, ecb_decrypt}
-use Rattle.crypto_specs.specs.Aes.{aes_encrypt}
-use Rattle.crypto_specs.specs.AesInverse.{aes_decrypt}
-use Rattle.store_model.specs.Call.{Bytes}
-use Rattle.store_model.specs.Outcome.{given, spoiled}
-use Rattle.store_model.specs.Operations.{After, Inactive, InError, ends}
-use Rattle.store_model.specs.Ciphers.{Mode, Ctr, CbcNoPadding, CbcPkcs7, EcbNoPadding, mode_of, enciphered, deciphered, takes_whole_blocks, is_ciphertext_length, plain_or_zeros}
-use Rattle.store_model.specs.CipherOperations.{CipherWork, bytes_or_empty, last_length, last_part, whole_text}
+use Rattle.crypto_specs.specs.Prelude.{pkcs7_padded, pkcs7_unpadded, cbc_encrypt, cbc_decrypt, ecb_encrypt, ecb_decrypt, aes_encrypt, aes_decrypt}
+use Rattle.store_model.specs.Prelude.{Bytes, given, spoiled, After, Inactive, InError, ends, Mode, Ctr, CbcNoPadding, CbcPkcs7, EcbNoPadding, mode_of, enciphered, deciphered, takes_whole_blocks, is_ciphertext_length, plain_or_zeros, CipherWork, bytes_or_empty, last_length, last_part, whole_text}
 use Rattle.cipher_states.specs.declared.ways.Way.TheVariants.{CbcEncrypt, CbcDecrypt}
 use Rattle.cipher_states.specs.Modes.{due_bytes}
 use Rattle.cipher_states.specs.Ways.{processed, next_chain}

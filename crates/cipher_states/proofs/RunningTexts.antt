@@ -5,15 +5,12 @@ use Rattle.std.proofs.lemmas.Bool.{lt-ltb, le-ltb}
 use Rattle.std.proofs.lemmas.List.{length-append, length-take, length-drop, take-append-drop}
 use Rattle.psa_status.specs.declared.Status.TheVariants.{BufferTooSmall}
 use Rattle.psa_status.specs.Rows.{first_row}
-use Rattle.crypto_specs.specs.Aes.{aes_encrypt}
-use Rattle.crypto_specs.specs.Modes.{block_number}
+use Rattle.crypto_specs.specs.Prelude.{aes_encrypt, block_number}
 use Rattle.aead_streams.specs.declared.counter_width.CounterWidth.TheVariants.{Whole}
 use Rattle.aead_streams.specs.Counters.{text_xor}
 use Rattle.aead_streams.specs.Streams.{IsAt}
 use Rattle.aead_streams.proofs.StreamLaws.{length-text_xor}
-use Rattle.store_model.specs.Rules.{room_rows, total_limit}
-use Rattle.store_model.specs.Ciphers.{Mode, Ctr, CbcNoPadding, CbcPkcs7, EcbNoPadding, mode_of}
-use Rattle.store_model.specs.CipherOperations.{CipherWork, cipher_fresh, cipher_update_rows, with_text, bytes_or_empty, takes_text}
+use Rattle.store_model.specs.Prelude.{room_rows, total_limit, Mode, Ctr, CbcNoPadding, CbcPkcs7, EcbNoPadding, mode_of, CipherWork, cipher_fresh, cipher_update_rows, with_text, bytes_or_empty, takes_text}
 use Rattle.key_policy.specs.Modes.{model_mode}
 use Rattle.cipher_states.specs.declared.running.RunningCipher.{RunningCipher}
 use Rattle.cipher_states.specs.Modes.{due_bytes, is_stream, keeps_last}

@@ -1,7 +1,7 @@
 -- What a BlockText stands for, at its start and after a further piece.
 use Rattle.std.proofs.Common.{◌≡◌, ℕ, ◌+◌, ◌%◌, ◌≤◌, Bool, true, false, List, [], ◌++◌, length, take, drop, refl, sym, ap, ap₂, ◌∙◌, append_assoc, arith}
 use Rattle.std.proofs.lemmas.List.{length-append, length-take, take_at, drop_at, append-nil, take-append-drop, length-take-le}
-use Rattle.crypto_specs.specs.Modes.{blocks, cbc_blocks, cbc_encrypt}
+use Rattle.crypto_specs.specs.Prelude.{blocks, cbc_blocks, cbc_encrypt}
 use Rattle.cipher_states.specs.declared.ways.Way.{Way}
 use Rattle.cipher_states.specs.declared.ways.Way.TheVariants.{EcbEncrypt, EcbDecrypt, CbcEncrypt, CbcDecrypt}
 use Rattle.cipher_states.specs.declared.block_text.BlockText.{BlockText}

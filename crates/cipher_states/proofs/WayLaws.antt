@@ -1,9 +1,7 @@
 -- What the ways make of a text in two parts.
 use Rattle.std.proofs.Common.{◌≡◌, ℕ, ◌%◌, true, List, ◌++◌, length, refl, sym, ap, ◌∙◌, arith}
 use Rattle.std.proofs.lemmas.List.{length-append, length-drop}
-use Rattle.crypto_specs.specs.Aes.{aes_encrypt}
-use Rattle.crypto_specs.specs.AesInverse.{aes_decrypt}
-use Rattle.crypto_specs.specs.Modes.{cbc_encrypt, cbc_decrypt}
+use Rattle.crypto_specs.specs.Prelude.{aes_encrypt, aes_decrypt, cbc_encrypt, cbc_decrypt}
 use Rattle.cipher_states.specs.declared.ways.Way.{Way}
 use Rattle.cipher_states.specs.declared.ways.Way.TheVariants.{EcbEncrypt, EcbDecrypt, CbcEncrypt, CbcDecrypt}
 use Rattle.cipher_states.specs.Ways.{chains, processed, next_chain, last_block}

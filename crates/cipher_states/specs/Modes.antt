@@ -1,6 +1,6 @@
 -- How the modes give their output.
 use Rattle.std.specs.Prelude.{ℕ, ◌-◌, ◌*◌, ◌/◌, Bool, true, false, not, if◌then◌else◌}
-use Rattle.store_model.specs.Ciphers.{Mode, Ctr, CbcPkcs7}
+use Rattle.store_model.specs.Prelude.{Mode, Ctr, CbcPkcs7}
 
 -- whether each byte is given at once
 abbrev pub is_stream : Mode → Bool

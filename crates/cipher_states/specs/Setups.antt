@@ -1,7 +1,6 @@
 -- What begins a cipher.
 use Rattle.std.specs.Prelude.{ℕ, Bool, List, None}
-use Rattle.store_model.specs.Operations.{Operation, After, set_up}
-use Rattle.store_model.specs.CipherOperations.{CipherWork, cipher_work}
+use Rattle.store_model.specs.Prelude.{Operation, After, set_up, CipherWork, cipher_work}
 
 -- cipher_encrypt_setup and cipher_decrypt_setup, once the key is known to be for it
 abbrev pub cipher_setup : Operation CipherWork → Bool → ℕ → List ℕ → After CipherWork

@@ -1,12 +1,9 @@
 -- What a cipher in several parts stands for.
 use Rattle.std.specs.Prelude.{◌≡◌, ℕ, ◌+◌, true, false, [], length, is_some, if◌then◌else◌}
-use Rattle.crypto_specs.specs.Aes.{aes_encrypt}
-use Rattle.crypto_specs.specs.Modes.{block_number}
+use Rattle.crypto_specs.specs.Prelude.{aes_encrypt, block_number}
 use Rattle.aead_streams.specs.declared.counter_width.CounterWidth.TheVariants.{Whole}
 use Rattle.aead_streams.specs.Streams.{IsAt, IsClearStream}
-use Rattle.store_model.specs.Ciphers.{Mode, Ctr, CbcNoPadding, CbcPkcs7, EcbNoPadding, mode_of}
-use Rattle.store_model.specs.CipherOperations.{CipherWork, bytes_or_empty, takes_text}
-use Rattle.store_model.specs.Operations.{Operation}
+use Rattle.store_model.specs.Prelude.{Mode, Ctr, CbcNoPadding, CbcPkcs7, EcbNoPadding, mode_of, CipherWork, bytes_or_empty, takes_text, Operation}
 use Rattle.key_policy.specs.Modes.{model_mode}
 use Rattle.multipart.specs.States.{IsOperation}
 use Rattle.cipher_states.specs.declared.running.RunningCipher.{RunningCipher}

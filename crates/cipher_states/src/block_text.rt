@@ -1,8 +1,7 @@
 // A text of which whole blocks are enciphered or deciphered as they come.
 ghost use Rattle.std.specs.Prelude.{◌≡◌, ◌+◌, ◌<◌, ◌≤◌, ◌%◌, ℕ, List, [], ◌++◌, Bool, true, length, replicate, take};
-ghost use Rattle.crypto_specs.specs.Aes.{IsKey};
-ghost use Rattle.crypto_specs.specs.Modes.{pkcs7_padded};
-ghost use Rattle.store_model.specs.Rules.{total_limit};
+ghost use Rattle.crypto_specs.specs.Prelude.{IsKey, pkcs7_padded};
+ghost use Rattle.store_model.specs.Prelude.{total_limit};
 ghost use Rattle.cipher_states.specs.Ways.{chains, processed};
 ghost use Rattle.cipher_states.specs.Modes.{due_bytes};
 

@@ -1,8 +1,6 @@
 // Ciphers among the families of operations.
 ghost use Rattle.std.specs.Prelude.{◌≡◌, IsTrue};
-ghost use Rattle.store_model.specs.Outcome.{refusal};
-ghost use Rattle.store_model.specs.Operations.{Operation};
-ghost use Rattle.store_model.specs.CipherOperations.{CipherWork, cipher_step};
+ghost use Rattle.store_model.specs.Prelude.{refusal, Operation, CipherWork, cipher_step};
 ghost use Rattle.service_calls.specs.Meanings.{model_cipher_step};
 ghost use Rattle.service_calls.specs.Random.{takes_iv_bytes};
 ghost use Rattle.key_policy.specs.Keys.{is_key};

@@ -1,13 +1,9 @@
 // The end of a text.
 ghost use Rattle.std.specs.Prelude.{◌≡◌, ◌≤◌, IfOk, [], length, true, is_some, if◌then◌else◌};
 ghost use Rattle.std.specs.Result.{is_ok};
-ghost use Rattle.crypto_specs.specs.Aes.{IsKey};
-ghost use Rattle.crypto_specs.specs.Modes.{pkcs7_unpadded};
-ghost use Rattle.store_model.specs.Call.{buffer_after};
+ghost use Rattle.crypto_specs.specs.Prelude.{IsKey, pkcs7_unpadded};
+ghost use Rattle.store_model.specs.Prelude.{buffer_after, InError, Inactive, plain_or_zeros, CipherFinish, CipherWork, cipher_step, is_whole_text, last_length, last_part, takes_text, whole_text};
 ghost use Rattle.service_calls.specs.Answers.{AnswersOrSpoils};
-ghost use Rattle.store_model.specs.Operations.{InError, Inactive};
-ghost use Rattle.store_model.specs.Ciphers.{plain_or_zeros};
-ghost use Rattle.store_model.specs.CipherOperations.{CipherFinish, CipherWork, cipher_step, is_whole_text, last_length, last_part, takes_text, whole_text};
 ghost use Rattle.key_policy.specs.Modes.{model_mode};
 ghost use Rattle.cipher_states.specs.States.{HoldsCipher};
 

@@ -1,7 +1,7 @@
 //! A cipher in several parts: its operation, whatever the pieces in which the text comes.
 #![tactic(auto)]
 
-ghost use Rattle.store_model.specs.CipherOperations.{cipher_due, with_text};
+ghost use Rattle.store_model.specs.Prelude.{cipher_due, with_text};
 ghost use Rattle.multipart.specs.Dues.{DueGrows};
 
 pub use state::CipherState;

@@ -1,9 +1,7 @@
 // A cipher that runs over a text which comes piece by piece.
 ghost use Rattle.std.specs.Prelude.{◌≡◌, ◌-◌, ◌%◌, ◌≤◌, ℕ, List, IfOk, OnOk, length, true};
 ghost use Rattle.psa_status.specs.Rows.{first_row, unless};
-ghost use Rattle.store_model.specs.Rules.{total_limit};
-ghost use Rattle.store_model.specs.CipherOperations.{CipherWork, cipher_finish_rows, cipher_fresh, cipher_update_rows, is_whole_text, last_length, takes_iv, takes_text, with_text};
-ghost use Rattle.store_model.specs.Ciphers.{mode_of};
+ghost use Rattle.store_model.specs.Prelude.{total_limit, CipherWork, cipher_finish_rows, cipher_fresh, cipher_update_rows, is_whole_text, last_length, takes_iv, takes_text, with_text, mode_of};
 ghost use Rattle.key_policy.specs.Modes.{model_mode};
 ghost use Rattle.cipher_states.specs.Modes.{is_stream};
 

@@ -2,13 +2,10 @@
 ghost use Rattle.std.specs.Prelude.{◌≡◌, ◌≤◌, ℕ, List, [], IfOk, OnOk, length, true};
 ghost use Rattle.std.specs.Result.{result_err};
 ghost use Rattle.psa_status.specs.Rows.{first_row};
-ghost use Rattle.crypto_specs.specs.Aes.{IsKey};
-ghost use Rattle.crypto_specs.specs.Modes.{block_number};
+ghost use Rattle.crypto_specs.specs.Prelude.{IsKey, block_number};
 ghost use Rattle.aead_streams.specs.declared.counter_width.CounterWidth.TheVariants.{Whole};
 ghost use Rattle.aead_streams.specs.Streams.{IsAt};
-ghost use Rattle.store_model.specs.Call.{buffer_after};
-ghost use Rattle.store_model.specs.Outcome.{given, reply_unless};
-ghost use Rattle.store_model.specs.CipherOperations.{CipherGenerateIv, CipherWork, cipher_step, cipher_work, generate_iv_rows, set_iv_rows, takes_iv, with_iv};
+ghost use Rattle.store_model.specs.Prelude.{buffer_after, given, reply_unless, CipherGenerateIv, CipherWork, cipher_step, cipher_work, generate_iv_rows, set_iv_rows, takes_iv, with_iv};
 ghost use Rattle.key_policy.specs.Modes.{model_mode};
 ghost use Rattle.key_policy.specs.Names.{NamesMode};
 ghost use Rattle.cipher_states.specs.States.{HoldsCipher, IsClearRunningCipher};

@@ -1,9 +1,8 @@
 // A cipher in several parts.
 ghost use Rattle.std.specs.Prelude.{◌≡◌, IsTrue, true, false};
-ghost use Rattle.crypto_specs.specs.Aes.{IsKey};
+ghost use Rattle.crypto_specs.specs.Prelude.{IsKey};
 ghost use Rattle.service_calls.specs.Answers.{plain_reply};
-ghost use Rattle.store_model.specs.Operations.{Operation, Inactive, is_inactive};
-ghost use Rattle.store_model.specs.CipherOperations.{CipherWork};
+ghost use Rattle.store_model.specs.Prelude.{Operation, Inactive, is_inactive, CipherWork};
 ghost use Rattle.multipart.specs.declared.Phase.TheVariants as phases;
 ghost use Rattle.alg_encoding.specs.declared.table.Class.TheVariants.{Cipher};
 ghost use Rattle.key_policy.specs.Names.{IsOfClass};

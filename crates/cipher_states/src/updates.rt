@@ -2,11 +2,8 @@
 ghost use Rattle.std.specs.Prelude.{◌≡◌, ◌-◌, ◌≤◌, IfOk, OnOk, length, true};
 ghost use Rattle.std.specs.Result.{result_err};
 ghost use Rattle.psa_status.specs.Rows.{first_row};
-ghost use Rattle.crypto_specs.specs.Aes.{IsKey};
-ghost use Rattle.store_model.specs.Rules.{total_limit};
-ghost use Rattle.store_model.specs.Call.{buffer_after};
-ghost use Rattle.store_model.specs.Outcome.{given, reply_unless};
-ghost use Rattle.store_model.specs.CipherOperations.{CipherWork, cipher_fresh, cipher_update_rows, takes_text, with_text};
+ghost use Rattle.crypto_specs.specs.Prelude.{IsKey};
+ghost use Rattle.store_model.specs.Prelude.{total_limit, buffer_after, given, reply_unless, CipherWork, cipher_fresh, cipher_update_rows, takes_text, with_text};
 ghost use Rattle.cipher_states.specs.States.{HoldsCipher, due_now};
 
 use crate::running::{RunningCipher, is_stream};

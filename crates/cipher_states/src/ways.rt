@@ -1,6 +1,6 @@
 // How ECB and CBC make blocks of blocks (SP 800-38A, sections 6.1 and 6.2).
 ghost use Rattle.std.specs.Prelude.{◌≡◌, ◌%◌, ◌++◌, true, length, drop};
-ghost use Rattle.crypto_specs.specs.Aes.{IsKey};
+ghost use Rattle.crypto_specs.specs.Prelude.{IsKey};
 ghost use Rattle.key_policy.specs.Modes.{model_mode};
 ghost use Rattle.cipher_states.specs.Ways.{cbc_way, chains, ecb_way, next_chain, processed, way_of};
 

@@ -2,9 +2,7 @@
 use Rattle.std.proofs.Common.{◌≡◌, ℕ, zero, suc, ◌+◌, ◌*◌, List, [], ◌∷◌, ◌++◌, take, drop, refl, ap, ◌∙◌, arith}
 use Rattle.std.proofs.lemmas.List.{drop-drop}
 use Rattle.std.proofs.lemmas.List.Sums.{fold-append}
-use Rattle.crypto_specs.specs.Bytes.{xor_bytes}
-use Rattle.crypto_specs.specs.Cmac.{chain_step, chained}
-use Rattle.crypto_specs.specs.Modes.{blocks}
+use Rattle.crypto_specs.specs.Prelude.{xor_bytes, chain_step, chained, blocks}
 
 -- one more block
 pub blocks-add-one : (n : ℕ) (xs : List ℕ) → blocks (n + 1) xs ≡ blocks n xs ++ take 16 (drop (16 * n) xs) ∷ []

@@ -3,10 +3,7 @@ use Rattle.std.proofs.Common.{◌≡◌, ℕ, ◌+◌, ◌-◌, ◌*◌, ◌^◌
 use Rattle.std.specs.Prelude.{replicate}
 use Rattle.std.proofs.lemmas.Bool.{cases_eq, eq-eqb, ne_eqb}
 use Rattle.std.proofs.lemmas.List.{length-append, length-drop, drop-append-le, take_all, drop_all}
-use Rattle.crypto_specs.specs.Aes.{aes_encrypt}
-use Rattle.crypto_specs.specs.Bytes.{xor_bytes}
-use Rattle.crypto_specs.specs.Cmac.{chained, cmac, doubled, front_count, last_block, subkey1, subkey2}
-use Rattle.crypto_specs.specs.Modes.{blocks, number_block}
+use Rattle.crypto_specs.specs.Prelude.{aes_encrypt, xor_bytes, chained, cmac, doubled, front_count, last_block, subkey1, subkey2, blocks, number_block}
 use Rattle.cmac_ops.specs.Chains.{Holds, IsChained}
 use Rattle.cmac_ops.specs.declared.chain.Chain.{Chain}
 use Rattle.crypto_specs.proofs.Blocks.{blocks-append}

@@ -1,6 +1,6 @@
 -- Blocks as numbers.
 use Rattle.std.proofs.Common.{◌≡◌, ℕ, ◌^◌, ◌<◌, List, length, sym, ap, ◌∙◌}
-use Rattle.crypto_specs.specs.Modes.{block_number, number_block}
+use Rattle.crypto_specs.specs.Prelude.{block_number, number_block}
 use Rattle.cipher_blocks.proofs.BlockNumbers.{number_of_block}
 
 -- a block has 16 bytes

@@ -1,8 +1,6 @@
 -- What a chain over a message's blocks stands for (SP 800-38B, 6.2).
 use Rattle.std.specs.Prelude.{◌≡◌, ℕ, ◌+◌, ◌*◌, List, [], length, take, drop, replicate}
-use Rattle.crypto_specs.specs.Aes.{aes_encrypt}
-use Rattle.crypto_specs.specs.Cmac.{chained}
-use Rattle.crypto_specs.specs.Modes.{blocks, number_block}
+use Rattle.crypto_specs.specs.Prelude.{aes_encrypt, chained, blocks, number_block}
 use Rattle.cmac_ops.specs.declared.chain.Chain.{Chain}
 
 -- under this key, the first blocks of the message are chained, and the block holds what is left of it

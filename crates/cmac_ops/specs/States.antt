@@ -1,6 +1,6 @@
 -- What a running CMAC (SP 800-38B) stands for.
 use Rattle.std.specs.Prelude.{◌≡◌, ℕ, List, []}
-use Rattle.crypto_specs.specs.Aes.{IsKey}
+use Rattle.crypto_specs.specs.Prelude.{IsKey}
 use Rattle.cmac_ops.specs.Chains.{Holds, IsClear}
 use Rattle.cmac_ops.specs.declared.state.CmacState.{CmacState}
 

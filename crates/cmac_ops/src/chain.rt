@@ -1,9 +1,7 @@
 // The chain over a message's blocks, whose last one is kept back (SP 800-38B, section 6.2).
 
 ghost use Rattle.std.specs.Prelude.{◌≡◌, ◌+◌, ◌-◌, ◌<◌, ◌≤◌, ℕ, List, [], ◌∷◌, ◌++◌, length, replicate, take};
-ghost use Rattle.crypto_specs.specs.Aes.{IsKey, aes_encrypt};
-ghost use Rattle.crypto_specs.specs.Cmac.{cmac, doubled, last_block};
-ghost use Rattle.crypto_specs.specs.Modes.{number_block};
+ghost use Rattle.crypto_specs.specs.Prelude.{IsKey, aes_encrypt, cmac, doubled, last_block, number_block};
 
 use aes_core::AesKey;
 use cipher_blocks::number_of;

@@ -2,8 +2,7 @@
 #![tactic(auto)]
 
 ghost use Rattle.std.specs.Prelude.{◌≡◌};
-ghost use Rattle.crypto_specs.specs.Aes.{IsKey, aes_encrypt};
-ghost use Rattle.crypto_specs.specs.Cmac.{cmac};
+ghost use Rattle.crypto_specs.specs.Prelude.{IsKey, aes_encrypt, cmac};
 
 use aes_core::AesKey;
 use chain::Chain;

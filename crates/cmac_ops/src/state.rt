@@ -1,8 +1,7 @@
 // A message that is authenticated piece by piece.
 
 ghost use Rattle.std.specs.Prelude.{◌≡◌, ℕ, List, [], ◌++◌};
-ghost use Rattle.crypto_specs.specs.Aes.{IsKey, aes_encrypt};
-ghost use Rattle.crypto_specs.specs.Cmac.{cmac};
+ghost use Rattle.crypto_specs.specs.Prelude.{IsKey, aes_encrypt, cmac};
 ghost use Rattle.cmac_ops.specs.States.{HoldsCmac, IsKeyed, IsWipedCmac};
 
 use crate::chain::Chain;

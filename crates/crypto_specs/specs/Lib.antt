@@ -14,3 +14,4 @@ pub mod Hkdf
 pub mod Pbkdf2
 pub mod Absorb
 pub mod Laws
+pub mod Prelude

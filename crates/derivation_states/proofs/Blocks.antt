@@ -1,9 +1,8 @@
 -- A block, by the scheme.
 use Rattle.std.proofs.Common.{◌≡◌, ℕ, zero, suc, Bool, true, false, cond, List, refl, ap}
-use Rattle.crypto_specs.specs.Hkdf.{extract, expand_block}
-use Rattle.crypto_specs.specs.Pbkdf2.{pbkdf2_block}
-use Rattle.store_model.specs.CipherOperations.{bytes_or_empty}
-use Rattle.store_model.specs.DerivationOperations.{DerivationWork, is_hkdf, number_or_zero}
+use Rattle.crypto_specs.specs.Prelude.{extract, expand_block, pbkdf2_block}
+use Rattle.store_model.specs.Prelude.{bytes_or_empty, DerivationWork, is_hkdf}
+use Rattle.store_model.specs.DerivationOperations.{number_or_zero}
 use Rattle.derivation_states.specs.Streams.{work_hash, work_block_length, block_at}
 
 pub at_true : (b : Bool) (x y : List ℕ) → b ≡ true → cond b x y ≡ x

@@ -4,10 +4,9 @@ use Rattle.std.proofs.Math.Nat.{mul-suc, div-mul-le_self}
 use Rattle.std.proofs.lemmas.Bool.{cases_Bool}
 use Rattle.std.proofs.lemmas.Nat.{le-div}
 use Rattle.std.proofs.lemmas.List.{length-take, length-drop, take-take, drop-append-le, take-append-drop}
-use Rattle.crypto_specs.specs.Hkdf.{hash_length, extract, expand_block, expand_blocks, expand}
-use Rattle.crypto_specs.specs.Pbkdf2.{pbkdf2_block, pbkdf2_blocks, pbkdf2}
-use Rattle.store_model.specs.CipherOperations.{bytes_or_empty}
-use Rattle.store_model.specs.DerivationOperations.{DerivationWork, is_hkdf, number_or_zero, derived, next_derived, without}
+use Rattle.crypto_specs.specs.Prelude.{hash_length, extract, expand_block, expand_blocks, expand, pbkdf2_block, pbkdf2_blocks, pbkdf2}
+use Rattle.store_model.specs.Prelude.{bytes_or_empty, DerivationWork, is_hkdf, derived, next_derived, without}
+use Rattle.store_model.specs.DerivationOperations.{number_or_zero}
 use Rattle.derivation_states.specs.Streams.{work_hash, work_block_length, block_at}
 use Rattle.multipart.specs.Dues.{DueGrows}
 use Rattle.derivation_states.proofs.Joined.{joined, joined_same, front_begins, length-joined, front, one_byte}

@@ -2,7 +2,8 @@
 use Rattle.std.proofs.Common.{◌≡◌, ℕ, suc, ◌≤◌, false, List, length, ap, ◌∙◌, inl, inr}
 use Rattle.std.proofs.lemmas.Bool.{cases_Bool}
 use Rattle.crypto_specs.proofs.CodeLengths.{length-expand_block, length-pbkdf2_block}
-use Rattle.store_model.specs.DerivationOperations.{DerivationWork, is_hkdf, number_or_zero}
+use Rattle.store_model.specs.DerivationOperations.{number_or_zero}
+use Rattle.store_model.specs.Prelude.{DerivationWork, is_hkdf}
 use Rattle.derivation_states.specs.Streams.{work_hash, block_at}
 use Rattle.derivation_states.proofs.Blocks.{block_of_hkdf, block_of_pbkdf2}
 

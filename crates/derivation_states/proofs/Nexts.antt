@@ -2,11 +2,10 @@
 use Rattle.std.proofs.Common.{◌≡◌, ℕ, ◌+◌, ◌-◌, ◌≤◌, Bool, true, false, cond, List, Option, Some, None, refl, sym, ap, ◌∙◌, add-one, arith}
 use Rattle.std.specs.Prelude.{is_some, unwrap_or}
 use Rattle.std.specs.Option.{option_map}
-use Rattle.crypto_specs.specs.Hkdf.{extract, expand_block}
-use Rattle.crypto_specs.specs.Pbkdf2.{pbkdf2_block}
+use Rattle.crypto_specs.specs.Prelude.{extract, expand_block, pbkdf2_block}
 use Rattle.hash_ops.specs.Hashes.{hash_of, block_length}
-use Rattle.store_model.specs.CipherOperations.{bytes_or_empty}
-use Rattle.store_model.specs.DerivationOperations.{DerivationWork, is_hkdf, number_or_zero}
+use Rattle.store_model.specs.Prelude.{bytes_or_empty, DerivationWork, is_hkdf}
+use Rattle.store_model.specs.DerivationOperations.{number_or_zero}
 use Rattle.derivation_states.specs.Inputs.{HoldsInputs, given_bytes}
 use Rattle.key_policy.specs.Names.{NamesDerivation}
 use Rattle.derivation_states.specs.Streams.{work_hash, work_block_length, hmac_key, block_at}

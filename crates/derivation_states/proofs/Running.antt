@@ -8,7 +8,8 @@ use Rattle.hash_ops.specs.Hashes.{digest_length}
 use Rattle.hash_ops.specs.declared.Hash.{Hash}
 use Rattle.hash_ops.specs.declared.Hash.TheVariants.{Sha224, Sha256, Sha384, Sha512}
 use Rattle.hash_ops.proofs.Digests.{length-hash_of}
-use Rattle.store_model.specs.DerivationOperations.{DerivationWork, number_or_zero, next_derived, without}
+use Rattle.store_model.specs.DerivationOperations.{number_or_zero}
+use Rattle.store_model.specs.Prelude.{DerivationWork, next_derived, without}
 use Rattle.derivation_states.specs.Inputs.{HoldsInputs}
 use Rattle.key_policy.specs.Names.{NamesDerivation}
 use Rattle.derivation_states.specs.Outputs.{IsRunning}

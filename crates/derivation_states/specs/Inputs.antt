@@ -2,8 +2,7 @@
 use Rattle.std.specs.Prelude.{◌≡◌, ℕ, true, false, List, [], Option, Some, None, is_some, if◌then◌else◌, ◌==◌}
 use Rattle.std.specs.Option.{option_map}
 use Rattle.secret_bytes.specs.Buffer.{IsClear, bytes_of}
-use Rattle.store_model.specs.CipherOperations.{bytes_or_empty}
-use Rattle.store_model.specs.DerivationOperations.{DerivationWork, is_hkdf, salt_step}
+use Rattle.store_model.specs.Prelude.{bytes_or_empty, DerivationWork, is_hkdf, salt_step}
 use Rattle.derivation_states.specs.Streams.{hmac_key}
 use Rattle.derivation_states.specs.declared.input.Input.{Input}
 use Rattle.derivation_states.specs.declared.inputs.Inputs.{Inputs}

@@ -5,10 +5,8 @@ use Rattle.alg_encoding.specs.declared.table.Class.TheVariants.{Derivation}
 use Rattle.psa_status.specs.declared.Status.{Status}
 use Rattle.psa_status.specs.declared.Status.TheVariants.{BadState, InsufficientData}
 use Rattle.psa_status.specs.Rows.{first_row}
-use Rattle.store_model.specs.Rules.{class_rows}
-use Rattle.store_model.specs.Outcome.{given, done}
-use Rattle.store_model.specs.Operations.{Operation, Active, After, goes_on, set_up, unless_failed}
-use Rattle.store_model.specs.DerivationOperations.{DerivationWork, derivation_work, key_step_rows, next_derived, output_key_rows, stated_bytes, taken_from, with_key}
+use Rattle.store_model.specs.Prelude.{class_rows, given, done, Operation, Active, After, goes_on, set_up, unless_failed, DerivationWork, derivation_work, key_step_rows, next_derived, output_key_rows, taken_from, with_key}
+use Rattle.store_model.specs.DerivationOperations.{stated_bytes}
 
 -- kdf_setup
 abbrev pub derivation_setup : Operation DerivationWork → ℕ → After DerivationWork

@@ -1,7 +1,7 @@
 -- What the output of a derivation stands for: the bytes that follow those that were taken.
 use Rattle.std.specs.Prelude.{◌≡◌, ◌+◌, ◌*◌, ◌≤◌, false, is_some, take, replicate}
 use Rattle.hash_ops.specs.Hashes.{digest_length}
-use Rattle.store_model.specs.DerivationOperations.{DerivationWork}
+use Rattle.store_model.specs.Prelude.{DerivationWork}
 use Rattle.derivation_states.specs.Streams.{block_at}
 use Rattle.key_policy.specs.Names.{NamesDerivation}
 use Rattle.derivation_states.specs.declared.output.Output.{Output}

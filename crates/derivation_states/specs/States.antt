@@ -1,7 +1,6 @@
 -- What the state of a derivation stands for.
 use Rattle.multipart.specs.States.{IsOperation}
-use Rattle.store_model.specs.Operations.{Operation}
-use Rattle.store_model.specs.DerivationOperations.{DerivationWork}
+use Rattle.store_model.specs.Prelude.{Operation, DerivationWork}
 use Rattle.derivation_states.specs.Inputs.{IsClearInputs, HoldsInputs}
 use Rattle.derivation_states.specs.Outputs.{IsClearOutput, HoldsOutput}
 use Rattle.derivation_states.specs.declared.derivation.RunningDerivation.{RunningDerivation}

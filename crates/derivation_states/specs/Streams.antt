@@ -1,10 +1,8 @@
 -- What a derivation computes, block by block.
 use Rattle.std.specs.Prelude.{ℕ, zero, suc, List, [], if◌then◌else◌}
-use Rattle.crypto_specs.specs.Hkdf.{extract, expand_block}
-use Rattle.crypto_specs.specs.Pbkdf2.{pbkdf2_block}
-use Rattle.store_model.specs.Algorithms.{digest, hash_block_length, low_byte}
-use Rattle.store_model.specs.CipherOperations.{bytes_or_empty}
-use Rattle.store_model.specs.DerivationOperations.{DerivationWork, is_hkdf, number_or_zero}
+use Rattle.crypto_specs.specs.Prelude.{extract, expand_block, pbkdf2_block}
+use Rattle.store_model.specs.Prelude.{digest, hash_block_length, low_byte, bytes_or_empty, DerivationWork, is_hkdf}
+use Rattle.store_model.specs.DerivationOperations.{number_or_zero}
 
 abbrev pub work_hash : DerivationWork → List ℕ → List ℕ
 work_hash w = digest (low_byte w.alg)

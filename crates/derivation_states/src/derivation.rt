@@ -3,7 +3,8 @@ ghost use Rattle.std.specs.Prelude.{◌≡◌, ◌≤◌, ◌+◌, ◌++◌, ◌
 ghost use Rattle.std.specs.Result.{result_err};
 ghost use Rattle.psa_status.specs.declared.Status.TheVariants.{InsufficientData};
 ghost use Rattle.psa_status.specs.Rows.{first_row, unless};
-ghost use Rattle.store_model.specs.DerivationOperations.{DerivationWork, input_bytes_rows, input_integer_rows, key_step_rows, output_key_rows, output_rows, stated_bytes, with_key};
+ghost use Rattle.store_model.specs.DerivationOperations.{stated_bytes};
+ghost use Rattle.store_model.specs.Prelude.{DerivationWork, input_bytes_rows, input_integer_rows, key_step_rows, output_key_rows, output_rows, with_key};
 ghost use Rattle.derivation_states.specs.Inputs.{stands_at};
 ghost use Rattle.derivation_states.specs.States.{HoldsRunning, IsClearRunningDerivation};
 

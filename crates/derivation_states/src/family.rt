@@ -1,8 +1,6 @@
 // Key derivations among the families of operations.
 ghost use Rattle.std.specs.Prelude.{◌≡◌, false};
-ghost use Rattle.store_model.specs.Outcome.{refusal};
-ghost use Rattle.store_model.specs.Operations.{Operation};
-ghost use Rattle.store_model.specs.DerivationOperations.{DerivationWork, derivation_step};
+ghost use Rattle.store_model.specs.Prelude.{refusal, Operation, DerivationWork, derivation_step};
 ghost use Rattle.service_calls.specs.Meanings.{model_derivation_step};
 ghost use Rattle.derivation_states.specs.States.{IsDerivationOperation};
 ghost use Rattle.multipart.specs.Turns.{loses_key};

@@ -1,7 +1,7 @@
 // An input that may have been given.
 
 ghost use Rattle.std.specs.Prelude.{◌≡◌, ◌+◌, ◌≤◌, ◌++◌, IfOk, false, is_some, length};
-ghost use Rattle.store_model.specs.CipherOperations.{bytes_or_empty};
+ghost use Rattle.store_model.specs.Prelude.{bytes_or_empty};
 
 use psa_status::Memory;
 use secret_bytes::Secret;

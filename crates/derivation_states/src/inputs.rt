@@ -3,7 +3,7 @@
 ghost use Rattle.std.specs.Prelude.{◌≡◌, ◌≤◌, ◌+◌, ◌==◌, ℕ, not, IfOk, OnOk, true, false, is_some, length};
 ghost use Rattle.std.specs.Option.{ForSome};
 ghost use Rattle.psa_status.specs.Rows.{first_row, unless};
-ghost use Rattle.store_model.specs.DerivationOperations.{DerivationWork, input_bytes_rows, input_integer_rows, is_due, is_salt_due, is_secret_due, key_step, key_step_rows, takes_bytes, with_bytes, with_key};
+ghost use Rattle.store_model.specs.Prelude.{DerivationWork, input_bytes_rows, input_integer_rows, is_due, is_salt_due, is_secret_due, key_step, key_step_rows, takes_bytes, with_bytes, with_key};
 ghost use Rattle.key_policy.specs.Names.{NamesDerivation};
 
 use crate::input::Input;

@@ -2,12 +2,9 @@
 #![tactic(auto)]
 
 ghost use Rattle.std.specs.Prelude.{◌≡◌, ◌≤◌, ◌+◌, ◌/◌, min, IfOk, OnOk, OnErr, length};
-ghost use Rattle.store_model.specs.Operations.{Operation, Inactive, InError, Active, is_inactive};
-ghost use Rattle.store_model.specs.DerivationOperations.{DerivationWork, derivation_step, derived, GetCapacity, SetCapacity, InputBytes, InputInteger, OutputBytes, VerifyBytes};
+ghost use Rattle.store_model.specs.Prelude.{Operation, Inactive, InError, Active, is_inactive, DerivationWork, derivation_step, derived, GetCapacity, SetCapacity, InputBytes, InputInteger, OutputBytes, VerifyBytes, buffer_after, refusal};
 ghost use Rattle.service_calls.specs.Answers.{AnswersLength, plain_reply};
-ghost use Rattle.store_model.specs.Call.{buffer_after};
 ghost use Rattle.multipart.specs.Dues.{DueGrows};
-ghost use Rattle.store_model.specs.Outcome.{refusal};
 ghost use Rattle.service_calls.specs.Answered.{number_reply};
 ghost use Rattle.derivation_states.specs.Replies.{AnswersFront};
 

@@ -3,7 +3,7 @@
 ghost use Rattle.std.specs.Prelude.{◌≡◌, ◌+◌, ◌*◌, ◌≤◌, ◌<◌, ◌==◌, [], ◌∷◌, ℕ, not, IfOk, IfErr, true, is_some, length, take, drop, min, bytes_eq};
 ghost use Rattle.psa_status.specs.declared.Status.TheVariants.{InsufficientData};
 ghost use Rattle.hash_ops.specs.Hashes.{digest_length};
-ghost use Rattle.store_model.specs.DerivationOperations.{DerivationWork, derivation_work, next_derived, without};
+ghost use Rattle.store_model.specs.Prelude.{DerivationWork, derivation_work, next_derived, without};
 ghost use Rattle.derivation_states.specs.Inputs.{HoldsInputs};
 ghost use Rattle.key_policy.specs.Names.{NamesDerivation, block_limit};
 ghost use Rattle.derivation_states.specs.Streams.{block_at};

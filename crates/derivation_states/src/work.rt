@@ -3,7 +3,7 @@ use crate::derivation::RunningDerivation;
 use multipart::Work;
 
 impl Work for RunningDerivation {
-    ghost use Rattle.store_model.specs.DerivationOperations.{DerivationWork};
+    ghost use Rattle.store_model.specs.Prelude.{DerivationWork};
     ghost use Rattle.derivation_states.specs.States.{HoldsRunning, IsClearRunningDerivation};
 
     ghost Said = { DerivationWork };

@@ -5,7 +5,7 @@ use Rattle.std.specs.Option.{option_map, option_map_or}
 use Rattle.psa_status.specs.Causes.{one_more}
 use Rattle.alg_encoding.specs.declared.table.Class.TheVariants as class
 use Rattle.alg_encoding.specs.Encoding.{class_of, IsConcrete}
-use Rattle.store_model.specs.Algorithms.{tag_bytes}
+use Rattle.store_model.specs.Prelude.{tag_bytes}
 use Rattle.driver_dispatch.specs.Held.{HeldKey, HeldKeys, held_key}
 
 abbrev pub IsSomeKey : Option HeldKey → (HeldKey → Type 0) → Type 0

@@ -2,10 +2,8 @@
 ghost use Rattle.std.specs.Prelude.{◌≡◌, ◌%◌, ℕ, ⊤, Option, OnOk, IsTrue, length};
 ghost use Rattle.psa_status.specs.Causes.{HasCause};
 ghost use Rattle.key_attributes.specs.Checks.{is_key_type, permits_size};
-ghost use Rattle.crypto_specs.specs.Aes.{aes_encrypt};
-ghost use Rattle.crypto_specs.specs.Modes.{ecb_encrypt};
-ghost use Rattle.store_model.specs.Algorithms.{mac_of};
-ghost use Rattle.store_model.specs.Rules.{fits_type};
+ghost use Rattle.crypto_specs.specs.Prelude.{aes_encrypt, ecb_encrypt};
+ghost use Rattle.store_model.specs.Prelude.{mac_of, fits_type};
 ghost use Rattle.driver_dispatch.specs.Held.{HeldKeys, with_copy, with_held_key, without_key};
 ghost use Rattle.driver_dispatch.specs.Calls.{Changes, CountsServed, HoldsHandle, IsMac, Lacks};
 

@@ -3,7 +3,8 @@ use Rattle.std.proofs.Common.{◌≡◌, ℕ, suc, ◌+◌, ◌-◌, ◌/◌, �
 use Rattle.std.specs.Int.{bit_at}
 use Rattle.std.specs.Int.Bits.{xor_zero_r, xor_assoc}
 use Rattle.std.proofs.lemmas.Bool.{eq-eqb, ne_eqb}
-use Rattle.crypto_specs.specs.Ghash.{times_x, sum_of_shifts, reduction}
+use Rattle.crypto_specs.specs.Ghash.{sum_of_shifts}
+use Rattle.crypto_specs.specs.Prelude.{times_x, reduction}
 
 pub times_x_odd : (v : ℕ) → v % 2 ≡ 1 → bit_xor (v / 2) reduction ≡ times_x v
 unfolding times_x

@@ -7,7 +7,8 @@ use Rattle.std.specs.Int.Bits.{xor_zero_r, xor_assoc, xor_shifted}
 use Rattle.std.proofs.lemmas.Nat.{shr-shr, xor_comm}
 use Rattle.std.proofs.lemmas.List.{get_or-map}
 use Rattle.std.proofs.lemmas.List.FromFn.{get_or-range_with_len}
-use Rattle.crypto_specs.specs.Ghash.{times_x, sum_of_shifts}
+use Rattle.crypto_specs.specs.Ghash.{sum_of_shifts}
+use Rattle.crypto_specs.specs.Prelude.{times_x}
 use Rattle.crypto_specs.proofs.FieldLaws.{xor_four}
 use Rattle.crypto_specs.proofs.GhashLaws.{times_x-xor}
 use Rattle.crypto_specs.proofs.Tables.{holds_values, value_of}

@@ -1,7 +1,7 @@
 // The product of blocks, bit by bit (SP 800-38D, section 6.3).
 
 ghost use Rattle.std.specs.Prelude.{◌≡◌, ℕ, ◌%◌};
-ghost use Rattle.crypto_specs.specs.Ghash.{block_product, times_x};
+ghost use Rattle.crypto_specs.specs.Prelude.{block_product, times_x};
 
 // x^128 = x^7 + x^2 + x + 1.
 const REDUCTION: u128 = 0xe1 << 120;

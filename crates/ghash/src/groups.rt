@@ -1,7 +1,7 @@
 // The product of a block and a fixed one, four bits at a time by tables of products of the fixed one.
 
 ghost use Rattle.std.specs.Prelude.{◌≡◌, ℕ, bit_xor};
-ghost use Rattle.crypto_specs.specs.Ghash.{block_product};
+ghost use Rattle.crypto_specs.specs.Prelude.{block_product};
 ghost use Rattle.ghash.specs.Products.{joined, products_of, shifted, times_x4};
 
 use crate::bits::times_x;

@@ -3,7 +3,7 @@
 #![tactic(auto)]
 
 ghost use Rattle.std.specs.Prelude.{◌≡◌, bit_xor, replicate};
-ghost use Rattle.crypto_specs.specs.Ghash.{block_product};
+ghost use Rattle.crypto_specs.specs.Prelude.{block_product};
 
 pub use bits::multiply;
 use groups::{multiply_by, products, times_x64};

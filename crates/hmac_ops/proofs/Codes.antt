@@ -1,6 +1,6 @@
 -- The length of a code.
 use Rattle.std.proofs.Common.{◌≡◌, ℕ, List, length}
-use Rattle.crypto_specs.specs.Hmac.{hmac}
+use Rattle.crypto_specs.specs.Prelude.{hmac}
 use Rattle.hash_ops.specs.Hashes.{hash_of, block_length, digest_length}
 use Rattle.hash_ops.specs.declared.Hash.{Hash}
 use Rattle.hash_ops.proofs.Digests.{length-hash_of}

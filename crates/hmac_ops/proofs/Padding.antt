@@ -4,7 +4,7 @@ use Rattle.std.specs.Prelude.{replicate, nat_lt}
 use Rattle.std.proofs.Math.Seq.{take-append-add}
 use Rattle.std.proofs.lemmas.Bool.{cases_lt, le-ltb, lt-ltb}
 use Rattle.std.proofs.lemmas.List.{length-map, length-replicate, take-replicate, take-map}
-use Rattle.crypto_specs.specs.Hmac.{filled, key_block, xored_with}
+use Rattle.crypto_specs.specs.Prelude.{filled, key_block, xored_with}
 
 -- the front of a filled list
 fill_taken : (k : List ℕ) (b n : ℕ) → length k ≤ b → b ≤ n → take b (filled n k) ≡ filled b k

@@ -1,6 +1,6 @@
 -- What a key for short messages stands for (RFC 2104).
 use Rattle.std.specs.Prelude.{ℕ, List}
-use Rattle.crypto_specs.specs.Hmac.{inner_pad, outer_pad}
+use Rattle.crypto_specs.specs.Prelude.{inner_pad, outer_pad}
 use Rattle.hash_ops.specs.Hashes.{hash_of, block_length}
 use Rattle.hash_ops.specs.declared.Hash.TheVariants.{Sha256}
 use Rattle.hmac_ops.specs.FirstBlocks.{IsFirstBlock, IsWiped}

@@ -1,6 +1,6 @@
 -- What a key made ready and a running HMAC (RFC 2104) stand for.
 use Rattle.std.specs.Prelude.{ℕ, List, ◌++◌}
-use Rattle.crypto_specs.specs.Hmac.{inner_pad, outer_pad}
+use Rattle.crypto_specs.specs.Prelude.{inner_pad, outer_pad}
 use Rattle.hash_ops.specs.Hashes.{hash_of, block_length}
 use Rattle.hash_ops.specs.States.{Holds, IsEmpty}
 use Rattle.hash_ops.specs.declared.Hash.{Hash}

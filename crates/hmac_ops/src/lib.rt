@@ -2,7 +2,7 @@
 #![tactic(auto)]
 
 ghost use Rattle.std.specs.Prelude.{◌≡◌, drop, take};
-ghost use Rattle.crypto_specs.specs.Hmac.{hmac};
+ghost use Rattle.crypto_specs.specs.Prelude.{hmac};
 ghost use Rattle.hash_ops.specs.Hashes.{block_length, digest_length, hash_of};
 
 pub use first_block::FirstBlock;

@@ -1,7 +1,7 @@
 // The block of a key, and what it is xored with.
 
 ghost use Rattle.std.specs.Prelude.{◌≡◌, ◌≤◌, length, take};
-ghost use Rattle.crypto_specs.specs.Hmac.{filled, key_block, xored_with};
+ghost use Rattle.crypto_specs.specs.Prelude.{filled, key_block, xored_with};
 ghost use Rattle.hash_ops.specs.Hashes.{block_length, hash_of};
 
 use hash_ops::Hash;

@@ -1,7 +1,7 @@
 // A key of HMAC-SHA-256 for messages that are as long as its codes.
 
 ghost use Rattle.std.specs.Prelude.{◌≡◌, ℕ, List, take};
-ghost use Rattle.crypto_specs.specs.Hmac.{hmac};
+ghost use Rattle.crypto_specs.specs.Prelude.{hmac};
 ghost use Rattle.hash_ops.specs.declared.Hash.TheVariants.{Sha256};
 ghost use Rattle.hash_ops.specs.Hashes.{block_length, hash_of};
 ghost use Rattle.hmac_ops.specs.ShortMessages.{IsShortMessageKey, IsWipedShortMessageKey};
@@ -14,10 +14,7 @@ use hash_ops::Hash;
 fn front(block: &[u8; 128]) -> &[u8; 64]
     ensures { result.now ≡ take 64 block.now }
 {
-    match block.first_chunk::<64>() {
-        Some(front) => front,
-        None => unreachable!(),
-    }
+    block.first_chunk::<64>().unwrap()
 }
 
 /// A key of HMAC-SHA-256 made ready for messages of 32 bytes, which are as long as its codes: the

@@ -1,7 +1,7 @@
 // A message that is authenticated piece by piece.
 
 ghost use Rattle.std.specs.Prelude.{◌≡◌, ◌≤◌, ℕ, List, [], ◌++◌, drop, take};
-ghost use Rattle.crypto_specs.specs.Hmac.{hmac};
+ghost use Rattle.crypto_specs.specs.Prelude.{hmac};
 ghost use Rattle.hash_ops.specs.Hashes.{block_length, digest_length, hash_of};
 ghost use Rattle.hmac_ops.specs.States.{HoldsHmac, IsWipedHmac};
 

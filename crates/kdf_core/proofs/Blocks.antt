@@ -1,7 +1,6 @@
 -- HKDF: the absent salt, and the next block.
 use Rattle.std.proofs.Common.{◌≡◌, ℕ, zero, suc, ◌+◌, ◌-◌, ◌≤◌, List, [], ◌∷◌, ◌++◌, refl, sym, ap, ◌∙◌, arith}
-use Rattle.crypto_specs.specs.Hmac.{hmac}
-use Rattle.crypto_specs.specs.Hkdf.{hash_length, extract, expand_block}
+use Rattle.crypto_specs.specs.Prelude.{hmac, hash_length, extract, expand_block}
 use Rattle.crypto_specs.proofs.HkdfLaws.{absent_salt_is_empty_key}
 
 pub extract_by_hmac : (hash : List ℕ → List ℕ) (n : ℕ) (salt secret : List ℕ) → hash_length hash ≤ n → hmac hash n salt secret ≡ extract hash n salt secret

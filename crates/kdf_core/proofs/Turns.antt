@@ -3,9 +3,7 @@ use Rattle.std.proofs.Common.{◌≡◌, ℕ, zero, suc, ◌+◌, ◌-◌, ◌<�
 use Rattle.std.specs.Int.Bits.{xor_zero_r}
 use Rattle.std.specs.List.{fold}
 use Rattle.std.proofs.lemmas.List.{take_at, drop_at, take-append-drop, length-take, length-drop}
-use Rattle.crypto_specs.specs.Bytes.{xor_bytes}
-use Rattle.crypto_specs.specs.Hmac.{hmac}
-use Rattle.crypto_specs.specs.Pbkdf2.{chain, xor_all}
+use Rattle.crypto_specs.specs.Prelude.{xor_bytes, hmac, chain, xor_all}
 use Rattle.crypto_specs.proofs.XorBytes.{length-xor_bytes, xor_bytes-append}
 
 -- a sum, and c more turns after the turn u

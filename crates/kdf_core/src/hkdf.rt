@@ -1,8 +1,7 @@
 // HKDF (RFC 5869).
 
 ghost use Rattle.std.specs.Prelude.{◌≡◌, ◌≤◌, ◌-◌, [], ◌∷◌, ◌++◌, drop, take};
-ghost use Rattle.crypto_specs.specs.Hkdf.{extract, expand_block};
-ghost use Rattle.crypto_specs.specs.Hmac.{hmac};
+ghost use Rattle.crypto_specs.specs.Prelude.{extract, expand_block, hmac};
 ghost use Rattle.hash_ops.specs.Hashes.{block_length, digest_length, hash_of};
 
 use hash_ops::Hash;

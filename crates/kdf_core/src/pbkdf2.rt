@@ -2,9 +2,7 @@
 
 ghost use Rattle.std.specs.Prelude.{◌≡◌, ◌≤◌, ℕ, List, ◌++◌, drop, length, take};
 ghost use Rattle.std.specs.Int.{w32, to_be_bytes};
-ghost use Rattle.crypto_specs.specs.Bytes.{xor_bytes};
-ghost use Rattle.crypto_specs.specs.Hmac.{hmac};
-ghost use Rattle.crypto_specs.specs.Pbkdf2.{pbkdf2_block};
+ghost use Rattle.crypto_specs.specs.Prelude.{xor_bytes, hmac, pbkdf2_block};
 ghost use Rattle.hash_ops.specs.Hashes.{block_length, digest_length, hash_of};
 ghost use Rattle.hash_ops.specs.declared.Hash.TheVariants.{Sha256};
 ghost use Rattle.hmac_ops.specs.ShortMessages.{IsShortMessageKey};
@@ -44,10 +42,7 @@ fn short_turn(key: &ShortMessageKey, turn: &mut [u8; 64]) -> usize
         → take 32 turn.new ≡ hmac (hash_of Sha256) (block_length Sha256) k (take 32 turn.old) }
     ensures rest { drop 32 turn.new ≡ drop 32 turn.old }
 {
-    let mut code = match turn.first_chunk::<32>() {
-        Some(last) => key.code(last),
-        None => unreachable!(),
-    };
+    let mut code = key.code(turn.first_chunk::<32>().unwrap());
     turn[..32].copy_from_slice(&code);
     code.fill(0);
     32

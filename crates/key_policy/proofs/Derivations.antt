@@ -3,8 +3,7 @@ use Rattle.std.proofs.Common.{◌≡◌, ℕ, Bool, true, false, cond, refl, ap}
 use Rattle.std.specs.Prelude.{Option, Some}
 use Rattle.psa_status.specs.Rows.{first_row}
 use Rattle.alg_encoding.specs.Encoding.{IsConcrete, is_concrete}
-use Rattle.store_model.specs.Store.{Key}
-use Rattle.store_model.specs.HandleCalls.{derivation_key_rows}
+use Rattle.store_model.specs.Prelude.{Key, derivation_key_rows}
 use Rattle.key_policy.specs.Permissions.{derivation_refusal, pattern_refusal}
 
 not_true : (b : Bool) → (b ≡ true → ⊥) → b ≡ false

@@ -6,8 +6,7 @@ use Rattle.psa_status.specs.declared.Status.TheVariants.{NotPermitted, NotSuppor
 use Rattle.psa_status.specs.Rows.{first_row}
 use Rattle.alg_encoding.specs.declared.table.Class.{Class}
 use Rattle.policy_rules.specs.Policy.{may_use}
-use Rattle.store_model.specs.Store.{Key, is_opaque}
-use Rattle.store_model.specs.Rules.{class_rows, fits_type, use_rows}
+use Rattle.store_model.specs.Prelude.{Key, is_opaque, class_rows, fits_type, use_rows}
 
 -- a table whose last row is that of a key which only a device has
 abbrev Last : (a b c d last : Bool) → Option Status

@@ -4,9 +4,7 @@ use Rattle.std.specs.Prelude.{◌==◌, bit_and, Option, Some, None}
 use Rattle.psa_status.specs.declared.Status.{Status}
 use Rattle.psa_status.specs.declared.Status.TheVariants.{NotPermitted, NotSupported}
 use Rattle.psa_status.specs.Rows.{first_row}
-use Rattle.store_model.specs.Store.{Key, is_opaque}
-use Rattle.store_model.specs.KeyUse.{export_rows}
-use Rattle.store_model.specs.Rules.{room_rows}
+use Rattle.store_model.specs.Prelude.{Key, is_opaque, export_rows, room_rows}
 use Rattle.key_policy.specs.Permissions.{export_refusal}
 
 last_alone : (a b : Bool) (last : Option Status) → cond a (Some NotPermitted) (cond b (Some NotSupported) None) ≡ None → cond a (Some NotPermitted) (cond b (Some NotSupported) last) ≡ last

@@ -11,15 +11,12 @@ use Rattle.alg_encoding.specs.declared.table.Lengths.TheVariants as lengths
 use Rattle.alg_encoding.specs.Table.{has_length, permits_length, hash_length}
 use Rattle.alg_encoding.specs.Encoding.{entry_of, class_of, base_of, lengths_of, tag_length_of, is_concrete}
 use Rattle.alg_encoding.proofs.Facts.{entry_of-all, base_of-low, tag_length_of-permitted}
-use Rattle.crypto_specs.specs.Aes.{aes_encrypt}
-use Rattle.crypto_specs.specs.Cmac.{cmac}
-use Rattle.crypto_specs.specs.Hmac.{hmac}
+use Rattle.crypto_specs.specs.Prelude.{aes_encrypt, cmac, hmac}
 use Rattle.hash_ops.specs.declared.Hash.{Hash}
 use Rattle.hash_ops.specs.declared.Hash.TheVariants.{Sha224, Sha256, Sha384, Sha512}
 use Rattle.hash_ops.specs.Hashes as hashes
-use Rattle.store_model.specs.Algorithms.{cmac_base, digest, hash_block_length, is_hmac, number_or_zero, low_byte, whole_mac}
-use Rattle.store_model.specs.Ciphers.{mode_of}
-use Rattle.store_model.specs.Rules.{class_number}
+use Rattle.store_model.specs.Algorithms.{number_or_zero}
+use Rattle.store_model.specs.Prelude.{cmac_base, digest, hash_block_length, is_hmac, low_byte, whole_mac, mode_of, class_number}
 use Rattle.store_model.specs.Aeads as model
 use Rattle.store_model.specs.DerivationOperations as derivations
 use Rattle.key_policy.specs.declared.modes.Mode.{Mode}

@@ -3,8 +3,7 @@ use Rattle.std.specs.Prelude.{ℕ, Result}
 use Rattle.psa_status.specs.declared.Status.{Status}
 use Rattle.psa_status.specs.Rows.{◌>>=◌}
 use Rattle.key_attributes.specs.declared.Attributes.{Attributes}
-use Rattle.store_model.specs.Store.{Store}
-use Rattle.store_model.specs.Creation.{recorded_of}
+use Rattle.store_model.specs.Prelude.{Store, recorded_of}
 
 -- what the table of creations makes of them, or the refusal that came before it
 abbrev pub recorded_after : Store → (caller bytes : ℕ) → Result Attributes Status → Result Attributes Status

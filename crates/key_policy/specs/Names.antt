@@ -6,16 +6,12 @@ use Rattle.alg_encoding.specs.declared.table.Lengths.TheVariants as lengths
 use Rattle.alg_encoding.specs.Table.{permits_length}
 use Rattle.alg_encoding.specs.Encoding.{base_of}
 use Rattle.psa_status.specs.Rows.{first_row}
-use Rattle.crypto_specs.specs.Aes.{aes_encrypt}
-use Rattle.crypto_specs.specs.Cmac.{cmac}
-use Rattle.crypto_specs.specs.Hmac.{hmac}
+use Rattle.crypto_specs.specs.Prelude.{aes_encrypt, cmac, hmac}
 use Rattle.hash_ops.specs.declared.Hash.{Hash}
 use Rattle.hash_ops.specs.Hashes as hashes
-use Rattle.store_model.specs.Algorithms.{cmac_base, digest, hash_block_length, hash_length_of, low_byte, tag_bytes, whole_mac}
+use Rattle.store_model.specs.Prelude.{cmac_base, digest, hash_block_length, hash_length_of, low_byte, tag_bytes, whole_mac, mode_of, class_rows, total_limit}
 use Rattle.store_model.specs.Aeads as model
-use Rattle.store_model.specs.Ciphers.{mode_of}
 use Rattle.store_model.specs.DerivationOperations as derivations
-use Rattle.store_model.specs.Rules.{class_rows, total_limit}
 use Rattle.key_policy.specs.declared.modes.Mode.{Mode}
 use Rattle.key_policy.specs.declared.algorithms.Algorithm.{Algorithm}
 use Rattle.key_policy.specs.declared.algorithms.Algorithm.TheVariants as family

@@ -6,11 +6,8 @@ use Rattle.psa_status.specs.Rows.{first_row}
 use Rattle.alg_encoding.specs.declared.table.Class.{Class}
 use Rattle.alg_encoding.specs.declared.table.Class.TheVariants.{Cipher, Aead}
 use Rattle.alg_encoding.specs.Encoding.{base_of, is_concrete}
-use Rattle.crypto_specs.specs.Aes.{IsKey}
-use Rattle.store_model.specs.Store.{Key}
-use Rattle.store_model.specs.Algorithms.{is_hmac, cmac_base}
-use Rattle.store_model.specs.HandleCalls.{derivation_key_rows}
-use Rattle.store_model.specs.KeyUse.{export_rows}
+use Rattle.crypto_specs.specs.Prelude.{IsKey}
+use Rattle.store_model.specs.Prelude.{Key, is_hmac, cmac_base, derivation_key_rows, export_rows}
 use Rattle.key_policy.specs.Names.{IsOfClass}
 
 -- the rows of EXPORT but for that of the room, which comes last

@@ -5,8 +5,7 @@ use Rattle.psa_status.specs.Rows.{first_row}
 use Rattle.alg_encoding.specs.declared.algorithm.Alg.{Alg}
 use Rattle.alg_encoding.specs.declared.table.Class.{Class}
 use Rattle.alg_encoding.specs.declared.table.Class.TheVariants.{Mac, Cipher, Aead}
-use Rattle.store_model.specs.Store.{Key}
-use Rattle.store_model.specs.Rules.{cipher_usage, mac_usage, use_rows}
+use Rattle.store_model.specs.Prelude.{Key, cipher_usage, mac_usage, use_rows}
 use Rattle.service_calls.specs.declared.handle_calls.Purpose.{Purpose}
 use Rattle.service_calls.specs.declared.handle_calls.Purpose.TheVariants.{SignMac, VerifyMac, EncryptCipher, DecryptCipher, EncryptAead, DecryptAead}
 use Rattle.key_policy.specs.declared.key_use.KeyUse.{KeyUse}

@@ -5,8 +5,7 @@ ghost use Rattle.psa_status.specs.Rows.{first_row};
 ghost use Rattle.psa_status.specs.declared.Status.TheVariants.{InvalidArgument, NotSupported};
 ghost use Rattle.alg_encoding.specs.declared.table.Class.TheVariants as class;
 ghost use Rattle.alg_encoding.specs.Encoding.{class_of, is_concrete};
-ghost use Rattle.store_model.specs.Algorithms.{is_hmac};
-ghost use Rattle.store_model.specs.Rules.{class_rows};
+ghost use Rattle.store_model.specs.Prelude.{is_hmac, class_rows};
 ghost use Rattle.key_policy.specs.Names.{Names, block_limit, is_hkdf, NamesAead, NamesDerivation, NamesHash, NamesMac, NamesMode};
 ghost use Rattle.key_policy.specs.Parse.{aead_at, algorithm_at, class_in, derivation_at, hashed, is_hmac_in, mac_at};
 

@@ -3,10 +3,7 @@ ghost use Rattle.std.specs.Prelude.{◌≡◌, ℕ, List, [], ◌∷◌, length,
 ghost use Rattle.psa_status.specs.declared.Status.TheVariants.{NotSupported};
 ghost use Rattle.psa_status.specs.Rows.{first_row, unless};
 ghost use Rattle.key_attributes.specs.Checks.{permits_size};
-ghost use Rattle.store_model.specs.Algorithms.{is_hmac};
-ghost use Rattle.store_model.specs.HandleCalls.{fits_step};
-ghost use Rattle.store_model.specs.Rules.{fits_type, use_rows};
-ghost use Rattle.store_model.specs.Store.{Key, is_opaque};
+ghost use Rattle.store_model.specs.Prelude.{is_hmac, fits_step, fits_type, use_rows, Key, is_opaque};
 ghost use Rattle.key_policy.specs.Parse.{is_hmac_in};
 ghost use Rattle.key_policy.specs.Permissions.{IsKeyFor, derivation_refusal, export_refusal};
 

@@ -1,7 +1,6 @@
 // What a copy of a key is asked to have.
 ghost use Rattle.std.specs.Prelude.{◌≡◌, ℕ, Some, length};
-ghost use Rattle.store_model.specs.Store.{Key, Store};
-ghost use Rattle.store_model.specs.Copies.{differs, recorded_copy};
+ghost use Rattle.store_model.specs.Prelude.{Key, Store, differs, recorded_copy};
 ghost use Rattle.key_policy.specs.Copies.{recorded_after};
 
 use key_attributes::{Attributes, Usage};

@@ -2,7 +2,7 @@
 ghost use Rattle.std.specs.Prelude.{◌≡◌, ℕ, List, length, IsTrue, OnOk, Some};
 ghost use Rattle.psa_status.specs.Rows.{unless};
 ghost use Rattle.key_attributes.specs.Checks.{permits_size};
-ghost use Rattle.store_model.specs.Store.{Key};
+ghost use Rattle.store_model.specs.Prelude.{Key};
 ghost use Rattle.key_policy.specs.Uses.{FitsUse, use_refusal, used_for};
 
 use crate::checks::{check_derivation, check_export, check_local, check_use};

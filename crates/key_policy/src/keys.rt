@@ -1,6 +1,6 @@
 // AES keys.
 ghost use Rattle.std.specs.Prelude.{◌≡◌};
-ghost use Rattle.crypto_specs.specs.Aes.{IsKey};
+ghost use Rattle.crypto_specs.specs.Prelude.{IsKey};
 
 use aes_core::AesKey;
 
@@ -9,8 +9,5 @@ pub fn aes_key(bytes: &[u8]) -> AesKey
     requires { IsKey bytes.now }
     ensures { result ≡ bytes.now }
 {
-    match AesKey::new(bytes) {
-        Some(key) => key,
-        None => unreachable!(),
-    }
+    AesKey::new(bytes).unwrap()
 }

@@ -1,6 +1,6 @@
 // The modes of the cipher algorithms.
 ghost use Rattle.std.specs.Prelude.{◌≡◌, ◌≤◌, ◌<◌, ◌^◌};
-ghost use Rattle.store_model.specs.Ciphers.{enciphered_length, is_ciphertext_length, iv_length, takes_whole_blocks};
+ghost use Rattle.store_model.specs.Prelude.{enciphered_length, is_ciphertext_length, iv_length, takes_whole_blocks};
 ghost use Rattle.key_policy.specs.Modes.{model_mode};
 
 /// The modes of the cipher algorithms.

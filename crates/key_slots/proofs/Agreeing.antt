@@ -12,8 +12,7 @@ use Rattle.key_attributes.specs.Checks.{persistence}
 use Rattle.key_attributes.specs.declared.Attributes.{Attributes}
 use Rattle.std.proofs.lemmas.Bool.{eqb-true}
 use Rattle.std.proofs.lemmas.Bool.Decides.{nat_tests}
-use Rattle.store_model.specs.Store.{Key, Store, is_volatile}
-use Rattle.store_model.specs.Sound.{IsSoundStore, HasNumber}
+use Rattle.store_model.specs.Prelude.{Key, Store, is_volatile, IsSoundStore, HasNumber}
 use Rattle.key_slots.specs.Holdings.{Pairs, Gains, named, same}
 use Rattle.key_slots.specs.Standing.{Agrees, StandsAt, IsGone, SlotHasKey, Puts, IsThereOrNew, KeepsKeys, IsVolatileKey, is_filling, pairs_on}
 use Rattle.key_slots.proofs.Pairs.{counted, elsewhere, was_out, nobody, nothing_out, one_more, one_less, one_filling, no_filling, is_lease, is_fill}

@@ -15,9 +15,7 @@ use Rattle.key_attributes.specs.Checks.{persistence, location, is_lifetime}
 use Rattle.slot_states.specs.declared.SlotState.{SlotState}
 use Rattle.slot_states.specs.declared.SlotState.TheVariants.{Empty, Filling, Full, Pending}
 use Rattle.slot_table.specs.Slots.{Slot, Table, slot_at, is_empty_state, is_full, is_idle, CanReserve, IsLawfulSlot, IsLawful}
-use Rattle.store_model.specs.Store.{Key, Store, has_secure_element, is_volatile, is_volatile_of}
-use Rattle.store_model.specs.Creation.{identified}
-use Rattle.store_model.specs.Sound.{IsChecked, IsSoundStore, as_stated}
+use Rattle.store_model.specs.Prelude.{Key, Store, has_secure_element, is_volatile, is_volatile_of, identified, IsChecked, IsSoundStore, as_stated}
 use Rattle.key_slots.specs.Standing.{Agrees, SlotHasKey, is_filling}
 use Rattle.key_slots.proofs.Agreeing.{readers_out, holds_its_key}
 use Rattle.key_slots.specs.Holdings.{Pairs, same, names, named, IsHolding, AreHoldings}

@@ -5,7 +5,7 @@ use Rattle.slot_states.specs.declared.SlotState.{SlotState}
 use Rattle.slot_states.specs.declared.SlotState.TheVariants.{Filling}
 use Rattle.secret_bytes.specs.Buffer.{bytes_of}
 use Rattle.slot_table.specs.Slots.{Slot, slot_at, is_full, is_pending, holds_key}
-use Rattle.store_model.specs.Store.{Key, Store, is_volatile, is_opaque}
+use Rattle.store_model.specs.Prelude.{Key, Store, is_volatile, is_opaque}
 use Rattle.key_slots.specs.Holdings.{Pairs, named}
 
 -- the bytes that a slot has of a key: none of one that a secure element holds

@@ -1,8 +1,7 @@
 // Laws of slots that stand for keys, as the contracts of functions that do nothing.
 ghost use Rattle.std.specs.Prelude.{◌≤◌, ◌<◌, ℕ, List, [], replicate};
 ghost use Rattle.slot_table.specs.Slots.{Slot, CanReserve, IsLawful, Table, empty_slot, slot_at};
-ghost use Rattle.store_model.specs.Store.{Store};
-ghost use Rattle.store_model.specs.Sound.{IsSoundStore};
+ghost use Rattle.store_model.specs.Prelude.{Store, IsSoundStore};
 ghost use Rattle.key_slots.specs.Holdings.{Pairs, AreHoldings};
 ghost use Rattle.key_slots.specs.Standing.{Agrees, KeepsKeys, IsVolatileKey};
 ghost use Rattle.std.specs.FinMap as map;

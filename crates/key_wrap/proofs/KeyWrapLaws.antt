@@ -5,7 +5,7 @@ use Rattle.std.specs.Int.{w64, to_be_bytes, byte_at, bytes_high_first}
 use Rattle.std.proofs.lemmas.List.{take_at, drop_at, take-append-drop, take-take, length-take, length-drop, length-append}
 use Rattle.std.proofs.lemmas.Slice.Eq.{bytes_eq-Decides}
 use Rattle.key_wrap.specs.KeyWrap.{initial_value, xor_number, wrap_step, wrap_steps, wrap, unwrap_step, unwrap_steps, unwrap}
-use Rattle.crypto_specs.specs.Laws.{AreBytes, IsBlock, IsUndoneBy}
+use Rattle.crypto_specs.specs.Prelude.{AreBytes, IsBlock, IsUndoneBy}
 use Rattle.crypto_specs.proofs.XorBytes.{length-xor_bytes, xor_bytes_twice}
 use Rattle.crypto_specs.proofs.CipherInverseLists.{HasBytes, none_bytes, more_bytes, bytes_of_all, all_of_bytes, joined_bytes, take_bytes, drop_bytes, xored_bytes}
 

@@ -2,9 +2,7 @@
 use Rattle.std.proofs.Common.{◌≡◌, ℕ, List, [], ◌∷◌, refl, ap, ◌∙◌}
 use Rattle.std.specs.Prelude.{Some}
 use Rattle.crypto_specs.specs.Field.{sum_of_shifts}
-use Rattle.crypto_specs.specs.KeyExpansion.{power_of_x}
-use Rattle.crypto_specs.specs.Aes.{aes_encrypt}
-use Rattle.crypto_specs.specs.AesInverse.{aes_decrypt}
+use Rattle.crypto_specs.specs.Prelude.{power_of_x, aes_encrypt, aes_decrypt}
 use Rattle.key_wrap.specs.KeyWrap.{wrap_steps, wrap, unwrap_steps, unwrap}
 use Rattle.crypto_specs.proofs.TableAes.{by_table, rounds_by, inv_rounds_by, expanded_by, schedule_by, encrypt_by, decrypt_by, table_encrypt, table_decrypt, encrypts_by_table, decrypts_by_table}
 

@@ -3,7 +3,7 @@
 -- the registers R 1, .., R n, 8 bytes each, in the form that shifts (2.2.1 and 2.2.2).
 use Rattle.std.specs.Prelude.{ℕ, zero, suc, ◌+◌, ◌-◌, ◌*◌, ◌/◌, List, ◌++◌, length, take, drop, replicate, cond, bytes_eq, Option, Some, None}
 use Rattle.std.specs.Int.{w64, to_be_bytes}
-use Rattle.crypto_specs.specs.Bytes.{xor_bytes}
+use Rattle.crypto_specs.specs.Prelude.{xor_bytes}
 
 -- the initial value (2.2.3.1)
 abbrev pub initial_value : List ℕ

@@ -1,19 +1,23 @@
-//! The service as a library: two callers share a key of a store in memory. docs/LIBRARY.md goes through it.
+//! The service as a library: two callers share a key of a store in memory, and five more see what refused calls leave.
+//! docs/LIBRARY.md goes through it.
 #![tactic(auto)]
 
-ghost use Rattle.std.specs.Prelude.{◌≡◌, ◌≤◌, ℕ, All, Some, length};
+mod limits;
+mod parts;
+
+ghost use Rattle.std.specs.Prelude.{◌≡◌, ◌≤◌, ℕ, All, length};
 ghost use Rattle.driver_dispatch.specs.Calls.{Lacks};
-ghost use Rattle.driver_dispatch.specs.Held.{no_keys};
 ghost use Rattle.callers.specs.Ready.{IsReady};
-ghost use Rattle.locked_store.specs.Shared.{world};
+ghost use Rattle.locked_store.specs.Prelude.{world};
 ghost use Rattle.caller_service.specs.Replies.{MayCall};
 
+use crate::parts::{failing_element, new_disk};
 use admission::{Admission, Rules};
 use alg_encoding::Alg;
 use caller_service::{Closed, Service};
 use callers::{Caller, NoGate};
-use disk_face::{Disk, Fails, MemoryDisk};
-use driver_dispatch::{Devices, Drivers};
+use disk_face::Disk;
+use driver_dispatch::Devices;
 use key_attributes::{Attributes, KeyId, KeyType, Lifetime, Policy, Usage};
 use psa_status::Status;
 use std::alloc::Global;
@@ -22,7 +26,7 @@ use std::process::ExitCode;
 use std::sync::Wait;
 
 /// How much the calls of one caller may count together.
-const BUDGET: u64 = 1000;
+const BUDGET: u64 = 3;
 
 const CMAC: u32 = 0x03c0_0200;
 
@@ -92,12 +96,33 @@ fn make_call<D: Disk, A: Devices, C: Admission, R: Wait>(
     }
 }
 
-// Makes the calls of all callers. The answer is the last refusal, where there is one.
+/// What the callers saw: the MAC, and whether refused calls left what they should.
+#[derive(Clone, Copy, Drop)]
+struct Seen {
+    mac: [u8; 16],
+    keeps_limits: bool,
+}
+
+// Makes all calls of one caller, and notes what it saw.
+fn make_calls<D: Disk, A: Devices, C: Admission, R: Wait>(
+    rt: &R,
+    service: &Service<D, A, C, NoGate>,
+    caller: &mut Caller<D, A, C>,
+    seen: &mut Seen,
+) -> Result<(), Status>
+    requires { MayCall service.now caller.old }
+    ensures { MayCall service.now caller.new }
+{
+    seen.keeps_limits &= limits::keeps_limits(rt, service, caller);
+    make_call(rt, service, caller, &mut seen.mac)
+}
+
+// Makes the calls of all callers. The answer is the last refusal of those that share the key, where there is one.
 fn make_all<D: Disk, A: Devices, C: Admission, R: Wait>(
     rt: &R,
     service: &Service<D, A, C, NoGate>,
     callers: &mut Vec<Caller<D, A, C>>,
-    mac: &mut [u8; 16],
+    seen: &mut Seen,
 ) -> Result<(), Status>
     requires ready { All (IsReady (world service.now.shared) 0) callers.old.items }
     requires within { All (λ caller. caller.spent ≤ service.now.worn) callers.old.items }
@@ -106,7 +131,7 @@ fn make_all<D: Disk, A: Devices, C: Admission, R: Wait>(
 {
     let mut answer = Ok(());
     for caller in callers.iter_mut() {
-        if let Err(status) = make_call(rt, service, caller, mac) {
+        if let Err(status) = make_calls(rt, service, caller, seen) {
             answer = Err(status);
         }
     }
@@ -120,49 +145,48 @@ fn share_key<D: Disk + Drop, A: Devices, C: Admission, R: Wait>(
     disk: D,
     devices: A,
     rules: C,
-) -> Result<[u8; 16], Status>
+) -> Result<Seen, Status>
     requires { (handle : ℕ) → Lacks (A.keys devices) handle }
 {
     let opened = Service::open(alloc, disk, devices, rules, &[0; 32], BUDGET, NoGate);
     let Ok((service, mut callers)) = opened else {
         return Err(Status::StorageFailure);
     };
-    let mut mac = [0; 16];
-    let answer = make_all(rt, &service, &mut callers, &mut mac);
+    let mut seen = Seen {
+        mac: [0; 16],
+        keeps_limits: true,
+    };
+    let answer = make_all(rt, &service, &mut callers, &mut seen);
     let Closed {
         disk: _disk,
         devices: _devices,
         ended: _ended,
     } = service.close(rt, callers);
     match answer {
-        Ok(()) => Ok(mac),
+        Ok(()) => Ok(seen),
         Err(status) => Err(status),
     }
 }
 
-// Devices that hold no key lack every handle.
-fn without_keys<A: Devices>(devices: A) -> A
-    requires { A.keys devices ≡ Some no_keys }
-    ensures { (handle : ℕ) → Lacks (A.keys result) handle }
-{
-    devices
-}
-
-// A store on an empty disk in memory, without a secure element and without rules.
-fn try_service<R: Wait>(rt: &R, alloc: Global) -> Result<[u8; 16], Status> {
-    let Ok(disk) = MemoryDisk::new(alloc, Vec::new(alloc), Fails::From(u64::MAX)) else {
-        return Err(Status::InsufficientMemory);
-    };
-    let devices = without_keys(Drivers::new(Vec::new(alloc)));
+// A store on an empty disk in memory, with a secure element that fails at its second call, and without rules.
+fn try_service<R: Wait>(rt: &R, alloc: Global) -> Result<Seen, Status> {
+    let disk = new_disk(alloc)?;
+    let devices = failing_element(alloc)?;
     let rules = Rules::pick(Vec::new(alloc), &[]);
     share_key(rt, alloc, disk, devices, rules)
 }
 
 fn main(rt: HostRuntime) -> io::Result<ExitCode> {
     match try_service(&rt, rt.alloc()) {
-        Ok(mac) => {
-            let mac = hex::encode(rt.alloc(), &mac)?;
+        Ok(seen) => {
+            let mac = hex::encode(rt.alloc(), &seen.mac)?;
             println!(rt; "{mac}")?;
+            let kept = if seen.keeps_limits {
+                "as they should"
+            } else {
+                "otherwise"
+            };
+            println!(rt; "refused calls left budgets and buffers {kept}")?;
             Ok(ExitCode::SUCCESS)
         }
         Err(status) => {

@@ -4,10 +4,7 @@ use Rattle.std.specs.Prelude.{Option, Some, None, is_some}
 use Rattle.std.specs.Option.{option_map}
 use Rattle.std.specs.FinMap as map
 use Rattle.std.proofs.lemmas.List.{length-set}
-use Rattle.store_model.specs.Store.{Key, Store, made_of, is_volatile_of, live_volatile}
-use Rattle.store_model.specs.Outcome.{Outcome}
-use Rattle.store_model.specs.Handles.{Service, own_of, with_drawn, new_own}
-use Rattle.store_model.specs.Requests.{on_store}
+use Rattle.store_model.specs.Prelude.{Key, Store, made_of, is_volatile_of, live_volatile, Outcome, Service, own_of, with_drawn, new_own, on_store}
 
 -- a key without its number and its creator
 abbrev pub plain_key : Key → Key

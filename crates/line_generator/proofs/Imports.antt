@@ -15,8 +15,7 @@ use Rattle.policy_rules.specs.declared.narrowing.Label.TheVariants.{NoExport, No
 use Rattle.policy_rules.specs.declared.narrowing.Verdict.{Verdict}
 use Rattle.policy_rules.specs.declared.narrowing.Verdict.TheVariants.{Keep, Refuse}
 use Rattle.policy_rules.specs.Narrow.{narrowed, after_verdict, after_rules}
-use Rattle.store_model.specs.Store.{Key, Settings, Store, has_secure_element, is_volatile, is_volatile_of, live_volatile, count_persistent}
-use Rattle.store_model.specs.Creation.{file_rows, room_for_key_rows, recorded_of, identified, new_id, new_key, created}
+use Rattle.store_model.specs.Prelude.{Key, Settings, Store, has_secure_element, is_volatile, is_volatile_of, live_volatile, count_persistent, file_rows, room_for_key_rows, recorded_of, identified, new_id, new_key, created}
 use Rattle.store_model.proofs.Recorded.{then_ok}
 use Rattle.store_model.proofs.Sound.{put}
 use Rattle.line_generator.proofs.Maps.{len_inserted}

@@ -8,22 +8,14 @@ use Rattle.std.proofs.lemmas.List.{map-append, length-map}
 use Rattle.std.proofs.lemmas.List.Sums.{sum-map}
 use Rattle.hex.specs.Hex.{encode_lower}
 use Rattle.sha2.specs.Sha256.{sha256}
-use Rattle.store_model.specs.Call.{Reply, output_bytes}
-use Rattle.store_model.specs.Faults.{Plain}
-use Rattle.store_model.specs.Handles.{Service, Served}
-use Rattle.store_model.specs.Requests.{Request, serve}
-use Rattle.store_model.specs.Replay.{Entry, outcome_of}
-use Rattle.script_lang.specs.Commands.{request_of}
-use Rattle.script_lang.specs.Fields.{attributes_at}
-use Rattle.script_lang.specs.PrintedOrder.{Turn, AreCalls, turns_from, turns_of, id_given, numbered, replies_to}
-use Rattle.script_lang.specs.Lines.{lines_of}
+use Rattle.store_model.specs.Prelude.{Reply, output_bytes, Plain, Service, Served, Request, serve, Entry, outcome_of}
+use Rattle.script_lang.specs.Prelude.{request_of, attributes_at, Turn, AreCalls, turns_from, turns_of, id_given, numbered, replies_to, lines_of, ReplyLine, is_success, unranked_text}
 use Rattle.script_lang.specs.declared.commands.Command.TheVariants.{Key, SinglePart}
 use Rattle.script_lang.specs.declared.store_commands.KeyCommand.TheVariants.{Import, Export, Destroy}
 use Rattle.script_lang.specs.declared.store_commands.SinglePartCommand.TheVariants.{CipherEncrypt, MacCompute}
 use Rattle.script_lang.specs.declared.script.KeyWord.TheVariants.{Given, Line}
 use Rattle.script_lang.specs.declared.script.ScriptCall.{ScriptCall}
 use Rattle.script_lang.specs.declared.script.ScriptLine.{ScriptLine}
-use Rattle.script_lang.specs.Replies.{ReplyLine, is_success, unranked_text}
 use Rattle.line_generator.specs.Generator.{counted, call, fields, import_fields, generator_line, generator_lines}
 use Rattle.line_generator.specs.Orders.{IsOrder, reply_lines_of, without_rank, RepliesInAnyOrder, SummaryInAnyOrder}
 use Rattle.line_generator.specs.Summary.{count_line, summary_of}

@@ -11,20 +11,10 @@ use Rattle.alg_encoding.specs.declared.table.Class.{Class}
 use Rattle.alg_encoding.specs.declared.table.Class.TheVariants.{Cipher, Mac}
 use Rattle.random_streams.specs.RandomWords.{random_bytes}
 use Rattle.key_attributes.specs.declared.Attributes.{Attributes}
-use Rattle.store_model.specs.Store.{Key, Settings, Store, made_of, is_volatile, is_volatile_of, live_volatile}
-use Rattle.store_model.specs.Call.{Identifier, Import, Export, MacCompute, CipherEncrypt, Destroy}
-use Rattle.store_model.specs.Faults.{Plain}
-use Rattle.store_model.specs.Outcome.{Computed, counted, refused, decided, replies, reply_unless, computed_unless, with_computed, given}
-use Rattle.store_model.specs.Creation.{recorded_of, created, created_unless, new_id, new_key, room_for_key_rows}
-use Rattle.store_model.specs.KeyUse.{export_reply, export_rows, bytes_of, destroy_rows, destroyed}
-use Rattle.store_model.specs.Rules.{use_rows, mac_usage, cipher_usage}
-use Rattle.store_model.specs.Macs.{mac_reply, compute_rows}
-use Rattle.store_model.specs.Ciphers.{mode_of, is_ctr, iv_length, encrypted, encrypt_rows}
-use Rattle.store_model.specs.Handles.{Own, Service, Served}
-use Rattle.store_model.specs.Requests.{Request, OnStore, on_store, serve}
+use Rattle.store_model.specs.Prelude.{Key, Settings, Store, made_of, is_volatile, is_volatile_of, live_volatile, Identifier, Import, Export, MacCompute, CipherEncrypt, Destroy, Plain, Computed, counted, refused, decided, replies, reply_unless, computed_unless, with_computed, given, recorded_of, created, created_unless, new_id, new_key, room_for_key_rows, export_reply, export_rows, bytes_of, destroy_rows, destroyed, use_rows, mac_usage, cipher_usage, mac_reply, compute_rows, mode_of, is_ctr, iv_length, encrypted, encrypt_rows, Own, Service, Served, Request, OnStore, on_store, serve}
 use Rattle.store_model.proofs.Sound.{put, taken, room_of}
 use Rattle.store_model.proofs.Others.{leaves_callers, leaves_settings}
-use Rattle.script_lang.specs.PrintedOrder.{id_given}
+use Rattle.script_lang.specs.Prelude.{id_given}
 use Rattle.line_generator.proofs.Maps.{len_inserted, len_removed}
 use Rattle.line_generator.proofs.Alike.{Alike, AlikeStores, NoZero, OwnId, looked, stores_of, after_both, plain, some_of}
 use Rattle.line_generator.proofs.Imports.{recorded_same, recorded_volatile, created_same}

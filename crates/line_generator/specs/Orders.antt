@@ -1,12 +1,8 @@
 -- The generator's lines in any order.
 use Rattle.std.specs.Prelude.{ℕ, ◌≡◌, List, [], None, All, map}
 use Rattle.std.specs.FinMap as keys
-use Rattle.store_model.specs.Faults.{Plain}
-use Rattle.store_model.specs.Handles.{Service}
-use Rattle.store_model.specs.Replay.{Entry}
-use Rattle.script_lang.specs.Lines.{lines_of}
-use Rattle.script_lang.specs.PrintedOrder.{AreCalls, turns_from, turns_of, replies_to}
-use Rattle.script_lang.specs.Replies.{ReplyLine}
+use Rattle.store_model.specs.Prelude.{Plain, Service, Entry}
+use Rattle.script_lang.specs.Prelude.{lines_of, AreCalls, turns_from, turns_of, replies_to, ReplyLine}
 use Rattle.line_generator.specs.Generator.{generator_lines}
 use Rattle.line_generator.specs.Summary.{summary_of}
 

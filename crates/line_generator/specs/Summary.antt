@@ -4,7 +4,7 @@ use Rattle.std.specs.Fmt.{decimal}
 use Rattle.hex.specs.Hex.{encode_lower}
 use Rattle.sha2.specs.Sha256.{sha256}
 use Rattle.psa_status.specs.Status.{status_name}
-use Rattle.script_lang.specs.Replies.{ReplyLine, bytes_text, is_success, reply_text, unranked_text}
+use Rattle.script_lang.specs.Prelude.{ReplyLine, bytes_text, is_success, reply_text, unranked_text}
 
 -- a reply line is its front, its rank and its end, and without the rank it is the front and the end
 abbrev pub RankStandsBetween : Type 0

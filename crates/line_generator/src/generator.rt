@@ -1,6 +1,6 @@
 // The lines that a run makes for itself.
 ghost use Rattle.std.specs.Prelude.{◌≡◌, ◌≤◌, ◌<◌, ◌+◌, ◌*◌, ◌/◌, ◌%◌, ◌^◌, IfOk, All, length};
-ghost use Rattle.script_lang.specs.Lines.{IsOfSession};
+ghost use Rattle.script_lang.specs.Prelude.{IsOfSession};
 ghost use Rattle.line_generator.specs.Generator.{counted, call, fields, import_fields, generator_call, generator_line, generator_lines};
 
 use key_attributes::KeyId;

@@ -2,7 +2,7 @@
 ghost use Rattle.std.specs.Prelude.{◌≡◌, ◌≤◌, ◌-◌, ◌+◌, ◌++◌, ℕ, List, OnOk, IfOk, flat_map, length, sum_by};
 ghost use Rattle.std.specs.Fmt.{decimal};
 ghost use Rattle.sha2.specs.Sha256.{sha256};
-ghost use Rattle.script_lang.specs.Replies.{AreAllKept, ReplyLine};
+ghost use Rattle.script_lang.specs.Prelude.{AreAllKept, ReplyLine};
 ghost use Rattle.script_lang.specs.declared.replies.ReplyForm.TheVariants.{Unranked};
 ghost use Rattle.line_generator.specs.Summary.{count_line, summary_of};
 

@@ -1,14 +1,13 @@
 -- What is known once all passes are handed in.
 use Rattle.std.proofs.Common.{◌≡◌, ℕ, ◌<◌, ◌≤◌, List, All, ◌∙◌, subst, inl, Option}
 use Rattle.turn_history.specs.declared.pass.Account.{Account}
-use Rattle.turn_history.specs.History.{entries_of, calls_by, StartsWith}
+use Rattle.turn_history.specs.Prelude.{entries_of, calls_by, StartsWith}
 use Rattle.key_slots.specs.Holdings.{Pairs}
 use Rattle.store_model.specs.Store as model
-use Rattle.store_model.specs.Replay.{Entry}
+use Rattle.store_model.specs.Prelude.{Entry}
 use Rattle.store_core.specs.declared.store.Opened.{Opened}
 use Rattle.store_core.specs.declared.store.Store.{Store}
-use Rattle.store_core.specs.Durability.{course_of, durable_keys}
-use Rattle.store_core.specs.Zeros.{HasKeyOrZeros}
+use Rattle.store_core.specs.Prelude.{course_of, durable_keys, HasKeyOrZeros}
 use Rattle.store_core.proofs.Sure.{sure_cells}
 use Rattle.locked_store.specs.Worlds.{World}
 use Rattle.locked_store.specs.Closed.{IsClosed}

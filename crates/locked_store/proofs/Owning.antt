@@ -4,7 +4,7 @@ use Rattle.std.specs.Prelude.{◌&&◌, ◌==◌, nat_lt, count_by}
 use Rattle.std.proofs.lemmas.Bool.Decides.{nat_tests}
 use Rattle.std.proofs.lemmas.List.Elements.{All-get_or, All-set}
 use Rattle.std.proofs.lemmas.List.Sums.{sum_by-cons}
-use Rattle.turn_history.specs.Holdings.{own_of, with_own}
+use Rattle.turn_history.specs.Prelude.{own_of, with_own}
 use Rattle.key_slots.specs.Holdings.{Pairs, Gains, IsHolding, AreHoldings, named, names, same}
 use Rattle.locked_store.specs.Turning.{HasNoFilling, HasRoomForLease, without_pair}
 

@@ -2,14 +2,10 @@
 use Rattle.std.proofs.Common.{◌≡◌, ℕ, ◌+◌, ◌≤◌, List, [], ◌∷◌, ◌++◌, length, refl, sym, ap, ◌∙◌, subst, arith, Option, Some, None}
 use Rattle.std.specs.List.{AllByRecursion}
 use Rattle.turn_history.specs.declared.pass.View.{View}
-use Rattle.turn_history.specs.History.{entries_of, calls_by, option_list, StartsWith}
-use Rattle.turn_history.specs.Views.{OwnCalls, after_turn}
+use Rattle.turn_history.specs.Prelude.{entries_of, calls_by, option_list, StartsWith, OwnCalls, after_turn}
 use Rattle.turn_history.proofs.Lists.{entries-append, begins_longer}
 use Rattle.key_slots.specs.Holdings.{Pairs}
-use Rattle.store_model.specs.Faults.{FaultMark}
-use Rattle.store_model.specs.Requests.{Request}
-use Rattle.store_model.specs.Origin.{IsCaller}
-use Rattle.store_model.specs.Replay.{Entry}
+use Rattle.store_model.specs.Prelude.{FaultMark, Request, IsCaller, Entry}
 use Rattle.locked_store.specs.Standing.{caller_of}
 use Rattle.locked_store.specs.Turning.{GoesOn, IsEntered, IsLater, SpendsOneTurn}
 

@@ -4,23 +4,13 @@ use Rattle.std.specs.List.{AllByRecursion}
 use Rattle.secret_bytes.specs.Buffer.{IsClear}
 use Rattle.atomic_table.specs.declared.shared.Seat.{Seat}
 use Rattle.turn_history.specs.declared.pass.View.{View}
-use Rattle.turn_history.specs.History.{entries_of, option_list}
-use Rattle.turn_history.specs.Holdings.{with_own}
-use Rattle.turn_history.specs.Views.{OwnCalls, after_turn}
+use Rattle.turn_history.specs.Prelude.{entries_of, option_list, with_own, OwnCalls, after_turn}
 use Rattle.key_slots.specs.Holdings.{Pairs, AreHoldings, IsHolding}
 use Rattle.store_model.specs.Store as model
-use Rattle.store_model.specs.Faults.{FaultMark}
-use Rattle.store_model.specs.Handles.{Service}
-use Rattle.store_model.specs.Laws.{may_change_keys}
-use Rattle.store_model.specs.Origin.{IsCaller}
-use Rattle.store_model.specs.Requests.{Request}
-use Rattle.store_model.specs.Replay.{Entry, replay}
-use Rattle.store_model.specs.Marks.{IsCaused, id_read}
+use Rattle.store_model.specs.Prelude.{FaultMark, Service, may_change_keys, IsCaller, Request, Entry, replay, IsCaused, id_read}
 use Rattle.store_core.specs.declared.store.Opened.{Opened}
 use Rattle.store_core.specs.declared.store.Store.{Store}
-use Rattle.store_core.specs.Represents.{IsEntry, IsReading, IsTold, Opening, StandsFor}
-use Rattle.store_core.specs.Rising.{AreRising}
-use Rattle.store_core.specs.Start.{opening_of}
+use Rattle.store_core.specs.Prelude.{IsEntry, IsReading, IsTold, Opening, StandsFor, AreRising, opening_of}
 use Rattle.store_core.proofs.Histories.{told_before}
 use Rattle.locked_store.specs.Standing.{HoldsHistory, caller_of}
 use Rattle.locked_store.specs.Worlds.{World}

@@ -5,8 +5,7 @@ use Rattle.std.specs.List.{AllByRecursion}
 use Rattle.secret_bytes.specs.Buffer.{IsClear}
 use Rattle.atomic_table.specs.declared.shared.Seat.{Seat}
 use Rattle.turn_history.specs.declared.pass.View.{View}
-use Rattle.turn_history.specs.History.{entries_of}
-use Rattle.turn_history.specs.Holdings.{with_own}
+use Rattle.turn_history.specs.Prelude.{entries_of, with_own}
 use Rattle.turn_history.proofs.Using.{keeps_own}
 use Rattle.key_attributes.specs.declared.Attributes.{Attributes}
 use Rattle.psa_status.specs.declared.Status.{Status}
@@ -14,24 +13,12 @@ use Rattle.psa_status.specs.declared.Status.TheVariants.{Success}
 use Rattle.slot_table.specs.Lent as lent
 use Rattle.key_slots.specs.Holdings.{Pairs, AreHoldings, IsHolding, Gains, named, names}
 use Rattle.store_model.specs.Store as model
-use Rattle.store_model.specs.Faults.{FaultMark, Plain}
-use Rattle.store_model.specs.Handles.{Service}
-use Rattle.store_model.specs.Laws.{may_change_keys}
-use Rattle.store_model.specs.Call.{Call, Copy, Destroy}
-use Rattle.store_model.specs.Creation.{created_unless}
-use Rattle.store_model.specs.Requests.{Request, OnStore, plain_step}
-use Rattle.store_model.specs.Origin.{IsCaller}
-use Rattle.store_model.specs.Replay.{Entry, replay}
-use Rattle.store_model.specs.Marks.{FaultCounts}
+use Rattle.store_model.specs.Prelude.{FaultMark, Plain, Service, may_change_keys, Call, Copy, Destroy, created_unless, Request, OnStore, plain_step, IsCaller, Entry, replay, FaultCounts}
 use Rattle.store_core.specs.declared.store.Opened.{Opened}
 use Rattle.store_core.specs.declared.store.Store.{Store}
-use Rattle.store_core.specs.Creations.{Copies, Creates, HasOutBeside, IsAmong}
-use Rattle.store_core.specs.Opaque.{Makes}
+use Rattle.store_core.specs.Prelude.{Copies, Creates, HasOutBeside, IsAmong, Makes, Adds, AddsAs, Destroys, Gives, HasOut, HoldsOf, IsEntry, IsTold, LeavesKeys, Opening, Reads, ReadsAndGives, Stands, StandsFor, Steps, Takes, AreRising, NoFewerFaults, opening_of}
 use Rattle.store_core.proofs.Histories.{quiet_leaves, refused_leaves, told_before}
 use Rattle.store_core.proofs.Rises.{rising_push}
-use Rattle.store_core.specs.Represents.{Adds, AddsAs, Destroys, Gives, HasOut, HoldsOf, IsEntry, IsTold, LeavesKeys, Opening, Reads, ReadsAndGives, Stands, StandsFor, Steps, Takes}
-use Rattle.store_core.specs.Rising.{AreRising, NoFewerFaults}
-use Rattle.store_core.specs.Start.{opening_of}
 use Rattle.locked_store.specs.Standing as shared
 use Rattle.locked_store.specs.Worlds.{World}
 use Rattle.locked_store.specs.Turning.{CreatesKey, DecidesAfter, DecidesBefore, IsBegun, IsEntered, IsEnteredAfter, IsOwn, IsRanked, IsStartOf, LeavesAllKeys, ReadsKey, ToldBy, turn_entry, without_pair}

@@ -3,14 +3,10 @@ use Rattle.std.specs.Prelude.{◌≡◌, ◌<◌, ◌≤◌, ℕ, true, List, []
 use Rattle.atomic_table.specs.declared.shared.Seat.{Seat}
 use Rattle.turn_history.specs.declared.pass.Account.{Account}
 use Rattle.turn_history.specs.declared.pass.View.{View}
-use Rattle.turn_history.specs.History.{entries_of, calls_by, StartsWith}
-use Rattle.store_model.specs.Handles.{Service}
-use Rattle.store_model.specs.Replay.{Entry, replay}
-use Rattle.store_model.specs.Marks.{last_counts}
+use Rattle.turn_history.specs.Prelude.{entries_of, calls_by, StartsWith}
+use Rattle.store_model.specs.Prelude.{Service, Entry, replay, last_counts}
 use Rattle.store_core.specs.declared.store.Opened.{Opened}
-use Rattle.store_core.specs.Durability.{KeepsKeys, course_of, durable_keys}
-use Rattle.store_core.specs.Start.{opening_of}
-use Rattle.store_core.specs.Zeros.{HasKeyOrZeros}
+use Rattle.store_core.specs.Prelude.{KeepsKeys, course_of, durable_keys, opening_of, HasKeyOrZeros}
 use Rattle.locked_store.specs.Standing.{caller_of}
 use Rattle.locked_store.specs.Turning.{IsAt, IsLegal, IsStartOf}
 use Rattle.locked_store.specs.Worlds.{World}

@@ -7,13 +7,9 @@ use Rattle.secure_element_calls.specs.declared.calls.ElementCall.{ElementCall}
 use Rattle.secure_element_calls.specs.Answers.{mark_computed}
 use Rattle.key_policy.specs.declared.key_use.KeyUse.{KeyUse}
 use Rattle.key_policy.specs.Uses.{FitsUse, use_refusal}
-use Rattle.store_model.specs.Faults.{Plain}
-use Rattle.store_model.specs.Store.{Store, is_opaque_key}
-use Rattle.store_model.specs.Requests.{Request}
-use Rattle.store_model.specs.Replay.{Entry}
+use Rattle.store_model.specs.Prelude.{Plain, Store, is_opaque_key, Request, Entry}
 use Rattle.store_core.specs.declared.store.Opened.{Opened}
-use Rattle.store_core.specs.Opaque.{IsAnswered}
-use Rattle.store_core.specs.Uses.{IsLent, IsRefused, mark_of}
+use Rattle.store_core.specs.Prelude.{IsAnswered, IsLent, IsRefused, mark_of}
 use Rattle.locked_store.specs.declared.elements.Looked.{Looked}
 use Rattle.locked_store.specs.declared.elements.Looked.TheVariants.{Computed, Lent, Refused}
 use Rattle.locked_store.specs.Turning.{DecidesAfter, DecidesBefore, IsRanked, lease_pair}

@@ -7,3 +7,4 @@ pub mod Closed
 pub mod Left
 pub mod Ranked
 pub mod Opening
+pub mod Prelude

@@ -4,8 +4,8 @@ use Rattle.disk_face.specs.declared.Disk as disk
 use Rattle.key_cells.specs.declared.slot.Slot as cell
 use Rattle.key_cells.specs.declared.reading.OpenFault.{OpenFault}
 use Rattle.key_cells.specs.declared.reading.OpenFault.TheVariants.{Memory}
-use Rattle.key_cells.specs.Opened.{IsOpened, IsRefused}
-use Rattle.store_core.specs.Start.{FindsKeysOf}
+use Rattle.key_cells.specs.Prelude.{IsOpened, IsRefused}
+use Rattle.store_core.specs.Prelude.{FindsKeysOf}
 use Rattle.locked_store.specs.Worlds.{World}
 
 module _ {D A C : Type 0} (w : World D A C) where

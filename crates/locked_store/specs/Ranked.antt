@@ -2,7 +2,7 @@
 use Rattle.std.specs.Prelude.{ℕ, ◌∷◌, Option}
 use Rattle.atomic_table.specs.declared.shared.Seat.{Seat}
 use Rattle.turn_history.specs.declared.pass.View.{View}
-use Rattle.turn_history.specs.History.{entries_of}
+use Rattle.turn_history.specs.Prelude.{entries_of}
 use Rattle.disk_face.specs.declared.Disk as disk
 use Rattle.driver_dispatch.specs.declared.devices.Devices as devices
 use Rattle.admission.specs.declared.rules.Admission as admission
@@ -11,10 +11,9 @@ use Rattle.service_calls.specs.declared.call.Call.{Call}
 use Rattle.service_calls.specs.Meanings.{model_request}
 use Rattle.psa_status.specs.declared.Status.{Status}
 use Rattle.store_model.specs.Store as model
-use Rattle.store_model.specs.Faults.{FaultMark, Plain}
-use Rattle.store_model.specs.Replay.{Entry}
+use Rattle.store_model.specs.Prelude.{FaultMark, Plain, Entry}
 use Rattle.store_core.specs.declared.store.Opened.{Opened}
-use Rattle.store_core.specs.Uses.{IsRefused, mark_of}
+use Rattle.store_core.specs.Prelude.{IsRefused, mark_of}
 use Rattle.locked_store.specs.declared.held.SharedStore.{SharedStore}
 use Rattle.locked_store.specs.Turning.{DecidesAfter, DecidesBefore, IsEnteredAfter, IsRanked, filling_pair, lease_pair, without_pair}
 use Rattle.locked_store.specs.Shared.{world}

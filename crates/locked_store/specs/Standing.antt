@@ -6,17 +6,10 @@ use Rattle.disk_face.specs.declared.Disk as disk
 use Rattle.driver_dispatch.specs.declared.devices.Devices as devices
 use Rattle.admission.specs.declared.rules.Admission as admission
 use Rattle.key_slots.specs.Holdings.{Pairs}
-use Rattle.store_model.specs.Faults.{Plain}
-use Rattle.store_model.specs.Requests.{OnHandle}
-use Rattle.store_model.specs.HandleCalls.{Abort}
-use Rattle.store_model.specs.Handles.{Service}
-use Rattle.store_model.specs.Origin.{IsCaller}
-use Rattle.store_model.specs.Replay.{Entry}
+use Rattle.store_model.specs.Prelude.{Plain, OnHandle, Abort, Service, IsCaller, Entry}
 use Rattle.store_core.specs.declared.store.Opened.{Opened}
 use Rattle.store_core.specs.declared.store.Store.{Store}
-use Rattle.store_core.specs.Represents.{StandsFor}
-use Rattle.store_core.specs.Rising.{AreRising}
-use Rattle.store_core.specs.Start.{IsStart, opening_of}
+use Rattle.store_core.specs.Prelude.{StandsFor, AreRising, IsStart, opening_of}
 
 -- an entry of no history: one is named where none is made
 abbrev pub some_entry : Entry

@@ -3,9 +3,7 @@ use Rattle.std.specs.List.{AllByRecursion}
 use Rattle.std.specs.Prelude.{◌≡◌, ◌⊎◌, ◌<◌, ◌≤◌, ◌^◌, ℕ, ◌+◌, ◌==◌, ◌&&◌, false, cond, Result, nat_lt, count_by, List, [], ◌∷◌, ◌++◌, length, Option, Some, None, is_some, Err}
 use Rattle.atomic_table.specs.declared.shared.Seat.{Seat}
 use Rattle.turn_history.specs.declared.pass.View.{View}
-use Rattle.turn_history.specs.History.{entries_of, calls_by, StartsWith}
-use Rattle.turn_history.specs.Holdings.{own_of}
-use Rattle.turn_history.specs.Views.{IsInTurn, IsOutside, OwnCalls}
+use Rattle.turn_history.specs.Prelude.{entries_of, calls_by, StartsWith, own_of, IsInTurn, IsOutside, OwnCalls}
 use Rattle.disk_face.specs.declared.Disk as disk
 use Rattle.driver_dispatch.specs.declared.devices.Devices as devices
 use Rattle.slot_table.specs.Lent as lent
@@ -15,22 +13,10 @@ use Rattle.psa_status.specs.declared.Status.TheVariants.{Success}
 use Rattle.key_slots.specs.Holdings.{Pairs, IsHolding, names}
 use Rattle.secure_element_calls.specs.Answers.{mark_computed}
 use Rattle.store_model.specs.Store as model
-use Rattle.store_model.specs.Faults.{FaultMark, Plain}
-use Rattle.store_model.specs.Handles.{Service}
-use Rattle.store_model.specs.Creation.{created_unless}
-use Rattle.store_model.specs.Laws.{may_change_keys}
-use Rattle.store_model.specs.Origin.{IsCaller}
-use Rattle.store_model.specs.Requests.{Request, plain_step}
-use Rattle.store_model.specs.Replay.{Entry, replay}
-use Rattle.store_model.specs.Marks.{AreAllowed, IsCaused, id_read}
+use Rattle.store_model.specs.Prelude.{FaultMark, Plain, Service, created_unless, may_change_keys, IsCaller, Request, plain_step, Entry, replay, AreAllowed, IsCaused, id_read}
 use Rattle.store_core.specs.declared.store.Opened.{Opened}
 use Rattle.store_core.specs.declared.store.Store.{Store}
-use Rattle.store_core.specs.Represents.{IsTold}
-use Rattle.store_core.specs.Rising.{AreRising}
-use Rattle.store_core.specs.Start.{IsStart, opening_of}
-use Rattle.store_core.specs.Durability.{is_destruction}
-use Rattle.store_core.specs.Uses.{mark_of, mark_undestroyed}
-use Rattle.store_core.specs.Creations.{mark_uncopied, mark_unmade}
+use Rattle.store_core.specs.Prelude.{IsTold, AreRising, IsStart, opening_of, is_destruction, mark_of, mark_undestroyed, mark_uncopied, mark_unmade}
 use Rattle.locked_store.specs.declared.changes.Change.{Change}
 use Rattle.locked_store.specs.declared.changes.Change.TheVariants.{Nothing, Lends, TakesLease, Reserves, TakesFilling}
 use Rattle.locked_store.specs.declared.changes.Met.{Met}

@@ -1,13 +1,12 @@
 //! Turns of creations: a slot is reserved, and a key is put into it, or it is given up.
 ghost use Rattle.std.specs.Prelude.{◌≡◌, ◌<◌, ◌∷◌, length, IfOk, IfErr};
 ghost use Rattle.std.specs.Option.{option_map};
-ghost use Rattle.turn_history.specs.History.{entries_of};
+ghost use Rattle.turn_history.specs.Prelude.{entries_of};
 ghost use Rattle.key_slots.specs.Holdings.{names};
 ghost use Rattle.service_calls.specs.Meanings.{model_request};
 ghost use Rattle.store_model.specs.Call as model;
-ghost use Rattle.store_model.specs.Faults.{Plain};
-ghost use Rattle.store_model.specs.Requests.{OnStore};
-ghost use Rattle.store_core.specs.Creations.{IsMade, IsUncopied, IsUnmade, RecordsCopy, RecordsStated, mark_uncopied, mark_unmade};
+ghost use Rattle.store_model.specs.Prelude.{Plain, OnStore};
+ghost use Rattle.store_core.specs.Prelude.{IsMade, IsUncopied, IsUnmade, RecordsCopy, RecordsStated, mark_uncopied, mark_unmade};
 ghost use Rattle.locked_store.specs.Turning.{CreatesKey, HasNoFilling, IsAt, IsLater, IsLegal, IsOwn, filling_pair, without_pair};
 ghost use Rattle.locked_store.specs.Ranked.{RanksFilling};
 ghost use Rattle.locked_store.specs.Shared.{world};

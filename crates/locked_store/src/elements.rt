@@ -2,14 +2,12 @@
 ghost use Rattle.std.specs.Prelude.{◌≡◌, ◌<◌, true, length};
 ghost use Rattle.std.specs.FinMap as map;
 ghost use Rattle.secret_bytes.specs.Buffer.{IsClear};
-ghost use Rattle.turn_history.specs.History.{entries_of};
+ghost use Rattle.turn_history.specs.Prelude.{entries_of};
 ghost use Rattle.secure_element_calls.specs.Answers.{mark_computed};
 ghost use Rattle.secure_element_calls.specs.Calls.{model_call};
 ghost use Rattle.service_calls.specs.Meanings.{model_request};
-ghost use Rattle.store_model.specs.Requests.{OnStore};
-ghost use Rattle.store_model.specs.Store.{is_opaque_key};
-ghost use Rattle.store_core.specs.Opaque.{IsAnswered};
-ghost use Rattle.store_core.specs.Represents.{HoldsOf};
+ghost use Rattle.store_model.specs.Prelude.{OnStore, is_opaque_key};
+ghost use Rattle.store_core.specs.Prelude.{IsAnswered, HoldsOf};
 ghost use Rattle.locked_store.specs.Elements.{IsLooked};
 ghost use Rattle.locked_store.specs.Standing.{HoldsHistory};
 ghost use Rattle.locked_store.specs.Turning.{HasRoomForLease, IsAt, IsLegal, IsBegun};

@@ -1,6 +1,6 @@
 //! How a turn begins and ends.
 ghost use Rattle.std.specs.Prelude.{◌≡◌, ◌<◌, Some, None};
-ghost use Rattle.turn_history.specs.History.{entries_of};
+ghost use Rattle.turn_history.specs.Prelude.{entries_of};
 ghost use Rattle.key_slots.specs.Holdings.{IsHolding};
 ghost use Rattle.service_calls.specs.Meanings.{model_request};
 ghost use Rattle.locked_store.specs.Standing.{HoldsHistory};
@@ -57,9 +57,7 @@ impl<D: Disk, A: Devices, C: Admission> SharedStore<D, A, C> {
             (entries_of pass.old.me.0.seen) (entry_left D.Disk A.Devices turn.value.value.store pass.old (model_request call.now room) met) }
     {
         let _ = (before, call, room, met, change);
-        let Some(rank) = self.lock.leave::<N>(pass, turn) else {
-            unreachable!()
-        };
+        let rank = self.lock.leave::<N>(pass, turn).unwrap();
         rank
     }
 

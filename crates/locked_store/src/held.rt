@@ -1,7 +1,7 @@
 //! The store as the lock holds it.
 ghost use Rattle.std.specs.Prelude.{◌≡◌};
-ghost use Rattle.store_model.specs.Handles.{Service};
-ghost use Rattle.store_core.specs.Start.{IsStart};
+ghost use Rattle.store_model.specs.Prelude.{Service};
+ghost use Rattle.store_core.specs.Prelude.{IsStart};
 
 use admission::Admission;
 use disk_face::Disk;

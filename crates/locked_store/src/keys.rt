@@ -1,14 +1,12 @@
 //! Turns that ask for a key, destroy it, or forget it in memory.
 ghost use Rattle.std.specs.Prelude.{◌≡◌, ◌<◌, false, Some, None, IfOk, IfErr, OnOk};
 ghost use Rattle.std.specs.FinMap as map;
-ghost use Rattle.turn_history.specs.History.{entries_of};
+ghost use Rattle.turn_history.specs.Prelude.{entries_of};
 ghost use Rattle.psa_status.specs.declared.Status.TheVariants.{InvalidHandle};
 ghost use Rattle.service_calls.specs.Meanings.{model_request};
 ghost use Rattle.store_model.specs.Call as model;
-ghost use Rattle.store_model.specs.Faults.{Plain};
-ghost use Rattle.store_model.specs.Laws.{may_change_keys};
-ghost use Rattle.store_model.specs.Requests.{OnStore};
-ghost use Rattle.store_core.specs.Uses.{HasAttributes, IsUndestroyed, MayDestroy, mark_undestroyed, there_rows};
+ghost use Rattle.store_model.specs.Prelude.{Plain, may_change_keys, OnStore};
+ghost use Rattle.store_core.specs.Prelude.{HasAttributes, IsUndestroyed, MayDestroy, mark_undestroyed, there_rows};
 ghost use Rattle.locked_store.specs.Turning.{IsAt, IsLegal, LeavesAllKeys, ReadsKey};
 ghost use Rattle.locked_store.specs.Ranked.{RanksAfter, RanksBefore, RanksRefused};
 ghost use Rattle.locked_store.specs.Shared.{world};

@@ -1,12 +1,12 @@
 //! Turns that lend a key, and take it back.
 ghost use Rattle.std.specs.Prelude.{◌≡◌, ◌<◌, ◌+◌, false, IfOk, IfErr};
 ghost use Rattle.secret_bytes.specs.Buffer.{IsClear, bytes_of};
-ghost use Rattle.turn_history.specs.History.{entries_of};
+ghost use Rattle.turn_history.specs.Prelude.{entries_of};
 ghost use Rattle.key_slots.specs.Holdings.{IsHolding, names};
 ghost use Rattle.key_policy.specs.Uses.{FitsUse, use_refusal};
 ghost use Rattle.service_calls.specs.Meanings.{model_request};
-ghost use Rattle.store_model.specs.Laws.{may_change_keys};
-ghost use Rattle.store_core.specs.Uses.{IsLent};
+ghost use Rattle.store_model.specs.Prelude.{may_change_keys};
+ghost use Rattle.store_core.specs.Prelude.{IsLent};
 ghost use Rattle.locked_store.specs.Standing.{HoldsHistory};
 ghost use Rattle.locked_store.specs.Turning.{HasRoomForLease, IsAt, IsBegun, IsLater, IsLegal, ReadsKey, lease_pair, without_pair};
 ghost use Rattle.locked_store.specs.Ranked.{EndsLent, EndsRefused, RanksLent, RanksRefused};

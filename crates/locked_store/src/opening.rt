@@ -1,9 +1,8 @@
 //! How the store under its lock is opened, and how it ends.
 ghost use Rattle.std.specs.Prelude.{◌≡◌, ◌≤◌, ℕ, [], IfOk, IfErr, IfSome};
 ghost use Rattle.driver_dispatch.specs.Calls.{Lacks};
-ghost use Rattle.turn_history.specs.Passes.{AreNew};
-ghost use Rattle.store_model.specs.Handles.{Service};
-ghost use Rattle.store_model.specs.Sound.{IsSoundStore};
+ghost use Rattle.turn_history.specs.Prelude.{AreNew};
+ghost use Rattle.store_model.specs.Prelude.{Service, IsSoundStore};
 ghost use Rattle.locked_store.specs.Closed.{AreAt, IsClosed};
 ghost use Rattle.locked_store.specs.Turning.{IsStartOf};
 ghost use Rattle.locked_store.specs.Opening.{FindsKeysIn, IsNotOpened, IsOpenedOn};

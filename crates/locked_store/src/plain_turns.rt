@@ -1,13 +1,12 @@
 //! Ranked turns that leave what the caller has out of the store.
 ghost use Rattle.std.specs.Prelude.{◌≡◌, ◌<◌, ◌+◌, true, false, IfOk, IfErr, OnOk, OnErr};
 ghost use Rattle.std.specs.FinMap as map;
-ghost use Rattle.turn_history.specs.History.{entries_of};
+ghost use Rattle.turn_history.specs.Prelude.{entries_of};
 ghost use Rattle.psa_status.specs.declared.Status.TheVariants.{InvalidHandle};
 ghost use Rattle.key_slots.specs.Holdings.{names};
 ghost use Rattle.service_calls.specs.Meanings.{model_request};
-ghost use Rattle.store_model.specs.Faults.{Plain};
-ghost use Rattle.store_model.specs.Sound.{HasNumber};
-ghost use Rattle.store_core.specs.Uses.{HasAttributes, IsRefused, mark_of, there_rows};
+ghost use Rattle.store_model.specs.Prelude.{Plain, HasNumber};
+ghost use Rattle.store_core.specs.Prelude.{HasAttributes, IsRefused, mark_of, there_rows};
 ghost use Rattle.locked_store.specs.Turning.{IsAt, IsLegal, IsRanked, LeavesAllKeys};
 ghost use Rattle.locked_store.specs.Ranked.{RanksAfter};
 ghost use Rattle.locked_store.specs.Shared.{world};

@@ -3,9 +3,7 @@ use Rattle.std.specs.Prelude.{◌≡◌, length}
 use Rattle.hash_ops.specs.declared.Hash.{Hash}
 use Rattle.hash_ops.specs.Hashes as hashes
 use Rattle.hash_ops.specs.States.{Holds, IsEmpty}
-use Rattle.store_model.specs.Algorithms.{digest, hash_length_of, low_byte}
-use Rattle.store_model.specs.Operations.{Operation}
-use Rattle.store_model.specs.HashOperations.{HashWork}
+use Rattle.store_model.specs.Prelude.{digest, hash_length_of, low_byte, Operation, HashWork}
 use Rattle.multipart.specs.States.{IsOperation}
 use Rattle.mac_states.specs.declared.running_hash.RunningHash.{RunningHash}
 use Rattle.mac_states.specs.declared.hash_state.HashOpState.{HashOpState}

@@ -3,11 +3,9 @@ use Rattle.std.specs.Prelude.{◌≡◌, ℕ, true, false, List, length, MatchBo
 use Rattle.hash_ops.specs.declared.Hash.{Hash}
 use Rattle.hmac_ops.specs.States.{HoldsHmac, IsWipedHmac}
 use Rattle.cmac_ops.specs.States.{HoldsCmac, IsWipedCmac}
-use Rattle.store_model.specs.Algorithms.{tag_bytes, whole_mac}
+use Rattle.store_model.specs.Prelude.{tag_bytes, whole_mac, Operation, MacWork}
 use Rattle.key_policy.specs.declared.algorithms.MacKind.TheVariants.{Hmac, Cmac}
 use Rattle.key_policy.specs.Names.{whole_mac_by}
-use Rattle.store_model.specs.Operations.{Operation}
-use Rattle.store_model.specs.MacOperations.{MacWork}
 use Rattle.multipart.specs.States.{IsOperation}
 use Rattle.mac_states.specs.declared.cmac_part.CmacPart.{CmacPart}
 use Rattle.mac_states.specs.declared.running_mac.RunningMac.{RunningMac}

@@ -2,10 +2,7 @@
 use Rattle.std.specs.Prelude.{ℕ, Bool, List, None}
 use Rattle.alg_encoding.specs.declared.table.Class.TheVariants.{Hash}
 use Rattle.psa_status.specs.Rows.{first_row}
-use Rattle.store_model.specs.Rules.{class_rows}
-use Rattle.store_model.specs.Operations.{Operation, After, set_up}
-use Rattle.store_model.specs.HashOperations.{HashWork, hash_work}
-use Rattle.store_model.specs.MacOperations.{MacWork, mac_work}
+use Rattle.store_model.specs.Prelude.{class_rows, Operation, After, set_up, HashWork, hash_work, MacWork, mac_work}
 
 -- hash_setup
 abbrev pub hash_setup : Operation HashWork → ℕ → After HashWork

@@ -1,7 +1,6 @@
 // A CMAC's place in a MAC's state.
 ghost use Rattle.std.specs.Prelude.{◌≡◌, ◌≤◌, ℕ, List, [], ◌++◌, true, IsTrue, take};
-ghost use Rattle.crypto_specs.specs.Aes.{IsKey, aes_encrypt};
-ghost use Rattle.crypto_specs.specs.Cmac.{cmac};
+ghost use Rattle.crypto_specs.specs.Prelude.{IsKey, aes_encrypt, cmac};
 ghost use Rattle.mac_states.specs.Keyed.{has_key};
 
 use cmac_ops::CmacState;

@@ -1,9 +1,6 @@
 // Hashes and MACs among the families of operations.
 ghost use Rattle.std.specs.Prelude.{◌≡◌, false};
-ghost use Rattle.store_model.specs.Outcome.{refusal};
-ghost use Rattle.store_model.specs.Operations.{Operation};
-ghost use Rattle.store_model.specs.HashOperations.{HashWork, hash_step};
-ghost use Rattle.store_model.specs.MacOperations.{MacWork, mac_step};
+ghost use Rattle.store_model.specs.Prelude.{refusal, Operation, HashWork, hash_step, MacWork, mac_step};
 ghost use Rattle.service_calls.specs.Meanings.{model_hash_step, model_mac_step};
 ghost use Rattle.mac_states.specs.HashStates.{HoldsHash, IsClearRunningHash, IsHashOperation};
 ghost use Rattle.mac_states.specs.MacStates.{HoldsMac, IsClearRunningMac, IsMacOperation};

@@ -1,8 +1,7 @@
 // A hash in several parts.
 ghost use Rattle.std.specs.Prelude.{◌≡◌, Bool};
 ghost use Rattle.service_calls.specs.Answers.{plain_reply};
-ghost use Rattle.store_model.specs.Operations.{Operation, Inactive, is_inactive};
-ghost use Rattle.store_model.specs.HashOperations.{HashWork};
+ghost use Rattle.store_model.specs.Prelude.{Operation, Inactive, is_inactive, HashWork};
 ghost use Rattle.multipart.specs.declared.Phase.TheVariants as phase;
 ghost use Rattle.mac_states.specs.HashStates.{IsClearHash, IsHashOperation};
 ghost use Rattle.multipart.specs.Turns.{is_active};

@@ -1,11 +1,9 @@
 // A MAC in several parts.
 ghost use Rattle.std.specs.Prelude.{◌≡◌, Bool, true, false};
-ghost use Rattle.crypto_specs.specs.Aes.{IsKey};
+ghost use Rattle.crypto_specs.specs.Prelude.{IsKey};
 ghost use Rattle.alg_encoding.specs.Encoding.{base_of};
-ghost use Rattle.store_model.specs.Algorithms.{cmac_base};
+ghost use Rattle.store_model.specs.Prelude.{cmac_base, Operation, Inactive, is_inactive, MacWork};
 ghost use Rattle.service_calls.specs.Answers.{plain_reply};
-ghost use Rattle.store_model.specs.Operations.{Operation, Inactive, is_inactive};
-ghost use Rattle.store_model.specs.MacOperations.{MacWork};
 ghost use Rattle.alg_encoding.specs.declared.table.Class.TheVariants.{Mac};
 ghost use Rattle.key_policy.specs.Names.{IsOfClass};
 ghost use Rattle.mac_states.specs.MacStates.{IsClearMac, IsMacOperation};

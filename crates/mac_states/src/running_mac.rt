@@ -2,12 +2,9 @@
 ghost use Rattle.std.specs.Prelude.{◌≡◌, ◌≤◌, ◌++◌, ℕ, Bool, true, IfOk, OnOk, length, take};
 ghost use Rattle.std.specs.Result.{result_err};
 ghost use Rattle.psa_status.specs.Rows.{first_row};
-ghost use Rattle.crypto_specs.specs.Aes.{IsKey};
-ghost use Rattle.store_model.specs.Algorithms.{mac_of, tag_bytes, whole_mac};
-ghost use Rattle.store_model.specs.HashOperations.{total_rows};
-ghost use Rattle.store_model.specs.MacOperations.{MacWork, mac_work, sign_rows, verify_rows};
-ghost use Rattle.store_model.specs.Call.{buffer_after};
-ghost use Rattle.store_model.specs.Outcome.{given, reply_unless};
+ghost use Rattle.crypto_specs.specs.Prelude.{IsKey};
+ghost use Rattle.store_model.specs.Prelude.{mac_of, tag_bytes, whole_mac, total_rows, MacWork, mac_work, sign_rows, buffer_after, given, reply_unless};
+ghost use Rattle.store_model.specs.MacOperations.{verify_rows};
 ghost use Rattle.key_policy.specs.Names.{NamesMac, is_cmac};
 ghost use Rattle.mac_states.specs.MacStates.{HoldsMac, IsClearRunningMac};
 

@@ -2,8 +2,7 @@
 ghost use Rattle.std.specs.Prelude.{◌≡◌, ◌+◌, ◌≤◌, OnOk};
 ghost use Rattle.std.specs.Result.{result_err};
 ghost use Rattle.psa_status.specs.Rows.{first_row};
-ghost use Rattle.store_model.specs.Rules.{total_limit};
-ghost use Rattle.store_model.specs.HashOperations.{total_rows};
+ghost use Rattle.store_model.specs.Prelude.{total_limit, total_rows};
 
 use key_policy::TOTAL_LIMIT;
 use psa_status::Status;

@@ -3,8 +3,7 @@ use Rattle.std.proofs.Common.{◌≡◌, sym, subst}
 use Rattle.std.specs.Prelude.{Option, Some, None, Result, Ok, Err, OnOk, if◌then◌else◌}
 use Rattle.std.specs.Result.{is_ok, result_err}
 use Rattle.psa_status.specs.declared.Status.{Status}
-use Rattle.store_model.specs.Call.{Reply}
-use Rattle.store_model.specs.Operations.{Active, After, ends, unless_failed}
+use Rattle.store_model.specs.Prelude.{Reply, Active, After, ends, unless_failed}
 use Rattle.multipart.specs.Phases.{LeadsTo}
 use Rattle.multipart.specs.declared.Phase.{Phase}
 use Rattle.multipart.specs.declared.Phase.TheVariants as phase

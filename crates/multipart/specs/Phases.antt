@@ -1,6 +1,6 @@
 -- What a state stands for, by its phase.
 use Rattle.store_model.specs.Operations as model
-use Rattle.store_model.specs.Operations.{Operation}
+use Rattle.store_model.specs.Prelude.{Operation}
 use Rattle.multipart.specs.declared.Phase.{Phase}
 use Rattle.multipart.specs.declared.Phase.TheVariants as phase
 

@@ -1,5 +1,5 @@
 -- What the state of an operation stands for.
-use Rattle.store_model.specs.Operations.{Operation}
+use Rattle.store_model.specs.Prelude.{Operation}
 use Rattle.multipart.specs.declared.state.OperationState.{OperationState}
 use Rattle.multipart.specs.Phases.{StandsFor}
 

@@ -1,7 +1,7 @@
 -- A step of an operation, and whether the operation's key is still there.
 use Rattle.std.specs.Prelude.{Bool, true, false}
 use Rattle.psa_status.specs.declared.Status.TheVariants.{BadState, InvalidHandle}
-use Rattle.store_model.specs.Operations.{Operation, Inactive, InError, Active, After, stays, fails}
+use Rattle.store_model.specs.Prelude.{Operation, Inactive, InError, Active, After, stays, fails}
 
 abbrev pub is_active : {W : Type 0} → Operation W → Bool
 is_active (Active work) = true

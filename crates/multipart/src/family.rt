@@ -1,8 +1,6 @@
 // What the operations of all families have in common.
 ghost use Rattle.std.specs.Prelude.{◌≡◌, ◌≤◌, ℕ, Bool, List, true, length};
-ghost use Rattle.store_model.specs.Call.{buffer_after};
-ghost use Rattle.store_model.specs.Outcome.{refusal};
-ghost use Rattle.store_model.specs.Operations.{Operation, After};
+ghost use Rattle.store_model.specs.Prelude.{buffer_after, refusal, Operation, After};
 ghost use Rattle.service_calls.specs.Answered.{AnswersReply};
 ghost use Rattle.multipart.specs.Turns.{by_key};
 ghost use Rattle.multipart.specs.Turns.{loses_key, on_active};

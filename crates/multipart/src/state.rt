@@ -1,8 +1,6 @@
 // The state of an operation of any family.
 ghost use Rattle.std.specs.Prelude.{◌≡◌, ◌≤◌, ℕ, Bool, List, true, length};
-ghost use Rattle.store_model.specs.Call.{buffer_after};
-ghost use Rattle.store_model.specs.Operations.{Operation, After, Inactive, is_inactive};
-ghost use Rattle.store_model.specs.Outcome.{refusal};
+ghost use Rattle.store_model.specs.Prelude.{buffer_after, Operation, After, Inactive, is_inactive, refusal};
 ghost use Rattle.service_calls.specs.Answered.{AnswersReply};
 ghost use Rattle.multipart.specs.Phases.{LeadsTo};
 ghost use Rattle.multipart.specs.declared.Phase.TheVariants as phases;

@@ -7,13 +7,8 @@ use Rattle.psa_status.specs.Rows.{first_row}
 use Rattle.key_attributes.specs.declared.Attributes.{Attributes}
 use Rattle.alg_encoding.specs.declared.table.Class.{Class}
 use Rattle.alg_encoding.specs.Encoding.{is_concrete, class_of}
-use Rattle.store_model.specs.Call.{Reply}
-use Rattle.store_model.specs.Outcome.{refusal, done, given}
-use Rattle.store_model.specs.Rules.{class_rows, is_of_class}
-use Rattle.store_model.specs.Operations.{Operation, Inactive, InError, Active, After, goes_on, unless_failed, set_up}
-use Rattle.store_model.specs.CipherOperations.{bytes_or_empty}
-use Rattle.store_model.specs.DerivationOperations.{DerivationWork, DerivationStep, GetCapacity, SetCapacity, InputBytes, InputInteger, OutputBytes, VerifyBytes, derivation_step, derivation_work, with_bytes, exhausted, without, taken_from, salt_step, info_step, input_bytes_rows, input_integer_rows, output_rows, next_derived, compared, stated_bytes, output_key_rows}
-use Rattle.store_model.specs.Handles.{KeyCreation}
+use Rattle.store_model.specs.Prelude.{Reply, refusal, done, given, class_rows, is_of_class, Operation, Inactive, InError, Active, After, goes_on, unless_failed, set_up, bytes_or_empty, DerivationWork, DerivationStep, GetCapacity, SetCapacity, InputBytes, InputInteger, OutputBytes, VerifyBytes, derivation_step, derivation_work, with_bytes, exhausted, without, taken_from, salt_step, info_step, input_bytes_rows, input_integer_rows, output_rows, next_derived, compared, output_key_rows, KeyCreation}
+use Rattle.store_model.specs.DerivationOperations.{stated_bytes}
 use Rattle.derivation_states.specs.KeySteps.{derived_key}
 use Rattle.derivation_states.specs.States.{IsDerivationOperation}
 use Rattle.derivation_states.specs.declared.DerivationState.{DerivationState}

@@ -4,7 +4,7 @@ use Rattle.multipart.specs.declared.Phase.{Phase}
 use Rattle.multipart.specs.declared.Phase.TheVariants as phase
 use Rattle.multipart.specs.Phases as Phases
 use Rattle.multipart.specs.Turns.{is_active}
-use Rattle.store_model.specs.Operations.{Operation, Inactive, InError, Active}
+use Rattle.store_model.specs.Prelude.{Operation, Inactive, InError, Active}
 use Rattle.operation_handles.specs.Families.{Hashes, Macs, Ciphers, Aeads, Derivations}
 use Rattle.operation_handles.specs.Laws.{EndedOperationsAreClear}
 use Rattle.operation_handles.proofs.Fresh.{all_quiet}

@@ -1,8 +1,7 @@
 -- What one family sees of an operation, and what the states stand for once its own is another.
 use Rattle.std.proofs.Common.{◌≡◌, ◌⊎◌, inl, inr, false, refl, sym, ap, ◌∙◌, subst}
 use Rattle.std.specs.Prelude.{Option}
-use Rattle.store_model.specs.Operations.{Operation, Inactive, InError, Active}
-use Rattle.store_model.specs.Handles.{KeyCreation, HandleOperation, held_with, part_of}
+use Rattle.store_model.specs.Prelude.{Operation, Inactive, InError, Active, KeyCreation, HandleOperation, held_with, part_of}
 use Rattle.multipart.specs.Turns.{is_active}
 use Rattle.alg_encoding.specs.declared.algorithm.Alg.{Alg}
 use Rattle.mac_states.specs.declared.hash_state.HashOpState.{HashOpState}

@@ -2,8 +2,7 @@
 use Rattle.std.proofs.Common.{◌≡◌, inl, inr, false, refl, sym, ap, ◌∙◌, subst}
 use Rattle.std.specs.Prelude.{Option, Some, None}
 use Rattle.psa_status.specs.declared.Status.{Status}
-use Rattle.store_model.specs.Operations.{Operation, Inactive, InError, Active, After, is_inactive, set_up}
-use Rattle.store_model.specs.Handles.{Held, HandleOperation, KeyCreation, Work, held_after, held_with}
+use Rattle.store_model.specs.Prelude.{Operation, Inactive, InError, Active, After, is_inactive, set_up, Held, HandleOperation, KeyCreation, Work, held_after, held_with}
 use Rattle.multipart.specs.Turns.{is_active}
 use Rattle.mac_states.specs.HashStates.{IsHashOperation}
 use Rattle.mac_states.specs.MacStates.{IsMacOperation}

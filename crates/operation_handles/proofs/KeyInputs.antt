@@ -11,11 +11,8 @@ use Rattle.derivation_states.specs.KeySteps.{key_given, key_step_refusal}
 use Rattle.derivation_states.specs.States.{IsDerivationOperation}
 use Rattle.derivation_states.specs.declared.DerivationState.{DerivationState}
 use Rattle.slot_table.specs.Lent.{Reading}
-use Rattle.store_model.specs.Outcome.{done}
-use Rattle.store_model.specs.Operations.{Operation, Inactive, InError, Active, After, goes_on, unless_failed}
-use Rattle.store_model.specs.DerivationOperations.{DerivationWork, key_step, key_step_rows, with_key}
+use Rattle.store_model.specs.Prelude.{done, Operation, Inactive, InError, Active, After, goes_on, unless_failed, DerivationWork, key_step, key_step_rows, with_key, Deriving, HandleOperation, KeyCreation, derivation_part, part_of}
 use Rattle.secret_bytes.specs.Buffer.{bytes_of}
-use Rattle.store_model.specs.Handles.{Deriving, HandleOperation, KeyCreation, derivation_part, part_of}
 use Rattle.multipart.specs.Turns.{by_key, on_active}
 use Rattle.operation_handles.specs.Families.{Derivations}
 use Rattle.operation_handles.specs.States.{AreStates, MayHave}

@@ -11,11 +11,8 @@ use Rattle.derivation_states.specs.KeySteps.{derived_key, output_key_refusal}
 use Rattle.derivation_states.specs.Replies.{AnswersFront}
 use Rattle.derivation_states.specs.States.{IsDerivationOperation}
 use Rattle.derivation_states.specs.declared.DerivationState.{DerivationState}
-use Rattle.store_model.specs.Call.{Reply, Bytes, Nothing}
-use Rattle.store_model.specs.Outcome.{refusal, given}
-use Rattle.store_model.specs.Operations.{Operation, Inactive, InError, Active, After, goes_on, unless_failed}
-use Rattle.store_model.specs.DerivationOperations.{DerivationWork, exhausted, next_derived, output_key_rows, stated_bytes, taken_from, without}
-use Rattle.store_model.specs.Handles.{Deriving, HandleOperation, KeyCreation, derivation_part, key_of_operation, part_of}
+use Rattle.store_model.specs.Prelude.{Reply, Bytes, Nothing, refusal, given, Operation, Inactive, InError, Active, After, goes_on, unless_failed, DerivationWork, exhausted, next_derived, output_key_rows, taken_from, without, Deriving, HandleOperation, KeyCreation, derivation_part, key_of_operation, part_of}
+use Rattle.store_model.specs.DerivationOperations.{stated_bytes}
 use Rattle.multipart.specs.Turns.{by_key, is_active, on_active}
 use Rattle.operation_handles.specs.Families.{Derivations}
 use Rattle.operation_handles.specs.Cells.{IsOperation}

@@ -4,8 +4,7 @@ use Rattle.std.specs.Prelude.{Option, Some, None}
 use Rattle.std.specs.Option.{option_map}
 use Rattle.slot_table.specs.Lent.{Reading}
 use Rattle.secret_bytes.specs.Buffer.{bytes_of}
-use Rattle.store_model.specs.Operations.{Inactive}
-use Rattle.store_model.specs.Handles.{HandleOperation, KeyCreation}
+use Rattle.store_model.specs.Prelude.{Inactive, HandleOperation, KeyCreation}
 use Rattle.multipart.specs.Turns.{is_active}
 use Rattle.alg_encoding.specs.declared.algorithm.Alg.{Alg}
 use Rattle.service_calls.specs.declared.handle_calls.KeylessSetup.{KeylessSetup}

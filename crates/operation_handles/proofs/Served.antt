@@ -2,9 +2,7 @@
 use Rattle.std.proofs.Common.{◌≡◌, ℕ, refl, sym, ap, ◌∙◌}
 use Rattle.psa_status.specs.declared.Status.{Status}
 use Rattle.psa_status.specs.declared.Status.TheVariants.{BadState}
-use Rattle.store_model.specs.Outcome.{counted, refusal}
-use Rattle.store_model.specs.Operations.{Operation, Inactive, InError, Active, After, stays}
-use Rattle.store_model.specs.Handles.{Own, Service, Work, applied, operation_of, own_of, stepped, untouched, with_own}
+use Rattle.store_model.specs.Prelude.{counted, refusal, Operation, Inactive, InError, Active, After, stays, Own, Service, Work, applied, operation_of, own_of, stepped, untouched, with_own, handle_step}
 use Rattle.store_model.proofs.Operations.{same_own, same_service}
 use Rattle.alg_encoding.specs.declared.algorithm.Alg.{Alg}
 use Rattle.key_attributes.specs.declared.KeyId.{KeyId}
@@ -13,7 +11,6 @@ use Rattle.service_calls.specs.declared.handle_calls.KeylessSetup.TheVariants as
 use Rattle.service_calls.specs.declared.handle_calls.Purpose.{Purpose}
 use Rattle.service_calls.specs.declared.handle_calls.Purpose.TheVariants.{SignMac, VerifyMac, EncryptCipher, DecryptCipher, EncryptAead, DecryptAead}
 use Rattle.service_calls.specs.declared.handle_calls.Setup.TheVariants.{Keyless, Keyed}
-use Rattle.store_model.specs.HandleCalls.{handle_step}
 use Rattle.operation_handles.specs.Setups.{set_up_with_key}
 use Rattle.service_calls.specs.declared.steps.Step.TheVariants as steps
 use Rattle.operation_handles.specs.Steps.{on_part}

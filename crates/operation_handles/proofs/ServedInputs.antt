@@ -10,13 +10,7 @@ use Rattle.alg_encoding.specs.Encoding.{is_concrete}
 use Rattle.key_policy.specs.declared.key_use.KeyUse.{KeyUse}
 use Rattle.key_policy.specs.Permissions.{pattern_refusal}
 use Rattle.key_policy.specs.Uses.{use_refusal}
-use Rattle.store_model.specs.Store.{Key}
-use Rattle.store_model.specs.Outcome.{done}
-use Rattle.store_model.specs.KeyUse.{bytes_of}
-use Rattle.store_model.specs.Operations.{Operation, Inactive, InError, Active, fails, goes_on, unless_failed, with_live_key}
-use Rattle.store_model.specs.DerivationOperations.{DerivationWork, key_step_rows, with_key}
-use Rattle.store_model.specs.Handles.{Deriving, HandleOperation, KeyCreation, Service, Served, applied, derivation_part, held_after, is_alive, key_of_operation, operation_of, part_of}
-use Rattle.store_model.specs.HandleCalls.{creation_of, derivation_key_rows, input_key, input_key_rows}
+use Rattle.store_model.specs.Prelude.{Key, done, bytes_of, Operation, Inactive, InError, Active, fails, goes_on, unless_failed, with_live_key, DerivationWork, key_step_rows, with_key, Deriving, HandleOperation, KeyCreation, Service, Served, applied, derivation_part, held_after, is_alive, key_of_operation, operation_of, part_of, creation_of, derivation_key_rows, input_key, input_key_rows}
 use Rattle.operation_handles.specs.KeyInputs.{TakesKeyAt}
 use Rattle.operation_handles.specs.Steps.{on_part}
 use Rattle.operation_handles.specs.Laws.{KeyInputsAreTheModels, has_live_key}

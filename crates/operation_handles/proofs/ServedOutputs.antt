@@ -8,13 +8,9 @@ use Rattle.psa_status.proofs.Rows.{first_row-front, first_row-back}
 use Rattle.key_attributes.specs.declared.Attributes.{Attributes}
 use Rattle.key_attributes.specs.Checks.{location}
 use Rattle.derivation_states.specs.KeySteps.{derived_key, output_key_refusal}
-use Rattle.store_model.specs.Outcome.{given}
-use Rattle.store_model.specs.Creation.{recorded_of}
-use Rattle.store_model.specs.Operations.{Operation, Inactive, InError, Active, After, fails, goes_on, unless_failed, with_live_key}
-use Rattle.store_model.specs.DerivationOperations.{DerivationWork, exhausted, next_derived, output_key_rows, stated_bytes, taken_from, without}
-use Rattle.store_model.specs.Handles.{Deriving, Service, Served, applied, derivation_part, held_after, key_of_operation, operation_of, part_of}
+use Rattle.store_model.specs.Prelude.{given, recorded_of, Operation, Inactive, InError, Active, After, fails, goes_on, unless_failed, with_live_key, DerivationWork, exhausted, next_derived, output_key_rows, taken_from, without, Deriving, Service, Served, applied, derivation_part, held_after, key_of_operation, operation_of, part_of, output_key, underived}
+use Rattle.store_model.specs.DerivationOperations.{stated_bytes}
 use Rattle.store_model.specs.HandleCalls as calls
-use Rattle.store_model.specs.HandleCalls.{output_key, underived}
 use Rattle.operation_handles.specs.Steps.{on_part}
 use Rattle.operation_handles.specs.Laws.{KeyOutputsAreTheModels, has_live_key}
 use Rattle.operation_handles.proofs.Served.{untouched_is}

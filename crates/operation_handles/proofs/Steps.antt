@@ -3,9 +3,7 @@ use Rattle.std.proofs.Common.{◌≡◌, ℕ, Bool, true, false, refl, sym, ap, 
 use Rattle.std.specs.Prelude.{Option}
 use Rattle.std.specs.Option.{option_map}
 use Rattle.psa_status.specs.declared.Status.TheVariants.{BadState}
-use Rattle.store_model.specs.Call.{Reply}
-use Rattle.store_model.specs.Operations.{Operation, Inactive, InError, Active, After, stays, with_live_key}
-use Rattle.store_model.specs.Handles.{KeyCreation, Held, HandleOperation, Work, held_after, held_with, key_of_operation, part_of}
+use Rattle.store_model.specs.Prelude.{Reply, Operation, Inactive, InError, Active, After, stays, with_live_key, KeyCreation, Held, HandleOperation, Work, held_after, held_with, key_of_operation, part_of}
 use Rattle.multipart.specs.Turns.{by_key, is_active}
 use Rattle.operation_handles.specs.Families.{Family, Hashes, Macs, Ciphers, Aeads, Derivations, WorkOf, embed_of, part_for}
 use Rattle.operation_handles.specs.States.{AreStates, MayHave, StandsIn}

@@ -1,8 +1,7 @@
 -- Whether an operation is active or inactive, by what each state tells.
 use Rattle.std.proofs.Common.{◌≡◌, refl, inl, inr, Bool, true, false, sym, ap, ◌∙◌, subst}
 use Rattle.std.specs.Prelude.{Option}
-use Rattle.store_model.specs.Operations.{Operation, Inactive, is_inactive}
-use Rattle.store_model.specs.Handles.{HandleOperation, KeyCreation}
+use Rattle.store_model.specs.Prelude.{Operation, Inactive, is_inactive, HandleOperation, KeyCreation}
 use Rattle.multipart.specs.Turns.{is_active}
 use Rattle.operation_handles.specs.Families.{Family, Hashes, Macs, Ciphers, Aeads, Derivations, WorkOf, embed_of}
 use Rattle.operation_handles.specs.States.{AreStates, StandsIn}

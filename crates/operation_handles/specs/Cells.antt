@@ -1,7 +1,7 @@
 -- What a cell stands for.
 use Rattle.std.specs.Prelude.{◌≡◌, Option}
 use Rattle.std.specs.Option.{option_map}
-use Rattle.store_model.specs.Handles.{KeyCreation, HandleOperation}
+use Rattle.store_model.specs.Prelude.{KeyCreation, HandleOperation}
 use Rattle.operation_handles.specs.States.{AreStates}
 use Rattle.operation_handles.specs.declared.cell.Cell.{Cell}
 

@@ -1,8 +1,7 @@
 -- What a derivation's state stands for, beside its algorithm.
 use Rattle.std.specs.Prelude.{ℕ, ◌≡◌}
 use Rattle.alg_encoding.specs.Encoding.{IsConcrete}
-use Rattle.store_model.specs.Operations.{Operation, Inactive, InError, Active}
-use Rattle.store_model.specs.DerivationOperations.{DerivationWork}
+use Rattle.store_model.specs.Prelude.{Operation, Inactive, InError, Active, DerivationWork}
 use Rattle.derivation_states.specs.States.{IsDerivationOperation}
 use Rattle.derivation_states.specs.declared.DerivationState.{DerivationState}
 

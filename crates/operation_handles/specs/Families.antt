@@ -1,11 +1,5 @@
 -- The families of operations.
-use Rattle.store_model.specs.Operations.{Operation}
-use Rattle.store_model.specs.Handles.{Work, Hashing, Authenticating, Ciphering, Sealing, Deriving, hash_part, mac_part, cipher_part, aead_part, derivation_part}
-use Rattle.store_model.specs.HashOperations.{HashWork}
-use Rattle.store_model.specs.MacOperations.{MacWork}
-use Rattle.store_model.specs.CipherOperations.{CipherWork}
-use Rattle.store_model.specs.AeadOperations.{AeadWork}
-use Rattle.store_model.specs.DerivationOperations.{DerivationWork}
+use Rattle.store_model.specs.Prelude.{Operation, Work, Hashing, Authenticating, Ciphering, Sealing, Deriving, hash_part, mac_part, cipher_part, aead_part, derivation_part, HashWork, MacWork, CipherWork, AeadWork, DerivationWork}
 
 pub data Family : Type 0 where
   Hashes : Family

@@ -4,10 +4,7 @@ use Rattle.psa_status.specs.Rows.{first_row}
 use Rattle.alg_encoding.specs.Encoding.{IsConcrete}
 use Rattle.key_policy.specs.declared.key_use.KeyUse.{KeyUse}
 use Rattle.key_policy.specs.declared.key_use.KeyUse.TheVariants.{Derivation}
-use Rattle.store_model.specs.Outcome.{done}
-use Rattle.store_model.specs.Operations.{After, Active, goes_on, unless_failed}
-use Rattle.store_model.specs.DerivationOperations.{DerivationWork, key_step_rows}
-use Rattle.store_model.specs.Handles.{Held, HandleOperation, Deriving, derivation_part, key_of_operation, part_of}
+use Rattle.store_model.specs.Prelude.{done, After, Active, goes_on, unless_failed, DerivationWork, key_step_rows, Held, HandleOperation, Deriving, derivation_part, key_of_operation, part_of}
 use Rattle.operation_handles.specs.Steps.{on_part}
 
 -- the operation is a derivation that has no key and takes one at this step, which is then looked for so

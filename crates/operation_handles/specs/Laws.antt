@@ -7,13 +7,8 @@ use Rattle.key_attributes.specs.declared.Attributes.{Attributes}
 use Rattle.key_policy.specs.declared.key_use.KeyUse.{KeyUse}
 use Rattle.key_policy.specs.Uses.{use_refusal}
 use Rattle.derivation_states.specs.KeySteps.{output_key_refusal}
-use Rattle.store_model.specs.Outcome.{done}
-use Rattle.store_model.specs.Creation.{recorded_of}
-use Rattle.store_model.specs.KeyUse.{bytes_of}
-use Rattle.store_model.specs.Operations.{Active, fails, goes_on}
-use Rattle.store_model.specs.DerivationOperations.{DerivationWork, stated_bytes, with_key}
-use Rattle.store_model.specs.Handles.{HandleOperation, Deriving, Service, applied, derivation_part, is_alive, key_of_operation, operation_of, part_of}
-use Rattle.store_model.specs.HandleCalls.{InputKey, OutputKey, creation_of, derived_key, handle_step, random_of}
+use Rattle.store_model.specs.Prelude.{done, recorded_of, bytes_of, Active, fails, goes_on, DerivationWork, with_key, HandleOperation, Deriving, Service, applied, derivation_part, is_alive, key_of_operation, operation_of, part_of, InputKey, OutputKey, creation_of, derived_key, handle_step, random_of}
+use Rattle.store_model.specs.DerivationOperations.{stated_bytes}
 use Rattle.service_calls.specs.Meanings.{model_setup, model_step}
 use Rattle.service_calls.specs.declared.handle_calls.Setup.{Setup}
 use Rattle.service_calls.specs.declared.steps.Step.{Step}

@@ -6,17 +6,7 @@ use Rattle.psa_status.specs.declared.Status.{Status}
 use Rattle.alg_encoding.specs.declared.algorithm.Alg.{Alg}
 use Rattle.alg_encoding.specs.declared.table.Class.TheVariants as class
 use Rattle.key_policy.specs.Uses.{use_refusal, used_for}
-use Rattle.store_model.specs.Store.{Key, Store}
-use Rattle.store_model.specs.KeyUse.{bytes_of}
-use Rattle.store_model.specs.Rules.{class_rows}
-use Rattle.store_model.specs.HandleCalls.{creation_of}
-use Rattle.store_model.specs.HashOperations.{hash_work}
-use Rattle.store_model.specs.MacOperations.{mac_work}
-use Rattle.store_model.specs.CipherOperations.{cipher_work}
-use Rattle.store_model.specs.AeadOperations.{aead_work}
-use Rattle.store_model.specs.DerivationOperations.{derivation_work}
-use Rattle.store_model.specs.Operations.{After, Active, set_up}
-use Rattle.store_model.specs.Handles.{Held, HandleOperation, KeyCreation, Work, Hashing, Authenticating, Ciphering, Sealing, Deriving}
+use Rattle.store_model.specs.Prelude.{Key, Store, bytes_of, class_rows, creation_of, hash_work, mac_work, cipher_work, aead_work, derivation_work, After, Active, set_up, Held, HandleOperation, KeyCreation, Work, Hashing, Authenticating, Ciphering, Sealing, Deriving}
 use Rattle.service_calls.specs.declared.handle_calls.KeyedSetup.{KeyedSetup}
 use Rattle.service_calls.specs.declared.handle_calls.KeylessSetup.{KeylessSetup}
 use Rattle.service_calls.specs.declared.handle_calls.KeylessSetup.TheVariants as keyless

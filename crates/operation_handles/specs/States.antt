@@ -1,7 +1,6 @@
 -- What the states of all families stand for.
 use Rattle.std.specs.Prelude.{◌≡◌, true, is_some, Option, None}
-use Rattle.store_model.specs.Operations.{Operation, Inactive, Active}
-use Rattle.store_model.specs.Handles.{KeyCreation, HandleOperation, held_with}
+use Rattle.store_model.specs.Prelude.{Operation, Inactive, Active, KeyCreation, HandleOperation, held_with}
 use Rattle.mac_states.specs.HashStates.{IsHashOperation, IsClearHash}
 use Rattle.mac_states.specs.MacStates.{IsMacOperation, IsClearMac}
 use Rattle.cipher_states.specs.States.{IsCipherOperation, IsClearCipher}

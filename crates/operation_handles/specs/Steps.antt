@@ -1,14 +1,7 @@
 -- What a step makes of a handle's operation.
 use Rattle.std.specs.Prelude.{ℕ, Bool, List}
 use Rattle.psa_status.specs.declared.Status.TheVariants.{BadState}
-use Rattle.store_model.specs.Operations.{Operation, Active, After, stays, with_live_key}
-use Rattle.store_model.specs.Handles.{Held, HandleOperation, Work, Hashing, Authenticating, Ciphering, Sealing, Deriving, hash_part, mac_part, cipher_part, aead_part, derivation_part, held_after, key_of_operation, part_of}
-use Rattle.store_model.specs.HandleCalls.{HandleCall, OnHash, OnMac, OnCipher, OnAead, OnDerivation}
-use Rattle.store_model.specs.HashOperations.{hash_step}
-use Rattle.store_model.specs.MacOperations.{mac_step}
-use Rattle.store_model.specs.CipherOperations.{cipher_step}
-use Rattle.store_model.specs.AeadOperations.{aead_step}
-use Rattle.store_model.specs.DerivationOperations.{derivation_step}
+use Rattle.store_model.specs.Prelude.{Operation, Active, After, stays, with_live_key, Held, HandleOperation, Work, Hashing, Authenticating, Ciphering, Sealing, Deriving, hash_part, mac_part, cipher_part, aead_part, derivation_part, held_after, key_of_operation, part_of, HandleCall, OnHash, OnMac, OnCipher, OnAead, OnDerivation, hash_step, mac_step, cipher_step, aead_step, derivation_step}
 
 -- a call of one family, by whether the operation's key is still there: BAD_STATE where it isn't active with that family
 abbrev pub on_part : {W : Type 0} → HandleOperation → (W → Work) → Operation W → (alive : Bool) → (W → After W) → After Held

@@ -1,8 +1,7 @@
 // What stands at one handle.
 ghost use Rattle.std.specs.Prelude.{◌≡◌, true, false, None};
 ghost use Rattle.std.specs.Option.{option_map};
-ghost use Rattle.store_model.specs.Handles.{HandleOperation};
-ghost use Rattle.store_model.specs.Operations.{Inactive, is_inactive};
+ghost use Rattle.store_model.specs.Prelude.{HandleOperation, Inactive, is_inactive};
 ghost use Rattle.multipart.specs.Turns.{is_active};
 ghost use Rattle.operation_handles.specs.Cells.{IsOperation};
 ghost use Rattle.operation_handles.specs.States.{AreInactive};

@@ -3,9 +3,7 @@ ghost use Rattle.std.specs.Prelude.{◌≡◌, ◌≤◌, length, IfSome, IfNone
 ghost use Rattle.psa_status.specs.Rows.{first_row};
 ghost use Rattle.secret_bytes.specs.Buffer.{bytes_of};
 ghost use Rattle.service_calls.specs.Answers.{plain_reply};
-ghost use Rattle.store_model.specs.DerivationOperations.{DerivationWork, key_step_rows, with_key};
-ghost use Rattle.store_model.specs.Handles.{HandleOperation, KeyCreation, Deriving, derivation_part, part_of};
-ghost use Rattle.store_model.specs.Operations.{Active, InError};
+ghost use Rattle.store_model.specs.Prelude.{DerivationWork, key_step_rows, with_key, HandleOperation, KeyCreation, Deriving, derivation_part, part_of, Active, InError};
 ghost use Rattle.operation_handles.specs.Cells.{IsOperation};
 ghost use Rattle.operation_handles.specs.KeyInputs.{TakesKeyAt, RefusesKeyAt, key_refused};
 

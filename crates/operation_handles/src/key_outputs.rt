@@ -1,10 +1,8 @@
 // A key of derived bytes.
 ghost use Rattle.std.specs.Prelude.{◌≡◌, ◌/◌, min, None};
 ghost use Rattle.derivation_states.specs.KeySteps.{output_key_refusal};
-ghost use Rattle.store_model.specs.DerivationOperations.{DerivationWork, stated_bytes, without};
-ghost use Rattle.store_model.specs.Handles.{HandleOperation, Deriving, derivation_part, key_of_operation, part_of};
-ghost use Rattle.store_model.specs.Operations.{Active};
-ghost use Rattle.store_model.specs.Outcome.{refusal};
+ghost use Rattle.store_model.specs.DerivationOperations.{stated_bytes};
+ghost use Rattle.store_model.specs.Prelude.{DerivationWork, without, HandleOperation, Deriving, derivation_part, key_of_operation, part_of, Active, refusal};
 ghost use Rattle.operation_handles.specs.Cells.{IsOperation};
 ghost use Rattle.operation_handles.specs.KeyOutputs.{IsDerivedKey, derived_key_refused};
 

@@ -1,7 +1,6 @@
 // The states of all families.
 ghost use Rattle.std.specs.Prelude.{◌≡◌, IfOk, Option};
-ghost use Rattle.store_model.specs.Handles.{HandleOperation, KeyCreation};
-ghost use Rattle.store_model.specs.Operations.{is_inactive};
+ghost use Rattle.store_model.specs.Prelude.{HandleOperation, KeyCreation, is_inactive};
 ghost use Rattle.multipart.specs.Turns.{is_active};
 ghost use Rattle.operation_handles.specs.States.{AreInactive, AreStates};
 

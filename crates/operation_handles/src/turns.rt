@@ -1,8 +1,7 @@
 // A turn of any family's operation: the random bytes that it takes from the caller's stream, and then the work.
 ghost use Rattle.std.specs.Prelude.{◌≡◌, ◌≤◌, ◌+◌, ◌^◌, ℕ, List, true, length};
 ghost use Rattle.random_streams.specs.RandomWords.{drawn_from, next_bytes};
-ghost use Rattle.store_model.specs.Call.{buffer_after};
-ghost use Rattle.store_model.specs.Operations.{Operation};
+ghost use Rattle.store_model.specs.Prelude.{buffer_after, Operation};
 ghost use Rattle.service_calls.specs.Answered.{AnswersReply};
 ghost use Rattle.multipart.specs.Turns.{by_key};
 ghost use Rattle.operation_handles.specs.Draws.{DrawsFew};

@@ -1,6 +1,6 @@
 // An algorithm over a text, again and again.
 ghost use Rattle.std.specs.Prelude.{◌≡◌, ◌≤◌, ◌%◌, length};
-ghost use Rattle.crypto_specs.specs.Aes.{IsKey};
+ghost use Rattle.crypto_specs.specs.Prelude.{IsKey};
 
 use crate::jobs::Algorithm;
 use aes_core::AesKey;
@@ -54,9 +54,7 @@ pub fn run(algorithm: Algorithm, text: &mut [u8], turns: usize) -> u64
     requires whole { length text.old % 16 ≡ 0 }
     ensures { length text.new ≡ length text.old }
 {
-    let Some(key) = AesKey::new(&KEY) else {
-        unreachable!()
-    };
+    let key = AesKey::new(&KEY).unwrap();
     let mut out = [0; 64];
     'turns: for _ in 0..turns {
         turn(algorithm, &key, text, &mut out);

@@ -1,6 +1,6 @@
 // What is done again and again.
 ghost use Rattle.std.specs.Prelude.{◌≡◌, ◌≤◌, ◌∷◌, [], ℕ, length, IfOk};
-ghost use Rattle.key_cells.specs.Body.{IsKeyOf};
+ghost use Rattle.key_cells.specs.Prelude.{IsKeyOf};
 
 use crate::room::Room;
 use key_attributes::{Attributes, KeyId, KeyType, Lifetime, Policy, Usage};

@@ -4,7 +4,7 @@ use Rattle.std.proofs.lemmas.Bool.{eqb-true}
 use Rattle.std.proofs.lemmas.List.{get_or-map, length-map, map-set}
 use Rattle.key_cells.specs.declared.slot.Slot.{Slot}
 use Rattle.key_cells.specs.declared.slot.Slot.TheVariants.{Free, Open, Shut, Unsure}
-use Rattle.key_cells.specs.Contents.{IsFull, IsSure, IsFirstWithoutKey, cell_slot, has_id, is_open, settled_slot, settled_slots}
+use Rattle.key_cells.specs.Prelude.{IsFull, IsSure, IsFirstWithoutKey, cell_slot, has_id, is_open, settled_slot, settled_slots}
 use Rattle.key_cells.proofs.Moves.{settled_open}
 use Rattle.persistent_keys.proofs.Filing.{settled_twice}
 

@@ -4,9 +4,8 @@ use Rattle.std.proofs.lemmas.Bool.{cases_eq}
 use Rattle.std.proofs.lemmas.List.{length-map, length-set, get_or-map, get_or-set_same, get_or-set_other}
 use Rattle.key_cells.specs.declared.slot.Slot.{Slot}
 use Rattle.key_cells.specs.declared.slot.Slot.TheVariants.{Free, Open, Shut, Unsure}
-use Rattle.key_cells.specs.Contents.{Content, Absent, Present, Doubtful, cell_slot, content_at, has_id, is_open, settled_slot, settled_slots, settled_content, settled}
+use Rattle.key_cells.specs.Prelude.{Content, Absent, Present, Doubtful, cell_slot, content_at, has_id, is_open, settled_slot, settled_slots, settled_content, settled, HoldsKey, HoldsId}
 use Rattle.key_attributes.specs.declared.Attributes.{Attributes}
-use Rattle.key_cells.specs.Body.{HoldsKey, HoldsId}
 use Rattle.persistent_keys.specs.Files.{Stored, stored, Keys, Doubt, IsDoubted, IsDoubtedIn, TellsCell, IsOf, IsFiled, IsPut}
 use Rattle.key_cells.proofs.Moves.{settled_open}
 use Rattle.key_cells.proofs.Bodies.{of_one_key}

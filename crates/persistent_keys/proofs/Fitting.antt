@@ -4,10 +4,7 @@ use Rattle.std.proofs.lemmas.Bool.{eqb-true}
 use Rattle.key_attributes.specs.declared.Attributes.{Attributes}
 use Rattle.key_cells.specs.declared.slot.Slot.{Slot}
 use Rattle.key_cells.specs.declared.slot.Slot.TheVariants.{Free, Open, Shut, Unsure}
-use Rattle.key_cells.specs.Layout.{gate, body, opened_gate}
-use Rattle.key_cells.specs.Contents.{Content, Absent, Present, Doubtful, FitsCell, Fits, cell_slot, content_at, has_id}
-use Rattle.key_cells.specs.Body.{HoldsKey}
-use Rattle.key_cells.specs.Image.{IsDamaged, HasKey}
+use Rattle.key_cells.specs.Prelude.{gate, body, opened_gate, Content, Absent, Present, Doubtful, FitsCell, Fits, cell_slot, content_at, has_id, HoldsKey, IsDamaged, HasKey}
 use Rattle.key_cells.proofs.Bodies.{of_one_key}
 use Rattle.key_cells.proofs.Finding.{id_of}
 use Rattle.persistent_keys.specs.Files.{Stored, stored, Keys, Doubt, IsDoubted, FitsKeys, TellsCell, IsOf, IsFiled}

@@ -5,12 +5,8 @@ use Rattle.std.proofs.lemmas.Bool.{eqb-true, eq-eqb, cases_eq}
 use Rattle.std.proofs.lemmas.List.{get_or-replicate}
 use Rattle.key_cells.specs.declared.slot.Slot.{Slot}
 use Rattle.key_cells.specs.declared.slot.Slot.TheVariants.{Free, Open, Shut, Unsure}
-use Rattle.key_cells.specs.Layout.{gate, body}
+use Rattle.key_cells.specs.Prelude.{gate, body, Content, Absent, Present, Doubtful, cell_slot, content_at, has_id, creation_of_slot, HoldsKey, HoldsId, content_of, found_in, IsFoundIn, Finds, HasOneEach, IsOpened}
 use Rattle.key_cells.specs.Contents as cells
-use Rattle.key_cells.specs.Contents.{Content, Absent, Present, Doubtful, cell_slot, content_at, has_id, creation_of_slot}
-use Rattle.key_cells.specs.Body.{HoldsKey, HoldsId}
-use Rattle.key_cells.specs.Opening.{content_of, found_in, IsFoundIn, Finds, HasOneEach}
-use Rattle.key_cells.specs.Opened.{IsOpened}
 use Rattle.key_cells.proofs.CellsRead.{content_there}
 use Rattle.key_cells.proofs.Opened.{not_opened}
 use Rattle.persistent_keys.specs.Files.{Stored, stored, Keys, TellsCell, IsOf, IsFiled, AreFound, StandsForKeys}

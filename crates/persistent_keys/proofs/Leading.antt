@@ -4,11 +4,9 @@ use Rattle.std.proofs.Common.{◌≡◌, inl, inr, ⊎_elim, ℕ, ◌<◌, true,
 use Rattle.std.proofs.lemmas.List.{get_or-set_same, get_or-map, map-set, length-map}
 use Rattle.key_cells.specs.declared.slot.Slot.{Slot}
 use Rattle.key_cells.specs.declared.slot.Slot.TheVariants.{Free, Open, Shut, Unsure}
-use Rattle.key_cells.specs.Layout.{gate, body}
+use Rattle.key_cells.specs.Prelude.{gate, body, Content, Absent, Present, Doubtful, Shows, cell_slot, content_at, has_id, is_open, creation_of_slot, settled_slot, settled_slots, settled_content, settled, Moves, MovesEither, CreationFailed, HoldsKey}
 use Rattle.key_cells.specs.Contents as cells
-use Rattle.key_cells.specs.Contents.{Content, Absent, Present, Doubtful, Shows, cell_slot, content_at, has_id, is_open, creation_of_slot, settled_slot, settled_slots, settled_content, settled, Moves, MovesEither, CreationFailed}
 use Rattle.key_attributes.specs.declared.Attributes.{Attributes}
-use Rattle.key_cells.specs.Body.{HoldsKey}
 use Rattle.key_cells.proofs.Bodies.{of_one_key}
 use Rattle.key_cells.proofs.Free.{free_set_after, not_free_as}
 use Rattle.key_cells.proofs.Moves.{moves_settled, moves_after_settled, moves_none, doubt_after, some_image}

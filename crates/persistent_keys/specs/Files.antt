@@ -5,11 +5,8 @@ use Rattle.disk_face.specs.Moments.{Within}
 use Rattle.key_attributes.specs.declared.Attributes.{Attributes}
 use Rattle.key_cells.specs.declared.slot.Slot.{Slot}
 use Rattle.key_cells.specs.declared.slot.Slot.TheVariants.{Free, Open, Shut, Unsure}
-use Rattle.key_cells.specs.Layout.{body}
+use Rattle.key_cells.specs.Prelude.{body, Content, Absent, Present, Doubtful, HasZeros, cell_slot, content_at, has_id, creation_of_slot, HoldsKey, HoldsId, Opens, HasKey}
 use Rattle.key_cells.specs.Contents as cells
-use Rattle.key_cells.specs.Contents.{Content, Absent, Present, Doubtful, HasZeros, cell_slot, content_at, has_id, creation_of_slot}
-use Rattle.key_cells.specs.Body.{HoldsKey, HoldsId}
-use Rattle.key_cells.specs.Image.{Opens, HasKey}
 use Rattle.persistent_keys.specs.declared.file.MakeFault.{MakeFault}
 use Rattle.persistent_keys.specs.declared.file.MakeFault.TheVariants.{Full, Disk}
 

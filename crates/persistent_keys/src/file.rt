@@ -3,13 +3,11 @@ ghost use Rattle.std.specs.Prelude.{◌≡◌, ◌≤◌, ◌<◌, ◌↔◌, �
 ghost use Rattle.psa_status.specs.Causes.{HasCause, Rose};
 ghost use Rattle.disk_face.specs.Disk.{StillTells};
 ghost use Rattle.key_cells.specs.declared.slot.Slot.TheVariants.{Free, Open};
-ghost use Rattle.key_cells.specs.Contents.{HasNoKey, IsFirstWithKey, IsFirstWithoutKey, IsFull, IsSure, has_id, is_open, creation_of_slot, settled_slots, cell_slot};
+ghost use Rattle.key_cells.specs.Prelude.{HasNoKey, IsFirstWithKey, IsFirstWithoutKey, IsFull, IsSure, has_id, is_open, creation_of_slot, settled_slots, cell_slot, IsKeyOf, IsOpened, IsRefused};
 ghost use Rattle.persistent_keys.specs.Files.{stored, Keys, Doubt, AreFound};
 ghost use Rattle.persistent_keys.specs.Calls.{StandsForThese, HasStored, KeepsFile, PutsInFile, LeavesUnmade, LeavesUndestroyed};
 ghost use Rattle.persistent_keys.specs.declared.file.MakeFault.TheVariants.{Disk};
 ghost use Rattle.secret_bytes.specs.Buffer.{bytes_of, IsClear};
-ghost use Rattle.key_cells.specs.Body.{IsKeyOf};
-ghost use Rattle.key_cells.specs.Opened.{IsOpened, IsRefused};
 
 use disk_face::Disk;
 use key_attributes::Attributes;

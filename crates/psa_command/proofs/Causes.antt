@@ -1,18 +1,15 @@
 -- Why a command ends as it does.
-use Rattle.std.proofs.Common.{◌≡◌, ℕ, List, [], ◌∷◌, refl, sym, ap, subst, arith, inl, inr, ◌⊎◌}
-use Rattle.std.specs.Prelude.{Option, None, Some, Result, Ok, Err, IfSome, IsOk, MatchResult}
+use Rattle.std.proofs.Common.{◌≡◌, ℕ, List, [], ◌∷◌, refl, sym, ap, subst, arith, inl, inr, ◌⊎◌, Option, None, Some, Result, Ok, Err, IfSome, IsOk, MatchResult}
 use Rattle.std.proofs.lemmas.Bool.Decides.{leb_tells}
 use Rattle.psa_status.specs.Causes.{Rose}
 use Rattle.policy_rules.specs.declared.narrowing.Label.{Label}
 use Rattle.disk_face.specs.Disk.{NoNewImage}
-use Rattle.key_cells.specs.Image.{IsFirstDamaged, IsNoStore}
-use Rattle.key_cells.specs.Opening.{IsFoundIn}
+use Rattle.key_cells.specs.Prelude.{IsFirstDamaged, IsNoStore, IsFoundIn}
 use Rattle.key_cells.specs.declared.reading.OpenFault.{OpenFault}
 use Rattle.key_cells.specs.declared.reading.OpenFault.TheVariants as opening
 use Rattle.script_lang.specs.declared.script.ScriptLine.{ScriptLine}
-use Rattle.script_lang.specs.Replies.{ReplyLine}
+use Rattle.script_lang.specs.Prelude.{ReplyLine, script_of}
 use Rattle.script_lang.specs.declared.faults.ScriptFault.{ScriptFault}
-use Rattle.script_lang.specs.Lines.{script_of}
 use Rattle.command_words.specs.declared.command.Command.{Command}
 use Rattle.command_words.specs.declared.command.Command.TheVariants.{Run, Generate}
 use Rattle.command_words.specs.declared.command.RunOptions.{RunOptions}

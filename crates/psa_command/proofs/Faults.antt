@@ -1,14 +1,12 @@
 -- Why the calls of a script can't be read.
-use Rattle.std.proofs.Common.{◌≡◌, ◌<◌, ◌≤◌, ◌+◌, ℕ, Bool, List, [], ◌∷◌, length, arith, ap, ◌∙◌, true, false, cond, refl, sym, subst, length-append}
-use Rattle.std.specs.Prelude.{Option, None, Some, Result, Ok, Err, IfSome, nat_lt}
+use Rattle.std.proofs.Common.{◌≡◌, ◌<◌, ◌≤◌, ◌+◌, ℕ, Bool, List, [], ◌∷◌, length, arith, ap, ◌∙◌, true, false, cond, refl, sym, subst, length-append, Option, None, Some, Result, Ok, Err, IfSome, nat_lt}
 use Rattle.std.proofs.lemmas.Bool.Decides.{nat_tests}
 use Rattle.std.specs.Io.KnownBytes.{Consumes}
 use Rattle.script_lang.specs.declared.script.ScriptLine.{ScriptLine}
 use Rattle.script_lang.specs.declared.faults.Reason.{Reason}
 use Rattle.script_lang.specs.declared.faults.ScriptFault.{ScriptFault}
 use Rattle.script_lang.specs.declared.faults.ScriptFault.TheVariants as faults
-use Rattle.script_lang.specs.Pieces.{line_words, text_lines}
-use Rattle.script_lang.specs.Lines.{Read, nothing_read, words_at, lines_at, goes_on, script_of, ScriptFails}
+use Rattle.script_lang.specs.Prelude.{line_words, text_lines, Read, nothing_read, words_at, lines_at, goes_on, script_of, ScriptFails}
 use Rattle.psa_command.specs.declared.exit.Exit.{Exit}
 use Rattle.psa_command.specs.declared.exit.Exit.TheVariants.{Script}
 

@@ -3,11 +3,9 @@ use Rattle.std.specs.Prelude.{ℕ, ◌≡◌, ◌⊎◌, List, [], replicate, le
 use Rattle.std.specs.Io.KnownBytes.{Appends}
 use Rattle.policy_rules.specs.declared.narrowing.Label.{Label}
 use Rattle.admission.specs.Apply.{picked}
-use Rattle.key_cells.specs.Image.{Opens}
+use Rattle.key_cells.specs.Prelude.{Opens}
 use Rattle.script_lang.specs.declared.script.ScriptLine.{ScriptLine}
-use Rattle.script_lang.specs.Replies.{ReplyLine}
-use Rattle.script_lang.specs.Lines.{script_of}
-use Rattle.script_lang.specs.PrintedOrder.{text_of}
+use Rattle.script_lang.specs.Prelude.{ReplyLine, script_of, text_of}
 use Rattle.line_generator.specs.Generator.{generator_lines}
 use Rattle.line_generator.specs.Summary.{summary_of}
 use Rattle.command_words.specs.declared.command.Command.{Command}

@@ -5,7 +5,7 @@ ghost use Rattle.psa_status.specs.Causes.{Rose};
 ghost use Rattle.outside_io.specs.Causes.{text_limit, TellsAsBefore};
 ghost use Rattle.script_lang.specs.declared.faults.ScriptFault.{ScriptFault};
 ghost use Rattle.script_lang.specs.declared.faults.ScriptFault.TheVariants as faults;
-ghost use Rattle.script_lang.specs.Lines.{script_of, IsOfSession};
+ghost use Rattle.script_lang.specs.Prelude.{script_of, IsOfSession};
 ghost use Rattle.psa_command.specs.Ends.{IsOfReading, IsReadToEnd};
 
 use crate::exit::Exit;

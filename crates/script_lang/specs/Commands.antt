@@ -3,12 +3,7 @@ use Rattle.std.specs.Prelude.{ℕ, ◌≡◌, true, false, List, [], ◌∷◌, 
 use Rattle.std.specs.Str.{bytes_eq}
 use Rattle.store_model.specs.Call as store
 use Rattle.store_model.specs.HandleCalls as operation
-use Rattle.store_model.specs.Requests.{Request, OnStore, OnHandle}
-use Rattle.store_model.specs.HashOperations.{HashUpdate, HashFinish, HashVerify}
-use Rattle.store_model.specs.MacOperations.{MacUpdate, MacSignFinish, MacVerifyFinish}
-use Rattle.store_model.specs.CipherOperations.{CipherGenerateIv, CipherSetIv, CipherUpdate, CipherFinish}
-use Rattle.store_model.specs.AeadOperations.{AeadGenerateNonce, AeadSetNonce, AeadSetLengths, AeadUpdateAd, AeadUpdate, AeadFinish, AeadVerify}
-use Rattle.store_model.specs.DerivationOperations.{GetCapacity, SetCapacity, InputBytes, InputInteger, OutputBytes, VerifyBytes}
+use Rattle.store_model.specs.Prelude.{Request, OnStore, OnHandle, HashUpdate, HashFinish, HashVerify, MacUpdate, MacSignFinish, MacVerifyFinish, CipherGenerateIv, CipherSetIv, CipherUpdate, CipherFinish, AeadGenerateNonce, AeadSetNonce, AeadSetLengths, AeadUpdateAd, AeadUpdate, AeadFinish, AeadVerify, GetCapacity, SetCapacity, InputBytes, InputInteger, OutputBytes, VerifyBytes}
 use Rattle.script_lang.specs.Shapes.{Shape, row}
 use Rattle.script_lang.specs.Fields.{Fields, alg_at, attributes_at, bytes_at, data_at, long_at, room_at, short_at}
 use Rattle.script_lang.specs.declared.store_commands.KeyCommand.{KeyCommand}

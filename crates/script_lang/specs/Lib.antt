@@ -10,3 +10,4 @@ pub mod Grammar
 pub mod Outside
 pub mod Replies
 pub mod PrintedOrder
+pub mod Prelude

@@ -1,10 +1,7 @@
 -- What a script's calls answer, and what is printed of it.
 use Rattle.std.specs.Prelude.{ℕ, zero, suc, ◌≡◌, ◌+◌, ◌==◌, List, [], ◌∷◌, ◌++◌, filter, flat_map, map, slice_get, Ok, All, Option, IfSome, option_map}
 use Rattle.store_model.specs.Call as model
-use Rattle.store_model.specs.Call.{Output, Reply, output_bytes}
-use Rattle.store_model.specs.Faults.{Plain}
-use Rattle.store_model.specs.Handles.{Service}
-use Rattle.store_model.specs.Replay.{Entry, outcome_of, reply_at}
+use Rattle.store_model.specs.Prelude.{Output, Reply, output_bytes, Plain, Service, Entry, outcome_of, reply_at}
 use Rattle.script_lang.specs.declared.script.ScriptLine.{ScriptLine}
 use Rattle.script_lang.specs.Commands.{request_of}
 use Rattle.script_lang.specs.Replies.{ReplyLine, reply_text}

@@ -112,7 +112,6 @@ const ROWS: &[Row] = rows![
 ];
 
 /// All rows.
-#[tactic(auto, unfolding(crate::specs::Commands::rows))]
 fn all_rows() -> &'static [Row]
     ensures { map shape result.now ≡ rows }
 {

@@ -81,10 +81,7 @@ fn handle_of(word: &[u8]) -> Result<Op, LineError>
     ensures { Gives (λ h. h) result (handle_at word.now) }
 {
     match word {
-        [digit @ b'1'..=b'4'] => match Op::new(*digit - b'0') {
-            Some(op) => Ok(op),
-            None => unreachable!(),
-        },
+        [digit @ b'1'..=b'4'] => Ok(Op::new(*digit - b'0').unwrap()),
         _ => Err(LineError::Bad(Reason::BadHandle)),
     }
 }

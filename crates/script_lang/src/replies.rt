@@ -1,5 +1,5 @@
 // The replies of a session, as text.
-ghost use Rattle.std.specs.Prelude.{◌≡◌, ◌<◌, ◌-◌, ◌+◌, ◌^◌, ◌++◌, ◌∷◌, [], List, OnErr, OnOk, codes, cond, length, replicate};
+ghost use Rattle.std.specs.Prelude.{◌≡◌, ◌<◌, ◌-◌, ◌+◌, ◌^◌, ◌++◌, ◌∷◌, [], List, OnErr, OnOk, codes, cond, length};
 ghost use Rattle.std.specs.Fmt.{decimal};
 ghost use Rattle.hex.specs.Hex.{encode_lower};
 ghost use Rattle.psa_status.specs.Status.{status_name};
@@ -7,6 +7,7 @@ ghost use Rattle.script_lang.specs.Replies.{AreKept, ReplyLine, bytes_text, next
 
 use itoa::Buffer;
 use psa_status::{Memory, Status};
+use secret_bytes::let_go;
 use std::alloc::{AllocError, Global};
 
 /// So many bytes at a time are written in hex.
@@ -40,9 +41,7 @@ fn push_hex(out: &mut Vec<u8>, bytes: &[u8]) -> Result<(), AllocError>
         let (piece, more) = rest.split_at(rest.len().min(HEX_PIECE));
         let mut room = [0; 2 * HEX_PIECE];
         let text = &mut room[..2 * piece.len()];
-        let Ok(()) = hex::encode_to_slice(piece, text) else {
-            unreachable!()
-        };
+        hex::encode_to_slice(piece, text).unwrap();
         out.extend_from_slice(text)?;
         rest = more;
     }
@@ -167,9 +166,7 @@ impl Replies {
 }
 
 impl Drop for Replies {
-    fn drop(mut self) {
-        let length = self.text.len();
-        self.text.fill(0);
+    fn drop(self) {
         let Replies {
             session: _,
             form: _,
@@ -177,11 +174,6 @@ impl Drop for Replies {
             successes: _,
             text,
         } = self;
-        release(text, length);
+        let_go(text);
     }
 }
-
-// Lets a text of so many bytes go, which are zeros.
-fn release(text: Vec<u8>, count: usize)
-    requires { text.items ≡ replicate count 0 }
-{}

@@ -8,8 +8,7 @@ use Rattle.psa_status.specs.Rows.{first_row, unless}
 use Rattle.psa_status.proofs.Rows.{unless-ok}
 use Rattle.driver_dispatch.specs.Held.{HeldKey, HeldKeys}
 use Rattle.driver_dispatch.specs.Calls.{HoldsHandle}
-use Rattle.store_model.specs.Call.{Reply, Bytes, buffer_after}
-use Rattle.store_model.specs.Outcome.{Computed, computed_unless, done, given, refusal, reply_unless, spoiled}
+use Rattle.store_model.specs.Prelude.{Reply, Bytes, buffer_after, Computed, computed_unless, done, given, refusal, reply_unless, spoiled}
 use Rattle.secure_element_calls.specs.declared.calls.ElementCall.{ElementCall}
 use Rattle.secure_element_calls.specs.declared.calls.ElementCall.TheVariants.{MacCompute, MacVerify, CtrEncrypt, CtrDecrypt}
 use Rattle.secure_element_calls.specs.declared.calls.NotComputed.{NotComputed}

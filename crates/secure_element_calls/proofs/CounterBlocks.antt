@@ -2,7 +2,7 @@
 use Rattle.std.proofs.Common.{◌≡◌, ℕ, zero, suc, ◌+◌, ◌*◌, ◌/◌, ◌%◌, ◌^◌, ◌<◌, List, [], ◌∷◌, ◌++◌, length, map, take, drop, refl, sym, ap, ap₂, ◌∙◌, arith}
 use Rattle.std.proofs.lemmas.List.{append-nil, length-append, length-drop, map-append, take-append-le, drop-append-le, take_all}
 use Rattle.std.proofs.lemmas.Grind.{flat_map-append}
-use Rattle.crypto_specs.specs.Modes.{blocks, counter_block, ecb_encrypt, joined, key_stream, number_block}
+use Rattle.crypto_specs.specs.Prelude.{blocks, counter_block, ecb_encrypt, joined, key_stream, number_block}
 use Rattle.crypto_specs.proofs.Blocks.{length-number_block}
 use Rattle.cipher_blocks.proofs.BlockNumbers.{number_of_block}
 use Rattle.cipher_modes.proofs.CounterBlocks.{counter_block_is, key_stream_next}

@@ -3,12 +3,11 @@ use Rattle.std.proofs.Common.{◌≡◌, ℕ, refl, subst, IsTrue}
 use Rattle.std.specs.Prelude.{Option, None, Some, Result, Ok, Err, OnOk}
 use Rattle.driver_dispatch.specs.Held.{HeldKey, HeldKeys, held_key}
 use Rattle.driver_dispatch.specs.Calls.{HoldsHandle, IsSomeKey}
-use Rattle.store_model.specs.Rules.{fits_type}
+use Rattle.store_model.specs.Prelude.{fits_type, is_hmac}
 use Rattle.alg_encoding.specs.Encoding.{base_of, entry_of}
 use Rattle.alg_encoding.specs.Table.{base_at}
 use Rattle.secure_element_calls.specs.Calls.{algorithm_asked, ctr}
 use Rattle.secure_element_calls.specs.declared.calls.ElementCall.{ElementCall}
-use Rattle.store_model.specs.Algorithms.{is_hmac}
 use Rattle.std.specs.Prelude.{Bool, false, ◌==◌, if◌then◌else◌}
 use Rattle.std.proofs.lemmas.Bool.{eqb-true}
 

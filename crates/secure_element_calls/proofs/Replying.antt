@@ -2,21 +2,12 @@
 use Rattle.std.proofs.Common.{◌≡◌, ℕ, Bool, true, false, List, ◌++◌, length, refl, sym, ap, ◌∙◌, cond}
 use Rattle.std.specs.Prelude.{Option, None, Some, not, bytes_eq, nat_lt, ◌&&◌, ◌-◌, take, drop}
 use Rattle.std.specs.Option.{option_and_then}
-use Rattle.store_model.specs.Rules.{total_limit}
+use Rattle.store_model.specs.Prelude.{total_limit, Key, is_opaque_key, Reply, Ctr, deciphered, enciphered, encrypted, plain_or_zeros, mac_of, bytes_of, Computed, computed_unless, done, given, replies, reply_unless, Service, next_random, OnStore, plain_step, computed_with, is_of_computed}
 use Rattle.std.specs.FinMap as map
 use Rattle.psa_status.specs.declared.Status.{Status}
 use Rattle.psa_status.specs.declared.Status.TheVariants.{InvalidArgument, InvalidSignature}
 use Rattle.psa_status.specs.Rows.{Rows, first_row}
 use Rattle.psa_status.proofs.Rows.{first_row-back, first_row-front}
-use Rattle.store_model.specs.Store.{Key, is_opaque_key}
-use Rattle.store_model.specs.Call.{Reply}
-use Rattle.store_model.specs.Ciphers.{Ctr, deciphered, enciphered, encrypted, plain_or_zeros}
-use Rattle.store_model.specs.Algorithms.{mac_of}
-use Rattle.store_model.specs.KeyUse.{bytes_of}
-use Rattle.store_model.specs.Outcome.{Computed, computed_unless, done, given, replies, reply_unless}
-use Rattle.store_model.specs.Handles.{Service, next_random}
-use Rattle.store_model.specs.Requests.{OnStore, plain_step}
-use Rattle.store_model.specs.Marks.{computed_with, is_of_computed}
 use Rattle.secure_element_calls.specs.declared.calls.ElementCall.{ElementCall}
 use Rattle.secure_element_calls.specs.declared.calls.ElementCall.TheVariants.{MacCompute, MacVerify, CtrEncrypt, CtrDecrypt}
 use Rattle.secure_element_calls.specs.Calls.{element_reply, model_call, rows_before}

@@ -5,9 +5,7 @@ use Rattle.psa_status.specs.declared.Status.TheVariants.{HardwareFailure, Invali
 use Rattle.psa_status.specs.Rows.{first_row}
 use Rattle.driver_dispatch.specs.Held.{HeldKeys}
 use Rattle.driver_dispatch.specs.Calls.{HoldsHandle}
-use Rattle.store_model.specs.Call.{Nothing, Reply, buffer_after}
-use Rattle.store_model.specs.Faults.{FaultMark, Hardware, Plain, marked_reply}
-use Rattle.store_model.specs.Outcome.{done}
+use Rattle.store_model.specs.Prelude.{Nothing, Reply, buffer_after, FaultMark, Hardware, Plain, marked_reply, done}
 use Rattle.service_calls.specs.Answers.{GivesBytes}
 use Rattle.secure_element_calls.specs.declared.calls.ElementCall.{ElementCall}
 use Rattle.secure_element_calls.specs.declared.calls.ElementCall.TheVariants.{MacVerify}

@@ -3,11 +3,9 @@ use Rattle.std.specs.Prelude.{ℕ, ◌+◌, ◌-◌, ◌<◌, true, false, List,
 use Rattle.psa_status.specs.Rows.{Rows}
 use Rattle.alg_encoding.specs.declared.table.Class.{Class}
 use Rattle.alg_encoding.specs.declared.table.Class.TheVariants.{Mac, Cipher}
-use Rattle.store_model.specs.Algorithms.{tag_bytes}
+use Rattle.store_model.specs.Prelude.{tag_bytes, Ctr, decrypt_rows, decrypted_reply, encrypt_rows, encrypted, compute_rows, mac_reply, verified_reply, cipher_usage, mac_usage}
 use Rattle.store_model.specs.Call as model
-use Rattle.store_model.specs.Ciphers.{Ctr, decrypt_rows, decrypted_reply, encrypt_rows, encrypted}
-use Rattle.store_model.specs.Macs.{compute_rows, mac_reply, verified_reply, verify_rows}
-use Rattle.store_model.specs.Rules.{cipher_usage, mac_usage}
+use Rattle.store_model.specs.Macs.{verify_rows}
 use Rattle.secure_element_calls.specs.declared.calls.ElementCall.{ElementCall}
 use Rattle.secure_element_calls.specs.declared.calls.ElementCall.TheVariants.{MacCompute, MacVerify, CtrEncrypt, CtrDecrypt}
 

@@ -1,8 +1,7 @@
 -- What a call that is refused by no row gives, in parts: the bytes that are written, and whether a MAC is the message's.
 use Rattle.std.specs.Prelude.{ℕ, ◌≤◌, Bool, true, bytes_eq, List, [], ◌++◌, length, take, drop}
-use Rattle.crypto_specs.specs.Aes.{aes_encrypt}
-use Rattle.crypto_specs.specs.Modes.{ctr_xor}
-use Rattle.store_model.specs.Algorithms.{mac_of}
+use Rattle.crypto_specs.specs.Prelude.{aes_encrypt, ctr_xor}
+use Rattle.store_model.specs.Prelude.{mac_of}
 use Rattle.secure_element_calls.specs.declared.calls.ElementCall.{ElementCall}
 use Rattle.secure_element_calls.specs.declared.calls.ElementCall.TheVariants.{MacCompute, MacVerify, CtrEncrypt, CtrDecrypt}
 

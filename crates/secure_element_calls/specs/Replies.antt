@@ -2,14 +2,7 @@
 use Rattle.std.specs.Prelude.{ℕ, ◌≡◌, true, List, ◌++◌, Option, None}
 use Rattle.std.specs.FinMap as map
 use Rattle.psa_status.specs.Rows.{Rows, first_row}
-use Rattle.store_model.specs.Store.{Key, is_opaque_key}
-use Rattle.store_model.specs.Call.{Reply}
-use Rattle.store_model.specs.Outcome.{reply_unless}
-use Rattle.store_model.specs.KeyUse.{bytes_of}
-use Rattle.store_model.specs.Rules.{use_rows}
-use Rattle.store_model.specs.Handles.{Service, next_random}
-use Rattle.store_model.specs.Requests.{OnStore, plain_step}
-use Rattle.store_model.specs.Marks.{asks_device}
+use Rattle.store_model.specs.Prelude.{Key, is_opaque_key, Reply, reply_unless, bytes_of, use_rows, Service, next_random, OnStore, plain_step, asks_device}
 use Rattle.secure_element_calls.specs.declared.calls.ElementCall.{ElementCall}
 use Rattle.secure_element_calls.specs.declared.calls.ElementCall.TheVariants.{CtrEncrypt}
 use Rattle.secure_element_calls.specs.Calls.{algorithm_asked, class_asked, element_reply, model_call, rows_before, usage_asked}

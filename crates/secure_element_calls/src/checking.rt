@@ -3,9 +3,7 @@ ghost use Rattle.std.specs.Prelude.{◌≡◌, ◌+◌, ◌-◌, ◌≤◌, ℕ,
 ghost use Rattle.psa_status.specs.Rows.{first_row, unless};
 ghost use Rattle.alg_encoding.specs.declared.table.Class.TheVariants.{Mac};
 ghost use Rattle.key_policy.specs.Names.{IsOfClass};
-ghost use Rattle.store_model.specs.Algorithms.{mac_of, tag_bytes};
-ghost use Rattle.store_model.specs.Ciphers.{Ctr, decrypt_rows, encrypt_rows};
-ghost use Rattle.store_model.specs.Macs.{compute_rows};
+ghost use Rattle.store_model.specs.Prelude.{mac_of, tag_bytes, Ctr, decrypt_rows, encrypt_rows, compute_rows};
 ghost use Rattle.secure_element_calls.specs.Calls.{algorithm_asked, class_asked, needed_by, rows_before};
 ghost use Rattle.secure_element_calls.specs.Given.{HasVector, given_by};
 ghost use Rattle.driver_dispatch.specs.Calls.{IsMac};
@@ -25,10 +23,7 @@ pub(crate) fn mac_length(alg: Alg) -> usize
     ensures bound { result ≤ 64 }
     ensures whole { (key message : List ℕ) → length (mac_of alg.0 key message) ≡ result }
 {
-    match mac_algorithm(alg) {
-        Ok(mac) => usize::from(mac.length),
-        Err(_status) => unreachable!(),
-    }
+    usize::from(mac_algorithm(alg).unwrap().length)
 }
 
 // The bytes of a MAC, or the refusal of a message of so many bytes or of the room for the MAC.

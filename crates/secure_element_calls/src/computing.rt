@@ -3,7 +3,7 @@ ghost use Rattle.std.specs.Prelude.{◌≡◌, ◌≤◌, IsTrue, IsErrOf};
 ghost use Rattle.psa_status.specs.Causes.{Rose};
 ghost use Rattle.key_policy.specs.Names.{IsOfClass};
 ghost use Rattle.driver_dispatch.specs.Calls.{HoldsHandle, has_element};
-ghost use Rattle.store_model.specs.Rules.{fits_type};
+ghost use Rattle.store_model.specs.Prelude.{fits_type};
 ghost use Rattle.secure_element_calls.specs.Answers.{IsComputed, IsOfServed, IsRefusedBefore};
 ghost use Rattle.secure_element_calls.specs.Calls.{AsksElement, algorithm_asked, class_asked};
 ghost use Rattle.secure_element_calls.specs.declared.calls.NotComputed.TheVariants as uncomputed;

@@ -1,9 +1,7 @@
 // CTR, whose counter blocks the element enciphers.
 ghost use Rattle.std.specs.Prelude.{◌≡◌, ◌≤◌, ◌<◌, ◌/◌, ◌%◌, ℕ, List, IsTrue, OnOk, length, replicate};
 ghost use Rattle.psa_status.specs.Causes.{HasCause, Rose};
-ghost use Rattle.crypto_specs.specs.Aes.{aes_encrypt};
-ghost use Rattle.crypto_specs.specs.Bytes.{xor_bytes};
-ghost use Rattle.crypto_specs.specs.Modes.{ctr_xor, ecb_encrypt, key_stream, number_block};
+ghost use Rattle.crypto_specs.specs.Prelude.{aes_encrypt, xor_bytes, ctr_xor, ecb_encrypt, key_stream, number_block};
 ghost use Rattle.driver_dispatch.specs.Calls.{CountsServed, HoldsHandle, has_element};
 
 use cipher_blocks::{number_of, set_number};

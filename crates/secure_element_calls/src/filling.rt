@@ -3,11 +3,9 @@ ghost use Rattle.std.specs.Prelude.{◌≡◌, ◌+◌, ◌-◌, ◌≤◌, ◌<
 ghost use Rattle.psa_status.specs.Causes.{HasCause, Rose};
 ghost use Rattle.alg_encoding.specs.declared.table.Class.TheVariants.{Mac};
 ghost use Rattle.key_policy.specs.Names.{IsOfClass};
-ghost use Rattle.crypto_specs.specs.Aes.{aes_encrypt};
-ghost use Rattle.crypto_specs.specs.Modes.{ctr_xor};
+ghost use Rattle.crypto_specs.specs.Prelude.{aes_encrypt, ctr_xor};
 ghost use Rattle.driver_dispatch.specs.Calls.{CountsServed, HoldsHandle, has_element};
-ghost use Rattle.store_model.specs.Algorithms.{mac_of};
-ghost use Rattle.store_model.specs.Rules.{fits_type};
+ghost use Rattle.store_model.specs.Prelude.{mac_of, fits_type};
 ghost use Rattle.secure_element_calls.specs.Calls.{AsksElement, algorithm_asked, class_asked, needed_by};
 ghost use Rattle.secure_element_calls.specs.Given.{Compares, HasVector, agrees_by, given_by};
 

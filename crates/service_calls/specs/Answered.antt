@@ -4,8 +4,7 @@ use Rattle.psa_status.specs.declared.Status.{Status}
 use Rattle.psa_status.specs.declared.Status.TheVariants.{Success}
 use Rattle.store_model.specs.Call as model
 use Rattle.service_calls.specs.Answers.{GivesBytes}
-use Rattle.store_model.specs.Call.{Reply, Nothing}
-use Rattle.store_model.specs.Outcome.{refusal, done}
+use Rattle.store_model.specs.Prelude.{Reply, Nothing, refusal, done}
 use Rattle.service_calls.specs.declared.output.Output.{Output}
 use Rattle.service_calls.specs.declared.output.Output.TheVariants as output
 

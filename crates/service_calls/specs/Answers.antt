@@ -4,8 +4,7 @@ use Rattle.psa_status.specs.declared.Status.{Status}
 use Rattle.psa_status.specs.declared.Status.TheVariants.{Success}
 use Rattle.key_attributes.specs.declared.KeyId.{KeyId}
 use Rattle.key_attributes.specs.declared.Attributes.{Attributes}
-use Rattle.store_model.specs.Call.{Reply, Nothing, Identifier, Description, Bytes, buffer_bytes}
-use Rattle.store_model.specs.Outcome.{refusal, done}
+use Rattle.store_model.specs.Prelude.{Reply, Nothing, Identifier, Description, Bytes, buffer_bytes, refusal, done}
 
 -- a creation answers the identifier
 abbrev pub id_reply : Result KeyId Status → Reply

@@ -27,7 +27,7 @@ use Rattle.service_calls.specs.declared.handle_calls.Setup.{Setup}
 use Rattle.service_calls.specs.declared.handle_calls.Setup.TheVariants as setup
 use Rattle.service_calls.specs.declared.handle_calls.HandleCall.{HandleCall}
 use Rattle.service_calls.specs.declared.handle_calls.HandleCall.TheVariants as call
-use Rattle.store_model.specs.Requests.{Request, OnStore, OnHandle}
+use Rattle.store_model.specs.Prelude.{Request, OnStore, OnHandle}
 use Rattle.service_calls.specs.declared.call.Call.{Call}
 use Rattle.service_calls.specs.declared.call.Call.TheVariants as asked
 use Rattle.service_calls.specs.declared.store_calls.Creation.{Creation}

@@ -1,11 +1,8 @@
 -- Marks have causes, and so there are no more of them than failures.
 use Rattle.std.proofs.Common.{◌≡◌, ◌≤◌, ◌<◌, ℕ, ◌+◌, ◌-◌, ◌^◌, Bool, true, false, List, [], ◌∷◌, refl, ap, subst, arith, cond}
 use Rattle.psa_status.specs.Causes.{Rose}
-use Rattle.store_model.specs.Faults.{FaultMark, Plain, Storage, Hardware, Corrupt}
-use Rattle.store_model.specs.Marks.{FaultCounts, HasFault, IsCaused, last_counts}
-use Rattle.store_model.specs.Replay.{Entry}
-use Rattle.store_core.specs.Represents.{Opening}
-use Rattle.store_core.specs.Rising.{AreRising, opening_after}
+use Rattle.store_model.specs.Prelude.{FaultMark, Plain, Storage, Hardware, Corrupt, FaultCounts, HasFault, IsCaused, last_counts, Entry}
+use Rattle.store_core.specs.Prelude.{Opening, AreRising, opening_after}
 use Rattle.session_host.specs.Bounds.{AreBounded, is_storage, is_hardware, is_corrupt, marked}
 
 abbrev one : Bool → ℕ

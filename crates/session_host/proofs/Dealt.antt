@@ -1,23 +1,19 @@
 -- The numbers of the sessions that are dealt to a worker.
-use Rattle.std.proofs.Common.{◌≡◌, ◌≢◌, ℕ, zero, suc, ◌+◌, ◌-◌, ◌≤◌, ◌<◌, Bool, true, false, List, [], ◌∷◌, ◌++◌, length, get_or, refl, sym, ap, ◌∙◌, subst, arith, cond, length-append, length-set, get_or-set_same, get_or-set_other, set, eq-eqb, ne_eqb, inl, inr, append_assoc}
-use Rattle.std.specs.Prelude.{◌%◌, ◌==◌}
+use Rattle.std.proofs.Common.{◌≡◌, ◌≢◌, ℕ, zero, suc, ◌+◌, ◌-◌, ◌≤◌, ◌<◌, Bool, true, false, List, [], ◌∷◌, ◌++◌, length, get_or, refl, sym, ap, ◌∙◌, subst, arith, cond, length-append, length-set, get_or-set_same, get_or-set_other, set, eq-eqb, ne_eqb, inl, inr, append_assoc, ◌%◌, ◌==◌, All, None, vec_capacity, IfSome, take}
 use Rattle.std.proofs.lemmas.Bool.Decides.{eqb_tells}
 use Rattle.std.proofs.lemmas.List.{append-nil, get_or_push, map-append}
 use Rattle.session_host.specs.declared.session.Session.{Session}
 use Rattle.session_host.specs.declared.worker.Worker.{Worker}
-use Rattle.std.specs.Prelude.{All, None, vec_capacity}
-use Rattle.locked_store.specs.Worlds.{World}
+use Rattle.locked_store.specs.Prelude.{World}
 use Rattle.callers.specs.declared.caller.Caller.{Caller}
 use Rattle.caller_service.specs.Staff.{IsNewCaller}
-use Rattle.script_lang.specs.Replies.{AreKept}
+use Rattle.script_lang.specs.Prelude.{AreKept}
 use Rattle.script_lang.specs.declared.replies.Replies.{Replies}
 use Rattle.script_lang.specs.declared.replies.ReplyForm.{ReplyForm}
 use Rattle.session_host.specs.Dealing.{AreDealt, AreTaken, HaveOwn, IsFree, IsFrom, dealt}
-use Rattle.std.specs.Prelude.{IfSome}
-use Rattle.std.proofs.Common.{take}
 use Rattle.std.proofs.lemmas.List.{get_or-map, take_more}
 use Rattle.std.proofs.lemmas.List.Elements.{All-nil, All-push, All-set, All-weaker}
-use Rattle.turn_history.specs.History.{entries_of}
+use Rattle.turn_history.specs.Prelude.{entries_of}
 use Rattle.session_host.specs.Heads.{failures_of, heads, ranks_of}
 use Rattle.session_host.specs.Printed.{AreFirstCalls, AreFirstReplies}
 use Rattle.session_host.specs.Sessions.{AreFirstGiven, HasAnswered, HasMade, KnowsTurns}

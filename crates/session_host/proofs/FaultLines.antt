@@ -1,14 +1,12 @@
 -- Reply lines that say the status of a failed device: no more than there are marks.
-use Rattle.std.proofs.Common.{◌≡◌, ◌≤◌, ℕ, zero, suc, ◌+◌, Bool, true, false, List, [], ◌∷◌, refl, sym, ap, ap₂, ◌∙◌, arith, cond, eqb, leb, inl, inr}
-use Rattle.std.specs.Prelude.{Option, Some, None, count_by, map, sum_by}
+use Rattle.std.proofs.Common.{◌≡◌, ◌≤◌, ℕ, zero, suc, ◌+◌, Bool, true, false, List, [], ◌∷◌, refl, sym, ap, ap₂, ◌∙◌, arith, cond, eqb, leb, inl, inr, Option, Some, None, count_by, map, sum_by}
 use Rattle.std.proofs.lemmas.Bool.Decides.{eqb_tells, leb_tells}
 use Rattle.std.proofs.lemmas.List.Sums.{sum_by-append, sum_by-cons}
 use Rattle.psa_status.specs.declared.Status.{Status}
 use Rattle.psa_status.specs.declared.Status.TheVariants.{StorageFailure, HardwareFailure, DataCorrupt}
 use Rattle.callers.specs.Failures.{failure_marked, failure_told}
-use Rattle.store_model.specs.Faults.{FaultMark, Plain, Storage, Hardware, Corrupt, StorageAccess, is_of_fault}
-use Rattle.store_model.specs.Replay.{Entry}
-use Rattle.script_lang.specs.Replies.{ReplyLine}
+use Rattle.store_model.specs.Prelude.{FaultMark, Plain, Storage, Hardware, Corrupt, StorageAccess, is_of_fault, Entry}
+use Rattle.script_lang.specs.Prelude.{ReplyLine}
 use Rattle.session_host.specs.Bounds.{LinesAreBounded, is_corrupt, is_data_corrupt, is_hardware, is_hardware_failure, is_storage, is_storage_failure, marked, saying}
 use Rattle.session_host.specs.Heads.{failure_of, failures_of, failures_to}
 

@@ -2,8 +2,7 @@
 use Rattle.std.proofs.Common.{◌≡◌, ℕ, ◌+◌, ◌≤◌, List, [], ◌∷◌, ◌++◌, length, refl, sym, ap, ◌∙◌, subst, arith, map, take, length-append, length-take, take_all}
 use Rattle.std.proofs.lemmas.List.{take-append-le}
 use Rattle.script_lang.specs.declared.script.ScriptLine.{ScriptLine}
-use Rattle.script_lang.specs.Commands.{request_of}
-use Rattle.script_lang.specs.PrintedOrder.{AreCalls, Turn, id_given}
+use Rattle.script_lang.specs.Prelude.{request_of, AreCalls, Turn, id_given}
 use Rattle.session_host.specs.Printed.{AreFirstCalls}
 use Rattle.session_host.proofs.History.{calls_length, calls_more}
 

@@ -1,17 +1,15 @@
 -- From what threads have worked to what sixteen callers have made.
-use Rattle.std.proofs.Common.{◌≡◌, ℕ, zero, suc, ◌+◌, ◌-◌, ◌≤◌, ◌<◌, List, [], ◌∷◌, ◌++◌, cond, flat_map, length, length-append, get_or, refl, sym, ap, ap₂, ◌∙◌, subst, arith, inl, inr, true}
-use Rattle.std.specs.Prelude.{All, Option, None, Some, take}
+use Rattle.std.proofs.Common.{◌≡◌, ℕ, zero, suc, ◌+◌, ◌-◌, ◌≤◌, ◌<◌, List, [], ◌∷◌, ◌++◌, cond, flat_map, length, length-append, get_or, refl, sym, ap, ap₂, ◌∙◌, subst, arith, inl, inr, true, All, Option, None, Some, take}
 use Rattle.std.proofs.lemmas.Grind.{flat_map-append}
 use Rattle.std.proofs.lemmas.List.Sums.{sum_by-append, sum_by-cons}
 use Rattle.std.proofs.lemmas.List.{get_or_default}
-use Rattle.turn_history.specs.History.{entries_of}
-use Rattle.locked_store.specs.Worlds.{World}
+use Rattle.turn_history.specs.Prelude.{entries_of}
+use Rattle.locked_store.specs.Prelude.{World}
 use Rattle.callers.specs.declared.caller.Caller.{Caller}
 use Rattle.script_lang.specs.declared.script.ScriptLine.{ScriptLine}
-use Rattle.script_lang.specs.Replies.{AreAllKept, AreKept, ReplyLine, is_success, text_in}
+use Rattle.script_lang.specs.Prelude.{AreAllKept, AreKept, ReplyLine, is_success, text_in, IsOfSession}
 use Rattle.script_lang.specs.declared.replies.Replies.{Replies}
 use Rattle.script_lang.specs.declared.replies.ReplyForm.{ReplyForm}
-use Rattle.script_lang.specs.Lines.{IsOfSession}
 use Rattle.caller_service.specs.Staff.{AreStaff}
 use Rattle.session_host.specs.declared.session.Session.{Session}
 use Rattle.session_host.specs.Printed.{AreFirstCalls}

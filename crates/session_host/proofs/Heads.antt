@@ -1,10 +1,10 @@
 -- What stands for a session's calls in a history that goes on, and the heads of its replies.
 use Rattle.std.proofs.Common.{◌≡◌, ℕ, ◌+◌, eqb, Bool, true, false, List, [], ◌∷◌, ◌++◌, length, refl, sym, ap, ap₂, ◌∙◌, arith, cond, map, eq-eqb}
 use Rattle.std.proofs.lemmas.List.{append-nil, length-map, map-append}
-use Rattle.turn_history.specs.History.{calls_by, StartsWith}
-use Rattle.store_model.specs.Replay.{Entry}
-use Rattle.locked_store.specs.Standing.{caller_of}
-use Rattle.script_lang.specs.Replies.{ReplyLine}
+use Rattle.turn_history.specs.Prelude.{calls_by, StartsWith}
+use Rattle.store_model.specs.Prelude.{Entry}
+use Rattle.locked_store.specs.Prelude.{caller_of}
+use Rattle.script_lang.specs.Prelude.{ReplyLine}
 use Rattle.session_host.specs.Heads.{head_of, heads, of_calls}
 use Rattle.session_host.proofs.History.{last_call, none_after, none_chosen}
 

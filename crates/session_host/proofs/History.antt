@@ -1,16 +1,13 @@
 -- The turns of a session in a history that goes on.
-use Rattle.std.proofs.Common.{◌≡◌, ℕ, suc, ◌+◌, eqb, Bool, true, false, List, [], ◌∷◌, ◌++◌, length, refl, sym, ap, ◌∙◌, arith, cond, map, append_assoc, eq-eqb}
-use Rattle.std.specs.Prelude.{◌==◌, filter}
+use Rattle.std.proofs.Common.{◌≡◌, ℕ, suc, ◌+◌, eqb, Bool, true, false, List, [], ◌∷◌, ◌++◌, length, refl, sym, ap, ◌∙◌, arith, cond, map, append_assoc, eq-eqb, ◌==◌, filter}
 use Rattle.std.proofs.lemmas.List.{append-nil}
 use Rattle.std.proofs.lemmas.List.Elements.{filter-append}
-use Rattle.turn_history.specs.History.{choose, calls_by, StartsWith}
+use Rattle.turn_history.specs.Prelude.{choose, calls_by, StartsWith}
 use Rattle.turn_history.proofs.Lists.{calls-append}
-use Rattle.store_model.specs.Handles.{Service}
-use Rattle.store_model.specs.Replay.{Entry, outcome_of, replay}
-use Rattle.locked_store.specs.Standing.{caller_of}
+use Rattle.store_model.specs.Prelude.{Service, Entry, outcome_of, replay}
+use Rattle.locked_store.specs.Prelude.{caller_of}
 use Rattle.script_lang.specs.declared.script.ScriptLine.{ScriptLine}
-use Rattle.script_lang.specs.Commands.{request_of}
-use Rattle.script_lang.specs.PrintedOrder.{Turn, turns_from, turns_of, AreCalls, id_given, numbered, printed}
+use Rattle.script_lang.specs.Prelude.{request_of, Turn, turns_from, turns_of, AreCalls, id_given, numbered, printed}
 use Rattle.session_host.specs.Sessions.{session_turns}
 
 abbrev turn_at : ℕ → Service → Entry → Turn

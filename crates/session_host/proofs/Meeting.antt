@@ -1,22 +1,19 @@
 -- Callers that have seen what others of their thread had.
 use Rattle.std.proofs.Common.{◌≡◌, ℕ, ◌<◌, List, [], ◌∷◌, length, get_or, set, refl, sym, ap, ap₂, ◌∙◌, subst, arith, zero, suc, length-set, get_or-set_same, get_or-set_other}
-use Rattle.turn_history.specs.History.{entries_of, calls_by, StartsWith}
-use Rattle.locked_store.specs.Standing.{caller_of}
+use Rattle.turn_history.specs.Prelude.{entries_of, calls_by, StartsWith, joined}
+use Rattle.locked_store.specs.Prelude.{caller_of, World}
 use Rattle.turn_history.specs.declared.pass.View.{View}
-use Rattle.turn_history.specs.Views.{joined}
 use Rattle.turn_history.proofs.Lists.{begins_itself}
-use Rattle.store_model.specs.Replay.{Entry}
+use Rattle.store_model.specs.Prelude.{Entry}
 use Rattle.store_core.specs.declared.store.Opened.{Opened}
 use Rattle.callers.specs.Parts.{SameButPass}
 use Rattle.callers.proofs.Journeys.{seen_begins}
 use Rattle.std.specs.Global.{Vec}
-use Rattle.script_lang.specs.Replies.{AreKept}
+use Rattle.script_lang.specs.Prelude.{AreKept, lines_of}
 use Rattle.script_lang.specs.declared.replies.Replies.{Replies}
 use Rattle.callers.specs.Ready.{IsReady}
-use Rattle.locked_store.specs.Worlds.{World}
 use Rattle.callers.specs.declared.caller.Caller.{Caller}
 use Rattle.script_lang.specs.declared.script.ScriptLine.{ScriptLine}
-use Rattle.script_lang.specs.Lines.{lines_of}
 use Rattle.session_host.specs.declared.session.Session.{Session}
 use Rattle.callers.specs.Failures.{failure_marked}
 use Rattle.session_host.specs.Heads.{failures_of, heads, ranks_of}

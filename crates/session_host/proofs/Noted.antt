@@ -1,6 +1,5 @@
 -- What is noted of an answer, as the reply that it is.
-use Rattle.std.proofs.Common.{◌≡◌, ◌∙◌, ℕ, ◌+◌, List, [], ◌++◌, length, take, drop, min, replicate, refl, sym, ap, subst, arith, append_assoc, length-append}
-use Rattle.std.specs.Prelude.{IfOk, Result, Ok, Err, ◌-◌}
+use Rattle.std.proofs.Common.{◌≡◌, ◌∙◌, ℕ, ◌+◌, List, [], ◌++◌, length, take, drop, min, replicate, refl, sym, ap, subst, arith, append_assoc, length-append, IfOk, Result, Ok, Err, ◌-◌}
 use Rattle.std.specs.Int.{w32, w64, to_be_bytes}
 use Rattle.std.proofs.Math.Seq.{take-append_seam}
 use Rattle.psa_status.specs.declared.Memory.{Memory}
@@ -10,8 +9,8 @@ use Rattle.key_attributes.specs.declared.Attributes.{Attributes}
 use Rattle.key_attributes.specs.declared.KeyId.{KeyId}
 use Rattle.service_calls.specs.declared.output.Output.{Output}
 use Rattle.service_calls.specs.declared.output.Output.TheVariants.{Done, Identifier, Description, Bytes, Number}
-use Rattle.store_model.specs.Call.{Reply, attribute_bytes, buffer_bytes, output_bytes}
-use Rattle.script_lang.specs.PrintedOrder.{id_given}
+use Rattle.store_model.specs.Prelude.{Reply, attribute_bytes, buffer_bytes, output_bytes}
+use Rattle.script_lang.specs.Prelude.{id_given}
 use Rattle.script_lang.specs.declared.replies.Replies.{Replies}
 use Rattle.callers.specs.Failures.{failure_in}
 use Rattle.session_host.specs.Replying.{Answer, Answers, Fills, Notes, Tells}

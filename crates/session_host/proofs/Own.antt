@@ -1,9 +1,8 @@
 -- The replies of one session among those of all.
-use Rattle.std.proofs.Common.{◌≡◌, ◌≢◌, ℕ, zero, suc, ◌+◌, ◌≤◌, ◌<◌, List, [], ◌∷◌, ◌++◌, length, get_or, refl, sym, ap, ap₂, ◌∙◌, arith, cond, eq-eqb, ne_eqb}
-use Rattle.std.specs.Prelude.{◌==◌, map}
+use Rattle.std.proofs.Common.{◌≡◌, ◌≢◌, ℕ, zero, suc, ◌+◌, ◌≤◌, ◌<◌, List, [], ◌∷◌, ◌++◌, length, get_or, refl, sym, ap, ap₂, ◌∙◌, arith, cond, eq-eqb, ne_eqb, ◌==◌, map}
 use Rattle.std.proofs.lemmas.List.{append-nil}
 use Rattle.std.proofs.lemmas.List.Elements.{filter-append}
-use Rattle.script_lang.specs.Replies.{ReplyLine}
+use Rattle.script_lang.specs.Prelude.{ReplyLine}
 use Rattle.session_host.specs.Heads.{head_of, heads}
 use Rattle.session_host.specs.Printed.{replies_of}
 use Rattle.session_host.specs.Running.{all_replies}

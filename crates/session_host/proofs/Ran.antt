@@ -1,18 +1,15 @@
 -- What is known of a run, from its opening, its callers and its close.
-use Rattle.std.proofs.Common.{◌≡◌, ℕ, List, subst, arith}
-use Rattle.std.specs.Prelude.{All, is_some, take}
+use Rattle.std.proofs.Common.{◌≡◌, ℕ, List, subst, arith, All, is_some, take}
 use Rattle.atomic_table.specs.Seated.{TableId}
 use Rattle.policy_rules.specs.declared.narrowing.Label.{Label}
-use Rattle.store_model.specs.Marks.{FaultCounts}
-use Rattle.store_core.specs.Represents.{Opening}
+use Rattle.store_model.specs.Prelude.{FaultCounts}
+use Rattle.store_core.specs.Prelude.{Opening, opening_of}
 use Rattle.store_core.specs.declared.store.Opened.{Opened}
-use Rattle.store_core.specs.Start.{opening_of}
-use Rattle.locked_store.specs.Worlds.{World, world_of}
+use Rattle.locked_store.specs.Prelude.{World, world_of}
 use Rattle.callers.specs.declared.caller.Caller.{Caller}
 use Rattle.caller_service.specs.Closing.{IsClosedOver}
 use Rattle.script_lang.specs.declared.script.ScriptLine.{ScriptLine}
-use Rattle.script_lang.specs.Replies.{ReplyLine}
-use Rattle.script_lang.specs.Lines.{IsOfSession}
+use Rattle.script_lang.specs.Prelude.{ReplyLine, IsOfSession}
 use Rattle.session_host.specs.Bounds.{AreBounded}
 use Rattle.session_host.proofs.Bounds.{bounded}
 use Rattle.session_host.proofs.FaultLines.{bounded_lines}

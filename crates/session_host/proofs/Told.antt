@@ -1,16 +1,11 @@
 -- What callers and sessions know, as one more line is run.
-use Rattle.std.proofs.Common.{◌≡◌, ◌≢◌, ℕ, ◌+◌, ◌≤◌, List, [], ◌∷◌, ◌++◌, length, refl, sym, ap, ap₂, ◌∙◌, subst, arith, map, eq-eqb, ne_eqb, length-append, inl, inr}
-use Rattle.std.specs.Prelude.{◌==◌}
+use Rattle.std.proofs.Common.{◌≡◌, ◌≢◌, ℕ, ◌+◌, ◌≤◌, List, [], ◌∷◌, ◌++◌, length, refl, sym, ap, ap₂, ◌∙◌, subst, arith, map, eq-eqb, ne_eqb, length-append, inl, inr, ◌==◌, Option, Result}
 use Rattle.std.proofs.lemmas.Bool.Decides.{leb_tells}
 use Rattle.std.proofs.lemmas.List.{length-map, map-append}
-use Rattle.turn_history.specs.History.{entries_of, calls_by, StartsWith}
+use Rattle.turn_history.specs.Prelude.{entries_of, calls_by, StartsWith}
 use Rattle.turn_history.proofs.Lists.{begins_itself, two_beginnings}
-use Rattle.store_model.specs.Call.{Reply}
-use Rattle.store_model.specs.Handles.{Service}
-use Rattle.store_model.specs.Requests.{Request}
-use Rattle.store_model.specs.Replay.{Entry, outcome_of, replay}
-use Rattle.locked_store.specs.Standing.{caller_of}
-use Rattle.std.specs.Prelude.{Option, Result}
+use Rattle.store_model.specs.Prelude.{Reply, Service, Request, Entry, outcome_of, replay}
+use Rattle.locked_store.specs.Prelude.{caller_of, World}
 use Rattle.psa_status.specs.declared.Status.{Status}
 use Rattle.service_calls.specs.declared.output.Output.{Output}
 use Rattle.turn_history.specs.declared.pass.View.{View}
@@ -18,15 +13,11 @@ use Rattle.store_core.specs.declared.store.Opened.{Opened}
 use Rattle.callers.specs.Called.{IsAnswered, IsCalled, IsToldTo, Starts}
 use Rattle.callers.specs.Failures.{failure_in, failure_marked}
 use Rattle.callers.specs.Ready.{IsReady}
-use Rattle.locked_store.specs.Worlds.{World}
 use Rattle.callers.specs.declared.caller.Caller.{Caller}
 use Rattle.callers.proofs.Journeys.{begins_through, told_front}
 use Rattle.script_lang.specs.declared.script.ScriptLine.{ScriptLine}
-use Rattle.script_lang.specs.Replies.{ReplyLine, next_line}
+use Rattle.script_lang.specs.Prelude.{ReplyLine, next_line, request_of, lines_of, Turn, id_given, numbered, printed}
 use Rattle.script_lang.specs.declared.replies.Replies.{Replies}
-use Rattle.script_lang.specs.Commands.{request_of}
-use Rattle.script_lang.specs.Lines.{lines_of}
-use Rattle.script_lang.specs.PrintedOrder.{Turn, id_given, numbered, printed}
 use Rattle.session_host.specs.declared.session.Session.{Session}
 use Rattle.session_host.specs.Heads.{failure_of, failures_of, heads, of_calls, ranks_of}
 use Rattle.session_host.specs.Printed.{AreFirstCalls, AreFirstReplies}

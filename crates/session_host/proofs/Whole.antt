@@ -1,22 +1,17 @@
 -- From what callers know, and from what a closed service says, to the one order of a script's calls.
-use Rattle.std.proofs.Common.{◌≡◌, ℕ, suc, ◌+◌, ◌-◌, ◌≤◌, ◌<◌, List, [], ◌∷◌, ◌++◌, length, get_or, refl, sym, ap, ◌∙◌, subst, arith, append_assoc, inl, inr, ◌⊎◌, eqb, true, false, cond, Bool, take_all}
-use Rattle.std.specs.Prelude.{All, flat_map, map, take}
+use Rattle.std.proofs.Common.{◌≡◌, ℕ, suc, ◌+◌, ◌-◌, ◌≤◌, ◌<◌, List, [], ◌∷◌, ◌++◌, length, get_or, refl, sym, ap, ◌∙◌, subst, arith, append_assoc, inl, inr, ◌⊎◌, eqb, true, false, cond, Bool, take_all, All, flat_map, map, take}
 use Rattle.std.proofs.lemmas.Bool.Decides.{leb_tells, eqb_tells}
 use Rattle.std.proofs.lemmas.List.{append-nil, map-append}
 use Rattle.std.proofs.lemmas.List.Elements.{All-head, All-nil, All-tail}
-use Rattle.turn_history.specs.History.{choose, entries_of, calls_by, StartsWith}
+use Rattle.turn_history.specs.Prelude.{choose, entries_of, calls_by, StartsWith}
 use Rattle.turn_history.proofs.Lists.{begins_itself}
-use Rattle.store_model.specs.Handles.{Service}
-use Rattle.store_model.specs.Replay.{Entry}
-use Rattle.locked_store.specs.Standing.{caller_of}
+use Rattle.store_model.specs.Prelude.{Service, Entry}
+use Rattle.locked_store.specs.Prelude.{caller_of, World}
 use Rattle.callers.specs.Called.{IsToldTo, Starts}
 use Rattle.callers.specs.Failures.{failure_marked}
-use Rattle.locked_store.specs.Worlds.{World}
 use Rattle.callers.specs.declared.caller.Caller.{Caller}
 use Rattle.script_lang.specs.declared.script.ScriptLine.{ScriptLine}
-use Rattle.script_lang.specs.Replies.{ReplyLine}
-use Rattle.script_lang.specs.Lines.{IsOfSession, lines_of}
-use Rattle.script_lang.specs.PrintedOrder.{AreCalls, Turn, numbered, replies_to, turns_from, turns_of}
+use Rattle.script_lang.specs.Prelude.{ReplyLine, IsOfSession, lines_of, AreCalls, Turn, numbered, replies_to, turns_from, turns_of}
 use Rattle.session_host.specs.Heads.{failure_of, failures_of, failures_to, head_of, heads, heads_to, ranks_of}
 use Rattle.session_host.specs.Printed.{AreFirstCalls, AreFirstReplies, AreReplies, AreRepliesSoFar, IsInLineOrder, replies_of}
 use Rattle.session_host.specs.Sessions.{ElementTells, HasMade, IsWithin, KnowsTurns, session_turns}

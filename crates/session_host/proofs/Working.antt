@@ -1,12 +1,11 @@
 -- The sessions of a thread, as a line is run.
-use Rattle.std.proofs.Common.{◌≡◌, ◌≢◌, ℕ, suc, ◌+◌, ◌-◌, ◌^◌, ◌≤◌, ◌<◌, ◌⊎◌, Bool, true, false, cond, List, [], ◌∷◌, ◌++◌, length, get_or, set, refl, sym, ap, ap₂, ◌∙◌, subst, arith, map, take, inl, inr, length-append, length-set, get_or-set_same, get_or-set_other}
-use Rattle.std.specs.Prelude.{All, IfOk, IfSome, MatchResult, Option, None, Some, Result, Ok, Err, filter, ◌==◌}
+use Rattle.std.proofs.Common.{◌≡◌, ◌≢◌, ℕ, suc, ◌+◌, ◌-◌, ◌^◌, ◌≤◌, ◌<◌, ◌⊎◌, Bool, true, false, cond, List, [], ◌∷◌, ◌++◌, length, get_or, set, refl, sym, ap, ap₂, ◌∙◌, subst, arith, map, take, inl, inr, length-append, length-set, get_or-set_same, get_or-set_other, All, IfOk, IfSome, MatchResult, Option, None, Some, Result, Ok, Err, filter, ◌==◌}
 use Rattle.std.proofs.lemmas.Bool.Decides.{eqb_tells}
 use Rattle.std.proofs.lemmas.List.{get_or_append_left, get_or_default, get_or_push, take_more}
 use Rattle.psa_status.specs.declared.Memory.{Memory}
-use Rattle.turn_history.specs.History.{entries_of, StartsWith}
-use Rattle.locked_store.specs.Worlds.{World}
-use Rattle.script_lang.specs.Replies.{AreKept, ReplyLine}
+use Rattle.turn_history.specs.Prelude.{entries_of, StartsWith}
+use Rattle.locked_store.specs.Prelude.{World}
+use Rattle.script_lang.specs.Prelude.{AreKept, ReplyLine}
 use Rattle.script_lang.specs.declared.replies.ReplyForm.{ReplyForm}
 use Rattle.script_lang.specs.declared.script.ScriptLine.{ScriptLine}
 use Rattle.session_host.specs.declared.session.Session.{Session}

@@ -2,12 +2,9 @@
 use Rattle.std.specs.Prelude.{◌≡◌, ◌≤◌, ◌<◌, ◌+◌, ◌-◌, ◌^◌, ℕ, Bool, true, false, cond, count_by, List, [], ◌∷◌, map}
 use Rattle.psa_status.specs.declared.Status.{Status}
 use Rattle.psa_status.specs.declared.Status.TheVariants.{StorageFailure, HardwareFailure, DataCorrupt}
-use Rattle.store_model.specs.Faults.{FaultMark, Storage, Hardware, Corrupt}
-use Rattle.store_model.specs.Marks.{FaultCounts, IsCaused, last_counts}
-use Rattle.store_model.specs.Replay.{Entry}
-use Rattle.store_core.specs.Represents.{Opening}
-use Rattle.store_core.specs.Rising.{AreRising}
-use Rattle.script_lang.specs.Replies.{ReplyLine}
+use Rattle.store_model.specs.Prelude.{FaultMark, Storage, Hardware, Corrupt, FaultCounts, IsCaused, last_counts, Entry}
+use Rattle.store_core.specs.Prelude.{Opening, AreRising}
+use Rattle.script_lang.specs.Prelude.{ReplyLine}
 use Rattle.session_host.specs.Heads.{failure_of, failures_to}
 
 -- MARKS

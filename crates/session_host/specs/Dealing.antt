@@ -1,6 +1,6 @@
 -- Workers as sessions are dealt to them, and as these are taken back.
 use Rattle.std.specs.Prelude.{ℕ, ◌≡◌, ◌≤◌, ◌<◌, ◌+◌, ◌-◌, ◌%◌, ◌==◌, ◌∷◌, ◌++◌, cond, zero, suc, List, [], All, length, get_or, None, vec_capacity}
-use Rattle.locked_store.specs.Worlds.{World}
+use Rattle.locked_store.specs.Prelude.{World}
 use Rattle.callers.specs.declared.caller.Caller.{Caller}
 use Rattle.script_lang.specs.declared.replies.Replies.{Replies}
 use Rattle.script_lang.specs.declared.replies.ReplyForm.{ReplyForm}

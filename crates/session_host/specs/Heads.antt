@@ -3,8 +3,8 @@
 use Rattle.std.specs.Prelude.{ℕ, zero, suc, ◌+◌, ◌==◌, cond, List, [], ◌∷◌, ◌++◌, Option}
 use Rattle.psa_status.specs.declared.Status.{Status}
 use Rattle.callers.specs.Failures.{failure_marked, failure_told}
-use Rattle.store_model.specs.Replay.{Entry}
-use Rattle.script_lang.specs.Replies.{ReplyLine}
+use Rattle.store_model.specs.Prelude.{Entry}
+use Rattle.script_lang.specs.Prelude.{ReplyLine}
 
 -- what stands for each of a session's calls in a history, by its place there, from a rank on
 abbrev pub of_calls : {X : Type 0} → (at : (rank : ℕ) → Entry → X) → (session rank : ℕ) → List Entry → List X

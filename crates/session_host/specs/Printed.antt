@@ -1,11 +1,8 @@
 -- What is printed of one order of calls.
 use Rattle.std.specs.Prelude.{ℕ, ◌≡◌, ◌==◌, List, [], filter, length, map, take}
-use Rattle.store_model.specs.Handles.{Service}
-use Rattle.store_model.specs.Replay.{Entry}
+use Rattle.store_model.specs.Prelude.{Service, Entry}
 use Rattle.script_lang.specs.declared.script.ScriptLine.{ScriptLine}
-use Rattle.script_lang.specs.Replies.{ReplyLine}
-use Rattle.script_lang.specs.Lines.{lines_of}
-use Rattle.script_lang.specs.PrintedOrder.{AreCalls, Turn, numbered, replies_to, turns_from, turns_of}
+use Rattle.script_lang.specs.Prelude.{ReplyLine, lines_of, AreCalls, Turn, numbered, replies_to, turns_from, turns_of}
 
 -- The calls of a history are those of these lines, and these are its replies: each session's calls are those of its lines, in
 -- their order, replayed on the one-thread service from this start, and the replies are by session.

@@ -1,12 +1,11 @@
 -- What is known of the answers to calls.
 use Rattle.std.specs.Prelude.{ℕ, ◌≡◌, Option, Result, List, [], ◌∷◌, ◌++◌}
 use Rattle.psa_status.specs.declared.Status.{Status}
-use Rattle.store_model.specs.Call.{Reply, output_bytes, buffer_after}
+use Rattle.store_model.specs.Prelude.{Reply, output_bytes, buffer_after}
 use Rattle.service_calls.specs.declared.output.Output.{Output}
 use Rattle.callers.specs.Failures.{failure_told}
 use Rattle.service_calls.specs.Answered.{AnswersReply}
-use Rattle.script_lang.specs.PrintedOrder.{id_given}
-use Rattle.script_lang.specs.Replies.{AreKept, ReplyLine, next_line}
+use Rattle.script_lang.specs.Prelude.{id_given, AreKept, ReplyLine, next_line}
 use Rattle.script_lang.specs.declared.replies.Replies.{Replies}
 
 -- what a call answered: its status, the bytes that it gave back, and the identifier that it gave, or 0

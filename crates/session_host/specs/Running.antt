@@ -1,10 +1,10 @@
 -- What is known of sixteen callers that make the calls of a script's lines.
 use Rattle.std.specs.Prelude.{ℕ, ◌≡◌, ◌⊎◌, ◌<◌, ◌+◌, List, [], length, flat_map, take, get_or}
-use Rattle.turn_history.specs.History.{entries_of}
-use Rattle.locked_store.specs.Worlds.{World}
+use Rattle.turn_history.specs.Prelude.{entries_of}
+use Rattle.locked_store.specs.Prelude.{World}
 use Rattle.callers.specs.declared.caller.Caller.{Caller}
 use Rattle.script_lang.specs.declared.script.ScriptLine.{ScriptLine}
-use Rattle.script_lang.specs.Replies.{AreAllKept, ReplyLine}
+use Rattle.script_lang.specs.Prelude.{AreAllKept, ReplyLine}
 use Rattle.script_lang.specs.declared.replies.Replies.{Replies}
 use Rattle.script_lang.specs.declared.replies.ReplyForm.{ReplyForm}
 use Rattle.session_host.specs.Sessions.{HasMade, HasReplies, IsWithin}

@@ -1,24 +1,18 @@
 -- What is known of a run: the disk that was opened, the one order of its calls, and what it leaves.
 use Rattle.std.specs.Prelude.{◌≡◌, ◌≤◌, ℕ, true, List, [], length, map, take, IfSome, is_some}
 use Rattle.atomic_table.specs.Seated.{TableId}
-use Rattle.turn_history.specs.History.{StartsWith}
+use Rattle.turn_history.specs.Prelude.{StartsWith}
 use Rattle.policy_rules.specs.declared.narrowing.Label.{Label}
 use Rattle.key_cells.specs.declared.reading.OpenFault.{OpenFault}
-use Rattle.store_model.specs.Handles.{Service}
-use Rattle.store_model.specs.Replay.{Entry}
-use Rattle.store_model.specs.Sound.{IsSoundStore}
+use Rattle.store_model.specs.Prelude.{Service, Entry, IsSoundStore}
 use Rattle.store_core.specs.declared.store.Opened.{Opened}
-use Rattle.store_core.specs.Start.{opening_of}
-use Rattle.locked_store.specs.Opening.{FindsKeysIn, IsNotOpened, IsOpenedOn}
-use Rattle.locked_store.specs.Turning.{IsStartOf, ToldBy}
-use Rattle.locked_store.specs.Worlds.{World, world_of}
+use Rattle.store_core.specs.Prelude.{opening_of}
+use Rattle.locked_store.specs.Prelude.{FindsKeysIn, IsNotOpened, IsOpenedOn, IsStartOf, ToldBy, World, world_of}
 use Rattle.caller_service.specs.Closing.{IsLeft}
 use Rattle.script_lang.specs.declared.script.ScriptLine.{ScriptLine}
-use Rattle.script_lang.specs.Replies.{AreAllKept, ReplyLine}
+use Rattle.script_lang.specs.Prelude.{AreAllKept, ReplyLine, lines_of, AreCalls, turns_from, turns_of}
 use Rattle.script_lang.specs.declared.replies.Replies.{Replies}
 use Rattle.script_lang.specs.declared.replies.ReplyForm.{ReplyForm}
-use Rattle.script_lang.specs.Lines.{lines_of}
-use Rattle.script_lang.specs.PrintedOrder.{AreCalls, turns_from, turns_of}
 use Rattle.session_host.specs.Bounds.{AreBounded, AreBoundedLines}
 use Rattle.session_host.specs.Heads.{head_of, heads_to, ranks_of}
 use Rattle.session_host.specs.Printed.{AreFirstCalls, AreReplies, AreRepliesSoFar, IsInLineOrder}

@@ -2,23 +2,17 @@
 use Rattle.std.specs.Prelude.{ℕ, ◌≡◌, ◌⊎◌, ◌≤◌, ◌*◌, true, List, [], ◌∷◌, ◌++◌, length, take, map, is_some, Option}
 use Rattle.psa_status.specs.declared.Status.{Status}
 use Rattle.turn_history.specs.declared.pass.View.{View}
-use Rattle.turn_history.specs.History.{entries_of, StartsWith}
-use Rattle.store_model.specs.Call.{Reply}
-use Rattle.store_model.specs.Faults.{FaultMark}
-use Rattle.store_model.specs.Handles.{Service}
-use Rattle.store_model.specs.Requests.{Request}
-use Rattle.store_model.specs.Replay.{Entry, outcome_of}
+use Rattle.turn_history.specs.Prelude.{entries_of, StartsWith}
+use Rattle.store_model.specs.Prelude.{Reply, FaultMark, Service, Request, Entry, outcome_of}
 use Rattle.store_core.specs.declared.store.Opened.{Opened}
 use Rattle.callers.specs.Called.{IsCalled, IsToldTo, KnowsBefore, Starts}
 use Rattle.callers.specs.Failures.{failure_marked}
 use Rattle.callers.specs.Ready.{IsReady}
-use Rattle.locked_store.specs.Worlds.{World}
+use Rattle.locked_store.specs.Prelude.{World}
 use Rattle.callers.specs.declared.caller.Caller.{Caller}
 use Rattle.script_lang.specs.declared.script.ScriptLine.{ScriptLine}
-use Rattle.script_lang.specs.Replies.{AreKept, ReplyLine}
+use Rattle.script_lang.specs.Prelude.{AreKept, ReplyLine, lines_of, Turn, turns_from, turns_of, id_given}
 use Rattle.script_lang.specs.declared.replies.Replies.{Replies}
-use Rattle.script_lang.specs.Lines.{lines_of}
-use Rattle.script_lang.specs.PrintedOrder.{Turn, turns_from, turns_of, id_given}
 use Rattle.session_host.specs.declared.session.Session.{Session}
 use Rattle.session_host.specs.Heads.{failure_of, failures_of, head_of, heads, ranks_of}
 use Rattle.session_host.specs.Printed.{AreFirstCalls, AreFirstReplies}

@@ -1,8 +1,8 @@
 -- The sessions of one thread.
 use Rattle.std.specs.Prelude.{ℕ, ◌≡◌, ◌≢◌, ◌≤◌, ◌<◌, true, List, [], ◌∷◌, ◌++◌, All, length, take, map, get_or, Option, Some, None, IfSome, vec_capacity}
-use Rattle.turn_history.specs.History.{entries_of, StartsWith}
+use Rattle.turn_history.specs.Prelude.{entries_of, StartsWith}
 use Rattle.callers.specs.Ready.{IsReady}
-use Rattle.locked_store.specs.Worlds.{World}
+use Rattle.locked_store.specs.Prelude.{World}
 use Rattle.script_lang.specs.declared.replies.ReplyForm.{ReplyForm}
 use Rattle.script_lang.specs.declared.script.ScriptLine.{ScriptLine}
 use Rattle.session_host.specs.declared.session.Session.{Session}

@@ -1,10 +1,9 @@
 // What calls answer, as the lines that are printed.
 ghost use Rattle.std.specs.Prelude.{◌≡◌, ◌≤◌, ◌<◌, ◌-◌, ◌^◌, ◌++◌, List, IfOk, None, Ok, length, take};
 ghost use Rattle.psa_status.specs.declared.Status.TheVariants.{Success};
-ghost use Rattle.store_model.specs.Call.{Bytes, Reply, attribute_bytes, output_bytes};
-ghost use Rattle.store_model.specs.Outcome.{refusal};
+ghost use Rattle.store_model.specs.Prelude.{Bytes, Reply, attribute_bytes, output_bytes, refusal};
 ghost use Rattle.callers.specs.Failures.{failure_in};
-ghost use Rattle.script_lang.specs.Replies.{AreKept, ReplyLine};
+ghost use Rattle.script_lang.specs.Prelude.{AreKept, ReplyLine};
 ghost use Rattle.session_host.specs.Replying.{Answer, Answers, Fills, Notes, Tells};
 
 use key_attributes::Attributes;

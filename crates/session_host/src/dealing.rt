@@ -1,6 +1,6 @@
 // The sessions, dealt to the threads that run them.
 ghost use Rattle.std.specs.Prelude.{◌≡◌, ◌≤◌, ◌<◌, ◌+◌, [], ℕ, All, IfOk, length, get_or, vec_capacity, vec_len};
-ghost use Rattle.locked_store.specs.Shared.{world};
+ghost use Rattle.locked_store.specs.Prelude.{world};
 ghost use Rattle.caller_service.specs.Staff.{AreStaff};
 ghost use Rattle.session_host.specs.Dealing.{AreDealt, AreTaken, HaveOwn, IsFree};
 
@@ -13,6 +13,7 @@ use disk_face::Disk;
 use driver_dispatch::Devices;
 use psa_status::Memory;
 use script_lang::{Replies, ReplyForm};
+use secret_bytes::let_go;
 use std::alloc::Global;
 
 /// How many sessions there are.
@@ -40,7 +41,7 @@ fn new_worker<D: Disk, A: Devices, C: Admission>(alloc: Global) -> Result<Worker
     })
 }
 
-/// Lets workers go that have no session.
+/// Lets workers go that have no session. Their buffers are zeros first.
 pub fn free<D: Disk, A: Devices, C: Admission>(workers: Vec<Worker<D, A, C>>)
     requires { All (λ t. t.sessions.items ≡ []) workers.items }
 {
@@ -49,11 +50,12 @@ pub fn free<D: Disk, A: Devices, C: Admission>(workers: Vec<Worker<D, A, C>>)
         let Worker {
             sessions,
             last: _last,
-            buffer: _buffer,
+            buffer,
             whole: _whole,
             spacing: _spacing,
         } = worker;
         sessions.destroy_empty();
+        let_go(buffer);
     }
     workers.destroy_empty();
 }
@@ -99,9 +101,7 @@ pub fn deal<D: Disk, A: Devices, C: Admission, G: Gate>(
     let count = workers.len();
     for _ in 0..SESSIONS {
         let number = callers.len();
-        let Some(caller) = callers.pop() else {
-            unreachable!()
-        };
+        let caller = callers.pop().unwrap();
         workers[number % count].seat(Session::new(alloc, caller, form));
     }
 }

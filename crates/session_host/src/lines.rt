@@ -1,7 +1,7 @@
 // A store that is opened for the lines of a script, and closed after them.
 ghost use Rattle.std.specs.Prelude.{◌≡◌, ◌≤◌, ◌⊎◌, List, ℕ, All, MatchResult, length};
 ghost use Rattle.driver_dispatch.specs.Calls.{Lacks};
-ghost use Rattle.script_lang.specs.Lines.{IsOfSession};
+ghost use Rattle.script_lang.specs.Prelude.{IsOfSession};
 ghost use Rattle.session_host.specs.Runs.{AreAnswers, IsUnanswered};
 
 use crate::running::run_sessions;

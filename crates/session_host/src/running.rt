@@ -1,8 +1,8 @@
 // All sessions, run on worker threads.
 ghost use Rattle.std.specs.Prelude.{◌≡◌, ◌≤◌, ◌<◌, ◌*◌, [], ℕ, All, IfOk, true, length, get_or, vec_capacity};
-ghost use Rattle.locked_store.specs.Shared.{world};
+ghost use Rattle.locked_store.specs.Prelude.{world};
 ghost use Rattle.caller_service.specs.Staff.{AreStaff};
-ghost use Rattle.script_lang.specs.Lines.{IsOfSession};
+ghost use Rattle.script_lang.specs.Prelude.{IsOfSession};
 ghost use Rattle.session_host.specs.Workers.{HasWorked, HaveRun};
 ghost use Rattle.session_host.specs.Dealing.{IsFree};
 ghost use Rattle.session_host.specs.Running.{HaveKept, HaveMade, HaveSeen};

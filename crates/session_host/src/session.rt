@@ -1,9 +1,8 @@
 // One session.
 ghost use Rattle.std.specs.Prelude.{◌≡◌, ◌≤◌, ◌<◌, ◌+◌, ◌-◌, ◌^◌, ◌++◌, ◌∷◌, [], ℕ, List, IfOk, MatchResult, length, ◌⊎◌};
 ghost use Rattle.callers.specs.Ready.{IsReady};
-ghost use Rattle.locked_store.specs.Shared.{world};
-ghost use Rattle.script_lang.specs.Commands.{request_of};
-ghost use Rattle.script_lang.specs.Replies.{AreKept, ReplyLine};
+ghost use Rattle.locked_store.specs.Prelude.{world};
+ghost use Rattle.script_lang.specs.Prelude.{request_of, AreKept, ReplyLine};
 ghost use Rattle.script_lang.specs.declared.script.ScriptLine as script_line;
 ghost use Rattle.session_host.specs.Replying.{Answer, Answers, Notes, Tells};
 ghost use Rattle.session_host.specs.Sessions.{HasAnswered, HasMade, IsMade, GoesFurther};
@@ -70,7 +69,7 @@ impl<D: Disk, A: Devices, C: Admission> Session<D, A, C> {
         let out = &mut buffer[..line.call.fields.room() as usize];
         let call = line.call.value(&self.given);
         let (ranked, answer) = service.call(rt, &mut self.caller, &call, out);
-        let Some(rank) = ranked else { unreachable!() };
+        let rank = ranked.unwrap();
         note(alloc, &mut self.replies, rank, answer, out)
     }
 

@@ -1,11 +1,9 @@
 // The sessions that one thread runs.
 ghost use Rattle.std.specs.Prelude.{◌≡◌, ◌≢◌, ◌⊎◌, ◌≤◌, ◌<◌, ◌+◌, ◌*◌, ◌++◌, ◌∷◌, [], ℕ, List, All, IfSome, IfNone, MatchResult, get_or, length, vec_capacity};
-ghost use Rattle.turn_history.specs.History.{entries_of, StartsWith};
-ghost use Rattle.turn_history.specs.Passes.{IsIdle};
-ghost use Rattle.turn_history.specs.Views.{watcher};
+ghost use Rattle.turn_history.specs.Prelude.{entries_of, StartsWith, IsIdle, watcher};
 ghost use Rattle.callers.specs.Called.{Legal};
 ghost use Rattle.callers.specs.Ready.{IsReady};
-ghost use Rattle.locked_store.specs.Shared.{world};
+ghost use Rattle.locked_store.specs.Prelude.{world};
 ghost use Rattle.script_lang.specs.declared.replies.ReplyForm as reply_form;
 ghost use Rattle.script_lang.specs.declared.script.ScriptLine as script_line;
 ghost use Rattle.session_host.specs.declared.session.Session as session;

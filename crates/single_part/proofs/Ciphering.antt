@@ -7,11 +7,8 @@ use Rattle.std.proofs.Math.Seq.{take-append_seam}
 use Rattle.psa_status.specs.declared.Status.{Status}
 use Rattle.psa_status.specs.Rows.{first_row, unless}
 use Rattle.psa_status.proofs.Rows.{unless-ok}
-use Rattle.store_model.specs.Call.{Reply, buffer_after, buffer_bytes}
-use Rattle.store_model.specs.Outcome.{reply_unless, refusal, given}
-use Rattle.store_model.specs.Ciphers.{Mode, iv_length, enciphered, enciphered_length, encrypt_rows, decrypt_rows, deciphered, plain_or_zeros}
+use Rattle.store_model.specs.Prelude.{Reply, buffer_after, buffer_bytes, reply_unless, refusal, given, Mode, iv_length, enciphered, enciphered_length, encrypt_rows, decrypt_rows, deciphered, plain_or_zeros, decrypted_reply}
 use Rattle.service_calls.specs.Answers.{AnswersOrSpoils}
-use Rattle.store_model.specs.Ciphers.{decrypted_reply}
 
 -- a refusal of the table
 pub refused_or_spoilt : (o : Option Status) (reply : Reply) (r : Result ℕ Status) (s t : Status) → r ≡ Err s → s ≡ t → o ≡ Some t → AnswersOrSpoils r (reply_unless o reply)
@@ -48,6 +45,17 @@ decrypted_buffer mode key bytes input old iv cipher new needed passed fits vecto
     ap (λ l. l ++ drop needed old) h
     ∙ front_written old needed text (needed_is (length cipher) (deciphered mode bytes iv cipher) ∙ count ∙ both.1) fits
     ∙ ap (buffer_after old) (reply ∙ ap (λ o. reply_unless o whole) (sym both.0))
+
+pub decrypted_answer : (mode : Mode) (key bytes input iv cipher : List ℕ) (room needed : ℕ) (r : Result ℕ Status) →
+    Ok needed ≡ unless (first_row (decrypt_rows mode (length input) room)) (length input - iv_length mode) →
+    iv ≡ take (iv_length mode) input → cipher ≡ drop (iv_length mode) input → bytes ≡ key →
+    AnswersOrSpoils r (plain_or_zeros (length cipher) (deciphered mode bytes iv cipher)) → AnswersOrSpoils r (decrypted_reply mode key input room)
+decrypted_answer mode key bytes input iv cipher room needed r passed vector rest same h =
+    let both = unless-ok _ (length input - iv_length mode) needed (sym passed) in
+    let whole = plain_or_zeros (length input - iv_length mode) (deciphered mode key (take (iv_length mode) input) (drop (iv_length mode) input)) in
+    let count : length cipher ≡ length input - iv_length mode = ap length rest ∙ length-drop (iv_length mode) input in
+    let reply : plain_or_zeros (length cipher) (deciphered mode bytes iv cipher) ≡ whole = λ i. plain_or_zeros (count i) (deciphered mode (same i) (vector i) (rest i)) in
+    subst (λ (x : Reply). AnswersOrSpoils r x) (reply ∙ ap (λ o. reply_unless o whole) (sym both.0)) h
 
 -- an encryption that no row refuses
 

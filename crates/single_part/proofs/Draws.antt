@@ -8,12 +8,7 @@ use Rattle.psa_status.specs.Rows.{first_row}
 use Rattle.alg_encoding.specs.declared.table.Class.{Class}
 use Rattle.alg_encoding.specs.declared.table.Class.TheVariants.{Cipher}
 use Rattle.random_streams.specs.RandomWords.{RandomStream, drawn_from, words_used}
-use Rattle.store_model.specs.Call.{Reply}
-use Rattle.store_model.specs.Ciphers.{Ctr, CbcNoPadding, CbcPkcs7, EcbNoPadding, Mode, encrypt_rows, enciphered, is_ctr, iv_length, mode_of}
-use Rattle.store_model.specs.KeyUse.{bytes_of}
-use Rattle.store_model.specs.Outcome.{Computed, computed_unless, given, replies}
-use Rattle.store_model.specs.Rules.{cipher_usage, use_rows}
-use Rattle.store_model.specs.Store.{Key}
+use Rattle.store_model.specs.Prelude.{Reply, Ctr, CbcNoPadding, CbcPkcs7, EcbNoPadding, Mode, encrypt_rows, enciphered, is_ctr, iv_length, mode_of, bytes_of, Computed, computed_unless, given, replies, cipher_usage, use_rows, Key}
 use Rattle.store_model.proofs.Tables.{refused_by}
 use Rattle.service_calls.specs.declared.store_calls.KeyedCall.TheVariants.{Export, MacCompute, MacVerify, CipherEncrypt, CipherDecrypt, AeadEncrypt, AeadDecrypt}
 use Rattle.single_part.specs.Laws.{DrawsAVector, DrawsOnSuccess}

@@ -1,5 +1,6 @@
 mod Ciphering
 mod Paddings
+mod Replies
 pub mod Uses
 pub mod Models
 pub mod Keys

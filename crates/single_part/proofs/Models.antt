@@ -3,11 +3,7 @@ use Rattle.std.proofs.Common.{◌≡◌, ℕ, true, false, refl, ap}
 use Rattle.std.specs.Prelude.{Option}
 use Rattle.std.specs.FinMap as map
 use Rattle.psa_status.specs.declared.Status.{Status}
-use Rattle.store_model.specs.Store.{Key, Store}
-use Rattle.store_model.specs.Draws.{Random}
-use Rattle.store_model.specs.KeyUse.{bytes_of}
-use Rattle.store_model.specs.Outcome.{computed_unless, with_computed}
-use Rattle.store_model.specs.Rules.{cipher_usage, mac_usage}
+use Rattle.store_model.specs.Prelude.{Store, Random, bytes_of, computed_unless, with_computed, cipher_usage, mac_usage}
 use Rattle.alg_encoding.specs.declared.table.Class.TheVariants.{Mac}
 use Rattle.service_calls.specs.declared.store_calls.KeyedCall.{KeyedCall}
 use Rattle.service_calls.specs.declared.store_calls.KeyedCall.TheVariants.{Export, MacCompute, MacVerify, CipherEncrypt, CipherDecrypt, AeadEncrypt, AeadDecrypt}

@@ -3,7 +3,7 @@ use Rattle.std.proofs.Common.{◌≡◌, ℕ, ◌+◌, ◌-◌, ◌%◌, List, �
 use Rattle.std.specs.Prelude.{Some, None}
 use Rattle.std.specs.Option.{option_map}
 use Rattle.std.proofs.Math.Seq.{take-append-add}
-use Rattle.crypto_specs.specs.Modes.{pkcs7_padded, pkcs7_unpadded}
+use Rattle.crypto_specs.specs.Prelude.{pkcs7_padded, pkcs7_unpadded}
 use Rattle.cipher_modes.proofs.PaddedTexts.{unpadded_behind}
 
 -- the text and its padding, filled in one after the other

@@ -6,12 +6,7 @@ use Rattle.psa_status.specs.declared.Status.TheVariants.{NotPermitted, NotSuppor
 use Rattle.psa_status.specs.Rows.{first_row}
 use Rattle.alg_encoding.specs.declared.table.Class.{Class}
 use Rattle.alg_encoding.specs.declared.table.Class.TheVariants.{Cipher}
-use Rattle.store_model.specs.Store.{Key, is_opaque, is_opaque_key}
-use Rattle.store_model.specs.Call.{Reply}
-use Rattle.store_model.specs.Ciphers.{Ctr, CbcNoPadding, CbcPkcs7, EcbNoPadding, is_ctr, mode_of}
-use Rattle.store_model.specs.KeyUse.{bytes_of, export_reply}
-use Rattle.store_model.specs.Outcome.{computed_unless, given, replies, reply_unless}
-use Rattle.store_model.specs.Rules.{room_rows, use_rows}
+use Rattle.store_model.specs.Prelude.{Key, is_opaque, is_opaque_key, Reply, Ctr, CbcNoPadding, CbcPkcs7, EcbNoPadding, is_ctr, mode_of, bytes_of, export_reply, computed_unless, given, replies, reply_unless, room_rows, use_rows}
 use Rattle.key_policy.specs.Permissions.{export_refusal}
 use Rattle.key_policy.proofs.Devices.{local_alike}
 use Rattle.secure_element_calls.specs.Calls.{ctr}

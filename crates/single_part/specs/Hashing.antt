@@ -1,7 +1,6 @@
 -- Calls in one part without a key.
 use Rattle.std.specs.Prelude.{ℕ}
-use Rattle.store_model.specs.Call.{Reply}
-use Rattle.store_model.specs.Hashes.{compared_reply, hash_reply}
+use Rattle.store_model.specs.Prelude.{Reply, compared_reply, hash_reply}
 use Rattle.service_calls.specs.declared.store_calls.HashCall.{HashCall}
 use Rattle.service_calls.specs.declared.store_calls.HashCall.TheVariants.{Compute, Compare}
 

@@ -1,13 +1,7 @@
 -- Calls in one part that compute with a key's bytes: for what use of the key, and what is computed.
 use Rattle.std.specs.Prelude.{ℕ, List, length}
 use Rattle.psa_status.specs.Rows.{first_row}
-use Rattle.store_model.specs.Aeads.{opened_reply, sealed_reply}
-use Rattle.store_model.specs.Call.{Reply}
-use Rattle.store_model.specs.Ciphers.{decrypted_reply, encrypted, iv_length, mode_of}
-use Rattle.store_model.specs.Draws.{Random}
-use Rattle.store_model.specs.Macs.{mac_reply, verified_reply}
-use Rattle.store_model.specs.Outcome.{Computed, given, replies, reply_unless}
-use Rattle.store_model.specs.Rules.{room_rows}
+use Rattle.store_model.specs.Prelude.{opened_reply, sealed_reply, Reply, decrypted_reply, encrypted, iv_length, mode_of, Random, mac_reply, verified_reply, Computed, given, replies, reply_unless, room_rows}
 use Rattle.key_policy.specs.declared.key_use.KeyUse.{KeyUse}
 use Rattle.key_policy.specs.declared.key_use.KeyUse.TheVariants.{Export}
 use Rattle.key_policy.specs.Uses.{used_for}

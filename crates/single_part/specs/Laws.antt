@@ -2,15 +2,7 @@
 use Rattle.std.specs.Prelude.{◌≡◌, ◌≤◌, ℕ, true, false, List, Some, None}
 use Rattle.std.specs.FinMap as map
 use Rattle.psa_status.specs.declared.Status.TheVariants.{Success}
-use Rattle.store_model.specs.Store.{Store, is_opaque_key}
-use Rattle.store_model.specs.Draws.{Random}
-use Rattle.store_model.specs.KeyUse.{bytes_of}
-use Rattle.store_model.specs.Outcome.{Outcome, computed_unless, replies, with_computed}
-use Rattle.store_model.specs.Step.{step}
-use Rattle.store_model.specs.Handles.{Service}
-use Rattle.store_model.specs.Requests.{OnStore}
-use Rattle.store_model.specs.Marks.{id_read}
-use Rattle.store_model.specs.Laws.{may_change_keys}
+use Rattle.store_model.specs.Prelude.{Store, is_opaque_key, Random, bytes_of, Outcome, computed_unless, replies, with_computed, step, Service, OnStore, id_read, may_change_keys}
 use Rattle.key_policy.specs.Uses.{use_refusal}
 use Rattle.service_calls.specs.Meanings.{model_hash_call, model_keyed_call}
 use Rattle.service_calls.specs.declared.store_calls.HashCall.{HashCall}

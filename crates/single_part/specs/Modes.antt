@@ -1,8 +1,6 @@
 -- What deciphering gives before the padding is looked at.
 use Rattle.std.specs.Prelude.{ℕ, List}
-use Rattle.crypto_specs.specs.Aes.{aes_encrypt}
-use Rattle.crypto_specs.specs.AesInverse.{aes_decrypt}
-use Rattle.crypto_specs.specs.Modes.{ctr_xor, cbc_decrypt, ecb_decrypt}
+use Rattle.crypto_specs.specs.Prelude.{aes_encrypt, aes_decrypt, ctr_xor, cbc_decrypt, ecb_decrypt}
 use Rattle.store_model.specs.Ciphers as model
 
 abbrev pub deciphered_blocks : model.Mode → (key iv text : List ℕ) → List ℕ

@@ -1,7 +1,7 @@
 // AEADs of a whole message.
 ghost use Rattle.std.specs.Prelude.{◌≡◌, ℕ, ◌+◌, ◌≤◌, length, replicate, bytes_eq, IsTrue, MatchBool};
-ghost use Rattle.crypto_specs.specs.Aes.{IsKey};
-ghost use Rattle.store_model.specs.Call.{buffer_after};
+ghost use Rattle.crypto_specs.specs.Prelude.{IsKey};
+ghost use Rattle.store_model.specs.Prelude.{buffer_after};
 ghost use Rattle.store_model.specs.Aeads as model;
 ghost use Rattle.service_calls.specs.Answers.{AnswersLength, AnswersOrSpoils};
 ghost use Rattle.alg_encoding.specs.declared.table.Class.TheVariants.{Aead};

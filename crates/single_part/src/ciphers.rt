@@ -1,10 +1,9 @@
 // Ciphers of a whole message.
 ghost use Rattle.std.specs.Prelude.{◌≡◌, ◌+◌, ◌-◌, ◌%◌, ◌<◌, ◌≤◌, ◌^◌, true, length, OnOk, IfOk};
 ghost use Rattle.psa_status.specs.Rows.{first_row, unless};
-ghost use Rattle.crypto_specs.specs.Aes.{IsKey};
+ghost use Rattle.crypto_specs.specs.Prelude.{IsKey};
 ghost use Rattle.random_streams.specs.RandomWords.{drawn_from, next_bytes};
-ghost use Rattle.store_model.specs.Call.{buffer_after};
-ghost use Rattle.store_model.specs.Ciphers.{mode_of, iv_length, takes_whole_blocks, enciphered_length, is_ciphertext_length, encrypt_rows, decrypt_rows, encrypted, decrypted_reply};
+ghost use Rattle.store_model.specs.Prelude.{buffer_after, mode_of, iv_length, takes_whole_blocks, enciphered_length, is_ciphertext_length, encrypt_rows, decrypt_rows, encrypted, decrypted_reply};
 ghost use Rattle.service_calls.specs.Answers.{AnswersLength, AnswersOrSpoils};
 ghost use Rattle.alg_encoding.specs.declared.table.Class.TheVariants.{Cipher};
 ghost use Rattle.key_policy.specs.Modes.{model_mode};

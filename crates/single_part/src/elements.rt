@@ -1,7 +1,7 @@
 // Calls in one part that the secure element computes.
 ghost use Rattle.std.specs.Prelude.{◌≡◌, ◌&&◌, ℕ, true, IfSome, MatchResult, is_some};
 ghost use Rattle.std.specs.Result.{is_ok};
-ghost use Rattle.store_model.specs.Call.{Reply};
+ghost use Rattle.store_model.specs.Prelude.{Reply};
 ghost use Rattle.service_calls.specs.Answered.{AnswersReply};
 ghost use Rattle.service_calls.specs.Meanings.{model_keyed_call};
 ghost use Rattle.secure_element_calls.specs.Answers.{AnswersCall, status_of};

@@ -1,7 +1,6 @@
 // Hashes of a whole message.
 ghost use Rattle.std.specs.Prelude.{◌≡◌, length};
-ghost use Rattle.store_model.specs.Call.{buffer_after};
-ghost use Rattle.store_model.specs.Hashes.{compared_reply, hash_reply};
+ghost use Rattle.store_model.specs.Prelude.{buffer_after, compared_reply, hash_reply};
 ghost use Rattle.service_calls.specs.Answers.{AnswersLength, plain_reply};
 
 use alg_encoding::Alg;

@@ -1,6 +1,6 @@
 // Calls in one part without a key.
 ghost use Rattle.std.specs.Prelude.{◌≡◌, length};
-ghost use Rattle.store_model.specs.Call.{buffer_after};
+ghost use Rattle.store_model.specs.Prelude.{buffer_after};
 ghost use Rattle.service_calls.specs.Answered.{AnswersReply};
 ghost use Rattle.single_part.specs.Hashing.{hash_computed_by};
 

@@ -1,9 +1,7 @@
 // The modes of the cipher algorithms, on whole messages.
 ghost use Rattle.std.specs.Prelude.{◌≡◌, ◌+◌, ◌-◌, ◌%◌, ◌<◌, ◌≤◌, true, ◌++◌, ◌^◌, length, take, drop, Some, None, MatchOption};
-ghost use Rattle.crypto_specs.specs.Aes.{IsKey};
-ghost use Rattle.crypto_specs.specs.Modes.{pkcs7_padded, pkcs7_unpadded};
-ghost use Rattle.store_model.specs.Call.{buffer_after};
-ghost use Rattle.store_model.specs.Ciphers.{mode_of, iv_length, takes_whole_blocks, enciphered, enciphered_length, deciphered, is_ciphertext_length, plain_or_zeros};
+ghost use Rattle.crypto_specs.specs.Prelude.{IsKey, pkcs7_padded, pkcs7_unpadded};
+ghost use Rattle.store_model.specs.Prelude.{buffer_after, mode_of, iv_length, takes_whole_blocks, enciphered, enciphered_length, deciphered, is_ciphertext_length, plain_or_zeros};
 ghost use Rattle.service_calls.specs.Answers.{AnswersOrSpoils};
 ghost use Rattle.key_policy.specs.Modes.{model_mode};
 ghost use Rattle.single_part.specs.Modes.{deciphered_blocks};

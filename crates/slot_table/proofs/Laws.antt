@@ -1,5 +1,6 @@
 -- What keeps the law of a table.
 use Rattle.std.proofs.Common.{◌≡◌, ◌≢◌, ◌≤◌, ◌<◌, ℕ, ◌+◌, ◌-◌, ◌==◌, Bool, true, false, cond, ◌&&◌, List, [], ◌∷◌, ◌++◌, length, set, replicate, refl, sym, ap, ◌∙◌, ⊎_elim, arith, rules, add-zero, zero, suc, find, Option, Some, None, is_some, MatchOption, inl, inr}
+use Rattle.std.specs.Prelude.{Option, Some, None, is_some}
 use Rattle.std.proofs.lemmas.List.{length-replicate, length-set, get_or_past}
 use Rattle.std.proofs.lemmas.Bool.{cases_eq, false≢true}
 use Rattle.std.proofs.lemmas.Bool.Decides.{nat_tests}
@@ -210,7 +211,7 @@ find_misses p (y ∷ ys) x none passes =
     ] refl none
 
 -- where a slot can be reserved and none is empty, one of recency is idle
-pub some_is_idle : (t : Table) → IsLawful t → CanReserve t.slots → NoneEmpty t.slots → find (λ i. is_idle (slot_at t.slots i)) t.recency ≡ None → ⊥
+some_is_idle : (t : Table) → IsLawful t → CanReserve t.slots → NoneEmpty t.slots → find (λ i. is_idle (slot_at t.slots i)) t.recency ≡ None → ⊥
 some_is_idle t law can full none =
     ⊎_elim
     (λ (free : (can.0 < length t.slots) × (is_empty_state (slot_at t.slots can.0).state ≡ true)). false≢true (sym (full can.0 free.0) ∙ free.1))
@@ -219,6 +220,11 @@ some_is_idle t law can full none =
     let present : times can.0 t.recency ≡ 1 = law.recent can.0 ∙ ap (λ x. cond (is_full x) 1 0) (idle_is_full (slot_at t.slots can.0) idle) in
     omega (arith, absent, present))
     can.1
+
+pub idle_is_found : (t : Table) (oldest : Option ℕ) → IsLawful t → CanReserve t.slots → NoneEmpty t.slots → oldest ≡ find (λ i. is_idle (slot_at t.slots i)) t.recency
+    → is_some oldest ≡ true
+idle_is_found t None law can full first = absurd (some_is_idle t law can full (sym first))
+idle_is_found t (Some oldest) law can full first = refl
 
 -- an empty slot isn't in recency
 pub empty_is_not_recent : (t : Table) (i : ℕ) → IsLawful t → is_empty_state (slot_at t.slots i).state ≡ true → t.recency ≡ recency_without i t.recency

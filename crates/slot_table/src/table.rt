@@ -246,9 +246,7 @@ impl SlotTable {
         ensures slots { self.new.slots ≡ slice_set self.old.slots result empty_slot }
         ensures recency { self.new.recency ≡ recency_without result self.old.recency }
     {
-        let Some(oldest) = self.oldest_idle() else {
-            unreachable!()
-        };
+        let oldest = self.oldest_idle().unwrap();
         self.discard(oldest);
         oldest
     }

@@ -1,7 +1,7 @@
 -- The list of held keys and its map.
 use Rattle.std.proofs.Common.{◌≡◌, ℕ, zero, suc, ◌+◌, ◌-◌, ◌<◌, ◌≤◌, Bool, true, false, ◌==◌, cond, List, [], ◌∷◌, ◌++◌, length, map, get_or, slice_get, take, replicate, ltb, All, refl, sym, ap, ◌∙◌, subst, arith}
 use Rattle.std.specs.Prelude.{⊤, Option, Some, None, IfSome, find}
-use Rattle.std.specs.Option.{option_map}
+use Rattle.std.specs.Option.{is_some, option_map}
 use Rattle.std.specs.List.{remove, position, position_or_len}
 use Rattle.std.specs.Ordering.{nat_cmp}
 use Rattle.std.proofs.lemmas.Cmp.{nat_cmp_total}
@@ -129,13 +129,18 @@ none_past true n h = let clash : Some n ≡ None = h in cc
 none_past false n h = refl
 
 -- a handle that a scan doesn't find isn't in the map
-pub absent : (held : List Held) (handle : ℕ) → position (λ h. h.handle == handle) held ≡ None → IsSomeKey (held_key (keys_of held) handle) (λ key. ⊤) → ⊥
+absent : (held : List Held) (handle : ℕ) → position (λ h. h.handle == handle) held ≡ None → IsSomeKey (held_key (keys_of held) handle) (λ key. ⊤) → ⊥
 absent held handle e has =
     let past : ltb (position_or_len (λ h. h.handle == handle) held) (length held) ≡ false = none_past _ (position_or_len (λ h. h.handle == handle) held) e in
     let none : held_key (keys_of held) handle ≡ None =
     at_scan held handle
     ∙ ap (option_map key_held) (find_at (λ h. h.handle == handle) held ∙ slice_get_past held _ (ltb-false _ _ past)) in
     subst (λ o. IsSomeKey o (λ key. ⊤)) none has
+
+pub present : (held : List Held) (handle : ℕ) (place : Option ℕ) → place ≡ position (λ h. h.handle == handle) held → IsSomeKey (held_key (keys_of held) handle) (λ key. ⊤)
+    → is_some place ≡ true
+present held handle None e has = absurd (absent held handle (sym e) has)
+present held handle (Some place) e has = refl
 
 pub filled : (bytes : List ℕ) → bytes_of (buffer_of bytes) ≡ bytes
 filled bytes = take_at bytes (replicate (1024 - length bytes) 0) (length bytes) refl

@@ -1,11 +1,8 @@
 // What is computed with the bytes of a key.
 ghost use Rattle.std.specs.Prelude.{◌≡◌, ◌≤◌, ◌%◌, ℕ, true, length, take};
-ghost use Rattle.crypto_specs.specs.Aes.{IsKey, aes_encrypt};
-ghost use Rattle.crypto_specs.specs.Cmac.{cmac};
-ghost use Rattle.crypto_specs.specs.Hmac.{hmac};
-ghost use Rattle.crypto_specs.specs.Modes.{ecb_encrypt};
+ghost use Rattle.crypto_specs.specs.Prelude.{IsKey, aes_encrypt, cmac, hmac, ecb_encrypt};
 ghost use Rattle.hash_ops.specs.Hashes.{block_length, digest_length, hash_of};
-ghost use Rattle.store_model.specs.Algorithms.{mac_of};
+ghost use Rattle.store_model.specs.Prelude.{mac_of};
 ghost use Rattle.key_policy.specs.Names.{NamesMac, is_cmac, whole_length};
 
 use cipher_modes::ecb_encrypt;

@@ -51,8 +51,5 @@ pub fn held_place(held: &[Held], handle: u64) -> usize
     ensures inside { result < length held.now }
     ensures first { result ≡ position_or_len (λ key. key.handle == handle) held.now }
 {
-    match place_of(held, handle) {
-        Some(place) => place,
-        None => unreachable!(),
-    }
+    place_of(held, handle).unwrap()
 }

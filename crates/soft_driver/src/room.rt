@@ -68,9 +68,7 @@ impl KeyRoom {
         requires size { IsTrue (permits_size key_type.0 (length bytes.now)) }
         ensures { self.new ≡ with_held_key handle (record { key_type = key_type.0; bytes = bytes.now }) self.old }
     {
-        let Some(mut secret) = self.spare.pop() else {
-            unreachable!();
-        };
+        let mut secret = self.spare.pop().unwrap();
         secret.fill_from(bytes);
         self.held.push_reserved(Held {
             handle,
@@ -86,9 +84,7 @@ impl KeyRoom {
         requires new { held_key self.old to ≡ None }
         ensures { self.new ≡ with_copy from to self.old }
     {
-        let Some(mut secret) = self.spare.pop() else {
-            unreachable!();
-        };
+        let mut secret = self.spare.pop().unwrap();
         let place = held_place(&self.held, from);
         let source = &self.held[place];
         let key_type = source.key_type;

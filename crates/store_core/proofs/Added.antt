@@ -13,16 +13,13 @@ use Rattle.driver_dispatch.specs.Held.{HeldKey, HeldKeys, held_key, with_held_ke
 use Rattle.driver_dispatch.specs.Calls.{HoldsHandle, IsSomeKey, Lacks}
 use Rattle.key_cells.specs.declared.slot.Slot as cell
 use Rattle.key_cells.specs.declared.slot.Slot.TheVariants.{Free, Open, Shut, Unsure}
-use Rattle.key_cells.specs.Contents.{cell_slot, is_open, settled_slots, settled_slot, IsFirstWithoutKey}
+use Rattle.key_cells.specs.Prelude.{cell_slot, is_open, settled_slots, settled_slot, IsFirstWithoutKey}
 use Rattle.persistent_keys.specs.Files.{stored, IsPut}
 use Rattle.slot_table.proofs.AtSlots.{bytes-buffer_of}
 use Rattle.slot_table.specs.Changes.{full_slot}
 use Rattle.key_slots.specs.Standing.{Puts, SlotHasKey, IsThereOrNew}
 use Rattle.store_model.specs.Store as model
-use Rattle.store_model.specs.Store.{Key, KeyMap, is_volatile, is_opaque, is_volatile_of, made_of, live_volatile, count_persistent}
-use Rattle.store_model.specs.Outcome.{counted}
-use Rattle.store_model.specs.Creation.{created, new_id, new_key, identified, made_with}
-use Rattle.store_model.specs.Sound.{IsSoundStore}
+use Rattle.store_model.specs.Prelude.{Key, is_volatile, is_opaque, is_volatile_of, made_of, live_volatile, count_persistent, counted, created, new_id, new_key, identified, made_with, IsSoundStore}
 use Rattle.store_model.proofs.Sound.{put, of_volatile, new_is_free, room_of}
 use Rattle.store_model.proofs.Recorded.{MayBeKept, IsStated, stated_id}
 use Rattle.store_model.proofs.Live.{len_kept-insert}

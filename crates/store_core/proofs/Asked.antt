@@ -11,8 +11,7 @@ use Rattle.key_attributes.specs.Checks.{checked}
 use Rattle.policy_rules.specs.Narrow.{after_rules}
 use Rattle.policy_rules.specs.declared.narrowing.Label.{Label}
 use Rattle.store_model.specs.Store as model
-use Rattle.store_model.specs.Store.{has_secure_element, is_volatile, live_volatile, made_of, count_persistent}
-use Rattle.store_model.specs.Creation.{recorded_of, room_for_key_rows}
+use Rattle.store_model.specs.Prelude.{has_secure_element, is_volatile, live_volatile, made_of, count_persistent, recorded_of, room_for_key_rows}
 
 -- what is recorded where there is a file
 abbrev pub asked : model.Store → ℕ → Attributes → ℕ → Bool → List Label → Result Attributes Status

@@ -17,18 +17,7 @@ use Rattle.driver_dispatch.specs.Calls.{HoldsHandle, IsSomeKey}
 use Rattle.key_slots.specs.Holdings.{Pairs}
 use Rattle.key_slots.specs.Standing.{IsVolatileKey}
 use Rattle.store_model.specs.Store as model
-use Rattle.store_model.specs.Store.{Key, has_secure_element, is_opaque, is_opaque_key, is_volatile}
-use Rattle.store_model.specs.Call.{Call, buffer_after}
-use Rattle.store_model.specs.Creation.{identified}
-use Rattle.store_model.specs.Faults.{FaultMark, Hardware, marked_reply}
-use Rattle.store_model.specs.Handles.{Service}
-use Rattle.store_model.specs.Laws.{may_change_keys}
-use Rattle.store_model.specs.Marks.{FaultCounts, HasFault, MayBeMarked, last_counts}
-use Rattle.store_model.specs.Outcome.{counted, refusal, reply_unless}
-use Rattle.store_model.specs.Replay.{Entry, replay}
-use Rattle.store_model.specs.Requests.{OnStore}
-use Rattle.store_model.specs.Rules.{fits_type, use_rows}
-use Rattle.store_model.specs.Sound.{IsSoundStore}
+use Rattle.store_model.specs.Prelude.{Key, has_secure_element, is_opaque, is_opaque_key, is_volatile, Call, buffer_after, identified, FaultMark, Hardware, marked_reply, Service, may_change_keys, FaultCounts, HasFault, MayBeMarked, last_counts, counted, refusal, reply_unless, Entry, replay, OnStore, fits_type, use_rows, IsSoundStore}
 use Rattle.store_model.proofs.Tables.{none_holds}
 use Rattle.std.proofs.lemmas.Bool.Decides.{nat_tests}
 use Rattle.secure_element_calls.specs.declared.calls.ElementCall.{ElementCall}

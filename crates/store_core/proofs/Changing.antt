@@ -6,18 +6,13 @@ use Rattle.std.proofs.Common.{◌≡◌, ◌⊎◌, ℕ, ◌+◌, ◌≤◌, Lis
 use Rattle.std.specs.Prelude.{slice_index, ⊤}
 use Rattle.disk_face.specs.Moments.{Within}
 use Rattle.disk_face.proofs.Moments.{promise_goes_on}
-use Rattle.key_cells.specs.Contents.{IsSure}
+use Rattle.key_cells.specs.Prelude.{IsSure}
 use Rattle.persistent_keys.specs.Files.{StandsForKeys, FitsKeys, Leads}
 use Rattle.persistent_keys.proofs.Leading.{stands_fits}
 use Rattle.key_slots.specs.Holdings.{Pairs, AreHoldings}
 use Rattle.key_slots.specs.Standing.{Agrees}
 use Rattle.store_model.specs.Store as model
-use Rattle.store_model.specs.Store.{count_persistent, live_volatile}
-use Rattle.store_model.specs.Faults.{FaultMark}
-use Rattle.store_model.specs.Handles.{Service}
-use Rattle.store_model.specs.Replay.{Entry, outcome_of, replay}
-use Rattle.store_model.specs.Marks.{FaultCounts, MayBeMarked, HasFault, IsCaused, last_counts}
-use Rattle.store_model.specs.Sound.{IsSoundStore}
+use Rattle.store_model.specs.Prelude.{count_persistent, live_volatile, FaultMark, Service, Entry, outcome_of, replay, FaultCounts, MayBeMarked, HasFault, IsCaused, last_counts, IsSoundStore}
 use Rattle.store_model.proofs.Causes.{go_on, allowed_go_on}
 use Rattle.store_core.specs.declared.store.Store.{Store}
 use Rattle.store_core.specs.Durability.{Course, after, opened, course_of, doubt_after, durable_keys, FitsCourse}

@@ -13,8 +13,7 @@ use Rattle.key_attributes.specs.declared.Attributes.{Attributes}
 use Rattle.key_attributes.specs.Checks.{persistence, location, is_lifetime, is_key_type, permits_size, size_rows, implied_usage, attribute_rows, filled, checked}
 use Rattle.key_cells.specs.declared.slot.Slot as cell
 use Rattle.key_cells.specs.declared.slot.Slot.TheVariants.{Free, Open, Shut, Unsure}
-use Rattle.key_cells.specs.Contents.{HasNoKey, IsFull, cell_slot, has_id, is_open, creation_of_slot}
-use Rattle.key_cells.specs.Body.{IsKeyOf}
+use Rattle.key_cells.specs.Prelude.{HasNoKey, IsFull, cell_slot, has_id, is_open, creation_of_slot, IsKeyOf}
 use Rattle.slot_table.specs.Slots.{Slot, slot_at, holds_key, NoKey}
 use Rattle.slot_table.proofs.AtSlots.{full_within, key_is_full}
 use Rattle.key_slots.specs.Holdings.{Pairs}
@@ -22,8 +21,7 @@ use Rattle.key_slots.specs.Standing.{Agrees}
 use Rattle.key_slots.proofs.Agreeing.{key_of_slot}
 use Rattle.key_slots.proofs.Sums.{total-least, into_map}
 use Rattle.store_model.specs.Store as model
-use Rattle.store_model.specs.Store.{Key, is_volatile, is_opaque, has_secure_element, count_persistent}
-use Rattle.store_model.specs.Sound.{IsSoundStore}
+use Rattle.store_model.specs.Prelude.{Key, is_volatile, is_opaque, has_secure_element, count_persistent, IsSoundStore}
 use Rattle.store_model.proofs.Sound.{low_id}
 use Rattle.store_model.proofs.Tables.{none_holds}
 use Rattle.store_model.proofs.Recorded.{IsStated, stated_id}

@@ -15,10 +15,7 @@ use Rattle.policy_rules.specs.declared.narrowing.Verdict.TheVariants.{Keep, Refu
 use Rattle.policy_rules.specs.Narrow.{narrowed, after_verdict, after_rules}
 use Rattle.policy_rules.specs.Policy.{meet_of}
 use Rattle.store_model.specs.Store as model
-use Rattle.store_model.specs.Store.{Key, is_volatile, is_opaque, has_secure_element}
-use Rattle.store_model.specs.Creation.{identified, file_rows, room_for_key_rows, recorded_of}
-use Rattle.store_model.specs.Copies.{source_rows, copy_attributes, recorded_copy}
-use Rattle.store_model.specs.Sound.{as_stated, IsSoundKey}
+use Rattle.store_model.specs.Prelude.{Key, is_volatile, is_opaque, has_secure_element, identified, file_rows, room_for_key_rows, recorded_of, source_rows, copy_attributes, recorded_copy, as_stated, IsSoundKey}
 use Rattle.store_model.proofs.Recorded.{then_ok}
 use Rattle.store_model.proofs.Tables.{none_holds}
 

@@ -17,18 +17,9 @@ use Rattle.key_slots.specs.declared.slots.KeySlots.{KeySlots}
 use Rattle.key_slots.specs.Holdings.{Pairs, AreHoldings}
 use Rattle.key_slots.specs.Standing.{Agrees, SlotHasKey}
 use Rattle.store_model.specs.Store as model
-use Rattle.store_model.specs.Store.{Key, is_opaque, is_persistent_key}
-use Rattle.store_model.specs.Call.{Copy}
-use Rattle.store_model.specs.Outcome.{Outcome}
+use Rattle.store_model.specs.Prelude.{Key, is_opaque, is_persistent_key, Copy, Outcome, created_unless, recorded_of, recorded_copy, step_copy, Service, Request, OnStore, plain_step, Entry, replay, FaultCounts, id_read, reads_persistent, Storage, Reading}
 use Rattle.store_model.specs.KeyUse as key_use
-use Rattle.store_model.specs.Creation.{created_unless, recorded_of}
-use Rattle.store_model.specs.Copies.{recorded_copy, step_copy}
-use Rattle.store_model.specs.Handles.{Service}
-use Rattle.store_model.specs.Requests.{Request, OnStore, plain_step}
-use Rattle.store_model.specs.Replay.{Entry, replay}
-use Rattle.store_model.specs.Marks.{FaultCounts, id_read, reads_persistent}
 use Rattle.store_model.specs.Faults as fault
-use Rattle.store_model.specs.Faults.{Storage, Reading}
 use Rattle.store_core.specs.declared.store.Store.{Store}
 use Rattle.store_core.specs.declared.reading.Unread.{Unread}
 use Rattle.store_core.specs.declared.reading.Unread.TheVariants.{Missing, Disk, Corrupt}

@@ -9,7 +9,7 @@ use Rattle.std.specs.FinMap as map
 use Rattle.driver_dispatch.specs.Held.{without_key}
 use Rattle.key_cells.specs.declared.slot.Slot as cell
 use Rattle.key_cells.specs.declared.slot.Slot.TheVariants.{Free}
-use Rattle.key_cells.specs.Contents.{HasNoKey, IsSure, cell_slot, has_id, creation_of_slot, settled_slots}
+use Rattle.key_cells.specs.Prelude.{HasNoKey, IsSure, cell_slot, has_id, creation_of_slot, settled_slots}
 use Rattle.persistent_keys.specs.declared.file.KeyFile.{KeyFile}
 use Rattle.persistent_keys.specs.Files.{Stored, stored, Keys, Doubt, StandsForKeys, Leads, IsPut}
 use Rattle.persistent_keys.proofs.Leading.{stays}
@@ -19,15 +19,7 @@ use Rattle.key_slots.specs.Holdings.{Pairs}
 use Rattle.key_slots.specs.Standing.{Agrees, SlotHasKey, Puts}
 use Rattle.key_slots.proofs.Agreeing.{quiet, key_of_slot}
 use Rattle.store_model.specs.Store as model
-use Rattle.store_model.specs.Store.{Key, is_volatile, is_persistent_key}
-use Rattle.store_model.specs.Call.{Destroy}
-use Rattle.store_model.specs.Outcome.{counted}
-use Rattle.store_model.specs.Faults.{FaultMark, Plain}
-use Rattle.store_model.specs.Handles.{Service}
-use Rattle.store_model.specs.Requests.{OnStore}
-use Rattle.store_model.specs.Replay.{Entry}
-use Rattle.store_model.specs.Marks.{MayBeMarked, HasFault, key_changed}
-use Rattle.store_model.specs.Sound.{IsSoundStore}
+use Rattle.store_model.specs.Prelude.{Key, is_volatile, is_persistent_key, Destroy, counted, FaultMark, Plain, Service, OnStore, Entry, MayBeMarked, HasFault, key_changed, IsSoundStore}
 use Rattle.store_model.proofs.Sound.{counted_sound, destroyed_sound}
 use Rattle.store_core.specs.declared.store.Store.{Store}
 use Rattle.store_core.specs.Durability.{doubt_by, kept, durable_keys}

@@ -16,20 +16,10 @@ use Rattle.driver_dispatch.specs.Held.{HeldKey, HeldKeys, held_key}
 use Rattle.driver_dispatch.specs.Calls.{HoldsHandle, IsSomeKey}
 use Rattle.key_cells.specs.declared.slot.Slot as cell
 use Rattle.key_cells.specs.declared.slot.Slot.TheVariants.{Free, Open, Shut, Unsure}
-use Rattle.key_cells.specs.Contents.{HasNoKey, has_id, creation_of_slot}
+use Rattle.key_cells.specs.Prelude.{HasNoKey, has_id, creation_of_slot}
 use Rattle.persistent_keys.specs.Files.{Stored, Doubt, doubt_undestroyed}
 use Rattle.store_model.specs.Store as model
-use Rattle.store_model.specs.Store.{Key, KeyMap, is_volatile, is_opaque, is_volatile_of, live_volatile, count_persistent, has_secure_element}
-use Rattle.store_model.specs.Call.{Destroy}
-use Rattle.store_model.specs.KeyUse.{destroyed, destroy_rows}
-use Rattle.store_model.specs.Outcome.{counted, decided}
-use Rattle.store_model.specs.Faults.{FaultMark, Plain, Storage, Hardware, Corrupt, Writing}
-use Rattle.store_model.specs.Handles.{Service}
-use Rattle.store_model.specs.Requests.{Request, OnStore, serve}
-use Rattle.store_model.specs.Replay.{Entry, outcome_of}
-use Rattle.store_model.specs.Marks.{key_changed}
-use Rattle.store_model.specs.Sound.{as_stated, IsSoundStore, IsVolatileOf}
-use Rattle.store_model.specs.Creation.{identified}
+use Rattle.store_model.specs.Prelude.{Key, KeyMap, is_volatile, is_opaque, is_volatile_of, live_volatile, count_persistent, has_secure_element, Destroy, destroyed, destroy_rows, counted, decided, FaultMark, Plain, Storage, Hardware, Corrupt, Writing, Service, Request, OnStore, serve, Entry, outcome_of, key_changed, as_stated, IsSoundStore, IsVolatileOf, identified}
 use Rattle.store_model.proofs.Sound.{low_id, of_volatile}
 use Rattle.store_model.proofs.Tables.{none_holds}
 use Rattle.store_core.specs.Durability.{Course, doubt_after, doubt_by, is_destruction, kept}

@@ -9,7 +9,7 @@ use Rattle.key_slots.specs.Wiping.{Keeps, EndsOnly, IsEmptyOrIdle, IsFillingOf, 
 use Rattle.key_slots.proofs.Agreeing.{key_of_slot}
 use Rattle.key_slots.proofs.Wiping.{ends_then, keeps_all}
 use Rattle.store_model.specs.Store as model
-use Rattle.store_model.specs.Store.{Key}
+use Rattle.store_model.specs.Prelude.{Key}
 use Rattle.store_core.specs.Uses.{KeepsOrEmpties}
 
 -- a load takes a slot, and fills it or gives it up

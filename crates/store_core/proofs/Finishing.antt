@@ -17,13 +17,7 @@ use Rattle.key_slots.specs.Holdings.{Pairs, AreHoldings}
 use Rattle.key_slots.specs.Standing.{Agrees}
 use Rattle.key_slots.proofs.Agreeing.{quiet}
 use Rattle.store_model.specs.Store as model
-use Rattle.store_model.specs.Outcome.{counted}
-use Rattle.store_model.specs.Creation.{recorded_of, created_unless}
-use Rattle.store_model.specs.Faults.{FaultMark, Plain, Storage, Hardware, Corrupt, Reading, Writing}
-use Rattle.store_model.specs.Handles.{Service}
-use Rattle.store_model.specs.Replay.{Entry, outcome_of, replay}
-use Rattle.store_model.specs.Requests.{serve}
-use Rattle.store_model.specs.Marks.{FaultCounts, MayBeMarked, HasFault, key_changed, reads_persistent, last_counts}
+use Rattle.store_model.specs.Prelude.{counted, recorded_of, created_unless, FaultMark, Plain, Storage, Hardware, Corrupt, Reading, Writing, Service, Entry, outcome_of, replay, serve, FaultCounts, MayBeMarked, HasFault, key_changed, reads_persistent, last_counts}
 use Rattle.store_core.specs.declared.store.Store.{Store}
 use Rattle.store_core.specs.Durability.{Course, durable_keys, doubt_after, doubt_by, is_destruction, kept}
 use Rattle.store_core.specs.Represents.{IsTold, Opening}

@@ -3,15 +3,14 @@ use Rattle.std.proofs.Common.{◌≡◌, ◌∙◌, ℕ, ◌<◌, Bool, true, fa
 use Rattle.std.proofs.lemmas.Bool.{false≢true}
 use Rattle.std.specs.Option.{option_map}
 use Rattle.key_cells.specs.declared.slot.Slot as cell
-use Rattle.key_cells.specs.Contents.{cell_slot, has_id}
+use Rattle.key_cells.specs.Prelude.{cell_slot, has_id}
 use Rattle.driver_dispatch.specs.Held.{HeldKeys, without_key}
 use Rattle.slot_table.specs.Slots.{Slot, Table, IsLawful, holds_key, slot_at}
 use Rattle.key_slots.specs.Holdings.{Pairs}
 use Rattle.key_slots.specs.Standing.{Agrees}
 use Rattle.key_slots.proofs.Agreeing.{key_of_slot}
 use Rattle.store_model.specs.Store as model
-use Rattle.store_model.specs.Store.{Key, is_opaque, is_volatile}
-use Rattle.store_model.specs.Sound.{IsSoundStore}
+use Rattle.store_model.specs.Prelude.{Key, is_opaque, is_volatile, IsSoundStore}
 use Rattle.store_core.specs.Represents.{IsDirectory}
 use Rattle.store_core.specs.Uses.{IsForgotten}
 use Rattle.store_core.proofs.ByElement.{opaque_is_volatile}

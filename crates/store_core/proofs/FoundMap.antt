@@ -4,9 +4,8 @@ use Rattle.std.proofs.lemmas.Bool.{eqb-true, false≢true}
 use Rattle.std.specs.Prelude.{slice_get, find}
 use Rattle.std.specs.Ordering.{nat_cmp}
 use Rattle.std.specs.FinMap as map
-use Rattle.key_cells.specs.Body.{IsKeyOf}
-use Rattle.store_model.specs.Store.{Key, Store, OpenedKey, found_from, has_secure_element}
-use Rattle.store_model.specs.Sound.{AreFoundKeys}
+use Rattle.key_cells.specs.Prelude.{IsKeyOf}
+use Rattle.store_model.specs.Prelude.{Key, Store, OpenedKey, found_from, has_secure_element, AreFoundKeys}
 use Rattle.store_model.proofs.Sound.{put}
 use Rattle.store_model.proofs.Live.{len_kept-insert, len_kept-empty}
 use Rattle.store_core.proofs.Kept.{lasting, kept_checked}

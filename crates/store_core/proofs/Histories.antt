@@ -12,16 +12,7 @@ use Rattle.psa_status.specs.Rows.{first_row}
 use Rattle.disk_face.specs.Moments.{after_all}
 use Rattle.disk_face.proofs.Moments.{after_all_push}
 use Rattle.persistent_keys.specs.Files.{Stored}
-use Rattle.store_model.specs.Store.{Key, Store}
-use Rattle.store_model.specs.Call.{Destroy, Reply}
-use Rattle.store_model.specs.Faults.{FaultMark, Plain}
-use Rattle.store_model.specs.Outcome.{counted, decided}
-use Rattle.store_model.specs.KeyUse.{destroyed, destroy_rows}
-use Rattle.store_model.specs.Handles.{Service, own_of, next_random}
-use Rattle.store_model.specs.Requests.{Request, OnStore, OnHandle, plain_step, serve}
-use Rattle.store_model.specs.Laws.{may_change_keys}
-use Rattle.store_model.specs.Replay.{Entry, outcome_of, replay}
-use Rattle.store_model.specs.Marks.{FaultCounts, key_changed, reads_persistent, last_counts}
+use Rattle.store_model.specs.Prelude.{Key, Store, Destroy, Reply, FaultMark, Plain, counted, decided, destroyed, destroy_rows, Service, own_of, next_random, Request, OnStore, OnHandle, plain_step, serve, may_change_keys, Entry, outcome_of, replay, FaultCounts, key_changed, reads_persistent, last_counts}
 use Rattle.store_model.proofs.DrawnBytes.{length-random}
 use Rattle.store_model.proofs.StoreShape.{MakesNone, store_shape}
 use Rattle.store_model.proofs.Shape.{shape}

@@ -6,7 +6,7 @@ use Rattle.std.proofs.Common.{◌≡◌, ◌⊎◌, ℕ, ◌+◌, ◌≤◌, Lis
 use Rattle.disk_face.specs.Moments.{Within, KeepsPromise, FitsFrom}
 use Rattle.disk_face.proofs.Moments.{promise_goes_on, within_none, fits_whole, fits_least}
 use Rattle.driver_dispatch.specs.Held.{HeldKeys}
-use Rattle.key_cells.specs.Contents.{IsSure}
+use Rattle.key_cells.specs.Prelude.{IsSure}
 use Rattle.persistent_keys.specs.declared.file.KeyFile.{KeyFile}
 use Rattle.persistent_keys.specs.Files.{Keys, Doubt, StandsForKeys, FitsKeys, FitsEitherKeys, Leads}
 use Rattle.persistent_keys.proofs.Leading.{stands_fits, stays}
@@ -16,11 +16,7 @@ use Rattle.key_slots.specs.Holdings.{Pairs, AreHoldings}
 use Rattle.key_slots.specs.Standing.{Agrees}
 use Rattle.key_slots.proofs.Agreeing.{quiet}
 use Rattle.store_model.specs.Store as model
-use Rattle.store_model.specs.Faults.{FaultMark, Plain}
-use Rattle.store_model.specs.Outcome.{counted}
-use Rattle.store_model.specs.Handles.{Service}
-use Rattle.store_model.specs.Replay.{Entry, outcome_of, replay}
-use Rattle.store_model.specs.Marks.{FaultCounts, MayBeMarked, HasFault, IsCaused, last_counts}
+use Rattle.store_model.specs.Prelude.{FaultMark, Plain, counted, Service, Entry, outcome_of, replay, FaultCounts, MayBeMarked, HasFault, IsCaused, last_counts}
 use Rattle.store_model.proofs.Sound.{counted_sound}
 use Rattle.store_model.proofs.Causes.{go_on, allowed_go_on}
 use Rattle.store_core.specs.declared.store.Store.{Store}

@@ -12,13 +12,10 @@ use Rattle.key_attributes.specs.declared.Attributes.{Attributes}
 use Rattle.key_attributes.specs.Checks.{persistence, implied_usage, size_rows, attribute_rows, is_lifetime, is_stated_id, filled, checked}
 use Rattle.key_cells.specs.declared.slot.Slot as cell
 use Rattle.key_cells.specs.declared.slot.Slot.TheVariants.{Free, Open, Shut, Unsure}
-use Rattle.key_cells.specs.Contents.{HasNoKey, cell_slot, has_id, creation_of_slot}
-use Rattle.key_cells.specs.Body.{IsKeyOf}
+use Rattle.key_cells.specs.Prelude.{HasNoKey, cell_slot, has_id, creation_of_slot, IsKeyOf}
 use Rattle.key_slots.specs.Standing.{IsVolatileKey}
 use Rattle.store_model.specs.Store as model
-use Rattle.store_model.specs.Store.{Key, is_volatile, is_opaque, is_persistent_key}
-use Rattle.store_model.specs.Creation.{identified}
-use Rattle.store_model.specs.Sound.{as_stated}
+use Rattle.store_model.specs.Prelude.{Key, is_volatile, is_opaque, is_persistent_key, identified, as_stated}
 use Rattle.store_core.specs.Represents.{IsDirectory}
 use Rattle.store_core.specs.Uses.{there_rows}
 

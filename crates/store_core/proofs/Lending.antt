@@ -7,9 +7,7 @@ use Rattle.key_attributes.specs.declared.Attributes.{Attributes}
 use Rattle.key_attributes.specs.Checks.{attribute_rows, filled, permits_size}
 use Rattle.key_slots.specs.Standing.{slot_bytes}
 use Rattle.store_model.specs.Store as model
-use Rattle.store_model.specs.Store.{Key, has_secure_element, is_volatile}
-use Rattle.store_model.specs.Creation.{identified}
-use Rattle.store_model.specs.Sound.{IsSoundKey, as_stated}
+use Rattle.store_model.specs.Prelude.{Key, has_secure_element, is_volatile, identified, IsSoundKey, as_stated}
 use Rattle.store_model.proofs.Tables.{none_holds}
 use Rattle.key_policy.specs.declared.key_use.KeyUse.{KeyUse}
 use Rattle.key_policy.specs.Uses.{use_refusal}

@@ -8,8 +8,7 @@ use Rattle.std.specs.Option.{option_and_then}
 use Rattle.std.specs.FinMap as map
 use Rattle.key_attributes.specs.declared.Attributes.{Attributes}
 use Rattle.secret_bytes.specs.Buffer.{Buffer}
-use Rattle.key_cells.specs.Contents.{cell_slot, has_id, creation_of_slot}
-use Rattle.key_cells.specs.Body.{IsKeyOf}
+use Rattle.key_cells.specs.Prelude.{cell_slot, has_id, creation_of_slot, IsKeyOf}
 use Rattle.persistent_keys.specs.declared.file.KeyFile.{KeyFile}
 use Rattle.persistent_keys.specs.Files.{Stored, stored}
 use Rattle.slot_table.specs.Slots.{Slot, NoKey}
@@ -19,11 +18,7 @@ use Rattle.key_slots.specs.declared.slots.KeySlots.{KeySlots}
 use Rattle.key_slots.specs.Holdings.{Pairs, Gains}
 use Rattle.key_slots.specs.Standing.{Agrees, SlotHasKey, Puts}
 use Rattle.store_model.specs.Store as model
-use Rattle.store_model.specs.Store.{Key, is_opaque, is_persistent_key, is_volatile_of}
-use Rattle.store_model.specs.Handles.{Service}
-use Rattle.store_model.specs.Requests.{Request}
-use Rattle.store_model.specs.Replay.{Entry, replay}
-use Rattle.store_model.specs.Marks.{id_read, reads_persistent, IsCaused}
+use Rattle.store_model.specs.Prelude.{Key, is_opaque, is_persistent_key, is_volatile_of, Service, Request, Entry, replay, id_read, reads_persistent, IsCaused}
 use Rattle.store_core.specs.declared.store.Store.{Store}
 use Rattle.store_core.specs.Durability.{kept, durable_keys}
 use Rattle.store_core.specs.Represents.{IsTold, IsDirectory, Opening}

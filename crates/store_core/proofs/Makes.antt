@@ -10,20 +10,12 @@ use Rattle.std.specs.FinMap as map
 use Rattle.psa_status.specs.declared.Status.{Status}
 use Rattle.psa_status.specs.Causes.{Rose}
 use Rattle.key_attributes.specs.declared.Attributes.{Attributes}
-use Rattle.key_cells.specs.Contents.{IsSure}
+use Rattle.key_cells.specs.Prelude.{IsSure}
 use Rattle.persistent_keys.specs.Files.{Stored, stored, Doubt, StandsForKeys, Leads}
 use Rattle.key_slots.specs.Holdings.{Pairs, AreHoldings}
 use Rattle.key_slots.specs.Standing.{Agrees}
 use Rattle.store_model.specs.Store as model
-use Rattle.store_model.specs.Store.{Key, is_volatile, is_opaque, is_persistent_key, is_opaque_key, live_volatile, count_persistent}
-use Rattle.store_model.specs.Call.{Reply, Destroy}
-use Rattle.store_model.specs.Outcome.{counted, refusal}
-use Rattle.store_model.specs.Creation.{created, new_id, new_key}
-use Rattle.store_model.specs.Faults.{FaultMark, Plain, Storage, Hardware, Corrupt}
-use Rattle.store_model.specs.Handles.{Service}
-use Rattle.store_model.specs.Requests.{Request, OnStore, OnHandle, plain_step, failed_step, serve}
-use Rattle.store_model.specs.Replay.{Entry, outcome_of, replay}
-use Rattle.store_model.specs.Marks.{MayBeMarked, HasFault, key_changed, key_answered, last_counts}
+use Rattle.store_model.specs.Prelude.{Key, is_volatile, live_volatile, count_persistent, Reply, Destroy, counted, refusal, created, new_id, new_key, FaultMark, Plain, Storage, Hardware, Corrupt, Service, Request, OnStore, OnHandle, plain_step, failed_step, serve, Entry, outcome_of, replay, MayBeMarked, HasFault, key_changed, key_answered, last_counts}
 use Rattle.store_model.proofs.Sound.{counted_sound, created_sound}
 use Rattle.store_model.proofs.Recorded.{MayBeKept}
 use Rattle.store_core.specs.declared.store.Store.{Store}

@@ -10,8 +10,7 @@ use Rattle.key_attributes.specs.declared.Attributes.{Attributes}
 use Rattle.secret_bytes.specs.Buffer.{bytes_of}
 use Rattle.key_cells.specs.declared.slot.Slot as cell
 use Rattle.key_cells.specs.declared.slot.Slot.TheVariants.{Open}
-use Rattle.key_cells.specs.Contents.{HasNoKey, IsFull, IsFirstWithoutKey, IsSure, settled_slots}
-use Rattle.key_cells.specs.Body.{IsKeyOf}
+use Rattle.key_cells.specs.Prelude.{HasNoKey, IsFull, IsFirstWithoutKey, IsSure, settled_slots, IsKeyOf}
 use Rattle.persistent_keys.specs.declared.file.KeyFile.{KeyFile}
 use Rattle.persistent_keys.specs.Files.{Stored, stored, Keys, Doubt, StandsForKeys, Leads, IsPut, doubt_unmade}
 use Rattle.persistent_keys.specs.declared.file.MakeFault.TheVariants.{Disk}
@@ -22,14 +21,7 @@ use Rattle.key_slots.specs.Holdings.{Pairs, AreHoldings}
 use Rattle.key_slots.specs.Standing.{Agrees, Puts, SlotHasKey, IsThereOrNew}
 use Rattle.key_slots.proofs.Agreeing.{quiet}
 use Rattle.store_model.specs.Store as model
-use Rattle.store_model.specs.Store.{Key, is_volatile, is_opaque, is_persistent_key, has_secure_element}
-use Rattle.store_model.specs.Outcome.{counted}
-use Rattle.store_model.specs.Creation.{created, new_id, new_key}
-use Rattle.store_model.specs.Faults.{FaultMark, Plain, Storage, Writing}
-use Rattle.store_model.specs.Handles.{Service}
-use Rattle.store_model.specs.Requests.{serve}
-use Rattle.store_model.specs.Replay.{Entry, outcome_of, replay}
-use Rattle.store_model.specs.Marks.{key_changed, last_counts}
+use Rattle.store_model.specs.Prelude.{Key, is_volatile, is_opaque, is_persistent_key, has_secure_element, counted, created, new_id, new_key, FaultMark, Plain, Storage, Writing, Service, serve, Entry, outcome_of, replay, key_changed, last_counts}
 use Rattle.store_model.proofs.Recorded.{MayBeKept, recorded}
 use Rattle.store_core.specs.declared.store.Store.{Store}
 use Rattle.store_core.specs.Durability.{Course, durable_keys, doubt_after, doubt_by, kept}

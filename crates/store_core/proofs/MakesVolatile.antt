@@ -22,14 +22,7 @@ use Rattle.key_slots.specs.Holdings.{Pairs, AreHoldings}
 use Rattle.key_slots.specs.Standing.{Agrees, Puts, SlotHasKey, IsThereOrNew}
 use Rattle.key_slots.proofs.Agreeing.{quiet}
 use Rattle.store_model.specs.Store as model
-use Rattle.store_model.specs.Store.{Key, first_volatile, is_volatile, is_opaque, is_opaque_key, has_secure_element, made_of, live_volatile}
-use Rattle.store_model.specs.Outcome.{counted}
-use Rattle.store_model.specs.Creation.{created, new_id, new_key, identified}
-use Rattle.store_model.specs.Faults.{FaultMark, Plain, Hardware}
-use Rattle.store_model.specs.Handles.{Service}
-use Rattle.store_model.specs.Requests.{serve}
-use Rattle.store_model.specs.Replay.{Entry, replay}
-use Rattle.store_model.specs.Marks.{asks_device, key_changed, last_counts}
+use Rattle.store_model.specs.Prelude.{Key, first_volatile, is_volatile, is_opaque, is_opaque_key, has_secure_element, counted, created, new_id, new_key, identified, FaultMark, Plain, Hardware, Service, serve, Entry, replay, asks_device, key_changed, last_counts}
 use Rattle.store_model.proofs.Recorded.{MayBeKept}
 use Rattle.store_core.specs.declared.store.Store.{Store}
 use Rattle.store_core.specs.Durability.{Course, durable_keys, doubt_after}

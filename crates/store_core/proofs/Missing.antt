@@ -5,10 +5,7 @@ use Rattle.psa_status.specs.declared.Status.{Status}
 use Rattle.psa_status.specs.declared.Status.TheVariants.{InvalidHandle, InvalidArgument, NotPermitted, NotSupported}
 use Rattle.psa_status.specs.Rows.{first_row}
 use Rattle.alg_encoding.specs.Encoding.{is_concrete}
-use Rattle.store_model.specs.Store.{Key}
-use Rattle.store_model.specs.KeyUse.{export_rows}
-use Rattle.store_model.specs.Rules.{use_rows}
-use Rattle.store_model.specs.HandleCalls.{derivation_key_rows}
+use Rattle.store_model.specs.Prelude.{Key, export_rows, use_rows, derivation_key_rows}
 use Rattle.store_model.proofs.Tables.{refused_by}
 use Rattle.key_policy.specs.declared.key_use.KeyUse.{KeyUse}
 use Rattle.key_policy.specs.declared.key_use.KeyUse.TheVariants.{Export, Algorithm, Derivation}

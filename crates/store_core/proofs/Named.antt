@@ -8,10 +8,8 @@ use Rattle.psa_status.proofs.Rows.{unless-ok}
 use Rattle.key_attributes.specs.declared.Attributes.{Attributes}
 use Rattle.key_attributes.specs.Checks.{attribute_rows, checked, filled}
 use Rattle.key_slots.specs.Standing.{IsVolatileKey}
-use Rattle.store_model.specs.Creation.{identified}
+use Rattle.store_model.specs.Prelude.{identified, Key, is_volatile, has_secure_element, IsSoundStore, as_stated}
 use Rattle.store_model.specs.Store as model
-use Rattle.store_model.specs.Store.{Key, is_volatile, has_secure_element}
-use Rattle.store_model.specs.Sound.{IsSoundStore, as_stated}
 use Rattle.store_model.proofs.Tables.{none_holds}
 
 within : (id : ℕ) → not (nat_le 1 id && nat_le id 0x3fffffff) ≡ false → (1 ≤ id) × (id ≤ 0x3fffffff)

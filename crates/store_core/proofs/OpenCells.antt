@@ -7,11 +7,8 @@ use Rattle.std.proofs.lemmas.Option.{slice_get_within}
 use Rattle.std.specs.Prelude.{slice_get}
 use Rattle.key_cells.specs.declared.slot.Slot as cell
 use Rattle.key_cells.specs.declared.slot.Slot.TheVariants.{Free, Open, Shut, Unsure}
-use Rattle.key_cells.specs.Layout.{body}
-use Rattle.key_cells.specs.Contents.{cell_slot, has_id, is_open, creation_of_slot}
-use Rattle.key_cells.specs.Body.{IsKeyOf, HoldsKey}
-use Rattle.key_cells.specs.Opening.{IsNumbered, HasOneEach}
-use Rattle.store_model.specs.Store.{OpenedKey}
+use Rattle.key_cells.specs.Prelude.{body, cell_slot, has_id, is_open, creation_of_slot, IsKeyOf, HoldsKey, IsNumbered, HasOneEach}
+use Rattle.store_model.specs.Prelude.{OpenedKey}
 use Rattle.store_core.specs.Start.{AreOpened}
 use Rattle.store_core.proofs.FoundMap.{HasEachOnce, AreKept, id_of}
 

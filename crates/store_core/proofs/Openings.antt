@@ -7,15 +7,11 @@ use Rattle.std.specs.FinMap as map
 use Rattle.key_attributes.specs.declared.Attributes.{Attributes}
 use Rattle.key_cells.specs.declared.slot.Slot as cell
 use Rattle.key_cells.specs.declared.slot.Slot.TheVariants.{Free, Open, Shut, Unsure}
-use Rattle.key_cells.specs.Layout.{place, gate, body, opened_gate}
-use Rattle.key_cells.specs.Contents.{Sound, Shows, Present, cell_slot, content_at, has_id, creation_of_slot}
-use Rattle.key_cells.specs.Body.{IsPersistent, IsKeyOf, HoldsKey, HoldsId}
-use Rattle.key_cells.specs.Image.{HasKey}
-use Rattle.key_cells.specs.Opening.{IsFoundIn, Finds, IsNumbered, IsNamed, found_in, content_of}
+use Rattle.key_cells.specs.Prelude.{place, gate, body, opened_gate, Sound, Shows, Present, cell_slot, content_at, has_id, creation_of_slot, IsPersistent, IsKeyOf, HoldsKey, HoldsId, HasKey, IsFoundIn, Finds, IsNumbered, IsNamed, found_in, content_of}
 use Rattle.key_cells.proofs.CellsRead.{content_there}
 use Rattle.key_cells.proofs.Bodies.{of_one_key}
 use Rattle.persistent_keys.specs.Files.{Stored, stored, AreFound}
-use Rattle.store_model.specs.Store.{Key, OpenedKey, Settings, start_of}
+use Rattle.store_model.specs.Prelude.{Key, OpenedKey, Settings, start_of}
 use Rattle.store_core.specs.Durability.{kept, durable_keys}
 use Rattle.store_core.specs.Start.{AreOpened}
 use Rattle.store_core.proofs.FoundMap.{HasEachOnce, id_of, found_at, at_found}

@@ -15,14 +15,7 @@ use Rattle.key_slots.specs.Standing.{Agrees}
 use Rattle.key_slots.proofs.Agreeing.{readers_out}
 use Rattle.key_slots.proofs.Counting.{few_of_one}
 use Rattle.store_model.specs.Store as model
-use Rattle.store_model.specs.Store.{Key, is_persistent_key}
-use Rattle.store_model.specs.Call.{GetAttributes}
-use Rattle.store_model.specs.Faults.{FaultMark, Plain}
-use Rattle.store_model.specs.Requests.{OnStore}
-use Rattle.store_model.specs.Outcome.{counted}
-use Rattle.store_model.specs.Handles.{Service}
-use Rattle.store_model.specs.Replay.{Entry, replay}
-use Rattle.store_model.specs.Marks.{FaultCounts, reads_persistent}
+use Rattle.store_model.specs.Prelude.{Key, is_persistent_key, GetAttributes, FaultMark, Plain, OnStore, counted, Service, Entry, replay, FaultCounts, reads_persistent}
 use Rattle.key_policy.specs.declared.key_use.KeyUse.{KeyUse}
 use Rattle.key_policy.specs.Uses.{use_refusal}
 use Rattle.key_policy.proofs.Refusals.{refused_so}

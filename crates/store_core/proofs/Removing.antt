@@ -9,15 +9,13 @@ use Rattle.std.proofs.lemmas.Cmp.{nat_cmp_total}
 use Rattle.std.specs.FinMap as map
 use Rattle.key_cells.specs.declared.slot.Slot as cell
 use Rattle.key_cells.specs.declared.slot.Slot.TheVariants.{Free, Open, Shut, Unsure}
-use Rattle.key_cells.specs.Contents.{cell_slot, settled_slot, settled_slots}
+use Rattle.key_cells.specs.Prelude.{cell_slot, settled_slot, settled_slots}
 use Rattle.persistent_keys.specs.Files.{Stored, stored, IsPut}
 use Rattle.driver_dispatch.specs.Held.{HeldKey, HeldKeys, held_key, without_key}
 use Rattle.driver_dispatch.specs.Calls.{HoldsHandle, IsSomeKey, Lacks}
 use Rattle.key_slots.specs.Standing.{Puts}
 use Rattle.store_model.specs.Store as model
-use Rattle.store_model.specs.Store.{Key, KeyMap, is_volatile, is_opaque, is_volatile_of, live_volatile, count_persistent}
-use Rattle.store_model.specs.KeyUse.{destroyed}
-use Rattle.store_model.specs.Sound.{IsSoundStore}
+use Rattle.store_model.specs.Prelude.{Key, KeyMap, is_volatile, destroyed, IsSoundStore}
 use Rattle.store_model.proofs.Sound.{taken, left}
 use Rattle.store_model.proofs.Live.{len_kept-insert}
 use Rattle.store_core.specs.Durability.{kept, durable_keys}

@@ -7,8 +7,7 @@ use Rattle.std.specs.FinMap as map
 use Rattle.key_attributes.specs.declared.Attributes.{Attributes}
 use Rattle.key_cells.specs.declared.slot.Slot as cell
 use Rattle.key_cells.specs.declared.slot.Slot.TheVariants.{Open}
-use Rattle.key_cells.specs.Contents.{cell_slot}
-use Rattle.key_cells.specs.Body.{IsKeyOf}
+use Rattle.key_cells.specs.Prelude.{cell_slot, IsKeyOf}
 use Rattle.driver_dispatch.specs.Held.{HeldKeys}
 use Rattle.driver_dispatch.specs.Calls.{HoldsHandle}
 use Rattle.slot_table.specs.Slots.{Slot, slot_at, holds_key, NoKey}
@@ -16,8 +15,7 @@ use Rattle.key_slots.specs.Holdings.{Pairs}
 use Rattle.key_slots.specs.Standing.{Agrees, IsGone}
 use Rattle.key_slots.proofs.Agreeing.{holds_its_key}
 use Rattle.store_model.specs.Store as model
-use Rattle.store_model.specs.Store.{Key, KeyMap, is_volatile, is_opaque, is_volatile_of}
-use Rattle.store_model.specs.Sound.{IsSoundKey, IsSoundStore}
+use Rattle.store_model.specs.Prelude.{Key, KeyMap, is_volatile, is_opaque, is_volatile_of, IsSoundKey, IsSoundStore}
 use Rattle.store_model.proofs.Sound.{put, taken}
 use Rattle.store_model.proofs.Live.{len_kept-insert}
 use Rattle.store_core.specs.Represents.{IsDirectory, HoldsKeys}

@@ -1,8 +1,7 @@
 -- Histories whose counts and moments never fall.
 use Rattle.std.proofs.Common.{◌≡◌, ◌≤◌, ◌<◌, ℕ, suc, Bool, true, List, [], ◌∷◌, ◌++◌, length, arith}
 use Rattle.disk_face.specs.Moments.{done_at}
-use Rattle.store_model.specs.Replay.{Entry}
-use Rattle.store_model.specs.Marks.{last_counts}
+use Rattle.store_model.specs.Prelude.{Entry, last_counts}
 use Rattle.store_core.specs.Represents.{Opening}
 use Rattle.store_core.specs.Rising.{AreRising, opening_after}
 

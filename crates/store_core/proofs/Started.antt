@@ -14,10 +14,7 @@ use Rattle.key_attributes.specs.declared.Attributes.{Attributes}
 use Rattle.key_cells.specs.declared.slot.Slot as cell
 use Rattle.key_cells.specs.declared.slot.Slot.TheVariants.{Open}
 use Rattle.key_cells.specs.declared.reading.OpenFault.TheVariants.{Memory}
-use Rattle.key_cells.specs.Contents.{StandsForContents, Sound, cell_slot, is_open}
-use Rattle.key_cells.specs.Image.{HasKey}
-use Rattle.key_cells.specs.Opening.{IsNumbered, HasOneEach, found_in}
-use Rattle.key_cells.specs.Opened.{IsOpened, IsRefused}
+use Rattle.key_cells.specs.Prelude.{StandsForContents, Sound, cell_slot, is_open, HasKey, IsNumbered, HasOneEach, found_in, IsOpened, IsRefused}
 use Rattle.key_cells.proofs.CellsRead.{for_told, some_weaker}
 use Rattle.key_cells.proofs.Opened.{calm_none, refused_calm}
 use Rattle.persistent_keys.specs.Files.{Keys, AreFound, StandsForKeys}
@@ -30,8 +27,7 @@ use Rattle.key_slots.proofs.Agreeing.{empty_ones}
 use Rattle.driver_dispatch.specs.Held.{HeldKeys}
 use Rattle.driver_dispatch.specs.Calls.{Lacks}
 use Rattle.store_model.specs.Store as model
-use Rattle.store_model.specs.Store.{Key, OpenedKey, Settings, start_of, is_volatile_of, is_volatile, is_opaque}
-use Rattle.store_model.specs.Handles.{Service, service_start}
+use Rattle.store_model.specs.Prelude.{Key, OpenedKey, Settings, start_of, is_volatile_of, is_volatile, is_opaque, Service, service_start}
 use Rattle.store_model.proofs.Sound.{of_volatile}
 use Rattle.store_model.proofs.Starts.{store_starts}
 use Rattle.persistent_keys.specs.declared.file.KeyFile.{KeyFile}

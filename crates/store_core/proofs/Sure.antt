@@ -5,10 +5,7 @@ use Rattle.std.proofs.lemmas.Bool.{false≢true}
 use Rattle.std.proofs.lemmas.List.{get_or-map, get_or-replicate, map-set}
 use Rattle.key_cells.specs.declared.slot.Slot.{Slot}
 use Rattle.key_cells.specs.declared.slot.Slot.TheVariants.{Free, Open, Shut, Unsure}
-use Rattle.key_cells.specs.Layout.{gate, body, opened_gate, closed, zeros}
-use Rattle.key_cells.specs.Contents.{Content, Absent, Present, Doubtful, IsSure, Shows, cell_slot, content_at, settled_slot, settled_slots}
-use Rattle.key_cells.specs.Body.{HoldsKey}
-use Rattle.key_cells.specs.Opening.{Finds, IsFoundIn}
+use Rattle.key_cells.specs.Prelude.{gate, body, opened_gate, closed, zeros, Content, Absent, Present, Doubtful, IsSure, Shows, cell_slot, content_at, settled_slot, settled_slots, HoldsKey, Finds, IsFoundIn}
 use Rattle.key_cells.proofs.Clearing.{all_settled}
 use Rattle.persistent_keys.specs.Files.{Stored, stored, Keys, Doubt, StandsForKeys, TellsCell}
 use Rattle.persistent_keys.proofs.Filing.{settled_twice}

@@ -2,8 +2,7 @@
 use Rattle.std.proofs.Common.{◌≡◌, ◌⊎◌, ◌∙◌, ℕ, ◌+◌, ◌<◌, List, refl, sym, ap, subst, arith, inl, inr}
 use Rattle.key_cells.specs.declared.slot.Slot as cell
 use Rattle.key_cells.specs.declared.slot.Slot.TheVariants.{Free}
-use Rattle.key_cells.specs.Layout.{closed, zeros}
-use Rattle.key_cells.specs.Contents.{Content, Absent, Present, Doubtful, Shows}
+use Rattle.key_cells.specs.Prelude.{closed, zeros, Content, Absent, Present, Doubtful, Shows}
 use Rattle.slot_states.specs.declared.SlotState.{SlotState}
 use Rattle.slot_states.specs.declared.SlotState.TheVariants.{Empty, Filling, Full, Pending}
 use Rattle.slot_table.specs.Slots.{Slot, IsLawfulSlot, empty_slot, filling_slot, is_full, slot_at}
@@ -11,7 +10,7 @@ use Rattle.key_slots.specs.Holdings.{Pairs, named}
 use Rattle.key_slots.specs.Standing.{Agrees}
 use Rattle.key_slots.proofs.Agreeing.{readers_out}
 use Rattle.store_model.specs.Store as model
-use Rattle.store_model.specs.Sound.{HasNumber}
+use Rattle.store_model.specs.Prelude.{HasNumber}
 
 -- a cell that the directory has as free
 pub shows_free : (slot : cell.Slot) (content : Content) (gate body : List ℕ) → slot ≡ Free → Shows slot content gate body → (gate ≡ closed) × (body ≡ zeros)

@@ -9,14 +9,14 @@ use Rattle.disk_face.specs.Moments.{Within}
 use Rattle.disk_face.proofs.Moments.{within_both, within_none}
 use Rattle.key_cells.specs.declared.slot.Slot as cell
 use Rattle.key_cells.specs.declared.slot.Slot.TheVariants.{Free, Open, Shut, Unsure}
-use Rattle.key_cells.specs.Contents.{HasZeros, cell_slot, has_id, settled_slot, settled_slots}
+use Rattle.key_cells.specs.Prelude.{HasZeros, cell_slot, has_id, settled_slot, settled_slots}
 use Rattle.persistent_keys.specs.declared.file.KeyFile.{KeyFile}
 use Rattle.persistent_keys.specs.Files.{Stored, Keys}
 use Rattle.persistent_keys.specs.Calls.{KeepsFile}
 use Rattle.persistent_keys.proofs.Leading.{stays}
 use Rattle.std.specs.FinMap as finmap
 use Rattle.store_model.specs.Store as model
-use Rattle.store_model.specs.Store.{Key}
+use Rattle.store_model.specs.Prelude.{Key}
 use Rattle.store_core.specs.Represents.{IsDirectory}
 use Rattle.store_core.specs.declared.store.Store.{Store}
 use Rattle.store_core.specs.Zeros.{FileStaysZeros, LeavesZeros, StaysFree, last_store}

@@ -14,16 +14,7 @@ use Rattle.slot_table.specs.Lent as lent
 use Rattle.key_slots.specs.Holdings.{Pairs, Gains, AreHoldings, named}
 use Rattle.key_slots.specs.Standing.{Agrees, IsThereOrNew, Puts, SlotHasKey}
 use Rattle.store_model.specs.Store as model
-use Rattle.store_model.specs.Store.{is_volatile, is_opaque}
-use Rattle.store_model.specs.Faults.{FaultMark, Plain, Storage, Hardware, Writing}
-use Rattle.store_model.specs.Creation.{recorded_of, created, created_unless, new_id}
-use Rattle.store_model.specs.Copies.{recorded_copy}
-use Rattle.store_model.specs.Sound.{HasNumber}
-use Rattle.store_model.specs.Handles.{Service}
-use Rattle.store_model.specs.Call.{Copy}
-use Rattle.store_model.specs.Requests.{OnStore, plain_step}
-use Rattle.store_model.specs.Replay.{Entry, replay}
-use Rattle.store_model.specs.Marks.{FaultCounts, last_counts}
+use Rattle.store_model.specs.Prelude.{is_volatile, is_opaque, FaultMark, Plain, Storage, Hardware, Writing, recorded_of, created, created_unless, new_id, recorded_copy, HasNumber, Service, Copy, OnStore, plain_step, Entry, replay, FaultCounts, last_counts}
 use Rattle.store_core.specs.declared.store.Store.{Store}
 use Rattle.store_core.specs.declared.creating.Unkept.{Unkept}
 use Rattle.store_core.specs.declared.creating.Unkept.TheVariants as unkept

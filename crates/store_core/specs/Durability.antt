@@ -4,13 +4,7 @@ use Rattle.std.specs.Option.{option_map_or}
 use Rattle.std.specs.FinMap as map
 use Rattle.disk_face.specs.Moments.{after_all, KeepsPromise}
 use Rattle.persistent_keys.specs.Files.{Stored, stored, Keys, Doubt, FitsKeys}
-use Rattle.store_model.specs.Store.{Key, Store, is_volatile}
-use Rattle.store_model.specs.Call.{Destroy}
-use Rattle.store_model.specs.Faults.{FaultMark, Plain, Storage, Hardware, Corrupt, Reading, Writing}
-use Rattle.store_model.specs.Handles.{Service}
-use Rattle.store_model.specs.Requests.{Request, OnStore}
-use Rattle.store_model.specs.Replay.{Entry, outcome_of}
-use Rattle.store_model.specs.Marks.{key_changed}
+use Rattle.store_model.specs.Prelude.{Key, Store, is_volatile, Destroy, FaultMark, Plain, Storage, Hardware, Corrupt, Reading, Writing, Service, Request, OnStore, Entry, outcome_of, key_changed}
 
 -- what a file keeps of a key: all of a persistent one
 abbrev pub kept : Option Key → Option Stored

@@ -8,3 +8,4 @@ pub mod Opaque
 pub mod Zeros
 pub mod Promises
 pub mod Destructions
+pub mod Prelude

@@ -9,11 +9,7 @@ use Rattle.psa_status.specs.Rows.{first_row}
 use Rattle.driver_dispatch.specs.Held.{HeldKeys}
 use Rattle.key_slots.specs.Holdings.{Pairs}
 use Rattle.store_model.specs.Store as model
-use Rattle.store_model.specs.Call.{Call, buffer_after}
-use Rattle.store_model.specs.Faults.{FaultMark, marked_reply}
-use Rattle.store_model.specs.Handles.{Service}
-use Rattle.store_model.specs.Replay.{Entry}
-use Rattle.store_model.specs.Requests.{OnStore}
+use Rattle.store_model.specs.Prelude.{Call, buffer_after, FaultMark, marked_reply, Service, Entry, OnStore}
 use Rattle.secure_element_calls.specs.declared.calls.ElementCall.{ElementCall}
 use Rattle.secure_element_calls.specs.declared.calls.NotComputed.{NotComputed}
 use Rattle.secure_element_calls.specs.declared.calls.NotComputed.TheVariants.{Refused, Failed}

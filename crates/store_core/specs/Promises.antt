@@ -7,15 +7,10 @@ use Rattle.std.specs.List.{AllByRecursion}
 use Rattle.psa_status.specs.declared.Status.TheVariants.{Success}
 use Rattle.disk_face.specs.Moments.{Within, done_at}
 use Rattle.key_cells.specs.declared.slot.Slot.TheVariants.{Free}
-use Rattle.key_cells.specs.Contents.{HasZeros, cell_slot}
+use Rattle.key_cells.specs.Prelude.{HasZeros, cell_slot}
 use Rattle.slot_table.specs.Slots.{empty_slot, filling_slot, slot_at}
 use Rattle.key_slots.specs.Holdings.{Pairs, named}
-use Rattle.store_model.specs.Sound.{HasNumber, IsSound}
-use Rattle.store_model.specs.Handles.{Service}
-use Rattle.store_model.specs.Faults.{Plain}
-use Rattle.store_model.specs.Requests.{plain_step}
-use Rattle.store_model.specs.Replay.{Entry, replay}
-use Rattle.store_model.specs.Origin.{GainsNothing, IsCaller, found_made, made_after}
+use Rattle.store_model.specs.Prelude.{HasNumber, IsSound, Service, Plain, plain_step, Entry, replay, GainsNothing, IsCaller, found_made, made_after}
 use Rattle.store_core.specs.declared.store.Store.{Store}
 use Rattle.store_core.specs.Durability.{FitsPrefix, course_of, durable_keys}
 use Rattle.store_core.specs.Represents.{IsTold, LeavesKeys, Opening, Stands, StandsFor}

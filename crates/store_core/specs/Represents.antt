@@ -6,23 +6,14 @@ use Rattle.std.specs.Prelude.{◌≡◌, ◌<◌, ◌≤◌, ◌⊎◌, ℕ, ◌
 use Rattle.std.specs.FinMap as map
 use Rattle.key_cells.specs.declared.slot.Slot as cell
 use Rattle.key_cells.specs.declared.slot.Slot.TheVariants.{Open}
-use Rattle.key_cells.specs.Contents.{cell_slot, IsSure}
+use Rattle.key_cells.specs.Prelude.{cell_slot, IsSure}
 use Rattle.persistent_keys.specs.Calls.{StandsForThese}
 use Rattle.key_slots.specs.Holdings.{Pairs, Gains, AreHoldings, named}
 use Rattle.key_slots.specs.Standing.{Agrees}
 use Rattle.driver_dispatch.specs.Held.{HeldKeys}
 use Rattle.driver_dispatch.specs.Calls.{HoldsHandle, Lacks}
 use Rattle.store_model.specs.Store as model
-use Rattle.store_model.specs.Store.{Key, is_volatile, is_opaque, count_persistent, live_volatile}
-use Rattle.store_model.specs.Call.{Destroy}
-use Rattle.store_model.specs.Faults.{FaultMark, Plain}
-use Rattle.store_model.specs.Outcome.{counted}
-use Rattle.store_model.specs.Requests.{OnStore}
-use Rattle.store_model.specs.Sound.{IsSoundStore}
-use Rattle.store_model.specs.Laws.{may_change_keys}
-use Rattle.store_model.specs.Handles.{Service}
-use Rattle.store_model.specs.Replay.{Entry, outcome_of, replay}
-use Rattle.store_model.specs.Marks.{FaultCounts, key_changed, id_read, reads_persistent, IsCaused, AreAllowed, last_counts}
+use Rattle.store_model.specs.Prelude.{Key, is_volatile, is_opaque, count_persistent, live_volatile, Destroy, FaultMark, Plain, counted, OnStore, IsSoundStore, may_change_keys, Service, Entry, outcome_of, replay, FaultCounts, key_changed, id_read, reads_persistent, IsCaused, AreAllowed, last_counts}
 use Rattle.store_core.specs.declared.store.Store.{Store}
 use Rattle.store_core.specs.Durability.{durable_keys, course_of, KeepsKeys}
 

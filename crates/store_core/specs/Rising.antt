@@ -1,6 +1,6 @@
 -- What never falls: how often the disk and the devices have failed, and the disk's moments.
 use Rattle.std.specs.Prelude.{◌≡◌, ◌≤◌, ℕ, Bool, true, List, [], ◌∷◌}
-use Rattle.store_model.specs.Replay.{Entry}
+use Rattle.store_model.specs.Prelude.{Entry}
 use Rattle.store_core.specs.declared.store.Store.{Store}
 use Rattle.store_core.specs.Represents.{Opening}
 

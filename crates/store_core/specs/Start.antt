@@ -5,13 +5,9 @@ use Rattle.admission.specs.declared.rules.Admission as Admission
 use Rattle.std.specs.Prelude.{◌≡◌, ◌<◌, ◌≤◌, ◌↔◌, ℕ, true, List, [], length, replicate, count_by, slice_get, Option, Some, IfSome}
 use Rattle.key_cells.specs.declared.slot.Slot as cell
 use Rattle.key_cells.specs.declared.slot.Slot.TheVariants.{Open}
-use Rattle.key_cells.specs.Layout.{body}
-use Rattle.key_cells.specs.Contents.{cell_slot, is_open}
+use Rattle.key_cells.specs.Prelude.{body, cell_slot, is_open, IsKeyOf, HoldsKey, HasKey}
 use Rattle.key_attributes.specs.declared.Attributes.{Attributes}
-use Rattle.key_cells.specs.Body.{IsKeyOf, HoldsKey}
-use Rattle.key_cells.specs.Image.{HasKey}
-use Rattle.store_model.specs.Store.{OpenedKey, Settings}
-use Rattle.store_model.specs.Handles.{Service, service_start}
+use Rattle.store_model.specs.Prelude.{OpenedKey, Settings, Service, service_start}
 use Rattle.store_core.specs.declared.store.Opened.{Opened}
 use Rattle.store_core.specs.declared.store.Store.{Store}
 use Rattle.store_core.specs.Represents.{Opening, StandsFor}

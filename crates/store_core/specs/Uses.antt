@@ -9,7 +9,7 @@ use Rattle.key_attributes.specs.declared.Attributes.{Attributes}
 use Rattle.secret_bytes.specs.Buffer.{bytes_of}
 use Rattle.key_cells.specs.declared.slot.Slot as cell
 use Rattle.key_cells.specs.declared.slot.Slot.TheVariants.{Free}
-use Rattle.key_cells.specs.Contents.{cell_slot, has_id}
+use Rattle.key_cells.specs.Prelude.{cell_slot, has_id}
 use Rattle.driver_dispatch.specs.Held.{HeldKeys, without_key}
 use Rattle.slot_table.specs.Slots.{Slot, empty_slot, holds_key, slot_at}
 use Rattle.slot_table.specs.Changes.{destroyed_slot}
@@ -17,10 +17,8 @@ use Rattle.slot_table.specs.Lent as lent
 use Rattle.key_slots.specs.Standing.{SlotHasKey}
 use Rattle.key_slots.specs.Wiping.{Keeps}
 use Rattle.store_model.specs.Store as model
-use Rattle.store_model.specs.Store.{Key, is_opaque, is_persistent_key, is_opaque_key}
+use Rattle.store_model.specs.Prelude.{Key, is_opaque, is_persistent_key, is_opaque_key, FaultMark, Plain, Storage, Hardware, Reading, Writing, destroy_rows}
 use Rattle.store_model.specs.Faults as fault
-use Rattle.store_model.specs.Faults.{FaultMark, Plain, Storage, Hardware, Reading, Writing}
-use Rattle.store_model.specs.KeyUse.{destroy_rows}
 use Rattle.store_core.specs.declared.destroying.NotDestroyed.{NotDestroyed}
 use Rattle.store_core.specs.declared.destroying.NotDestroyed.TheVariants as undestroyed
 use Rattle.store_core.specs.declared.reading.Unread.{Unread}

@@ -5,15 +5,12 @@ use Rattle.admission.specs.declared.rules.Admission as Admission
 use Rattle.std.specs.Prelude.{◌≡◌, ◌<◌, ◌⊎◌, ℕ, true, List, [], ◌∷◌, Some, is_some}
 use Rattle.disk_face.specs.Moments.{Within}
 use Rattle.key_cells.specs.declared.slot.Slot.TheVariants.{Free}
-use Rattle.key_cells.specs.Layout.{gate, body, opened_gate}
-use Rattle.key_cells.specs.Contents.{HasZeros, cell_slot}
-use Rattle.key_cells.specs.Body.{HoldsKey}
+use Rattle.key_cells.specs.Prelude.{gate, body, opened_gate, HasZeros, cell_slot, HoldsKey}
 use Rattle.persistent_keys.specs.declared.file.KeyFile.{KeyFile}
 use Rattle.persistent_keys.specs.Files.{Stored, Keys, Doubt}
 use Rattle.persistent_keys.specs.Calls.{StandsForThese}
 use Rattle.key_slots.specs.Holdings.{Pairs}
-use Rattle.store_model.specs.Handles.{Service}
-use Rattle.store_model.specs.Replay.{Entry}
+use Rattle.store_model.specs.Prelude.{Service, Entry}
 use Rattle.store_core.specs.declared.store.Store.{Store}
 use Rattle.store_core.specs.Represents.{Opening, Stands, StandsFor}
 

@@ -1,8 +1,8 @@
 // A law of openings, as the contract of a function that does nothing.
 ghost use Rattle.std.specs.Prelude.{◌≡◌, ℕ, List, length, Some};
 ghost use Rattle.key_cells.specs.declared.slot.Slot as cell;
-ghost use Rattle.key_cells.specs.Opening.{IsNumbered};
-ghost use Rattle.store_model.specs.Store.{OpenedKey};
+ghost use Rattle.key_cells.specs.Prelude.{IsNumbered};
+ghost use Rattle.store_model.specs.Prelude.{OpenedKey};
 ghost use Rattle.store_core.specs.Start.{AreOpened};
 
 /// Where a disk tells its bytes, these and the directory of an opening say which keys were found, and in which order: every

@@ -5,7 +5,7 @@ ghost use Rattle.disk_face.specs.Disk.{StillTells};
 ghost use Rattle.secret_bytes.specs.Buffer.{IsClear, bytes_of};
 ghost use Rattle.key_slots.specs.Wiping.{TakesOne};
 ghost use Rattle.key_policy.specs.Uses.{FitsUse, use_refusal};
-ghost use Rattle.store_model.specs.Faults.{Plain};
+ghost use Rattle.store_model.specs.Prelude.{Plain};
 ghost use Rattle.store_core.specs.Represents.{Reads, ReadsAndGives, Stands};
 ghost use Rattle.store_core.specs.Rising.{NoFewerFaults};
 ghost use Rattle.store_core.specs.Uses.{IsLent, IsRefused, KeepsOrEmpties, mark_of};

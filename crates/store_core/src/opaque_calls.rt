@@ -2,7 +2,7 @@
 ghost use Rattle.std.specs.Prelude.{◌≡◌, ◌<◌, ◌^◌, ◌+◌, true, length, IsErrOf};
 ghost use Rattle.std.specs.FinMap as map;
 ghost use Rattle.psa_status.specs.Causes.{Rose};
-ghost use Rattle.store_model.specs.Store.{is_opaque_key};
+ghost use Rattle.store_model.specs.Prelude.{is_opaque_key};
 ghost use Rattle.secure_element_calls.specs.Answers.{IsOfServed, IsRefusedBefore, mark_computed};
 ghost use Rattle.secure_element_calls.specs.Calls.{AsksElement, model_call};
 ghost use Rattle.secure_element_calls.specs.declared.calls.NotComputed.TheVariants as uncomputed;

@@ -1,11 +1,10 @@
 //! How a store is opened.
 ghost use Rattle.std.specs.Prelude.{◌≡◌, ◌≤◌, ◌↔◌, ℕ, List, [], length, replicate, count_by, slice_get, Some, IfOk, IfErr, IfSome};
 ghost use Rattle.secret_bytes.specs.Buffer.{IsClear};
-ghost use Rattle.key_cells.specs.Contents.{is_open};
-ghost use Rattle.key_cells.specs.Opened.{IsOpened, IsRefused};
+ghost use Rattle.key_cells.specs.Prelude.{is_open, IsOpened, IsRefused};
 ghost use Rattle.slot_table.specs.Slots.{empty_slot};
 ghost use Rattle.driver_dispatch.specs.Calls.{Lacks};
-ghost use Rattle.store_model.specs.Handles.{Service};
+ghost use Rattle.store_model.specs.Prelude.{Service};
 ghost use Rattle.store_core.specs.Start.{BeginsAtStart, FindsKeysOf, IsStart};
 
 use crate::{Opened, Store};

@@ -1,8 +1,6 @@
 //! What a store promises that stands for a start, a history and holdings, as the contracts of methods that do nothing.
 ghost use Rattle.std.specs.Prelude.{◌≡◌, false, List};
-ghost use Rattle.store_model.specs.Handles.{Service};
-ghost use Rattle.store_model.specs.Laws.{may_change_keys};
-ghost use Rattle.store_model.specs.Replay.{Entry};
+ghost use Rattle.store_model.specs.Prelude.{Service, may_change_keys, Entry};
 ghost use Rattle.store_core.specs.declared.store.Store as store;
 ghost use Rattle.store_core.specs.Represents.{LeavesKeys};
 ghost use Rattle.store_core.specs.Zeros.{StaysZeros};

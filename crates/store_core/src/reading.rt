@@ -3,7 +3,7 @@ ghost use Rattle.std.specs.Prelude.{◌≡◌, ◌<◌, ◌≤◌, true, false, 
 ghost use Rattle.std.specs.FinMap as map;
 ghost use Rattle.secret_bytes.specs.Buffer.{IsClear};
 ghost use Rattle.psa_status.specs.Causes.{Rose};
-ghost use Rattle.key_cells.specs.Contents.{IsFirstWithKey};
+ghost use Rattle.key_cells.specs.Prelude.{IsFirstWithKey};
 ghost use Rattle.persistent_keys.specs.Calls.{KeepsFile};
 ghost use Rattle.slot_states.specs.declared.SlotState.TheVariants.{Full};
 ghost use Rattle.slot_table.specs.Slots.{slot_at, NoKey};

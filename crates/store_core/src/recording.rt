@@ -1,7 +1,7 @@
 //! What a creation records.
 ghost use Rattle.std.specs.Prelude.{◌≡◌, ◌≤◌, Some, None, IfErr, OnOk};
 ghost use Rattle.psa_status.specs.Rows.{first_row};
-ghost use Rattle.store_model.specs.Creation.{recorded_of, room_for_key_rows};
+ghost use Rattle.store_model.specs.Prelude.{recorded_of, room_for_key_rows};
 ghost use Rattle.store_core.specs.Creations.{HoldsWithin};
 
 use crate::Store;

@@ -7,8 +7,7 @@ use Rattle.sha2.specs.Sha512.{sha384, sha512}
 use Rattle.sha2.proofs.Facts256.{length-sha224, length-sha256}
 use Rattle.sha2.proofs.Facts512.{length-sha384, length-sha512}
 use Rattle.alg_encoding.specs.Table as table
-use Rattle.crypto_specs.specs.Hkdf.{hash_length, extract, expand_block, expand_blocks, expand}
-use Rattle.crypto_specs.specs.Pbkdf2.{pbkdf2_block, pbkdf2_blocks, pbkdf2}
+use Rattle.crypto_specs.specs.Prelude.{hash_length, extract, expand_block, expand_blocks, expand, pbkdf2_block, pbkdf2_blocks, pbkdf2}
 use Rattle.crypto_specs.proofs.CodeLengths.{length-expand_block, length-pbkdf2_block}
 use Rattle.store_model.specs.Algorithms.{digest, hash_block_length, low_byte}
 use Rattle.store_model.specs.CipherOperations.{bytes_or_empty}

@@ -4,9 +4,7 @@ use Rattle.psa_status.specs.declared.Status.TheVariants.{InvalidArgument, Invali
 use Rattle.psa_status.specs.Rows.{Rows, first_row}
 use Rattle.alg_encoding.specs.declared.table.Class.TheVariants.{Aead}
 use Rattle.alg_encoding.specs.Encoding.{base_of}
-use Rattle.crypto_specs.specs.Aes.{aes_encrypt}
-use Rattle.crypto_specs.specs.Ccm.{ccm_text, ccm_tag}
-use Rattle.crypto_specs.specs.Gcm.{gcm_text, gcm_tag}
+use Rattle.crypto_specs.specs.Prelude.{aes_encrypt, ccm_text, ccm_tag, gcm_text, gcm_tag}
 use Rattle.store_model.specs.Store.{Store}
 use Rattle.store_model.specs.Call.{Reply}
 use Rattle.store_model.specs.Algorithms.{tag_bytes}

@@ -5,9 +5,7 @@ use Rattle.sha2.specs.Sha256.{sha224, sha256}
 use Rattle.sha2.specs.Sha512.{sha384, sha512}
 use Rattle.alg_encoding.specs.Encoding.{base_of, tag_length_of}
 use Rattle.alg_encoding.specs.Table.{hash_length}
-use Rattle.crypto_specs.specs.Aes.{aes_encrypt}
-use Rattle.crypto_specs.specs.Cmac.{cmac}
-use Rattle.crypto_specs.specs.Hmac.{hmac}
+use Rattle.crypto_specs.specs.Prelude.{aes_encrypt, cmac, hmac}
 
 -- the hash function of an algorithm number's low byte (FIPS 180-4)
 abbrev pub digest : ℕ → List ℕ → List ℕ

@@ -3,9 +3,7 @@ use Rattle.std.specs.Prelude.{ℕ, ◌-◌, ◌*◌, ◌/◌, ◌%◌, Bool, not
 use Rattle.std.specs.Option.{option_map_or}
 use Rattle.psa_status.specs.declared.Status.TheVariants.{BadState, InvalidArgument, InvalidPadding}
 use Rattle.psa_status.specs.Rows.{Rows, first_row}
-use Rattle.crypto_specs.specs.Aes.{aes_encrypt}
-use Rattle.crypto_specs.specs.AesInverse.{aes_decrypt}
-use Rattle.crypto_specs.specs.Modes.{ctr_xor, cbc_encrypt, cbc_decrypt, ecb_encrypt, ecb_decrypt}
+use Rattle.crypto_specs.specs.Prelude.{aes_encrypt, aes_decrypt, ctr_xor, cbc_encrypt, cbc_decrypt, ecb_encrypt, ecb_decrypt}
 use Rattle.store_model.specs.Ciphers.{Mode, Ctr, CbcNoPadding, CbcPkcs7, EcbNoPadding, mode_of, iv_length, takes_whole_blocks, is_ciphertext_length, enciphered, deciphered}
 use Rattle.store_model.specs.Rules.{room_rows}
 use Rattle.store_model.specs.Outcome.{given, done, spoiled}

@@ -3,9 +3,7 @@ use Rattle.std.specs.Prelude.{ℕ, ◌+◌, ◌-◌, ◌%◌, not, nat_lt, ◌||
 use Rattle.psa_status.specs.declared.Status.TheVariants.{InvalidArgument, InvalidPadding}
 use Rattle.psa_status.specs.Rows.{Rows, first_row}
 use Rattle.alg_encoding.specs.declared.table.Class.TheVariants.{Cipher}
-use Rattle.crypto_specs.specs.Aes.{aes_encrypt}
-use Rattle.crypto_specs.specs.AesInverse.{aes_decrypt}
-use Rattle.crypto_specs.specs.Modes.{ctr_xor, cbc_encrypt, cbc_decrypt, ecb_encrypt, ecb_decrypt, pkcs7_padded, pkcs7_unpadded}
+use Rattle.crypto_specs.specs.Prelude.{aes_encrypt, aes_decrypt, ctr_xor, cbc_encrypt, cbc_decrypt, ecb_encrypt, ecb_decrypt, pkcs7_padded, pkcs7_unpadded}
 use Rattle.store_model.specs.Store.{Store}
 use Rattle.store_model.specs.Call.{Reply}
 use Rattle.store_model.specs.Draws.{Random}

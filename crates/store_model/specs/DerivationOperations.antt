@@ -4,8 +4,7 @@ use Rattle.psa_status.specs.declared.Status.TheVariants.{Success, BadState, Inva
 use Rattle.psa_status.specs.Rows.{Rows, first_row}
 use Rattle.key_attributes.specs.declared.Attributes.{Attributes}
 use Rattle.key_attributes.specs.Checks.{location}
-use Rattle.crypto_specs.specs.Hkdf.{extract, expand}
-use Rattle.crypto_specs.specs.Pbkdf2.{pbkdf2}
+use Rattle.crypto_specs.specs.Prelude.{extract, expand, pbkdf2}
 use Rattle.store_model.specs.Algorithms.{digest, hash_block_length, hash_length_of, low_byte}
 pub use Rattle.store_model.specs.Algorithms.{number_or_zero}
 use Rattle.store_model.specs.Call.{Reply, Number}

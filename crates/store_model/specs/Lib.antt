@@ -29,3 +29,4 @@ pub mod Refusals
 pub mod Laws
 pub mod Sound
 pub mod Origin
+pub mod Prelude

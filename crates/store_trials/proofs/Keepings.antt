@@ -8,17 +8,9 @@ use Rattle.persistent_keys.specs.declared.file.KeyFile.{KeyFile}
 use Rattle.slot_table.specs.Lent.{Reading}
 use Rattle.key_slots.specs.Holdings.{Pairs, Gains, AreHoldings}
 use Rattle.store_model.specs.Store as model
-use Rattle.store_model.specs.Call.{Import, GetAttributes, Export}
-use Rattle.store_model.specs.Creation.{created_unless}
-use Rattle.store_model.specs.Faults.{FaultMark, Plain}
-use Rattle.store_model.specs.Handles.{Service}
-use Rattle.store_model.specs.Requests.{Request, OnStore}
-use Rattle.store_model.specs.Replay.{Entry, replay}
+use Rattle.store_model.specs.Prelude.{Import, GetAttributes, Export, created_unless, FaultMark, Plain, Service, Request, OnStore, Entry, replay, Key}
 use Rattle.store_core.specs.declared.store.Store.{Store}
-use Rattle.store_core.specs.Represents.{AddsAs, Gives, HasOut, IsEntry, Reads, ReadsAndGives, Stands, Takes}
-use Rattle.store_core.specs.Creations.{Creates, HasOutBeside, IsCreating, RecordsStated}
-use Rattle.store_core.specs.Uses.{IsRefused, mark_of}
-use Rattle.store_model.specs.Store.{Key}
+use Rattle.store_core.specs.Prelude.{AddsAs, Gives, HasOut, IsEntry, Reads, ReadsAndGives, Stands, Takes, Creates, HasOutBeside, IsCreating, RecordsStated, IsRefused, mark_of}
 use Rattle.store_core.proofs.Histories.{quiet_leaves}
 use Rattle.store_trials.specs.Keeping.{GivesLease, Keeps, StaysOut, first_has}
 use Rattle.store_trials.proofs.Outs.{are_one, hold, lease_beside, filling_alone, first_gains, is_out}

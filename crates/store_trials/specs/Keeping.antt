@@ -3,9 +3,8 @@ use Rattle.std.specs.Prelude.{◌≡◌, ◌≤◌, ◌==◌, ℕ, nat_lt, count
 use Rattle.key_slots.specs.Holdings.{Pairs}
 use Rattle.secret_bytes.specs.Buffer.{IsClear}
 use Rattle.store_core.specs.declared.store.Store.{Store}
-use Rattle.store_core.specs.Represents.{Opening, StandsFor}
-use Rattle.store_model.specs.Handles.{Service}
-use Rattle.store_model.specs.Replay.{Entry}
+use Rattle.store_core.specs.Prelude.{Opening, StandsFor}
+use Rattle.store_model.specs.Prelude.{Service, Entry}
 use Rattle.disk_face.specs.declared.Disk as Disk
 use Rattle.driver_dispatch.specs.declared.devices.Devices as Devices
 use Rattle.admission.specs.declared.rules.Admission as Admission

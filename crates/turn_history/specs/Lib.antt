@@ -7,3 +7,4 @@ pub mod Steps
 pub mod Passes
 pub mod Closing
 pub mod Lending
+pub mod Prelude

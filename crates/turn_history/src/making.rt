@@ -31,7 +31,7 @@ fn slot_with<V>(alloc: Global, value: V) -> Result<Slots<V>, Refused<V>>
         Ok(()) => Ok(slots),
         Err(AllocFailed { value: back }) => {
             slots.destroy_empty();
-            let Some(value) = back else { unreachable!() };
+            let value = back.unwrap();
             Err(Refused { value })
         }
     }

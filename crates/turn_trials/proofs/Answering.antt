@@ -2,9 +2,7 @@
 use Rattle.std.proofs.Common.{◌≡◌, ℕ, suc, ◌+◌, List, [], ◌∷◌, ◌++◌, length, take, refl, sym, ap, ◌∙◌, arith, Option, Some}
 use Rattle.std.specs.Prelude.{slice_get}
 use Rattle.turn_history.specs.declared.pass.View.{View}
-use Rattle.turn_history.specs.History.{entries_of, StartsWith}
-use Rattle.turn_history.specs.Holdings.{Holding}
-use Rattle.turn_history.specs.Views.{after_turn}
+use Rattle.turn_history.specs.Prelude.{entries_of, StartsWith, Holding, after_turn}
 use Rattle.turn_history.proofs.Lists.{entries-append}
 use Rattle.turn_history.proofs.Keeping.{some_same}
 use Rattle.turn_history.proofs.Using.{placed, no_fewer}

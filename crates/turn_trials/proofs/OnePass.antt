@@ -1,6 +1,6 @@
 -- The history of a lock of one pass.
 use Rattle.std.proofs.Common.{◌≡◌, ℕ, suc, ◌+◌, ◌%◌, ◌^◌, ◌<◌, ◌≤◌, eq-eqb, List, [], ◌∷◌, ◌++◌, All, refl, sym, ap, ◌∙◌, arith}
-use Rattle.turn_history.specs.History.{choose, calls_by}
+use Rattle.turn_history.specs.Prelude.{choose, calls_by}
 use Rattle.turn_trials.specs.declared.tally.Entry.{Entry}
 use Rattle.turn_trials.specs.Tallying.{addition, signer, sum_after}
 

@@ -2,8 +2,7 @@
 use Rattle.std.proofs.Common.{◌≡◌, ℕ, zero, suc, ◌+◌, ◌<◌, ◌≤◌, ◌^◌, List, [], ◌∷◌, ◌++◌, All, map, take, drop, length, get_or, refl, sym, ap, ◌∙◌, subst, arith}
 use Rattle.std.specs.Vec.{vec_capacity}
 use Rattle.atomic_table.specs.Seated.{TableId}
-use Rattle.turn_history.specs.Views.{OwnCalls, new_pass}
-use Rattle.turn_history.specs.Passes.{AreNew}
+use Rattle.turn_history.specs.Prelude.{OwnCalls, new_pass, AreNew}
 use Rattle.turn_trials.specs.declared.running.Runner.{Runner}
 use Rattle.turn_trials.specs.Tallying.{signer, start}
 use Rattle.turn_trials.specs.Calling.{IsBetweenCalls}

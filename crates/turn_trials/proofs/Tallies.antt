@@ -1,6 +1,6 @@
 -- A tally after a change, and what all passes have.
 use Rattle.std.proofs.Common.{◌≡◌, ℕ, zero, suc, ◌+◌, ◌-◌, ◌%◌, ◌^◌, ◌<◌, ◌≤◌, Bool, List, [], ◌∷◌, ◌++◌, length, replicate, get_or, set, refl, sym, ap, ◌∙◌, arith, length-append}
-use Rattle.turn_history.specs.Holdings.{Holding, own_of, with_own}
+use Rattle.turn_history.specs.Prelude.{Holding, own_of, with_own}
 use Rattle.turn_trials.specs.declared.tally.Entry.{Entry}
 use Rattle.turn_trials.specs.Tallying.{IsTallyOf, Gains, addition, sum_after, out_of}
 

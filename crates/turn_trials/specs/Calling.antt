@@ -3,9 +3,7 @@ use Rattle.std.specs.Prelude.{◌≡◌, ℕ, ◌+◌, ◌<◌, ◌≤◌, [], �
 use Rattle.atomic_table.specs.Seated.{TableId}
 use Rattle.atomic_table.specs.declared.shared.Seat.{Seat}
 use Rattle.turn_history.specs.declared.pass.View.{View}
-use Rattle.turn_history.specs.History.{entries_of, StartsWith}
-use Rattle.turn_history.specs.Holdings.{Holding}
-use Rattle.turn_history.specs.Views.{IsOutside, OwnCalls}
+use Rattle.turn_history.specs.Prelude.{entries_of, StartsWith, Holding, IsOutside, OwnCalls}
 use Rattle.turn_trials.specs.declared.tally.Entry.{Entry}
 use Rattle.turn_trials.specs.declared.tally.Start.{Start}
 use Rattle.turn_trials.specs.Tallying.{addition, signer, start, sum_after}

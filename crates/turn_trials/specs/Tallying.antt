@@ -1,6 +1,6 @@
 -- What it is for a tally to stand for a history.
 use Rattle.std.specs.Prelude.{◌≡◌, ℕ, ◌+◌, ◌%◌, ◌^◌, List, [], ◌∷◌, length, Bool, cond}
-use Rattle.turn_history.specs.Holdings.{Holding}
+use Rattle.turn_history.specs.Prelude.{Holding}
 use Rattle.turn_trials.specs.declared.tally.Entry.{Entry}
 use Rattle.turn_trials.specs.declared.tally.Start.{Start}
 

@@ -1,8 +1,6 @@
 //! The ends of a turn with a tally.
 ghost use Rattle.std.specs.Prelude.{◌≡◌, ◌++◌, ◌∷◌, [], Bool, cond, length, Some, None};
-ghost use Rattle.turn_history.specs.History.{entries_of};
-ghost use Rattle.turn_history.specs.Holdings.{with_own};
-ghost use Rattle.turn_history.specs.Views.{IsInTurn, OwnCalls, after_turn};
+ghost use Rattle.turn_history.specs.Prelude.{entries_of, with_own, IsInTurn, OwnCalls, after_turn};
 ghost use Rattle.turn_trials.specs.Tallying.{IsTallyOf, addition, signer, start};
 ghost use Rattle.turn_trials.specs.Calling.{thing};
 
@@ -28,9 +26,7 @@ pub(crate) fn leave_with_entry<N: Naming<Entry>>(
     ensures place { result ≡ length (entries_of pass.old.me.0.seen) }
 {
     let _ = amount;
-    let Some(place) = lock.leave::<N>(pass, turn) else {
-        unreachable!()
-    };
+    let place = lock.leave::<N>(pass, turn).unwrap();
     place
 }
 

@@ -1,6 +1,6 @@
 //! Passes that meet after their calls.
 ghost use Rattle.std.specs.Prelude.{◌≡◌, ◌≢◌, ◌+◌, ◌≤◌, [], length};
-ghost use Rattle.turn_history.specs.History.{entries_of, StartsWith};
+ghost use Rattle.turn_history.specs.Prelude.{entries_of, StartsWith};
 ghost use Rattle.turn_trials.specs.Calling.{IsBetweenCalls};
 
 use crate::tally::Tally;

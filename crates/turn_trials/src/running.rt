@@ -1,7 +1,7 @@
 //! Many passes in threads of their own, until they meet and the lock is closed.
 ghost use Rattle.std.specs.Prelude.{◌≡◌, ◌<◌, ◌≤◌, ◌+◌, ◌*◌, ◌^◌, ℕ, [], All, IfSome, length, vec_len, vec_capacity};
 ghost use Rattle.atomic_table.specs.Seated.{TableId};
-ghost use Rattle.turn_history.specs.Passes.{AreNew};
+ghost use Rattle.turn_history.specs.Prelude.{AreNew};
 ghost use Rattle.turn_trials.specs.Tallying.{start};
 ghost use Rattle.turn_trials.specs.Calling.{IsBetweenCalls};
 ghost use Rattle.turn_trials.specs.Running.{HasRun, IsReady};

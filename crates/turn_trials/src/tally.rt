@@ -1,6 +1,6 @@
 //! A tally: the sum of what was added, and one thing that it lends.
 ghost use Rattle.std.specs.Prelude.{◌≡◌, ℕ, ◌<◌, ◌^◌, ◌++◌, ◌∷◌, [], List, true, false, replicate};
-ghost use Rattle.turn_history.specs.Holdings.{Holding, own_of, with_own};
+ghost use Rattle.turn_history.specs.Prelude.{Holding, own_of, with_own};
 ghost use Rattle.turn_trials.specs.Tallying.{IsTallyOf, Gains, addition};
 
 use std::snapshot::Snapshot;

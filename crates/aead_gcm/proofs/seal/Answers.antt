@@ -1,6 +1,5 @@
 use Rattle.std.proofs.Common.{◌∙◌, length}
-use Rattle.crypto_specs.specs.Aes.{aes_encrypt}
-use Rattle.crypto_specs.specs.Modes.{number_block}
+use Rattle.crypto_specs.specs.Prelude.{aes_encrypt, number_block}
 use Rattle.aead_gcm.proofs.Tags.{tag_is, text_is}
 use Rattle.aead_gcm.proofs.seal.Goals as goal
 

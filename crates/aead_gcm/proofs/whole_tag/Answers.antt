@@ -1,6 +1,5 @@
 use Rattle.std.proofs.Common.{◌∙◌, ap₂, ap}
-use Rattle.crypto_specs.specs.Bytes.{xor_bytes}
-use Rattle.crypto_specs.specs.Modes.{number_block}
+use Rattle.crypto_specs.specs.Prelude.{xor_bytes, number_block}
 use Rattle.cipher_blocks.proofs.BlockNumbers.{block_of_xor}
 use Rattle.aead_gcm.proofs.whole_tag.Goals as goal
 

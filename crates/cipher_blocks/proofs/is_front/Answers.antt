@@ -1,6 +1,6 @@
 use Rattle.std.proofs.Common.{◌≡◌, ◌∙◌, length, take, sym, ap, refl, arith}
 use Rattle.std.proofs.lemmas.List.{length-take}
-use Rattle.crypto_specs.specs.Modes.{number_block}
+use Rattle.crypto_specs.specs.Prelude.{number_block}
 use Rattle.crypto_specs.proofs.Blocks.{length-number_block}
 use Rattle.cipher_blocks.proofs.FilledBlocks.{pieces_told}
 use Rattle.cipher_blocks.proofs.is_front.Goals as goal

@@ -1,5 +1,5 @@
 use Rattle.std.proofs.Common.{◌∙◌, length, take, ap}
-use Rattle.crypto_specs.specs.Modes.{number_block}
+use Rattle.crypto_specs.specs.Prelude.{number_block}
 use Rattle.cipher_blocks.proofs.set_front.Goals as goal
 
 pub returns : goal.returns

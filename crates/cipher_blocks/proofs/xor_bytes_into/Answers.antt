@@ -1,5 +1,5 @@
 use Rattle.std.proofs.Common.{◌≡◌, ℕ, ◌∙◌, drop, ap, arith}
-use Rattle.crypto_specs.specs.Bytes.{xor_bytes}
+use Rattle.crypto_specs.specs.Prelude.{xor_bytes}
 use Rattle.cipher_blocks.proofs.xor_bytes_into.Goals as goal
 
 pub returns-then-piece-eq16 : goal.returns-then-piece-eq16

@@ -1,6 +1,6 @@
 use Rattle.std.proofs.Common.{◌≡◌, ◌≤◌, All, length}
 use Rattle.callers.specs.Ready.{IsReady}
-use Rattle.locked_store.specs.Shared.{world}
+use Rattle.locked_store.specs.Prelude.{world}
 use Rattle.library_example.proofs.make_all.Given as goal
 
 abbrev pub invariant-loop-caller : goal.invariant-loop-caller

@@ -1,8 +1,6 @@
 use Rattle.std.proofs.Common.{◌≡◌, ◌<◌, ◌-◌, ◌∙◌, length, take, drop, sym, ap, arith}
 use Rattle.std.proofs.lemmas.List.{take_all, length-drop}
-use Rattle.crypto_specs.specs.Aes.{aes_encrypt}
-use Rattle.crypto_specs.specs.Modes.{number_block}
-use Rattle.crypto_specs.specs.Ccm.{encoded_data}
+use Rattle.crypto_specs.specs.Prelude.{aes_encrypt, number_block, encoded_data}
 use Rattle.aead_ccm.specs.Chaining.{chained_from}
 use Rattle.aead_ccm.proofs.FilledBlocks.{filled_blocks-empty}
 use Rattle.aead_ccm.proofs.Formats.{no_data, data_is_some}

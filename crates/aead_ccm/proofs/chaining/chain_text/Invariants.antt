@@ -1,7 +1,5 @@
 use Rattle.std.proofs.Common.{◌≡◌, ◌*◌, drop}
-use Rattle.crypto_specs.specs.Aes.{aes_encrypt}
-use Rattle.crypto_specs.specs.Modes.{number_block}
-use Rattle.crypto_specs.specs.Ccm.{filled_blocks}
+use Rattle.crypto_specs.specs.Prelude.{aes_encrypt, number_block, filled_blocks}
 use Rattle.aead_ccm.specs.Chaining.{chained_from}
 use Rattle.aead_ccm.proofs.chaining.chain_text.Given as goal
 

@@ -1,8 +1,5 @@
 use Rattle.std.proofs.Common.{◌≡◌, ℕ, List, ◌+◌, ◌-◌, ◌*◌, ◌∙◌, ◌++◌, length, take, drop, refl, ap, sym, arith}
-use Rattle.crypto_specs.specs.Aes.{aes_encrypt}
-use Rattle.crypto_specs.specs.Bytes.{xor_bytes}
-use Rattle.crypto_specs.specs.Ccm.{filled_blocks}
-use Rattle.crypto_specs.specs.Modes.{block_count, number_block}
+use Rattle.crypto_specs.specs.Prelude.{aes_encrypt, xor_bytes, filled_blocks, block_count, number_block}
 use Rattle.crypto_specs.proofs.XorBytes.{next_block_xored, blocks_xored}
 use Rattle.aead_ccm.specs.Chaining.{chained_from, filled_block}
 use Rattle.aead_ccm.specs.Counting.{masks}

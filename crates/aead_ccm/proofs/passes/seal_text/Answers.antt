@@ -1,7 +1,5 @@
 use Rattle.std.proofs.Common.{ℕ, List, ◌+◌, ◌-◌, ◌*◌, ◌∙◌, ◌++◌, take, drop, refl, ap, sym, arith}
-use Rattle.crypto_specs.specs.Aes.{aes_encrypt}
-use Rattle.crypto_specs.specs.Bytes.{xor_bytes}
-use Rattle.crypto_specs.specs.Modes.{number_block}
+use Rattle.crypto_specs.specs.Prelude.{aes_encrypt, xor_bytes, number_block}
 use Rattle.crypto_specs.proofs.XorBytes.{next_block_xored, blocks_xored}
 use Rattle.aead_ccm.specs.Chaining.{filled_block}
 use Rattle.aead_ccm.specs.Counting.{masks}

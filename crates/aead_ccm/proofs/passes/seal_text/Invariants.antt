@@ -1,8 +1,5 @@
 use Rattle.std.proofs.Common.{◌≡◌, ◌++◌, ◌*◌, take, drop}
-use Rattle.crypto_specs.specs.Aes.{aes_encrypt}
-use Rattle.crypto_specs.specs.Bytes.{xor_bytes}
-use Rattle.crypto_specs.specs.Modes.{number_block}
-use Rattle.crypto_specs.specs.Ccm.{filled_blocks}
+use Rattle.crypto_specs.specs.Prelude.{aes_encrypt, xor_bytes, number_block, filled_blocks}
 use Rattle.aead_ccm.specs.Chaining.{chained_from}
 use Rattle.aead_ccm.specs.Counting.{masks}
 use Rattle.aead_ccm.proofs.passes.seal_text.Given as goal

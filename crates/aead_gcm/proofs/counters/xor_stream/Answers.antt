@@ -1,8 +1,5 @@
 use Rattle.std.proofs.Common.{ℕ, List, ◌+◌, ◌*◌, ◌∙◌, ◌++◌, take, drop, ap, refl, sym, arith}
-use Rattle.crypto_specs.specs.Aes.{aes_encrypt}
-use Rattle.crypto_specs.specs.Bytes.{xor_bytes}
-use Rattle.crypto_specs.specs.Modes.{number_block}
-use Rattle.crypto_specs.specs.Gcm.{gcm_stream}
+use Rattle.crypto_specs.specs.Prelude.{aes_encrypt, xor_bytes, number_block, gcm_stream}
 use Rattle.crypto_specs.proofs.XorBytes.{next_block_xored, blocks_xored}
 use Rattle.aead_gcm.proofs.CounterBlocks.{increased_by_0, increased_next, length-gcm_stream, gcm_stream_next}
 use Rattle.aead_gcm.proofs.counters.xor_stream.Goals as goal

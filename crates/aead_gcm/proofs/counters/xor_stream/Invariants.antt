@@ -1,7 +1,5 @@
 use Rattle.std.proofs.Common.{◌≡◌, ◌++◌, ◌*◌, take, drop}
-use Rattle.crypto_specs.specs.Bytes.{xor_bytes}
-use Rattle.crypto_specs.specs.Aes.{aes_encrypt}
-use Rattle.crypto_specs.specs.Gcm.{gcm_stream, increased}
+use Rattle.crypto_specs.specs.Prelude.{xor_bytes, aes_encrypt, gcm_stream, increased}
 use Rattle.aead_gcm.proofs.counters.xor_stream.Given as goal
 
 abbrev pub invariant-turns : goal.invariant-turns

@@ -1,6 +1,5 @@
 use Rattle.std.proofs.Common.{ℕ, ◌∙◌, ap, ap₂, bit_xor, arith}
-use Rattle.crypto_specs.specs.Ghash.{block_product}
-use Rattle.crypto_specs.specs.Gcm.{numbers_of}
+use Rattle.crypto_specs.specs.Prelude.{block_product, numbers_of}
 use Rattle.aead_gcm.proofs.GhashSteps.{block_taken, all_taken}
 use Rattle.aead_gcm.proofs.hashing.absorb.Goals as goal
 

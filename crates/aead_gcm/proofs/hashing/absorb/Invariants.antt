@@ -1,5 +1,5 @@
 use Rattle.std.proofs.Common.{◌≡◌, ◌*◌, ◌-◌, length, drop}
-use Rattle.crypto_specs.specs.Modes.{block_count}
+use Rattle.crypto_specs.specs.Prelude.{block_count}
 use Rattle.aead_gcm.proofs.GhashSteps.{rest_from}
 use Rattle.aead_gcm.proofs.hashing.absorb.Given as goal
 

@@ -1,6 +1,5 @@
 use Rattle.std.proofs.Common.{◌∙◌, ap}
-use Rattle.crypto_specs.specs.Modes.{number_block}
-use Rattle.crypto_specs.specs.Aes.{aes_encrypt}
+use Rattle.crypto_specs.specs.Prelude.{number_block, aes_encrypt}
 use Rattle.aes_core.proofs.AesKey.encrypt_block.Goals as goal
 
 pub returns : goal.returns

@@ -1,6 +1,6 @@
 use Rattle.std.proofs.Common.{ℕ, ◌≡◌, ◌/◌, ◌^◌, ◌∙◌, ap, arith}
 use Rattle.std.specs.Int.{byte_at}
-use Rattle.crypto_specs.specs.Sbox.{inv_sbox}
+use Rattle.crypto_specs.specs.Prelude.{inv_sbox}
 use Rattle.crypto_specs.proofs.CipherInverseBytes.{inv_sbox-byte}
 use Rattle.aes_core.specs.Words.{mixed_column}
 use Rattle.aes_core.specs.declared.tables.TheConstants.{INV_SBOX}

@@ -1,6 +1,6 @@
 use Rattle.std.proofs.Common.{ℕ, ◌≡◌, ◌/◌, ◌^◌, ◌∙◌, ap, arith}
 use Rattle.std.specs.Int.{byte_at}
-use Rattle.crypto_specs.specs.Sbox.{sbox}
+use Rattle.crypto_specs.specs.Prelude.{sbox}
 use Rattle.crypto_specs.proofs.CipherInverseBytes.{sbox-byte}
 use Rattle.aes_core.specs.Words.{mixed_column}
 use Rattle.aes_core.specs.declared.tables.TheConstants.{SBOX}

@@ -1,6 +1,5 @@
 use Rattle.std.proofs.Common.{◌≡◌, ◌-◌, ◌%◌, ◌≤◌}
-use Rattle.crypto_specs.specs.Modes.{number_block}
-use Rattle.crypto_specs.specs.Aes.{rounds}
+use Rattle.crypto_specs.specs.Prelude.{number_block, rounds}
 use Rattle.aes_core.specs.Words.{bytes_of}
 use Rattle.aes_core.proofs.rounds.cipher.Given as goal
 

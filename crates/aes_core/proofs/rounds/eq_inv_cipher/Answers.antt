@@ -1,7 +1,5 @@
 use Rattle.std.proofs.Common.{List, ℕ, ◌≡◌, ◌+◌, ◌-◌, ◌≤◌, ◌∙◌, refl, ap, ap₂, inl, arith}
-use Rattle.crypto_specs.specs.Modes.{number_block}
-use Rattle.crypto_specs.specs.Aes.{add_round_key}
-use Rattle.crypto_specs.specs.AesInverse.{inv_rounds, inv_sub_bytes, inv_shift_rows}
+use Rattle.crypto_specs.specs.Prelude.{number_block, add_round_key, inv_rounds, inv_sub_bytes, inv_shift_rows}
 use Rattle.aes_core.specs.Words.{bytes_of}
 use Rattle.aes_core.specs.KeyFields.{IsInvScheduleOf}
 use Rattle.aes_core.proofs.InvColumns.{outer_key, eq_inv_next}

@@ -1,6 +1,5 @@
 use Rattle.std.proofs.Common.{◌≡◌, ◌-◌, ◌%◌, ◌≤◌, ℕ, List}
-use Rattle.crypto_specs.specs.Modes.{number_block}
-use Rattle.crypto_specs.specs.AesInverse.{inv_rounds}
+use Rattle.crypto_specs.specs.Prelude.{number_block, inv_rounds}
 use Rattle.aes_core.specs.Words.{bytes_of}
 use Rattle.aes_core.specs.KeyFields.{IsInvScheduleOf}
 use Rattle.aes_core.proofs.rounds.eq_inv_cipher.Given as goal

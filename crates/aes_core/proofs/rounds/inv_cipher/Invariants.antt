@@ -1,5 +1,5 @@
 use Rattle.std.proofs.Common.{◌≡◌, ◌-◌, length}
-use Rattle.crypto_specs.specs.AesInverse.{inv_rounds}
+use Rattle.crypto_specs.specs.Prelude.{inv_rounds}
 use Rattle.aes_core.specs.Words.{bytes_of}
 use Rattle.aes_core.proofs.rounds.inv_cipher.Given as goal
 

@@ -2,8 +2,7 @@ use Rattle.std.proofs.Common.{◌∙◌, ◌++◌, ◌∷◌, [], ◌≡◌, map
 use Rattle.std.specs.Option.{option_to_list}
 use Rattle.caller_service.specs.Closing.{backwards}
 use Rattle.std.proofs.lemmas.List.{map-append}
-use Rattle.turn_history.specs.Passes.{IsIdle}
-use Rattle.turn_history.specs.Views.{account_of}
+use Rattle.turn_history.specs.Prelude.{IsIdle, account_of}
 use Rattle.callers.specs.Retired.{IsRetired}
 use Rattle.caller_service.proofs.Lists.{all_mid}
 use Rattle.caller_service.proofs.closing.hand_in.Goals as goal

@@ -1,7 +1,7 @@
 use Rattle.std.proofs.Common.{◌≡◌, ◌+◌, ◌++◌, List, length, map}
 use Rattle.std.specs.Prelude.{vec_len}
 use Rattle.caller_service.specs.Closing.{backwards}
-use Rattle.turn_history.specs.Views.{account_of}
+use Rattle.turn_history.specs.Prelude.{account_of}
 use Rattle.callers.specs.declared.caller.Caller.{Caller}
 use Rattle.caller_service.proofs.closing.hand_in.Given as goal
 

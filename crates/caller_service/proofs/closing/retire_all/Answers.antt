@@ -1,6 +1,6 @@
 use Rattle.std.proofs.Common.{◌∙◌, ◌<◌, ap, sym, subst, arith, get_or, length}
 use Rattle.callers.specs.Ready.{IsReady}
-use Rattle.locked_store.specs.Shared.{world}
+use Rattle.locked_store.specs.Prelude.{world}
 use Rattle.callers.specs.Retired.{MakesNoCall}
 use Rattle.caller_service.proofs.Ended.{one_retired}
 use Rattle.caller_service.proofs.Lists.{get_same}

@@ -1,6 +1,6 @@
 use Rattle.std.proofs.Common.{◌∙◌, ◌++◌, ◌∷◌, [], ◌≡◌, length, ap, arith, length-append}
 use Rattle.std.specs.Option.{option_to_list}
-use Rattle.store_model.specs.Operations.{Inactive}
+use Rattle.store_model.specs.Prelude.{Inactive}
 use Rattle.operation_handles.specs.Cells.{IsOperation}
 use Rattle.operation_handles.specs.States.{AreInactive}
 use Rattle.std.specs.Prelude.{None}

@@ -1,7 +1,7 @@
 use Rattle.std.proofs.Common.{◌∙◌, ◌++◌, ◌∷◌, [], length, sym, ap, arith, length-append, append_assoc}
 use Rattle.std.specs.Option.{option_to_list}
 use Rattle.std.proofs.Common.{get_or}
-use Rattle.locked_store.specs.Shared.{world}
+use Rattle.locked_store.specs.Prelude.{world}
 use Rattle.caller_service.specs.Rooms.{IsRoom}
 use Rattle.caller_service.proofs.Lists.{all_front, get_mid}
 use Rattle.caller_service.proofs.Ended.{new_each}
@@ -10,7 +10,7 @@ use Rattle.caller_service.proofs.service.seat.Goals as goal
 pub loop-pass-preserved : goal.loop-pass-preserved
 loop-pass-preserved g c =
     let i = c.loop-pass.invariant in
-    let parts = c.pop.ensures.items ∙ ap (λ o. c.pop.new.self.items ++ option_to_list o) c.in-Some-pop.is in
+    let parts = c.pop.ensures.items ∙ ap (λ o. c.pop.new.self.items ++ option_to_list o) c.unwrap-spares.ensures in
     let yielded = length-append c.loop-pass.yielded (c.in-Some.pass ∷ []) in
     let pushed = c.push_reserved.ensures.items in
     let passes = i.passes ∙ ap (λ l. c.loop-pass.yielded ++ l) c.in-Some.ensures.steps.0 in
@@ -19,8 +19,8 @@ loop-pass-preserved g c =
     let there = (c.requires.passes.each at c.in-Some.pass (let a = ap length passes in let b = length-append c.loop-pass.yielded (c.in-Some.pass ∷ c.next.new.self.rest.items) in omega arith)).1 in
     let fresh = ap (λ p. p.me) (sym (ap (λ l. get_or l at c.in-Some.pass) passes ∙ get_mid c.loop-pass.yielded c.next.new.self.rest.items c.in-Some.pass c.in-Some.pass)) ∙ there in
     record {
-      rooms = let a = i.rooms in let b = ap length parts in let d = length-append c.pop.new.self.items (c.in-Some-pop.field-0 ∷ []) in let e = yielded in omega arith;
-      are = all_front IsRoom c.pop.new.self.items (c.in-Some-pop.field-0 ∷ []) c.loop-pass.rooms.items parts i.are;
+      rooms = let a = i.rooms in let b = ap length parts in let d = length-append c.pop.new.self.items (c.unwrap-spares.result ∷ []) in let e = yielded in omega arith;
+      are = all_front IsRoom c.pop.new.self.items (c.unwrap-spares.result ∷ []) c.loop-pass.rooms.items parts i.are;
       number = let a = i.number in let e = yielded in omega arith;
       passes = passes ∙ sym (append_assoc c.loop-pass.yielded (c.in-Some.pass ∷ []) c.next.new.self.rest.items);
       callers = let a = i.callers in let b = ap length pushed in let d = length-append c.loop-pass.callers.items (c.new.result ∷ []) in let e = yielded in omega arith;

@@ -1,7 +1,5 @@
 use Rattle.std.proofs.Common.{◌∙◌, List, ℕ, ◌∷◌, length, sym, ap, refl, arith}
-use Rattle.crypto_specs.specs.Bytes.{xor_bytes}
-use Rattle.crypto_specs.specs.AesInverse.{aes_decrypt}
-use Rattle.crypto_specs.specs.Modes.{cbc_plain_blocks, number_block, cbc_decrypt}
+use Rattle.crypto_specs.specs.Prelude.{xor_bytes, aes_decrypt, cbc_plain_blocks, number_block, cbc_decrypt}
 use Rattle.crypto_specs.proofs.Blocks.{length-number_block}
 use Rattle.cipher_blocks.proofs.BlockNumbers.{block_of_xor}
 use Rattle.cipher_modes.proofs.Chaining.{cbc_plain_block}

@@ -1,7 +1,5 @@
 use Rattle.std.proofs.Common.{◌∙◌, List, ℕ, ◌∷◌, length, sym, ap, refl, arith}
-use Rattle.crypto_specs.specs.Bytes.{xor_bytes}
-use Rattle.crypto_specs.specs.Aes.{aes_encrypt}
-use Rattle.crypto_specs.specs.Modes.{cbc_blocks, number_block, cbc_encrypt}
+use Rattle.crypto_specs.specs.Prelude.{xor_bytes, aes_encrypt, cbc_blocks, number_block, cbc_encrypt}
 use Rattle.crypto_specs.proofs.Blocks.{length-number_block}
 use Rattle.cipher_blocks.proofs.BlockNumbers.{block_of_xor}
 use Rattle.cipher_modes.proofs.Chaining.{cbc_block}

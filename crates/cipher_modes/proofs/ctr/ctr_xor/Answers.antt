@@ -1,7 +1,5 @@
 use Rattle.std.proofs.Common.{◌∙◌, List, ℕ, ◌++◌, ◌*◌, ◌+◌, take, drop, refl, sym, ap, arith}
-use Rattle.crypto_specs.specs.Bytes.{xor_bytes}
-use Rattle.crypto_specs.specs.Aes.{aes_encrypt}
-use Rattle.crypto_specs.specs.Modes.{key_stream, block_number, number_block, ctr_xor}
+use Rattle.crypto_specs.specs.Prelude.{xor_bytes, aes_encrypt, key_stream, block_number, number_block, ctr_xor}
 use Rattle.crypto_specs.proofs.KeyStream.{length-key_stream}
 use Rattle.crypto_specs.proofs.XorBytes.{next_block_xored, blocks_xored}
 use Rattle.crypto_specs.proofs.Blocks.{length-aes_encrypt}

@@ -1,7 +1,5 @@
 use Rattle.std.proofs.Common.{◌≡◌, ◌++◌, ◌+◌, ◌*◌, ◌%◌, ◌^◌, take, drop}
-use Rattle.crypto_specs.specs.Bytes.{xor_bytes}
-use Rattle.crypto_specs.specs.Aes.{aes_encrypt}
-use Rattle.crypto_specs.specs.Modes.{key_stream, block_number}
+use Rattle.crypto_specs.specs.Prelude.{xor_bytes, aes_encrypt, key_stream, block_number}
 use Rattle.cipher_modes.proofs.ctr.ctr_xor.Given as goal
 
 abbrev pub invariant-turns : goal.invariant-turns

@@ -1,6 +1,5 @@
 use Rattle.std.proofs.Common.{◌∙◌, List, ℕ, ◌∷◌, map, length, sym, ap, refl, arith}
-use Rattle.crypto_specs.specs.AesInverse.{aes_decrypt}
-use Rattle.crypto_specs.specs.Modes.{ecb_blocks, ecb_decrypt}
+use Rattle.crypto_specs.specs.Prelude.{aes_decrypt, ecb_blocks, ecb_decrypt}
 use Rattle.crypto_specs.proofs.Blocks.{length-number_block}
 use Rattle.cipher_modes.proofs.InPlace.{block_done, all_done, none_done}
 use Rattle.cipher_modes.proofs.ecb.ecb_decrypt.Goals as goal

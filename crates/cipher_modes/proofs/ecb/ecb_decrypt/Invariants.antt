@@ -1,6 +1,5 @@
 use Rattle.std.proofs.Common.{◌≡◌}
-use Rattle.crypto_specs.specs.AesInverse.{aes_decrypt}
-use Rattle.crypto_specs.specs.Modes.{ecb_blocks, ecb_decrypt}
+use Rattle.crypto_specs.specs.Prelude.{aes_decrypt, ecb_blocks, ecb_decrypt}
 use Rattle.cipher_modes.proofs.InPlace.{mode_from}
 use Rattle.cipher_modes.proofs.ecb.ecb_decrypt.Given as goal
 

@@ -1,6 +1,5 @@
 use Rattle.std.proofs.Common.{◌∙◌, List, ℕ, ◌∷◌, map, length, sym, ap, refl, arith}
-use Rattle.crypto_specs.specs.Aes.{aes_encrypt}
-use Rattle.crypto_specs.specs.Modes.{ecb_blocks, ecb_encrypt}
+use Rattle.crypto_specs.specs.Prelude.{aes_encrypt, ecb_blocks, ecb_encrypt}
 use Rattle.crypto_specs.proofs.Blocks.{length-number_block}
 use Rattle.cipher_modes.proofs.InPlace.{block_done, all_done, none_done}
 use Rattle.cipher_modes.proofs.ecb.ecb_encrypt.Goals as goal

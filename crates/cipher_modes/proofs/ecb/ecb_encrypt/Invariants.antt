@@ -1,6 +1,5 @@
 use Rattle.std.proofs.Common.{◌≡◌}
-use Rattle.crypto_specs.specs.Aes.{aes_encrypt}
-use Rattle.crypto_specs.specs.Modes.{ecb_blocks, ecb_encrypt}
+use Rattle.crypto_specs.specs.Prelude.{aes_encrypt, ecb_blocks, ecb_encrypt}
 use Rattle.cipher_modes.proofs.InPlace.{mode_from}
 use Rattle.cipher_modes.proofs.ecb.ecb_encrypt.Given as goal
 

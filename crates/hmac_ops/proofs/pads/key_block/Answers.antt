@@ -1,5 +1,5 @@
 use Rattle.std.proofs.Common.{◌≤◌, ◌∙◌, length, take, ap, refl, arith}
-use Rattle.crypto_specs.specs.Hmac.{filled}
+use Rattle.crypto_specs.specs.Prelude.{filled}
 use Rattle.hash_ops.specs.Hashes.{block_length, hash_of}
 use Rattle.hash_ops.proofs.Digests.{length-hash_of, length_bounds}
 use Rattle.hmac_ops.proofs.Padding.{key_block_short, key_block_long}

@@ -1,5 +1,5 @@
 use Rattle.std.proofs.Common.{◌≡◌, ◌-◌, length, take, drop, replicate}
-use Rattle.crypto_specs.specs.Pbkdf2.{pbkdf2_block}
+use Rattle.crypto_specs.specs.Prelude.{pbkdf2_block}
 use Rattle.hash_ops.specs.Hashes.{block_length, hash_of}
 use Rattle.kdf_core.proofs.Turns.{summed}
 use Rattle.kdf_core.proofs.pbkdf2.pbkdf2_block.Given as goal

@@ -1,6 +1,6 @@
 use Rattle.std.proofs.Common.{◌∙◌, drop, ap, arith}
 use Rattle.std.proofs.lemmas.List.{take_at, drop_at}
-use Rattle.crypto_specs.specs.Hmac.{hmac}
+use Rattle.crypto_specs.specs.Prelude.{hmac}
 use Rattle.hash_ops.specs.Hashes.{hash_of}
 use Rattle.hash_ops.specs.declared.Hash.TheVariants.{Sha256}
 use Rattle.kdf_core.proofs.pbkdf2.short_turn.Goals as goal
@@ -9,7 +9,7 @@ pub returns-clause-code : goal.returns-clause-code
 returns-clause-code c = λ k held.
     take_at c.copy_from_slice.new.self (drop 32 c.args.turn.now) 32 (omega arith)
     ∙ c.copy_from_slice.ensures.after ∙ c.code-code.ensures k held
-    ∙ ap (hmac (hash_of Sha256) 64 k) c.in-Some.ensures.cases.same
+    ∙ ap (hmac (hash_of Sha256) 64 k) (rw c.unwrap.ensures at c.first_chunk.ensures.cases).same
 
 pub returns-clause-rest : goal.returns-clause-rest
 returns-clause-rest c = drop_at c.copy_from_slice.new.self (drop 32 c.args.turn.now) 32 (omega arith)

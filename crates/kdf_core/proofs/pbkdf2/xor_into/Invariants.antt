@@ -1,5 +1,5 @@
 use Rattle.std.proofs.Common.{◌≡◌, ◌++◌, take, drop}
-use Rattle.crypto_specs.specs.Bytes.{xor_bytes}
+use Rattle.crypto_specs.specs.Prelude.{xor_bytes}
 use Rattle.kdf_core.proofs.pbkdf2.xor_into.Given as goal
 
 abbrev pub invariant-bytes : goal.invariant-bytes

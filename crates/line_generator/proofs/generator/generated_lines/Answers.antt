@@ -2,7 +2,7 @@ use Rattle.std.proofs.Common.{rules, ◌≡◌, ℕ, ◌++◌, ◌∷◌, [], sy
 use Rattle.std.specs.Prelude.{All}
 use Rattle.std.proofs.lemmas.List.FromFn.{length-map-range_with_len}
 use Rattle.std.proofs.lemmas.List.Elements.{All-push}
-use Rattle.script_lang.specs.Lines.{IsOfSession}
+use Rattle.script_lang.specs.Prelude.{IsOfSession}
 use Rattle.line_generator.specs.Generator.{generator_line}
 use Rattle.line_generator.proofs.Ranges.{mapped_more}
 use Rattle.line_generator.proofs.generator.generated_lines.Goals as goal

@@ -1,6 +1,6 @@
 use Rattle.std.proofs.Common.{◌≡◌}
 use Rattle.std.specs.Prelude.{All}
-use Rattle.script_lang.specs.Lines.{IsOfSession}
+use Rattle.script_lang.specs.Prelude.{IsOfSession}
 use Rattle.line_generator.specs.Generator.{generator_lines}
 use Rattle.line_generator.proofs.generator.generated_lines.Given as goal
 

@@ -3,7 +3,7 @@ use Rattle.std.specs.Prelude.{codes, count_by, not}
 use Rattle.std.proofs.lemmas.List.Sums.{sum_by-cons}
 use Rattle.hex.specs.Hex.{encode_lower}
 use Rattle.sha2.specs.Sha256.{sha256}
-use Rattle.script_lang.specs.Replies.{ReplyLine, is_success}
+use Rattle.script_lang.specs.Prelude.{ReplyLine, is_success}
 use Rattle.line_generator.specs.Summary.{count_line, summary_of}
 use Rattle.line_generator.proofs.Pieces.{onto}
 use Rattle.line_generator.proofs.summary.push_summary.Goals as goal

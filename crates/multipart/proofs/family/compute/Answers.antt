@@ -1,5 +1,5 @@
 use Rattle.std.proofs.Common.{◌≡◌, length, sym, subst}
-use Rattle.store_model.specs.Call.{buffer_after}
+use Rattle.store_model.specs.Prelude.{buffer_after}
 use Rattle.service_calls.specs.Answered.{AnswersReply}
 use Rattle.multipart.specs.Turns.{by_key}
 use Rattle.multipart.proofs.family.compute.Goals as goal

@@ -1,8 +1,6 @@
 use Rattle.std.proofs.Common.{◌≡◌, ℕ, ◌+◌, zero, suc, List, [], ◌∷◌, refl, subst, arith}
 use Rattle.std.specs.Prelude.{Option, IfSome, option_map, slice_get}
-use Rattle.store_model.specs.Call.{Reply}
-use Rattle.store_model.specs.Handles.{Service}
-use Rattle.store_model.specs.Replay.{Entry, outcome_of, reply_at}
+use Rattle.store_model.specs.Prelude.{Reply, Service, Entry, outcome_of, reply_at}
 use Rattle.script_lang.specs.PrintedOrder.{Turn, turns_from}
 use Rattle.script_lang.proofs.laws.turns_are_replayed.Goals as goal
 

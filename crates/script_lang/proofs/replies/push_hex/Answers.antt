@@ -12,7 +12,7 @@ pub loop-rest-preserved : goal.loop-rest-preserved
 loop-rest-preserved c =
     let out = c.loop-rest.out.items in let piece = c.split_at.result.0.now in let more = c.split_at.result.1.now in
     let whole : piece ++ more ≡ c.loop-rest.rest.now = ap₂ (λ a b. a ++ b) c.split_at.ensures.front c.split_at.ensures.back ∙ take-append-drop c.min.result c.loop-rest.rest.now in
-    let written : c.extend_from_slice.new.self.items ≡ out ++ encode_lower piece = c.in_ok-extend_from_slice.ensures.items ∙ ap (λ t. out ++ t) (c.in-Ok.ensures.written) in
+    let written : c.extend_from_slice.new.self.items ≡ out ++ encode_lower piece = c.in_ok-extend_from_slice.ensures.items ∙ ap (λ t. out ++ t) (rw c.unwrap.ensures at c.encode_to_slice.ensures.written) in
     ap (λ t. t ++ encode_lower more) written
     ∙ (append_assoc out (encode_lower piece) (encode_lower more)
     ∙ (ap (λ t. out ++ t) (sym (encode_joined piece more) ∙ ap encode_lower whole)

@@ -1,7 +1,6 @@
 use Rattle.std.proofs.Common.{◌≡◌, ◌-◌, ◌*◌, take, drop, subst, ◌∙◌, arith, rules}
-use Rattle.crypto_specs.specs.Aes.{aes_encrypt}
+use Rattle.crypto_specs.specs.Prelude.{aes_encrypt, block_number, ctr_xor, number_block}
 use Rattle.driver_dispatch.specs.Calls.{HoldsHandle}
-use Rattle.crypto_specs.specs.Modes.{block_number, ctr_xor, number_block}
 use Rattle.secure_element_calls.proofs.Holding.{holds_as, holds_both}
 use Rattle.secure_element_calls.proofs.Counting.{rose_again}
 use Rattle.secure_element_calls.proofs.Streams.{all_done, next_piece, none_done}

@@ -1,6 +1,6 @@
 use Rattle.std.proofs.Common.{◌≡◌, ◌+◌, ◌*◌, ◌<◌, ◌≤◌, ◌%◌, ◌^◌}
 use Rattle.psa_status.specs.Causes.{Rose}
-use Rattle.crypto_specs.specs.Modes.{block_number}
+use Rattle.crypto_specs.specs.Prelude.{block_number}
 use Rattle.driver_dispatch.specs.Calls.{HoldsHandle}
 use Rattle.secure_element_calls.proofs.Streams.{done_to}
 use Rattle.secure_element_calls.proofs.counters.xor_text.Given as goal

@@ -1,8 +1,7 @@
-use Rattle.std.proofs.Common.{◌≡◌, [], ap, sym, subst}
-use Rattle.std.specs.Prelude.{IfOk}
+use Rattle.std.proofs.Common.{◌≡◌, [], ap, sym, subst, IfOk}
 use Rattle.callers.specs.Failures.{failure_in}
 use Rattle.session_host.specs.Replying.{Answer, Answers, Fills, Notes, Tells}
-use Rattle.store_model.specs.Call.{Reply}
+use Rattle.store_model.specs.Prelude.{Reply}
 use Rattle.session_host.proofs.Noted.{noted, of_refusal}
 use Rattle.session_host.proofs.answers.note.Goals as goal
 

@@ -1,5 +1,4 @@
-use Rattle.std.proofs.Common.{◌∙◌, subst}
-use Rattle.std.specs.Prelude.{IfOk}
+use Rattle.std.proofs.Common.{◌∙◌, subst, IfOk}
 use Rattle.psa_status.specs.declared.Status.TheVariants.{Success}
 use Rattle.session_host.specs.Replying.{Notes}
 use Rattle.session_host.proofs.answers.note_attributes.Goals as goal

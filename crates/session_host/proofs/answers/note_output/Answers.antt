@@ -1,8 +1,7 @@
-use Rattle.std.proofs.Common.{[], ap, refl, subst, length, min, take}
-use Rattle.std.specs.Prelude.{IfOk, Ok}
+use Rattle.std.proofs.Common.{[], ap, refl, subst, length, min, take, IfOk, Ok}
 use Rattle.std.specs.Int.{w32, w64, to_be_bytes}
 use Rattle.psa_status.specs.declared.Status.TheVariants.{Success}
-use Rattle.store_model.specs.Call.{attribute_bytes}
+use Rattle.store_model.specs.Prelude.{attribute_bytes}
 use Rattle.session_host.specs.Replying.{Fills, Notes}
 use Rattle.session_host.proofs.Noted.{noted, of_bytes, of_description, of_done, of_identifier, of_number}
 use Rattle.session_host.proofs.answers.note_output.Goals as goal

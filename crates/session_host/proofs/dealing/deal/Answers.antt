@@ -1,8 +1,8 @@
-use Rattle.std.proofs.Common.{◌≡◌, ◌<◌, ◌-◌, ◌+◌, ℕ, length, take, set, get_or, refl, sym, ap, ap₂, ◌∙◌, subst, arith, length-take, length-set}
-use Rattle.std.specs.Prelude.{◌%◌}
+use Rattle.std.proofs.Common.{◌≡◌, ◌<◌, ◌-◌, ◌+◌, ◌++◌, ℕ, length, take, set, get_or, refl, sym, ap, ap₂, ◌∙◌, subst, arith, length-take, length-set, ◌%◌}
+use Rattle.std.specs.Option.{option_to_list}
 use Rattle.std.proofs.lemmas.List.{get_or_default}
 use Rattle.std.proofs.lemmas.Nat.{mod_below}
-use Rattle.locked_store.specs.Shared.{world}
+use Rattle.locked_store.specs.Prelude.{world}
 use Rattle.caller_service.specs.Staff.{IsNewCaller}
 use Rattle.session_host.specs.declared.worker.Worker.{Worker}
 use Rattle.session_host.specs.Workers.{HasSeated, numbers_of}
@@ -22,11 +22,11 @@ pub loop-preserved : goal.loop-preserved
 loop-preserved g c =
     let w = world c.args.service.now.shared in
     let v = c.loop.invariant in let j = c.loop.counter in let workers = c.loop.workers in let staff = c.args.callers.now.items in let x = c.index-workers-number.result in
-    let caller = c.in-Some.caller in
+    let caller = c.unwrap-caller.result in
     let number : c.len-number.result ≡ 16 - j = (let a = c.len-number.ensures in let b = ap length v.callers in let e = length-take (16 - j) staff in let f = c.requires.staff.sixteen in omega arith) in
     let before : 16 - j ≡ 15 - j + 1 = (let a = c.loop-test.true in omega arith) in
     let parts = last_of staff c.pop.new.self.items (15 - j) caller (let f = c.requires.staff.sixteen in omega arith)
-    (ap (λ k. take k staff) (sym before) ∙ (sym v.callers ∙ c.in-Some.ensures.items)) in
+    (ap (λ k. take k staff) (sym before) ∙ (sym v.callers ∙ (c.pop.ensures.items ∙ ap (λ o. c.pop.new.self.items ++ option_to_list o) c.unwrap-caller.ensures))) in
     let r : ℕ = c.len-number.result % length c.args.workers.now in
     let same : (16 - j) % length workers ≡ r = ap₂ (λ a b. a % b) (sym number) v.count in
     let there : r < length workers = (let a = mod_below c.len-number.result (length c.args.workers.now) c.requires.some in let b = v.count in omega arith) in

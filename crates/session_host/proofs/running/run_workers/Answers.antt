@@ -4,7 +4,7 @@ use denote.Param.Send.{arg_send, arg_sync, param_send, param_sync, sendable}
 use Rattle.std.proofs.Common.{get_or, subst}
 use Rattle.std.proofs.Crossing.{crosses}
 use Rattle.std.proofs.Crossing as heap
-use Rattle.locked_store.specs.Shared.{world}
+use Rattle.locked_store.specs.Prelude.{world}
 use Rattle.caller_service.specs.contracts.service.Service as Service
 use Rattle.script_lang.specs.contracts.script.ScriptLine as ScriptLine
 use Rattle.session_host.specs.Workers.{HasWorked}

@@ -2,9 +2,10 @@ use Rattle.std.proofs.Common.{◌-◌, length, take, drop, ap, sym, ◌∙◌}
 use Rattle.std.proofs.lemmas.Result.{err_from_is_err_and}
 use Rattle.psa_status.proofs.Rows.{unless-err}
 use Rattle.psa_status.specs.Rows.{first_row}
-use Rattle.store_model.specs.Ciphers.{iv_length, deciphered, plain_or_zeros, decrypt_rows}
+use Rattle.store_model.specs.Prelude.{iv_length, deciphered, plain_or_zeros, decrypt_rows}
 use Rattle.key_policy.specs.Modes.{model_mode}
-use Rattle.single_part.proofs.Ciphering.{refused_or_spoilt, decrypted_buffer}
+use Rattle.single_part.proofs.Ciphering.{refused_or_spoilt, decrypted_answer, decrypted_buffer}
+use Rattle.single_part.proofs.Replies.{refused_buffer}
 use Rattle.single_part.proofs.ciphers.decrypt.Goals as goal
 
 pub returns-in_err-needed-clause-reply : goal.returns-in_err-needed-clause-reply
@@ -22,3 +23,14 @@ returns-clause-buffer c =
     c.in_ok-needed.ensures.value c.in_ok-needed.ensures.room
     (c.split_at.ensures.front ∙ ap (λ n. take n c.args.input.now) c.iv_length.ensures.value)
     (c.split_at.ensures.back ∙ ap (λ n. drop n c.args.input.now) c.iv_length.ensures.value) c.aes_key-aes.ensures c.decipher-answer.ensures.buffer
+
+pub returns-in_err-needed-clause-buffer : goal.returns-in_err-needed-clause-buffer
+returns-in_err-needed-clause-buffer c = refused_buffer c.args.out.now _ _ c.in_err-needed.field-0.0 (unless-err _ _ _ (sym c.in_err-needed.ensures.value))
+
+pub returns-clause-reply : goal.returns-clause-reply
+returns-clause-reply c =
+    let mode = model_mode c.args.mode in
+    decrypted_answer mode c.args.key.now c.aes_key-aes.result c.args.input.now c.split_at.result.0.now c.split_at.result.1.now (length c.args.out.now) c.in_ok-needed.needed c.decipher-answer.result
+    c.in_ok-needed.ensures.value
+    (c.split_at.ensures.front ∙ ap (λ n. take n c.args.input.now) c.iv_length.ensures.value)
+    (c.split_at.ensures.back ∙ ap (λ n. drop n c.args.input.now) c.iv_length.ensures.value) c.aes_key-aes.ensures c.decipher-answer.ensures.reply

@@ -1,15 +1,15 @@
 use Rattle.std.proofs.Common.{◌≡◌, ◌≤◌, ◌++◌, refl, ap, sym, ◌∙◌, length, take, subst, arith}
-use Rattle.std.specs.Prelude.{None, Ok}
+use Rattle.std.specs.Prelude.{Some, None, Ok}
 use Rattle.std.proofs.lemmas.List.{length-take}
+use Rattle.std.proofs.lemmas.Result.{err_from_is_err_and}
 use Rattle.psa_status.specs.Rows.{first_row}
-use Rattle.psa_status.proofs.Rows.{unless-ok}
-use Rattle.random_streams.specs.RandomWords.{next_bytes}
-use Rattle.store_model.specs.Call.{buffer_after}
-use Rattle.store_model.specs.Outcome.{Computed, computed_unless, given}
-use Rattle.store_model.specs.Ciphers.{iv_length, encrypt_rows, enciphered, encrypted}
+use Rattle.psa_status.proofs.Rows.{unless-ok, unless-err}
+use Rattle.random_streams.specs.RandomWords.{drawn_from, next_bytes}
+use Rattle.store_model.specs.Prelude.{buffer_after, Computed, computed_unless, given, iv_length, encrypt_rows, enciphered, encrypted}
 use Rattle.service_calls.specs.Answers.{AnswersLength}
 use Rattle.key_policy.specs.Modes.{model_mode}
 use Rattle.single_part.proofs.Ciphering.{vector_fits, sealed_is, sealed_buffer, part_length}
+use Rattle.single_part.proofs.Replies.{refused_answer, kept_buffer, kept_stream}
 use Rattle.single_part.proofs.ciphers.encrypt.Goals as goal
 
 -- no row refuses the call
@@ -60,3 +60,24 @@ returns-clause-buffer c =
     sealed_buffer c.args.out.now c.fill.new.out c.encipher_behind.new.out _ c.iv_length.result c.in_ok-needed.needed (fits c).0 (drawn_size c) (sealed c) (ap length (sym (sealed c)) ∙ sealed_size c)
     ∙ ap (λ o. buffer_after c.args.out.now (computed_unless o (text c)).reply) (sym (passed c))
     ∙ ap (λ iv. buffer_after c.args.out.now (encrypted (model_mode c.args.mode) iv c.args.key.now c.args.input.now (length c.args.out.now)).reply) (vector c)
+
+pub returns-clause-stream : goal.returns-clause-stream
+returns-clause-stream c =
+    c.fill.ensures.place ∙ ap (drawn_from c.args.stream.now) (vector_size c)
+    ∙ ap (λ o. drawn_from c.args.stream.now (computed_unless o (text c)).drawn) (sym (passed c))
+    ∙ ap (λ iv. drawn_from c.args.stream.now (encrypted (model_mode c.args.mode) iv c.args.key.now c.args.input.now (length c.args.out.now)).drawn) (vector c)
+
+-- a refusal of the table
+refused : (c : goal.After-from_residual) → first_row (encrypt_rows (model_mode c.args.mode) (length c.args.input.now) (length c.args.out.now)) ≡ Some c.in_err-needed.field-0.0
+refused c = unless-err _ _ _ (sym c.in_err-needed.ensures.value)
+
+pub returns-in_err-needed-clause-reply : goal.returns-in_err-needed-clause-reply
+returns-in_err-needed-clause-reply c =
+    let p = err_from_is_err_and c.from_residual.result c.from_residual.ensures.1 in
+    refused_answer c.from_residual.result _ _ p.0 c.in_err-needed.field-0.0 p.1 p.2 (refused c)
+
+pub returns-in_err-needed-clause-buffer : goal.returns-in_err-needed-clause-buffer
+returns-in_err-needed-clause-buffer c = kept_buffer c.args.out.now _ _ _ (refused c)
+
+pub returns-in_err-needed-clause-stream : goal.returns-in_err-needed-clause-stream
+returns-in_err-needed-clause-stream c = kept_stream c.args.stream.now _ _ _ (refused c)

@@ -1,6 +1,6 @@
 use Rattle.key_policy.specs.Uses.{use_refusal}
 use Rattle.key_policy.specs.declared.key_use.KeyUse.TheVariants as wanted
-use Rattle.store_core.specs.Uses.{IsLent}
+use Rattle.store_core.specs.Prelude.{IsLent}
 use Rattle.store_trials.proofs.Keepings.{lends, lends_not}
 use Rattle.store_trials.proofs.turns.look.Goals as goal
 

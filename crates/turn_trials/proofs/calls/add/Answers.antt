@@ -1,6 +1,5 @@
 use Rattle.std.proofs.Common.{◌∙◌, ap, sym, subst, ◌++◌, ◌∷◌, []}
-use Rattle.turn_history.specs.History.{entries_of}
-use Rattle.turn_history.specs.Holdings.{own_of}
+use Rattle.turn_history.specs.Prelude.{entries_of, own_of}
 use Rattle.turn_history.proofs.Using.{keeps_own}
 use Rattle.turn_trials.specs.declared.tally.Tally.{Tally}
 use Rattle.turn_trials.specs.Tallying.{IsTallyOf, addition, sum_after}

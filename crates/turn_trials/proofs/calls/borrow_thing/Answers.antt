@@ -1,6 +1,5 @@
 use Rattle.std.proofs.Common.{◌≡◌, ◌∙◌, Bool, true, false, cond, [], ap, refl, sym, subst, arith}
-use Rattle.turn_history.specs.History.{entries_of}
-use Rattle.turn_history.specs.Holdings.{own_of, with_own}
+use Rattle.turn_history.specs.Prelude.{entries_of, own_of, with_own}
 use Rattle.turn_history.proofs.Using.{keeps_own}
 use Rattle.turn_trials.specs.declared.tally.Tally.{Tally}
 use Rattle.turn_trials.specs.Tallying.{IsTallyOf}

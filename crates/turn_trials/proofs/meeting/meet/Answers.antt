@@ -1,6 +1,5 @@
 use Rattle.std.proofs.Common.{ap, length, arith}
-use Rattle.turn_history.specs.History.{entries_of}
-use Rattle.turn_history.specs.Views.{longer}
+use Rattle.turn_history.specs.Prelude.{entries_of, longer}
 use Rattle.turn_history.proofs.Using.{apart, longer_left, longer_right, no_fewer_calls}
 use Rattle.turn_trials.specs.Tallying.{signer}
 use Rattle.turn_trials.proofs.meeting.meet.Goals as goal

@@ -1,5 +1,5 @@
 use Rattle.std.proofs.Common.{◌∙◌, ap, sym, subst, All, length, [], ◌∷◌, ◌++◌, arith}
-use Rattle.turn_history.specs.Passes.{AreNew, weight_of}
+use Rattle.turn_history.specs.Prelude.{AreNew, weight_of}
 use Rattle.turn_trials.specs.Running.{IsReady, HasRun}
 use Rattle.turn_trials.proofs.Runners.{kept}
 use Rattle.turn_trials.proofs.running.run.Goals as goal

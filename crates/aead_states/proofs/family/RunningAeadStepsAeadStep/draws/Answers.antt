@@ -1,5 +1,5 @@
 use Rattle.std.proofs.Common.{◌≡◌, sym, subst}
-use Rattle.store_model.specs.AeadOperations.{aead_step}
+use Rattle.store_model.specs.Prelude.{aead_step}
 use Rattle.service_calls.specs.Meanings.{model_aead_step}
 use Rattle.aead_states.proofs.family.RunningAeadStepsAeadStep.draws.Goals as goal
 

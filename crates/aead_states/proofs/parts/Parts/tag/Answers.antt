@@ -1,10 +1,7 @@
 use Rattle.std.proofs.Common.{◌≡◌, ◌∙◌, ℕ, true, false, length, sym, subst, refl, arith}
-use Rattle.crypto_specs.specs.Aes.{aes_encrypt}
-use Rattle.crypto_specs.specs.Ccm.{ccm_text}
-use Rattle.crypto_specs.specs.Gcm.{gcm_text}
+use Rattle.crypto_specs.specs.Prelude.{aes_encrypt, ccm_text, gcm_text}
 use Rattle.aead_streams.specs.CcmStates.{HoldsCcmText}
-use Rattle.store_model.specs.Aeads.{aead_text, is_ccm}
-use Rattle.store_model.specs.Algorithms.{tag_bytes}
+use Rattle.store_model.specs.Prelude.{aead_text, is_ccm, tag_bytes}
 use Rattle.aead_states.specs.Directions.{cipher_of, plain_of}
 use Rattle.aead_states.proofs.Parting.{text_by_ccm, text_by_gcm, length-plain, length-cipher, tag_is_ccm, tag_is_gcm}
 use Rattle.aead_states.proofs.parts.Parts.tag.Goals as goal

@@ -1,9 +1,6 @@
 use Rattle.std.proofs.Common.{◌≡◌, ◌++◌, ◌∙◌, true, false, Bool, List, ℕ, ap, sym}
-use Rattle.crypto_specs.specs.Aes.{aes_encrypt}
-use Rattle.crypto_specs.specs.Ccm.{ccm_text}
-use Rattle.crypto_specs.specs.Gcm.{gcm_text}
-use Rattle.store_model.specs.Aeads.{is_ccm}
-use Rattle.store_model.specs.Algorithms.{tag_bytes}
+use Rattle.crypto_specs.specs.Prelude.{aes_encrypt, ccm_text, gcm_text}
+use Rattle.store_model.specs.Prelude.{is_ccm, tag_bytes}
 use Rattle.key_policy.specs.Names.{is_ccm as is_ccm_kind}
 use Rattle.aead_states.specs.Directions.{cipher_of, plain_of}
 use Rattle.aead_states.proofs.Parting.{text_by_ccm, text_by_gcm, ccm_by_text, text_is_ccm, text_is_gcm}

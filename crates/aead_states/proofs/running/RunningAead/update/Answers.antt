@@ -1,7 +1,7 @@
 use Rattle.std.proofs.Common.{◌≡◌, ◌+◌, ◌++◌, ◌∙◌, ℕ, false, length, drop, ap, arith}
 use Rattle.std.proofs.lemmas.List.{length-append, length-drop}
 use Rattle.psa_status.specs.Rows.{first_row}
-use Rattle.store_model.specs.AeadOperations.{aead_update_rows, is_past_payload}
+use Rattle.store_model.specs.Prelude.{aead_update_rows, is_past_payload}
 use Rattle.aead_states.specs.Counted.{with_begun_text}
 use Rattle.aead_states.proofs.Passing.{text_passed, update_passed, fresh_given}
 use Rattle.aead_states.proofs.running.RunningAead.update.Goals as goal

@@ -1,6 +1,5 @@
 use Rattle.std.proofs.Common.{ℕ, List, ◌++◌, ◌∙◌, ap}
-use Rattle.crypto_specs.specs.Aes.{aes_encrypt}
-use Rattle.crypto_specs.specs.Ccm.{control_block, filled_blocks}
+use Rattle.crypto_specs.specs.Prelude.{aes_encrypt, control_block, filled_blocks}
 use Rattle.aead_ccm.specs.Chaining.{chained_from}
 use Rattle.aead_streams.specs.Chains.{data_front}
 use Rattle.aead_streams.proofs.Absorbing.{first_chained}

@@ -1,5 +1,5 @@
 use Rattle.std.proofs.Common.{[], length, arith}
-use Rattle.crypto_specs.specs.Aes.{aes_encrypt}
+use Rattle.crypto_specs.specs.Prelude.{aes_encrypt}
 use Rattle.aead_streams.specs.Chains.{chain_after}
 use Rattle.aead_streams.specs.CcmStates.{chain_start}
 use Rattle.aead_streams.proofs.CcmTags.{data_ended}

@@ -1,7 +1,6 @@
 use Rattle.std.proofs.Common.{List, ℕ, ◌++◌, ◌∙◌, length, ap, sym, subst, arith}
 use Rattle.std.proofs.lemmas.List.{append_assoc, length-append}
-use Rattle.crypto_specs.specs.Aes.{aes_encrypt}
-use Rattle.crypto_specs.specs.Ccm.{encoded_data, filled_blocks}
+use Rattle.crypto_specs.specs.Prelude.{aes_encrypt, encoded_data, filled_blocks}
 use Rattle.aead_ccm.specs.Chaining.{chained_from}
 use Rattle.aead_streams.specs.declared.counter_width.CounterWidth.TheVariants.{Whole}
 use Rattle.aead_streams.specs.Streams.{IsAt}

@@ -1,7 +1,6 @@
 use Rattle.std.proofs.Common.{List, ℕ, ◌++◌, ◌∙◌, ap, sym, arith}
 use Rattle.std.proofs.lemmas.List.{append_assoc, length-append}
-use Rattle.crypto_specs.specs.Aes.{aes_encrypt}
-use Rattle.crypto_specs.specs.Ccm.{filled_blocks}
+use Rattle.crypto_specs.specs.Prelude.{aes_encrypt, filled_blocks}
 use Rattle.aead_ccm.specs.Chaining.{chained_from}
 use Rattle.aead_streams.specs.Chains.{data_front}
 use Rattle.aead_streams.specs.CcmStates.{chain_start}

@@ -1,8 +1,6 @@
 use Rattle.std.proofs.Common.{ℕ, List, ◌≡◌, ◌+◌, ◌++◌, length, sym, subst, arith}
 use Rattle.std.proofs.lemmas.List.{length-append}
-use Rattle.crypto_specs.specs.Aes.{aes_encrypt}
-use Rattle.crypto_specs.specs.Gcm.{gcm_text, initial_counter_block, hash_subkey, increased, numbers_of}
-use Rattle.crypto_specs.specs.Ghash.{ghash_from}
+use Rattle.crypto_specs.specs.Prelude.{aes_encrypt, gcm_text, initial_counter_block, hash_subkey, increased, numbers_of, ghash_from}
 use Rattle.aead_streams.specs.declared.counter_width.CounterWidth.TheVariants.{Low32}
 use Rattle.aead_streams.specs.Streams.{IsAt}
 use Rattle.aead_streams.proofs.GcmTexts.{further, length-gcm_text}

@@ -1,6 +1,5 @@
 use Rattle.std.proofs.Common.{◌∙◌, ap₂}
-use Rattle.crypto_specs.specs.Modes.{number_block}
-use Rattle.crypto_specs.specs.Gcm.{length_block}
+use Rattle.crypto_specs.specs.Prelude.{number_block, length_block}
 use Rattle.aead_streams.proofs.GcmTexts.{tag_made}
 use Rattle.aead_streams.proofs.gcm_state.GcmState.tag.Goals as goal
 

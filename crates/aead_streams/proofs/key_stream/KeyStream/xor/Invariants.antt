@@ -1,5 +1,5 @@
 use Rattle.std.proofs.Common.{◌≡◌, ℕ, ◌+◌, ◌-◌, ◌≤◌, ◌++◌, length, take, drop}
-use Rattle.crypto_specs.specs.Aes.{aes_encrypt}
+use Rattle.crypto_specs.specs.Prelude.{aes_encrypt}
 use Rattle.aead_streams.specs.declared.counter_width.CounterWidth.{CounterWidth}
 use Rattle.aead_streams.specs.Counters.{text_xor}
 use Rattle.aead_streams.specs.Streams.{IsAt}

@@ -1,6 +1,6 @@
 use Rattle.std.proofs.Common.{◌∙◌, ◌++◌, ◌∷◌, [], ◌≡◌, ap}
 use Rattle.std.specs.Option.{option_to_list}
-use Rattle.store_model.specs.Operations.{Inactive}
+use Rattle.store_model.specs.Prelude.{Inactive}
 use Rattle.operation_handles.specs.Cells.{IsOperation}
 use Rattle.std.specs.Prelude.{None}
 use Rattle.caller_service.proofs.Lists.{all_front}

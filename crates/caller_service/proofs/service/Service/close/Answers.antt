@@ -1,8 +1,7 @@
 use Rattle.std.proofs.Common.{◌∙◌, ◌++◌, ap, subst, sym, arith, map, get_or}
-use Rattle.turn_history.specs.Views.{account_of}
-use Rattle.locked_store.specs.Closed.{IsClosed}
+use Rattle.turn_history.specs.Prelude.{account_of}
+use Rattle.locked_store.specs.Prelude.{IsClosed, world_of}
 use Rattle.locked_store.specs.Shared.{lock_of, opened_of, world}
-use Rattle.locked_store.specs.Worlds.{world_of}
 use Rattle.callers.specs.Retired.{IsRetired}
 use Rattle.caller_service.specs.Closing.{WereRetired, backwards}
 use Rattle.caller_service.proofs.Ended.{closed_over}

@@ -1,8 +1,7 @@
 use Rattle.std.proofs.Common.{refl, ap}
 use Rattle.service_calls.specs.Meanings.{model_request}
-use Rattle.store_model.specs.Faults.{Plain}
-use Rattle.store_model.specs.Operations.{Inactive}
-use Rattle.locked_store.specs.Shared.{world}
+use Rattle.store_model.specs.Prelude.{Plain, Inactive}
+use Rattle.locked_store.specs.Prelude.{world}
 use Rattle.callers.proofs.Aborting.{aborted, aborted_answered}
 use Rattle.callers.proofs.Handling.{has_room, one_turn, out, same_out}
 use Rattle.callers.proofs.caller.Caller.abort.Goals as goal

@@ -4,10 +4,8 @@ use Rattle.service_calls.specs.Meanings.{model_request}
 use Rattle.service_calls.specs.Answers.{plain_reply}
 use Rattle.service_calls.specs.declared.output.Output.TheVariants as output
 use Rattle.service_calls.specs.Answered.{AnswersReply}
-use Rattle.store_model.specs.Call.{buffer_after}
-use Rattle.store_model.specs.Faults.{Plain}
-use Rattle.store_model.specs.Operations.{Inactive}
-use Rattle.locked_store.specs.Shared.{world}
+use Rattle.store_model.specs.Prelude.{buffer_after, Plain, Inactive}
+use Rattle.locked_store.specs.Prelude.{world}
 use Rattle.callers.proofs.Beginning.{at_handle, bare_answered, bare_ready}
 use Rattle.callers.proofs.caller.Caller.begin.Goals as goal
 

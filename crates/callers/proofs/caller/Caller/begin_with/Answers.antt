@@ -5,11 +5,9 @@ use Rattle.std.proofs.lemmas.List.Elements.{All-pop, All-push}
 use Rattle.secret_bytes.specs.Buffer.{Buffer, IsClear}
 use Rattle.key_policy.specs.Uses.{use_refusal}
 use Rattle.service_calls.specs.Meanings.{model_request}
-use Rattle.store_model.specs.Faults.{Plain}
-use Rattle.store_model.specs.Operations.{Inactive}
-use Rattle.store_core.specs.Uses.{IsLent, IsRefused, mark_of}
-use Rattle.locked_store.specs.Turning.{DecidesAfter, IsRanked, lease_pair}
-use Rattle.locked_store.specs.Shared.{world}
+use Rattle.store_model.specs.Prelude.{Plain, Inactive}
+use Rattle.store_core.specs.Prelude.{IsLent, IsRefused, mark_of}
+use Rattle.locked_store.specs.Prelude.{DecidesAfter, IsRanked, lease_pair, world}
 use Rattle.callers.proofs.Beginning.{at_handle, lent_answered, lent_ready, reads_key, refuses, stayed_answered, stayed_ready}
 use Rattle.callers.proofs.Failing.{refused_tells, use_plainly}
 use Rattle.callers.proofs.Looking.{has_room_for_lease, has_spare, popped}

@@ -4,14 +4,12 @@ use Rattle.std.proofs.lemmas.Bool.{false≢true}
 use Rattle.std.proofs.lemmas.List.Elements.{All-push}
 use Rattle.secret_bytes.specs.Buffer.{Buffer, IsClear, bytes_of}
 use Rattle.service_calls.specs.Meanings.{model_request}
-use Rattle.store_model.specs.Laws.{may_change_keys}
-use Rattle.store_model.specs.Store.{is_opaque_key}
-use Rattle.locked_store.specs.Elements.{IsLooked}
+use Rattle.store_model.specs.Prelude.{may_change_keys, is_opaque_key}
+use Rattle.locked_store.specs.Prelude.{IsLooked, world}
 use Rattle.std.specs.FinMap as map
 use Rattle.random_streams.specs.RandomWords.{drawn_from, next_bytes}
 use Rattle.single_part.specs.Keyed.{computed_by}
 use Rattle.callers.specs.Called.{IsReplied}
-use Rattle.locked_store.specs.Shared.{world}
 use Rattle.callers.proofs.Computing.{computed_answered, computed_ready, lent_answered, lent_ready, refused_answered, refused_ready}
 use Rattle.callers.proofs.Looking.{has_spare, popped}
 use Rattle.callers.proofs.Storing.{decided_known}

@@ -5,17 +5,10 @@ use Rattle.key_attributes.specs.declared.KeyId.{KeyId}
 use Rattle.store_core.specs.declared.copying.NotCopied.{NotCopied}
 use Rattle.service_calls.specs.Meanings.{model_request}
 use Rattle.service_calls.specs.declared.output.Output.TheVariants as output
-use Rattle.store_model.specs.Call.{Copy}
-use Rattle.store_model.specs.Creation.{created_unless}
-use Rattle.store_model.specs.Copies.{recorded_copy}
-use Rattle.store_model.specs.KeyUse.{bytes_of}
-use Rattle.store_model.specs.Faults.{Plain}
-use Rattle.store_model.specs.Replay.{replay}
-use Rattle.store_model.specs.Requests.{OnStore}
-use Rattle.store_core.specs.Creations.{IsMade, IsUncopied, RecordsCopy, mark_uncopied}
-use Rattle.locked_store.specs.Turning.{DecidesBefore, IsRanked, filling_pair, without_pair}
+use Rattle.store_model.specs.Prelude.{Copy, created_unless, recorded_copy, bytes_of, Plain, replay, OnStore}
+use Rattle.store_core.specs.Prelude.{IsMade, IsUncopied, RecordsCopy, mark_uncopied}
+use Rattle.locked_store.specs.Prelude.{DecidesBefore, IsRanked, filling_pair, without_pair, world}
 use Rattle.callers.specs.Failures.{failure_told}
-use Rattle.locked_store.specs.Shared.{world}
 use Rattle.callers.proofs.Creating.{created_answered, created_in, created_ready, has_no_filling}
 use Rattle.callers.proofs.Failing.{uncopied_tells}
 use Rattle.callers.proofs.Made.{made_gives, undrawn, uncopied_gives}

@@ -3,11 +3,10 @@ use Rattle.std.specs.Prelude.{None}
 use Rattle.key_attributes.specs.declared.KeyId.{KeyId}
 use Rattle.store_core.specs.declared.creating.NotMade.{NotMade}
 use Rattle.service_calls.specs.Meanings.{model_request}
-use Rattle.store_model.specs.Faults.{Plain}
-use Rattle.store_core.specs.Creations.{IsMade, IsUnmade, RecordsStated, mark_unmade}
-use Rattle.locked_store.specs.Turning.{DecidesBefore, IsRanked, filling_pair, without_pair}
+use Rattle.store_model.specs.Prelude.{Plain}
+use Rattle.store_core.specs.Prelude.{IsMade, IsUnmade, RecordsStated, mark_unmade}
+use Rattle.locked_store.specs.Prelude.{DecidesBefore, IsRanked, filling_pair, without_pair, world}
 use Rattle.callers.specs.Parts.{IsCreated}
-use Rattle.locked_store.specs.Shared.{world}
 use Rattle.callers.proofs.Creating.{created_in, creates_on}
 use Rattle.callers.proofs.Storing.{if_err_as, if_ok_as}
 use Rattle.callers.proofs.caller.Caller.create.Goals as goal

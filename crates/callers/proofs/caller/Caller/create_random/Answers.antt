@@ -5,18 +5,14 @@ use Rattle.store_core.specs.declared.creating.NotMade.{NotMade}
 use Rattle.random_streams.specs.RandomWords.{RandomStream}
 use Rattle.service_calls.specs.Meanings.{model_request}
 use Rattle.service_calls.specs.declared.output.Output.TheVariants as output
-use Rattle.store_model.specs.Call.{Generate}
-use Rattle.store_model.specs.Creation.{created_unless, stated_bytes}
-use Rattle.store_model.specs.Faults.{Plain}
-use Rattle.store_model.specs.Replay.{replay}
-use Rattle.store_model.specs.Requests.{OnStore, plain_step}
-use Rattle.store_core.specs.Creations.{IsMade, IsUnmade, RecordsStated, mark_unmade}
-use Rattle.locked_store.specs.Turning.{DecidesBefore}
+use Rattle.store_model.specs.Prelude.{Generate, created_unless, Plain, replay, OnStore, plain_step}
+use Rattle.store_model.specs.Creation.{stated_bytes}
+use Rattle.store_core.specs.Prelude.{IsMade, IsUnmade, RecordsStated, mark_unmade}
+use Rattle.locked_store.specs.Prelude.{DecidesBefore, world}
 use Rattle.single_part.proofs.Draws.{draws_none}
 use Rattle.store_model.proofs.DrawnBytes.{length-random}
 use Rattle.callers.specs.Parts.{IsCreated}
 use Rattle.callers.specs.Failures.{failure_told}
-use Rattle.locked_store.specs.Shared.{world}
 use Rattle.callers.proofs.Creating.{created_answered, drew_ready, has_no_filling}
 use Rattle.callers.proofs.Generating.{made_own, random_creates, unmade_own}
 use Rattle.callers.proofs.Failing.{stated_plainly, unmade_tells}

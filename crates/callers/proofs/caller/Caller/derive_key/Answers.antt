@@ -5,16 +5,13 @@ use Rattle.std.proofs.lemmas.List.{get_or-set_same}
 use Rattle.key_attributes.specs.declared.KeyId.{KeyId}
 use Rattle.derivation_states.specs.KeySteps.{output_key_refusal}
 use Rattle.service_calls.specs.Meanings.{model_request}
-use Rattle.store_model.specs.DerivationOperations.{stated_bytes, without}
-use Rattle.store_model.specs.Faults.{Plain}
-use Rattle.store_model.specs.Handles.{HandleOperation, Deriving, derivation_part, key_of_operation, part_of}
-use Rattle.store_model.specs.Operations.{Active, Inactive, InError}
-use Rattle.store_core.specs.Creations.{IsMade, IsUnmade, RecordsStated, mark_unmade}
+use Rattle.store_model.specs.DerivationOperations.{stated_bytes}
+use Rattle.store_model.specs.Prelude.{without, Plain, HandleOperation, Deriving, derivation_part, key_of_operation, part_of, Active, Inactive, InError}
+use Rattle.store_core.specs.Prelude.{IsMade, IsUnmade, RecordsStated, mark_unmade}
 use Rattle.store_core.specs.declared.creating.NotMade.{NotMade}
 use Rattle.operation_handles.specs.Cells.{IsOperation}
-use Rattle.locked_store.specs.Turning.{DecidesBefore, IsRanked, filling_pair, without_pair}
+use Rattle.locked_store.specs.Prelude.{DecidesBefore, IsRanked, filling_pair, without_pair, world}
 use Rattle.callers.specs.Handles.{operation_at, with_operation_at}
-use Rattle.locked_store.specs.Shared.{world}
 use Rattle.callers.proofs.Beginning.{at_handle}
 use Rattle.callers.proofs.CellLists.{cell_at, tally-cons}
 use Rattle.callers.proofs.Creating.{created_in, creates_on, has_no_filling}

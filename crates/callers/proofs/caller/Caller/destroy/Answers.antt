@@ -4,14 +4,10 @@ use Rattle.std.specs.Prelude.{None, Ok, Err}
 use Rattle.psa_status.specs.Rows.{first_row}
 use Rattle.service_calls.specs.Meanings.{model_request}
 use Rattle.service_calls.specs.declared.output.Output.TheVariants.{Done}
-use Rattle.store_model.specs.Call.{Destroy}
-use Rattle.store_model.specs.Faults.{Plain}
-use Rattle.store_model.specs.KeyUse.{destroy_rows}
-use Rattle.store_core.specs.Uses.{IsUndestroyed, mark_undestroyed}
-use Rattle.store_model.specs.Replay.{replay}
-use Rattle.locked_store.specs.Turning.{DecidesBefore, IsRanked}
+use Rattle.store_model.specs.Prelude.{Destroy, Plain, destroy_rows, replay}
+use Rattle.store_core.specs.Prelude.{IsUndestroyed, mark_undestroyed}
+use Rattle.locked_store.specs.Prelude.{DecidesBefore, IsRanked, world}
 use Rattle.callers.specs.Failures.{failure_told}
-use Rattle.locked_store.specs.Shared.{world}
 use Rattle.callers.proofs.Failing.{undestroyed_tells}
 use Rattle.callers.proofs.KeyReplies.{destroyed_gives, destroy_draws, undestroyed_gives}
 use Rattle.callers.proofs.Storing.{decided_known, if_err, on_ok, stored_answered, stored_ready}

@@ -1,14 +1,9 @@
 use Rattle.std.proofs.Common.{length, refl, sym, ap, subst, ◌∙◌}
 use Rattle.service_calls.specs.Answered.{AnswersReply}
 use Rattle.service_calls.specs.Meanings.{model_request, model_hash_call}
-use Rattle.store_model.specs.Call.{buffer_after}
-use Rattle.store_model.specs.Faults.{Plain}
-use Rattle.store_model.specs.Outcome.{Outcome}
-use Rattle.store_model.specs.Handles.{Service, next_random}
-use Rattle.store_model.specs.Replay.{replay}
-use Rattle.store_model.specs.Requests.{OnStore, plain_step}
+use Rattle.store_model.specs.Prelude.{buffer_after, Plain, Outcome, Service, next_random, replay, OnStore, plain_step}
 use Rattle.store_model.proofs.Unmarked.{answers_plainly}
-use Rattle.locked_store.specs.Shared.{world}
+use Rattle.locked_store.specs.Prelude.{world}
 use Rattle.single_part.proofs.Models.{hashes}
 use Rattle.callers.proofs.Failing.{answers_plain}
 use Rattle.callers.proofs.Storing.{stored_answered, stored_ready}

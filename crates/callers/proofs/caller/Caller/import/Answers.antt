@@ -4,16 +4,11 @@ use Rattle.key_attributes.specs.declared.KeyId.{KeyId}
 use Rattle.store_core.specs.declared.creating.NotMade.{NotMade}
 use Rattle.service_calls.specs.Meanings.{model_request}
 use Rattle.service_calls.specs.declared.output.Output.TheVariants as output
-use Rattle.store_model.specs.Call.{Import}
-use Rattle.store_model.specs.Creation.{created_unless, recorded_of}
-use Rattle.store_model.specs.Faults.{Plain}
-use Rattle.store_model.specs.Replay.{replay}
-use Rattle.store_model.specs.Requests.{OnStore}
-use Rattle.store_core.specs.Creations.{IsMade, IsUnmade, RecordsStated, mark_unmade}
-use Rattle.locked_store.specs.Turning.{DecidesBefore}
+use Rattle.store_model.specs.Prelude.{Import, created_unless, recorded_of, Plain, replay, OnStore}
+use Rattle.store_core.specs.Prelude.{IsMade, IsUnmade, RecordsStated, mark_unmade}
+use Rattle.locked_store.specs.Prelude.{DecidesBefore, world}
 use Rattle.callers.specs.Parts.{IsCreated}
 use Rattle.callers.specs.Failures.{failure_told}
-use Rattle.locked_store.specs.Shared.{world}
 use Rattle.callers.proofs.Creating.{created_answered, created_ready, has_no_filling}
 use Rattle.callers.proofs.Failing.{stated_plainly, unmade_tells}
 use Rattle.callers.proofs.Made.{made_gives, undrawn, unmade_gives}

@@ -5,11 +5,9 @@ use Rattle.std.proofs.lemmas.List.Elements.{All-push}
 use Rattle.secret_bytes.specs.Buffer.{Buffer, IsClear}
 use Rattle.key_policy.specs.Uses.{use_refusal}
 use Rattle.service_calls.specs.Meanings.{model_request}
-use Rattle.store_model.specs.Faults.{Plain}
-use Rattle.store_model.specs.Laws.{may_change_keys}
-use Rattle.store_core.specs.Uses.{IsLent, IsRefused, mark_of}
-use Rattle.locked_store.specs.Turning.{DecidesAfter, IsRanked, lease_pair}
-use Rattle.locked_store.specs.Shared.{world}
+use Rattle.store_model.specs.Prelude.{Plain, may_change_keys}
+use Rattle.store_core.specs.Prelude.{IsLent, IsRefused, mark_of}
+use Rattle.locked_store.specs.Prelude.{DecidesAfter, IsRanked, lease_pair, world}
 use Rattle.callers.proofs.Computing.{lent_answered, lent_ready, refused_answered, refused_ready}
 use Rattle.callers.proofs.Looking.{has_spare, popped}
 use Rattle.callers.proofs.Storing.{if_err, if_ok}

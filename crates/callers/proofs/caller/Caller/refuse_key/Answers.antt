@@ -6,12 +6,11 @@ use Rattle.service_calls.specs.declared.output.Output.TheVariants as output
 use Rattle.operation_handles.specs.KeyInputs.{RefusesKeyAt, key_refused}
 use Rattle.service_calls.specs.Answers.{plain_reply}
 use Rattle.service_calls.specs.Answered.{AnswersReply}
-use Rattle.store_model.specs.Call.{Reply, buffer_after}
-use Rattle.store_model.specs.Faults.{Plain}
+use Rattle.store_model.specs.Prelude.{Reply, buffer_after, Plain}
 use Rattle.store_model.proofs.Tables.{NoFault}
 use Rattle.single_part.proofs.Draws.{draws_none}
 use Rattle.callers.specs.Handles.{AreOperations, IsChanged, operation_at}
-use Rattle.locked_store.specs.Shared.{world}
+use Rattle.locked_store.specs.Prelude.{world}
 use Rattle.callers.proofs.Beginning.{at_handle}
 use Rattle.callers.proofs.Failing.{key_refused_plainly, told_plainly}
 use Rattle.callers.proofs.Handling.{few_turns, handled_answered, handled_ready, has_room, made, one_turn, out, same_out, waits}

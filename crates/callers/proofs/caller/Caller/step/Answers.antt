@@ -2,9 +2,9 @@ use Rattle.std.proofs.Common.{length, refl, sym, ap, ◌∙◌, subst, arith}
 use Rattle.random_streams.specs.RandomWords.{drawn_from, next_bytes}
 use Rattle.service_calls.specs.Meanings.{model_request, model_step}
 use Rattle.operation_handles.specs.Steps.{stepped_by}
-use Rattle.store_model.specs.Faults.{Plain}
+use Rattle.store_model.specs.Prelude.{Plain}
 use Rattle.callers.specs.Handles.{AreOperations, IsChanged, operation_at}
-use Rattle.locked_store.specs.Shared.{world}
+use Rattle.locked_store.specs.Prelude.{world}
 use Rattle.callers.proofs.Failing.{answers_plain, stepped_plainly}
 use Rattle.callers.proofs.Handling.{few_turns, handled_answered, handled_ready, has_room, made, one_turn, out, same_out, waits}
 use Rattle.callers.proofs.Stepping.{applies}

@@ -5,11 +5,10 @@ use Rattle.std.proofs.lemmas.List.Elements.{All-push}
 use Rattle.secret_bytes.specs.Buffer.{Buffer, IsClear}
 use Rattle.key_policy.specs.Uses.{use_refusal}
 use Rattle.service_calls.specs.Meanings.{model_request}
-use Rattle.store_model.specs.Faults.{Plain}
-use Rattle.store_core.specs.Uses.{IsLent, IsRefused, mark_of}
+use Rattle.store_model.specs.Prelude.{Plain}
+use Rattle.store_core.specs.Prelude.{IsLent, IsRefused, mark_of}
 use Rattle.operation_handles.specs.KeyInputs.{TakesKeyAt}
-use Rattle.locked_store.specs.Turning.{DecidesAfter, IsRanked, lease_pair}
-use Rattle.locked_store.specs.Shared.{world}
+use Rattle.locked_store.specs.Prelude.{DecidesAfter, IsRanked, lease_pair, world}
 use Rattle.callers.proofs.Beginning.{at_handle}
 use Rattle.callers.proofs.Inputting.{failed_answered, failed_ready, given_answered, given_ready, reads_secret}
 use Rattle.callers.proofs.Looking.{has_room_for_lease, has_spare, popped}

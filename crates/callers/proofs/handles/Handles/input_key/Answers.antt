@@ -1,8 +1,6 @@
 use Rattle.std.proofs.Common.{◌-◌, ◌<◌, get_or, set, refl, sym, ap, ◌∙◌, subst, arith, Some}
 use Rattle.secret_bytes.specs.Buffer.{bytes_of}
-use Rattle.store_model.specs.DerivationOperations.{with_key}
-use Rattle.store_model.specs.Handles.{HandleOperation, Deriving}
-use Rattle.store_model.specs.Operations.{Active}
+use Rattle.store_model.specs.Prelude.{with_key, HandleOperation, Deriving, Active}
 use Rattle.callers.specs.Handles.{HoldsLease, operation_at}
 use Rattle.callers.proofs.Changing.{kept}
 use Rattle.callers.proofs.handles.Handles.input_key.Goals as goal

@@ -1,7 +1,6 @@
 use Rattle.std.proofs.Common.{◌-◌, ◌<◌, get_or, set, refl, sym, ap, ◌∙◌, subst, arith, true, false, ◌≡◌, None}
-use Rattle.store_model.specs.DerivationOperations.{stated_bytes, without}
-use Rattle.store_model.specs.Handles.{HandleOperation, Deriving, key_of_operation}
-use Rattle.store_model.specs.Operations.{Active}
+use Rattle.store_model.specs.DerivationOperations.{stated_bytes}
+use Rattle.store_model.specs.Prelude.{without, HandleOperation, Deriving, key_of_operation, Active}
 use Rattle.callers.specs.Handles.{IsChanged, operation_at}
 use Rattle.callers.proofs.Changing.{same_lease}
 use Rattle.callers.proofs.handles.Handles.output_key.Goals as goal

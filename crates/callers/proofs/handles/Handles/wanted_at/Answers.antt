@@ -2,7 +2,7 @@ use Rattle.std.proofs.lemmas.List.{get_or_read_under}
 use Rattle.std.proofs.Common.{rules, ◌≡◌, sym, subst, Option, Some, None}
 use Rattle.std.specs.Prelude.{IfSome, IfNone}
 use Rattle.key_policy.specs.declared.key_use.KeyUse.{KeyUse}
-use Rattle.store_model.specs.Handles.{HandleOperation}
+use Rattle.store_model.specs.Prelude.{HandleOperation}
 use Rattle.operation_handles.specs.Cells.{IsOperation}
 use Rattle.operation_handles.specs.KeyInputs.{RefusesKeyAt, TakesKeyAt}
 use Rattle.callers.proofs.handles.Handles.wanted_at.Goals as goal

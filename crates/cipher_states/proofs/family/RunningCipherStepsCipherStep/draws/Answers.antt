@@ -1,5 +1,5 @@
 use Rattle.std.proofs.Common.{◌≡◌, sym, subst}
-use Rattle.store_model.specs.CipherOperations.{cipher_step}
+use Rattle.store_model.specs.Prelude.{cipher_step}
 use Rattle.service_calls.specs.Meanings.{model_cipher_step}
 use Rattle.cipher_states.proofs.family.RunningCipherStepsCipherStep.draws.Goals as goal
 

@@ -1,5 +1,5 @@
 use Rattle.std.proofs.Common.{◌≡◌, ℕ, subst, true, Bool, []}
-use Rattle.crypto_specs.specs.Modes.{block_number}
+use Rattle.crypto_specs.specs.Prelude.{block_number}
 use Rattle.aead_streams.specs.declared.counter_width.CounterWidth.TheVariants.{Whole}
 use Rattle.aead_streams.specs.Streams.{IsAt}
 use Rattle.key_policy.specs.Modes.{model_mode}

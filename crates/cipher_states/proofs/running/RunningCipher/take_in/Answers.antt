@@ -1,10 +1,8 @@
 use Rattle.std.proofs.Common.{◌≡◌, ℕ, ◌+◌, List, ◌++◌, length, length-append, take, true, false, sym, ap, subst, ◌∙◌}
-use Rattle.crypto_specs.specs.Aes.{aes_encrypt}
-use Rattle.crypto_specs.specs.Modes.{block_number}
+use Rattle.crypto_specs.specs.Prelude.{aes_encrypt, block_number}
 use Rattle.aead_streams.specs.declared.counter_width.CounterWidth.TheVariants.{Whole}
 use Rattle.aead_streams.specs.Counters.{text_xor}
-use Rattle.store_model.specs.Ciphers.{mode_of}
-use Rattle.store_model.specs.CipherOperations.{bytes_or_empty, with_text}
+use Rattle.store_model.specs.Prelude.{mode_of, bytes_or_empty, with_text}
 use Rattle.key_policy.specs.Modes.{model_mode}
 use Rattle.cipher_states.specs.Modes.{is_stream, keeps_last}
 use Rattle.cipher_states.specs.Ways.{way_of, processed}

@@ -1,7 +1,6 @@
 use Rattle.std.proofs.Common.{◌≡◌, [], refl, ◌∙◌, ap}
 use Rattle.std.specs.Prelude.{◌==◌, is_some}
-use Rattle.store_model.specs.CipherOperations.{with_iv}
-use Rattle.store_model.specs.Ciphers.{iv_length, mode_of}
+use Rattle.store_model.specs.Prelude.{with_iv, iv_length, mode_of}
 use Rattle.key_policy.specs.Modes.{model_mode}
 use Rattle.cipher_states.proofs.Beginnings.{begun_work, not_ready}
 use Rattle.cipher_states.proofs.running.RunningCipher.take_iv.Goals as goal

@@ -1,7 +1,7 @@
 use Rattle.std.proofs.Common.{ℕ, ◌≡◌, ◌-◌, ◌∙◌, ◌++◌, ◌∷◌, length, take, sym, ap, List, arith}
 use Rattle.std.specs.Prelude.{replicate}
 use Rattle.std.proofs.lemmas.List.{length-take, take_all}
-use Rattle.crypto_specs.specs.Aes.{aes_encrypt}
+use Rattle.crypto_specs.specs.Prelude.{aes_encrypt}
 use Rattle.cmac_ops.proofs.Chaining.{whole_last, filled_last}
 use Rattle.cmac_ops.proofs.Numbers.{length-block}
 use Rattle.cmac_ops.proofs.chain.Chain.last_block.Goals as goal

@@ -1,7 +1,7 @@
 use Rattle.std.proofs.Common.{◌≡◌, ◌+◌, ◌++◌, ◌∷◌, [], eqb, ◌∙◌, ◌&&◌, ℕ, Bool, List, refl, sym, ap, ap₂, subst, length, take, get_or, arith}
 use Rattle.std.specs.Prelude.{bytes_eq}
 use Rattle.std.proofs.lemmas.List.{length-take, take_more}
-use Rattle.store_model.specs.DerivationOperations.{next_derived, without}
+use Rattle.store_model.specs.Prelude.{next_derived, without}
 use Rattle.derivation_states.specs.Outputs.{HoldsOutput}
 use Rattle.derivation_states.proofs.Derived.{length-next_derived}
 use Rattle.multipart.proofs.ByteLists.{bytes_eq_push}

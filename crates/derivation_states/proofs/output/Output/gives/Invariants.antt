@@ -1,6 +1,6 @@
 use Rattle.std.proofs.Common.{◌≡◌, ◌+◌, true, take}
 use Rattle.std.specs.Prelude.{is_some, bytes_eq}
-use Rattle.store_model.specs.DerivationOperations.{DerivationWork, next_derived, without}
+use Rattle.store_model.specs.Prelude.{DerivationWork, next_derived, without}
 use Rattle.derivation_states.specs.Inputs.{HoldsInputs}
 use Rattle.derivation_states.specs.Outputs.{HoldsOutput}
 use Rattle.derivation_states.proofs.output.Output.gives.Given as goal

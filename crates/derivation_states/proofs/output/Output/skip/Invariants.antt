@@ -1,6 +1,6 @@
 use Rattle.std.proofs.Common.{◌≡◌, ◌+◌, true}
 use Rattle.std.specs.Prelude.{is_some}
-use Rattle.store_model.specs.DerivationOperations.{DerivationWork, without}
+use Rattle.store_model.specs.Prelude.{DerivationWork, without}
 use Rattle.derivation_states.specs.Inputs.{HoldsInputs}
 use Rattle.derivation_states.specs.Outputs.{HoldsOutput}
 use Rattle.derivation_states.proofs.output.Output.skip.Given as goal

@@ -1,5 +1,5 @@
 use Rattle.std.proofs.Common.{◌≤◌, ◌∙◌, ◌++◌, List, ℕ, length, ap, arith}
-use Rattle.crypto_specs.specs.Hmac.{hmac, inner_pad, outer_pad}
+use Rattle.crypto_specs.specs.Prelude.{hmac, inner_pad, outer_pad}
 use Rattle.hash_ops.specs.Hashes.{hash_of}
 use Rattle.hash_ops.specs.declared.Hash.TheVariants.{Sha256}
 use Rattle.hash_ops.proofs.Digests.{length-hash_of}

@@ -1,11 +1,10 @@
 use Rattle.std.proofs.Common.{◌∙◌, ap, sym, subst}
-use Rattle.turn_history.specs.History.{entries_of}
-use Rattle.turn_history.specs.Holdings.{with_own}
+use Rattle.turn_history.specs.Prelude.{entries_of, with_own}
 use Rattle.service_calls.specs.Meanings.{model_request}
-use Rattle.store_model.specs.Faults.{Plain}
+use Rattle.store_model.specs.Prelude.{Plain}
 use Rattle.locked_store.specs.Standing.{HoldsHistory}
 use Rattle.locked_store.specs.Turning.{filling_pair, without_pair}
-use Rattle.store_core.specs.Creations.{IsMade, IsUncopied, RecordsCopy, mark_uncopied}
+use Rattle.store_core.specs.Prelude.{IsMade, IsUncopied, RecordsCopy, mark_uncopied}
 use Rattle.locked_store.proofs.Turns.{IsSteady, before_decides, before_stands, copies, few, is_last, out, ranked}
 use Rattle.locked_store.specs.Shared.{world}
 use Rattle.locked_store.proofs.held.SharedStore.copy.Goals as goal

@@ -1,8 +1,7 @@
 use Rattle.std.proofs.Common.{◌∙◌, ap, sym, subst}
-use Rattle.turn_history.specs.History.{entries_of}
-use Rattle.turn_history.specs.Holdings.{with_own}
+use Rattle.turn_history.specs.Prelude.{entries_of, with_own}
 use Rattle.service_calls.specs.Meanings.{model_request}
-use Rattle.store_model.specs.Faults.{Plain}
+use Rattle.store_model.specs.Prelude.{Plain}
 use Rattle.locked_store.specs.Standing.{HoldsHistory}
 use Rattle.locked_store.proofs.Turns.{counts, few, led_stands, steady}
 use Rattle.locked_store.specs.Shared.{world}

@@ -1,13 +1,12 @@
 use Rattle.std.proofs.Common.{◌∙◌, ap, sym, subst}
-use Rattle.turn_history.specs.History.{entries_of}
-use Rattle.turn_history.specs.Holdings.{with_own}
+use Rattle.turn_history.specs.Prelude.{entries_of, with_own}
 use Rattle.service_calls.specs.Meanings.{model_request}
-use Rattle.store_model.specs.Faults.{Plain}
+use Rattle.store_model.specs.Prelude.{Plain}
 use Rattle.locked_store.specs.Standing.{HoldsHistory}
 use Rattle.locked_store.specs.Turning.{filling_pair, without_pair}
 use Rattle.std.proofs.Common.{length}
 use Rattle.std.specs.Option.{option_map}
-use Rattle.store_core.specs.Creations.{IsMade, IsUnmade, RecordsStated, mark_unmade}
+use Rattle.store_core.specs.Prelude.{IsMade, IsUnmade, RecordsStated, mark_unmade}
 use Rattle.locked_store.proofs.Turns.{IsSteady, before_decides, before_stands, creates, few, is_last, out_beside, ranked}
 use Rattle.locked_store.specs.Shared.{world}
 use Rattle.locked_store.proofs.held.SharedStore.finish.Goals as goal

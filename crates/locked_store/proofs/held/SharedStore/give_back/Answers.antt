@@ -1,5 +1,5 @@
 use Rattle.std.proofs.Common.{◌∙◌, ap, sym, subst}
-use Rattle.turn_history.specs.History.{entries_of}
+use Rattle.turn_history.specs.Prelude.{entries_of}
 use Rattle.locked_store.specs.Standing.{HoldsHistory}
 use Rattle.locked_store.specs.Turning.{lease_pair}
 use Rattle.locked_store.proofs.Turns.{after_taking, out, steady}

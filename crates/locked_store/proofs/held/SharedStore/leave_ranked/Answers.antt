@@ -1,6 +1,5 @@
 use Rattle.std.proofs.Common.{◌∙◌, ap, refl, sym, length, [], ◌∷◌, Some}
-use Rattle.turn_history.specs.History.{entries_of}
-use Rattle.turn_history.specs.Views.{after_turn}
+use Rattle.turn_history.specs.Prelude.{entries_of, after_turn}
 use Rattle.turn_history.proofs.Keeping.{some_same}
 use Rattle.service_calls.specs.Meanings.{model_request}
 use Rattle.locked_store.specs.Turning.{after_change, turn_entry, mark_met}
@@ -38,8 +37,8 @@ returns-clause-entered g c =
     let me = rw (c.requires.names.0, c.requires.names.1) at c.leave.ensures.pass in
     let is = ap (λ m. m.0) me ∙ ap (λ h. after_turn w (Some e) (after_change c.args.change.now h)) b.same_holding in
     let place = rw (c.requires.names.0) at c.leave.ensures.place in
-    entered c.args.before.value.me.0 w c.leave.new.pass.me.0 call (mark_met c.args.met) c.in-Some.rank own e b.on b.same_calls b.first b.calls (signed_front (entries_of w.seen) (e ∷ []) c.requires.stands.signed) is
-    (some_same c.in-Some.rank (length (entries_of w.seen)) (sym c.in-Some.is ∙ place)) refl refl refl
+    entered c.args.before.value.me.0 w c.leave.new.pass.me.0 call (mark_met c.args.met) c.unwrap-rank.result own e b.on b.same_calls b.first b.calls (signed_front (entries_of w.seen) (e ∷ []) c.requires.stands.signed) is
+    (some_same c.unwrap-rank.result (length (entries_of w.seen)) (sym c.unwrap-rank.ensures ∙ place)) refl refl refl
 
 pub leave-requires-clause-own : goal.leave-requires-clause-own
 unfolding lock_of opened_of

@@ -1,7 +1,5 @@
 use Rattle.std.proofs.Common.{◌∙◌, ap, None}
-use Rattle.turn_history.specs.History.{entries_of}
-use Rattle.turn_history.specs.Holdings.{with_own}
-use Rattle.turn_history.specs.Views.{after_turn}
+use Rattle.turn_history.specs.Prelude.{entries_of, with_own, after_turn}
 use Rattle.locked_store.specs.Turning.{after_change}
 use Rattle.locked_store.proofs.Passing.{later}
 use Rattle.locked_store.proofs.Renewing.{at_after, legal_after, with_nothing}

@@ -1,13 +1,12 @@
 use Rattle.std.proofs.Common.{◌∙◌, ◌∷◌, ap, sym, subst}
-use Rattle.turn_history.specs.History.{entries_of}
-use Rattle.turn_history.specs.Holdings.{with_own}
+use Rattle.turn_history.specs.Prelude.{entries_of, with_own}
 use Rattle.service_calls.specs.Meanings.{model_request}
-use Rattle.store_model.specs.Faults.{Plain}
+use Rattle.store_model.specs.Prelude.{Plain}
 use Rattle.locked_store.specs.Standing.{HoldsHistory}
 use Rattle.std.specs.Prelude.{is_some}
 use Rattle.key_slots.specs.Holdings.{IsHolding}
 use Rattle.key_policy.specs.Uses.{use_refusal}
-use Rattle.store_core.specs.Uses.{IsLent, IsRefused, mark_of}
+use Rattle.store_core.specs.Prelude.{IsLent, IsRefused, mark_of}
 use Rattle.locked_store.specs.Turning.{lease_pair}
 use Rattle.locked_store.proofs.Owning.{one_lease_more}
 use Rattle.locked_store.proofs.Turns.{IsSteady, few, led_decides, entered_after, led_stands, reads, reads_and_gives, stands_some}

@@ -2,13 +2,12 @@ use Rattle.std.proofs.Common.{◌≡◌, ◌∙◌, ◌∷◌, ap, refl, sym, su
 use Rattle.std.proofs.lemmas.Result.{IfErr-at_err, IfOk-at_ok}
 use Rattle.std.specs.FinMap as map
 use Rattle.secret_bytes.specs.Buffer.{IsClear, bytes_of}
-use Rattle.turn_history.specs.History.{entries_of}
+use Rattle.turn_history.specs.Prelude.{entries_of}
 use Rattle.secure_element_calls.specs.Answers.{mark_computed}
 use Rattle.key_policy.specs.Uses.{FitsUse, use_refusal}
 use Rattle.service_calls.specs.Meanings.{model_request}
-use Rattle.store_model.specs.Faults.{Plain}
-use Rattle.store_model.specs.Store.{is_opaque_key}
-use Rattle.store_core.specs.Uses.{IsLent, IsRefused, mark_of}
+use Rattle.store_model.specs.Prelude.{Plain, is_opaque_key}
+use Rattle.store_core.specs.Prelude.{IsLent, IsRefused, mark_of}
 use Rattle.locked_store.specs.Standing.{HoldsHistory}
 use Rattle.locked_store.specs.Turning.{DecidesAfter, IsEntered, IsEnteredAfter, lease_pair}
 use Rattle.locked_store.proofs.Turns.{decided_now, ranked}

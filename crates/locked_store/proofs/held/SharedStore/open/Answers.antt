@@ -1,7 +1,6 @@
 use Rattle.std.proofs.Common.{ap, sym, subst, inr, arith, IfSome, is_some}
-use Rattle.store_model.specs.Handles.{Service}
-use Rattle.store_model.specs.Sound.{IsSoundStore}
-use Rattle.store_core.specs.Start.{FindsKeysOf, IsStart}
+use Rattle.store_model.specs.Prelude.{Service, IsSoundStore}
+use Rattle.store_core.specs.Prelude.{FindsKeysOf, IsStart}
 use Rattle.locked_store.specs.Shared.{lock_of, opened_of}
 use Rattle.locked_store.proofs.held.SharedStore.open.Goals as goal
 

@@ -1,5 +1,5 @@
 use Rattle.std.proofs.Common.{◌∙◌, ◌∷◌, ap, sym, subst}
-use Rattle.turn_history.specs.History.{entries_of}
+use Rattle.turn_history.specs.Prelude.{entries_of}
 use Rattle.locked_store.specs.Turning.{filling_pair}
 use Rattle.locked_store.proofs.Owning.{one_filling_more}
 use Rattle.key_slots.specs.Holdings.{IsHolding}

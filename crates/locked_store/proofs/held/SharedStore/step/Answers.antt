@@ -1,10 +1,8 @@
 use Rattle.std.proofs.Common.{◌∙◌, ap, sym, subst}
-use Rattle.turn_history.specs.History.{entries_of}
-use Rattle.turn_history.specs.Holdings.{with_own}
+use Rattle.turn_history.specs.Prelude.{entries_of, with_own}
 use Rattle.service_calls.specs.Meanings.{model_request}
 use Rattle.std.proofs.lemmas.Result.{on_err_weaker, on_ok_weaker}
-use Rattle.store_model.specs.Faults.{Plain}
-use Rattle.store_model.specs.Sound.{HasNumber}
+use Rattle.store_model.specs.Prelude.{Plain, HasNumber}
 use Rattle.locked_store.specs.Turning.{lease_pair}
 use Rattle.locked_store.specs.Standing.{HoldsHistory}
 use Rattle.locked_store.proofs.Turns.{counts, few, led_decides, led_stands, out, ranked, steady, steps}

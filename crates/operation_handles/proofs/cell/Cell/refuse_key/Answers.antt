@@ -1,7 +1,5 @@
 use Rattle.std.proofs.Common.{◌≡◌, true, false, refl, sym, subst}
-use Rattle.store_model.specs.Operations.{After}
-use Rattle.store_model.specs.DerivationOperations.{DerivationWork}
-use Rattle.store_model.specs.Outcome.{refusal}
+use Rattle.store_model.specs.Prelude.{After, DerivationWork, refusal}
 use Rattle.service_calls.specs.Answers.{plain_reply}
 use Rattle.derivation_states.specs.States.{IsDerivationOperation}
 use Rattle.operation_handles.specs.Cells.{IsOperation}

@@ -1,5 +1,5 @@
 use Rattle.std.proofs.Common.{◌≡◌, true, false, refl, sym, subst}
-use Rattle.store_model.specs.Outcome.{refusal}
+use Rattle.store_model.specs.Prelude.{refusal}
 use Rattle.derivation_states.specs.KeySteps.{derived_key}
 use Rattle.operation_handles.specs.Cells.{IsOperation}
 use Rattle.operation_handles.specs.Families.{Derivations}

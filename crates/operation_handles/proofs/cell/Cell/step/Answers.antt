@@ -2,13 +2,7 @@ use Rattle.std.proofs.Common.{◌≡◌, length, refl, sym, subst}
 use Rattle.random_streams.specs.RandomWords.{drawn_from, next_bytes}
 use Rattle.service_calls.specs.Answered.{AnswersReply}
 use Rattle.service_calls.specs.Meanings.{model_step, model_hash_step, model_mac_step, model_cipher_step, model_aead_step, model_derivation_step}
-use Rattle.store_model.specs.Call.{buffer_after}
-use Rattle.store_model.specs.HashOperations.{HashWork, hash_step}
-use Rattle.store_model.specs.MacOperations.{MacWork, mac_step}
-use Rattle.store_model.specs.CipherOperations.{CipherWork, cipher_step}
-use Rattle.store_model.specs.AeadOperations.{AeadWork, aead_step}
-use Rattle.store_model.specs.DerivationOperations.{DerivationWork, derivation_step}
-use Rattle.store_model.specs.Operations.{After}
+use Rattle.store_model.specs.Prelude.{buffer_after, HashWork, hash_step, MacWork, mac_step, CipherWork, cipher_step, AeadWork, aead_step, DerivationWork, derivation_step, After}
 use Rattle.operation_handles.specs.Cells.{IsOperation}
 use Rattle.operation_handles.specs.Families.{Hashes, Macs, Ciphers, Aeads, Derivations}
 use Rattle.operation_handles.specs.Steps.{stepped_by}

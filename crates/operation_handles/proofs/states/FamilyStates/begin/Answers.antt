@@ -3,11 +3,7 @@ use Rattle.std.specs.Prelude.{None}
 use Rattle.psa_status.specs.Rows.{first_row}
 use Rattle.alg_encoding.specs.declared.table.Class.TheVariants as class
 use Rattle.service_calls.specs.Answers.{plain_reply}
-use Rattle.store_model.specs.Operations.{Inactive}
-use Rattle.store_model.specs.Handles.{Hashing, Deriving}
-use Rattle.store_model.specs.HashOperations.{hash_work}
-use Rattle.store_model.specs.DerivationOperations.{derivation_work}
-use Rattle.store_model.specs.Rules.{class_rows}
+use Rattle.store_model.specs.Prelude.{Inactive, Hashing, Deriving, hash_work, derivation_work, class_rows}
 use Rattle.operation_handles.specs.Families.{Hashes, Derivations}
 use Rattle.operation_handles.specs.Setups.{set_up_without_key}
 use Rattle.operation_handles.specs.States.{AreStates}

@@ -3,10 +3,7 @@ use Rattle.std.specs.Prelude.{Some}
 use Rattle.alg_encoding.specs.declared.algorithm.Alg.{Alg}
 use Rattle.key_policy.specs.Uses.{FitsUse, used_for}
 use Rattle.service_calls.specs.declared.handle_calls.Purpose.{Purpose}
-use Rattle.store_model.specs.Operations.{Active, Inactive}
-use Rattle.store_model.specs.MacOperations.{mac_work}
-use Rattle.store_model.specs.CipherOperations.{cipher_work}
-use Rattle.store_model.specs.AeadOperations.{aead_work}
+use Rattle.store_model.specs.Prelude.{Active, Inactive, mac_work, cipher_work, aead_work}
 use Rattle.operation_handles.specs.Families.{Macs, Ciphers, Aeads}
 use Rattle.operation_handles.specs.Setups.{begun_with}
 use Rattle.operation_handles.specs.States.{AreStates}

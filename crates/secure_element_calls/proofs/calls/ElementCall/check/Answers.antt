@@ -1,7 +1,6 @@
 use Rattle.std.proofs.Common.{◌≡◌, ℕ, List, length, take, drop, ◌∙◌, subst, sym, arith}
 use Rattle.std.proofs.lemmas.List.{length-append, length-drop}
-use Rattle.crypto_specs.specs.Aes.{aes_encrypt}
-use Rattle.crypto_specs.specs.Modes.{ctr_xor}
+use Rattle.crypto_specs.specs.Prelude.{aes_encrypt, ctr_xor}
 use Rattle.secure_element_calls.specs.Given.{given_by}
 use Rattle.secure_element_calls.specs.Calls.{needed_by}
 use Rattle.secure_element_calls.proofs.Holding.{on_ok}

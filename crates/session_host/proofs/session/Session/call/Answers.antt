@@ -1,12 +1,11 @@
-use Rattle.std.proofs.Common.{◌≡◌, ◌∙◌, ap, subst, arith, take, length, length-take-le, ℕ}
-use Rattle.std.specs.Prelude.{IfOk, IfSome, MatchResult, Option, Result, Ok, Err}
+use Rattle.std.proofs.Common.{◌≡◌, ◌∙◌, ap, subst, arith, take, length, length-take-le, ℕ, IfOk, IfSome, MatchResult, Option, Result, Ok, Err}
 use Rattle.psa_status.specs.declared.Memory.{Memory}
 use Rattle.psa_status.specs.declared.Status.{Status}
 use Rattle.service_calls.specs.Meanings.{model_request}
-use Rattle.script_lang.specs.Commands.{request_of}
-use Rattle.store_model.specs.Call.{Reply}
+use Rattle.script_lang.specs.Prelude.{request_of}
+use Rattle.store_model.specs.Prelude.{Reply}
 use Rattle.callers.specs.Called.{IsAnswered}
-use Rattle.locked_store.specs.Shared.{world}
+use Rattle.locked_store.specs.Prelude.{world}
 use Rattle.script_lang.specs.declared.replies.Replies.{Replies}
 use Rattle.callers.specs.Failures.{failure_in}
 use Rattle.session_host.specs.Replying.{Answer, Answers, Fills, Notes, Tells}
@@ -24,10 +23,10 @@ made_so (Err full) old new rank T told M made n = made (λ reply. Unit {0}) (λ 
 pub returns-clause-made : goal.returns-clause-made
 returns-clause-made g c =
     let w = world c.args.service.now.shared in
-    let v = c.args.self.now.caller.pass.me.0 in let u = c.call-ranked.new.caller.pass.me.0 in let rank = c.in-Some.rank in
+    let v = c.args.self.now.caller.pass.me.0 in let u = c.call-ranked.new.caller.pass.me.0 in let rank = c.unwrap-rank.result in
     let before = take c.room.result c.args.buffer.now in let out = c.call-ranked.new.out in let result = c.call-ranked.result.1 in
     let asked = model_request c.value-call.result (length before) in let wanted = request_of c.args.self.now.given.items c.args.line.now.call in
-    let answered = subst (λ o. IfSome o (λ rank. IsAnswered w v u asked rank result before out)) c.in-Some.is c.call-ranked.ensures.ranked in
+    let answered = subst (λ o. IfSome o (λ rank. IsAnswered w v u asked rank result before out)) c.unwrap-rank.ensures c.call-ranked.ensures.ranked in
     let same : asked ≡ wanted =
     ap (λ n. model_request c.value-call.result n) (length-take-le c.room.result c.args.buffer.now (let a = c.requires.room in let b = c.room.ensures.most in omega arith) ∙ c.room.ensures.value)
     ∙ (c.value-call.ensures ∙ ap (λ ids. request_of ids c.args.line.now.call) c.deref.ensures.value) in (

@@ -1,7 +1,6 @@
-use Rattle.std.proofs.Common.{◌≡◌, ◌∙◌, ◌++◌, ◌∷◌, [], ap, subst, inr, sym}
-use Rattle.std.specs.Prelude.{MatchResult, Result, Ok, Err}
-use Rattle.script_lang.specs.Commands.{request_of}
-use Rattle.locked_store.specs.Shared.{world}
+use Rattle.std.proofs.Common.{◌≡◌, ◌∙◌, ◌++◌, ◌∷◌, [], ap, subst, inr, sym, MatchResult, Result, Ok, Err}
+use Rattle.script_lang.specs.Prelude.{request_of}
+use Rattle.locked_store.specs.Prelude.{world}
 use Rattle.session_host.specs.Replying.{Answers, Tells}
 use Rattle.session_host.specs.Sessions.{IsMade}
 use Rattle.session_host.proofs.Told.{answered_more, made_more}

@@ -1,8 +1,8 @@
 use Rattle.std.proofs.Common.{sym, ◌∙◌, subst, get_or-set_same}
 use Rattle.std.proofs.lemmas.List.{get_or_default}
-use Rattle.turn_history.specs.History.{entries_of, StartsWith}
+use Rattle.turn_history.specs.Prelude.{entries_of, StartsWith}
 use Rattle.callers.specs.Ready.{IsReady}
-use Rattle.locked_store.specs.Shared.{world}
+use Rattle.locked_store.specs.Prelude.{world}
 use Rattle.callers.proofs.Journeys.{seen_begins}
 use Rattle.session_host.specs.Workers.{HasLearned}
 use Rattle.session_host.proofs.Meeting.{changes_set, has_learned}

@@ -1,5 +1,5 @@
 use Rattle.std.proofs.Common.{◌≡◌, true, take}
-use Rattle.locked_store.specs.Shared.{world}
+use Rattle.locked_store.specs.Prelude.{world}
 use Rattle.script_lang.specs.declared.replies.ReplyForm.{ReplyForm}
 use Rattle.session_host.specs.Workers.{HaveForm, HaveRun, numbers_of}
 use Rattle.session_host.proofs.worker.Worker.run.Given as goal

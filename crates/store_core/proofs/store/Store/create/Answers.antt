@@ -2,8 +2,7 @@ use Rattle.std.proofs.Common.{◌∙◌, ◌+◌, refl, sym, subst, Some, [], �
 use Rattle.secret_bytes.specs.Buffer.{bytes_of}
 use Rattle.slot_table.specs.Changes.{full_slot}
 use Rattle.key_slots.specs.Standing.{SlotHasKey, Puts, IsThereOrNew}
-use Rattle.store_model.specs.Faults.{Plain}
-use Rattle.store_model.specs.Creation.{created, new_id, new_key, identified}
+use Rattle.store_model.specs.Prelude.{Plain, created, new_id, new_key, identified}
 use Rattle.store_core.specs.declared.store.Store.{Store}
 use Rattle.store_core.specs.Represents.{ranked_on}
 use Rattle.store_core.proofs.Holding.{StandsHere, IsTurn}

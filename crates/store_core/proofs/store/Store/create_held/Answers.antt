@@ -4,9 +4,7 @@ use Rattle.key_attributes.specs.Checks.{permits_size}
 use Rattle.secret_bytes.specs.Buffer.{bytes_of}
 use Rattle.slot_table.specs.Changes.{full_slot}
 use Rattle.key_slots.specs.Standing.{SlotHasKey, Puts, IsThereOrNew}
-use Rattle.store_model.specs.Store.{first_volatile}
-use Rattle.store_model.specs.Faults.{Plain}
-use Rattle.store_model.specs.Creation.{created, new_id, new_key, identified}
+use Rattle.store_model.specs.Prelude.{first_volatile, Plain, created, new_id, new_key, identified}
 use Rattle.store_core.specs.declared.store.Store.{Store}
 use Rattle.store_core.specs.Represents.{ranked_on}
 use Rattle.store_core.proofs.Holding.{StandsHere, IsTurn}

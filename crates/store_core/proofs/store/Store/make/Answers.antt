@@ -6,8 +6,7 @@ use Rattle.slot_table.specs.Lent.{Reading}
 use Rattle.slot_table.proofs.AtSlots.{bytes-buffer_of}
 use Rattle.key_slots.specs.Standing.{Agrees}
 use Rattle.store_model.specs.Store as model
-use Rattle.store_model.specs.Creation.{new_id}
-use Rattle.store_model.specs.Faults.{Plain}
+use Rattle.store_model.specs.Prelude.{new_id, Plain}
 use Rattle.store_core.specs.declared.store.Store.{Store}
 use Rattle.store_core.specs.Represents.{ranked_on}
 use Rattle.store_core.specs.Creations.{IsReady, RecordsStated, mark_unkept}

@@ -3,14 +3,7 @@ use Rattle.secret_bytes.specs.Buffer.{bytes_of, buffer_of}
 use Rattle.slot_table.specs.Slots.{slot_at}
 use Rattle.key_slots.specs.Standing.{IsOut}
 use Rattle.store_model.specs.Store as model
-use Rattle.store_model.specs.Call.{Copy}
-use Rattle.store_model.specs.Store.{Key}
-use Rattle.store_model.specs.Copies.{recorded_copy}
-use Rattle.store_model.specs.Creation.{new_id}
-use Rattle.store_model.specs.Requests.{OnStore}
-use Rattle.store_model.specs.Replay.{Entry, replay}
-use Rattle.store_model.specs.Marks.{last_counts}
-use Rattle.store_model.specs.Faults.{Plain}
+use Rattle.store_model.specs.Prelude.{Copy, Key, recorded_copy, new_id, OnStore, Entry, replay, last_counts, Plain}
 use Rattle.store_core.specs.declared.store.Store.{Store}
 use Rattle.store_core.specs.Represents.{IsTold, ranked_on}
 use Rattle.store_core.specs.Creations.{Enters, IsReady, IsUnkept, mark_unkept}

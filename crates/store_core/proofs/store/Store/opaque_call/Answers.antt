@@ -3,11 +3,7 @@ use Rattle.psa_status.specs.Causes.{Rose}
 use Rattle.psa_status.specs.Rows.{first_row}
 use Rattle.psa_status.proofs.Rows.{unless-ok, unless-err}
 use Rattle.driver_dispatch.specs.Calls.{HoldsHandle, has_element}
-use Rattle.store_model.specs.Faults.{Plain}
-use Rattle.store_model.specs.Marks.{FaultCounts, last_counts}
-use Rattle.store_model.specs.Outcome.{counted}
-use Rattle.store_model.specs.Rules.{fits_type}
-use Rattle.store_model.specs.Store.{is_opaque_key}
+use Rattle.store_model.specs.Prelude.{Plain, FaultCounts, last_counts, counted, fits_type, is_opaque_key}
 use Rattle.secure_element_calls.specs.Answers.{mark_computed}
 use Rattle.secure_element_calls.specs.Calls.{algorithm_asked, model_call}
 use Rattle.secure_element_calls.specs.declared.calls.NotComputed.TheVariants.{Refused}

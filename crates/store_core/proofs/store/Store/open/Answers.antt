@@ -1,11 +1,32 @@
-use Rattle.std.proofs.Common.{◌∙◌, refl, sym, ap, subst, true, count_by}
-use Rattle.key_cells.specs.Contents.{is_open}
-use Rattle.key_cells.specs.Opened.{IsOpened}
+use Rattle.disk_face.specs.declared.Disk as Disk
+use Rattle.std.proofs.Common.{◌≤◌, ◌∙◌, ℕ, List, inl, refl, sym, ap, subst, true, count_by, Option, None, Some, IfSome, arith}
+use Rattle.secret_bytes.specs.Buffer.{IsClear}
+use Rattle.key_cells.specs.Prelude.{is_open, IsOpened, IsRefused}
+use Rattle.key_cells.specs.declared.reading.OpenFault.TheVariants.{Memory}
 use Rattle.persistent_keys.specs.declared.file.KeyFile.{KeyFile}
 use Rattle.key_slots.specs.declared.slots.KeySlots.{KeySlots}
 use Rattle.driver_dispatch.specs.Calls.{Lacks}
 use Rattle.store_core.proofs.Started.{IsNew, starts, exactly, stands}
 use Rattle.store_core.proofs.store.Store.open.Goals as goal
+
+-- a disk that no call was made to
+uncalled : {D : Type 0} (disks : Disk.Ghosts D) (disk : D) → IsRefused disks disk disk Memory
+uncalled disks disk = record {
+  caused = always (disks.contents disk) (λ image. tt);
+  tells = refl;
+  later = omega arith;
+  rose = λ none. absurd none;
+  same = λ none. absurd none;
+  unwritten = λ none. absurd none;
+  unwritten_within = λ none. absurd none;
+  durable = λ none. absurd none;
+  spares = always (disks.contents disk) (λ image store. record { later = omega arith; each = λ t other le left. inl left });
+  left = always (disks.contents disk) (λ image store. inl (λ other left. left));
+}
+  where
+    always : (o : Option (List ℕ)) {P : List ℕ → Type 0} → ((image : List ℕ) → P image) → IfSome o P
+    always None f = tt
+    always (Some image) f = f image
 
 is_new : (g : _) (c : goal.After-with_file g) →
     let d = g.D.Disk in
@@ -49,3 +70,52 @@ returns-in-Ok-open-clause-keys g c =
     let v = g.A.Devices in
     let store = c.with_file.result in
     exactly d v g.C.Admission c.args.disk store (is_new g c) (g.met.D.Disk.read_is_image store.file.cells.disk)
+
+pub returns-in-Ok-open-clause-opened : goal.returns-in-Ok-open-clause-opened
+returns-in-Ok-open-clause-opened g c = (is_new g c).file
+
+pub returns-in-Ok-open-clause-later : goal.returns-in-Ok-open-clause-later
+returns-in-Ok-open-clause-later g c =
+    subst (λ (f : KeyFile _). g.D.Disk.faults c.args.disk ≤ g.D.Disk.faults f.cells.disk) (sym c.with_file.ensures.file) c.in-Ok-open.ensures.later
+
+pub returns-in-Ok-open-clause-size : goal.returns-in-Ok-open-clause-size
+returns-in-Ok-open-clause-size g c = ap (λ (f : KeyFile _). g.D.Disk.size f.cells.disk) c.with_file.ensures.file ∙ c.in-Ok-open.ensures.size
+
+pub returns-in-Ok-open-clause-clear : goal.returns-in-Ok-open-clause-clear
+returns-in-Ok-open-clause-clear g c = subst IsClear (sym c.with_file.ensures.buffer) c.in-Ok.ensures.buffer
+
+pub returns-in-Ok-open-clause-found : goal.returns-in-Ok-open-clause-found
+returns-in-Ok-open-clause-found g c = (is_new g c).found
+
+pub returns-in-Ok-open-clause-saw_file : goal.returns-in-Ok-open-clause-saw_file
+returns-in-Ok-open-clause-saw_file g c = (is_new g c).saw_file
+
+pub returns-in-Ok-open-clause-saw_devices : goal.returns-in-Ok-open-clause-saw_devices
+returns-in-Ok-open-clause-saw_devices g c = (is_new g c).saw_devices
+
+pub returns-in-Ok-open-clause-saw_rules : goal.returns-in-Ok-open-clause-saw_rules
+returns-in-Ok-open-clause-saw_rules g c = (is_new g c).saw_rules
+
+pub returns-in-Err-open-clause-refused : goal.returns-in-Err-open-clause-refused
+returns-in-Err-open-clause-refused g c = c.in-Err-open.ensures.refused
+
+pub returns-in-Err : goal.returns-in-Err
+returns-in-Err g c = record {
+  stands = tt;
+  starts = tt;
+  keys = tt;
+  opened = tt;
+  later = tt;
+  size = tt;
+  clear = tt;
+  ranked = tt;
+  found = tt;
+  devices = tt;
+  rules = tt;
+  saw_file = tt;
+  saw_devices = tt;
+  saw_rules = tt;
+  saw_seed = tt;
+  refused = uncalled g.D.Disk c.args.disk;
+  returned = refl;
+}

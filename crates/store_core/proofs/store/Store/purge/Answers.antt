@@ -2,28 +2,50 @@ use Rattle.std.proofs.Common.{◌≡◌, refl, sym, subst, Some, None}
 use Rattle.std.specs.FinMap as map
 use Rattle.psa_status.specs.declared.Status.TheVariants.{InvalidHandle}
 use Rattle.store_model.specs.Store as model
+use Rattle.key_slots.specs.Wiping.{IsIdleOf}
+use Rattle.key_slots.proofs.Wiping.{ends_none}
 use Rattle.store_core.specs.Uses.{there_rows}
 use Rattle.store_core.proofs.Holding.{counts_on}
 use Rattle.store_core.proofs.Kept.{is_there, is_missing}
 use Rattle.store_core.proofs.store.Store.purge.Goals as goal
 
-pub returns-then-not-has-clause-missing : goal.returns-then-not-has-clause-missing
-returns-then-not-has-clause-missing g c = (
-  refl,
-  λ start opening h all e s still is.
+pub returns-then-not-has : goal.returns-then-not-has
+returns-then-not-has g c = record {
+  there = tt;
+  missing = (
+    refl,
+    λ start opening h all e s still is.
+        let d = g.D.Disk in
+        let v = g.A.Devices in
+        let old = c.args.self.now in
+        let m = s.holds.model in
+        let n = counts_on d v g.C.Admission g.met.D.Disk.only_now old old.slots start opening h all e s s.holds.slots still is in
+        (n.0, subst (λ (x : model.Store). there_rows (map.get x.keys c.args.id.0) ≡ Some InvalidHandle) (sym n.1) (is_missing (map.get m.keys c.args.id.0) (c.if-not-has.ensures m all s.holds.slots s.holds.directory))),
+  );
+  wiped = tt;
+  wipes = ends_none c.args.self.now.slots.table.slots (λ i s. IsIdleOf c.args.id.0 s);
+  emptied = tt;
+  file = refl;
+  devices = refl;
+  buffer = refl;
+  opened = refl;
+}
+
+pub returns : goal.returns
+returns g c = record {
+  there = λ start opening h all e s still is.
       let d = g.D.Disk in
       let v = g.A.Devices in
       let old = c.args.self.now in
       let m = s.holds.model in
-      let n = counts_on d v g.C.Admission g.met.D.Disk.only_now old old.slots start opening h all e s s.holds.slots still is in
-      (n.0, subst (λ (x : model.Store). there_rows (map.get x.keys c.args.id.0) ≡ Some InvalidHandle) (sym n.1) (is_missing (map.get m.keys c.args.id.0) (c.if-not-has.ensures m all s.holds.slots s.holds.directory))),
-)
-
-pub returns-clause-there : goal.returns-clause-there
-returns-clause-there g c = λ start opening h all e s still is.
-    let d = g.D.Disk in
-    let v = g.A.Devices in
-    let old = c.args.self.now in
-    let m = s.holds.model in
-    let n = counts_on d v g.C.Admission g.met.D.Disk.only_now old c.purge.new.self start opening h all e s (c.purge.ensures.stays m all s.holds.slots) still is in
-    (n.0, subst (λ (x : model.Store). there_rows (map.get x.keys c.args.id.0) ≡ None) (sym n.1) (is_there (map.get m.keys c.args.id.0) (c.if-not-has.ensures m all s.holds.slots s.holds.directory)))
+      let n = counts_on d v g.C.Admission g.met.D.Disk.only_now old c.purge.new.self start opening h all e s (c.purge.ensures.stays m all s.holds.slots) still is in
+      (n.0, subst (λ (x : model.Store). there_rows (map.get x.keys c.args.id.0) ≡ None) (sym n.1) (is_there (map.get m.keys c.args.id.0) (c.if-not-has.ensures m all s.holds.slots s.holds.directory)));
+  missing = tt;
+  wiped = c.purge.ensures.wiped;
+  wipes = c.purge.ensures.wipes;
+  emptied = c.purge.ensures.emptied;
+  file = refl;
+  devices = refl;
+  buffer = refl;
+  opened = refl;
+}

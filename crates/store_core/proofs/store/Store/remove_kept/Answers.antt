@@ -2,7 +2,7 @@ use Rattle.std.proofs.Common.{◌<◌, arith, subst, sym}
 use Rattle.std.specs.FinMap as map
 use Rattle.psa_status.specs.Causes.{Rose}
 use Rattle.persistent_keys.specs.Files.{Leads}
-use Rattle.store_model.specs.Faults.{Plain, Storage, Writing}
+use Rattle.store_model.specs.Prelude.{Plain, Storage, Writing}
 use Rattle.store_core.proofs.Kept.{key_of_cell, is_persistent}
 use Rattle.store_core.proofs.Destroyed.{fewer_kept, rows_there, still_doubted, undestroyed_doubt}
 use Rattle.store_core.proofs.Sure.{set_sure}

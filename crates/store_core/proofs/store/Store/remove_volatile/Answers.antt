@@ -4,9 +4,7 @@ use Rattle.std.specs.FinMap as map
 use Rattle.psa_status.specs.Causes.{Rose}
 use Rattle.driver_dispatch.specs.Calls.{HoldsHandle, has_element}
 use Rattle.slot_table.specs.Slots.{slot_at}
-use Rattle.store_model.specs.Store.{is_opaque, is_opaque_key}
-use Rattle.store_model.specs.Faults.{Plain, Hardware}
-use Rattle.store_model.specs.Marks.{asks_device}
+use Rattle.store_model.specs.Prelude.{is_opaque, is_opaque_key, Plain, Hardware, asks_device}
 use Rattle.store_core.proofs.Destroyed.{high_here, of_creator, fewer_live, element_there, holds_some, rows_there}
 use Rattle.store_core.proofs.DestroyTurn.{destroys_volatile, slot_key}
 use Rattle.store_core.proofs.Forgotten.{slot_forgotten}

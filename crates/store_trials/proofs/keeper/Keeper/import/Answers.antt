@@ -1,7 +1,7 @@
 use Rattle.std.proofs.Common.{ℕ, [], ◌∷◌, length, arith, ap}
 use Rattle.std.specs.Prelude.{None}
 use Rattle.store_core.specs.declared.store.Store.{Store}
-use Rattle.store_core.specs.Creations.{IsMade, IsUnmade, RecordsStated, mark_unmade}
+use Rattle.store_core.specs.Prelude.{IsMade, IsUnmade, RecordsStated, mark_unmade}
 use Rattle.store_trials.specs.Keeping.{first_has}
 use Rattle.store_trials.proofs.Outs.{first_gains, none}
 use Rattle.store_trials.proofs.Keepings.{few_reserved, made_or_not, out_alone, reserved}

@@ -1,5 +1,5 @@
 use Rattle.std.proofs.Common.{[], arith}
-use Rattle.store_core.specs.Start.{opening_of}
+use Rattle.store_core.specs.Prelude.{opening_of}
 use Rattle.store_trials.proofs.keeper.Keeper.open.Goals as goal
 
 pub invariant_of-result : goal.invariant_of-result

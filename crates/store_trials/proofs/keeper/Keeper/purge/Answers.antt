@@ -4,7 +4,7 @@ use Rattle.std.specs.FinMap as map
 use Rattle.psa_status.specs.declared.Status.TheVariants.{InvalidHandle}
 use Rattle.secret_bytes.specs.Buffer.{Buffer, IsClear}
 use Rattle.persistent_keys.specs.declared.file.KeyFile.{KeyFile}
-use Rattle.store_core.specs.Uses.{there_rows}
+use Rattle.store_core.specs.Prelude.{there_rows}
 use Rattle.store_trials.specs.Keeping.{first_has}
 use Rattle.store_trials.proofs.Keepings.{added_or_not}
 use Rattle.store_trials.proofs.keeper.Keeper.purge.Goals as goal

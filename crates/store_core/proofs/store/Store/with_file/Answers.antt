@@ -1,0 +1,29 @@
+use Rattle.std.proofs.Common.{refl, arith}
+use Rattle.std.proofs.lemmas.List.Sums.{count_by-le-length}
+use Rattle.key_cells.specs.Prelude.{is_open}
+use Rattle.store_core.proofs.store.Store.with_file.Goals as goal
+
+pub overflow_cast-result : goal.overflow_cast-result
+overflow_cast-result g c =
+    let few = count_by-le-length is_open c.args.file.cells.slots.items in
+    let sized = c.requires.sized in
+    let count = c.count-count.ensures in
+    omega (arith, few, sized, count)
+
+pub returns : goal.returns
+returns g c = record {
+  file = refl;
+  slots = refl;
+  devices = refl;
+  rules = refl;
+  made = refl;
+  live = refl;
+  kept = c.count-count.ensures;
+  found = c.count-count.ensures;
+  ranked = refl;
+  buffer = refl;
+  saw_file = c.of.ensures;
+  saw_devices = c.of-2.ensures;
+  saw_rules = c.of-3.ensures;
+  saw_seed = c.of-4.ensures;
+}
