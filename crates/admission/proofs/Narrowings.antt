@@ -1,6 +1,5 @@
 -- What rules leave, one after another.
-use Rattle.std.proofs.Common.{◌≡◌, Bool, true, false, List, [], ◌∷◌, refl, ap, ◌∙◌, cond, ◌&&◌, not, eqb}
-use Rattle.std.specs.Prelude.{Result, Ok, Err, IfOk}
+use Rattle.std.proofs.Common.{Bool, Err, IfOk, List, Ok, Result, [], ap, cond, eqb, false, not, refl, true, ◌&&◌, ◌∙◌, ◌∷◌, ◌≡◌}
 use Rattle.key_attributes.specs.declared.Attributes.{Attributes}
 use Rattle.psa_status.specs.declared.Status.{Status}
 use Rattle.policy_rules.specs.declared.narrowing.Label.{Label}

@@ -1,12 +1,8 @@
 -- The chain over the formatted blocks, in parts.
-use Rattle.std.proofs.Common.{◌≡◌, ℕ, ◌+◌, ◌-◌, ◌*◌, ◌<◌, List, ◌∷◌, ◌++◌, length, take, drop, bit_xor, replicate, refl, sym, ap, ap₂, ◌∙◌, arith}
-use Rattle.std.specs.Prelude.{min}
-use Rattle.std.specs.Int.Bits.{xor_zero_l}
-use Rattle.std.proofs.lemmas.List.{drop-drop, take_min, length-drop}
+use Rattle.std.proofs.Common.{List, ap, ap₂, arith, bit_xor, drop, length, min, refl, replicate, sym, take, ℕ, ◌*◌, ◌++◌, ◌+◌, ◌-◌, ◌<◌, ◌∙◌, ◌∷◌, ◌≡◌}
+use Rattle.aead_ccm.proofs.Common.{block_count, block_of_xor, chain_step, chained, chained_from, filled_block, filled_blocks, number_block, take_min, xor_bytes, xor_zero_l}
+use Rattle.std.proofs.lemmas.List.{drop-drop, length-drop}
 use Rattle.std.proofs.lemmas.List.Sums.{fold-append}
-use Rattle.crypto_specs.specs.Prelude.{xor_bytes, block_count, number_block, chain_step, chained, filled_blocks}
-use Rattle.cipher_blocks.proofs.BlockNumbers.{block_of_xor}
-use Rattle.aead_ccm.specs.Chaining.{filled_block, chained_from}
 use Rattle.aead_ccm.proofs.FilledBlocks.{filled_blocks-next, filled_blocks-empty}
 
 -- one block more: w is what the value v and the block x become

@@ -1,10 +1,8 @@
 -- The blocks of a text whose end is filled with zeros.
-use Rattle.std.proofs.Common.{◌≡◌, ℕ, suc, ◌-◌, ◌%◌, ◌<◌, List, [], ◌∷◌, ◌++◌, length, take, drop, sym, ap, ap₂, ◌∙◌, inl, inr, arith}
-use Rattle.std.specs.Prelude.{replicate}
+use Rattle.std.proofs.Common.{List, [], ap, ap₂, arith, drop, inl, inr, length, replicate, suc, sym, take, ℕ, ◌%◌, ◌++◌, ◌-◌, ◌<◌, ◌∙◌, ◌∷◌, ◌≡◌}
+use Rattle.aead_ccm.proofs.Common.{block_count, blocks, drop-append-le, filled_block, filled_blocks, length-replicate, take-append-le, zero_filled}
 use Rattle.std.proofs.lemmas.Bool.{cases_lt}
-use Rattle.std.proofs.lemmas.List.{length-append, length-replicate, length-drop, length-take, take_all, take-append-le, drop-append-le, append-nil}
-use Rattle.crypto_specs.specs.Prelude.{zero_filled, blocks, block_count, filled_blocks}
-use Rattle.aead_ccm.specs.Chaining.{filled_block}
+use Rattle.std.proofs.lemmas.List.{length-append, length-drop, length-take, take_all, append-nil}
 
 filled_block-whole : (block : List ℕ) → length block ≡ 16 → filled_block block ≡ block
 filled_block-whole block h =

@@ -1,11 +1,9 @@
 -- The formatted blocks, as they are written.
-use Rattle.std.proofs.Common.{◌≡◌, ℕ, ◌+◌, ◌-◌, ◌<◌, ◌≤◌, List, [], ◌∷◌, ◌++◌, length, take, drop, slice_set, refl, sym, ap, ◌∙◌, arith}
-use Rattle.std.specs.Prelude.{replicate, min}
-use Rattle.std.specs.Int.{w16, w32, w64, w128, byte_at, to_be_bytes}
+use Rattle.std.proofs.Common.{List, [], ap, arith, drop, length, min, refl, replicate, slice_set, sym, take, ℕ, ◌++◌, ◌+◌, ◌-◌, ◌<◌, ◌∙◌, ◌∷◌, ◌≡◌, ◌≤◌}
+use Rattle.aead_ccm.proofs.Common.{byte_at, drop-replicate, drop_min, encoded_data, encoded_length, filled_block, in_bytes, to_be_bytes, w128}
+use Rattle.std.specs.Int.{w16, w32, w64}
 use Rattle.std.proofs.lemmas.Bool.{eq-eqb, ne_eqb, lt-ltb, le-ltb}
-use Rattle.std.proofs.lemmas.List.{drop-drop, drop_min, drop-replicate, length-append}
-use Rattle.crypto_specs.specs.Prelude.{in_bytes, encoded_length, encoded_data}
-use Rattle.aead_ccm.specs.Chaining.{filled_block}
+use Rattle.std.proofs.lemmas.List.{drop-drop, length-append}
 
 -- ---- a number in its bytes
 

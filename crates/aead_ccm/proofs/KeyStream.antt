@@ -1,15 +1,9 @@
 -- The key stream block by block.
-use Rattle.std.proofs.Common.{◌≡◌, ℕ, zero, suc, ◌+◌, ◌-◌, ◌*◌, ◌%◌, ◌^◌, ◌<◌, ◌≤◌, List, [], ◌∷◌, ◌++◌, length, take, drop, bit_xor, refl, sym, ap, ap₂, ◌∙◌, add-one, arith}
-use Rattle.std.specs.Prelude.{replicate}
-use Rattle.std.specs.Int.{w64, w128, byte_at, bytes_high_first, to_be_bytes}
-use Rattle.std.specs.Int.Bits.{xor_zero_l, xor_zero_r}
-use Rattle.std.proofs.Math.Nat.{div-eq_of_lt, pow-le-pow_right}
-use Rattle.std.proofs.lemmas.List.{length-append, length-replicate, length-drop, length-take, take-append-drop, drop-append-le, drop_at, drop-drop, drop-replicate, append_assoc, append-nil}
-use Rattle.crypto_specs.specs.Prelude.{aes_encrypt, xor_bytes, block_count, number_block, ccm_counter_block, ccm_stream, ccm_text, in_bytes}
+use Rattle.std.proofs.Common.{List, [], add-one, ap, ap₂, arith, bit_xor, drop, length, refl, replicate, suc, sym, take, zero, ℕ, ◌%◌, ◌*◌, ◌++◌, ◌+◌, ◌-◌, ◌<◌, ◌^◌, ◌∙◌, ◌∷◌, ◌≡◌, ◌≤◌}
+use Rattle.aead_ccm.proofs.Common.{aes_encrypt, block_count, block_of_xor, byte_at, byte_at_is, bytes_high_first, ccm_counter_block, ccm_stream, ccm_text, div-eq_of_lt, drop-append-le, drop-replicate, in_bytes, length-replicate, length-xor_bytes, masks, number_block, pow-le-pow_right, power_of_256, to_be_bytes, w128, xor_bytes, xor_bytes-append, xor_bytes_to_end, xor_zero_l, xor_zero_r}
+use Rattle.std.specs.Int.{w64}
+use Rattle.std.proofs.lemmas.List.{length-append, length-drop, length-take, take-append-drop, drop_at, drop-drop, append_assoc, append-nil}
 use Rattle.crypto_specs.proofs.Blocks.{length-aes_encrypt}
-use Rattle.crypto_specs.proofs.XorBytes.{length-xor_bytes, xor_bytes-append, xor_bytes_to_end}
-use Rattle.cipher_blocks.proofs.BlockNumbers.{block_of_xor, byte_at_is, power_of_256}
-use Rattle.aead_ccm.specs.Counting.{masks}
 use Rattle.aead_ccm.specs.Lengths.{IsNonceLength, IsPayloadLength}
 use Rattle.aead_ccm.proofs.Formats.{last_bytes}
 

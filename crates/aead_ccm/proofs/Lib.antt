@@ -1,3 +1,4 @@
+mod Common
 pub mod FilledBlocks
 pub mod Formats
 pub mod Payloads

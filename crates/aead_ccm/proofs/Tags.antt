@@ -1,8 +1,6 @@
 -- The tag of a payload.
-use Rattle.std.proofs.Common.{◌≡◌, ℕ, List, ◌∷◌, length, take, bit_xor, ap, ap₂, ◌∙◌}
-use Rattle.crypto_specs.specs.Prelude.{xor_bytes, number_block, chained, ccm_counter_block, ccm_tag, control_block, encoded_data, filled_blocks, formatted_blocks}
-use Rattle.cipher_blocks.proofs.BlockNumbers.{block_of_xor}
-use Rattle.aead_ccm.specs.Chaining.{chained_from}
+use Rattle.std.proofs.Common.{List, ap, ap₂, bit_xor, length, take, ℕ, ◌∙◌, ◌∷◌, ◌≡◌}
+use Rattle.aead_ccm.proofs.Common.{block_of_xor, ccm_counter_block, ccm_tag, chained, chained_from, control_block, encoded_data, filled_blocks, formatted_blocks, number_block, xor_bytes}
 use Rattle.aead_ccm.proofs.Chains.{payload_chained}
 
 pub tag_is : (e : List ℕ → List ℕ) (nonce ad payload : List ℕ) (t chain mac first mask : ℕ)

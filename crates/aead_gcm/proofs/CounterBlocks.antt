@@ -1,5 +1,5 @@
 -- Counter blocks, and the key stream.
-use Rattle.std.proofs.Common.{◌≡◌, ℕ, zero, suc, ◌+◌, ◌*◌, ◌/◌, ◌%◌, ◌^◌, List, [], ◌++◌, length, refl, ap, ◌∙◌, add-one, arith}
+use Rattle.std.proofs.Common.{List, [], add-one, ap, arith, length, refl, suc, zero, ℕ, ◌%◌, ◌*◌, ◌++◌, ◌+◌, ◌/◌, ◌^◌, ◌∙◌, ◌≡◌}
 use Rattle.std.proofs.lemmas.Bool.{eq-eqb, ne_eqb}
 use Rattle.std.proofs.lemmas.List.{length-append}
 use Rattle.crypto_specs.specs.Prelude.{aes_encrypt, block_number, number_block, gcm_stream, increased, ghash_of, initial_counter_block, hash_subkey}

@@ -1,6 +1,5 @@
 -- GHASH block by block.
-use Rattle.std.proofs.Common.{◌≡◌, ℕ, suc, ◌+◌, ◌-◌, ◌*◌, ◌<◌, List, [], ◌∷◌, ◌++◌, length, take, drop, bit_xor, refl, sym, ap, ap₂, ◌∙◌, arith}
-use Rattle.std.specs.Prelude.{map, min}
+use Rattle.std.proofs.Common.{List, [], ap, ap₂, arith, bit_xor, drop, length, map, min, refl, suc, sym, take, ℕ, ◌*◌, ◌++◌, ◌+◌, ◌-◌, ◌<◌, ◌∙◌, ◌∷◌, ◌≡◌}
 use Rattle.std.proofs.lemmas.List.{drop-drop, take_min, length-drop}
 use Rattle.crypto_specs.specs.Prelude.{ghash_from, block_product, blocks, block_count, block_number, numbers_of, ghash_of, length_block}
 

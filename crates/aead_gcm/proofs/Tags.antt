@@ -1,5 +1,5 @@
 -- The tag of a text, and the text.
-use Rattle.std.proofs.Common.{◌≡◌, ℕ, List, length, take, ap, ap₂, ◌∙◌}
+use Rattle.std.proofs.Common.{List, ap, ap₂, length, take, ℕ, ◌∙◌, ◌≡◌}
 use Rattle.crypto_specs.specs.Prelude.{xor_bytes, block_count, number_block, gcm_stream, ghash_of, initial_counter_block, hash_subkey, gcm_tag, gcm_text}
 
 pub tag_is : (e : List ℕ → List ℕ) (nonce ad text whole : List ℕ) (h y t : ℕ) → h ≡ hash_subkey e → (h ≡ hash_subkey e → y ≡ initial_counter_block e nonce)

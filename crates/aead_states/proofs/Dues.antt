@@ -1,5 +1,5 @@
 -- More text only adds to the output that is due.
-use Rattle.std.proofs.Common.{◌≡◌, ℕ, zero, suc, ◌+◌, ◌-◌, ◌*◌, ◌≤◌, Bool, true, false, cond, List, [], ◌∷◌, ◌++◌, length, take, drop, bit_xor, refl, sym, ap, ap₂, ◌∙◌, arith}
+use Rattle.std.proofs.Common.{Bool, List, [], ap, ap₂, arith, bit_xor, cond, drop, false, length, refl, suc, sym, take, true, zero, ℕ, ◌*◌, ◌++◌, ◌+◌, ◌-◌, ◌∙◌, ◌∷◌, ◌≡◌, ◌≤◌}
 use Rattle.std.proofs.lemmas.List.{length-append, take_all, take-append-drop, take-append-le}
 use Rattle.crypto_specs.specs.Prelude.{aes_encrypt, xor_bytes, block_count, number_block, ccm_counter_block, ccm_stream, ccm_text, increased, initial_counter_block, gcm_stream, gcm_text}
 use Rattle.crypto_specs.proofs.Blocks.{length-aes_encrypt}

@@ -1,6 +1,5 @@
 -- What runs, by the algorithm and the direction.
-use Rattle.std.proofs.Common.{◌≡◌, ℕ, ◌≤◌, Bool, true, false, List, [], length, refl, sym, subst}
-use Rattle.std.specs.Prelude.{MatchBool}
+use Rattle.std.proofs.Common.{Bool, List, MatchBool, [], false, length, refl, subst, sym, true, ℕ, ◌≡◌, ◌≤◌}
 use Rattle.std.proofs.lemmas.Bool.{MatchBool-at_true, MatchBool-at_false}
 use Rattle.crypto_specs.specs.Prelude.{aes_encrypt, ccm_tag, ccm_text, gcm_tag, gcm_text}
 use Rattle.aead_streams.specs.GcmStates.{HoldsGcmData, HoldsGcmText}

@@ -1,11 +1,8 @@
 -- The chain over a text in pieces.
-use Rattle.std.proofs.Common.{◌≡◌, ℕ, ◌-◌, ◌<◌, ◌≤◌, List, [], ◌∷◌, ◌++◌, length, take, drop, bit_xor, replicate, refl, sym, ap, ap₂, ◌∙◌, arith}
-use Rattle.std.proofs.lemmas.List.{length-append, length-replicate, length-take, take-append-drop, take_at, drop_at, take_all, drop_all, append-nil, append_assoc}
+use Rattle.std.proofs.Common.{List, [], ap, ap₂, arith, bit_xor, drop, length, refl, replicate, sym, take, ℕ, ◌++◌, ◌-◌, ◌<◌, ◌∙◌, ◌∷◌, ◌≡◌, ◌≤◌}
+use Rattle.aead_streams.proofs.Common.{block_of_xor, chained, chained_from, drop_all, filled_block, filled_blocks, length-number_block, length-replicate, number_block, xor_bytes}
+use Rattle.std.proofs.lemmas.List.{length-append, length-take, take-append-drop, take_at, drop_at, take_all, append-nil, append_assoc}
 use Rattle.std.specs.Int.Bits.{xor_zero_l}
-use Rattle.crypto_specs.specs.Prelude.{xor_bytes, number_block, chained, filled_blocks}
-use Rattle.crypto_specs.proofs.Blocks.{length-number_block}
-use Rattle.cipher_blocks.proofs.BlockNumbers.{block_of_xor}
-use Rattle.aead_ccm.specs.Chaining.{filled_block, chained_from}
 use Rattle.aead_ccm.proofs.FilledBlocks.{filled_blocks-empty}
 use Rattle.aead_ccm.proofs.Chains.{front_chained}
 

@@ -1,10 +1,8 @@
 -- A payload under the key stream, in pieces.
-use Rattle.std.proofs.Common.{◌≡◌, ℕ, ◌+◌, ◌≤◌, List, ◌++◌, length, sym, ap, ap₂, ◌∙◌, arith}
+use Rattle.std.proofs.Common.{List, ap, ap₂, arith, length, sym, ℕ, ◌++◌, ◌+◌, ◌∙◌, ◌≡◌, ◌≤◌}
+use Rattle.aead_streams.proofs.Common.{Whole, aes_encrypt, ccm_counter_block, ccm_text, number_block, text_xor}
 use Rattle.std.proofs.lemmas.List.{length-append}
-use Rattle.crypto_specs.specs.Prelude.{aes_encrypt, number_block, ccm_counter_block, ccm_text}
 use Rattle.aead_ccm.specs.Lengths.{IsNonceLength, IsPayloadLength}
-use Rattle.aead_streams.specs.declared.counter_width.CounterWidth.TheVariants.{Whole}
-use Rattle.aead_streams.specs.Counters.{text_xor}
 use Rattle.aead_streams.proofs.StreamLaws.{text_xor-append, length-text_xor}
 use Rattle.aead_streams.proofs.ModeStreams.{aes_keeps_length}
 use Rattle.aead_streams.proofs.CcmStreams.{ccm_is_from}

@@ -1,13 +1,9 @@
 -- The stream of CCM is a key stream, as far as its counters go.
-use Rattle.std.proofs.Common.{◌≡◌, ℕ, zero, suc, ◌+◌, ◌-◌, ◌*◌, ◌/◌, ◌%◌, ◌^◌, ◌<◌, ◌≤◌, List, ◌∷◌, ◌++◌, length, take, drop, refl, sym, ap, ap₂, subst, ◌∙◌, arith}
-use Rattle.std.specs.Int.{bytes_high_first}
+use Rattle.std.proofs.Common.{List, ap, ap₂, arith, drop, length, refl, subst, suc, sym, take, zero, ℕ, ◌%◌, ◌*◌, ◌++◌, ◌+◌, ◌-◌, ◌/◌, ◌<◌, ◌^◌, ◌∙◌, ◌∷◌, ◌≡◌, ◌≤◌}
+use Rattle.aead_streams.proofs.Common.{AreBytes, KeepsLength, Whole, block_count, block_number, block_of_number, byte_at_is, bytes-append, bytes_high_first, ccm_counter_block, ccm_stream, ccm_text, div-mul-add, in_bytes, length-bytes_high_first, mod-mul-add, number_block, pow-le-pow_right, power_of_256, stream_block, text_xor}
 use Rattle.std.proofs.lemmas.List.{take_at, drop_at, length-append}
-use Rattle.std.proofs.lemmas.Nat.{div-mul-add, mod-mul-add, div-add-mod'}
-use Rattle.std.proofs.Math.Nat.{pow-le-pow_right, mod-eq_of_lt}
-use Rattle.crypto_specs.specs.Prelude.{block_count, block_number, number_block, in_bytes, ccm_counter_block, ccm_stream, ccm_text, KeepsLength}
-use Rattle.cipher_blocks.proofs.BlockNumbers.{AreBytes, bytes-append, block_of_number, byte_at_is, length-bytes_high_first, power_of_256}
-use Rattle.aead_streams.specs.declared.counter_width.CounterWidth.TheVariants.{Whole}
-use Rattle.aead_streams.specs.Counters.{stream_block, text_xor}
+use Rattle.std.proofs.lemmas.Nat.{div-add-mod'}
+use Rattle.std.proofs.Math.Nat.{mod-eq_of_lt}
 use Rattle.aead_streams.proofs.StreamLaws.{further_piece}
 use Rattle.aead_streams.proofs.HighFirst.{high_and_low, same_bytes, same_remainder}
 use Rattle.aead_streams.proofs.ModeStreams.{text_is}

@@ -1,13 +1,10 @@
 -- The chain over the associated data and the payload, and its tag.
-use Rattle.std.proofs.Common.{◌≡◌, ℕ, ◌<◌, List, [], ◌∷◌, ◌++◌, length, take, bit_xor, refl, sym, ap, ap₂, ◌∙◌, inl, inr, arith}
+use Rattle.std.proofs.Common.{List, [], ap, ap₂, arith, bit_xor, inl, inr, length, refl, sym, take, ℕ, ◌++◌, ◌<◌, ◌∙◌, ◌∷◌, ◌≡◌}
+use Rattle.aead_streams.proofs.Common.{block_of_xor, ccm_counter_block, ccm_tag, chain_step, chained, chained_from, control_block, data_front, encoded_data, encoded_length, filled_blocks, formatted_blocks, number_block, xor_bytes}
 use Rattle.std.proofs.lemmas.Bool.Decides.{eqb_tells}
 use Rattle.std.proofs.lemmas.List.{append-nil}
 use Rattle.std.proofs.lemmas.List.Sums.{fold-append}
-use Rattle.crypto_specs.specs.Prelude.{xor_bytes, number_block, chain_step, chained, ccm_counter_block, ccm_tag, control_block, encoded_data, encoded_length, filled_blocks, formatted_blocks}
-use Rattle.cipher_blocks.proofs.BlockNumbers.{block_of_xor}
-use Rattle.aead_ccm.specs.Chaining.{chained_from}
 use Rattle.aead_ccm.proofs.Formats.{no_data, some_data}
-use Rattle.aead_streams.specs.Chains.{data_front}
 
 data_front-some : (a : ℕ) → 0 < a → data_front a ≡ encoded_length a
 data_front-some a h = elim (eqb_tells a 0) [ inl p ↦ absurd (omega (arith, p.1)) | inr p ↦ rw p.0 refl ]

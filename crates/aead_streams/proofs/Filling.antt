@@ -1,9 +1,7 @@
 -- Blocks whose end is zeros.
-use Rattle.std.proofs.Common.{◌≡◌, ℕ, ◌+◌, ◌-◌, ◌≤◌, List, ◌++◌, length, take, drop, sym, ap, ◌∙◌, arith}
-use Rattle.std.specs.Prelude.{replicate}
-use Rattle.std.proofs.lemmas.List.{take-append-drop, drop_at, drop-replicate, length-append, length-take}
-use Rattle.crypto_specs.specs.Prelude.{block_number}
-use Rattle.crypto_specs.proofs.Blocks.{number_of_filled}
+use Rattle.std.proofs.Common.{List, ap, arith, drop, length, replicate, sym, take, ℕ, ◌++◌, ◌+◌, ◌-◌, ◌∙◌, ◌≡◌, ◌≤◌}
+use Rattle.aead_streams.proofs.Common.{block_number, drop-replicate, number_of_filled}
+use Rattle.std.proofs.lemmas.List.{take-append-drop, drop_at, length-append, length-take}
 use Rattle.aead_streams.specs.Filled.{HasZerosPast}
 
 -- the bytes in use have the number of the block

@@ -1,11 +1,7 @@
 -- The text and the tag of GCM, part by part.
-use Rattle.std.proofs.Common.{◌≡◌, ℕ, ◌+◌, List, ◌++◌, length, take, bit_xor, refl, sym, ap, ap₂, ◌∙◌, arith}
-use Rattle.crypto_specs.specs.Prelude.{aes_encrypt, xor_bytes, ghash_from, block_product, number_block, initial_counter_block, gcm_tag, gcm_text, ghash_of, hash_subkey, increased, length_block, numbers_of}
-use Rattle.cipher_blocks.proofs.BlockNumbers.{block_of_xor}
-use Rattle.aead_gcm.proofs.GhashSteps.{in_turn}
+use Rattle.std.proofs.Common.{List, ap, ap₂, arith, bit_xor, length, refl, sym, take, ℕ, ◌++◌, ◌+◌, ◌∙◌, ◌≡◌}
+use Rattle.aead_streams.proofs.Common.{Low32, aes_encrypt, block_of_xor, block_product, gcm_tag, gcm_text, ghash_from, ghash_of, hash_subkey, in_turn, increased, initial_counter_block, length_block, number_block, numbers_of, text_xor, xor_bytes}
 use Rattle.aead_gcm.proofs.Tags.{tag_is}
-use Rattle.aead_streams.specs.declared.counter_width.CounterWidth.TheVariants.{Low32}
-use Rattle.aead_streams.specs.Counters.{text_xor}
 use Rattle.aead_streams.proofs.ModeStreams.{aes_keeps_length, gcm_is}
 use Rattle.aead_streams.proofs.StreamLaws.{text_xor-append, length-text_xor}
 use Rattle.aead_streams.specs.GcmStates.{HoldsGcmText}

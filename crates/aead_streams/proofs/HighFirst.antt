@@ -1,10 +1,9 @@
 -- Numbers in bytes, first byte highest.
-use Rattle.std.proofs.Common.{◌≡◌, ℕ, zero, suc, ◌+◌, ◌*◌, ◌/◌, ◌%◌, ◌^◌, ◌<◌, List, ◌∷◌, ◌++◌, refl, sym, ap, ap₂, ◌∙◌, arith}
-use Rattle.std.specs.Int.{byte_at, bytes_high_first}
-use Rattle.std.proofs.Math.Nat.{pow-suc, mul_comm, div-div-eq-div-mul}
+use Rattle.std.proofs.Common.{List, ap, ap₂, arith, refl, suc, sym, zero, ℕ, ◌%◌, ◌*◌, ◌++◌, ◌+◌, ◌/◌, ◌<◌, ◌^◌, ◌∙◌, ◌∷◌, ◌≡◌}
+use Rattle.aead_streams.proofs.Common.{byte_at, byte_at_is, bytes_high_first, div-div-eq-div-mul, mod_below, power_positive, same_from_place}
+use Rattle.std.proofs.Math.Nat.{pow-suc, mul_comm}
 use Rattle.std.proofs.Math.Arith.{mod-mul}
-use Rattle.std.proofs.lemmas.Nat.{pow-add, same_from_place, mod_below}
-use Rattle.cipher_blocks.proofs.BlockNumbers.{byte_at_is, power_positive}
+use Rattle.std.proofs.lemmas.Nat.{pow-add}
 
 -- the high bytes are those of the quotient
 pub high_and_low : (h k n : ℕ) → bytes_high_first (h + k) n ≡ bytes_high_first h (n / 256 ^ k) ++ bytes_high_first k n

@@ -1,3 +1,4 @@
+mod Common
 pub mod HashSteps
 pub mod TextHashing
 pub mod GcmTexts

@@ -1,12 +1,7 @@
 -- The streams of CTR and GCM are key streams.
-use Rattle.std.proofs.Common.{◌≡◌, ℕ, zero, suc, ◌+◌, ◌-◌, ◌*◌, ◌/◌, ◌%◌, ◌<◌, ◌≤◌, List, [], ◌++◌, length, drop, slice_index, refl, ap, ap₂, ◌∙◌, inl, inr, arith}
-use Rattle.std.proofs.lemmas.Bool.{cases_lt}
-use Rattle.std.proofs.lemmas.List.{length-append, get_or_append_left, get_or-append_right}
-use Rattle.crypto_specs.specs.Prelude.{xor_bytes, block_count, block_number, number_block, counter_block, key_stream, ctr_xor, increased, initial_counter_block, gcm_stream, gcm_text, KeepsLength, aes_encrypt}
-use Rattle.crypto_specs.proofs.Blocks.{length-number_block, length-aes_encrypt}
-use Rattle.aead_streams.specs.declared.counter_width.CounterWidth.{CounterWidth}
-use Rattle.aead_streams.specs.declared.counter_width.CounterWidth.TheVariants.{Whole, Low32}
-use Rattle.aead_streams.specs.Counters.{counted, stream_block, byte_of_stream, text_xor}
+use Rattle.std.proofs.Common.{List, [], ap, ap₂, arith, drop, inl, inr, length, refl, slice_index, suc, zero, ℕ, ◌%◌, ◌*◌, ◌++◌, ◌+◌, ◌-◌, ◌/◌, ◌<◌, ◌∙◌, ◌≡◌, ◌≤◌}
+use Rattle.aead_streams.proofs.Common.{CounterWidth, KeepsLength, Low32, Whole, aes_encrypt, block_count, block_number, byte_of_stream, cases_lt, counted, counter_block, ctr_xor, gcm_stream, gcm_text, get_or-append_right, get_or_append_left, increased, initial_counter_block, key_stream, length-aes_encrypt, length-number_block, number_block, stream_block, text_xor, xor_bytes}
+use Rattle.std.proofs.lemmas.List.{length-append}
 use Rattle.aead_streams.proofs.StreamLaws.{by_byte, further_piece}
 
 pub aes_keeps_length : (key : List ℕ) → KeepsLength (aes_encrypt key)

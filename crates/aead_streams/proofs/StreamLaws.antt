@@ -1,9 +1,7 @@
 -- Laws of the key stream.
-use Rattle.std.proofs.Common.{◌≡◌, ℕ, suc, ◌+◌, ◌<◌, ◌≤◌, List, [], ◌∷◌, ◌++◌, length, drop, slice_index, bit_xor, refl, ap, ap₂, ◌∙◌, arith}
+use Rattle.std.proofs.Common.{List, [], ap, ap₂, arith, bit_xor, drop, length, refl, slice_index, suc, ℕ, ◌++◌, ◌+◌, ◌<◌, ◌∙◌, ◌∷◌, ◌≡◌, ◌≤◌}
+use Rattle.aead_streams.proofs.Common.{CounterWidth, byte_of_stream, text_xor, xor_bytes}
 use Rattle.std.proofs.lemmas.List.{drop_at}
-use Rattle.crypto_specs.specs.Prelude.{xor_bytes}
-use Rattle.aead_streams.specs.declared.counter_width.CounterWidth.{CounterWidth}
-use Rattle.aead_streams.specs.Counters.{byte_of_stream, text_xor}
 
 module _ (e : List ℕ → List ℕ) (width : CounterWidth) (start : ℕ) where
   -- any cutting: the second part goes on where the first ended

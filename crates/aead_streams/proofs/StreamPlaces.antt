@@ -1,13 +1,9 @@
 -- A key stream's place, one block and one piece on.
-use Rattle.std.proofs.Common.{◌≡◌, ℕ, ◌+◌, ◌-◌, ◌/◌, ◌%◌, ◌^◌, ◌<◌, ◌≤◌, List, ◌++◌, length, take, drop, slice_index, sym, ap, ap₂, ◌∙◌, append_assoc, arith}
+use Rattle.std.proofs.Common.{List, ap, append_assoc, ap₂, arith, drop, length, slice_index, sym, take, ℕ, ◌%◌, ◌++◌, ◌+◌, ◌-◌, ◌/◌, ◌<◌, ◌^◌, ◌∙◌, ◌≡◌, ◌≤◌}
+use Rattle.aead_streams.proofs.Common.{CounterWidth, IsAt, Low32, Whole, byte_of_stream, counted, increased, number_block, stream_block, text_xor, xor_bytes}
 use Rattle.std.proofs.Math.Seq.{take-add}
 use Rattle.std.proofs.lemmas.List.{get_or-drop, length-drop, length-take, take_at, drop_at, drop-drop}
-use Rattle.crypto_specs.specs.Prelude.{xor_bytes, number_block, increased}
-use Rattle.aead_streams.specs.declared.counter_width.CounterWidth.{CounterWidth}
-use Rattle.aead_streams.specs.declared.counter_width.CounterWidth.TheVariants.{Whole, Low32}
 use Rattle.aead_streams.specs.declared.key_stream.KeyStream.{KeyStream}
-use Rattle.aead_streams.specs.Counters.{counted, stream_block, byte_of_stream, text_xor}
-use Rattle.aead_streams.specs.Streams.{IsAt}
 use Rattle.aead_streams.proofs.StreamLaws.{by_byte, text_xor-append, length-text_xor}
 
 start_counted : (width : CounterWidth) (start : ℕ) → start < 2 ^ 128 → start ≡ counted width start 0

@@ -1,11 +1,7 @@
 -- The steps of a hash of a text in pieces.
-use Rattle.std.proofs.Common.{◌≡◌, ℕ, ◌+◌, ◌-◌, ◌*◌, ◌/◌, ◌<◌, ◌≤◌, List, [], ◌∷◌, ◌++◌, length, take, drop, bit_xor, refl, sym, ap, ap₂, subst, ◌∙◌, append_assoc, inl, inr, arith}
-use Rattle.std.specs.Prelude.{◌⊎◌, min}
-use Rattle.std.proofs.lemmas.Bool.{cases_lt}
-use Rattle.std.proofs.lemmas.List.{length-append, length-drop, drop-append-le, length-take, take-append-drop, drop-drop, take_all, drop_all, append-nil}
-use Rattle.crypto_specs.specs.Prelude.{ghash_from, block_product, blocks, block_count, block_number, numbers_of}
-use Rattle.aead_gcm.proofs.GhashSteps.{rest_from}
-use Rattle.aead_streams.specs.TextHashes.{HasTaken}
+use Rattle.std.proofs.Common.{List, [], ap, append_assoc, ap₂, arith, bit_xor, drop, inl, inr, length, min, refl, subst, sym, take, ℕ, ◌*◌, ◌++◌, ◌+◌, ◌-◌, ◌/◌, ◌<◌, ◌∙◌, ◌∷◌, ◌≡◌, ◌≤◌, ◌⊎◌}
+use Rattle.aead_streams.proofs.Common.{HasTaken, block_count, block_number, block_product, blocks, cases_lt, drop-append-le, drop_all, ghash_from, numbers_of, rest_from}
+use Rattle.std.proofs.lemmas.List.{length-append, length-drop, length-take, take-append-drop, drop-drop, take_all, append-nil}
 use Rattle.aead_streams.specs.declared.text_hash.TextHash.{TextHash}
 use Rattle.aead_streams.proofs.HashSteps.{rest-append, rest_split, one_block}
 

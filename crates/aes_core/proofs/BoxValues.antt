@@ -1,10 +1,6 @@
 -- The tables hold the S-box, its inverse and the round constants.
-use Rattle.std.proofs.Common.{◌≡◌, ℕ, ◌-◌, ◌*◌, ◌/◌, ◌<◌, ◌≤◌, true, slice_index, refl, arith}
-use Rattle.std.proofs.lemmas.Nat.{div_below}
-use Rattle.crypto_specs.specs.Field.{sum_of_shifts}
-use Rattle.crypto_specs.specs.Prelude.{inverse_from, affine_bits, sbox, inv_affine_bits, inv_sbox, power_of_x}
-use Rattle.crypto_specs.proofs.Tables.{holds_values, value_of}
-use Rattle.aes_core.specs.declared.tables.TheConstants.{SBOX, INV_SBOX}
+use Rattle.std.proofs.Common.{arith, refl, slice_index, true, ℕ, ◌*◌, ◌-◌, ◌/◌, ◌<◌, ◌≡◌, ◌≤◌}
+use Rattle.aes_core.proofs.Common.{INV_SBOX, SBOX, affine_bits, div_below, holds_values, inv_affine_bits, inv_sbox, inverse_from, power_of_x, sbox, sum_of_shifts, value_of}
 use Rattle.aes_core.specs.declared.schedule.TheConstants.{ROUND_CONSTANTS}
 
 sbox-test : holds_values sbox 0 SBOX ≡ true

@@ -1,11 +1,6 @@
 -- Four table entries sum up to a column.
-use Rattle.std.proofs.Common.{◌≡◌, ℕ, zero, suc, ◌+◌, ◌*◌, ◌%◌, ◌<◌, List, [], ◌∷◌, ◌++◌, slice_index, bit_xor, refl, sym, ap, ap₂, ◌∙◌, arith}
-use Rattle.std.specs.Int.{byte_at}
-use Rattle.std.specs.Int.Bits.{xor_assoc}
-use Rattle.std.proofs.lemmas.Nat.{xor_comm, be_bytes_4}
-use Rattle.crypto_specs.specs.Prelude.{gf_mul}
-use Rattle.crypto_specs.proofs.FieldLaws.{gf_mul-byte}
-use Rattle.aes_core.specs.Words.{bytes_of, mixed_column, products}
+use Rattle.std.proofs.Common.{List, [], ap, ap₂, arith, bit_xor, refl, slice_index, suc, sym, zero, ℕ, ◌%◌, ◌*◌, ◌++◌, ◌+◌, ◌<◌, ◌∙◌, ◌∷◌, ◌≡◌}
+use Rattle.aes_core.proofs.Common.{be_bytes_4, byte_at, bytes_of, gf_mul, gf_mul-byte, mixed_column, products, xor_assoc, xor_comm}
 use Rattle.aes_core.proofs.WordBytes.{byte_of_xor-0, byte_of_xor-1, byte_of_xor-2, byte_of_xor-3, row_0, row_1, row_2, row_3, four_words}
 
 -- the bytes of a word of products

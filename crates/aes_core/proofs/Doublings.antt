@@ -1,10 +1,7 @@
 -- Products by the constants of InvMixColumns, as sums of doublings.
-use Rattle.std.proofs.Common.{◌≡◌, ℕ, ◌+◌, ◌-◌, ◌*◌, ◌%◌, ◌^◌, ◌<◌, ◌≤◌, bit_xor, zero-add, sym, ap, ◌∙◌, arith, false}
-use Rattle.std.specs.Prelude.{nat_lt}
-use Rattle.std.specs.Int.Bits.{xor_zero_r, xor_assoc, xor_block}
+use Rattle.std.proofs.Common.{ap, arith, bit_xor, false, nat_lt, sym, zero-add, ℕ, ◌%◌, ◌*◌, ◌+◌, ◌-◌, ◌<◌, ◌^◌, ◌∙◌, ◌≡◌, ◌≤◌}
+use Rattle.aes_core.proofs.Common.{gf_mul, sum_of_shifts, xor_assoc, xor_block, xor_zero_r, xtime}
 use Rattle.std.proofs.lemmas.Bool.{le-ltb}
-use Rattle.crypto_specs.specs.Field.{sum_of_shifts}
-use Rattle.crypto_specs.specs.Prelude.{xtime, gf_mul}
 
 pub gf_mul-9 : (b : ℕ) → gf_mul 9 b ≡ bit_xor b (xtime (xtime (xtime b)))
 unfolding sum_of_shifts

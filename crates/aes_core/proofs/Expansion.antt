@@ -1,10 +1,8 @@
 -- The key schedule, word by word.
-use Rattle.std.proofs.Common.{◌≡◌, ℕ, zero, suc, ◌+◌, ◌-◌, ◌*◌, ◌%◌, ◌/◌, ◌<◌, ◌≤◌, List, [], ◌∷◌, ◌++◌, length, take, set, slice_index, bit_xor, refl, sym, ap, ap₂, ◌∙◌, take-take, length-append, arith}
-use Rattle.std.proofs.Math.Seq.{take-length}
+use Rattle.std.proofs.Common.{List, [], ap, ap₂, arith, bit_xor, length, length-append, refl, set, slice_index, suc, sym, take, take-take, zero, ℕ, ◌%◌, ◌*◌, ◌++◌, ◌+◌, ◌-◌, ◌/◌, ◌<◌, ◌∙◌, ◌∷◌, ◌≡◌, ◌≤◌}
+use Rattle.aes_core.proofs.Common.{IsKey, add_word, bytes_of, expanded, key_schedule, next_word, power_of_x, rot_word, round_count, schedule_core, sub_word, take-length, xor_words}
 use Rattle.std.proofs.lemmas.Bool.{eq-eqb}
 use Rattle.std.proofs.lemmas.List.{get_or-take, take-append-le, take_more_set}
-use Rattle.crypto_specs.specs.Prelude.{IsKey, xor_words, sub_word, rot_word, power_of_x, schedule_core, next_word, add_word, expanded, key_schedule, round_count}
-use Rattle.aes_core.specs.Words.{bytes_of}
 use Rattle.aes_core.proofs.WordBytes.{bytes_of-take, bytes_of-append, bytes_of_xor, word_at_is}
 
 -- the first of the three cases

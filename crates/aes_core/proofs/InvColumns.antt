@@ -1,11 +1,6 @@
 -- Round keys that InvMixColumns is taken of.
-use Rattle.std.proofs.Common.{◌≡◌, ℕ, ◌+◌, ◌-◌, ◌*◌, ◌<◌, ◌≤◌, List, [], ◌∷◌, ◌++◌, ◌⊎◌, slice_index, bit_xor, refl, sym, ap, ap₂, ◌∙◌, inl, inr, arith}
-use Rattle.std.specs.Int.{byte_at}
-use Rattle.crypto_specs.specs.Prelude.{gf_mul, sbox, inv_sbox, state_of, entry, mixed, add_round_key, inv_sub_bytes, inv_shift_rows, inv_mix_columns, inv_rounds}
-use Rattle.crypto_specs.proofs.FieldLaws.{xor_four, gf_mul-xor}
-use Rattle.crypto_specs.proofs.CipherInverseBytes.{inv_sbox-byte, inv_sbox_of_sbox}
-use Rattle.aes_core.specs.Words.{bytes_of, mixed_column, inv_mixed_word}
-use Rattle.aes_core.specs.KeyFields.{IsInvScheduleOf}
+use Rattle.std.proofs.Common.{List, [], ap, ap₂, arith, bit_xor, inl, inr, refl, slice_index, sym, ℕ, ◌*◌, ◌++◌, ◌+◌, ◌-◌, ◌<◌, ◌∙◌, ◌∷◌, ◌≡◌, ◌≤◌, ◌⊎◌}
+use Rattle.aes_core.proofs.Common.{IsInvScheduleOf, add_round_key, byte_at, bytes_of, entry, gf_mul, gf_mul-xor, inv_mix_columns, inv_mixed_word, inv_rounds, inv_sbox, inv_sbox-byte, inv_sbox_of_sbox, inv_shift_rows, inv_sub_bytes, mixed, mixed_column, sbox, state_of, xor_four}
 use Rattle.aes_core.proofs.WordBytes.{row_0, row_1, row_2, row_3}
 use Rattle.aes_core.proofs.ColumnSums.{list_of}
 use Rattle.aes_core.proofs.RoundKeys.{inv_rounds_next}

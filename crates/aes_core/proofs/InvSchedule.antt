@@ -1,9 +1,8 @@
 -- The schedule of the equivalent inverse cipher, word by word.
-use Rattle.std.proofs.Common.{◌≡◌, ℕ, ◌+◌, ◌*◌, ◌<◌, ◌≤◌, ◌⊎◌, List, [], ◌∷◌, length, set, slice_index, refl, ap, ◌∙◌, inl, inr, arith}
+use Rattle.std.proofs.Common.{List, [], ap, arith, inl, inr, length, refl, set, slice_index, ℕ, ◌*◌, ◌+◌, ◌<◌, ◌∙◌, ◌∷◌, ◌≡◌, ◌≤◌, ◌⊎◌}
+use Rattle.aes_core.proofs.Common.{IsInvScheduleOf, bytes_of, inv_mixed_word}
 use Rattle.std.proofs.lemmas.Bool.{cases_eq}
 use Rattle.std.proofs.lemmas.List.{get_or-set_same, get_or-set_other}
-use Rattle.aes_core.specs.Words.{bytes_of, inv_mixed_word}
-use Rattle.aes_core.specs.KeyFields.{IsInvScheduleOf}
 
 -- InvMixColumns is taken of the words from 4 up to n, and the others are those of the schedule
 pub record IsDoneBelow (n : ℕ) (schedule inverse : List ℕ) : Type 0 where

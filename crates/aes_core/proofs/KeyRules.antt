@@ -1,9 +1,7 @@
 -- What the fields of a key say of the ciphers under it.
-use Rattle.std.proofs.Common.{◌≡◌, ℕ, ◌+◌, ◌-◌, ◌*◌, List, length, take, sym, ap, ◌∙◌, inl, inr, arith}
-use Rattle.crypto_specs.specs.Prelude.{cipher, aes_encrypt, IsKey, inv_cipher, aes_decrypt, key_schedule}
-use Rattle.aes_core.specs.Words.{bytes_of}
+use Rattle.std.proofs.Common.{List, ap, arith, inl, inr, length, sym, take, ℕ, ◌*◌, ◌+◌, ◌-◌, ◌∙◌, ◌≡◌}
+use Rattle.aes_core.proofs.Common.{IsKey, IsReadyOrWiped, IsScheduleOf, aes_decrypt, aes_encrypt, bytes_of, cipher, inv_cipher, key_of, key_schedule}
 use Rattle.aes_core.proofs.WordBytes.{bytes_of-take}
-use Rattle.aes_core.specs.KeyFields.{IsScheduleOf, IsReadyOrWiped, key_of}
 use Rattle.aes_core.proofs.RoundKeys.{AgreeBelow, agree_taken, cipher_same, inv_cipher_same}
 
 -- what the fields of a key that is not wiped stand for

@@ -1,3 +1,4 @@
+mod Common
 pub mod BoxValues
 pub mod Doublings
 pub mod WordBytes

@@ -1,11 +1,6 @@
 -- The tables of the rounds and of the inverse rounds, entry by entry.
-use Rattle.std.proofs.Common.{◌≡◌, ℕ, ◌<◌, true, List, [], ◌∷◌, length, get_or, slice_index, bit_xor, refl, ap, ◌∙◌, arith}
-use Rattle.crypto_specs.specs.Field.{sum_of_shifts}
-use Rattle.crypto_specs.proofs.Tables.{holds_values, value_of}
-use Rattle.aes_core.specs.Words.{bytes_of, mixed_column, products}
-use Rattle.aes_core.specs.declared.tables.TheConstants.{SBOX, INV_SBOX}
-use Rattle.aes_core.specs.declared.mixed_tables.TheConstants.{MIXED_ROWS}
-use Rattle.aes_core.specs.declared.inv_mixed_tables.TheConstants.{INV_MIXED_ROWS}
+use Rattle.std.proofs.Common.{List, [], ap, arith, bit_xor, get_or, length, refl, slice_index, true, ℕ, ◌<◌, ◌∙◌, ◌∷◌, ◌≡◌}
+use Rattle.aes_core.proofs.Common.{INV_MIXED_ROWS, INV_SBOX, MIXED_ROWS, SBOX, bytes_of, holds_values, mixed_column, products, sum_of_shifts, value_of}
 use Rattle.aes_core.proofs.ColumnSums.{column_of_entries}
 
 abbrev pub row : List (List ℕ) → ℕ → List ℕ

@@ -1,7 +1,7 @@
 -- The rounds one after another, and the round keys that they look at.
-use Rattle.std.proofs.Common.{◌≡◌, ℕ, zero, suc, ◌+◌, ◌-◌, ◌*◌, ◌<◌, ◌≤◌, List, take, slice_index, bit_xor, refl, sym, ap, ◌∙◌, arith}
+use Rattle.std.proofs.Common.{List, ap, arith, bit_xor, refl, slice_index, suc, sym, take, zero, ℕ, ◌*◌, ◌+◌, ◌-◌, ◌<◌, ◌∙◌, ◌≡◌, ◌≤◌}
+use Rattle.aes_core.proofs.Common.{add_round_key, cipher, entry, inv_cipher, inv_mix_columns, inv_rounds, inv_shift_rows, inv_sub_bytes, mix_columns, rounds, shift_rows, state_of, sub_bytes}
 use Rattle.std.proofs.lemmas.List.{get_or-take}
-use Rattle.crypto_specs.specs.Prelude.{state_of, entry, add_round_key, rounds, cipher, mix_columns, shift_rows, sub_bytes, inv_rounds, inv_cipher, inv_mix_columns, inv_shift_rows, inv_sub_bytes}
 
 pub rounds_none : (w s : List ℕ) (n : ℕ) → n ≡ 0 → add_round_key w s 0 ≡ rounds w s n
 unfolding rounds

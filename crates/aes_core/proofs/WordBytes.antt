@@ -1,9 +1,7 @@
 -- The bytes of words: sums of words, words among others, and a block as four of them.
-use Rattle.std.proofs.Common.{◌≡◌, ℕ, zero, suc, ◌+◌, ◌*◌, ◌/◌, ◌%◌, ◌^◌, ◌<◌, List, [], ◌∷◌, ◌++◌, length, take, slice_index, bit_xor, refl, sym, ap, ap₂, ◌∙◌, arith}
-use Rattle.std.specs.Int.{byte_at}
-use Rattle.crypto_specs.specs.Prelude.{number_block, add_round_key, word_at, xor_words}
+use Rattle.std.proofs.Common.{List, [], ap, ap₂, arith, bit_xor, length, refl, slice_index, suc, sym, take, zero, ℕ, ◌%◌, ◌*◌, ◌++◌, ◌+◌, ◌/◌, ◌<◌, ◌^◌, ◌∙◌, ◌∷◌, ◌≡◌}
+use Rattle.aes_core.proofs.Common.{add_round_key, byte_at, bytes_of, number_block, word_at, xor_words}
 use Rattle.cipher_blocks.proofs.BlockNumbers.{block_of_xor}
-use Rattle.aes_core.specs.Words.{bytes_of}
 
 -- ---- sums
 

@@ -1,17 +1,10 @@
 -- What is known of callers once a service is closed, from what is known of those that were retired.
-use Rattle.std.proofs.Common.{◌≡◌, ℕ, ◌<◌, ◌≤◌, ◌+◌, List, [], ◌∷◌, ◌++◌, All, length, map, get_or, set, sym, ap, ◌∙◌, subst, arith, inl, inr, length-append, length-set, get_or-set_same, get_or-set_other}
+use Rattle.std.proofs.Common.{All, List, [], ap, arith, get_or, get_or-set_other, get_or-set_same, inl, inr, length, length-append, length-set, map, set, subst, sym, ℕ, ◌++◌, ◌+◌, ◌<◌, ◌∙◌, ◌∷◌, ◌≡◌, ◌≤◌}
+use Rattle.caller_service.proofs.Common.{Caller, Entry, IsClosed, IsClosedOver, IsNewCaller, IsReady, StartsWith, WasRetired, WereRetired, World, account_of, backwards, caller_of, calls_by, entries_of}
 use Rattle.std.proofs.lemmas.Bool.Decides.{eqb_tells}
-use Rattle.caller_service.specs.Closing.{backwards}
 use Rattle.turn_history.specs.declared.pass.Account.{Account}
-use Rattle.turn_history.specs.Prelude.{calls_by, entries_of, StartsWith, account_of}
-use Rattle.store_model.specs.Prelude.{Entry}
-use Rattle.locked_store.specs.Prelude.{IsClosed, caller_of, World}
-use Rattle.callers.specs.Ready.{IsReady}
-use Rattle.callers.specs.declared.caller.Caller.{Caller}
 use Rattle.turn_history.proofs.Lists.{entries-append}
 use Rattle.callers.proofs.Journeys.{begins_through}
-use Rattle.caller_service.specs.Closing.{IsClosedOver, WasRetired, WereRetired}
-use Rattle.caller_service.specs.Staff.{IsNewCaller}
 use Rattle.caller_service.proofs.Lists.{all_reversed, get_left, get_mid}
 
 -- one more new caller

@@ -1,2 +1,3 @@
+mod Common
 pub mod Lists
 pub mod Ended

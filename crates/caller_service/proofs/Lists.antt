@@ -1,8 +1,7 @@
 -- Lists whose elements all have some property.
-use Rattle.std.proofs.Common.{◌≡◌, ℕ, zero, suc, ◌<◌, List, [], ◌∷◌, ◌++◌, All, length, map, get_or, refl, sym, ap, ◌∙◌, subst, arith, length-append}
-use Rattle.caller_service.specs.Closing.{backwards}
-use Rattle.std.proofs.lemmas.List.{map-append}
 
+use Rattle.std.proofs.Common.{All, List, [], ap, arith, get_or, length, length-append, map, refl, subst, suc, sym, zero, ℕ, ◌++◌, ◌<◌, ◌∙◌, ◌∷◌, ◌≡◌}
+use Rattle.caller_service.proofs.Common.{backwards, map-append}
 module _ {X : Type 0} where
   pub get_left : (xs more : List X) (i : ℕ) (d : X) → i < length xs → get_or (xs ++ more) i d ≡ get_or xs i d
   get_left [] more i d lt = absurd (omega arith)

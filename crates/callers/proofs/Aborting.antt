@@ -1,18 +1,6 @@
 -- A caller after an abort.
-use Rattle.std.proofs.Common.{◌≡◌, ℕ, ◌+◌, ◌-◌, ◌*◌, ◌≤◌, Bool, true, false, not, List, refl, sym, ap, ◌∙◌, arith, Option}
-use Rattle.std.proofs.lemmas.Bool.{false≢true}
-use Rattle.turn_history.specs.Prelude.{entries_of, TURNS}
-use Rattle.random_streams.specs.RandomWords.{RandomStream, drawn_from, words_used}
-use Rattle.slot_table.specs.Lent.{Reading}
-use Rattle.store_model.specs.Prelude.{Plain, Abort, Inactive, ends, is_inactive, done, HandleOperation, applied, Request, OnHandle, Entry, outcome_of, replay}
-use Rattle.service_calls.specs.declared.output.Output.TheVariants.{Done}
-use Rattle.locked_store.specs.Prelude.{IsAt, IsEntered, World}
-use Rattle.std.specs.Prelude.{Ok}
-use Rattle.callers.specs.Called.{IsAnswered, KnowsBefore, Legal}
-use Rattle.callers.specs.Handles.{AreOperations, IsChanged, busy, operation_at, with_operation_at}
-use Rattle.callers.specs.Parts.{IsBack}
-use Rattle.callers.specs.Ready.{IsReady}
-use Rattle.callers.specs.declared.caller.Caller.{Caller}
+use Rattle.std.proofs.Common.{Bool, List, Ok, Option, ap, arith, false, not, refl, sym, true, ℕ, ◌*◌, ◌+◌, ◌-◌, ◌∙◌, ◌≡◌, ◌≤◌}
+use Rattle.callers.proofs.Common.{Abort, AreOperations, Caller, Done, Entry, HandleOperation, Inactive, IsAnswered, IsAt, IsBack, IsChanged, IsEntered, IsReady, KnowsBefore, Legal, OnHandle, Plain, RandomStream, Reading, Request, TURNS, World, applied, busy, done, drawn_from, ends, entries_of, false≢true, is_inactive, operation_at, outcome_of, replay, with_operation_at, words_used}
 use Rattle.callers.proofs.CellLists.{busy_put, once}
 use Rattle.callers.proofs.Handling.{few_turns, handled_answered, handled_ready, one_turn, same_out, spent_by}
 use Rattle.callers.proofs.Readying.{outcome_is}

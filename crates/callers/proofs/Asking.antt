@@ -1,27 +1,11 @@
 -- Whether the key of a cell's operation is still there, by what a turn says of the lease's number.
-use Rattle.std.proofs.Common.{◌≡◌, ℕ, ◌-◌, ◌<◌, ◌≤◌, Bool, true, false, List, [], ◌∷◌, ◌++◌, get_or, refl, sym, ap, ◌∙◌, subst, ⊎_elim, arith, Option, Some, None}
-use Rattle.std.proofs.lemmas.Bool.{false≢true}
-use Rattle.std.specs.Prelude.{Result, Ok, Err, OnOk, OnErr}
+use Rattle.std.proofs.Common.{Bool, Err, List, None, Ok, OnErr, OnOk, Option, Result, Some, [], ap, arith, false, get_or, refl, subst, sym, true, ℕ, ⊎_elim, ◌++◌, ◌-◌, ◌<◌, ◌∙◌, ◌∷◌, ◌≡◌, ◌≤◌}
+use Rattle.callers.proofs.Common.{Active, Caller, Cell, DecidesAfter, Entry, HandleOperation, HasNumber, InError, Inactive, IsCalled, IsOperation, IsRanked, IsReady, KeyCreation, KnowsBefore, LeavesAllKeys, OnHandle, OnStore, Operation, Plain, Reading, Request, Service, Status, Success, Work, World, by_number, counted, false≢true, held_with, is_active, is_alive, key_of_operation, leaves_shared, may_change_keys, operation_at, operation_of, outcome_of, plain_step, replay, replay_push}
 use Rattle.std.specs.Result.{is_ok}
-use Rattle.psa_status.specs.declared.Status.{Status}
 use Rattle.std.specs.Option.{option_map}
-use Rattle.psa_status.specs.declared.Status.TheVariants.{Success}
-use Rattle.slot_table.specs.Lent.{Reading}
-use Rattle.multipart.specs.Turns.{is_active}
 use Rattle.store_model.specs.Store as model
-use Rattle.store_model.specs.Prelude.{Plain, Operation, Inactive, InError, Active, counted, KeyCreation, Work, HandleOperation, Service, held_with, is_alive, key_of_operation, operation_of, Request, OnStore, OnHandle, plain_step, may_change_keys, HasNumber, Entry, outcome_of, replay}
 use Rattle.store_model.proofs.LeftAll.{leaves_all}
-use Rattle.store_model.proofs.Others.{leaves_shared}
-use Rattle.store_model.proofs.SoundService.{by_number}
 use Rattle.operation_handles.specs.Families.{embed_of}
-use Rattle.operation_handles.specs.Cells.{IsOperation}
-use Rattle.operation_handles.specs.declared.cell.Cell.{Cell}
-use Rattle.store_core.proofs.Histories.{replay_push}
-use Rattle.locked_store.specs.Prelude.{DecidesAfter, IsRanked, LeavesAllKeys, World}
-use Rattle.callers.specs.Called.{IsCalled, KnowsBefore}
-use Rattle.callers.specs.Handles.{operation_at}
-use Rattle.callers.specs.Ready.{IsReady}
-use Rattle.callers.specs.declared.caller.Caller.{Caller}
 use Rattle.callers.proofs.Journeys.{called, told_front}
 use Rattle.callers.proofs.Readying.{known, outcome_is}
 

@@ -1,37 +1,9 @@
 -- A caller after a setup.
-use Rattle.std.proofs.Common.{◌≡◌, ℕ, ◌+◌, ◌-◌, ◌^◌, ◌<◌, ◌≤◌, true, false, cond, not, List, [], ◌∷◌, get_or, length, refl, sym, ap, ◌∙◌, subst, arith, Some, None}
-use Rattle.std.specs.Prelude.{All, count_by, vec_capacity, Result, Ok, Err}
+use Rattle.std.proofs.Common.{All, Err, List, None, Ok, Result, Some, [], ap, arith, cond, count_by, false, get_or, length, not, refl, subst, sym, true, vec_capacity, ℕ, ◌+◌, ◌-◌, ◌<◌, ◌^◌, ◌∙◌, ◌∷◌, ◌≡◌, ◌≤◌}
+use Rattle.callers.proofs.Common.{After, AnswersReply, AreOperations, ArePairs, Caller, Cell, DecidesAfter, Entry, FaultMark, HandleOperation, Held, HoldsLease, Inactive, IsAnswered, IsAt, IsCalled, IsChanged, IsClear, IsEntered, IsLent, IsOperation, IsOwnPart, IsReady, IsRefused, KeyUse, Keyed, KeyedSetup, Keyless, KeylessSetup, KnowsBefore, Legal, OnHandle, Output, Pairs, Plain, Reading, ReadsKey, Request, Served, Setup, Status, TellsFailure, World, applied, buffer_after, busy, entries_of, failure_marked, id_read, is_inactive, lease_pair, leases_of, mark_of, may_change_keys, model_setup, operation_at, operation_of, outcome_of, own_of, plain_reply, refusal_without_key, replay, set-get_or, set_up_by, set_up_with_key, set_up_without_key, setups, stays, use_refusal, used_for, with_operation_at, work_without_key}
 use Rattle.std.specs.Result.{is_ok}
-use Rattle.std.proofs.lemmas.List.{set-get_or}
-use Rattle.psa_status.specs.declared.Status.{Status}
 use Rattle.psa_status.specs.declared.Status.TheVariants as status
-use Rattle.secret_bytes.specs.Buffer.{IsClear}
-use Rattle.slot_table.specs.Lent.{Reading}
-use Rattle.key_policy.specs.declared.key_use.KeyUse.{KeyUse}
-use Rattle.key_policy.specs.Uses.{use_refusal, used_for}
-use Rattle.turn_history.specs.Prelude.{entries_of}
-use Rattle.key_slots.specs.Holdings.{Pairs}
-use Rattle.service_calls.specs.declared.output.Output.{Output}
 use Rattle.service_calls.specs.declared.output.Output.TheVariants as output
-use Rattle.service_calls.specs.declared.handle_calls.KeyedSetup.{KeyedSetup}
-use Rattle.service_calls.specs.declared.handle_calls.KeylessSetup.{KeylessSetup}
-use Rattle.service_calls.specs.declared.handle_calls.Setup.{Setup}
-use Rattle.service_calls.specs.declared.handle_calls.Setup.TheVariants.{Keyless, Keyed}
-use Rattle.service_calls.specs.Answered.{AnswersReply}
-use Rattle.service_calls.specs.Answers.{plain_reply}
-use Rattle.service_calls.specs.Meanings.{model_setup}
-use Rattle.store_model.specs.Prelude.{buffer_after, FaultMark, Plain, may_change_keys, id_read, After, Inactive, is_inactive, stays, Held, HandleOperation, Served, applied, operation_of, own_of, Request, OnHandle, Entry, outcome_of, replay}
-use Rattle.store_core.specs.Prelude.{IsLent, IsRefused, mark_of}
-use Rattle.operation_handles.specs.Cells.{IsOperation}
-use Rattle.operation_handles.specs.Setups.{refusal_without_key, set_up_by, set_up_with_key, set_up_without_key, work_without_key}
-use Rattle.operation_handles.specs.declared.cell.Cell.{Cell}
-use Rattle.operation_handles.proofs.Served.{setups}
-use Rattle.locked_store.specs.Prelude.{DecidesAfter, IsAt, IsEntered, ReadsKey, lease_pair, World}
-use Rattle.callers.specs.Called.{IsAnswered, IsCalled, KnowsBefore, Legal, TellsFailure}
-use Rattle.callers.specs.Failures.{failure_marked}
-use Rattle.callers.specs.Handles.{AreOperations, ArePairs, HoldsLease, IsChanged, busy, leases_of, operation_at, with_operation_at}
-use Rattle.callers.specs.Ready.{IsOwnPart, IsReady}
-use Rattle.callers.specs.declared.caller.Caller.{Caller}
 use Rattle.callers.proofs.CellLists.{busy_put, cell_at, few, once, tally-cons}
 use Rattle.callers.proofs.Failing.{answers_plain, set_up_plainly}
 use Rattle.callers.proofs.Journeys.{called}

@@ -1,33 +1,14 @@
 -- What the one-thread service makes of a call that the secure element has computed, refused or failed at.
-use Rattle.std.proofs.Common.{◌≡◌, ◌≤◌, ◌+◌, ℕ, Bool, true, false, List, ◌++◌, length, refl, sym, ap, ◌∙◌, subst, inl, inr, arith}
-use Rattle.std.specs.Prelude.{◌⊎◌, ◌&&◌, Option, Some, None, Result, Ok, Err, MatchOption, is_some, if◌then◌else◌}
+use Rattle.std.proofs.Common.{Bool, Err, List, MatchOption, None, Ok, Option, Result, Some, ap, arith, false, if◌then◌else◌, inl, inr, is_some, length, refl, subst, sym, true, ℕ, ◌&&◌, ◌++◌, ◌+◌, ◌∙◌, ◌≡◌, ◌≤◌, ◌⊎◌}
+use Rattle.callers.proofs.Common.{AnswersCall, AnswersReply, Call, Ctr, ElementCall, Failed, HandleOperation, Hardware, HasDrawn, IsOfElement, IsOwnPart, IsReplied, IsSound, Key, KeyedCall, NotComputed, OnStore, Output, Random, Refused, Reply, Rows, Service, Status, Store, all_rows, asks_device, computed_unless, counted, drawn_by, element_reply, enciphered, false≢true, first_row, first_row-back, first_row-front, given, has_vector, is_opaque_key, key_rows, mark_computed, marked_reply, model_call, model_keyed_call, next_random, own_of, plain_step, refusal, replies, reply_on, reply_unless, rows_before, serve, step, takes_vector, words_used}
 use Rattle.std.specs.Result.{is_ok}
 use Rattle.std.specs.FinMap as map
-use Rattle.std.proofs.lemmas.Bool.{false≢true}
-use Rattle.psa_status.specs.declared.Status.{Status}
-use Rattle.psa_status.specs.Rows.{Rows, first_row}
-use Rattle.psa_status.proofs.Rows.{first_row-back, first_row-front}
-use Rattle.random_streams.specs.RandomWords.{words_used}
 use Rattle.driver_dispatch.specs.Held.{HeldKeys}
-use Rattle.service_calls.specs.Answered.{AnswersReply}
-use Rattle.service_calls.specs.Meanings.{model_keyed_call}
-use Rattle.service_calls.specs.declared.output.Output.{Output}
-use Rattle.service_calls.specs.declared.store_calls.KeyedCall.{KeyedCall}
-use Rattle.secure_element_calls.specs.Answers.{AnswersCall, IsOfElement, mark_computed}
-use Rattle.secure_element_calls.specs.Calls.{element_reply, model_call, rows_before}
-use Rattle.secure_element_calls.specs.Replies.{HasDrawn, all_rows, key_rows, reply_on}
-use Rattle.secure_element_calls.specs.declared.calls.ElementCall.{ElementCall}
 use Rattle.secure_element_calls.specs.declared.calls.ElementCall.TheVariants.{MacCompute, MacVerify, CtrEncrypt, CtrDecrypt}
-use Rattle.secure_element_calls.specs.declared.calls.NotComputed.{NotComputed}
-use Rattle.secure_element_calls.specs.declared.calls.NotComputed.TheVariants.{Failed, Refused}
 use Rattle.secure_element_calls.proofs.Answering.{refused_before}
 use Rattle.secure_element_calls.proofs.Replying.{asks, replies_are}
-use Rattle.store_model.specs.Prelude.{Call, Reply, Ctr, enciphered, Random, Hardware, marked_reply, HandleOperation, Service, next_random, own_of, bytes_of, asks_device, computed_unless, counted, given, refusal, replies, reply_unless, OnStore, plain_step, serve, IsSound, step, Key, Store, is_opaque_key}
+use Rattle.store_model.specs.Prelude.{bytes_of}
 use Rattle.store_core.specs.Prelude.{IsAnswered}
-use Rattle.single_part.specs.Elements.{has_vector, takes_vector}
-use Rattle.callers.specs.Called.{IsReplied}
-use Rattle.callers.specs.Parts.{drawn_by}
-use Rattle.callers.specs.Ready.{IsOwnPart}
 use Rattle.callers.proofs.Owned.{failed_own, stored_own}
 
 -- WHAT IS DRAWN

@@ -1,17 +1,7 @@
 -- One cell of four is another, with its operation and its lease.
-use Rattle.std.proofs.Common.{◌≡◌, ◌≢◌, ℕ, zero, suc, ◌+◌, ◌<◌, ◌≤◌, eqb, Bool, true, false, cond, not, List, [], ◌∷◌, ◌++◌, length, get_or, set, refl, sym, ap, ◌∙◌, subst, inl, inr, arith, length-set, Some, None}
-use Rattle.std.specs.Prelude.{count_by, ◌&&◌, ◌==◌}
-use Rattle.std.proofs.lemmas.Bool.Decides.{eqb_tells, nat_tests}
+use Rattle.std.proofs.Common.{Bool, List, None, Some, [], ap, arith, cond, count_by, eqb, false, get_or, inl, inr, length, length-set, not, refl, set, subst, suc, sym, true, zero, ℕ, ◌&&◌, ◌++◌, ◌+◌, ◌<◌, ◌==◌, ◌∙◌, ◌∷◌, ◌≡◌, ◌≢◌, ◌≤◌}
+use Rattle.callers.proofs.Common.{AreOperations, ArePairs, Cell, HandleOperation, Inactive, IsOperation, Pairs, Reading, busy, eqb_tells, is_active, is_inactive, lease_pair, leases_of, names, nat_tests, pairs_of, same, sum_by-append, sum_by-cons, without_pair}
 use Rattle.std.proofs.lemmas.List.{get_or-set_same, get_or-set_other}
-use Rattle.std.proofs.lemmas.List.Sums.{sum_by-append, sum_by-cons}
-use Rattle.slot_table.specs.Lent.{Reading}
-use Rattle.key_slots.specs.Holdings.{Pairs, names, same}
-use Rattle.multipart.specs.Turns.{is_active}
-use Rattle.store_model.specs.Prelude.{Inactive, is_inactive, HandleOperation}
-use Rattle.operation_handles.specs.Cells.{IsOperation}
-use Rattle.operation_handles.specs.declared.cell.Cell.{Cell}
-use Rattle.locked_store.specs.Prelude.{lease_pair, without_pair}
-use Rattle.callers.specs.Handles.{AreOperations, ArePairs, busy, leases_of, pairs_of}
 
 -- OPERATIONS
 

@@ -1,16 +1,6 @@
 -- A handle's operation becomes another one, and its lease is kept or handed out.
-use Rattle.std.proofs.Common.{◌≡◌, ℕ, ◌+◌, ◌-◌, ◌<◌, Bool, true, false, cond, List, [], ◌∷◌, ◌++◌, length, get_or, set, refl, sym, ap, ◌∙◌, inl, inr, ⊎_elim, arith, length-append, Option, Some, None}
-use Rattle.std.specs.Prelude.{◌⊎◌, count_by}
-use Rattle.std.proofs.lemmas.List.Sums.{sum_by-append}
-use Rattle.slot_table.specs.Lent.{Reading}
-use Rattle.key_slots.specs.Holdings.{Pairs}
-use Rattle.multipart.specs.Turns.{is_active}
-use Rattle.store_model.specs.Prelude.{HandleOperation}
-use Rattle.operation_handles.specs.Cells.{IsOperation}
-use Rattle.operation_handles.specs.declared.cell.Cell.{Cell}
-use Rattle.std.proofs.lemmas.Bool.{false≢true}
-use Rattle.locked_store.specs.Prelude.{lease_pair}
-use Rattle.callers.specs.Handles.{AreOperations, ArePairs, HoldsLease, IsChanged, leases_of, pairs_of}
+use Rattle.std.proofs.Common.{Bool, List, None, Option, Some, [], ap, arith, cond, count_by, false, get_or, inl, inr, length, length-append, refl, set, sym, true, ℕ, ⊎_elim, ◌++◌, ◌+◌, ◌-◌, ◌<◌, ◌∙◌, ◌∷◌, ◌≡◌, ◌⊎◌}
+use Rattle.callers.proofs.Common.{AreOperations, ArePairs, Cell, HandleOperation, HoldsLease, IsChanged, IsOperation, Pairs, Reading, false≢true, is_active, lease_pair, leases_of, pairs_of, sum_by-append}
 use Rattle.callers.proofs.CellLists.{leases_put, names_lease, put_cell, tally-cons}
 
 -- the pairs of two leases, of which one is this one and the other none

@@ -1,37 +1,9 @@
 -- A caller after a call in one part with a key.
-use Rattle.std.proofs.Common.{◌≡◌, ◌≤◌, ◌<◌, ◌+◌, ℕ, List, ◌∷◌, [], length, sym, ap, ◌∙◌, subst, arith, length-append, Some}
-use Rattle.std.specs.Prelude.{◌&&◌, All, Bool, Result, Err, count_by, true, false, if◌then◌else◌, vec_capacity}
+use Rattle.std.proofs.Common.{All, Bool, Err, List, Result, Some, [], ap, arith, count_by, false, if◌then◌else◌, length, length-append, subst, sym, true, vec_capacity, ℕ, ◌&&◌, ◌+◌, ◌<◌, ◌∙◌, ◌∷◌, ◌≡◌, ◌≤◌}
+use Rattle.callers.proofs.Common.{All-push, AnswersCall, AnswersReply, Caller, Computed, DecidesAfter, DecidesBefore, ElementCall, Entry, HasDrawn, IsAnswered, IsAt, IsCalled, IsClear, IsEntered, IsGivenBack, IsLent, IsOwnPart, IsReady, IsRefused, IsReplied, KeyUse, KeyedCall, KnowsBefore, Legal, NotComputed, OnStore, Outcome, Output, Pairs, Plain, RandomStream, Reading, Reply, Request, Status, World, bytes_of, computed_by, counted, drawn_by, drawn_from, draws_none, entries_of, few, has_vector, is_opaque_key, lease_pair, mark_computed, mark_of, may_change_keys, model_call, model_keyed_call, names, nat_tests, next_bytes, next_random, own_of, replay, same, step, takes_vector, use_refusal, wanted_by, with_computed, without_pair, words_used}
 use Rattle.std.specs.FinMap as map
 use Rattle.std.specs.Result.{is_ok}
-use Rattle.std.proofs.lemmas.Bool.Decides.{nat_tests}
-use Rattle.std.proofs.lemmas.List.Elements.{All-push}
-use Rattle.psa_status.specs.declared.Status.{Status}
-use Rattle.random_streams.specs.RandomWords.{RandomStream, drawn_from, next_bytes, words_used}
-use Rattle.secret_bytes.specs.Buffer.{IsClear, bytes_of}
-use Rattle.slot_table.specs.Lent.{Reading}
-use Rattle.turn_history.specs.Prelude.{entries_of}
-use Rattle.key_slots.specs.Holdings.{Pairs, names, same}
-use Rattle.key_policy.specs.declared.key_use.KeyUse.{KeyUse}
-use Rattle.key_policy.specs.Uses.{use_refusal}
-use Rattle.service_calls.specs.Answered.{AnswersReply}
-use Rattle.service_calls.specs.declared.output.Output.{Output}
-use Rattle.service_calls.specs.declared.store_calls.KeyedCall.{KeyedCall}
-use Rattle.service_calls.specs.Meanings.{model_keyed_call}
-use Rattle.store_model.specs.Prelude.{Reply, Plain, is_opaque_key, next_random, own_of, may_change_keys, Computed, Outcome, counted, with_computed, Request, OnStore, Entry, replay, step}
-use Rattle.secure_element_calls.specs.Answers.{AnswersCall, mark_computed}
-use Rattle.secure_element_calls.specs.Calls.{model_call}
-use Rattle.secure_element_calls.specs.Replies.{HasDrawn}
-use Rattle.secure_element_calls.specs.declared.calls.ElementCall.{ElementCall}
-use Rattle.secure_element_calls.specs.declared.calls.NotComputed.{NotComputed}
-use Rattle.store_core.specs.Prelude.{IsAnswered as IsOfElement, IsLent, IsRefused, mark_of}
-use Rattle.locked_store.specs.Prelude.{DecidesAfter, DecidesBefore, IsAt, IsEntered, lease_pair, without_pair, World}
-use Rattle.single_part.specs.Elements.{has_vector, takes_vector}
-use Rattle.single_part.specs.Keyed.{computed_by, wanted_by}
-use Rattle.single_part.proofs.Draws.{draws_none, few}
-use Rattle.callers.specs.Called.{IsReplied, IsAnswered, IsCalled, KnowsBefore, Legal}
-use Rattle.callers.specs.Parts.{IsGivenBack, drawn_by}
-use Rattle.callers.specs.Ready.{IsOwnPart, IsReady}
-use Rattle.callers.specs.declared.caller.Caller.{Caller}
+use Rattle.store_core.specs.Prelude.{IsAnswered as IsOfElement}
 use Rattle.callers.proofs.ByElement.{element_fits, element_own}
 use Rattle.callers.proofs.CellLists.{tally-cons, without}
 use Rattle.callers.proofs.Failing.{AnswersAs, answers_plain, computed_plainly, element_tells, refused_tells, use_plainly}

@@ -1,27 +1,8 @@
 -- A caller after a call that creates a key: a slot is reserved for it, and a ranked turn follows.
-use Rattle.std.proofs.Common.{◌≡◌, ◌<◌, ◌≤◌, ◌+◌, ℕ, false, List, [], ◌∷◌, length, refl, sym, ap, ◌∙◌, subst, arith, Option, Some, None}
-use Rattle.std.specs.Prelude.{Result, count_by, ◌==◌, vec_capacity}
-use Rattle.psa_status.specs.declared.Status.{Status}
-use Rattle.key_attributes.specs.declared.Attributes.{Attributes}
-use Rattle.secret_bytes.specs.Buffer.{IsClear}
-use Rattle.std.specs.Prelude.{All}
-use Rattle.random_streams.specs.RandomWords.{RandomStream, drawn_from, words_used}
+use Rattle.std.proofs.Common.{All, List, None, Option, Result, Some, [], ap, arith, count_by, false, length, refl, subst, sym, vec_capacity, ℕ, ◌+◌, ◌<◌, ◌==◌, ◌∙◌, ◌∷◌, ◌≡◌, ◌≤◌}
+use Rattle.callers.proofs.Common.{Attributes, Call, Caller, Cell, CreatesKey, Entry, FaultMark, HasNoFilling, IsAnswered, IsAt, IsClear, IsCreated, IsLater, IsOwnPart, IsRanked, IsReady, KnowsBefore, Legal, OnStore, Opened, Output, Pairs, RandomStream, Request, SameButPass, Status, TellsFailure, View, World, drawn_from, draws_none, entries_of, filling_pair, leases_of, names, nat_tests, next_random, own_of, pairs_of, replay, serve, without_pair, words_used}
 use Rattle.slot_table.specs.Lent as lent
-use Rattle.turn_history.specs.declared.pass.View.{View}
-use Rattle.turn_history.specs.Prelude.{entries_of}
-use Rattle.key_slots.specs.Holdings.{Pairs, names}
-use Rattle.service_calls.specs.declared.output.Output.{Output}
 use Rattle.store_model.specs.Store as model
-use Rattle.store_model.specs.Prelude.{Call, FaultMark, next_random, own_of, Request, OnStore, serve, Entry, replay}
-use Rattle.locked_store.specs.Prelude.{CreatesKey, HasNoFilling, IsAt, IsLater, IsRanked, filling_pair, without_pair, World}
-use Rattle.store_core.specs.declared.store.Opened.{Opened}
-use Rattle.operation_handles.specs.declared.cell.Cell.{Cell}
-use Rattle.callers.specs.Called.{IsAnswered, KnowsBefore, Legal, TellsFailure}
-use Rattle.callers.specs.Handles.{leases_of, pairs_of}
-use Rattle.callers.specs.Parts.{IsCreated, SameButPass}
-use Rattle.callers.specs.Ready.{IsOwnPart, IsReady}
-use Rattle.callers.specs.declared.caller.Caller.{Caller}
-use Rattle.std.proofs.lemmas.Bool.Decides.{nat_tests}
 use Rattle.callers.proofs.CellLists.{once, tally-append, tally-cons, without}
 use Rattle.callers.proofs.Computing.{first_named}
 use Rattle.callers.proofs.Journeys.{called, goes_on_before, then_called}
@@ -29,7 +10,6 @@ use Rattle.callers.proofs.KeyReplies.{Gives}
 use Rattle.callers.proofs.Owned.{undrawn_own}
 use Rattle.callers.proofs.Readying.{known}
 use Rattle.callers.proofs.Storing.{DrawsNone, kept_answered, kept_ready}
-use Rattle.single_part.proofs.Draws.{draws_none}
 
 -- no lease is a filling
 one_lease : (lease : Option lent.Reading) → count_by (λ p. p.1 == 0) (pairs_of lease) ≡ 0

@@ -1,21 +1,9 @@
 -- What the one-thread service makes of a call that creates a key of derived bytes.
-use Rattle.std.proofs.Common.{◌≡◌, ◌≤◌, ℕ, Bool, true, false, List, length, refl, sym, ap, ◌∙◌, subst, inl, inr, Option, Some, None}
-use Rattle.std.specs.Prelude.{Result, Ok, Err, min, ◌⊎◌}
-use Rattle.psa_status.specs.declared.Status.{Status}
+use Rattle.std.proofs.Common.{Bool, Err, List, None, Ok, Option, Result, Some, ap, false, inl, inr, length, min, refl, subst, sym, true, ℕ, ◌∙◌, ◌≡◌, ◌≤◌, ◌⊎◌}
+use Rattle.callers.proofs.Common.{Active, Attributes, DerivationWork, Deriving, HandleOperation, HasNumber, InError, IsSound, IsUnmade, KeyCreation, NotMade, OnHandle, OutputKey, Own, Plain, Reading, RecordsStated, Served, Service, Status, applied, by_number, counted, created, created_unless, derivation_part, derived_key, fails, handle_step, has_live_key, held_after, is_alive, key_of_operation, mark_unmade, next_derived, operation_of, output_key_refusal, outputs, own_of, part_of, recorded_of, recorded_refused, refusal, serve, spoiled, stated_bytes, status_unmade, underived, with_operation, with_own, without}
 use Rattle.psa_status.specs.declared.Status.TheVariants as status
-use Rattle.key_attributes.specs.declared.Attributes.{Attributes}
-use Rattle.slot_table.specs.Lent.{Reading}
-use Rattle.derivation_states.specs.KeySteps.{output_key_refusal}
-use Rattle.store_model.specs.Creation.{stated_bytes}
-use Rattle.store_model.specs.Prelude.{created, created_unless, recorded_of, DerivationWork, next_derived, without, Plain, OutputKey, derived_key, handle_step, underived, HandleOperation, KeyCreation, Own, Served, Service, Deriving, applied, derivation_part, held_after, is_alive, key_of_operation, operation_of, own_of, part_of, with_operation, with_own, Active, InError, fails, counted, refusal, spoiled, OnHandle, serve, HasNumber, IsSound}
-use Rattle.store_model.proofs.Recorded.{recorded_refused}
-use Rattle.store_model.proofs.SoundService.{by_number}
-use Rattle.store_core.specs.Prelude.{IsUnmade, RecordsStated, mark_unmade, status_unmade}
-use Rattle.store_core.specs.declared.creating.NotMade.{NotMade}
 use Rattle.store_core.specs.declared.creating.NotMade.TheVariants as unmade
 use Rattle.store_core.specs.declared.creating.Unkept.TheVariants as unkept
-use Rattle.operation_handles.specs.Laws.{has_live_key}
-use Rattle.operation_handles.proofs.ServedOutputs.{outputs}
 use Rattle.callers.proofs.KeySizes.{few_recorded, front_recorded}
 use Rattle.callers.proofs.SettingUp.{undrawn_own}
 

@@ -1,57 +1,28 @@
 -- Results tell of a device that failed exactly where their marks do.
-use Rattle.std.proofs.Common.{◌≡◌, ℕ, Bool, true, false, List, length, refl, sym, ap, ◌∙◌, subst, inl, inr}
-use Rattle.std.specs.Prelude.{Option, Some, None, Result, Ok, Err, MatchOption, MatchResult, if◌then◌else◌, take, drop, ◌-◌, bytes_eq, nat_lt}
+use Rattle.std.proofs.Common.{Bool, Err, List, MatchOption, MatchResult, None, Ok, Option, Result, Some, ap, bytes_eq, drop, false, if◌then◌else◌, inl, inr, length, nat_lt, refl, subst, sym, take, true, ℕ, ◌-◌, ◌∙◌, ◌≡◌}
+use Rattle.callers.proofs.Common.{Active, After, AnswersReply, Attributes, Authenticating, Ciphering, Computed, Copy, DataCorrupt, DerivationWork, Deriving, ElementCall, Failed, HandleCall, HandleOperation, HardwareFailure, Hashing, Held, InError, Inactive, InvalidHandle, InvalidSignature, IsOfElement, IsRefused, IsUncopied, IsUnmade, Key, KeyUse, KeyedCall, KeylessSetup, NoFault, NotComputed, NotCopied, NotDestroyed, NotMade, OnAead, OnCipher, OnDerivation, OnHash, OnMac, OnStore, Operation, Output, Random, RecordsCopy, RecordsStated, Refused, RefusesPlainly, Reply, Sealing, Service, Status, StorageFailure, Store, Work, aead_part, all_rows, answers_plainly, cipher_part, class_rows, computed_by, computed_unless, created_unless, derivation_key_rows, derivation_part, derived_key_refused, done, exhausted, export_rows, failure_in, failure_marked, failure_told, first_row, given, goes_on, hash_part, key_refused, key_step_rows, mac_part, mark_computed, mark_of, mark_uncopied, mark_undestroyed, mark_unmade, next_derived, on_part, output_key_rows, part_of, recorded_refused, refusal_without_key, refuses_plainly, reply_unless, room_rows, set_up, spoiled, stated_bytes, status_of, status_uncopied, status_undestroyed, status_unmade, stepped_by, tag_bytes, taken_from, there_rows, unless_failed, use_refusal, without}
 use Rattle.std.specs.Result.{is_ok}
 use Rattle.std.specs.FinMap as map
-use Rattle.psa_status.specs.declared.Status.{Status}
-use Rattle.psa_status.specs.declared.Status.TheVariants.{StorageFailure, HardwareFailure, DataCorrupt, InvalidHandle, InvalidSignature}
-use Rattle.psa_status.specs.Rows.{first_row}
 use Rattle.alg_encoding.specs.Encoding.{is_concrete}
-use Rattle.key_attributes.specs.declared.Attributes.{Attributes}
 use Rattle.slot_table.specs.Lent as lent
-use Rattle.key_policy.specs.declared.key_use.KeyUse.{KeyUse}
 use Rattle.key_policy.specs.declared.key_use.KeyUse.TheVariants.{Export, Algorithm, Derivation}
 use Rattle.key_policy.specs.Permissions.{export_refusal, pattern_refusal}
-use Rattle.key_policy.specs.Uses.{use_refusal}
-use Rattle.service_calls.specs.Answered.{AnswersReply}
-use Rattle.service_calls.specs.declared.handle_calls.KeylessSetup.{KeylessSetup}
 use Rattle.service_calls.specs.declared.handle_calls.KeylessSetup.TheVariants as setup
-use Rattle.service_calls.specs.declared.output.Output.{Output}
-use Rattle.service_calls.specs.declared.store_calls.KeyedCall.{KeyedCall}
 use Rattle.service_calls.specs.declared.store_calls.KeyedCall.TheVariants as call
 use Rattle.alg_encoding.specs.declared.table.Class.TheVariants as class
 use Rattle.store_model.specs.Aeads as aeads
-use Rattle.store_model.specs.Prelude.{Copy, Reply, created_unless, DerivationWork, exhausted, key_step_rows, next_derived, output_key_rows, taken_from, without, Random, HandleCall, OnHash, OnMac, OnCipher, OnAead, OnDerivation, derivation_key_rows, Held, HandleOperation, Service, Work, Hashing, Authenticating, Ciphering, Sealing, Deriving, hash_part, mac_part, cipher_part, aead_part, derivation_part, part_of, bytes_of, export_rows, Active, After, InError, Inactive, Operation, set_up, unless_failed, goes_on, Computed, computed_unless, done, given, reply_unless, spoiled, tag_bytes, OnStore, class_rows, room_rows, Key, Store}
+use Rattle.store_model.specs.Prelude.{bytes_of}
 use Rattle.store_model.specs.Ciphers as ciphers
-use Rattle.store_model.specs.DerivationOperations.{stated_bytes}
 use Rattle.store_model.specs.Macs as macs
 use Rattle.store_model.proofs.Derivations.{derivation_is_step}
-use Rattle.store_model.proofs.Recorded.{recorded_refused}
 use Rattle.store_model.proofs.Steps.{aead_is_step, cipher_is_step, hash_is_step, mac_is_step}
 use Rattle.store_model.proofs.StoreShape.{used_plainly}
-use Rattle.store_model.proofs.Tables.{NoFault, RefusesPlainly, refuses_plainly}
-use Rattle.store_model.proofs.Unmarked.{answers_plainly}
-use Rattle.secure_element_calls.specs.Answers.{IsOfElement, mark_computed, status_of}
-use Rattle.secure_element_calls.specs.Replies.{all_rows}
-use Rattle.secure_element_calls.specs.declared.calls.ElementCall.{ElementCall}
 use Rattle.secure_element_calls.specs.declared.calls.ElementCall.TheVariants as element
-use Rattle.secure_element_calls.specs.declared.calls.NotComputed.{NotComputed}
-use Rattle.secure_element_calls.specs.declared.calls.NotComputed.TheVariants.{Failed, Refused}
-use Rattle.single_part.specs.Keyed.{computed_by}
-use Rattle.operation_handles.specs.KeyInputs.{key_refused}
-use Rattle.operation_handles.specs.KeyOutputs.{derived_key_refused}
-use Rattle.operation_handles.specs.Setups.{refusal_without_key}
-use Rattle.operation_handles.specs.Steps.{on_part, stepped_by}
-use Rattle.store_core.specs.Prelude.{IsUncopied, IsUnmade, RecordsCopy, RecordsStated, mark_uncopied, mark_unmade, status_uncopied, status_unmade, IsRefused, mark_of, mark_undestroyed, status_undestroyed, there_rows}
-use Rattle.store_core.specs.declared.copying.NotCopied.{NotCopied}
 use Rattle.store_core.specs.declared.copying.NotCopied.TheVariants as uncopied
-use Rattle.store_core.specs.declared.creating.NotMade.{NotMade}
 use Rattle.store_core.specs.declared.creating.NotMade.TheVariants as unmade
 use Rattle.store_core.specs.declared.creating.Unkept.TheVariants as unkept
-use Rattle.store_core.specs.declared.destroying.NotDestroyed.{NotDestroyed}
 use Rattle.store_core.specs.declared.destroying.NotDestroyed.TheVariants as undestroyed
 use Rattle.store_core.specs.declared.reading.Unread.TheVariants as unread
-use Rattle.callers.specs.Failures.{failure_in, failure_marked, failure_told}
 
 pub told_plainly : (status : Status) → NoFault status → failure_told status ≡ None
 told_plainly StorageFailure plain = cc

@@ -1,23 +1,9 @@
 -- A caller after a call that creates a key of random bytes.
-use Rattle.std.proofs.Common.{◌≡◌, ◌<◌, ◌≤◌, ◌+◌, ℕ, List, length, refl, sym, ap, ◌∙◌, subst, arith}
-use Rattle.std.specs.Prelude.{Result, Ok, Err, Option, Some, None, false}
-use Rattle.psa_status.specs.declared.Status.{Status}
-use Rattle.psa_status.specs.Rows.{first_row, unless, ◌>>=◌}
-use Rattle.key_attributes.specs.declared.Attributes.{Attributes}
-use Rattle.key_attributes.specs.declared.KeyId.{KeyId}
-use Rattle.random_streams.specs.RandomWords.{next_bytes, words_used}
-use Rattle.store_model.specs.Prelude.{Store, has_secure_element, Generate, created_unless, recorded_of, stated_bits_rows, Random, FaultMark, Plain, generated, generation_of, HandleOperation, Service, next_random, own_of, Outcome, Request, OnStore, plain_step, serve, Entry, replay, IsSound, step}
-use Rattle.store_model.specs.Creation.{stated_bytes}
-use Rattle.store_model.proofs.DrawnBytes.{length-random}
-use Rattle.store_model.proofs.Recorded.{few_bytes, recorded}
-use Rattle.store_core.specs.Prelude.{is_destruction, IsMade, IsUnmade, RecordsStated, mark_unmade}
-use Rattle.store_core.specs.declared.creating.NotMade.{NotMade}
+use Rattle.std.proofs.Common.{Err, List, None, Ok, Option, Result, Some, ap, arith, false, length, refl, subst, sym, ℕ, ◌+◌, ◌<◌, ◌∙◌, ◌≡◌, ◌≤◌}
+use Rattle.callers.proofs.Common.{Attributes, Caller, CreatesKey, Entry, FaultMark, Generate, GoesOn, HandleOperation, IsMade, IsOwnPart, IsReady, IsSound, IsToldTo, IsUnmade, KeyId, NotMade, OnStore, Outcome, Plain, Random, RecordsStated, Request, Service, Starts, Status, Store, World, created_unless, few_bytes, first_row, generated, generation_of, has_secure_element, is_destruction, length-random, mark_unmade, next_bytes, next_random, own_of, plain_step, recorded, recorded_of, replay, serve, stated_bits_rows, stated_bytes, step, unless, words_used}
+use Rattle.psa_status.specs.Rows.{◌>>=◌}
 use Rattle.store_core.specs.declared.creating.NotMade.TheVariants as unmade
 use Rattle.store_core.specs.declared.creating.Unkept.TheVariants as unkept
-use Rattle.locked_store.specs.Prelude.{CreatesKey, GoesOn, World}
-use Rattle.callers.specs.Called.{IsToldTo, Starts}
-use Rattle.callers.specs.Ready.{IsOwnPart, IsReady}
-use Rattle.callers.specs.declared.caller.Caller.{Caller}
 use Rattle.callers.proofs.Owned.{failed_own, stored_own}
 use Rattle.callers.proofs.Readying.{random_there}
 use Rattle.callers.proofs.Storing.{DrawsNone}

@@ -1,25 +1,8 @@
 -- A caller after a call on a handle: one ranked turn, the handle's operation changed, and its lease given back where that is over.
-use Rattle.std.proofs.Common.{◌≡◌, ℕ, ◌+◌, ◌-◌, ◌*◌, ◌^◌, ◌<◌, ◌≤◌, Bool, true, false, cond, not, List, [], ◌∷◌, ◌++◌, length, refl, sym, ap, ◌∙◌, subst, arith, length-append, Option, Some, None}
-use Rattle.std.specs.Prelude.{All, count_by, vec_capacity, vec_len, Result, ◌==◌}
+use Rattle.std.proofs.Common.{All, Bool, List, None, Option, Result, Some, [], ap, arith, cond, count_by, false, length, length-append, not, refl, subst, sym, true, vec_capacity, vec_len, ℕ, ◌*◌, ◌++◌, ◌+◌, ◌-◌, ◌<◌, ◌==◌, ◌^◌, ◌∙◌, ◌∷◌, ◌≡◌, ◌≤◌}
+use Rattle.callers.proofs.Common.{After, All-push, AnswersReply, AreOperations, ArePairs, Buffer, Caller, Entry, FaultMark, HandleOperation, Held, IsAnswered, IsAt, IsBack, IsCalled, IsChanged, IsClear, IsEntered, IsOwnPart, IsReady, KnowsBefore, Legal, Output, Pairs, RandomStream, Reading, Request, Served, Status, TURNS, TellsFailure, View, World, applied, buffer_after, busy, drawn_from, entries_of, is_inactive, lease_pair, leases_of, names, operation_at, outcome_of, own_of, pairs_of, replay, with_operation_at, without_pair}
 use Rattle.std.specs.Option.{IfSome}
 use Rattle.std.specs.Global.{Vec}
-use Rattle.std.proofs.lemmas.List.Elements.{All-push}
-use Rattle.psa_status.specs.declared.Status.{Status}
-use Rattle.secret_bytes.specs.Buffer.{Buffer, IsClear}
-use Rattle.turn_history.specs.declared.pass.View.{View}
-use Rattle.turn_history.specs.Prelude.{entries_of, TURNS}
-use Rattle.random_streams.specs.RandomWords.{RandomStream, drawn_from}
-use Rattle.slot_table.specs.Lent.{Reading}
-use Rattle.key_slots.specs.Holdings.{Pairs, names}
-use Rattle.service_calls.specs.declared.output.Output.{Output}
-use Rattle.service_calls.specs.Answered.{AnswersReply}
-use Rattle.store_model.specs.Prelude.{buffer_after, FaultMark, After, is_inactive, Held, HandleOperation, Served, applied, own_of, Request, Entry, outcome_of, replay}
-use Rattle.locked_store.specs.Prelude.{IsAt, IsEntered, lease_pair, without_pair, World}
-use Rattle.callers.specs.Called.{IsAnswered, IsCalled, KnowsBefore, Legal, TellsFailure}
-use Rattle.callers.specs.Handles.{AreOperations, ArePairs, IsChanged, busy, leases_of, operation_at, pairs_of, with_operation_at}
-use Rattle.callers.specs.Parts.{IsBack}
-use Rattle.callers.specs.Ready.{IsOwnPart, IsReady}
-use Rattle.callers.specs.declared.caller.Caller.{Caller}
 use Rattle.callers.proofs.CellLists.{busy_put, few, named_alike, once, tally-cons, without}
 use Rattle.callers.proofs.Journeys.{called, called_then}
 use Rattle.callers.proofs.Owned.{applied_own}

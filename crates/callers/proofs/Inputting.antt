@@ -1,28 +1,10 @@
 -- A caller after a call that gives a derivation a key.
-use Rattle.std.proofs.Common.{◌≡◌, ◌≤◌, ◌+◌, ◌-◌, ℕ, Bool, true, false, not, List, ◌∷◌, length, refl, sym, ap, ◌∙◌, subst, arith, Option, Some, None}
-use Rattle.std.specs.Prelude.{All, Ok, Err, count_by, is_some, if◌then◌else◌, vec_capacity}
-use Rattle.psa_status.specs.declared.Status.{Status}
+use Rattle.std.proofs.Common.{All, Bool, Err, List, None, Ok, Option, Some, ap, arith, count_by, false, if◌then◌else◌, is_some, length, not, refl, subst, sym, true, vec_capacity, ℕ, ◌+◌, ◌-◌, ◌∙◌, ◌∷◌, ◌≡◌, ◌≤◌}
+use Rattle.callers.proofs.Common.{Active, After, Caller, DecidesAfter, DerivationWork, Deriving, Entry, FaultMark, HandleOperation, Held, HoldsLease, InError, Inactive, InputKey, IsAnswered, IsAt, IsCalled, IsChanged, IsClear, IsEntered, IsLent, IsReady, IsRefused, KeyCreation, KeyUse, KnowsBefore, Legal, OnHandle, Operation, Own, Pairs, Plain, Reading, ReadsKey, RefusesKeyAt, Request, Service, Status, TakesKeyAt, World, applied, busy, bytes_of, counted, creation_of, derivation_part, done, entries_of, fails, failure_marked, first_row, goes_on, handle_step, id_read, is_alive, is_inactive, key_of_operation, key_refused, key_step_rows, lease_pair, leases_of, mark_of, may_change_keys, on_part, operation_at, operation_of, outcome_of, own_of, part_of, refusal, replay, serve, takes_key, unless_failed, use_refusal, with_key, with_operation, with_operation_at, with_own}
 use Rattle.psa_status.specs.declared.Status.TheVariants as status
-use Rattle.psa_status.specs.Rows.{first_row}
-use Rattle.secret_bytes.specs.Buffer.{IsClear, bytes_of}
-use Rattle.slot_table.specs.Lent.{Reading}
-use Rattle.turn_history.specs.Prelude.{entries_of}
-use Rattle.key_slots.specs.Holdings.{Pairs}
-use Rattle.key_policy.specs.declared.key_use.KeyUse.{KeyUse}
-use Rattle.key_policy.specs.Uses.{use_refusal}
 use Rattle.service_calls.specs.declared.output.Output.TheVariants as output
-use Rattle.store_model.specs.Prelude.{DerivationWork, key_step_rows, with_key, FaultMark, Plain, InputKey, creation_of, handle_step, Held, HandleOperation, KeyCreation, Own, Service, Deriving, applied, derivation_part, is_alive, key_of_operation, operation_of, own_of, part_of, with_operation, with_own, may_change_keys, id_read, takes_key, Active, After, Inactive, InError, Operation, fails, goes_on, is_inactive, unless_failed, counted, done, refusal, Entry, outcome_of, replay, Request, OnHandle, serve}
 use Rattle.store_model.specs.KeyUse as held
-use Rattle.store_core.specs.Prelude.{IsLent, IsRefused, mark_of}
-use Rattle.operation_handles.specs.KeyInputs.{RefusesKeyAt, TakesKeyAt, key_refused}
-use Rattle.operation_handles.specs.Steps.{on_part}
 use Rattle.operation_handles.proofs.ServedInputs.{inputs}
-use Rattle.locked_store.specs.Prelude.{DecidesAfter, IsAt, IsEntered, ReadsKey, lease_pair, World}
-use Rattle.callers.specs.Called.{IsAnswered, IsCalled, KnowsBefore, Legal}
-use Rattle.callers.specs.Failures.{failure_marked}
-use Rattle.callers.specs.Handles.{HoldsLease, IsChanged, busy, leases_of, operation_at, with_operation_at}
-use Rattle.callers.specs.Ready.{IsReady}
-use Rattle.callers.specs.declared.caller.Caller.{Caller}
 use Rattle.callers.proofs.Beginning.{begun_answered, begun_ready}
 use Rattle.callers.proofs.CellLists.{busy_put, once, tally-cons}
 use Rattle.callers.proofs.Failing.{refused_tells, use_plainly}

@@ -1,17 +1,9 @@
 -- From a caller's view before a call to that after it, and what is the caller's own meanwhile.
-use Rattle.std.proofs.Common.{◌≡◌, ℕ, ◌+◌, eqb, Bool, true, false, List, [], ◌∷◌, ◌++◌, refl, sym, ap, ◌∙◌, subst, inl, inr, arith, append_assoc, Option}
-use Rattle.turn_history.specs.declared.pass.View.{View}
-use Rattle.turn_history.specs.Prelude.{entries_of, choose, calls_by, StartsWith}
-use Rattle.turn_history.proofs.Lists.{entries-append, calls-append, append_none}
-use Rattle.key_slots.specs.Holdings.{Pairs}
-use Rattle.store_model.specs.Prelude.{FaultMark, Service, own_of, Request, Entry, outcome_of, replay}
-use Rattle.store_model.proofs.Others.{leaves_callers}
-use Rattle.store_core.specs.Prelude.{IsTold, ReadsNone}
-use Rattle.locked_store.specs.Prelude.{caller_of, GoesOn, IsEntered, IsLater}
-use Rattle.callers.specs.Called.{IsCalled}
 
 -- VIEWS
 
+use Rattle.std.proofs.Common.{Bool, List, Option, [], ap, append_assoc, arith, eqb, false, inl, inr, refl, subst, sym, true, ℕ, ◌++◌, ◌+◌, ◌∙◌, ◌∷◌, ◌≡◌}
+use Rattle.callers.proofs.Common.{Entry, FaultMark, GoesOn, IsCalled, IsEntered, IsLater, IsTold, Pairs, ReadsNone, Request, Service, StartsWith, View, append_none, caller_of, calls-append, calls_by, choose, entries-append, entries_of, leaves_callers, outcome_of, own_of, replay}
 pub begins_through : {A : Type 0} (whole middle part : List A) → StartsWith whole middle → StartsWith middle part → StartsWith whole part
 begins_through whole middle part s t = (t.0 ++ s.0, s.1 ∙ (ap (λ l. l ++ s.0) t.1 ∙ append_assoc part t.0 s.0))
 

@@ -1,17 +1,9 @@
 -- What is answered by calls on a key that neither read its bytes nor make one.
-use Rattle.std.proofs.Common.{◌≡◌, ℕ, List, refl, sym, ap, subst}
-use Rattle.std.specs.Prelude.{Option, Some, None, Result, Ok, Err}
+use Rattle.std.proofs.Common.{Err, List, None, Ok, Option, Result, Some, ap, refl, subst, sym, ℕ, ◌≡◌}
+use Rattle.callers.proofs.Common.{AnswersReply, Attributes, Destroy, GetAttributes, HasAttributes, IsRefused, IsUndestroyed, Key, NotDestroyed, OnStore, Output, Plain, Purge, Reply, Service, Status, Store, attributes_reply, buffer_after, counted, decided, destroy_rows, destroyed, done, first_row, mark_of, mark_undestroyed, purge_reply, refusal, serve, spoiled, status_undestroyed, step_destroy, there_rows}
 use Rattle.std.specs.FinMap as map
-use Rattle.psa_status.specs.declared.Status.{Status}
 use Rattle.psa_status.specs.declared.Status.TheVariants as status
-use Rattle.psa_status.specs.Rows.{first_row}
-use Rattle.key_attributes.specs.declared.Attributes.{Attributes}
-use Rattle.service_calls.specs.declared.output.Output.{Output}
 use Rattle.service_calls.specs.declared.output.Output.TheVariants as output
-use Rattle.service_calls.specs.Answered.{AnswersReply}
-use Rattle.store_model.specs.Prelude.{Key, Store, Destroy, Purge, GetAttributes, Reply, buffer_after, Plain, Service, attributes_reply, destroy_rows, destroyed, purge_reply, step_destroy, counted, decided, done, refusal, spoiled, OnStore, serve}
-use Rattle.store_core.specs.Prelude.{HasAttributes, IsRefused, IsUndestroyed, mark_of, mark_undestroyed, status_undestroyed, there_rows}
-use Rattle.store_core.specs.declared.destroying.NotDestroyed.{NotDestroyed}
 use Rattle.store_core.specs.declared.destroying.NotDestroyed.TheVariants as undestroyed
 
 -- an answer is that of a reply that leaves each buffer

@@ -1,15 +1,9 @@
 -- A creation of more than 1,024 bytes, which the code makes of 1,025, is refused.
-use Rattle.std.proofs.Common.{◌≡◌, ◌≤◌, ◌<◌, ◌*◌, ℕ, [], ◌∷◌, Bool, true, false, not, cond, refl, sym, ap, ◌∙◌, arith, inl, inr, ◌⊎◌}
-use Rattle.std.specs.Prelude.{Option, None, Some, Result, Ok, Err, min, nat_lt, nat_le, ◌==◌, ◌||◌, ◌&&◌, bit_and}
-use Rattle.std.proofs.lemmas.Bool.Decides.{nat_tests}
-use Rattle.psa_status.specs.declared.Status.{Status}
-use Rattle.psa_status.specs.declared.Status.TheVariants.{InvalidArgument, NotSupported}
-use Rattle.psa_status.specs.Rows.{first_row, unless, ◌>>=◌}
-use Rattle.key_attributes.specs.declared.Attributes.{Attributes}
+use Rattle.std.proofs.Common.{Bool, Err, None, Ok, Option, Result, Some, [], ap, arith, bit_and, cond, false, inl, inr, min, nat_le, nat_lt, not, refl, sym, true, ℕ, ◌&&◌, ◌*◌, ◌<◌, ◌==◌, ◌||◌, ◌∙◌, ◌∷◌, ◌≡◌, ◌≤◌, ◌⊎◌}
+use Rattle.callers.proofs.Common.{Attributes, InvalidArgument, NotSupported, Status, Store, few_bytes, file_rows, first_row, has_secure_element, nat_tests, recorded, recorded_of, room_for_key_rows, unless}
+use Rattle.psa_status.specs.Rows.{◌>>=◌}
 use Rattle.key_attributes.specs.Checks.{checked, filled, permits_size, is_lifetime, is_stated_id, is_key_type}
 use Rattle.policy_rules.specs.Narrow.{after_rules}
-use Rattle.store_model.specs.Prelude.{Store, has_secure_element, file_rows, room_for_key_rows, recorded_of}
-use Rattle.store_model.proofs.Recorded.{recorded, few_bytes}
 
 many_cases : (aes : Bool) (n : ℕ) → 1024 < n → cond aes (n == 16 || n == 24 || n == 32) (nat_le 1 n && nat_le n 1024) ≡ false
 many_cases true n h = grind (arith, nat_tests)

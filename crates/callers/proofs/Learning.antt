@@ -1,19 +1,7 @@
 -- A caller that has seen what another one had.
-use Rattle.std.proofs.Common.{◌≡◌, ◌⊎◌, ◌≤◌, Bool, true, false, cond, length, sym, ap, ◌∙◌, subst, arith}
-use Rattle.std.specs.Prelude.{All, count_by, nat_lt, vec_capacity}
-use Rattle.secret_bytes.specs.Buffer.{IsClear}
-use Rattle.turn_history.specs.declared.pass.View.{View}
-use Rattle.turn_history.specs.Prelude.{StartsWith, calls_by, entries_of, OwnCalls, joined, longer}
+use Rattle.std.proofs.Common.{All, Bool, ap, arith, cond, count_by, false, length, nat_lt, subst, sym, true, vec_capacity, ◌∙◌, ◌≡◌, ◌≤◌, ◌⊎◌}
+use Rattle.callers.proofs.Common.{AreOperations, Caller, Entry, IsClear, IsHolding, IsOwnPart, IsReady, IsToldTo, Legal, Opened, OwnCalls, SameButPass, StartsWith, View, World, caller_of, calls_by, entries_of, joined, leases_of, longer, own_of, replay}
 use Rattle.turn_history.proofs.Using.{longer_left, longer_right}
-use Rattle.key_slots.specs.Holdings.{IsHolding}
-use Rattle.store_model.specs.Prelude.{own_of, Entry, replay}
-use Rattle.store_core.specs.declared.store.Opened.{Opened}
-use Rattle.locked_store.specs.Prelude.{caller_of, World}
-use Rattle.callers.specs.Called.{IsToldTo, Legal}
-use Rattle.callers.specs.Handles.{AreOperations, leases_of}
-use Rattle.callers.specs.Parts.{SameButPass}
-use Rattle.callers.specs.Ready.{IsOwnPart, IsReady}
-use Rattle.callers.specs.declared.caller.Caller.{Caller}
 use Rattle.callers.proofs.Journeys.{own_later, seen_begins, told_front}
 
 -- the longer of two is one of them

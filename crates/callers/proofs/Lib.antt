@@ -1,3 +1,4 @@
+mod Common
 pub mod Journeys
 pub mod CellLists
 pub mod Owned

@@ -1,17 +1,8 @@
 -- A caller has what a turn asks that looks for a key.
-use Rattle.std.proofs.Common.{◌≡◌, ℕ, ◌+◌, ◌<◌, ◌≤◌, List, [], ◌∷◌, ◌++◌, length, ap, ◌∙◌, arith, length-append, Some, None}
-use Rattle.std.specs.Prelude.{All, Option, nat_lt, vec_len}
+use Rattle.std.proofs.Common.{All, List, None, Option, Some, [], ap, arith, length, length-append, nat_lt, vec_len, ℕ, ◌++◌, ◌+◌, ◌<◌, ◌∙◌, ◌∷◌, ◌≡◌, ◌≤◌}
+use Rattle.callers.proofs.Common.{All-pop, Buffer, Caller, Cell, HasRoomForLease, IsClear, IsReady, Reading, World, count_by-le-length, leases_of, pairs_of}
 use Rattle.std.specs.Global.{Vec}
 use Rattle.std.specs.Option.{option_to_list}
-use Rattle.std.proofs.lemmas.List.Elements.{All-pop}
-use Rattle.secret_bytes.specs.Buffer.{Buffer, IsClear}
-use Rattle.std.proofs.lemmas.List.Sums.{count_by-le-length}
-use Rattle.slot_table.specs.Lent.{Reading}
-use Rattle.operation_handles.specs.declared.cell.Cell.{Cell}
-use Rattle.locked_store.specs.Prelude.{HasRoomForLease, World}
-use Rattle.callers.specs.Handles.{leases_of, pairs_of}
-use Rattle.callers.specs.Ready.{IsReady}
-use Rattle.callers.specs.declared.caller.Caller.{Caller}
 
 few_leases : (cells : List Cell) → length (leases_of cells) ≤ length cells
 few_leases [] = omega arith

@@ -1,18 +1,12 @@
 -- What the one-thread service makes of a call that creates a key.
-use Rattle.std.proofs.Common.{◌≡◌, ℕ, List, refl, sym, ap, ◌∙◌, subst}
-use Rattle.std.specs.Prelude.{Result, Ok, Err, Option, Some, None}
+use Rattle.std.proofs.Common.{Err, List, None, Ok, Option, Result, Some, ap, refl, subst, sym, ℕ, ◌∙◌, ◌≡◌}
+use Rattle.callers.proofs.Common.{Attributes, IsMade, IsRefused, IsUncopied, IsUnmade, KeyId, NotCopied, NotMade, Plain, Reply, Request, Service, Status, Store, created_unless, mark_of, mark_uncopied, mark_unmade, plain_step, serve, spoiled, status_uncopied, status_unmade, there_rows}
 use Rattle.std.specs.FinMap as map
-use Rattle.psa_status.specs.declared.Status.{Status}
 use Rattle.psa_status.specs.declared.Status.TheVariants as status
-use Rattle.key_attributes.specs.declared.Attributes.{Attributes}
-use Rattle.key_attributes.specs.declared.KeyId.{KeyId}
 use Rattle.service_calls.specs.declared.output.Output.TheVariants as output
 use Rattle.store_model.specs.Call as model
-use Rattle.store_model.specs.Prelude.{Reply, created_unless, Plain, Service, spoiled, Request, plain_step, serve, Store}
-use Rattle.store_core.specs.Prelude.{IsMade, IsUncopied, IsUnmade, mark_uncopied, mark_unmade, status_uncopied, status_unmade, IsRefused, mark_of, status_of, there_rows}
-use Rattle.store_core.specs.declared.copying.NotCopied.{NotCopied}
+use Rattle.store_core.specs.Prelude.{status_of}
 use Rattle.store_core.specs.declared.copying.NotCopied.TheVariants as uncopied
-use Rattle.store_core.specs.declared.creating.NotMade.{NotMade}
 use Rattle.store_core.specs.declared.creating.NotMade.TheVariants as unmade
 use Rattle.store_core.specs.declared.creating.Unkept.TheVariants as unkept
 use Rattle.store_core.specs.declared.reading.Unread.{Unread}

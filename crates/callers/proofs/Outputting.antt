@@ -1,38 +1,10 @@
 -- A caller after a call that creates a key of derived bytes.
-use Rattle.std.proofs.Common.{◌≡◌, ◌<◌, ◌≤◌, ◌+◌, ◌-◌, ℕ, Bool, true, false, not, List, [], ◌∷◌, length, get_or, take_all, refl, sym, ap, ◌∙◌, subst, arith, inr, Option, Some, None, take}
-use Rattle.std.specs.Prelude.{All, Result, Ok, Err, ◌==◌, ◌&&◌, count_by, if◌then◌else◌, min, nat_lt, vec_capacity}
+use Rattle.std.proofs.Common.{All, Bool, Err, List, None, Ok, Option, Result, Some, [], ap, arith, count_by, false, get_or, if◌then◌else◌, inr, length, min, nat_lt, not, refl, subst, sym, take, take_all, true, vec_capacity, ℕ, ◌&&◌, ◌+◌, ◌-◌, ◌<◌, ◌==◌, ◌∙◌, ◌∷◌, ◌≡◌, ◌≤◌}
+use Rattle.callers.proofs.Common.{Active, AreOperations, Attributes, Caller, Cell, CreatesKey, DerivationWork, Deriving, Entry, HandleOperation, InError, Inactive, InsufficientData, IsAnswered, IsAt, IsBack, IsCalled, IsChanged, IsClear, IsCreated, IsDerivedKey, IsMade, IsOperation, IsOwn, IsOwnPart, IsReady, IsReplied, IsSound, IsUnmade, KeyId, KnowsBefore, LeavesAllKeys, Legal, NotMade, OnHandle, Operation, OutputKey, Pairs, Plain, RandomStream, Reading, RecordsStated, Reply, Request, Served, Service, Status, Store, Success, TellsFailure, World, applied, created, derivation_part, derived_key_refused, draws_none, entries_of, exhausted, fails, first_row, first_row-back, goes_on, has_live_key, is_active, is_alive, is_destruction, key_of_operation, leases_of, mark_unmade, next_derived, on_part, operation_at, operation_of, outcome_of, output_key_refusal, output_key_rows, outputs, own_of, part_of, plain_step, refused_by, replay, start_of, stated_bytes, status_unmade, taken_from, unless_failed, with_operation, with_operation_at, without}
 use Rattle.std.proofs.lemmas.List.{length-take-le, set-set}
-use Rattle.psa_status.specs.declared.Status.{Status}
-use Rattle.psa_status.specs.declared.Status.TheVariants.{Success, InsufficientData}
-use Rattle.psa_status.proofs.Rows.{first_row-back}
-use Rattle.store_model.proofs.Tables.{refused_by}
-use Rattle.key_slots.specs.Holdings.{Pairs}
-use Rattle.operation_handles.specs.Laws.{has_live_key}
-use Rattle.operation_handles.specs.Steps.{on_part}
-use Rattle.key_attributes.specs.declared.Attributes.{Attributes}
-use Rattle.key_attributes.specs.declared.KeyId.{KeyId}
-use Rattle.random_streams.specs.RandomWords.{RandomStream}
-use Rattle.slot_table.specs.Lent.{Reading}
-use Rattle.turn_history.specs.Prelude.{entries_of}
-use Rattle.derivation_states.specs.KeySteps.{output_key_refusal}
-use Rattle.multipart.specs.Turns.{is_active}
 use Rattle.service_calls.specs.declared.output.Output.TheVariants as output
-use Rattle.store_model.specs.Creation.{stated_bytes}
-use Rattle.store_model.specs.Prelude.{created, DerivationWork, exhausted, next_derived, output_key_rows, taken_from, without, Reply, given as given_bytes, Plain, OutputKey, HandleOperation, Served, Service, Deriving, applied, derivation_part, is_alive, key_of_operation, operation_of, own_of, part_of, with_operation, Active, Inactive, InError, Operation, fails, goes_on, unless_failed, Entry, outcome_of, replay, Request, OnHandle, plain_step, IsSound, Store, start_of}
-use Rattle.store_core.specs.Prelude.{IsMade, IsUnmade, RecordsStated, mark_unmade, status_unmade, is_destruction}
-use Rattle.store_core.specs.declared.creating.NotMade.{NotMade}
-use Rattle.operation_handles.specs.Cells.{IsOperation}
-use Rattle.operation_handles.specs.KeyOutputs.{IsDerivedKey, derived_key_refused}
-use Rattle.operation_handles.proofs.ServedOutputs.{outputs}
+use Rattle.store_model.specs.Prelude.{given as given_bytes}
 use Rattle.derivation_states.specs.KeySteps as alone
-use Rattle.psa_status.specs.Rows.{first_row}
-use Rattle.operation_handles.specs.declared.cell.Cell.{Cell}
-use Rattle.locked_store.specs.Prelude.{CreatesKey, IsAt, IsOwn, LeavesAllKeys, World}
-use Rattle.callers.specs.Called.{IsReplied, IsAnswered, IsCalled, KnowsBefore, Legal, TellsFailure}
-use Rattle.callers.specs.Handles.{AreOperations, IsChanged, leases_of, operation_at, with_operation_at}
-use Rattle.callers.specs.Parts.{IsBack, IsCreated}
-use Rattle.callers.specs.Ready.{IsOwnPart, IsReady}
-use Rattle.callers.specs.declared.caller.Caller.{Caller}
 use Rattle.callers.proofs.Asking.{leased_key, unleased_key}
 use Rattle.callers.proofs.CellLists.{busy_put, named_alike, names_is, names_lease, once}
 use Rattle.callers.proofs.Deriving.{IsLeaseOf, derived_leaves, derived_replies, made_owns, underived_key}
@@ -42,8 +14,6 @@ use Rattle.callers.proofs.Made.{made_gives}
 use Rattle.callers.proofs.Owned.{set_operation, set_own, sound_replay}
 use Rattle.callers.proofs.Readying.{known, outcome_is, own_there, ready}
 use Rattle.callers.proofs.SettingUp.{undrawn_own}
-use Rattle.single_part.proofs.Draws.{draws_none}
-use Rattle.secret_bytes.specs.Buffer.{IsClear}
 
 -- the lease of a cell is of its operation's key
 pub lease_of : (cell : Cell) (operation : HandleOperation) → IsOperation cell operation → (is_active operation ≡ false → cell.lease ≡ None) → IsLeaseOf cell.lease (key_of_operation operation)

@@ -1,13 +1,9 @@
 -- What is a caller's own in the one-thread service, as its entries change it.
-use Rattle.std.proofs.Common.{◌≡◌, ◌≢◌, ℕ, ◌+◌, ◌-◌, ◌≤◌, List, [], ◌∷◌, length, get_or, set, refl, sym, ap, ◌∙◌, subst, arith, inl, inr, length-set}
+use Rattle.std.proofs.Common.{List, [], ap, arith, get_or, inl, inr, length, length-set, refl, set, subst, sym, ℕ, ◌+◌, ◌-◌, ◌∙◌, ◌∷◌, ◌≡◌, ◌≢◌, ◌≤◌}
+use Rattle.callers.proofs.Common.{After, Call, Corrupt, Destroy, Entry, FaultMark, HandleOperation, Hardware, Held, Inactive, IsCaller, IsOwnPart, IsSound, IsSoundOperation, IsSoundStore, OnStore, Outcome, Own, Plain, Service, Storage, Store, applied, eqb_tells, failed_step, new_own, next_random, on_store, outcome_of, own_of, replay, serve, service_of, start_operation, start_own, step, with_drawn, with_operation, with_own, words_used}
 use Rattle.std.specs.List.{AllByRecursion}
-use Rattle.std.proofs.lemmas.Bool.Decides.{eqb_tells}
 use Rattle.std.proofs.lemmas.List.{get_or-set_same, get_or-set_other}
-use Rattle.random_streams.specs.RandomWords.{words_used}
-use Rattle.store_model.specs.Prelude.{Store, After, Inactive, Call, Destroy, FaultMark, Plain, Storage, Hardware, Corrupt, Outcome, step, Held, HandleOperation, Own, Service, new_own, own_of, service_of, with_own, with_operation, with_drawn, applied, next_random, OnStore, failed_step, on_store, serve, IsSound, IsSoundStore, IsSoundOperation, IsCaller, Entry, outcome_of, replay}
-use Rattle.store_model.proofs.Operations.{start_operation, start_own}
 use Rattle.store_model.proofs.SoundService as sound
-use Rattle.callers.specs.Ready.{IsOwnPart}
 
 -- SOUND SERVICES
 

@@ -1,16 +1,6 @@
 -- What is known of the one-thread service at a caller's entry, and the caller after the call.
-use Rattle.std.proofs.Common.{◌≡◌, ℕ, ◌+◌, ◌*◌, ◌^◌, ◌≤◌, List, [], ◌∷◌, ◌++◌, length, refl, sym, ap, ◌∙◌, subst, arith}
-use Rattle.std.specs.Prelude.{All, vec_capacity}
-use Rattle.secret_bytes.specs.Buffer.{IsClear}
-use Rattle.turn_history.specs.Prelude.{entries_of, TURNS}
-use Rattle.random_streams.specs.RandomWords.{next_bytes, random_bytes}
-use Rattle.store_model.specs.Prelude.{Settings, start_of, FaultMark, HandleOperation, Service, next_random, own_of, IsSound, Request, serve, Entry, outcome_of, replay}
-use Rattle.store_model.proofs.Others.{leaves_settings}
-use Rattle.locked_store.specs.Prelude.{GoesOn, IsAt, World}
-use Rattle.callers.specs.Called.{IsCalled, IsToldTo, KnowsBefore, Legal, Starts}
-use Rattle.callers.specs.Handles.{AreOperations, ArePairs, busy, leases_of}
-use Rattle.callers.specs.Ready.{IsOwnPart, IsReady}
-use Rattle.callers.specs.declared.caller.Caller.{Caller}
+use Rattle.std.proofs.Common.{All, List, [], ap, arith, length, refl, subst, sym, vec_capacity, ℕ, ◌*◌, ◌++◌, ◌+◌, ◌^◌, ◌∙◌, ◌∷◌, ◌≡◌, ◌≤◌}
+use Rattle.callers.proofs.Common.{AreOperations, ArePairs, Caller, Entry, FaultMark, GoesOn, HandleOperation, IsAt, IsCalled, IsClear, IsOwnPart, IsReady, IsSound, IsToldTo, KnowsBefore, Legal, Request, Service, Settings, Starts, TURNS, World, busy, entries_of, leases_of, leaves_settings, next_bytes, next_random, outcome_of, own_of, random_bytes, replay, serve, start_of}
 use Rattle.callers.proofs.Journeys.{own_after, own_on, told_front}
 use Rattle.callers.proofs.Owned.{sound_replay}
 

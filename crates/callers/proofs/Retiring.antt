@@ -1,27 +1,10 @@
 -- A caller that ends, handle by handle.
-use Rattle.std.proofs.Common.{◌≡◌, ◌<◌, ◌≤◌, ◌+◌, ◌-◌, ℕ, zero, suc, List, [], ◌∷◌, ◌++◌, length, get_or, set, refl, sym, ap, ◌∙◌, subst, arith, length-append, Option, Some, None}
-use Rattle.std.specs.Prelude.{All, count_by, vec_capacity, vec_len}
+use Rattle.std.proofs.Common.{All, List, None, Option, Some, [], ap, arith, count_by, get_or, length, length-append, refl, set, subst, suc, sym, vec_capacity, vec_len, zero, ℕ, ◌++◌, ◌+◌, ◌-◌, ◌<◌, ◌∙◌, ◌∷◌, ◌≡◌, ◌≤◌}
+use Rattle.callers.proofs.Common.{All-head, All-tail, AreIdle, AreOperations, ArePairs, Caller, Cell, Entry, Inactive, IsAt, IsBack, IsChanged, IsLater, IsOperation, IsReady, IsRetired, IsRetiring, Legal, MakesNoCall, Pairs, Reading, StartsWith, View, World, begins_itself, entries_of, is_active, lease_pair, leases_of, names, operation_at, pairs_of, with_operation_at, without_pair}
 use Rattle.std.specs.Option.{IfSome}
 use mathlib.Core.Logic.{dite}
 use native.Mathlib.Decide.{dec_lt}
 use Rattle.std.proofs.lemmas.List.{get_or-set_same, get_or-set_other}
-use Rattle.std.proofs.lemmas.List.Elements.{All-head, All-tail}
-use Rattle.slot_table.specs.Lent.{Reading}
-use Rattle.turn_history.specs.declared.pass.View.{View}
-use Rattle.turn_history.specs.Prelude.{StartsWith, entries_of}
-use Rattle.turn_history.proofs.Lists.{begins_itself}
-use Rattle.key_slots.specs.Holdings.{Pairs, names}
-use Rattle.multipart.specs.Turns.{is_active}
-use Rattle.store_model.specs.Prelude.{Inactive, Entry}
-use Rattle.operation_handles.specs.Cells.{IsOperation}
-use Rattle.operation_handles.specs.declared.cell.Cell.{Cell}
-use Rattle.locked_store.specs.Prelude.{IsAt, IsLater, lease_pair, without_pair, World}
-use Rattle.callers.specs.Called.{Legal}
-use Rattle.callers.specs.Handles.{AreIdle, AreOperations, ArePairs, IsChanged, leases_of, operation_at, pairs_of, with_operation_at}
-use Rattle.callers.specs.Parts.{IsBack}
-use Rattle.callers.specs.Ready.{IsReady}
-use Rattle.callers.specs.Retired.{IsRetired, IsRetiring, MakesNoCall}
-use Rattle.callers.specs.declared.caller.Caller.{Caller}
 use Rattle.callers.proofs.CellLists.{named_alike, tally-cons, without}
 use Rattle.callers.proofs.Changing.{length_alike}
 use Rattle.callers.proofs.Handling.{if_some, names_few}

@@ -1,28 +1,13 @@
 -- What the one-thread service makes of a setup.
-use Rattle.std.proofs.Common.{◌≡◌, ℕ, ◌+◌, ◌≤◌, Bool, true, false, cond, not, refl, sym, ap, ◌∙◌, arith, Option, Some, None}
-use Rattle.std.specs.Prelude.{if◌then◌else◌, Result, Ok, Err}
+use Rattle.std.proofs.Common.{Bool, Err, None, Ok, Option, Result, Some, ap, arith, cond, false, if◌then◌else◌, not, refl, sym, true, ℕ, ◌+◌, ◌∙◌, ◌≡◌, ◌≤◌}
+use Rattle.callers.proofs.Common.{Active, AeadSetup, After, CipherSetup, DerivationSetup, HandleCall, HandleOperation, HashSetup, Held, InError, Inactive, IsLent, IsRefused, Key, KeyUse, Keyed, KeyedSetup, Keyless, MacSetup, OnHandle, Operation, Own, Reading, Reply, Service, Setup, Status, Store, applied, bytes_of, counted, creation_of, done, failed_step, goes_on, id_read, is_inactive, is_setup, mark_of, may_change_keys, model_keyed_setup, model_setup, operation_of, own_of, plain_reply, refusal, serve, set_up, set_up_by, set_up_with_key, setups, stays, use_refusal, used_for, with_drawn, with_operation, with_own, words_used, work_begun}
 use Rattle.std.specs.Result.{is_ok}
 use Rattle.std.specs.FinMap as map
-use Rattle.psa_status.specs.declared.Status.{Status}
 use Rattle.psa_status.specs.declared.Status.TheVariants as status
-use Rattle.secret_bytes.specs.Buffer.{bytes_of}
-use Rattle.slot_table.specs.Lent.{Reading}
-use Rattle.key_policy.specs.declared.key_use.KeyUse.{KeyUse}
-use Rattle.key_policy.specs.Uses.{use_refusal, used_for}
-use Rattle.random_streams.specs.RandomWords.{words_used}
-use Rattle.service_calls.specs.declared.handle_calls.KeyedSetup.{KeyedSetup}
 use Rattle.service_calls.specs.declared.handle_calls.KeylessSetup.TheVariants as keyless
 use Rattle.service_calls.specs.declared.handle_calls.Purpose.{Purpose}
 use Rattle.service_calls.specs.declared.handle_calls.Purpose.TheVariants.{SignMac, VerifyMac, EncryptCipher, DecryptCipher, EncryptAead, DecryptAead}
-use Rattle.service_calls.specs.declared.handle_calls.Setup.{Setup}
-use Rattle.service_calls.specs.declared.handle_calls.Setup.TheVariants.{Keyless, Keyed}
-use Rattle.service_calls.specs.Answers.{plain_reply}
-use Rattle.service_calls.specs.Meanings.{model_keyed_setup, model_setup}
-use Rattle.store_model.specs.Prelude.{Reply, HandleCall, HashSetup, MacSetup, CipherSetup, AeadSetup, DerivationSetup, creation_of, is_setup, may_change_keys, id_read, Active, After, InError, Inactive, Operation, goes_on, is_inactive, set_up, stays, counted, done, refusal, Held, HandleOperation, Own, Service, applied, operation_of, own_of, with_drawn, with_operation, with_own, OnHandle, failed_step, serve, Key, Store}
 use Rattle.store_model.specs.KeyUse as held
-use Rattle.store_core.specs.Prelude.{IsLent, IsRefused, mark_of}
-use Rattle.operation_handles.specs.Setups.{set_up_by, set_up_with_key, work_begun}
-use Rattle.operation_handles.proofs.Served.{setups}
 use Rattle.callers.proofs.CellLists.{once}
 
 -- what is so of the setups without a key and of those with one

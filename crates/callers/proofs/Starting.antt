@@ -1,21 +1,6 @@
 -- A caller before its first call.
-use Rattle.std.proofs.Common.{◌≡◌, ◌<◌, ◌≤◌, ◌-◌, ℕ, zero, suc, List, [], ◌∷◌, length, get_or, refl, sym, ap, ◌∙◌, subst, arith, Some, None}
-use Rattle.std.specs.Prelude.{All, count_by, vec_capacity}
-use Rattle.std.proofs.lemmas.List.Elements.{All-weaker}
-use Rattle.secret_bytes.specs.Buffer.{IsClear}
-use Rattle.turn_history.specs.Prelude.{entries_of, IsOutside, Mine, OwnCalls, TURNS, new_pass}
-use Rattle.random_streams.specs.RandomWords.{RandomStream}
-use Rattle.key_slots.specs.Holdings.{IsHolding}
-use Rattle.store_model.specs.Prelude.{start_of, Inactive, HandleOperation, Service, own_of, IsSoundStore, Entry, replay}
-use Rattle.store_model.proofs.Operations.{start_own}
-use Rattle.store_core.specs.declared.store.Opened.{Opened}
-use Rattle.operation_handles.specs.Cells.{IsOperation}
-use Rattle.operation_handles.specs.declared.cell.Cell.{Cell}
-use Rattle.locked_store.specs.Prelude.{caller_of, World}
-use Rattle.callers.specs.Called.{Legal, Starts}
-use Rattle.callers.specs.Handles.{AreIdle, AreOperations}
-use Rattle.callers.specs.Ready.{IsOwnPart, IsReady}
-use Rattle.callers.specs.declared.caller.Caller.{Caller}
+use Rattle.std.proofs.Common.{All, List, None, Some, [], ap, arith, count_by, get_or, length, refl, subst, suc, sym, vec_capacity, zero, ℕ, ◌-◌, ◌<◌, ◌∙◌, ◌∷◌, ◌≡◌, ◌≤◌}
+use Rattle.callers.proofs.Common.{All-weaker, AreIdle, AreOperations, Caller, Cell, Entry, HandleOperation, Inactive, IsClear, IsHolding, IsOperation, IsOutside, IsOwnPart, IsReady, IsSoundStore, Legal, Mine, Opened, OwnCalls, RandomStream, Service, Starts, TURNS, World, caller_of, entries_of, new_pass, own_of, replay, start_of, start_own}
 use Rattle.callers.proofs.Retiring.{no_lease_left}
 
 abbrev all_inactive : List HandleOperation

@@ -1,16 +1,7 @@
 -- A step of a handle's operation is the one-thread service's.
-use Rattle.std.proofs.Common.{◌≡◌, ℕ, ◌≤◌, Bool, List, sym, ap, ◌∙◌}
-use Rattle.random_streams.specs.RandomWords.{RandomStream, next_bytes}
-use Rattle.service_calls.specs.Meanings.{model_step}
+use Rattle.std.proofs.Common.{Bool, List, ap, sym, ℕ, ◌∙◌, ◌≡◌, ◌≤◌}
+use Rattle.callers.proofs.Common.{Caller, Entry, IsCalled, IsReady, KnowsBefore, OnHandle, Plain, RandomStream, Request, World, applied, is_alive, key_of_operation, model_step, next_bytes, operation_at, operation_of, outcome_of, replay, stepped_by, steps_are}
 use Rattle.service_calls.specs.declared.steps.Step.{Step}
-use Rattle.operation_handles.specs.Steps.{stepped_by}
-use Rattle.operation_handles.proofs.Served.{steps_are}
-use Rattle.store_model.specs.Prelude.{Plain, applied, is_alive, key_of_operation, operation_of, Request, OnHandle, Entry, outcome_of, replay}
-use Rattle.callers.specs.Called.{IsCalled, KnowsBefore}
-use Rattle.callers.specs.Handles.{operation_at}
-use Rattle.callers.specs.Ready.{IsReady}
-use Rattle.locked_store.specs.Prelude.{World}
-use Rattle.callers.specs.declared.caller.Caller.{Caller}
 use Rattle.callers.proofs.Readying.{known, outcome_is}
 
 pub applies : {D A C : Type 0} (w : World D A C) (n : ℕ) (old new : Caller D A C) (r : IsReady w n old) (turns handle : ℕ) (step : Step) (room rank : ℕ) (before : List Entry) (e : Entry) (alive : Bool) (stream : RandomStream) (request : Request) →

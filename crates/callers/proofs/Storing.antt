@@ -1,23 +1,7 @@
 -- A caller after a call on the store.
-use Rattle.std.proofs.Common.{◌≡◌, ◌≤◌, ℕ, List, sym, ap, ◌∙◌, subst, arith}
-use Rattle.std.specs.Prelude.{All, count_by, length, Result, Ok, Err, OnOk, IfOk, IfErr, false, vec_capacity}
-use Rattle.psa_status.specs.declared.Status.{Status}
-use Rattle.turn_history.specs.Prelude.{entries_of}
-use Rattle.key_slots.specs.Holdings.{Pairs}
+use Rattle.std.proofs.Common.{All, Err, IfErr, IfOk, List, Ok, OnOk, Result, ap, arith, count_by, false, length, subst, sym, vec_capacity, ℕ, ◌∙◌, ◌≡◌, ◌≤◌}
+use Rattle.callers.proofs.Common.{AreOperations, ArePairs, Call, Caller, DecidesAfter, DecidesBefore, Entry, FaultMark, IsAnswered, IsAt, IsCalled, IsClear, IsEntered, IsOwnPart, IsReady, IsReplied, KnowsBefore, Legal, OnStore, Output, Pairs, Random, RandomStream, Request, SameButPass, Served, Service, Status, TellsFailure, TellsReply, World, counted, drawn_from, draws_none, entries_of, leases_of, leaves_shared, may_change_keys, next_random, outcome_of, own_of, replay, replay_push, serve, step, words_used}
 use Rattle.store_model.specs.Store as model
-use Rattle.store_model.specs.Prelude.{Call, Random, FaultMark, Served, Service, next_random, own_of, Request, OnStore, serve, Entry, outcome_of, replay, step, counted, may_change_keys}
-use Rattle.secret_bytes.specs.Buffer.{IsClear}
-use Rattle.service_calls.specs.declared.output.Output.{Output}
-use Rattle.locked_store.specs.Prelude.{DecidesAfter, DecidesBefore, IsAt, IsEntered, World}
-use Rattle.random_streams.specs.RandomWords.{RandomStream, drawn_from, words_used}
-use Rattle.single_part.proofs.Draws.{draws_none}
-use Rattle.callers.specs.Called.{IsReplied, IsAnswered, IsCalled, KnowsBefore, Legal, TellsFailure, TellsReply}
-use Rattle.callers.specs.Parts.{SameButPass}
-use Rattle.callers.specs.Handles.{AreOperations, ArePairs, leases_of}
-use Rattle.callers.specs.Ready.{IsOwnPart, IsReady}
-use Rattle.callers.specs.declared.caller.Caller.{Caller}
-use Rattle.store_model.proofs.Others.{leaves_shared}
-use Rattle.store_core.proofs.Histories.{replay_push}
 use Rattle.callers.proofs.Journeys.{called}
 use Rattle.callers.proofs.Owned.{undrawn_own}
 use Rattle.callers.proofs.Readying.{known, outcome_is, ready}

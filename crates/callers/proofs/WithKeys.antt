@@ -1,24 +1,10 @@
 -- What the one-thread service makes of a call in one part with a key.
-use Rattle.std.proofs.Common.{◌≡◌, ◌≤◌, ℕ, true, false, List, [], sym, ap, ◌∙◌, subst, arith}
-use Rattle.std.specs.Prelude.{Some, Err}
+use Rattle.std.proofs.Common.{Err, List, Some, [], ap, arith, false, subst, sym, true, ℕ, ◌∙◌, ◌≡◌, ◌≤◌}
+use Rattle.callers.proofs.Common.{Call, FaultMark, HandleOperation, IsLent, IsOwnPart, IsRefused, IsSound, KeyUse, KeyedCall, OnStore, Outcome, Plain, Random, Reading, Service, Status, Store, bytes_of, computed_by, computed_unless, counted, is_of_element, is_opaque_key, keyed, mark_of, may_change_keys, model_keyed_call, next_random, own_of, refused, serve, service_start, step, use_refusal, wanted_by, with_computed, words_used}
 use Rattle.std.specs.FinMap as map
-use Rattle.psa_status.specs.declared.Status.{Status}
 use Rattle.psa_status.specs.declared.Status.TheVariants as status
-use Rattle.random_streams.specs.RandomWords.{words_used}
-use Rattle.secret_bytes.specs.Buffer.{bytes_of}
-use Rattle.slot_table.specs.Lent.{Reading}
-use Rattle.key_policy.specs.declared.key_use.KeyUse.{KeyUse}
-use Rattle.key_policy.specs.Uses.{use_refusal}
-use Rattle.service_calls.specs.Meanings.{model_keyed_call}
-use Rattle.service_calls.specs.declared.store_calls.KeyedCall.{KeyedCall}
-use Rattle.store_model.specs.Prelude.{Call, Random, FaultMark, Plain, HandleOperation, Service, next_random, own_of, service_start, may_change_keys, Outcome, computed_unless, counted, refused, with_computed, OnStore, serve, IsSound, step, Store, is_opaque_key}
 use Rattle.store_model.specs.KeyUse as held
-use Rattle.store_core.specs.Prelude.{IsLent, IsRefused, mark_of}
-use Rattle.single_part.specs.Elements.{is_of_element}
-use Rattle.single_part.specs.Keyed.{computed_by, wanted_by}
 use Rattle.single_part.proofs.Keys.{keyed as reads}
-use Rattle.single_part.proofs.Models.{keyed}
-use Rattle.callers.specs.Ready.{IsOwnPart}
 use Rattle.callers.proofs.KeyReplies.{Gives, refusal_gives}
 use Rattle.callers.proofs.Owned.{failed_own, stored_own}
 

@@ -1,6 +1,5 @@
 -- Blocks whose end is filled with zeros.
-use Rattle.std.proofs.Common.{◌≡◌, ℕ, zero, suc, ◌-◌, ◌≤◌, Bool, eqb, List, ◌++◌, length, take, drop, refl, sym, ap, ◌∙◌, arith}
-use Rattle.std.specs.Prelude.{replicate, IsTrue, ◌↔◌}
+use Rattle.std.proofs.Common.{Bool, IsTrue, List, ap, arith, drop, eqb, length, refl, replicate, suc, sym, take, zero, ℕ, ◌++◌, ◌-◌, ◌↔◌, ◌∙◌, ◌≡◌, ◌≤◌}
 use Rattle.std.proofs.lemmas.Bool.{eqb-true, eq-eqb}
 use Rattle.std.proofs.lemmas.List.{length-append, length-replicate, drop-replicate, take_at}
 use Rattle.crypto_specs.specs.Prelude.{block_number, number_block}

@@ -1,5 +1,5 @@
 -- CBC, one block at a time.
-use Rattle.std.proofs.Common.{◌≡◌, List, ℕ, ◌∷◌, sym, ap}
+use Rattle.std.proofs.Common.{List, ap, sym, ℕ, ◌∷◌, ◌≡◌}
 use Rattle.crypto_specs.specs.Prelude.{xor_bytes, cbc_blocks, cbc_plain_blocks}
 
 pub cbc_block : (e : List ℕ → List ℕ) (chain block out : List ℕ) → out ≡ e (xor_bytes block chain)

@@ -1,5 +1,5 @@
 -- The counter of CTR, and its key stream block by block.
-use Rattle.std.proofs.Common.{◌≡◌, ℕ, ◌+◌, ◌%◌, ◌^◌, ◌<◌, List, ◌++◌, ap, add-one, refl, arith}
+use Rattle.std.proofs.Common.{List, add-one, ap, arith, refl, ℕ, ◌%◌, ◌++◌, ◌+◌, ◌<◌, ◌^◌, ◌≡◌}
 use Rattle.crypto_specs.specs.Prelude.{key_stream, counter_block, block_number, number_block}
 
 pub key_stream_next : (e : List ℕ → List ℕ) (iv : List ℕ) (n : ℕ) → key_stream e iv (n + 1) ≡ key_stream e iv n ++ e (counter_block iv n)

@@ -1,6 +1,5 @@
 -- PKCS#7 padding of a text of several blocks.
-use Rattle.std.proofs.Common.{◌≡◌, ℕ, ◌+◌, ◌-◌, ◌≤◌, Bool, true, false, cond, List, ◌++◌, length, take, drop, replicate, slice_index, refl, sym, ap, ◌∙◌, arith}
-use Rattle.std.specs.Prelude.{bytes_eq, nat_le, ◌&&◌, Option, Some, None}
+use Rattle.std.proofs.Common.{Bool, List, None, Option, Some, ap, arith, bytes_eq, cond, drop, false, length, nat_le, refl, replicate, slice_index, sym, take, true, ℕ, ◌&&◌, ◌++◌, ◌+◌, ◌-◌, ◌∙◌, ◌≡◌, ◌≤◌}
 use Rattle.std.specs.Option.{option_map}
 use Rattle.std.proofs.Math.Seq.{drop-append-add, take-append-add}
 use Rattle.std.proofs.lemmas.Bool.{leb-true}

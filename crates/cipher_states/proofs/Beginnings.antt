@@ -1,15 +1,6 @@
 -- A text that begins.
-use Rattle.std.proofs.Common.{◌≡◌, ℕ, Bool, true, false, not, List, [], length, refl, sym, subst, inl, inr}
-use Rattle.std.specs.Prelude.{◌&&◌, ◌||◌, ◌==◌}
-use Rattle.crypto_specs.specs.Prelude.{aes_encrypt, block_number}
-use Rattle.aead_streams.specs.declared.counter_width.CounterWidth.TheVariants.{Whole}
-use Rattle.aead_streams.specs.Streams.{IsAt}
-use Rattle.store_model.specs.Prelude.{Mode, Ctr, CbcNoPadding, CbcPkcs7, EcbNoPadding, iv_length, mode_of, CipherWork, bytes_or_empty}
-use Rattle.cipher_states.specs.declared.running.RunningCipher.{RunningCipher}
-use Rattle.cipher_states.specs.Modes.{is_stream, keeps_last}
-use Rattle.cipher_states.specs.Ways.{way_of, chains}
-use Rattle.cipher_states.specs.Texts.{RunsBlocks}
-use Rattle.cipher_states.specs.States.{RunsMode}
+use Rattle.std.proofs.Common.{Bool, List, [], false, inl, inr, length, not, refl, subst, sym, true, ℕ, ◌&&◌, ◌==◌, ◌||◌, ◌≡◌}
+use Rattle.cipher_states.proofs.Common.{CbcNoPadding, CbcPkcs7, CipherWork, Ctr, EcbNoPadding, IsAt, Mode, RunningCipher, RunsBlocks, RunsMode, Whole, aes_encrypt, block_number, bytes_or_empty, chains, is_stream, iv_length, keeps_last, mode_of, way_of}
 use Rattle.cipher_states.proofs.RunningTexts.{by_stream, by_blocks}
 use Rattle.cipher_states.proofs.Dues.{either}
 

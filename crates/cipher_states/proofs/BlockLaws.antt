@@ -1,9 +1,8 @@
 -- ECB and CBC of a text in two parts, of which the first is whole blocks.
-use Rattle.std.proofs.Common.{◌≡◌, ℕ, zero, suc, ◌+◌, ◌*◌, ◌/◌, ◌%◌, List, [], ◌∷◌, ◌++◌, length, take, drop, map, refl, sym, ap, ap₂, ◌∙◌, append_assoc, arith}
-use Rattle.std.proofs.lemmas.List.{length-append, length-take, length-drop, take-append-drop, take-append-le, drop-append-le, map-append, append-nil, drop-drop, drop_at}
-use Rattle.crypto_specs.specs.Prelude.{xor_bytes, blocks, joined, cbc_blocks, cbc_plain_blocks, ecb_encrypt, ecb_decrypt, cbc_encrypt, cbc_decrypt}
+use Rattle.std.proofs.Common.{List, [], ap, append_assoc, ap₂, arith, drop, length, map, refl, suc, sym, take, zero, ℕ, ◌%◌, ◌*◌, ◌++◌, ◌+◌, ◌/◌, ◌∙◌, ◌∷◌, ◌≡◌}
+use Rattle.cipher_states.proofs.Common.{blocks, cbc_blocks, cbc_decrypt, cbc_encrypt, cbc_plain_blocks, drop-append-le, ecb_decrypt, ecb_encrypt, joined, last_block, map-append, take-append-le, xor_bytes}
+use Rattle.std.proofs.lemmas.List.{length-append, length-take, length-drop, take-append-drop, append-nil, drop-drop, drop_at}
 use Rattle.crypto_specs.proofs.XorBytes.{length-xor_bytes}
-use Rattle.cipher_states.specs.Ways.{last_block}
 
 -- ---- blocks
 

@@ -1,8 +1,7 @@
 -- A buffer whose front alone is written.
-use Rattle.std.proofs.Common.{◌≡◌, ℕ, ◌-◌, ◌≤◌, List, [], ◌++◌, length, take, drop, replicate, refl, sym, ap, ◌∙◌, arith}
-use Rattle.std.specs.Prelude.{Option, Some, None}
-use Rattle.std.proofs.lemmas.List.{append-nil, length-take, drop_all}
-use Rattle.store_model.specs.Prelude.{Reply, buffer_after, buffer_bytes, mode_of, CipherWork, last_length, last_part}
+use Rattle.std.proofs.Common.{List, None, Option, Some, [], ap, arith, drop, length, refl, replicate, sym, take, ℕ, ◌++◌, ◌-◌, ◌∙◌, ◌≡◌, ◌≤◌}
+use Rattle.cipher_states.proofs.Common.{CipherWork, Reply, buffer_after, buffer_bytes, drop_all, last_length, last_part, mode_of}
+use Rattle.std.proofs.lemmas.List.{append-nil, length-take}
 
 pub front_written : (old : List ℕ) (n : ℕ) (reply : Reply) → reply.needed ≡ n → n ≤ length old → buffer_after (take n old) reply ++ drop n old ≡ buffer_after old reply
 front_written old n reply e h =

@@ -1,15 +1,8 @@
 -- The output that is due, by the mode and the direction.
-use Rattle.std.proofs.Common.{◌≡◌, ℕ, ◌%◌, ◌≤◌, Bool, true, false, cond, ◌⊎◌, inl, inr, List, ◌++◌, length, take, drop, refl, sym, ap, ap₂, subst, ◌∙◌}
-use Rattle.std.proofs.lemmas.List.{length-append, take_at, drop_at, take-append-drop, take-append-le, take-take, length-take-le}
-use Rattle.crypto_specs.specs.Prelude.{aes_encrypt, ctr_xor, block_number}
-use Rattle.aead_streams.specs.declared.counter_width.CounterWidth.TheVariants.{Whole}
-use Rattle.aead_streams.specs.Counters.{text_xor}
-use Rattle.aead_streams.proofs.StreamLaws.{text_xor-append, length-text_xor}
+use Rattle.std.proofs.Common.{Bool, List, ap, ap₂, cond, drop, false, inl, inr, length, refl, subst, sym, take, true, ℕ, ◌%◌, ◌++◌, ◌∙◌, ◌≡◌, ◌≤◌, ◌⊎◌}
+use Rattle.cipher_states.proofs.Common.{CbcNoPadding, CbcPkcs7, Ctr, EcbNoPadding, Mode, Way, Whole, aes_encrypt, block_number, bytes_or_empty, chains, cipher_due, ctr_xor, due_bytes, due_deciphered, due_enciphered, is_stream, keeps_last, length-text_xor, mode_of, next_chain, processed, take-append-le, text_xor, text_xor-append, way_of, with_text}
+use Rattle.std.proofs.lemmas.List.{length-append, take_at, drop_at, take-append-drop, take-take, length-take-le}
 use Rattle.aead_streams.proofs.ModeStreams.{aes_keeps_length, ctr_is, ctr_further}
-use Rattle.store_model.specs.Prelude.{Mode, Ctr, CbcNoPadding, CbcPkcs7, EcbNoPadding, mode_of, bytes_or_empty, cipher_due, due_enciphered, due_deciphered, with_text}
-use Rattle.cipher_states.specs.Modes.{due_bytes, is_stream, keeps_last}
-use Rattle.cipher_states.specs.declared.ways.Way.{Way}
-use Rattle.cipher_states.specs.Ways.{way_of, processed, chains, next_chain}
 use Rattle.multipart.specs.Dues.{DueGrows}
 use Rattle.cipher_states.proofs.TextPlaces.{due-whole, due-within, due-more}
 use Rattle.cipher_states.proofs.WayLaws.{processed_grows, processed_parts}

@@ -1,21 +1,11 @@
 -- What a finish gives, by the state.
-use Rattle.std.proofs.Common.{◌≡◌, ℕ, zero, suc, ◌+◌, ◌-◌, ◌%◌, ◌<◌, Bool, true, false, not, List, [], ◌++◌, length, take, drop, replicate, refl, sym, ap, ap₂, ◌∙◌, arith}
-use Rattle.std.specs.Prelude.{◌&&◌, ◌==◌, if◌then◌else◌}
+use Rattle.std.proofs.Common.{Bool, List, [], ap, ap₂, arith, drop, false, if◌then◌else◌, length, not, refl, replicate, suc, sym, take, true, zero, ℕ, ◌%◌, ◌&&◌, ◌++◌, ◌+◌, ◌-◌, ◌<◌, ◌==◌, ◌∙◌, ◌≡◌}
+use Rattle.cipher_states.proofs.Common.{Active, Bytes, CbcDecrypt, CbcEncrypt, CbcPkcs7, CipherWork, HoldsCipher, InError, Inactive, Mode, Operation, RunningCipher, Success, Way, bytes_or_empty, chains, drop_all, due_bytes, ends, given, is_stream, is_whole_text, keeps_last, last_length, last_part, mode_of, model_mode, next_chain, pkcs7_padded, pkcs7_unpadded, processed, takes_text, way_of, whole_text}
 use Rattle.std.proofs.lemmas.Bool.{eqb-true}
-use Rattle.std.proofs.lemmas.List.{length-drop, append-nil, drop_all}
-use Rattle.psa_status.specs.declared.Status.TheVariants.{Success}
-use Rattle.crypto_specs.specs.Prelude.{pkcs7_padded, pkcs7_unpadded}
-use Rattle.store_model.specs.Prelude.{Bytes, given, Operation, Inactive, InError, Active, ends, Mode, CbcPkcs7, mode_of, CipherWork, bytes_or_empty, is_whole_text, last_length, last_part, takes_text, whole_text}
-use Rattle.key_policy.specs.Modes.{model_mode}
+use Rattle.std.proofs.lemmas.List.{length-drop, append-nil}
 use Rattle.multipart.specs.Phases.{LeadsTo}
 use Rattle.multipart.specs.declared.Phase.{Phase}
 use Rattle.multipart.specs.declared.Phase.TheVariants as phase
-use Rattle.cipher_states.specs.declared.ways.Way.{Way}
-use Rattle.cipher_states.specs.declared.ways.Way.TheVariants.{CbcEncrypt, CbcDecrypt}
-use Rattle.cipher_states.specs.declared.running.RunningCipher.{RunningCipher}
-use Rattle.cipher_states.specs.Modes.{due_bytes, is_stream, keeps_last}
-use Rattle.cipher_states.specs.Ways.{way_of, processed, next_chain, chains}
-use Rattle.cipher_states.specs.States.{HoldsCipher}
 use Rattle.cipher_states.proofs.WayLaws.{length-next_chain}
 use Rattle.cipher_states.proofs.RunningTexts.{runs_blocks}
 use Rattle.cipher_states.proofs.LastParts.{end_at, end_is, is_whole_at, nothing_left, pkcs7_mode, padded_end, unpadded_end, unpadded_is}

@@ -1,15 +1,9 @@
 -- What a finish gives.
-use Rattle.std.proofs.Common.{◌≡◌, ℕ, ◌*◌, ◌/◌, ◌%◌, ◌<◌, Bool, true, false, cond, not, List, [], ◌++◌, length, take, drop, refl, sym, ap, ap₂, ◌∙◌, arith}
-use Rattle.std.specs.Prelude.{Option, Some, None, is_some, ◌||◌, ◌==◌}
+use Rattle.std.proofs.Common.{Bool, List, None, Option, Some, [], ap, ap₂, arith, cond, drop, false, is_some, length, not, refl, sym, take, true, ℕ, ◌%◌, ◌*◌, ◌++◌, ◌/◌, ◌<◌, ◌==◌, ◌||◌, ◌∙◌, ◌≡◌}
+use Rattle.cipher_states.proofs.Common.{After, Bytes, CbcDecrypt, CbcEncrypt, CbcNoPadding, CbcPkcs7, CipherWork, Ctr, EcbNoPadding, InError, Inactive, InvalidPadding, Mode, Success, aes_decrypt, aes_encrypt, bytes_or_empty, cbc_decrypt, cbc_encrypt, deciphered, drop_all, due_bytes, ecb_decrypt, ecb_encrypt, enciphered, ends, given, is_ciphertext_length, last_length, last_part, mode_of, next_chain, pkcs7_padded, pkcs7_unpadded, plain_or_zeros, processed, spoiled, takes_whole_blocks, whole_text}
 use Rattle.std.specs.Option.{option_map}
 use Rattle.std.proofs.lemmas.Bool.Decides.{nat_tests}
-use Rattle.std.proofs.lemmas.List.{take_all, drop_all, drop_at, take-append-drop, length-take-le}
-use Rattle.psa_status.specs.declared.Status.TheVariants.{Success, InvalidPadding}
-use Rattle.crypto_specs.specs.Prelude.{pkcs7_padded, pkcs7_unpadded, cbc_encrypt, cbc_decrypt, ecb_encrypt, ecb_decrypt, aes_encrypt, aes_decrypt}
-use Rattle.store_model.specs.Prelude.{Bytes, given, spoiled, After, Inactive, InError, ends, Mode, Ctr, CbcNoPadding, CbcPkcs7, EcbNoPadding, mode_of, enciphered, deciphered, takes_whole_blocks, is_ciphertext_length, plain_or_zeros, CipherWork, bytes_or_empty, last_length, last_part, whole_text}
-use Rattle.cipher_states.specs.declared.ways.Way.TheVariants.{CbcEncrypt, CbcDecrypt}
-use Rattle.cipher_states.specs.Modes.{due_bytes}
-use Rattle.cipher_states.specs.Ways.{processed, next_chain}
+use Rattle.std.proofs.lemmas.List.{take_all, drop_at, take-append-drop, length-take-le}
 use Rattle.cipher_states.proofs.WayLaws.{processed_parts, length-processed}
 use Rattle.cipher_states.proofs.TextPlaces.{due-whole, due-within}
 use Rattle.cipher_states.proofs.Dues.{due_under}

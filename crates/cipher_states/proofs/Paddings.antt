@@ -1,7 +1,7 @@
 -- PKCS#7 padding of a text in two parts.
-use Rattle.std.proofs.Common.{◌≡◌, ℕ, ◌-◌, ◌%◌, List, ◌++◌, length, replicate, ap, ◌∙◌, append_assoc, arith}
+use Rattle.std.proofs.Common.{List, ap, append_assoc, arith, length, replicate, ℕ, ◌%◌, ◌++◌, ◌-◌, ◌∙◌, ◌≡◌}
+use Rattle.cipher_states.proofs.Common.{pkcs7_padded}
 use Rattle.std.proofs.lemmas.List.{length-append}
-use Rattle.crypto_specs.specs.Prelude.{pkcs7_padded}
 
 -- whole blocks stay as they are
 pub padded_behind : (front last : List ℕ) → length front % 16 ≡ 0 → pkcs7_padded (front ++ last) ≡ front ++ pkcs7_padded last

@@ -1,22 +1,8 @@
 -- What a RunningCipher stands for.
-use Rattle.std.proofs.Common.{◌≡◌, ℕ, ◌+◌, ◌%◌, ◌<◌, ◌≤◌, Bool, true, false, cond, List, ◌++◌, length, take, drop, refl, sym, ap, subst, ◌∙◌, arith}
-use Rattle.std.specs.Prelude.{Some, None, nat_lt}
+use Rattle.std.proofs.Common.{Bool, List, None, Some, ap, arith, cond, drop, false, length, nat_lt, refl, subst, sym, take, true, ℕ, ◌%◌, ◌++◌, ◌+◌, ◌<◌, ◌∙◌, ◌≡◌, ◌≤◌}
+use Rattle.cipher_states.proofs.Common.{BufferTooSmall, CbcNoPadding, CbcPkcs7, CipherWork, Ctr, EcbNoPadding, HoldsCipher, IsAt, Mode, RunningCipher, RunsBlocks, RunsMode, Whole, aes_encrypt, block_number, bytes_or_empty, chains, cipher_fresh, cipher_update_rows, due_bytes, due_now, first_row, is_stream, keeps_last, length-text_xor, mode_of, model_mode, processed, room_rows, takes_text, text_xor, total_limit, way_of, with_text}
 use Rattle.std.proofs.lemmas.Bool.{lt-ltb, le-ltb}
 use Rattle.std.proofs.lemmas.List.{length-append, length-take, length-drop, take-append-drop}
-use Rattle.psa_status.specs.declared.Status.TheVariants.{BufferTooSmall}
-use Rattle.psa_status.specs.Rows.{first_row}
-use Rattle.crypto_specs.specs.Prelude.{aes_encrypt, block_number}
-use Rattle.aead_streams.specs.declared.counter_width.CounterWidth.TheVariants.{Whole}
-use Rattle.aead_streams.specs.Counters.{text_xor}
-use Rattle.aead_streams.specs.Streams.{IsAt}
-use Rattle.aead_streams.proofs.StreamLaws.{length-text_xor}
-use Rattle.store_model.specs.Prelude.{room_rows, total_limit, Mode, Ctr, CbcNoPadding, CbcPkcs7, EcbNoPadding, mode_of, CipherWork, cipher_fresh, cipher_update_rows, with_text, bytes_or_empty, takes_text}
-use Rattle.key_policy.specs.Modes.{model_mode}
-use Rattle.cipher_states.specs.declared.running.RunningCipher.{RunningCipher}
-use Rattle.cipher_states.specs.Modes.{due_bytes, is_stream, keeps_last}
-use Rattle.cipher_states.specs.Ways.{way_of, processed, chains}
-use Rattle.cipher_states.specs.Texts.{RunsBlocks}
-use Rattle.cipher_states.specs.States.{HoldsCipher, RunsMode, due_now}
 use Rattle.cipher_states.proofs.WayLaws.{length-processed, length-next_chain}
 use Rattle.cipher_states.proofs.TextPlaces.{due-whole, due-within, further_front}
 use Rattle.cipher_states.proofs.Dues.{stream_fresh, blocks_fresh}

@@ -1,13 +1,8 @@
 -- What a BlockText stands for, at its start and after a further piece.
-use Rattle.std.proofs.Common.{◌≡◌, ℕ, ◌+◌, ◌%◌, ◌≤◌, Bool, true, false, List, [], ◌++◌, length, take, drop, refl, sym, ap, ap₂, ◌∙◌, append_assoc, arith}
+use Rattle.std.proofs.Common.{Bool, List, [], ap, append_assoc, ap₂, arith, drop, false, length, refl, sym, take, true, ℕ, ◌%◌, ◌++◌, ◌+◌, ◌∙◌, ◌≡◌, ◌≤◌}
+use Rattle.cipher_states.proofs.Common.{CbcDecrypt, CbcEncrypt, EcbDecrypt, EcbEncrypt, HoldsBlockText, Way, blocks, cbc_blocks, cbc_encrypt, chains, due_bytes, next_chain}
 use Rattle.std.proofs.lemmas.List.{length-append, length-take, take_at, drop_at, append-nil, take-append-drop, length-take-le}
-use Rattle.crypto_specs.specs.Prelude.{blocks, cbc_blocks, cbc_encrypt}
-use Rattle.cipher_states.specs.declared.ways.Way.{Way}
-use Rattle.cipher_states.specs.declared.ways.Way.TheVariants.{EcbEncrypt, EcbDecrypt, CbcEncrypt, CbcDecrypt}
 use Rattle.cipher_states.specs.declared.block_text.BlockText.{BlockText}
-use Rattle.cipher_states.specs.Modes.{due_bytes}
-use Rattle.cipher_states.specs.Ways.{chains, next_chain}
-use Rattle.cipher_states.specs.Texts.{HoldsBlockText}
 use Rattle.cipher_states.proofs.WayLaws.{next_chain_parts}
 
 -- ---- how much is due

@@ -1,10 +1,7 @@
 -- What the ways make of a text in two parts.
-use Rattle.std.proofs.Common.{◌≡◌, ℕ, ◌%◌, true, List, ◌++◌, length, refl, sym, ap, ◌∙◌, arith}
+use Rattle.std.proofs.Common.{List, ap, arith, length, refl, sym, true, ℕ, ◌%◌, ◌++◌, ◌∙◌, ◌≡◌}
+use Rattle.cipher_states.proofs.Common.{CbcDecrypt, CbcEncrypt, EcbDecrypt, EcbEncrypt, Way, aes_decrypt, aes_encrypt, cbc_decrypt, cbc_encrypt, chains, last_block, next_chain, processed}
 use Rattle.std.proofs.lemmas.List.{length-append, length-drop}
-use Rattle.crypto_specs.specs.Prelude.{aes_encrypt, aes_decrypt, cbc_encrypt, cbc_decrypt}
-use Rattle.cipher_states.specs.declared.ways.Way.{Way}
-use Rattle.cipher_states.specs.declared.ways.Way.TheVariants.{EcbEncrypt, EcbDecrypt, CbcEncrypt, CbcDecrypt}
-use Rattle.cipher_states.specs.Ways.{chains, processed, next_chain, last_block}
 use Rattle.cipher_states.proofs.BlockLaws.{ecb_parts, ecb_plain_parts, cbc_parts, cbc_plain_parts, cbc_chain, cbc_plain_chain, cbc_chain_is, cbc_plain_chain_is, length-ecb, length-ecb_plain, length-cbc, length-cbc_plain, last_twice}
 
 encrypted-long : (key b : List ℕ) → length (aes_encrypt key b) ≡ 16

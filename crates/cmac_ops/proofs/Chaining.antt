@@ -1,6 +1,5 @@
 -- The steps of a chain: a block is enciphered, a piece is added, the tag is made.
-use Rattle.std.proofs.Common.{◌≡◌, ℕ, ◌+◌, ◌-◌, ◌*◌, ◌^◌, ◌<◌, ◌≤◌, Bool, cond, List, [], ◌∷◌, ◌++◌, length, take, drop, bit_xor, refl, sym, ap, ap₂, ◌∙◌, inl, inr, arith}
-use Rattle.std.specs.Prelude.{replicate}
+use Rattle.std.proofs.Common.{Bool, List, [], ap, ap₂, arith, bit_xor, cond, drop, inl, inr, length, refl, replicate, sym, take, ℕ, ◌*◌, ◌++◌, ◌+◌, ◌-◌, ◌<◌, ◌^◌, ◌∙◌, ◌∷◌, ◌≡◌, ◌≤◌}
 use Rattle.std.proofs.lemmas.Bool.{cases_eq, eq-eqb, ne_eqb}
 use Rattle.std.proofs.lemmas.List.{length-append, length-drop, drop-append-le, take_all, drop_all}
 use Rattle.crypto_specs.specs.Prelude.{aes_encrypt, xor_bytes, chained, cmac, doubled, front_count, last_block, subkey1, subkey2, blocks, number_block}

@@ -1,5 +1,5 @@
 -- Blocks as numbers.
-use Rattle.std.proofs.Common.{◌≡◌, ℕ, ◌^◌, ◌<◌, List, length, sym, ap, ◌∙◌}
+use Rattle.std.proofs.Common.{List, ap, length, sym, ℕ, ◌<◌, ◌^◌, ◌∙◌, ◌≡◌}
 use Rattle.crypto_specs.specs.Prelude.{block_number, number_block}
 use Rattle.cipher_blocks.proofs.BlockNumbers.{number_of_block}
 

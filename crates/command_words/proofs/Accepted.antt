@@ -1,23 +1,8 @@
 -- `clap` takes the words that are a command, and finds that command in them.
-use Rattle.std.proofs.Common.{◌≡◌, ℕ, ◌&&◌, Bool, true, false, cond, List, [], ◌∷◌, refl, sym, ap, ◌∙◌, subst, arith}
-use Rattle.std.specs.Prelude.{Option, Some, None, bytes_eq, option_and_then, option_map, is_some, fold, codes}
-use Rattle.std.proofs.lemmas.Option.{none-some, option_and_then_some}
-use Rattle.std.proofs.lemmas.Slice.Eq.{bytes_eq-Decides}
-use Rattle.clap.specs.Words.{App, Row, Rule, Text, first_of, new_rule, subcommand_of, takes, built}
-use Rattle.clap.specs.Walk.{Names, Walk, idle, finished, settled, walked, walk, with_default, has_row, nothing_held, rows_after}
-use Rattle.clap.specs.Simple.{Shape, entered, filled, new_shape, with_index, names_of}
-use Rattle.clap.specs.Takes.{entered_passes, is_valid, level_passes, settle_passes, turn_passes, walk_passes}
-use Rattle.clap.proofs.WalkLemmas.{walk_stopped}
-use Rattle.policy_rules.specs.declared.narrowing.Label.{Label}
-use Rattle.command_words.specs.Options.{Texts, options_in, texts_of}
-use Rattle.command_words.specs.Parser.{program, texts_in, asked_of}
-use Rattle.command_words.specs.Values.{number_to}
-use Rattle.command_words.specs.Words.{run_options, run_of, count_of, command_of}
+use Rattle.std.proofs.Common.{Bool, List, None, Option, Some, [], ap, arith, bytes_eq, codes, cond, false, fold, is_some, option_and_then, option_map, refl, subst, sym, true, ℕ, ◌&&◌, ◌∙◌, ◌∷◌, ◌≡◌}
+use Rattle.command_words.proofs.Common.{App, Generate, Label, Names, Row, Rule, Rules, Run, RunOption, RunOptions, Seed, Shape, Text, Texts, Walk, Workers, asked_of, built, bytes_eq-Decides, command_of, count_of, entered, entered_passes, filled, finished, has_row, idle, is_valid, level_passes, names_of, new_rule, new_shape, none-some, nothing_held, number_to, option_and_then_some, options_in, program, rows_after, run_of, run_options, settle_passes, settled, subcommand_of, takes, texts_in, texts_of, turn_passes, walk, walk_passes, walk_stopped, walked, with_default, with_index}
+use Rattle.clap.specs.Words.{first_of}
 use Rattle.command_words.specs.declared.command.Command.{Command}
-use Rattle.command_words.specs.declared.command.Command.TheVariants.{Run, Generate}
-use Rattle.command_words.specs.declared.command.RunOptions.{RunOptions}
-use Rattle.command_words.specs.declared.options.RunOption.{RunOption}
-use Rattle.command_words.specs.declared.options.RunOption.TheVariants.{Workers, Seed, Rules}
 use Rattle.command_words.proofs.Hyphens.{IsBare, AreBare, bare, are_bare, no_number, no_option}
 use Rattle.command_words.proofs.Rows.{option_built, HasValues, texts_are_in}
 use Rattle.command_words.proofs.RunWalk.{run_rules, run_shape, between, Ends, follows}

@@ -1,15 +1,8 @@
 -- The command that matches ask for, as their getters tell it.
-use Rattle.std.proofs.Common.{◌≡◌, List, sym, ap, ap₂, ◌∙◌}
-use Rattle.std.specs.Prelude.{Option, Some, None, option_and_then, option_map, codes}
-use Rattle.std.proofs.lemmas.Option.{none-some, same_Some}
-use Rattle.clap.specs.Words.{Row, Text, first_value, rows_of, subcommand_name_of, subcommand_rows_of}
-use Rattle.clap.proofs.WalkLemmas.{first_value-rows}
+use Rattle.std.proofs.Common.{List, None, Option, Some, ap, ap₂, codes, option_and_then, option_map, sym, ◌∙◌, ◌≡◌}
+use Rattle.command_words.proofs.Common.{Generate, Label, Row, Text, asked_of, first_value, first_value-rows, none-some, number_to, rows_of, same_Some, subcommand_name_of, subcommand_rows_of}
 use Rattle.clap.specs.declared.parser.matches.ArgMatches.{ArgMatches}
 use Rattle.clap.specs.declared.parser.matches.Found.{Found}
-use Rattle.policy_rules.specs.declared.narrowing.Label.{Label}
-use Rattle.command_words.specs.Parser.{asked_of}
-use Rattle.command_words.specs.Values.{number_to}
-use Rattle.command_words.specs.declared.command.Command.TheVariants.{Generate}
 
 -- the subcommand that was met, by its name and its rows
 pub record Met (matches : ArgMatches) (name : Text) (rows : List Row) : Type 0 where

@@ -1,24 +1,11 @@
 -- Good values don't begin with a hyphen.
-use Rattle.std.proofs.Common.{◌≡◌, ℕ, ◌<◌, ◌^◌, ◌==◌, Bool, true, false, cond, List, [], ◌∷◌, refl, sym, ap, ◌∙◌, arith, eqb-true, get_or}
-use Rattle.std.specs.Prelude.{Option, Some, None, bytes_eq, option_and_then, replicate, Err}
-use Rattle.std.specs.List.{slice_split, onto_first}
+use Rattle.std.proofs.Common.{Bool, Err, List, None, Option, Some, [], ap, arith, bytes_eq, cond, eqb-true, false, get_or, option_and_then, refl, replicate, sym, true, ℕ, ◌<◌, ◌==◌, ◌^◌, ◌∙◌, ◌∷◌, ◌≡◌}
+use Rattle.command_words.proofs.Common.{Label, Rules, RunOption, RunOptions, Seed, Texts, Workers, bytes_eq-Decides, first_decimal, label_named, label_word, labels_in, labels_named, long_of, long_of_rest, none-some, number_to, onto_first, option_and_then_some, run_options, seed_in, short_of, short_of_rest, slice_split, strip_byte, value_or}
 use Rattle.std.specs.Fmt.{decimal}
 use Rattle.std.specs.Result.{result_ok}
-use Rattle.std.proofs.lemmas.Fmt.{first_decimal}
-use Rattle.std.proofs.lemmas.Option.{none-some, option_and_then_some}
-use Rattle.std.proofs.lemmas.Slice.Eq.{bytes_eq-Decides}
-use Rattle.clap.specs.Lexer.{strip_byte, long_of, long_of_rest, short_of, short_of_rest}
 use Rattle.hex.specs.Hex.{decode_pairs}
 use Rattle.hex.specs.declared.error.FromHexError.TheVariants.{OddLength, InvalidStringLength}
-use Rattle.policy_rules.specs.declared.narrowing.Label.{Label}
 use Rattle.policy_rules.specs.declared.narrowing.Label.TheVariants.{NoExport, NoCopy, NoEcb, Aes256}
-use Rattle.admission.specs.Words.{label_word, label_named, labels_named, labels_in}
-use Rattle.command_words.specs.Options.{Texts}
-use Rattle.command_words.specs.Values.{number_to, seed_in, value_or}
-use Rattle.command_words.specs.Words.{run_options}
-use Rattle.command_words.specs.declared.command.RunOptions.{RunOptions}
-use Rattle.command_words.specs.declared.options.RunOption.{RunOption}
-use Rattle.command_words.specs.declared.options.RunOption.TheVariants.{Workers, Seed, Rules}
 use Rattle.command_words.proofs.Numbers.{not_written}
 use Rattle.command_words.proofs.Settings.{text_at}
 

@@ -1,3 +1,4 @@
+mod Common
 pub mod Accepted
 pub mod Asked
 pub mod Hyphens

@@ -1,15 +1,7 @@
 -- What is an option's word to the grammar is one to `clap`.
-use Rattle.std.proofs.Common.{◌≡◌, ℕ, suc, ◌+◌, arith, take, drop, Bool, true, false, cond, List, [], ◌∷◌, refl, sym, ap, ◌∙◌, subst}
-use Rattle.std.specs.Prelude.{Option, Some, None, bytes_eq, find, option_map}
-use Rattle.std.specs.List.{list_any, position_or_len, before_first, after_first}
-use Rattle.std.proofs.lemmas.Option.{none-some, same_Some}
-use Rattle.std.proofs.lemmas.Slice.Eq.{bytes_eq-Decides}
-use Rattle.clap.specs.Lexer.{long_of, long_of_rest}
-use Rattle.command_words.specs.Options.{option_name, option_named, option_in, all_options, is_equals}
-use Rattle.command_words.specs.Parser.{option_id}
-use Rattle.command_words.specs.declared.options.RunOption.{RunOption}
-use Rattle.command_words.specs.declared.options.RunOption.TheVariants.{Workers, Seed, Rules}
 
+use Rattle.std.proofs.Common.{Bool, List, None, Option, Some, [], ap, arith, bytes_eq, cond, drop, false, find, option_map, refl, subst, suc, sym, take, true, ℕ, ◌+◌, ◌∙◌, ◌∷◌, ◌≡◌}
+use Rattle.command_words.proofs.Common.{Rules, RunOption, Seed, Workers, after_first, all_options, before_first, bytes_eq-Decides, is_equals, list_any, long_of, long_of_rest, none-some, option_id, option_in, option_name, option_named, position_or_len, same_Some}
 found_passes : {X : Type 0} (p : X → Bool) (xs : List X) (x : X) → find p xs ≡ Some x → p x ≡ true
 found_passes p [] x e = absurd (none-some x e)
 found_passes {X} p (y ∷ ys) x e = go (p y) refl e (found_passes p ys x)

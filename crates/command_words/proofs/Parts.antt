@@ -1,9 +1,7 @@
 -- Whether a text is labels, word by word.
-use Rattle.std.proofs.Common.{◌≡◌, Bool, true, false, List, [], refl, sym, ap, ◌∙◌}
-use Rattle.std.specs.Prelude.{Option, Some, None, is_some, not}
-use Rattle.policy_rules.specs.declared.narrowing.Label.{Label}
-use Rattle.admission.proofs.Texts.{first_of}
 
+use Rattle.std.proofs.Common.{Bool, List, None, Option, Some, [], ap, false, is_some, not, refl, sym, true, ◌∙◌, ◌≡◌}
+use Rattle.command_words.proofs.Common.{Label, first_of}
 both : (word : Option Label) (more : Option (List Label)) → is_some word ≡ true → is_some (first_of word more) ≡ is_some more
 both None more e = absurd (cc)
 both (Some label) None e = refl

@@ -1,17 +1,9 @@
 -- The rows that `clap` keeps of a run's options, and the values that these are.
-use Rattle.std.proofs.Common.{◌≡◌, ℕ, ◌||◌, Bool, true, false, cond, List, [], ◌∷◌, ◌++◌, append-nil, refl, sym, ap, ◌∙◌, subst}
-use Rattle.std.specs.Prelude.{Option, Some, None, bytes_eq, find, is_some, option_map, option_and_then, slice_get}
-use Rattle.std.specs.Option.{option_or}
-use Rattle.std.proofs.lemmas.Option.{none-some}
-use Rattle.std.proofs.lemmas.List.Folds.{find-append}
-use Rattle.clap.specs.Walk.{Row, Rule, all_of, at_row, first_of, has_row, more_values, used, without}
-use Rattle.clap.specs.Simple.{filled}
+use Rattle.std.proofs.Common.{Bool, List, None, Option, Some, [], ap, append-nil, bytes_eq, cond, false, find, is_some, option_and_then, option_map, refl, slice_get, subst, sym, true, ℕ, ◌++◌, ◌||◌, ◌∙◌, ◌∷◌, ◌≡◌}
+use Rattle.command_words.proofs.Common.{Row, Rule, Rules, RunOption, Seed, Texts, Workers, all_of, at_row, filled, find-append, has_row, is_of, more_values, none-some, option_id, option_or, option_rule, texts_in, used, without}
+use Rattle.clap.specs.Walk.{first_of}
 use Rattle.clap.specs.declared.builder.value_parser.Reading.TheVariants.{AsWritten}
 use Rattle.clap.specs.declared.parser.matches.ValueSource.TheVariants.{CommandLine}
-use Rattle.command_words.specs.Options.{Texts, is_of}
-use Rattle.command_words.specs.Parser.{option_id, option_rule, texts_in}
-use Rattle.command_words.specs.declared.options.RunOption.{RunOption}
-use Rattle.command_words.specs.declared.options.RunOption.TheVariants.{Workers, Seed, Rules}
 use Rattle.command_words.proofs.Settings.{text_at, put, put_at, same_option, or_none}
 
 -- an option as `clap` builds it

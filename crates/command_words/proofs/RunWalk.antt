@@ -1,15 +1,8 @@
 -- `clap` takes the words of a run that the grammar takes, and keeps their values.
-use Rattle.std.proofs.Common.{◌≡◌, ℕ, Bool, true, false, List, [], ◌∷◌, refl, sym, ◌∙◌, subst}
-use Rattle.std.specs.Prelude.{Option, Some, None, bytes_eq, option_and_then, fold, codes}
-use Rattle.std.proofs.lemmas.Option.{none-some, same_Some}
-use Rattle.clap.specs.Walk.{Held, Row, Rule, Waiting, Walk, idle, option as for_option, walked, settled, reacted, arg_by_id, arg_by_long}
-use Rattle.clap.specs.Simple.{Shape, new_shape}
-use Rattle.clap.specs.Takes.{walk_passes, turn_passes, settle_passes, use_passes}
-use Rattle.command_words.specs.Options.{Texts, is_of, option_in}
-use Rattle.command_words.specs.Parser.{option_id}
-use Rattle.command_words.specs.Reading.{if_new, with_option, settled as settled_state, after_words}
-use Rattle.command_words.specs.declared.options.RunOption.{RunOption}
-use Rattle.command_words.specs.declared.options.RunOption.TheVariants.{Workers, Seed, Rules}
+use Rattle.std.proofs.Common.{Bool, List, None, Option, Some, [], bytes_eq, codes, false, fold, option_and_then, refl, subst, sym, true, ℕ, ◌∙◌, ◌∷◌, ◌≡◌}
+use Rattle.command_words.proofs.Common.{Held, Row, Rule, Rules, RunOption, Seed, Shape, Texts, Waiting, Walk, Workers, after_words, arg_by_id, arg_by_long, idle, if_new, is_of, new_shape, none-some, option_id, option_in, reacted, same_Some, settle_passes, settled, turn_passes, use_passes, walk_passes, walked, with_option}
+use Rattle.clap.specs.Walk.{option as for_option}
+use Rattle.command_words.specs.Reading.{settled as settled_state}
 use Rattle.command_words.proofs.Hyphens.{IsBare, AreBare, no_option}
 use Rattle.command_words.proofs.OptionWords.{long_of_option, not_dashes}
 use Rattle.command_words.proofs.Rows.{option_built, HasValues, no_row, has_next}

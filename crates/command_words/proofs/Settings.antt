@@ -1,18 +1,13 @@
 -- Options that are read one after another are those that the words give.
-use Rattle.std.proofs.Common.{◌≡◌, ℕ, ◌+◌, ◌≤◌, ◌<◌, Bool, true, false, cond, ◌&&◌, List, [], ◌∷◌, ◌++◌, append_assoc, append-nil, refl, sym, ap, ◌∙◌, arith, subst, map, drop, length, get_or, drop-cons, add-one}
-use Rattle.std.specs.Prelude.{Option, Some, None, find, count_by, nat_le, is_some}
-use Rattle.std.specs.Option.{option_map, option_and_then, option_or}
-use Rattle.std.specs.List.{list_all}
+use Rattle.std.proofs.Common.{Bool, List, None, Option, Some, [], add-one, ap, append-nil, append_assoc, arith, cond, count_by, drop, drop-cons, false, find, get_or, is_some, length, map, nat_le, refl, subst, sym, true, ℕ, ◌&&◌, ◌++◌, ◌+◌, ◌<◌, ◌∙◌, ◌∷◌, ◌≡◌, ◌≤◌}
+use Rattle.command_words.proofs.Common.{Rules, RunOption, Seed, Setting, State, Texts, Workers, after_word, after_words, all_options, are_single, at_end, find-append, if_new, is_of, list_all, option_in, option_or, options_in, state, texts_of, value_of, with_option}
+use Rattle.std.specs.Option.{option_map, option_and_then}
 use Rattle.std.specs.Borrow.{Bor}
 use Rattle.std.proofs.lemmas.List.{at_drop_all}
-use Rattle.std.proofs.lemmas.List.Folds.{find-append}
 use Rattle.std.proofs.lemmas.List.Sums.{sum_by-append}
 use Rattle.std.proofs.lemmas.Bool.Decides.{nat_tests}
-use Rattle.command_words.specs.Options.{Setting, Texts, option_in, options_in, is_of, are_single, value_of, texts_of, all_options}
-use Rattle.command_words.specs.Reading.{State, if_new, with_option, settled, after_word, at_end, after_words, state}
-use Rattle.command_words.specs.declared.options.RunOption.{RunOption}
+use Rattle.command_words.specs.Reading.{settled}
 use Rattle.command_words.specs.declared.options.Reading.{Reading}
-use Rattle.command_words.specs.declared.options.RunOption.TheVariants.{Workers, Seed, Rules}
 
 -- settings in front of others
 pub behind : List Setting → Option (List Setting) → Option (List Setting)

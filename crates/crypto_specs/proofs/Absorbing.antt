@@ -1,9 +1,9 @@
 -- Byte by byte is block by block, and any cutting gives the same.
-use Rattle.std.proofs.Common.{◌≡◌, ◌≢◌, ℕ, zero, suc, ◌+◌, ◌-◌, ◌*◌, ◌<◌, ◌≤◌, List, [], ◌∷◌, ◌++◌, length, take, drop, refl, sym, ap, ◌∙◌, append_assoc, inl, inr, arith}
+use Rattle.std.proofs.Common.{List, [], ap, append_assoc, arith, drop, inl, inr, length, refl, suc, sym, take, zero, ℕ, ◌*◌, ◌++◌, ◌+◌, ◌-◌, ◌<◌, ◌∙◌, ◌∷◌, ◌≡◌, ◌≢◌, ◌≤◌}
+use Rattle.crypto_specs.proofs.Common.{blocks, cases_eq, length_push}
 use Rattle.std.specs.List.{fold}
-use Rattle.std.proofs.lemmas.Bool.{eq-eqb, ne_eqb, cases_eq}
-use Rattle.std.proofs.lemmas.List.{length_push, length-take, length-drop, append-nil, take-append-drop, drop-drop}
-use Rattle.crypto_specs.specs.Modes.{blocks}
+use Rattle.std.proofs.lemmas.Bool.{eq-eqb, ne_eqb}
+use Rattle.std.proofs.lemmas.List.{length-take, length-drop, append-nil, take-append-drop, drop-drop}
 use Rattle.crypto_specs.specs.Absorb.{absorb, Absorbed}
 
 module _ {Y : Type 0} (f : Y → List ℕ → Y) where

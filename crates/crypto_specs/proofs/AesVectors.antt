@@ -1,12 +1,8 @@
 -- AES: the examples of FIPS 197. Appendix C has the ciphers for all three key sizes.
-use Rattle.std.specs.Prelude.{◌≡◌, ℕ, List, [], ◌∷◌, drop, refl}
-use Rattle.crypto_specs.specs.Field.{xtime, gf_mul, sum_of_shifts, inverse_from}
-use Rattle.crypto_specs.specs.Sbox.{affine_bits, sbox, inv_affine_bits, inv_sbox}
-use Rattle.crypto_specs.specs.KeyExpansion.{power_of_x, expanded, key_schedule}
-use Rattle.crypto_specs.specs.Aes.{rounds, aes_encrypt}
-use Rattle.crypto_specs.specs.AesInverse.{inv_rounds, aes_decrypt}
 
 -- sections 4.2 and 4.2.1
+use Rattle.std.proofs.Common.{List, [], drop, refl, ℕ, ◌∷◌, ◌≡◌}
+use Rattle.crypto_specs.proofs.Common.{aes_decrypt, aes_encrypt, affine_bits, expanded, gf_mul, inv_affine_bits, inv_rounds, inv_sbox, inverse_from, key_schedule, power_of_x, rounds, sbox, sum_of_shifts, xtime}
 product : gf_mul 0x57 0x83 ≡ 0xc1
 unfolding sum_of_shifts
 product = refl

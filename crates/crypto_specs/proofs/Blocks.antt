@@ -1,8 +1,7 @@
 -- Laws of blocks that the proofs of the algorithms share.
-use Rattle.std.proofs.Common.{◌≡◌, ℕ, zero, suc, ◌*◌, ◌≤◌, List, [], ◌∷◌, ◌++◌, length, take, drop, slice_index, replicate, refl, ap, ap₂, ◌∙◌, arith}
-use Rattle.std.proofs.lemmas.List.{take-append-drop, take-append-le, drop-append-le, length-drop}
-use Rattle.crypto_specs.specs.Aes.{aes_encrypt}
-use Rattle.crypto_specs.specs.Modes.{blocks, joined, block_number, number_block}
+use Rattle.std.proofs.Common.{List, [], ap, ap₂, arith, drop, length, refl, replicate, slice_index, suc, take, zero, ℕ, ◌*◌, ◌++◌, ◌∙◌, ◌∷◌, ◌≡◌, ◌≤◌}
+use Rattle.crypto_specs.proofs.Common.{aes_encrypt, block_number, blocks, drop-append-le, joined, number_block, take-append-le}
+use Rattle.std.proofs.lemmas.List.{take-append-drop, length-drop}
 
 pub length-number_block : (n : ℕ) → length (number_block n) ≡ 16
 unfolding number_block

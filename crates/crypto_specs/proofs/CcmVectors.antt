@@ -1,11 +1,6 @@
 -- CCM: examples of SP 800-38C, appendix C.
-use Rattle.std.proofs.Common.{◌≡◌, ℕ, List, [], ◌∷◌, refl, ap, ◌∙◌}
-use Rattle.crypto_specs.specs.Field.{sum_of_shifts}
-use Rattle.crypto_specs.specs.KeyExpansion.{power_of_x}
-use Rattle.crypto_specs.specs.Aes.{aes_encrypt}
-use Rattle.crypto_specs.specs.Modes.{blocks}
-use Rattle.crypto_specs.specs.Cmac.{chained}
-use Rattle.crypto_specs.specs.Ccm.{control_block, encoded_length, encoded_data, formatted_blocks, ccm_counter_block, ccm_stream, ccm_text, ccm_tag}
+use Rattle.std.proofs.Common.{List, [], ap, refl, ℕ, ◌∙◌, ◌∷◌, ◌≡◌}
+use Rattle.crypto_specs.proofs.Common.{aes_encrypt, blocks, ccm_counter_block, ccm_stream, ccm_tag, ccm_text, chained, control_block, encoded_data, encoded_length, formatted_blocks, power_of_x, sum_of_shifts}
 use Rattle.crypto_specs.proofs.TableAes.{by_table, rounds_by, expanded_by, schedule_by, encrypt_by, table_encrypt, encrypts_by_table}
 
 abbrev key : List ℕ

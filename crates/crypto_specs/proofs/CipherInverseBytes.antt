@@ -1,8 +1,7 @@
 -- The S-box and its inverse undo each other.
-use Rattle.std.proofs.Common.{◌≡◌, ℕ, zero, suc, ◌+◌, ◌*◌, ◌^◌, ◌<◌, ◌≤◌, Bool, true, false, eqb, refl, ap, ◌∙◌, arith}
+use Rattle.std.proofs.Common.{Bool, ap, arith, eqb, false, refl, suc, true, zero, ℕ, ◌*◌, ◌+◌, ◌<◌, ◌^◌, ◌∙◌, ◌≡◌, ◌≤◌}
+use Rattle.crypto_specs.proofs.Common.{affine_bit, affine_bits, gf_inverse, gf_mul, inv_affine_bit, inv_affine_bits, inv_sbox, inverse_from, sbox, sum_of_shifts}
 use Rattle.std.proofs.lemmas.Bool.{eqb-true}
-use Rattle.crypto_specs.specs.Field.{gf_mul, sum_of_shifts, inverse_from, gf_inverse}
-use Rattle.crypto_specs.specs.Sbox.{affine_bit, affine_bits, sbox, inv_affine_bit, inv_affine_bits, inv_sbox}
 use Rattle.crypto_specs.proofs.FieldLaws.{all_below, below_all}
 
 inverse_test : all_below 256 (λ b. eqb (gf_inverse (gf_inverse b)) b) ≡ true

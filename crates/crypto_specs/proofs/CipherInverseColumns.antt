@@ -1,11 +1,7 @@
 -- The matrices of MixColumns and InvMixColumns undo each other on a column.
-use Rattle.std.proofs.Common.{◌≡◌, ℕ, ◌<◌, Bool, true, eqb, bit_xor, refl, sym, ap, ap₂, ◌∙◌}
-use Rattle.std.specs.Prelude.{◌&&◌}
-use Rattle.std.specs.Int.Bits.{xor_zero_r, xor_assoc}
-use Rattle.std.proofs.lemmas.Nat.{xor_comm, xor_lt}
+use Rattle.std.proofs.Common.{Bool, ap, ap₂, bit_xor, eqb, refl, sym, true, ℕ, ◌&&◌, ◌<◌, ◌∙◌, ◌≡◌}
+use Rattle.crypto_specs.proofs.Common.{gf_mul, mixed, sum_of_shifts, xor_assoc, xor_comm, xor_lt, xor_zero_r}
 use Rattle.std.proofs.lemmas.Bool.{eqb-true}
-use Rattle.crypto_specs.specs.Field.{gf_mul, sum_of_shifts}
-use Rattle.crypto_specs.specs.Aes.{mixed}
 use Rattle.crypto_specs.proofs.FieldLaws.{all_below, below_all, both, xor_four, gf_mul-xor, gf_mul-byte}
 
 abbrev pub sum_four : ℕ → ℕ → ℕ → ℕ → ℕ

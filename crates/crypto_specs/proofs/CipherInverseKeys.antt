@@ -1,13 +1,8 @@
 -- The bytes of a key schedule, and so the two ciphers of a key undo each other.
-use Rattle.std.proofs.Common.{sym, ap, ℕ, zero, suc, ◌+◌, ◌-◌, ◌*◌, ◌/◌, ◌%◌, ◌<◌, Bool, true, false, cond, eqb, nat_lt, bit_xor, List, [], ◌∷◌, slice_index, length, arith}
-use Rattle.std.specs.Prelude.{◌&&◌}
-use Rattle.std.proofs.lemmas.Nat.{xor_lt}
-use Rattle.crypto_specs.specs.KeyExpansion.{word_at, xor_words, sub_word, rot_word, power_of_x, round_constant, schedule_core, next_word, expanded, key_schedule, round_count}
-use Rattle.crypto_specs.specs.Aes.{aes_encrypt}
-use Rattle.crypto_specs.specs.AesInverse.{aes_decrypt}
+use Rattle.std.proofs.Common.{Bool, List, [], ap, arith, bit_xor, cond, eqb, false, length, nat_lt, slice_index, suc, sym, true, zero, ℕ, ◌%◌, ◌&&◌, ◌*◌, ◌+◌, ◌-◌, ◌/◌, ◌<◌, ◌∷◌}
+use Rattle.crypto_specs.proofs.Common.{AreBytes, IsBlock, IsUndoneBy, aes_decrypt, aes_encrypt, expanded, key_schedule, next_word, power_of_x, rot_word, round_constant, round_count, schedule_core, sub_word, word_at, xor_lt, xor_words}
 use Rattle.crypto_specs.proofs.FieldLaws.{xtime-byte}
 use Rattle.crypto_specs.proofs.CipherInverseBytes.{sbox-byte}
-use Rattle.crypto_specs.specs.Laws.{AreBytes, IsBlock, IsUndoneBy}
 use Rattle.crypto_specs.proofs.CipherInverseLists.{HasBytes, none_bytes, more_bytes, bytes_of_all, all_of_bytes, joined_bytes}
 use Rattle.crypto_specs.proofs.CipherInverse.{IsState, state_from, cipher_state, inv_cipher_state, inv_cipher_of_cipher, cipher_of_inv_cipher}
 

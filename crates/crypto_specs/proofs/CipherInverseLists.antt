@@ -1,10 +1,7 @@
 -- Lists of bytes, as what each place reads as.
-use Rattle.std.proofs.Common.{ℕ, zero, suc, ◌+◌, ◌<◌, List, [], ◌∷◌, ◌++◌, length, take, drop, slice_index, inl, inr, arith}
-use Rattle.std.proofs.lemmas.Nat.{xor_lt}
-use Rattle.std.proofs.lemmas.Bool.{cases_lt}
-use Rattle.std.proofs.lemmas.List.{get_or_past, get_or_default, get_or-take, get_or-drop, length-take}
-use Rattle.crypto_specs.specs.Bytes.{xor_bytes}
-use Rattle.crypto_specs.specs.Laws.{AreBytes}
+use Rattle.std.proofs.Common.{List, [], arith, drop, inl, inr, length, slice_index, suc, take, zero, ℕ, ◌++◌, ◌+◌, ◌<◌, ◌∷◌}
+use Rattle.crypto_specs.proofs.Common.{AreBytes, cases_lt, get_or_default, get_or_past, xor_bytes, xor_lt}
+use Rattle.std.proofs.lemmas.List.{get_or-take, get_or-drop, length-take}
 
 -- every byte that a list reads as is below 256, also past its end
 pub record HasBytes (s : List ℕ) : Type 0 where

@@ -1,10 +1,6 @@
 -- CMAC: the examples of SP 800-38B, appendix D.1, for AES-128.
-use Rattle.std.proofs.Common.{◌≡◌, ℕ, List, [], ◌∷◌, take, refl, ap, ◌∙◌}
-use Rattle.crypto_specs.specs.Field.{sum_of_shifts}
-use Rattle.crypto_specs.specs.KeyExpansion.{power_of_x}
-use Rattle.crypto_specs.specs.Aes.{aes_encrypt}
-use Rattle.crypto_specs.specs.Modes.{blocks, block_number, number_block}
-use Rattle.crypto_specs.specs.Cmac.{subkey1, subkey2, last_block, chained, cmac}
+use Rattle.std.proofs.Common.{List, [], ap, refl, take, ℕ, ◌∙◌, ◌∷◌, ◌≡◌}
+use Rattle.crypto_specs.proofs.Common.{aes_encrypt, block_number, blocks, chained, cmac, last_block, number_block, power_of_x, subkey1, subkey2, sum_of_shifts}
 use Rattle.crypto_specs.proofs.TableAes.{by_table, rounds_by, expanded_by, schedule_by, encrypt_by, table_encrypt, encrypts_by_table}
 
 abbrev key : List ℕ

@@ -1,11 +1,8 @@
 -- The blocks of HKDF and PBKDF2 are as long as a digest.
-use Rattle.std.proofs.Common.{◌≡◌, ℕ, zero, suc, ◌+◌, ◌≤◌, List, [], ◌∷◌, ◌++◌, length, arith}
+use Rattle.std.proofs.Common.{List, [], arith, length, suc, zero, ℕ, ◌++◌, ◌+◌, ◌∷◌, ◌≡◌, ◌≤◌}
+use Rattle.crypto_specs.proofs.Common.{chain, expand_block, hmac, pbkdf2_block, to_be_bytes, xor_all, xor_bytes}
 use Rattle.std.specs.List.{fold}
-use Rattle.std.specs.Int.{w32, to_be_bytes}
-use Rattle.crypto_specs.specs.Bytes.{xor_bytes}
-use Rattle.crypto_specs.specs.Hmac.{hmac}
-use Rattle.crypto_specs.specs.Hkdf.{expand_block}
-use Rattle.crypto_specs.specs.Pbkdf2.{chain, xor_all, pbkdf2_block}
+use Rattle.std.specs.Int.{w32}
 use Rattle.crypto_specs.proofs.XorBytes.{length-xor_bytes}
 
 -- over any hash function of h bytes, with blocks of n

@@ -1,10 +1,7 @@
 -- Laws of the field GF(2^8): what is tried at every byte, and products of sums.
-use Rattle.std.proofs.Common.{◌≡◌, ℕ, zero, suc, ◌+◌, ◌*◌, ◌/◌, ◌%◌, ◌^◌, ◌<◌, ◌≤◌, Bool, true, false, cond, eqb, nat_lt, bit_xor, refl, sym, ap, ap₂, ◌∙◌, inl, inr, arith}
-use Rattle.std.specs.Prelude.{◌&&◌}
-use Rattle.std.specs.Int.Bits.{xor_zero_r, xor_assoc, xor_self, xor_block}
-use Rattle.std.proofs.lemmas.Nat.{xor_shr, xor_comm, xor_lt}
-use Rattle.std.proofs.lemmas.Bool.{ltb-true, cases_eq, cases_lt, le-ltb, lt-ltb}
-use Rattle.crypto_specs.specs.Field.{xtime, gf_mul, sum_of_shifts}
+use Rattle.std.proofs.Common.{Bool, ap, ap₂, arith, bit_xor, cond, eqb, false, inl, inr, nat_lt, refl, suc, sym, true, zero, ℕ, ◌%◌, ◌&&◌, ◌*◌, ◌+◌, ◌/◌, ◌<◌, ◌^◌, ◌∙◌, ◌≡◌, ◌≤◌}
+use Rattle.crypto_specs.proofs.Common.{cases_eq, cases_lt, gf_mul, sum_of_shifts, xor_assoc, xor_block, xor_comm, xor_lt, xor_self, xor_shr, xor_zero_r, xtime}
+use Rattle.std.proofs.lemmas.Bool.{ltb-true, le-ltb, lt-ltb}
 
 -- the test holds at each number below n
 unfoldable pub all_below : ℕ → (ℕ → Bool) → Bool

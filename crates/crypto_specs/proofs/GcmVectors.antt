@@ -1,12 +1,7 @@
 -- GCM: test cases 2 (a nonce of 12 bytes) and 5 (one of 8) of the GCM specification.
-use Rattle.std.proofs.Common.{◌≡◌, ℕ, List, [], ◌∷◌, replicate, refl, ap, ◌∙◌}
-use Rattle.crypto_specs.specs.Field.{sum_of_shifts}
-use Rattle.crypto_specs.specs.KeyExpansion.{power_of_x}
-use Rattle.crypto_specs.specs.Aes.{aes_encrypt}
-use Rattle.crypto_specs.specs.Modes.{blocks, block_number, number_block}
+use Rattle.std.proofs.Common.{List, [], ap, refl, replicate, ℕ, ◌∙◌, ◌∷◌, ◌≡◌}
+use Rattle.crypto_specs.proofs.Common.{aes_encrypt, block_number, blocks, gcm_stream, gcm_tag, gcm_text, ghash_from, ghash_of, hash_subkey, increased, initial_counter_block, number_block, numbers_of, power_of_x, sum_of_shifts, times_x}
 use Rattle.crypto_specs.specs.Ghash as product
-use Rattle.crypto_specs.specs.Ghash.{times_x, ghash_from}
-use Rattle.crypto_specs.specs.Gcm.{numbers_of, hash_subkey, ghash_of, initial_counter_block, increased, gcm_stream, gcm_text, gcm_tag}
 use Rattle.crypto_specs.proofs.TableAes.{by_table, rounds_by, expanded_by, schedule_by, encrypt_by, table_encrypt, encrypts_by_table}
 
 abbrev zeros : List ℕ

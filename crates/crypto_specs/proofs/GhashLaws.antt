@@ -1,11 +1,7 @@
 -- The product of blocks in GHASH is linear in each factor.
-use Rattle.std.proofs.Common.{◌≡◌, ℕ, zero, suc, ◌/◌, ◌%◌, ◌^◌, Bool, true, false, cond, eqb, bit_xor, refl, sym, ap, ap₂, ◌∙◌, inl, inr, arith}
-use Rattle.std.specs.Prelude.{◌⊎◌}
-use Rattle.std.specs.Int.{bit_at}
-use Rattle.std.specs.Int.Bits.{xor_zero_r, xor_self}
-use Rattle.std.proofs.lemmas.Nat.{xor_shr, xor_mod}
-use Rattle.std.proofs.lemmas.Bool.{cases_eq}
-use Rattle.crypto_specs.specs.Ghash.{times_x, sum_of_shifts, reduction, block_product}
+use Rattle.std.proofs.Common.{Bool, ap, ap₂, arith, bit_xor, cond, eqb, false, inl, inr, refl, suc, sym, true, zero, ℕ, ◌%◌, ◌/◌, ◌^◌, ◌∙◌, ◌≡◌, ◌⊎◌}
+use Rattle.crypto_specs.proofs.Common.{bit_at, block_product, cases_eq, reduction, times_x, xor_mod, xor_self, xor_shr, xor_zero_r}
+use Rattle.crypto_specs.specs.Ghash.{sum_of_shifts}
 use Rattle.crypto_specs.proofs.FieldLaws.{xor_four}
 
 parity : (a : ℕ) → (a % 2 ≡ 0) ⊎ (a % 2 ≡ 1)

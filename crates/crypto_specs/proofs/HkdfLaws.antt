@@ -1,10 +1,7 @@
 -- HKDF: the absent salt.
-use Rattle.std.proofs.Common.{◌≡◌, ℕ, ◌-◌, ◌≤◌, Bool, cond, List, [], ◌++◌, length, replicate, sym, ap, ◌∙◌, arith}
+use Rattle.std.proofs.Common.{Bool, List, [], ap, arith, cond, length, replicate, sym, ℕ, ◌++◌, ◌-◌, ◌∙◌, ◌≡◌, ◌≤◌}
+use Rattle.crypto_specs.proofs.Common.{AbsentSaltIsEmptyKey, extract, filled, hash_length, hmac, key_block, length-replicate, replicate-append-replicate, xored_with}
 use Rattle.std.proofs.lemmas.Bool.{le-ltb}
-use Rattle.std.proofs.lemmas.List.{length-replicate, replicate-append-replicate}
-use Rattle.crypto_specs.specs.Hmac.{filled, key_block, xored_with, hmac}
-use Rattle.crypto_specs.specs.Hkdf.{hash_length, extract}
-use Rattle.crypto_specs.specs.Laws.{AbsentSaltIsEmptyKey}
 
 -- a key of zeros that isn't longer than a block is the block of zeros
 zeros-key_block : (hash : List ℕ → List ℕ) (n k : ℕ) → k ≤ n → key_block hash n (replicate k 0) ≡ replicate n 0

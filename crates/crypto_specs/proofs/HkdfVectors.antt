@@ -1,9 +1,7 @@
 -- HKDF with SHA-256: test case 1 of RFC 5869, A.1.
-use Rattle.std.specs.Prelude.{◌≡◌, ℕ, List, [], ◌∷◌, replicate, refl}
+use Rattle.std.proofs.Common.{List, [], refl, replicate, ℕ, ◌∷◌, ◌≡◌}
+use Rattle.crypto_specs.proofs.Common.{expand, expand_block, expand_blocks, extract, hmac, key_block, sha256}
 use Rattle.sha2.specs.Sha256 as sha
-use Rattle.sha2.specs.Sha256.{sha256}
-use Rattle.crypto_specs.specs.Hmac.{key_block, hmac}
-use Rattle.crypto_specs.specs.Hkdf.{extract, expand_block, expand_blocks, expand}
 
 abbrev salt : List ℕ
 salt = 0x00 ∷ 0x01 ∷ 0x02 ∷ 0x03 ∷ 0x04 ∷ 0x05 ∷ 0x06 ∷ 0x07 ∷ 0x08 ∷ 0x09 ∷ 0x0a ∷ 0x0b ∷ 0x0c ∷ []

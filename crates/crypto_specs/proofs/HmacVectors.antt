@@ -1,8 +1,7 @@
 -- HMAC with SHA-256: test cases 2 and 6 of RFC 4231, 4.3 and 4.7.
-use Rattle.std.specs.Prelude.{◌≡◌, ℕ, List, [], ◌∷◌, replicate, refl}
+use Rattle.std.proofs.Common.{List, [], refl, replicate, ℕ, ◌∷◌, ◌≡◌}
+use Rattle.crypto_specs.proofs.Common.{hmac, key_block, sha256}
 use Rattle.sha2.specs.Sha256 as sha
-use Rattle.sha2.specs.Sha256.{sha256}
-use Rattle.crypto_specs.specs.Hmac.{key_block, hmac}
 
 -- "what do ya want for nothing?", under the key "Jefe"
 abbrev question : List ℕ

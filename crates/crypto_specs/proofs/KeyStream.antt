@@ -1,9 +1,7 @@
 -- The key stream byte by byte.
-use Rattle.std.proofs.Common.{◌≡◌, ℕ, zero, suc, ◌+◌, ◌-◌, ◌*◌, ◌/◌, ◌%◌, ◌<◌, ◌≤◌, List, [], ◌∷◌, ◌++◌, length, take, drop, slice_index, slice_set, bit_xor, refl, ap, ap₂, ◌∙◌, inl, inr, arith}
-use Rattle.std.proofs.lemmas.Bool.{cases_lt}
-use Rattle.std.proofs.lemmas.List.{length-append, get_or_append_left, get_or-append_right}
-use Rattle.crypto_specs.specs.Bytes.{xor_bytes}
-use Rattle.crypto_specs.specs.Modes.{key_stream, stream_byte, xor_stream, counter_block, ctr_xor, block_count}
+use Rattle.std.proofs.Common.{List, [], ap, ap₂, arith, bit_xor, drop, inl, inr, length, refl, slice_index, slice_set, suc, take, zero, ℕ, ◌%◌, ◌*◌, ◌++◌, ◌+◌, ◌-◌, ◌/◌, ◌<◌, ◌∙◌, ◌∷◌, ◌≡◌, ◌≤◌}
+use Rattle.crypto_specs.proofs.Common.{block_count, cases_lt, counter_block, ctr_xor, get_or-append_right, get_or_append_left, key_stream, stream_byte, xor_bytes, xor_stream}
+use Rattle.std.proofs.lemmas.List.{length-append}
 
 -- any cutting: the second part goes on where the first ended
 pub xor_stream_of_parts : (e : List ℕ → List ℕ) (iv xs ys : List ℕ) (j : ℕ) → xor_stream e iv j (xs ++ ys) ≡ xor_stream e iv j xs ++ xor_stream e iv (j + length xs) ys

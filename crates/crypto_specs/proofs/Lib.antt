@@ -1,3 +1,4 @@
+mod Common
 pub mod XorBytes
 pub mod Blocks
 pub mod Tags

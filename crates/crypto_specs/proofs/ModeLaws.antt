@@ -1,13 +1,9 @@
 -- ECB and CBC: decryption undoes encryption. CTR and the texts of CCM and GCM: xoring twice.
-use Rattle.std.proofs.Common.{◌≡◌, ℕ, zero, suc, ◌+◌, ◌-◌, ◌*◌, ◌/◌, ◌%◌, ◌<◌, ◌≤◌, map, List, [], ◌∷◌, ◌++◌, length, drop, refl, sym, ap, ap₂, ◌∙◌, arith}
-use Rattle.std.specs.Int.{w64, to_be_bytes}
+use Rattle.std.proofs.Common.{List, [], ap, ap₂, arith, drop, length, map, refl, suc, sym, zero, ℕ, ◌%◌, ◌*◌, ◌++◌, ◌+◌, ◌-◌, ◌/◌, ◌<◌, ◌∙◌, ◌∷◌, ◌≡◌, ◌≤◌}
+use Rattle.crypto_specs.proofs.Common.{AnyCuttingIsTheSame, AreBytes, CbcDecryptionUndoesEncryption, CcmTextUndoesItself, CtrUndoesItself, EcbDecryptionUndoesEncryption, GcmTextUndoesItself, IsBlock, IsUndoneBy, KeepsLength, block_count, blocks, cbc_blocks, cbc_decrypt, cbc_encrypt, cbc_plain_blocks, ccm_counter_block, ccm_stream, ccm_text, counter_block, ctr_pieces, ctr_xor, ecb_decrypt, ecb_encrypt, gcm_stream, gcm_text, increased, initial_counter_block, joined, key_stream, number_block, to_be_bytes, xor_bytes, xor_stream}
+use Rattle.std.specs.Int.{w64}
 use Rattle.std.proofs.lemmas.List.{length-take, length-drop, length-append, take_at, drop_at}
 use Rattle.std.proofs.lemmas.List.Elements.{All-take, All-drop}
-use Rattle.crypto_specs.specs.Bytes.{xor_bytes}
-use Rattle.crypto_specs.specs.Modes.{block_count, blocks, joined, number_block, ecb_encrypt, ecb_decrypt, cbc_blocks, cbc_plain_blocks, cbc_encrypt, cbc_decrypt, counter_block, key_stream, ctr_xor, xor_stream, ctr_pieces}
-use Rattle.crypto_specs.specs.Ccm.{ccm_counter_block, ccm_stream, ccm_text}
-use Rattle.crypto_specs.specs.Gcm.{initial_counter_block, increased, gcm_stream, gcm_text}
-use Rattle.crypto_specs.specs.Laws.{AreBytes, IsBlock, IsUndoneBy, KeepsLength, EcbDecryptionUndoesEncryption, CbcDecryptionUndoesEncryption, CtrUndoesItself, AnyCuttingIsTheSame, CcmTextUndoesItself, GcmTextUndoesItself}
 use Rattle.crypto_specs.proofs.CipherInverseLists.{bytes_of_all, all_of_bytes, xored_bytes}
 use Rattle.crypto_specs.proofs.Blocks.{length-number_block, blocks_joined}
 use Rattle.crypto_specs.proofs.XorBytes.{length-xor_bytes, xor_bytes_twice}

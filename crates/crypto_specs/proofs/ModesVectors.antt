@@ -1,11 +1,6 @@
 -- ECB, CBC and CTR: examples of SP 800-38A, appendix F, for AES-128. PKCS#7: RFC 5652, 6.3.
-use Rattle.std.proofs.Common.{◌≡◌, ℕ, List, [], ◌∷◌, ◌++◌, take, replicate, refl, ap, ◌∙◌}
-use Rattle.std.specs.Prelude.{Some, None}
-use Rattle.crypto_specs.specs.Field.{sum_of_shifts}
-use Rattle.crypto_specs.specs.KeyExpansion.{power_of_x}
-use Rattle.crypto_specs.specs.Aes.{aes_encrypt}
-use Rattle.crypto_specs.specs.AesInverse.{aes_decrypt}
-use Rattle.crypto_specs.specs.Modes.{blocks, block_number, number_block, cbc_blocks, cbc_plain_blocks, ecb_encrypt, ecb_decrypt, cbc_encrypt, cbc_decrypt, counter_block, key_stream, ctr_xor, pkcs7_padded, pkcs7_unpadded}
+use Rattle.std.proofs.Common.{List, None, Some, [], ap, refl, replicate, take, ℕ, ◌++◌, ◌∙◌, ◌∷◌, ◌≡◌}
+use Rattle.crypto_specs.proofs.Common.{aes_decrypt, aes_encrypt, block_number, blocks, cbc_blocks, cbc_decrypt, cbc_encrypt, cbc_plain_blocks, counter_block, ctr_xor, ecb_decrypt, ecb_encrypt, key_stream, number_block, pkcs7_padded, pkcs7_unpadded, power_of_x, sum_of_shifts}
 use Rattle.crypto_specs.proofs.TableAes.{by_table, rounds_by, inv_rounds_by, expanded_by, schedule_by, encrypt_by, decrypt_by, table_encrypt, table_decrypt, encrypts_by_table, decrypts_by_table}
 
 abbrev key : List ℕ

@@ -1,12 +1,9 @@
 -- PKCS#7: unpadding undoes padding, and only that.
-use Rattle.std.proofs.Common.{◌≡◌, ℕ, ◌+◌, ◌-◌, ◌%◌, ◌≤◌, Bool, true, false, cond, nat_le, List, ◌++◌, length, take, drop, slice_index, replicate, refl, sym, ap, ap₂, ◌∙◌, arith}
-use Rattle.std.specs.Prelude.{◌&&◌, bytes_eq, Option, Some, None}
-use Rattle.std.proofs.lemmas.Bool.{le-leb, leb-true, and_from}
-use Rattle.std.proofs.lemmas.List.{length-append, length-replicate, length-drop, get_or-replicate, get_or-append_right, take_at, drop_at, take-append-drop}
-use Rattle.std.proofs.lemmas.Slice.Eq.{bytes_eq-Decides}
+use Rattle.std.proofs.Common.{Bool, List, None, Option, Some, ap, ap₂, arith, bytes_eq, cond, drop, false, length, nat_le, refl, replicate, slice_index, sym, take, true, ℕ, ◌%◌, ◌&&◌, ◌++◌, ◌+◌, ◌-◌, ◌∙◌, ◌≡◌, ◌≤◌}
+use Rattle.crypto_specs.proofs.Common.{OnlyPaddedTextsUnpad, PaddingFillsBlocks, UnpaddingUndoesPadding, and_from, bytes_eq-Decides, get_or-append_right, get_or-replicate, length-replicate, pkcs7_padded, pkcs7_unpadded}
+use Rattle.std.proofs.lemmas.Bool.{le-leb, leb-true}
+use Rattle.std.proofs.lemmas.List.{length-append, length-drop, take_at, drop_at, take-append-drop}
 use Rattle.crypto_specs.proofs.FieldLaws.{both}
-use Rattle.crypto_specs.specs.Modes.{pkcs7_padded, pkcs7_unpadded}
-use Rattle.crypto_specs.specs.Laws.{PaddingFillsBlocks, UnpaddingUndoesPadding, OnlyPaddedTextsUnpad}
 
 -- the text from place n on is p bytes of value p, where p is 1 to 16
 abbrev is_padding : List ℕ → ℕ → ℕ → Bool

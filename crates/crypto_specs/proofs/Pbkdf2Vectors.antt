@@ -1,10 +1,8 @@
 -- PBKDF2 with HMAC-SHA-256: "password", "salt", 2 turns and 20 bytes, the inputs of RFC 6070's second
 -- case; the key is what Python's hashlib.pbkdf2_hmac gives for SHA-256.
-use Rattle.std.specs.Prelude.{◌≡◌, ℕ, List, [], ◌∷◌, refl}
+use Rattle.std.proofs.Common.{List, [], refl, ℕ, ◌∷◌, ◌≡◌}
+use Rattle.crypto_specs.proofs.Common.{chain, hmac, key_block, pbkdf2, pbkdf2_block, pbkdf2_blocks, sha256, xor_all}
 use Rattle.sha2.specs.Sha256 as sha
-use Rattle.sha2.specs.Sha256.{sha256}
-use Rattle.crypto_specs.specs.Hmac.{key_block, hmac}
-use Rattle.crypto_specs.specs.Pbkdf2.{chain, xor_all, pbkdf2_block, pbkdf2_blocks, pbkdf2}
 
 abbrev password : List ℕ
 password = 0x70 ∷ 0x61 ∷ 0x73 ∷ 0x73 ∷ 0x77 ∷ 0x6f ∷ 0x72 ∷ 0x64 ∷ []

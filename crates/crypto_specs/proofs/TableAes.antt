@@ -1,13 +1,8 @@
 -- AES with its S-boxes read from tables, so that the examples of the modes compute fast. It is the
 -- same function.
-use Rattle.std.proofs.Common.{◌≡◌, ℕ, zero, suc, ◌+◌, ◌-◌, ◌*◌, ◌/◌, ◌%◌, true, false, cond, nat_lt, eqb, List, [], ◌∷◌, ◌++◌, length, slice_index, refl, sym, ap, ap₂, ◌∙◌, inl, inr}
-use Rattle.std.specs.Prelude.{◌&&◌}
-use Rattle.std.proofs.lemmas.Bool.{cases_lt, lt-ltb, le-ltb}
-use Rattle.crypto_specs.specs.Field.{sum_of_shifts, inverse_from}
-use Rattle.crypto_specs.specs.Sbox.{affine_bits, sbox, inv_affine_bits, inv_sbox}
-use Rattle.crypto_specs.specs.KeyExpansion.{word_at, xor_words, rot_word, round_constant, key_words, round_count, expanded, key_schedule}
-use Rattle.crypto_specs.specs.Aes.{state_of, entry, shift_rows, mix_columns, add_round_key, rounds, aes_encrypt}
-use Rattle.crypto_specs.specs.AesInverse.{inv_shift_rows, inv_mix_columns, inv_rounds, aes_decrypt}
+use Rattle.std.proofs.Common.{List, [], ap, ap₂, cond, eqb, false, inl, inr, length, nat_lt, refl, slice_index, suc, sym, true, zero, ℕ, ◌%◌, ◌&&◌, ◌*◌, ◌++◌, ◌+◌, ◌-◌, ◌/◌, ◌∙◌, ◌∷◌, ◌≡◌}
+use Rattle.crypto_specs.proofs.Common.{add_round_key, aes_decrypt, aes_encrypt, affine_bits, cases_lt, entry, expanded, inv_affine_bits, inv_mix_columns, inv_rounds, inv_sbox, inv_shift_rows, inverse_from, key_schedule, key_words, mix_columns, rot_word, round_constant, round_count, rounds, sbox, shift_rows, state_of, sum_of_shifts, word_at, xor_words}
+use Rattle.std.proofs.lemmas.Bool.{lt-ltb, le-ltb}
 use Rattle.crypto_specs.proofs.Tables.{holds_values, value_of}
 
 abbrev sbox_table : List ℕ

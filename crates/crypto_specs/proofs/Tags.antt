@@ -1,10 +1,9 @@
 -- The test of a tag.
-use Rattle.std.proofs.Common.{◌≡◌, ℕ, Bool, eqb, List, sym, ◌∙◌}
-use Rattle.std.specs.Prelude.{IsTrue, ◌↔◌}
+use Rattle.std.proofs.Common.{Bool, IsTrue, List, eqb, sym, ℕ, ◌↔◌, ◌∙◌, ◌≡◌}
+use Rattle.crypto_specs.proofs.Common.{slice_eq-Decides}
 use Rattle.std.specs.Bool.{Decides}
 use Rattle.std.specs.Cmp.Lexicographic.{pointwise}
 use Rattle.std.proofs.lemmas.Bool.Decides.{Decides-eqb}
-use Rattle.std.proofs.lemmas.Slice.Eq.{slice_eq-Decides}
 
 -- a comparison with the tag that was computed decides whether the tag is the right one
 pub tag_decided : (r : Bool) (tag x y : List ℕ) → r ≡ pointwise eqb tag x → x ≡ y → IsTrue r ↔ (tag ≡ y)

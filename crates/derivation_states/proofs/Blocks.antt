@@ -1,10 +1,7 @@
 -- A block, by the scheme.
-use Rattle.std.proofs.Common.{◌≡◌, ℕ, zero, suc, Bool, true, false, cond, List, refl, ap}
-use Rattle.crypto_specs.specs.Prelude.{extract, expand_block, pbkdf2_block}
-use Rattle.store_model.specs.Prelude.{bytes_or_empty, DerivationWork, is_hkdf}
-use Rattle.store_model.specs.DerivationOperations.{number_or_zero}
-use Rattle.derivation_states.specs.Streams.{work_hash, work_block_length, block_at}
 
+use Rattle.std.proofs.Common.{Bool, List, ap, cond, false, refl, suc, true, zero, ℕ, ◌≡◌}
+use Rattle.derivation_states.proofs.Common.{DerivationWork, block_at, bytes_or_empty, expand_block, extract, is_hkdf, number_or_zero, pbkdf2_block, work_block_length, work_hash}
 pub at_true : (b : Bool) (x y : List ℕ) → b ≡ true → cond b x y ≡ x
 at_true b x y e = ap (λ (t : Bool). cond t x y) e
 

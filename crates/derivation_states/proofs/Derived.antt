@@ -1,13 +1,9 @@
 -- The bytes of a derivation, block by block.
-use Rattle.std.proofs.Common.{◌≡◌, ℕ, zero, suc, ◌+◌, ◌-◌, ◌*◌, ◌/◌, ◌≤◌, ◌<◌, List, [], ◌∷◌, ◌++◌, length, take, drop, get_or, refl, sym, ap, ap₂, ◌∙◌, inl, inr, add-one, arith}
+use Rattle.std.proofs.Common.{List, [], add-one, ap, ap₂, arith, drop, get_or, inl, inr, length, refl, suc, sym, take, zero, ℕ, ◌*◌, ◌++◌, ◌+◌, ◌-◌, ◌/◌, ◌<◌, ◌∙◌, ◌∷◌, ◌≡◌, ◌≤◌}
+use Rattle.derivation_states.proofs.Common.{DerivationWork, block_at, bytes_or_empty, cases_Bool, derived, drop-append-le, expand, expand_block, expand_blocks, extract, hash_length, is_hkdf, next_derived, number_or_zero, pbkdf2, pbkdf2_block, pbkdf2_blocks, without, work_block_length, work_hash}
 use Rattle.std.proofs.Math.Nat.{mul-suc, div-mul-le_self}
-use Rattle.std.proofs.lemmas.Bool.{cases_Bool}
 use Rattle.std.proofs.lemmas.Nat.{le-div}
-use Rattle.std.proofs.lemmas.List.{length-take, length-drop, take-take, drop-append-le, take-append-drop}
-use Rattle.crypto_specs.specs.Prelude.{hash_length, extract, expand_block, expand_blocks, expand, pbkdf2_block, pbkdf2_blocks, pbkdf2}
-use Rattle.store_model.specs.Prelude.{bytes_or_empty, DerivationWork, is_hkdf, derived, next_derived, without}
-use Rattle.store_model.specs.DerivationOperations.{number_or_zero}
-use Rattle.derivation_states.specs.Streams.{work_hash, work_block_length, block_at}
+use Rattle.std.proofs.lemmas.List.{length-take, length-drop, take-take, take-append-drop}
 use Rattle.multipart.specs.Dues.{DueGrows}
 use Rattle.derivation_states.proofs.Joined.{joined, joined_same, front_begins, length-joined, front, one_byte}
 use Rattle.derivation_states.proofs.Blocks.{at_true, at_false, block_of_hkdf, block_of_pbkdf2}

@@ -1,9 +1,9 @@
 -- Blocks joined, of one length and of any.
-use Rattle.std.proofs.Common.{◌≡◌, ℕ, zero, suc, ◌+◌, ◌-◌, ◌*◌, ◌<◌, ◌≤◌, min, List, [], ◌∷◌, ◌++◌, length, take, drop, get_or, refl, sym, ap, ap₂, ◌∙◌, inl, inr, arith}
+use Rattle.std.proofs.Common.{List, [], ap, ap₂, arith, drop, get_or, inl, inr, length, min, refl, suc, sym, take, zero, ℕ, ◌*◌, ◌++◌, ◌+◌, ◌-◌, ◌<◌, ◌∙◌, ◌∷◌, ◌≡◌, ◌≤◌}
+use Rattle.derivation_states.proofs.Common.{cases_lt, drop-take, take-append-le, take_min}
 use Rattle.std.proofs.Math.Nat.{mul-suc, mul-le-mul_left}
 use Rattle.std.proofs.Math.Seq.{drop-append-add, drop-cons}
-use Rattle.std.proofs.lemmas.Bool.{cases_lt}
-use Rattle.std.proofs.lemmas.List.{length-append, length-take, take_all, take_min, take-take, take-append-le, drop-take}
+use Rattle.std.proofs.lemmas.List.{length-append, length-take, take_all, take-take}
 
 -- the blocks 1 to m
 abbrev pub joined : (ℕ → List ℕ) → ℕ → List ℕ

@@ -1,10 +1,7 @@
 -- The length of a block.
-use Rattle.std.proofs.Common.{◌≡◌, ℕ, suc, ◌≤◌, false, List, length, ap, ◌∙◌, inl, inr}
-use Rattle.std.proofs.lemmas.Bool.{cases_Bool}
+use Rattle.std.proofs.Common.{List, ap, false, inl, inr, length, suc, ℕ, ◌∙◌, ◌≡◌, ◌≤◌}
+use Rattle.derivation_states.proofs.Common.{DerivationWork, block_at, cases_Bool, is_hkdf, number_or_zero, work_hash}
 use Rattle.crypto_specs.proofs.CodeLengths.{length-expand_block, length-pbkdf2_block}
-use Rattle.store_model.specs.DerivationOperations.{number_or_zero}
-use Rattle.store_model.specs.Prelude.{DerivationWork, is_hkdf}
-use Rattle.derivation_states.specs.Streams.{work_hash, block_at}
 use Rattle.derivation_states.proofs.Blocks.{block_of_hkdf, block_of_pbkdf2}
 
 -- each block is as long as a digest: PBKDF2 has some turns

@@ -1,16 +1,7 @@
 -- The block after the current one, by the inputs.
-use Rattle.std.proofs.Common.{◌≡◌, ℕ, ◌+◌, ◌-◌, ◌≤◌, Bool, true, false, cond, List, Option, Some, None, refl, sym, ap, ◌∙◌, add-one, arith}
-use Rattle.std.specs.Prelude.{is_some, unwrap_or}
+use Rattle.std.proofs.Common.{Bool, List, None, Option, Some, add-one, ap, arith, cond, false, is_some, refl, sym, true, unwrap_or, ℕ, ◌+◌, ◌-◌, ◌∙◌, ◌≡◌, ◌≤◌}
+use Rattle.derivation_states.proofs.Common.{DerivationWork, HoldsInputs, Inputs, KeyDerivation, NamesDerivation, block_at, block_length, bytes_or_empty, expand_block, extract, given_bytes, hash_of, hmac_key, is_hkdf, number_or_zero, pbkdf2_block, work_block_length, work_hash}
 use Rattle.std.specs.Option.{option_map}
-use Rattle.crypto_specs.specs.Prelude.{extract, expand_block, pbkdf2_block}
-use Rattle.hash_ops.specs.Hashes.{hash_of, block_length}
-use Rattle.store_model.specs.Prelude.{bytes_or_empty, DerivationWork, is_hkdf}
-use Rattle.store_model.specs.DerivationOperations.{number_or_zero}
-use Rattle.derivation_states.specs.Inputs.{HoldsInputs, given_bytes}
-use Rattle.key_policy.specs.Names.{NamesDerivation}
-use Rattle.derivation_states.specs.Streams.{work_hash, work_block_length, hmac_key, block_at}
-use Rattle.derivation_states.specs.declared.inputs.Inputs.{Inputs}
-use Rattle.key_policy.specs.declared.algorithms.KeyDerivation.{KeyDerivation}
 use Rattle.derivation_states.proofs.Blocks.{block_of_hkdf, block_of_pbkdf2}
 
 mapped : (f : List ℕ → List ℕ) (o : Option (List ℕ)) → is_some o ≡ true → bytes_or_empty (option_map f o) ≡ f (bytes_or_empty o)

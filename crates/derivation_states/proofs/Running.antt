@@ -1,22 +1,13 @@
 -- The current block's next byte.
-use Rattle.std.proofs.Common.{◌≡◌, ℕ, zero, suc, ◌+◌, ◌-◌, ◌*◌, ◌<◌, ◌≤◌, true, List, [], ◌∷◌, ◌++◌, Option, Some, None, length, take, get_or, refl, sym, ap, ap₂, ◌∙◌, arith}
-use Rattle.std.specs.Prelude.{is_some, slice_index_or}
+use Rattle.std.proofs.Common.{List, None, Option, Some, [], ap, ap₂, arith, get_or, is_some, length, refl, slice_index_or, suc, sym, take, true, zero, ℕ, ◌*◌, ◌++◌, ◌+◌, ◌-◌, ◌<◌, ◌∙◌, ◌∷◌, ◌≡◌, ◌≤◌}
+use Rattle.derivation_states.proofs.Common.{DerivationWork, HoldsInputs, Inputs, IsRunning, KeyDerivation, NamesDerivation, block_at, digest_length, next_derived, number_or_zero, without}
 use Rattle.std.specs.Option.{ForSome}
 use Rattle.std.proofs.Math.Nat.{mul-suc}
 use Rattle.std.proofs.lemmas.List.{get_or-take}
-use Rattle.hash_ops.specs.Hashes.{digest_length}
 use Rattle.hash_ops.specs.declared.Hash.{Hash}
 use Rattle.hash_ops.specs.declared.Hash.TheVariants.{Sha224, Sha256, Sha384, Sha512}
 use Rattle.hash_ops.proofs.Digests.{length-hash_of}
-use Rattle.store_model.specs.DerivationOperations.{number_or_zero}
-use Rattle.store_model.specs.Prelude.{DerivationWork, next_derived, without}
-use Rattle.derivation_states.specs.Inputs.{HoldsInputs}
-use Rattle.key_policy.specs.Names.{NamesDerivation}
-use Rattle.derivation_states.specs.Outputs.{IsRunning}
-use Rattle.derivation_states.specs.Streams.{block_at}
-use Rattle.derivation_states.specs.declared.inputs.Inputs.{Inputs}
 use Rattle.derivation_states.specs.declared.output.Output.{Output}
-use Rattle.key_policy.specs.declared.algorithms.KeyDerivation.{KeyDerivation}
 use Rattle.derivation_states.proofs.Lengths.{HasBlocks}
 use Rattle.derivation_states.proofs.Derived.{next_byte, next_derived_add, length-next_derived}
 

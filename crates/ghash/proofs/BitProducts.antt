@@ -1,5 +1,5 @@
 -- The product of blocks, bit by bit.
-use Rattle.std.proofs.Common.{◌≡◌, ℕ, suc, ◌+◌, ◌-◌, ◌/◌, ◌%◌, ◌<◌, cond, eqb, bit_xor, refl, sym, ap, ◌∙◌, arith}
+use Rattle.std.proofs.Common.{ap, arith, bit_xor, cond, eqb, refl, suc, sym, ℕ, ◌%◌, ◌+◌, ◌-◌, ◌/◌, ◌<◌, ◌∙◌, ◌≡◌}
 use Rattle.std.specs.Int.{bit_at}
 use Rattle.std.specs.Int.Bits.{xor_zero_r, xor_assoc}
 use Rattle.std.proofs.lemmas.Bool.{eq-eqb, ne_eqb}

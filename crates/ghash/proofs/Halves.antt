@@ -1,5 +1,5 @@
 -- The product of blocks by x^4 in two halves, and the bytes of a block.
-use Rattle.std.proofs.Common.{◌≡◌, ℕ, zero, suc, ◌+◌, ◌*◌, ◌/◌, ◌%◌, ◌^◌, ◌<◌, slice_index, bit_xor, sym, ap, ap₂, ◌∙◌, arith}
+use Rattle.std.proofs.Common.{ap, ap₂, arith, bit_xor, slice_index, suc, sym, zero, ℕ, ◌%◌, ◌*◌, ◌+◌, ◌/◌, ◌<◌, ◌^◌, ◌∙◌, ◌≡◌}
 use Rattle.std.specs.Int.Bits.{xor_zero_r, xor_shifted}
 use Rattle.std.proofs.lemmas.Nat.{xor_block, xor_comm, shr-shr}
 use Rattle.ghash.specs.Products.{joined, times_x4}

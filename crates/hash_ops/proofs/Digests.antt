@@ -1,5 +1,5 @@
 -- The lengths of digests and blocks.
-use Rattle.std.proofs.Common.{◌≡◌, ℕ, ◌≤◌, List, length, arith}
+use Rattle.std.proofs.Common.{List, arith, length, ℕ, ◌≡◌, ◌≤◌}
 use Rattle.sha2.proofs.Facts256.{length-sha224, length-sha256}
 use Rattle.sha2.proofs.Facts512.{length-sha384, length-sha512}
 use Rattle.hash_ops.specs.Hashes.{hash_of, digest_length, block_length}

@@ -1,5 +1,5 @@
 -- The length of a code.
-use Rattle.std.proofs.Common.{◌≡◌, ℕ, List, length}
+use Rattle.std.proofs.Common.{List, length, ℕ, ◌≡◌}
 use Rattle.crypto_specs.specs.Prelude.{hmac}
 use Rattle.hash_ops.specs.Hashes.{hash_of, block_length, digest_length}
 use Rattle.hash_ops.specs.declared.Hash.{Hash}

@@ -1,5 +1,5 @@
 -- Rotations of words inside one another, bit by bit.
-use Rattle.std.proofs.Common.{◌≡◌, ℕ, ◌+◌, ◌-◌, ◌*◌, ◌/◌, ◌%◌, ◌^◌, ◌<◌, ◌≤◌, max, bit_or, bit_xor, sym, ap, ap₂, ◌∙◌, inl, inr, add-zero, mod-lt, pow_pos, arith}
+use Rattle.std.proofs.Common.{add-zero, ap, ap₂, arith, bit_or, bit_xor, inl, inr, max, mod-lt, pow_pos, sym, ℕ, ◌%◌, ◌*◌, ◌+◌, ◌-◌, ◌/◌, ◌<◌, ◌^◌, ◌∙◌, ◌≡◌, ◌≤◌}
 use Rattle.std.proofs.lemmas.Bool.{cases_lt}
 use Rattle.std.proofs.lemmas.Nat.{or_lt, shr_le, shr_split, xor_lt}
 use Rattle.std.proofs.lemmas.Nat.Bits.{bit_at-zero, bit_at_above, bit_at_cat_high, bit_at_cat_low, bit_at_or, bit_at_xor, same_from_bits_below}

@@ -1,5 +1,5 @@
 -- A message of 96 bytes is two blocks.
-use Rattle.std.proofs.Common.{◌≡◌, ℕ, ◌+◌, ◌/◌, List, ◌++◌, length, length-append, take, drop, sym, ap, ap₂, ◌∙◌, append_assoc, arith}
+use Rattle.std.proofs.Common.{List, ap, append_assoc, ap₂, arith, drop, length, length-append, sym, take, ℕ, ◌++◌, ◌+◌, ◌/◌, ◌∙◌, ◌≡◌}
 use Rattle.std.proofs.lemmas.List.{take_at, drop_at, take_all}
 use Rattle.sha2.specs.Sha256.{compress, digest_bytes, hash_after, initial_hash_256, padded_message, padding, sha256}
 

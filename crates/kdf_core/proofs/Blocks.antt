@@ -1,5 +1,5 @@
 -- HKDF: the absent salt, and the next block.
-use Rattle.std.proofs.Common.{◌≡◌, ℕ, zero, suc, ◌+◌, ◌-◌, ◌≤◌, List, [], ◌∷◌, ◌++◌, refl, sym, ap, ◌∙◌, arith}
+use Rattle.std.proofs.Common.{List, [], ap, arith, refl, suc, sym, zero, ℕ, ◌++◌, ◌+◌, ◌-◌, ◌∙◌, ◌∷◌, ◌≡◌, ◌≤◌}
 use Rattle.crypto_specs.specs.Prelude.{hmac, hash_length, extract, expand_block}
 use Rattle.crypto_specs.proofs.HkdfLaws.{absent_salt_is_empty_key}
 

@@ -1,15 +1,12 @@
 -- What the body of a key's cell has in its parts.
-use Rattle.std.proofs.Common.{◌≡◌, ℕ, ◌+◌, ◌-◌, ◌≤◌, ◌<◌, ◌^◌, List, ◌++◌, length, take, drop, replicate, refl, sym, ◌∙◌, ap, subst, arith, ⊎_elim, Option, None, Some, Ok, ◌*◌}
+use Rattle.std.proofs.Common.{List, None, Ok, Option, Some, ap, arith, drop, length, refl, replicate, subst, sym, take, ℕ, ⊎_elim, ◌*◌, ◌++◌, ◌+◌, ◌-◌, ◌<◌, ◌^◌, ◌∙◌, ◌≡◌, ◌≤◌}
+use Rattle.key_cells.proofs.Common.{Attributes, FoundKey, HoldsKey, HoldsNoKey, IsKept, IsKeyOf, IsLength, IsNoLength, IsNoRecord, IsPersistent, IsRecord, body_of, drop-replicate, drop-take, front_of, length-replicate, spelling, written}
 use Rattle.std.specs.Int.{w16, w32, from_le_bytes}
-use Rattle.std.proofs.lemmas.List.{take_at, drop_at, drop-drop, take-append-drop, length-drop, length-take, length-replicate, drop-replicate, drop-take, take-append-drop, take_all}
+use Rattle.std.proofs.lemmas.List.{take_at, drop_at, drop-drop, take-append-drop, length-drop, length-take, take-append-drop, take_all}
 use Rattle.std.proofs.lemmas.Nat.{from_le_bytes-to_le_bytes_2, from_le_bytes-to_le_bytes_4}
-use Rattle.disk_face.specs.Moments.{written}
 use Rattle.psa_status.specs.declared.Status.{Status}
 use Rattle.psa_status.specs.Rows.{first_row, unless}
 use Rattle.key_attributes.specs.Checks.{size_rows}
-use Rattle.key_attributes.specs.declared.Attributes.{Attributes}
-use Rattle.key_record.specs.Record.{spelling, IsKept, IsRecord, IsNoRecord, IsLength, IsNoLength}
-use Rattle.key_cells.specs.Body.{IsPersistent, IsKeyOf, front_of, body_of, HoldsKey, HoldsNoKey, FoundKey}
 
 -- the parts of the body of a key's cell
 pub record Parts (a : Attributes) (key body : List ℕ) : Type 0 where

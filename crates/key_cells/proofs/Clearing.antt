@@ -1,17 +1,8 @@
 -- How cells are made zeros that are left over from a crash.
+use Rattle.std.proofs.Common.{List, None, Option, Some, ap, arith, drop, get_or, is_some, length, refl, replicate, set, subst, sym, take, ℕ, ⊎_elim, ◌+◌, ◌<◌, ◌∙◌, ◌≡◌, ◌≤◌}
+use Rattle.key_cells.proofs.Common.{Absent, Clearing, Content, Doubtful, Elapses, Follows, Free, HoldsAround, HoldsWritten, IsSettled, LeavesWhatIsRead, Open, Present, Shows, Shut, Slot, Sound, SoundBy, Spares, StandsForContents, Torn, Unsure, Within, body, cases_eq, cell_slot, cells, closed, gate, get_or-map, length-map, part, place, settled_slot, settled_slots, within_one, written, written_torn, zeros}
 use Rattle.disk_face.specs.declared.Disk as Disk
-use Rattle.std.proofs.Common.{◌≡◌, ⊎_elim, ℕ, ◌+◌, ◌<◌, ◌≤◌, List, length, get_or, set, take, drop, replicate, Option, None, Some, is_some, refl, sym, ◌∙◌, ap, subst, arith}
-use Rattle.std.proofs.lemmas.Bool.{cases_eq}
-use Rattle.std.proofs.lemmas.List.{get_or-set_same, get_or-set_other, get_or-map, length-map, ext_get_or}
-use Rattle.disk_face.specs.Disk.{Torn, Follows, HoldsWritten, HoldsAround, Elapses, LeavesWhatIsRead}
-use Rattle.disk_face.specs.Moments.{written, Within}
-use Rattle.disk_face.proofs.Images.{written_torn}
-use Rattle.disk_face.proofs.Moments.{within_one}
-use Rattle.key_cells.specs.declared.slot.Slot.{Slot}
-use Rattle.key_cells.specs.declared.slot.Slot.TheVariants.{Free, Open, Shut, Unsure}
-use Rattle.key_cells.specs.Layout.{cells, place, part, gate, body, closed, zeros}
-use Rattle.key_cells.specs.Contents.{Content, Absent, Present, Doubtful, Shows, Sound, SoundBy, StandsForContents, cell_slot, settled_slot, settled_slots}
-use Rattle.key_cells.specs.Opening.{Spares, Clearing, IsSettled}
+use Rattle.std.proofs.lemmas.List.{get_or-set_same, get_or-set_other, ext_get_or}
 use Rattle.key_cells.proofs.Parts.{part_before, part_written}
 use Rattle.key_cells.proofs.Images.{sound_after, same_all, same_slots}
 use Rattle.key_cells.proofs.Steps.{zeros_are}

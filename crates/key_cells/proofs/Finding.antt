@@ -1,17 +1,8 @@
 -- What the slots are that an opening reads, one cell after the other.
-use Rattle.std.proofs.Common.{◌≡◌, ◌≢◌, inl, inr, ⊎_elim, ℕ, ◌+◌, ◌*◌, ◌<◌, ◌≤◌, Bool, true, false, cond, List, [], ◌∷◌, length, get_or, set, take, drop, count_by, refl, sym, ◌∙◌, ap, subst, arith, Option, None, Some, IfSome}
-use Rattle.std.proofs.lemmas.Bool.{cases_eq, eq-eqb, eqb-true}
-use Rattle.std.proofs.lemmas.List.{get_or-set_same, get_or-set_other, length-set, length-take, take-set-le, get_or-take}
-use Rattle.std.proofs.lemmas.List.Sums.{count_by_more_no, count_by_more_yes}
-use Rattle.key_cells.specs.declared.slot.Slot.{Slot}
-use Rattle.key_cells.specs.declared.slot.Slot.TheVariants.{Free, Open, Shut, Unsure}
-use Rattle.key_cells.specs.declared.reading.OpenFault.TheVariants.{DamagedCell}
-use Rattle.key_cells.specs.Layout.{gate, body, opened_gate, closed, zeros}
-use Rattle.key_cells.specs.Contents.{cell_slot, has_id, is_open, creation_of_slot, HasNoKey}
-use Rattle.key_cells.specs.Body.{IsPersistent, HoldsId, HoldsNoKey}
-use Rattle.key_cells.specs.Image.{IsStoreFile, IsDamaged, identifier_in}
-use Rattle.key_cells.specs.Causes.{IsCaused}
-use Rattle.key_cells.specs.Opening.{Reads, ReadsCell, ReadsBelow, HasOneEach, IsNumbered, IsNamed, IsBadCell, GivesPart}
+use Rattle.std.proofs.Common.{Bool, IfSome, List, None, Option, Some, [], ap, arith, cond, count_by, drop, false, get_or, inl, inr, length, refl, set, subst, sym, take, true, ℕ, ⊎_elim, ◌*◌, ◌+◌, ◌<◌, ◌∙◌, ◌∷◌, ◌≡◌, ◌≢◌, ◌≤◌}
+use Rattle.key_cells.proofs.Common.{DamagedCell, Free, GivesPart, HasNoKey, HasOneEach, HoldsId, HoldsNoKey, IsBadCell, IsCaused, IsDamaged, IsNamed, IsNumbered, IsPersistent, IsStoreFile, Open, Reads, ReadsBelow, ReadsCell, Shut, Slot, Unsure, body, cases_eq, cell_slot, closed, count_by_more_no, count_by_more_yes, creation_of_slot, gate, has_id, identifier_in, is_open, opened_gate, take-set-le, zeros}
+use Rattle.std.proofs.lemmas.Bool.{eq-eqb, eqb-true}
+use Rattle.std.proofs.lemmas.List.{get_or-set_same, get_or-set_other, length-set, length-take, get_or-take}
 use Rattle.key_cells.proofs.Bodies.{parts_of}
 use Rattle.key_cells.proofs.CellsRead.{gate_read, body_read}
 

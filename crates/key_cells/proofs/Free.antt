@@ -1,11 +1,7 @@
 -- Which cells are free before calls, between them and after them.
-use Rattle.std.proofs.Common.{◌≡◌, ⊎_elim, ℕ, true, List, set, length, ◌<◌, ◌∙◌, sym, ap, subst, arith}
-use Rattle.std.proofs.lemmas.Bool.{cases_eq}
-use Rattle.std.proofs.lemmas.List.{get_or-set_other, get_or-map}
-use Rattle.key_cells.specs.declared.slot.Slot.{Slot}
-use Rattle.key_cells.specs.declared.slot.Slot.TheVariants.{Free, Open, Shut, Unsure}
-use Rattle.key_cells.specs.Layout.{cells}
-use Rattle.key_cells.specs.Contents.{StaysFree, IsSure, cell_slot, settled_slot, is_open}
+use Rattle.std.proofs.Common.{List, ap, arith, length, set, subst, sym, true, ℕ, ⊎_elim, ◌<◌, ◌∙◌, ◌≡◌}
+use Rattle.key_cells.proofs.Common.{Free, IsSure, Open, Shut, Slot, StaysFree, Unsure, cases_eq, cell_slot, cells, get_or-map, is_open, settled_slot}
+use Rattle.std.proofs.lemmas.List.{get_or-set_other}
 
 -- slots that are free before two calls and after them are so between them
 abbrev pub FreeBetween : List Slot → List Slot → List Slot → Type 0

@@ -1,22 +1,10 @@
 -- How the parts of an opening follow one another.
+use Rattle.std.proofs.Common.{Bool, IfSome, List, None, Option, Some, [], ap, arith, cond, count_by, false, get_or, inl, inr, is_some, length, map, refl, replicate, subst, sym, take, true, ℕ, ⊎_elim, ◌+◌, ◌<◌, ◌==◌, ◌∙◌, ◌∷◌, ◌≡◌, ◌≢◌, ◌≤◌, ◌⊎◌}
+use Rattle.key_cells.proofs.Common.{Absent, Clearing, Content, Disk, Elapses, Finds, Free, HasOneEach, IsCaused, IsDirectory, IsDisk, IsFoundIn, IsNamed, IsNumbered, IsRefusal, IsStoreFile, LeavesWhatIsRead, NoNewImage, NotAStore, Open, Present, Reads, ReadsBelow, Shut, Slot, SoundBy, Spares, SparesOpen, StandsForContents, StillTells, Unsure, Within, WithinSpares, body, cell_slot, cells, closed, content_of, contents_of, creation_of_slot, found_in, gate, get_or-map, get_or-replicate, has_id, is_open, length-map, nil_from_length, opened_gate, settled_slot, settled_slots, sum_by-cons, take-map, within_both, within_none, within_one}
 use Rattle.disk_face.specs.declared.Disk as Disk
-use Rattle.std.proofs.Common.{◌≡◌, ◌≢◌, ◌⊎◌, inl, inr, ⊎_elim, ℕ, ◌+◌, ◌<◌, ◌≤◌, ◌==◌, is_some, Bool, true, false, cond, List, [], ◌∷◌, length, get_or, map, take, replicate, count_by, Option, None, Some, IfSome, refl, sym, ◌∙◌, ap, subst, arith}
 use Rattle.std.proofs.lemmas.Bool.{eqb-true}
-use Rattle.std.proofs.lemmas.List.{get_or-map, length-map, take-map, get_or-replicate, nil_from_length}
-use Rattle.std.proofs.lemmas.List.Sums.{sum_by-cons}
 use Rattle.psa_status.specs.Causes.{Rose}
-use Rattle.disk_face.specs.Disk.{NoNewImage, Elapses, LeavesWhatIsRead, StillTells}
-use Rattle.disk_face.specs.Moments.{Within}
-use Rattle.disk_face.proofs.Moments.{within_none, within_one, within_both}
-use Rattle.key_cells.specs.declared.slot.Slot.{Slot}
-use Rattle.key_cells.specs.declared.slot.Slot.TheVariants.{Free, Open, Shut, Unsure}
 use Rattle.key_cells.specs.declared.reading.OpenFault.{OpenFault}
-use Rattle.key_cells.specs.declared.reading.OpenFault.TheVariants.{NotAStore, Disk}
-use Rattle.key_cells.specs.Layout.{cells, gate, body, opened_gate, closed}
-use Rattle.key_cells.specs.Contents.{Content, Absent, Present, SoundBy, StandsForContents, cell_slot, has_id, is_open, creation_of_slot, settled_slot, settled_slots}
-use Rattle.key_cells.specs.Image.{IsStoreFile, SparesOpen}
-use Rattle.key_cells.specs.Causes.{IsCaused, IsDisk, IsRefusal}
-use Rattle.key_cells.specs.Opening.{content_of, contents_of, found_in, IsFoundIn, IsDirectory, Finds, Reads, ReadsBelow, HasOneEach, IsNumbered, IsNamed, Spares, Clearing, WithinSpares}
 use Rattle.key_cells.specs.Opened.{IsOpened, IsRefused}
 use Rattle.key_cells.proofs.CellsRead.{content_there, for_told, length-contents_of}
 use Rattle.key_cells.proofs.Finding.{not_damaged}

@@ -1,11 +1,7 @@
 -- A key as the secret of a derivation, by whether the algorithm's number is concrete.
-use Rattle.std.proofs.Common.{◌≡◌, ℕ, Bool, true, false, cond, refl, ap}
-use Rattle.std.specs.Prelude.{Option, Some}
-use Rattle.psa_status.specs.Rows.{first_row}
-use Rattle.alg_encoding.specs.Encoding.{IsConcrete, is_concrete}
-use Rattle.store_model.specs.Prelude.{Key, derivation_key_rows}
-use Rattle.key_policy.specs.Permissions.{derivation_refusal, pattern_refusal}
 
+use Rattle.std.proofs.Common.{Bool, Option, Some, ap, cond, false, refl, true, ℕ, ◌≡◌}
+use Rattle.key_policy.proofs.Common.{IsConcrete, Key, derivation_key_rows, derivation_refusal, first_row, is_concrete, pattern_refusal}
 not_true : (b : Bool) → (b ≡ true → ⊥) → b ≡ false
 not_true true h = absurd (h refl)
 not_true false h = refl

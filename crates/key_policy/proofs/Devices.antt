@@ -1,12 +1,7 @@
 -- Where a device that has the key computes a call, and where it doesn't.
-use Rattle.std.proofs.Common.{◌≡◌, ℕ, Bool, true, false, not, ◌&&◌, cond, ap, ◌∙◌, sym, [], ◌∷◌, ◌++◌}
-use Rattle.std.specs.Prelude.{Option, Some, None}
-use Rattle.psa_status.specs.declared.Status.{Status}
-use Rattle.psa_status.specs.declared.Status.TheVariants.{NotPermitted, NotSupported, InvalidArgument}
-use Rattle.psa_status.specs.Rows.{first_row}
-use Rattle.alg_encoding.specs.declared.table.Class.{Class}
+use Rattle.std.proofs.Common.{Bool, None, Option, Some, [], ap, cond, false, not, sym, true, ℕ, ◌&&◌, ◌++◌, ◌∙◌, ◌∷◌, ◌≡◌}
+use Rattle.key_policy.proofs.Common.{Class, InvalidArgument, Key, NotPermitted, NotSupported, Status, class_rows, first_row, fits_type, is_opaque, use_rows}
 use Rattle.policy_rules.specs.Policy.{may_use}
-use Rattle.store_model.specs.Prelude.{Key, is_opaque, class_rows, fits_type, use_rows}
 
 -- a table whose last row is that of a key which only a device has
 abbrev Last : (a b c d last : Bool) → Option Status

@@ -1,12 +1,7 @@
 -- EXPORT's rows, of which that of the room comes last.
-use Rattle.std.proofs.Common.{◌≡◌, ℕ, Bool, true, false, cond, length, refl}
-use Rattle.std.specs.Prelude.{◌==◌, bit_and, Option, Some, None}
-use Rattle.psa_status.specs.declared.Status.{Status}
-use Rattle.psa_status.specs.declared.Status.TheVariants.{NotPermitted, NotSupported}
-use Rattle.psa_status.specs.Rows.{first_row}
-use Rattle.store_model.specs.Prelude.{Key, is_opaque, export_rows, room_rows}
-use Rattle.key_policy.specs.Permissions.{export_refusal}
 
+use Rattle.std.proofs.Common.{Bool, None, Option, Some, bit_and, cond, false, length, refl, true, ℕ, ◌==◌, ◌≡◌}
+use Rattle.key_policy.proofs.Common.{Key, NotPermitted, NotSupported, Status, export_refusal, export_rows, first_row, is_opaque, room_rows}
 last_alone : (a b : Bool) (last : Option Status) → cond a (Some NotPermitted) (cond b (Some NotSupported) None) ≡ None → cond a (Some NotPermitted) (cond b (Some NotSupported) last) ≡ last
 last_alone true b last is = cc
 last_alone false true last is = cc

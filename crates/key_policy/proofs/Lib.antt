@@ -1,3 +1,4 @@
+mod Common
 pub mod Parsing
 pub mod Devices
 pub mod Exports

@@ -1,22 +1,19 @@
 -- What the table of algorithms says of the algorithm that a number names.
-use Rattle.std.proofs.Common.{◌≡◌, ℕ, ◌/◌, ◌%◌, ◌^◌, ◌≤◌, Bool, true, false, not, ◌&&◌, ◌||◌, cond, leb, List, refl, sym, ap, ◌∙◌, subst, arith}
-use Rattle.std.specs.Prelude.{Option, None, Some, is_some, IfSome, ◌==◌}
+use Rattle.std.proofs.Common.{Bool, IfSome, List, None, Option, Some, ap, arith, cond, false, is_some, leb, not, refl, subst, sym, true, ℕ, ◌%◌, ◌&&◌, ◌/◌, ◌==◌, ◌^◌, ◌||◌, ◌∙◌, ◌≡◌, ◌≤◌}
+use Rattle.key_policy.proofs.Common.{Class, algorithm_at, base_of, class_in, class_number, class_of, cmac_base, digest, entry_of, hash_block_length, is_concrete, is_hmac, is_hmac_in, lengths_of, low_byte, mode_of, tag_length_of, whole_mac}
 use Rattle.std.specs.Option.{option_map, option_map_or}
 use Rattle.std.proofs.lemmas.Bool.{and_parts, eqb-true, eq-eqb, leb-true}
 use Rattle.alg_encoding.specs.declared.table.Base.{Base}
-use Rattle.alg_encoding.specs.declared.table.Class.{Class}
 use Rattle.alg_encoding.specs.declared.table.Class.TheVariants as class
 use Rattle.alg_encoding.specs.declared.table.Lengths.{Lengths}
 use Rattle.alg_encoding.specs.declared.table.Lengths.TheVariants as lengths
 use Rattle.alg_encoding.specs.Table.{has_length, permits_length, hash_length}
-use Rattle.alg_encoding.specs.Encoding.{entry_of, class_of, base_of, lengths_of, tag_length_of, is_concrete}
 use Rattle.alg_encoding.proofs.Facts.{entry_of-all, base_of-low, tag_length_of-permitted}
 use Rattle.crypto_specs.specs.Prelude.{aes_encrypt, cmac, hmac}
 use Rattle.hash_ops.specs.declared.Hash.{Hash}
 use Rattle.hash_ops.specs.declared.Hash.TheVariants.{Sha224, Sha256, Sha384, Sha512}
 use Rattle.hash_ops.specs.Hashes as hashes
 use Rattle.store_model.specs.Algorithms.{number_or_zero}
-use Rattle.store_model.specs.Prelude.{cmac_base, digest, hash_block_length, is_hmac, low_byte, whole_mac, mode_of, class_number}
 use Rattle.store_model.specs.Aeads as model
 use Rattle.store_model.specs.DerivationOperations as derivations
 use Rattle.key_policy.specs.declared.modes.Mode.{Mode}
@@ -27,7 +24,6 @@ use Rattle.key_policy.specs.declared.algorithms.MacKind.{MacKind}
 use Rattle.key_policy.specs.declared.algorithms.MacKind.TheVariants.{Hmac, Cmac}
 use Rattle.key_policy.specs.declared.algorithms.AeadKind.{AeadKind}
 use Rattle.key_policy.specs.declared.algorithms.AeadKind.TheVariants.{Ccm, Gcm}
-use Rattle.key_policy.specs.Parse.{algorithm_at, class_in, is_hmac_in}
 use Rattle.key_policy.specs.Names.{NamesHash, NamesMode, Names, IsTagLength, is_ccm, is_cmac, is_hkdf, whole_length, whole_mac_by}
 
 -- ---- what holds of the row of an algorithm, as a test

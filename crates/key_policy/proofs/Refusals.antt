@@ -1,13 +1,7 @@
 -- The refusals of what a key is looked for.
-use Rattle.std.proofs.Common.{◌≡◌, ℕ, Bool, true, false, ◌&&◌, cond, take, refl, subst}
-use Rattle.std.specs.Prelude.{Option, Some, None}
-use Rattle.psa_status.specs.declared.Status.{Status}
-use Rattle.psa_status.specs.declared.Status.TheVariants.{InvalidHandle, InvalidArgument, NotPermitted, NotSupported}
-use Rattle.psa_status.specs.Rows.{first_row}
-use Rattle.alg_encoding.specs.Encoding.{is_concrete}
-use Rattle.store_model.specs.Prelude.{Key, is_opaque, export_rows, use_rows, derivation_key_rows}
+use Rattle.std.proofs.Common.{Bool, None, Option, Some, cond, false, refl, subst, take, true, ℕ, ◌&&◌, ◌≡◌}
+use Rattle.key_policy.proofs.Common.{InvalidArgument, InvalidHandle, Key, NotPermitted, NotSupported, Status, derivation_key_rows, export_rows, first_row, is_concrete, is_opaque, pattern_refusal, use_rows}
 use Rattle.store_model.proofs.Tables.{none_holds, refused_by}
-use Rattle.key_policy.specs.Permissions.{pattern_refusal}
 use Rattle.key_policy.specs.declared.key_use.KeyUse.{KeyUse}
 use Rattle.key_policy.specs.declared.key_use.KeyUse.TheVariants.{Export, Algorithm, Derivation}
 use Rattle.key_policy.specs.Uses.{use_refusal}

@@ -1,20 +1,8 @@
 -- What each change of a slot makes of slots that stand for the keys.
-use Rattle.std.proofs.Common.{◌≡◌, ◌≢◌, ◌<◌, ℕ, ◌+◌, ◌-◌, ◌==◌, Bool, true, false, cond, List, length, set, refl, sym, ap, ◌∙◌, arith, Some, None, Option, inl, inr, ◌&&◌, eq-eqb, replicate, [], zero, suc}
-use Rattle.std.proofs.lemmas.Bool.{false≢true, cases_lt, cases_eq}
+use Rattle.std.proofs.Common.{Bool, List, None, Option, Some, [], ap, arith, cond, eq-eqb, false, inl, inr, length, refl, replicate, set, suc, sym, true, zero, ℕ, ◌&&◌, ◌+◌, ◌-◌, ◌<◌, ◌==◌, ◌∙◌, ◌≡◌, ◌≢◌}
+use Rattle.key_slots.proofs.Common.{Agrees, Attributes, Empty, Filling, Full, Gains, HasNumber, IsGone, IsLawful, IsLawfulSlot, IsNext, IsSoundStore, IsThereOrNew, IsVolatileKey, KeepsKeys, Key, NoKey, OnFalse, OnTrue, Pairs, Pending, Puts, Slot, SlotHasKey, SlotState, StandsAt, Store, Table, at_each, cases_eq, cases_lt, destroyed_slot, empty_slot, false≢true, filling_slot, find_passes, full_slot, full_within, holds_key, idle_is_full, idle_is_unread, is_empty_state, is_filling, is_full, is_idle, is_last, is_pending, is_volatile, key_is_full, left, named, nat_tests, next_is_unread, next_within, pairs_on, persistence, registered, same, slot_at, slot_at-set_other, slot_at-set_same}
 use Rattle.std.specs.FinMap as map
-use Rattle.std.specs.Bool.{OnTrue, OnFalse}
-use Rattle.slot_states.specs.declared.SlotState.{SlotState}
-use Rattle.slot_states.specs.declared.SlotState.TheVariants.{Empty, Filling, Full, Pending}
-use Rattle.slot_table.specs.Slots.{Slot, Table, slot_at, empty_slot, filling_slot, is_full, is_pending, is_idle, is_last, is_empty_state, holds_key, NoKey, IsNext, IsLawfulSlot, IsLawful}
-use Rattle.slot_table.specs.Changes.{full_slot, registered, left, destroyed_slot}
-use Rattle.slot_table.proofs.AtSlots.{at_each, slot_at-set_same, slot_at-set_other, full_within, key_is_full, idle_is_full, idle_is_unread, find_passes, next_within, next_is_unread}
-use Rattle.key_attributes.specs.Checks.{persistence}
-use Rattle.key_attributes.specs.declared.Attributes.{Attributes}
 use Rattle.std.proofs.lemmas.Bool.{eqb-true}
-use Rattle.std.proofs.lemmas.Bool.Decides.{nat_tests}
-use Rattle.store_model.specs.Prelude.{Key, Store, is_volatile, IsSoundStore, HasNumber}
-use Rattle.key_slots.specs.Holdings.{Pairs, Gains, named, same}
-use Rattle.key_slots.specs.Standing.{Agrees, StandsAt, IsGone, SlotHasKey, Puts, IsThereOrNew, KeepsKeys, IsVolatileKey, is_filling, pairs_on}
 use Rattle.key_slots.proofs.Pairs.{counted, elsewhere, was_out, nobody, nothing_out, one_more, one_less, one_filling, no_filling, is_lease, is_fill}
 
 -- A SLOT THAT IS SET

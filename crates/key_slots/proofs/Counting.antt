@@ -1,8 +1,6 @@
 -- How many slots are in use.
-use Rattle.std.proofs.Common.{◌≡◌, ◌≢◌, ◌<◌, ◌≤◌, ℕ, suc, ◌+◌, ◌-◌, ◌*◌, ◌/◌, ◌^◌, ◌==◌, Bool, true, false, not, cond, ◌&&◌, ◌||◌, nat_lt, List, [], ◌∷◌, length, All, count_by, Option, Some, None, is_some, Ok, refl, sym, ap, ◌∙◌, arith, ◌⊎◌, inl, inr}
-use Rattle.std.proofs.lemmas.Bool.{false≢true, cases_eq}
-use Rattle.std.proofs.lemmas.Bool.Decides.{nat_tests}
-use Rattle.std.proofs.lemmas.Cmp.{ranked}
+use Rattle.std.proofs.Common.{All, Bool, List, None, Ok, Option, Some, [], ap, arith, cond, count_by, false, inl, inr, is_some, length, nat_lt, not, refl, suc, sym, true, ℕ, ◌&&◌, ◌*◌, ◌+◌, ◌-◌, ◌/◌, ◌<◌, ◌==◌, ◌^◌, ◌||◌, ◌∙◌, ◌∷◌, ◌≡◌, ◌≢◌, ◌≤◌, ◌⊎◌}
+use Rattle.key_slots.proofs.Common.{Agrees, AreHoldings, Attributes, CanReserve, Empty, Filling, Full, IsChecked, IsHolding, IsLawful, IsLawfulSlot, IsSoundStore, Key, Pairs, Pending, Slot, SlotHasKey, SlotState, Store, Table, as_stated, cases_eq, false≢true, has_secure_element, identified, is_empty_state, is_filling, is_full, is_idle, is_lifetime, is_volatile, is_volatile_of, location, named, names, nat_tests, persistence, ranked, same, slot_at}
 use Rattle.std.proofs.lemmas.List.Elements.{All-head, All-tail}
 use Rattle.std.proofs.lemmas.List.Sums.{sum_by-cons}
 use Rattle.std.specs.declared.cmp.Ordering.TheVariants.{Equal}
@@ -10,15 +8,7 @@ use Rattle.std.specs.FinMap as map
 use Rattle.psa_status.specs.declared.Status.{Status}
 use Rattle.psa_status.specs.declared.Status.TheVariants.{NotSupported}
 use Rattle.psa_status.specs.Rows.{unless}
-use Rattle.key_attributes.specs.declared.Attributes.{Attributes}
-use Rattle.key_attributes.specs.Checks.{persistence, location, is_lifetime}
-use Rattle.slot_states.specs.declared.SlotState.{SlotState}
-use Rattle.slot_states.specs.declared.SlotState.TheVariants.{Empty, Filling, Full, Pending}
-use Rattle.slot_table.specs.Slots.{Slot, Table, slot_at, is_empty_state, is_full, is_idle, CanReserve, IsLawfulSlot, IsLawful}
-use Rattle.store_model.specs.Prelude.{Key, Store, has_secure_element, is_volatile, is_volatile_of, identified, IsChecked, IsSoundStore, as_stated}
-use Rattle.key_slots.specs.Standing.{Agrees, SlotHasKey, is_filling}
 use Rattle.key_slots.proofs.Agreeing.{readers_out, holds_its_key}
-use Rattle.key_slots.specs.Holdings.{Pairs, same, names, named, IsHolding, AreHoldings}
 use Rattle.key_slots.proofs.Sums.{total, total-add, total-least, total-most, total-none, total-one, total-at, total-swap, first_passing, into_map}
 
 -- PAIRS

@@ -1,14 +1,8 @@
 -- What each change of a slot ends.
-use Rattle.std.proofs.Common.{◌≡◌, ◌≢◌, ◌<◌, ◌⊎◌, ℕ, ◌-◌, Bool, true, false, cond, List, length, set, refl, sym, ap, ◌∙◌, ⊎_elim, inl, inr}
-use Rattle.std.proofs.lemmas.Bool.{false≢true, cases_eq}
-use Rattle.std.specs.Bool.{OnTrue, OnFalse}
-use Rattle.slot_table.specs.Slots.{Slot, Table, slot_at, empty_slot, is_idle, is_last, holds_key, IsEmptyAt, NoneEmpty, IsNext, IsLawful}
-use Rattle.slot_table.specs.Changes.{registered, left, destroyed_slot}
-use Rattle.slot_table.proofs.AtSlots.{slot_at-set_same, slot_at-set_other, full_within, key_is_full, find_passes}
-use Rattle.std.specs.Prelude.{find, Some}
-use Rattle.key_slots.specs.Wiping.{Keeps, EndsOnly, IsEmptyOrIdle, IsLastOf, IsIdleOf}
 
 -- a slot keeps all
+use Rattle.std.proofs.Common.{Bool, List, Some, ap, cond, false, find, inl, inr, length, refl, set, sym, true, ℕ, ⊎_elim, ◌-◌, ◌<◌, ◌∙◌, ◌≡◌, ◌≢◌, ◌⊎◌}
+use Rattle.key_slots.proofs.Common.{EndsOnly, IsEmptyAt, IsEmptyOrIdle, IsIdleOf, IsLastOf, IsLawful, IsNext, Keeps, NoneEmpty, OnFalse, OnTrue, Slot, Table, cases_eq, destroyed_slot, empty_slot, false≢true, find_passes, full_within, holds_key, is_idle, is_last, key_is_full, left, registered, slot_at, slot_at-set_other, slot_at-set_same}
 pub keeps_all : (s : Slot) → Keeps s s
 keeps_all s = record { state = refl; creation = refl; attributes = refl; buffer = refl }
 

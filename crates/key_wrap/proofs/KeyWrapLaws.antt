@@ -1,6 +1,5 @@
 -- Unwrapping undoes wrapping, and the other way round.
-use Rattle.std.proofs.Common.{◌≡◌, ℕ, zero, suc, ◌+◌, ◌-◌, ◌*◌, ◌/◌, ◌<◌, ◌≤◌, Bool, true, false, cond, List, ◌++◌, length, take, drop, replicate, refl, sym, ap, ap₂, ◌∙◌, append_assoc, arith}
-use Rattle.std.specs.Prelude.{Some, None, bytes_eq}
+use Rattle.std.proofs.Common.{Bool, List, None, Some, ap, append_assoc, ap₂, arith, bytes_eq, cond, drop, false, length, refl, replicate, suc, sym, take, true, zero, ℕ, ◌*◌, ◌++◌, ◌+◌, ◌-◌, ◌/◌, ◌<◌, ◌∙◌, ◌≡◌, ◌≤◌}
 use Rattle.std.specs.Int.{w64, to_be_bytes, byte_at, bytes_high_first}
 use Rattle.std.proofs.lemmas.List.{take_at, drop_at, take-append-drop, take-take, length-take, length-drop, length-append}
 use Rattle.std.proofs.lemmas.Slice.Eq.{bytes_eq-Decides}

@@ -1,6 +1,5 @@
 -- Key wrap: the example of RFC 3394, section 4.1.
-use Rattle.std.proofs.Common.{◌≡◌, ℕ, List, [], ◌∷◌, refl, ap, ◌∙◌}
-use Rattle.std.specs.Prelude.{Some}
+use Rattle.std.proofs.Common.{List, Some, [], ap, refl, ℕ, ◌∙◌, ◌∷◌, ◌≡◌}
 use Rattle.crypto_specs.specs.Field.{sum_of_shifts}
 use Rattle.crypto_specs.specs.Prelude.{power_of_x, aes_encrypt, aes_decrypt}
 use Rattle.key_wrap.specs.KeyWrap.{wrap_steps, wrap, unwrap_steps, unwrap}

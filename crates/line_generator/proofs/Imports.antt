@@ -1,23 +1,17 @@
 -- What a caller's import of a volatile key makes, by what that caller sees.
-use Rattle.std.proofs.Common.{◌≡◌, ℕ, ◌+◌, ◌*◌, ◌%◌, ◌^◌, Bool, true, false, not, cond, List, [], ◌∷◌, length, get_or, slice_set, refl, sym, ap, ◌∙◌, subst}
-use Rattle.std.specs.Prelude.{Option, Some, None, is_some, ◌==◌, ◌&&◌, ◌||◌, nat_le, Result, Ok, Err, IfOk}
-use Rattle.std.specs.List.{list_any}
+use Rattle.std.proofs.Common.{Bool, Err, IfOk, List, None, Ok, Option, Result, Some, [], ap, cond, false, get_or, is_some, length, nat_le, not, refl, slice_set, subst, sym, true, ℕ, ◌%◌, ◌&&◌, ◌*◌, ◌+◌, ◌==◌, ◌^◌, ◌||◌, ◌∙◌, ◌∷◌, ◌≡◌}
+use Rattle.line_generator.proofs.Common.{AlreadyExists, Attributes, InsufficientStorage, Key, KeyLimit, NotSupported, Rows, Settings, Status, Store, count_persistent, created, file_rows, first_row, has_secure_element, identified, is_volatile, is_volatile_of, list_any, live_volatile, new_id, new_key, put, recorded_of, room_for_key_rows, unless}
 use Rattle.std.specs.FinMap as map
 use Rattle.std.proofs.lemmas.List.{length-set}
-use Rattle.psa_status.specs.declared.Status.{Status}
-use Rattle.psa_status.specs.declared.Status.TheVariants.{NotSupported, KeyLimit, AlreadyExists, InsufficientStorage}
-use Rattle.psa_status.specs.Rows.{Rows, first_row, unless, ◌>>=◌}
+use Rattle.psa_status.specs.Rows.{◌>>=◌}
 use Rattle.psa_status.proofs.Rows.{unless-ok}
-use Rattle.key_attributes.specs.declared.Attributes.{Attributes}
 use Rattle.key_attributes.specs.Checks.{attribute_rows, checked, filled}
 use Rattle.policy_rules.specs.declared.narrowing.Label.{Label}
 use Rattle.policy_rules.specs.declared.narrowing.Label.TheVariants.{NoExport, NoCopy, NoEcb, Aes256}
 use Rattle.policy_rules.specs.declared.narrowing.Verdict.{Verdict}
 use Rattle.policy_rules.specs.declared.narrowing.Verdict.TheVariants.{Keep, Refuse}
 use Rattle.policy_rules.specs.Narrow.{narrowed, after_verdict, after_rules}
-use Rattle.store_model.specs.Prelude.{Key, Settings, Store, has_secure_element, is_volatile, is_volatile_of, live_volatile, count_persistent, file_rows, room_for_key_rows, recorded_of, identified, new_id, new_key, created}
 use Rattle.store_model.proofs.Recorded.{then_ok}
-use Rattle.store_model.proofs.Sound.{put}
 use Rattle.line_generator.proofs.Maps.{len_inserted}
 use Rattle.line_generator.proofs.Alike.{AlikeStores, plain, plain_key, some_of, set_both}
 

@@ -1,24 +1,13 @@
 -- The generator's lines in any order: each session is answered as if it were alone.
-use Rattle.std.proofs.Common.{◌≡◌, ℕ, suc, zero, ◌+◌, ◌-◌, ◌*◌, ◌/◌, ◌%◌, Bool, true, false, cond, List, [], ◌∷◌, ◌++◌, map, filter, refl, sym, ap, ◌∙◌, subst, arith, inl, get_or, not, count_by, sum, flat_map}
-use Rattle.std.specs.Prelude.{◌==◌, All, codes}
-use Rattle.std.specs.List.{range_with_len}
-use Rattle.std.proofs.lemmas.Bool.Decides.{nat_tests}
-use Rattle.std.proofs.lemmas.List.Elements.{All-head, All-tail}
-use Rattle.std.proofs.lemmas.List.{map-append, length-map}
-use Rattle.std.proofs.lemmas.List.Sums.{sum-map}
-use Rattle.hex.specs.Hex.{encode_lower}
-use Rattle.sha2.specs.Sha256.{sha256}
-use Rattle.store_model.specs.Prelude.{Reply, output_bytes, Plain, Service, Served, Request, serve, Entry, outcome_of}
-use Rattle.script_lang.specs.Prelude.{request_of, attributes_at, Turn, AreCalls, turns_from, turns_of, id_given, numbered, replies_to, lines_of, ReplyLine, is_success, unranked_text}
+use Rattle.std.proofs.Common.{All, Bool, List, [], ap, arith, codes, cond, count_by, false, filter, flat_map, get_or, inl, map, not, refl, subst, suc, sum, sym, true, zero, ℕ, ◌%◌, ◌*◌, ◌++◌, ◌+◌, ◌-◌, ◌/◌, ◌==◌, ◌∙◌, ◌∷◌, ◌≡◌}
+use Rattle.line_generator.proofs.Common.{All-head, All-tail, AreCalls, Entry, Plain, Reply, ReplyLine, Request, Served, Service, Turn, attributes_at, call, count_line, counted, encode_lower, fields, generator_line, generator_lines, id_given, import_fields, is_success, length-map, lines_of, map-append, nat_tests, numbered, outcome_of, output_bytes, range_with_len, replies_to, request_of, serve, sha256, sum-map, summary_of, turns_from, turns_of, unranked_text}
 use Rattle.script_lang.specs.declared.commands.Command.TheVariants.{Key, SinglePart}
 use Rattle.script_lang.specs.declared.store_commands.KeyCommand.TheVariants.{Import, Export, Destroy}
 use Rattle.script_lang.specs.declared.store_commands.SinglePartCommand.TheVariants.{CipherEncrypt, MacCompute}
 use Rattle.script_lang.specs.declared.script.KeyWord.TheVariants.{Given, Line}
 use Rattle.script_lang.specs.declared.script.ScriptCall.{ScriptCall}
 use Rattle.script_lang.specs.declared.script.ScriptLine.{ScriptLine}
-use Rattle.line_generator.specs.Generator.{counted, call, fields, import_fields, generator_line, generator_lines}
 use Rattle.line_generator.specs.Orders.{IsOrder, reply_lines_of, without_rank, RepliesInAnyOrder, SummaryInAnyOrder}
-use Rattle.line_generator.specs.Summary.{count_line, summary_of}
 use Rattle.line_generator.proofs.Alike.{Alike, NoZero, OwnId}
 use Rattle.line_generator.proofs.Steps.{KeyCall, Imports, Exports, Signs, Encrypts, Destroys, asked, IsOwn, SameStep, own_step, other_step, zero_stays, given_own}
 

@@ -1,20 +1,13 @@
 -- A call of a caller on its own volatile keys: what it answers, and what it leaves, is decided by what the caller sees.
-use Rattle.std.proofs.Common.{◌≡◌, ℕ, ◌+◌, ◌-◌, ◌*◌, ◌/◌, ◌<◌, ◌^◌, Bool, true, false, not, cond, List, [], ◌∷◌, length, slice_set, refl, sym, ap, ◌∙◌, subst, arith, inl, inr}
-use Rattle.std.specs.Prelude.{Option, Some, None, is_some, ◌==◌, ◌&&◌, Result, Ok, Err}
+use Rattle.std.proofs.Common.{Bool, Err, List, None, Ok, Option, Result, Some, [], ap, arith, cond, false, inl, inr, is_some, length, not, refl, slice_set, subst, sym, true, ℕ, ◌&&◌, ◌*◌, ◌+◌, ◌-◌, ◌/◌, ◌<◌, ◌==◌, ◌^◌, ◌∙◌, ◌∷◌, ◌≡◌}
+use Rattle.line_generator.proofs.Common.{Attributes, CipherEncrypt, Computed, Destroy, Export, Identifier, Import, InvalidHandle, Key, MacCompute, OnStore, Own, Plain, Request, Served, Service, Settings, Status, Store, Success, bytes_of, cipher_usage, compute_rows, computed_unless, created, created_unless, decided, destroy_rows, destroyed, encrypt_rows, encrypted, export_reply, export_rows, first_row, given, id_given, is_ctr, is_volatile, is_volatile_of, iv_length, live_volatile, mac_reply, mac_usage, made_of, mode_of, nat_tests, new_id, new_key, on_store, put, recorded_of, refused, replies, reply_unless, room_for_key_rows, room_of, serve, taken, use_rows, with_computed}
 use Rattle.std.specs.FinMap as map
-use Rattle.std.proofs.lemmas.Bool.Decides.{nat_tests}
 use Rattle.std.proofs.lemmas.List.{length-set}
-use Rattle.psa_status.specs.declared.Status.{Status}
-use Rattle.psa_status.specs.declared.Status.TheVariants.{Success, InvalidHandle}
-use Rattle.psa_status.specs.Rows.{first_row}
 use Rattle.alg_encoding.specs.declared.table.Class.{Class}
 use Rattle.alg_encoding.specs.declared.table.Class.TheVariants.{Cipher, Mac}
 use Rattle.random_streams.specs.RandomWords.{random_bytes}
-use Rattle.key_attributes.specs.declared.Attributes.{Attributes}
-use Rattle.store_model.specs.Prelude.{Key, Settings, Store, made_of, is_volatile, is_volatile_of, live_volatile, Identifier, Import, Export, MacCompute, CipherEncrypt, Destroy, Plain, Computed, counted, refused, decided, replies, reply_unless, computed_unless, with_computed, given, recorded_of, created, created_unless, new_id, new_key, room_for_key_rows, export_reply, export_rows, bytes_of, destroy_rows, destroyed, use_rows, mac_usage, cipher_usage, mac_reply, compute_rows, mode_of, is_ctr, iv_length, encrypted, encrypt_rows, Own, Service, Served, Request, OnStore, on_store, serve}
-use Rattle.store_model.proofs.Sound.{put, taken, room_of}
+use Rattle.store_model.specs.Prelude.{counted}
 use Rattle.store_model.proofs.Others.{leaves_callers, leaves_settings}
-use Rattle.script_lang.specs.Prelude.{id_given}
 use Rattle.line_generator.proofs.Maps.{len_inserted, len_removed}
 use Rattle.line_generator.proofs.Alike.{Alike, AlikeStores, NoZero, OwnId, looked, stores_of, after_both, plain, some_of}
 use Rattle.line_generator.proofs.Imports.{recorded_same, recorded_volatile, created_same}

@@ -1,17 +1,9 @@
 -- What is known once all passes are handed in.
-use Rattle.std.proofs.Common.{◌≡◌, ℕ, ◌<◌, ◌≤◌, List, All, ◌∙◌, subst, inl, Option}
+use Rattle.std.proofs.Common.{All, List, Option, inl, subst, ℕ, ◌<◌, ◌∙◌, ◌≡◌, ◌≤◌}
+use Rattle.locked_store.proofs.Common.{Entry, HasKeyOrZeros, HoldsHistory, IsClosed, Opened, Pairs, StartsWith, Store, World, caller_of, calls_by, course_of, durable_keys, entries_of}
 use Rattle.turn_history.specs.declared.pass.Account.{Account}
-use Rattle.turn_history.specs.Prelude.{entries_of, calls_by, StartsWith}
-use Rattle.key_slots.specs.Holdings.{Pairs}
 use Rattle.store_model.specs.Store as model
-use Rattle.store_model.specs.Prelude.{Entry}
-use Rattle.store_core.specs.declared.store.Opened.{Opened}
-use Rattle.store_core.specs.declared.store.Store.{Store}
-use Rattle.store_core.specs.Prelude.{course_of, durable_keys, HasKeyOrZeros}
 use Rattle.store_core.proofs.Sure.{sure_cells}
-use Rattle.locked_store.specs.Worlds.{World}
-use Rattle.locked_store.specs.Closed.{IsClosed}
-use Rattle.locked_store.specs.Standing.{HoldsHistory, caller_of}
 use Rattle.locked_store.proofs.Renewing.{legal}
 
 module _ {D A C : Type 0} (w : World D A C)

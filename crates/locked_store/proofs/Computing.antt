@@ -1,10 +1,10 @@
 -- What the secure element has answered, and what a look for its key found.
-use Rattle.std.proofs.Common.{◌≡◌, ◌∙◌, ℕ, List, Option, Result, is_some}
+use Rattle.std.proofs.Common.{List, Option, Result, is_some, ℕ, ◌∙◌, ◌≡◌}
+use Rattle.locked_store.proofs.Common.{IsAnswered}
 use Rattle.driver_dispatch.specs.Held.{HeldKeys}
 use Rattle.secure_element_calls.specs.declared.calls.ElementCall.{ElementCall}
 use Rattle.secure_element_calls.specs.declared.calls.NotComputed.{NotComputed}
 use Rattle.store_model.specs.Prelude.{Store}
-use Rattle.store_core.specs.Prelude.{IsAnswered}
 
 -- devices that tell as much
 pub as_known : (held other : Option HeldKeys) (id : ℕ) (call : ElementCall) (old new : List ℕ) (result : Result ℕ NotComputed) (m : Store) → is_some held ≡ is_some other →

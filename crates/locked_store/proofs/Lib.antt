@@ -1,3 +1,4 @@
+mod Common
 pub mod Owning
 pub mod Passing
 pub mod Renewing

@@ -1,12 +1,9 @@
 -- What one caller has out, among what all have.
-use Rattle.std.proofs.Common.{◌≡◌, ℕ, zero, suc, ◌+◌, ◌-◌, ◌<◌, ◌≤◌, eqb, Bool, true, false, cond, List, [], ◌∷◌, length, get_or, set, refl, ap, ◌∙◌, subst, arith, length-set, get_or-set_same}
-use Rattle.std.specs.Prelude.{◌&&◌, ◌==◌, nat_lt, count_by}
+use Rattle.std.proofs.Common.{Bool, List, [], ap, arith, cond, count_by, eqb, false, get_or, get_or-set_same, length, length-set, nat_lt, refl, set, subst, suc, true, zero, ℕ, ◌&&◌, ◌+◌, ◌-◌, ◌<◌, ◌==◌, ◌∙◌, ◌∷◌, ◌≡◌, ◌≤◌}
+use Rattle.locked_store.proofs.Common.{AreHoldings, Gains, HasNoFilling, HasRoomForLease, IsHolding, Pairs, named, names, own_of, same, with_own, without_pair}
 use Rattle.std.proofs.lemmas.Bool.Decides.{nat_tests}
 use Rattle.std.proofs.lemmas.List.Elements.{All-get_or, All-set}
 use Rattle.std.proofs.lemmas.List.Sums.{sum_by-cons}
-use Rattle.turn_history.specs.Prelude.{own_of, with_own}
-use Rattle.key_slots.specs.Holdings.{Pairs, Gains, IsHolding, AreHoldings, named, names, same}
-use Rattle.locked_store.specs.Turning.{HasNoFilling, HasRoomForLease, without_pair}
 
 named_set : (i n j : ℕ) (all : List Pairs) (own : Pairs) → j < length all → named i n (set all j own) + names i n (get_or all j []) ≡ named i n all + names i n own
 named_set i n j [] own lt = absurd (omega arith)

@@ -1,13 +1,7 @@
 -- A pass in its turn and after it.
-use Rattle.std.proofs.Common.{◌≡◌, ℕ, ◌+◌, ◌≤◌, List, [], ◌∷◌, ◌++◌, length, refl, sym, ap, ◌∙◌, subst, arith, Option, Some, None}
-use Rattle.std.specs.List.{AllByRecursion}
-use Rattle.turn_history.specs.declared.pass.View.{View}
-use Rattle.turn_history.specs.Prelude.{entries_of, calls_by, option_list, StartsWith, OwnCalls, after_turn}
+use Rattle.std.proofs.Common.{List, None, Option, Some, [], ap, arith, length, refl, subst, sym, ℕ, ◌++◌, ◌+◌, ◌∙◌, ◌∷◌, ◌≡◌, ◌≤◌}
+use Rattle.locked_store.proofs.Common.{AllByRecursion, Entry, FaultMark, GoesOn, IsCaller, IsEntered, IsLater, OwnCalls, Pairs, Request, SpendsOneTurn, StartsWith, View, after_turn, caller_of, calls_by, entries_of, option_list}
 use Rattle.turn_history.proofs.Lists.{entries-append, begins_longer}
-use Rattle.key_slots.specs.Holdings.{Pairs}
-use Rattle.store_model.specs.Prelude.{FaultMark, Request, IsCaller, Entry}
-use Rattle.locked_store.specs.Standing.{caller_of}
-use Rattle.locked_store.specs.Turning.{GoesOn, IsEntered, IsLater, SpendsOneTurn}
 
 one_entry : (e : Option Entry) → entries_of (e ∷ []) ≡ option_list e
 one_entry None = refl

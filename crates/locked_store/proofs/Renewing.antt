@@ -1,20 +1,7 @@
 -- The store before a turn and after it, and what was decided between.
-use Rattle.std.proofs.Common.{◌≡◌, ℕ, ◌≤◌, true, false, List, [], ◌∷◌, ◌++◌, refl, sym, ap, ◌∙◌, subst, inl, inr, ⊎_elim, arith, Option, is_some}
-use Rattle.std.specs.List.{AllByRecursion}
-use Rattle.secret_bytes.specs.Buffer.{IsClear}
-use Rattle.atomic_table.specs.declared.shared.Seat.{Seat}
-use Rattle.turn_history.specs.declared.pass.View.{View}
-use Rattle.turn_history.specs.Prelude.{entries_of, option_list, with_own, OwnCalls, after_turn}
-use Rattle.key_slots.specs.Holdings.{Pairs, AreHoldings, IsHolding}
+use Rattle.std.proofs.Common.{List, Option, [], ap, arith, false, inl, inr, is_some, refl, subst, sym, true, ℕ, ⊎_elim, ◌++◌, ◌∙◌, ◌∷◌, ◌≡◌, ◌≤◌}
+use Rattle.locked_store.proofs.Common.{AllByRecursion, AreHoldings, AreRising, DecidesAfter, DecidesBefore, Entry, FaultMark, HoldsHistory, IsAt, IsBegun, IsCaller, IsCaused, IsClear, IsEntry, IsHolding, IsLegal, IsReading, IsStartOf, IsTold, Opened, Opening, OwnCalls, Pairs, ReadsKey, Request, Seat, Service, StandsFor, Store, ToldBy, View, World, after_turn, caller_of, entries_of, id_read, may_change_keys, opening_of, option_list, replay, told_before, turn_entry, with_own}
 use Rattle.store_model.specs.Store as model
-use Rattle.store_model.specs.Prelude.{FaultMark, Service, may_change_keys, IsCaller, Request, Entry, replay, IsCaused, id_read}
-use Rattle.store_core.specs.declared.store.Opened.{Opened}
-use Rattle.store_core.specs.declared.store.Store.{Store}
-use Rattle.store_core.specs.Prelude.{IsEntry, IsReading, IsTold, Opening, StandsFor, AreRising, opening_of}
-use Rattle.store_core.proofs.Histories.{told_before}
-use Rattle.locked_store.specs.Standing.{HoldsHistory, caller_of}
-use Rattle.locked_store.specs.Worlds.{World}
-use Rattle.locked_store.specs.Turning.{DecidesAfter, DecidesBefore, IsAt, IsBegun, IsLegal, IsStartOf, ReadsKey, ToldBy, turn_entry}
 use Rattle.locked_store.proofs.Owning.{holding_of}
 use Rattle.locked_store.proofs.Passing.{goes_on, nothing_more, with_entry}
 

@@ -1,27 +1,14 @@
 -- A turn of the store, between a pass's beginning of its turn and the end.
-use Rattle.std.proofs.Common.{◌≡◌, ℕ, zero, suc, ◌+◌, ◌-◌, ◌^◌, ◌<◌, ◌≤◌, true, false, List, [], ◌∷◌, ◌++◌, length, get_or, refl, sym, ap, ◌∙◌, subst, inl, inr, ⊎_elim, arith, Option, Some, None, is_some}
-use Rattle.std.specs.Prelude.{Result}
-use Rattle.std.specs.List.{AllByRecursion}
-use Rattle.secret_bytes.specs.Buffer.{IsClear}
-use Rattle.atomic_table.specs.declared.shared.Seat.{Seat}
-use Rattle.turn_history.specs.declared.pass.View.{View}
-use Rattle.turn_history.specs.Prelude.{entries_of, with_own}
+use Rattle.std.proofs.Common.{List, None, Option, Result, Some, [], ap, arith, false, get_or, inl, inr, is_some, length, refl, subst, suc, sym, true, zero, ℕ, ⊎_elim, ◌++◌, ◌+◌, ◌-◌, ◌<◌, ◌^◌, ◌∙◌, ◌∷◌, ◌≡◌, ◌≤◌}
+use Rattle.locked_store.proofs.Common.{Adds, AddsAs, AllByRecursion, AreHoldings, AreRising, Call, Copies, Copy, Creates, CreatesKey, DecidesAfter, DecidesBefore, Destroy, Destroys, Entry, FaultCounts, FaultMark, Gains, Gives, HasOut, HasOutBeside, HoldsOf, IsAmong, IsBegun, IsCaller, IsClear, IsEntered, IsEnteredAfter, IsEntry, IsHolding, IsOwn, IsRanked, IsStartOf, IsTold, LeavesAllKeys, LeavesKeys, Makes, NoFewerFaults, OnStore, Opened, Opening, Pairs, Plain, Reads, ReadsAndGives, ReadsKey, Request, Seat, Service, Stands, StandsFor, Steps, Store, Takes, ToldBy, View, World, created_unless, entries_of, may_change_keys, named, names, opening_of, plain_step, quiet_leaves, refused_leaves, replay, told_before, turn_entry, with_own, without_pair}
 use Rattle.turn_history.proofs.Using.{keeps_own}
 use Rattle.key_attributes.specs.declared.Attributes.{Attributes}
 use Rattle.psa_status.specs.declared.Status.{Status}
 use Rattle.psa_status.specs.declared.Status.TheVariants.{Success}
 use Rattle.slot_table.specs.Lent as lent
-use Rattle.key_slots.specs.Holdings.{Pairs, AreHoldings, IsHolding, Gains, named, names}
 use Rattle.store_model.specs.Store as model
-use Rattle.store_model.specs.Prelude.{FaultMark, Plain, Service, may_change_keys, Call, Copy, Destroy, created_unless, Request, OnStore, plain_step, IsCaller, Entry, replay, FaultCounts}
-use Rattle.store_core.specs.declared.store.Opened.{Opened}
-use Rattle.store_core.specs.declared.store.Store.{Store}
-use Rattle.store_core.specs.Prelude.{Copies, Creates, HasOutBeside, IsAmong, Makes, Adds, AddsAs, Destroys, Gives, HasOut, HoldsOf, IsEntry, IsTold, LeavesKeys, Opening, Reads, ReadsAndGives, Stands, StandsFor, Steps, Takes, AreRising, NoFewerFaults, opening_of}
-use Rattle.store_core.proofs.Histories.{quiet_leaves, refused_leaves, told_before}
 use Rattle.store_core.proofs.Rises.{rising_push}
 use Rattle.locked_store.specs.Standing as shared
-use Rattle.locked_store.specs.Worlds.{World}
-use Rattle.locked_store.specs.Turning.{CreatesKey, DecidesAfter, DecidesBefore, IsBegun, IsEntered, IsEnteredAfter, IsOwn, IsRanked, IsStartOf, LeavesAllKeys, ReadsKey, ToldBy, turn_entry, without_pair}
 use Rattle.locked_store.proofs.Owning.{fewer, gains, loses, splits, with_holding}
 use Rattle.locked_store.proofs.Passing.{goes_on, signed_push}
 use Rattle.locked_store.proofs.Renewing.{decides_after, holdings, is_entry, reading, renewed, told_now, told_then}

@@ -1,6 +1,5 @@
 -- Which MAC runs.
-use Rattle.std.proofs.Common.{◌≡◌, Bool, true, false}
-use Rattle.std.specs.Prelude.{MatchBool}
+use Rattle.std.proofs.Common.{Bool, MatchBool, false, true, ◌≡◌}
 use Rattle.store_model.specs.Prelude.{MacWork}
 use Rattle.mac_states.specs.declared.running_mac.RunningMac.{RunningMac}
 use Rattle.mac_states.specs.MacStates.{HoldsMac, IsCmac, IsHmac}

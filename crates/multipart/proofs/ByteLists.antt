@@ -1,7 +1,6 @@
 -- Bytes compared one by one.
-use Rattle.std.proofs.Common.{◌≡◌, ℕ, Bool, true, false, ◌&&◌, eqb, List, [], ◌∷◌, ◌++◌, length, refl, ap, ◌∙◌, arith}
-use Rattle.std.specs.Prelude.{bytes_eq}
 
+use Rattle.std.proofs.Common.{Bool, List, [], ap, arith, bytes_eq, eqb, false, length, refl, true, ℕ, ◌&&◌, ◌++◌, ◌∙◌, ◌∷◌, ◌≡◌}
 and_assoc : (a b c : Bool) → a && (b && c) ≡ a && b && c
 and_assoc true b c = refl
 and_assoc false b c = refl

@@ -1,6 +1,5 @@
 -- Where the step of an active operation leads.
-use Rattle.std.proofs.Common.{◌≡◌, sym, subst}
-use Rattle.std.specs.Prelude.{Option, Some, None, Result, Ok, Err, OnOk, if◌then◌else◌}
+use Rattle.std.proofs.Common.{Err, None, Ok, OnOk, Option, Result, Some, if◌then◌else◌, subst, sym, ◌≡◌}
 use Rattle.std.specs.Result.{is_ok, result_err}
 use Rattle.psa_status.specs.declared.Status.{Status}
 use Rattle.store_model.specs.Prelude.{Reply, Active, After, ends, unless_failed}

@@ -1,20 +1,7 @@
 -- What a step of a derivation keeps: its algorithm, and its secret once that is there.
-use Rattle.std.proofs.Common.{◌≡◌, ℕ, Bool, true, false, not, ◌&&◌, cond, refl, ◌∙◌}
-use Rattle.std.specs.Prelude.{List, Option, Some, None, nat_lt, ◌==◌, bytes_eq, length, is_some, [], ◌∷◌, ◌++◌}
-use Rattle.psa_status.specs.declared.Status.{Status}
-use Rattle.psa_status.specs.declared.Status.TheVariants.{InvalidArgument}
-use Rattle.psa_status.specs.Rows.{first_row}
-use Rattle.key_attributes.specs.declared.Attributes.{Attributes}
+use Rattle.std.proofs.Common.{Bool, List, None, Option, Some, [], bytes_eq, cond, false, is_some, length, nat_lt, not, refl, true, ℕ, ◌&&◌, ◌++◌, ◌==◌, ◌∙◌, ◌∷◌, ◌≡◌}
+use Rattle.operation_handles.proofs.Common.{Active, After, Attributes, DerivationState, DerivationStep, DerivationWork, Derivations, GetCapacity, InError, Inactive, InputBytes, InputInteger, InvalidArgument, IsDerivationOperation, KeyCreation, MayHave, Operation, OutputBytes, Reply, SetCapacity, Status, VerifyBytes, by_key, bytes_or_empty, class_of, class_rows, compared, derivation_step, derivation_work, derived_key, done, exhausted, first_row, given, goes_on, info_step, input_bytes_rows, input_integer_rows, is_concrete, is_of_class, next_derived, output_key_rows, output_rows, refusal, salt_step, set_up, stated_bytes, taken_from, unless_failed, with_bytes, without}
 use Rattle.alg_encoding.specs.declared.table.Class.{Class}
-use Rattle.alg_encoding.specs.Encoding.{is_concrete, class_of}
-use Rattle.store_model.specs.Prelude.{Reply, refusal, done, given, class_rows, is_of_class, Operation, Inactive, InError, Active, After, goes_on, unless_failed, set_up, bytes_or_empty, DerivationWork, DerivationStep, GetCapacity, SetCapacity, InputBytes, InputInteger, OutputBytes, VerifyBytes, derivation_step, derivation_work, with_bytes, exhausted, without, taken_from, salt_step, info_step, input_bytes_rows, input_integer_rows, output_rows, next_derived, compared, output_key_rows, KeyCreation}
-use Rattle.store_model.specs.DerivationOperations.{stated_bytes}
-use Rattle.derivation_states.specs.KeySteps.{derived_key}
-use Rattle.derivation_states.specs.States.{IsDerivationOperation}
-use Rattle.derivation_states.specs.declared.DerivationState.{DerivationState}
-use Rattle.multipart.specs.Turns.{by_key}
-use Rattle.operation_handles.specs.Families.{Derivations}
-use Rattle.operation_handles.specs.States.{MayHave}
 use Rattle.operation_handles.specs.Derivations.{HasAlgorithm, IsDerivation}
 
 -- a derivation that goes on has the same algorithm, and its secret if it was there

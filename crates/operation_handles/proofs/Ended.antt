@@ -1,12 +1,9 @@
 -- An operation that isn't active leaves every state clear.
-use Rattle.std.proofs.Common.{◌≡◌, false}
+use Rattle.std.proofs.Common.{false, ◌≡◌}
+use Rattle.operation_handles.proofs.Common.{Active, Aeads, Ciphers, Derivations, EndedOperationsAreClear, Hashes, InError, Inactive, Macs, Operation, is_active}
 use Rattle.multipart.specs.declared.Phase.{Phase}
 use Rattle.multipart.specs.declared.Phase.TheVariants as phase
 use Rattle.multipart.specs.Phases as Phases
-use Rattle.multipart.specs.Turns.{is_active}
-use Rattle.store_model.specs.Prelude.{Operation, Inactive, InError, Active}
-use Rattle.operation_handles.specs.Families.{Hashes, Macs, Ciphers, Aeads, Derivations}
-use Rattle.operation_handles.specs.Laws.{EndedOperationsAreClear}
 use Rattle.operation_handles.proofs.Fresh.{all_quiet}
 
 quiet_is_clear : {W : Type 0} (p : Phase) (clear : Type 0) (holds : W → Type 0) (own : Operation W) → is_active own ≡ false → Phases.StandsFor p clear holds own → clear

@@ -1,17 +1,10 @@
 -- What one family sees of an operation, and what the states stand for once its own is another.
-use Rattle.std.proofs.Common.{◌≡◌, ◌⊎◌, inl, inr, false, refl, sym, ap, ◌∙◌, subst}
-use Rattle.std.specs.Prelude.{Option}
-use Rattle.store_model.specs.Prelude.{Operation, Inactive, InError, Active, KeyCreation, HandleOperation, held_with, part_of}
-use Rattle.multipart.specs.Turns.{is_active}
-use Rattle.alg_encoding.specs.declared.algorithm.Alg.{Alg}
+use Rattle.std.proofs.Common.{Option, ap, false, inl, inr, refl, subst, sym, ◌∙◌, ◌≡◌, ◌⊎◌}
+use Rattle.operation_handles.proofs.Common.{Active, Aeads, Alg, AreStates, Ciphers, DerivationState, Derivations, Family, FamilyStates, HandleOperation, Hashes, InError, Inactive, IsOperationOf, KeyCreation, Macs, MayHave, Operation, StandsIn, WorkOf, embed_of, held_with, is_active, part_for, part_of}
 use Rattle.mac_states.specs.declared.hash_state.HashOpState.{HashOpState}
 use Rattle.mac_states.specs.declared.mac_state.MacState.{MacState}
 use Rattle.cipher_states.specs.declared.state.CipherState.{CipherState}
 use Rattle.aead_states.specs.declared.state.AeadState.{AeadState}
-use Rattle.derivation_states.specs.declared.DerivationState.{DerivationState}
-use Rattle.operation_handles.specs.Families.{Family, Hashes, Macs, Ciphers, Aeads, Derivations, WorkOf, embed_of, part_for}
-use Rattle.operation_handles.specs.States.{AreStates, IsOperationOf, MayHave, StandsIn}
-use Rattle.operation_handles.specs.declared.states.FamilyStates.{FamilyStates}
 
 -- two families are the same or not
 pub which : (f g : Family) → (f ≡ g) ⊎ (f ≡ g → ⊥)

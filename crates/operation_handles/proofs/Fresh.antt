@@ -1,17 +1,10 @@
 -- Inactive states, and an operation that was set up.
-use Rattle.std.proofs.Common.{◌≡◌, inl, inr, false, refl, sym, ap, ◌∙◌, subst}
-use Rattle.std.specs.Prelude.{Option, Some, None}
-use Rattle.psa_status.specs.declared.Status.{Status}
-use Rattle.store_model.specs.Prelude.{Operation, Inactive, InError, Active, After, is_inactive, set_up, Held, HandleOperation, KeyCreation, Work, held_after, held_with}
-use Rattle.multipart.specs.Turns.{is_active}
+use Rattle.std.proofs.Common.{None, Option, Some, ap, false, inl, inr, refl, subst, sym, ◌∙◌, ◌≡◌}
+use Rattle.operation_handles.proofs.Common.{Active, Aeads, After, AreInactive, AreStates, Ciphers, Derivations, Family, FamilyStates, HandleOperation, Hashes, Held, InError, Inactive, IsDerivationOperation, KeyCreation, Macs, MayHave, Operation, StandsIn, Status, Work, WorkOf, embed_of, held_after, held_with, is_active, is_inactive, set_up}
 use Rattle.mac_states.specs.HashStates.{IsHashOperation}
 use Rattle.mac_states.specs.MacStates.{IsMacOperation}
 use Rattle.cipher_states.specs.States.{IsCipherOperation}
 use Rattle.aead_states.specs.Holding.{IsAeadOperation}
-use Rattle.derivation_states.specs.States.{IsDerivationOperation}
-use Rattle.operation_handles.specs.Families.{Family, Hashes, Macs, Ciphers, Aeads, Derivations, WorkOf, embed_of}
-use Rattle.operation_handles.specs.States.{AreInactive, AreStates, MayHave, StandsIn}
-use Rattle.operation_handles.specs.declared.states.FamilyStates.{FamilyStates}
 use Rattle.operation_handles.proofs.Families.{Keeps, which}
 
 -- ALL INACTIVE

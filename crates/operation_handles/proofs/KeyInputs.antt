@@ -1,25 +1,8 @@
 -- A key as the secret of a cell's derivation.
-use Rattle.std.proofs.Common.{◌≡◌, ℕ, Bool, true, false, not, ◌&&◌, [], ◌∷◌, refl, sym, ap, ◌∙◌, subst}
-use Rattle.std.specs.Prelude.{Option, Some, None, is_some, ◌==◌}
+use Rattle.std.proofs.Common.{Bool, None, Option, Some, [], ap, false, is_some, not, refl, subst, sym, true, ℕ, ◌&&◌, ◌==◌, ◌∙◌, ◌∷◌, ◌≡◌}
+use Rattle.operation_handles.proofs.Common.{Active, After, AreStates, BadState, Cell, DerivationState, DerivationWork, Derivations, Deriving, FamilyStates, HandleOperation, InError, Inactive, InvalidArgument, IsConcrete, IsDerivationOperation, IsOperation, KeyCreation, MayHave, Operation, Reading, RefusesKeyAt, Status, TakesKeyAt, by_key, bytes_of, derivation_part, done, first_row, goes_on, key_given, key_step, key_step_refusal, key_step_rows, on_active, part_of, unless_failed, with_key}
 use Rattle.std.specs.Option.{option_map}
-use Rattle.psa_status.specs.declared.Status.{Status}
-use Rattle.psa_status.specs.declared.Status.TheVariants.{BadState, InvalidArgument}
-use Rattle.psa_status.specs.Rows.{first_row}
-use Rattle.alg_encoding.specs.Encoding.{IsConcrete}
 use Rattle.key_policy.specs.declared.key_use.KeyUse.TheVariants.{Derivation}
-use Rattle.derivation_states.specs.KeySteps.{key_given, key_step_refusal}
-use Rattle.derivation_states.specs.States.{IsDerivationOperation}
-use Rattle.derivation_states.specs.declared.DerivationState.{DerivationState}
-use Rattle.slot_table.specs.Lent.{Reading}
-use Rattle.store_model.specs.Prelude.{done, Operation, Inactive, InError, Active, After, goes_on, unless_failed, DerivationWork, key_step, key_step_rows, with_key, Deriving, HandleOperation, KeyCreation, derivation_part, part_of}
-use Rattle.secret_bytes.specs.Buffer.{bytes_of}
-use Rattle.multipart.specs.Turns.{by_key, on_active}
-use Rattle.operation_handles.specs.Families.{Derivations}
-use Rattle.operation_handles.specs.States.{AreStates, MayHave}
-use Rattle.operation_handles.specs.Cells.{IsOperation}
-use Rattle.operation_handles.specs.KeyInputs.{RefusesKeyAt, TakesKeyAt}
-use Rattle.operation_handles.specs.declared.states.FamilyStates.{FamilyStates}
-use Rattle.operation_handles.specs.declared.cell.Cell.{Cell}
 use Rattle.operation_handles.proofs.Deriving.{goes_with, key_stays, unless_goes}
 use Rattle.operation_handles.proofs.Families.{keeps_all, put_derivation}
 use Rattle.operation_handles.proofs.Leases.{leased_as}

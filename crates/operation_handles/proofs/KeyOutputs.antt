@@ -1,25 +1,7 @@
 -- A key of a cell's derived bytes.
-use Rattle.std.proofs.Common.{◌≡◌, ℕ, Bool, true, false, not, ◌||◌, cond, List, [], ◌∷◌, ◌++◌, refl, sym, ap, ◌∙◌, subst}
-use Rattle.std.specs.Prelude.{Option, Some, None, Ok, Err, nat_lt, ◌==◌, is_some, ◌%◌}
-use Rattle.psa_status.specs.declared.Status.{Status}
-use Rattle.psa_status.specs.declared.Status.TheVariants.{Success, BadState, InvalidArgument, NotSupported, NotPermitted, InsufficientData}
-use Rattle.psa_status.specs.Rows.{first_row}
-use Rattle.psa_status.proofs.Rows.{first_row-front, first_row-back}
-use Rattle.key_attributes.specs.declared.Attributes.{Attributes}
-use Rattle.key_attributes.specs.Checks.{location}
-use Rattle.derivation_states.specs.KeySteps.{derived_key, output_key_refusal}
+use Rattle.std.proofs.Common.{Bool, Err, List, None, Ok, Option, Some, [], ap, cond, false, is_some, nat_lt, not, refl, subst, sym, true, ℕ, ◌%◌, ◌++◌, ◌==◌, ◌||◌, ◌∙◌, ◌∷◌, ◌≡◌}
+use Rattle.operation_handles.proofs.Common.{Active, After, AreStates, Attributes, BadState, Bytes, Cell, DerivationState, DerivationWork, Derivations, Deriving, FamilyStates, HandleOperation, InError, Inactive, InsufficientData, InvalidArgument, IsDerivationOperation, IsDerivedKey, IsOperation, KeyCreation, MayHave, NotPermitted, NotSupported, Nothing, Operation, Reply, Status, Success, by_key, derivation_part, derived_key, exhausted, first_row, first_row-back, first_row-front, given, goes_on, is_active, key_of_operation, location, next_derived, on_active, output_key_refusal, output_key_rows, part_of, refusal, stated_bytes, taken_from, unless_failed, without}
 use Rattle.derivation_states.specs.Replies.{AnswersFront}
-use Rattle.derivation_states.specs.States.{IsDerivationOperation}
-use Rattle.derivation_states.specs.declared.DerivationState.{DerivationState}
-use Rattle.store_model.specs.Prelude.{Reply, Bytes, Nothing, refusal, given, Operation, Inactive, InError, Active, After, goes_on, unless_failed, DerivationWork, exhausted, next_derived, output_key_rows, taken_from, without, Deriving, HandleOperation, KeyCreation, derivation_part, key_of_operation, part_of}
-use Rattle.store_model.specs.DerivationOperations.{stated_bytes}
-use Rattle.multipart.specs.Turns.{by_key, is_active, on_active}
-use Rattle.operation_handles.specs.Families.{Derivations}
-use Rattle.operation_handles.specs.Cells.{IsOperation}
-use Rattle.operation_handles.specs.States.{AreStates, MayHave}
-use Rattle.operation_handles.specs.KeyOutputs.{IsDerivedKey}
-use Rattle.operation_handles.specs.declared.states.FamilyStates.{FamilyStates}
-use Rattle.operation_handles.specs.declared.cell.Cell.{Cell}
 use Rattle.operation_handles.proofs.Deriving.{derived_goes, goes_with, key_stays}
 use Rattle.operation_handles.proofs.Families.{View, Busy, Idle, keeps_all, put_derivation, view}
 use Rattle.operation_handles.proofs.Steps.{Took, answers, seen}

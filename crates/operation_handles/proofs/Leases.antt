@@ -1,18 +1,8 @@
 -- What a cell stands for, with a lease and without.
-use Rattle.std.proofs.Common.{◌≡◌, false, sym, ap, ◌∙◌, subst}
-use Rattle.std.specs.Prelude.{Option, Some, None}
+use Rattle.std.proofs.Common.{None, Option, Some, ap, false, subst, sym, ◌∙◌, ◌≡◌}
+use Rattle.operation_handles.proofs.Common.{Alg, AreInactive, AreStates, Cell, HandleOperation, Inactive, IsOperation, KeyCreation, Purpose, Reading, begun_with, bytes_of, is_active, set_up_without_key}
 use Rattle.std.specs.Option.{option_map}
-use Rattle.slot_table.specs.Lent.{Reading}
-use Rattle.secret_bytes.specs.Buffer.{bytes_of}
-use Rattle.store_model.specs.Prelude.{Inactive, HandleOperation, KeyCreation}
-use Rattle.multipart.specs.Turns.{is_active}
-use Rattle.alg_encoding.specs.declared.algorithm.Alg.{Alg}
 use Rattle.service_calls.specs.declared.handle_calls.KeylessSetup.{KeylessSetup}
-use Rattle.service_calls.specs.declared.handle_calls.Purpose.{Purpose}
-use Rattle.operation_handles.specs.States.{AreInactive, AreStates}
-use Rattle.operation_handles.specs.Cells.{IsOperation}
-use Rattle.operation_handles.specs.Setups.{begun_with, set_up_without_key}
-use Rattle.operation_handles.specs.declared.cell.Cell.{Cell}
 use Rattle.operation_handles.proofs.Fresh.{all_are, all_inactive, over}
 
 -- the key of a lease

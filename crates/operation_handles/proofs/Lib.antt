@@ -1,3 +1,4 @@
+mod Common
 pub mod Families
 pub mod Steps
 pub mod Fresh

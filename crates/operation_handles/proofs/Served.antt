@@ -1,20 +1,12 @@
 -- Setups and steps on a handle, as the service serves them.
-use Rattle.std.proofs.Common.{◌≡◌, ℕ, refl, sym, ap, ◌∙◌}
-use Rattle.psa_status.specs.declared.Status.{Status}
-use Rattle.psa_status.specs.declared.Status.TheVariants.{BadState}
-use Rattle.store_model.specs.Prelude.{counted, refusal, Operation, Inactive, InError, Active, After, stays, Own, Service, Work, applied, operation_of, own_of, stepped, untouched, with_own, handle_step}
+use Rattle.std.proofs.Common.{ap, refl, sym, ℕ, ◌∙◌, ◌≡◌}
+use Rattle.operation_handles.proofs.Common.{Active, After, Alg, BadState, InError, Inactive, Operation, Own, Purpose, Service, SetupsAreTheModels, Status, StepsAreTheModels, Work, applied, counted, handle_step, has_live_key, model_keyed_setup, on_part, operation_of, own_of, refusal, set_up_with_key, stays, stepped, untouched, with_own}
 use Rattle.store_model.proofs.Operations.{same_own, same_service}
-use Rattle.alg_encoding.specs.declared.algorithm.Alg.{Alg}
 use Rattle.key_attributes.specs.declared.KeyId.{KeyId}
-use Rattle.service_calls.specs.Meanings.{model_keyed_setup}
 use Rattle.service_calls.specs.declared.handle_calls.KeylessSetup.TheVariants as keyless
-use Rattle.service_calls.specs.declared.handle_calls.Purpose.{Purpose}
 use Rattle.service_calls.specs.declared.handle_calls.Purpose.TheVariants.{SignMac, VerifyMac, EncryptCipher, DecryptCipher, EncryptAead, DecryptAead}
 use Rattle.service_calls.specs.declared.handle_calls.Setup.TheVariants.{Keyless, Keyed}
-use Rattle.operation_handles.specs.Setups.{set_up_with_key}
 use Rattle.service_calls.specs.declared.steps.Step.TheVariants as steps
-use Rattle.operation_handles.specs.Steps.{on_part}
-use Rattle.operation_handles.specs.Laws.{SetupsAreTheModels, StepsAreTheModels, has_live_key}
 
 -- an operation that stays as it was
 pub untouched_is : (service : Service) (caller handle : ℕ) (status : Status) → untouched service status ≡ applied service caller handle (stays (operation_of service caller handle) status)

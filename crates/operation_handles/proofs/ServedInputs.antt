@@ -1,19 +1,10 @@
 -- A key as the secret of a handle's derivation, as the service serves it.
-use Rattle.std.proofs.Common.{◌≡◌, ℕ, Bool, true, false, refl, sym, ap, ◌∙◌}
-use Rattle.std.specs.Prelude.{Option, Some, None, cond}
+use Rattle.std.proofs.Common.{Bool, None, Option, Some, ap, cond, false, refl, sym, true, ℕ, ◌∙◌, ◌≡◌}
+use Rattle.operation_handles.proofs.Common.{Active, BadState, DerivationWork, Deriving, HandleOperation, InError, Inactive, Key, KeyCreation, KeyInputsAreTheModels, Operation, Served, Service, Status, TakesKeyAt, applied, creation_of, derivation_key_rows, derivation_part, done, fails, first_row, first_row-back, first_row-front, goes_on, has_live_key, held_after, input_key, input_key_rows, is_alive, is_concrete, key_of_operation, key_step_rows, on_part, operation_of, part_of, unless_failed, use_refusal, with_key, with_live_key}
 use Rattle.std.specs.FinMap as map
-use Rattle.psa_status.specs.declared.Status.{Status}
-use Rattle.psa_status.specs.declared.Status.TheVariants.{BadState}
-use Rattle.psa_status.specs.Rows.{first_row}
-use Rattle.psa_status.proofs.Rows.{first_row-front, first_row-back}
-use Rattle.alg_encoding.specs.Encoding.{is_concrete}
 use Rattle.key_policy.specs.declared.key_use.KeyUse.{KeyUse}
 use Rattle.key_policy.specs.Permissions.{pattern_refusal}
-use Rattle.key_policy.specs.Uses.{use_refusal}
-use Rattle.store_model.specs.Prelude.{Key, done, bytes_of, Operation, Inactive, InError, Active, fails, goes_on, unless_failed, with_live_key, DerivationWork, key_step_rows, with_key, Deriving, HandleOperation, KeyCreation, Service, Served, applied, derivation_part, held_after, is_alive, key_of_operation, operation_of, part_of, creation_of, derivation_key_rows, input_key, input_key_rows}
-use Rattle.operation_handles.specs.KeyInputs.{TakesKeyAt}
-use Rattle.operation_handles.specs.Steps.{on_part}
-use Rattle.operation_handles.specs.Laws.{KeyInputsAreTheModels, has_live_key}
+use Rattle.store_model.specs.Prelude.{bytes_of}
 use Rattle.operation_handles.proofs.Served.{untouched_is}
 use Rattle.operation_handles.proofs.Steps.{same_work}
 

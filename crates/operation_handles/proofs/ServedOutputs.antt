@@ -1,18 +1,8 @@
 -- A key of a handle's derived bytes, as the service serves it.
-use Rattle.std.proofs.Common.{◌≡◌, ℕ, Bool, true, false, not, ◌||◌, cond, [], ◌∷◌, ◌++◌, refl, sym, ap, ◌∙◌, subst}
-use Rattle.std.specs.Prelude.{Option, Some, None, nat_lt, ◌==◌, is_some, ◌%◌}
-use Rattle.psa_status.specs.declared.Status.{Status}
-use Rattle.psa_status.specs.declared.Status.TheVariants.{BadState, InvalidHandle, InvalidArgument, NotSupported, NotPermitted, InsufficientData}
-use Rattle.psa_status.specs.Rows.{Rows, first_row, unless, ◌>>=◌}
-use Rattle.psa_status.proofs.Rows.{first_row-front, first_row-back}
-use Rattle.key_attributes.specs.declared.Attributes.{Attributes}
-use Rattle.key_attributes.specs.Checks.{location}
-use Rattle.derivation_states.specs.KeySteps.{derived_key, output_key_refusal}
-use Rattle.store_model.specs.Prelude.{given, recorded_of, Operation, Inactive, InError, Active, After, fails, goes_on, unless_failed, with_live_key, DerivationWork, exhausted, next_derived, output_key_rows, taken_from, without, Deriving, Service, Served, applied, derivation_part, held_after, key_of_operation, operation_of, part_of, output_key, underived}
-use Rattle.store_model.specs.DerivationOperations.{stated_bytes}
+use Rattle.std.proofs.Common.{Bool, None, Option, Some, [], ap, cond, false, is_some, nat_lt, not, refl, subst, sym, true, ℕ, ◌%◌, ◌++◌, ◌==◌, ◌||◌, ◌∙◌, ◌∷◌, ◌≡◌}
+use Rattle.operation_handles.proofs.Common.{Active, After, Attributes, BadState, DerivationWork, Deriving, InError, Inactive, InsufficientData, InvalidArgument, InvalidHandle, KeyOutputsAreTheModels, NotPermitted, NotSupported, Operation, Rows, Served, Service, Status, applied, derivation_part, derived_key, exhausted, fails, first_row, first_row-back, first_row-front, given, goes_on, has_live_key, held_after, key_of_operation, location, next_derived, on_part, operation_of, output_key, output_key_refusal, output_key_rows, part_of, recorded_of, stated_bytes, taken_from, underived, unless, unless_failed, with_live_key, without}
+use Rattle.psa_status.specs.Rows.{◌>>=◌}
 use Rattle.store_model.specs.HandleCalls as calls
-use Rattle.operation_handles.specs.Steps.{on_part}
-use Rattle.operation_handles.specs.Laws.{KeyOutputsAreTheModels, has_live_key}
 use Rattle.operation_handles.proofs.Served.{untouched_is}
 
 -- what comes of a key by the first refusal of the derivation's

@@ -1,16 +1,7 @@
 -- A step of one family's state is a step of the handle's operation.
-use Rattle.std.proofs.Common.{◌≡◌, ℕ, Bool, true, false, refl, sym, ap, ◌∙◌, subst}
-use Rattle.std.specs.Prelude.{Option}
+use Rattle.std.proofs.Common.{Bool, Option, ap, false, refl, subst, sym, true, ℕ, ◌∙◌, ◌≡◌}
+use Rattle.operation_handles.proofs.Common.{Active, Aeads, After, AreStates, BadState, Cell, Ciphers, Derivations, Family, FamilyStates, HandleOperation, Hashes, Held, InError, Inactive, IsOperation, KeyCreation, Macs, MayHave, Operation, Reply, StandsIn, Work, WorkOf, by_key, embed_of, held_after, held_with, is_active, key_of_operation, on_part, part_for, part_of, stays, with_live_key}
 use Rattle.std.specs.Option.{option_map}
-use Rattle.psa_status.specs.declared.Status.TheVariants.{BadState}
-use Rattle.store_model.specs.Prelude.{Reply, Operation, Inactive, InError, Active, After, stays, with_live_key, KeyCreation, Held, HandleOperation, Work, held_after, held_with, key_of_operation, part_of}
-use Rattle.multipart.specs.Turns.{by_key, is_active}
-use Rattle.operation_handles.specs.Families.{Family, Hashes, Macs, Ciphers, Aeads, Derivations, WorkOf, embed_of, part_for}
-use Rattle.operation_handles.specs.States.{AreStates, MayHave, StandsIn}
-use Rattle.operation_handles.specs.Cells.{IsOperation}
-use Rattle.operation_handles.specs.Steps.{on_part}
-use Rattle.operation_handles.specs.declared.states.FamilyStates.{FamilyStates}
-use Rattle.operation_handles.specs.declared.cell.Cell.{Cell}
 use Rattle.operation_handles.proofs.Families.{Keeps, View, Busy, Idle, keeps_all, view, own_part}
 
 -- what the code did: this family's state took the step, where it is the handle's whichever it stands for, and the key may stay

@@ -1,11 +1,6 @@
 -- Whether an operation is active or inactive, by what each state tells.
-use Rattle.std.proofs.Common.{◌≡◌, refl, inl, inr, Bool, true, false, sym, ap, ◌∙◌, subst}
-use Rattle.std.specs.Prelude.{Option}
-use Rattle.store_model.specs.Prelude.{Operation, Inactive, is_inactive, HandleOperation, KeyCreation}
-use Rattle.multipart.specs.Turns.{is_active}
-use Rattle.operation_handles.specs.Families.{Family, Hashes, Macs, Ciphers, Aeads, Derivations, WorkOf, embed_of}
-use Rattle.operation_handles.specs.States.{AreStates, StandsIn}
-use Rattle.operation_handles.specs.declared.states.FamilyStates.{FamilyStates}
+use Rattle.std.proofs.Common.{Bool, Option, ap, false, inl, inr, refl, subst, sym, true, ◌∙◌, ◌≡◌}
+use Rattle.operation_handles.proofs.Common.{Aeads, AreStates, Ciphers, Derivations, Family, FamilyStates, HandleOperation, Hashes, Inactive, KeyCreation, Macs, Operation, StandsIn, WorkOf, embed_of, is_active, is_inactive}
 use Rattle.operation_handles.proofs.Families.{which}
 use Rattle.operation_handles.proofs.Fresh.{own_active, own_is_inactive}
 

@@ -1,5 +1,5 @@
 -- What becomes of slots that are read, and of those that nobody reads.
-use Rattle.std.proofs.Common.{◌≡◌, ℕ, ◌+◌, ◌-◌, ◌==◌, ◌&&◌, cond, zero, suc, List, set, replicate, refl, ap, ◌∙◌, arith}
+use Rattle.std.proofs.Common.{List, ap, arith, cond, refl, replicate, set, suc, zero, ℕ, ◌&&◌, ◌+◌, ◌-◌, ◌==◌, ◌∙◌, ◌≡◌}
 use Rattle.std.proofs.lemmas.List.{set-set, set-get_or}
 use Rattle.slot_states.specs.declared.SlotState.TheVariants.{Full}
 use Rattle.slot_table.specs.Slots.{Slot, Table, slot_at, empty_slot, is_pending, IsNext, IsLawful}

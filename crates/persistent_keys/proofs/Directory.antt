@@ -1,11 +1,7 @@
 -- What calls make of the directory.
-use Rattle.std.proofs.Common.{◌≡◌, ℕ, ◌<◌, true, false, List, [], ◌∷◌, length, set, suc, refl, sym, ◌∙◌, ap, arith}
+use Rattle.std.proofs.Common.{List, [], ap, arith, false, length, refl, set, suc, sym, true, ℕ, ◌<◌, ◌∙◌, ◌∷◌, ◌≡◌}
+use Rattle.persistent_keys.proofs.Common.{Free, IsFirstWithoutKey, IsFull, IsSure, Open, Shut, Slot, Unsure, cell_slot, get_or-map, has_id, is_open, length-map, map-set, settled_open, settled_slot, settled_slots}
 use Rattle.std.proofs.lemmas.Bool.{eqb-true}
-use Rattle.std.proofs.lemmas.List.{get_or-map, length-map, map-set}
-use Rattle.key_cells.specs.declared.slot.Slot.{Slot}
-use Rattle.key_cells.specs.declared.slot.Slot.TheVariants.{Free, Open, Shut, Unsure}
-use Rattle.key_cells.specs.Prelude.{IsFull, IsSure, IsFirstWithoutKey, cell_slot, has_id, is_open, settled_slot, settled_slots}
-use Rattle.key_cells.proofs.Moves.{settled_open}
 use Rattle.persistent_keys.proofs.Filing.{settled_twice}
 
 -- where each cell has a key, none is in doubt

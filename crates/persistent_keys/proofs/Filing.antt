@@ -1,14 +1,7 @@
 -- A filed store after a change of its cells.
-use Rattle.std.proofs.Common.{◌≡◌, ◌≢◌, ⊎_elim, ℕ, ◌<◌, eq-eqb, ne_eqb, true, false, cond, List, [], ◌∷◌, length, set, Option, None, Some, refl, sym, ◌∙◌, ap, subst, arith}
-use Rattle.std.proofs.lemmas.Bool.{cases_eq}
-use Rattle.std.proofs.lemmas.List.{length-map, length-set, get_or-map, get_or-set_same, get_or-set_other}
-use Rattle.key_cells.specs.declared.slot.Slot.{Slot}
-use Rattle.key_cells.specs.declared.slot.Slot.TheVariants.{Free, Open, Shut, Unsure}
-use Rattle.key_cells.specs.Prelude.{Content, Absent, Present, Doubtful, cell_slot, content_at, has_id, is_open, settled_slot, settled_slots, settled_content, settled, HoldsKey, HoldsId}
-use Rattle.key_attributes.specs.declared.Attributes.{Attributes}
-use Rattle.persistent_keys.specs.Files.{Stored, stored, Keys, Doubt, IsDoubted, IsDoubtedIn, TellsCell, IsOf, IsFiled, IsPut}
-use Rattle.key_cells.proofs.Moves.{settled_open}
-use Rattle.key_cells.proofs.Bodies.{of_one_key}
+use Rattle.std.proofs.Common.{List, None, Option, Some, [], ap, arith, cond, eq-eqb, false, length, ne_eqb, refl, set, subst, sym, true, ℕ, ⊎_elim, ◌<◌, ◌∙◌, ◌∷◌, ◌≡◌, ◌≢◌}
+use Rattle.persistent_keys.proofs.Common.{Absent, Attributes, Content, Doubt, Doubtful, Free, HoldsId, HoldsKey, IsDoubted, IsDoubtedIn, IsFiled, IsOf, IsPut, Keys, Open, Present, Shut, Slot, Stored, TellsCell, Unsure, cases_eq, cell_slot, content_at, get_or-map, has_id, is_open, length-map, of_one_key, settled, settled_content, settled_open, settled_slot, settled_slots, stored}
+use Rattle.std.proofs.lemmas.List.{length-set, get_or-set_same, get_or-set_other}
 use Rattle.persistent_keys.proofs.Fitting.{tells_open}
 
 -- what is in doubt is in doubt there too

@@ -1,13 +1,9 @@
 -- An image that fits the contents of a filed store has its keys, and maybe some that are in doubt.
-use Rattle.std.proofs.Common.{◌≡◌, ◌⊎◌, inl, inr, ⊎_elim, ℕ, ◌<◌, true, List, length, Some, refl, sym, ◌∙◌, ap, subst, arith}
+use Rattle.std.proofs.Common.{List, Some, ap, arith, inl, inr, length, refl, subst, sym, true, ℕ, ⊎_elim, ◌<◌, ◌∙◌, ◌≡◌, ◌⊎◌}
+use Rattle.persistent_keys.proofs.Common.{Absent, Attributes, Content, Doubt, Doubtful, FitsCell, FitsKeys, Free, HasKey, HoldsKey, IsDamaged, IsDoubted, IsFiled, IsOf, Keys, Open, Present, Shut, Slot, Stored, TellsCell, Unsure, body, cell_slot, content_at, gate, has_id, of_one_key, opened_gate, stored}
 use Rattle.std.proofs.lemmas.Bool.{eqb-true}
-use Rattle.key_attributes.specs.declared.Attributes.{Attributes}
-use Rattle.key_cells.specs.declared.slot.Slot.{Slot}
-use Rattle.key_cells.specs.declared.slot.Slot.TheVariants.{Free, Open, Shut, Unsure}
-use Rattle.key_cells.specs.Prelude.{gate, body, opened_gate, Content, Absent, Present, Doubtful, FitsCell, Fits, cell_slot, content_at, has_id, HoldsKey, IsDamaged, HasKey}
-use Rattle.key_cells.proofs.Bodies.{of_one_key}
+use Rattle.key_cells.specs.Prelude.{Fits}
 use Rattle.key_cells.proofs.Finding.{id_of}
-use Rattle.persistent_keys.specs.Files.{Stored, stored, Keys, Doubt, IsDoubted, FitsKeys, TellsCell, IsOf, IsFiled}
 
 -- what is told of an open cell
 pub tells_open : (keys : Keys) (doubt : Doubt) (slot : Slot) (content : Content) (id : ℕ) → has_id id slot ≡ true → TellsCell keys doubt slot content

@@ -1,15 +1,11 @@
 -- What a file stands for that was opened.
+use Rattle.std.proofs.Common.{IfSome, List, None, Option, Some, [], ap, arith, cond, false, length, ne_eqb, refl, subst, suc, sym, true, zero, ℕ, ⊎_elim, ◌+◌, ◌<◌, ◌==◌, ◌∙◌, ◌∷◌, ◌≡◌, ◌≢◌, ◌≤◌}
+use Rattle.persistent_keys.proofs.Common.{Absent, AreFound, Content, Doubtful, Finds, Free, HasOneEach, HoldsId, HoldsKey, IsFiled, IsFoundIn, IsOf, IsOpened, Keys, Open, Present, Shut, Slot, StandsForKeys, Stored, TellsCell, Unsure, body, cases_eq, cell_slot, content_at, content_of, creation_of_slot, found_in, gate, get_or-replicate, has_id, stored}
 use Rattle.disk_face.specs.declared.Disk as Disk
-use Rattle.std.proofs.Common.{◌≡◌, ◌≢◌, ⊎_elim, ℕ, zero, suc, ◌<◌, ◌≤◌, ◌+◌, ne_eqb, true, false, cond, ◌==◌, List, [], ◌∷◌, length, Option, None, Some, IfSome, refl, sym, ◌∙◌, ap, subst, arith}
-use Rattle.std.proofs.lemmas.Bool.{eqb-true, eq-eqb, cases_eq}
-use Rattle.std.proofs.lemmas.List.{get_or-replicate}
-use Rattle.key_cells.specs.declared.slot.Slot.{Slot}
-use Rattle.key_cells.specs.declared.slot.Slot.TheVariants.{Free, Open, Shut, Unsure}
-use Rattle.key_cells.specs.Prelude.{gate, body, Content, Absent, Present, Doubtful, cell_slot, content_at, has_id, creation_of_slot, HoldsKey, HoldsId, content_of, found_in, IsFoundIn, Finds, HasOneEach, IsOpened}
+use Rattle.std.proofs.lemmas.Bool.{eqb-true, eq-eqb}
 use Rattle.key_cells.specs.Contents as cells
 use Rattle.key_cells.proofs.CellsRead.{content_there}
 use Rattle.key_cells.proofs.Opened.{not_opened}
-use Rattle.persistent_keys.specs.Files.{Stored, stored, Keys, TellsCell, IsOf, IsFiled, AreFound, StandsForKeys}
 use Rattle.persistent_keys.proofs.Filing.{one_id}
 
 false_true : false ≡ true → ⊥

@@ -1,17 +1,11 @@
 -- How calls of the cells lead from keys to keys.
+use Rattle.std.proofs.Common.{IfSome, List, None, Some, [], ap, arith, false, inl, inr, length, refl, set, subst, sym, true, ℕ, ⊎_elim, ◌<◌, ◌∙◌, ◌∷◌, ◌≡◌}
+use Rattle.persistent_keys.proofs.Common.{Absent, Attributes, Content, CreationFailed, Doubt, Doubtful, FitsKeys, Free, HoldsKey, IsDoubted, IsFiled, IsOf, IsPut, Keys, Leads, Moves, MovesEither, Open, Present, Shows, Shut, Slot, StandsForKeys, Stored, Unsure, body, cell_slot, content_at, creation_of_slot, doubt_after, gate, get_or-map, has_id, is_open, length-map, map-set, moves_after_settled, moves_none, moves_settled, of_one_key, settled, settled_content, settled_slot, settled_slots, some_image, stored}
 use Rattle.disk_face.specs.declared.Disk as Disk
-use Rattle.std.proofs.Common.{◌≡◌, inl, inr, ⊎_elim, ℕ, ◌<◌, true, false, List, [], ◌∷◌, length, set, None, Some, IfSome, refl, sym, ◌∙◌, ap, subst, arith}
-use Rattle.std.proofs.lemmas.List.{get_or-set_same, get_or-map, map-set, length-map}
-use Rattle.key_cells.specs.declared.slot.Slot.{Slot}
-use Rattle.key_cells.specs.declared.slot.Slot.TheVariants.{Free, Open, Shut, Unsure}
-use Rattle.key_cells.specs.Prelude.{gate, body, Content, Absent, Present, Doubtful, Shows, cell_slot, content_at, has_id, is_open, creation_of_slot, settled_slot, settled_slots, settled_content, settled, Moves, MovesEither, CreationFailed, HoldsKey}
+use Rattle.std.proofs.lemmas.List.{get_or-set_same}
 use Rattle.key_cells.specs.Contents as cells
-use Rattle.key_attributes.specs.declared.Attributes.{Attributes}
-use Rattle.key_cells.proofs.Bodies.{of_one_key}
 use Rattle.key_cells.proofs.Free.{free_set_after, not_free_as}
-use Rattle.key_cells.proofs.Moves.{moves_settled, moves_after_settled, moves_none, doubt_after, some_image}
 use Rattle.key_cells.proofs.Images.{sound_fits}
-use Rattle.persistent_keys.specs.Files.{Stored, stored, Keys, Doubt, IsDoubted, IsOf, FitsKeys, IsFiled, IsPut, StandsForKeys, Leads}
 use Rattle.persistent_keys.proofs.Fitting.{filed_fits, tells_open}
 use Rattle.persistent_keys.proofs.Filing.{no_doubt, settles, resettles, settled_twice, adds, removes, doubts, still_has, settled_shut, refiled, no_key, none_settled}
 

@@ -1,6 +1,5 @@
 -- The meet permits what both permit, and a copy gains nothing.
-use Rattle.std.proofs.Common.{◌≡◌, ℕ, Bool, true, ◌&&◌, eqb, List, [], ◌∷◌, sym, ◌∙◌, subst}
-use Rattle.std.specs.Prelude.{◌↔◌, Option, None, Some, IfSome, bit_and}
+use Rattle.std.proofs.Common.{Bool, IfSome, List, None, Option, Some, [], bit_and, eqb, subst, sym, true, ℕ, ◌&&◌, ◌↔◌, ◌∙◌, ◌∷◌, ◌≡◌}
 use Rattle.std.specs.Option.{option_map, option_and_then}
 use Rattle.std.proofs.lemmas.Bool.{and_parts, and_from, eqb-true, eq-eqb, both_ways}
 use Rattle.key_attributes.specs.declared.Policy.{Policy}

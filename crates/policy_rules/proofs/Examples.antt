@@ -1,6 +1,5 @@
 -- Worked examples: HMAC with SHA-256 of at least 8 bytes, and two ciphers.
-use Rattle.std.proofs.Common.{◌≡◌, true, false, refl}
-use Rattle.std.specs.Prelude.{Some, None}
+use Rattle.std.proofs.Common.{None, Some, false, refl, true, ◌≡◌}
 use Rattle.alg_encoding.specs.Table.{base_at}
 use Rattle.alg_encoding.specs.Encoding.{entry_of, base_of, tag_length_of, minimum_of, is_concrete, is_wildcard, is_same_algorithm}
 use Rattle.policy_rules.specs.Policy.{permits_algorithm, meet_algorithm}

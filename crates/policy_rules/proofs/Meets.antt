@@ -1,6 +1,5 @@
 -- The meet of two algorithm numbers permits what both permit.
-use Rattle.std.proofs.Common.{◌≡◌, ℕ, ◌<◌, ◌≤◌, Bool, true, false, ◌&&◌, ◌||◌, cond, eqb, ltb, refl, sym, ap, ◌∙◌, subst, inl, inr, arith}
-use Rattle.std.specs.Prelude.{Option, None, Some, is_some}
+use Rattle.std.proofs.Common.{Bool, None, Option, Some, ap, arith, cond, eqb, false, inl, inr, is_some, ltb, refl, subst, sym, true, ℕ, ◌&&◌, ◌<◌, ◌||◌, ◌∙◌, ◌≡◌, ◌≤◌}
 use Rattle.std.proofs.lemmas.Bool.{eqb-true, eq-eqb, both_ways, and_parts, and_from, or_parts, cond_both, false_from_ne_true, cases_Bool, leb-true, le-leb, ltb-true, ltb-false}
 use Rattle.alg_encoding.specs.Encoding.{is_concrete, is_wildcard, base_of, tag_length_of, minimum_of, same_length, is_same_algorithm}
 use Rattle.alg_encoding.proofs.Readings.{minimum_of-concrete, is_wildcard-minimum}

@@ -1,6 +1,5 @@
 -- What a number other than 0 permits, by its base and its lengths.
-use Rattle.std.proofs.Common.{◌≡◌, ℕ, Bool, true, false, not, ◌&&◌, ◌||◌, cond, eqb, refl, ap, ◌∙◌}
-use Rattle.std.specs.Prelude.{Option, None, Some, is_some}
+use Rattle.std.proofs.Common.{Bool, None, Option, Some, ap, cond, eqb, false, is_some, not, refl, true, ℕ, ◌&&◌, ◌||◌, ◌∙◌, ◌≡◌}
 use Rattle.std.proofs.lemmas.Bool.{eqb-true, eq-eqb, ne_eqb, both_ways}
 use Rattle.alg_encoding.specs.Encoding.{is_concrete, base_of, tag_length_of, minimum_of, same_length, is_same_algorithm}
 use Rattle.alg_encoding.proofs.Readings.{minimum_of-concrete}

@@ -1,5 +1,5 @@
 -- A rule keeps no flag and no algorithm that a key didn't have.
-use Rattle.std.proofs.Common.{Bool, true, false, ◌&&◌, not, cond, eqb}
+use Rattle.std.proofs.Common.{Bool, cond, eqb, false, not, true, ◌&&◌}
 use Rattle.std.proofs.lemmas.Bool.{eq-eqb}
 use Rattle.key_attributes.specs.declared.Attributes.{Attributes}
 use Rattle.policy_rules.specs.declared.narrowing.Label.{Label}

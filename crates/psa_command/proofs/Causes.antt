@@ -1,26 +1,18 @@
 -- Why a command ends as it does.
-use Rattle.std.proofs.Common.{◌≡◌, ℕ, List, [], ◌∷◌, refl, sym, ap, subst, arith, inl, inr, ◌⊎◌, Option, None, Some, Result, Ok, Err, IfSome, IsOk, MatchResult}
-use Rattle.std.proofs.lemmas.Bool.Decides.{leb_tells}
+use Rattle.std.proofs.Common.{Err, IfSome, IsOk, List, MatchResult, None, Ok, Option, Result, Some, [], ap, arith, inl, inr, refl, subst, sym, ℕ, ◌∷◌, ◌≡◌, ◌⊎◌}
+use Rattle.psa_command.proofs.Common.{AreLinesOf, Command, DamagedCell, DiskFault, Done, EndsBy, Exit, HasStore, IsOfImage, IsOfReading, IsReadable, IsRun, IsUnrun, IsWritten, Memory, NotAStore, ReadFault, ReplyLine, Script, ScriptFault, ScriptLine, TellsThat, Usage, WriteFault, exit_of, exit_unanswered, labels_by, leb_tells, script_of, seed_by, text_by, workers_by}
 use Rattle.psa_status.specs.Causes.{Rose}
 use Rattle.policy_rules.specs.declared.narrowing.Label.{Label}
 use Rattle.disk_face.specs.Disk.{NoNewImage}
 use Rattle.key_cells.specs.Prelude.{IsFirstDamaged, IsNoStore, IsFoundIn}
 use Rattle.key_cells.specs.declared.reading.OpenFault.{OpenFault}
 use Rattle.key_cells.specs.declared.reading.OpenFault.TheVariants as opening
-use Rattle.script_lang.specs.declared.script.ScriptLine.{ScriptLine}
-use Rattle.script_lang.specs.Prelude.{ReplyLine, script_of}
-use Rattle.script_lang.specs.declared.faults.ScriptFault.{ScriptFault}
-use Rattle.command_words.specs.declared.command.Command.{Command}
 use Rattle.command_words.specs.declared.command.Command.TheVariants.{Run, Generate}
 use Rattle.command_words.specs.declared.command.RunOptions.{RunOptions}
 use Rattle.session_host.specs.declared.lines.Unanswered.{Unanswered}
 use Rattle.session_host.specs.declared.lines.Unanswered.TheVariants.{NotOpened}
 use Rattle.session_host.specs.declared.lines.Unanswered.TheVariants as unanswered
 use Rattle.session_host.specs.Runs.{IsAnswered, IsUnanswered, IsUnopened}
-use Rattle.psa_command.specs.declared.exit.Exit.{Exit}
-use Rattle.psa_command.specs.declared.exit.Exit.TheVariants.{Done, Usage, Script, ReadFault, WriteFault, NotAStore, DamagedCell, DiskFault, Memory}
-use Rattle.psa_command.specs.Commands.{AreLinesOf, EndsBy, HasStore, IsReadable, IsRun, IsUnrun, TellsThat, labels_by, seed_by, text_by, workers_by}
-use Rattle.psa_command.specs.Ends.{IsOfImage, IsOfReading, IsWritten, exit_of, exit_unanswered}
 use Rattle.disk_face.specs.declared.Disk as Disk
 use Rattle.driver_dispatch.specs.declared.devices.Devices as Devices
 use Rattle.admission.specs.declared.rules.Admission as Admission

@@ -1,14 +1,8 @@
 -- Why the calls of a script can't be read.
-use Rattle.std.proofs.Common.{◌≡◌, ◌<◌, ◌≤◌, ◌+◌, ℕ, Bool, List, [], ◌∷◌, length, arith, ap, ◌∙◌, true, false, cond, refl, sym, subst, length-append, Option, None, Some, Result, Ok, Err, IfSome, nat_lt}
-use Rattle.std.proofs.lemmas.Bool.Decides.{nat_tests}
-use Rattle.std.specs.Io.KnownBytes.{Consumes}
-use Rattle.script_lang.specs.declared.script.ScriptLine.{ScriptLine}
+use Rattle.std.proofs.Common.{Bool, Err, IfSome, List, None, Ok, Option, Result, Some, [], ap, arith, cond, false, length, length-append, nat_lt, refl, subst, sym, true, ℕ, ◌+◌, ◌<◌, ◌∙◌, ◌∷◌, ◌≡◌, ◌≤◌}
+use Rattle.psa_command.proofs.Common.{Consumes, Exit, Read, Script, ScriptFails, ScriptFault, ScriptLine, goes_on, line_words, lines_at, nat_tests, nothing_read, script_of, text_lines, words_at}
 use Rattle.script_lang.specs.declared.faults.Reason.{Reason}
-use Rattle.script_lang.specs.declared.faults.ScriptFault.{ScriptFault}
 use Rattle.script_lang.specs.declared.faults.ScriptFault.TheVariants as faults
-use Rattle.script_lang.specs.Prelude.{line_words, text_lines, Read, nothing_read, words_at, lines_at, goes_on, script_of, ScriptFails}
-use Rattle.psa_command.specs.declared.exit.Exit.{Exit}
-use Rattle.psa_command.specs.declared.exit.Exit.TheVariants.{Script}
 
 if_some_weaker : {X : Type 0} (o : Option X) (P Q : X → Type 0) → ((x : X) → P x → Q x) → IfSome o P → IfSome o Q
 if_some_weaker None P Q f h = tt

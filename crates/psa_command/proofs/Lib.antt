@@ -1,3 +1,4 @@
+mod Common
 mod Causes
 mod Faults
 mod Written

@@ -1,5 +1,5 @@
 -- Words drawn one after another.
-use Rattle.std.proofs.Common.{◌≡◌, ℕ, zero, suc, ◌+◌, ◌%◌, ◌^◌, ◌≤◌, List, [], ◌++◌, ap, ap₂, ◌∙◌, arith}
+use Rattle.std.proofs.Common.{List, [], ap, ap₂, arith, suc, zero, ℕ, ◌%◌, ◌++◌, ◌+◌, ◌^◌, ◌∙◌, ◌≡◌, ◌≤◌}
 use Rattle.std.specs.Int.{w32, to_le_bytes}
 use Rattle.rand_core.specs.Steps as steps
 use Rattle.rand_chacha.specs.ChaCha.{ChaCha, next_word, word_at, key_of, seed_of}

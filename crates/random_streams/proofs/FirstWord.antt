@@ -1,5 +1,5 @@
 -- A new stream stands at its first word.
-use Rattle.std.proofs.Common.{◌≡◌, ℕ, List, length, sym, ap, ap₂, ◌∙◌, arith}
+use Rattle.std.proofs.Common.{List, ap, ap₂, arith, length, sym, ℕ, ◌∙◌, ◌≡◌}
 use Rattle.rand_chacha.specs.ChaCha.{ChaCha, of_seed, key_of}
 use Rattle.random_streams.specs.Generator.{IsSound, stream_of}
 use Rattle.random_streams.proofs.SeedWords.{AreBytes, seed_of-key_of}

@@ -1,5 +1,5 @@
 -- Key streams that others computed, as the definition gives them.
-use Rattle.std.proofs.Common.{◌≡◌, ◌+◌, ◌*◌, ◌^◌, [], ◌∷◌, replicate, refl}
+use Rattle.std.proofs.Common.{[], refl, replicate, ◌*◌, ◌+◌, ◌^◌, ◌∷◌, ◌≡◌}
 use Rattle.rand_core.specs.Steps.{u32_at}
 use Rattle.rand_chacha.specs.Block.{quarter_round, column_round, diagonal_round, double_rounds, block_word}
 use Rattle.random_streams.specs.RandomWords.{random_word, random_bytes, bytes_of_words}

@@ -1,19 +1,10 @@
 -- What is in the grammar is read.
-use Rattle.std.proofs.Common.{◌≡◌, ℕ, true, false, List, [], ◌∷◌, ◌++◌, refl, sym, ap, ◌∙◌, append_assoc}
+use Rattle.std.proofs.Common.{List, Ok, Some, [], ap, append_assoc, false, refl, sym, true, ℕ, ◌++◌, ◌∙◌, ◌∷◌, ◌≡◌}
+use Rattle.script_lang.proofs.Common.{AreFields, AreFixed, Field, FieldValue, Fields, Fixed, IsField, IsFixed, IsLine, IsStep, Kind, Places, Read, Shape, cut_of, field_name, field_named, has_field, is_allowed, no_words, parts_at, read_field, read_fields, read_fixed, with_word, words_at}
 use Rattle.std.proofs.lemmas.List.{append-nil}
-use Rattle.std.specs.Prelude.{Some, Ok}
-use Rattle.script_lang.specs.Pieces.{cut_of}
 use Rattle.script_lang.specs.Steps.{◌>>=◌}
-use Rattle.script_lang.specs.Shapes.{Shape}
-use Rattle.script_lang.specs.Fields.{Fields, field_name, field_named, is_allowed, has_field, read_field, read_fields}
-use Rattle.script_lang.specs.Lines.{Places, Read, no_words, with_word, read_fixed, parts_at, words_at}
-use Rattle.script_lang.specs.Grammar.{IsField, AreFields, IsFixed, AreFixed, IsLine, IsStep}
 use Rattle.script_lang.proofs.Texts.{name_again, key_again, handle_again, value_again, session_again}
-use Rattle.script_lang.specs.declared.fields.Field.{Field}
 use Rattle.script_lang.specs.declared.fields.Field.TheVariants as field
-use Rattle.script_lang.specs.declared.fields.FieldValue.{FieldValue}
-use Rattle.script_lang.specs.declared.fixed.Fixed.{Fixed}
-use Rattle.script_lang.specs.declared.commands.Kind.{Kind}
 use Rattle.script_lang.specs.declared.commands.Kind.TheVariants as kind
 
 -- a field's name is cut before its `=`, and names that field alone

@@ -1,8 +1,7 @@
 -- The hex text of bytes in pieces.
-use Rattle.std.proofs.Common.{◌≡◌, ℕ, List, [], ◌∷◌, ◌++◌, refl, ap}
-use Rattle.std.specs.Prelude.{◌/◌, ◌%◌, slice_index}
-use Rattle.hex.specs.Hex.{encode_lower, encode_with, lower_digits}
 
+use Rattle.std.proofs.Common.{List, [], ap, refl, slice_index, ℕ, ◌%◌, ◌++◌, ◌/◌, ◌∷◌, ◌≡◌}
+use Rattle.script_lang.proofs.Common.{encode_lower, encode_with, lower_digits}
 pub encode_joined : (front rest : List ℕ) → encode_lower (front ++ rest) ≡ encode_lower front ++ encode_lower rest
 unfolding encode_with
 encode_joined [] rest = refl

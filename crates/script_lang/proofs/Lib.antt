@@ -1,3 +1,4 @@
+mod Common
 mod Again
 mod Cuts
 mod Digits

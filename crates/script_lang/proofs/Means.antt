@@ -1,25 +1,10 @@
 -- What is read of a line is in the grammar.
-use Rattle.std.proofs.Common.{◌≡◌, ℕ, Bool, true, false, cond, not, List, [], ◌∷◌, ◌++◌, refl, sym, ap, subst, ◌∙◌, arith, append_assoc}
+use Rattle.std.proofs.Common.{Bool, Err, List, None, Ok, Option, Result, Some, [], ap, append_assoc, arith, cond, false, find, not, ok_or, option_map, refl, subst, sym, true, ℕ, ◌++◌, ◌==◌, ◌∙◌, ◌∷◌, ◌≡◌}
+use Rattle.script_lang.proofs.Common.{AreFields, AreFixed, BadName, BadSession, Field, FieldValue, Fields, Fixed, IsField, IsFixed, IsLine, IsRow, IsStep, Kind, MissingField, Places, Read, Reason, RepeatedField, ScriptCall, Shape, UnknownCommand, UnknownField, all_fields, bytes_eq-Decides, call_of, cut_of, demand, field_name, field_named, field_value, handle_at, has_field, has_required, is_allowed, is_name, key_at, nat_tests, no_words, parts_at, read_field, read_fields, read_fixed, row_named, rows, session_of, with_call, with_word, words_at}
 use Rattle.std.proofs.lemmas.List.{append-nil}
-use Rattle.std.specs.Prelude.{Option, Some, None, Result, Ok, Err, find, ◌==◌, option_map, ok_or}
-use Rattle.std.proofs.lemmas.Bool.Decides.{nat_tests}
-use Rattle.std.proofs.lemmas.Slice.Eq.{bytes_eq-Decides}
-use Rattle.script_lang.specs.Pieces.{cut_of}
-use Rattle.script_lang.specs.Steps.{◌>>=◌, demand}
-use Rattle.script_lang.specs.Shapes.{Shape}
+use Rattle.script_lang.specs.Steps.{◌>>=◌}
 use Rattle.std.specs.Str.{bytes_eq}
-use Rattle.script_lang.specs.Commands.{rows, row_named, IsRow}
-use Rattle.script_lang.specs.Fields.{Fields, all_fields, field_name, field_named, field_value, is_allowed, has_field, has_required, read_field, read_fields}
-use Rattle.script_lang.specs.Lines.{call_of, Places, Read, is_name, key_at, handle_at, session_of, no_words, with_word, read_fixed, with_call, parts_at, words_at}
-use Rattle.script_lang.specs.Grammar.{IsField, AreFields, IsFixed, AreFixed, IsLine, IsStep}
 use Rattle.script_lang.proofs.Texts.{some_is, fine, fine_is, ok_or_ok, name_means, key_means, handle_means, value_means, session_means}
-use Rattle.script_lang.specs.declared.faults.Reason.{Reason}
-use Rattle.script_lang.specs.declared.faults.Reason.TheVariants.{BadSession, UnknownCommand, BadName, MissingField, UnknownField, RepeatedField}
-use Rattle.script_lang.specs.declared.fields.Field.{Field}
-use Rattle.script_lang.specs.declared.fields.FieldValue.{FieldValue}
-use Rattle.script_lang.specs.declared.fixed.Fixed.{Fixed}
-use Rattle.script_lang.specs.declared.script.ScriptCall.{ScriptCall}
-use Rattle.script_lang.specs.declared.commands.Kind.{Kind}
 use Rattle.script_lang.specs.declared.commands.Kind.TheVariants as kind
 
 pub bind_ok : {A B : Type 0} (r : Result A Reason) (f : A → Result B Reason) (y : B) → (r >>= f) ≡ Ok y → (x : A) × (r ≡ Ok x) × (f x ≡ Ok y)

@@ -1,32 +1,13 @@
 -- A text that is outside the grammar isn't read, and the answer is its first reason.
-use Rattle.std.proofs.Common.{◌≡◌, ℕ, suc, ◌+◌, ◌<◌, ◌^◌, Bool, true, false, cond, not, List, [], ◌∷◌, ◌++◌, length, refl, sym, ap, ◌∙◌, arith, inl, inr, ◌⊎◌}
-use Rattle.std.specs.Prelude.{Option, Some, None, Result, Ok, Err, nat_lt, ◌==◌, ◌&&◌, option_map, ok_or}
-use Rattle.std.proofs.lemmas.Bool.Decides.{nat_tests}
-use Rattle.script_lang.specs.Numbers.{number}
-use Rattle.script_lang.specs.Pieces.{cut_of, line_words, text_lines}
-use Rattle.script_lang.specs.Steps.{◌>>=◌, demand}
-use Rattle.script_lang.specs.Shapes.{Shape}
-use Rattle.script_lang.specs.Commands.{row_named}
-use Rattle.script_lang.specs.Fields.{Fields, form_of, field_name, field_named, field_value, is_allowed, has_field, has_required, read_field, read_fields}
-use Rattle.script_lang.specs.Lines.{Places, Read, nothing_read, no_words, is_name, key_at, handle_at, with_word, read_fixed, session_of, parts_at, words_at, goes_on, lines_at, script_of, with_call}
-use Rattle.script_lang.specs.Grammar.{IsForm, IsKey, IsOneTo, AreSteps}
-use Rattle.script_lang.specs.Outside.{IsBadFixed, AreBadFixed, IsBadValue, IsBadField, AreBadFields, AreBadAfter, IsBadCommand, AreBadWords, IsFault}
+use Rattle.std.proofs.Common.{Bool, Err, List, None, Ok, Option, Result, Some, [], ap, arith, cond, false, inl, inr, length, nat_lt, not, ok_or, option_map, refl, suc, sym, true, ℕ, ◌&&◌, ◌++◌, ◌+◌, ◌<◌, ◌==◌, ◌^◌, ◌∙◌, ◌∷◌, ◌≡◌, ◌⊎◌}
+use Rattle.script_lang.proofs.Common.{AreBadAfter, AreBadFields, AreBadFixed, AreBadWords, AreSteps, BadHandle, BadKey, BadLine, BadName, BadSession, BadValue, Field, FieldValue, Fields, Fixed, IsBadCommand, IsBadField, IsBadFixed, IsBadValue, IsFault, IsForm, IsKey, IsOneTo, KeyWord, Kind, Line, MissingField, Places, Read, Reason, RepeatedField, ScriptFault, Shape, TooLong, TooManyLines, UnknownCommand, UnknownField, UnknownName, cut_of, demand, field_name, field_named, field_value, form_of, goes_on, handle_at, has_field, has_required, is_allowed, is_name, key_at, line_words, lines_at, nat_tests, no_words, nothing_read, number, parts_at, read_field, read_fields, read_fixed, row_named, script_of, session_of, text_lines, with_call, with_word, words_at}
+use Rattle.script_lang.specs.Steps.{◌>>=◌}
 use Rattle.script_lang.proofs.Texts.{given, number_means, name_means, name_again, handle_means, value_means, session_means, session_again, and_true}
 use Rattle.script_lang.proofs.Means.{made, cut_joined, field_named_is, named_read, row_read, said_by}
 use Rattle.script_lang.proofs.Again.{cut_name, field_again, one_again, word_again, fixed_again, line_again}
 use Rattle.script_lang.proofs.OutsideMeans.{handle_err, value_err, after_name, after_session}
 use Rattle.script_lang.proofs.WholeMeans.{not_more}
-use Rattle.script_lang.specs.declared.faults.Reason.{Reason}
-use Rattle.script_lang.specs.declared.faults.Reason.TheVariants.{BadSession, UnknownCommand, BadHandle, BadName, BadKey, UnknownName, UnknownField, RepeatedField, BadValue, MissingField}
-use Rattle.script_lang.specs.declared.faults.ScriptFault.{ScriptFault}
 use Rattle.script_lang.specs.declared.faults.ScriptFault.TheVariants as faults
-use Rattle.script_lang.specs.declared.faults.ScriptFault.TheVariants.{TooLong, TooManyLines, BadLine}
-use Rattle.script_lang.specs.declared.fields.Field.{Field}
-use Rattle.script_lang.specs.declared.fields.FieldValue.{FieldValue}
-use Rattle.script_lang.specs.declared.fixed.Fixed.{Fixed}
-use Rattle.script_lang.specs.declared.script.KeyWord.{KeyWord}
-use Rattle.script_lang.specs.declared.script.KeyWord.TheVariants.{Line}
-use Rattle.script_lang.specs.declared.commands.Kind.{Kind}
 use Rattle.script_lang.specs.declared.commands.Kind.TheVariants as kind
 
 no_such : {X : Type 0} (o : Option X) → ((x : X) → o ≡ Some x → ⊥) → o ≡ None

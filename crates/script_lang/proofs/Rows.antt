@@ -1,14 +1,8 @@
 -- The fields of a line, one at a time.
-use Rattle.std.proofs.Common.{◌≡◌, ℕ, List, [], ◌∷◌, ◌++◌, sym, ap, ◌∙◌, subst}
-use Rattle.std.specs.Prelude.{Result, Ok}
-use Rattle.script_lang.specs.declared.faults.LineError.{LineError}
+use Rattle.std.proofs.Common.{List, Ok, Result, [], ap, subst, sym, ℕ, ◌++◌, ◌∙◌, ◌∷◌, ◌≡◌}
+use Rattle.script_lang.proofs.Common.{Fails, Field, FieldValue, Fields, LineError, Reason, Shape, read_field, read_fields}
 use Rattle.script_lang.specs.declared.faults.LineError.TheVariants as errors
-use Rattle.script_lang.specs.declared.faults.Reason.{Reason}
-use Rattle.script_lang.specs.declared.fields.Field.{Field}
-use Rattle.script_lang.specs.declared.fields.FieldValue.{FieldValue}
-use Rattle.script_lang.specs.Shapes.{Shape}
-use Rattle.script_lang.specs.Fields.{Fields, read_field, read_fields}
-use Rattle.script_lang.specs.Steps.{Fails, ◌>>=◌}
+use Rattle.script_lang.specs.Steps.{◌>>=◌}
 
 -- a step that fails makes the whole fail
 pub fails_first : {A B : Type 0} (e : LineError) (r : Result A Reason) (f : A → Result B Reason) → Fails e r → Fails e (r >>= f)

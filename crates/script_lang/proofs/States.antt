@@ -1,14 +1,8 @@
 -- What is known of the sessions, from line to line.
-use Rattle.std.proofs.Common.{◌≡◌, ◌≢◌, ℕ, suc, zero, ◌+◌, ◌<◌, ◌≤◌, Bool, true, false, cond, List, [], ◌∷◌, ◌++◌, length, get_or, refl, sym, ap, subst, ◌∙◌, arith}
-use Rattle.std.specs.Prelude.{Option, Some, None, IfSome, All, slice_get, slice_set, filter, ◌==◌}
-use Rattle.std.proofs.lemmas.Bool.Decides.{nat_tests}
+use Rattle.std.proofs.Common.{All, Bool, IfSome, List, None, Option, Some, [], ap, arith, cond, false, filter, get_or, length, refl, slice_get, slice_set, subst, suc, sym, true, zero, ℕ, ◌++◌, ◌+◌, ◌<◌, ◌==◌, ◌∙◌, ◌∷◌, ◌≡◌, ◌≢◌, ◌≤◌}
+use Rattle.script_lang.proofs.Common.{AreCounted, IsNew, Places, ScriptCall, ScriptLine, count_by-le-length, given_place, length-filter, lines_of, nat_tests, nothing_read, places_in, places_of, read_of, with_call}
 use Rattle.std.proofs.Math.ListN.{length-set}
 use Rattle.std.proofs.lemmas.Option.{slice_get_read}
-use Rattle.std.proofs.lemmas.List.Sums.{length-filter, count_by-le-length}
-use Rattle.script_lang.specs.Lines.{Places, nothing_read, lines_of, given_place, with_call}
-use Rattle.script_lang.specs.Sessions.{places_of, places_in, read_of, AreCounted, IsNew}
-use Rattle.script_lang.specs.declared.script.ScriptCall.{ScriptCall}
-use Rattle.script_lang.specs.declared.script.ScriptLine.{ScriptLine}
 use Rattle.script_lang.specs.declared.sessions.Session.{Session}
 
 pointwise : {A B : Type 0} (f g : A → B) → ((x : A) → f x ≡ g x) → f ≡ g

@@ -1,8 +1,7 @@
 -- The lines of a text, one at a time.
-use Rattle.std.proofs.Common.{◌≡◌, ℕ, Bool, true, false, cond, List, [], ◌∷◌, refl, sym, ap, ◌∙◌}
-use Rattle.std.specs.Prelude.{◌==◌}
-use Rattle.script_lang.specs.Pieces.{pieces, onto_first, ended, without_return, text_lines}
 
+use Rattle.std.proofs.Common.{Bool, List, [], ap, cond, false, refl, sym, true, ℕ, ◌==◌, ◌∙◌, ◌∷◌, ◌≡◌}
+use Rattle.script_lang.proofs.Common.{ended, onto_first, pieces, text_lines, without_return}
 abbrev IsSome : List (List ℕ) → Type 0
 IsSome ps = (p : List ℕ) × (rest : List (List ℕ)) × (ps ≡ p ∷ rest)
 

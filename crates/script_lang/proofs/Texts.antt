@@ -1,29 +1,14 @@
 -- Numbers, sessions, names, keys and values: what is read of a text is what the grammar says of it.
-use Rattle.std.proofs.Common.{◌≡◌, ℕ, ◌+◌, ◌-◌, ◌*◌, ◌^◌, ◌<◌, ◌≤◌, Bool, true, false, cond, List, [], ◌∷◌, length, get_or, refl, sym, ap, subst, ◌∙◌, arith}
-use Rattle.std.specs.Prelude.{Option, Some, None, Result, Ok, Err, nat_lt, nat_le, ◌||◌, ◌&&◌, ◌==◌, option_and_then, option_map, ok_or}
-use Rattle.std.specs.List.{list_all}
+use Rattle.std.proofs.Common.{Bool, Err, List, None, Ok, Option, Result, Some, [], ap, arith, cond, false, get_or, length, nat_le, nat_lt, ok_or, option_and_then, option_map, refl, subst, sym, true, ℕ, ◌&&◌, ◌*◌, ◌+◌, ◌-◌, ◌<◌, ◌==◌, ◌^◌, ◌||◌, ◌∙◌, ◌∷◌, ◌≡◌, ◌≤◌}
+use Rattle.script_lang.proofs.Common.{AllPass-from_list_all, BadHandle, BadKey, BadValue, BytesForm, Field, FieldValue, Form, Given, IsForm, IsKey, IsLetter, IsName, IsNameByte, IsNumber, IsOneTo, KeyWord, Line, LongForm, Places, Reason, ShortForm, UnknownName, WordForm, begins_with, decode_of, field_value, form_of, form_value, from_least, handle_at, is_letter, is_name, is_name_byte, key_at, list_all, list_all-from_AllPass, nat_tests, number, number_from, session_of}
 use Rattle.std.specs.Result.{result_ok}
 use Rattle.std.specs.Char.{digit_value}
 use Rattle.std.specs.Fmt.{decimal}
 use Rattle.std.specs.Str.Parse.{AllDigits, digits_value, digits_value_after}
-use Rattle.hex.specs.Hex.{decode_of}
-use Rattle.std.proofs.lemmas.Bool.Decides.{nat_tests}
-use Rattle.std.proofs.lemmas.List.Sums.{AllPass-from_list_all, list_all-from_AllPass}
 use Rattle.std.proofs.lemmas.Fmt.{decimal_is_IsNumeral, length-decimal-le, first_decimal, decimal-digits_value, decimal_digit}
 use Rattle.std.proofs.lemmas.Str.Parse.{IsNumeralModel}
 use Rattle.script_lang.proofs.Digits.{if_below, number_is, found}
-use Rattle.script_lang.specs.Numbers.{number_from, number, from_least}
-use Rattle.script_lang.specs.Pieces.{begins_with}
-use Rattle.script_lang.specs.Fields.{Form, ShortForm, WordForm, LongForm, BytesForm, form_of, form_value, field_value}
-use Rattle.script_lang.specs.Lines.{Places, is_letter, is_name_byte, is_name, handle_at, key_at, session_of}
-use Rattle.script_lang.specs.Grammar.{IsNumber, IsForm, IsLetter, IsNameByte, IsName, IsKey, IsOneTo}
-use Rattle.script_lang.specs.declared.faults.Reason.{Reason}
-use Rattle.script_lang.specs.declared.faults.Reason.TheVariants.{BadValue, BadHandle, BadKey, UnknownName}
-use Rattle.script_lang.specs.declared.fields.Field.{Field}
-use Rattle.script_lang.specs.declared.fields.FieldValue.{FieldValue}
 use Rattle.script_lang.specs.declared.fields.FieldValue.TheVariants.{Short, Word, Long, Bytes}
-use Rattle.script_lang.specs.declared.script.KeyWord.{KeyWord}
-use Rattle.script_lang.specs.declared.script.KeyWord.TheVariants.{Given, Line}
 
 abbrev pub some : {X : Type 0} → X → Option X
 some x = Some x

@@ -1,14 +1,7 @@
 -- The lines of a script, one at a time.
-use Rattle.std.proofs.Common.{◌≡◌, ℕ, ◌+◌, List, [], ◌∷◌, sym, ap, ◌∙◌, subst}
-use Rattle.std.specs.Prelude.{Result, Ok}
-use Rattle.script_lang.specs.declared.faults.LineError.{LineError}
+use Rattle.std.proofs.Common.{List, Ok, Result, [], ap, subst, sym, ℕ, ◌+◌, ◌∙◌, ◌∷◌, ◌≡◌}
+use Rattle.script_lang.proofs.Common.{Fails, LineError, Read, Reason, ScriptFails, ScriptFault, ScriptLine, fault_at, goes_on, line_words, lines_at, words_at}
 use Rattle.script_lang.specs.declared.faults.LineError.TheVariants as errors
-use Rattle.script_lang.specs.declared.faults.Reason.{Reason}
-use Rattle.script_lang.specs.declared.faults.ScriptFault.{ScriptFault}
-use Rattle.script_lang.specs.declared.script.ScriptLine.{ScriptLine}
-use Rattle.script_lang.specs.Pieces.{line_words}
-use Rattle.script_lang.specs.Steps.{Fails}
-use Rattle.script_lang.specs.Lines.{Read, words_at, lines_at, goes_on, fault_at, ScriptFails}
 
 pub lines_turn : (n : ℕ) (read next : Read) (texts : List (List ℕ)) (text : List ℕ) (rest : List (List ℕ)) →
     texts ≡ text ∷ rest → words_at read (line_words text) ≡ Ok next → lines_at n read texts ≡ lines_at (n + 1) next rest

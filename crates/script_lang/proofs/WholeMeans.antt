@@ -1,16 +1,8 @@
 -- A text is read as calls exactly where the grammar says that it says them.
-use Rattle.std.proofs.Common.{◌≡◌, ℕ, ◌+◌, ◌≤◌, Bool, true, false, cond, List, [], ◌∷◌, length, refl, ap, ◌∙◌, arith}
-use Rattle.std.specs.Prelude.{Result, Ok, Err, nat_lt}
-use Rattle.std.proofs.lemmas.Bool.Decides.{nat_tests}
-use Rattle.script_lang.specs.Pieces.{line_words, text_lines}
-use Rattle.script_lang.specs.Lines.{Read, nothing_read, words_at, lines_at, goes_on, script_of}
-use Rattle.script_lang.specs.Grammar.{AreSteps, IsScript}
+use Rattle.std.proofs.Common.{Bool, Err, List, Ok, Result, [], ap, arith, cond, false, length, nat_lt, refl, true, ℕ, ◌+◌, ◌∙◌, ◌∷◌, ◌≡◌, ◌≤◌}
+use Rattle.script_lang.proofs.Common.{AreSteps, IsScript, Read, Reason, ScriptFault, ScriptLine, TooLong, TooManyLines, goes_on, line_words, lines_at, nat_tests, nothing_read, script_of, text_lines, words_at}
 use Rattle.script_lang.proofs.Means.{line_means}
 use Rattle.script_lang.proofs.Again.{line_again}
-use Rattle.script_lang.specs.declared.faults.Reason.{Reason}
-use Rattle.script_lang.specs.declared.faults.ScriptFault.{ScriptFault}
-use Rattle.script_lang.specs.declared.faults.ScriptFault.TheVariants.{TooLong, TooManyLines}
-use Rattle.script_lang.specs.declared.script.ScriptLine.{ScriptLine}
 
 abbrev pub told : List ScriptLine → Result (List ScriptLine) ScriptFault
 told calls = Ok calls

@@ -1,21 +1,10 @@
 -- What the model replies to a call, and what its answer is.
-use Rattle.std.proofs.Common.{◌≡◌, ℕ, ◌-◌, Bool, true, false, List, [], ◌∷◌, ◌++◌, length, drop, replicate, refl, sym, ap, ap₂, ◌∙◌, subst, arith, cond}
-use Rattle.std.specs.Prelude.{Option, None, Some, Result, Ok, Err, if◌then◌else◌, MatchOption, not}
-use Rattle.std.proofs.lemmas.List.{append-nil, drop_at, length-replicate}
-use Rattle.psa_status.specs.declared.Status.{Status}
-use Rattle.psa_status.specs.declared.Status.TheVariants.{Success, HardwareFailure, InvalidSignature, InvalidArgument}
-use Rattle.psa_status.specs.Rows.{first_row, unless}
-use Rattle.psa_status.proofs.Rows.{unless-ok}
-use Rattle.driver_dispatch.specs.Held.{HeldKey, HeldKeys}
-use Rattle.driver_dispatch.specs.Calls.{HoldsHandle}
-use Rattle.store_model.specs.Prelude.{Reply, Bytes, buffer_after, Computed, computed_unless, done, given, refusal, reply_unless, spoiled}
-use Rattle.secure_element_calls.specs.declared.calls.ElementCall.{ElementCall}
-use Rattle.secure_element_calls.specs.declared.calls.ElementCall.TheVariants.{MacCompute, MacVerify, CtrEncrypt, CtrDecrypt}
+use Rattle.std.proofs.Common.{Bool, Err, List, MatchOption, None, Ok, Option, Result, Some, [], ap, ap₂, arith, cond, drop, false, if◌then◌else◌, length, not, refl, replicate, subst, sym, true, ℕ, ◌++◌, ◌-◌, ◌∙◌, ◌∷◌, ◌≡◌}
+use Rattle.secure_element_calls.proofs.Common.{Bytes, Compares, Computed, CtrDecrypt, CtrEncrypt, ElementCall, HardwareFailure, HeldKey, HeldKeys, HoldsHandle, InvalidArgument, InvalidSignature, MacCompute, MacVerify, Reply, Status, Success, agrees_by, buffer_after, computed_unless, done, element_reply, first_row, given, given_by, length-replicate, needed_by, refusal, reply_unless, rows_before, spoiled, unless, unless-ok}
+use Rattle.std.proofs.lemmas.List.{append-nil, drop_at}
 use Rattle.secure_element_calls.specs.declared.calls.NotComputed.{NotComputed}
 use Rattle.secure_element_calls.specs.declared.calls.NotComputed.TheVariants.{Refused, Failed}
-use Rattle.secure_element_calls.specs.Calls.{element_reply, needed_by, rows_before}
 use Rattle.secure_element_calls.specs.Answers.{AnswersCall, IsComputed, IsOfElement, reply_to}
-use Rattle.secure_element_calls.specs.Given.{Compares, agrees_by, given_by}
 use Rattle.secure_element_calls.proofs.Holding.{holds_as, holds_both}
 
 -- one row, or two, of which the second compares a MAC

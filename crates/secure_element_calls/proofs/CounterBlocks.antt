@@ -1,11 +1,8 @@
 -- Counter blocks that are enciphered each by itself.
-use Rattle.std.proofs.Common.{◌≡◌, ℕ, zero, suc, ◌+◌, ◌*◌, ◌/◌, ◌%◌, ◌^◌, ◌<◌, List, [], ◌∷◌, ◌++◌, length, map, take, drop, refl, sym, ap, ap₂, ◌∙◌, arith}
-use Rattle.std.proofs.lemmas.List.{append-nil, length-append, length-drop, map-append, take-append-le, drop-append-le, take_all}
+use Rattle.std.proofs.Common.{List, [], ap, ap₂, arith, drop, length, map, refl, suc, sym, take, zero, ℕ, ◌%◌, ◌*◌, ◌++◌, ◌+◌, ◌/◌, ◌<◌, ◌^◌, ◌∙◌, ◌∷◌, ◌≡◌}
+use Rattle.secure_element_calls.proofs.Common.{blocks, counter_block, counter_block_is, drop-append-le, ecb_encrypt, joined, key_stream, key_stream_next, length-number_block, map-append, number_block, number_of_block, take-append-le}
+use Rattle.std.proofs.lemmas.List.{append-nil, length-append, length-drop, take_all}
 use Rattle.std.proofs.lemmas.Grind.{flat_map-append}
-use Rattle.crypto_specs.specs.Prelude.{blocks, counter_block, ecb_encrypt, joined, key_stream, number_block}
-use Rattle.crypto_specs.proofs.Blocks.{length-number_block}
-use Rattle.cipher_blocks.proofs.BlockNumbers.{number_of_block}
-use Rattle.cipher_modes.proofs.CounterBlocks.{counter_block_is, key_stream_next}
 
 none_left : (xs : List ℕ) → length xs ≡ 0 → xs ≡ []
 none_left [] e = refl

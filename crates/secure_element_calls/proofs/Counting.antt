@@ -1,7 +1,7 @@
 -- How often a device has computed.
-use Rattle.std.proofs.Common.{◌≡◌, ℕ, ◌<◌, inl, inr, arith}
+use Rattle.std.proofs.Common.{arith, inl, inr, ℕ, ◌<◌, ◌≡◌}
+use Rattle.secure_element_calls.proofs.Common.{Rose, one_more}
 use Rattle.std.proofs.lemmas.Bool.{cases_eq}
-use Rattle.psa_status.specs.Causes.{Rose, one_more}
 
 -- one more call, after none or after some
 pub rose_again : (n start before now : ℕ) → (n ≡ 0 → before ≡ start) → (0 < n → Rose start before) → now ≡ one_more before → Rose start now

@@ -1,14 +1,8 @@
 -- Facts about the key under a handle, where the device tells it.
-use Rattle.std.proofs.Common.{◌≡◌, ℕ, refl, subst, IsTrue}
-use Rattle.std.specs.Prelude.{Option, None, Some, Result, Ok, Err, OnOk}
-use Rattle.driver_dispatch.specs.Held.{HeldKey, HeldKeys, held_key}
-use Rattle.driver_dispatch.specs.Calls.{HoldsHandle, IsSomeKey}
-use Rattle.store_model.specs.Prelude.{fits_type, is_hmac}
+use Rattle.std.proofs.Common.{Bool, Err, IsTrue, None, Ok, OnOk, Option, Result, Some, false, if◌then◌else◌, refl, subst, ℕ, ◌==◌, ◌≡◌}
+use Rattle.secure_element_calls.proofs.Common.{ElementCall, HeldKey, HeldKeys, HoldsHandle, IsSomeKey, algorithm_asked, ctr, fits_type, held_key, is_hmac}
 use Rattle.alg_encoding.specs.Encoding.{base_of, entry_of}
 use Rattle.alg_encoding.specs.Table.{base_at}
-use Rattle.secure_element_calls.specs.Calls.{algorithm_asked, ctr}
-use Rattle.secure_element_calls.specs.declared.calls.ElementCall.{ElementCall}
-use Rattle.std.specs.Prelude.{Bool, false, ◌==◌, if◌then◌else◌}
 use Rattle.std.proofs.lemmas.Bool.{eqb-true}
 
 some_with : (o : Option HeldKey) (P Q R : HeldKey → Type 0) → IsSomeKey o P → IsSomeKey o Q → ((key : HeldKey) → P key → Q key → R key) → IsSomeKey o R

@@ -1,13 +1,10 @@
 -- The lengths of what is computed.
-use Rattle.std.proofs.Common.{◌≡◌, ℕ, ◌*◌, replicate, List, [], ◌∷◌, ◌++◌, length, take, drop, sym, ap, ◌∙◌, arith}
+use Rattle.std.proofs.Common.{List, [], ap, arith, drop, length, replicate, sym, take, ℕ, ◌*◌, ◌++◌, ◌∙◌, ◌∷◌, ◌≡◌}
+use Rattle.secure_element_calls.proofs.Common.{aes_encrypt, block_count, blocks, chain_step, chained, cmac, ctr_xor, front_count, hmac, key_stream, last_block, length-aes_encrypt, length-xor_bytes, mac_of, tag_bytes, xor_bytes}
 use Rattle.std.proofs.lemmas.List.{length-take}
-use Rattle.crypto_specs.specs.Prelude.{aes_encrypt, xor_bytes, chain_step, chained, cmac, front_count, last_block, hmac, block_count, blocks, ctr_xor, key_stream}
 use Rattle.std.specs.List.{fold}
-use Rattle.crypto_specs.proofs.Blocks.{length-aes_encrypt}
 use Rattle.crypto_specs.proofs.KeyStream.{length-key_stream}
-use Rattle.crypto_specs.proofs.XorBytes.{length-xor_bytes}
 use Rattle.hash_ops.proofs.Digests.{length-hash_of}
-use Rattle.store_model.specs.Prelude.{mac_of, tag_bytes}
 use Rattle.key_policy.specs.declared.algorithms.MacAlgorithm.{MacAlgorithm}
 use Rattle.key_policy.specs.declared.algorithms.MacKind.{MacKind}
 use Rattle.key_policy.specs.declared.algorithms.MacKind.TheVariants.{Hmac, Cmac}

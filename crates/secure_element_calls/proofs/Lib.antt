@@ -1,3 +1,4 @@
+mod Common
 pub mod Lengths
 pub mod CounterBlocks
 pub mod Streams

@@ -1,16 +1,8 @@
 -- The model's replies to calls that the element computes.
-use Rattle.std.proofs.Common.{◌≡◌, ℕ, Bool, true, false, List, ◌++◌, length, refl, sym, ap, ◌∙◌, cond}
-use Rattle.std.specs.Prelude.{Option, None, Some, not, bytes_eq, nat_lt, ◌&&◌, ◌-◌, take, drop}
+use Rattle.std.proofs.Common.{Bool, List, None, Option, Some, ap, bytes_eq, cond, drop, false, length, nat_lt, not, refl, sym, take, true, ℕ, ◌&&◌, ◌++◌, ◌-◌, ◌∙◌, ◌≡◌}
+use Rattle.secure_element_calls.proofs.Common.{Computed, Ctr, CtrDecrypt, CtrEncrypt, ElementCall, InvalidArgument, InvalidSignature, Key, MacCompute, MacVerify, OnStore, Reply, Rows, Service, Status, bytes_of, computed_unless, computed_with, deciphered, done, element_reply, enciphered, encrypted, first_row, first_row-back, first_row-front, given, is_of_computed, is_opaque_key, mac_of, model_call, next_random, plain_or_zeros, plain_step, replies, reply_unless, rows_before, total_limit}
 use Rattle.std.specs.Option.{option_and_then}
-use Rattle.store_model.specs.Prelude.{total_limit, Key, is_opaque_key, Reply, Ctr, deciphered, enciphered, encrypted, plain_or_zeros, mac_of, bytes_of, Computed, computed_unless, done, given, replies, reply_unless, Service, next_random, OnStore, plain_step, computed_with, is_of_computed}
 use Rattle.std.specs.FinMap as map
-use Rattle.psa_status.specs.declared.Status.{Status}
-use Rattle.psa_status.specs.declared.Status.TheVariants.{InvalidArgument, InvalidSignature}
-use Rattle.psa_status.specs.Rows.{Rows, first_row}
-use Rattle.psa_status.proofs.Rows.{first_row-back, first_row-front}
-use Rattle.secure_element_calls.specs.declared.calls.ElementCall.{ElementCall}
-use Rattle.secure_element_calls.specs.declared.calls.ElementCall.TheVariants.{MacCompute, MacVerify, CtrEncrypt, CtrDecrypt}
-use Rattle.secure_element_calls.specs.Calls.{element_reply, model_call, rows_before}
 use Rattle.secure_element_calls.specs.Replies.{AsksDevice, RepliesAreTheModels, key_rows}
 
 -- a refusal, or the reply that is computed

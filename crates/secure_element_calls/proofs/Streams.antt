@@ -1,9 +1,8 @@
 -- A text in CTR mode, piece by piece.
-use Rattle.std.proofs.Common.{◌≡◌, ℕ, suc, ◌+◌, ◌-◌, ◌*◌, ◌/◌, ◌%◌, ◌^◌, ◌<◌, ◌≤◌, min, List, [], ◌∷◌, ◌++◌, length, take, drop, slice_index, bit_xor, refl, sym, ap, ap₂, ◌∙◌, arith}
-use Rattle.std.proofs.lemmas.List.{append-nil, take_all, drop_all, take_min, drop_min}
+use Rattle.std.proofs.Common.{List, [], ap, ap₂, arith, bit_xor, drop, length, min, refl, slice_index, suc, sym, take, ℕ, ◌%◌, ◌*◌, ◌++◌, ◌+◌, ◌-◌, ◌/◌, ◌<◌, ◌^◌, ◌∙◌, ◌∷◌, ◌≡◌, ◌≤◌}
+use Rattle.secure_element_calls.proofs.Common.{aes_encrypt, block_number, ctr_xor, drop_all, drop_min, number_block, number_of_block, take_min}
+use Rattle.std.proofs.lemmas.List.{append-nil, take_all}
 use borrow.Rule.Slice.PartMut.{put_mid}
-use Rattle.crypto_specs.specs.Prelude.{aes_encrypt, block_number, ctr_xor, number_block}
-use Rattle.cipher_blocks.proofs.BlockNumbers.{number_of_block}
 use Rattle.aead_streams.specs.declared.counter_width.CounterWidth.TheVariants.{Whole}
 use Rattle.aead_streams.specs.Counters.{byte_of_stream, stream_block, text_xor}
 use Rattle.aead_streams.proofs.ModeStreams.{aes_keeps_length, ctr_is}

@@ -1,9 +1,7 @@
 -- Marks have causes, and so there are no more of them than failures.
-use Rattle.std.proofs.Common.{◌≡◌, ◌≤◌, ◌<◌, ℕ, ◌+◌, ◌-◌, ◌^◌, Bool, true, false, List, [], ◌∷◌, refl, ap, subst, arith, cond}
+use Rattle.std.proofs.Common.{Bool, List, [], ap, arith, cond, false, refl, subst, true, ℕ, ◌+◌, ◌-◌, ◌<◌, ◌^◌, ◌∷◌, ◌≡◌, ◌≤◌}
+use Rattle.session_host.proofs.Common.{AreBounded, AreRising, Corrupt, Entry, FaultCounts, FaultMark, Hardware, HasFault, IsCaused, Opening, Plain, Storage, is_corrupt, is_hardware, is_storage, last_counts, marked, opening_after}
 use Rattle.psa_status.specs.Causes.{Rose}
-use Rattle.store_model.specs.Prelude.{FaultMark, Plain, Storage, Hardware, Corrupt, FaultCounts, HasFault, IsCaused, last_counts, Entry}
-use Rattle.store_core.specs.Prelude.{Opening, AreRising, opening_after}
-use Rattle.session_host.specs.Bounds.{AreBounded, is_storage, is_hardware, is_corrupt, marked}
 
 abbrev one : Bool → ℕ
 one b = cond b 1 0

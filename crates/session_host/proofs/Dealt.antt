@@ -1,24 +1,8 @@
 -- The numbers of the sessions that are dealt to a worker.
-use Rattle.std.proofs.Common.{◌≡◌, ◌≢◌, ℕ, zero, suc, ◌+◌, ◌-◌, ◌≤◌, ◌<◌, Bool, true, false, List, [], ◌∷◌, ◌++◌, length, get_or, refl, sym, ap, ◌∙◌, subst, arith, cond, length-append, length-set, get_or-set_same, get_or-set_other, set, eq-eqb, ne_eqb, inl, inr, append_assoc, ◌%◌, ◌==◌, All, None, vec_capacity, IfSome, take}
-use Rattle.std.proofs.lemmas.Bool.Decides.{eqb_tells}
-use Rattle.std.proofs.lemmas.List.{append-nil, get_or_push, map-append}
-use Rattle.session_host.specs.declared.session.Session.{Session}
-use Rattle.session_host.specs.declared.worker.Worker.{Worker}
-use Rattle.locked_store.specs.Prelude.{World}
-use Rattle.callers.specs.declared.caller.Caller.{Caller}
-use Rattle.caller_service.specs.Staff.{IsNewCaller}
-use Rattle.script_lang.specs.Prelude.{AreKept}
-use Rattle.script_lang.specs.declared.replies.Replies.{Replies}
-use Rattle.script_lang.specs.declared.replies.ReplyForm.{ReplyForm}
-use Rattle.session_host.specs.Dealing.{AreDealt, AreTaken, HaveOwn, IsFree, IsFrom, dealt}
-use Rattle.std.proofs.lemmas.List.{get_or-map, take_more}
-use Rattle.std.proofs.lemmas.List.Elements.{All-nil, All-push, All-set, All-weaker}
-use Rattle.turn_history.specs.Prelude.{entries_of}
-use Rattle.session_host.specs.Heads.{failures_of, heads, ranks_of}
-use Rattle.session_host.specs.Printed.{AreFirstCalls, AreFirstReplies}
-use Rattle.session_host.specs.Sessions.{AreFirstGiven, HasAnswered, HasMade, KnowsTurns}
+use Rattle.std.proofs.Common.{All, Bool, IfSome, List, None, [], ap, append_assoc, arith, cond, eq-eqb, false, get_or, get_or-set_other, get_or-set_same, inl, inr, length, length-append, length-set, ne_eqb, refl, set, subst, suc, sym, take, true, vec_capacity, zero, ℕ, ◌%◌, ◌++◌, ◌+◌, ◌-◌, ◌<◌, ◌==◌, ◌∙◌, ◌∷◌, ◌≡◌, ◌≢◌, ◌≤◌}
+use Rattle.session_host.proofs.Common.{All-nil, All-push, All-set, All-weaker, AreDealt, AreFirstCalls, AreFirstGiven, AreFirstReplies, AreKept, AreTaken, Caller, HasAnswered, HasMade, HasSeated, HasSeen, HaveOwn, IsFree, IsFrom, IsNewCaller, KnowsTurns, Replies, ReplyForm, Session, Worker, World, dealt, entries_of, eqb_tells, failures_of, get_or-map, get_or_push, heads, map-append, numbers_of, ranks_of, take_more}
+use Rattle.std.proofs.lemmas.List.{append-nil}
 use Rattle.session_host.proofs.Told.{knows_none}
-use Rattle.session_host.specs.Workers.{HasSeated, HasSeen, numbers_of}
 use Rattle.session_host.specs.Workers as working
 
 abbrev AreApart : List ℕ → Type 0

@@ -1,16 +1,8 @@
 -- Reply lines that say the status of a failed device: no more than there are marks.
-use Rattle.std.proofs.Common.{◌≡◌, ◌≤◌, ℕ, zero, suc, ◌+◌, Bool, true, false, List, [], ◌∷◌, refl, sym, ap, ap₂, ◌∙◌, arith, cond, eqb, leb, inl, inr, Option, Some, None, count_by, map, sum_by}
-use Rattle.std.proofs.lemmas.Bool.Decides.{eqb_tells, leb_tells}
-use Rattle.std.proofs.lemmas.List.Sums.{sum_by-append, sum_by-cons}
-use Rattle.psa_status.specs.declared.Status.{Status}
-use Rattle.psa_status.specs.declared.Status.TheVariants.{StorageFailure, HardwareFailure, DataCorrupt}
-use Rattle.callers.specs.Failures.{failure_marked, failure_told}
-use Rattle.store_model.specs.Prelude.{FaultMark, Plain, Storage, Hardware, Corrupt, StorageAccess, is_of_fault, Entry}
-use Rattle.script_lang.specs.Prelude.{ReplyLine}
-use Rattle.session_host.specs.Bounds.{LinesAreBounded, is_corrupt, is_data_corrupt, is_hardware, is_hardware_failure, is_storage, is_storage_failure, marked, saying}
-use Rattle.session_host.specs.Heads.{failure_of, failures_of, failures_to}
 
 -- statuses are told apart as the marks are that they come of
+use Rattle.std.proofs.Common.{Bool, List, None, Option, Some, [], ap, ap₂, arith, cond, count_by, eqb, false, inl, inr, leb, map, refl, suc, sum_by, sym, true, zero, ℕ, ◌+◌, ◌∙◌, ◌∷◌, ◌≡◌, ◌≤◌}
+use Rattle.session_host.proofs.Common.{Corrupt, DataCorrupt, Entry, FaultMark, Hardware, HardwareFailure, LinesAreBounded, Plain, ReplyLine, Status, Storage, StorageAccess, StorageFailure, eqb_tells, failure_marked, failure_of, failure_told, failures_of, failures_to, is_corrupt, is_data_corrupt, is_hardware, is_hardware_failure, is_of_fault, is_storage, is_storage_failure, leb_tells, marked, saying, sum_by-append, sum_by-cons}
 record Agrees (says : Status → Bool) (marks : FaultMark → Bool) : Type 0 where
   plain : marks Plain ≡ false
   others : (status : Status) → is_of_fault status ≡ false → says status ≡ false

@@ -1,9 +1,6 @@
 -- The first so many of a list that grows.
-use Rattle.std.proofs.Common.{◌≡◌, ℕ, ◌+◌, ◌≤◌, List, [], ◌∷◌, ◌++◌, length, refl, sym, ap, ◌∙◌, subst, arith, map, take, length-append, length-take, take_all}
-use Rattle.std.proofs.lemmas.List.{take-append-le}
-use Rattle.script_lang.specs.declared.script.ScriptLine.{ScriptLine}
-use Rattle.script_lang.specs.Prelude.{request_of, AreCalls, Turn, id_given}
-use Rattle.session_host.specs.Printed.{AreFirstCalls}
+use Rattle.std.proofs.Common.{List, [], ap, arith, length, length-append, length-take, map, refl, subst, sym, take, take_all, ℕ, ◌++◌, ◌+◌, ◌∙◌, ◌∷◌, ◌≡◌, ◌≤◌}
+use Rattle.session_host.proofs.Common.{AreCalls, AreFirstCalls, ScriptLine, Turn, id_given, request_of, take-append-le}
 use Rattle.session_host.proofs.History.{calls_length, calls_more}
 
 pub first_whole : {X : Type 0} (n : ℕ) (xs ys : List X) → take n xs ≡ ys → length xs ≡ n → xs ≡ ys

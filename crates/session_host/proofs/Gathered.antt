@@ -1,24 +1,8 @@
 -- From what threads have worked to what sixteen callers have made.
-use Rattle.std.proofs.Common.{◌≡◌, ℕ, zero, suc, ◌+◌, ◌-◌, ◌≤◌, ◌<◌, List, [], ◌∷◌, ◌++◌, cond, flat_map, length, length-append, get_or, refl, sym, ap, ap₂, ◌∙◌, subst, arith, inl, inr, true, All, Option, None, Some, take}
+use Rattle.std.proofs.Common.{All, List, None, Option, Some, [], ap, ap₂, arith, cond, flat_map, get_or, inl, inr, length, length-append, refl, subst, suc, sym, take, true, zero, ℕ, ◌++◌, ◌+◌, ◌-◌, ◌<◌, ◌∙◌, ◌∷◌, ◌≡◌, ◌≤◌}
+use Rattle.session_host.proofs.Common.{AreAllKept, AreCallers, AreDealt, AreFirstCalls, AreKept, AreStaff, AreTaken, Caller, HasMade, HasReplies, HasSeen, HasWorked, HaveKept, HaveMade, HaveOwn, HaveRun, HaveSeen, IsFrom, IsOfSession, IsOurs, IsWithin, KnowsTurns, Replies, ReplyForm, ReplyLine, ScriptLine, Session, Worker, World, all_replies, dealt, entries_of, get_or_default, is_success, sum_by-append, sum_by-cons, text_in}
 use Rattle.std.proofs.lemmas.Grind.{flat_map-append}
-use Rattle.std.proofs.lemmas.List.Sums.{sum_by-append, sum_by-cons}
-use Rattle.std.proofs.lemmas.List.{get_or_default}
-use Rattle.turn_history.specs.Prelude.{entries_of}
-use Rattle.locked_store.specs.Prelude.{World}
-use Rattle.callers.specs.declared.caller.Caller.{Caller}
-use Rattle.script_lang.specs.declared.script.ScriptLine.{ScriptLine}
-use Rattle.script_lang.specs.Prelude.{AreAllKept, AreKept, ReplyLine, is_success, text_in, IsOfSession}
-use Rattle.script_lang.specs.declared.replies.Replies.{Replies}
-use Rattle.script_lang.specs.declared.replies.ReplyForm.{ReplyForm}
-use Rattle.caller_service.specs.Staff.{AreStaff}
-use Rattle.session_host.specs.declared.session.Session.{Session}
-use Rattle.session_host.specs.Printed.{AreFirstCalls}
-use Rattle.session_host.specs.Sessions.{HasMade, HasReplies, IsWithin, KnowsTurns}
 use Rattle.session_host.proofs.Told.{knows_none}
-use Rattle.session_host.specs.declared.worker.Worker.{Worker}
-use Rattle.session_host.specs.Workers.{HasSeen, HasWorked, HaveRun, IsOurs}
-use Rattle.session_host.specs.Dealing.{AreDealt, AreTaken, HaveOwn, IsFrom, dealt}
-use Rattle.session_host.specs.Running.{AreCallers, HaveKept, HaveMade, HaveSeen, all_replies}
 
 -- some element of a list that has one
 pub some_of : {X : Type 0} (xs : List X) → 0 < length xs → X

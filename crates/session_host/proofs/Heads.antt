@@ -1,11 +1,8 @@
 -- What stands for a session's calls in a history that goes on, and the heads of its replies.
-use Rattle.std.proofs.Common.{◌≡◌, ℕ, ◌+◌, eqb, Bool, true, false, List, [], ◌∷◌, ◌++◌, length, refl, sym, ap, ap₂, ◌∙◌, arith, cond, map, eq-eqb}
-use Rattle.std.proofs.lemmas.List.{append-nil, length-map, map-append}
-use Rattle.turn_history.specs.Prelude.{calls_by, StartsWith}
-use Rattle.store_model.specs.Prelude.{Entry}
-use Rattle.locked_store.specs.Prelude.{caller_of}
-use Rattle.script_lang.specs.Prelude.{ReplyLine}
-use Rattle.session_host.specs.Heads.{head_of, heads, of_calls}
+use Rattle.std.proofs.Common.{Bool, List, [], ap, ap₂, arith, cond, eq-eqb, eqb, false, length, map, refl, sym, true, ℕ, ◌++◌, ◌+◌, ◌∙◌, ◌∷◌, ◌≡◌}
+use Rattle.session_host.proofs.Common.{Entry, ReplyLine, StartsWith, caller_of, calls_by, head_of, heads, length-map, map-append}
+use Rattle.std.proofs.lemmas.List.{append-nil}
+use Rattle.session_host.specs.Heads.{of_calls}
 use Rattle.session_host.proofs.History.{last_call, none_after, none_chosen}
 
 module _ {X : Type 0} (at : ℕ → Entry → X) where

@@ -1,14 +1,7 @@
 -- The turns of a session in a history that goes on.
-use Rattle.std.proofs.Common.{◌≡◌, ℕ, suc, ◌+◌, eqb, Bool, true, false, List, [], ◌∷◌, ◌++◌, length, refl, sym, ap, ◌∙◌, arith, cond, map, append_assoc, eq-eqb, ◌==◌, filter}
+use Rattle.std.proofs.Common.{Bool, List, [], ap, append_assoc, arith, cond, eq-eqb, eqb, false, filter, length, map, refl, suc, sym, true, ℕ, ◌++◌, ◌+◌, ◌==◌, ◌∙◌, ◌∷◌, ◌≡◌}
+use Rattle.session_host.proofs.Common.{AreCalls, Entry, ScriptLine, Service, StartsWith, Turn, caller_of, calls-append, calls_by, choose, filter-append, id_given, numbered, outcome_of, printed, replay, request_of, session_turns, turns_from, turns_of}
 use Rattle.std.proofs.lemmas.List.{append-nil}
-use Rattle.std.proofs.lemmas.List.Elements.{filter-append}
-use Rattle.turn_history.specs.Prelude.{choose, calls_by, StartsWith}
-use Rattle.turn_history.proofs.Lists.{calls-append}
-use Rattle.store_model.specs.Prelude.{Service, Entry, outcome_of, replay}
-use Rattle.locked_store.specs.Prelude.{caller_of}
-use Rattle.script_lang.specs.declared.script.ScriptLine.{ScriptLine}
-use Rattle.script_lang.specs.Prelude.{request_of, Turn, turns_from, turns_of, AreCalls, id_given, numbered, printed}
-use Rattle.session_host.specs.Sessions.{session_turns}
 
 abbrev turn_at : ℕ → Service → Entry → Turn
 turn_at rank service e = record { entry = e; rank = rank; reply = (outcome_of service e).reply }

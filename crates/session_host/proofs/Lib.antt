@@ -1,3 +1,4 @@
+mod Common
 mod Gathered
 mod Own
 mod Ran

@@ -1,27 +1,10 @@
 -- Callers that have seen what others of their thread had.
-use Rattle.std.proofs.Common.{◌≡◌, ℕ, ◌<◌, List, [], ◌∷◌, length, get_or, set, refl, sym, ap, ap₂, ◌∙◌, subst, arith, zero, suc, length-set, get_or-set_same, get_or-set_other}
-use Rattle.turn_history.specs.Prelude.{entries_of, calls_by, StartsWith, joined}
-use Rattle.locked_store.specs.Prelude.{caller_of, World}
-use Rattle.turn_history.specs.declared.pass.View.{View}
-use Rattle.turn_history.proofs.Lists.{begins_itself}
-use Rattle.store_model.specs.Prelude.{Entry}
-use Rattle.store_core.specs.declared.store.Opened.{Opened}
+use Rattle.std.proofs.Common.{List, [], ap, ap₂, arith, get_or, get_or-set_other, get_or-set_same, length, length-set, refl, set, subst, suc, sym, zero, ℕ, ◌<◌, ◌∙◌, ◌∷◌, ◌≡◌}
+use Rattle.session_host.proofs.Common.{AreFirstCalls, AreFirstGiven, AreFirstReplies, AreKept, Caller, ChangesAt, Entry, HasAnswered, HasLearned, IsReady, KnowsTurns, Opened, Replies, ScriptLine, Session, StartsWith, View, World, begins_itself, caller_of, calls_by, entries_of, failure_marked, failures_of, heads, joined, lines_of, ranks_of, seen_begins}
 use Rattle.callers.specs.Parts.{SameButPass}
-use Rattle.callers.proofs.Journeys.{seen_begins}
 use Rattle.std.specs.Global.{Vec}
-use Rattle.script_lang.specs.Prelude.{AreKept, lines_of}
-use Rattle.script_lang.specs.declared.replies.Replies.{Replies}
-use Rattle.callers.specs.Ready.{IsReady}
-use Rattle.callers.specs.declared.caller.Caller.{Caller}
-use Rattle.script_lang.specs.declared.script.ScriptLine.{ScriptLine}
-use Rattle.session_host.specs.declared.session.Session.{Session}
-use Rattle.callers.specs.Failures.{failure_marked}
-use Rattle.session_host.specs.Heads.{failures_of, heads, ranks_of}
-use Rattle.session_host.specs.Printed.{AreFirstCalls, AreFirstReplies}
-use Rattle.session_host.specs.Sessions.{AreFirstGiven, HasAnswered, KnowsTurns}
 use Rattle.session_host.proofs.Heads.{same_later}
 use Rattle.session_host.proofs.Told.{knows_later, own_calls}
-use Rattle.session_host.specs.Workers.{ChangesAt, HasLearned}
 
 module _ {D A C : Type 0} (w : World D A C) where
   -- A CALLER THAT HAS SEEN MORE

@@ -1,19 +1,11 @@
 -- What is noted of an answer, as the reply that it is.
-use Rattle.std.proofs.Common.{◌≡◌, ◌∙◌, ℕ, ◌+◌, List, [], ◌++◌, length, take, drop, min, replicate, refl, sym, ap, subst, arith, append_assoc, length-append, IfOk, Result, Ok, Err, ◌-◌}
-use Rattle.std.specs.Int.{w32, w64, to_be_bytes}
+use Rattle.std.proofs.Common.{Err, IfOk, List, Ok, Result, [], ap, append_assoc, arith, drop, length, length-append, min, refl, replicate, subst, sym, take, ℕ, ◌++◌, ◌+◌, ◌-◌, ◌∙◌, ◌≡◌}
+use Rattle.session_host.proofs.Common.{Answer, Answers, Fills, Memory, Notes, Output, Replies, Reply, Status, Success, Tells, attribute_bytes, buffer_bytes, failure_in, id_given, output_bytes, to_be_bytes}
+use Rattle.std.specs.Int.{w32, w64}
 use Rattle.std.proofs.Math.Seq.{take-append_seam}
-use Rattle.psa_status.specs.declared.Memory.{Memory}
-use Rattle.psa_status.specs.declared.Status.{Status}
-use Rattle.psa_status.specs.declared.Status.TheVariants.{Success}
 use Rattle.key_attributes.specs.declared.Attributes.{Attributes}
 use Rattle.key_attributes.specs.declared.KeyId.{KeyId}
-use Rattle.service_calls.specs.declared.output.Output.{Output}
 use Rattle.service_calls.specs.declared.output.Output.TheVariants.{Done, Identifier, Description, Bytes, Number}
-use Rattle.store_model.specs.Prelude.{Reply, attribute_bytes, buffer_bytes, output_bytes}
-use Rattle.script_lang.specs.Prelude.{id_given}
-use Rattle.script_lang.specs.declared.replies.Replies.{Replies}
-use Rattle.callers.specs.Failures.{failure_in}
-use Rattle.session_host.specs.Replying.{Answer, Answers, Fills, Notes, Tells}
 
 -- a line was noted of this answer, and its identifier handed on
 pub noted : (r : Result ℕ Memory) (old new : Replies) (rank : ℕ) (a : Answer) (answer : Result Output Status) (out : List ℕ) → IfOk r (λ given. Notes old new rank a) → IfOk r (λ given. given ≡ a.id) → Tells a (failure_in answer) →

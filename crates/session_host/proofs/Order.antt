@@ -1,13 +1,7 @@
 -- Calls in the order of their lines.
-use Rattle.std.proofs.Common.{◌≡◌, ℕ, ◌+◌, ◌≤◌, eqb, Bool, true, false, List, [], ◌∷◌, ◌++◌, length, refl, sym, ap, subst, arith, cond, eq-eqb, inl, inr}
+use Rattle.std.proofs.Common.{Bool, List, [], ap, arith, cond, eq-eqb, eqb, false, inl, inr, length, refl, subst, sym, true, ℕ, ◌++◌, ◌+◌, ◌∷◌, ◌≡◌, ◌≤◌}
+use Rattle.session_host.proofs.Common.{Entry, IsInLineOrder, IsWithin, ScriptLine, StartsWith, caller_of, calls_by, choose, lines_of}
 use Rattle.std.proofs.lemmas.List.{append-nil}
-use Rattle.turn_history.specs.Prelude.{choose, calls_by, StartsWith}
-use Rattle.store_model.specs.Prelude.{Entry}
-use Rattle.locked_store.specs.Prelude.{caller_of}
-use Rattle.script_lang.specs.declared.script.ScriptLine.{ScriptLine}
-use Rattle.script_lang.specs.Prelude.{lines_of}
-use Rattle.session_host.specs.Printed.{IsInLineOrder}
-use Rattle.session_host.specs.Sessions.{IsWithin}
 
 -- what is within a list is within a longer one
 

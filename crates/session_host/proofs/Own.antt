@@ -1,11 +1,7 @@
 -- The replies of one session among those of all.
-use Rattle.std.proofs.Common.{◌≡◌, ◌≢◌, ℕ, zero, suc, ◌+◌, ◌≤◌, ◌<◌, List, [], ◌∷◌, ◌++◌, length, get_or, refl, sym, ap, ap₂, ◌∙◌, arith, cond, eq-eqb, ne_eqb, ◌==◌, map}
+use Rattle.std.proofs.Common.{List, [], ap, ap₂, arith, cond, eq-eqb, get_or, length, map, ne_eqb, refl, suc, sym, zero, ℕ, ◌++◌, ◌+◌, ◌<◌, ◌==◌, ◌∙◌, ◌∷◌, ◌≡◌, ◌≢◌, ◌≤◌}
+use Rattle.session_host.proofs.Common.{ReplyLine, all_replies, filter-append, head_of, heads, replies_of}
 use Rattle.std.proofs.lemmas.List.{append-nil}
-use Rattle.std.proofs.lemmas.List.Elements.{filter-append}
-use Rattle.script_lang.specs.Prelude.{ReplyLine}
-use Rattle.session_host.specs.Heads.{head_of, heads}
-use Rattle.session_host.specs.Printed.{replies_of}
-use Rattle.session_host.specs.Running.{all_replies}
 
 -- lines with a session's heads are all its own, and none is another's
 

@@ -1,20 +1,12 @@
 -- What is known of a run, from its opening, its callers and its close.
-use Rattle.std.proofs.Common.{◌≡◌, ℕ, List, subst, arith, All, is_some, take}
+use Rattle.std.proofs.Common.{All, List, arith, is_some, subst, take, ℕ, ◌≡◌}
+use Rattle.session_host.proofs.Common.{AreBounded, Caller, FaultCounts, HaveAnswered, HaveMade, HaveSeen, IsBroken, IsOfSession, IsOpening, IsRun, Opened, Opening, ReplyLine, ScriptLine, World, all_replies, opening_of, world_of}
 use Rattle.atomic_table.specs.Seated.{TableId}
 use Rattle.policy_rules.specs.declared.narrowing.Label.{Label}
-use Rattle.store_model.specs.Prelude.{FaultCounts}
-use Rattle.store_core.specs.Prelude.{Opening, opening_of}
-use Rattle.store_core.specs.declared.store.Opened.{Opened}
-use Rattle.locked_store.specs.Prelude.{World, world_of}
-use Rattle.callers.specs.declared.caller.Caller.{Caller}
 use Rattle.caller_service.specs.Closing.{IsClosedOver}
-use Rattle.script_lang.specs.declared.script.ScriptLine.{ScriptLine}
-use Rattle.script_lang.specs.Prelude.{ReplyLine, IsOfSession}
-use Rattle.session_host.specs.Bounds.{AreBounded}
 use Rattle.session_host.proofs.Bounds.{bounded}
 use Rattle.session_host.proofs.FaultLines.{bounded_lines}
-use Rattle.session_host.specs.Running.{HaveAnswered, HaveMade, HaveSeen, all_replies}
-use Rattle.session_host.specs.Runs.{IsAnswered, IsBroken, IsOpening, IsRun}
+use Rattle.session_host.specs.Runs.{IsAnswered}
 use Rattle.session_host.proofs.Gathered.{some_of}
 use Rattle.session_host.proofs.Whole.{all_calls, failures_are, first_calls, heads_are, line_order, replies_are, replies_so_far, whole_calls}
 use Rattle.disk_face.specs.declared.Disk as Disk

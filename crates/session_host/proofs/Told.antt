@@ -1,28 +1,7 @@
 -- What callers and sessions know, as one more line is run.
-use Rattle.std.proofs.Common.{◌≡◌, ◌≢◌, ℕ, ◌+◌, ◌≤◌, List, [], ◌∷◌, ◌++◌, length, refl, sym, ap, ap₂, ◌∙◌, subst, arith, map, eq-eqb, ne_eqb, length-append, inl, inr, ◌==◌, Option, Result}
-use Rattle.std.proofs.lemmas.Bool.Decides.{leb_tells}
-use Rattle.std.proofs.lemmas.List.{length-map, map-append}
-use Rattle.turn_history.specs.Prelude.{entries_of, calls_by, StartsWith}
-use Rattle.turn_history.proofs.Lists.{begins_itself, two_beginnings}
-use Rattle.store_model.specs.Prelude.{Reply, Service, Request, Entry, outcome_of, replay}
-use Rattle.locked_store.specs.Prelude.{caller_of, World}
-use Rattle.psa_status.specs.declared.Status.{Status}
-use Rattle.service_calls.specs.declared.output.Output.{Output}
-use Rattle.turn_history.specs.declared.pass.View.{View}
-use Rattle.store_core.specs.declared.store.Opened.{Opened}
-use Rattle.callers.specs.Called.{IsAnswered, IsCalled, IsToldTo, Starts}
-use Rattle.callers.specs.Failures.{failure_in, failure_marked}
-use Rattle.callers.specs.Ready.{IsReady}
-use Rattle.callers.specs.declared.caller.Caller.{Caller}
-use Rattle.callers.proofs.Journeys.{begins_through, told_front}
-use Rattle.script_lang.specs.declared.script.ScriptLine.{ScriptLine}
-use Rattle.script_lang.specs.Prelude.{ReplyLine, next_line, request_of, lines_of, Turn, id_given, numbered, printed}
-use Rattle.script_lang.specs.declared.replies.Replies.{Replies}
-use Rattle.session_host.specs.declared.session.Session.{Session}
-use Rattle.session_host.specs.Heads.{failure_of, failures_of, heads, of_calls, ranks_of}
-use Rattle.session_host.specs.Printed.{AreFirstCalls, AreFirstReplies}
-use Rattle.session_host.specs.Replying.{Answer, Answers, Fills, Notes, Tells}
-use Rattle.session_host.specs.Sessions.{AreFirstGiven, ElementTells, GoesFurther, HasAnswered, HasMade, IsMade, KnowsTurns, session_turns}
+use Rattle.std.proofs.Common.{List, Option, Result, [], ap, ap₂, arith, eq-eqb, inl, inr, length, length-append, map, ne_eqb, refl, subst, sym, ℕ, ◌++◌, ◌+◌, ◌==◌, ◌∙◌, ◌∷◌, ◌≡◌, ◌≢◌, ◌≤◌}
+use Rattle.session_host.proofs.Common.{Answer, Answers, AreFirstCalls, AreFirstGiven, AreFirstReplies, Caller, ElementTells, Entry, Fills, GoesFurther, HasAnswered, HasMade, IsAnswered, IsCalled, IsMade, IsReady, IsToldTo, KnowsTurns, Notes, Opened, Output, Replies, Reply, ReplyLine, Request, ScriptLine, Service, Session, Starts, StartsWith, Status, Tells, Turn, View, World, begins_itself, begins_through, caller_of, calls_by, entries_of, failure_in, failure_marked, failure_of, failures_of, heads, id_given, leb_tells, length-map, lines_of, map-append, next_line, numbered, outcome_of, printed, ranks_of, replay, request_of, session_turns, told_front, two_beginnings}
+use Rattle.session_host.specs.Heads.{of_calls}
 use Rattle.session_host.proofs.Fronts.{calls_next, calls_still, first_more, first_still, first_whole}
 use Rattle.session_host.proofs.Heads.{one_more_head, one_more_of}
 use Rattle.session_host.proofs.History.{as_many_turns, between, first_none, kept_own, last_call, left_out, numbered_length, numbered_more, one_more_turn, same_turns}

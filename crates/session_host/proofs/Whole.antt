@@ -1,26 +1,12 @@
 -- From what callers know, and from what a closed service says, to the one order of a script's calls.
-use Rattle.std.proofs.Common.{◌≡◌, ℕ, suc, ◌+◌, ◌-◌, ◌≤◌, ◌<◌, List, [], ◌∷◌, ◌++◌, length, get_or, refl, sym, ap, ◌∙◌, subst, arith, append_assoc, inl, inr, ◌⊎◌, eqb, true, false, cond, Bool, take_all, All, flat_map, map, take}
-use Rattle.std.proofs.lemmas.Bool.Decides.{leb_tells, eqb_tells}
-use Rattle.std.proofs.lemmas.List.{append-nil, map-append}
-use Rattle.std.proofs.lemmas.List.Elements.{All-head, All-nil, All-tail}
-use Rattle.turn_history.specs.Prelude.{choose, entries_of, calls_by, StartsWith}
-use Rattle.turn_history.proofs.Lists.{begins_itself}
-use Rattle.store_model.specs.Prelude.{Service, Entry}
-use Rattle.locked_store.specs.Prelude.{caller_of, World}
-use Rattle.callers.specs.Called.{IsToldTo, Starts}
-use Rattle.callers.specs.Failures.{failure_marked}
-use Rattle.callers.specs.declared.caller.Caller.{Caller}
-use Rattle.script_lang.specs.declared.script.ScriptLine.{ScriptLine}
-use Rattle.script_lang.specs.Prelude.{ReplyLine, IsOfSession, lines_of, AreCalls, Turn, numbered, replies_to, turns_from, turns_of}
-use Rattle.session_host.specs.Heads.{failure_of, failures_of, failures_to, head_of, heads, heads_to, ranks_of}
-use Rattle.session_host.specs.Printed.{AreFirstCalls, AreFirstReplies, AreReplies, AreRepliesSoFar, IsInLineOrder, replies_of}
-use Rattle.session_host.specs.Sessions.{ElementTells, HasMade, IsWithin, KnowsTurns, session_turns}
+use Rattle.std.proofs.Common.{All, Bool, List, [], ap, append_assoc, arith, cond, eqb, false, flat_map, get_or, inl, inr, length, map, refl, subst, suc, sym, take, take_all, true, ℕ, ◌++◌, ◌+◌, ◌-◌, ◌<◌, ◌∙◌, ◌∷◌, ◌≡◌, ◌≤◌, ◌⊎◌}
+use Rattle.session_host.proofs.Common.{All-head, All-nil, All-tail, AreCalls, AreFirstCalls, AreFirstReplies, AreReplies, AreRepliesSoFar, Caller, ElementTells, Entry, HasMade, HaveAnswered, HaveSeen, IsInLineOrder, IsOfSession, IsToldTo, IsWithin, KnowsTurns, ReplyLine, ScriptLine, Service, Starts, StartsWith, Turn, World, all_replies, begins_itself, caller_of, calls_by, choose, entries_of, eqb_tells, failure_marked, failure_of, failures_of, failures_to, head_of, heads, heads_to, leb_tells, lines_of, map-append, numbered, ranks_of, replies_of, replies_to, session_turns, turns_from, turns_of}
+use Rattle.std.proofs.lemmas.List.{append-nil}
 use Rattle.session_host.proofs.Fronts.{first_whole}
 use Rattle.session_host.proofs.History.{as_many_turns, chosen_length}
 use Rattle.session_host.proofs.Heads.{same_later}
 use Rattle.session_host.proofs.Order.{in_line_order, within_whole}
 use Rattle.session_host.proofs.Told.{knows_later, knows_none, own_calls}
-use Rattle.session_host.specs.Running.{HaveAnswered, HaveSeen, all_replies}
 use Rattle.session_host.proofs.Own.{HaveHeads, own_replies}
 
 -- SESSIONS THAT THERE ARE, AND OTHERS

@@ -1,19 +1,8 @@
 -- The sessions of a thread, as a line is run.
-use Rattle.std.proofs.Common.{◌≡◌, ◌≢◌, ℕ, suc, ◌+◌, ◌-◌, ◌^◌, ◌≤◌, ◌<◌, ◌⊎◌, Bool, true, false, cond, List, [], ◌∷◌, ◌++◌, length, get_or, set, refl, sym, ap, ap₂, ◌∙◌, subst, arith, map, take, inl, inr, length-append, length-set, get_or-set_same, get_or-set_other, All, IfOk, IfSome, MatchResult, Option, None, Some, Result, Ok, Err, filter, ◌==◌}
-use Rattle.std.proofs.lemmas.Bool.Decides.{eqb_tells}
-use Rattle.std.proofs.lemmas.List.{get_or_append_left, get_or_default, get_or_push, take_more}
-use Rattle.psa_status.specs.declared.Memory.{Memory}
-use Rattle.turn_history.specs.Prelude.{entries_of, StartsWith}
-use Rattle.locked_store.specs.Prelude.{World}
-use Rattle.script_lang.specs.Prelude.{AreKept, ReplyLine}
-use Rattle.script_lang.specs.declared.replies.ReplyForm.{ReplyForm}
-use Rattle.script_lang.specs.declared.script.ScriptLine.{ScriptLine}
-use Rattle.session_host.specs.declared.session.Session.{Session}
-use Rattle.session_host.specs.Sessions.{GoesFurther, HasAnswered, HasMade, IsWithin}
+use Rattle.std.proofs.Common.{All, Bool, Err, IfOk, IfSome, List, MatchResult, None, Ok, Option, Result, Some, [], ap, ap₂, arith, cond, false, filter, get_or, get_or-set_other, get_or-set_same, inl, inr, length, length-append, length-set, map, refl, set, subst, suc, sym, take, true, ℕ, ◌++◌, ◌+◌, ◌-◌, ◌<◌, ◌==◌, ◌^◌, ◌∙◌, ◌∷◌, ◌≡◌, ◌≢◌, ◌≤◌, ◌⊎◌}
+use Rattle.session_host.proofs.Common.{AreApart, AreKept, ChangesAt, GoesFurther, HasAnswered, HasLearned, HasMade, HasSeen, HasWorked, HaveForm, HaveRun, IsOurs, IsWithin, Memory, ReplyForm, ReplyLine, ScriptLine, Session, StartsWith, Worker, World, entries_of, eqb_tells, get_or_append_left, get_or_default, get_or_push, numbers_of, take_more}
 use Rattle.session_host.proofs.Order.{within_more, within_whole}
 use Rattle.session_host.proofs.Told.{answered_other}
-use Rattle.session_host.specs.declared.worker.Worker.{Worker}
-use Rattle.session_host.specs.Workers.{AreApart, ChangesAt, HasLearned, HasSeen, HasWorked, HaveForm, HaveRun, IsOurs, numbers_of}
 use Rattle.session_host.proofs.Meeting.{item_of, learned}
 
 map_same : {X : Type 0} (f : X → ℕ) (xs ys : List X) → length ys ≡ length xs → ((k : ℕ) (d : X) → k < length xs → f (get_or ys k d) ≡ f (get_or xs k d)) → map f ys ≡ map f xs

@@ -1,14 +1,8 @@
 -- What a cipher writes to a buffer.
-use Rattle.std.proofs.Common.{◌≡◌, ℕ, ◌+◌, ◌-◌, ◌≤◌, List, [], ◌++◌, length, take, drop, replicate, refl, ap, sym, ◌∙◌, subst, arith}
-use Rattle.std.specs.Prelude.{Option, Some, None, Result, Ok, Err}
+use Rattle.std.proofs.Common.{Err, List, None, Ok, Option, Result, Some, [], ap, arith, drop, length, refl, replicate, subst, sym, take, ℕ, ◌++◌, ◌+◌, ◌-◌, ◌∙◌, ◌≡◌, ◌≤◌}
+use Rattle.single_part.proofs.Common.{AnswersOrSpoils, Mode, Reply, Status, buffer_after, buffer_bytes, deciphered, decrypt_rows, decrypted_reply, enciphered, enciphered_length, encrypt_rows, first_row, given, iv_length, plain_or_zeros, refusal, reply_unless, take-append_seam, unless, unless-ok}
 use Rattle.std.proofs.lemmas.List.{append-nil, length-take, length-drop, length-append, drop_all, take-take}
 use Rattle.std.proofs.lemmas.Slice.{drop-append-drop}
-use Rattle.std.proofs.Math.Seq.{take-append_seam}
-use Rattle.psa_status.specs.declared.Status.{Status}
-use Rattle.psa_status.specs.Rows.{first_row, unless}
-use Rattle.psa_status.proofs.Rows.{unless-ok}
-use Rattle.store_model.specs.Prelude.{Reply, buffer_after, buffer_bytes, reply_unless, refusal, given, Mode, iv_length, enciphered, enciphered_length, encrypt_rows, decrypt_rows, deciphered, plain_or_zeros, decrypted_reply}
-use Rattle.service_calls.specs.Answers.{AnswersOrSpoils}
 
 -- a refusal of the table
 pub refused_or_spoilt : (o : Option Status) (reply : Reply) (r : Result ℕ Status) (s t : Status) → r ≡ Err s → s ≡ t → o ≡ Some t → AnswersOrSpoils r (reply_unless o reply)

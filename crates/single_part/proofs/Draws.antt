@@ -1,17 +1,8 @@
 -- What calls with a key draw.
-use Rattle.std.proofs.Common.{◌≡◌, ◌≤◌, ◌+◌, ℕ, Bool, true, List, ◌++◌, length, refl, arith}
-use Rattle.std.specs.Prelude.{Option, Some, None}
+use Rattle.std.proofs.Common.{Bool, List, None, Option, Some, arith, length, refl, true, ℕ, ◌++◌, ◌+◌, ◌≡◌, ◌≤◌}
+use Rattle.single_part.proofs.Common.{AeadDecrypt, AeadEncrypt, CbcNoPadding, CbcPkcs7, Cipher, CipherDecrypt, CipherEncrypt, Class, Computed, Ctr, DrawsAVector, DrawsOnSuccess, EcbNoPadding, Export, Key, MacCompute, MacVerify, Mode, RandomStream, Reply, Status, Success, bytes_of, cipher_usage, computed_unless, drawn_from, enciphered, encrypt_rows, first_row, given, is_ctr, iv_length, mode_of, replies, use_rows, words_used}
 use Rattle.std.specs.FinMap as map
-use Rattle.psa_status.specs.declared.Status.{Status}
-use Rattle.psa_status.specs.declared.Status.TheVariants.{Success}
-use Rattle.psa_status.specs.Rows.{first_row}
-use Rattle.alg_encoding.specs.declared.table.Class.{Class}
-use Rattle.alg_encoding.specs.declared.table.Class.TheVariants.{Cipher}
-use Rattle.random_streams.specs.RandomWords.{RandomStream, drawn_from, words_used}
-use Rattle.store_model.specs.Prelude.{Reply, Ctr, CbcNoPadding, CbcPkcs7, EcbNoPadding, Mode, encrypt_rows, enciphered, is_ctr, iv_length, mode_of, bytes_of, Computed, computed_unless, given, replies, cipher_usage, use_rows, Key}
 use Rattle.store_model.proofs.Tables.{refused_by}
-use Rattle.service_calls.specs.declared.store_calls.KeyedCall.TheVariants.{Export, MacCompute, MacVerify, CipherEncrypt, CipherDecrypt, AeadEncrypt, AeadDecrypt}
-use Rattle.single_part.specs.Laws.{DrawsAVector, DrawsOnSuccess}
 
 -- nothing is drawn from a stream
 pub draws_none : (stream : RandomStream) → stream ≡ drawn_from stream 0

@@ -1,9 +1,7 @@
 -- Which key a call in one part reads.
-use Rattle.std.proofs.Common.{refl}
-use Rattle.service_calls.specs.declared.store_calls.KeyedCall.TheVariants.{Export, MacCompute, MacVerify, CipherEncrypt, CipherDecrypt, AeadEncrypt, AeadDecrypt}
-use Rattle.service_calls.specs.declared.store_calls.HashCall.TheVariants.{Compute, Compare}
-use Rattle.single_part.specs.Laws.{HashCallsRead, KeyedCallsRead}
 
+use Rattle.std.proofs.Common.{refl}
+use Rattle.single_part.proofs.Common.{AeadDecrypt, AeadEncrypt, CipherDecrypt, CipherEncrypt, Compare, Compute, Export, HashCallsRead, KeyedCallsRead, MacCompute, MacVerify}
 pub keyed : KeyedCallsRead
 keyed service caller Export id room = (refl, refl)
 keyed service caller (MacCompute alg input) id room = (refl, refl)

@@ -1,3 +1,4 @@
+mod Common
 mod Ciphering
 mod Paddings
 mod Replies

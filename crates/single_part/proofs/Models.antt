@@ -1,15 +1,7 @@
 -- Calls in one part are the model's.
-use Rattle.std.proofs.Common.{◌≡◌, ℕ, true, false, refl, ap}
-use Rattle.std.specs.Prelude.{Option}
+use Rattle.std.proofs.Common.{Option, ap, false, refl, true, ℕ, ◌≡◌}
+use Rattle.single_part.proofs.Common.{AeadDecrypt, AeadEncrypt, CipherDecrypt, CipherEncrypt, Compare, Compute, Export, HashCallsAreTheModels, KeyedCall, KeyedCallsAreTheModels, Mac, MacCompute, MacVerify, Random, Status, Store, bytes_of, cipher_usage, computed_by, computed_unless, mac_usage, with_computed}
 use Rattle.std.specs.FinMap as map
-use Rattle.psa_status.specs.declared.Status.{Status}
-use Rattle.store_model.specs.Prelude.{Store, Random, bytes_of, computed_unless, with_computed, cipher_usage, mac_usage}
-use Rattle.alg_encoding.specs.declared.table.Class.TheVariants.{Mac}
-use Rattle.service_calls.specs.declared.store_calls.KeyedCall.{KeyedCall}
-use Rattle.service_calls.specs.declared.store_calls.KeyedCall.TheVariants.{Export, MacCompute, MacVerify, CipherEncrypt, CipherDecrypt, AeadEncrypt, AeadDecrypt}
-use Rattle.service_calls.specs.declared.store_calls.HashCall.TheVariants.{Compute, Compare}
-use Rattle.single_part.specs.Keyed.{computed_by}
-use Rattle.single_part.specs.Laws.{HashCallsAreTheModels, KeyedCallsAreTheModels}
 use Rattle.single_part.proofs.Uses.{cipher_use, export_is, local_use}
 
 -- where the refusals are those of the use

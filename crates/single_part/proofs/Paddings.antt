@@ -1,9 +1,7 @@
 -- PKCS#7 padding of a text of several blocks.
-use Rattle.std.proofs.Common.{◌≡◌, ℕ, ◌+◌, ◌-◌, ◌%◌, List, ◌++◌, length, take, replicate, sym, ap, ap₂, ◌∙◌}
-use Rattle.std.specs.Prelude.{Some, None}
+use Rattle.std.proofs.Common.{List, None, Some, ap, ap₂, length, replicate, sym, take, ℕ, ◌%◌, ◌++◌, ◌+◌, ◌-◌, ◌∙◌, ◌≡◌}
+use Rattle.single_part.proofs.Common.{pkcs7_padded, pkcs7_unpadded, take-append-add}
 use Rattle.std.specs.Option.{option_map}
-use Rattle.std.proofs.Math.Seq.{take-append-add}
-use Rattle.crypto_specs.specs.Prelude.{pkcs7_padded, pkcs7_unpadded}
 use Rattle.cipher_modes.proofs.PaddedTexts.{unpadded_behind}
 
 -- the text and its padding, filled in one after the other

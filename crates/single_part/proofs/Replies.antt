@@ -1,11 +1,6 @@
 -- What a call with an output buffer answers, by its table.
-use Rattle.std.proofs.Common.{◌≡◌, ℕ, List, length, refl, ap, sym, ◌∙◌, subst}
-use Rattle.std.specs.Prelude.{Option, Some, None, Result, Ok, Err, IfOk}
-use Rattle.std.specs.Result.{result_err}
-use Rattle.psa_status.specs.declared.Status.{Status}
-use Rattle.random_streams.specs.RandomWords.{RandomStream, drawn_from}
-use Rattle.service_calls.specs.Answers.{AnswersLength}
-use Rattle.store_model.specs.Prelude.{Reply, buffer_after, given, computed_unless, reply_unless, Computed}
+use Rattle.std.proofs.Common.{Err, IfOk, List, None, Ok, Option, Result, Some, ap, length, refl, subst, sym, ℕ, ◌∙◌, ◌≡◌}
+use Rattle.single_part.proofs.Common.{AnswersLength, Computed, RandomStream, Reply, Status, buffer_after, computed_unless, drawn_from, given, reply_unless, result_err}
 use Rattle.single_part.proofs.Draws.{draws_none}
 
 -- the length of the bytes, unless a row holds

@@ -1,16 +1,9 @@
 -- The refusals of a key's use, on a key that the secure element doesn't hold or doesn't compute with.
-use Rattle.std.proofs.Common.{◌≡◌, ℕ, Bool, true, false, length, cond, refl}
-use Rattle.std.specs.Prelude.{◌==◌, bit_and, Option, Some, None, if◌then◌else◌}
-use Rattle.psa_status.specs.declared.Status.{Status}
-use Rattle.psa_status.specs.declared.Status.TheVariants.{NotPermitted, NotSupported}
-use Rattle.psa_status.specs.Rows.{first_row}
-use Rattle.alg_encoding.specs.declared.table.Class.{Class}
-use Rattle.alg_encoding.specs.declared.table.Class.TheVariants.{Cipher}
-use Rattle.store_model.specs.Prelude.{Key, is_opaque, is_opaque_key, Reply, Ctr, CbcNoPadding, CbcPkcs7, EcbNoPadding, is_ctr, mode_of, bytes_of, export_reply, computed_unless, given, replies, reply_unless, room_rows, use_rows}
+use Rattle.std.proofs.Common.{Bool, None, Option, Some, bit_and, cond, false, if◌then◌else◌, length, refl, true, ℕ, ◌==◌, ◌≡◌}
+use Rattle.single_part.proofs.Common.{CbcNoPadding, CbcPkcs7, Cipher, Class, Ctr, EcbNoPadding, Key, NotPermitted, NotSupported, Reply, Status, bytes_of, computed_unless, export_reply, exported_reply, first_row, given, is_ctr, is_opaque, is_opaque_key, mode_of, replies, reply_unless, room_rows, use_rows}
 use Rattle.key_policy.specs.Permissions.{export_refusal}
 use Rattle.key_policy.proofs.Devices.{local_alike}
 use Rattle.secure_element_calls.specs.Calls.{ctr}
-use Rattle.single_part.specs.Keyed.{exported_reply}
 
 -- a key that the element doesn't hold
 pub local_use : (on_device : Bool) (class : Class) (usage alg : ℕ) (found : Option Key) → is_opaque_key found ≡ false →

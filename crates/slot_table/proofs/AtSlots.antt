@@ -1,12 +1,8 @@
 -- What stands at the slots of a table, for this crate and those above it.
-use Rattle.std.proofs.Common.{◌≡◌, ◌≢◌, ◌<◌, ℕ, ◌-◌, ◌==◌, Bool, true, false, ◌&&◌, List, length, set, replicate, refl, sym, ap, ◌∙◌, ⊎_elim, arith, eqb-true, cond, find, Some, [], ◌∷◌}
-use Rattle.std.proofs.lemmas.List.{get_or-set_same, get_or-set_other, get_or_past, take_at}
-use Rattle.std.proofs.lemmas.Bool.{cases_eq, cases_lt, false≢true}
-use Rattle.slot_states.specs.declared.SlotState.{SlotState}
-use Rattle.slot_states.specs.declared.SlotState.TheVariants.{Empty, Filling, Full, Pending}
+use Rattle.std.proofs.Common.{Bool, List, Some, [], ap, arith, cond, eqb-true, false, find, length, refl, replicate, set, sym, true, ℕ, ⊎_elim, ◌&&◌, ◌-◌, ◌<◌, ◌==◌, ◌∙◌, ◌∷◌, ◌≡◌, ◌≢◌}
+use Rattle.slot_table.proofs.Common.{Empty, Filling, Full, IsEmptyAt, IsLawful, IsNext, NoneEmpty, Pending, Slot, SlotState, Table, buffer_of, bytes_of, cases_eq, cases_lt, empty_slot, false≢true, get_or_past, holds_key, is_empty_state, is_full, is_idle, slot_at}
+use Rattle.std.proofs.lemmas.List.{get_or-set_same, get_or-set_other, take_at}
 use Rattle.key_attributes.specs.Checks.{persistence}
-use Rattle.secret_bytes.specs.Buffer.{bytes_of, buffer_of}
-use Rattle.slot_table.specs.Slots.{Slot, Table, slot_at, empty_slot, is_empty_state, is_full, holds_key, is_idle, IsEmptyAt, NoneEmpty, IsNext, IsLawful}
 
 -- what holds of the new slot and of each other one holds of each slot after the change
 pub at_each : (P : ℕ → Slot → Type 0) (slots : List Slot) (i : ℕ) (s : Slot) → i < length slots → P i s → ((k : ℕ) → k ≢ i → P k (slot_at slots k)) → (k : ℕ) → P k (slot_at (set slots i s) k)

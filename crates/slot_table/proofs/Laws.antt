@@ -1,15 +1,8 @@
 -- What keeps the law of a table.
-use Rattle.std.proofs.Common.{◌≡◌, ◌≢◌, ◌≤◌, ◌<◌, ℕ, ◌+◌, ◌-◌, ◌==◌, Bool, true, false, cond, ◌&&◌, List, [], ◌∷◌, ◌++◌, length, set, replicate, refl, sym, ap, ◌∙◌, ⊎_elim, arith, rules, add-zero, zero, suc, find, Option, Some, None, is_some, MatchOption, inl, inr}
-use Rattle.std.specs.Prelude.{Option, Some, None, is_some}
-use Rattle.std.proofs.lemmas.List.{length-replicate, length-set, get_or_past}
-use Rattle.std.proofs.lemmas.Bool.{cases_eq, false≢true}
-use Rattle.std.proofs.lemmas.Bool.Decides.{nat_tests}
-use Rattle.slot_states.specs.declared.SlotState.{SlotState}
-use Rattle.slot_states.specs.declared.SlotState.TheVariants.{Empty, Filling, Full, Pending}
+use Rattle.std.proofs.Common.{Bool, List, MatchOption, None, Option, Some, [], add-zero, ap, arith, cond, false, find, inl, inr, is_some, length, refl, replicate, rules, set, suc, sym, true, zero, ℕ, ⊎_elim, ◌&&◌, ◌++◌, ◌+◌, ◌-◌, ◌<◌, ◌==◌, ◌∙◌, ◌∷◌, ◌≡◌, ◌≢◌, ◌≤◌}
+use Rattle.slot_table.proofs.Common.{CanReserve, Empty, Filling, Full, IsEmptyAt, IsLawful, IsLawfulSlot, NoKey, NoneEmpty, Pending, Slot, SlotState, Table, buffer_of, cases_eq, empty_slot, false≢true, filling_slot, full_slot, get_or_past, holds_key, is_empty_state, is_full, is_idle, is_last, is_pending, length-replicate, nat_tests, recency_without, slot_at, times}
+use Rattle.std.proofs.lemmas.List.{length-set}
 use Rattle.key_attributes.specs.declared.Attributes.{Attributes}
-use Rattle.secret_bytes.specs.Buffer.{buffer_of}
-use Rattle.slot_table.specs.Slots.{Slot, Table, slot_at, empty_slot, filling_slot, is_empty_state, is_full, is_pending, is_idle, is_last, holds_key, times, NoKey, NoneEmpty, IsEmptyAt, CanReserve, IsLawfulSlot, IsLawful}
-use Rattle.slot_table.specs.Changes.{full_slot, recency_without}
 use Rattle.slot_table.proofs.AtSlots.{at_each, full_test, read_within, key_is_full, idle_is_full, idle_is_unread, bytes-buffer_of, find_passes}
 use Rattle.slot_table.proofs.Times.{times-append, times-same, times-other, without_none, length_distinct}
 

@@ -1,3 +1,4 @@
+mod Common
 pub mod AtSlots
 mod Laws
 mod Times

@@ -1,10 +1,7 @@
 -- How often a number stands in a row.
-use Rattle.std.proofs.Common.{◌≡◌, ◌≢◌, ◌≤◌, ◌<◌, ℕ, ◌+◌, zero, suc, true, false, cond, eqb, not, List, [], ◌∷◌, ◌++◌, length, get_or, refl, sym, ap, ◌∙◌, arith, zero-add, add_assoc, ⊎_elim}
-use Rattle.std.proofs.lemmas.Bool.Decides.{nat_tests}
+use Rattle.std.proofs.Common.{List, [], add_assoc, ap, arith, cond, eqb, false, get_or, length, not, refl, suc, sym, true, zero, zero-add, ℕ, ⊎_elim, ◌++◌, ◌+◌, ◌<◌, ◌∙◌, ◌∷◌, ◌≡◌, ◌≢◌, ◌≤◌}
+use Rattle.slot_table.proofs.Common.{cases_eq, nat_tests, recency_without, times}
 use Rattle.std.specs.List.{remove}
-use Rattle.std.proofs.lemmas.Bool.{cases_eq}
-use Rattle.slot_table.specs.Slots.{times}
-use Rattle.slot_table.specs.Changes.{recency_without}
 
 pub times-append : (i : ℕ) (xs ys : List ℕ) → times i (xs ++ ys) ≡ times i xs + times i ys
 times-append i [] ys = sym (zero-add (times i ys))

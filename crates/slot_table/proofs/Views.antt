@@ -1,12 +1,8 @@
 -- Two rows as the slots of a table.
+use Rattle.std.proofs.Common.{List, [], ap, arith, get_or, get_or-set_other, get_or-set_same, inl, inr, length, min, refl, replicate, set, suc, sym, zero, ℕ, ◌&&◌, ◌<◌, ◌==◌, ◌∙◌, ◌∷◌, ◌≡◌}
+use Rattle.slot_table.proofs.Common.{AreRows, Head, NoneBefore, Slot, empty_head, empty_slot, eqb_tells, head_at, head_holds_key, holds_key, is_empty_state, is_full, length-replicate, no_key, set-get_or, slot_at, slot_of, slots_of, stored_at}
 use Rattle.key_attributes.specs.declared.KeyId.{KeyId}
-use Rattle.std.proofs.Common.{◌&&◌, ◌==◌, ◌≡◌, ◌<◌, ℕ, zero, suc, min, inl, inr, List, [], ◌∷◌, length, get_or, get_or-set_other, get_or-set_same, set, replicate, refl, sym, ap, ◌∙◌, arith}
-use Rattle.std.proofs.lemmas.Bool.Decides.{eqb_tells}
-use Rattle.std.proofs.lemmas.List.{length-replicate, set-get_or}
-use Rattle.slot_table.specs.declared.place.Head.{Head}
 use Rattle.slot_table.specs.declared.place.Stored.{Stored}
-use Rattle.slot_table.specs.Slots.{Slot, slot_at, empty_slot, holds_key, is_empty_state, is_full}
-use Rattle.slot_table.specs.Rows.{AreRows, NoneBefore, slots_of, slot_of, head_holds_key, head_at, stored_at, empty_head, no_key}
 
 length-slots_of : (heads : List Head) (keys : List Stored) → length heads ≡ length keys → length (slots_of heads keys) ≡ length heads
 length-slots_of [] [] same = refl

@@ -1,2 +1,3 @@
+mod Common
 pub mod Maps
 pub mod Rooms

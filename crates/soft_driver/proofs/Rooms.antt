@@ -1,24 +1,17 @@
 -- The list of held keys and its map.
-use Rattle.std.proofs.Common.{◌≡◌, ℕ, zero, suc, ◌+◌, ◌-◌, ◌<◌, ◌≤◌, Bool, true, false, ◌==◌, cond, List, [], ◌∷◌, ◌++◌, length, map, get_or, slice_get, take, replicate, ltb, All, refl, sym, ap, ◌∙◌, subst, arith}
-use Rattle.std.specs.Prelude.{⊤, Option, Some, None, IfSome, find}
+use Rattle.std.proofs.Common.{All, Bool, IfSome, List, None, Option, Some, [], ap, arith, cond, false, find, get_or, length, ltb, map, refl, replicate, slice_get, subst, suc, sym, take, true, zero, ℕ, ◌++◌, ◌+◌, ◌-◌, ◌<◌, ◌==◌, ◌∙◌, ◌∷◌, ◌≡◌, ◌≤◌}
+use Rattle.soft_driver.proofs.Common.{AreSized, Buffer, Held, HeldKey, HeldKeys, IsClear, IsKeyRoom, IsSized, IsSomeKey, buffer_of, bytes_of, held_key, key_held, keys_of, nat_cmp_total, nat_tests, no_keys, with_held_key, without_key}
+use Rattle.std.specs.Prelude.{⊤}
 use Rattle.std.specs.Option.{is_some, option_map}
 use Rattle.std.specs.List.{remove, position, position_or_len}
 use Rattle.std.specs.Ordering.{nat_cmp}
-use Rattle.std.proofs.lemmas.Cmp.{nat_cmp_total}
-use Rattle.std.proofs.lemmas.Bool.Decides.{nat_tests}
 use Rattle.std.proofs.lemmas.List.{map-append, length-append, take_at}
 use Rattle.std.proofs.lemmas.List.Elements.{All-take, All-push}
 use Rattle.std.proofs.lemmas.List.Folds.{find_at}
 use Rattle.std.proofs.lemmas.List.Sums.{passes_at_first}
 use Rattle.std.proofs.lemmas.Option.{slice_get-get_or, slice_get_past}
 use Rattle.std.proofs.lemmas.Bool.{ltb-false}
-use Rattle.secret_bytes.specs.Buffer.{Buffer, buffer_of, bytes_of, IsClear}
-use Rattle.driver_dispatch.specs.Calls.{IsSomeKey}
 use Rattle.std.specs.FinMap as finite
-use Rattle.driver_dispatch.specs.Held.{HeldKey, HeldKeys, no_keys, held_key, with_held_key, without_key}
-use Rattle.soft_driver.specs.Sizes.{AreSized, IsSized}
-use Rattle.soft_driver.specs.Room.{key_held, keys_of, IsKeyRoom}
-use Rattle.soft_driver.specs.declared.held.Held.{Held}
 use Rattle.soft_driver.proofs.Maps.{put, taken, remove-insert, insert-remove, len_more, len_fewer, len_at_most, was_new}
 
 abbrev pub held_at : ℕ → List Held → Option Held

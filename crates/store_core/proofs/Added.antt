@@ -1,30 +1,12 @@
 -- A store with one key more.
-use Rattle.std.proofs.Common.{◌≡◌, ◌≢◌, ◌⊎◌, ◌∙◌, ℕ, ◌+◌, ◌*◌, ◌/◌, ◌^◌, ◌<◌, ◌≤◌, ◌==◌, Bool, true, false, cond, nat_lt, List, [], length, set, refl, sym, ap, subst, arith, inl, inr, eq-eqb, Option, None, Some}
-use Rattle.std.proofs.lemmas.Bool.{false≢true, eqb-true, cases_eq}
-use Rattle.std.proofs.lemmas.Bool.Decides.{nat_tests}
-use Rattle.std.proofs.lemmas.List.{get_or-set_same, get_or-set_other, length-map}
-use Rattle.std.proofs.lemmas.Cmp.{nat_cmp_total}
-use Rattle.std.specs.Cmp.{unsigned_tied}
-use Rattle.std.specs.Prelude.{slice_index, slice_set}
+use Rattle.std.proofs.Common.{Bool, List, None, Option, Some, [], ap, arith, cond, eq-eqb, false, inl, inr, length, nat_lt, refl, set, slice_index, slice_set, subst, sym, true, ℕ, ◌*◌, ◌+◌, ◌/◌, ◌<◌, ◌==◌, ◌^◌, ◌∙◌, ◌≡◌, ◌≢◌, ◌≤◌, ◌⊎◌}
+use Rattle.store_core.proofs.Common.{Attributes, Free, HeldKey, HeldKeys, HoldsHandle, HoldsKeys, IsDirectory, IsFirstWithoutKey, IsPut, IsSomeKey, IsSoundStore, IsStated, IsThereOrNew, Key, Lacks, MayBeKept, Open, Puts, Shut, SlotHasKey, Unsure, bytes-buffer_of, cases_eq, cell_slot, count_persistent, counted, created, durable_keys, false≢true, full_slot, held_key, identified, is_opaque, is_open, is_volatile, is_volatile_of, kept, len_kept-insert, length-map, live_volatile, made_of, made_with, nat_cmp_total, nat_tests, new_id, new_is_free, new_key, of_volatile, put, room_of, settled_slot, settled_slots, stated_id, stored, unsigned_tied, with_held_key}
+use Rattle.std.proofs.lemmas.Bool.{eqb-true}
+use Rattle.std.proofs.lemmas.List.{get_or-set_same, get_or-set_other}
 use Rattle.std.specs.Option.{option_map}
 use Rattle.std.specs.FinMap as map
-use Rattle.key_attributes.specs.declared.Attributes.{Attributes}
-use Rattle.driver_dispatch.specs.Held.{HeldKey, HeldKeys, held_key, with_held_key}
-use Rattle.driver_dispatch.specs.Calls.{HoldsHandle, IsSomeKey, Lacks}
 use Rattle.key_cells.specs.declared.slot.Slot as cell
-use Rattle.key_cells.specs.declared.slot.Slot.TheVariants.{Free, Open, Shut, Unsure}
-use Rattle.key_cells.specs.Prelude.{cell_slot, is_open, settled_slots, settled_slot, IsFirstWithoutKey}
-use Rattle.persistent_keys.specs.Files.{stored, IsPut}
-use Rattle.slot_table.proofs.AtSlots.{bytes-buffer_of}
-use Rattle.slot_table.specs.Changes.{full_slot}
-use Rattle.key_slots.specs.Standing.{Puts, SlotHasKey, IsThereOrNew}
 use Rattle.store_model.specs.Store as model
-use Rattle.store_model.specs.Prelude.{Key, is_volatile, is_opaque, is_volatile_of, made_of, live_volatile, count_persistent, counted, created, new_id, new_key, identified, made_with, IsSoundStore}
-use Rattle.store_model.proofs.Sound.{put, of_volatile, new_is_free, room_of}
-use Rattle.store_model.proofs.Recorded.{MayBeKept, IsStated, stated_id}
-use Rattle.store_model.proofs.Live.{len_kept-insert}
-use Rattle.store_core.specs.Durability.{kept, durable_keys}
-use Rattle.store_core.specs.Represents.{IsDirectory, HoldsKeys}
 use Rattle.store_core.proofs.Kept.{HasCellKey}
 use Rattle.store_core.proofs.Replaced.{some_same}
 use Rattle.store_core.proofs.Removing.{settled_at, settled_opens}

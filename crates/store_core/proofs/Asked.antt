@@ -1,17 +1,9 @@
 -- What a creation records, as the store's counts have it.
-use Rattle.std.proofs.Common.{◌≡◌, ◌≢◌, ◌⊎◌, ◌∙◌, ℕ, ◌≤◌, ◌<◌, ◌^◌, ◌%◌, ◌==◌, ◌||◌, ◌&&◌, Bool, true, false, not, cond, nat_le, List, refl, ap, arith, inl, inr, eq-eqb, Option, Some, None, is_some}
-use Rattle.std.proofs.lemmas.Bool.Decides.{nat_tests}
-use Rattle.std.specs.Prelude.{Result, Ok, Err}
+use Rattle.std.proofs.Common.{Bool, Err, List, None, Ok, Option, Result, Some, ap, arith, cond, eq-eqb, false, inl, inr, is_some, nat_le, not, refl, true, ℕ, ◌%◌, ◌&&◌, ◌<◌, ◌==◌, ◌^◌, ◌||◌, ◌∙◌, ◌≡◌, ◌≢◌, ◌≤◌, ◌⊎◌}
+use Rattle.store_core.proofs.Common.{AlreadyExists, Attributes, InsufficientStorage, KeyLimit, Label, NotSupported, Status, after_rules, checked, count_persistent, first_row, has_secure_element, is_volatile, live_volatile, made_of, nat_tests, recorded_of, room_for_key_rows, unless}
 use Rattle.std.specs.FinMap as map
-use Rattle.psa_status.specs.declared.Status.{Status}
-use Rattle.psa_status.specs.declared.Status.TheVariants.{NotSupported, KeyLimit, AlreadyExists, InsufficientStorage}
-use Rattle.psa_status.specs.Rows.{first_row, unless, ◌>>=◌}
-use Rattle.key_attributes.specs.declared.Attributes.{Attributes}
-use Rattle.key_attributes.specs.Checks.{checked}
-use Rattle.policy_rules.specs.Narrow.{after_rules}
-use Rattle.policy_rules.specs.declared.narrowing.Label.{Label}
+use Rattle.psa_status.specs.Rows.{◌>>=◌}
 use Rattle.store_model.specs.Store as model
-use Rattle.store_model.specs.Prelude.{has_secure_element, is_volatile, live_volatile, made_of, count_persistent, recorded_of, room_for_key_rows}
 
 -- what is recorded where there is a file
 abbrev pub asked : model.Store → ℕ → Attributes → ℕ → Bool → List Label → Result Attributes Status

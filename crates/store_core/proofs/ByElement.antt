@@ -1,36 +1,16 @@
 -- Turns in which the secure element computes.
+use Rattle.std.proofs.Common.{Bool, Err, IsErrOf, IsTrue, List, MatchOption, None, Ok, Option, Result, Some, [], ap, arith, cond, false, is_some, length, not, refl, subst, sym, true, ℕ, ◌&&◌, ◌++◌, ◌==◌, ◌||◌, ◌∙◌, ◌∷◌, ◌≡◌}
+use Rattle.store_core.proofs.Common.{AnswersCall, Attributes, Call, Entry, Failed, FaultCounts, FaultMark, Hardware, HasFault, HeldKey, HeldKeys, HoldsHandle, HoldsKeys, IsAnswered, IsComputed, IsOfElement, IsSomeKey, IsSoundStore, IsTold, IsVolatileKey, Key, MayBeMarked, OnStore, Opening, Pairs, Refused, Rose, Service, Status, Store, algorithm_asked, all_rows, attribute_rows, buffer_after, checked, class_asked, counted, element_reply, filled, first_row, first_row-back, first_row-front, fits_type, has_secure_element, held_key, identified, is_opaque, is_opaque_key, is_volatile, key_rows, last_counts, location, mark_computed, marked_reply, may_change_keys, model_call, nat_tests, none_holds, persistence, refusal, replay, reply_on, reply_to, reply_unless, rows_before, unless, unless-ok, usage_asked, use_rows}
 use Rattle.disk_face.specs.declared.Disk as Disk
 use Rattle.driver_dispatch.specs.declared.devices.Devices as Devices
 use Rattle.admission.specs.declared.rules.Admission as Admission
-use Rattle.std.proofs.Common.{◌≡◌, ◌∙◌, ℕ, Bool, true, false, List, [], ◌∷◌, ◌++◌, length, refl, sym, ap, subst, cond, IsTrue, arith}
-use Rattle.std.specs.Prelude.{Option, None, Some, is_some, IsErrOf, Result, Ok, Err, MatchOption, not, ◌&&◌, ◌||◌, ◌==◌}
 use Rattle.std.specs.FinMap as map
-use Rattle.psa_status.specs.declared.Status.{Status}
-use Rattle.psa_status.specs.Causes.{Rose}
-use Rattle.psa_status.specs.Rows.{first_row, unless}
-use Rattle.psa_status.proofs.Rows.{first_row-back, first_row-front, unless-ok}
 use Rattle.alg_encoding.specs.declared.table.Class.{Class}
-use Rattle.key_attributes.specs.declared.Attributes.{Attributes}
-use Rattle.key_attributes.specs.Checks.{attribute_rows, checked, filled, location, persistence}
-use Rattle.driver_dispatch.specs.Held.{HeldKey, HeldKeys, held_key}
-use Rattle.driver_dispatch.specs.Calls.{HoldsHandle, IsSomeKey}
-use Rattle.key_slots.specs.Holdings.{Pairs}
-use Rattle.key_slots.specs.Standing.{IsVolatileKey}
 use Rattle.store_model.specs.Store as model
-use Rattle.store_model.specs.Prelude.{Key, has_secure_element, is_opaque, is_opaque_key, is_volatile, Call, buffer_after, identified, FaultMark, Hardware, marked_reply, Service, may_change_keys, FaultCounts, HasFault, MayBeMarked, last_counts, counted, refusal, reply_unless, Entry, replay, OnStore, fits_type, use_rows, IsSoundStore}
-use Rattle.store_model.proofs.Tables.{none_holds}
-use Rattle.std.proofs.lemmas.Bool.Decides.{nat_tests}
 use Rattle.secure_element_calls.specs.declared.calls.ElementCall.{ElementCall}
 use Rattle.secure_element_calls.specs.declared.calls.ElementCall.TheVariants.{MacCompute, MacVerify, CtrEncrypt, CtrDecrypt}
 use Rattle.secure_element_calls.specs.declared.calls.NotComputed.{NotComputed}
-use Rattle.secure_element_calls.specs.declared.calls.NotComputed.TheVariants.{Refused, Failed}
-use Rattle.secure_element_calls.specs.Answers.{AnswersCall, IsComputed, IsOfElement, mark_computed, reply_to}
-use Rattle.secure_element_calls.specs.Calls.{algorithm_asked, class_asked, element_reply, model_call, rows_before, usage_asked}
-use Rattle.secure_element_calls.specs.Replies.{all_rows, key_rows, reply_on}
 use Rattle.secure_element_calls.proofs.Replying.{asks}
-use Rattle.store_core.specs.declared.store.Store.{Store}
-use Rattle.store_core.specs.Opaque.{IsAnswered}
-use Rattle.store_core.specs.Represents.{HoldsKeys, IsTold, Opening}
 use Rattle.store_core.proofs.Histories.{told_before, quiet_leaves}
 use Rattle.store_core.proofs.Holding.{HoldsHere, StandsHere, IsTurn, turned, goes_on, left_alone, ends_quiet}
 

@@ -1,22 +1,11 @@
 -- A ranked turn that changes keys.
+use Rattle.std.proofs.Common.{List, Option, [], ap, arith, inl, inr, is_some, length-append, slice_index, subst, sym, true, ℕ, ⊎_elim, ◌++◌, ◌+◌, ◌∙◌, ◌∷◌, ◌≡◌, ◌≤◌, ◌⊎◌}
+use Rattle.store_core.proofs.Common.{Agrees, AreHoldings, Course, Entry, FaultCounts, FaultMark, FitsCourse, FitsKeys, HasFault, HoldsKeys, IsCaused, IsDirectory, IsSoundStore, IsSure, IsTold, Leads, MayBeMarked, Opening, Pairs, Service, StandsForKeys, Store, Within, after, allowed_go_on, count_persistent, course_of, doubt_after, durable_keys, go_on, last_counts, live_volatile, opened, outcome_of, promise_goes_on, replay, stands_fits}
 use Rattle.disk_face.specs.declared.Disk as Disk
 use Rattle.driver_dispatch.specs.declared.devices.Devices as Devices
 use Rattle.admission.specs.declared.rules.Admission as Admission
-use Rattle.std.proofs.Common.{◌≡◌, ◌⊎◌, ℕ, ◌+◌, ◌≤◌, List, [], ◌∷◌, ◌++◌, true, Option, is_some, sym, ◌∙◌, ap, subst, arith, inl, inr, ⊎_elim, length-append}
-use Rattle.std.specs.Prelude.{slice_index, ⊤}
-use Rattle.disk_face.specs.Moments.{Within}
-use Rattle.disk_face.proofs.Moments.{promise_goes_on}
-use Rattle.key_cells.specs.Prelude.{IsSure}
-use Rattle.persistent_keys.specs.Files.{StandsForKeys, FitsKeys, Leads}
-use Rattle.persistent_keys.proofs.Leading.{stands_fits}
-use Rattle.key_slots.specs.Holdings.{Pairs, AreHoldings}
-use Rattle.key_slots.specs.Standing.{Agrees}
+use Rattle.std.specs.Prelude.{⊤}
 use Rattle.store_model.specs.Store as model
-use Rattle.store_model.specs.Prelude.{count_persistent, live_volatile, FaultMark, Service, Entry, outcome_of, replay, FaultCounts, MayBeMarked, HasFault, IsCaused, last_counts, IsSoundStore}
-use Rattle.store_model.proofs.Causes.{go_on, allowed_go_on}
-use Rattle.store_core.specs.declared.store.Store.{Store}
-use Rattle.store_core.specs.Durability.{Course, after, opened, course_of, doubt_after, durable_keys, FitsCourse}
-use Rattle.store_core.specs.Represents.{IsTold, IsDirectory, HoldsKeys, Opening}
 use Rattle.store_core.proofs.Histories.{replay_push, counts_push, told_before, course_service, course_push}
 use Rattle.store_core.proofs.Holding.{HoldsHere, StandsHere, IsTurn, counts_of}
 

@@ -1,31 +1,12 @@
 -- What the table of creations has decided of a key that is to be made.
-use Rattle.std.proofs.Common.{◌≡◌, ◌≢◌, ◌∙◌, ℕ, ◌*◌, ◌/◌, ◌%◌, ◌^◌, ◌<◌, ◌≤◌, ◌==◌, ◌&&◌, ◌||◌, Bool, true, false, not, cond, nat_lt, List, length, refl, sym, ap, subst, arith, eq-eqb, None, Some, is_some}
-use Rattle.std.proofs.lemmas.Bool.{false≢true, eqb-true}
-use Rattle.std.proofs.lemmas.Bool.Decides.{nat_tests}
-use Rattle.std.proofs.lemmas.Cmp.{ranked}
+use Rattle.std.proofs.Common.{Bool, List, None, Ok, Some, ap, arith, bit_and, cond, eq-eqb, false, is_some, length, nat_lt, not, refl, subst, sym, true, ℕ, ◌%◌, ◌&&◌, ◌*◌, ◌/◌, ◌<◌, ◌==◌, ◌^◌, ◌||◌, ◌∙◌, ◌≡◌, ◌≢◌, ◌≤◌}
+use Rattle.store_core.proofs.Common.{Agrees, Attributes, Free, HasNoKey, InvalidArgument, IsDirectory, IsFull, IsKeyOf, IsSoundStore, IsStated, Key, NoKey, NotSupported, Open, Pairs, Shut, Slot, Unsure, attribute_rows, cell_slot, checked, count_persistent, creation_of_slot, false≢true, filled, first_row, full_within, has_id, has_secure_element, holds_key, implied_usage, is_key_type, is_lifetime, is_opaque, is_open, is_volatile, key_is_full, key_of_slot, location, low_id, nat_tests, none_holds, permits_size, persistence, ranked, size_rows, slot_at, stated_id, unless, unless-ok}
+use Rattle.std.proofs.lemmas.Bool.{eqb-true}
 use Rattle.std.specs.declared.cmp.Ordering.TheVariants.{Equal}
-use Rattle.std.specs.Prelude.{Ok, bit_and}
 use Rattle.std.specs.FinMap as map
-use Rattle.psa_status.specs.declared.Status.TheVariants.{NotSupported, InvalidArgument}
-use Rattle.psa_status.specs.Rows.{first_row, unless}
-use Rattle.psa_status.proofs.Rows.{unless-ok}
-use Rattle.key_attributes.specs.declared.Attributes.{Attributes}
-use Rattle.key_attributes.specs.Checks.{persistence, location, is_lifetime, is_key_type, permits_size, size_rows, implied_usage, attribute_rows, filled, checked}
 use Rattle.key_cells.specs.declared.slot.Slot as cell
-use Rattle.key_cells.specs.declared.slot.Slot.TheVariants.{Free, Open, Shut, Unsure}
-use Rattle.key_cells.specs.Prelude.{HasNoKey, IsFull, cell_slot, has_id, is_open, creation_of_slot, IsKeyOf}
-use Rattle.slot_table.specs.Slots.{Slot, slot_at, holds_key, NoKey}
-use Rattle.slot_table.proofs.AtSlots.{full_within, key_is_full}
-use Rattle.key_slots.specs.Holdings.{Pairs}
-use Rattle.key_slots.specs.Standing.{Agrees}
-use Rattle.key_slots.proofs.Agreeing.{key_of_slot}
 use Rattle.key_slots.proofs.Sums.{total-least, into_map}
 use Rattle.store_model.specs.Store as model
-use Rattle.store_model.specs.Prelude.{Key, is_volatile, is_opaque, has_secure_element, count_persistent, IsSoundStore}
-use Rattle.store_model.proofs.Sound.{low_id}
-use Rattle.store_model.proofs.Tables.{none_holds}
-use Rattle.store_model.proofs.Recorded.{IsStated, stated_id}
-use Rattle.store_core.specs.Represents.{IsDirectory}
 use Rattle.store_core.proofs.Kept.{key_of_cell}
 use Rattle.store_core.proofs.Destroyed.{needs_element}
 

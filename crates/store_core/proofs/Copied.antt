@@ -1,23 +1,12 @@
 -- What a copy records of its source.
-use Rattle.std.proofs.Common.{◌≡◌, ◌∙◌, ℕ, ◌*◌, ◌/◌, ◌==◌, ◌&&◌, Bool, true, false, not, cond, List, [], ◌∷◌, length, refl, sym, ap, subst, arith, Some}
-use Rattle.std.proofs.lemmas.Bool.{false≢true, eqb-true}
-use Rattle.std.specs.Prelude.{Ok, Err, IfOk, Result, ok_or}
-use Rattle.psa_status.specs.declared.Status.{Status}
-use Rattle.psa_status.specs.declared.Status.TheVariants.{InvalidArgument}
-use Rattle.psa_status.specs.Rows.{first_row, unless}
-use Rattle.psa_status.proofs.Rows.{unless-ok}
-use Rattle.key_attributes.specs.declared.Attributes.{Attributes}
-use Rattle.key_attributes.specs.Checks.{location, attribute_rows, filled, checked}
-use Rattle.policy_rules.specs.declared.narrowing.Label.{Label}
+use Rattle.std.proofs.Common.{Bool, Err, IfOk, List, Ok, Result, Some, [], ap, arith, cond, false, length, not, ok_or, refl, subst, sym, true, ℕ, ◌&&◌, ◌*◌, ◌/◌, ◌==◌, ◌∙◌, ◌∷◌, ◌≡◌}
+use Rattle.store_core.proofs.Common.{Attributes, InvalidArgument, IsSoundKey, Key, Label, Status, after_rules, after_verdict, as_stated, attribute_rows, checked, copy_attributes, false≢true, file_rows, filled, first_row, has_secure_element, identified, is_opaque, is_volatile, location, narrowed, none_holds, recorded_copy, recorded_of, room_for_key_rows, source_rows, then_ok, unless, unless-ok}
+use Rattle.std.proofs.lemmas.Bool.{eqb-true}
 use Rattle.policy_rules.specs.declared.narrowing.Label.TheVariants.{NoExport, NoCopy, NoEcb, Aes256}
 use Rattle.policy_rules.specs.declared.narrowing.Verdict.{Verdict}
 use Rattle.policy_rules.specs.declared.narrowing.Verdict.TheVariants.{Keep, Refuse}
-use Rattle.policy_rules.specs.Narrow.{narrowed, after_verdict, after_rules}
 use Rattle.policy_rules.specs.Policy.{meet_of}
 use Rattle.store_model.specs.Store as model
-use Rattle.store_model.specs.Prelude.{Key, is_volatile, is_opaque, has_secure_element, identified, file_rows, room_for_key_rows, recorded_of, source_rows, copy_attributes, recorded_copy, as_stated, IsSoundKey}
-use Rattle.store_model.proofs.Recorded.{then_ok}
-use Rattle.store_model.proofs.Tables.{none_holds}
 
 -- THE LENGTH OF A KEY
 

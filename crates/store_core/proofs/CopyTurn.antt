@@ -1,32 +1,14 @@
 -- A turn that copies a key.
+use Rattle.std.proofs.Common.{Bool, Err, IsErrOf, List, None, Ok, Option, Result, Some, [], ap, cond, false, if◌then◌else◌, is_some, length, refl, subst, sym, true, ℕ, ◌++◌, ◌+◌, ◌∙◌, ◌∷◌, ◌≡◌}
+use Rattle.store_core.proofs.Common.{Agrees, AreHoldings, Attributes, Buffer, Copy, Corrupt, Disk, Entry, FaultCounts, HoldsHandle, InvalidHandle, IsMaking, IsMaterial, IsReady, IsTold, Key, KeySlots, Missing, OnStore, Opening, Outcome, Pairs, Reading, Request, Rose, Service, Slot, SlotHasKey, Status, Storage, Store, Unread, buffer_of, bytes-buffer_of, bytes_of, created_unless, id_read, is_destruction, is_opaque, is_persistent_key, mark_of, plain_step, reads_persistent, recorded_copy, recorded_of, replay, status_of, step_copy, there_rows}
 use Rattle.disk_face.specs.declared.Disk as Disk
 use Rattle.driver_dispatch.specs.declared.devices.Devices as Devices
 use Rattle.admission.specs.declared.rules.Admission as Admission
-use Rattle.std.proofs.Common.{◌≡◌, ◌∙◌, ℕ, ◌+◌, Bool, true, false, cond, List, [], ◌∷◌, ◌++◌, length, refl, sym, ap, subst, Option, None, Some, is_some}
-use Rattle.std.specs.Prelude.{Ok, Err, IsErrOf, Result, if◌then◌else◌}
 use Rattle.std.specs.FinMap as map
-use Rattle.psa_status.specs.declared.Status.{Status}
-use Rattle.psa_status.specs.declared.Status.TheVariants.{InvalidHandle}
-use Rattle.psa_status.specs.Causes.{Rose}
-use Rattle.key_attributes.specs.declared.Attributes.{Attributes}
-use Rattle.driver_dispatch.specs.Calls.{HoldsHandle}
-use Rattle.secret_bytes.specs.Buffer.{Buffer, bytes_of, buffer_of}
-use Rattle.slot_table.specs.Slots.{Slot}
-use Rattle.slot_table.proofs.AtSlots.{bytes-buffer_of}
-use Rattle.key_slots.specs.declared.slots.KeySlots.{KeySlots}
-use Rattle.key_slots.specs.Holdings.{Pairs, AreHoldings}
-use Rattle.key_slots.specs.Standing.{Agrees, SlotHasKey}
 use Rattle.store_model.specs.Store as model
-use Rattle.store_model.specs.Prelude.{Key, is_opaque, is_persistent_key, Copy, Outcome, created_unless, recorded_of, recorded_copy, step_copy, Service, Request, OnStore, plain_step, Entry, replay, FaultCounts, id_read, reads_persistent, Storage, Reading}
 use Rattle.store_model.specs.KeyUse as key_use
 use Rattle.store_model.specs.Faults as fault
-use Rattle.store_core.specs.declared.store.Store.{Store}
-use Rattle.store_core.specs.declared.reading.Unread.{Unread}
-use Rattle.store_core.specs.declared.reading.Unread.TheVariants.{Missing, Disk, Corrupt}
-use Rattle.store_core.specs.Durability.{is_destruction}
-use Rattle.store_core.specs.Uses.{IsRefused, mark_of, status_of, there_rows}
-use Rattle.store_core.specs.Represents.{IsTold, Opening}
-use Rattle.store_core.specs.Creations.{IsMaterial, IsMaking, IsReady}
+use Rattle.store_core.specs.Uses.{IsRefused}
 use Rattle.store_core.proofs.Holding.{HoldsHere, StandsHere, IsTurn, with_buffer}
 use Rattle.store_core.proofs.Loading.{reads_it}
 use Rattle.store_core.proofs.Makes.{IsRefusedAt}

@@ -1,29 +1,13 @@
 -- A ranked turn that destroys a key.
+use Rattle.std.proofs.Common.{List, None, Some, [], ap, arith, false, is_some, length, not, refl, set, slice_index, slice_set, subst, sym, true, ℕ, ◌++◌, ◌+◌, ◌-◌, ◌/◌, ◌<◌, ◌^◌, ◌∙◌, ◌∷◌, ◌≡◌, ◌⊎◌}
+use Rattle.store_core.proofs.Common.{Agrees, Destroy, Doubt, Entry, FaultMark, Free, HasFault, HasNoKey, IsDirectory, IsPut, IsSoundStore, IsSure, Key, KeyFile, KeySlots, Keys, Leads, MayBeMarked, OnStore, Opening, Pairs, Plain, Puts, Service, Slot, SlotHasKey, StandsForKeys, Store, Stored, cell_slot, counted, counted_sound, creation_of_slot, destroyed_sound, doubt_by, durable_keys, has_id, holds_key, is_persistent_key, is_volatile, kept, key_changed, key_of_slot, quiet, ranked_on, settled_slots, slot_at, stays, stored, without_key}
 use Rattle.disk_face.specs.declared.Disk as Disk
 use Rattle.driver_dispatch.specs.declared.devices.Devices as Devices
 use Rattle.admission.specs.declared.rules.Admission as Admission
-use Rattle.std.proofs.Common.{◌≡◌, ◌⊎◌, ◌∙◌, ℕ, ◌+◌, ◌-◌, ◌/◌, ◌^◌, ◌<◌, true, false, not, List, [], ◌∷◌, ◌++◌, length, set, refl, sym, ap, subst, arith, None, Some, is_some}
-use Rattle.std.specs.Prelude.{slice_index, slice_set}
 use Rattle.std.specs.Option.{option_map}
 use Rattle.std.specs.FinMap as map
-use Rattle.driver_dispatch.specs.Held.{without_key}
 use Rattle.key_cells.specs.declared.slot.Slot as cell
-use Rattle.key_cells.specs.declared.slot.Slot.TheVariants.{Free}
-use Rattle.key_cells.specs.Prelude.{HasNoKey, IsSure, cell_slot, has_id, creation_of_slot, settled_slots}
-use Rattle.persistent_keys.specs.declared.file.KeyFile.{KeyFile}
-use Rattle.persistent_keys.specs.Files.{Stored, stored, Keys, Doubt, StandsForKeys, Leads, IsPut}
-use Rattle.persistent_keys.proofs.Leading.{stays}
-use Rattle.slot_table.specs.Slots.{Slot, slot_at, holds_key}
-use Rattle.key_slots.specs.declared.slots.KeySlots.{KeySlots}
-use Rattle.key_slots.specs.Holdings.{Pairs}
-use Rattle.key_slots.specs.Standing.{Agrees, SlotHasKey, Puts}
-use Rattle.key_slots.proofs.Agreeing.{quiet, key_of_slot}
 use Rattle.store_model.specs.Store as model
-use Rattle.store_model.specs.Prelude.{Key, is_volatile, is_persistent_key, Destroy, counted, FaultMark, Plain, Service, OnStore, Entry, MayBeMarked, HasFault, key_changed, IsSoundStore}
-use Rattle.store_model.proofs.Sound.{counted_sound, destroyed_sound}
-use Rattle.store_core.specs.declared.store.Store.{Store}
-use Rattle.store_core.specs.Durability.{doubt_by, kept, durable_keys}
-use Rattle.store_core.specs.Represents.{IsDirectory, Opening, ranked_on}
 use Rattle.store_core.proofs.Holding.{StandsHere, IsTurn, counts_of, same_directory, same_device}
 use Rattle.store_core.proofs.Kept.{key_of_cell}
 use Rattle.store_core.proofs.Changing.{turns_standing}

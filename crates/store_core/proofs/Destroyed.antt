@@ -1,29 +1,13 @@
 -- The one-thread store and the devices without a key that is destroyed.
-use Rattle.std.proofs.Common.{◌≡◌, ◌≢◌, ◌∙◌, ℕ, ◌+◌, ◌-◌, ◌/◌, ◌^◌, ◌<◌, ◌≤◌, ◌==◌, ◌&&◌, ◌||◌, Bool, true, false, not, cond, nat_lt, List, [], length, refl, sym, ap, arith, inl, inr, eq-eqb, Option, None, Some}
-use Rattle.std.proofs.lemmas.Bool.{false≢true, eqb-true, cases_eq, cases_lt}
-use Rattle.std.proofs.lemmas.Bool.Decides.{nat_tests}
-use Rattle.std.proofs.lemmas.List.{get_or-set_same, get_or-set_other, get_or_past}
-use Rattle.std.specs.Prelude.{slice_index, slice_set, Ok, ⊤}
-use Rattle.std.specs.Option.{option_map_or}
+use Rattle.std.proofs.Common.{Bool, List, None, Ok, Option, Some, [], ap, arith, cond, eq-eqb, false, inl, inr, length, nat_lt, not, refl, slice_index, slice_set, sym, true, ℕ, ◌&&◌, ◌+◌, ◌-◌, ◌/◌, ◌<◌, ◌==◌, ◌^◌, ◌||◌, ◌∙◌, ◌≡◌, ◌≢◌, ◌≤◌}
+use Rattle.store_core.proofs.Common.{Attributes, Course, Destroy, Doubt, Entry, FaultMark, Free, Hardware, HasNoKey, HeldKey, HeldKeys, HoldsHandle, InvalidHandle, IsDirectory, IsSomeKey, IsSoundStore, IsVolatileOf, Key, KeyMap, OnStore, Open, Plain, Request, Service, Shut, Status, Storage, Stored, Unsure, Writing, as_stated, attribute_rows, cases_eq, cases_lt, checked, count_persistent, counted, creation_of_slot, decided, destroy_rows, destroyed, doubt_after, doubt_by, doubt_undestroyed, false≢true, filled, first_row, get_or_past, has_id, has_secure_element, held_key, identified, is_destruction, is_lifetime, is_opaque, is_volatile, is_volatile_of, kept, key_changed, live_volatile, location, low_id, nat_tests, none_holds, of_volatile, option_map_or, outcome_of, persistence, serve, unless-ok}
+use Rattle.std.proofs.lemmas.Bool.{eqb-true}
+use Rattle.std.proofs.lemmas.List.{get_or-set_same, get_or-set_other}
+use Rattle.std.specs.Prelude.{⊤}
 use Rattle.std.specs.FinMap as map
-use Rattle.psa_status.specs.declared.Status.{Status}
-use Rattle.psa_status.specs.declared.Status.TheVariants.{InvalidHandle}
-use Rattle.psa_status.specs.Rows.{first_row}
-use Rattle.psa_status.proofs.Rows.{unless-ok}
-use Rattle.key_attributes.specs.declared.Attributes.{Attributes}
-use Rattle.key_attributes.specs.Checks.{persistence, location, is_lifetime, attribute_rows, checked, filled}
-use Rattle.driver_dispatch.specs.Held.{HeldKey, HeldKeys, held_key}
-use Rattle.driver_dispatch.specs.Calls.{HoldsHandle, IsSomeKey}
 use Rattle.key_cells.specs.declared.slot.Slot as cell
-use Rattle.key_cells.specs.declared.slot.Slot.TheVariants.{Free, Open, Shut, Unsure}
-use Rattle.key_cells.specs.Prelude.{HasNoKey, has_id, creation_of_slot}
-use Rattle.persistent_keys.specs.Files.{Stored, Doubt, doubt_undestroyed}
 use Rattle.store_model.specs.Store as model
-use Rattle.store_model.specs.Prelude.{Key, KeyMap, is_volatile, is_opaque, is_volatile_of, live_volatile, count_persistent, has_secure_element, Destroy, destroyed, destroy_rows, counted, decided, FaultMark, Plain, Storage, Hardware, Corrupt, Writing, Service, Request, OnStore, serve, Entry, outcome_of, key_changed, as_stated, IsSoundStore, IsVolatileOf, identified}
-use Rattle.store_model.proofs.Sound.{low_id, of_volatile}
-use Rattle.store_model.proofs.Tables.{none_holds}
-use Rattle.store_core.specs.Durability.{Course, doubt_after, doubt_by, is_destruction, kept}
-use Rattle.store_core.specs.Represents.{IsDirectory}
+use Rattle.store_model.specs.Prelude.{Corrupt}
 use Rattle.store_core.proofs.Removing.{one_less, nothing_removed, gone}
 
 -- THE MODEL

@@ -1,16 +1,8 @@
 -- Which slots the calls within a turn end.
-use Rattle.std.proofs.Common.{◌≡◌, ◌⊎◌, ⊎_elim, ℕ, List, true, Some, None, inl, inr, ap, sym, subst, ◌∙◌, arith}
+use Rattle.std.proofs.Common.{List, None, Some, ap, arith, inl, inr, subst, sym, true, ℕ, ⊎_elim, ◌∙◌, ◌≡◌, ◌⊎◌}
+use Rattle.store_core.proofs.Common.{Agrees, EndsOnly, IsEmptyOrIdle, IsFillingOf, IsLawful, IsLawfulSlot, IsTakenOf, Keeps, KeepsOrEmpties, Key, Pairs, Slot, Table, TakesOne, empty_slot, ends_then, full_within, holds_key, keeps_all, key_is_full, key_of_slot, slot_at}
 use Rattle.std.specs.FinMap as map
-use Rattle.slot_table.specs.Slots.{Slot, Table, empty_slot, slot_at, holds_key, IsLawful, IsLawfulSlot}
-use Rattle.slot_table.proofs.AtSlots.{full_within, key_is_full}
-use Rattle.key_slots.specs.Holdings.{Pairs}
-use Rattle.key_slots.specs.Standing.{Agrees}
-use Rattle.key_slots.specs.Wiping.{Keeps, EndsOnly, IsEmptyOrIdle, IsFillingOf, IsTakenOf, TakesOne}
-use Rattle.key_slots.proofs.Agreeing.{key_of_slot}
-use Rattle.key_slots.proofs.Wiping.{ends_then, keeps_all}
 use Rattle.store_model.specs.Store as model
-use Rattle.store_model.specs.Prelude.{Key}
-use Rattle.store_core.specs.Uses.{KeepsOrEmpties}
 
 -- a load takes a slot, and fills it or gives it up
 pub load_ends : (old mid new : List Slot) (slot : ℕ) → IsEmptyOrIdle (slot_at old slot) → EndsOnly old mid (IsTakenOf slot) → EndsOnly mid new (IsFillingOf slot) → TakesOne old new

@@ -1,27 +1,12 @@
 -- Turns that finish a creation: what was decided of it, and how the turn ends.
+use Rattle.std.proofs.Common.{Err, List, None, Ok, Option, Result, Some, [], ap, arith, false, inl, inr, is_some, refl, subst, sym, true, ℕ, ◌++◌, ◌+◌, ◌∙◌, ◌∷◌, ◌≡◌, ◌≤◌}
+use Rattle.store_core.proofs.Common.{Agrees, AreHoldings, Attributes, Buffer, Course, Doubt, Entry, FaultCounts, FaultMark, Hardware, HasFault, InvalidHandle, IsCreating, IsMaking, IsSince, IsTold, KeySlots, Leads, MayBeMarked, Opening, Pairs, Plain, Reading, RecordsStated, Service, Status, Storage, Store, Stored, Writing, counted, created_unless, doubt_after, doubt_by, durable_keys, is_destruction, kept, key_changed, last_counts, option_map_or, outcome_of, quiet, reads_persistent, recorded_of, replay, serve, stays}
 use Rattle.disk_face.specs.declared.Disk as Disk
 use Rattle.driver_dispatch.specs.declared.devices.Devices as Devices
 use Rattle.admission.specs.declared.rules.Admission as Admission
-use Rattle.std.proofs.Common.{◌≡◌, ◌∙◌, ℕ, ◌+◌, ◌≤◌, List, [], ◌∷◌, ◌++◌, refl, sym, ap, subst, arith, inl, inr, Option, None, Some, is_some, true, false}
-use Rattle.std.specs.Prelude.{Ok, Err, Result}
-use Rattle.psa_status.specs.declared.Status.{Status}
-use Rattle.psa_status.specs.declared.Status.TheVariants.{InvalidHandle}
-use Rattle.key_attributes.specs.declared.Attributes.{Attributes}
-use Rattle.secret_bytes.specs.Buffer.{Buffer}
 use Rattle.slot_table.specs.Lent as lent
-use Rattle.std.specs.Option.{option_map_or}
-use Rattle.persistent_keys.specs.Files.{Stored, Doubt, Leads}
-use Rattle.persistent_keys.proofs.Leading.{stays}
-use Rattle.key_slots.specs.declared.slots.KeySlots.{KeySlots}
-use Rattle.key_slots.specs.Holdings.{Pairs, AreHoldings}
-use Rattle.key_slots.specs.Standing.{Agrees}
-use Rattle.key_slots.proofs.Agreeing.{quiet}
 use Rattle.store_model.specs.Store as model
-use Rattle.store_model.specs.Prelude.{counted, recorded_of, created_unless, FaultMark, Plain, Storage, Hardware, Corrupt, Reading, Writing, Service, Entry, outcome_of, replay, serve, FaultCounts, MayBeMarked, HasFault, key_changed, reads_persistent, last_counts}
-use Rattle.store_core.specs.declared.store.Store.{Store}
-use Rattle.store_core.specs.Durability.{Course, durable_keys, doubt_after, doubt_by, is_destruction, kept}
-use Rattle.store_core.specs.Represents.{IsTold, Opening}
-use Rattle.store_core.specs.Creations.{RecordsStated, IsCreating, IsMaking, IsSince}
+use Rattle.store_model.specs.Prelude.{Corrupt}
 use Rattle.store_core.proofs.Histories.{told_before}
 use Rattle.store_core.proofs.Holding.{HoldsHere, StandsHere, IsTurn, goes_on, left_alone, same_directory, same_device, counts_of}
 use Rattle.store_core.proofs.Makes.{IsFailure, IsRefusedAt, unmade, marked_counts, plain_counts, doubted, changes_none}

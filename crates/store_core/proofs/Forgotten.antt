@@ -1,18 +1,9 @@
 -- What a device has of the keys that are destroyed.
-use Rattle.std.proofs.Common.{◌≡◌, ◌∙◌, ℕ, ◌<◌, Bool, true, false, cond, List, Option, refl, sym, ap, subst}
-use Rattle.std.proofs.lemmas.Bool.{false≢true}
+use Rattle.std.proofs.Common.{Bool, List, Option, ap, cond, false, refl, subst, sym, true, ℕ, ◌<◌, ◌∙◌, ◌≡◌}
+use Rattle.store_core.proofs.Common.{Agrees, HeldKeys, IsDirectory, IsForgotten, IsLawful, IsSoundStore, Key, Pairs, Slot, Table, cell_slot, false≢true, has_id, holds_key, is_opaque, is_volatile, key_of_slot, slot_at, without_key}
 use Rattle.std.specs.Option.{option_map}
 use Rattle.key_cells.specs.declared.slot.Slot as cell
-use Rattle.key_cells.specs.Prelude.{cell_slot, has_id}
-use Rattle.driver_dispatch.specs.Held.{HeldKeys, without_key}
-use Rattle.slot_table.specs.Slots.{Slot, Table, IsLawful, holds_key, slot_at}
-use Rattle.key_slots.specs.Holdings.{Pairs}
-use Rattle.key_slots.specs.Standing.{Agrees}
-use Rattle.key_slots.proofs.Agreeing.{key_of_slot}
 use Rattle.store_model.specs.Store as model
-use Rattle.store_model.specs.Prelude.{Key, is_opaque, is_volatile, IsSoundStore}
-use Rattle.store_core.specs.Represents.{IsDirectory}
-use Rattle.store_core.specs.Uses.{IsForgotten}
 use Rattle.store_core.proofs.ByElement.{opaque_is_volatile}
 use Rattle.store_core.proofs.Kept.{key_of_cell}
 use Rattle.store_core.proofs.Replaced.{some_same}

@@ -1,13 +1,10 @@
 -- The map of keys that were found, by their places in the list.
-use Rattle.std.proofs.Common.{◌≡◌, ◌∙◌, ℕ, zero, suc, ◌+◌, ◌==◌, Bool, true, false, cond, List, [], ◌∷◌, length, refl, sym, ap, arith, eq-eqb, ne_eqb, Option, None, Some}
-use Rattle.std.proofs.lemmas.Bool.{eqb-true, false≢true}
-use Rattle.std.specs.Prelude.{slice_get, find}
+use Rattle.std.proofs.Common.{Bool, List, None, Option, Some, [], ap, arith, cond, eq-eqb, false, find, length, ne_eqb, refl, slice_get, suc, sym, true, zero, ℕ, ◌+◌, ◌==◌, ◌∙◌, ◌∷◌, ◌≡◌}
+use Rattle.store_core.proofs.Common.{AreFoundKeys, IsKeyOf, Key, OpenedKey, false≢true, found_from, has_secure_element, len_kept-empty, len_kept-insert, put}
+use Rattle.std.proofs.lemmas.Bool.{eqb-true}
 use Rattle.std.specs.Ordering.{nat_cmp}
 use Rattle.std.specs.FinMap as map
-use Rattle.key_cells.specs.Prelude.{IsKeyOf}
-use Rattle.store_model.specs.Prelude.{Key, Store, OpenedKey, found_from, has_secure_element, AreFoundKeys}
-use Rattle.store_model.proofs.Sound.{put}
-use Rattle.store_model.proofs.Live.{len_kept-insert, len_kept-empty}
+use Rattle.store_model.specs.Prelude.{Store}
 use Rattle.store_core.proofs.Kept.{lasting, kept_checked}
 
 -- the key that is numbered n

@@ -1,26 +1,17 @@
 -- A history with one more entry.
+use Rattle.std.proofs.Common.{Bool, List, None, Option, Some, [], ap, false, inl, inr, not, refl, subst, sym, true, ℕ, ◌&&◌, ◌++◌, ◌==◌, ◌∙◌, ◌∷◌, ◌≡◌}
+use Rattle.store_core.proofs.Common.{Course, Destroy, Entry, FaultCounts, FaultMark, FitsCourse, InvalidHandle, IsTold, Key, LeavesKeys, OnHandle, OnStore, Plain, ReadsNone, Reply, Request, Service, Stored, Success, after, after_all, after_all_push, counted, course_of, decided, destroy_rows, destroyed, doubt_after, doubt_by, false≢true, first_row, is_destruction, kept, key_changed, last_counts, may_change_keys, next_random, opened, option_map_or, outcome_of, own_of, plain_step, reads_persistent, replay, serve}
 use Rattle.disk_face.specs.declared.Disk as Disk
 use Rattle.driver_dispatch.specs.declared.devices.Devices as Devices
 use Rattle.admission.specs.declared.rules.Admission as Admission
-use Rattle.std.proofs.Common.{◌≡◌, ℕ, Bool, true, false, List, [], ◌∷◌, ◌++◌, refl, sym, ◌∙◌, ap, subst, inl, inr}
-use Rattle.std.proofs.lemmas.Bool.{false≢true}
-use Rattle.std.specs.Prelude.{Option, None, Some, not, ◌&&◌, ◌==◌}
-use Rattle.std.specs.Option.{option_map_or}
 use Rattle.std.specs.FinMap as map
-use Rattle.psa_status.specs.declared.Status.TheVariants.{Success, InvalidHandle}
-use Rattle.psa_status.specs.Rows.{first_row}
-use Rattle.disk_face.specs.Moments.{after_all}
-use Rattle.disk_face.proofs.Moments.{after_all_push}
-use Rattle.persistent_keys.specs.Files.{Stored}
-use Rattle.store_model.specs.Prelude.{Key, Store, Destroy, Reply, FaultMark, Plain, counted, decided, destroyed, destroy_rows, Service, own_of, next_random, Request, OnStore, OnHandle, plain_step, serve, may_change_keys, Entry, outcome_of, replay, FaultCounts, key_changed, reads_persistent, last_counts}
+use Rattle.store_model.specs.Prelude.{Store}
 use Rattle.store_model.proofs.DrawnBytes.{length-random}
 use Rattle.store_model.proofs.StoreShape.{MakesNone, store_shape}
 use Rattle.store_model.proofs.Shape.{shape}
 use Rattle.store_model.proofs.Others.{leaves_shared}
 use Rattle.store_model.proofs.LeftAll.{leaves_all}
 use Rattle.store_core.specs.declared.store.Store as core
-use Rattle.store_core.specs.Durability.{Course, after, opened, course_of, doubt_after, doubt_by, is_destruction, kept, FitsCourse}
-use Rattle.store_core.specs.Represents.{ReadsNone, IsTold, LeavesKeys}
 
 pub replay_push : (service : Service) (h : List Entry) (e : Entry) → replay service (h ++ e ∷ []) ≡ (outcome_of (replay service h) e).service
 replay_push service [] e = refl

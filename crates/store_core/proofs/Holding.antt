@@ -1,27 +1,10 @@
 -- A store that holds keys, after a turn that leaves all.
+use Rattle.std.proofs.Common.{List, Option, [], ap, arith, inl, inr, is_some, length, length-append, refl, subst, sym, true, ℕ, ⊎_elim, ◌++◌, ◌+◌, ◌∙◌, ◌∷◌, ◌≡◌, ◌≤◌, ◌⊎◌}
+use Rattle.store_core.proofs.Common.{Agrees, AreHoldings, Buffer, Doubt, Entry, FaultCounts, FaultMark, FitsCourse, FitsEitherKeys, FitsFrom, FitsKeys, HasFault, HeldKeys, Holds, HoldsKeys, IsCaused, IsDirectory, IsEntry, IsReading, IsSure, IsTold, KeepsPromise, KeyFile, KeySlots, Keys, Leads, LeavesKeys, MayBeMarked, Opening, Pairs, Plain, Service, StandsFor, StandsForKeys, Store, Within, after, allowed_go_on, counted, counted_sound, course_of, durable_keys, fits_least, fits_whole, go_on, last_counts, opened, outcome_of, promise_goes_on, quiet, replay, stands_fits, stays, within_none}
 use Rattle.disk_face.specs.declared.Disk as Disk
 use Rattle.driver_dispatch.specs.declared.devices.Devices as Devices
 use Rattle.admission.specs.declared.rules.Admission as Admission
-use Rattle.std.proofs.Common.{◌≡◌, ◌⊎◌, ℕ, ◌+◌, ◌≤◌, List, [], ◌∷◌, ◌++◌, length, true, Option, is_some, refl, sym, ◌∙◌, ap, subst, arith, inl, inr, ⊎_elim, length-append}
-use Rattle.disk_face.specs.Moments.{Within, KeepsPromise, FitsFrom}
-use Rattle.disk_face.proofs.Moments.{promise_goes_on, within_none, fits_whole, fits_least}
-use Rattle.driver_dispatch.specs.Held.{HeldKeys}
-use Rattle.key_cells.specs.Prelude.{IsSure}
-use Rattle.persistent_keys.specs.declared.file.KeyFile.{KeyFile}
-use Rattle.persistent_keys.specs.Files.{Keys, Doubt, StandsForKeys, FitsKeys, FitsEitherKeys, Leads}
-use Rattle.persistent_keys.proofs.Leading.{stands_fits, stays}
-use Rattle.secret_bytes.specs.Buffer.{Buffer}
-use Rattle.key_slots.specs.declared.slots.KeySlots.{KeySlots}
-use Rattle.key_slots.specs.Holdings.{Pairs, AreHoldings}
-use Rattle.key_slots.specs.Standing.{Agrees}
-use Rattle.key_slots.proofs.Agreeing.{quiet}
 use Rattle.store_model.specs.Store as model
-use Rattle.store_model.specs.Prelude.{FaultMark, Plain, counted, Service, Entry, outcome_of, replay, FaultCounts, MayBeMarked, HasFault, IsCaused, last_counts}
-use Rattle.store_model.proofs.Sound.{counted_sound}
-use Rattle.store_model.proofs.Causes.{go_on, allowed_go_on}
-use Rattle.store_core.specs.declared.store.Store.{Store}
-use Rattle.store_core.specs.Durability.{after, opened, course_of, durable_keys, FitsCourse}
-use Rattle.store_core.specs.Represents.{IsTold, IsDirectory, HoldsKeys, Opening, Holds, StandsFor, IsEntry, LeavesKeys, IsReading}
 use Rattle.store_core.proofs.Histories.{replay_push, counts_push, told_before, course_service, course_doubt, doubt_stays}
 
 -- calls after which a crash leaves the keys of now keep the promise of the same history

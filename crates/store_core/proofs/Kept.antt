@@ -1,23 +1,10 @@
 -- What the directory says of the keys, and keys as a file keeps them.
-use Rattle.std.proofs.Common.{◌≡◌, ◌∙◌, ℕ, ◌*◌, ◌<◌, ◌≤◌, ◌==◌, Bool, true, false, cond, List, [], ◌∷◌, length, refl, sym, ap, subst, arith, eq-eqb, nat_le, ◌&&◌, not, Option, None, Some}
-use Rattle.std.proofs.lemmas.Bool.{false≢true, eqb-true}
-use Rattle.std.proofs.lemmas.Bool.Decides.{nat_tests}
-use Rattle.std.specs.Prelude.{Ok, bit_and, is_some}
+use Rattle.std.proofs.Common.{Bool, List, None, Ok, Option, Some, [], ap, arith, bit_and, cond, eq-eqb, false, is_some, length, nat_le, not, refl, subst, sym, true, ℕ, ◌&&◌, ◌*◌, ◌<◌, ◌==◌, ◌∙◌, ◌∷◌, ◌≡◌, ◌≤◌}
+use Rattle.store_core.proofs.Common.{Attributes, Free, HasNoKey, InvalidArgument, InvalidHandle, IsDirectory, IsKeyOf, IsVolatileKey, Key, NotSupported, Open, Shut, Status, Unsure, as_stated, attribute_rows, cell_slot, checked, creation_of_slot, false≢true, filled, first_row, first_row-back, has_id, identified, implied_usage, is_lifetime, is_opaque, is_persistent_key, is_stated_id, is_volatile, nat_tests, persistence, size_rows, there_rows, unless, unless-ok}
+use Rattle.std.proofs.lemmas.Bool.{eqb-true}
 use Rattle.std.specs.FinMap as map
-use Rattle.psa_status.specs.declared.Status.{Status}
-use Rattle.psa_status.specs.declared.Status.TheVariants.{NotSupported, InvalidArgument, InvalidHandle}
-use Rattle.psa_status.specs.Rows.{first_row, unless}
-use Rattle.psa_status.proofs.Rows.{first_row-back, unless-ok}
-use Rattle.key_attributes.specs.declared.Attributes.{Attributes}
-use Rattle.key_attributes.specs.Checks.{persistence, implied_usage, size_rows, attribute_rows, is_lifetime, is_stated_id, filled, checked}
 use Rattle.key_cells.specs.declared.slot.Slot as cell
-use Rattle.key_cells.specs.declared.slot.Slot.TheVariants.{Free, Open, Shut, Unsure}
-use Rattle.key_cells.specs.Prelude.{HasNoKey, cell_slot, has_id, creation_of_slot, IsKeyOf}
-use Rattle.key_slots.specs.Standing.{IsVolatileKey}
 use Rattle.store_model.specs.Store as model
-use Rattle.store_model.specs.Prelude.{Key, is_volatile, is_opaque, is_persistent_key, identified, as_stated}
-use Rattle.store_core.specs.Represents.{IsDirectory}
-use Rattle.store_core.specs.Uses.{there_rows}
 
 -- THE DIRECTORY
 

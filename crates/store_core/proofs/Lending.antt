@@ -1,17 +1,7 @@
 -- The bytes of a key that is lent.
-use Rattle.std.proofs.Common.{◌≡◌, ℕ, Bool, true, false, not, cond, [], length, refl, ap, subst}
-use Rattle.std.specs.Prelude.{None, Some, IsTrue}
-use Rattle.psa_status.specs.Rows.{first_row}
-use Rattle.psa_status.proofs.Rows.{unless-ok}
-use Rattle.key_attributes.specs.declared.Attributes.{Attributes}
-use Rattle.key_attributes.specs.Checks.{attribute_rows, filled, permits_size}
-use Rattle.key_slots.specs.Standing.{slot_bytes}
+use Rattle.std.proofs.Common.{Bool, IsTrue, None, Some, [], ap, cond, false, length, not, refl, subst, true, ℕ, ◌≡◌}
+use Rattle.store_core.proofs.Common.{Attributes, IsSoundKey, Key, KeyUse, as_stated, attribute_rows, filled, first_row, has_secure_element, identified, is_volatile, local, none_holds, permits_size, slot_bytes, unless-ok, use_refusal}
 use Rattle.store_model.specs.Store as model
-use Rattle.store_model.specs.Prelude.{Key, has_secure_element, is_volatile, identified, IsSoundKey, as_stated}
-use Rattle.store_model.proofs.Tables.{none_holds}
-use Rattle.key_policy.specs.declared.key_use.KeyUse.{KeyUse}
-use Rattle.key_policy.specs.Uses.{use_refusal}
-use Rattle.key_policy.proofs.Refusals.{local}
 
 -- the slot of a local key has its bytes
 pub has_bytes : (wanted : KeyUse) (key : Key) → use_refusal wanted (Some key) ≡ None → slot_bytes key ≡ key.bytes

@@ -1,3 +1,4 @@
+mod Common
 pub mod Histories
 pub mod Rises
 pub mod Sure

@@ -1,27 +1,12 @@
 -- A key that was loaded from the file.
+use Rattle.std.proofs.Common.{Bool, List, None, Option, Some, [], ap, arith, cond, false, inl, inr, is_some, nat_lt, refl, subst, sym, true, ℕ, ◌++◌, ◌<◌, ◌∙◌, ◌∷◌, ◌≡◌}
+use Rattle.store_core.proofs.Common.{Agrees, Attributes, Buffer, Entry, Gains, IsCaused, IsDirectory, IsKeyOf, IsTold, Key, KeyFile, KeySlots, NoKey, Opening, Pairs, Puts, Request, Service, Slot, SlotHasKey, Store, Stored, bytes-buffer_of, cell_slot, creation_of_slot, durable_keys, false≢true, full_slot, has_id, id_read, is_opaque, is_persistent_key, is_volatile_of, kept, reads_persistent, replay, stored}
 use Rattle.disk_face.specs.declared.Disk as Disk
 use Rattle.driver_dispatch.specs.declared.devices.Devices as Devices
 use Rattle.admission.specs.declared.rules.Admission as Admission
-use Rattle.std.proofs.Common.{◌≡◌, ◌∙◌, ℕ, ◌<◌, Bool, true, false, cond, List, [], ◌∷◌, ◌++◌, refl, sym, ap, subst, arith, inl, inr, Option, None, Some, is_some, nat_lt}
-use Rattle.std.proofs.lemmas.Bool.{false≢true}
 use Rattle.std.specs.Option.{option_and_then}
 use Rattle.std.specs.FinMap as map
-use Rattle.key_attributes.specs.declared.Attributes.{Attributes}
-use Rattle.secret_bytes.specs.Buffer.{Buffer}
-use Rattle.key_cells.specs.Prelude.{cell_slot, has_id, creation_of_slot, IsKeyOf}
-use Rattle.persistent_keys.specs.declared.file.KeyFile.{KeyFile}
-use Rattle.persistent_keys.specs.Files.{Stored, stored}
-use Rattle.slot_table.specs.Slots.{Slot, NoKey}
-use Rattle.slot_table.specs.Changes.{full_slot}
-use Rattle.slot_table.proofs.AtSlots.{bytes-buffer_of}
-use Rattle.key_slots.specs.declared.slots.KeySlots.{KeySlots}
-use Rattle.key_slots.specs.Holdings.{Pairs, Gains}
-use Rattle.key_slots.specs.Standing.{Agrees, SlotHasKey, Puts}
 use Rattle.store_model.specs.Store as model
-use Rattle.store_model.specs.Prelude.{Key, is_opaque, is_persistent_key, is_volatile_of, Service, Request, Entry, replay, id_read, reads_persistent, IsCaused}
-use Rattle.store_core.specs.declared.store.Store.{Store}
-use Rattle.store_core.specs.Durability.{kept, durable_keys}
-use Rattle.store_core.specs.Represents.{IsTold, IsDirectory, Opening}
 use Rattle.store_core.proofs.Histories.{reads_last, told_before}
 use Rattle.store_core.proofs.Holding.{HoldsHere, IsReadOn, moved, goes_on}
 use Rattle.store_core.proofs.Kept.{HasCellKey, key_of_cell, is_persistent, local}

@@ -1,26 +1,12 @@
 -- A ranked turn that creates a key.
+use Rattle.std.proofs.Common.{Bool, List, None, Option, Some, [], ap, arith, cond, false, is_some, length, min, refl, slice_index, subst, sym, true, ℕ, ◌++◌, ◌+◌, ◌-◌, ◌^◌, ◌∙◌, ◌∷◌, ◌≡◌, ◌≤◌}
+use Rattle.store_core.proofs.Common.{Agrees, AreHoldings, Attributes, Course, Destroy, Doubt, Entry, FaultMark, Hardware, HasFault, HoldsKeys, IsDirectory, IsSure, IsTold, Key, Leads, MayBeKept, MayBeMarked, OnHandle, OnStore, Opening, Pairs, Plain, Reply, Request, Rose, Service, StandsForKeys, Status, Storage, Store, Stored, count_persistent, counted, counted_sound, created, created_sound, doubt_after, doubt_by, durable_keys, failed_step, false≢true, is_destruction, is_volatile, kept, key_answered, key_changed, last_counts, live_volatile, new_id, new_key, option_map_or, outcome_of, plain_step, refusal, replay, serve, stored}
 use Rattle.disk_face.specs.declared.Disk as Disk
 use Rattle.driver_dispatch.specs.declared.devices.Devices as Devices
 use Rattle.admission.specs.declared.rules.Admission as Admission
-use Rattle.std.proofs.Common.{◌≡◌, ◌∙◌, ℕ, ◌+◌, ◌-◌, ◌^◌, ◌≤◌, Bool, true, false, cond, min, List, [], ◌∷◌, ◌++◌, length, refl, sym, ap, subst, arith, Option, None, Some, is_some}
-use Rattle.std.proofs.lemmas.Bool.{false≢true}
-use Rattle.std.specs.Prelude.{slice_index}
-use Rattle.std.specs.Option.{option_map_or}
 use Rattle.std.specs.FinMap as map
-use Rattle.psa_status.specs.declared.Status.{Status}
-use Rattle.psa_status.specs.Causes.{Rose}
-use Rattle.key_attributes.specs.declared.Attributes.{Attributes}
-use Rattle.key_cells.specs.Prelude.{IsSure}
-use Rattle.persistent_keys.specs.Files.{Stored, stored, Doubt, StandsForKeys, Leads}
-use Rattle.key_slots.specs.Holdings.{Pairs, AreHoldings}
-use Rattle.key_slots.specs.Standing.{Agrees}
 use Rattle.store_model.specs.Store as model
-use Rattle.store_model.specs.Prelude.{Key, is_volatile, live_volatile, count_persistent, Reply, Destroy, counted, refusal, created, new_id, new_key, FaultMark, Plain, Storage, Hardware, Corrupt, Service, Request, OnStore, OnHandle, plain_step, failed_step, serve, Entry, outcome_of, replay, MayBeMarked, HasFault, key_changed, key_answered, last_counts}
-use Rattle.store_model.proofs.Sound.{counted_sound, created_sound}
-use Rattle.store_model.proofs.Recorded.{MayBeKept}
-use Rattle.store_core.specs.declared.store.Store.{Store}
-use Rattle.store_core.specs.Durability.{Course, doubt_after, doubt_by, is_destruction, kept, durable_keys}
-use Rattle.store_core.specs.Represents.{IsTold, IsDirectory, HoldsKeys, Opening}
+use Rattle.store_model.specs.Prelude.{Corrupt}
 use Rattle.store_core.proofs.Holding.{HoldsHere, StandsHere, IsTurn}
 use Rattle.store_core.proofs.Changing.{turns, retold}
 use Rattle.store_core.proofs.Added.{put_here}

@@ -1,32 +1,13 @@
 -- A ranked turn that creates a key of the file.
+use Rattle.std.proofs.Common.{Bool, List, None, Option, Some, [], ap, arith, cond, false, is_some, length, not, refl, set, subst, sym, true, ℕ, ◌++◌, ◌+◌, ◌<◌, ◌^◌, ◌∙◌, ◌∷◌, ◌≡◌, ◌≤◌}
+use Rattle.store_core.proofs.Common.{Agrees, AreHoldings, Attributes, Course, Doubt, Entry, FaultMark, HasNoKey, IsFirstWithoutKey, IsFull, IsKeyOf, IsMaking, IsMaterial, IsPut, IsReady, IsSince, IsSure, IsThereOrNew, Key, KeyFile, KeySlots, Keys, Leads, MayBeKept, NoKey, Open, Opening, Pairs, Plain, Puts, Rose, Service, SlotHasKey, StandsForKeys, Storage, Store, Stored, Told, Writing, bytes_of, counted, created, doubt_after, doubt_by, doubt_unmade, durable_keys, false≢true, full_slot, has_secure_element, is_opaque, is_persistent_key, is_volatile, kept, key_changed, last_counts, new_id, new_key, outcome_of, quiet, recorded, replay, serve, settled_slots, stored}
 use Rattle.disk_face.specs.declared.Disk as Disk
 use Rattle.driver_dispatch.specs.declared.devices.Devices as Devices
 use Rattle.admission.specs.declared.rules.Admission as Admission
-use Rattle.std.proofs.Common.{◌≡◌, ◌∙◌, ℕ, ◌+◌, ◌^◌, ◌<◌, ◌≤◌, Bool, true, false, not, cond, List, [], ◌∷◌, ◌++◌, length, set, refl, sym, ap, subst, arith, Option, None, Some, is_some}
-use Rattle.std.proofs.lemmas.Bool.{false≢true}
 use Rattle.std.specs.FinMap as map
-use Rattle.psa_status.specs.Causes.{Rose}
-use Rattle.key_attributes.specs.declared.Attributes.{Attributes}
-use Rattle.secret_bytes.specs.Buffer.{bytes_of}
 use Rattle.key_cells.specs.declared.slot.Slot as cell
-use Rattle.key_cells.specs.declared.slot.Slot.TheVariants.{Open}
-use Rattle.key_cells.specs.Prelude.{HasNoKey, IsFull, IsFirstWithoutKey, IsSure, settled_slots, IsKeyOf}
-use Rattle.persistent_keys.specs.declared.file.KeyFile.{KeyFile}
-use Rattle.persistent_keys.specs.Files.{Stored, stored, Keys, Doubt, StandsForKeys, Leads, IsPut, doubt_unmade}
 use Rattle.persistent_keys.specs.declared.file.MakeFault.TheVariants.{Disk}
-use Rattle.slot_table.specs.Slots.{NoKey}
-use Rattle.slot_table.specs.Changes.{full_slot}
-use Rattle.key_slots.specs.declared.slots.KeySlots.{KeySlots}
-use Rattle.key_slots.specs.Holdings.{Pairs, AreHoldings}
-use Rattle.key_slots.specs.Standing.{Agrees, Puts, SlotHasKey, IsThereOrNew}
-use Rattle.key_slots.proofs.Agreeing.{quiet}
 use Rattle.store_model.specs.Store as model
-use Rattle.store_model.specs.Prelude.{Key, is_volatile, is_opaque, is_persistent_key, has_secure_element, counted, created, new_id, new_key, FaultMark, Plain, Storage, Writing, Service, serve, Entry, outcome_of, replay, key_changed, last_counts}
-use Rattle.store_model.proofs.Recorded.{MayBeKept, recorded}
-use Rattle.store_core.specs.declared.store.Store.{Store}
-use Rattle.store_core.specs.Durability.{Course, durable_keys, doubt_after, doubt_by, kept}
-use Rattle.store_core.specs.Represents.{Opening, Told}
-use Rattle.store_core.specs.Creations.{IsReady, IsMaterial, IsMaking, IsSince}
 use Rattle.store_core.proofs.Holding.{StandsHere, IsTurn, same_directory, same_device}
 use Rattle.store_core.proofs.Sure.{set_sure}
 use Rattle.store_core.proofs.Removing.{directory_settled}

@@ -1,33 +1,14 @@
 -- A ranked turn that creates a volatile key, in memory or in the device.
+use Rattle.std.proofs.Common.{IfSome, List, None, Option, Some, [], ap, arith, cond, false, length, refl, slice_index, slice_set, subst, sym, true, ℕ, ◌++◌, ◌+◌, ◌<◌, ◌^◌, ◌||◌, ◌∙◌, ◌∷◌, ◌≡◌, ◌≤◌, ◌⊎◌}
+use Rattle.store_core.proofs.Common.{Agrees, AreHoldings, Attributes, Buffer, Course, Doubt, Entry, FaultMark, Hardware, HeldKey, HeldKeys, HoldsHandle, HoldsKeys, IsMaking, IsMaterial, IsReady, IsSince, IsSomeKey, IsThereOrNew, Key, KeySlots, Lacks, Leads, MayBeKept, NoKey, Opening, Pairs, Plain, Puts, Rose, Service, SlotHasKey, Store, Told, asks_device, bytes_of, counted, created, doubt_after, durable_keys, first_volatile, full_slot, has_element, has_secure_element, identified, is_key_type, is_opaque, is_opaque_key, is_volatile, key_changed, last_counts, new_id, new_key, permits_size, quiet, replay, serve, stays, stored, with_copy, with_held_key, with_key_or_same}
 use Rattle.disk_face.specs.declared.Disk as Disk
 use Rattle.driver_dispatch.specs.declared.devices.Devices as Devices
 use Rattle.admission.specs.declared.rules.Admission as Admission
-use Rattle.std.proofs.Common.{◌≡◌, ◌⊎◌, ◌∙◌, ℕ, ◌+◌, ◌||◌, ◌^◌, ◌<◌, ◌≤◌, true, false, cond, List, [], ◌∷◌, ◌++◌, length, refl, sym, ap, subst, arith, Option, None, Some}
-use Rattle.std.specs.Prelude.{slice_index, slice_set, ⊤, IfSome}
+use Rattle.std.specs.Prelude.{⊤}
 use Rattle.std.specs.Option.{option_map}
 use Rattle.std.specs.FinMap as map
-use Rattle.psa_status.specs.Causes.{Rose}
-use Rattle.key_attributes.specs.declared.Attributes.{Attributes}
-use Rattle.key_attributes.specs.Checks.{is_key_type, permits_size}
-use Rattle.driver_dispatch.specs.Held.{HeldKey, HeldKeys, with_held_key, with_copy, with_key_or_same}
 use Rattle.driver_dispatch.specs.Held as held_keys
-use Rattle.driver_dispatch.specs.Calls.{HoldsHandle, IsSomeKey, Lacks, has_element}
-use Rattle.secret_bytes.specs.Buffer.{Buffer, bytes_of}
-use Rattle.persistent_keys.specs.Files.{stored, Doubt, Leads}
-use Rattle.persistent_keys.proofs.Leading.{stays}
-use Rattle.slot_table.specs.Slots.{NoKey}
-use Rattle.slot_table.specs.Changes.{full_slot}
-use Rattle.key_slots.specs.declared.slots.KeySlots.{KeySlots}
-use Rattle.key_slots.specs.Holdings.{Pairs, AreHoldings}
-use Rattle.key_slots.specs.Standing.{Agrees, Puts, SlotHasKey, IsThereOrNew}
-use Rattle.key_slots.proofs.Agreeing.{quiet}
 use Rattle.store_model.specs.Store as model
-use Rattle.store_model.specs.Prelude.{Key, first_volatile, is_volatile, is_opaque, is_opaque_key, has_secure_element, counted, created, new_id, new_key, identified, FaultMark, Plain, Hardware, Service, serve, Entry, replay, asks_device, key_changed, last_counts}
-use Rattle.store_model.proofs.Recorded.{MayBeKept}
-use Rattle.store_core.specs.declared.store.Store.{Store}
-use Rattle.store_core.specs.Durability.{Course, durable_keys, doubt_after}
-use Rattle.store_core.specs.Represents.{HoldsKeys, Opening, Told}
-use Rattle.store_core.specs.Creations.{IsReady, IsMaterial, IsMaking, IsSince}
 use Rattle.store_core.proofs.Holding.{StandsHere, IsTurn, same_directory}
 use Rattle.store_core.proofs.Added.{none_here, puts, is_new, put_here, volatile_id, few_live, few_made, made_here, live_here, volatile_kept, as_many_kept, directory_same, device_same, device_gains, device_failed, local_fills, opaque_fills}
 use Rattle.store_core.proofs.Checked.{known_type, known_size, element_is, in_no_slot}

@@ -1,18 +1,8 @@
 -- What a call answers where there is no key, and only there.
-use Rattle.std.proofs.Common.{◌≡◌, ℕ, Bool, true, false, cond, take, refl, subst, Some}
-use Rattle.std.specs.Prelude.{Err, IsErrOf}
-use Rattle.psa_status.specs.declared.Status.{Status}
-use Rattle.psa_status.specs.declared.Status.TheVariants.{InvalidHandle, InvalidArgument, NotPermitted, NotSupported}
-use Rattle.psa_status.specs.Rows.{first_row}
+use Rattle.std.proofs.Common.{Bool, Err, IsErrOf, Some, cond, false, refl, subst, take, true, ℕ, ◌≡◌}
+use Rattle.store_core.proofs.Common.{Corrupt, Disk, InvalidArgument, InvalidHandle, Key, KeyUse, Missing, NotPermitted, NotSupported, Status, Unread, derivation_key_rows, export_rows, first_row, refused_by, status_of, use_refusal, use_rows}
 use Rattle.alg_encoding.specs.Encoding.{is_concrete}
-use Rattle.store_model.specs.Prelude.{Key, export_rows, use_rows, derivation_key_rows}
-use Rattle.store_model.proofs.Tables.{refused_by}
-use Rattle.key_policy.specs.declared.key_use.KeyUse.{KeyUse}
 use Rattle.key_policy.specs.declared.key_use.KeyUse.TheVariants.{Export, Algorithm, Derivation}
-use Rattle.key_policy.specs.Uses.{use_refusal}
-use Rattle.store_core.specs.declared.reading.Unread.{Unread}
-use Rattle.store_core.specs.declared.reading.Unread.TheVariants.{Missing, Disk, Corrupt}
-use Rattle.store_core.specs.Uses.{status_of}
 
 -- a search that is answered so found no key
 pub is_missing_why : (why : Unread) → status_of why ≡ InvalidHandle → IsErrOf {T = ℕ} {E = Unread} (Err why) Missing

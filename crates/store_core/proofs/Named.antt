@@ -1,16 +1,8 @@
 -- Identifiers that no key has.
-use Rattle.std.proofs.Common.{◌≡◌, ◌∙◌, ℕ, ◌≤◌, ◌<◌, Bool, true, false, cond, not, nat_le, ◌&&◌, length, refl, sym, ap, subst, arith, Option, None, Some}
-use Rattle.std.proofs.lemmas.Bool.Decides.{nat_tests}
-use Rattle.std.specs.Prelude.{Ok, ◌==◌}
+use Rattle.std.proofs.Common.{Bool, None, Ok, Option, Some, ap, arith, cond, false, length, nat_le, not, refl, subst, sym, true, ℕ, ◌&&◌, ◌<◌, ◌==◌, ◌∙◌, ◌≡◌, ◌≤◌}
+use Rattle.store_core.proofs.Common.{Attributes, IsSoundStore, IsVolatileKey, Key, as_stated, attribute_rows, checked, filled, first_row, has_secure_element, identified, is_volatile, nat_tests, none_holds, unless-ok}
 use Rattle.std.specs.FinMap as map
-use Rattle.psa_status.specs.Rows.{first_row}
-use Rattle.psa_status.proofs.Rows.{unless-ok}
-use Rattle.key_attributes.specs.declared.Attributes.{Attributes}
-use Rattle.key_attributes.specs.Checks.{attribute_rows, checked, filled}
-use Rattle.key_slots.specs.Standing.{IsVolatileKey}
-use Rattle.store_model.specs.Prelude.{identified, Key, is_volatile, has_secure_element, IsSoundStore, as_stated}
 use Rattle.store_model.specs.Store as model
-use Rattle.store_model.proofs.Tables.{none_holds}
 
 within : (id : ℕ) → not (nat_le 1 id && nat_le id 0x3fffffff) ≡ false → (1 ≤ id) × (id ≤ 0x3fffffff)
 within id holds = (grind (arith, nat_tests), grind (arith, nat_tests))

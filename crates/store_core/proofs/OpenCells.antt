@@ -1,15 +1,9 @@
 -- The open cells of a directory by their numbers, and the keys in them.
-use Rattle.std.proofs.Common.{◌≡◌, ◌∙◌, ℕ, zero, suc, ◌+◌, ◌<◌, ◌≤◌, Bool, true, false, cond, List, [], ◌∷◌, ◌++◌, take, length, count_by, refl, sym, ap, subst, arith, eq-eqb, Option, Some, IfSome, ⊎_elim}
-use Rattle.std.proofs.lemmas.Bool.{false≢true, cases_eq}
+use Rattle.std.proofs.Common.{Bool, IfSome, List, Option, Some, [], ap, arith, cond, count_by, eq-eqb, false, length, refl, slice_get, subst, suc, sym, take, true, zero, ℕ, ⊎_elim, ◌++◌, ◌+◌, ◌<◌, ◌∙◌, ◌∷◌, ◌≡◌, ◌≤◌}
+use Rattle.store_core.proofs.Common.{AreOpened, Free, HasOneEach, HoldsKey, IsKeyOf, IsNumbered, Open, OpenedKey, Shut, Unsure, body, cases_eq, cell_slot, count_by_more_no, count_by_more_yes, creation_of_slot, false≢true, has_id, is_open, sum_by-cons}
 use Rattle.std.proofs.lemmas.List.{take_all, length-append}
-use Rattle.std.proofs.lemmas.List.Sums.{sum_by-cons, count_by_more_yes, count_by_more_no}
 use Rattle.std.proofs.lemmas.Option.{slice_get_within}
-use Rattle.std.specs.Prelude.{slice_get}
 use Rattle.key_cells.specs.declared.slot.Slot as cell
-use Rattle.key_cells.specs.declared.slot.Slot.TheVariants.{Free, Open, Shut, Unsure}
-use Rattle.key_cells.specs.Prelude.{body, cell_slot, has_id, is_open, creation_of_slot, IsKeyOf, HoldsKey, IsNumbered, HasOneEach}
-use Rattle.store_model.specs.Prelude.{OpenedKey}
-use Rattle.store_core.specs.Start.{AreOpened}
 use Rattle.store_core.proofs.FoundMap.{HasEachOnce, AreKept, id_of}
 
 -- THE CELL OF A NUMBER

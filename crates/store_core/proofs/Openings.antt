@@ -1,19 +1,11 @@
 -- What an opening finds, as keys of the one-thread store.
-use Rattle.std.proofs.Common.{◌≡◌, ◌∙◌, ℕ, suc, ◌+◌, ◌<◌, ◌≤◌, true, cond, List, [], ◌∷◌, length, take, drop, is_some, refl, sym, ap, subst, arith, Option, None, Some, IfSome}
-use Rattle.std.proofs.lemmas.Bool.{false≢true, eqb-true}
-use Rattle.std.proofs.lemmas.List.{get_or-replicate, length-take, length-drop}
-use Rattle.std.specs.Prelude.{slice_get}
+use Rattle.std.proofs.Common.{IfSome, List, None, Option, Some, [], ap, arith, cond, drop, is_some, length, refl, slice_get, subst, suc, sym, take, true, ℕ, ◌+◌, ◌<◌, ◌∙◌, ◌∷◌, ◌≡◌, ◌≤◌}
+use Rattle.store_core.proofs.Common.{AreFound, AreOpened, Attributes, Finds, Free, HasKey, HoldsId, HoldsKey, IsFoundIn, IsKeyOf, IsNamed, IsNumbered, IsPersistent, Key, Open, OpenedKey, Present, Settings, Shows, Shut, Sound, Stored, Unsure, body, cell_slot, content_at, content_of, content_there, creation_of_slot, durable_keys, false≢true, found_in, gate, get_or-replicate, has_id, kept, opened_gate, place, start_of, stored}
+use Rattle.std.proofs.lemmas.Bool.{eqb-true}
+use Rattle.std.proofs.lemmas.List.{length-take, length-drop}
 use Rattle.std.specs.FinMap as map
-use Rattle.key_attributes.specs.declared.Attributes.{Attributes}
 use Rattle.key_cells.specs.declared.slot.Slot as cell
-use Rattle.key_cells.specs.declared.slot.Slot.TheVariants.{Free, Open, Shut, Unsure}
-use Rattle.key_cells.specs.Prelude.{place, gate, body, opened_gate, Sound, Shows, Present, cell_slot, content_at, has_id, creation_of_slot, IsPersistent, IsKeyOf, HoldsKey, HoldsId, HasKey, IsFoundIn, Finds, IsNumbered, IsNamed, found_in, content_of}
-use Rattle.key_cells.proofs.CellsRead.{content_there}
 use Rattle.key_cells.proofs.Bodies.{of_one_key}
-use Rattle.persistent_keys.specs.Files.{Stored, stored, AreFound}
-use Rattle.store_model.specs.Prelude.{Key, OpenedKey, Settings, start_of}
-use Rattle.store_core.specs.Durability.{kept, durable_keys}
-use Rattle.store_core.specs.Start.{AreOpened}
 use Rattle.store_core.proofs.FoundMap.{HasEachOnce, id_of, found_at, at_found}
 use Rattle.store_core.proofs.Kept.{lasting}
 use Rattle.store_core.proofs.OpenCells.{IsPlaced, HasCellKey, placed, has_own}

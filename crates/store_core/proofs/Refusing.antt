@@ -1,29 +1,12 @@
 -- A ranked turn that looked for a key.
+use Rattle.std.proofs.Common.{Err, IsErrOf, List, None, Option, Some, [], ap, arith, false, is_some, refl, subst, sym, true, ℕ, ◌++◌, ◌-◌, ◌<◌, ◌^◌, ◌∙◌, ◌∷◌, ◌≡◌}
+use Rattle.store_core.proofs.Common.{Agrees, AreHoldings, Corrupt, Disk, Entry, FaultCounts, FaultMark, GetAttributes, InvalidHandle, IsTold, Key, KeySlots, KeyUse, Missing, OnStore, Opening, Pairs, Plain, Rose, Service, Slot, Status, Store, Unread, counted, few_of_one, is_persistent_key, mark_of, readers_out, reads_persistent, refused_so, replay, slot_at, status_of, use_refusal}
 use Rattle.disk_face.specs.declared.Disk as Disk
 use Rattle.driver_dispatch.specs.declared.devices.Devices as Devices
 use Rattle.admission.specs.declared.rules.Admission as Admission
-use Rattle.std.proofs.Common.{◌≡◌, ◌∙◌, ℕ, ◌<◌, ◌-◌, ◌^◌, arith, true, false, List, [], ◌∷◌, ◌++◌, refl, sym, ap, subst, Option, None, Some, is_some}
-use Rattle.std.specs.Prelude.{Err, IsErrOf}
 use Rattle.std.specs.FinMap as map
-use Rattle.psa_status.specs.declared.Status.{Status}
-use Rattle.psa_status.specs.declared.Status.TheVariants.{InvalidHandle}
-use Rattle.psa_status.specs.Causes.{Rose}
-use Rattle.slot_table.specs.Slots.{Slot, slot_at}
-use Rattle.key_slots.specs.declared.slots.KeySlots.{KeySlots}
-use Rattle.key_slots.specs.Holdings.{Pairs, AreHoldings}
-use Rattle.key_slots.specs.Standing.{Agrees}
-use Rattle.key_slots.proofs.Agreeing.{readers_out}
-use Rattle.key_slots.proofs.Counting.{few_of_one}
 use Rattle.store_model.specs.Store as model
-use Rattle.store_model.specs.Prelude.{Key, is_persistent_key, GetAttributes, FaultMark, Plain, OnStore, counted, Service, Entry, replay, FaultCounts, reads_persistent}
-use Rattle.key_policy.specs.declared.key_use.KeyUse.{KeyUse}
-use Rattle.key_policy.specs.Uses.{use_refusal}
-use Rattle.key_policy.proofs.Refusals.{refused_so}
-use Rattle.store_core.specs.declared.store.Store.{Store}
-use Rattle.store_core.specs.declared.reading.Unread.{Unread}
-use Rattle.store_core.specs.declared.reading.Unread.TheVariants.{Missing, Disk, Corrupt}
-use Rattle.store_core.specs.Represents.{IsTold, Opening}
-use Rattle.store_core.specs.Uses.{IsRefused, mark_of, status_of}
+use Rattle.store_core.specs.Uses.{IsRefused}
 use Rattle.store_core.proofs.Histories.{told_before, quiet_leaves}
 use Rattle.store_core.proofs.Holding.{HoldsHere, StandsHere, IsTurn, IsReadingHere, turned, ends_quiet}
 use Rattle.store_core.proofs.Loading.{reads_it}

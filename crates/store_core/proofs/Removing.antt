@@ -1,25 +1,12 @@
 -- A store of which one key is removed.
-use Rattle.std.proofs.Common.{◌≡◌, ◌≢◌, ◌⊎◌, ◌∙◌, ℕ, ◌+◌, ◌<◌, ◌==◌, Bool, true, false, cond, List, length, set, refl, sym, ap, subst, arith, inl, inr, eq-eqb, Option, None, Some}
-use Rattle.std.proofs.lemmas.Bool.{false≢true, eqb-true, cases_eq, cases_lt}
-use Rattle.std.proofs.lemmas.Bool.Decides.{nat_tests}
-use Rattle.std.proofs.lemmas.List.{get_or-set_same, get_or-set_other, get_or-map, get_or_past, length-map}
+use Rattle.std.proofs.Common.{Bool, List, None, Option, Some, ap, arith, cond, eq-eqb, false, inl, inr, length, refl, set, subst, sym, true, ℕ, ◌+◌, ◌<◌, ◌==◌, ◌∙◌, ◌≡◌, ◌≢◌, ◌⊎◌}
+use Rattle.store_core.proofs.Common.{Free, HeldKey, HeldKeys, HoldsHandle, HoldsKeys, IsDirectory, IsPut, IsSomeKey, IsSoundStore, Key, KeyMap, Lacks, Open, Puts, Shut, Stored, Unsure, cases_eq, cases_lt, cell_slot, destroyed, durable_keys, false≢true, get_or-map, get_or_past, held_key, is_volatile, kept, left, len_kept-insert, length-map, nat_cmp_total, nat_tests, settled_slot, settled_slots, stored, taken, unsigned_tied, without_key}
+use Rattle.std.proofs.lemmas.Bool.{eqb-true}
+use Rattle.std.proofs.lemmas.List.{get_or-set_same, get_or-set_other}
 use Rattle.std.specs.Option.{option_map}
-use Rattle.std.specs.Cmp.{unsigned_tied}
-use Rattle.std.proofs.lemmas.Cmp.{nat_cmp_total}
 use Rattle.std.specs.FinMap as map
 use Rattle.key_cells.specs.declared.slot.Slot as cell
-use Rattle.key_cells.specs.declared.slot.Slot.TheVariants.{Free, Open, Shut, Unsure}
-use Rattle.key_cells.specs.Prelude.{cell_slot, settled_slot, settled_slots}
-use Rattle.persistent_keys.specs.Files.{Stored, stored, IsPut}
-use Rattle.driver_dispatch.specs.Held.{HeldKey, HeldKeys, held_key, without_key}
-use Rattle.driver_dispatch.specs.Calls.{HoldsHandle, IsSomeKey, Lacks}
-use Rattle.key_slots.specs.Standing.{Puts}
 use Rattle.store_model.specs.Store as model
-use Rattle.store_model.specs.Prelude.{Key, KeyMap, is_volatile, destroyed, IsSoundStore}
-use Rattle.store_model.proofs.Sound.{taken, left}
-use Rattle.store_model.proofs.Live.{len_kept-insert}
-use Rattle.store_core.specs.Durability.{kept, durable_keys}
-use Rattle.store_core.specs.Represents.{IsDirectory, HoldsKeys}
 use Rattle.store_core.proofs.Kept.{HasCellKey}
 use Rattle.store_core.proofs.Replaced.{back_again, some_same}
 

@@ -1,24 +1,10 @@
 -- A store of which one key that is kept in the file has other attributes and bytes.
-use Rattle.std.proofs.Common.{◌≡◌, ◌≢◌, ◌⊎◌, ◌∙◌, ℕ, ◌<◌, ◌≤◌, ◌==◌, Bool, true, false, cond, nat_lt, List, refl, sym, ap, subst, arith, inl, inr, Option, None, Some}
-use Rattle.std.proofs.lemmas.Bool.{false≢true, eqb-true, cases_eq}
-use Rattle.std.proofs.lemmas.Bool.Decides.{nat_tests}
-use Rattle.std.proofs.lemmas.Cmp.{nat_cmp_total}
+use Rattle.std.proofs.Common.{Bool, List, None, Option, Some, ap, arith, cond, false, inl, inr, nat_lt, refl, subst, sym, true, ℕ, ◌<◌, ◌==◌, ◌∙◌, ◌≡◌, ◌≢◌, ◌≤◌, ◌⊎◌}
+use Rattle.store_core.proofs.Common.{Agrees, Attributes, HeldKeys, HoldsHandle, HoldsKeys, IsDirectory, IsGone, IsKeyOf, IsSoundKey, IsSoundStore, Key, KeyMap, NoKey, Open, Pairs, Slot, cases_eq, cell_slot, false≢true, holds_its_key, holds_key, is_opaque, is_volatile, is_volatile_of, len_kept-insert, nat_cmp_total, nat_tests, put, slot_at, taken}
+use Rattle.std.proofs.lemmas.Bool.{eqb-true}
 use Rattle.std.specs.FinMap as map
-use Rattle.key_attributes.specs.declared.Attributes.{Attributes}
 use Rattle.key_cells.specs.declared.slot.Slot as cell
-use Rattle.key_cells.specs.declared.slot.Slot.TheVariants.{Open}
-use Rattle.key_cells.specs.Prelude.{cell_slot, IsKeyOf}
-use Rattle.driver_dispatch.specs.Held.{HeldKeys}
-use Rattle.driver_dispatch.specs.Calls.{HoldsHandle}
-use Rattle.slot_table.specs.Slots.{Slot, slot_at, holds_key, NoKey}
-use Rattle.key_slots.specs.Holdings.{Pairs}
-use Rattle.key_slots.specs.Standing.{Agrees, IsGone}
-use Rattle.key_slots.proofs.Agreeing.{holds_its_key}
 use Rattle.store_model.specs.Store as model
-use Rattle.store_model.specs.Prelude.{Key, KeyMap, is_volatile, is_opaque, is_volatile_of, IsSoundKey, IsSoundStore}
-use Rattle.store_model.proofs.Sound.{put, taken}
-use Rattle.store_model.proofs.Live.{len_kept-insert}
-use Rattle.store_core.specs.Represents.{IsDirectory, HoldsKeys}
 use Rattle.store_core.proofs.Kept.{HasCellKey, lasting, local, kept_checked}
 
 -- as many keys are kept of the map

@@ -1,8 +1,6 @@
 -- Histories whose counts and moments never fall.
-use Rattle.std.proofs.Common.{◌≡◌, ◌≤◌, ◌<◌, ℕ, suc, Bool, true, List, [], ◌∷◌, ◌++◌, length, arith}
-use Rattle.disk_face.specs.Moments.{done_at}
-use Rattle.store_model.specs.Prelude.{Entry, last_counts}
-use Rattle.store_core.specs.Represents.{Opening}
+use Rattle.std.proofs.Common.{Bool, List, [], arith, length, suc, true, ℕ, ◌++◌, ◌<◌, ◌∷◌, ◌≡◌, ◌≤◌}
+use Rattle.store_core.proofs.Common.{Entry, Opening, done_at, last_counts}
 use Rattle.store_core.specs.Rising.{AreRising, opening_after}
 
 -- one entry more, whose moment is the last of the longer history

@@ -1,41 +1,17 @@
 -- A store that was opened stands for a start, before any call.
+use Rattle.std.proofs.Common.{Bool, IfSome, List, None, Option, Some, [], ap, arith, count_by, false, is_some, length, nat_lt, refl, replicate, slice_get, slice_index, slice_index_or, subst, suc, sym, true, zero, ℕ, ◌+◌, ◌↔◌, ◌∙◌, ◌≡◌, ◌≤◌}
+use Rattle.store_core.proofs.Common.{Agrees, AreFound, AreHoldings, AreOpened, Attributes, HasKey, HasOneEach, HeldKeys, HoldsKeys, IsDirectory, IsHolding, IsNumbered, IsOpened, IsRefused, IsStart, IsVolatileKey, KeepsKeys, Key, KeyFile, Keys, Lacks, Memory, Open, OpenedKey, Opening, Pairs, Service, Settings, Sound, StandsFor, StandsForContents, StandsForKeys, Store, cell_slot, count_by-le-length, durable_keys, empty_ones, empty_slot, false≢true, for_told, found_in, is_opaque, is_open, is_volatile, is_volatile_of, length-replicate, nat_tests, of_volatile, opening_of, service_start, some_weaker, stands_fits, start_of}
 use Rattle.disk_face.specs.declared.Disk as Disk
 use Rattle.driver_dispatch.specs.declared.devices.Devices as Devices
 use Rattle.admission.specs.declared.rules.Admission as Admission
-use Rattle.std.proofs.Common.{◌≡◌, ◌∙◌, ℕ, zero, suc, ◌+◌, ◌≤◌, Bool, true, false, List, [], length, replicate, count_by, is_some, refl, sym, ap, subst, arith, Option, None, Some, IfSome}
-use Rattle.std.proofs.lemmas.Bool.{false≢true}
-use Rattle.std.proofs.lemmas.Bool.Decides.{nat_tests}
-use Rattle.std.proofs.lemmas.List.Sums.{count_by-le-length}
-use Rattle.std.proofs.lemmas.List.{length-replicate}
 use Rattle.std.proofs.lemmas.List.Elements.{All-replicate}
-use Rattle.std.specs.Prelude.{slice_get, slice_index, slice_index_or, nat_lt, ◌↔◌}
 use Rattle.std.specs.FinMap as map
-use Rattle.key_attributes.specs.declared.Attributes.{Attributes}
 use Rattle.key_cells.specs.declared.slot.Slot as cell
-use Rattle.key_cells.specs.declared.slot.Slot.TheVariants.{Open}
-use Rattle.key_cells.specs.declared.reading.OpenFault.TheVariants.{Memory}
-use Rattle.key_cells.specs.Prelude.{StandsForContents, Sound, cell_slot, is_open, HasKey, IsNumbered, HasOneEach, found_in, IsOpened, IsRefused}
-use Rattle.key_cells.proofs.CellsRead.{for_told, some_weaker}
 use Rattle.key_cells.proofs.Opened.{calm_none, refused_calm}
-use Rattle.persistent_keys.specs.Files.{Keys, AreFound, StandsForKeys}
 use Rattle.persistent_keys.proofs.Founding.{found_stands}
-use Rattle.persistent_keys.proofs.Leading.{stands_fits}
-use Rattle.slot_table.specs.Slots.{empty_slot}
-use Rattle.key_slots.specs.Holdings.{Pairs, IsHolding, AreHoldings}
-use Rattle.key_slots.specs.Standing.{Agrees, IsVolatileKey}
-use Rattle.key_slots.proofs.Agreeing.{empty_ones}
-use Rattle.driver_dispatch.specs.Held.{HeldKeys}
-use Rattle.driver_dispatch.specs.Calls.{Lacks}
 use Rattle.store_model.specs.Store as model
-use Rattle.store_model.specs.Prelude.{Key, OpenedKey, Settings, start_of, is_volatile_of, is_volatile, is_opaque, Service, service_start}
-use Rattle.store_model.proofs.Sound.{of_volatile}
 use Rattle.store_model.proofs.Starts.{store_starts}
-use Rattle.persistent_keys.specs.declared.file.KeyFile.{KeyFile}
-use Rattle.store_core.specs.declared.store.Store.{Store}
 use Rattle.store_core.specs.declared.store.Opened.{Opened}
-use Rattle.store_core.specs.Durability.{durable_keys, KeepsKeys}
-use Rattle.store_core.specs.Represents.{IsDirectory, HoldsKeys, Opening, StandsFor}
-use Rattle.store_core.specs.Start.{AreOpened, IsStart, opening_of}
 use Rattle.store_core.proofs.FoundMap.{HasEachOnce, AreKept, id_of, numbered, found_at, at_found, are_found, counted}
 use Rattle.store_core.proofs.Kept.{lasting, local}
 use Rattle.store_core.proofs.OpenCells.{placed, are_kept, each_once, has_own, some_opened}

@@ -1,15 +1,10 @@
 -- Directories without a cell in doubt, and what is in the cells of their files.
+use Rattle.std.proofs.Common.{IfSome, List, None, Option, Some, [], ap, arith, inl, inr, is_some, length, refl, set, subst, sym, true, ℕ, ◌<◌, ◌∙◌, ◌∷◌, ◌≡◌, ◌⊎◌}
+use Rattle.store_core.proofs.Common.{Absent, Content, Doubt, Doubtful, Finds, Free, HasKeyOrZeros, HoldsKey, IsFoundIn, IsSure, Keys, Open, Present, Shows, Shut, StandsForKeys, Stored, TellsCell, Unsure, body, cell_slot, closed, content_at, false≢true, gate, get_or-map, get_or-replicate, map-set, opened_gate, settled_slot, settled_slots, stored, zeros}
 use Rattle.disk_face.specs.declared.Disk as Disk
-use Rattle.std.proofs.Common.{◌≡◌, ◌⊎◌, ◌∙◌, ℕ, ◌<◌, true, List, [], ◌∷◌, length, set, refl, sym, ap, subst, arith, inl, inr, Option, None, Some, IfSome, is_some}
-use Rattle.std.proofs.lemmas.Bool.{false≢true}
-use Rattle.std.proofs.lemmas.List.{get_or-map, get_or-replicate, map-set}
 use Rattle.key_cells.specs.declared.slot.Slot.{Slot}
-use Rattle.key_cells.specs.declared.slot.Slot.TheVariants.{Free, Open, Shut, Unsure}
-use Rattle.key_cells.specs.Prelude.{gate, body, opened_gate, closed, zeros, Content, Absent, Present, Doubtful, IsSure, Shows, cell_slot, content_at, settled_slot, settled_slots, HoldsKey, Finds, IsFoundIn}
 use Rattle.key_cells.proofs.Clearing.{all_settled}
-use Rattle.persistent_keys.specs.Files.{Stored, stored, Keys, Doubt, StandsForKeys, TellsCell}
 use Rattle.persistent_keys.proofs.Filing.{settled_twice}
-use Rattle.store_core.specs.Zeros.{HasKeyOrZeros}
 use Rattle.store_core.proofs.Wiped.{shows_free}
 
 -- a slot is set in a directory in which no other is in doubt

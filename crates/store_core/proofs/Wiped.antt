@@ -1,16 +1,10 @@
 -- What is wiped: the slots of keys that are gone, and free cells.
-use Rattle.std.proofs.Common.{◌≡◌, ◌⊎◌, ◌∙◌, ℕ, ◌+◌, ◌<◌, List, refl, sym, ap, subst, arith, inl, inr}
+use Rattle.std.proofs.Common.{List, ap, arith, inl, inr, refl, subst, sym, ℕ, ◌+◌, ◌<◌, ◌∙◌, ◌≡◌, ◌⊎◌}
+use Rattle.store_core.proofs.Common.{Absent, Agrees, Content, Doubtful, Free, HasNumber, IsLawfulSlot, Pairs, Present, Shows, Slot, closed, empty_slot, filling_slot, is_full, named, readers_out, slot_at, zeros}
 use Rattle.key_cells.specs.declared.slot.Slot as cell
-use Rattle.key_cells.specs.declared.slot.Slot.TheVariants.{Free}
-use Rattle.key_cells.specs.Prelude.{closed, zeros, Content, Absent, Present, Doubtful, Shows}
 use Rattle.slot_states.specs.declared.SlotState.{SlotState}
 use Rattle.slot_states.specs.declared.SlotState.TheVariants.{Empty, Filling, Full, Pending}
-use Rattle.slot_table.specs.Slots.{Slot, IsLawfulSlot, empty_slot, filling_slot, is_full, slot_at}
-use Rattle.key_slots.specs.Holdings.{Pairs, named}
-use Rattle.key_slots.specs.Standing.{Agrees}
-use Rattle.key_slots.proofs.Agreeing.{readers_out}
 use Rattle.store_model.specs.Store as model
-use Rattle.store_model.specs.Prelude.{HasNumber}
 
 -- a cell that the directory has as free
 pub shows_free : (slot : cell.Slot) (content : Content) (gate body : List ℕ) → slot ≡ Free → Shows slot content gate body → (gate ≡ closed) × (body ≡ zeros)

@@ -1,25 +1,15 @@
 -- Cells that stay zeros over the calls of a turn.
+use Rattle.std.proofs.Common.{List, None, Option, Some, [], ap, arith, cond, length, refl, set, subst, sym, true, ℕ, ⊎_elim, ◌<◌, ◌==◌, ◌∙◌, ◌∷◌, ◌≡◌}
+use Rattle.store_core.proofs.Common.{FileStaysZeros, Free, HasZeros, IsDirectory, Key, KeyFile, Keys, LeavesZeros, Open, Shut, StaysFree, Store, Stored, Unsure, Within, cell_slot, false≢true, has_id, last_store, length-map, settled_slot, settled_slots, stays, within_both, within_none}
 use Rattle.disk_face.specs.declared.Disk as Disk
 use Rattle.driver_dispatch.specs.declared.devices.Devices as Devices
 use Rattle.admission.specs.declared.rules.Admission as Admission
-use Rattle.std.proofs.Common.{◌≡◌, ◌∙◌, ⊎_elim, ℕ, ◌<◌, ◌==◌, cond, true, List, [], ◌∷◌, Option, None, Some, length, refl, sym, ap, subst, set, arith}
-use Rattle.std.proofs.lemmas.Bool.{false≢true, eqb-true}
-use Rattle.std.proofs.lemmas.List.{get_or-set_same, length-map}
-use Rattle.disk_face.specs.Moments.{Within}
-use Rattle.disk_face.proofs.Moments.{within_both, within_none}
+use Rattle.std.proofs.lemmas.Bool.{eqb-true}
+use Rattle.std.proofs.lemmas.List.{get_or-set_same}
 use Rattle.key_cells.specs.declared.slot.Slot as cell
-use Rattle.key_cells.specs.declared.slot.Slot.TheVariants.{Free, Open, Shut, Unsure}
-use Rattle.key_cells.specs.Prelude.{HasZeros, cell_slot, has_id, settled_slot, settled_slots}
-use Rattle.persistent_keys.specs.declared.file.KeyFile.{KeyFile}
-use Rattle.persistent_keys.specs.Files.{Stored, Keys}
 use Rattle.persistent_keys.specs.Calls.{KeepsFile}
-use Rattle.persistent_keys.proofs.Leading.{stays}
 use Rattle.std.specs.FinMap as finmap
 use Rattle.store_model.specs.Store as model
-use Rattle.store_model.specs.Prelude.{Key}
-use Rattle.store_core.specs.Represents.{IsDirectory}
-use Rattle.store_core.specs.declared.store.Store.{Store}
-use Rattle.store_core.specs.Zeros.{FileStaysZeros, LeavesZeros, StaysFree, last_store}
 
 -- keys with another at one identifier
 abbrev pub keys_put : Keys → ℕ → Option Stored → Keys

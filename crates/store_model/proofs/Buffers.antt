@@ -1,13 +1,8 @@
 -- What refusals leave of an output buffer.
-use Rattle.std.proofs.Common.{◌≡◌, ℕ, ◌-◌, ◌++◌, Bool, true, false, cond, List, refl, sym, ap, ◌∙◌, arith}
-use Rattle.std.specs.Prelude.{replicate, drop}
-use Rattle.psa_status.specs.declared.Status.{Status}
-use Rattle.psa_status.specs.declared.Status.TheVariants.{Success}
-use Rattle.store_model.specs.Call.{Reply, buffer_after}
-use Rattle.store_model.specs.Outcome.{refusal, spoiled}
-use Rattle.store_model.specs.Refusals.{spoils}
 
 -- a reply which, where it refuses, leaves the buffer but for zeros
+use Rattle.std.proofs.Common.{Bool, List, ap, arith, cond, drop, false, refl, replicate, sym, true, ℕ, ◌++◌, ◌-◌, ◌∙◌, ◌≡◌}
+use Rattle.store_model.proofs.Common.{Reply, Status, Success, buffer_after, refusal, spoiled, spoils}
 abbrev pub LeavesBuffer : Reply → Type 0
 LeavesBuffer reply = (reply.status ≡ Success → ⊥) → (old : List ℕ) → buffer_after old reply ≡ cond (spoils reply.status) (replicate reply.needed 0 ++ drop reply.needed old) old
 

@@ -1,8 +1,7 @@
 -- A history whose marks are caused and allowed, with one more entry.
-use Rattle.std.proofs.Common.{[], ◌∷◌}
-use Rattle.store_model.specs.Replay.{outcome_of}
-use Rattle.store_model.specs.Laws.{CausesGoOn, AllowedGoOn}
 
+use Rattle.std.proofs.Common.{[], ◌∷◌}
+use Rattle.store_model.proofs.Common.{AllowedGoOn, CausesGoOn, outcome_of}
 pub go_on : CausesGoOn
 go_on tells counts [] e caused fault = (fault, tt)
 go_on tells counts (first ∷ h) e caused fault = (caused.0, go_on tells (record { faults = first.faults; hard = first.hard }) h e caused.1 fault)

@@ -1,21 +1,7 @@
 -- What a derivation's step makes of its operation.
-use Rattle.std.proofs.Common.{◌≡◌, ℕ, ◌≤◌, Bool, true, false, cond, List, length, refl, arith}
-use Rattle.std.specs.Prelude.{Option, None, Some, ◌==◌, ◌&&◌, ◌||◌, not, nat_lt, is_some, bytes_eq, ◌++◌}
-use Rattle.std.proofs.lemmas.Bool.Decides.{nat_tests}
-use Rattle.psa_status.specs.declared.Status.{Status}
-use Rattle.psa_status.specs.declared.Status.TheVariants.{InvalidArgument, InvalidHandle, InvalidSignature, InsufficientData}
-use Rattle.psa_status.specs.Rows.{first_row}
-use Rattle.store_model.specs.Store.{Key, Store}
-use Rattle.store_model.specs.Call.{Reply}
-use Rattle.store_model.specs.Outcome.{given, done, refusal}
-use Rattle.store_model.specs.Operations.{goes_on}
-use Rattle.store_model.specs.DerivationOperations.{DerivationWork, DerivationStep, GetCapacity, SetCapacity, InputBytes, InputInteger, OutputBytes, VerifyBytes, derivation_work, derivation_step, input_bytes_rows, input_integer_rows, output_rows, is_hkdf, is_due, is_salt_due, is_info_due, is_secret_due, salt_step, info_step, with_key, without, exhausted, next_derived, compared}
-use Rattle.store_model.specs.CipherOperations.{bytes_or_empty}
-use Rattle.store_model.specs.HandleCalls.{HandleCall, OnDerivation, input_key_rows}
-use Rattle.store_model.specs.Handles.{KeyCreation, Deriving, held_after}
-use Rattle.store_model.specs.Refusals.{left_by}
+use Rattle.std.proofs.Common.{Bool, List, None, Option, Some, arith, bytes_eq, cond, false, is_some, length, nat_lt, not, refl, true, ℕ, ◌&&◌, ◌++◌, ◌==◌, ◌||◌, ◌≡◌, ◌≤◌}
+use Rattle.store_model.proofs.Common.{DerivationStep, DerivationWork, Deriving, GetCapacity, HandleCall, InputBytes, InputInteger, InsufficientData, InvalidArgument, InvalidHandle, InvalidSignature, IsSoundDerivation, Key, KeyCreation, OnDerivation, OutputBytes, Reply, SetCapacity, Status, Store, VerifyBytes, bytes_or_empty, compared, derivation_step, derivation_work, done, exhausted, first_row, given, goes_on, held_after, info_step, input_bytes_rows, input_integer_rows, input_key_rows, is_due, is_hkdf, is_info_due, is_salt_due, is_secret_due, left_by, nat_tests, next_derived, output_rows, refusal, salt_step, with_key, without}
 use Rattle.store_model.proofs.Buffers.{refusal_leaves}
-use Rattle.store_model.specs.Sound.{IsSoundDerivation}
 use Rattle.store_model.proofs.Tables.{NoFault, none_holds, refused_by, refuses_plainly}
 use Rattle.store_model.proofs.Steps.{IsStep, Loses, held_derivation, unless_step, goes_step}
 

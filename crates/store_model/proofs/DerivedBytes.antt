@@ -1,18 +1,12 @@
 -- A derivation gives as many bytes as are asked for.
-use Rattle.std.proofs.Common.{◌≡◌, ℕ, zero, suc, ◌+◌, ◌-◌, ◌*◌, ◌/◌, ◌≤◌, Bool, true, false, cond, List, [], length, refl, ap, ◌∙◌, arith, length-append}
-use Rattle.std.specs.Prelude.{Option, None, Some, ◌==◌, is_some}
+use Rattle.std.proofs.Common.{Bool, List, None, Option, Some, [], ap, arith, cond, false, is_some, length, length-append, refl, suc, true, zero, ℕ, ◌*◌, ◌+◌, ◌-◌, ◌/◌, ◌==◌, ◌∙◌, ◌≡◌, ◌≤◌}
+use Rattle.store_model.proofs.Common.{DerivationWork, IsSoundDerivation, bytes_or_empty, derived, digest, expand, expand_block, expand_blocks, extract, hash_block_length, hash_length, is_hkdf, low_byte, next_derived, number_or_zero, pbkdf2, pbkdf2_block, pbkdf2_blocks, sha224, sha256}
 use Rattle.std.proofs.lemmas.List.{length-take-le, length-drop}
-use Rattle.sha2.specs.Sha256.{sha224, sha256}
 use Rattle.sha2.specs.Sha512.{sha384, sha512}
 use Rattle.sha2.proofs.Facts256.{length-sha224, length-sha256}
 use Rattle.sha2.proofs.Facts512.{length-sha384, length-sha512}
 use Rattle.alg_encoding.specs.Table as table
-use Rattle.crypto_specs.specs.Prelude.{hash_length, extract, expand_block, expand_blocks, expand, pbkdf2_block, pbkdf2_blocks, pbkdf2}
 use Rattle.crypto_specs.proofs.CodeLengths.{length-expand_block, length-pbkdf2_block}
-use Rattle.store_model.specs.Algorithms.{digest, hash_block_length, low_byte}
-use Rattle.store_model.specs.CipherOperations.{bytes_or_empty}
-use Rattle.store_model.specs.DerivationOperations.{DerivationWork, is_hkdf, number_or_zero, derived, next_derived}
-use Rattle.store_model.specs.Sound.{IsSoundDerivation}
 
 enough : (l h : ℕ) → 1 ≤ h → l ≤ h * ((l + h - 1) / h)
 enough l h first = omega arith

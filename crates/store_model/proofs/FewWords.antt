@@ -1,16 +1,7 @@
 -- A request draws at most 256 random words.
-use Rattle.std.proofs.Common.{◌≡◌, ℕ, ◌+◌, ◌≤◌, refl, arith}
-use Rattle.random_streams.specs.RandomWords.{words_used}
-use Rattle.store_model.specs.Store.{Store}
-use Rattle.store_model.specs.Outcome.{counted}
-use Rattle.store_model.specs.Creation.{created}
-use Rattle.store_model.specs.KeyUse.{destroyed}
-use Rattle.store_model.specs.Operations.{InError}
-use Rattle.store_model.specs.Handles.{Own, Service, own_of, with_own, with_drawn, with_operation}
-use Rattle.store_model.specs.Requests.{Request, OnStore, OnHandle}
-use Rattle.store_model.specs.DerivationOperations.{next_derived, without}
+use Rattle.std.proofs.Common.{arith, refl, ℕ, ◌+◌, ◌≡◌, ◌≤◌}
+use Rattle.store_model.proofs.Common.{DrawsFewWords, InError, OnHandle, OnStore, Own, Request, Service, Store, counted, created, destroyed, next_derived, own_of, with_drawn, with_operation, with_own, without, words_used}
 use Rattle.store_model.proofs.Steps.{held_derivation}
-use Rattle.store_model.specs.Laws.{DrawsFewWords}
 use Rattle.store_model.proofs.Operations.{drawn_most}
 use Rattle.store_model.proofs.Served.{FailedCases, on_store_shape, on_handle_shape}
 

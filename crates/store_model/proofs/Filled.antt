@@ -1,16 +1,7 @@
 -- What is recorded of a new key passes the checks, and comes out of them as it is.
-use Rattle.std.proofs.Common.{◌≡◌, ℕ, ◌*◌, Bool, true, false, not, refl, sym, ap, ◌∙◌, arith}
-use Rattle.std.specs.Prelude.{None, Ok, ◌==◌, ◌&&◌, [], ◌∷◌, bit_and}
-use Rattle.std.specs.Int.Bits.{and_zero_r}
-use Rattle.std.proofs.lemmas.Nat.{and_or_apart, and_or_self, and_comm, and_assoc, or_comm}
+use Rattle.std.proofs.Common.{Bool, None, Ok, [], ap, arith, bit_and, false, not, refl, sym, true, ℕ, ◌&&◌, ◌*◌, ◌==◌, ◌∙◌, ◌∷◌, ◌≡◌}
+use Rattle.store_model.proofs.Common.{Attributes, InvalidArgument, NotSupported, and_assoc, and_comm, and_or_apart, and_or_self, and_zero_r, attribute_rows, checked, filled, first_row, implied_usage, is_key_type, is_lifetime, is_stated_id, nat_tests, only_usage, or_comm, permits_size, unless, unless-ok}
 use Rattle.std.specs.Int.RustNames.{bit_or}
-use Rattle.std.proofs.lemmas.Bool.Decides.{nat_tests}
-use Rattle.psa_status.specs.declared.Status.TheVariants.{NotSupported, InvalidArgument}
-use Rattle.psa_status.specs.Rows.{first_row, unless}
-use Rattle.psa_status.proofs.Rows.{unless-ok}
-use Rattle.key_attributes.specs.declared.Attributes.{Attributes}
-use Rattle.key_attributes.specs.Checks.{attribute_rows, filled, checked, implied_usage, is_lifetime, is_stated_id, is_key_type, permits_size}
-use Rattle.policy_rules.specs.Narrow.{only_usage}
 use Rattle.policy_rules.proofs.Usages.{Includes, includes-and_l, includes-and_r, includes-trans, includes-refl, includes-both, includes-implied, with_flags, signs, verifies, implied-flags, implied-implied}
 use Rattle.store_model.proofs.Tables.{none_holds}
 

@@ -1,15 +1,7 @@
 -- The keys after a call are those before, and the one that the call made.
-use Rattle.std.proofs.Common.{◌≡◌, ℕ, ◌⊎◌, ◌+◌, ◌≤◌, Bool, true, false, cond, inl, inr, List, refl, sym, ap, ◌∙◌, arith}
-use Rattle.std.specs.Prelude.{Option, None, Some, ◌==◌}
+use Rattle.std.proofs.Common.{Bool, List, None, Option, Some, ap, arith, cond, false, inl, inr, refl, sym, true, ℕ, ◌+◌, ◌==◌, ◌∙◌, ◌≡◌, ◌≤◌, ◌⊎◌}
+use Rattle.store_model.proofs.Common.{Active, Attributes, HandleOperation, InError, Inactive, IsSoundCreation, IsSoundOperation, IsSoundUse, Key, KeyCreation, KeyMap, Store, counted, created, destroyed, new_id, new_key}
 use Rattle.std.specs.FinMap as map
-use Rattle.key_attributes.specs.declared.Attributes.{Attributes}
-use Rattle.store_model.specs.Store.{Key, Store, KeyMap}
-use Rattle.store_model.specs.Outcome.{counted}
-use Rattle.store_model.specs.Creation.{created, new_id, new_key}
-use Rattle.store_model.specs.KeyUse.{destroyed}
-use Rattle.store_model.specs.Handles.{KeyCreation, HandleOperation}
-use Rattle.store_model.specs.Operations.{Inactive, InError, Active}
-use Rattle.store_model.specs.Sound.{IsSoundCreation, IsSoundUse, IsSoundOperation}
 use Rattle.store_model.proofs.Sound.{put, taken, left}
 
 pub record Follows (store after : Store) : Type 0 where

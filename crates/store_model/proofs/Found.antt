@@ -1,17 +1,12 @@
 -- The keys that are there before a history count as made before it.
-use Rattle.std.proofs.Common.{◌≡◌, ℕ, ◌+◌, ◌<◌, Bool, true, false, cond, List, [], ◌∷◌, refl, sym, ap, ◌∙◌, arith, subst}
-use Rattle.std.specs.Prelude.{None, Some, ◌==◌, ◌&&◌, T, length, map as each}
+use Rattle.std.proofs.Common.{Bool, List, None, Some, T, [], ap, arith, cond, false, length, refl, subst, sym, true, ℕ, ◌&&◌, ◌+◌, ◌<◌, ◌==◌, ◌∙◌, ◌∷◌, ◌≡◌}
+use Rattle.store_model.proofs.Common.{IsSoundStore, IsWithin-refl, Key, Made, NoneFoundAtStart, Store, creation_at, creation_from, found_made, nat_tests, origin_from, origin_of, start_of, unsigned_tied}
+use Rattle.std.specs.Prelude.{map as each}
 use Rattle.std.specs.Ordering.{nat_cmp, is_eq, is_lt}
 use Rattle.std.specs.declared.cmp.Ordering.{Ordering}
 use Rattle.std.specs.declared.cmp.Ordering.TheVariants.{Less, Equal, Greater}
-use Rattle.std.specs.Cmp.{unsigned_tied}
 use Rattle.std.specs.FinMap as map
 use Rattle.std.specs.FinMap.Entries.{below_all}
-use Rattle.std.proofs.lemmas.Bool.Decides.{nat_tests}
-use Rattle.policy_rules.proofs.Copies.{IsWithin-refl}
-use Rattle.store_model.specs.Store.{Key, Store, start_of}
-use Rattle.store_model.specs.Sound.{IsSoundStore}
-use Rattle.store_model.specs.Origin.{Made, creation_from, found_made, creation_at, origin_from, origin_of, NoneFoundAtStart}
 use Rattle.store_model.proofs.Origin.{Tracks}
 
 abbrev KeyEntry : Type 0

@@ -1,16 +1,7 @@
 -- No chain of copies gains a flag or an algorithm, over every history.
-use Rattle.std.proofs.Common.{ℕ, List, [], ◌∷◌, ◌++◌}
-use Rattle.std.specs.Prelude.{Option, None}
+use Rattle.std.proofs.Common.{List, None, Option, [], ℕ, ◌++◌, ◌∷◌}
+use Rattle.store_model.proofs.Common.{CopiesGainNothing, Entry, FaultMark, IsCaller, IsSound, Made, OnHandle, OnStore, Request, Served, Service, counted, destroyed, found_made, made_after, made_by, next_derived, outcome_of, replay, serve, source_of}
 use Rattle.std.specs.List.{AllByRecursion}
-use Rattle.store_model.specs.Faults.{FaultMark}
-use Rattle.store_model.specs.Outcome.{counted}
-use Rattle.store_model.specs.KeyUse.{destroyed}
-use Rattle.store_model.specs.DerivationOperations.{next_derived}
-use Rattle.store_model.specs.Handles.{Service, Served}
-use Rattle.store_model.specs.Requests.{Request, OnStore, OnHandle, serve}
-use Rattle.store_model.specs.Replay.{Entry, outcome_of, replay}
-use Rattle.store_model.specs.Sound.{IsSound}
-use Rattle.store_model.specs.Origin.{Made, source_of, made_by, made_after, found_made, IsCaller, CopiesGainNothing}
 use Rattle.store_model.proofs.Origin.{Tracks, TracksReply, none_tracks, counted_tracks, created_tracks, destroyed_tracks, step_tracks}
 use Rattle.store_model.proofs.Found.{found_tracks}
 use Rattle.store_model.proofs.Served.{FailedCases, on_store_shape, on_handle_shape}

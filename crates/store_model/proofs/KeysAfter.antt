@@ -1,20 +1,7 @@
 -- The keys after a request: each stays until it is destroyed, and each new one obeys the rules.
-use Rattle.std.proofs.Common.{◌≡◌, ℕ, Bool, true, false, cond, List, refl, sym, ap, ◌∙◌, subst, arith, ◌⊎◌, inl, inr}
-use Rattle.std.specs.Prelude.{Option, None, Some, Ok, ◌==◌}
+use Rattle.std.proofs.Common.{Bool, List, None, Ok, Option, Some, ap, arith, cond, false, inl, inr, refl, subst, sym, true, ℕ, ◌==◌, ◌∙◌, ◌≡◌, ◌⊎◌}
+use Rattle.store_model.proofs.Common.{Attributes, Destroy, IsSoundStore, Key, KeysStay, OnHandle, OnStore, Request, RulesAreFollowed, Served, Service, Store, after_rules, created, destroyed, first_row, identified, nat_tests, new_id, new_key, next_derived, room_for_key_rows}
 use Rattle.std.specs.FinMap as map
-use Rattle.std.proofs.lemmas.Bool.Decides.{nat_tests}
-use Rattle.psa_status.specs.Rows.{first_row}
-use Rattle.key_attributes.specs.declared.Attributes.{Attributes}
-use Rattle.policy_rules.specs.Narrow.{after_rules}
-use Rattle.store_model.specs.Store.{Key, Store}
-use Rattle.store_model.specs.Call.{Destroy}
-use Rattle.store_model.specs.Creation.{created, identified, new_id, new_key, room_for_key_rows}
-use Rattle.store_model.specs.KeyUse.{destroyed}
-use Rattle.store_model.specs.DerivationOperations.{next_derived}
-use Rattle.store_model.specs.Handles.{Service, Served}
-use Rattle.store_model.specs.Requests.{Request, OnStore, OnHandle}
-use Rattle.store_model.specs.Sound.{IsSoundStore, KeysStay}
-use Rattle.store_model.specs.Laws.{RulesAreFollowed}
 use Rattle.store_model.proofs.Obeyed.{AreObeyed, obeyed_again, identified_obeyed}
 use Rattle.store_model.proofs.Sound.{put, taken, left, new_is_free}
 use Rattle.store_model.proofs.Served.{FailedCases, on_store_shape, on_handle_shape}

@@ -1,21 +1,6 @@
 -- What a request that doesn't succeed leaves.
-use Rattle.std.proofs.Common.{◌≡◌, ℕ, ◌+◌, true, false, refl, sym, ap, ◌∙◌, slice_set, arith}
-use Rattle.std.specs.Prelude.{Option, None, Some}
-use Rattle.psa_status.specs.declared.Status.{Status}
-use Rattle.psa_status.specs.declared.Status.TheVariants.{Success, BadState}
-use Rattle.random_streams.specs.RandomWords.{words_used}
-use Rattle.store_model.specs.Call.{Call}
-use Rattle.store_model.specs.Faults.{Plain, Storage, Hardware, Corrupt}
-use Rattle.store_model.specs.Outcome.{counted, refusal}
-use Rattle.store_model.specs.Operations.{Operation, Inactive, InError, Active, After, set_up}
-use Rattle.store_model.specs.Handles.{Work, Held, HandleOperation, Own, Service, Served, own_of, operation_of, with_own, with_drawn, with_operation, next_random, applied, untouched, stepped}
-use Rattle.store_model.specs.HandleCalls.{HandleCall, HashSetup, MacSetup, CipherSetup, AeadSetup, DerivationSetup, OnHash, OnMac, OnCipher, OnAead, OnDerivation, InputKey, OutputKey, Abort, is_setup, input_key, output_key}
-use Rattle.store_model.specs.Requests.{Request, OnStore, OnHandle, on_store, serve}
-use Rattle.store_model.specs.Refusals.{is_active, left_by}
-use Rattle.store_model.specs.Laws.{left_all, RefusalsLeaveAll, RefusalsLeaveBuffers, UnreadyHandlesStay, RefusedSetupsLeaveAll}
-use Rattle.store_model.specs.DerivationOperations.{DerivationWork}
-use Rattle.key_attributes.specs.declared.Attributes.{Attributes}
-use Rattle.store_model.specs.Operations.{is_inactive}
+use Rattle.std.proofs.Common.{None, Option, Some, ap, arith, false, refl, slice_set, sym, true, ℕ, ◌+◌, ◌∙◌, ◌≡◌}
+use Rattle.store_model.proofs.Common.{Abort, Active, AeadSetup, After, Attributes, BadState, Call, CipherSetup, Corrupt, DerivationSetup, DerivationWork, HandleCall, HandleOperation, Hardware, HashSetup, Held, InError, Inactive, InputKey, MacSetup, OnAead, OnCipher, OnDerivation, OnHandle, OnHash, OnMac, OnStore, Operation, OutputKey, Own, Plain, RefusalsLeaveAll, RefusalsLeaveBuffers, RefusedSetupsLeaveAll, Request, Served, Service, Status, Storage, Success, UnreadyHandlesStay, Work, applied, counted, input_key, is_active, is_inactive, is_setup, left_all, left_by, next_random, on_store, operation_of, output_key, own_of, refusal, serve, set_up, stepped, untouched, with_drawn, with_operation, with_own, words_used}
 use Rattle.store_model.proofs.DrawnBytes.{length-random}
 use Rattle.store_model.proofs.StoreShape.{store_shape}
 use Rattle.store_model.proofs.Operations.{same_own, same_service}

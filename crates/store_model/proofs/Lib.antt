@@ -1,3 +1,4 @@
+mod Common
 pub mod Tables
 pub mod Obeyed
 pub mod Buffers

@@ -1,12 +1,9 @@
 -- How the number of live volatile keys of a caller changes.
-use Rattle.std.proofs.Common.{◌≡◌, ℕ, ◌+◌, ◌-◌, ◌≤◌, Bool, true, false, cond, refl, sym, ap, ◌∙◌, arith}
-use Rattle.std.specs.Prelude.{Option, Some, None, is_some, ◌==◌}
+use Rattle.std.proofs.Common.{Bool, None, Option, Some, ap, arith, cond, false, is_some, refl, sym, true, ℕ, ◌+◌, ◌-◌, ◌==◌, ◌∙◌, ◌≡◌, ◌≤◌}
+use Rattle.store_model.proofs.Common.{nat_cmp_total, nat_tests, ranked, unsigned_tied}
 use Rattle.std.specs.Ordering.{nat_cmp}
-use Rattle.std.specs.Cmp.{unsigned_tied}
-use Rattle.std.proofs.lemmas.Cmp.{nat_cmp_total, ranked}
 use Rattle.std.specs.FinMap.{FinMap, empty, get, insert, remove, retain_keys, contains_key, get-empty, len-empty, len, get-insert, get-remove, get-retain_keys, len-insert, len-remove, same_map, nat_cmp-IsAntisymmetric}
 use Rattle.std.specs.declared.cmp.Ordering.TheVariants.{Equal}
-use Rattle.std.proofs.lemmas.Bool.Decides.{nat_tests}
 
 both : {X : Type 0} (b c : Bool) (x y : Option X) → (b ≡ true → c ≡ true) → cond c (cond b x y) None ≡ cond b x (cond c y None)
 both true true x y h = refl

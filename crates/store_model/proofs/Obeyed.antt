@@ -1,18 +1,8 @@
 -- What the rules leave they leave again, and with another identifier.
-use Rattle.std.proofs.Common.{◌≡◌, ℕ, Bool, true, false, not, cond, List, [], ◌∷◌, refl, sym, ap, ◌∙◌, subst}
-use Rattle.std.specs.Prelude.{Result, Ok, ◌==◌, ◌&&◌, bit_and}
-use Rattle.std.specs.Int.Bits.{and_self}
-use Rattle.std.proofs.lemmas.Nat.{and_comm, and_assoc}
-use Rattle.psa_status.specs.declared.Status.{Status}
-use Rattle.key_attributes.specs.declared.Attributes.{Attributes}
-use Rattle.policy_rules.specs.declared.narrowing.Label.{Label}
-use Rattle.policy_rules.specs.declared.narrowing.Label.TheVariants.{NoExport, NoCopy, NoEcb, Aes256}
-use Rattle.policy_rules.specs.declared.narrowing.Verdict.{Verdict}
-use Rattle.policy_rules.specs.declared.narrowing.Verdict.TheVariants.{Keep, Refuse}
-use Rattle.policy_rules.specs.Narrow.{only_usage, narrowed, after_verdict, after_rules}
-use Rattle.store_model.specs.Creation.{identified}
 
 -- a rule keeps these attributes as they are
+use Rattle.std.proofs.Common.{Bool, List, Ok, Result, [], ap, bit_and, cond, false, not, refl, subst, sym, true, ℕ, ◌&&◌, ◌==◌, ◌∙◌, ◌∷◌, ◌≡◌}
+use Rattle.store_model.proofs.Common.{Aes256, Attributes, Keep, Label, NoCopy, NoEcb, NoExport, Refuse, Status, Verdict, after_rules, after_verdict, and_assoc, and_comm, and_self, identified, narrowed, only_usage}
 abbrev pub Obeys : Label → Attributes → Type 0
 Obeys label a = narrowed label a ≡ Keep a
 

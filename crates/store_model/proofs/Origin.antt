@@ -1,24 +1,8 @@
 -- No chain of copies gains a flag or an algorithm.
-use Rattle.std.proofs.Common.{◌≡◌, ℕ, ◌+◌, ◌<◌, Bool, true, false, cond, List, [], ◌∷◌, ◌++◌, refl, sym, ap, ◌∙◌, arith, subst, ◌⊎◌, inl, inr}
-use Rattle.std.specs.Prelude.{Option, None, Some, ◌==◌, IfSome}
+use Rattle.std.proofs.Common.{Bool, IfSome, List, None, Option, Some, [], ap, arith, cond, false, inl, inr, refl, subst, sym, true, ℕ, ◌++◌, ◌+◌, ◌<◌, ◌==◌, ◌∙◌, ◌∷◌, ◌≡◌, ◌⊎◌}
+use Rattle.store_model.proofs.Common.{Attributes, Call, HasOrigin, IsFilled, IsSoundStore, IsWithin, IsWithin-implied, IsWithin-refl, IsWithin-trans, Key, Made, OnStore, Policy, Reply, Store, counted, created, creation_at, creation_from, destroyed, identified, is_volatile, key_answered, meet-within_source, meet_of, nat_tests, new_id, new_key, option_map_or, origin_from, origin_of, source_of, unless-ok, with_implied}
 use Rattle.std.specs.Ordering.{nat_cmp}
-use Rattle.std.specs.Option.{option_map_or}
 use Rattle.std.specs.FinMap as map
-use Rattle.std.proofs.lemmas.Bool.Decides.{nat_tests}
-use Rattle.psa_status.proofs.Rows.{unless-ok}
-use Rattle.key_attributes.specs.declared.Attributes.{Attributes}
-use Rattle.key_attributes.specs.declared.Policy.{Policy}
-use Rattle.policy_rules.specs.Policy.{meet_of, with_implied, IsWithin, IsFilled}
-use Rattle.policy_rules.proofs.Copies.{IsWithin-refl, IsWithin-trans, IsWithin-implied, meet-within_source}
-use Rattle.store_model.specs.Store.{Key, Store, is_volatile}
-use Rattle.store_model.specs.Call.{Call, Reply}
-use Rattle.store_model.specs.Outcome.{counted}
-use Rattle.store_model.specs.Creation.{identified, created, new_id, new_key}
-use Rattle.store_model.specs.Marks.{key_answered}
-use Rattle.store_model.specs.KeyUse.{destroyed}
-use Rattle.store_model.specs.Requests.{OnStore}
-use Rattle.store_model.specs.Sound.{IsSoundStore}
-use Rattle.store_model.specs.Origin.{Made, source_of, creation_from, creation_at, origin_from, origin_of, HasOrigin}
 use Rattle.store_model.proofs.StoreShape.{MakesNone, IsCopied, StoreCases}
 use Rattle.store_model.proofs.Sound.{put, taken, left}
 

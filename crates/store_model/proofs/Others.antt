@@ -1,19 +1,8 @@
 -- A request leaves other callers, other handles of its caller, the settings, and where it changes no key the store.
-use Rattle.std.proofs.Common.{◌≡◌, ℕ, ◌+◌, Bool, true, false, cond, List, refl, sym, ap, ◌∙◌, slice_index_or, slice_set}
-use Rattle.std.specs.Prelude.{Some}
+use Rattle.std.proofs.Common.{Bool, List, Some, ap, cond, false, refl, slice_index_or, slice_set, sym, true, ℕ, ◌+◌, ◌∙◌, ◌≡◌}
+use Rattle.store_model.proofs.Common.{Attributes, CountsOnce, FaultMark, HandleOperation, InError, LeavesOtherCallers, LeavesOtherHandles, LeavesSettings, LeavesShared, OnHandle, OnStore, Request, Served, Service, Store, counted, created, destroyed, handle_of, is_volatile, made_of, may_change_keys, next_derived, operation_of, own_of, serve, with_drawn, with_operation, without}
 use Rattle.std.proofs.lemmas.List.{get_or-set_other}
-use Rattle.key_attributes.specs.declared.Attributes.{Attributes}
-use Rattle.store_model.specs.Store.{Store, made_of, is_volatile}
-use Rattle.store_model.specs.Outcome.{counted}
-use Rattle.store_model.specs.Creation.{created}
-use Rattle.store_model.specs.KeyUse.{destroyed}
-use Rattle.store_model.specs.DerivationOperations.{next_derived, without}
-use Rattle.store_model.specs.Operations.{InError}
-use Rattle.store_model.specs.Faults.{FaultMark}
-use Rattle.store_model.specs.Handles.{HandleOperation, Service, Served, own_of, operation_of, with_drawn, with_operation}
-use Rattle.store_model.specs.Requests.{Request, OnStore, OnHandle, serve}
 use Rattle.store_model.proofs.Steps.{held_derivation}
-use Rattle.store_model.specs.Laws.{handle_of, may_change_keys, LeavesOtherCallers, LeavesOtherHandles, LeavesShared, LeavesSettings, CountsOnce}
 use Rattle.store_model.proofs.Operations.{other_own, operations_same, other_handle}
 use Rattle.store_model.proofs.Served.{FailedCases, on_store_shape, on_handle_shape}
 

@@ -1,24 +1,8 @@
 -- What a creation records, and its refusals.
-use Rattle.std.proofs.Common.{◌≡◌, ℕ, ◌≤◌, Bool, true, false, not, cond, List, [], ◌∷◌, refl, sym, ap, ◌∙◌, subst, arith}
-use Rattle.std.specs.Prelude.{None, Result, Ok, Err, IfOk, ◌==◌, ◌&&◌, nat_le}
-use Rattle.std.proofs.lemmas.Bool.Decides.{nat_tests}
-use Rattle.psa_status.specs.declared.Status.{Status}
-use Rattle.psa_status.specs.declared.Status.TheVariants.{NotPermitted, NotSupported, InvalidArgument, KeyLimit, AlreadyExists, InsufficientStorage}
-use Rattle.psa_status.specs.Rows.{Rows, first_row, unless, ◌>>=◌}
-use Rattle.psa_status.proofs.Rows.{unless-ok, unless-err}
-use Rattle.key_attributes.specs.declared.Attributes.{Attributes}
-use Rattle.key_attributes.specs.Checks.{attribute_rows, filled, checked, permits_size}
-use Rattle.policy_rules.specs.declared.narrowing.Label.{Label}
-use Rattle.policy_rules.specs.declared.narrowing.Label.TheVariants.{NoExport, NoCopy, NoEcb, Aes256}
-use Rattle.policy_rules.specs.declared.narrowing.Verdict.{Verdict}
-use Rattle.policy_rules.specs.declared.narrowing.Verdict.TheVariants.{Keep, Refuse}
-use Rattle.policy_rules.specs.Narrow.{narrowed, after_verdict, after_rules}
-use Rattle.policy_rules.specs.Policy.{IsWithin, with_implied}
+use Rattle.std.proofs.Common.{Bool, Err, IfOk, List, None, Ok, Result, [], ap, arith, cond, false, nat_le, not, refl, subst, sym, true, ℕ, ◌&&◌, ◌==◌, ◌∙◌, ◌∷◌, ◌≡◌, ◌≤◌}
+use Rattle.store_model.proofs.Common.{Aes256, AlreadyExists, Attributes, InsufficientStorage, InvalidArgument, IsWithin, IsWithin-refl, IsWithin-trans, Keep, KeyLimit, Label, NoCopy, NoEcb, NoExport, NotPermitted, NotSupported, Refuse, Rows, Status, Store, Verdict, after_rules, after_verdict, as_stated, attribute_rows, checked, file_rows, filled, first_row, has_secure_element, identified, is_volatile, narrowed, nat_tests, permits_size, recorded_of, room_for_key_rows, unless, unless-err, unless-ok, with_implied}
+use Rattle.psa_status.specs.Rows.{◌>>=◌}
 use Rattle.policy_rules.proofs.Rules.{narrowed-within}
-use Rattle.policy_rules.proofs.Copies.{IsWithin-refl, IsWithin-trans}
-use Rattle.store_model.specs.Store.{Store, has_secure_element, is_volatile}
-use Rattle.store_model.specs.Creation.{identified, file_rows, room_for_key_rows, recorded_of}
-use Rattle.store_model.specs.Sound.{as_stated}
 use Rattle.store_model.proofs.Filled.{filled-checked, only_usage-checked}
 use Rattle.store_model.proofs.Obeyed.{AreObeyed, rules_obeyed}
 use Rattle.store_model.proofs.Tables.{AllRows, none_holds, refused_by}

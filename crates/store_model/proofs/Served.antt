@@ -1,16 +1,6 @@
 -- The shape of any request: on the store or on a handle, whether a device failed or not.
-use Rattle.std.proofs.Common.{◌≡◌, ℕ, Bool, true, false, cond, refl, sym, ap, ◌∙◌, subst}
-use Rattle.std.specs.Prelude.{Some}
-use Rattle.psa_status.specs.declared.Status.TheVariants.{StorageFailure, HardwareFailure, DataCorrupt}
-use Rattle.store_model.specs.Call.{Call, Reply, Import, Export, GetAttributes, Destroy, Purge, Copy, Generate, HashCompute, HashCompare, MacCompute, MacVerify, CipherEncrypt, CipherDecrypt, AeadEncrypt, AeadDecrypt}
-use Rattle.store_model.specs.Outcome.{counted}
-use Rattle.store_model.specs.KeyUse.{destroyed}
-use Rattle.store_model.specs.Faults.{FaultMark, Plain, Storage, Hardware, Corrupt}
-use Rattle.store_model.specs.Operations.{InError}
-use Rattle.store_model.specs.Handles.{HandleOperation, Own, Service, Served, own_of, operation_of, with_own, with_operation, next_random}
-use Rattle.store_model.specs.HandleCalls.{HandleCall, is_setup}
-use Rattle.store_model.specs.Requests.{Request, OnStore, OnHandle, on_store, plain_step, failed_step, serve}
-use Rattle.store_model.specs.Laws.{handle_of}
+use Rattle.std.proofs.Common.{Bool, Some, ap, cond, false, refl, subst, sym, true, ℕ, ◌∙◌, ◌≡◌}
+use Rattle.store_model.proofs.Common.{AeadDecrypt, AeadEncrypt, Call, CipherDecrypt, CipherEncrypt, Copy, Corrupt, DataCorrupt, Destroy, Export, FaultMark, Generate, GetAttributes, HandleCall, HandleOperation, Hardware, HardwareFailure, HashCompare, HashCompute, Import, InError, MacCompute, MacVerify, OnHandle, OnStore, Own, Plain, Purge, Reply, Request, Served, Service, Storage, StorageFailure, counted, destroyed, failed_step, handle_of, is_setup, next_random, on_store, operation_of, own_of, plain_step, serve, with_operation, with_own}
 use Rattle.store_model.proofs.DrawnBytes.{length-random}
 use Rattle.store_model.proofs.Operations.{same_operation, same_service}
 use Rattle.store_model.proofs.StoreShape.{IsQuiet, refusal_quiet, spoiled_quiet, StoreCases, store_shape}

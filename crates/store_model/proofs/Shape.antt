@@ -1,30 +1,8 @@
 -- The shape of any call on a handle: it leaves all operations, or makes a step of its own, or creates a key.
-use Rattle.std.proofs.Common.{◌≡◌, ℕ, ◌≤◌, Bool, true, false, cond, List, refl, sym, ap, subst, arith}
-use Rattle.std.specs.Prelude.{Option, None, Some, Result, Ok, Err, not, nat_lt, is_some, [], ◌∷◌, ◌++◌}
+use Rattle.std.proofs.Common.{Bool, Err, List, None, Ok, Option, Result, Some, [], ap, arith, cond, false, is_some, nat_lt, not, refl, subst, sym, true, ℕ, ◌++◌, ◌∷◌, ◌≡◌, ◌≤◌}
+use Rattle.store_model.proofs.Common.{Abort, Active, AeadSetup, AeadWork, After, AlreadyExists, Attributes, Authenticating, BadState, CipherSetup, CipherWork, Ciphering, Class, DerivationSetup, DerivationWork, Deriving, HandleCall, HandleOperation, HashSetup, HashWork, Hashing, Held, InError, Inactive, InputKey, InsufficientData, InsufficientStorage, InvalidArgument, InvalidHandle, IsSoundHeld, IsSoundStore, IsSoundUse, IsSoundWork, Key, KeyCreation, KeyLimit, MacSetup, MacWork, NotPermitted, NotSupported, OnAead, OnCipher, OnDerivation, OnHandle, OnHash, OnMac, Operation, OutputKey, Rows, Sealing, Served, Service, Status, Store, Work, aead_part, aead_step, aead_work, applied, bytes_of, cipher_part, cipher_step, cipher_usage, cipher_work, class_rows, creation_of, derivation_part, derivation_step, derivation_work, derived_key, derived_key_of, done, ends, fails, first_row, goes_on, handle_step, hash_part, hash_step, hash_work, held_after, input_key, input_key_rows, is_active, is_alive, is_inactive, is_ready, key_of_operation, left_by, mac_part, mac_step, mac_usage, mac_work, may_change_keys, operation_of, output_key, output_key_rows, part_of, random_of, set_up, stated_bytes, stays, stepped, underived, unless, unless-ok, untouched, use_rows, with_key}
 use Rattle.std.specs.FinMap as map
-use Rattle.psa_status.specs.declared.Status.{Status}
-use Rattle.psa_status.specs.declared.Status.TheVariants.{NotPermitted, NotSupported, InvalidArgument, InvalidHandle, BadState, AlreadyExists, InsufficientStorage, InsufficientData, KeyLimit}
-use Rattle.psa_status.specs.Rows.{Rows, first_row, unless}
-use Rattle.psa_status.proofs.Rows.{unless-ok}
-use Rattle.alg_encoding.specs.declared.table.Class.{Class}
 use Rattle.alg_encoding.specs.declared.table.Class.TheVariants as class
-use Rattle.key_attributes.specs.declared.Attributes.{Attributes}
-use Rattle.store_model.specs.Store.{Key, Store}
-use Rattle.store_model.specs.Outcome.{done}
-use Rattle.store_model.specs.KeyUse.{bytes_of}
-use Rattle.store_model.specs.Rules.{class_rows, use_rows, mac_usage, cipher_usage}
-use Rattle.store_model.specs.Operations.{Operation, Inactive, InError, Active, After, set_up, stays, fails, ends, goes_on, is_inactive}
-use Rattle.store_model.specs.HashOperations.{HashWork, hash_work, hash_step}
-use Rattle.store_model.specs.MacOperations.{MacWork, mac_work, mac_step}
-use Rattle.store_model.specs.CipherOperations.{CipherWork, cipher_work, cipher_step}
-use Rattle.store_model.specs.AeadOperations.{AeadWork, aead_work, aead_step}
-use Rattle.store_model.specs.DerivationOperations.{DerivationWork, derivation_work, derivation_step, output_key_rows, stated_bytes, with_key}
-use Rattle.store_model.specs.Handles.{KeyCreation, Work, Hashing, Authenticating, Ciphering, Sealing, Deriving, Held, HandleOperation, Service, Served, operation_of, applied, untouched, stepped, part_of, hash_part, mac_part, cipher_part, aead_part, derivation_part, key_of_operation, is_alive, held_after}
-use Rattle.store_model.specs.HandleCalls.{HandleCall, HashSetup, MacSetup, CipherSetup, AeadSetup, DerivationSetup, OnHash, OnMac, OnCipher, OnAead, OnDerivation, InputKey, OutputKey, Abort, creation_of, input_key, input_key_rows, output_key, derived_key_of, underived, derived_key, random_of, handle_step}
-use Rattle.store_model.specs.Refusals.{is_active, is_ready, left_by}
-use Rattle.store_model.specs.Sound.{IsSoundStore, IsSoundUse, IsSoundWork, IsSoundHeld}
-use Rattle.store_model.specs.Requests.{OnHandle}
-use Rattle.store_model.specs.Laws.{may_change_keys}
 use Rattle.store_model.proofs.Tables.{NoFault, RefusesPlainly, none_holds, refuses_plainly}
 use Rattle.store_model.proofs.StoreShape.{used_plainly}
 use Rattle.store_model.proofs.Recorded.{MayBeKept, OfRefusals, then_ok, then_refused, unless_refused, recorded, recorded_refused}

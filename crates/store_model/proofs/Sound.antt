@@ -1,21 +1,10 @@
 -- Each call on the store keeps it sound.
-use Rattle.std.proofs.Common.{◌≡◌, ℕ, ◌+◌, ◌*◌, ◌/◌, ◌^◌, ◌<◌, ◌≤◌, Bool, true, false, not, cond, List, length, refl, sym, ap, ◌∙◌, arith, subst}
-use Rattle.std.specs.Prelude.{Option, None, Some, Ok, ◌==◌, ◌||◌, ◌&&◌, nat_le, nat_lt, is_some, slice_index_or, slice_set}
+use Rattle.std.proofs.Common.{Bool, List, None, Ok, Option, Some, ap, arith, cond, false, is_some, length, nat_le, nat_lt, not, refl, slice_index_or, slice_set, subst, sym, true, ℕ, ◌&&◌, ◌*◌, ◌+◌, ◌/◌, ◌<◌, ◌==◌, ◌^◌, ◌||◌, ◌∙◌, ◌≡◌, ◌≤◌}
+use Rattle.store_model.proofs.Common.{Attributes, IsSoundKey, IsSoundStore, IsVolatileOf, Key, Store, as_stated, checked, count_persistent, counted, created, destroyed, first_row, has_secure_element, identified, is_volatile, is_volatile_of, live_volatile, made_of, nat_cmp_total, nat_tests, new_id, new_key, next_volatile, room_for_key_rows, unsigned_tied}
 use Rattle.std.specs.Ordering.{nat_cmp}
-use Rattle.std.specs.Cmp.{unsigned_tied}
 use Rattle.std.specs.FinMap as map
-use Rattle.std.proofs.lemmas.Cmp.{nat_cmp_total}
-use Rattle.std.proofs.lemmas.Bool.Decides.{nat_tests}
 use Rattle.std.proofs.lemmas.List.{get_or-set_same, get_or-set_other}
 use Rattle.std.proofs.Math.ListN.{length-set}
-use Rattle.psa_status.specs.Rows.{first_row}
-use Rattle.key_attributes.specs.declared.Attributes.{Attributes}
-use Rattle.key_attributes.specs.Checks.{checked}
-use Rattle.store_model.specs.Store.{Key, Store, made_of, has_secure_element, is_volatile, next_volatile, is_volatile_of, live_volatile, count_persistent}
-use Rattle.store_model.specs.Outcome.{counted}
-use Rattle.store_model.specs.Creation.{room_for_key_rows, created, new_id, new_key, identified}
-use Rattle.store_model.specs.KeyUse.{destroyed}
-use Rattle.store_model.specs.Sound.{as_stated, IsVolatileOf, IsSoundKey, IsSoundStore}
 use Rattle.store_model.proofs.Tables.{none_holds}
 use Rattle.store_model.proofs.Recorded.{MayBeKept, IsStated, stated_id}
 use Rattle.store_model.proofs.Live.{len_kept-insert, len_kept-remove}

@@ -1,21 +1,8 @@
 -- Each request keeps a service sound.
-use Rattle.std.proofs.Common.{◌≡◌, ℕ, ◌≤◌, Bool, true, false, List, length, refl, sym, ap, ◌∙◌, subst, arith}
-use Rattle.std.specs.Prelude.{Option, None, Some, Ok, ◌==◌}
-use Rattle.std.specs.Option.{option_map_or}
+use Rattle.std.proofs.Common.{Bool, List, None, Ok, Option, Some, ap, arith, false, length, refl, subst, sym, true, ℕ, ◌==◌, ◌∙◌, ◌≡◌, ◌≤◌}
+use Rattle.store_model.proofs.Common.{Active, AliveByNumber, Attributes, DerivationWork, HandleOperation, HasNumber, InError, Inactive, IsSound, IsSoundCreation, IsSoundHeld, IsSoundOperation, IsSoundStore, IsSoundUse, Key, KeyCreation, OnHandle, OnStore, Own, Request, Service, StartsSound, StaysSound, Store, counted, created, derived_key, destroyed, key_of_operation, nat_tests, next_derived, operation_of, option_map_or, own_of, start_of, with_drawn, with_own, without}
 use Rattle.std.specs.FinMap as map
-use Rattle.std.proofs.lemmas.Bool.Decides.{nat_tests}
-use Rattle.key_attributes.specs.declared.Attributes.{Attributes}
-use Rattle.store_model.specs.Store.{Key, Store, start_of}
-use Rattle.store_model.specs.Outcome.{counted}
-use Rattle.store_model.specs.Creation.{created}
-use Rattle.store_model.specs.KeyUse.{destroyed}
-use Rattle.store_model.specs.Operations.{Inactive, InError, Active}
-use Rattle.store_model.specs.DerivationOperations.{DerivationWork, next_derived, without}
-use Rattle.store_model.specs.Handles.{KeyCreation, HandleOperation, Own, Service, own_of, operation_of, with_own, with_drawn, key_of_operation}
-use Rattle.store_model.specs.HandleCalls.{derived_key}
-use Rattle.store_model.specs.Requests.{Request, OnStore, OnHandle}
 use Rattle.store_model.proofs.Steps.{held_derivation}
-use Rattle.store_model.specs.Sound.{IsSoundStore, IsSoundOperation, IsSoundHeld, IsSoundUse, IsSoundCreation, IsSound, StartsSound, StaysSound, HasNumber, AliveByNumber}
 use Rattle.store_model.proofs.Recorded.{MayBeKept}
 use Rattle.store_model.proofs.Starts.{store_starts}
 use Rattle.store_model.proofs.Sound.{counted_sound, created_sound, destroyed_sound}

@@ -1,11 +1,8 @@
 -- The keys that an opening finds make a sound store.
-use Rattle.std.proofs.Common.{◌≡◌, ℕ, ◌+◌, ◌<◌, ◌≤◌, Bool, true, false, cond, List, [], ◌∷◌, suc, zero, length, refl, sym, ap, ◌∙◌, arith, subst, replicate}
-use Rattle.std.specs.Prelude.{None, Some, ◌==◌, nat_lt, find, slice_index_or}
+use Rattle.std.proofs.Common.{Bool, List, None, Some, [], ap, arith, cond, false, find, length, nat_lt, refl, replicate, slice_index_or, subst, suc, sym, true, zero, ℕ, ◌+◌, ◌<◌, ◌==◌, ◌∙◌, ◌∷◌, ◌≡◌, ◌≤◌}
+use Rattle.store_model.proofs.Common.{AreFoundKeys, IsChecked, IsSoundStore, Key, OpenedKey, Settings, Store, found_from, has_secure_element, is_volatile, is_volatile_of, nat_tests, start_of}
 use Rattle.std.specs.Ordering.{nat_cmp}
 use Rattle.std.specs.FinMap as map
-use Rattle.std.proofs.lemmas.Bool.Decides.{nat_tests}
-use Rattle.store_model.specs.Store.{Key, Store, Settings, OpenedKey, found_from, start_of, has_secure_element, is_volatile, is_volatile_of}
-use Rattle.store_model.specs.Sound.{IsChecked, IsSoundStore, AreFoundKeys}
 use Rattle.store_model.proofs.Sound.{put, low_id, of_volatile}
 use Rattle.store_model.proofs.Live.{len_kept-insert, len_kept-empty}
 

@@ -1,26 +1,7 @@
 -- What a step of a family makes of a handle's operation.
-use Rattle.std.proofs.Common.{◌≡◌, ℕ, ◌≤◌, Bool, true, false, not, cond, List, [], ◌∷◌, ◌++◌, length, refl, sym, ap, arith}
-use Rattle.std.specs.Prelude.{Option, None, Some, bytes_eq}
-use Rattle.psa_status.specs.declared.Status.{Status}
-use Rattle.psa_status.specs.declared.Status.TheVariants.{Success, InvalidHandle, InvalidPadding, InvalidSignature}
-use Rattle.store_model.specs.Store.{Store}
-use Rattle.store_model.specs.Call.{Reply}
-use Rattle.store_model.specs.Outcome.{given, done}
-use Rattle.store_model.specs.Faults.{is_of_fault}
-use Rattle.store_model.specs.Algorithms.{hash_of, hash_length_of, tag_bytes}
-use Rattle.store_model.specs.Rules.{room_rows}
-use Rattle.store_model.specs.Operations.{InError, Active, After, fails, ends, goes_on, unless_failed, with_live_key}
-use Rattle.store_model.specs.HashOperations.{HashWork, HashStep, HashUpdate, HashFinish, HashVerify, hash_step, total_rows}
-use Rattle.store_model.specs.MacOperations.{MacWork, MacStep, MacUpdate, MacSignFinish, MacVerifyFinish, mac_step, sign_rows, verify_rows}
-use Rattle.store_model.specs.CipherOperations.{CipherWork, CipherStep, CipherGenerateIv, CipherSetIv, CipherUpdate, CipherFinish, cipher_step, generate_iv_rows, set_iv_rows, cipher_update_rows, cipher_finish_rows, last_part, last_length, whole_text}
-use Rattle.store_model.specs.Ciphers.{mode_of}
-use Rattle.store_model.specs.DerivationOperations.{DerivationWork}
-use Rattle.store_model.specs.AeadOperations.{AeadWork, AeadStep, AeadGenerateNonce, AeadSetNonce, AeadSetLengths, AeadUpdateAd, AeadUpdate, AeadFinish, AeadVerify, aead_step, generate_nonce_rows, set_nonce_rows, set_lengths_rows, update_ad_rows, aead_update_rows, whole_rows, work_tag, nonce_length}
-use Rattle.store_model.specs.Handles.{KeyCreation, Work, Hashing, Authenticating, Ciphering, Sealing, Deriving, Held, HandleOperation, held_after}
-use Rattle.store_model.specs.HandleCalls.{HandleCall, OnHash, OnMac, OnCipher, OnAead}
-use Rattle.store_model.specs.Refusals.{left_by}
+use Rattle.std.proofs.Common.{Bool, List, None, Option, Some, [], ap, arith, bytes_eq, cond, false, length, not, refl, sym, true, ℕ, ◌++◌, ◌∷◌, ◌≡◌, ◌≤◌}
+use Rattle.store_model.proofs.Common.{Active, AeadFinish, AeadGenerateNonce, AeadSetLengths, AeadSetNonce, AeadStep, AeadUpdate, AeadUpdateAd, AeadVerify, AeadWork, After, Authenticating, CipherFinish, CipherGenerateIv, CipherSetIv, CipherStep, CipherUpdate, CipherWork, Ciphering, DerivationWork, Deriving, HandleCall, HandleOperation, HashFinish, HashStep, HashUpdate, HashVerify, HashWork, Hashing, Held, InError, InvalidHandle, InvalidPadding, InvalidSignature, IsSoundOperation, IsSoundStore, IsSoundWork, KeyCreation, MacSignFinish, MacStep, MacUpdate, MacVerifyFinish, MacWork, OnAead, OnCipher, OnHash, OnMac, Reply, Sealing, Status, Store, Success, Work, aead_step, aead_update_rows, cipher_finish_rows, cipher_step, cipher_update_rows, done, ends, fails, generate_iv_rows, generate_nonce_rows, given, goes_on, hash_length_of, hash_of, hash_step, held_after, is_of_fault, last_length, last_part, left_by, mac_step, mode_of, nonce_length, room_rows, set_iv_rows, set_lengths_rows, set_nonce_rows, sign_rows, tag_bytes, total_rows, unless_failed, update_ad_rows, verify_rows, whole_rows, whole_text, with_live_key, work_tag}
 use Rattle.store_model.proofs.Buffers.{LeavesBuffer, refusal_leaves, spoiled_leaves}
-use Rattle.store_model.specs.Sound.{IsSoundStore, IsSoundWork, IsSoundOperation}
 use Rattle.store_model.proofs.Tables.{NoFault, RefusesPlainly, refuses_plainly}
 use Rattle.store_model.proofs.StoreShape.{MakesNone}
 

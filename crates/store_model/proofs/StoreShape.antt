@@ -1,40 +1,18 @@
 -- The shape of any call on the store: it is counted alone, or creates a key, or destroys one.
-use Rattle.std.proofs.Common.{◌≡◌, ℕ, ◌≤◌, Bool, true, false, cond, List, ◌++◌, length, refl, sym, ap, subst, ◌∙◌, ◌⊎◌, inl, inr, arith}
-use Rattle.std.specs.Prelude.{Option, Some, None, Result, Ok, Err, ok_or, bytes_eq, take, drop, ◌-◌}
+use Rattle.std.proofs.Common.{Bool, Err, List, None, Ok, Option, Result, Some, ap, arith, bytes_eq, cond, drop, false, inl, inr, length, ok_or, refl, subst, sym, take, true, ℕ, ◌++◌, ◌-◌, ◌∙◌, ◌≡◌, ◌≤◌, ◌⊎◌}
+use Rattle.store_model.proofs.Common.{AeadDecrypt, AeadEncrypt, Attributes, Call, CbcNoPadding, CbcPkcs7, CipherDecrypt, CipherEncrypt, Class, Computed, Copy, Ctr, Destroy, EcbNoPadding, Export, Generate, GetAttributes, HashCompare, HashCompute, Import, InvalidArgument, InvalidHandle, InvalidPadding, InvalidSignature, IsWithin, Key, MacCompute, MacVerify, Mode, OnStore, Outcome, Policy, Purge, Reply, Status, Store, Success, attributes_reply, bytes_of, computed_unless, counted, created, created_unless, decided, deciphered, destroy_rows, destroyed, done, enciphered, export_rows, first_row, given, has_secure_element, hash_of, is_ctr, is_of_fault, iv_length, key_answered, mac_of, may_change_keys, meet_of, mode_of, plain_or_zeros, purge_reply, recorded_of, refusal, refused, replies, reply_unless, source_of, spoiled, spoils, stated_bits_rows, stated_bytes, tag_bytes, unless, unless-ok, use_rows, with_computed, with_implied}
 use Rattle.std.specs.Option.{option_map}
 use Rattle.std.specs.FinMap as map
-use Rattle.psa_status.specs.declared.Status.{Status}
-use Rattle.psa_status.specs.declared.Status.TheVariants.{Success, InvalidArgument, InvalidHandle, InvalidSignature, InvalidPadding}
-use Rattle.psa_status.specs.Rows.{first_row, unless}
-use Rattle.psa_status.proofs.Rows.{unless-ok}
-use Rattle.key_attributes.specs.declared.Attributes.{Attributes}
-use Rattle.key_attributes.specs.declared.Policy.{Policy}
-use Rattle.policy_rules.specs.Policy.{meet_of, with_implied, IsWithin}
-use Rattle.store_model.specs.Store.{Key, Store, has_secure_element}
-use Rattle.store_model.specs.Call.{Call, Reply, Import, Export, GetAttributes, Destroy, Purge, Copy, Generate, HashCompute, HashCompare, MacCompute, MacVerify, CipherEncrypt, CipherDecrypt, AeadEncrypt, AeadDecrypt}
-use Rattle.store_model.specs.Outcome.{Outcome, Computed, replies, computed_unless, with_computed, counted, decided, refused, refusal, reply_unless, given, done, spoiled}
 use Rattle.store_model.specs.Draws.{Random}
-use Rattle.store_model.specs.Creation.{recorded_of, created, created_unless, stated_bytes, stated_bits_rows}
 use Rattle.store_model.specs.Copies.{source_rows, copy_attributes, recorded_copy}
-use Rattle.store_model.specs.Faults.{is_of_fault}
-use Rattle.store_model.specs.KeyUse.{destroyed, destroy_rows, attributes_reply, purge_reply, bytes_of, export_rows}
 use Rattle.store_model.specs.Generation.{generation_of, generated}
-use Rattle.store_model.specs.Ciphers.{Mode, Ctr, CbcNoPadding, CbcPkcs7, EcbNoPadding, is_ctr, mode_of, iv_length, plain_or_zeros, enciphered, deciphered}
 use Rattle.store_model.specs.Ciphers as ciphers
 use Rattle.store_model.specs.Hashes as hashes
 use Rattle.store_model.specs.Macs as macs
 use Rattle.store_model.specs.Aeads as aeads
-use Rattle.store_model.specs.Algorithms.{hash_of, mac_of, tag_bytes}
-use Rattle.store_model.specs.Rules.{use_rows}
-use Rattle.alg_encoding.specs.declared.table.Class.{Class}
 use Rattle.alg_encoding.specs.declared.table.Class.TheVariants.{Mac, Cipher, Aead}
 use Rattle.store_model.specs.Aeads.{aead_text, aead_tag, sealed, opened}
 use Rattle.store_model.specs.Step.{step}
-use Rattle.store_model.specs.Origin.{source_of}
-use Rattle.store_model.specs.Marks.{key_answered}
-use Rattle.store_model.specs.Requests.{OnStore}
-use Rattle.store_model.specs.Laws.{may_change_keys}
-use Rattle.store_model.specs.Refusals.{spoils}
 use Rattle.store_model.proofs.Buffers.{LeavesBuffer, refusal_leaves, spoiled_leaves}
 use Rattle.store_model.proofs.Tables.{NoFault, RefusesPlainly, refuses_plainly}
 use Rattle.store_model.proofs.Recorded.{MayBeKept, OfRefusals, then_ok, then_refused, unless_refused, recorded, recorded_refused, few_bytes}

@@ -1,11 +1,8 @@
 -- Tables of refusals of which no row holds.
-use Rattle.std.proofs.Common.{◌≡◌, ℕ, zero, suc, Bool, true, false, cond, not, ◌&&◌, [], ◌∷◌, refl, subst}
-use Rattle.std.specs.Prelude.{Option, Some, None}
-use Rattle.psa_status.specs.declared.Status.{Status}
-use Rattle.psa_status.specs.Rows.{Rows, first_row}
-use Rattle.store_model.specs.Faults.{is_of_fault}
 
 -- whether a row of a table holds
+use Rattle.std.proofs.Common.{Bool, None, Option, Some, [], cond, false, not, refl, subst, suc, true, zero, ℕ, ◌&&◌, ◌∷◌, ◌≡◌}
+use Rattle.store_model.proofs.Common.{Rows, Status, first_row, is_of_fault}
 abbrev pub holds_at : Rows → ℕ → Bool
 holds_at [] n = false
 holds_at (row ∷ rows) zero = row.0

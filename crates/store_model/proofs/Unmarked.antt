@@ -1,9 +1,6 @@
 -- A request in whose turn no device failed answers no failed device's status.
-use Rattle.std.proofs.Common.{ℕ, refl, sym, ◌∙◌}
-use Rattle.store_model.specs.Faults.{Plain, Storage, Hardware, Corrupt}
-use Rattle.store_model.specs.Handles.{Service, own_of, next_random}
-use Rattle.store_model.specs.Requests.{Request, OnStore, OnHandle, plain_step}
-use Rattle.store_model.specs.Laws.{MarksAlone}
+use Rattle.std.proofs.Common.{refl, sym, ℕ, ◌∙◌}
+use Rattle.store_model.proofs.Common.{Corrupt, Hardware, MarksAlone, OnHandle, OnStore, Plain, Request, Service, Storage, next_random, own_of, plain_step}
 use Rattle.store_model.proofs.DrawnBytes.{length-random}
 use Rattle.store_model.proofs.Tables.{NoFault}
 use Rattle.store_model.proofs.StoreShape.{store_shape}

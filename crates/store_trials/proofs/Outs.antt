@@ -1,5 +1,5 @@
 -- What callers have out of a store, with one pair more or less.
-use Rattle.std.proofs.Common.{◌≡◌, ◌<◌, ◌≤◌, ◌+◌, ◌==◌, ℕ, nat_lt, count_by, true, false, cond, Bool, List, [], ◌∷◌, replicate, refl, ap, ◌∙◌, arith}
+use Rattle.std.proofs.Common.{Bool, List, [], ap, arith, cond, count_by, false, nat_lt, refl, replicate, true, ℕ, ◌+◌, ◌<◌, ◌==◌, ◌∙◌, ◌∷◌, ◌≡◌, ◌≤◌}
 use Rattle.std.proofs.lemmas.Bool.Decides.{nat_tests}
 use Rattle.std.proofs.lemmas.List.Sums.{sum_by-cons}
 use Rattle.std.proofs.lemmas.List.Elements.{All-cons, All-replicate}

@@ -1,12 +1,7 @@
 -- What is known of a value in a box is known of the value.
-use Rattle.std.proofs.Common.{ℕ, List}
+use Rattle.std.proofs.Common.{List, ℕ}
+use Rattle.turn_history.proofs.Common.{Account, Closing, Found, Holding, View, boxed_base, boxed_stands}
 use Rattle.std.specs.Global.{Box}
-use Rattle.turn_history.specs.declared.pass.Account.{Account}
-use Rattle.turn_history.specs.declared.pass.View.{View}
-use Rattle.turn_history.specs.Boxed.{boxed_base, boxed_stands}
-use Rattle.turn_history.specs.Closing.{Closing}
-use Rattle.turn_history.specs.Holdings.{Holding}
-use Rattle.turn_history.specs.Steps.{Found}
 
 module _ {V E B : Type 0} (by : E → ℕ) (stands : V → List E → List Holding → Type 0) (base : V → B) where
   pub found_value : (v : View E B) (b : Box V) (w : View E B) → Found by (boxed_stands stands) (boxed_base base) v b w → Found by stands base v b.value w

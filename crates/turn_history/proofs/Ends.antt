@@ -1,20 +1,7 @@
 -- The rule at the making and at the end of a lock.
-use Rattle.std.proofs.Common.{◌≡◌, ◌≢◌, ℕ, zero, suc, ◌-◌, ◌<◌, ◌≤◌, false, true≢false, List, [], ◌∷◌, replicate, length, get_or, sym, refl, ap, ◌∙◌, subst, ⊎_elim, inl, inr, arith, Option, Some}
-use mathlib.Core.Logic.{dite}
-use mathlib.Core.Option.{some, none, some-ne-none}
+use Rattle.std.proofs.Common.{List, Option, Some, [], ap, arith, false, get_or, inl, inr, length, refl, replicate, subst, suc, sym, true≢false, zero, ℕ, ⊎_elim, ◌-◌, ◌<◌, ◌∙◌, ◌∷◌, ◌≡◌, ◌≢◌, ◌≤◌}
+use Rattle.turn_history.proofs.Common.{All-nil, Away, Closing, Course, Enters, Final, Holding, Home, Kept, Knows, Mine, Seen, State, View, at_longer, at_set, came, dite, entries_of, first_view, get_elem?, length-replicate, none, opening, own_of, some, some-ne-none, spent, step, ℕ_discrete}
 use mathlib.Core.Option as maybe
-use native.Mathlib.Decide.{ℕ_discrete}
-use lib.ListN.{get_elem?, length-replicate}
-use Rattle.std.proofs.lemmas.List.Elements.{All-nil}
-use Rattle.atomic_table.specs.Table.{State, step, Enters, opening, Final, Seen}
-use Rattle.atomic_table.proofs.Lists.{at_set, at_longer}
-use Rattle.turn_history.specs.declared.pass.View.{View}
-use Rattle.turn_history.specs.History.{entries_of}
-use Rattle.turn_history.specs.Holdings.{Holding, own_of}
-use Rattle.turn_history.specs.Views.{first_view, Mine, spent}
-use Rattle.turn_history.specs.Rule.{Course, Knows, Home, Away, Kept}
-use Rattle.turn_history.specs.Steps.{came}
-use Rattle.turn_history.specs.Closing.{Closing}
 use Rattle.turn_history.proofs.Lists.{at_snoc_end, total_two, total_snoc}
 use Rattle.turn_history.proofs.Keeping.{Signed, some_same, some_is_not, same_at, none_recalled}
 

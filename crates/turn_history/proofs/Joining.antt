@@ -1,20 +1,7 @@
 -- A join keeps the rule.
-use Rattle.std.proofs.Common.{◌≡◌, ◌≢◌, ◌⊎◌, ℕ, suc, ◌+◌, ◌<◌, true, false, true≢false, List, [], ◌∷◌, ◌++◌, All, cond, length, get_or, set, sym, refl, ap, ◌∙◌, subst, ⊎_elim, inl, inr, arith, Option, length-append}
-use mathlib.Core.Logic.{dite}
-use mathlib.Core.Option.{some, none}
-use native.Mathlib.Decide.{ℕ_discrete, dec_lt}
-use lib.ListN.{get_elem?}
+use Rattle.std.proofs.Common.{All, List, Option, [], ap, arith, cond, false, get_or, inl, inr, length, length-append, refl, set, subst, suc, sym, true, true≢false, ℕ, ⊎_elim, ◌++◌, ◌+◌, ◌<◌, ◌∙◌, ◌∷◌, ◌≡◌, ◌≢◌, ◌⊎◌}
+use Rattle.turn_history.proofs.Common.{Account, All-append, All-cons, Allows, Away, Course, Holding, Home, Joins, Kept, Knows, Mine, Remembers, StartsWith, State, View, account, at_set, calls_by, compared, dec_lt, dite, entries_of, gathering, get_elem?, keeps, longer, merged, none, own_of, set_else, some, spent, step, ℕ_discrete}
 use Rattle.std.proofs.lemmas.Bool.{le-ltb, lt-ltb}
-use Rattle.std.proofs.lemmas.List.Elements.{All-append, All-cons}
-use Rattle.atomic_table.specs.Table.{State, step, keeps, Allows, Joins}
-use Rattle.atomic_table.proofs.Lists.{at_set, set_else}
-use Rattle.turn_history.specs.declared.pass.Account.{Account}
-use Rattle.turn_history.specs.declared.pass.View.{View}
-use Rattle.turn_history.specs.History.{entries_of, calls_by, StartsWith}
-use Rattle.turn_history.specs.Holdings.{Holding, own_of}
-use Rattle.turn_history.specs.Views.{Mine, spent, longer, account, merged, gathering}
-use Rattle.turn_history.specs.Rule.{Course, Remembers, Knows, Home, Away, Kept}
-use Rattle.turn_history.specs.Steps.{compared}
 use Rattle.turn_history.proofs.Lists.{put, put_here, put_else, two_beginnings, between, total_set}
 use Rattle.turn_history.proofs.Keeping.{loaded, quiet, later, place_stays, some_is_not, all_set, nobody_still, same_at, there_still, none_recalled}
 

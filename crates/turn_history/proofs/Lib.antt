@@ -1,3 +1,4 @@
+mod Common
 mod Boxed
 pub mod Lists
 pub mod Keeping

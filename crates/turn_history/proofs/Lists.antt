@@ -1,12 +1,7 @@
 -- Lists: beginnings, entries, calls and totals.
-use Rattle.std.proofs.Common.{◌≡◌, ◌≢◌, ◌⊎◌, ℕ, zero, suc, ◌+◌, ◌-◌, ◌<◌, ◌≤◌, eqb, true, false, List, [], ◌∷◌, ◌++◌, All, map, length, get_or, set, sym, refl, ap, ◌∙◌, subst, ⊎_elim, inl, inr, arith, Option, Some, None, append_assoc, length-append, get_or-set_other, get_or-set_same, eq-eqb, ne_eqb}
-use mathlib.Core.Option.{some, some-ne-none, some-injective}
-use native.Mathlib.Decide.{ℕ_discrete}
-use lib.ListN.{get_elem?}
-use Rattle.turn_history.specs.History.{entries_of, choose, calls_by, StartsWith, option_list}
-use Rattle.turn_history.specs.Holdings.{Holding, own_of, with_own}
-use Rattle.turn_history.specs.Rule.{total}
 
+use Rattle.std.proofs.Common.{All, List, None, Option, Some, [], ap, append_assoc, arith, eq-eqb, eqb, false, get_or, get_or-set_other, get_or-set_same, inl, inr, length, length-append, map, ne_eqb, refl, set, subst, suc, sym, true, zero, ℕ, ⊎_elim, ◌++◌, ◌+◌, ◌-◌, ◌<◌, ◌∙◌, ◌∷◌, ◌≡◌, ◌≢◌, ◌≤◌, ◌⊎◌}
+use Rattle.turn_history.proofs.Common.{Holding, StartsWith, calls_by, choose, entries_of, get_elem?, option_list, own_of, some, some-injective, some-ne-none, total, with_own, ℕ_discrete}
 abbrev pick : {P : Type 0} → Dec P → ℕ → ℕ → ℕ
 pick (yes _) a b = a
 pick (no _) a b = b

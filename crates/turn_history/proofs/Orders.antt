@@ -1,7 +1,6 @@
 -- A call's rank is its place among all calls, and no two calls have one rank.
-use Rattle.std.proofs.Common.{◌≡◌, ◌≢◌, ℕ, zero, suc, ◌+◌, ◌-◌, ◌<◌, ◌≤◌, eqb, List, [], ◌∷◌, ◌++◌, length, take, drop, refl, sym, ap, ◌∙◌, subst, arith, Option, Some, None, append_assoc, length-append, eq-eqb}
-use Rattle.std.specs.Prelude.{slice_get}
-use Rattle.turn_history.specs.History.{choose, calls_by, StartsWith}
+use Rattle.std.proofs.Common.{List, None, Option, Some, [], ap, append_assoc, arith, drop, eq-eqb, eqb, length, length-append, refl, slice_get, subst, suc, sym, take, zero, ℕ, ◌++◌, ◌+◌, ◌-◌, ◌<◌, ◌∙◌, ◌∷◌, ◌≡◌, ◌≢◌, ◌≤◌}
+use Rattle.turn_history.proofs.Common.{StartsWith, calls_by, choose}
 use Rattle.turn_history.proofs.Lists.{calls-append}
 
 some_same : {A : Type 0} (a b : A) → Some a ≡ Some b → a ≡ b

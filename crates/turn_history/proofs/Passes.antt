@@ -1,13 +1,9 @@
 -- Lists of passes.
-use Rattle.std.proofs.Common.{◌≡◌, ℕ, suc, ◌+◌, ◌-◌, ◌*◌, ◌<◌, List, [], ◌∷◌, ◌++◌, length, get_or, refl, sym, ap, ◌∙◌, subst, arith, Option, length-append}
+use Rattle.std.proofs.Common.{List, Option, [], ap, arith, get_or, length, length-append, refl, subst, suc, sym, ℕ, ◌*◌, ◌++◌, ◌+◌, ◌-◌, ◌<◌, ◌∙◌, ◌∷◌, ◌≡◌}
+use Rattle.turn_history.proofs.Common.{AreNew, Mine, TURNS, View, account_of, accounts_of, after_making, dec_lt, dite, made_pass, maker_of, new_pass, weight_of}
 use Rattle.std.proofs.Math.ListN.{get_or-append}
-use mathlib.Core.Logic.{dite}
-use native.Mathlib.Decide.{dec_lt}
 use Rattle.atomic_table.specs.Seated.{TableId}
 use Rattle.atomic_table.specs.declared.shared.Seat.{Seat}
-use Rattle.turn_history.specs.declared.pass.View.{View}
-use Rattle.turn_history.specs.Views.{account_of, Mine, TURNS, maker_of, new_pass, made_pass, after_making}
-use Rattle.turn_history.specs.Passes.{accounts_of, weight_of, AreNew}
 
 made_next : {E B : Type 0} (b : B) (k n : ℕ) → 0 < k → after_making {E = E} (maker_of b k n) ≡ maker_of b (k - 1) (n + 1)
 made_next {E} b k n some_k = let e : k * TURNS - TURNS ≡ (k - 1) * TURNS = omega arith in ap (λ (x : ℕ). record (maker_of {E = E} b (k - 1) (n + 1)) { turns_left = x }) e

@@ -1,16 +1,6 @@
 -- A split keeps the rule.
-use Rattle.std.proofs.Common.{◌≡◌, ◌≢◌, ◌⊎◌, ℕ, ◌+◌, ◌<◌, ◌≤◌, true, false, true≢false, List, [], ◌∷◌, ◌++◌, length, get_or, set, sym, refl, ap, ◌∙◌, subst, ⊎_elim, inl, inr, arith, Option, Some, length-set}
-use mathlib.Core.Logic.{dite}
-use mathlib.Core.Option.{some}
-use native.Mathlib.Decide.{ℕ_discrete}
-use lib.ListN.{get_elem?}
-use Rattle.atomic_table.specs.Table.{State, Splits}
-use Rattle.atomic_table.proofs.Lists.{at_longer}
-use Rattle.turn_history.specs.declared.pass.View.{View}
-use Rattle.turn_history.specs.History.{entries_of, calls_by, StartsWith}
-use Rattle.turn_history.specs.Holdings.{Holding, own_of}
-use Rattle.turn_history.specs.Views.{watcher, after_making, made_pass, TURNS}
-use Rattle.turn_history.specs.Rule.{Course, Knows, Home, Away, Kept}
+use Rattle.std.proofs.Common.{List, Option, Some, [], ap, arith, false, get_or, inl, inr, length, length-set, refl, set, subst, sym, true, true≢false, ℕ, ⊎_elim, ◌++◌, ◌+◌, ◌<◌, ◌∙◌, ◌∷◌, ◌≡◌, ◌≢◌, ◌≤◌, ◌⊎◌}
+use Rattle.turn_history.proofs.Common.{Away, Course, Holding, Home, Kept, Knows, Splits, StartsWith, State, TURNS, View, after_making, at_longer, calls_by, dite, entries_of, get_elem?, made_pass, own_of, some, watcher, ℕ_discrete}
 use Rattle.turn_history.proofs.Lists.{put, put_here, put_else, at_snoc_end, between, no_calls, total_set, total_snoc}
 use Rattle.turn_history.proofs.Keeping.{some_is_not, all_set, nobody_still, there_still, none_recalled}
 

@@ -1,20 +1,7 @@
 -- Each step of a turn keeps the rule.
-use Rattle.std.proofs.Common.{◌≡◌, ◌≢◌, ℕ, ◌+◌, ◌-◌, ◌%◌, ◌^◌, ◌<◌, ◌≤◌, true, false, true≢false, List, [], ◌∷◌, ◌++◌, All, length, get_or, set, sym, refl, ap, ◌∙◌, subst, ⊎_elim, inl, inr, arith, Option, Some, None, length-append, length-set}
-use mathlib.Core.Logic.{dite}
-use mathlib.Core.Option.{some, none}
+use Rattle.std.proofs.Common.{All, List, None, Option, Some, [], ap, arith, false, get_or, inl, inr, length, length-append, length-set, refl, set, subst, sym, true, true≢false, ℕ, ⊎_elim, ◌%◌, ◌++◌, ◌+◌, ◌-◌, ◌<◌, ◌^◌, ◌∙◌, ◌∷◌, ◌≡◌, ◌≢◌, ◌≤◌}
+use Rattle.turn_history.proofs.Common.{All-append, All-cons, All-nil, Allows, Away, CanEnter, Course, Found, Holding, Home, Kept, Mine, StartsWith, State, View, after_turn, calls_by, dite, drawn, ended, entered, entries_of, fronted, get_elem?, gives, homes_after, in_its_turn_at, keeps, looked, none, option_list, rest, set-get_or, set_again, some, step, takes, with_own, with_ticket, ℕ_discrete}
 use mathlib.Core.Option as maybe
-use native.Mathlib.Decide.{ℕ_discrete}
-use lib.ListN.{get_elem?}
-use lib.Seq.{set-get_or}
-use Rattle.std.proofs.lemmas.List.Elements.{All-append, All-cons, All-nil}
-use Rattle.atomic_table.specs.Table.{State, step, keeps, takes, gives, homes_after, rest, Allows}
-use Rattle.atomic_table.proofs.Lists.{set_again}
-use Rattle.turn_history.specs.declared.pass.View.{View}
-use Rattle.turn_history.specs.History.{entries_of, calls_by, StartsWith, option_list}
-use Rattle.turn_history.specs.Holdings.{Holding, with_own}
-use Rattle.turn_history.specs.Views.{CanEnter, with_ticket, in_its_turn_at, entered, after_turn, Mine}
-use Rattle.turn_history.specs.Rule.{Course, Home, Away, Kept}
-use Rattle.turn_history.specs.Steps.{drawn, Found, looked, ended, fronted}
 use Rattle.turn_history.proofs.Lists.{put, put_here, put_else, begins_itself, begins_longer, at_here, total_set, entries-append, entries_one, calls_snoc_own, calls_snoc_other, own_here, own_else}
 use Rattle.turn_history.proofs.Keeping.{Signed, some_same, some_is_not, not_true, first_carried, all_set, nobody_still, same_at, there_still, place_stays, later, quiet, loaded}
 

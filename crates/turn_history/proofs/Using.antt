@@ -1,13 +1,7 @@
 -- What a crate above needs of a turn and of passes that meet.
-use Rattle.std.proofs.Common.{◌≡◌, ◌≢◌, ◌⊎◌, ℕ, suc, ◌+◌, ◌-◌, ◌≤◌, eqb, Bool, true, false, cond, eqb-true, List, [], ◌∷◌, ◌++◌, length, sym, refl, ap, ◌∙◌, subst, ⊎_elim, arith, Option, Some, length-append}
-use mathlib.Core.Logic.{dite}
-use native.Mathlib.Decide.{dec_lt}
-use Rattle.std.specs.Prelude.{slice_get}
+use Rattle.std.proofs.Common.{Bool, List, Option, Some, [], ap, arith, cond, eqb, eqb-true, false, length, length-append, refl, slice_get, subst, suc, sym, true, ℕ, ⊎_elim, ◌++◌, ◌+◌, ◌-◌, ◌∙◌, ◌∷◌, ◌≡◌, ◌≢◌, ◌≤◌, ◌⊎◌}
+use Rattle.turn_history.proofs.Common.{Holding, StartsWith, calls_by, choose, dec_lt, dite, entries_of, longer, own_of, set-get_or, with_own}
 use Rattle.std.proofs.lemmas.Bool.{le-ltb, lt-ltb}
-use lib.Seq.{set-get_or}
-use Rattle.turn_history.specs.History.{entries_of, choose, calls_by, StartsWith}
-use Rattle.turn_history.specs.Holdings.{Holding, own_of, with_own}
-use Rattle.turn_history.specs.Views.{longer}
 use Rattle.turn_history.proofs.Lists.{entries-append, calls-append, begins_itself, two_beginnings}
 
 -- nothing changes where a pass keeps what it has

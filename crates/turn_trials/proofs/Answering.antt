@@ -1,15 +1,9 @@
 -- What a call answers.
-use Rattle.std.proofs.Common.{◌≡◌, ℕ, suc, ◌+◌, List, [], ◌∷◌, ◌++◌, length, take, refl, sym, ap, ◌∙◌, arith, Option, Some}
-use Rattle.std.specs.Prelude.{slice_get}
+use Rattle.std.proofs.Common.{List, Option, Some, [], ap, arith, length, refl, slice_get, suc, sym, take, ℕ, ◌++◌, ◌+◌, ◌∙◌, ◌∷◌, ◌≡◌}
+use Rattle.turn_trials.proofs.Common.{Entry, Holding, IsAddedAt, StartsWith, addition, after_turn, entries-append, entries_of, no_fewer, placed, start, sum_after}
 use Rattle.turn_history.specs.declared.pass.View.{View}
-use Rattle.turn_history.specs.Prelude.{entries_of, StartsWith, Holding, after_turn}
-use Rattle.turn_history.proofs.Lists.{entries-append}
 use Rattle.turn_history.proofs.Keeping.{some_same}
-use Rattle.turn_history.proofs.Using.{placed, no_fewer}
-use Rattle.turn_trials.specs.declared.tally.Entry.{Entry}
 use Rattle.turn_trials.specs.declared.tally.Start.{Start}
-use Rattle.turn_trials.specs.Tallying.{addition, start, sum_after}
-use Rattle.turn_trials.specs.Calling.{IsAddedAt}
 
 take_all : (es : List Entry) (e : Entry) → take (length es + 1) (es ++ e ∷ []) ≡ es ++ e ∷ []
 take_all [] e = refl

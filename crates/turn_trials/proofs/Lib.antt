@@ -1,3 +1,4 @@
+mod Common
 pub mod Tallies
 pub mod Answering
 pub mod Runners

@@ -1,12 +1,8 @@
 -- Passes before their calls.
-use Rattle.std.proofs.Common.{◌≡◌, ℕ, zero, suc, ◌+◌, ◌<◌, ◌≤◌, ◌^◌, List, [], ◌∷◌, ◌++◌, All, map, take, drop, length, get_or, refl, sym, ap, ◌∙◌, subst, arith}
+use Rattle.std.proofs.Common.{All, List, [], ap, arith, drop, get_or, length, map, refl, subst, suc, sym, take, zero, ℕ, ◌++◌, ◌+◌, ◌<◌, ◌^◌, ◌∙◌, ◌∷◌, ◌≡◌, ◌≤◌}
+use Rattle.turn_trials.proofs.Common.{AreNew, IsBetweenCalls, IsReady, Own, OwnCalls, Runner, new_pass, signer, start}
 use Rattle.std.specs.Vec.{vec_capacity}
 use Rattle.atomic_table.specs.Seated.{TableId}
-use Rattle.turn_history.specs.Prelude.{OwnCalls, new_pass, AreNew}
-use Rattle.turn_trials.specs.declared.running.Runner.{Runner}
-use Rattle.turn_trials.specs.Tallying.{signer, start}
-use Rattle.turn_trials.specs.Calling.{IsBetweenCalls}
-use Rattle.turn_trials.specs.Running.{IsReady, Own}
 
 get_map : (rs : List (Runner Own)) (k : ℕ) (d : Runner Own) → get_or (map (λ (r : Runner Own). r.pass) rs) k d.pass ≡ (get_or rs k d).pass
 get_map [] k d = refl

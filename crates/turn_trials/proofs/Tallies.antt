@@ -1,9 +1,7 @@
 -- A tally after a change, and what all passes have.
-use Rattle.std.proofs.Common.{◌≡◌, ℕ, zero, suc, ◌+◌, ◌-◌, ◌%◌, ◌^◌, ◌<◌, ◌≤◌, Bool, List, [], ◌∷◌, ◌++◌, length, replicate, get_or, set, refl, sym, ap, ◌∙◌, arith, length-append}
-use Rattle.turn_history.specs.Prelude.{Holding, own_of, with_own}
-use Rattle.turn_trials.specs.declared.tally.Entry.{Entry}
-use Rattle.turn_trials.specs.Tallying.{IsTallyOf, Gains, addition, sum_after, out_of}
 
+use Rattle.std.proofs.Common.{Bool, List, [], ap, arith, get_or, length, length-append, refl, replicate, set, suc, sym, zero, ℕ, ◌%◌, ◌++◌, ◌+◌, ◌-◌, ◌<◌, ◌^◌, ◌∙◌, ◌∷◌, ◌≡◌, ◌≤◌}
+use Rattle.turn_trials.proofs.Common.{Entry, Gains, Holding, IsTallyOf, addition, out_of, own_of, sum_after, with_own}
 pub none_out : (n : ℕ) → out_of (replicate n []) ≡ 0
 none_out zero = refl
 none_out (suc n) = let r = none_out n in omega arith

@@ -1,5 +1,5 @@
-use Rattle.std.proofs.Common.{ℕ, ◌∷◌, ◌∙◌, length, true, false, sym, ap}
-use Rattle.crypto_specs.specs.Prelude.{aes_encrypt, ccm_tag, control_block, encoded_data, filled_blocks, chained}
+use Rattle.std.proofs.Common.{ap, false, length, sym, true, ℕ, ◌∙◌, ◌∷◌}
+use Rattle.aead_ccm.proofs.Common.{aes_encrypt, ccm_tag, chained, control_block, encoded_data, filled_blocks}
 use Rattle.cipher_blocks.proofs.FilledBlocks.{decided_of_equal}
 use Rattle.aead_ccm.proofs.KeyStream.{text_is}
 use Rattle.aead_ccm.proofs.Tags.{tag_is}

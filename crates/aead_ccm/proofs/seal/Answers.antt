@@ -1,5 +1,5 @@
-use Rattle.std.proofs.Common.{◌∙◌, length}
-use Rattle.crypto_specs.specs.Prelude.{aes_encrypt}
+use Rattle.std.proofs.Common.{length, ◌∙◌}
+use Rattle.aead_ccm.proofs.Common.{aes_encrypt}
 use Rattle.aead_ccm.proofs.KeyStream.{text_is}
 use Rattle.aead_ccm.proofs.Tags.{tag_is}
 use Rattle.aead_ccm.proofs.seal.Goals as goal

@@ -1,4 +1,4 @@
-use Rattle.std.proofs.Common.{length, true, false}
+use Rattle.std.proofs.Common.{false, length, true}
 use Rattle.crypto_specs.specs.Prelude.{aes_encrypt, number_block}
 use Rattle.cipher_blocks.proofs.FilledBlocks.{decided_of_equal}
 use Rattle.aead_gcm.proofs.Tags.{tag_is, text_is}

@@ -1,4 +1,4 @@
-use Rattle.std.proofs.Common.{◌∙◌, length}
+use Rattle.std.proofs.Common.{length, ◌∙◌}
 use Rattle.crypto_specs.specs.Prelude.{aes_encrypt, number_block}
 use Rattle.aead_gcm.proofs.Tags.{tag_is, text_is}
 use Rattle.aead_gcm.proofs.seal.Goals as goal

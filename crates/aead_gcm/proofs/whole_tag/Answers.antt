@@ -1,4 +1,4 @@
-use Rattle.std.proofs.Common.{◌∙◌, ap₂, ap}
+use Rattle.std.proofs.Common.{ap, ap₂, ◌∙◌}
 use Rattle.crypto_specs.specs.Prelude.{xor_bytes, number_block}
 use Rattle.cipher_blocks.proofs.BlockNumbers.{block_of_xor}
 use Rattle.aead_gcm.proofs.whole_tag.Goals as goal

@@ -1,4 +1,4 @@
-use Rattle.std.proofs.Common.{◌∙◌, ap, arith}
+use Rattle.std.proofs.Common.{ap, arith, ◌∙◌}
 use Rattle.crypto_specs.specs.Prelude.{number_block, block_number}
 use Rattle.cipher_blocks.proofs.FilledBlocks.{written_number, written_block}
 use Rattle.cipher_blocks.proofs.filled_number.Goals as goal

@@ -1,4 +1,4 @@
-use Rattle.std.proofs.Common.{◌≡◌, ◌∙◌, length, take, sym, ap, refl, arith}
+use Rattle.std.proofs.Common.{ap, arith, length, refl, sym, take, ◌∙◌, ◌≡◌}
 use Rattle.std.proofs.lemmas.List.{length-take}
 use Rattle.crypto_specs.specs.Prelude.{number_block}
 use Rattle.crypto_specs.proofs.Blocks.{length-number_block}

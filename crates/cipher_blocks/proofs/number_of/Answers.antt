@@ -1,4 +1,4 @@
-use Rattle.std.proofs.Common.{◌∙◌, ap, arith}
+use Rattle.std.proofs.Common.{ap, arith, ◌∙◌}
 use Rattle.crypto_specs.specs.Prelude.{number_block, block_number}
 use Rattle.cipher_blocks.proofs.BlockNumbers.{block_of_number}
 use Rattle.cipher_blocks.proofs.number_of.Goals as goal

@@ -1,4 +1,4 @@
-use Rattle.std.proofs.Common.{◌≡◌, ◌++◌, take, drop}
+use Rattle.std.proofs.Common.{drop, take, ◌++◌, ◌≡◌}
 use Rattle.crypto_specs.specs.Prelude.{xor_bytes}
 use Rattle.cipher_blocks.proofs.xor_by_byte.Given as goal
 

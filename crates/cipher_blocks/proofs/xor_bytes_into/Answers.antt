@@ -1,4 +1,4 @@
-use Rattle.std.proofs.Common.{◌≡◌, ℕ, ◌∙◌, drop, ap, arith}
+use Rattle.std.proofs.Common.{ap, arith, drop, ℕ, ◌∙◌, ◌≡◌}
 use Rattle.crypto_specs.specs.Prelude.{xor_bytes}
 use Rattle.cipher_blocks.proofs.xor_bytes_into.Goals as goal
 

@@ -1,4 +1,4 @@
-use Rattle.std.proofs.Common.{◌≡◌, ◌≤◌, All, length}
+use Rattle.std.proofs.Common.{All, length, ◌≡◌, ◌≤◌}
 use Rattle.callers.specs.Ready.{IsReady}
 use Rattle.locked_store.specs.Prelude.{world}
 use Rattle.library_example.proofs.make_all.Given as goal

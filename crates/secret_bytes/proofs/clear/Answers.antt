@@ -1,4 +1,4 @@
-use Rattle.std.proofs.Common.{◌≡◌, ◌-◌, ◌++◌, ap, ap₂, ◌∙◌, arith, length, replicate}
+use Rattle.std.proofs.Common.{ap, ap₂, arith, length, replicate, ◌++◌, ◌-◌, ◌∙◌, ◌≡◌}
 use Rattle.std.proofs.lemmas.List.{replicate-append-replicate}
 use Rattle.secret_bytes.proofs.clear.Goals as goal
 

@@ -1,4 +1,4 @@
-use Rattle.std.proofs.Common.{◌≡◌, ◌≤◌, ◌-◌, ◌+◌, ◌++◌, ℕ, List, ap, ◌∙◌, arith, drop, length, replicate, take}
+use Rattle.std.proofs.Common.{List, ap, arith, drop, length, replicate, take, ℕ, ◌++◌, ◌+◌, ◌-◌, ◌∙◌, ◌≡◌, ◌≤◌}
 use Rattle.std.proofs.Math.Seq.{drop-append-add}
 use Rattle.std.proofs.lemmas.List.{drop-drop, drop-replicate, length-take}
 use Rattle.secret_bytes.proofs.fill.Goals as goal

@@ -1,4 +1,4 @@
-use Rattle.std.proofs.Common.{◌≡◌, map, drop}
+use Rattle.std.proofs.Common.{drop, map, ◌≡◌}
 use Rattle.admission.specs.Words.{label_named}
 use Rattle.admission.proofs.words.label_of.Given as goal
 

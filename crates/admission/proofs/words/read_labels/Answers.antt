@@ -1,5 +1,4 @@
-use Rattle.std.proofs.Common.{rules, sym, ◌∙◌, ap, arith, append-nil, map}
-use Rattle.std.specs.Prelude.{Some, []}
+use Rattle.std.proofs.Common.{Some, [], ap, append-nil, arith, map, rules, sym, ◌∙◌}
 use Rattle.std.proofs.lemmas.Str.Pattern.{split_once_first}
 use Rattle.admission.specs.Words.{labels_in}
 use Rattle.admission.proofs.Texts.{first_word, last_word, read_on, read_none, behind}

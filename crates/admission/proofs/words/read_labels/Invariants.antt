@@ -1,4 +1,4 @@
-use Rattle.std.proofs.Common.{◌≡◌, length, map}
+use Rattle.std.proofs.Common.{length, map, ◌≡◌}
 use Rattle.std.specs.Str.{IsUtf8}
 use Rattle.admission.specs.Words.{labels_in}
 use Rattle.admission.proofs.Texts.{behind}

@@ -1,7 +1,6 @@
-use Rattle.std.proofs.Common.{◌≡◌, ◌<◌, ◌-◌, ◌∙◌, length, take, drop, sym, ap, arith}
+use Rattle.std.proofs.Common.{ap, arith, drop, length, sym, take, ◌-◌, ◌<◌, ◌∙◌, ◌≡◌}
+use Rattle.aead_ccm.proofs.Common.{aes_encrypt, chained_from, encoded_data, number_block}
 use Rattle.std.proofs.lemmas.List.{take_all, length-drop}
-use Rattle.crypto_specs.specs.Prelude.{aes_encrypt, number_block, encoded_data}
-use Rattle.aead_ccm.specs.Chaining.{chained_from}
 use Rattle.aead_ccm.proofs.FilledBlocks.{filled_blocks-empty}
 use Rattle.aead_ccm.proofs.Formats.{no_data, data_is_some}
 use Rattle.aead_ccm.proofs.Chains.{front_chained}

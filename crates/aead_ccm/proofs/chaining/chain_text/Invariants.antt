@@ -1,6 +1,5 @@
-use Rattle.std.proofs.Common.{◌≡◌, ◌*◌, drop}
-use Rattle.crypto_specs.specs.Prelude.{aes_encrypt, number_block, filled_blocks}
-use Rattle.aead_ccm.specs.Chaining.{chained_from}
+use Rattle.std.proofs.Common.{drop, ◌*◌, ◌≡◌}
+use Rattle.aead_ccm.proofs.Common.{aes_encrypt, chained_from, filled_blocks, number_block}
 use Rattle.aead_ccm.proofs.chaining.chain_text.Given as goal
 
 abbrev pub invariant-turns : goal.invariant-turns

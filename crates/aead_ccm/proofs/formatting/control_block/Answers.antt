@@ -1,5 +1,5 @@
-use Rattle.std.proofs.Common.{ℕ, ◌-◌, ◌∷◌, ◌++◌, ◌∙◌, length, ap}
-use Rattle.crypto_specs.specs.Prelude.{control_block, in_bytes}
+use Rattle.std.proofs.Common.{ap, length, ℕ, ◌++◌, ◌-◌, ◌∙◌, ◌∷◌}
+use Rattle.aead_ccm.proofs.Common.{control_block, in_bytes}
 use Rattle.aead_ccm.proofs.formatting.control_block.Goals as goal
 
 pub returns : goal.returns

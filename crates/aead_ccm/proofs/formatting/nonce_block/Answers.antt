@@ -1,5 +1,5 @@
-use Rattle.std.proofs.Common.{◌∙◌, ap}
-use Rattle.std.specs.Int.{w128, to_be_bytes}
+use Rattle.std.proofs.Common.{ap, ◌∙◌}
+use Rattle.aead_ccm.proofs.Common.{to_be_bytes, w128}
 use Rattle.aead_ccm.proofs.Formats.{nonce_block_is}
 use Rattle.aead_ccm.proofs.formatting.nonce_block.Goals as goal
 

@@ -1,8 +1,5 @@
-use Rattle.std.proofs.Common.{◌≡◌, ℕ, List, ◌+◌, ◌-◌, ◌*◌, ◌∙◌, ◌++◌, length, take, drop, refl, ap, sym, arith}
-use Rattle.crypto_specs.specs.Prelude.{aes_encrypt, xor_bytes, filled_blocks, block_count, number_block}
-use Rattle.crypto_specs.proofs.XorBytes.{next_block_xored, blocks_xored}
-use Rattle.aead_ccm.specs.Chaining.{chained_from, filled_block}
-use Rattle.aead_ccm.specs.Counting.{masks}
+use Rattle.std.proofs.Common.{List, ap, arith, drop, length, refl, sym, take, ℕ, ◌*◌, ◌++◌, ◌+◌, ◌-◌, ◌∙◌, ◌≡◌}
+use Rattle.aead_ccm.proofs.Common.{aes_encrypt, block_count, blocks_xored, chained_from, filled_block, filled_blocks, masks, next_block_xored, number_block, xor_bytes}
 use Rattle.aead_ccm.proofs.Chains.{block_chained, all_chained}
 use Rattle.aead_ccm.proofs.KeyStream.{length-masks, masks_next, piece_is, length_xored}
 use Rattle.aead_ccm.proofs.passes.open_text.Goals as goal

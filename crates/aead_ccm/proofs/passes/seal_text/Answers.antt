@@ -1,8 +1,5 @@
-use Rattle.std.proofs.Common.{ℕ, List, ◌+◌, ◌-◌, ◌*◌, ◌∙◌, ◌++◌, take, drop, refl, ap, sym, arith}
-use Rattle.crypto_specs.specs.Prelude.{aes_encrypt, xor_bytes, number_block}
-use Rattle.crypto_specs.proofs.XorBytes.{next_block_xored, blocks_xored}
-use Rattle.aead_ccm.specs.Chaining.{filled_block}
-use Rattle.aead_ccm.specs.Counting.{masks}
+use Rattle.std.proofs.Common.{List, ap, arith, drop, refl, sym, take, ℕ, ◌*◌, ◌++◌, ◌+◌, ◌-◌, ◌∙◌}
+use Rattle.aead_ccm.proofs.Common.{aes_encrypt, blocks_xored, filled_block, masks, next_block_xored, number_block, xor_bytes}
 use Rattle.aead_ccm.proofs.Chains.{block_chained, all_chained}
 use Rattle.aead_ccm.proofs.KeyStream.{length-masks, masks_next, left_over}
 use Rattle.aead_ccm.proofs.passes.seal_text.Goals as goal

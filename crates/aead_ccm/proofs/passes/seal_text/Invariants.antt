@@ -1,7 +1,5 @@
-use Rattle.std.proofs.Common.{◌≡◌, ◌++◌, ◌*◌, take, drop}
-use Rattle.crypto_specs.specs.Prelude.{aes_encrypt, xor_bytes, number_block, filled_blocks}
-use Rattle.aead_ccm.specs.Chaining.{chained_from}
-use Rattle.aead_ccm.specs.Counting.{masks}
+use Rattle.std.proofs.Common.{drop, take, ◌*◌, ◌++◌, ◌≡◌}
+use Rattle.aead_ccm.proofs.Common.{aes_encrypt, chained_from, filled_blocks, masks, number_block, xor_bytes}
 use Rattle.aead_ccm.proofs.passes.seal_text.Given as goal
 
 abbrev pub invariant-turns : goal.invariant-turns

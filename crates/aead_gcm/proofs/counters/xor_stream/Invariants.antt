@@ -1,4 +1,4 @@
-use Rattle.std.proofs.Common.{◌≡◌, ◌++◌, ◌*◌, take, drop}
+use Rattle.std.proofs.Common.{drop, take, ◌*◌, ◌++◌, ◌≡◌}
 use Rattle.crypto_specs.specs.Prelude.{xor_bytes, aes_encrypt, gcm_stream, increased}
 use Rattle.aead_gcm.proofs.counters.xor_stream.Given as goal
 

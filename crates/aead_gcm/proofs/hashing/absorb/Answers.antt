@@ -1,4 +1,4 @@
-use Rattle.std.proofs.Common.{ℕ, ◌∙◌, ap, ap₂, bit_xor, arith}
+use Rattle.std.proofs.Common.{ap, ap₂, arith, bit_xor, ℕ, ◌∙◌}
 use Rattle.crypto_specs.specs.Prelude.{block_product, numbers_of}
 use Rattle.aead_gcm.proofs.GhashSteps.{block_taken, all_taken}
 use Rattle.aead_gcm.proofs.hashing.absorb.Goals as goal

@@ -1,4 +1,4 @@
-use Rattle.std.proofs.Common.{◌∙◌, sym, ap}
+use Rattle.std.proofs.Common.{ap, sym, ◌∙◌}
 use Rattle.crypto_specs.specs.Prelude.{hash_subkey, block_number}
 use Rattle.cipher_blocks.proofs.BlockNumbers.{number_of_block}
 use Rattle.aead_gcm.proofs.hashing.hash_subkey.Goals as goal

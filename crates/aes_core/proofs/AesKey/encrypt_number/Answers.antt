@@ -1,5 +1,5 @@
 use Rattle.std.proofs.Common.{◌∙◌}
-use Rattle.crypto_specs.specs.Prelude.{number_block}
+use Rattle.aes_core.proofs.Common.{number_block}
 use Rattle.aes_core.proofs.KeyRules.{ready, cipher_of}
 use Rattle.aes_core.proofs.AesKey.encrypt_number.Goals as goal
 

@@ -1,5 +1,5 @@
-use Rattle.std.proofs.Common.{ℕ, [], ◌∷◌}
-use Rattle.crypto_specs.specs.Prelude.{sbox}
+use Rattle.std.proofs.Common.{[], ℕ, ◌∷◌}
+use Rattle.aes_core.proofs.Common.{sbox}
 use Rattle.aes_core.proofs.ColumnSums.{four_columns}
 use Rattle.aes_core.proofs.columns.last_columns.Goals as goal
 

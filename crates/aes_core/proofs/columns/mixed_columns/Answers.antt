@@ -1,6 +1,5 @@
 use Rattle.std.proofs.Common.{ℕ}
-use Rattle.crypto_specs.specs.Prelude.{sbox}
-use Rattle.aes_core.specs.Words.{mixed_column}
+use Rattle.aes_core.proofs.Common.{mixed_column, sbox}
 use Rattle.aes_core.proofs.ColumnSums.{four_columns}
 use Rattle.aes_core.proofs.columns.mixed_columns.Goals as goal
 

@@ -1,4 +1,4 @@
-use Rattle.std.proofs.lemmas.Nat.{be_bytes_4}
+use Rattle.aes_core.proofs.Common.{be_bytes_4}
 use Rattle.aes_core.proofs.columns.word_of.Goals as goal
 
 pub returns : goal.returns

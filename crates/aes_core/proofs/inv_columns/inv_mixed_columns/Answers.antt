@@ -1,6 +1,5 @@
 use Rattle.std.proofs.Common.{ℕ}
-use Rattle.crypto_specs.specs.Prelude.{inv_sbox}
-use Rattle.aes_core.specs.Words.{mixed_column}
+use Rattle.aes_core.proofs.Common.{inv_sbox, mixed_column}
 use Rattle.aes_core.proofs.ColumnSums.{four_columns}
 use Rattle.aes_core.proofs.inv_columns.inv_mixed_columns.Goals as goal
 

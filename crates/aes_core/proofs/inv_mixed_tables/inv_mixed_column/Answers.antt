@@ -1,10 +1,5 @@
-use Rattle.std.proofs.Common.{ℕ, ◌≡◌, ◌/◌, ◌^◌, ◌∙◌, ap, arith}
-use Rattle.std.specs.Int.{byte_at}
-use Rattle.crypto_specs.specs.Prelude.{inv_sbox}
-use Rattle.crypto_specs.proofs.CipherInverseBytes.{inv_sbox-byte}
-use Rattle.aes_core.specs.Words.{mixed_column}
-use Rattle.aes_core.specs.declared.tables.TheConstants.{INV_SBOX}
-use Rattle.aes_core.specs.declared.inv_mixed_tables.TheConstants.{INV_MIXED_ROWS}
+use Rattle.std.proofs.Common.{ap, arith, ℕ, ◌/◌, ◌^◌, ◌∙◌, ◌≡◌}
+use Rattle.aes_core.proofs.Common.{INV_MIXED_ROWS, INV_SBOX, byte_at, inv_sbox, inv_sbox-byte, mixed_column}
 use Rattle.aes_core.proofs.BoxValues.{inv_sbox_at}
 use Rattle.aes_core.proofs.MixedTables.{column_of_tables, inv_mixed_rows}
 use Rattle.aes_core.proofs.inv_mixed_tables.inv_mixed_column.Goals as goal

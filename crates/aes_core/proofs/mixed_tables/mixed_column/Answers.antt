@@ -1,10 +1,5 @@
-use Rattle.std.proofs.Common.{ℕ, ◌≡◌, ◌/◌, ◌^◌, ◌∙◌, ap, arith}
-use Rattle.std.specs.Int.{byte_at}
-use Rattle.crypto_specs.specs.Prelude.{sbox}
-use Rattle.crypto_specs.proofs.CipherInverseBytes.{sbox-byte}
-use Rattle.aes_core.specs.Words.{mixed_column}
-use Rattle.aes_core.specs.declared.tables.TheConstants.{SBOX}
-use Rattle.aes_core.specs.declared.mixed_tables.TheConstants.{MIXED_ROWS}
+use Rattle.std.proofs.Common.{ap, arith, ℕ, ◌/◌, ◌^◌, ◌∙◌, ◌≡◌}
+use Rattle.aes_core.proofs.Common.{MIXED_ROWS, SBOX, byte_at, mixed_column, sbox, sbox-byte}
 use Rattle.aes_core.proofs.BoxValues.{sbox_at}
 use Rattle.aes_core.proofs.MixedTables.{column_of_tables, mixed_rows}
 use Rattle.aes_core.proofs.mixed_tables.mixed_column.Goals as goal

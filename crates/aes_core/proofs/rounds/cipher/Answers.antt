@@ -1,6 +1,5 @@
-use Rattle.std.proofs.Common.{List, ℕ, ◌≡◌, ◌+◌, ◌-◌, ◌∙◌, ap, arith}
-use Rattle.crypto_specs.specs.Prelude.{number_block, rounds, add_round_key, shift_rows, sub_bytes}
-use Rattle.aes_core.specs.Words.{bytes_of}
+use Rattle.std.proofs.Common.{List, ap, arith, ℕ, ◌+◌, ◌-◌, ◌∙◌, ◌≡◌}
+use Rattle.aes_core.proofs.Common.{add_round_key, bytes_of, number_block, rounds, shift_rows, sub_bytes}
 use Rattle.aes_core.proofs.RoundKeys.{rounds_next}
 use Rattle.aes_core.proofs.rounds.cipher.Goals as goal
 

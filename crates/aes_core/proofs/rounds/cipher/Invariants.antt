@@ -1,6 +1,5 @@
-use Rattle.std.proofs.Common.{◌≡◌, ◌-◌, ◌%◌, ◌≤◌}
-use Rattle.crypto_specs.specs.Prelude.{number_block, rounds}
-use Rattle.aes_core.specs.Words.{bytes_of}
+use Rattle.std.proofs.Common.{◌%◌, ◌-◌, ◌≡◌, ◌≤◌}
+use Rattle.aes_core.proofs.Common.{bytes_of, number_block, rounds}
 use Rattle.aes_core.proofs.rounds.cipher.Given as goal
 
 abbrev pub invariant-rounds : goal.invariant-rounds

@@ -1,7 +1,5 @@
-use Rattle.std.proofs.Common.{List, ℕ, ◌≡◌, ◌+◌, ◌-◌, ◌≤◌, ◌∙◌, refl, ap, ap₂, inl, arith}
-use Rattle.crypto_specs.specs.Prelude.{number_block, add_round_key, inv_rounds, inv_sub_bytes, inv_shift_rows}
-use Rattle.aes_core.specs.Words.{bytes_of}
-use Rattle.aes_core.specs.KeyFields.{IsInvScheduleOf}
+use Rattle.std.proofs.Common.{List, ap, ap₂, arith, inl, refl, ℕ, ◌+◌, ◌-◌, ◌∙◌, ◌≡◌, ◌≤◌}
+use Rattle.aes_core.proofs.Common.{IsInvScheduleOf, add_round_key, bytes_of, inv_rounds, inv_shift_rows, inv_sub_bytes, number_block}
 use Rattle.aes_core.proofs.InvColumns.{outer_key, eq_inv_next}
 use Rattle.aes_core.proofs.rounds.eq_inv_cipher.Goals as goal
 

@@ -1,7 +1,5 @@
-use Rattle.std.proofs.Common.{◌≡◌, ◌-◌, ◌%◌, ◌≤◌, ℕ, List}
-use Rattle.crypto_specs.specs.Prelude.{number_block, inv_rounds}
-use Rattle.aes_core.specs.Words.{bytes_of}
-use Rattle.aes_core.specs.KeyFields.{IsInvScheduleOf}
+use Rattle.std.proofs.Common.{List, ℕ, ◌%◌, ◌-◌, ◌≡◌, ◌≤◌}
+use Rattle.aes_core.proofs.Common.{IsInvScheduleOf, bytes_of, inv_rounds, number_block}
 use Rattle.aes_core.proofs.rounds.eq_inv_cipher.Given as goal
 
 abbrev pub invariant-inv_rounds : goal.invariant-inv_rounds

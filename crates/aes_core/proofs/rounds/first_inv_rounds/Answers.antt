@@ -1,6 +1,5 @@
-use Rattle.std.proofs.Common.{List, ℕ, ◌-◌, ◌∙◌, ap, inr, arith}
-use Rattle.crypto_specs.specs.Prelude.{number_block, add_round_key, inv_rounds}
-use Rattle.aes_core.specs.Words.{bytes_of}
+use Rattle.std.proofs.Common.{List, ap, arith, inr, ℕ, ◌-◌, ◌∙◌}
+use Rattle.aes_core.proofs.Common.{add_round_key, bytes_of, inv_rounds, number_block}
 use Rattle.aes_core.proofs.InvColumns.{outer_key, eq_inv_next}
 use Rattle.aes_core.proofs.RoundKeys.{inv_rounds_none}
 use Rattle.aes_core.proofs.rounds.first_inv_rounds.Goals as goal

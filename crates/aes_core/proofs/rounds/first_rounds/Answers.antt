@@ -1,6 +1,5 @@
-use Rattle.std.proofs.Common.{List, ℕ, ◌-◌, ◌∙◌, ap, arith}
-use Rattle.crypto_specs.specs.Prelude.{number_block, rounds, add_round_key}
-use Rattle.aes_core.specs.Words.{bytes_of}
+use Rattle.std.proofs.Common.{List, ap, arith, ℕ, ◌-◌, ◌∙◌}
+use Rattle.aes_core.proofs.Common.{add_round_key, bytes_of, number_block, rounds}
 use Rattle.aes_core.proofs.RoundKeys.{rounds_none, rounds_next}
 use Rattle.aes_core.proofs.rounds.first_rounds.Goals as goal
 

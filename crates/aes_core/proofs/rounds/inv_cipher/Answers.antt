@@ -1,6 +1,5 @@
-use Rattle.std.proofs.Common.{refl, arith}
-use Rattle.crypto_specs.specs.Prelude.{inv_rounds}
-use Rattle.aes_core.specs.Words.{bytes_of}
+use Rattle.std.proofs.Common.{arith, refl}
+use Rattle.aes_core.proofs.Common.{bytes_of, inv_rounds}
 use Rattle.aes_core.proofs.RoundKeys.{inv_rounds_next}
 use Rattle.aes_core.proofs.rounds.inv_cipher.Goals as goal
 

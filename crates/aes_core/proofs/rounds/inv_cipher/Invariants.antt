@@ -1,6 +1,5 @@
-use Rattle.std.proofs.Common.{◌≡◌, ◌-◌, length}
-use Rattle.crypto_specs.specs.Prelude.{inv_rounds}
-use Rattle.aes_core.specs.Words.{bytes_of}
+use Rattle.std.proofs.Common.{length, ◌-◌, ◌≡◌}
+use Rattle.aes_core.proofs.Common.{bytes_of, inv_rounds}
 use Rattle.aes_core.proofs.rounds.inv_cipher.Given as goal
 
 abbrev pub invariant-inv_rounds : goal.invariant-inv_rounds

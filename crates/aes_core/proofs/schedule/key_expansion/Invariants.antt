@@ -1,6 +1,5 @@
-use Rattle.std.proofs.Common.{◌≡◌, ◌-◌, length, take}
-use Rattle.crypto_specs.specs.Prelude.{expanded}
-use Rattle.aes_core.specs.Words.{bytes_of}
+use Rattle.std.proofs.Common.{length, take, ◌-◌, ◌≡◌}
+use Rattle.aes_core.proofs.Common.{bytes_of, expanded}
 use Rattle.aes_core.proofs.schedule.key_expansion.Given as goal
 
 abbrev pub invariant-words : goal.invariant-words

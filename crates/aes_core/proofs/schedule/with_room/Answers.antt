@@ -1,7 +1,6 @@
-use Rattle.std.proofs.Common.{◌≡◌, ◌*◌, ◌/◌, length, take, ℕ, ap, ◌∙◌, arith}
+use Rattle.std.proofs.Common.{ap, arith, length, take, ℕ, ◌*◌, ◌/◌, ◌∙◌, ◌≡◌}
+use Rattle.aes_core.proofs.Common.{bytes_of, take-length}
 use Rattle.std.proofs.lemmas.List.{length-set}
-use Rattle.std.proofs.Math.Seq.{take-length}
-use Rattle.aes_core.specs.Words.{bytes_of}
 use Rattle.aes_core.proofs.Expansion.{key_word}
 use Rattle.aes_core.proofs.schedule.with_room.Goals as goal
 

@@ -1,6 +1,5 @@
-use Rattle.std.proofs.Common.{ℕ, List, ap, ◌∙◌}
-use Rattle.crypto_specs.specs.Prelude.{number_block, add_round_key}
-use Rattle.aes_core.specs.Words.{bytes_of}
+use Rattle.std.proofs.Common.{List, ap, ℕ, ◌∙◌}
+use Rattle.aes_core.proofs.Common.{add_round_key, bytes_of, number_block}
 use Rattle.aes_core.proofs.state.add_key_bytes.Goals as goal
 
 pub returns : goal.returns

@@ -1,9 +1,6 @@
-use Rattle.std.proofs.Common.{◌∙◌, ◌++◌, ◌∷◌, [], ◌≡◌, map, sym, ap, subst, arith, append_assoc}
+use Rattle.std.proofs.Common.{[], ap, append_assoc, arith, map, subst, sym, ◌++◌, ◌∙◌, ◌∷◌, ◌≡◌}
+use Rattle.caller_service.proofs.Common.{IsIdle, IsRetired, account_of, backwards, map-append}
 use Rattle.std.specs.Option.{option_to_list}
-use Rattle.caller_service.specs.Closing.{backwards}
-use Rattle.std.proofs.lemmas.List.{map-append}
-use Rattle.turn_history.specs.Prelude.{IsIdle, account_of}
-use Rattle.callers.specs.Retired.{IsRetired}
 use Rattle.caller_service.proofs.Lists.{all_mid}
 use Rattle.caller_service.proofs.closing.hand_in.Goals as goal
 

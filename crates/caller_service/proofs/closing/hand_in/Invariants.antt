@@ -1,8 +1,5 @@
-use Rattle.std.proofs.Common.{◌≡◌, ◌+◌, ◌++◌, List, length, map}
-use Rattle.std.specs.Prelude.{vec_len}
-use Rattle.caller_service.specs.Closing.{backwards}
-use Rattle.turn_history.specs.Prelude.{account_of}
-use Rattle.callers.specs.declared.caller.Caller.{Caller}
+use Rattle.std.proofs.Common.{List, length, map, vec_len, ◌++◌, ◌+◌, ◌≡◌}
+use Rattle.caller_service.proofs.Common.{Caller, account_of, backwards}
 use Rattle.caller_service.proofs.closing.hand_in.Given as goal
 
 abbrev pub invariant-loop-caller : goal.invariant-loop-caller

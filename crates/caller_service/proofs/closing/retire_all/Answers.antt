@@ -1,7 +1,5 @@
-use Rattle.std.proofs.Common.{◌∙◌, ◌<◌, ap, sym, subst, arith, get_or, length}
-use Rattle.callers.specs.Ready.{IsReady}
-use Rattle.locked_store.specs.Prelude.{world}
-use Rattle.callers.specs.Retired.{MakesNoCall}
+use Rattle.std.proofs.Common.{ap, arith, get_or, length, subst, sym, ◌<◌, ◌∙◌}
+use Rattle.caller_service.proofs.Common.{IsReady, MakesNoCall, world}
 use Rattle.caller_service.proofs.Ended.{one_retired}
 use Rattle.caller_service.proofs.Lists.{get_same}
 use Rattle.caller_service.proofs.closing.retire_all.Goals as goal

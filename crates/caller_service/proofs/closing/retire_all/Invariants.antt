@@ -1,4 +1,4 @@
-use Rattle.locked_store.specs.Prelude.{world}
+use Rattle.caller_service.proofs.Common.{world}
 use Rattle.caller_service.proofs.Ended.{AreRetiring}
 use Rattle.caller_service.proofs.closing.retire_all.Given as goal
 

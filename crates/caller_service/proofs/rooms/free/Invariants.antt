@@ -1,6 +1,5 @@
-use Rattle.std.proofs.Common.{All}
-use Rattle.std.specs.Prelude.{vec_len}
-use Rattle.caller_service.specs.Rooms.{IsRoom}
+use Rattle.std.proofs.Common.{All, vec_len}
+use Rattle.caller_service.proofs.Common.{IsRoom}
 use Rattle.caller_service.proofs.rooms.free.Given as goal
 
 abbrev pub invariant-loop-room : goal.invariant-loop-room

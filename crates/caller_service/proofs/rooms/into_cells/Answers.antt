@@ -1,9 +1,6 @@
-use Rattle.std.proofs.Common.{◌∙◌, ◌++◌, ◌∷◌, [], ◌≡◌, length, ap, arith, length-append}
+use Rattle.std.proofs.Common.{None, [], ap, arith, length, length-append, ◌++◌, ◌∙◌, ◌∷◌, ◌≡◌}
+use Rattle.caller_service.proofs.Common.{AreInactive, Inactive, IsOperation}
 use Rattle.std.specs.Option.{option_to_list}
-use Rattle.store_model.specs.Prelude.{Inactive}
-use Rattle.operation_handles.specs.Cells.{IsOperation}
-use Rattle.operation_handles.specs.States.{AreInactive}
-use Rattle.std.specs.Prelude.{None}
 use Rattle.caller_service.proofs.Lists.{all_front, all_mid, all_more}
 use Rattle.caller_service.proofs.rooms.into_cells.Goals as goal
 

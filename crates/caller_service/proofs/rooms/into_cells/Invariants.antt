@@ -1,7 +1,5 @@
-use Rattle.std.proofs.Common.{◌≡◌, ◌≤◌, ◌+◌, All, length}
-use Rattle.std.specs.Prelude.{vec_capacity, vec_len}
-use Rattle.operation_handles.specs.States.{AreInactive}
-use Rattle.callers.specs.Handles.{AreIdle}
+use Rattle.std.proofs.Common.{All, length, vec_capacity, vec_len, ◌+◌, ◌≡◌, ◌≤◌}
+use Rattle.caller_service.proofs.Common.{AreIdle, AreInactive}
 use Rattle.caller_service.proofs.rooms.into_cells.Given as goal
 
 abbrev pub invariant-loop-state : goal.invariant-loop-state

@@ -1,5 +1,4 @@
-use Rattle.std.proofs.Common.{◌≡◌, ◌≤◌, All, length}
-use Rattle.std.specs.Prelude.{vec_capacity}
+use Rattle.std.proofs.Common.{All, length, vec_capacity, ◌≡◌, ◌≤◌}
 use Rattle.secret_bytes.specs.Buffer.{IsClear}
 use Rattle.caller_service.proofs.rooms.new_spares.Given as goal
 

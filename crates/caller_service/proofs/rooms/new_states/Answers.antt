@@ -1,5 +1,5 @@
-use Rattle.std.proofs.Common.{◌∷◌, [], length, ap, arith, length-append}
-use Rattle.operation_handles.specs.States.{AreInactive}
+use Rattle.std.proofs.Common.{[], ap, arith, length, length-append, ◌∷◌}
+use Rattle.caller_service.proofs.Common.{AreInactive}
 use Rattle.caller_service.proofs.Lists.{all_more}
 use Rattle.caller_service.proofs.rooms.new_states.Goals as goal
 

@@ -1,6 +1,5 @@
-use Rattle.std.proofs.Common.{◌≡◌, ◌≤◌, All, length}
-use Rattle.std.specs.Prelude.{vec_capacity}
-use Rattle.operation_handles.specs.States.{AreInactive}
+use Rattle.std.proofs.Common.{All, length, vec_capacity, ◌≡◌, ◌≤◌}
+use Rattle.caller_service.proofs.Common.{AreInactive}
 use Rattle.caller_service.proofs.rooms.new_states.Given as goal
 
 abbrev pub invariant-loop : goal.invariant-loop

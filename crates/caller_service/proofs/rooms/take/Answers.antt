@@ -1,5 +1,5 @@
-use Rattle.std.proofs.Common.{◌∷◌, [], length, ap, arith, length-append}
-use Rattle.caller_service.specs.Rooms.{IsRoom}
+use Rattle.std.proofs.Common.{[], ap, arith, length, length-append, ◌∷◌}
+use Rattle.caller_service.proofs.Common.{IsRoom}
 use Rattle.caller_service.proofs.Lists.{all_more}
 use Rattle.caller_service.proofs.rooms.take.Goals as goal
 

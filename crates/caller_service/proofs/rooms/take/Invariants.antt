@@ -1,6 +1,5 @@
-use Rattle.std.proofs.Common.{◌≡◌, ◌≤◌, All, length}
-use Rattle.std.specs.Prelude.{vec_capacity}
-use Rattle.caller_service.specs.Rooms.{IsRoom}
+use Rattle.std.proofs.Common.{All, length, vec_capacity, ◌≡◌, ◌≤◌}
+use Rattle.caller_service.proofs.Common.{IsRoom}
 use Rattle.caller_service.proofs.rooms.take.Given as goal
 
 abbrev pub invariant-loop : goal.invariant-loop

@@ -1,8 +1,6 @@
-use Rattle.std.proofs.Common.{◌∙◌, ◌++◌, ◌∷◌, [], length, sym, ap, arith, length-append, append_assoc}
+use Rattle.std.proofs.Common.{[], ap, append_assoc, arith, get_or, length, length-append, sym, ◌++◌, ◌∙◌, ◌∷◌}
+use Rattle.caller_service.proofs.Common.{IsRoom, world}
 use Rattle.std.specs.Option.{option_to_list}
-use Rattle.std.proofs.Common.{get_or}
-use Rattle.locked_store.specs.Prelude.{world}
-use Rattle.caller_service.specs.Rooms.{IsRoom}
 use Rattle.caller_service.proofs.Lists.{all_front, get_mid}
 use Rattle.caller_service.proofs.Ended.{new_each}
 use Rattle.caller_service.proofs.service.seat.Goals as goal

@@ -1,9 +1,5 @@
-use Rattle.std.proofs.Common.{◌≡◌, ◌≤◌, ◌<◌, ◌+◌, ◌++◌, ℕ, All, length, get_or}
-use Rattle.std.specs.Prelude.{vec_capacity}
-use Rattle.locked_store.specs.Prelude.{world}
-use Rattle.callers.specs.declared.caller.Caller.{Caller}
-use Rattle.caller_service.specs.Rooms.{IsRoom}
-use Rattle.caller_service.specs.Staff.{IsNewCaller}
+use Rattle.std.proofs.Common.{All, get_or, length, vec_capacity, ℕ, ◌++◌, ◌+◌, ◌<◌, ◌≡◌, ◌≤◌}
+use Rattle.caller_service.proofs.Common.{Caller, IsNewCaller, IsRoom, world}
 use Rattle.caller_service.proofs.service.seat.Given as goal
 
 abbrev pub invariant-loop-pass : goal.invariant-loop-pass

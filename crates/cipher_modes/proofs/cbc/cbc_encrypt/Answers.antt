@@ -1,4 +1,4 @@
-use Rattle.std.proofs.Common.{◌∙◌, List, ℕ, ◌∷◌, length, sym, ap, refl, arith}
+use Rattle.std.proofs.Common.{List, ap, arith, length, refl, sym, ℕ, ◌∙◌, ◌∷◌}
 use Rattle.crypto_specs.specs.Prelude.{xor_bytes, aes_encrypt, cbc_blocks, number_block, cbc_encrypt}
 use Rattle.crypto_specs.proofs.Blocks.{length-number_block}
 use Rattle.cipher_blocks.proofs.BlockNumbers.{block_of_xor}

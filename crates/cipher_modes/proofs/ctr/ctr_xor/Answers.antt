@@ -1,4 +1,4 @@
-use Rattle.std.proofs.Common.{◌∙◌, List, ℕ, ◌++◌, ◌*◌, ◌+◌, take, drop, refl, sym, ap, arith}
+use Rattle.std.proofs.Common.{List, ap, arith, drop, refl, sym, take, ℕ, ◌*◌, ◌++◌, ◌+◌, ◌∙◌}
 use Rattle.crypto_specs.specs.Prelude.{xor_bytes, aes_encrypt, key_stream, block_number, number_block, ctr_xor}
 use Rattle.crypto_specs.proofs.KeyStream.{length-key_stream}
 use Rattle.crypto_specs.proofs.XorBytes.{next_block_xored, blocks_xored}

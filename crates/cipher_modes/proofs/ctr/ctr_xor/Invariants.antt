@@ -1,4 +1,4 @@
-use Rattle.std.proofs.Common.{◌≡◌, ◌++◌, ◌+◌, ◌*◌, ◌%◌, ◌^◌, take, drop}
+use Rattle.std.proofs.Common.{drop, take, ◌%◌, ◌*◌, ◌++◌, ◌+◌, ◌^◌, ◌≡◌}
 use Rattle.crypto_specs.specs.Prelude.{xor_bytes, aes_encrypt, key_stream, block_number}
 use Rattle.cipher_modes.proofs.ctr.ctr_xor.Given as goal
 

@@ -1,4 +1,4 @@
-use Rattle.std.proofs.Common.{◌∙◌, List, ℕ, ◌∷◌, map, length, sym, ap, refl, arith}
+use Rattle.std.proofs.Common.{List, ap, arith, length, map, refl, sym, ℕ, ◌∙◌, ◌∷◌}
 use Rattle.crypto_specs.specs.Prelude.{aes_encrypt, ecb_blocks, ecb_encrypt}
 use Rattle.crypto_specs.proofs.Blocks.{length-number_block}
 use Rattle.cipher_modes.proofs.InPlace.{block_done, all_done, none_done}

@@ -1,4 +1,4 @@
-use Rattle.std.proofs.Common.{◌≡◌, length, take, refl, sym, ap, ◌∙◌, slice_index, arith}
+use Rattle.std.proofs.Common.{ap, arith, length, refl, slice_index, sym, take, ◌∙◌, ◌≡◌}
 use Rattle.std.proofs.lemmas.Bool.Decides.{not_from_Decides}
 use Rattle.std.proofs.lemmas.List.{take_all}
 use Rattle.cipher_modes.proofs.PaddingRules.{fits, misfits}

@@ -1,7 +1,5 @@
-use Rattle.std.proofs.Common.{rules, sym, arith}
-use Rattle.std.proofs.lemmas.Str.Pattern.{split_once_first}
-use Rattle.admission.specs.Words.{labels_in, label_named}
-use Rattle.admission.proofs.Texts.{first_word, last_word}
+use Rattle.std.proofs.Common.{arith, rules, sym}
+use Rattle.command_words.proofs.Common.{first_word, label_named, labels_in, last_word, split_once_first}
 use Rattle.command_words.proofs.Parts.{is_label, is_no_label, at_last}
 use Rattle.command_words.proofs.labels.are_labels.Goals as goal
 

@@ -1,7 +1,6 @@
-use Rattle.std.proofs.Common.{◌≡◌, length}
-use Rattle.std.specs.Prelude.{is_some}
+use Rattle.std.proofs.Common.{is_some, length, ◌≡◌}
+use Rattle.command_words.proofs.Common.{labels_in}
 use Rattle.std.specs.Str.{IsUtf8}
-use Rattle.admission.specs.Words.{labels_in}
 use Rattle.command_words.proofs.labels.are_labels.Given as goal
 
 abbrev pub invariant-loop-word : goal.invariant-loop-word

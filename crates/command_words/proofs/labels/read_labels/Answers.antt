@@ -1,8 +1,5 @@
-use Rattle.std.proofs.Common.{rules, sym, ◌∙◌, ap, arith, append-nil}
-use Rattle.std.specs.Prelude.{Some, []}
-use Rattle.std.proofs.lemmas.Str.Pattern.{split_once_first}
-use Rattle.admission.specs.Words.{labels_in}
-use Rattle.admission.proofs.Texts.{first_word, last_word, read_on, read_none, behind}
+use Rattle.std.proofs.Common.{Some, [], ap, append-nil, arith, rules, sym, ◌∙◌}
+use Rattle.command_words.proofs.Common.{behind, first_word, labels_in, last_word, read_none, read_on, split_once_first}
 use Rattle.command_words.proofs.labels.read_labels.Goals as goal
 
 pub returns-in_default-labelled : goal.returns-in_default-labelled

@@ -1,7 +1,6 @@
-use Rattle.std.proofs.Common.{◌≡◌, length}
+use Rattle.std.proofs.Common.{length, ◌≡◌}
+use Rattle.command_words.proofs.Common.{behind, labels_in}
 use Rattle.std.specs.Str.{IsUtf8}
-use Rattle.admission.specs.Words.{labels_in}
-use Rattle.admission.proofs.Texts.{behind}
 use Rattle.command_words.proofs.labels.read_labels.Given as goal
 
 abbrev pub invariant-loop-word : goal.invariant-loop-word

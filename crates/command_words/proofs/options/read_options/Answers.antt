@@ -1,6 +1,6 @@
-use Rattle.std.proofs.Common.{sym, ◌∙◌, arith, ap, map, refl}
+use Rattle.std.proofs.Common.{ap, arith, map, refl, sym, ◌∙◌}
+use Rattle.command_words.proofs.Common.{state, texts}
 use Rattle.std.specs.Option.{option_map}
-use Rattle.command_words.specs.Reading.{state, texts}
 use Rattle.command_words.proofs.Settings.{reads_all, goes_on, stops, ends}
 use Rattle.command_words.proofs.options.read_options.Goals as goal
 

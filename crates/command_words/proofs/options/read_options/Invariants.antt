@@ -1,6 +1,5 @@
-use Rattle.std.proofs.Common.{◌≡◌, map, drop}
-use Rattle.std.specs.Prelude.{None}
-use Rattle.command_words.specs.Reading.{state, after_words}
+use Rattle.std.proofs.Common.{None, drop, map, ◌≡◌}
+use Rattle.command_words.proofs.Common.{after_words, state}
 use Rattle.command_words.proofs.options.read_options.Given as goal
 
 abbrev pub invariant-loop-word : goal.invariant-loop-word

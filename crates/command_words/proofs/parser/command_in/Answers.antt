@@ -1,6 +1,5 @@
-use Rattle.std.proofs.Common.{◌∙◌}
-use Rattle.std.specs.Prelude.{codes}
-use Rattle.clap.specs.Words.{found_of, rows_of}
+use Rattle.std.proofs.Common.{codes, ◌∙◌}
+use Rattle.command_words.proofs.Common.{found_of, rows_of}
 use Rattle.command_words.proofs.Asked.{Met, asks}
 use Rattle.command_words.proofs.parser.command_in.Goals as goal
 

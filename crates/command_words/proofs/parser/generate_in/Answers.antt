@@ -1,7 +1,5 @@
-use Rattle.std.proofs.Common.{ap, ◌∙◌}
-use Rattle.std.specs.Prelude.{Some, None, option_map}
-use Rattle.clap.specs.Words.{found_of}
-use Rattle.command_words.specs.declared.command.Command.TheVariants.{Generate}
+use Rattle.std.proofs.Common.{None, Some, ap, option_map, ◌∙◌}
+use Rattle.command_words.proofs.Common.{Generate, found_of}
 use Rattle.command_words.proofs.Asked.{asks_count}
 use Rattle.command_words.proofs.parser.generate_in.Goals as goal
 

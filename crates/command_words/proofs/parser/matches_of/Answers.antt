@@ -1,7 +1,5 @@
-use Rattle.std.proofs.Common.{rules, ap, map, ◌≡◌, ◌∙◌}
-use Rattle.std.proofs.lemmas.Result.{IfErr-weaker, IfOk-weaker}
-use Rattle.clap.specs.Words.{App, app_of, is_simple, subcommand_of, takes}
-use Rattle.command_words.specs.Parser.{asked_of, program}
+use Rattle.std.proofs.Common.{ap, map, rules, ◌∙◌, ◌≡◌}
+use Rattle.command_words.proofs.Common.{App, IfErr-weaker, IfOk-weaker, app_of, asked_of, is_simple, program, subcommand_of, takes}
 use Rattle.command_words.proofs.Accepted.{accepted}
 use Rattle.command_words.proofs.parser.matches_of.Goals as goal
 

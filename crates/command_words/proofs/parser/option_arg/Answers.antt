@@ -1,6 +1,5 @@
-use Rattle.std.proofs.Common.{ap, ◌∙◌}
-use Rattle.std.specs.Prelude.{Some}
-use Rattle.clap.specs.Words.{Rule, rule_of}
+use Rattle.std.proofs.Common.{Some, ap, ◌∙◌}
+use Rattle.command_words.proofs.Common.{Rule, rule_of}
 use Rattle.clap.specs.declared.builder.arg.Arg.{Arg}
 use Rattle.command_words.proofs.parser.option_arg.Goals as goal
 

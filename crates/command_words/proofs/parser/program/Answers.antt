@@ -1,8 +1,5 @@
-use Rattle.std.proofs.Common.{rules, ap, ap₂, true, codes, ◌≡◌, ◌∙◌}
-use Rattle.std.proofs.lemmas.Result.{IfOk-weaker}
-use Rattle.clap.specs.Words.{App, app_of, rule_of, new_rule, with_rule, with_subcommand}
-use Rattle.clap.specs.Simple.{app_of_fields, on_top}
-use Rattle.command_words.specs.Parser.{option_rule, run_command, generate_command, bare_command}
+use Rattle.std.proofs.Common.{ap, ap₂, codes, rules, true, ◌∙◌, ◌≡◌}
+use Rattle.command_words.proofs.Common.{App, IfOk-weaker, app_of, app_of_fields, bare_command, generate_command, new_rule, on_top, option_rule, rule_of, run_command, with_rule, with_subcommand}
 use Rattle.command_words.proofs.parser.program.Goals as goal
 
 pub returns : goal.returns

@@ -1,8 +1,5 @@
 use Rattle.std.proofs.Common.{◌∙◌}
-use Rattle.clap.specs.Words.{found_of}
-use Rattle.clap.proofs.WalkLemmas.{first_value-rows}
-use Rattle.command_words.specs.Parser.{option_id}
-use Rattle.command_words.specs.declared.options.RunOption.TheVariants.{Workers, Seed, Rules}
+use Rattle.command_words.proofs.Common.{Rules, Seed, Workers, first_value-rows, found_of, option_id}
 use Rattle.command_words.proofs.parser.settings_in.Goals as goal
 
 pub returns : goal.returns

@@ -1,4 +1,4 @@
-use Rattle.std.proofs.Common.{sym, ◌∙◌, arith}
+use Rattle.std.proofs.Common.{arith, sym, ◌∙◌}
 use Rattle.command_words.proofs.Numbers.{written, unread, read_other, same_texts, other_texts}
 use Rattle.command_words.proofs.values.number_to.Goals as goal
 

@@ -1,4 +1,4 @@
-use Rattle.std.proofs.Common.{◌≡◌, ◌≤◌, drop}
+use Rattle.std.proofs.Common.{drop, ◌≡◌, ◌≤◌}
 use Rattle.disk_face.specs.Memory.{durable_from, durable_steps}
 use Rattle.disk_face.proofs.memory.durable_steps.Given as goal
 

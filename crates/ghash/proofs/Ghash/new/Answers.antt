@@ -1,4 +1,4 @@
-use Rattle.std.proofs.Common.{◌≡◌, ℕ, List, ◌∙◌, sym, ap, slice_index}
+use Rattle.std.proofs.Common.{List, ap, slice_index, sym, ℕ, ◌∙◌, ◌≡◌}
 use Rattle.ghash.specs.Products.{products_of, shifted}
 use Rattle.ghash.proofs.GroupProducts.{one_in_products}
 use Rattle.ghash.proofs.Ghash.new.Goals as goal

@@ -1,4 +1,4 @@
-use Rattle.std.proofs.Common.{◌∙◌, sym, arith}
+use Rattle.std.proofs.Common.{arith, sym, ◌∙◌}
 use Rattle.ghash.proofs.BitProducts.{term_set, term_clear, bits_next, bits_done}
 use Rattle.ghash.proofs.bits.multiply.Goals as goal
 use Rattle.ghash.proofs.bits.multiply.Goals.{then-x-i-eq1, else-x-i-eq1}

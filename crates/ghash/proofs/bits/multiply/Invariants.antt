@@ -1,4 +1,4 @@
-use Rattle.std.proofs.Common.{◌≡◌, ◌-◌, bit_xor}
+use Rattle.std.proofs.Common.{bit_xor, ◌-◌, ◌≡◌}
 use Rattle.crypto_specs.specs.Ghash.{sum_of_shifts}
 use Rattle.ghash.proofs.bits.multiply.Given as goal
 

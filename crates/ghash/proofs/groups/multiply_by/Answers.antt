@@ -1,4 +1,4 @@
-use Rattle.std.proofs.Common.{◌≡◌, ℕ, ◌+◌, ◌*◌, ◌/◌, ◌%◌, ◌^◌, ◌<◌, ◌∙◌, List, slice_index, bit_xor, refl, ap, arith}
+use Rattle.std.proofs.Common.{List, ap, arith, bit_xor, refl, slice_index, ℕ, ◌%◌, ◌*◌, ◌+◌, ◌/◌, ◌<◌, ◌^◌, ◌∙◌, ◌≡◌}
 use Rattle.crypto_specs.specs.Ghash.{sum_of_shifts}
 use Rattle.ghash.specs.Products.{joined, products_of, shifted}
 use Rattle.ghash.proofs.GroupProducts.{halves_summed, next_groups, product_in}

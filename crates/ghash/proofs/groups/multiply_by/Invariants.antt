@@ -1,4 +1,4 @@
-use Rattle.std.proofs.Common.{◌≡◌, ◌*◌, ◌^◌, ◌/◌, ℕ, bit_xor}
+use Rattle.std.proofs.Common.{bit_xor, ℕ, ◌*◌, ◌/◌, ◌^◌, ◌≡◌}
 use Rattle.crypto_specs.specs.Ghash.{sum_of_shifts}
 use Rattle.ghash.specs.Products.{joined, products_of, shifted}
 use Rattle.ghash.proofs.groups.multiply_by.Given as goal

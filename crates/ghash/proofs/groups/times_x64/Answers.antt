@@ -1,4 +1,4 @@
-use Rattle.std.proofs.Common.{ℕ, ◌*◌, ◌∙◌, ap, arith}
+use Rattle.std.proofs.Common.{ap, arith, ℕ, ◌*◌, ◌∙◌}
 use Rattle.std.specs.Int.Bits.{xor_zero_r}
 use Rattle.ghash.specs.Products.{joined, shifted, times_x4}
 use Rattle.ghash.proofs.GroupProducts.{shifted_more}

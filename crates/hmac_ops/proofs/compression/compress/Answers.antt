@@ -1,4 +1,4 @@
-use Rattle.std.proofs.Common.{◌≡◌, ◌∙◌, ◌*◌, refl, ap, ap₂, arith}
+use Rattle.std.proofs.Common.{ap, ap₂, arith, refl, ◌*◌, ◌∙◌, ◌≡◌}
 use Rattle.sha2.specs.Sha256.{add_state, compress, rounds}
 use Rattle.hmac_ops.proofs.compression.compress.Goals as goal
 

@@ -1,4 +1,4 @@
-use Rattle.std.proofs.Common.{◌≤◌, ◌∙◌, length, take, ap, refl, arith}
+use Rattle.std.proofs.Common.{ap, arith, length, refl, take, ◌∙◌, ◌≤◌}
 use Rattle.crypto_specs.specs.Prelude.{filled}
 use Rattle.hash_ops.specs.Hashes.{block_length, hash_of}
 use Rattle.hash_ops.proofs.Digests.{length-hash_of, length_bounds}

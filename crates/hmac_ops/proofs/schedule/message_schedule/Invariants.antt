@@ -1,4 +1,4 @@
-use Rattle.std.proofs.Common.{◌≡◌, ◌-◌, ◌*◌, length, take}
+use Rattle.std.proofs.Common.{length, take, ◌*◌, ◌-◌, ◌≡◌}
 use Rattle.sha2.specs.Sha256.{schedule}
 use Rattle.hmac_ops.proofs.schedule.message_schedule.Given as goal
 

@@ -1,4 +1,4 @@
-use Rattle.std.proofs.Common.{◌≤◌, ◌∙◌, [], arith}
+use Rattle.std.proofs.Common.{[], arith, ◌∙◌, ◌≤◌}
 use Rattle.crypto_specs.specs.Prelude.{hash_length}
 use Rattle.hash_ops.specs.Hashes.{block_length, hash_of}
 use Rattle.hash_ops.proofs.Digests.{length-hash_of, length_bounds}

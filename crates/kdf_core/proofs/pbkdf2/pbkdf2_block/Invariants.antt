@@ -1,4 +1,4 @@
-use Rattle.std.proofs.Common.{◌≡◌, ◌-◌, length, take, drop, replicate}
+use Rattle.std.proofs.Common.{drop, length, replicate, take, ◌-◌, ◌≡◌}
 use Rattle.crypto_specs.specs.Prelude.{pbkdf2_block}
 use Rattle.hash_ops.specs.Hashes.{block_length, hash_of}
 use Rattle.kdf_core.proofs.Turns.{summed}

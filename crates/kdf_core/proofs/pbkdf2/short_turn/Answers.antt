@@ -1,4 +1,4 @@
-use Rattle.std.proofs.Common.{◌∙◌, drop, ap, arith}
+use Rattle.std.proofs.Common.{ap, arith, drop, ◌∙◌}
 use Rattle.std.proofs.lemmas.List.{take_at, drop_at}
 use Rattle.crypto_specs.specs.Prelude.{hmac}
 use Rattle.hash_ops.specs.Hashes.{hash_of}

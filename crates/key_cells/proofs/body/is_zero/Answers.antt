@@ -1,7 +1,5 @@
-use Rattle.std.proofs.Common.{◌≡◌, ℕ, length, take, replicate, sym, ◌∙◌}
-use Rattle.std.proofs.lemmas.List.{take-replicate}
-use Rattle.std.proofs.lemmas.Slice.Eq.{slice_eq-Decides}
-use Rattle.std.proofs.lemmas.Bool.Decides.{Decides-eqb}
+use Rattle.std.proofs.Common.{length, replicate, sym, take, ℕ, ◌∙◌, ◌≡◌}
+use Rattle.key_cells.proofs.Common.{Decides-eqb, slice_eq-Decides, take-replicate}
 use Rattle.key_cells.proofs.body.is_zero.Goals as goal
 
 pub returns : goal.returns

@@ -1,5 +1,5 @@
-use Rattle.std.proofs.Common.{◌≡◌, ℕ, ◌+◌, List, length, replicate, false, true, refl, sym, ◌∙◌, subst}
-use Rattle.key_record.specs.Record.{IsRecord, IsNoRecord}
+use Rattle.std.proofs.Common.{List, false, length, refl, replicate, subst, sym, true, ℕ, ◌+◌, ◌∙◌, ◌≡◌}
+use Rattle.key_cells.proofs.Common.{IsNoRecord, IsRecord}
 use Rattle.key_cells.proofs.Bodies.{no_id, no_front, no_size, no_record, no_rest, key_found, tail_of, record_at}
 use Rattle.key_cells.proofs.body.read_key.Goals as goal
 

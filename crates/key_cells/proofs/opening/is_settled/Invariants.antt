@@ -1,4 +1,4 @@
-use Rattle.key_cells.specs.Opening.{IsSettled}
+use Rattle.key_cells.proofs.Common.{IsSettled}
 use Rattle.key_cells.proofs.opening.is_settled.Given as goal
 
 abbrev pub invariant-loop-cell : goal.invariant-loop-cell

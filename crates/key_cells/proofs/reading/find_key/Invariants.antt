@@ -1,5 +1,5 @@
-use Rattle.std.proofs.Common.{◌≡◌, ℕ, ◌<◌, false}
-use Rattle.key_cells.specs.Contents.{has_id, cell_slot}
+use Rattle.std.proofs.Common.{false, ℕ, ◌<◌, ◌≡◌}
+use Rattle.key_cells.proofs.Common.{cell_slot, has_id}
 use Rattle.key_cells.proofs.reading.find_key.Given as goal
 
 abbrev pub invariant-loop-cell : goal.invariant-loop-cell

@@ -1,6 +1,5 @@
-use Rattle.std.proofs.Common.{◌∙◌, sym}
-use Rattle.std.proofs.lemmas.Slice.Eq.{slice_eq-Decides}
-use Rattle.std.proofs.lemmas.Bool.Decides.{Decides-eqb}
+use Rattle.std.proofs.Common.{sym, ◌∙◌}
+use Rattle.key_cells.proofs.Common.{Decides-eqb, slice_eq-Decides}
 use Rattle.key_cells.proofs.CellsRead.{header_is}
 use Rattle.key_cells.proofs.reading.is_header.Goals as goal
 

@@ -1,9 +1,6 @@
-use Rattle.std.proofs.Common.{◌<◌, List, length, take, subst, ◌∙◌, arith, ◌+◌, ◌*◌}
+use Rattle.std.proofs.Common.{List, arith, length, subst, take, ◌*◌, ◌+◌, ◌<◌, ◌∙◌}
+use Rattle.key_cells.proofs.Common.{GivesPart, HasNoKey, IsBadCell, Slot, within_more}
 use Rattle.std.proofs.lemmas.List.{length-set}
-use Rattle.disk_face.proofs.Moments.{within_more}
-use Rattle.key_cells.specs.declared.slot.Slot.{Slot}
-use Rattle.key_cells.specs.Contents.{HasNoKey}
-use Rattle.key_cells.specs.Opening.{GivesPart, IsBadCell}
 use Rattle.key_cells.proofs.Finding.{reads_more, one_more, numbered_more, named_more, keys_more, first_damaged}
 use Rattle.key_cells.proofs.reading.read_slots.Goals as goal
 

@@ -1,4 +1,4 @@
-use Rattle.std.proofs.Common.{◌≡◌, drop, take, refl, ◌∙◌, sym, arith}
+use Rattle.std.proofs.Common.{arith, drop, refl, sym, take, ◌∙◌, ◌≡◌}
 use Rattle.std.proofs.lemmas.List.{take_all, length-drop}
 use Rattle.key_cells.proofs.Finding.{free_read}
 use Rattle.key_cells.proofs.reading.slot_of.Goals as goal

@@ -1,4 +1,4 @@
-use Rattle.std.proofs.Common.{rules, ◌+◌, ◌%◌, refl}
+use Rattle.std.proofs.Common.{refl, rules, ◌%◌, ◌+◌}
 use Rattle.line_generator.proofs.Ranges.{mapped_more}
 use Rattle.line_generator.proofs.generator.counted.Goals as goal
 

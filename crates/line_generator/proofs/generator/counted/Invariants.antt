@@ -1,5 +1,5 @@
 use Rattle.std.proofs.Common.{◌≡◌}
-use Rattle.line_generator.specs.Generator.{counted}
+use Rattle.line_generator.proofs.Common.{counted}
 use Rattle.line_generator.proofs.generator.counted.Given as goal
 
 abbrev pub invariant-loop-t : goal.invariant-loop-t

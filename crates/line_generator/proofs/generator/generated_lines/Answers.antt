@@ -1,9 +1,6 @@
-use Rattle.std.proofs.Common.{rules, ◌≡◌, ℕ, ◌++◌, ◌∷◌, [], sym, subst, ap, ◌∙◌, length, arith}
-use Rattle.std.specs.Prelude.{All}
+use Rattle.std.proofs.Common.{All, [], ap, arith, length, rules, subst, sym, ℕ, ◌++◌, ◌∙◌, ◌∷◌, ◌≡◌}
+use Rattle.line_generator.proofs.Common.{All-push, IsOfSession, generator_line}
 use Rattle.std.proofs.lemmas.List.FromFn.{length-map-range_with_len}
-use Rattle.std.proofs.lemmas.List.Elements.{All-push}
-use Rattle.script_lang.specs.Prelude.{IsOfSession}
-use Rattle.line_generator.specs.Generator.{generator_line}
 use Rattle.line_generator.proofs.Ranges.{mapped_more}
 use Rattle.line_generator.proofs.generator.generated_lines.Goals as goal
 

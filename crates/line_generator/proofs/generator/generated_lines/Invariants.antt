@@ -1,7 +1,5 @@
-use Rattle.std.proofs.Common.{◌≡◌}
-use Rattle.std.specs.Prelude.{All}
-use Rattle.script_lang.specs.Prelude.{IsOfSession}
-use Rattle.line_generator.specs.Generator.{generator_lines}
+use Rattle.std.proofs.Common.{All, ◌≡◌}
+use Rattle.line_generator.proofs.Common.{IsOfSession, generator_lines}
 use Rattle.line_generator.proofs.generator.generated_lines.Given as goal
 
 abbrev pub invariant-loop-number : goal.invariant-loop-number

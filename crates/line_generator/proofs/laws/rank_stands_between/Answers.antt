@@ -1,8 +1,7 @@
-use Rattle.std.proofs.Common.{◌≡◌, ◌++◌, ℕ, List, refl, append_assoc}
-use Rattle.std.specs.Prelude.{codes}
+use Rattle.std.proofs.Common.{List, append_assoc, codes, refl, ℕ, ◌++◌, ◌≡◌}
+use Rattle.line_generator.proofs.Common.{bytes_text, reply_text, unranked_text}
 use Rattle.std.specs.Fmt.{decimal}
 use Rattle.psa_status.specs.Status.{status_name}
-use Rattle.script_lang.specs.Prelude.{bytes_text, reply_text, unranked_text}
 use Rattle.line_generator.proofs.laws.rank_stands_between.Goals as goal
 
 ranked : (a b c d e f g h i : List ℕ) → a ++ b ++ c ++ d ++ e ++ f ++ g ++ h ++ i ≡ (a ++ b ++ c) ++ d ++ e ++ (f ++ g ++ h ++ i)

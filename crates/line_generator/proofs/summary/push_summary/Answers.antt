@@ -1,10 +1,5 @@
-use Rattle.std.proofs.Common.{◌≡◌, ◌++◌, ◌+◌, ℕ, Bool, true, false, cond, List, [], ◌∷◌, length, refl, ap, ◌∙◌, arith, append_assoc}
-use Rattle.std.specs.Prelude.{codes, count_by, not}
-use Rattle.std.proofs.lemmas.List.Sums.{sum_by-cons}
-use Rattle.hex.specs.Hex.{encode_lower}
-use Rattle.sha2.specs.Sha256.{sha256}
-use Rattle.script_lang.specs.Prelude.{ReplyLine, is_success}
-use Rattle.line_generator.specs.Summary.{count_line, summary_of}
+use Rattle.std.proofs.Common.{Bool, List, [], ap, append_assoc, arith, codes, cond, count_by, false, length, not, refl, true, ℕ, ◌++◌, ◌+◌, ◌∙◌, ◌∷◌, ◌≡◌}
+use Rattle.line_generator.proofs.Common.{ReplyLine, count_line, encode_lower, is_success, sha256, sum_by-cons, summary_of}
 use Rattle.line_generator.proofs.Pieces.{onto}
 use Rattle.line_generator.proofs.summary.push_summary.Goals as goal
 

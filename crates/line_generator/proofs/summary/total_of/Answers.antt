@@ -1,8 +1,6 @@
-use Rattle.std.proofs.Common.{◌++◌, ◌+◌, [], ◌∷◌, arith, ap, ap₂, ◌∙◌, sym, subst, take, get_or, flat_map}
-use Rattle.std.proofs.lemmas.Grind.{flat_map-append}
-use Rattle.std.proofs.lemmas.List.{append-nil, take_more}
-use Rattle.std.proofs.lemmas.List.Sums.{sum_by_more}
-use Rattle.sha2.specs.Hashers.{Holds256}
+use Rattle.std.proofs.Common.{[], ap, ap₂, arith, flat_map, get_or, subst, sym, take, ◌++◌, ◌+◌, ◌∙◌, ◌∷◌}
+use Rattle.line_generator.proofs.Common.{Holds256, flat_map-append, sum_by_more, take_more}
+use Rattle.std.proofs.lemmas.List.{append-nil}
 use Rattle.script_lang.specs.declared.replies.Replies.{Replies}
 use Rattle.line_generator.proofs.summary.total_of.Goals as goal
 

@@ -1,6 +1,5 @@
-use Rattle.std.proofs.Common.{◌≡◌, ◌≤◌, ◌*◌, flat_map, take}
-use Rattle.std.specs.Prelude.{sum_by}
-use Rattle.sha2.specs.Hashers.{Holds256}
+use Rattle.std.proofs.Common.{flat_map, sum_by, take, ◌*◌, ◌≡◌, ◌≤◌}
+use Rattle.line_generator.proofs.Common.{Holds256}
 use Rattle.line_generator.proofs.summary.total_of.Given as goal
 
 abbrev pub invariant-loop-own : goal.invariant-loop-own

@@ -1,6 +1,5 @@
-use Rattle.std.proofs.Common.{[], replicate, sym, subst}
-use Rattle.locked_store.specs.Closed.{IsClosed}
-use Rattle.locked_store.specs.Worlds.{world_of}
+use Rattle.std.proofs.Common.{[], replicate, subst, sym}
+use Rattle.locked_store.proofs.Common.{IsClosed, world_of}
 use Rattle.locked_store.proofs.Closing.{closed}
 use Rattle.locked_store.proofs.opening.end.Goals as goal
 

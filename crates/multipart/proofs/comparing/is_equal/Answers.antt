@@ -1,5 +1,4 @@
-use Rattle.std.proofs.Common.{◌≡◌, ◌&&◌, Bool, eqb, length, take, get_or, sym, ap, ap₂, ◌∙◌, arith}
-use Rattle.std.specs.Prelude.{bytes_eq}
+use Rattle.std.proofs.Common.{Bool, ap, ap₂, arith, bytes_eq, eqb, get_or, length, sym, take, ◌&&◌, ◌∙◌, ◌≡◌}
 use Rattle.std.proofs.lemmas.List.{length-take, take_more}
 use Rattle.multipart.proofs.ByteLists.{bytes_eq_push}
 use Rattle.multipart.proofs.comparing.is_equal.Goals as goal

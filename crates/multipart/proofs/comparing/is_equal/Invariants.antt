@@ -1,5 +1,4 @@
-use Rattle.std.proofs.Common.{◌≡◌, take}
-use Rattle.std.specs.Prelude.{bytes_eq}
+use Rattle.std.proofs.Common.{bytes_eq, take, ◌≡◌}
 use Rattle.multipart.proofs.comparing.is_equal.Given as goal
 
 abbrev pub invariant-bytes : goal.invariant-bytes

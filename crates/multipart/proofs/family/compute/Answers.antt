@@ -1,4 +1,4 @@
-use Rattle.std.proofs.Common.{◌≡◌, length, sym, subst}
+use Rattle.std.proofs.Common.{length, subst, sym, ◌≡◌}
 use Rattle.store_model.specs.Prelude.{buffer_after}
 use Rattle.service_calls.specs.Answered.{AnswersReply}
 use Rattle.multipart.specs.Turns.{by_key}

@@ -1,4 +1,4 @@
-use Rattle.std.proofs.Common.{◌≡◌, sym, subst}
+use Rattle.std.proofs.Common.{subst, sym, ◌≡◌}
 use Rattle.multipart.specs.Turns.{by_key}
 use Rattle.multipart.proofs.family.drawn.Goals as goal
 

@@ -1,6 +1,5 @@
 use Rattle.std.proofs.Common.{ap, ◌∙◌}
-use Rattle.random_streams.specs.RandomWords.{drawn_from}
-use Rattle.multipart.specs.Turns.{by_key}
+use Rattle.operation_handles.proofs.Common.{by_key, drawn_from}
 use Rattle.operation_handles.proofs.turns.decide.Goals as goal
 
 pub returns-clause-stream : goal.returns-clause-stream

@@ -1,4 +1,4 @@
-use Rattle.std.proofs.Common.{◌≤◌, ◌<◌, ◌-◌, length}
+use Rattle.std.proofs.Common.{length, ◌-◌, ◌<◌, ◌≤◌}
 use Rattle.std.specs.Io.KnownBytes.{Consumes}
 use Rattle.outside_io.specs.Causes.{TellsAsBefore}
 use Rattle.outside_io.proofs.whole.read_pieces.Given as goal

@@ -1,4 +1,4 @@
-use Rattle.std.proofs.Common.{◌+◌, ◌∙◌, ℕ, drop, ap, arith, length-drop}
+use Rattle.std.proofs.Common.{ap, arith, drop, length-drop, ℕ, ◌+◌, ◌∙◌}
 use Rattle.std.proofs.lemmas.List.{take_all, drop-drop}
 use Rattle.outside_io.proofs.Pieces.{written}
 use Rattle.outside_io.proofs.whole.write_all.Goals as goal

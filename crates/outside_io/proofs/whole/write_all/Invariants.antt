@@ -1,4 +1,4 @@
-use Rattle.std.proofs.Common.{◌≡◌, ◌≤◌, ℕ, length, take, drop}
+use Rattle.std.proofs.Common.{drop, length, take, ℕ, ◌≡◌, ◌≤◌}
 use Rattle.std.specs.Io.KnownBytes.{Appends}
 use Rattle.outside_io.specs.Causes.{TellsAsBefore}
 use Rattle.outside_io.proofs.whole.write_all.Given as goal

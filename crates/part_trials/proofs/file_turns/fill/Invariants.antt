@@ -1,4 +1,4 @@
-use Rattle.std.proofs.Common.{◌≡◌, length}
+use Rattle.std.proofs.Common.{length, ◌≡◌}
 use Rattle.part_trials.proofs.file_turns.fill.Given as goal
 
 abbrev pub invariant-loop-id : goal.invariant-loop-id

@@ -1,4 +1,4 @@
-use Rattle.std.proofs.Common.{refl, arith}
+use Rattle.std.proofs.Common.{arith, refl}
 use Rattle.part_trials.proofs.file_turns.one_byte_key.Goals as goal
 
 pub returns : goal.returns

@@ -1,4 +1,4 @@
-use Rattle.std.proofs.Common.{◌≡◌, Ok, Err, Result, IfOk, [], replicate, ap, ◌∙◌}
+use Rattle.std.proofs.Common.{Err, IfOk, Ok, Result, [], ap, replicate, ◌∙◌, ◌≡◌}
 use Rattle.psa_status.specs.declared.Memory.{Memory}
 use Rattle.slot_table.specs.Slots.{Table, slot_at, empty_slot}
 use Rattle.part_trials.specs.Readers.{AllUnread}

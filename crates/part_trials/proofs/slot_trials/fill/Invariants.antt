@@ -1,4 +1,4 @@
-use Rattle.std.proofs.Common.{◌≤◌, ◌+◌}
+use Rattle.std.proofs.Common.{◌+◌, ◌≤◌}
 use Rattle.part_trials.specs.Readers.{AllUnread}
 use Rattle.part_trials.proofs.slot_trials.fill.Given as goal
 

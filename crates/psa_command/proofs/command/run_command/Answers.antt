@@ -1,11 +1,7 @@
-use Rattle.std.proofs.Common.{◌≡◌, ◌∙◌, ap, sym, subst, Option, Some}
+use Rattle.std.proofs.Common.{Option, Some, ap, subst, sym, ◌∙◌, ◌≡◌}
+use Rattle.psa_command.proofs.Common.{Command, EndsBy, Exit, IsBeforeOpening, IsReadable, ReadFault, Script}
 use Rattle.admission.specs.Apply.{picked}
-use Rattle.command_words.specs.declared.command.Command.{Command}
 use Rattle.command_words.specs.declared.command.Command.TheVariants as commands
-use Rattle.psa_command.specs.Commands.{EndsBy, IsReadable}
-use Rattle.psa_command.specs.Ends.{IsBeforeOpening}
-use Rattle.psa_command.specs.declared.exit.Exit.{Exit}
-use Rattle.psa_command.specs.declared.exit.Exit.TheVariants.{ReadFault, Script}
 use Rattle.psa_command.proofs.Causes.{HasCause, bad_cell, cause, complete, no_store, refused, unwritten}
 use Rattle.psa_command.proofs.command.run_command.Goals as goal
 

@@ -1,6 +1,6 @@
-use Rattle.std.proofs.Common.{◌∙◌, refl, subst, sym}
+use Rattle.std.proofs.Common.{refl, subst, sym, ◌∙◌}
+use Rattle.psa_command.proofs.Common.{AreAllKept}
 use Rattle.command_words.specs.declared.command.Command.TheVariants as commands
-use Rattle.script_lang.specs.Prelude.{AreAllKept}
 use Rattle.script_lang.specs.declared.replies.ReplyForm.TheVariants.{Unranked}
 use Rattle.psa_command.proofs.Causes.{answered_ends, match_err, match_ok, of_answered, of_unanswered}
 use Rattle.psa_command.proofs.command.run_generator.Goals as goal

@@ -1,8 +1,6 @@
-use Rattle.std.proofs.Common.{◌≡◌, ◌∙◌, ap, flat_map, refl, subst, sym, IfSome, Ok}
+use Rattle.std.proofs.Common.{IfSome, Ok, ap, flat_map, refl, subst, sym, ◌∙◌, ◌≡◌}
+use Rattle.psa_command.proofs.Common.{IsWritten, Replies, script_of}
 use Rattle.command_words.specs.declared.command.Command.TheVariants as commands
-use Rattle.script_lang.specs.Prelude.{script_of}
-use Rattle.script_lang.specs.declared.replies.Replies.{Replies}
-use Rattle.psa_command.specs.Ends.{IsWritten}
 use Rattle.psa_command.proofs.Causes.{answered_ends, match_ok, of_answered}
 use Rattle.psa_command.proofs.command.run_script.Goals as goal
 

@@ -1,4 +1,4 @@
-use Rattle.std.proofs.Common.{ap, Err}
+use Rattle.std.proofs.Common.{Err, ap}
 use Rattle.script_lang.specs.declared.faults.ScriptFault.TheVariants.{TooLong}
 use Rattle.psa_command.proofs.Faults.{long_source, same_end, not_too_long, fault_told}
 use Rattle.psa_command.proofs.reading.read_calls.Goals as goal

@@ -1,6 +1,5 @@
-use Rattle.std.proofs.Common.{◌≡◌, ◌++◌, ◌+◌, ap, sym, ◌∙◌, subst, arith, flat_map, length, take, drop}
-use Rattle.std.specs.Io.KnownBytes.{Appends}
-use Rattle.script_lang.specs.declared.replies.Replies.{Replies}
+use Rattle.std.proofs.Common.{ap, arith, drop, flat_map, length, subst, sym, take, ◌++◌, ◌+◌, ◌∙◌, ◌≡◌}
+use Rattle.psa_command.proofs.Common.{Appends, Replies}
 use Rattle.psa_command.proofs.Written.{appends_both, flat_more, flat_split, part_of}
 use Rattle.psa_command.proofs.writing.write_replies.Goals as goal
 

@@ -1,5 +1,5 @@
-use Rattle.std.proofs.Common.{◌≤◌, flat_map, take}
-use Rattle.std.specs.Io.KnownBytes.{Appends}
+use Rattle.std.proofs.Common.{flat_map, take, ◌≤◌}
+use Rattle.psa_command.proofs.Common.{Appends}
 use Rattle.outside_io.specs.Causes.{TellsAsBefore}
 use Rattle.psa_command.proofs.writing.write_replies.Given as goal
 

@@ -1,4 +1,4 @@
-use Rattle.std.proofs.Common.{◌∙◌, ◌+◌, sym, ap, length}
+use Rattle.std.proofs.Common.{ap, length, sym, ◌+◌, ◌∙◌}
 use Rattle.random_streams.specs.RandomWords.{RandomStream, random_bytes, words_used}
 use Rattle.random_streams.specs.Generator.{stream_of}
 use Rattle.random_streams.proofs.Drawing.{filled, still_sound}

@@ -1,4 +1,4 @@
-use Rattle.std.proofs.Common.{◌≤◌, ◌∙◌, sym, ap, arith}
+use Rattle.std.proofs.Common.{ap, arith, sym, ◌∙◌, ◌≤◌}
 use Rattle.random_streams.specs.RandomWords.{RandomStream, words_offered}
 use Rattle.random_streams.specs.Generator.{stream_of}
 use Rattle.random_streams.proofs.Drawing.{set_back, still_sound}

@@ -1,9 +1,6 @@
-use Rattle.std.proofs.Common.{sym, ap, ◌∙◌, subst}
-use Rattle.std.specs.Prelude.{Ok}
+use Rattle.std.proofs.Common.{Ok, ap, subst, sym, ◌∙◌}
+use Rattle.script_lang.proofs.Common.{Fails, Fields, read_field, read_fields, shape}
 use Rattle.std.proofs.lemmas.Result.{err_from_is_err_and}
-use Rattle.script_lang.specs.Shapes.{shape}
-use Rattle.script_lang.specs.Fields.{Fields, read_field, read_fields}
-use Rattle.script_lang.specs.Steps.{Fails}
 use Rattle.script_lang.proofs.Rows.{fields_end, fields_turn, fields_fail}
 use Rattle.script_lang.proofs.fields.fields_of.Goals as goal
 

@@ -1,5 +1,4 @@
-use Rattle.std.proofs.Common.{◌≡◌, ℕ, ◌+◌, zero, suc, List, [], ◌∷◌, refl, subst, arith}
-use Rattle.std.specs.Prelude.{Option, IfSome, option_map, slice_get}
+use Rattle.std.proofs.Common.{IfSome, List, Option, [], arith, option_map, refl, slice_get, subst, suc, zero, ℕ, ◌+◌, ◌∷◌, ◌≡◌}
 use Rattle.store_model.specs.Prelude.{Reply, Service, Entry, outcome_of, reply_at}
 use Rattle.script_lang.specs.PrintedOrder.{Turn, turns_from}
 use Rattle.script_lang.proofs.laws.turns_are_replayed.Goals as goal

@@ -1,4 +1,4 @@
-use Rattle.std.specs.Prelude.{◌==◌}
+use Rattle.std.proofs.Common.{◌==◌}
 use Rattle.script_lang.proofs.FirstByte.{first_is_position}
 use Rattle.script_lang.proofs.pieces.place_of.Goals as goal
 

@@ -1,5 +1,5 @@
-use Rattle.std.proofs.Common.{◌≡◌, ◌+◌, length}
-use Rattle.script_lang.specs.Pieces.{text_lines}
+use Rattle.std.proofs.Common.{length, ◌+◌, ◌≡◌}
+use Rattle.script_lang.proofs.Common.{text_lines}
 use Rattle.script_lang.proofs.reading.has_many_lines.Given as goal
 
 abbrev pub invariant-loop-line : goal.invariant-loop-line

@@ -1,6 +1,5 @@
-use Rattle.std.proofs.Common.{◌≤◌, ◌-◌, length}
-use Rattle.std.specs.Prelude.{All}
-use Rattle.script_lang.specs.Sessions.{IsNew}
+use Rattle.std.proofs.Common.{All, length, ◌-◌, ◌≤◌}
+use Rattle.script_lang.proofs.Common.{IsNew}
 use Rattle.script_lang.proofs.reading.new_sessions.Given as goal
 
 abbrev pub invariant-loop-alloc : goal.invariant-loop-alloc

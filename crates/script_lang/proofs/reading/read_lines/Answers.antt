@@ -1,5 +1,5 @@
-use Rattle.std.proofs.Common.{length, sym, ap, ◌∙◌, subst, arith}
-use Rattle.script_lang.specs.Lines.{fault_at, ScriptFails}
+use Rattle.std.proofs.Common.{ap, arith, length, subst, sym, ◌∙◌}
+use Rattle.script_lang.proofs.Common.{ScriptFails, fault_at}
 use Rattle.script_lang.proofs.Whole.{lines_turn, lines_end, lines_fail}
 use Rattle.script_lang.proofs.reading.read_lines.Goals as goal
 

@@ -1,8 +1,5 @@
-use Rattle.std.proofs.Common.{◌≡◌, ◌≤◌, ◌+◌, length}
-use Rattle.std.specs.Prelude.{All}
-use Rattle.script_lang.specs.Pieces.{text_lines}
-use Rattle.script_lang.specs.Lines.{lines_at, nothing_read, IsOfSession}
-use Rattle.script_lang.specs.Sessions.{read_of, AreCounted}
+use Rattle.std.proofs.Common.{All, length, ◌+◌, ◌≡◌, ◌≤◌}
+use Rattle.script_lang.proofs.Common.{AreCounted, IsOfSession, lines_at, nothing_read, read_of, text_lines}
 use Rattle.script_lang.proofs.reading.read_lines.Given as goal
 
 abbrev pub invariant-loop-line : goal.invariant-loop-line

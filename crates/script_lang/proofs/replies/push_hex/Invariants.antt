@@ -1,5 +1,5 @@
-use Rattle.std.proofs.Common.{◌≡◌, ◌++◌, length}
-use Rattle.hex.specs.Hex.{encode_lower}
+use Rattle.std.proofs.Common.{length, ◌++◌, ◌≡◌}
+use Rattle.script_lang.proofs.Common.{encode_lower}
 use Rattle.script_lang.proofs.replies.push_hex.Given as goal
 
 abbrev pub invariant-loop-rest : goal.invariant-loop-rest

@@ -1,8 +1,6 @@
-use Rattle.std.proofs.Common.{◌≡◌, sym, ◌∙◌, ap, subst, replicate, arith}
+use Rattle.std.proofs.Common.{ap, arith, replicate, subst, sym, ◌∙◌, ◌≡◌}
+use Rattle.secure_element_calls.proofs.Common.{HoldsHandle, agrees_by, unless-err}
 use Rattle.std.proofs.lemmas.List.{length-take}
-use Rattle.driver_dispatch.specs.Calls.{HoldsHandle}
-use Rattle.secure_element_calls.specs.Given.{agrees_by}
-use Rattle.psa_status.proofs.Rows.{unless-err}
 use Rattle.secure_element_calls.proofs.Answering.{differed, failed, gave, refused}
 use Rattle.secure_element_calls.proofs.computing.compute.Goals as goal
 

@@ -1,9 +1,7 @@
-use Rattle.std.proofs.Common.{◌+◌, ◌-◌, ◌*◌, ◌++◌, ℕ, List, take, length, refl, sym, ap, ◌∙◌, arith}
+use Rattle.std.proofs.Common.{List, ap, arith, length, refl, sym, take, ℕ, ◌*◌, ◌++◌, ◌+◌, ◌-◌, ◌∙◌}
+use Rattle.secure_element_calls.proofs.Common.{blocks, counter_next, ecb_encrypt, key_stream, length-number_block, number_block}
 use Rattle.std.proofs.lemmas.List.{length-take, take_all}
 use Rattle.std.proofs.lemmas.Slice.{take-put_mid}
-use Rattle.crypto_specs.specs.Prelude.{blocks, ecb_encrypt, key_stream, number_block}
-use Rattle.crypto_specs.proofs.Blocks.{length-number_block}
-use Rattle.cipher_modes.proofs.CounterBlocks.{counter_next}
 use Rattle.secure_element_calls.proofs.CounterBlocks.{next_counter}
 use Rattle.secure_element_calls.proofs.counters.fill_counters.Goals as goal
 

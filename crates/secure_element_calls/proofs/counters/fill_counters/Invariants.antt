@@ -1,5 +1,5 @@
-use Rattle.std.proofs.Common.{◌≡◌, ◌+◌, ◌*◌, ◌%◌, ◌^◌, ℕ, List, take}
-use Rattle.crypto_specs.specs.Prelude.{ecb_encrypt, key_stream, number_block}
+use Rattle.std.proofs.Common.{List, take, ℕ, ◌%◌, ◌*◌, ◌+◌, ◌^◌, ◌≡◌}
+use Rattle.secure_element_calls.proofs.Common.{ecb_encrypt, key_stream, number_block}
 use Rattle.secure_element_calls.proofs.counters.fill_counters.Given as goal
 
 abbrev pub invariant-turns : goal.invariant-turns

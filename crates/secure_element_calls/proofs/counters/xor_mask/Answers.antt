@@ -1,5 +1,5 @@
 use Rattle.std.proofs.Common.{add-one, arith}
-use Rattle.crypto_specs.proofs.XorBytes.{xor_bytes_next}
+use Rattle.secure_element_calls.proofs.Common.{xor_bytes_next}
 use Rattle.secure_element_calls.proofs.counters.xor_mask.Goals as goal
 
 pub bytes-preserved : goal.bytes-preserved

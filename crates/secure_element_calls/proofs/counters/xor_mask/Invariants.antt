@@ -1,5 +1,5 @@
-use Rattle.std.proofs.Common.{◌≡◌, ◌++◌, take, drop}
-use Rattle.crypto_specs.specs.Prelude.{xor_bytes}
+use Rattle.std.proofs.Common.{drop, take, ◌++◌, ◌≡◌}
+use Rattle.secure_element_calls.proofs.Common.{xor_bytes}
 use Rattle.secure_element_calls.proofs.counters.xor_mask.Given as goal
 
 abbrev pub invariant-bytes : goal.invariant-bytes

@@ -1,5 +1,5 @@
-use Rattle.std.proofs.Common.{ap, ◌∙◌, arith}
-use Rattle.crypto_specs.specs.Prelude.{aes_encrypt, xor_bytes, ctr_xor, key_stream, number_block}
+use Rattle.std.proofs.Common.{ap, arith, ◌∙◌}
+use Rattle.secure_element_calls.proofs.Common.{aes_encrypt, ctr_xor, key_stream, number_block, xor_bytes}
 use Rattle.secure_element_calls.proofs.Holding.{holds_as, on_ok_as}
 use Rattle.secure_element_calls.proofs.counters.xor_piece.Goals as goal
 

@@ -1,6 +1,5 @@
-use Rattle.std.proofs.Common.{◌≡◌, ◌-◌, ◌*◌, take, drop, subst, ◌∙◌, arith, rules}
-use Rattle.crypto_specs.specs.Prelude.{aes_encrypt, block_number, ctr_xor, number_block}
-use Rattle.driver_dispatch.specs.Calls.{HoldsHandle}
+use Rattle.std.proofs.Common.{arith, drop, rules, subst, take, ◌*◌, ◌-◌, ◌∙◌, ◌≡◌}
+use Rattle.secure_element_calls.proofs.Common.{HoldsHandle, aes_encrypt, block_number, ctr_xor, number_block}
 use Rattle.secure_element_calls.proofs.Holding.{holds_as, holds_both}
 use Rattle.secure_element_calls.proofs.Counting.{rose_again}
 use Rattle.secure_element_calls.proofs.Streams.{all_done, next_piece, none_done}

@@ -1,7 +1,5 @@
-use Rattle.std.proofs.Common.{◌≡◌, ◌+◌, ◌*◌, ◌<◌, ◌≤◌, ◌%◌, ◌^◌}
-use Rattle.psa_status.specs.Causes.{Rose}
-use Rattle.crypto_specs.specs.Prelude.{block_number}
-use Rattle.driver_dispatch.specs.Calls.{HoldsHandle}
+use Rattle.std.proofs.Common.{◌%◌, ◌*◌, ◌+◌, ◌<◌, ◌^◌, ◌≡◌, ◌≤◌}
+use Rattle.secure_element_calls.proofs.Common.{HoldsHandle, Rose, block_number}
 use Rattle.secure_element_calls.proofs.Streams.{done_to}
 use Rattle.secure_element_calls.proofs.counters.xor_text.Given as goal
 

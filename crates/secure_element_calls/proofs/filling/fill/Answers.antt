@@ -1,5 +1,5 @@
 use Rattle.std.proofs.Common.{ap}
-use Rattle.secure_element_calls.specs.Calls.{algorithm_asked}
+use Rattle.secure_element_calls.proofs.Common.{algorithm_asked}
 use Rattle.secure_element_calls.proofs.Holding.{holds_as, is_aes}
 use Rattle.secure_element_calls.proofs.filling.fill.Goals as goal
 

@@ -1,7 +1,5 @@
-use Rattle.std.proofs.Common.{◌≡◌, [], ap, sym, subst, IfOk}
-use Rattle.callers.specs.Failures.{failure_in}
-use Rattle.session_host.specs.Replying.{Answer, Answers, Fills, Notes, Tells}
-use Rattle.store_model.specs.Prelude.{Reply}
+use Rattle.std.proofs.Common.{IfOk, [], ap, subst, sym, ◌≡◌}
+use Rattle.session_host.proofs.Common.{Answer, Answers, Fills, Notes, Reply, Tells, failure_in}
 use Rattle.session_host.proofs.Noted.{noted, of_refusal}
 use Rattle.session_host.proofs.answers.note.Goals as goal
 

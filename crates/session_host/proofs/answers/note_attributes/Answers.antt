@@ -1,6 +1,5 @@
-use Rattle.std.proofs.Common.{◌∙◌, subst, IfOk}
-use Rattle.psa_status.specs.declared.Status.TheVariants.{Success}
-use Rattle.session_host.specs.Replying.{Notes}
+use Rattle.std.proofs.Common.{IfOk, subst, ◌∙◌}
+use Rattle.session_host.proofs.Common.{Notes, Success}
 use Rattle.session_host.proofs.answers.note_attributes.Goals as goal
 
 pub returns-in-Ok-clause-noted : goal.returns-in-Ok-clause-noted

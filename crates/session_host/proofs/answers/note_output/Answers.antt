@@ -1,8 +1,6 @@
-use Rattle.std.proofs.Common.{[], ap, refl, subst, length, min, take, IfOk, Ok}
-use Rattle.std.specs.Int.{w32, w64, to_be_bytes}
-use Rattle.psa_status.specs.declared.Status.TheVariants.{Success}
-use Rattle.store_model.specs.Prelude.{attribute_bytes}
-use Rattle.session_host.specs.Replying.{Fills, Notes}
+use Rattle.std.proofs.Common.{IfOk, Ok, [], ap, length, min, refl, subst, take}
+use Rattle.session_host.proofs.Common.{Fills, Notes, Success, attribute_bytes, to_be_bytes}
+use Rattle.std.specs.Int.{w32, w64}
 use Rattle.session_host.proofs.Noted.{noted, of_bytes, of_description, of_done, of_identifier, of_number}
 use Rattle.session_host.proofs.answers.note_output.Goals as goal
 

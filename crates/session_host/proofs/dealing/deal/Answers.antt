@@ -1,11 +1,6 @@
-use Rattle.std.proofs.Common.{◌≡◌, ◌<◌, ◌-◌, ◌+◌, ◌++◌, ℕ, length, take, set, get_or, refl, sym, ap, ap₂, ◌∙◌, subst, arith, length-take, length-set, ◌%◌}
+use Rattle.std.proofs.Common.{ap, ap₂, arith, get_or, length, length-set, length-take, refl, set, subst, sym, take, ℕ, ◌%◌, ◌++◌, ◌+◌, ◌-◌, ◌<◌, ◌∙◌, ◌≡◌}
+use Rattle.session_host.proofs.Common.{HasSeated, IsNewCaller, Worker, get_or_default, mod_below, numbers_of, world}
 use Rattle.std.specs.Option.{option_to_list}
-use Rattle.std.proofs.lemmas.List.{get_or_default}
-use Rattle.std.proofs.lemmas.Nat.{mod_below}
-use Rattle.locked_store.specs.Prelude.{world}
-use Rattle.caller_service.specs.Staff.{IsNewCaller}
-use Rattle.session_host.specs.declared.worker.Worker.{Worker}
-use Rattle.session_host.specs.Workers.{HasSeated, numbers_of}
 use Rattle.session_host.proofs.Dealt.{IsDealing, IsFreshSession, all_dealt, dealing_one, dealt_few, last_of, same_long}
 use Rattle.session_host.proofs.dealing.deal.Goals as goal
 

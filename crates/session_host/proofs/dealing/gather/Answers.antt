@@ -1,6 +1,5 @@
-use Rattle.std.proofs.Common.{◌≡◌, ◌≤◌, ◌<◌, ◌-◌, ℕ, suc, ◌∷◌, [], ◌++◌, length, set, get_or, refl, sym, ap, ap₂, ◌∙◌, subst, arith, ◌%◌}
-use Rattle.std.proofs.lemmas.List.{get_or_default}
-use Rattle.std.proofs.lemmas.Nat.{mod_below}
+use Rattle.std.proofs.Common.{[], ap, ap₂, arith, get_or, length, refl, set, subst, suc, sym, ℕ, ◌%◌, ◌++◌, ◌-◌, ◌<◌, ◌∙◌, ◌∷◌, ◌≡◌, ◌≤◌}
+use Rattle.session_host.proofs.Common.{get_or_default, mod_below}
 use Rattle.session_host.proofs.Dealt.{IsTaking, is_there, none_left, one_taken}
 use Rattle.session_host.proofs.dealing.gather.Goals as goal
 

@@ -1,7 +1,5 @@
-use Rattle.std.proofs.Common.{◌+◌, sym, ap, ◌∙◌, subst, arith, All, length}
-use Rattle.std.proofs.lemmas.List.{length_push}
-use Rattle.std.proofs.lemmas.List.Elements.{All-push}
-use Rattle.session_host.specs.Dealing.{IsFree}
+use Rattle.std.proofs.Common.{All, ap, arith, length, subst, sym, ◌+◌, ◌∙◌}
+use Rattle.session_host.proofs.Common.{All-push, IsFree, length_push}
 use Rattle.session_host.proofs.dealing.new_workers.Goals as goal
 
 pub loop-preserved : goal.loop-preserved

@@ -1,5 +1,5 @@
-use Rattle.std.proofs.Common.{◌≡◌, ◌≤◌, All, length, vec_capacity}
-use Rattle.session_host.specs.Dealing.{IsFree}
+use Rattle.std.proofs.Common.{All, length, vec_capacity, ◌≡◌, ◌≤◌}
+use Rattle.session_host.proofs.Common.{IsFree}
 use Rattle.session_host.proofs.dealing.new_workers.Given as goal
 
 abbrev pub invariant-loop : goal.invariant-loop

@@ -1,7 +1,5 @@
 use Rattle.std.proofs.Common.{ap, arith}
-use Rattle.locked_store.specs.Prelude.{world}
-use Rattle.session_host.specs.Running.{all_replies}
-use Rattle.session_host.specs.Runs.{IsOpening}
+use Rattle.session_host.proofs.Common.{IsOpening, all_replies, world}
 use Rattle.session_host.proofs.Ran.{answered, broken}
 use Rattle.session_host.proofs.lines.answer_lines.Goals as goal
 

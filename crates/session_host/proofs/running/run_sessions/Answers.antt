@@ -1,5 +1,5 @@
-use Rattle.std.proofs.Common.{◌≡◌, ℕ, zero, suc, List, [], ◌∷◌, ◌++◌, All, length, take, refl, sym, ap, subst, arith}
-use Rattle.locked_store.specs.Prelude.{world}
+use Rattle.std.proofs.Common.{All, List, [], ap, arith, length, refl, subst, suc, sym, take, zero, ℕ, ◌++◌, ◌∷◌, ◌≡◌}
+use Rattle.session_host.proofs.Common.{world}
 use Rattle.session_host.proofs.Gathered.{none_made}
 use Rattle.session_host.proofs.running.run_sessions.Goals as goal
 

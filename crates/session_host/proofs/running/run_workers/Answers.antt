@@ -1,13 +1,10 @@
+use Rattle.std.proofs.Common.{get_or, subst}
+use Rattle.session_host.proofs.Common.{HasWorked, arg_send, arg_sync, crosses, param_send, param_sync, sendable, world}
 use denote.Exit.{no}
 use denote.Param.{param}
-use denote.Param.Send.{arg_send, arg_sync, param_send, param_sync, sendable}
-use Rattle.std.proofs.Common.{get_or, subst}
-use Rattle.std.proofs.Crossing.{crosses}
 use Rattle.std.proofs.Crossing as heap
-use Rattle.locked_store.specs.Prelude.{world}
 use Rattle.caller_service.specs.contracts.service.Service as Service
 use Rattle.script_lang.specs.contracts.script.ScriptLine as ScriptLine
-use Rattle.session_host.specs.Workers.{HasWorked}
 use Rattle.session_host.proofs.Sent.{closure_sync, service_sync, worker_send}
 use Rattle.session_host.proofs.running.run_workers.Goals as goal
 

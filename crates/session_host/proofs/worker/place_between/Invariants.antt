@@ -1,5 +1,5 @@
-use Rattle.std.proofs.Common.{◌<◌, ◌≤◌, ◌≢◌, ℕ, get_or}
-use Rattle.session_host.specs.declared.session.Session.{Session}
+use Rattle.std.proofs.Common.{get_or, ℕ, ◌<◌, ◌≢◌, ◌≤◌}
+use Rattle.session_host.proofs.Common.{Session}
 use Rattle.session_host.proofs.worker.place_between.Given as goal
 
 abbrev pub invariant-loop-place : goal.invariant-loop-place

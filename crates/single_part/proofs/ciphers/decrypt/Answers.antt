@@ -1,9 +1,5 @@
-use Rattle.std.proofs.Common.{◌-◌, length, take, drop, ap, sym, ◌∙◌}
-use Rattle.std.proofs.lemmas.Result.{err_from_is_err_and}
-use Rattle.psa_status.proofs.Rows.{unless-err}
-use Rattle.psa_status.specs.Rows.{first_row}
-use Rattle.store_model.specs.Prelude.{iv_length, deciphered, plain_or_zeros, decrypt_rows}
-use Rattle.key_policy.specs.Modes.{model_mode}
+use Rattle.std.proofs.Common.{ap, drop, length, sym, take, ◌-◌, ◌∙◌}
+use Rattle.single_part.proofs.Common.{deciphered, decrypt_rows, err_from_is_err_and, first_row, iv_length, model_mode, plain_or_zeros, unless-err}
 use Rattle.single_part.proofs.Ciphering.{refused_or_spoilt, decrypted_answer, decrypted_buffer}
 use Rattle.single_part.proofs.Replies.{refused_buffer}
 use Rattle.single_part.proofs.ciphers.decrypt.Goals as goal

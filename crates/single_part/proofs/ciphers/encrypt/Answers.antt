@@ -1,13 +1,6 @@
-use Rattle.std.proofs.Common.{◌≡◌, ◌≤◌, ◌++◌, refl, ap, sym, ◌∙◌, length, take, subst, arith}
-use Rattle.std.specs.Prelude.{Some, None, Ok}
+use Rattle.std.proofs.Common.{None, Ok, Some, ap, arith, length, refl, subst, sym, take, ◌++◌, ◌∙◌, ◌≡◌, ◌≤◌}
+use Rattle.single_part.proofs.Common.{AnswersLength, Computed, buffer_after, computed_unless, drawn_from, enciphered, encrypt_rows, encrypted, err_from_is_err_and, first_row, given, iv_length, model_mode, next_bytes, unless-err, unless-ok}
 use Rattle.std.proofs.lemmas.List.{length-take}
-use Rattle.std.proofs.lemmas.Result.{err_from_is_err_and}
-use Rattle.psa_status.specs.Rows.{first_row}
-use Rattle.psa_status.proofs.Rows.{unless-ok, unless-err}
-use Rattle.random_streams.specs.RandomWords.{drawn_from, next_bytes}
-use Rattle.store_model.specs.Prelude.{buffer_after, Computed, computed_unless, given, iv_length, encrypt_rows, enciphered, encrypted}
-use Rattle.service_calls.specs.Answers.{AnswersLength}
-use Rattle.key_policy.specs.Modes.{model_mode}
 use Rattle.single_part.proofs.Ciphering.{vector_fits, sealed_is, sealed_buffer, part_length}
 use Rattle.single_part.proofs.Replies.{refused_answer, kept_buffer, kept_stream}
 use Rattle.single_part.proofs.ciphers.encrypt.Goals as goal

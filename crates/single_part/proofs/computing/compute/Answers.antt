@@ -1,7 +1,6 @@
-use Rattle.std.proofs.Common.{◌≡◌, ℕ, List, refl, subst}
+use Rattle.std.proofs.Common.{List, refl, subst, ℕ, ◌≡◌}
+use Rattle.single_part.proofs.Common.{KeyedCall, wanted_by}
 use Rattle.key_policy.specs.Uses.{FitsUse}
-use Rattle.service_calls.specs.declared.store_calls.KeyedCall.{KeyedCall}
-use Rattle.single_part.specs.Keyed.{wanted_by}
 use Rattle.single_part.proofs.Draws.{draws_none}
 use Rattle.single_part.proofs.computing.compute.Goals as goal
 

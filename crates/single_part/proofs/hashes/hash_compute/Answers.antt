@@ -1,19 +1,12 @@
-use Rattle.std.proofs.Common.{◌≡◌, ℕ, List, length, take, ap, sym, ◌∙◌, subst}
-use Rattle.std.specs.Prelude.{Option, Some, None, Result, IfOk}
-use Rattle.std.specs.Result.{result_err}
-use Rattle.std.proofs.lemmas.Result.{err_from_is_err_and}
-use Rattle.psa_status.specs.declared.Status.{Status}
-use Rattle.psa_status.specs.Rows.{first_row}
-use Rattle.psa_status.proofs.Rows.{first_row-front, first_row-back}
+use Rattle.std.proofs.Common.{IfOk, List, None, Option, Result, Some, ap, length, subst, sym, take, ℕ, ◌∙◌, ◌≡◌}
+use Rattle.single_part.proofs.Common.{AnswersLength, Status, buffer_after, class_rows, err_from_is_err_and, first_row, first_row-back, first_row-front, given, reply_unless, result_err, room_rows}
 use Rattle.hash_ops.proofs.Digests.{length-hash_of}
 use Rattle.hash_ops.specs.Hashes as hashes
 use Rattle.hash_ops.specs.declared.Hash.{Hash}
 use Rattle.key_policy.specs.Names.{NamesHash}
 use Rattle.alg_encoding.specs.declared.table.Class.TheVariants as class
-use Rattle.store_model.specs.Prelude.{buffer_after, class_rows, given, reply_unless, room_rows}
 use Rattle.store_model.specs.Algorithms.{hash_length_of, hash_of}
 use Rattle.store_model.specs.Hashes.{compute_rows}
-use Rattle.service_calls.specs.Answers.{AnswersLength}
 use Rattle.single_part.proofs.Replies.{given_length, refused_length, refused_buffer}
 use Rattle.single_part.proofs.hashes.hash_compute.Goals as goal
 

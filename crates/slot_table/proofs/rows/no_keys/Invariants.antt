@@ -1,5 +1,5 @@
-use Rattle.std.proofs.Common.{◌≡◌, replicate, vec_capacity}
-use Rattle.slot_table.specs.Rows.{no_key}
+use Rattle.std.proofs.Common.{replicate, vec_capacity, ◌≡◌}
+use Rattle.slot_table.proofs.Common.{no_key}
 use Rattle.slot_table.proofs.rows.no_keys.Given as goal
 
 abbrev pub invariant-loop : goal.invariant-loop

@@ -1,6 +1,6 @@
-use Rattle.std.proofs.Common.{◌≡◌, ◌≤◌, length, All}
+use Rattle.std.proofs.Common.{All, length, ◌≡◌, ◌≤◌}
+use Rattle.soft_driver.proofs.Common.{IsClear}
 use Rattle.std.specs.Vec.{vec_capacity}
-use Rattle.secret_bytes.specs.Buffer.{IsClear}
 use Rattle.soft_driver.proofs.held.clear_secrets.Given as goal
 
 abbrev pub invariant-secrets : goal.invariant-secrets

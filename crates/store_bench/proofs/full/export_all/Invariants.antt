@@ -1,4 +1,4 @@
-use Rattle.std.proofs.Common.{◌≤◌, ◌+◌}
+use Rattle.std.proofs.Common.{◌+◌, ◌≤◌}
 use Rattle.store_bench.proofs.full.export_all.Given as goal
 
 abbrev pub invariant-loop-id : goal.invariant-loop-id

@@ -1,7 +1,5 @@
-use Rattle.std.proofs.Common.{◌≡◌, ◌∙◌, ◌+◌, ◌-◌, ap, refl, sym, subst, [], arith}
-use Rattle.turn_history.specs.Boxed.{boxed_base, boxed_stands}
-use Rattle.turn_history.specs.Views.{maker_of}
-use Rattle.turn_history.specs.Passes.{AreNew}
+use Rattle.std.proofs.Common.{[], ap, arith, refl, subst, sym, ◌+◌, ◌-◌, ◌∙◌, ◌≡◌}
+use Rattle.turn_history.proofs.Common.{AreNew, boxed_base, boxed_stands, maker_of}
 use Rattle.turn_history.proofs.Splitting.{makes_one}
 use Rattle.turn_history.proofs.Passes.{next_maker, pass_made, new_none, new_more}
 use Rattle.turn_history.proofs.making.deal.Goals as goal

@@ -1,8 +1,6 @@
-use Rattle.std.proofs.Common.{◌≡◌, ◌∙◌, ℕ, ◌<◌, ◌≤◌, ap, sym, subst, length, get_or, All, List, [], ◌∷◌, ◌++◌, arith}
+use Rattle.std.proofs.Common.{All, List, [], ap, arith, get_or, length, subst, sym, ℕ, ◌++◌, ◌<◌, ◌∙◌, ◌∷◌, ◌≡◌, ◌≤◌}
+use Rattle.turn_trials.proofs.Common.{Entry, account_of, addition, calls_by, entries_of, signer, sum_after}
 use Rattle.turn_history.specs.declared.pass.Account.{Account}
-use Rattle.turn_history.specs.Prelude.{calls_by, entries_of, account_of}
-use Rattle.turn_trials.specs.declared.tally.Entry.{Entry}
-use Rattle.turn_trials.specs.Tallying.{addition, signer, sum_after}
 use Rattle.turn_trials.proofs.OnePass.{sum_of_one}
 use Rattle.turn_trials.proofs.alone.add_and_close.Goals as goal
 

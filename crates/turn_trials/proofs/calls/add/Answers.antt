@@ -1,8 +1,5 @@
-use Rattle.std.proofs.Common.{◌∙◌, ap, sym, subst, ◌++◌, ◌∷◌, []}
-use Rattle.turn_history.specs.Prelude.{entries_of, own_of}
-use Rattle.turn_history.proofs.Using.{keeps_own}
-use Rattle.turn_trials.specs.declared.tally.Tally.{Tally}
-use Rattle.turn_trials.specs.Tallying.{IsTallyOf, addition, sum_after}
+use Rattle.std.proofs.Common.{[], ap, subst, sym, ◌++◌, ◌∙◌, ◌∷◌}
+use Rattle.turn_trials.proofs.Common.{IsTallyOf, Tally, addition, entries_of, keeps_own, own_of, sum_after}
 use Rattle.turn_trials.proofs.Answering.{answered, same_start}
 use Rattle.turn_trials.proofs.calls.add.Goals as goal
 

@@ -1,5 +1,5 @@
 use Rattle.std.proofs.Common.{Some}
-use Rattle.turn_trials.specs.Tallying.{addition}
+use Rattle.turn_trials.proofs.Common.{addition}
 use Rattle.turn_trials.proofs.calls.add.Given as goal
 
 -- the call is the entry of its turn

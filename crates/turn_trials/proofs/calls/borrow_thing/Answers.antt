@@ -1,9 +1,5 @@
-use Rattle.std.proofs.Common.{◌≡◌, ◌∙◌, Bool, true, false, cond, [], ap, refl, sym, subst, arith}
-use Rattle.turn_history.specs.Prelude.{entries_of, own_of, with_own}
-use Rattle.turn_history.proofs.Using.{keeps_own}
-use Rattle.turn_trials.specs.declared.tally.Tally.{Tally}
-use Rattle.turn_trials.specs.Tallying.{IsTallyOf}
-use Rattle.turn_trials.specs.Calling.{thing}
+use Rattle.std.proofs.Common.{Bool, [], ap, arith, cond, false, refl, subst, sym, true, ◌∙◌, ◌≡◌}
+use Rattle.turn_trials.proofs.Common.{IsTallyOf, Tally, entries_of, keeps_own, own_of, thing, with_own}
 use Rattle.turn_trials.proofs.Tallies.{own_gains}
 use Rattle.turn_trials.proofs.calls.borrow_thing.Goals as goal
 

@@ -1,6 +1,5 @@
-use Rattle.std.proofs.Common.{◌≡◌, ◌∙◌, [], ap, refl, arith}
-use Rattle.turn_history.specs.Prelude.{entries_of, own_of, with_own}
-use Rattle.turn_trials.specs.Calling.{thing}
+use Rattle.std.proofs.Common.{[], ap, arith, refl, ◌∙◌, ◌≡◌}
+use Rattle.turn_trials.proofs.Common.{entries_of, own_of, thing, with_own}
 use Rattle.turn_trials.proofs.Tallies.{own_loses}
 use Rattle.turn_trials.proofs.calls.give_back.Goals as goal
 

@@ -1,5 +1,5 @@
 use Rattle.std.proofs.Common.{None, [], cond}
-use Rattle.turn_trials.specs.Calling.{thing}
+use Rattle.turn_trials.proofs.Common.{thing}
 use Rattle.turn_trials.proofs.calls.give_back.Given as goal
 
 abbrev pub ghosts-leave_with_thing : goal.ghosts-leave_with_thing

@@ -1,7 +1,5 @@
-use Rattle.std.proofs.Common.{ap, length, arith}
-use Rattle.turn_history.specs.Prelude.{entries_of, longer}
-use Rattle.turn_history.proofs.Using.{apart, longer_left, longer_right, no_fewer_calls}
-use Rattle.turn_trials.specs.Tallying.{signer}
+use Rattle.std.proofs.Common.{ap, arith, length}
+use Rattle.turn_trials.proofs.Common.{apart, entries_of, longer, longer_left, longer_right, no_fewer_calls, signer}
 use Rattle.turn_trials.proofs.meeting.meet.Goals as goal
 
 pub returns-clause-seen : goal.returns-clause-seen

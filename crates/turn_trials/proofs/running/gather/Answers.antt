@@ -1,5 +1,5 @@
-use Rattle.std.proofs.Common.{suc, ◌∙◌, ap, subst, All, length, [], ◌∷◌, arith, length-append}
-use Rattle.turn_trials.specs.Running.{HasRun}
+use Rattle.std.proofs.Common.{All, [], ap, arith, length, length-append, subst, suc, ◌∙◌, ◌∷◌}
+use Rattle.turn_trials.proofs.Common.{HasRun}
 use Rattle.turn_trials.proofs.running.gather.Goals as goal
 
 pub loop-runner-preserved : goal.loop-runner-preserved

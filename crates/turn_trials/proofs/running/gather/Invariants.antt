@@ -1,7 +1,6 @@
-use Rattle.std.proofs.Common.{◌≡◌, ◌+◌, [], All, length}
+use Rattle.std.proofs.Common.{All, [], length, ◌+◌, ◌≡◌}
+use Rattle.turn_trials.proofs.Common.{HasRun, IsBetweenCalls}
 use Rattle.std.specs.Vec.{vec_len, vec_capacity}
-use Rattle.turn_trials.specs.Calling.{IsBetweenCalls}
-use Rattle.turn_trials.specs.Running.{HasRun}
 use Rattle.turn_trials.proofs.running.gather.Given as goal
 
 abbrev pub invariant-loop-runner : goal.invariant-loop-runner

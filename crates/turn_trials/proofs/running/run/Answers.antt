@@ -1,6 +1,5 @@
-use Rattle.std.proofs.Common.{◌∙◌, ap, sym, subst, All, length, [], ◌∷◌, ◌++◌, arith}
-use Rattle.turn_history.specs.Prelude.{AreNew, weight_of}
-use Rattle.turn_trials.specs.Running.{IsReady, HasRun}
+use Rattle.std.proofs.Common.{All, [], ap, arith, length, subst, sym, ◌++◌, ◌∙◌, ◌∷◌}
+use Rattle.turn_trials.proofs.Common.{AreNew, HasRun, IsReady, weight_of}
 use Rattle.turn_trials.proofs.Runners.{kept}
 use Rattle.turn_trials.proofs.running.run.Goals as goal
 

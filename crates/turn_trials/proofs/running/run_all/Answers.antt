@@ -1,5 +1,5 @@
-use Rattle.std.proofs.Common.{subst, arith}
-use Rattle.turn_trials.specs.Running.{HasRun}
+use Rattle.std.proofs.Common.{arith, subst}
+use Rattle.turn_trials.proofs.Common.{HasRun}
 use Rattle.turn_trials.proofs.running.run_all.Goals as goal
 
 pub returns-clause-ran : goal.returns-clause-ran

@@ -1,6 +1,6 @@
-use Rattle.std.proofs.Common.{◌≡◌, ◌+◌, ◌≤◌, [], length}
+use Rattle.std.proofs.Common.{[], length, ◌+◌, ◌≡◌, ◌≤◌}
+use Rattle.turn_trials.proofs.Common.{IsBetweenCalls}
 use Rattle.std.specs.Vec.{vec_capacity}
-use Rattle.turn_trials.specs.Calling.{IsBetweenCalls}
 use Rattle.turn_trials.proofs.running.run_one.Given as goal
 
 abbrev pub invariant-loop-made : goal.invariant-loop-made

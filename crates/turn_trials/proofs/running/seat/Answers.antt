@@ -1,10 +1,8 @@
-use Rattle.std.proofs.Common.{◌≡◌, ◌≤◌, ◌∙◌, ap, sym, subst, All, map, length, [], ◌∷◌, ◌++◌, append_assoc}
+use Rattle.std.proofs.Common.{All, [], ap, append_assoc, length, map, subst, sym, ◌++◌, ◌∙◌, ◌∷◌, ◌≡◌, ◌≤◌}
+use Rattle.turn_trials.proofs.Common.{Own, Runner, map_snoc, none_more}
 use Rattle.std.specs.Vec.{vec_capacity}
 use Rattle.std.proofs.lemmas.List.Elements.{All-append, All-cons, All-nil}
-use Rattle.turn_history.proofs.Lists.{map_snoc, none_more}
-use Rattle.turn_trials.specs.declared.running.Runner.{Runner}
 use Rattle.turn_trials.proofs.Runners.{ready}
-use Rattle.turn_trials.specs.Running.{Own}
 use Rattle.turn_trials.proofs.running.seat.Goals as goal
 
 pub loop-pass-preserved : goal.loop-pass-preserved

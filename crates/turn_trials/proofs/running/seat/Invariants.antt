@@ -1,7 +1,6 @@
-use Rattle.std.proofs.Common.{◌≡◌, ◌≤◌, [], ◌++◌, All, map, length}
+use Rattle.std.proofs.Common.{All, [], length, map, ◌++◌, ◌≡◌, ◌≤◌}
+use Rattle.turn_trials.proofs.Common.{Own, Runner}
 use Rattle.std.specs.Vec.{vec_capacity}
-use Rattle.turn_trials.specs.declared.running.Runner.{Runner}
-use Rattle.turn_trials.specs.Running.{Own}
 use Rattle.turn_trials.proofs.running.seat.Given as goal
 
 abbrev pub invariant-loop-pass : goal.invariant-loop-pass

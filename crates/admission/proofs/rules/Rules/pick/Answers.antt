@@ -1,4 +1,4 @@
-use Rattle.std.proofs.Common.{rules, ◌∙◌, ap, map}
+use Rattle.std.proofs.Common.{ap, map, rules, ◌∙◌}
 use Rattle.std.proofs.lemmas.Fn.{filter_same}
 use Rattle.admission.specs.Apply.{is_one_of}
 use Rattle.admission.proofs.Lists.{map-filter}

@@ -1,4 +1,4 @@
-use Rattle.std.proofs.Common.{◌≡◌, map, drop}
+use Rattle.std.proofs.Common.{drop, map, ◌≡◌}
 use Rattle.admission.specs.Apply.{after_rules}
 use Rattle.admission.proofs.rules.RulesAdmission.apply.Given as goal
 

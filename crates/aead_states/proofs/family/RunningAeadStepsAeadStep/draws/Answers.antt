@@ -1,4 +1,4 @@
-use Rattle.std.proofs.Common.{◌≡◌, sym, subst}
+use Rattle.std.proofs.Common.{subst, sym, ◌≡◌}
 use Rattle.store_model.specs.Prelude.{aead_step}
 use Rattle.service_calls.specs.Meanings.{model_aead_step}
 use Rattle.aead_states.proofs.family.RunningAeadStepsAeadStep.draws.Goals as goal

@@ -1,4 +1,4 @@
-use Rattle.std.proofs.Common.{◌≡◌, ◌∙◌, ℕ, true, false, [], sym, subst}
+use Rattle.std.proofs.Common.{[], false, subst, sym, true, ℕ, ◌∙◌, ◌≡◌}
 use Rattle.aead_streams.specs.CcmStates.{HoldsCcmData}
 use Rattle.store_model.specs.Prelude.{is_ccm, tag_bytes}
 use Rattle.aead_states.proofs.Parting.{ccm_data, gcm_data, ccm_by_text, gcm_by_text, no_plain, no_cipher}

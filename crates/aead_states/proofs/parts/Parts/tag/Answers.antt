@@ -1,4 +1,4 @@
-use Rattle.std.proofs.Common.{◌≡◌, ◌∙◌, ℕ, true, false, length, sym, subst, refl, arith}
+use Rattle.std.proofs.Common.{arith, false, length, refl, subst, sym, true, ℕ, ◌∙◌, ◌≡◌}
 use Rattle.crypto_specs.specs.Prelude.{aes_encrypt, ccm_text, gcm_text}
 use Rattle.aead_streams.specs.CcmStates.{HoldsCcmText}
 use Rattle.store_model.specs.Prelude.{aead_text, is_ccm, tag_bytes}

@@ -1,4 +1,4 @@
-use Rattle.std.proofs.Common.{◌≡◌, ◌++◌, ◌∙◌, true, sym}
+use Rattle.std.proofs.Common.{sym, true, ◌++◌, ◌∙◌, ◌≡◌}
 use Rattle.store_model.specs.Prelude.{is_ccm, tag_bytes}
 use Rattle.aead_states.proofs.Parting.{ccm_data, data_of_ccm}
 use Rattle.aead_states.proofs.parts.Parts.update_ad.Goals as goal

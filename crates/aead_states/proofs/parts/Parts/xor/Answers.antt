@@ -1,4 +1,4 @@
-use Rattle.std.proofs.Common.{◌≡◌, ◌++◌, ◌∙◌, true, false, Bool, List, ℕ, ap, sym}
+use Rattle.std.proofs.Common.{Bool, List, ap, false, sym, true, ℕ, ◌++◌, ◌∙◌, ◌≡◌}
 use Rattle.crypto_specs.specs.Prelude.{aes_encrypt, ccm_text, gcm_text}
 use Rattle.store_model.specs.Prelude.{is_ccm, tag_bytes}
 use Rattle.key_policy.specs.Names.{is_ccm as is_ccm_kind}

@@ -1,4 +1,4 @@
-use Rattle.std.proofs.Common.{◌≡◌, ◌+◌, ◌++◌, ◌∙◌, ℕ, false, length, drop, ap, arith}
+use Rattle.std.proofs.Common.{ap, arith, drop, false, length, ℕ, ◌++◌, ◌+◌, ◌∙◌, ◌≡◌}
 use Rattle.std.proofs.lemmas.List.{length-append, length-drop}
 use Rattle.psa_status.specs.Rows.{first_row}
 use Rattle.store_model.specs.Prelude.{aead_update_rows, is_past_payload}

@@ -1,5 +1,5 @@
-use Rattle.std.proofs.Common.{◌∙◌, ap}
-use Rattle.crypto_specs.specs.Prelude.{block_number}
+use Rattle.std.proofs.Common.{ap, ◌∙◌}
+use Rattle.aead_streams.proofs.Common.{block_number}
 use Rattle.aead_streams.proofs.Filling.{number_of_used}
 use Rattle.aead_streams.proofs.block_buffer.BlockBuffer.take.Goals as goal
 

@@ -1,6 +1,5 @@
-use Rattle.std.proofs.Common.{length, ◌-◌, ◌≡◌, ◌≤◌, ℕ, List, ◌++◌, drop}
-use Rattle.crypto_specs.specs.Prelude.{aes_encrypt}
-use Rattle.aead_streams.specs.Chains.{chain_after}
+use Rattle.std.proofs.Common.{List, drop, length, ℕ, ◌++◌, ◌-◌, ◌≡◌, ◌≤◌}
+use Rattle.aead_streams.proofs.Common.{aes_encrypt, chain_after}
 use Rattle.aead_streams.proofs.ccm_chain.Chain.absorb.Given as goal
 
 abbrev pub invariant-runs : goal.invariant-runs

@@ -1,4 +1,4 @@
-use Rattle.crypto_specs.specs.Prelude.{aes_encrypt}
+use Rattle.aead_streams.proofs.Common.{aes_encrypt}
 use Rattle.aead_streams.proofs.Absorbing.{full_absorbed, part_absorbed}
 use Rattle.aead_streams.proofs.ccm_chain.Chain.absorb_waiting.Goals as goal
 

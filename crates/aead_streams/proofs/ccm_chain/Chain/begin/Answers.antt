@@ -1,7 +1,5 @@
-use Rattle.std.proofs.Common.{ℕ, List, ◌++◌, ◌∙◌, ap}
-use Rattle.crypto_specs.specs.Prelude.{aes_encrypt, control_block, filled_blocks}
-use Rattle.aead_ccm.specs.Chaining.{chained_from}
-use Rattle.aead_streams.specs.Chains.{data_front}
+use Rattle.std.proofs.Common.{List, ap, ℕ, ◌++◌, ◌∙◌}
+use Rattle.aead_streams.proofs.Common.{aes_encrypt, chained_from, control_block, data_front, filled_blocks}
 use Rattle.aead_streams.proofs.Absorbing.{first_chained}
 use Rattle.aead_streams.proofs.ccm_chain.Chain.begin.Goals as goal
 

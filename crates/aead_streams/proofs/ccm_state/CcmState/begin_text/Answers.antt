@@ -1,7 +1,5 @@
-use Rattle.std.proofs.Common.{[], length, arith}
-use Rattle.crypto_specs.specs.Prelude.{aes_encrypt}
-use Rattle.aead_streams.specs.Chains.{chain_after}
-use Rattle.aead_streams.specs.CcmStates.{chain_start}
+use Rattle.std.proofs.Common.{[], arith, length}
+use Rattle.aead_streams.proofs.Common.{aes_encrypt, chain_after, chain_start}
 use Rattle.aead_streams.proofs.CcmTags.{data_ended}
 use Rattle.aead_streams.proofs.ccm_state.CcmState.begin_text.Goals as goal
 

@@ -1,10 +1,6 @@
-use Rattle.std.proofs.Common.{List, ℕ, ◌++◌, ◌∙◌, length, ap, sym, subst, arith}
+use Rattle.std.proofs.Common.{List, ap, arith, length, subst, sym, ℕ, ◌++◌, ◌∙◌}
+use Rattle.aead_streams.proofs.Common.{IsAt, Whole, aes_encrypt, chain_start, chained_from, encoded_data, filled_blocks}
 use Rattle.std.proofs.lemmas.List.{append_assoc, length-append}
-use Rattle.crypto_specs.specs.Prelude.{aes_encrypt, encoded_data, filled_blocks}
-use Rattle.aead_ccm.specs.Chaining.{chained_from}
-use Rattle.aead_streams.specs.declared.counter_width.CounterWidth.TheVariants.{Whole}
-use Rattle.aead_streams.specs.Streams.{IsAt}
-use Rattle.aead_streams.specs.CcmStates.{chain_start}
 use Rattle.aead_streams.proofs.CcmPayloads.{piece_counted}
 use Rattle.aead_streams.proofs.ccm_state.CcmState.encrypt.Goals as goal
 

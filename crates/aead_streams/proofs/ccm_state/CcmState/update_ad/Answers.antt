@@ -1,9 +1,6 @@
-use Rattle.std.proofs.Common.{List, ℕ, ◌++◌, ◌∙◌, ap, sym, arith}
+use Rattle.std.proofs.Common.{List, ap, arith, sym, ℕ, ◌++◌, ◌∙◌}
+use Rattle.aead_streams.proofs.Common.{aes_encrypt, chain_start, chained_from, data_front, filled_blocks}
 use Rattle.std.proofs.lemmas.List.{append_assoc, length-append}
-use Rattle.crypto_specs.specs.Prelude.{aes_encrypt, filled_blocks}
-use Rattle.aead_ccm.specs.Chaining.{chained_from}
-use Rattle.aead_streams.specs.Chains.{data_front}
-use Rattle.aead_streams.specs.CcmStates.{chain_start}
 use Rattle.aead_streams.proofs.ccm_state.CcmState.update_ad.Goals as goal
 
 pub returns : goal.returns

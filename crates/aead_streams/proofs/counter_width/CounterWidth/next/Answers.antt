@@ -1,5 +1,5 @@
 use Rattle.std.proofs.Common.{arith}
-use Rattle.crypto_specs.specs.Prelude.{increased}
+use Rattle.aead_streams.proofs.Common.{increased}
 use Rattle.aead_streams.proofs.counter_width.CounterWidth.next.Goals as goal
 
 pub returns-in-Low32 : goal.returns-in-Low32

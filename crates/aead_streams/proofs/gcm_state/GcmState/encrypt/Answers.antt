@@ -1,10 +1,7 @@
-use Rattle.std.proofs.Common.{ℕ, List, ◌≡◌, ◌+◌, ◌++◌, length, sym, subst, arith}
+use Rattle.std.proofs.Common.{List, arith, length, subst, sym, ℕ, ◌++◌, ◌+◌, ◌≡◌}
+use Rattle.aead_streams.proofs.Common.{HasTaken, IsAt, Low32, aes_encrypt, gcm_text, ghash_from, hash_subkey, increased, initial_counter_block, numbers_of}
 use Rattle.std.proofs.lemmas.List.{length-append}
-use Rattle.crypto_specs.specs.Prelude.{aes_encrypt, gcm_text, initial_counter_block, hash_subkey, increased, numbers_of, ghash_from}
-use Rattle.aead_streams.specs.declared.counter_width.CounterWidth.TheVariants.{Low32}
-use Rattle.aead_streams.specs.Streams.{IsAt}
 use Rattle.aead_streams.proofs.GcmTexts.{further, length-gcm_text}
-use Rattle.aead_streams.specs.TextHashes.{HasTaken}
 use Rattle.aead_streams.proofs.gcm_state.GcmState.encrypt.Goals as goal
 
 pub returns-clause-text : goal.returns-clause-text

@@ -1,5 +1,5 @@
 use Rattle.std.proofs.Common.{refl, ◌∙◌}
-use Rattle.crypto_specs.specs.Prelude.{aes_encrypt, number_block}
+use Rattle.aead_streams.proofs.Common.{aes_encrypt, number_block}
 use Rattle.aead_streams.proofs.StreamPlaces.{refilled}
 use Rattle.aead_streams.proofs.key_stream.KeyStream.refill.Goals as goal
 

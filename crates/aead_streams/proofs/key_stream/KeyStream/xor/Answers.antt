@@ -1,9 +1,7 @@
-use Rattle.std.proofs.Common.{◌≡◌, [], take, List, ℕ, ◌+◌, ◌-◌, ◌++◌, ◌∙◌, length, drop, refl, ap, ap₂, subst, arith}
-use Rattle.std.proofs.lemmas.List.{take_all, drop_all, append-nil, length-drop}
+use Rattle.std.proofs.Common.{List, [], ap, ap₂, arith, drop, length, refl, subst, take, ℕ, ◌++◌, ◌+◌, ◌-◌, ◌∙◌, ◌≡◌}
+use Rattle.aead_streams.proofs.Common.{IsAt, aes_encrypt, drop_all, text_xor}
+use Rattle.std.proofs.lemmas.List.{take_all, append-nil, length-drop}
 use borrow.Rule.Slice.PartMut.{put_mid}
-use Rattle.crypto_specs.specs.Prelude.{aes_encrypt}
-use Rattle.aead_streams.specs.Counters.{text_xor}
-use Rattle.aead_streams.specs.Streams.{IsAt}
 use Rattle.aead_streams.proofs.StreamPlaces.{run_done}
 use Rattle.aead_streams.proofs.key_stream.KeyStream.xor.Goals as goal
 

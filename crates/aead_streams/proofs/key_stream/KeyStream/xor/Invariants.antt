@@ -1,8 +1,5 @@
-use Rattle.std.proofs.Common.{◌≡◌, ℕ, ◌+◌, ◌-◌, ◌≤◌, ◌++◌, length, take, drop}
-use Rattle.crypto_specs.specs.Prelude.{aes_encrypt}
-use Rattle.aead_streams.specs.declared.counter_width.CounterWidth.{CounterWidth}
-use Rattle.aead_streams.specs.Counters.{text_xor}
-use Rattle.aead_streams.specs.Streams.{IsAt}
+use Rattle.std.proofs.Common.{drop, length, take, ℕ, ◌++◌, ◌+◌, ◌-◌, ◌≡◌, ◌≤◌}
+use Rattle.aead_streams.proofs.Common.{CounterWidth, IsAt, aes_encrypt, text_xor}
 use Rattle.aead_streams.proofs.key_stream.KeyStream.xor.Given as goal
 
 abbrev pub invariant-runs : goal.invariant-runs

@@ -1,7 +1,5 @@
 use Rattle.std.proofs.Common.{ap₂, ◌∙◌}
-use Rattle.crypto_specs.specs.Prelude.{xor_bytes, aes_encrypt}
-use Rattle.crypto_specs.proofs.Blocks.{length-aes_encrypt}
-use Rattle.cipher_blocks.proofs.BlockNumbers.{block_of_xor}
+use Rattle.aead_streams.proofs.Common.{aes_encrypt, block_of_xor, length-aes_encrypt, xor_bytes}
 use Rattle.aead_streams.proofs.StreamPlaces.{block_is, block_on}
 use Rattle.aead_streams.proofs.key_stream.KeyStream.xor_block.Goals as goal
 

@@ -1,7 +1,6 @@
-use Rattle.std.proofs.Common.{List, ℕ, ◌++◌, ◌∙◌, take, drop, refl, ap, arith}
+use Rattle.std.proofs.Common.{List, ap, arith, drop, refl, take, ℕ, ◌++◌, ◌∙◌}
+use Rattle.aead_streams.proofs.Common.{aes_encrypt, length-aes_encrypt}
 use Rattle.std.proofs.lemmas.List.{length-take}
-use Rattle.crypto_specs.specs.Prelude.{aes_encrypt}
-use Rattle.crypto_specs.proofs.Blocks.{length-aes_encrypt}
 use Rattle.aead_streams.proofs.StreamPlaces.{piece_is, moved}
 use Rattle.aead_streams.proofs.key_stream.KeyStream.xor_part.Goals as goal
 

@@ -1,5 +1,5 @@
-use Rattle.std.proofs.Common.{take, length, refl, arith, ◌<◌, ◌≡◌}
-use Rattle.std.proofs.lemmas.Bool.{false≢true}
+use Rattle.std.proofs.Common.{arith, length, refl, take, ◌<◌, ◌≡◌}
+use Rattle.aead_streams.proofs.Common.{false≢true}
 use Rattle.aead_streams.proofs.TextHashing.{put_more, put_full}
 use Rattle.aead_streams.proofs.text_hash.TextHash.take_in.Goals as goal
 

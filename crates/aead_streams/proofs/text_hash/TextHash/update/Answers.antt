@@ -1,4 +1,4 @@
-use Rattle.std.proofs.Common.{ℕ, ◌≡◌, ◌+◌, ◌-◌, ◌*◌, ◌/◌, take, drop, length, refl, ap, arith}
+use Rattle.std.proofs.Common.{ap, arith, drop, length, refl, take, ℕ, ◌*◌, ◌+◌, ◌-◌, ◌/◌, ◌≡◌}
 use Rattle.std.proofs.lemmas.List.{take_all, length-drop}
 use Rattle.aead_streams.proofs.TextHashing.{updated}
 use Rattle.aead_streams.proofs.text_hash.TextHash.update.Goals as goal

@@ -1,8 +1,6 @@
-use Rattle.std.proofs.Common.{◌∙◌, ◌++◌, ◌∷◌, [], ◌≡◌, ap}
+use Rattle.std.proofs.Common.{None, [], ap, ◌++◌, ◌∙◌, ◌∷◌, ◌≡◌}
+use Rattle.caller_service.proofs.Common.{Inactive, IsOperation}
 use Rattle.std.specs.Option.{option_to_list}
-use Rattle.store_model.specs.Prelude.{Inactive}
-use Rattle.operation_handles.specs.Cells.{IsOperation}
-use Rattle.std.specs.Prelude.{None}
 use Rattle.caller_service.proofs.Lists.{all_front}
 use Rattle.caller_service.proofs.rooms.Room.free.Goals as goal
 

@@ -1,5 +1,5 @@
-use Rattle.std.specs.Prelude.{vec_len}
-use Rattle.callers.specs.Handles.{AreIdle}
+use Rattle.std.proofs.Common.{vec_len}
+use Rattle.caller_service.proofs.Common.{AreIdle}
 use Rattle.caller_service.proofs.rooms.Room.free.Given as goal
 
 abbrev pub invariant-loop-cell : goal.invariant-loop-cell

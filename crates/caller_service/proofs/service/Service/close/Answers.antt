@@ -1,9 +1,6 @@
-use Rattle.std.proofs.Common.{◌∙◌, ◌++◌, ap, subst, sym, arith, map, get_or}
-use Rattle.turn_history.specs.Prelude.{account_of}
-use Rattle.locked_store.specs.Prelude.{IsClosed, world_of}
+use Rattle.std.proofs.Common.{ap, arith, get_or, map, subst, sym, ◌++◌, ◌∙◌}
+use Rattle.caller_service.proofs.Common.{IsClosed, IsRetired, WereRetired, account_of, backwards, world_of}
 use Rattle.locked_store.specs.Shared.{lock_of, opened_of, world}
-use Rattle.callers.specs.Retired.{IsRetired}
-use Rattle.caller_service.specs.Closing.{WereRetired, backwards}
 use Rattle.caller_service.proofs.Ended.{closed_over}
 use Rattle.caller_service.proofs.service.Service.close.Goals as goal
 

@@ -1,7 +1,5 @@
-use Rattle.std.proofs.Common.{refl, ap}
-use Rattle.service_calls.specs.Meanings.{model_request}
-use Rattle.store_model.specs.Prelude.{Plain, Inactive}
-use Rattle.locked_store.specs.Prelude.{world}
+use Rattle.std.proofs.Common.{ap, refl}
+use Rattle.callers.proofs.Common.{Inactive, Plain, model_request, world}
 use Rattle.callers.proofs.Aborting.{aborted, aborted_answered}
 use Rattle.callers.proofs.Handling.{has_room, one_turn, out, same_out}
 use Rattle.callers.proofs.caller.Caller.abort.Goals as goal

@@ -1,7 +1,6 @@
-use Rattle.std.proofs.Common.{◌+◌, ◌-◌, ◌<◌, length, sym, ap, ◌∙◌, subst, arith}
+use Rattle.std.proofs.Common.{ap, arith, length, subst, sym, ◌+◌, ◌-◌, ◌<◌, ◌∙◌}
+use Rattle.callers.proofs.Common.{model_request, world}
 use Rattle.std.specs.Option.{option_map}
-use Rattle.service_calls.specs.Meanings.{model_request}
-use Rattle.locked_store.specs.Prelude.{world}
 use Rattle.callers.proofs.Asking.{asked_with, asked_without}
 use Rattle.callers.proofs.CellLists.{cell_at, named_alike, names_lease}
 use Rattle.callers.proofs.caller.Caller.ask.Goals as goal

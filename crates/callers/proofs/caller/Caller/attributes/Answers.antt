@@ -1,10 +1,6 @@
-use Rattle.std.proofs.Common.{refl, ap, ◌∙◌}
-use Rattle.std.specs.Prelude.{Ok, Err}
-use Rattle.service_calls.specs.Meanings.{model_request}
+use Rattle.std.proofs.Common.{Err, Ok, ap, refl, ◌∙◌}
+use Rattle.callers.proofs.Common.{DecidesAfter, GetAttributes, HasAttributes, IsRanked, IsRefused, Plain, mark_of, may_change_keys, model_request, replay, there_rows, world}
 use Rattle.service_calls.specs.declared.output.Output.TheVariants as output
-use Rattle.store_model.specs.Prelude.{GetAttributes, Plain, may_change_keys, replay}
-use Rattle.store_core.specs.Prelude.{HasAttributes, IsRefused, mark_of, there_rows}
-use Rattle.locked_store.specs.Prelude.{DecidesAfter, IsRanked, world}
 use Rattle.callers.proofs.Failing.{refused_tells, there_plainly}
 use Rattle.callers.proofs.KeyReplies.{known_gives, unknown_gives}
 use Rattle.callers.proofs.Storing.{decided_after, if_err, if_ok, stored_answered, stored_ready}

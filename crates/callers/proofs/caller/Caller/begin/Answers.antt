@@ -1,11 +1,6 @@
-use Rattle.std.proofs.Common.{◌≡◌, refl, ap, ◌∙◌, ◌+◌, sym, subst, arith}
-use Rattle.std.specs.Prelude.{Ok, Err}
-use Rattle.service_calls.specs.Meanings.{model_request}
-use Rattle.service_calls.specs.Answers.{plain_reply}
+use Rattle.std.proofs.Common.{Err, Ok, ap, arith, refl, subst, sym, ◌+◌, ◌∙◌, ◌≡◌}
+use Rattle.callers.proofs.Common.{AnswersReply, Inactive, Plain, buffer_after, model_request, plain_reply, world}
 use Rattle.service_calls.specs.declared.output.Output.TheVariants as output
-use Rattle.service_calls.specs.Answered.{AnswersReply}
-use Rattle.store_model.specs.Prelude.{buffer_after, Plain, Inactive}
-use Rattle.locked_store.specs.Prelude.{world}
 use Rattle.callers.proofs.Beginning.{at_handle, bare_answered, bare_ready}
 use Rattle.callers.proofs.caller.Caller.begin.Goals as goal
 

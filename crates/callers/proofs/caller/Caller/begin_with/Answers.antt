@@ -1,13 +1,5 @@
-use Rattle.std.proofs.Common.{◌≡◌, ◌+◌, ◌∷◌, List, [], length, refl, sym, ap, ◌∙◌, subst, arith, length-append}
-use Rattle.std.specs.Prelude.{All, IfSome, is_some}
-use Rattle.std.proofs.lemmas.Bool.{false≢true}
-use Rattle.std.proofs.lemmas.List.Elements.{All-pop, All-push}
-use Rattle.secret_bytes.specs.Buffer.{Buffer, IsClear}
-use Rattle.key_policy.specs.Uses.{use_refusal}
-use Rattle.service_calls.specs.Meanings.{model_request}
-use Rattle.store_model.specs.Prelude.{Plain, Inactive}
-use Rattle.store_core.specs.Prelude.{IsLent, IsRefused, mark_of}
-use Rattle.locked_store.specs.Prelude.{DecidesAfter, IsRanked, lease_pair, world}
+use Rattle.std.proofs.Common.{All, IfSome, List, [], ap, arith, is_some, length, length-append, refl, subst, sym, ◌+◌, ◌∙◌, ◌∷◌, ◌≡◌}
+use Rattle.callers.proofs.Common.{All-pop, All-push, Buffer, DecidesAfter, Inactive, IsClear, IsLent, IsRanked, IsRefused, Plain, false≢true, lease_pair, mark_of, model_request, use_refusal, world}
 use Rattle.callers.proofs.Beginning.{at_handle, lent_answered, lent_ready, reads_key, refuses, stayed_answered, stayed_ready}
 use Rattle.callers.proofs.Failing.{refused_tells, use_plainly}
 use Rattle.callers.proofs.Looking.{has_room_for_lease, has_spare, popped}

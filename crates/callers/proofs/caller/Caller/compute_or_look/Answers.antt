@@ -1,15 +1,6 @@
-use Rattle.std.proofs.Common.{◌≡◌, ◌∷◌, List, [], length, refl, sym, ap, ◌∙◌, subst, arith, length-append, false}
-use Rattle.std.specs.Prelude.{All, is_some}
-use Rattle.std.proofs.lemmas.Bool.{false≢true}
-use Rattle.std.proofs.lemmas.List.Elements.{All-push}
-use Rattle.secret_bytes.specs.Buffer.{Buffer, IsClear, bytes_of}
-use Rattle.service_calls.specs.Meanings.{model_request}
-use Rattle.store_model.specs.Prelude.{may_change_keys, is_opaque_key}
-use Rattle.locked_store.specs.Prelude.{IsLooked, world}
+use Rattle.std.proofs.Common.{All, List, [], ap, arith, false, is_some, length, length-append, refl, subst, sym, ◌∙◌, ◌∷◌, ◌≡◌}
+use Rattle.callers.proofs.Common.{All-push, Buffer, IsClear, IsLooked, IsReplied, bytes_of, computed_by, drawn_from, false≢true, is_opaque_key, may_change_keys, model_request, next_bytes, world}
 use Rattle.std.specs.FinMap as map
-use Rattle.random_streams.specs.RandomWords.{drawn_from, next_bytes}
-use Rattle.single_part.specs.Keyed.{computed_by}
-use Rattle.callers.specs.Called.{IsReplied}
 use Rattle.callers.proofs.Computing.{computed_answered, computed_ready, lent_answered, lent_ready, refused_answered, refused_ready}
 use Rattle.callers.proofs.Looking.{has_spare, popped}
 use Rattle.callers.proofs.Storing.{decided_known}

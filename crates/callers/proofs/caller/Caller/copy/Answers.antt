@@ -1,14 +1,8 @@
-use Rattle.std.proofs.Common.{refl, sym, ap, ◌∙◌}
+use Rattle.std.proofs.Common.{Err, Ok, ap, refl, sym, ◌∙◌}
+use Rattle.callers.proofs.Common.{Copy, DecidesBefore, IsMade, IsRanked, IsUncopied, KeyId, NotCopied, OnStore, Plain, RecordsCopy, created_unless, failure_told, filling_pair, mark_uncopied, model_request, recorded_copy, replay, without_pair, world}
 use Rattle.std.specs.FinMap as map
-use Rattle.std.specs.Prelude.{Ok, Err}
-use Rattle.key_attributes.specs.declared.KeyId.{KeyId}
-use Rattle.store_core.specs.declared.copying.NotCopied.{NotCopied}
-use Rattle.service_calls.specs.Meanings.{model_request}
 use Rattle.service_calls.specs.declared.output.Output.TheVariants as output
-use Rattle.store_model.specs.Prelude.{Copy, created_unless, recorded_copy, bytes_of, Plain, replay, OnStore}
-use Rattle.store_core.specs.Prelude.{IsMade, IsUncopied, RecordsCopy, mark_uncopied}
-use Rattle.locked_store.specs.Prelude.{DecidesBefore, IsRanked, filling_pair, without_pair, world}
-use Rattle.callers.specs.Failures.{failure_told}
+use Rattle.store_model.specs.Prelude.{bytes_of}
 use Rattle.callers.proofs.Creating.{created_answered, created_in, created_ready, has_no_filling}
 use Rattle.callers.proofs.Failing.{uncopied_tells}
 use Rattle.callers.proofs.Made.{made_gives, undrawn, uncopied_gives}

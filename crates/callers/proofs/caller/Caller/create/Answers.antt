@@ -1,12 +1,5 @@
-use Rattle.std.proofs.Common.{length, ◌∷◌}
-use Rattle.std.specs.Prelude.{None}
-use Rattle.key_attributes.specs.declared.KeyId.{KeyId}
-use Rattle.store_core.specs.declared.creating.NotMade.{NotMade}
-use Rattle.service_calls.specs.Meanings.{model_request}
-use Rattle.store_model.specs.Prelude.{Plain}
-use Rattle.store_core.specs.Prelude.{IsMade, IsUnmade, RecordsStated, mark_unmade}
-use Rattle.locked_store.specs.Prelude.{DecidesBefore, IsRanked, filling_pair, without_pair, world}
-use Rattle.callers.specs.Parts.{IsCreated}
+use Rattle.std.proofs.Common.{None, length, ◌∷◌}
+use Rattle.callers.proofs.Common.{DecidesBefore, IsCreated, IsMade, IsRanked, IsUnmade, KeyId, NotMade, Plain, RecordsStated, filling_pair, mark_unmade, model_request, without_pair, world}
 use Rattle.callers.proofs.Creating.{created_in, creates_on}
 use Rattle.callers.proofs.Storing.{if_err_as, if_ok_as}
 use Rattle.callers.proofs.caller.Caller.create.Goals as goal

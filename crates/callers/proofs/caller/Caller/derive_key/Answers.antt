@@ -1,17 +1,7 @@
-use Rattle.std.proofs.Common.{◌≡◌, ◌<◌, ◌-◌, ◌∷◌, true, false, length, take, refl, sym, ap, subst, arith, None}
-use Rattle.std.specs.Prelude.{count_by}
+use Rattle.std.proofs.Common.{None, ap, arith, count_by, false, length, refl, subst, sym, take, true, ◌-◌, ◌<◌, ◌∷◌, ◌≡◌}
+use Rattle.callers.proofs.Common.{Active, DecidesBefore, Deriving, HandleOperation, InError, Inactive, IsMade, IsOperation, IsRanked, IsUnmade, KeyId, NotMade, Plain, RecordsStated, derivation_part, filling_pair, key_of_operation, mark_unmade, model_request, operation_at, output_key_refusal, part_of, stated_bytes, with_operation_at, without, without_pair, world}
 use Rattle.std.specs.Option.{option_map}
 use Rattle.std.proofs.lemmas.List.{get_or-set_same}
-use Rattle.key_attributes.specs.declared.KeyId.{KeyId}
-use Rattle.derivation_states.specs.KeySteps.{output_key_refusal}
-use Rattle.service_calls.specs.Meanings.{model_request}
-use Rattle.store_model.specs.DerivationOperations.{stated_bytes}
-use Rattle.store_model.specs.Prelude.{without, Plain, HandleOperation, Deriving, derivation_part, key_of_operation, part_of, Active, Inactive, InError}
-use Rattle.store_core.specs.Prelude.{IsMade, IsUnmade, RecordsStated, mark_unmade}
-use Rattle.store_core.specs.declared.creating.NotMade.{NotMade}
-use Rattle.operation_handles.specs.Cells.{IsOperation}
-use Rattle.locked_store.specs.Prelude.{DecidesBefore, IsRanked, filling_pair, without_pair, world}
-use Rattle.callers.specs.Handles.{operation_at, with_operation_at}
 use Rattle.callers.proofs.Beginning.{at_handle}
 use Rattle.callers.proofs.CellLists.{cell_at, tally-cons}
 use Rattle.callers.proofs.Creating.{created_in, creates_on, has_no_filling}

@@ -1,13 +1,6 @@
-use Rattle.std.proofs.Common.{◌≡◌, ◌∙◌, refl, ap}
+use Rattle.std.proofs.Common.{Err, None, Ok, ap, refl, ◌∙◌, ◌≡◌}
+use Rattle.callers.proofs.Common.{DecidesBefore, Destroy, Done, IsRanked, IsUndestroyed, Plain, destroy_rows, failure_told, first_row, mark_undestroyed, model_request, replay, world}
 use Rattle.std.specs.FinMap as map
-use Rattle.std.specs.Prelude.{None, Ok, Err}
-use Rattle.psa_status.specs.Rows.{first_row}
-use Rattle.service_calls.specs.Meanings.{model_request}
-use Rattle.service_calls.specs.declared.output.Output.TheVariants.{Done}
-use Rattle.store_model.specs.Prelude.{Destroy, Plain, destroy_rows, replay}
-use Rattle.store_core.specs.Prelude.{IsUndestroyed, mark_undestroyed}
-use Rattle.locked_store.specs.Prelude.{DecidesBefore, IsRanked, world}
-use Rattle.callers.specs.Failures.{failure_told}
 use Rattle.callers.proofs.Failing.{undestroyed_tells}
 use Rattle.callers.proofs.KeyReplies.{destroyed_gives, destroy_draws, undestroyed_gives}
 use Rattle.callers.proofs.Storing.{decided_known, if_err, on_ok, stored_answered, stored_ready}

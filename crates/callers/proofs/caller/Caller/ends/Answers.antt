@@ -1,7 +1,7 @@
-use Rattle.std.proofs.Common.{rules, ◌≡◌, true, false, sym, ap, ◌∙◌}
+use Rattle.std.proofs.Common.{ap, false, rules, sym, true, ◌∙◌, ◌≡◌}
+use Rattle.callers.proofs.Common.{is_inactive}
 use Rattle.service_calls.specs.declared.call.Call.TheVariants.{OnHandle}
 use Rattle.service_calls.specs.declared.handle_calls.HandleCall.TheVariants.{Abort}
-use Rattle.store_model.specs.Prelude.{is_inactive}
 use Rattle.callers.specs.Budget.{is_counted}
 use Rattle.callers.proofs.Beginning.{at_handle}
 use Rattle.callers.proofs.caller.Caller.ends.Goals as goal

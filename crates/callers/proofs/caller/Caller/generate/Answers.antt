@@ -1,8 +1,5 @@
-use Rattle.std.proofs.Common.{◌≡◌, refl, sym, ap, ◌∙◌, Some, None}
-use Rattle.psa_status.specs.declared.Status.{Status}
-use Rattle.service_calls.specs.Meanings.{model_request}
-use Rattle.store_model.specs.Prelude.{Generate, Plain}
-use Rattle.locked_store.specs.Prelude.{world}
+use Rattle.std.proofs.Common.{None, Some, ap, refl, sym, ◌∙◌, ◌≡◌}
+use Rattle.callers.proofs.Common.{Generate, Plain, Status, model_request, world}
 use Rattle.callers.proofs.Generating.{no_bytes_drawn}
 use Rattle.callers.proofs.Storing.{stored_ready}
 use Rattle.callers.proofs.caller.Caller.generate.Goals as goal

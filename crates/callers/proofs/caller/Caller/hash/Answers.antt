@@ -1,10 +1,5 @@
-use Rattle.std.proofs.Common.{length, refl, sym, ap, subst, ◌∙◌}
-use Rattle.service_calls.specs.Answered.{AnswersReply}
-use Rattle.service_calls.specs.Meanings.{model_request, model_hash_call}
-use Rattle.store_model.specs.Prelude.{buffer_after, Plain, Outcome, Service, next_random, replay, OnStore, plain_step}
-use Rattle.store_model.proofs.Unmarked.{answers_plainly}
-use Rattle.locked_store.specs.Prelude.{world}
-use Rattle.single_part.proofs.Models.{hashes}
+use Rattle.std.proofs.Common.{ap, length, refl, subst, sym, ◌∙◌}
+use Rattle.callers.proofs.Common.{AnswersReply, OnStore, Outcome, Plain, Service, answers_plainly, buffer_after, hashes, model_hash_call, model_request, next_random, plain_step, replay, world}
 use Rattle.callers.proofs.Failing.{answers_plain}
 use Rattle.callers.proofs.Storing.{stored_answered, stored_ready}
 use Rattle.callers.proofs.caller.Caller.hash.Goals as goal

@@ -1,14 +1,6 @@
-use Rattle.std.proofs.Common.{length, sym, ap, refl, ◌∙◌}
-use Rattle.std.specs.Prelude.{None, Ok, Err}
-use Rattle.key_attributes.specs.declared.KeyId.{KeyId}
-use Rattle.store_core.specs.declared.creating.NotMade.{NotMade}
-use Rattle.service_calls.specs.Meanings.{model_request}
+use Rattle.std.proofs.Common.{Err, None, Ok, ap, length, refl, sym, ◌∙◌}
+use Rattle.callers.proofs.Common.{DecidesBefore, Import, IsCreated, IsMade, IsUnmade, KeyId, NotMade, OnStore, Plain, RecordsStated, created_unless, failure_told, mark_unmade, model_request, recorded_of, replay, world}
 use Rattle.service_calls.specs.declared.output.Output.TheVariants as output
-use Rattle.store_model.specs.Prelude.{Import, created_unless, recorded_of, Plain, replay, OnStore}
-use Rattle.store_core.specs.Prelude.{IsMade, IsUnmade, RecordsStated, mark_unmade}
-use Rattle.locked_store.specs.Prelude.{DecidesBefore, world}
-use Rattle.callers.specs.Parts.{IsCreated}
-use Rattle.callers.specs.Failures.{failure_told}
 use Rattle.callers.proofs.Creating.{created_answered, created_ready, has_no_filling}
 use Rattle.callers.proofs.Failing.{stated_plainly, unmade_tells}
 use Rattle.callers.proofs.Made.{made_gives, undrawn, unmade_gives}

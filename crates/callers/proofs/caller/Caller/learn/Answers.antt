@@ -1,5 +1,5 @@
-use Rattle.std.proofs.Common.{refl, ap}
-use Rattle.locked_store.specs.Prelude.{world}
+use Rattle.std.proofs.Common.{ap, refl}
+use Rattle.callers.proofs.Common.{world}
 use Rattle.callers.proofs.Learning.{learned, other_seen, own_seen}
 use Rattle.callers.proofs.caller.Caller.learn.Goals as goal
 

@@ -1,13 +1,5 @@
-use Rattle.std.proofs.Common.{◌∷◌, List, [], length, refl, sym, ap, ◌∙◌, subst, arith, length-append}
-use Rattle.std.specs.Prelude.{All, is_some}
-use Rattle.std.proofs.lemmas.Bool.{false≢true}
-use Rattle.std.proofs.lemmas.List.Elements.{All-push}
-use Rattle.secret_bytes.specs.Buffer.{Buffer, IsClear}
-use Rattle.key_policy.specs.Uses.{use_refusal}
-use Rattle.service_calls.specs.Meanings.{model_request}
-use Rattle.store_model.specs.Prelude.{Plain, may_change_keys}
-use Rattle.store_core.specs.Prelude.{IsLent, IsRefused, mark_of}
-use Rattle.locked_store.specs.Prelude.{DecidesAfter, IsRanked, lease_pair, world}
+use Rattle.std.proofs.Common.{All, List, [], ap, arith, is_some, length, length-append, refl, subst, sym, ◌∙◌, ◌∷◌}
+use Rattle.callers.proofs.Common.{All-push, Buffer, DecidesAfter, IsClear, IsLent, IsRanked, IsRefused, Plain, false≢true, lease_pair, mark_of, may_change_keys, model_request, use_refusal, world}
 use Rattle.callers.proofs.Computing.{lent_answered, lent_ready, refused_answered, refused_ready}
 use Rattle.callers.proofs.Looking.{has_spare, popped}
 use Rattle.callers.proofs.Storing.{if_err, if_ok}

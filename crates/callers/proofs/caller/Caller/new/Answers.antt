@@ -1,6 +1,5 @@
-use Rattle.std.proofs.Common.{ℕ, List, refl, ap, ◌∙◌, arith}
-use Rattle.random_streams.specs.RandomWords.{RandomStream}
-use Rattle.locked_store.specs.Prelude.{world}
+use Rattle.std.proofs.Common.{List, ap, arith, refl, ℕ, ◌∙◌}
+use Rattle.callers.proofs.Common.{RandomStream, world}
 use Rattle.callers.proofs.Starting.{starts_ready}
 use Rattle.callers.proofs.caller.Caller.new.Goals as goal
 

@@ -1,5 +1,5 @@
-use Rattle.std.proofs.Common.{◌≡◌, sym, ◌∙◌, Some, None}
-use Rattle.psa_status.specs.declared.Status.{Status}
+use Rattle.std.proofs.Common.{None, Some, sym, ◌∙◌, ◌≡◌}
+use Rattle.callers.proofs.Common.{Status}
 use Rattle.callers.proofs.caller.Caller.output_key.Goals as goal
 
 clash : {s : Status} → Some s ≡ None → ⊥

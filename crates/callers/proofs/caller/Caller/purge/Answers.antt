@@ -1,13 +1,7 @@
-use Rattle.std.proofs.Common.{◌≡◌, refl, ap, ◌∙◌}
+use Rattle.std.proofs.Common.{Err, None, Ok, Some, ap, refl, ◌∙◌, ◌≡◌}
+use Rattle.callers.proofs.Common.{DecidesAfter, InvalidHandle, IsRanked, Plain, Purge, failure_told, may_change_keys, model_request, replay, there_rows, world}
 use Rattle.std.specs.FinMap as map
-use Rattle.std.specs.Prelude.{None, Some, Ok, Err}
-use Rattle.psa_status.specs.declared.Status.TheVariants.{InvalidHandle}
-use Rattle.service_calls.specs.Meanings.{model_request}
 use Rattle.service_calls.specs.declared.output.Output.TheVariants as output
-use Rattle.store_model.specs.Prelude.{Purge, Plain, may_change_keys, replay}
-use Rattle.store_core.specs.Prelude.{there_rows}
-use Rattle.locked_store.specs.Prelude.{DecidesAfter, IsRanked, world}
-use Rattle.callers.specs.Failures.{failure_told}
 use Rattle.callers.proofs.KeyReplies.{purged_gives, unpurged_gives}
 use Rattle.callers.proofs.Storing.{decided_after, if_err, on_ok, stored_answered, stored_ready}
 use Rattle.callers.proofs.caller.Caller.purge.Goals as goal

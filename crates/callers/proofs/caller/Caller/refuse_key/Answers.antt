@@ -1,16 +1,6 @@
-use Rattle.std.proofs.Common.{◌-◌, get_or, refl, sym, ap, ◌∙◌, subst, arith}
-use Rattle.std.specs.Prelude.{Ok, Err}
-use Rattle.random_streams.specs.RandomWords.{drawn_from}
-use Rattle.service_calls.specs.Meanings.{model_request}
+use Rattle.std.proofs.Common.{Err, Ok, ap, arith, get_or, refl, subst, sym, ◌-◌, ◌∙◌}
+use Rattle.callers.proofs.Common.{AnswersReply, AreOperations, IsChanged, NoFault, Plain, RefusesKeyAt, Reply, buffer_after, drawn_from, draws_none, key_refused, model_request, operation_at, plain_reply, world}
 use Rattle.service_calls.specs.declared.output.Output.TheVariants as output
-use Rattle.operation_handles.specs.KeyInputs.{RefusesKeyAt, key_refused}
-use Rattle.service_calls.specs.Answers.{plain_reply}
-use Rattle.service_calls.specs.Answered.{AnswersReply}
-use Rattle.store_model.specs.Prelude.{Reply, buffer_after, Plain}
-use Rattle.store_model.proofs.Tables.{NoFault}
-use Rattle.single_part.proofs.Draws.{draws_none}
-use Rattle.callers.specs.Handles.{AreOperations, IsChanged, operation_at}
-use Rattle.locked_store.specs.Prelude.{world}
 use Rattle.callers.proofs.Beginning.{at_handle}
 use Rattle.callers.proofs.Failing.{key_refused_plainly, told_plainly}
 use Rattle.callers.proofs.Handling.{few_turns, handled_answered, handled_ready, has_room, made, one_turn, out, same_out, waits}

@@ -1,17 +1,6 @@
-use Rattle.std.proofs.Common.{◌≡◌, ◌++◌, ◌∷◌, [], subst, length, refl, sym, ap, ◌∙◌, arith}
-use Rattle.std.specs.Prelude.{None, Ok, Err}
-use Rattle.key_attributes.specs.declared.KeyId.{KeyId}
-use Rattle.store_core.specs.declared.creating.NotMade.{NotMade}
-use Rattle.random_streams.specs.RandomWords.{RandomStream}
-use Rattle.service_calls.specs.Meanings.{model_request}
+use Rattle.std.proofs.Common.{Err, None, Ok, [], ap, arith, length, refl, subst, sym, ◌++◌, ◌∙◌, ◌∷◌, ◌≡◌}
+use Rattle.callers.proofs.Common.{DecidesBefore, Generate, IsCreated, IsMade, IsUnmade, KeyId, NotMade, OnStore, Plain, RandomStream, RecordsStated, created_unless, draws_none, failure_told, mark_unmade, model_request, plain_step, recorded_of, replay, stated_bytes, world}
 use Rattle.service_calls.specs.declared.output.Output.TheVariants as output
-use Rattle.store_model.specs.Prelude.{Generate, created_unless, recorded_of, Plain, replay, OnStore, plain_step}
-use Rattle.store_model.specs.Creation.{stated_bytes}
-use Rattle.store_core.specs.Prelude.{IsMade, IsUnmade, RecordsStated, mark_unmade}
-use Rattle.locked_store.specs.Prelude.{DecidesBefore, world}
-use Rattle.single_part.proofs.Draws.{draws_none}
-use Rattle.callers.specs.Parts.{IsCreated}
-use Rattle.callers.specs.Failures.{failure_told}
 use Rattle.callers.proofs.Creating.{created_answered, drew_ready, has_no_filling}
 use Rattle.callers.proofs.Generating.{long_creates, never_recorded, unmade_own}
 use Rattle.callers.proofs.Failing.{stated_plainly, unmade_tells}

@@ -1,15 +1,5 @@
-use Rattle.std.proofs.Common.{◌≡◌, None, ◌-◌, get_or, refl, sym, ap, ◌∙◌, subst, arith}
-use Rattle.std.specs.Prelude.{Err}
-use Rattle.random_streams.specs.RandomWords.{drawn_from}
-use Rattle.service_calls.specs.Meanings.{model_request}
-use Rattle.derivation_states.specs.KeySteps.{output_key_refusal}
-use Rattle.operation_handles.specs.KeyOutputs.{derived_key_refused}
-use Rattle.store_model.specs.Prelude.{derivation_part, part_of, Reply, buffer_after, Plain}
-use Rattle.service_calls.specs.Answered.{AnswersReply}
-use Rattle.store_model.proofs.Tables.{NoFault}
-use Rattle.single_part.proofs.Draws.{draws_none}
-use Rattle.callers.specs.Handles.{AreOperations, IsChanged, operation_at}
-use Rattle.locked_store.specs.Prelude.{world}
+use Rattle.std.proofs.Common.{Err, None, ap, arith, get_or, refl, subst, sym, ◌-◌, ◌∙◌, ◌≡◌}
+use Rattle.callers.proofs.Common.{AnswersReply, AreOperations, IsChanged, NoFault, Plain, Reply, buffer_after, derivation_part, derived_key_refused, drawn_from, draws_none, model_request, operation_at, output_key_refusal, part_of, world}
 use Rattle.callers.proofs.Beginning.{at_handle}
 use Rattle.callers.proofs.Failing.{derived_plainly, told_plainly}
 use Rattle.callers.proofs.Handling.{few_turns, handled_answered, handled_ready, has_room, made, one_turn, out, same_out, waits}

@@ -1,6 +1,5 @@
-use Rattle.std.proofs.Common.{◌≡◌, subst, arith}
-use Rattle.callers.specs.Retired.{IsRetiring}
-use Rattle.locked_store.specs.Prelude.{world}
+use Rattle.std.proofs.Common.{arith, subst, ◌≡◌}
+use Rattle.callers.proofs.Common.{IsRetiring, world}
 use Rattle.callers.proofs.Retiring.{ends}
 use Rattle.callers.proofs.caller.Caller.retire.Goals as goal
 

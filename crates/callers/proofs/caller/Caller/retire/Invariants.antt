@@ -1,6 +1,5 @@
 use Rattle.std.proofs.Common.{◌≡◌}
-use Rattle.callers.specs.Retired.{IsRetiring, MakesNoCall}
-use Rattle.locked_store.specs.Prelude.{world}
+use Rattle.callers.proofs.Common.{IsRetiring, MakesNoCall, world}
 use Rattle.callers.proofs.caller.Caller.retire.Given as goal
 
 abbrev pub invariant-loop-place : goal.invariant-loop-place

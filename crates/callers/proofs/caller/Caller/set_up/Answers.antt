@@ -1,9 +1,6 @@
-use Rattle.std.proofs.Common.{◌≡◌, refl, sym, ap, ◌∙◌}
+use Rattle.std.proofs.Common.{ap, refl, sym, ◌∙◌, ◌≡◌}
+use Rattle.callers.proofs.Common.{Plain, is_inactive, model_request, operation_at, world}
 use Rattle.psa_status.specs.declared.Status.TheVariants as status
-use Rattle.service_calls.specs.Meanings.{model_request}
-use Rattle.store_model.specs.Prelude.{Plain, is_inactive}
-use Rattle.callers.specs.Handles.{operation_at}
-use Rattle.locked_store.specs.Prelude.{world}
 use Rattle.callers.proofs.Beginning.{at_handle, stayed_answered, stayed_ready, twice}
 use Rattle.callers.proofs.SettingUp.{is_free}
 use Rattle.callers.proofs.caller.Caller.set_up.Goals as goal

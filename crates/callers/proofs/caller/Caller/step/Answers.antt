@@ -1,10 +1,5 @@
-use Rattle.std.proofs.Common.{length, refl, sym, ap, ◌∙◌, subst, arith}
-use Rattle.random_streams.specs.RandomWords.{drawn_from, next_bytes}
-use Rattle.service_calls.specs.Meanings.{model_request, model_step}
-use Rattle.operation_handles.specs.Steps.{stepped_by}
-use Rattle.store_model.specs.Prelude.{Plain}
-use Rattle.callers.specs.Handles.{AreOperations, IsChanged, operation_at}
-use Rattle.locked_store.specs.Prelude.{world}
+use Rattle.std.proofs.Common.{ap, arith, length, refl, subst, sym, ◌∙◌}
+use Rattle.callers.proofs.Common.{AreOperations, IsChanged, Plain, drawn_from, model_request, model_step, next_bytes, operation_at, stepped_by, world}
 use Rattle.callers.proofs.Failing.{answers_plain, stepped_plainly}
 use Rattle.callers.proofs.Handling.{few_turns, handled_answered, handled_ready, has_room, made, one_turn, out, same_out, waits}
 use Rattle.callers.proofs.Stepping.{applies}

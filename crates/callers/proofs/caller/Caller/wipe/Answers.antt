@@ -1,5 +1,5 @@
 use Rattle.std.proofs.Common.{refl}
-use Rattle.locked_store.specs.Prelude.{world}
+use Rattle.callers.proofs.Common.{world}
 use Rattle.callers.proofs.Retiring.{out, retiring}
 use Rattle.callers.proofs.caller.Caller.wipe.Goals as goal
 

@@ -1,6 +1,5 @@
-use Rattle.std.proofs.Common.{◌-◌, ◌<◌, get_or, set, sym, ap, ◌∙◌, subst, arith}
-use Rattle.store_model.specs.Prelude.{Inactive}
-use Rattle.callers.specs.Handles.{IsChanged}
+use Rattle.std.proofs.Common.{ap, arith, get_or, set, subst, sym, ◌-◌, ◌<◌, ◌∙◌}
+use Rattle.callers.proofs.Common.{Inactive, IsChanged}
 use Rattle.callers.proofs.Changing.{wiped}
 use Rattle.callers.proofs.handles.Handles.abort.Goals as goal
 

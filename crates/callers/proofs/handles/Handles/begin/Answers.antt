@@ -1,6 +1,5 @@
-use Rattle.std.proofs.Common.{◌-◌, ◌<◌, get_or, set, refl, sym, ap, ◌∙◌, subst, arith, None}
-use Rattle.operation_handles.specs.Setups.{set_up_without_key}
-use Rattle.callers.specs.Handles.{IsChanged, operation_at}
+use Rattle.std.proofs.Common.{None, ap, arith, get_or, refl, set, subst, sym, ◌-◌, ◌<◌, ◌∙◌}
+use Rattle.callers.proofs.Common.{IsChanged, operation_at, set_up_without_key}
 use Rattle.callers.proofs.Changing.{same_lease}
 use Rattle.callers.proofs.handles.Handles.begin.Goals as goal
 

@@ -1,7 +1,5 @@
-use Rattle.std.proofs.Common.{◌-◌, ◌<◌, get_or, set, refl, sym, ap, ◌∙◌, subst, arith}
-use Rattle.secret_bytes.specs.Buffer.{bytes_of}
-use Rattle.operation_handles.specs.Setups.{begun_with}
-use Rattle.callers.specs.Handles.{HoldsLease, operation_at}
+use Rattle.std.proofs.Common.{ap, arith, get_or, refl, set, subst, sym, ◌-◌, ◌<◌, ◌∙◌}
+use Rattle.callers.proofs.Common.{HoldsLease, begun_with, bytes_of, operation_at}
 use Rattle.callers.proofs.Changing.{kept}
 use Rattle.callers.proofs.handles.Handles.begin_with.Goals as goal
 

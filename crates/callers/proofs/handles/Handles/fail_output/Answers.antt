@@ -1,6 +1,5 @@
-use Rattle.std.proofs.Common.{◌-◌, ◌<◌, get_or, set, sym, ap, ◌∙◌, subst, arith}
-use Rattle.store_model.specs.Prelude.{InError}
-use Rattle.callers.specs.Handles.{IsChanged, operation_at}
+use Rattle.std.proofs.Common.{ap, arith, get_or, set, subst, sym, ◌-◌, ◌<◌, ◌∙◌}
+use Rattle.callers.proofs.Common.{InError, IsChanged, operation_at}
 use Rattle.callers.proofs.Changing.{stepped}
 use Rattle.callers.proofs.handles.Handles.fail_output.Goals as goal
 

@@ -1,7 +1,6 @@
-use Rattle.std.proofs.Common.{◌≡◌, subst, None}
+use Rattle.std.proofs.Common.{None, subst, ◌≡◌}
+use Rattle.callers.proofs.Common.{All-pop, Cell}
 use Rattle.std.specs.Option.{IfSome}
-use Rattle.std.proofs.lemmas.List.Elements.{All-pop}
-use Rattle.operation_handles.specs.declared.cell.Cell.{Cell}
 use Rattle.callers.proofs.handles.Handles.free.Goals as goal
 
 pub into_states-states-requires : goal.into_states-states-requires

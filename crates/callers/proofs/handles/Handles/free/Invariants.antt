@@ -1,6 +1,5 @@
-use Rattle.std.proofs.Common.{◌≡◌, None}
-use Rattle.std.specs.Prelude.{All, vec_len}
-use Rattle.operation_handles.specs.declared.cell.Cell.{Cell}
+use Rattle.std.proofs.Common.{All, None, vec_len, ◌≡◌}
+use Rattle.callers.proofs.Common.{Cell}
 use Rattle.callers.proofs.handles.Handles.free.Given as goal
 
 abbrev pub invariant-loop-cell : goal.invariant-loop-cell

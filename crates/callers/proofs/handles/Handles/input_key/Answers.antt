@@ -1,7 +1,5 @@
-use Rattle.std.proofs.Common.{◌-◌, ◌<◌, get_or, set, refl, sym, ap, ◌∙◌, subst, arith, Some}
-use Rattle.secret_bytes.specs.Buffer.{bytes_of}
-use Rattle.store_model.specs.Prelude.{with_key, HandleOperation, Deriving, Active}
-use Rattle.callers.specs.Handles.{HoldsLease, operation_at}
+use Rattle.std.proofs.Common.{Some, ap, arith, get_or, refl, set, subst, sym, ◌-◌, ◌<◌, ◌∙◌}
+use Rattle.callers.proofs.Common.{Active, Deriving, HandleOperation, HoldsLease, bytes_of, operation_at, with_key}
 use Rattle.callers.proofs.Changing.{kept}
 use Rattle.callers.proofs.handles.Handles.input_key.Goals as goal
 

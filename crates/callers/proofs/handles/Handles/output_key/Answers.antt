@@ -1,7 +1,5 @@
-use Rattle.std.proofs.Common.{◌-◌, ◌<◌, get_or, set, refl, sym, ap, ◌∙◌, subst, arith, true, false, ◌≡◌, None}
-use Rattle.store_model.specs.DerivationOperations.{stated_bytes}
-use Rattle.store_model.specs.Prelude.{without, HandleOperation, Deriving, key_of_operation, Active}
-use Rattle.callers.specs.Handles.{IsChanged, operation_at}
+use Rattle.std.proofs.Common.{None, ap, arith, false, get_or, refl, set, subst, sym, true, ◌-◌, ◌<◌, ◌∙◌, ◌≡◌}
+use Rattle.callers.proofs.Common.{Active, Deriving, HandleOperation, IsChanged, key_of_operation, operation_at, stated_bytes, without}
 use Rattle.callers.proofs.Changing.{same_lease}
 use Rattle.callers.proofs.handles.Handles.output_key.Goals as goal
 

@@ -1,6 +1,5 @@
-use Rattle.std.proofs.Common.{◌-◌, ◌<◌, get_or, set, sym, ap, ◌∙◌, subst, arith}
-use Rattle.operation_handles.specs.KeyOutputs.{derived_key_refused}
-use Rattle.callers.specs.Handles.{IsChanged, operation_at}
+use Rattle.std.proofs.Common.{ap, arith, get_or, set, subst, sym, ◌-◌, ◌<◌, ◌∙◌}
+use Rattle.callers.proofs.Common.{IsChanged, derived_key_refused, operation_at}
 use Rattle.callers.proofs.Changing.{stepped}
 use Rattle.callers.proofs.handles.Handles.refuse_output_key.Goals as goal
 

@@ -1,8 +1,5 @@
-use Rattle.std.proofs.Common.{◌-◌, ◌<◌, length, get_or, set, sym, ap, ◌∙◌, subst, arith}
-use Rattle.random_streams.specs.RandomWords.{next_bytes}
-use Rattle.service_calls.specs.Meanings.{model_step}
-use Rattle.operation_handles.specs.Steps.{stepped_by}
-use Rattle.callers.specs.Handles.{IsChanged, operation_at}
+use Rattle.std.proofs.Common.{ap, arith, get_or, length, set, subst, sym, ◌-◌, ◌<◌, ◌∙◌}
+use Rattle.callers.proofs.Common.{IsChanged, model_step, next_bytes, operation_at, stepped_by}
 use Rattle.callers.proofs.Changing.{stepped}
 use Rattle.callers.proofs.handles.Handles.step.Goals as goal
 

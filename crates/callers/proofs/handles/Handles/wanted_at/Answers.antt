@@ -1,10 +1,5 @@
-use Rattle.std.proofs.lemmas.List.{get_or_read_under}
-use Rattle.std.proofs.Common.{rules, ◌≡◌, sym, subst, Option, Some, None}
-use Rattle.std.specs.Prelude.{IfSome, IfNone}
-use Rattle.key_policy.specs.declared.key_use.KeyUse.{KeyUse}
-use Rattle.store_model.specs.Prelude.{HandleOperation}
-use Rattle.operation_handles.specs.Cells.{IsOperation}
-use Rattle.operation_handles.specs.KeyInputs.{RefusesKeyAt, TakesKeyAt}
+use Rattle.std.proofs.Common.{IfNone, IfSome, None, Option, Some, rules, subst, sym, ◌≡◌}
+use Rattle.callers.proofs.Common.{HandleOperation, IsOperation, KeyUse, RefusesKeyAt, TakesKeyAt, get_or_read_under}
 use Rattle.callers.proofs.handles.Handles.wanted_at.Goals as goal
 
 some_as : (P Q : KeyUse → Type 0) (found : Option KeyUse) → IfSome found P → ((x : KeyUse) → P x → Q x) → IfSome found Q

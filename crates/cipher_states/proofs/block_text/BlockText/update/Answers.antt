@@ -1,6 +1,5 @@
-use Rattle.std.proofs.Common.{ℕ, ◌+◌, List, ◌∙◌, ap, ap₂}
-use Rattle.cipher_states.specs.declared.ways.Way.{Way}
-use Rattle.cipher_states.specs.Ways.{chains, next_chain}
+use Rattle.std.proofs.Common.{List, ap, ap₂, ℕ, ◌+◌, ◌∙◌}
+use Rattle.cipher_states.proofs.Common.{Way, chains, next_chain}
 use Rattle.cipher_states.proofs.TextPlaces.{grown_text}
 use Rattle.cipher_states.proofs.block_text.BlockText.update.Goals as goal
 

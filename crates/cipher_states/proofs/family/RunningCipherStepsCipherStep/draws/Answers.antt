@@ -1,5 +1,5 @@
-use Rattle.std.proofs.Common.{◌≡◌, sym, subst}
-use Rattle.store_model.specs.Prelude.{cipher_step}
+use Rattle.std.proofs.Common.{subst, sym, ◌≡◌}
+use Rattle.cipher_states.proofs.Common.{cipher_step}
 use Rattle.service_calls.specs.Meanings.{model_cipher_step}
 use Rattle.cipher_states.proofs.family.RunningCipherStepsCipherStep.draws.Goals as goal
 

@@ -1,11 +1,5 @@
-use Rattle.std.proofs.Common.{◌≡◌, ℕ, subst, true, Bool, []}
-use Rattle.crypto_specs.specs.Prelude.{block_number}
-use Rattle.aead_streams.specs.declared.counter_width.CounterWidth.TheVariants.{Whole}
-use Rattle.aead_streams.specs.Streams.{IsAt}
-use Rattle.key_policy.specs.Modes.{model_mode}
-use Rattle.cipher_states.specs.declared.ways.Way.{Way}
-use Rattle.cipher_states.specs.Ways.{chains, way_of}
-use Rattle.cipher_states.specs.Texts.{RunsBlocks}
+use Rattle.std.proofs.Common.{Bool, [], subst, true, ℕ, ◌≡◌}
+use Rattle.cipher_states.proofs.Common.{IsAt, RunsBlocks, Way, Whole, block_number, chains, model_mode, way_of}
 use Rattle.cipher_states.proofs.running.RunningCipher.begin_text.Goals as goal
 
 pub returns-clause-stream : goal.returns-clause-stream

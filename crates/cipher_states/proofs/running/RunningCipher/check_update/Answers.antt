@@ -1,7 +1,5 @@
-use Rattle.std.proofs.Common.{◌≡◌, ◌+◌, ◌≤◌, length, true, ap, ap₂, sym, ◌∙◌, arith}
-use Rattle.psa_status.specs.Rows.{unless}
-use Rattle.store_model.specs.Prelude.{total_limit, takes_text, cipher_fresh, with_text}
-use Rattle.cipher_states.specs.States.{due_now}
+use Rattle.std.proofs.Common.{ap, ap₂, arith, length, sym, true, ◌+◌, ◌∙◌, ◌≡◌, ◌≤◌}
+use Rattle.cipher_states.proofs.Common.{cipher_fresh, due_now, takes_text, total_limit, unless, with_text}
 use Rattle.cipher_states.proofs.RunningTexts.{length-fresh, update_rows, no_room, has_room}
 use Rattle.cipher_states.proofs.running.RunningCipher.check_update.Goals as goal
 

@@ -1,12 +1,9 @@
-use Rattle.std.proofs.Common.{◌≡◌, ℕ, List, ◌++◌, drop, length, sym, ap, subst, ◌∙◌}
-use Rattle.std.specs.Prelude.{Option, Some, Result, Err, if◌then◌else◌}
+use Rattle.std.proofs.Common.{Err, List, Option, Result, Some, ap, drop, if◌then◌else◌, length, subst, sym, ℕ, ◌++◌, ◌∙◌, ◌≡◌}
+use Rattle.cipher_states.proofs.Common.{After, AnswersOrSpoils, CipherWork, InError, Inactive, Operation, Reply, buffer_after, cipher_finish_rows, first_row, last_length, last_part, mode_of, unless_failed, whole_text}
 use Rattle.std.specs.Result.{is_ok}
 use Rattle.std.proofs.lemmas.Result.{err_from_is_err_and}
 use Rattle.psa_status.specs.declared.Status.{Status}
-use Rattle.psa_status.specs.Rows.{first_row}
 use Rattle.psa_status.proofs.Rows.{unless-ok, unless-err}
-use Rattle.service_calls.specs.Answers.{AnswersOrSpoils}
-use Rattle.store_model.specs.Prelude.{After, CipherWork, InError, Inactive, Operation, Reply, buffer_after, mode_of, unless_failed, cipher_finish_rows, last_length, last_part, whole_text}
 use Rattle.cipher_states.proofs.Buffers.{front_written, last_needed}
 use Rattle.cipher_states.proofs.running.RunningCipher.finish.Goals as goal
 

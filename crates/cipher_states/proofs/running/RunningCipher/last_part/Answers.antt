@@ -1,9 +1,6 @@
-use Rattle.std.proofs.Common.{◌≡◌, ℕ, ◌<◌, Bool, cond, List, length, refl, sym, ap, subst, ◌∙◌}
+use Rattle.std.proofs.Common.{Bool, List, ap, cond, length, refl, subst, sym, ℕ, ◌<◌, ◌∙◌, ◌≡◌}
+use Rattle.cipher_states.proofs.Common.{After, AnswersOrSpoils, CipherWork, GivesBytes, InError, Inactive, buffer_after, last_length, model_mode, pkcs7_unpadded}
 use Rattle.std.proofs.lemmas.Bool.{eqb-true}
-use Rattle.crypto_specs.specs.Prelude.{pkcs7_unpadded}
-use Rattle.store_model.specs.Prelude.{buffer_after, After, InError, Inactive, CipherWork, last_length}
-use Rattle.service_calls.specs.Answers.{AnswersOrSpoils, GivesBytes}
-use Rattle.key_policy.specs.Modes.{model_mode}
 use Rattle.cipher_states.proofs.LastParts.{unpadded_end}
 use Rattle.cipher_states.proofs.Finishing.{not_none, room_is, block_buffer, ends_bare, part_kept, ends_padded, block_kept, ends_unpadded}
 use Rattle.cipher_states.proofs.running.RunningCipher.last_part.Goals as goal

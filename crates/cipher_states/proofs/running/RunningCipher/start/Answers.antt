@@ -1,6 +1,5 @@
-use Rattle.std.proofs.Common.{refl, ◌∙◌, ap}
-use Rattle.store_model.specs.Prelude.{cipher_work, mode_of}
-use Rattle.key_policy.specs.Modes.{model_mode}
+use Rattle.std.proofs.Common.{ap, refl, ◌∙◌}
+use Rattle.cipher_states.proofs.Common.{cipher_work, mode_of, model_mode}
 use Rattle.cipher_states.proofs.Beginnings.{begun_work, no_stream, no_chain}
 use Rattle.cipher_states.proofs.running.RunningCipher.start.Goals as goal
 

@@ -1,12 +1,5 @@
-use Rattle.std.proofs.Common.{◌≡◌, ℕ, ◌+◌, List, ◌++◌, length, length-append, take, true, false, sym, ap, subst, ◌∙◌}
-use Rattle.crypto_specs.specs.Prelude.{aes_encrypt, block_number}
-use Rattle.aead_streams.specs.declared.counter_width.CounterWidth.TheVariants.{Whole}
-use Rattle.aead_streams.specs.Counters.{text_xor}
-use Rattle.store_model.specs.Prelude.{mode_of, bytes_or_empty, with_text}
-use Rattle.key_policy.specs.Modes.{model_mode}
-use Rattle.cipher_states.specs.Modes.{is_stream, keeps_last}
-use Rattle.cipher_states.specs.Ways.{way_of, processed}
-use Rattle.cipher_states.specs.Texts.{RunsBlocks}
+use Rattle.std.proofs.Common.{List, ap, false, length, length-append, subst, sym, take, true, ℕ, ◌++◌, ◌+◌, ◌∙◌, ◌≡◌}
+use Rattle.cipher_states.proofs.Common.{RunsBlocks, Whole, aes_encrypt, block_number, bytes_or_empty, is_stream, keeps_last, mode_of, model_mode, processed, text_xor, way_of, with_text}
 use Rattle.cipher_states.proofs.RunningTexts.{runs_stream, runs_blocks, fresh_stream, fresh_blocks, due_blocks, by_blocks}
 use Rattle.cipher_states.proofs.running.RunningCipher.take_in.Goals as goal
 

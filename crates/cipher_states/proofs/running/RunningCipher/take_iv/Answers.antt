@@ -1,7 +1,5 @@
-use Rattle.std.proofs.Common.{◌≡◌, [], refl, ◌∙◌, ap}
-use Rattle.std.specs.Prelude.{◌==◌, is_some}
-use Rattle.store_model.specs.Prelude.{with_iv, iv_length, mode_of}
-use Rattle.key_policy.specs.Modes.{model_mode}
+use Rattle.std.proofs.Common.{[], ap, is_some, refl, ◌==◌, ◌∙◌, ◌≡◌}
+use Rattle.cipher_states.proofs.Common.{iv_length, mode_of, model_mode, with_iv}
 use Rattle.cipher_states.proofs.Beginnings.{begun_work, not_ready}
 use Rattle.cipher_states.proofs.running.RunningCipher.take_iv.Goals as goal
 

@@ -1,5 +1,4 @@
-use Rattle.std.proofs.Common.{◌≡◌, ◌-◌, ◌++◌, take}
-use Rattle.std.specs.Prelude.{replicate}
+use Rattle.std.proofs.Common.{replicate, take, ◌++◌, ◌-◌, ◌≡◌}
 use Rattle.cmac_ops.proofs.chain.Chain.filled.Given as goal
 
 abbrev pub invariant-bytes : goal.invariant-bytes

@@ -1,5 +1,4 @@
-use Rattle.std.proofs.Common.{ℕ, ◌≡◌, ◌-◌, ◌∙◌, ◌++◌, ◌∷◌, length, take, sym, ap, List, arith}
-use Rattle.std.specs.Prelude.{replicate}
+use Rattle.std.proofs.Common.{List, ap, arith, length, replicate, sym, take, ℕ, ◌++◌, ◌-◌, ◌∙◌, ◌∷◌, ◌≡◌}
 use Rattle.std.proofs.lemmas.List.{length-take, take_all}
 use Rattle.crypto_specs.specs.Prelude.{aes_encrypt}
 use Rattle.cmac_ops.proofs.Chaining.{whole_last, filled_last}

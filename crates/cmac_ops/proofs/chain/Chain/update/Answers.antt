@@ -1,4 +1,4 @@
-use Rattle.std.proofs.Common.{List, ℕ, ◌≡◌, ◌+◌, ◌-◌, ◌∙◌, ◌++◌, length, take, drop, sym, ap, subst, append_assoc, arith}
+use Rattle.std.proofs.Common.{List, ap, append_assoc, arith, drop, length, subst, sym, take, ℕ, ◌++◌, ◌+◌, ◌-◌, ◌∙◌, ◌≡◌}
 use Rattle.std.proofs.Math.Seq.{take-add}
 use Rattle.std.proofs.lemmas.List.{length-drop, take_all}
 use Rattle.cmac_ops.specs.Chains.{Holds}

@@ -1,5 +1,5 @@
-use Rattle.std.proofs.Common.{◌≡◌, map, drop}
-use Rattle.admission.specs.Apply.{after_rules}
+use Rattle.std.proofs.Common.{drop, map, ◌≡◌}
+use Rattle.command_words.proofs.Common.{after_rules}
 use Rattle.command_words.proofs.rule_list.RuleBookAdmission.apply.Given as goal
 
 abbrev pub invariant-loop-rule : goal.invariant-loop-rule

@@ -1,7 +1,5 @@
-use Rattle.std.proofs.Common.{◌∙◌, refl, sym, subst, arith, rules}
-use Rattle.std.proofs.lemmas.List.{take_more_set}
-use Rattle.store_model.specs.Prelude.{without}
-use Rattle.derivation_states.specs.Outputs.{HoldsOutput}
+use Rattle.std.proofs.Common.{arith, refl, rules, subst, sym, ◌∙◌}
+use Rattle.derivation_states.proofs.Common.{HoldsOutput, take_more_set, without}
 use Rattle.derivation_states.proofs.Running.{has_blocks, inputs_without, none_taken, one_more, without_none, without_twice}
 use Rattle.derivation_states.proofs.output.Output.fill.Goals as goal
 

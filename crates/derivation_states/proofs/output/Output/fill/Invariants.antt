@@ -1,8 +1,5 @@
-use Rattle.std.proofs.Common.{◌≡◌, ◌+◌, true, length, take}
-use Rattle.std.specs.Prelude.{is_some}
-use Rattle.store_model.specs.Prelude.{DerivationWork, next_derived, without}
-use Rattle.derivation_states.specs.Inputs.{HoldsInputs}
-use Rattle.derivation_states.specs.Outputs.{HoldsOutput}
+use Rattle.std.proofs.Common.{is_some, length, take, true, ◌+◌, ◌≡◌}
+use Rattle.derivation_states.proofs.Common.{DerivationWork, HoldsInputs, HoldsOutput, next_derived, without}
 use Rattle.derivation_states.proofs.output.Output.fill.Given as goal
 
 abbrev pub invariant-bytes : goal.invariant-bytes

@@ -1,8 +1,6 @@
-use Rattle.std.proofs.Common.{◌≡◌, ◌+◌, ◌-◌, ◌∙◌, ◌++◌, ℕ, List, sym, ap, subst, length, take, arith}
+use Rattle.std.proofs.Common.{List, ap, arith, length, subst, sym, take, ℕ, ◌++◌, ◌+◌, ◌-◌, ◌∙◌, ◌≡◌}
+use Rattle.derivation_states.proofs.Common.{HoldsOutput, digest_length, next_derived, without}
 use Rattle.std.proofs.lemmas.List.{length-take, take_at}
-use Rattle.store_model.specs.Prelude.{next_derived, without}
-use Rattle.hash_ops.specs.Hashes.{digest_length}
-use Rattle.derivation_states.specs.Outputs.{HoldsOutput}
 use Rattle.derivation_states.proofs.Derived.{length-next_derived, next_derived_add}
 use Rattle.derivation_states.proofs.Lengths.{HasBlocks}
 use Rattle.derivation_states.proofs.Running.{has_blocks, inputs_without, without_twice}

@@ -1,8 +1,6 @@
-use Rattle.std.proofs.Common.{◌≡◌, ◌+◌, ◌++◌, ◌∷◌, [], eqb, ◌∙◌, ◌&&◌, ℕ, Bool, List, refl, sym, ap, ap₂, subst, length, take, get_or, arith}
-use Rattle.std.specs.Prelude.{bytes_eq}
-use Rattle.std.proofs.lemmas.List.{length-take, take_more}
-use Rattle.store_model.specs.Prelude.{next_derived, without}
-use Rattle.derivation_states.specs.Outputs.{HoldsOutput}
+use Rattle.std.proofs.Common.{Bool, List, [], ap, ap₂, arith, bytes_eq, eqb, get_or, length, refl, subst, sym, take, ℕ, ◌&&◌, ◌++◌, ◌+◌, ◌∙◌, ◌∷◌, ◌≡◌}
+use Rattle.derivation_states.proofs.Common.{HoldsOutput, next_derived, take_more, without}
+use Rattle.std.proofs.lemmas.List.{length-take}
 use Rattle.derivation_states.proofs.Derived.{length-next_derived}
 use Rattle.multipart.proofs.ByteLists.{bytes_eq_push}
 use Rattle.derivation_states.proofs.Running.{has_blocks, inputs_without, none_taken, one_more, without_none, without_twice}

@@ -1,8 +1,5 @@
-use Rattle.std.proofs.Common.{◌≡◌, ◌+◌, true}
-use Rattle.std.specs.Prelude.{is_some}
-use Rattle.store_model.specs.Prelude.{DerivationWork, without}
-use Rattle.derivation_states.specs.Inputs.{HoldsInputs}
-use Rattle.derivation_states.specs.Outputs.{HoldsOutput}
+use Rattle.std.proofs.Common.{is_some, true, ◌+◌, ◌≡◌}
+use Rattle.derivation_states.proofs.Common.{DerivationWork, HoldsInputs, HoldsOutput, without}
 use Rattle.derivation_states.proofs.output.Output.skip.Given as goal
 
 abbrev pub invariant-bytes : goal.invariant-bytes

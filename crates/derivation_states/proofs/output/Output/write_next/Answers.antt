@@ -1,4 +1,4 @@
-use Rattle.std.proofs.Common.{◌∙◌, sym, ap}
+use Rattle.std.proofs.Common.{ap, sym, ◌∙◌}
 use Rattle.key_policy.specs.Names.{is_hkdf}
 use Rattle.derivation_states.proofs.Nexts.{hkdf_next, pbkdf2_next}
 use Rattle.derivation_states.proofs.output.Output.write_next.Goals as goal

@@ -1,4 +1,4 @@
-use Rattle.std.proofs.Common.{◌≡◌, drop}
+use Rattle.std.proofs.Common.{drop, ◌≡◌}
 use Rattle.disk_face.specs.Memory.{chosen_from, chosen_image}
 use Rattle.disk_face.proofs.memory.MemoryDisk.image.Given as goal
 

@@ -1,4 +1,4 @@
-use Rattle.std.proofs.Common.{List, ℕ, ◌≡◌, ◌∙◌, [], take, ap, subst}
+use Rattle.std.proofs.Common.{List, [], ap, subst, take, ℕ, ◌∙◌, ◌≡◌}
 use Rattle.hash_ops.specs.Hashes.{block_length}
 use Rattle.hash_ops.specs.States.{Holds}
 use Rattle.hmac_ops.proofs.Padding.{pad_of}

@@ -1,4 +1,4 @@
-use Rattle.std.proofs.Common.{◌≤◌, ◌∙◌, ◌++◌, List, ℕ, length, ap, arith}
+use Rattle.std.proofs.Common.{List, ap, arith, length, ℕ, ◌++◌, ◌∙◌, ◌≤◌}
 use Rattle.crypto_specs.specs.Prelude.{hmac, inner_pad, outer_pad}
 use Rattle.hash_ops.specs.Hashes.{hash_of}
 use Rattle.hash_ops.specs.declared.Hash.TheVariants.{Sha256}

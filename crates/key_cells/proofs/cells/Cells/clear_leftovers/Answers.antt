@@ -1,10 +1,6 @@
-use Rattle.std.proofs.Common.{◌≡◌, ◌≤◌, ℕ, List, ◌+◌, length, take, ap, subst, sym, refl, ◌∙◌, arith}
-use Rattle.std.proofs.lemmas.List.{length-set, take_all, length-map}
-use Rattle.std.proofs.lemmas.Result.{on_ok_weaker}
-use Rattle.disk_face.proofs.Moments.{within_none, within_both, within_more}
-use Rattle.key_cells.specs.declared.slot.Slot.{Slot}
-use Rattle.key_cells.specs.Contents.{SoundBy, settled_slot, settled_slots, cell_slot}
-use Rattle.key_cells.specs.Opening.{Spares, IsSettled}
+use Rattle.std.proofs.Common.{List, ap, arith, length, refl, subst, sym, take, ℕ, ◌+◌, ◌∙◌, ◌≡◌, ◌≤◌}
+use Rattle.key_cells.proofs.Common.{IsSettled, Slot, SoundBy, Spares, cell_slot, length-map, on_ok_weaker, settled_slot, settled_slots, within_both, within_more, within_none}
+use Rattle.std.proofs.lemmas.List.{length-set, take_all}
 use Rattle.key_cells.proofs.Images.{front_more, settled_set}
 use Rattle.key_cells.proofs.Clearing.{all_settled, settled_settled, settled_twice, clear_already, clear_sure}
 use Rattle.key_cells.proofs.cells.Cells.clear_leftovers.Goals as goal

@@ -1,6 +1,5 @@
-use Rattle.std.proofs.Common.{◌≡◌, ℕ, ◌+◌, replicate, ap, subst}
-use Rattle.disk_face.specs.Disk.{Torn, Follows, HoldsWritten, HoldsAround}
-use Rattle.key_cells.specs.Layout.{place}
+use Rattle.std.proofs.Common.{ap, replicate, subst, ℕ, ◌+◌, ◌≡◌}
+use Rattle.key_cells.proofs.Common.{Follows, HoldsAround, HoldsWritten, Torn, place}
 use Rattle.key_cells.proofs.Clearing.{torn_shut, shut_cleared, clearing_done, clearing_failed, clearing_within}
 use Rattle.key_cells.proofs.cells.Cells.clear_shut.Goals as goal
 

@@ -1,6 +1,5 @@
-use Rattle.std.proofs.Common.{◌≡◌, ℕ, replicate, subst}
-use Rattle.disk_face.specs.Disk.{Torn, Follows, HoldsWritten, HoldsAround}
-use Rattle.key_cells.specs.Layout.{place}
+use Rattle.std.proofs.Common.{replicate, subst, ℕ, ◌≡◌}
+use Rattle.key_cells.proofs.Common.{Follows, HoldsAround, HoldsWritten, Torn, place}
 use Rattle.key_cells.proofs.Clearing.{torn_unsure, unsure_cleared, clearing_done, clearing_failed, clearing_within}
 use Rattle.key_cells.proofs.cells.Cells.clear_unsure.Goals as goal
 

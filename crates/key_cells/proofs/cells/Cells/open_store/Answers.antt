@@ -1,6 +1,5 @@
-use Rattle.std.proofs.Common.{◌≡◌, ℕ, List, Option, IfSome, length, subst, sym, arith, ◌∙◌}
-use Rattle.std.proofs.lemmas.Result.{IfOk-weaker, IfErr-weaker}
-use Rattle.disk_face.specs.Disk.{LeavesWhatIsRead}
+use Rattle.std.proofs.Common.{IfSome, List, Option, arith, length, subst, sym, ℕ, ◌∙◌, ◌≡◌}
+use Rattle.key_cells.proofs.Common.{IfErr-weaker, IfOk-weaker, LeavesWhatIsRead}
 use Rattle.key_cells.proofs.CellsRead.{measured_as}
 use Rattle.key_cells.proofs.Opened.{calm_one, calm_both, refused_calm, opened_after, refused_after, told_nothing, no_store_of, durable_still}
 use Rattle.key_cells.proofs.cells.Cells.open_store.Goals as goal

@@ -1,12 +1,6 @@
-use Rattle.disk_face.specs.Moments.{after_all}
-use Rattle.key_cells.specs.History.{Created, CreationFailed, after}
+use Rattle.std.proofs.Common.{List, ap, arith, inl, inr, length, set, subst, sym, ℕ, ⊎_elim, ◌<◌, ◌∙◌, ◌≡◌, ◌≢◌}
+use Rattle.key_cells.proofs.Common.{Content, Created, CreationFailed, Doubtful, Free, IsFirstWithoutKey, Present, Slot, StaysFree, StaysFreeBut, after, after_all, cases_eq, cell_slot, get_or-map, settled, settled_slot}
 use Rattle.key_cells.proofs.Entries.{adds_entry, adds_nothing}
-use Rattle.std.proofs.Common.{◌≡◌, ◌≢◌, ◌<◌, ℕ, List, inl, ⊎_elim, subst, set, length, ◌∙◌, sym, ap, arith, inr}
-use Rattle.std.proofs.lemmas.Bool.{cases_eq}
-use Rattle.std.proofs.lemmas.List.{get_or-map}
-use Rattle.key_cells.specs.declared.slot.Slot.{Slot}
-use Rattle.key_cells.specs.declared.slot.Slot.TheVariants.{Free}
-use Rattle.key_cells.specs.Contents.{Content, Present, Doubtful, StaysFree, StaysFreeBut, IsFirstWithoutKey, cell_slot, settled, settled_slot}
 use Rattle.key_cells.proofs.Moves.{keeps_none, moves_settled, moves_after_settled, free_absent, settled_free, on_err}
 use Rattle.key_cells.proofs.cells.Cells.place_body.Goals as goal
 

@@ -1,8 +1,5 @@
-use Rattle.std.proofs.Common.{ℕ, List, ◌-◌, take, drop, sym, subst, ap, ◌∙◌, arith}
-use Rattle.std.proofs.lemmas.List.{get_or_read}
-use Rattle.key_cells.specs.declared.slot.Slot.TheVariants.{Free}
-use Rattle.key_cells.specs.Contents.{has_id}
-use Rattle.key_cells.specs.Body.{HoldsKey, IsKeyOf}
+use Rattle.std.proofs.Common.{List, ap, arith, drop, subst, sym, take, ℕ, ◌-◌, ◌∙◌}
+use Rattle.key_cells.proofs.Common.{Free, HoldsKey, IsKeyOf, get_or_read, has_id}
 use Rattle.key_cells.proofs.Loading.{read_keeps, read_gives, filled_with, of_no_key, of_other_key}
 use Rattle.key_cells.proofs.cells.Cells.read_into.Goals as goal
 

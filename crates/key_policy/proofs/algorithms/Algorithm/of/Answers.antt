@@ -1,6 +1,5 @@
-use Rattle.std.proofs.Common.{◌≡◌, ◌∙◌, sym, ap, subst, true}
-use Rattle.alg_encoding.specs.Encoding.{base_of, is_concrete}
-use Rattle.key_policy.specs.Parse.{algorithm_at}
+use Rattle.std.proofs.Common.{ap, subst, sym, true, ◌∙◌, ◌≡◌}
+use Rattle.key_policy.proofs.Common.{algorithm_at, base_of, is_concrete}
 use Rattle.key_policy.proofs.Parsing.{Parsed, parsed}
 use Rattle.key_policy.proofs.algorithms.Algorithm.of.Goals as goal
 

@@ -1,7 +1,6 @@
-use Rattle.std.proofs.Common.{◌≡◌, rules, sym, ap, ◌∙◌}
-use Rattle.std.specs.Prelude.{Err}
+use Rattle.std.proofs.Common.{Err, ap, rules, sym, ◌∙◌, ◌≡◌}
+use Rattle.key_policy.proofs.Common.{unless}
 use Rattle.std.proofs.lemmas.Result.{err_from_is_err_and}
-use Rattle.psa_status.specs.Rows.{unless}
 use Rattle.psa_status.proofs.Rows.{unless-err}
 use Rattle.key_policy.proofs.Devices.{refused_alike}
 use Rattle.key_policy.proofs.key_use.KeyUse.check.Goals as goal

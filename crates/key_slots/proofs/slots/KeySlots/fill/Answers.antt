@@ -1,8 +1,6 @@
-use Rattle.key_slots.proofs.Agreeing.{fills}
 use Rattle.std.proofs.Common.{inr, refl}
-use Rattle.slot_table.specs.Changes.{full_slot}
-use Rattle.slot_table.proofs.AtSlots.{filling_within}
-use Rattle.key_slots.specs.Wiping.{IsFillingOf}
+use Rattle.key_slots.proofs.Common.{IsFillingOf, filling_within, full_slot}
+use Rattle.key_slots.proofs.Agreeing.{fills}
 use Rattle.key_slots.proofs.Agreeing.{is_waiting}
 use Rattle.key_slots.proofs.Wiping.{ends_one}
 use Rattle.key_slots.proofs.slots.KeySlots.fill.Goals as goal

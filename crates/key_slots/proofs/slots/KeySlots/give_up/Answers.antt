@@ -1,8 +1,6 @@
-use Rattle.key_slots.proofs.Agreeing.{gives_up}
 use Rattle.std.proofs.Common.{inr, refl}
-use Rattle.slot_table.specs.Slots.{empty_slot}
-use Rattle.slot_table.proofs.AtSlots.{slot_at-set_same, filling_within}
-use Rattle.key_slots.specs.Wiping.{IsFillingOf}
+use Rattle.key_slots.proofs.Common.{IsFillingOf, empty_slot, filling_within, slot_at-set_same}
+use Rattle.key_slots.proofs.Agreeing.{gives_up}
 use Rattle.key_slots.proofs.Agreeing.{is_waiting}
 use Rattle.key_slots.proofs.Wiping.{ends_one}
 use Rattle.key_slots.proofs.slots.KeySlots.give_up.Goals as goal

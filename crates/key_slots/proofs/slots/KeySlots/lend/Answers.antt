@@ -1,7 +1,7 @@
 use Rattle.std.proofs.Common.{ap}
+use Rattle.key_slots.proofs.Common.{full_within}
 use Rattle.slot_table.specs.Lent.{Reading}
 use Rattle.key_slots.proofs.Agreeing.{registers}
-use Rattle.slot_table.proofs.AtSlots.{full_within}
 use Rattle.key_slots.proofs.Wiping.{lend_ends}
 use Rattle.key_slots.proofs.slots.KeySlots.lend.Goals as goal
 

@@ -1,8 +1,6 @@
-use Rattle.key_slots.proofs.Agreeing.{reserves}
-use Rattle.slot_table.specs.Slots.{filling_slot}
-use Rattle.slot_table.proofs.AtSlots.{next_within}
 use Rattle.std.proofs.Common.{inr, refl}
-use Rattle.key_slots.specs.Wiping.{IsTakenOf}
+use Rattle.key_slots.proofs.Common.{IsTakenOf, filling_slot, next_within}
+use Rattle.key_slots.proofs.Agreeing.{reserves}
 use Rattle.key_slots.proofs.Wiping.{ends_one, next_taken}
 use Rattle.key_slots.proofs.slots.KeySlots.reserve.Goals as goal
 

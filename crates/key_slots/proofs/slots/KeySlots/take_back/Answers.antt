@@ -1,5 +1,5 @@
+use Rattle.key_slots.proofs.Common.{read_within}
 use Rattle.key_slots.proofs.Agreeing.{leaves}
-use Rattle.slot_table.proofs.AtSlots.{read_within}
 use Rattle.key_slots.proofs.Agreeing.{is_read}
 use Rattle.key_slots.proofs.Wiping.{leave_ends, last_empties}
 use Rattle.key_slots.proofs.slots.KeySlots.take_back.Goals as goal

@@ -1,12 +1,6 @@
-use Rattle.std.proofs.Common.{◌∙◌, ap, sym, subst}
-use Rattle.turn_history.specs.Prelude.{entries_of, with_own}
-use Rattle.service_calls.specs.Meanings.{model_request}
-use Rattle.store_model.specs.Prelude.{Plain}
-use Rattle.locked_store.specs.Standing.{HoldsHistory}
-use Rattle.std.specs.Prelude.{is_some}
-use Rattle.store_core.specs.Prelude.{HasAttributes, IsRefused, mark_of, there_rows}
+use Rattle.std.proofs.Common.{ap, is_some, subst, sym, ◌∙◌}
+use Rattle.locked_store.proofs.Common.{HasAttributes, HoldsHistory, IsRefused, Plain, entries_of, mark_of, model_request, there_rows, with_own, world}
 use Rattle.locked_store.proofs.Turns.{IsSteady, few, led_decides, led_stands, ranked, reads, stands_some}
-use Rattle.locked_store.specs.Shared.{world}
 use Rattle.locked_store.proofs.held.SharedStore.attributes.Goals as goal
 
 pub attributes-requires-clause-stands : goal.attributes-requires-clause-stands

@@ -1,16 +1,9 @@
-use Rattle.std.proofs.Common.{◌≡◌, ◌∙◌, ap, sym, subst, length, true, Ok, Err, is_some}
+use Rattle.std.proofs.Common.{Err, Ok, ap, is_some, length, subst, sym, true, ◌∙◌, ◌≡◌}
+use Rattle.locked_store.proofs.Common.{HoldsHistory, HoldsOf, IsAnswered, IsClear, Plain, entries_of, is_opaque_key, mark_computed, model_request, with_own, world}
 use Rattle.std.specs.FinMap as map
-use Rattle.secret_bytes.specs.Buffer.{IsClear}
-use Rattle.turn_history.specs.Prelude.{entries_of, with_own}
-use Rattle.secure_element_calls.specs.Answers.{mark_computed}
 use Rattle.secure_element_calls.specs.Calls.{model_call}
-use Rattle.service_calls.specs.Meanings.{model_request}
-use Rattle.store_model.specs.Prelude.{Plain, is_opaque_key}
-use Rattle.store_core.specs.Prelude.{IsAnswered, HoldsOf}
-use Rattle.locked_store.specs.Standing.{HoldsHistory}
 use Rattle.locked_store.proofs.Computing.{as_known}
 use Rattle.locked_store.proofs.Turns.{IsSteady, entered_after, few, led_decides, led_stands, led_weaker, makes, stands_some}
-use Rattle.locked_store.specs.Shared.{world}
 use Rattle.locked_store.proofs.held.SharedStore.compute_in.Goals as goal
 
 pub opaque_call-requires-clause-stands : goal.opaque_call-requires-clause-stands

@@ -1,12 +1,6 @@
-use Rattle.std.proofs.Common.{◌∙◌, ap, sym, subst}
-use Rattle.turn_history.specs.Prelude.{entries_of, with_own}
-use Rattle.service_calls.specs.Meanings.{model_request}
-use Rattle.store_model.specs.Prelude.{Plain}
-use Rattle.locked_store.specs.Standing.{HoldsHistory}
-use Rattle.locked_store.specs.Turning.{filling_pair, without_pair}
-use Rattle.store_core.specs.Prelude.{IsMade, IsUncopied, RecordsCopy, mark_uncopied}
+use Rattle.std.proofs.Common.{ap, subst, sym, ◌∙◌}
+use Rattle.locked_store.proofs.Common.{HoldsHistory, IsMade, IsUncopied, Plain, RecordsCopy, entries_of, filling_pair, mark_uncopied, model_request, with_own, without_pair, world}
 use Rattle.locked_store.proofs.Turns.{IsSteady, before_decides, before_stands, copies, few, is_last, out, ranked}
-use Rattle.locked_store.specs.Shared.{world}
 use Rattle.locked_store.proofs.held.SharedStore.copy.Goals as goal
 
 pub copy-requires-clause-last : goal.copy-requires-clause-last

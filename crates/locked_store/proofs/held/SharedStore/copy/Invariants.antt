@@ -1,6 +1,5 @@
 use Rattle.std.proofs.Common.{Some}
-use Rattle.service_calls.specs.Meanings.{model_request}
-use Rattle.locked_store.specs.Turning.{after_change, turn_entry, mark_met}
+use Rattle.locked_store.proofs.Common.{after_change, mark_met, model_request, turn_entry}
 use Rattle.locked_store.proofs.held.SharedStore.copy.Given as goal
 
 -- the call is the entry of its turn

@@ -1,10 +1,6 @@
-use Rattle.std.proofs.Common.{◌∙◌, ap, sym, subst}
-use Rattle.turn_history.specs.Prelude.{entries_of, with_own}
-use Rattle.service_calls.specs.Meanings.{model_request}
-use Rattle.store_model.specs.Prelude.{Plain}
-use Rattle.locked_store.specs.Standing.{HoldsHistory}
+use Rattle.std.proofs.Common.{ap, subst, sym, ◌∙◌}
+use Rattle.locked_store.proofs.Common.{HoldsHistory, Plain, entries_of, model_request, with_own, world}
 use Rattle.locked_store.proofs.Turns.{counts, few, led_stands, steady}
-use Rattle.locked_store.specs.Shared.{world}
 use Rattle.locked_store.proofs.held.SharedStore.count.Goals as goal
 
 pub count-requires-clause-few : goal.count-requires-clause-few

@@ -1,15 +1,8 @@
-use Rattle.std.proofs.Common.{◌∙◌, ap, sym, subst}
-use Rattle.turn_history.specs.Prelude.{entries_of, with_own}
-use Rattle.service_calls.specs.Meanings.{model_request}
-use Rattle.store_model.specs.Prelude.{Plain, destroy_rows}
-use Rattle.locked_store.specs.Standing.{HoldsHistory}
-use Rattle.std.proofs.Common.{◌≡◌, None}
+use Rattle.std.proofs.Common.{None, ap, subst, sym, ◌∙◌, ◌≡◌}
+use Rattle.locked_store.proofs.Common.{HoldsHistory, IsClear, IsUndestroyed, Plain, destroy_rows, entries_of, mark_undestroyed, model_request, with_own, world}
 use Rattle.std.specs.FinMap as map
 use Rattle.psa_status.specs.Rows.{first_row}
-use Rattle.secret_bytes.specs.Buffer.{IsClear}
-use Rattle.store_core.specs.Prelude.{IsUndestroyed, mark_undestroyed}
 use Rattle.locked_store.proofs.Turns.{IsSteady, before_decides, before_stands, destroys, few, ranked, stands_some}
-use Rattle.locked_store.specs.Shared.{world}
 use Rattle.locked_store.proofs.held.SharedStore.destroy.Goals as goal
 
 pub destroy-requires-clause-stands : goal.destroy-requires-clause-stands

@@ -1,14 +1,7 @@
-use Rattle.std.proofs.Common.{◌∙◌, ap, sym, subst}
-use Rattle.turn_history.specs.Prelude.{entries_of, with_own}
-use Rattle.service_calls.specs.Meanings.{model_request}
-use Rattle.store_model.specs.Prelude.{Plain}
-use Rattle.locked_store.specs.Standing.{HoldsHistory}
-use Rattle.locked_store.specs.Turning.{filling_pair, without_pair}
-use Rattle.std.proofs.Common.{length}
+use Rattle.std.proofs.Common.{ap, length, subst, sym, ◌∙◌}
+use Rattle.locked_store.proofs.Common.{HoldsHistory, IsMade, IsUnmade, Plain, RecordsStated, entries_of, filling_pair, mark_unmade, model_request, with_own, without_pair, world}
 use Rattle.std.specs.Option.{option_map}
-use Rattle.store_core.specs.Prelude.{IsMade, IsUnmade, RecordsStated, mark_unmade}
 use Rattle.locked_store.proofs.Turns.{IsSteady, before_decides, before_stands, creates, few, is_last, out_beside, ranked}
-use Rattle.locked_store.specs.Shared.{world}
 use Rattle.locked_store.proofs.held.SharedStore.finish.Goals as goal
 
 pub finish-made-requires-clause-last : goal.finish-made-requires-clause-last

@@ -1,9 +1,6 @@
-use Rattle.std.proofs.Common.{◌∙◌, ap, sym, subst}
-use Rattle.turn_history.specs.Prelude.{entries_of}
-use Rattle.locked_store.specs.Standing.{HoldsHistory}
-use Rattle.locked_store.specs.Turning.{lease_pair}
+use Rattle.std.proofs.Common.{ap, subst, sym, ◌∙◌}
+use Rattle.locked_store.proofs.Common.{HoldsHistory, entries_of, lease_pair, world}
 use Rattle.locked_store.proofs.Turns.{after_taking, out, steady}
-use Rattle.locked_store.specs.Shared.{world}
 use Rattle.locked_store.proofs.held.SharedStore.give_back.Goals as goal
 
 pub leave-spare-requires-clause-out : goal.leave-spare-requires-clause-out

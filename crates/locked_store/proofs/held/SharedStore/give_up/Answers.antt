@@ -1,9 +1,6 @@
-use Rattle.std.proofs.Common.{◌∙◌, ap, sym, subst}
-use Rattle.turn_history.specs.Prelude.{entries_of}
-use Rattle.locked_store.specs.Turning.{filling_pair}
-use Rattle.locked_store.specs.Standing.{HoldsHistory}
+use Rattle.std.proofs.Common.{ap, subst, sym, ◌∙◌}
+use Rattle.locked_store.proofs.Common.{HoldsHistory, entries_of, filling_pair, world}
 use Rattle.locked_store.proofs.Turns.{after_taking, out, steady}
-use Rattle.locked_store.specs.Shared.{world}
 use Rattle.locked_store.proofs.held.SharedStore.give_up.Goals as goal
 
 pub give_up-requires-clause-out : goal.give_up-requires-clause-out

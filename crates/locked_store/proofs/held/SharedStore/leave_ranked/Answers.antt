@@ -1,11 +1,8 @@
-use Rattle.std.proofs.Common.{◌∙◌, ap, refl, sym, length, [], ◌∷◌, Some}
-use Rattle.turn_history.specs.Prelude.{entries_of, after_turn}
+use Rattle.std.proofs.Common.{Some, [], ap, length, refl, sym, ◌∙◌, ◌∷◌}
+use Rattle.locked_store.proofs.Common.{after_change, after_turn, entries_of, lock_of, mark_met, model_request, opened_of, turn_entry, world}
 use Rattle.turn_history.proofs.Keeping.{some_same}
-use Rattle.service_calls.specs.Meanings.{model_request}
-use Rattle.locked_store.specs.Turning.{after_change, turn_entry, mark_met}
 use Rattle.locked_store.proofs.Passing.{entered, signed_front}
 use Rattle.locked_store.proofs.Renewing.{at_after, legal_after}
-use Rattle.locked_store.specs.Shared.{world, lock_of, opened_of}
 use Rattle.locked_store.proofs.held.SharedStore.leave_ranked.Goals as goal
 
 pub returns-clause-at : goal.returns-clause-at

@@ -1,9 +1,7 @@
-use Rattle.std.proofs.Common.{◌∙◌, ap, None}
-use Rattle.turn_history.specs.Prelude.{entries_of, with_own, after_turn}
-use Rattle.locked_store.specs.Turning.{after_change}
+use Rattle.std.proofs.Common.{None, ap, ◌∙◌}
+use Rattle.locked_store.proofs.Common.{after_change, after_turn, entries_of, lock_of, opened_of, with_own, world}
 use Rattle.locked_store.proofs.Passing.{later}
 use Rattle.locked_store.proofs.Renewing.{at_after, legal_after, with_nothing}
-use Rattle.locked_store.specs.Shared.{world, lock_of, opened_of}
 use Rattle.locked_store.proofs.held.SharedStore.leave_unranked.Goals as goal
 
 pub leave-requires-clause-value : goal.leave-requires-clause-value

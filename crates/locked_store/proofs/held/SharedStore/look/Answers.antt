@@ -1,7 +1,5 @@
-use Rattle.std.proofs.Common.{sym, subst}
-use Rattle.service_calls.specs.Meanings.{model_request}
-use Rattle.locked_store.specs.Turning.{ReadsKey}
-use Rattle.locked_store.specs.Shared.{world}
+use Rattle.std.proofs.Common.{subst, sym}
+use Rattle.locked_store.proofs.Common.{ReadsKey, model_request, world}
 use Rattle.locked_store.proofs.held.SharedStore.look.Goals as goal
 
 pub look_in-requires-clause-reads : goal.look_in-requires-clause-reads

@@ -1,16 +1,7 @@
-use Rattle.std.proofs.Common.{◌∙◌, ◌∷◌, ap, sym, subst}
-use Rattle.turn_history.specs.Prelude.{entries_of, with_own}
-use Rattle.service_calls.specs.Meanings.{model_request}
-use Rattle.store_model.specs.Prelude.{Plain}
-use Rattle.locked_store.specs.Standing.{HoldsHistory}
-use Rattle.std.specs.Prelude.{is_some}
-use Rattle.key_slots.specs.Holdings.{IsHolding}
-use Rattle.key_policy.specs.Uses.{use_refusal}
-use Rattle.store_core.specs.Prelude.{IsLent, IsRefused, mark_of}
-use Rattle.locked_store.specs.Turning.{lease_pair}
+use Rattle.std.proofs.Common.{ap, is_some, subst, sym, ◌∙◌, ◌∷◌}
+use Rattle.locked_store.proofs.Common.{HoldsHistory, IsHolding, IsLent, IsRefused, Plain, entries_of, lease_pair, mark_of, model_request, use_refusal, with_own, world}
 use Rattle.locked_store.proofs.Owning.{one_lease_more}
 use Rattle.locked_store.proofs.Turns.{IsSteady, few, led_decides, entered_after, led_stands, reads, reads_and_gives, stands_some}
-use Rattle.locked_store.specs.Shared.{world}
 use Rattle.locked_store.proofs.held.SharedStore.look_in.Goals as goal
 
 pub look-requires-clause-stands : goal.look-requires-clause-stands

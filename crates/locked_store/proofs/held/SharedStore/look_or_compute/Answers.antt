@@ -1,17 +1,7 @@
-use Rattle.std.proofs.Common.{◌≡◌, ◌∙◌, ◌∷◌, ap, refl, sym, subst, true, false, length}
-use Rattle.std.proofs.lemmas.Result.{IfErr-at_err, IfOk-at_ok}
+use Rattle.std.proofs.Common.{ap, false, length, refl, subst, sym, true, ◌∙◌, ◌∷◌, ◌≡◌}
+use Rattle.locked_store.proofs.Common.{DecidesAfter, FitsUse, HoldsHistory, IfErr-at_err, IfOk-at_ok, IsClear, IsEntered, IsEnteredAfter, IsLent, IsRefused, Plain, bytes_of, entries_of, is_opaque_key, lease_pair, mark_computed, mark_of, model_request, use_refusal, world}
 use Rattle.std.specs.FinMap as map
-use Rattle.secret_bytes.specs.Buffer.{IsClear, bytes_of}
-use Rattle.turn_history.specs.Prelude.{entries_of}
-use Rattle.secure_element_calls.specs.Answers.{mark_computed}
-use Rattle.key_policy.specs.Uses.{FitsUse, use_refusal}
-use Rattle.service_calls.specs.Meanings.{model_request}
-use Rattle.store_model.specs.Prelude.{Plain, is_opaque_key}
-use Rattle.store_core.specs.Prelude.{IsLent, IsRefused, mark_of}
-use Rattle.locked_store.specs.Standing.{HoldsHistory}
-use Rattle.locked_store.specs.Turning.{DecidesAfter, IsEntered, IsEnteredAfter, lease_pair}
 use Rattle.locked_store.proofs.Turns.{decided_now, ranked}
-use Rattle.locked_store.specs.Shared.{world}
 use Rattle.locked_store.proofs.held.SharedStore.look_or_compute.Goals as goal
 
 pub returns-then-is_opaque-clause-looked : goal.returns-then-is_opaque-clause-looked

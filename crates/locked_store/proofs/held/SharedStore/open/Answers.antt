@@ -1,7 +1,5 @@
-use Rattle.std.proofs.Common.{ap, sym, subst, inr, arith, IfSome, is_some}
-use Rattle.store_model.specs.Prelude.{Service, IsSoundStore}
-use Rattle.store_core.specs.Prelude.{FindsKeysOf, IsStart}
-use Rattle.locked_store.specs.Shared.{lock_of, opened_of}
+use Rattle.std.proofs.Common.{IfSome, ap, arith, inr, is_some, subst, sym}
+use Rattle.locked_store.proofs.Common.{FindsKeysOf, IsSoundStore, IsStart, Service, lock_of, opened_of}
 use Rattle.locked_store.proofs.held.SharedStore.open.Goals as goal
 
 pub new-requires-clause-stands : goal.new-requires-clause-stands

@@ -1,13 +1,7 @@
-use Rattle.std.proofs.Common.{◌∙◌, ap, sym, subst}
-use Rattle.turn_history.specs.Prelude.{entries_of, with_own}
-use Rattle.service_calls.specs.Meanings.{model_request}
-use Rattle.store_model.specs.Prelude.{Plain}
-use Rattle.locked_store.specs.Standing.{HoldsHistory}
-use Rattle.std.proofs.Common.{◌≡◌, Some, None}
+use Rattle.std.proofs.Common.{None, Some, ap, subst, sym, ◌∙◌, ◌≡◌}
+use Rattle.locked_store.proofs.Common.{HoldsHistory, Plain, entries_of, model_request, there_rows, with_own, world}
 use Rattle.std.specs.FinMap as map
-use Rattle.store_core.specs.Prelude.{there_rows}
 use Rattle.locked_store.proofs.Turns.{IsSteady, counts_as, few, led_decides, led_stands, ranked, steady}
-use Rattle.locked_store.specs.Shared.{world}
 use Rattle.locked_store.proofs.held.SharedStore.purge.Goals as goal
 
 pub purge-requires-clause-few : goal.purge-requires-clause-few

@@ -1,11 +1,7 @@
-use Rattle.std.proofs.Common.{◌∙◌, ◌∷◌, ap, sym, subst}
-use Rattle.turn_history.specs.Prelude.{entries_of}
-use Rattle.locked_store.specs.Turning.{filling_pair}
+use Rattle.std.proofs.Common.{ap, subst, sym, ◌∙◌, ◌∷◌}
+use Rattle.locked_store.proofs.Common.{HoldsHistory, IsHolding, entries_of, filling_pair, world}
 use Rattle.locked_store.proofs.Owning.{one_filling_more}
-use Rattle.key_slots.specs.Holdings.{IsHolding}
-use Rattle.locked_store.specs.Standing.{HoldsHistory}
 use Rattle.locked_store.proofs.Turns.{after_giving, stands_some, steady}
-use Rattle.locked_store.specs.Shared.{world}
 use Rattle.locked_store.proofs.held.SharedStore.reserve.Goals as goal
 
 pub reserve-filling-requires-clause-stands : goal.reserve-filling-requires-clause-stands

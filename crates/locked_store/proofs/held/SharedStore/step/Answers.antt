@@ -1,12 +1,6 @@
-use Rattle.std.proofs.Common.{◌∙◌, ap, sym, subst}
-use Rattle.turn_history.specs.Prelude.{entries_of, with_own}
-use Rattle.service_calls.specs.Meanings.{model_request}
-use Rattle.std.proofs.lemmas.Result.{on_err_weaker, on_ok_weaker}
-use Rattle.store_model.specs.Prelude.{Plain, HasNumber}
-use Rattle.locked_store.specs.Turning.{lease_pair}
-use Rattle.locked_store.specs.Standing.{HoldsHistory}
+use Rattle.std.proofs.Common.{ap, subst, sym, ◌∙◌}
+use Rattle.locked_store.proofs.Common.{HasNumber, HoldsHistory, Plain, entries_of, lease_pair, model_request, on_err_weaker, on_ok_weaker, with_own, world}
 use Rattle.locked_store.proofs.Turns.{counts, few, led_decides, led_stands, out, ranked, steady, steps}
-use Rattle.locked_store.specs.Shared.{world}
 use Rattle.locked_store.proofs.held.SharedStore.step.Goals as goal
 
 pub step_operation-stepped-requires-clause-few : goal.step_operation-stepped-requires-clause-few

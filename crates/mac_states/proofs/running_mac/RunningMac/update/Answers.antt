@@ -1,4 +1,4 @@
-use Rattle.std.proofs.Common.{◌≡◌, ℕ, ◌+◌, List, ◌++◌, length, length-append, ap, sym, ◌∙◌}
+use Rattle.std.proofs.Common.{List, ap, length, length-append, sym, ℕ, ◌++◌, ◌+◌, ◌∙◌, ◌≡◌}
 use Rattle.mac_states.proofs.Running.{is_cmac, is_hmac, runs_cmac, runs_hmac}
 use Rattle.mac_states.proofs.running_mac.RunningMac.update.Goals as goal
 

@@ -1,5 +1,5 @@
-use Rattle.std.proofs.Common.{refl, sym, ◌∙◌, ap}
-use Rattle.operation_handles.specs.Setups.{set_up_without_key}
+use Rattle.std.proofs.Common.{ap, refl, sym, ◌∙◌}
+use Rattle.operation_handles.proofs.Common.{set_up_without_key}
 use Rattle.operation_handles.proofs.Fresh.{all_inactive}
 use Rattle.operation_handles.proofs.Leases.{begun}
 use Rattle.operation_handles.proofs.cell.Cell.begin.Goals as goal

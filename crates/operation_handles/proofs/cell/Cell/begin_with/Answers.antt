@@ -1,7 +1,5 @@
-use Rattle.std.proofs.Common.{sym, subst}
-use Rattle.std.specs.Prelude.{Some}
-use Rattle.operation_handles.specs.Setups.{begun_with}
-use Rattle.operation_handles.specs.States.{AreStates}
+use Rattle.std.proofs.Common.{Some, subst, sym}
+use Rattle.operation_handles.proofs.Common.{AreStates, begun_with}
 use Rattle.operation_handles.proofs.Leases.{begun_keyed}
 use Rattle.operation_handles.proofs.cell.Cell.begin_with.Goals as goal
 

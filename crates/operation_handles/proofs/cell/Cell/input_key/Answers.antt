@@ -1,7 +1,5 @@
 use Rattle.std.proofs.Common.{subst}
-use Rattle.derivation_states.specs.KeySteps.{key_given}
-use Rattle.derivation_states.specs.States.{IsDerivationOperation}
-use Rattle.multipart.specs.Turns.{on_active}
+use Rattle.operation_handles.proofs.Common.{IsDerivationOperation, key_given, on_active}
 use Rattle.operation_handles.proofs.KeyInputs.{taken}
 use Rattle.operation_handles.proofs.cell.Cell.input_key.Goals as goal
 

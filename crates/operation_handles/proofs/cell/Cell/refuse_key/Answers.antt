@@ -1,11 +1,5 @@
-use Rattle.std.proofs.Common.{◌≡◌, true, false, refl, sym, subst}
-use Rattle.store_model.specs.Prelude.{After, DerivationWork, refusal}
-use Rattle.service_calls.specs.Answers.{plain_reply}
-use Rattle.derivation_states.specs.States.{IsDerivationOperation}
-use Rattle.operation_handles.specs.Cells.{IsOperation}
-use Rattle.operation_handles.specs.Families.{Derivations}
-use Rattle.operation_handles.specs.KeyInputs.{key_refused}
-use Rattle.operation_handles.specs.declared.cell.Cell.{Cell}
+use Rattle.std.proofs.Common.{false, refl, subst, sym, true, ◌≡◌}
+use Rattle.operation_handles.proofs.Common.{After, Cell, DerivationWork, Derivations, IsDerivationOperation, IsOperation, key_refused, plain_reply, refusal}
 use Rattle.operation_handles.proofs.Families.{put_derivation}
 use Rattle.operation_handles.proofs.KeyInputs.{refused_own, refusing, refusing_with}
 use Rattle.operation_handles.proofs.Steps.{step_is, step_reply}

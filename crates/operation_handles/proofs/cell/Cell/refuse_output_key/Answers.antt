@@ -1,10 +1,5 @@
-use Rattle.std.proofs.Common.{◌≡◌, true, false, refl, sym, subst}
-use Rattle.store_model.specs.Prelude.{refusal}
-use Rattle.derivation_states.specs.KeySteps.{derived_key}
-use Rattle.operation_handles.specs.Cells.{IsOperation}
-use Rattle.operation_handles.specs.Families.{Derivations}
-use Rattle.operation_handles.specs.KeyOutputs.{derived_key_refused}
-use Rattle.operation_handles.specs.declared.cell.Cell.{Cell}
+use Rattle.std.proofs.Common.{false, refl, subst, sym, true, ◌≡◌}
+use Rattle.operation_handles.proofs.Common.{Cell, Derivations, IsOperation, derived_key, derived_key_refused, refusal}
 use Rattle.operation_handles.proofs.Families.{put_derivation}
 use Rattle.operation_handles.proofs.KeyOutputs.{deriving_with, refused_not_given}
 use Rattle.operation_handles.proofs.Steps.{step_is, step_reply}

@@ -1,4 +1,4 @@
-use Rattle.std.proofs.Common.{◌≡◌, true, false, refl, sym, ◌∙◌}
+use Rattle.std.proofs.Common.{false, refl, sym, true, ◌∙◌, ◌≡◌}
 use Rattle.operation_handles.proofs.Leases.{settled}
 use Rattle.operation_handles.proofs.cell.Cell.settle.Goals as goal
 

@@ -1,12 +1,6 @@
-use Rattle.std.proofs.Common.{◌≡◌, length, refl, sym, subst}
-use Rattle.random_streams.specs.RandomWords.{drawn_from, next_bytes}
+use Rattle.std.proofs.Common.{length, refl, subst, sym, ◌≡◌}
+use Rattle.operation_handles.proofs.Common.{AeadWork, Aeads, After, Cell, CipherWork, Ciphers, DerivationWork, Derivations, HashWork, Hashes, IsOperation, MacWork, Macs, aead_step, buffer_after, cipher_step, derivation_step, drawn_from, hash_step, mac_step, model_aead_step, model_cipher_step, model_derivation_step, model_hash_step, model_mac_step, model_step, next_bytes, stepped_by}
 use Rattle.service_calls.specs.Answered.{AnswersReply}
-use Rattle.service_calls.specs.Meanings.{model_step, model_hash_step, model_mac_step, model_cipher_step, model_aead_step, model_derivation_step}
-use Rattle.store_model.specs.Prelude.{buffer_after, HashWork, hash_step, MacWork, mac_step, CipherWork, cipher_step, AeadWork, aead_step, DerivationWork, derivation_step, After}
-use Rattle.operation_handles.specs.Cells.{IsOperation}
-use Rattle.operation_handles.specs.Families.{Hashes, Macs, Ciphers, Aeads, Derivations}
-use Rattle.operation_handles.specs.Steps.{stepped_by}
-use Rattle.operation_handles.specs.declared.cell.Cell.{Cell}
 use Rattle.operation_handles.proofs.Deriving.{step_key, steps_with}
 use Rattle.operation_handles.proofs.Families.{put_hash, put_mac, put_cipher, put_aead, put_derivation}
 use Rattle.operation_handles.proofs.Steps.{step_is, step_reply, step_drawn}

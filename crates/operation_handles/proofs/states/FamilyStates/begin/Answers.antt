@@ -1,13 +1,6 @@
-use Rattle.std.proofs.Common.{◌≡◌, refl, sym, ◌∙◌, subst}
-use Rattle.std.specs.Prelude.{None}
-use Rattle.psa_status.specs.Rows.{first_row}
+use Rattle.std.proofs.Common.{None, refl, subst, sym, ◌∙◌, ◌≡◌}
+use Rattle.operation_handles.proofs.Common.{AreStates, Derivations, Deriving, FamilyStates, Hashes, Hashing, Inactive, class_rows, derivation_work, first_row, hash_work, plain_reply, set_up_without_key}
 use Rattle.alg_encoding.specs.declared.table.Class.TheVariants as class
-use Rattle.service_calls.specs.Answers.{plain_reply}
-use Rattle.store_model.specs.Prelude.{Inactive, Hashing, Deriving, hash_work, derivation_work, class_rows}
-use Rattle.operation_handles.specs.Families.{Hashes, Derivations}
-use Rattle.operation_handles.specs.Setups.{set_up_without_key}
-use Rattle.operation_handles.specs.States.{AreStates}
-use Rattle.operation_handles.specs.declared.states.FamilyStates.{FamilyStates}
 use Rattle.operation_handles.proofs.Deriving.{set_up_has, set_up_may}
 use Rattle.operation_handles.proofs.Families.{put_hash, put_derivation}
 use Rattle.operation_handles.proofs.Fresh.{set_up_are, set_up_reply}

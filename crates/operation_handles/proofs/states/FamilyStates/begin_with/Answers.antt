@@ -1,13 +1,5 @@
-use Rattle.std.proofs.Common.{◌≡◌, ℕ, List, true, false, refl, sym, subst}
-use Rattle.std.specs.Prelude.{Some}
-use Rattle.alg_encoding.specs.declared.algorithm.Alg.{Alg}
-use Rattle.key_policy.specs.Uses.{FitsUse, used_for}
-use Rattle.service_calls.specs.declared.handle_calls.Purpose.{Purpose}
-use Rattle.store_model.specs.Prelude.{Active, Inactive, mac_work, cipher_work, aead_work}
-use Rattle.operation_handles.specs.Families.{Macs, Ciphers, Aeads}
-use Rattle.operation_handles.specs.Setups.{begun_with}
-use Rattle.operation_handles.specs.States.{AreStates}
-use Rattle.operation_handles.specs.declared.states.FamilyStates.{FamilyStates}
+use Rattle.std.proofs.Common.{List, Some, false, refl, subst, sym, true, ℕ, ◌≡◌}
+use Rattle.operation_handles.proofs.Common.{Active, Aeads, Alg, AreStates, Ciphers, FamilyStates, FitsUse, Inactive, Macs, Purpose, aead_work, begun_with, cipher_work, mac_work, used_for}
 use Rattle.operation_handles.proofs.Families.{put_mac, put_cipher, put_aead}
 use Rattle.operation_handles.proofs.Fresh.{set_up_of}
 use Rattle.operation_handles.proofs.states.FamilyStates.begin_with.Goals as goal

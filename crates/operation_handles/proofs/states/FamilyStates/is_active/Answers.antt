@@ -1,5 +1,5 @@
-use Rattle.std.proofs.Common.{◌≡◌, true, false, sym, ◌∙◌, subst}
-use Rattle.operation_handles.specs.Families.{Hashes, Macs, Ciphers, Aeads}
+use Rattle.std.proofs.Common.{false, subst, sym, true, ◌∙◌, ◌≡◌}
+use Rattle.operation_handles.proofs.Common.{Aeads, Ciphers, Hashes, Macs}
 use Rattle.operation_handles.proofs.Told.{TellsActive, one_active, last_active}
 use Rattle.operation_handles.proofs.states.FamilyStates.is_active.Goals as goal
 use Rattle.operation_handles.proofs.states.FamilyStates.is_active.Goals.{then-is_active, else-is_active, then-is_active-2, else-is_active-2, then-is_active-3, else-is_active-3}

@@ -1,5 +1,5 @@
-use Rattle.std.proofs.Common.{◌≡◌, true, false, sym, ◌∙◌, subst}
-use Rattle.operation_handles.specs.Families.{Hashes, Macs, Ciphers, Aeads}
+use Rattle.std.proofs.Common.{false, subst, sym, true, ◌∙◌, ◌≡◌}
+use Rattle.operation_handles.proofs.Common.{Aeads, Ciphers, Hashes, Macs}
 use Rattle.operation_handles.proofs.Told.{TellsInactive, one_busy, last_inactive}
 use Rattle.operation_handles.proofs.states.FamilyStates.is_inactive.Goals as goal
 use Rattle.operation_handles.proofs.states.FamilyStates.is_inactive.Goals.{then-is_inactive, else-is_inactive, then-is_inactive-2, else-is_inactive-2, then-is_inactive-3, else-is_inactive-3}

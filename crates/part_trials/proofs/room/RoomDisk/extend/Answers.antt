@@ -1,4 +1,4 @@
-use Rattle.std.proofs.Common.{List, ℕ, length, arith}
+use Rattle.std.proofs.Common.{List, arith, length, ℕ}
 use Rattle.std.proofs.lemmas.List.{take_all}
 use Rattle.disk_face.specs.Disk.{Grown}
 use Rattle.part_trials.proofs.room.RoomDisk.extend.Goals as goal

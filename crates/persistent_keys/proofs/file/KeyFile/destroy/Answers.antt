@@ -1,4 +1,4 @@
-use Rattle.key_cells.specs.Prelude.{cell_slot}
+use Rattle.persistent_keys.proofs.Common.{cell_slot}
 use Rattle.persistent_keys.proofs.Filing.{still_has, has_is_open}
 use Rattle.persistent_keys.proofs.Directory.{missing_unsure}
 use Rattle.persistent_keys.proofs.Leading.{destroyed_leads, undestroyed_leads, unreached_leads}

@@ -1,7 +1,7 @@
 use Rattle.std.proofs.Common.{ap}
+use Rattle.persistent_keys.proofs.Common.{cell_slot, settled_slots}
 use Rattle.std.proofs.lemmas.Result.{IfOk-weaker}
 use Rattle.secret_bytes.specs.Buffer.{bytes_of}
-use Rattle.key_cells.specs.Prelude.{cell_slot, settled_slots}
 use Rattle.persistent_keys.proofs.Directory.{same_id}
 use Rattle.persistent_keys.proofs.Leading.{keeps_leads, loaded_key}
 use Rattle.persistent_keys.proofs.file.KeyFile.load.Goals as goal

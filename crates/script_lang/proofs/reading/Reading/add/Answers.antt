@@ -1,7 +1,5 @@
-use Rattle.std.proofs.Common.{◌≡◌, ◌∙◌, ap, subst, sym, arith, ◌<◌, length}
-use Rattle.std.specs.Prelude.{slice_set}
-use Rattle.script_lang.specs.Sessions.{read_of, AreCounted}
-use Rattle.script_lang.specs.Lines.{lines_of}
+use Rattle.std.proofs.Common.{ap, arith, length, slice_set, subst, sym, ◌<◌, ◌∙◌, ◌≡◌}
+use Rattle.script_lang.proofs.Common.{AreCounted, lines_of, read_of}
 use Rattle.script_lang.proofs.States.{counted_on, is_more, more_read, more_counted, count_found, count_fits, found}
 use Rattle.script_lang.proofs.reading.Reading.add.Goals as goal
 

@@ -1,5 +1,5 @@
-use Rattle.std.proofs.Common.{◌∙◌, ap, subst, sym}
-use Rattle.script_lang.specs.Sessions.{read_of, AreCounted}
+use Rattle.std.proofs.Common.{ap, subst, sym, ◌∙◌}
+use Rattle.script_lang.proofs.Common.{AreCounted, read_of}
 use Rattle.script_lang.proofs.States.{new_read, new_counted}
 use Rattle.script_lang.proofs.reading.Reading.new.Goals as goal
 

@@ -1,4 +1,4 @@
-use Rattle.std.proofs.Common.{arith, ◌<◌, length}
+use Rattle.std.proofs.Common.{arith, length, ◌<◌}
 use Rattle.script_lang.proofs.States.{places_found}
 use Rattle.script_lang.proofs.reading.Reading.session.Goals as goal
 

@@ -1,7 +1,5 @@
-use Rattle.std.proofs.Common.{◌∙◌, ap, sym}
-use Rattle.std.specs.Prelude.{Some}
-use Rattle.script_lang.specs.Lines.{given_place}
-use Rattle.script_lang.specs.Sessions.{places_of}
+use Rattle.std.proofs.Common.{Some, ap, sym, ◌∙◌}
+use Rattle.script_lang.proofs.Common.{given_place, places_of}
 use Rattle.script_lang.proofs.Names.{inserted}
 use Rattle.script_lang.proofs.sessions.Session.give.Goals as goal
 

@@ -1,7 +1,6 @@
 use Rattle.std.proofs.Common.{ap}
+use Rattle.script_lang.proofs.Common.{lookup, places_of}
 use Rattle.std.specs.Str.{bytes_eq}
-use Rattle.std.specs.Map.{lookup}
-use Rattle.script_lang.specs.Sessions.{places_of}
 use Rattle.script_lang.proofs.sessions.Session.new.Goals as goal
 
 pub returns-clause-places : goal.returns-clause-places

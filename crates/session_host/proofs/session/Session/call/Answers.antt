@@ -1,14 +1,6 @@
-use Rattle.std.proofs.Common.{◌≡◌, ◌∙◌, ap, subst, arith, take, length, length-take-le, ℕ, IfOk, IfSome, MatchResult, Option, Result, Ok, Err}
-use Rattle.psa_status.specs.declared.Memory.{Memory}
-use Rattle.psa_status.specs.declared.Status.{Status}
+use Rattle.std.proofs.Common.{Err, IfOk, IfSome, MatchResult, Ok, Option, Result, ap, arith, length, length-take-le, subst, take, ℕ, ◌∙◌, ◌≡◌}
+use Rattle.session_host.proofs.Common.{Answer, Answers, Fills, IsAnswered, Memory, Notes, Replies, Reply, Status, Tells, failure_in, request_of, world}
 use Rattle.service_calls.specs.Meanings.{model_request}
-use Rattle.script_lang.specs.Prelude.{request_of}
-use Rattle.store_model.specs.Prelude.{Reply}
-use Rattle.callers.specs.Called.{IsAnswered}
-use Rattle.locked_store.specs.Prelude.{world}
-use Rattle.script_lang.specs.declared.replies.Replies.{Replies}
-use Rattle.callers.specs.Failures.{failure_in}
-use Rattle.session_host.specs.Replying.{Answer, Answers, Fills, Notes, Tells}
 use Rattle.session_host.proofs.Told.{is_made}
 use Rattle.session_host.proofs.session.Session.call.Goals as goal
 

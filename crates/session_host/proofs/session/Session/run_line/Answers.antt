@@ -1,8 +1,5 @@
-use Rattle.std.proofs.Common.{◌≡◌, ◌∙◌, ◌++◌, ◌∷◌, [], ap, subst, inr, sym, MatchResult, Result, Ok, Err}
-use Rattle.script_lang.specs.Prelude.{request_of}
-use Rattle.locked_store.specs.Prelude.{world}
-use Rattle.session_host.specs.Replying.{Answers, Tells}
-use Rattle.session_host.specs.Sessions.{IsMade}
+use Rattle.std.proofs.Common.{Err, MatchResult, Ok, Result, [], ap, inr, subst, sym, ◌++◌, ◌∙◌, ◌∷◌, ◌≡◌}
+use Rattle.session_host.proofs.Common.{Answers, IsMade, Tells, request_of, world}
 use Rattle.session_host.proofs.Told.{answered_more, made_more}
 use Rattle.session_host.proofs.session.Session.run_line.Goals as goal
 

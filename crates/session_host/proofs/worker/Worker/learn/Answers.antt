@@ -1,10 +1,5 @@
-use Rattle.std.proofs.Common.{sym, ◌∙◌, subst, get_or-set_same}
-use Rattle.std.proofs.lemmas.List.{get_or_default}
-use Rattle.turn_history.specs.Prelude.{entries_of, StartsWith}
-use Rattle.callers.specs.Ready.{IsReady}
-use Rattle.locked_store.specs.Prelude.{world}
-use Rattle.callers.proofs.Journeys.{seen_begins}
-use Rattle.session_host.specs.Workers.{HasLearned}
+use Rattle.std.proofs.Common.{get_or-set_same, subst, sym, ◌∙◌}
+use Rattle.session_host.proofs.Common.{HasLearned, IsReady, StartsWith, entries_of, get_or_default, seen_begins, world}
 use Rattle.session_host.proofs.Meeting.{changes_set, has_learned}
 use Rattle.session_host.proofs.worker.Worker.learn.Goals as goal
 

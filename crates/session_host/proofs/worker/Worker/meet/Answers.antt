@@ -1,9 +1,5 @@
-use Rattle.std.proofs.Common.{◌<◌, length, get_or, sym, ap, subst, IfSome}
-use Rattle.turn_history.specs.Prelude.{entries_of, StartsWith}
-use Rattle.callers.specs.Called.{Legal}
-use Rattle.callers.specs.Ready.{IsReady}
-use Rattle.locked_store.specs.Prelude.{world}
-use Rattle.session_host.specs.Workers.{ChangesAt, HasLearned}
+use Rattle.std.proofs.Common.{IfSome, ap, get_or, length, subst, sym, ◌<◌}
+use Rattle.session_host.proofs.Common.{ChangesAt, HasLearned, IsReady, Legal, StartsWith, entries_of, world}
 use Rattle.session_host.proofs.Meeting.{changes_none, item_of, learned_nothing}
 use Rattle.session_host.proofs.worker.Worker.meet.Goals as goal
 

@@ -1,5 +1,5 @@
-use Rattle.std.proofs.Common.{◌∙◌, false, take, refl}
-use Rattle.locked_store.specs.Prelude.{world}
+use Rattle.std.proofs.Common.{false, refl, take, ◌∙◌}
+use Rattle.session_host.proofs.Common.{world}
 use Rattle.session_host.proofs.Working.{ran_next, stopped}
 use Rattle.session_host.proofs.worker.Worker.run.Goals as goal
 

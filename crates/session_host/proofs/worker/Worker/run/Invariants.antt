@@ -1,7 +1,5 @@
-use Rattle.std.proofs.Common.{◌≡◌, true, take}
-use Rattle.locked_store.specs.Prelude.{world}
-use Rattle.script_lang.specs.declared.replies.ReplyForm.{ReplyForm}
-use Rattle.session_host.specs.Workers.{HaveForm, HaveRun, numbers_of}
+use Rattle.std.proofs.Common.{take, true, ◌≡◌}
+use Rattle.session_host.proofs.Common.{HaveForm, HaveRun, ReplyForm, numbers_of, world}
 use Rattle.session_host.proofs.worker.Worker.run.Given as goal
 
 abbrev pub invariant-loop-line : goal.invariant-loop-line

@@ -1,7 +1,6 @@
-use Rattle.std.proofs.Common.{◌≡◌, ◌<◌, ◌≢◌, ◌≤◌, length, get_or, refl, ap, subst, arith, All, Some}
+use Rattle.std.proofs.Common.{All, Some, ap, arith, get_or, length, refl, subst, ◌<◌, ◌≡◌, ◌≢◌, ◌≤◌}
+use Rattle.session_host.proofs.Common.{Session, world}
 use Rattle.std.specs.Vec.{with_item, with_items}
-use Rattle.locked_store.specs.Prelude.{world}
-use Rattle.session_host.specs.declared.session.Session.{Session}
 use Rattle.session_host.proofs.Working.{answered_here, few_replies, ran_line, ran_none, same_form, same_numbers}
 use Rattle.session_host.proofs.worker.Worker.run_line.Goals as goal
 

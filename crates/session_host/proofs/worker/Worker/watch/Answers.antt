@@ -1,4 +1,4 @@
-use Rattle.std.proofs.Common.{ap, ◌∙◌, set}
+use Rattle.std.proofs.Common.{ap, set, ◌∙◌}
 use Rattle.session_host.proofs.Meeting.{set_itself}
 use Rattle.session_host.proofs.worker.Worker.watch.Goals as goal
 

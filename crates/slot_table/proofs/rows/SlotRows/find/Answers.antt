@@ -1,7 +1,5 @@
-use Rattle.std.proofs.Common.{◌<◌, length, ◌∙◌, sym, ap, arith, below_more, ⊎_elim}
-use Rattle.std.proofs.lemmas.List.{get_or_read, get_or_past}
-use Rattle.std.proofs.lemmas.Bool.{cases_lt}
-use Rattle.slot_table.specs.Rows.{head_holds_key, empty_head}
+use Rattle.std.proofs.Common.{ap, arith, below_more, length, sym, ⊎_elim, ◌<◌, ◌∙◌}
+use Rattle.slot_table.proofs.Common.{cases_lt, empty_head, get_or_past, get_or_read, head_holds_key}
 use Rattle.slot_table.proofs.Views.{holds_key-head}
 use Rattle.slot_table.proofs.rows.SlotRows.find.Goals as goal
 

@@ -1,8 +1,5 @@
-use Rattle.std.proofs.Common.{◌<◌, length, ◌∙◌, sym, ap, arith, below_more}
-use Rattle.std.proofs.lemmas.List.{get_or_read}
-use Rattle.slot_table.specs.Slots.{Slot, is_empty_state}
-use Rattle.slot_table.specs.declared.place.Head.{Head}
-use Rattle.slot_table.specs.Rows.{empty_head}
+use Rattle.std.proofs.Common.{ap, arith, below_more, length, sym, ◌<◌, ◌∙◌}
+use Rattle.slot_table.proofs.Common.{Head, Slot, empty_head, get_or_read, is_empty_state}
 use Rattle.slot_table.proofs.Views.{slot_is, length_is}
 use Rattle.slot_table.proofs.rows.SlotRows.find_empty.Goals as goal
 

@@ -1,6 +1,5 @@
-use Rattle.std.proofs.Common.{◌≡◌, ◌<◌, ℕ, false}
-use Rattle.slot_table.specs.Slots.{is_empty_state}
-use Rattle.slot_table.specs.Rows.{head_at}
+use Rattle.std.proofs.Common.{false, ℕ, ◌<◌, ◌≡◌}
+use Rattle.slot_table.proofs.Common.{head_at, is_empty_state}
 use Rattle.slot_table.proofs.rows.SlotRows.find_empty.Given as goal
 
 abbrev pub invariant-loop-i : goal.invariant-loop-i

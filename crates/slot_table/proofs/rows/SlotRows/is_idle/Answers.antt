@@ -1,7 +1,5 @@
-use Rattle.std.proofs.Common.{◌<◌, length, sym, ap, arith}
-use Rattle.std.proofs.lemmas.List.{get_or_read, get_or_past}
-use Rattle.slot_table.specs.Slots.{is_idle, empty_slot}
-use Rattle.slot_table.specs.Rows.{empty_head, no_key}
+use Rattle.std.proofs.Common.{ap, arith, length, sym, ◌<◌}
+use Rattle.slot_table.proofs.Common.{empty_head, empty_slot, get_or_past, get_or_read, is_idle, no_key}
 use Rattle.slot_table.proofs.Views.{slot_is, length_is}
 use Rattle.slot_table.proofs.rows.SlotRows.is_idle.Goals as goal
 

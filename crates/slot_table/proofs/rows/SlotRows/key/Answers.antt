@@ -1,7 +1,6 @@
 use Rattle.std.proofs.Common.{arith, refl}
-use Rattle.std.proofs.lemmas.List.{get_or_read}
+use Rattle.slot_table.proofs.Common.{get_or_read, no_key}
 use Rattle.slot_table.proofs.Views.{stands_at}
-use Rattle.slot_table.specs.Rows.{no_key}
 use Rattle.slot_table.proofs.rows.SlotRows.key.Goals as goal
 
 pub index-requires : goal.index-requires

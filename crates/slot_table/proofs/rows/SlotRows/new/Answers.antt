@@ -1,5 +1,5 @@
-use Rattle.std.proofs.Common.{◌≡◌, ◌∙◌, ap, replicate, rules}
-use Rattle.slot_table.specs.Rows.{slots_of, empty_head}
+use Rattle.std.proofs.Common.{ap, replicate, rules, ◌∙◌, ◌≡◌}
+use Rattle.slot_table.proofs.Common.{empty_head, slots_of}
 use Rattle.slot_table.proofs.Views.{slots_of-replicate, AreRows-replicate}
 use Rattle.slot_table.proofs.rows.SlotRows.new.Goals as goal
 

@@ -1,7 +1,5 @@
-use Rattle.std.proofs.Common.{◌≡◌, refl, ap}
-use Rattle.slot_states.specs.declared.SlotState.TheVariants.{Filling}
-use Rattle.slot_table.specs.Lent.{Reserved}
-use Rattle.slot_table.specs.Slots.{Table, slot_at, is_full}
+use Rattle.std.proofs.Common.{ap, refl, ◌≡◌}
+use Rattle.slot_table.proofs.Common.{Filling, Reserved, Table, is_full, slot_at}
 use Rattle.slot_table.proofs.AtSlots.{filling_within}
 use Rattle.slot_table.proofs.Laws.{stays_unused, lawful_empty}
 use Rattle.slot_table.proofs.table.SlotTable.drop_filling.Goals as goal

@@ -1,7 +1,5 @@
-use Rattle.std.proofs.Common.{◌≡◌, refl, ap}
-use Rattle.slot_states.specs.declared.SlotState.TheVariants.{Filling}
-use Rattle.slot_table.specs.Lent.{Reserved}
-use Rattle.slot_table.specs.Slots.{Table, slot_at, is_full, NoKey}
+use Rattle.std.proofs.Common.{ap, refl, ◌≡◌}
+use Rattle.slot_table.proofs.Common.{Filling, NoKey, Reserved, Table, is_full, slot_at}
 use Rattle.slot_table.proofs.AtSlots.{filling_within}
 use Rattle.slot_table.proofs.Laws.{gets_key, lawful_new, recency_has_room}
 use Rattle.slot_table.proofs.table.SlotTable.finish.Goals as goal

@@ -1,6 +1,5 @@
-use Rattle.std.proofs.Common.{◌≡◌, ◌<◌, refl, ap}
-use Rattle.slot_states.specs.declared.SlotState.TheVariants.{Full}
-use Rattle.slot_table.specs.Slots.{Table, slot_at}
+use Rattle.std.proofs.Common.{ap, refl, ◌<◌, ◌≡◌}
+use Rattle.slot_table.proofs.Common.{Full, Table, slot_at}
 use Rattle.slot_table.proofs.AtSlots.{full_within}
 use Rattle.slot_table.proofs.Laws.{loses_key, lawful_pending}
 use Rattle.slot_table.proofs.table.SlotTable.hold.Goals as goal

@@ -1,5 +1,5 @@
-use Rattle.std.proofs.Common.{◌≡◌, ◌<◌, ◌∙◌, sym, ap, true, false, refl}
-use Rattle.slot_table.specs.Slots.{Table, slot_at, is_last}
+use Rattle.std.proofs.Common.{ap, false, refl, sym, true, ◌<◌, ◌∙◌, ◌≡◌}
+use Rattle.slot_table.proofs.Common.{Table, is_last, slot_at}
 use Rattle.slot_table.proofs.AtSlots.{read_within}
 use Rattle.slot_table.proofs.Laws.{stays_unused, loses_reader, lawful_empty, pending_is_unused}
 use Rattle.slot_table.proofs.table.SlotTable.release.Goals as goal

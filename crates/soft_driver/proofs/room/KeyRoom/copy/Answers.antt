@@ -1,10 +1,5 @@
-use Rattle.std.proofs.Common.{rules, ◌≡◌, ap, sym, subst, ◌∙◌}
-use Rattle.std.specs.Prelude.{Some, IfSome}
-use Rattle.driver_dispatch.specs.Held.{held_key, with_key_or_same}
-use Rattle.secret_bytes.specs.Buffer.{bytes_of}
-use Rattle.soft_driver.specs.Sizes.{IsSized}
-use Rattle.soft_driver.specs.Room.{key_held}
-use Rattle.soft_driver.specs.declared.held.Held.{Held}
+use Rattle.std.proofs.Common.{IfSome, Some, ap, rules, subst, sym, ◌∙◌, ◌≡◌}
+use Rattle.soft_driver.proofs.Common.{Held, IsSized, bytes_of, held_key, key_held, with_key_or_same}
 use Rattle.soft_driver.proofs.Rooms.{room_with, keys_with, found, filled}
 use Rattle.soft_driver.proofs.room.KeyRoom.copy.Goals as goal
 

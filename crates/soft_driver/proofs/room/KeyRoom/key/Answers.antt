@@ -1,9 +1,5 @@
-use Rattle.std.proofs.Common.{◌≡◌, ap, sym, subst, ◌∙◌}
-use Rattle.std.specs.Prelude.{Some, IfSome}
-use Rattle.driver_dispatch.specs.Held.{held_key}
-use Rattle.driver_dispatch.specs.Calls.{IsSomeKey}
-use Rattle.soft_driver.specs.Sizes.{IsSized}
-use Rattle.soft_driver.specs.Room.{key_held}
+use Rattle.std.proofs.Common.{IfSome, Some, ap, subst, sym, ◌∙◌, ◌≡◌}
+use Rattle.soft_driver.proofs.Common.{IsSized, IsSomeKey, held_key, key_held}
 use Rattle.soft_driver.proofs.Rooms.{found}
 use Rattle.soft_driver.proofs.room.KeyRoom.key.Goals as goal
 

@@ -1,8 +1,5 @@
-use Rattle.std.proofs.Common.{rules, ◌≡◌, ap, ◌∙◌}
-use Rattle.driver_dispatch.specs.Held.{HeldKey}
-use Rattle.secret_bytes.specs.Buffer.{bytes_of}
-use Rattle.soft_driver.specs.Room.{key_held}
-use Rattle.soft_driver.specs.declared.held.Held.{Held}
+use Rattle.std.proofs.Common.{ap, rules, ◌∙◌, ◌≡◌}
+use Rattle.soft_driver.proofs.Common.{Held, HeldKey, bytes_of, key_held}
 use Rattle.soft_driver.proofs.Rooms.{room_with, keys_with, filled}
 use Rattle.soft_driver.proofs.room.KeyRoom.put.Goals as goal
 

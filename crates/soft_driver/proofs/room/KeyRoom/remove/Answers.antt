@@ -1,6 +1,5 @@
-use Rattle.std.proofs.Common.{rules, ap, ◌∙◌}
-use Rattle.driver_dispatch.specs.Held.{without_key}
-use Rattle.soft_driver.specs.Room.{keys_of}
+use Rattle.std.proofs.Common.{ap, rules, ◌∙◌}
+use Rattle.soft_driver.proofs.Common.{keys_of, without_key}
 use Rattle.soft_driver.proofs.Rooms.{room_without, removed, found}
 use Rattle.soft_driver.proofs.room.KeyRoom.remove.Goals as goal
 

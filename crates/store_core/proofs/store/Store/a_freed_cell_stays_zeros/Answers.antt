@@ -1,6 +1,6 @@
+use Rattle.store_core.proofs.Common.{last_store}
 use Rattle.store_core.proofs.Wiped.{shows_free}
 use Rattle.store_core.proofs.Zeroed.{stays_zeros, left_zeros}
-use Rattle.store_core.specs.Zeros.{last_store}
 use Rattle.store_core.proofs.store.Store.a_freed_cell_stays_zeros.Goals as goal
 
 pub returns-clause-within : goal.returns-clause-within

@@ -1,5 +1,5 @@
 use Rattle.std.proofs.Common.{sym}
-use Rattle.key_slots.proofs.Agreeing.{is_read}
+use Rattle.store_core.proofs.Common.{is_read}
 use Rattle.store_core.proofs.store.Store.a_lease_keeps_its_key.Goals as goal
 
 pub returns : goal.returns

@@ -1,7 +1,6 @@
-use Rattle.std.proofs.Common.{◌≡◌, None}
+use Rattle.std.proofs.Common.{None, ◌≡◌}
+use Rattle.store_core.proofs.Common.{IsBrought, slot_at}
 use Rattle.std.specs.FinMap as map
-use Rattle.slot_table.specs.Slots.{slot_at}
-use Rattle.store_core.specs.Uses.{IsBrought}
 use Rattle.store_core.proofs.Holding.{left_alone}
 use Rattle.store_core.proofs.Kept.{no_key}
 use Rattle.store_core.proofs.Loading.{brings}

@@ -1,6 +1,6 @@
-use Rattle.std.proofs.Common.{sym, subst}
+use Rattle.std.proofs.Common.{subst, sym}
+use Rattle.store_core.proofs.Common.{GainsNothing, found_made, made_after}
 use Rattle.store_model.specs.Store as model
-use Rattle.store_model.specs.Prelude.{GainsNothing, found_made, made_after}
 use Rattle.store_model.proofs.GainNothing.{gain_nothing}
 use Rattle.store_core.proofs.store.Store.copies_gain_nothing.Goals as goal
 

@@ -1,10 +1,5 @@
-use Rattle.std.proofs.Common.{◌∙◌, ◌+◌, refl, sym, subst, Some, [], ◌∷◌, ◌++◌}
-use Rattle.secret_bytes.specs.Buffer.{bytes_of}
-use Rattle.slot_table.specs.Changes.{full_slot}
-use Rattle.key_slots.specs.Standing.{SlotHasKey, Puts, IsThereOrNew}
-use Rattle.store_model.specs.Prelude.{Plain, created, new_id, new_key, identified}
-use Rattle.store_core.specs.declared.store.Store.{Store}
-use Rattle.store_core.specs.Represents.{ranked_on}
+use Rattle.std.proofs.Common.{Some, [], refl, subst, sym, ◌++◌, ◌+◌, ◌∙◌, ◌∷◌}
+use Rattle.store_core.proofs.Common.{IsThereOrNew, Plain, Puts, SlotHasKey, Store, bytes_of, created, full_slot, identified, new_id, new_key, ranked_on}
 use Rattle.store_core.proofs.Holding.{StandsHere, IsTurn}
 use Rattle.store_core.proofs.Checked.{volatile_by, local_by}
 use Rattle.store_core.proofs.MakesVolatile.{ready_live, ready_made, ready_slots, next_is, next_puts, next_new, local_takes, makes_volatile, local_device}

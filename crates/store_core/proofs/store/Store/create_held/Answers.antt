@@ -1,12 +1,5 @@
-use Rattle.std.proofs.Common.{◌≡◌, ◌∙◌, ◌+◌, ℕ, List, length, sym, ap, subst, Some, [], ◌∷◌, ◌++◌}
-use Rattle.std.specs.Prelude.{take, slice_index}
-use Rattle.key_attributes.specs.Checks.{permits_size}
-use Rattle.secret_bytes.specs.Buffer.{bytes_of}
-use Rattle.slot_table.specs.Changes.{full_slot}
-use Rattle.key_slots.specs.Standing.{SlotHasKey, Puts, IsThereOrNew}
-use Rattle.store_model.specs.Prelude.{first_volatile, Plain, created, new_id, new_key, identified}
-use Rattle.store_core.specs.declared.store.Store.{Store}
-use Rattle.store_core.specs.Represents.{ranked_on}
+use Rattle.std.proofs.Common.{List, Some, [], ap, length, slice_index, subst, sym, take, ℕ, ◌++◌, ◌+◌, ◌∙◌, ◌∷◌, ◌≡◌}
+use Rattle.store_core.proofs.Common.{IsThereOrNew, Plain, Puts, SlotHasKey, Store, bytes_of, created, first_volatile, full_slot, identified, new_id, new_key, permits_size, ranked_on}
 use Rattle.store_core.proofs.Holding.{StandsHere, IsTurn}
 use Rattle.store_core.proofs.MakesVolatile.{ready_live, ready_made, ready_slots, ready_element, ready_handle, ready_type, ready_size, ready_source, next_is, next_puts, next_new, opaque_takes, makes_volatile, fails_volatile, taken_device, is_taken, is_either}
 use Rattle.store_core.proofs.store.Store.create_held.Goals as goal

@@ -1,15 +1,9 @@
-use Rattle.std.proofs.Common.{◌+◌, ◌∙◌, ℕ, List, Some, sym, ap, subst}
-use Rattle.std.specs.Prelude.{Err}
-use Rattle.key_cells.specs.Prelude.{IsKeyOf}
-use Rattle.persistent_keys.specs.Files.{stored, IsPut, Leads, doubt_unmade}
+use Rattle.std.proofs.Common.{Err, List, Some, ap, refl, subst, sym, ℕ, ◌+◌, ◌∙◌}
+use Rattle.store_core.proofs.Common.{IsKeyOf, IsPut, Leads, SlotHasKey, created, doubt_unmade, full_slot, new_id, new_key, stored}
 use Rattle.persistent_keys.specs.declared.file.MakeFault.{MakeFault}
 use Rattle.persistent_keys.specs.declared.file.MakeFault.TheVariants.{Disk}
-use Rattle.slot_table.specs.Changes.{full_slot}
-use Rattle.key_slots.specs.Standing.{SlotHasKey}
-use Rattle.store_model.specs.Prelude.{created, new_id, new_key}
 use Rattle.store_core.proofs.MakesKept.{ready_key, ready_cells, ready_slots, ready_room, stated_puts, stated_new, stated_fills, ready_may, makes_kept, fails_kept}
 use Rattle.store_core.proofs.Added.{stated_here}
-use Rattle.std.proofs.Common.{refl}
 use Rattle.store_core.proofs.Zeroed.{keys_put}
 use Rattle.store_core.proofs.store.Store.create_kept.Goals as goal
 

@@ -1,6 +1,5 @@
-use Rattle.std.proofs.Common.{◌∙◌, ◌/◌, sym, ap}
-use Rattle.key_attributes.specs.declared.Attributes.{Attributes}
-use Rattle.store_model.specs.Prelude.{recorded_of}
+use Rattle.std.proofs.Common.{ap, sym, ◌/◌, ◌∙◌}
+use Rattle.store_core.proofs.Common.{Attributes, recorded_of}
 use Rattle.store_core.proofs.Copied.{bytes_by_bits}
 use Rattle.store_core.proofs.store.Store.decide_copy.Goals as goal
 

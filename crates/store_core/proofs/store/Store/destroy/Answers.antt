@@ -1,5 +1,5 @@
 use Rattle.std.proofs.Common.{arith}
-use Rattle.store_core.specs.Durability.{durable_keys, course_of}
+use Rattle.store_core.proofs.Common.{course_of, durable_keys}
 use Rattle.store_core.proofs.store.Store.destroy.Goals as goal
 
 pub overflow_add-self : goal.overflow_add-self

@@ -1,5 +1,4 @@
-use Rattle.std.proofs.Common.{ap, arith}
-use Rattle.std.specs.Prelude.{is_some}
+use Rattle.std.proofs.Common.{ap, arith, is_some}
 use Rattle.store_core.proofs.Kept.{key_of_cell, no_key}
 use Rattle.store_core.proofs.store.Store.has.Goals as goal
 

@@ -1,13 +1,7 @@
-use Rattle.std.proofs.Common.{◌≡◌, true, refl, ℕ, List, [], ◌∷◌, ◌∙◌, inl, sym, ap, subst, arith, Some}
+use Rattle.std.proofs.Common.{List, Some, [], ap, arith, inl, refl, subst, sym, true, ℕ, ◌∙◌, ◌∷◌, ◌≡◌}
+use Rattle.store_core.proofs.Common.{IsKeyOf, Pairs, always_found, cell_slot, course_of, creation_of_slot, durable_keys, is_persistent_key, slot_at, stored}
 use Rattle.std.specs.FinMap as map
-use Rattle.key_cells.specs.Prelude.{IsKeyOf, cell_slot, creation_of_slot}
-use Rattle.persistent_keys.specs.Files.{stored}
-use Rattle.slot_table.specs.Slots.{slot_at}
-use Rattle.key_slots.specs.Holdings.{Pairs}
 use Rattle.key_slots.proofs.Pairs.{was_out}
-use Rattle.key_slots.proofs.Counting.{always_found}
-use Rattle.store_model.specs.Prelude.{is_persistent_key}
-use Rattle.store_core.specs.Durability.{durable_keys, course_of}
 use Rattle.store_core.proofs.Kept.{key_of_cell, is_persistent}
 use Rattle.store_core.proofs.Loading.{IsLoaded, brings, loads, filled_has, stays_put, gains_one}
 use Rattle.store_core.proofs.Ending.{load_ends, load_empties}

@@ -1,14 +1,6 @@
-use Rattle.std.proofs.Common.{◌∙◌, ◌+◌, ℕ, length, refl, sym, ap, subst, Some}
-use Rattle.std.specs.Prelude.{IsTrue}
-use Rattle.psa_status.proofs.Rows.{unless-ok, unless-err}
-use Rattle.key_attributes.specs.declared.Attributes.{Attributes}
-use Rattle.key_attributes.specs.Checks.{permits_size}
-use Rattle.secret_bytes.specs.Buffer.{bytes_of}
+use Rattle.std.proofs.Common.{IsTrue, Some, ap, length, refl, subst, sym, ℕ, ◌+◌, ◌∙◌}
+use Rattle.store_core.proofs.Common.{Attributes, FitsUse, Gains, IsLent, bytes_of, missing, permits_size, unless-err, unless-ok, use_refusal}
 use Rattle.slot_table.specs.Lent as lent
-use Rattle.key_slots.specs.Holdings.{Gains}
-use Rattle.key_policy.specs.Uses.{FitsUse, use_refusal}
-use Rattle.key_policy.proofs.Refusals.{missing}
-use Rattle.store_core.specs.Uses.{IsLent}
 use Rattle.store_core.proofs.Lending.{has_bytes, sized}
 use Rattle.store_core.proofs.Refusing.{asks_for, ends_found, ends_refused, ends_unread, few_readers, use_plain}
 use Rattle.store_core.proofs.Missing.{is_missing_why, is_other}

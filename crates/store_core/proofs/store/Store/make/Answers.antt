@@ -1,15 +1,8 @@
-use Rattle.std.proofs.Common.{◌≡◌, ◌∙◌, [], ◌∷◌, ◌++◌, length, refl, sym, ap, subst, Option, None}
-use Rattle.std.specs.Prelude.{Ok, Err}
+use Rattle.std.proofs.Common.{Err, None, Ok, Option, [], ap, length, refl, subst, sym, ◌++◌, ◌∙◌, ◌∷◌, ◌≡◌}
+use Rattle.store_core.proofs.Common.{Agrees, Buffer, IsReady, Plain, RecordsStated, Store, bytes-buffer_of, bytes_of, mark_unkept, new_id, ranked_on}
 use Rattle.std.specs.Option.{option_map}
-use Rattle.secret_bytes.specs.Buffer.{Buffer, bytes_of}
 use Rattle.slot_table.specs.Lent.{Reading}
-use Rattle.slot_table.proofs.AtSlots.{bytes-buffer_of}
-use Rattle.key_slots.specs.Standing.{Agrees}
 use Rattle.store_model.specs.Store as model
-use Rattle.store_model.specs.Prelude.{new_id, Plain}
-use Rattle.store_core.specs.declared.store.Store.{Store}
-use Rattle.store_core.specs.Represents.{ranked_on}
-use Rattle.store_core.specs.Creations.{IsReady, RecordsStated, mark_unkept}
 use Rattle.store_core.proofs.Holding.{IsTurn}
 use Rattle.store_core.proofs.Refusing.{asks_for}
 use Rattle.store_core.proofs.Finishing.{stated_ok, within, rebuffered, since_stands, is_making, refused_at, refuses}

@@ -1,12 +1,6 @@
-use Rattle.std.proofs.Common.{◌≡◌, ◌∙◌, ℕ, [], ◌∷◌, ◌++◌, refl, sym, ap, subst, Option}
-use Rattle.secret_bytes.specs.Buffer.{bytes_of, buffer_of}
-use Rattle.slot_table.specs.Slots.{slot_at}
-use Rattle.key_slots.specs.Standing.{IsOut}
+use Rattle.std.proofs.Common.{Option, [], ap, refl, subst, sym, ℕ, ◌++◌, ◌∙◌, ◌∷◌, ◌≡◌}
+use Rattle.store_core.proofs.Common.{Copy, Enters, Entry, IsOut, IsReady, IsTold, IsUnkept, Key, OnStore, Plain, Store, buffer_of, bytes_of, last_counts, mark_unkept, new_id, ranked_on, recorded_copy, replay, slot_at}
 use Rattle.store_model.specs.Store as model
-use Rattle.store_model.specs.Prelude.{Copy, Key, recorded_copy, new_id, OnStore, Entry, replay, last_counts, Plain}
-use Rattle.store_core.specs.declared.store.Store.{Store}
-use Rattle.store_core.specs.Represents.{IsTold, ranked_on}
-use Rattle.store_core.specs.Creations.{Enters, IsReady, IsUnkept, mark_unkept}
 use Rattle.store_core.proofs.Changing.{retold}
 use Rattle.store_core.proofs.Holding.{IsTurn, with_buffer}
 use Rattle.store_core.proofs.Refusing.{asks_for}

@@ -1,14 +1,5 @@
-use Rattle.std.proofs.Common.{◌≡◌, ◌∙◌, length, Some, Err, IsTrue, refl, sym, ap, subst}
-use Rattle.psa_status.specs.Causes.{Rose}
-use Rattle.psa_status.specs.Rows.{first_row}
-use Rattle.psa_status.proofs.Rows.{unless-ok, unless-err}
-use Rattle.driver_dispatch.specs.Calls.{HoldsHandle, has_element}
-use Rattle.store_model.specs.Prelude.{Plain, FaultCounts, last_counts, counted, fits_type, is_opaque_key}
-use Rattle.secure_element_calls.specs.Answers.{mark_computed}
-use Rattle.secure_element_calls.specs.Calls.{algorithm_asked, model_call}
-use Rattle.secure_element_calls.specs.declared.calls.NotComputed.TheVariants.{Refused}
-use Rattle.secure_element_calls.specs.Replies.{key_rows}
-use Rattle.store_core.specs.Opaque.{IsAnswered}
+use Rattle.std.proofs.Common.{Err, IsTrue, Some, ap, length, refl, subst, sym, ◌∙◌, ◌≡◌}
+use Rattle.store_core.proofs.Common.{FaultCounts, HoldsHandle, IsAnswered, Plain, Refused, Rose, algorithm_asked, counted, first_row, fits_type, has_element, is_opaque_key, key_rows, last_counts, mark_computed, model_call, unless-err, unless-ok}
 use Rattle.store_core.proofs.ByElement.{answered, checked_rows, ends_computed, fault_of, has_slot, held_of, holds_type, keeps_keys, mark_may, type_fits, unused}
 use Rattle.store_core.proofs.Destroyed.{element_there}
 use Rattle.store_core.proofs.store.Store.opaque_call.Goals as goal

@@ -1,11 +1,6 @@
+use Rattle.std.proofs.Common.{IfSome, List, None, Option, Some, ap, arith, count_by, inl, refl, subst, sym, true, ℕ, ◌∙◌, ◌≤◌}
+use Rattle.store_core.proofs.Common.{IsClear, IsOpened, IsRefused, KeyFile, KeySlots, Lacks, Memory, is_open}
 use Rattle.disk_face.specs.declared.Disk as Disk
-use Rattle.std.proofs.Common.{◌≤◌, ◌∙◌, ℕ, List, inl, refl, sym, ap, subst, true, count_by, Option, None, Some, IfSome, arith}
-use Rattle.secret_bytes.specs.Buffer.{IsClear}
-use Rattle.key_cells.specs.Prelude.{is_open, IsOpened, IsRefused}
-use Rattle.key_cells.specs.declared.reading.OpenFault.TheVariants.{Memory}
-use Rattle.persistent_keys.specs.declared.file.KeyFile.{KeyFile}
-use Rattle.key_slots.specs.declared.slots.KeySlots.{KeySlots}
-use Rattle.driver_dispatch.specs.Calls.{Lacks}
 use Rattle.store_core.proofs.Started.{IsNew, starts, exactly, stands}
 use Rattle.store_core.proofs.store.Store.open.Goals as goal
 

@@ -1,10 +1,7 @@
-use Rattle.std.proofs.Common.{◌≡◌, refl, sym, subst, Some, None}
+use Rattle.std.proofs.Common.{None, Some, refl, subst, sym, ◌≡◌}
+use Rattle.store_core.proofs.Common.{InvalidHandle, IsIdleOf, ends_none, there_rows}
 use Rattle.std.specs.FinMap as map
-use Rattle.psa_status.specs.declared.Status.TheVariants.{InvalidHandle}
 use Rattle.store_model.specs.Store as model
-use Rattle.key_slots.specs.Wiping.{IsIdleOf}
-use Rattle.key_slots.proofs.Wiping.{ends_none}
-use Rattle.store_core.specs.Uses.{there_rows}
 use Rattle.store_core.proofs.Holding.{counts_on}
 use Rattle.store_core.proofs.Kept.{is_there, is_missing}
 use Rattle.store_core.proofs.store.Store.purge.Goals as goal

@@ -1,5 +1,5 @@
 use Rattle.std.proofs.Common.{sym}
-use Rattle.key_slots.proofs.Agreeing.{readers_out}
+use Rattle.store_core.proofs.Common.{readers_out}
 use Rattle.store_core.proofs.store.Store.readers_are_leases.Goals as goal
 
 pub returns : goal.returns

@@ -1,5 +1,5 @@
-use Rattle.std.proofs.Common.{◌∙◌, sym, ap, Some, None}
-use Rattle.driver_dispatch.specs.Calls.{has_element}
+use Rattle.std.proofs.Common.{None, Some, ap, sym, ◌∙◌}
+use Rattle.store_core.proofs.Common.{has_element}
 use Rattle.store_core.proofs.Asked.{asks, by_room}
 use Rattle.store_core.proofs.store.Store.recorded.Goals as goal
 

@@ -1,14 +1,10 @@
-use Rattle.std.proofs.Common.{◌<◌, arith, subst, sym}
+use Rattle.std.proofs.Common.{None, arith, refl, subst, sym, ◌<◌}
+use Rattle.store_core.proofs.Common.{Free, Leads, Plain, Rose, Storage, Writing}
 use Rattle.std.specs.FinMap as map
-use Rattle.psa_status.specs.Causes.{Rose}
-use Rattle.persistent_keys.specs.Files.{Leads}
-use Rattle.store_model.specs.Prelude.{Plain, Storage, Writing}
 use Rattle.store_core.proofs.Kept.{key_of_cell, is_persistent}
 use Rattle.store_core.proofs.Destroyed.{fewer_kept, rows_there, still_doubted, undestroyed_doubt}
 use Rattle.store_core.proofs.Sure.{set_sure}
-use Rattle.key_cells.specs.declared.slot.Slot.TheVariants.{Free}
 use Rattle.store_core.proofs.DestroyTurn.{destroys_kept}
-use Rattle.std.proofs.Common.{refl, None}
 use Rattle.persistent_keys.proofs.Leading as file
 use Rattle.store_core.proofs.Zeroed.{keys_put, freed}
 use Rattle.store_core.proofs.Forgotten.{kept_forgotten}

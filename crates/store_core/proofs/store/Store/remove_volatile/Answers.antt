@@ -1,10 +1,7 @@
-use Rattle.std.proofs.Common.{◌∙◌, ℕ, ◌||◌, arith, subst, sym, ap}
+use Rattle.std.proofs.Common.{ap, arith, subst, sym, ℕ, ◌||◌, ◌∙◌}
+use Rattle.store_core.proofs.Common.{Hardware, HoldsHandle, Plain, Rose, asks_device, has_element, is_opaque, is_opaque_key, slot_at}
 use Rattle.std.specs.Prelude.{⊤}
 use Rattle.std.specs.FinMap as map
-use Rattle.psa_status.specs.Causes.{Rose}
-use Rattle.driver_dispatch.specs.Calls.{HoldsHandle, has_element}
-use Rattle.slot_table.specs.Slots.{slot_at}
-use Rattle.store_model.specs.Prelude.{is_opaque, is_opaque_key, Plain, Hardware, asks_device}
 use Rattle.store_core.proofs.Destroyed.{high_here, of_creator, fewer_live, element_there, holds_some, rows_there}
 use Rattle.store_core.proofs.DestroyTurn.{destroys_volatile, slot_key}
 use Rattle.store_core.proofs.Forgotten.{slot_forgotten}

@@ -1,4 +1,4 @@
-use Rattle.key_slots.proofs.Counting.{always_found}
+use Rattle.store_core.proofs.Common.{always_found}
 use Rattle.store_core.proofs.Holding.{unranked}
 use Rattle.store_core.proofs.store.Store.reserve.Goals as goal
 

@@ -1,6 +1,5 @@
-use Rattle.std.proofs.Common.{refl, sym, subst}
-use Rattle.std.proofs.lemmas.Bool.{false≢true}
-use Rattle.store_model.specs.Prelude.{HasNumber}
+use Rattle.std.proofs.Common.{refl, subst, sym}
+use Rattle.store_core.proofs.Common.{HasNumber, false≢true}
 use Rattle.store_model.specs.Store as model
 use Rattle.store_core.proofs.Holding.{counts_on}
 use Rattle.store_core.proofs.store.Store.step_operation.Goals as goal

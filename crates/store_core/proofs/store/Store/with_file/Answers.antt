@@ -1,6 +1,5 @@
-use Rattle.std.proofs.Common.{refl, arith}
-use Rattle.std.proofs.lemmas.List.Sums.{count_by-le-length}
-use Rattle.key_cells.specs.Prelude.{is_open}
+use Rattle.std.proofs.Common.{arith, refl}
+use Rattle.store_core.proofs.Common.{count_by-le-length, is_open}
 use Rattle.store_core.proofs.store.Store.with_file.Goals as goal
 
 pub overflow_cast-result : goal.overflow_cast-result

@@ -1,4 +1,4 @@
-use Rattle.std.proofs.Common.{ℕ, ◌+◌, [], ◌∷◌}
+use Rattle.std.proofs.Common.{[], ℕ, ◌+◌, ◌∷◌}
 use Rattle.store_trials.specs.Keeping.{first_has}
 use Rattle.store_trials.proofs.Outs.{first_gains, no_leases, none}
 use Rattle.store_trials.proofs.Keepings.{out, taken}

@@ -1,5 +1,4 @@
-use Rattle.std.proofs.Common.{ℕ, [], ◌∷◌, length, arith, ap}
-use Rattle.std.specs.Prelude.{None}
+use Rattle.std.proofs.Common.{None, [], ap, arith, length, ℕ, ◌∷◌}
 use Rattle.store_core.specs.declared.store.Store.{Store}
 use Rattle.store_core.specs.Prelude.{IsMade, IsUnmade, RecordsStated, mark_unmade}
 use Rattle.store_trials.specs.Keeping.{first_has}

@@ -1,7 +1,5 @@
-use Rattle.std.proofs.Common.{◌∙◌, sym, subst, Some}
-use mathlib.Core.Option.{some-injective}
-use Rattle.turn_history.specs.Boxed.{boxed_base, boxed_stands}
-use Rattle.turn_history.specs.Closing.{Closing}
+use Rattle.std.proofs.Common.{Some, subst, sym, ◌∙◌}
+use Rattle.turn_history.proofs.Common.{Closing, boxed_base, boxed_stands, some-injective}
 use Rattle.turn_history.proofs.Boxed.{closing_value}
 use Rattle.turn_history.proofs.Ends.{closes}
 use Rattle.turn_history.proofs.Keeping.{some_same}

@@ -1,7 +1,5 @@
-use Rattle.std.proofs.Common.{◌∙◌, ◌+◌, ap, sym, subst, [], ◌∷◌, ◌++◌, append_assoc}
-use Rattle.turn_history.specs.Closing.{Closing}
-use Rattle.turn_history.specs.Views.{account_of}
-use Rattle.turn_history.specs.Passes.{IsIdle, accounts_of, weight_of}
+use Rattle.std.proofs.Common.{[], ap, append_assoc, subst, sym, ◌++◌, ◌+◌, ◌∙◌, ◌∷◌}
+use Rattle.turn_history.proofs.Common.{Closing, IsIdle, account_of, accounts_of, weight_of}
 use Rattle.turn_history.proofs.Lists.{All_next, none_more}
 use Rattle.turn_history.proofs.Passes.{accounts_snoc, weight_snoc}
 use Rattle.turn_history.proofs.lock.HistoryLock.close.Goals as goal

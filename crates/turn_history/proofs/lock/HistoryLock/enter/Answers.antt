@@ -1,11 +1,9 @@
-use Rattle.std.proofs.Common.{rules, ◌∙◌, ap, refl, sym, subst, arith, Some}
-use Rattle.turn_history.specs.Boxed.{boxed_base, boxed_stands}
+use Rattle.std.proofs.Common.{Some, ap, arith, refl, rules, subst, sym, ◌∙◌}
+use Rattle.turn_history.proofs.Common.{Found, boxed_base, boxed_stands, entries_of}
 use Rattle.turn_history.proofs.Boxed.{found_value}
 use Rattle.turn_history.proofs.Lists.{entries_fewer}
 use Rattle.turn_history.proofs.Turning.{draws, looks, finds_value, Entered, enters}
 use Rattle.turn_history.proofs.Keeping.{some_same}
-use Rattle.turn_history.specs.Steps.{Found}
-use Rattle.turn_history.specs.History.{entries_of}
 use Rattle.turn_history.proofs.lock.HistoryLock.enter.Goals as goal
 
 pub fetch_add-ticket-requires : goal.fetch_add-ticket-requires

@@ -1,5 +1,5 @@
-use Rattle.std.proofs.Common.{rules, ◌∙◌, [], ap, replicate, subst, sym}
-use Rattle.turn_history.specs.Boxed.{boxed_base, boxed_stands}
+use Rattle.std.proofs.Common.{[], ap, replicate, rules, subst, sym, ◌∙◌}
+use Rattle.turn_history.proofs.Common.{boxed_base, boxed_stands}
 use Rattle.turn_history.proofs.Ends.{opens}
 use Rattle.turn_history.proofs.lock.HistoryLock.new.Goals as goal
 

@@ -1,6 +1,5 @@
-use Rattle.std.proofs.Common.{rules, []}
-use Rattle.turn_history.specs.Boxed.{boxed_base, boxed_stands}
-use Rattle.turn_history.specs.Views.{first_view}
+use Rattle.std.proofs.Common.{[], rules}
+use Rattle.turn_history.proofs.Common.{boxed_base, boxed_stands, first_view}
 use Rattle.turn_history.proofs.Ends.{sits}
 use Rattle.turn_history.proofs.lock.HistoryLock.start_ending.Goals as goal
 

@@ -1,0 +1,11 @@
+-- What several proofs of this crate cite of its words, and of other crates'.
+pub use Rattle.aead_ccm.specs.Chaining.{chained_from, filled_block}
+unfoldable pub use Rattle.aead_ccm.specs.Counting.{masks}
+pub use Rattle.cipher_blocks.proofs.BlockNumbers.{block_of_xor, byte_at_is, power_of_256}
+pub use Rattle.crypto_specs.proofs.XorBytes.{blocks_xored, length-xor_bytes, next_block_xored, xor_bytes-append, xor_bytes_to_end}
+pub use Rattle.crypto_specs.specs.Prelude.{block_count, chain_step, encoded_length, filled_blocks, in_bytes, xor_bytes, zero_filled}
+unfoldable pub use Rattle.crypto_specs.specs.Prelude.{aes_encrypt, blocks, ccm_counter_block, ccm_stream, ccm_tag, ccm_text, chained, control_block, encoded_data, formatted_blocks, number_block}
+pub use Rattle.std.proofs.Math.Nat.{div-eq_of_lt, lt-div-mul-add, pow-le-pow_right}
+pub use Rattle.std.proofs.lemmas.List.{drop-append-le, drop-replicate, drop_min, length-replicate, take-append-le, take_min}
+pub use Rattle.std.specs.Int.{byte_at, bytes_high_first, to_be_bytes, w128}
+pub use Rattle.std.specs.Int.Bits.{xor_zero_l, xor_zero_r}

@@ -1,0 +1,20 @@
+-- What several proofs of this crate cite of its words, and of other crates'.
+pub use Rattle.aead_ccm.specs.Chaining.{chained_from, filled_block}
+pub use Rattle.aead_gcm.proofs.GhashSteps.{in_turn, rest_from}
+pub use Rattle.aead_streams.specs.CcmStates.{chain_start}
+pub use Rattle.aead_streams.specs.Chains.{chain_after, data_front}
+pub use Rattle.aead_streams.specs.Counters.{counted}
+unfoldable pub use Rattle.aead_streams.specs.Counters.{byte_of_stream, stream_block, text_xor}
+pub use Rattle.aead_streams.specs.Streams.{IsAt}
+pub use Rattle.aead_streams.specs.TextHashes.{HasTaken}
+pub use Rattle.aead_streams.specs.declared.counter_width.CounterWidth.{CounterWidth}
+pub use Rattle.aead_streams.specs.declared.counter_width.CounterWidth.TheVariants.{Low32, Whole}
+pub use Rattle.cipher_blocks.proofs.BlockNumbers.{AreBytes, block_of_number, block_of_xor, byte_at_is, bytes-append, length-bytes_high_first, power_of_256, power_positive}
+pub use Rattle.crypto_specs.proofs.Blocks.{blocks-append, length-aes_encrypt, length-number_block, number_of_filled}
+pub use Rattle.crypto_specs.specs.Prelude.{KeepsLength, block_count, block_product, chain_step, encoded_length, filled_blocks, in_bytes, length_block, xor_bytes}
+unfoldable pub use Rattle.crypto_specs.specs.Prelude.{aes_encrypt, block_number, blocks, ccm_counter_block, ccm_stream, ccm_tag, ccm_text, chained, control_block, counter_block, ctr_xor, encoded_data, formatted_blocks, gcm_stream, gcm_tag, gcm_text, ghash_from, ghash_of, hash_subkey, increased, initial_counter_block, key_stream, number_block, numbers_of}
+pub use Rattle.std.proofs.Math.Nat.{div-div-eq-div-mul, pow-le-pow_right}
+pub use Rattle.std.proofs.lemmas.Bool.{cases_lt, false≢true}
+pub use Rattle.std.proofs.lemmas.List.{drop-append-le, drop-replicate, drop_all, get_or-append_right, get_or_append_left, length-replicate}
+pub use Rattle.std.proofs.lemmas.Nat.{div-mul-add, mod-mul-add, mod_below, same_from_place}
+pub use Rattle.std.specs.Int.{byte_at, bytes_high_first}

@@ -1,0 +1,28 @@
+-- What several proofs of this crate cite of its words, and of other crates'.
+pub use Rattle.disk_face.proofs.Images.{written_torn}
+pub use Rattle.disk_face.proofs.Moments.{after_all_push, promise_begins, promise_goes_on, within_both, within_more, within_none, within_one}
+pub use Rattle.disk_face.specs.Disk.{Elapses, Follows, GivesRange, GrowsByZeros, HoldsAround, HoldsWritten, LeavesWhatIsRead, NoNewImage, StillTells, Torn}
+pub use Rattle.disk_face.specs.Moments.{AfterStep, LeavesWritten, Within, after_all, written}
+pub use Rattle.key_attributes.specs.declared.Attributes.{Attributes}
+pub use Rattle.key_cells.specs.Body.{FoundKey, HoldsId, HoldsKey, HoldsNoKey, IsKeyOf, IsPersistent, front_of}
+unfoldable pub use Rattle.key_cells.specs.Body.{body_of}
+pub use Rattle.key_cells.specs.Causes.{IsCaused, IsDisk, IsRefusal}
+pub use Rattle.key_cells.specs.Contents.{Absent, Content, Doubtful, FitsCell, FitsEither, HasNoKey, HasZeros, IsFirstWithoutKey, IsSure, Keeps, Moves, Present, Shows, Sound, SoundBy, StandsForContents, StaysFree, StaysFreeBut, cell_slot, content_at, creation_of_slot, has_id, is_open, settled, settled_content, settled_slot, settled_slots}
+pub use Rattle.key_cells.specs.History.{AddsEntry, AddsEntryOf, AddsFailedCreation, CellEntry, Change, Created, CreationFailed, Destroyed, DestructionFailed, NotReached, Nothing, StandsForHistory, after, changed, entry_done}
+pub use Rattle.key_cells.specs.Image.{IsDamaged, IsStoreFile, SparesOpen}
+unfoldable pub use Rattle.key_cells.specs.Image.{identifier_in}
+pub use Rattle.key_cells.specs.Layout.{body, cells, closed, gate, opened_gate, part, place}
+unfoldable pub use Rattle.key_cells.specs.Layout.{header, zeros}
+pub use Rattle.key_cells.specs.Opening.{Clearing, Finds, GivesPart, HasOneEach, IsBadCell, IsDirectory, IsFoundIn, IsNamed, IsNumbered, IsSettled, Reads, ReadsBelow, ReadsCell, Spares, WithinSpares, content_of, found_in}
+unfoldable pub use Rattle.key_cells.specs.Opening.{contents_of}
+pub use Rattle.key_cells.specs.declared.reading.OpenFault.TheVariants.{DamagedCell, Disk, NotAStore}
+pub use Rattle.key_cells.specs.declared.reading.TheConstants.{HEADER}
+pub use Rattle.key_cells.specs.declared.slot.Slot.{Slot}
+pub use Rattle.key_cells.specs.declared.slot.Slot.TheVariants.{Free, Open, Shut, Unsure}
+pub use Rattle.key_record.specs.Record.{IsKept, IsLength, IsNoLength, IsNoRecord, IsRecord, spelling}
+pub use Rattle.std.proofs.lemmas.Bool.{cases_eq, cases_lt}
+pub use Rattle.std.proofs.lemmas.Bool.Decides.{Decides-eqb}
+pub use Rattle.std.proofs.lemmas.List.{drop-replicate, drop-take, get_or-map, get_or-replicate, get_or_read, length-map, length-replicate, map-set, nil_from_length, set-get_or, take-map, take-replicate, take-set-le, take_more, take_more_set}
+pub use Rattle.std.proofs.lemmas.List.Sums.{count_by_more_no, count_by_more_yes, sum_by-cons}
+pub use Rattle.std.proofs.lemmas.Result.{IfErr-weaker, IfOk-weaker, on_ok_weaker}
+pub use Rattle.std.proofs.lemmas.Slice.Eq.{slice_eq-Decides}
