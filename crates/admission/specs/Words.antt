@@ -11,9 +11,6 @@ label_word NoCopy = codes "no-copy"
 label_word NoEcb = codes "no-ecb"
 label_word Aes256 = codes "aes256"
 
-abbrev pub all_labels : List Label
-all_labels = NoExport ∷ NoCopy ∷ NoEcb ∷ Aes256 ∷ []
-
 -- the given label with a word
 abbrev pub label_named : List Label → List ℕ → Option Label
 label_named given word = find (λ label. bytes_eq (label_word label) word) given

@@ -2,6 +2,7 @@
 
 use Rattle.std.proofs.Common.{All, List, [], ap, arith, get_or, length, length-append, map, refl, subst, suc, sym, zero, ℕ, ◌++◌, ◌<◌, ◌∙◌, ◌∷◌, ◌≡◌}
 use Rattle.caller_service.proofs.Common.{backwards, map-append}
+
 module _ {X : Type 0} where
   pub get_left : (xs more : List X) (i : ℕ) (d : X) → i < length xs → get_or (xs ++ more) i d ≡ get_or xs i d
   get_left [] more i d lt = absurd (omega arith)

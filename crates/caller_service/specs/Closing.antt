@@ -20,7 +20,7 @@ backwards (x ∷ xs) = backwards xs ++ x ∷ []
 pub record IsLeft {D A C : Type 0} (w : World D A C) (history : List Entry) (disk : D) (devices : A) : Type 0 where
   pub signed : All (λ (e : Entry). (0 < e.caller) × (e.caller ≤ 16)) history
   pub legal : IsLegal w history
-  pub counts : last_counts (opening_of w.disk w.devices w.rules w.opened).counts history ≡ record { faults = w.disk.faults disk; hard = w.devices.faults devices }
+  pub counts : last_counts (opening_of w.disk w.devices w.rules w.opened).counts history ≡ record { faults = w.disk.faults disk; device_faults = w.devices.faults devices }
   pub tells : is_some (w.disk.contents disk) ≡ is_some (w.disk.contents w.opened.file.value.cells.disk)
   pub promise : is_some (w.disk.contents w.opened.file.value.cells.disk) ≡ true → (start : Service) → IsStartOf w start →
       KeepsKeys (w.disk.left_since disk) (w.disk.moment disk) (opening_of w.disk w.devices w.rules w.opened).moment start history

@@ -1,5 +1,5 @@
 -- A caller after a setup.
-use Rattle.std.proofs.Common.{All, Err, List, None, Ok, Result, Some, [], ap, arith, cond, count_by, false, get_or, length, not, refl, subst, sym, true, vec_capacity, ℕ, ◌+◌, ◌-◌, ◌<◌, ◌^◌, ◌∙◌, ◌∷◌, ◌≡◌, ◌≤◌}
+use Rattle.std.proofs.Common.{All, Err, List, None, Ok, Result, [], ap, arith, cond, count_by, false, get_or, length, not, refl, subst, sym, true, vec_capacity, ℕ, ◌+◌, ◌-◌, ◌<◌, ◌^◌, ◌∙◌, ◌∷◌, ◌≡◌, ◌≤◌}
 use Rattle.callers.proofs.Common.{After, AnswersReply, AreOperations, ArePairs, Caller, Cell, DecidesAfter, Entry, FaultMark, HandleOperation, Held, HoldsLease, Inactive, IsAnswered, IsAt, IsCalled, IsChanged, IsClear, IsEntered, IsLent, IsOperation, IsOwnPart, IsReady, IsRefused, KeyUse, Keyed, KeyedSetup, Keyless, KeylessSetup, KnowsBefore, Legal, OnHandle, Output, Pairs, Plain, Reading, ReadsKey, Request, Served, Setup, Status, TellsFailure, World, applied, buffer_after, busy, entries_of, failure_marked, id_read, is_inactive, lease_pair, leases_of, mark_of, may_change_keys, model_setup, operation_at, operation_of, outcome_of, own_of, plain_reply, refusal_without_key, replay, set-get_or, set_up_by, set_up_with_key, set_up_without_key, setups, stays, use_refusal, used_for, with_operation_at, work_without_key}
 use Rattle.std.specs.Result.{is_ok}
 use Rattle.psa_status.specs.declared.Status.TheVariants as status

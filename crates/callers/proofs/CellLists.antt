@@ -76,12 +76,6 @@ module _ (f : ℕ × ℕ → Bool) where
   leases_put (x ∷ xs) (suc i) c next lt at =
       let a = tally-append (pairs_of x.lease) (leases_of (set xs i next)) in let b = tally-append (pairs_of x.lease) (leases_of xs) in let r = leases_put xs i c next (omega arith) at in omega arith
 
--- one more cell at the end
-pub leases_push : (f : ℕ × ℕ → Bool) (cells : List Cell) (c : Cell) → count_by f (leases_of (cells ++ c ∷ [])) ≡ count_by f (leases_of cells) + count_by f (pairs_of c.lease)
-leases_push f [] c = let a = tally-append f (pairs_of c.lease) [] in omega arith
-leases_push f (x ∷ xs) c =
-    let a = tally-append f (pairs_of x.lease) (leases_of (xs ++ c ∷ [])) in let b = tally-append f (pairs_of x.lease) (leases_of xs) in let r = leases_push f xs c in omega arith
-
 same_pair : (p q : ℕ × ℕ) → (eqb p.0 q.0 && eqb p.1 q.1) ≡ true → q ≡ p
 same_pair p q e = let a : q.0 ≡ p.0 = grind (arith, nat_tests) in let b : q.1 ≡ p.1 = grind (arith, nat_tests) in λ i. (a i, b i)
 

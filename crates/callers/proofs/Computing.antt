@@ -1,5 +1,5 @@
 -- A caller after a call in one part with a key.
-use Rattle.std.proofs.Common.{All, Bool, Err, List, Result, Some, [], ap, arith, count_by, false, if◌then◌else◌, length, length-append, subst, sym, true, vec_capacity, ℕ, ◌&&◌, ◌+◌, ◌<◌, ◌∙◌, ◌∷◌, ◌≡◌, ◌≤◌}
+use Rattle.std.proofs.Common.{All, Bool, Err, List, Result, [], ap, arith, count_by, false, if◌then◌else◌, length, length-append, subst, sym, true, vec_capacity, ℕ, ◌&&◌, ◌+◌, ◌<◌, ◌∙◌, ◌∷◌, ◌≡◌, ◌≤◌}
 use Rattle.callers.proofs.Common.{All-push, AnswersCall, AnswersReply, Caller, Computed, DecidesAfter, DecidesBefore, ElementCall, Entry, HasDrawn, IsAnswered, IsAt, IsCalled, IsClear, IsEntered, IsGivenBack, IsLent, IsOwnPart, IsReady, IsRefused, IsReplied, KeyUse, KeyedCall, KnowsBefore, Legal, NotComputed, OnStore, Outcome, Output, Pairs, Plain, RandomStream, Reading, Reply, Request, Status, World, bytes_of, computed_by, counted, drawn_by, drawn_from, draws_none, entries_of, few, has_vector, is_opaque_key, lease_pair, mark_computed, mark_of, may_change_keys, model_call, model_keyed_call, names, nat_tests, next_bytes, next_random, own_of, replay, same, step, takes_vector, use_refusal, wanted_by, with_computed, without_pair, words_used}
 use Rattle.std.specs.FinMap as map
 use Rattle.std.specs.Result.{is_ok}

@@ -2,6 +2,7 @@
 
 use Rattle.std.proofs.Common.{Bool, List, None, Option, Some, [], ap, arith, bytes_eq, cond, drop, false, find, option_map, refl, subst, suc, sym, take, true, ℕ, ◌+◌, ◌∙◌, ◌∷◌, ◌≡◌}
 use Rattle.command_words.proofs.Common.{Rules, RunOption, Seed, Workers, after_first, all_options, before_first, bytes_eq-Decides, is_equals, list_any, long_of, long_of_rest, none-some, option_id, option_in, option_name, option_named, position_or_len, same_Some}
+
 found_passes : {X : Type 0} (p : X → Bool) (xs : List X) (x : X) → find p xs ≡ Some x → p x ≡ true
 found_passes p [] x e = absurd (none-some x e)
 found_passes {X} p (y ∷ ys) x e = go (p y) refl e (found_passes p ys x)

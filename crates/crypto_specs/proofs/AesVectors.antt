@@ -3,6 +3,7 @@
 -- sections 4.2 and 4.2.1
 use Rattle.std.proofs.Common.{List, [], drop, refl, ℕ, ◌∷◌, ◌≡◌}
 use Rattle.crypto_specs.proofs.Common.{aes_decrypt, aes_encrypt, affine_bits, expanded, gf_mul, inv_affine_bits, inv_rounds, inv_sbox, inverse_from, key_schedule, power_of_x, rounds, sbox, sum_of_shifts, xtime}
+
 product : gf_mul 0x57 0x83 ≡ 0xc1
 unfolding sum_of_shifts
 product = refl

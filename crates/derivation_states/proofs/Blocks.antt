@@ -2,6 +2,7 @@
 
 use Rattle.std.proofs.Common.{Bool, List, ap, cond, false, refl, suc, true, zero, ℕ, ◌≡◌}
 use Rattle.derivation_states.proofs.Common.{DerivationWork, block_at, bytes_or_empty, expand_block, extract, is_hkdf, number_or_zero, pbkdf2_block, work_block_length, work_hash}
+
 pub at_true : (b : Bool) (x y : List ℕ) → b ≡ true → cond b x y ≡ x
 at_true b x y e = ap (λ (t : Bool). cond t x y) e
 

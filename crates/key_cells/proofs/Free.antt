@@ -38,9 +38,6 @@ stays_free_set slots cell slot not_free other lt free =
     (λ differs. get_or-set_other slots cell other slot Free differs ∙ free)
     (cases_eq other cell)
 
-pub stays_free_same : (slots slots' : List Slot) → slots' ≡ slots → StaysFree slots slots'
-stays_free_same slots slots' is other lt free = ap (λ (l : List Slot). cell_slot l other) is ∙ free
-
 pub stays_free_both : (slots slots' slots'' : List Slot) → StaysFree slots slots' → StaysFree slots' slots'' → StaysFree slots slots''
 stays_free_both slots slots' slots'' first second other lt free = second other lt (first other lt free)
 

@@ -2,6 +2,7 @@
 
 use Rattle.std.proofs.Common.{Bool, Option, Some, ap, cond, false, refl, true, ℕ, ◌≡◌}
 use Rattle.key_policy.proofs.Common.{IsConcrete, Key, derivation_key_rows, derivation_refusal, first_row, is_concrete, pattern_refusal}
+
 not_true : (b : Bool) → (b ≡ true → ⊥) → b ≡ false
 not_true true h = absurd (h refl)
 not_true false h = refl

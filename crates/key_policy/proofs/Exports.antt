@@ -2,6 +2,7 @@
 
 use Rattle.std.proofs.Common.{Bool, None, Option, Some, bit_and, cond, false, length, refl, true, ℕ, ◌==◌, ◌≡◌}
 use Rattle.key_policy.proofs.Common.{Key, NotPermitted, NotSupported, Status, export_refusal, export_rows, first_row, is_opaque, room_rows}
+
 last_alone : (a b : Bool) (last : Option Status) → cond a (Some NotPermitted) (cond b (Some NotSupported) None) ≡ None → cond a (Some NotPermitted) (cond b (Some NotSupported) last) ≡ last
 last_alone true b last is = cc
 last_alone false true last is = cc

@@ -3,6 +3,7 @@
 -- a slot keeps all
 use Rattle.std.proofs.Common.{Bool, List, Some, ap, cond, false, find, inl, inr, length, refl, set, sym, true, ℕ, ⊎_elim, ◌-◌, ◌<◌, ◌∙◌, ◌≡◌, ◌≢◌, ◌⊎◌}
 use Rattle.key_slots.proofs.Common.{EndsOnly, IsEmptyAt, IsEmptyOrIdle, IsIdleOf, IsLastOf, IsLawful, IsNext, Keeps, NoneEmpty, OnFalse, OnTrue, Slot, Table, cases_eq, destroyed_slot, empty_slot, false≢true, find_passes, full_within, holds_key, is_idle, is_last, key_is_full, left, registered, slot_at, slot_at-set_other, slot_at-set_same}
+
 pub keeps_all : (s : Slot) → Keeps s s
 keeps_all s = record { state = refl; creation = refl; attributes = refl; buffer = refl }
 

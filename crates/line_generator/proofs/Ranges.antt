@@ -1,7 +1,6 @@
 -- One more element behind those of a range, and one more piece behind those of a list.
-use Rattle.std.proofs.Common.{List, [], add-one, ap, append-nil, arith, flat_map, get_or, length, map, refl, suc, sym, take, zero, ℕ, ◌++◌, ◌+◌, ◌<◌, ◌∙◌, ◌∷◌, ◌≡◌}
-use Rattle.line_generator.proofs.Common.{flat_map-append, range_with_len}
-use Rattle.std.proofs.Math.Seq.{take-suc}
+use Rattle.std.proofs.Common.{List, [], add-one, ap, arith, map, refl, suc, sym, zero, ℕ, ◌++◌, ◌+◌, ◌<◌, ◌∙◌, ◌∷◌, ◌≡◌}
+use Rattle.line_generator.proofs.Common.{range_with_len}
 
 range_more : (a n : ℕ) → range_with_len a (suc n) ≡ range_with_len a n ++ (a + n) ∷ []
 range_more a zero = ap (λ k. k ∷ []) (omega arith)
@@ -20,10 +19,3 @@ pub mapped_more : {X : Type 0} (f : ℕ → X) (n : ℕ) (done next : List X) (x
 mapped_more f n done next x e g h =
     let zero_n : 0 + n ≡ n = omega arith in
     h ∙ ap (λ xs. xs ++ x ∷ []) e ∙ ap (λ y. map f (range_with_len 0 n) ++ y ∷ []) (g ∙ ap f (sym zero_n)) ∙ sym (map_more f 0 n) ∙ ap (λ k. map f (range_with_len 0 k)) (sym (add-one n))
-
--- the pieces of one more element
-pub pieces_more : {X : Type 0} (f : X → List ℕ) (xs : List X) (i : ℕ) (d : X) → i < length xs →
-    flat_map f (take i xs) ++ f (get_or xs i d) ≡ flat_map f (take (i + 1) xs)
-pieces_more f xs i d h =
-    sym (ap (λ k. flat_map f (take k xs)) (add-one i) ∙ ap (flat_map f) (take-suc xs i d h) ∙ flat_map-append f (take i xs) (get_or xs i d ∷ [])
-    ∙ ap (λ ys. flat_map f (take i xs) ++ ys) (append-nil (f (get_or xs i d))))

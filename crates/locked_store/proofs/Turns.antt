@@ -151,7 +151,7 @@ module _ {D A C : Type 0} (w : World D A C) where
         let tells : is_some (w.disk.contents old.opened.file.value.cells.disk) ≡ true → is_some (w.disk.contents new.file.cells.disk) ≡ true = λ is. k.tells ∙ (s.tells ∙ is) in
         rising_push (is_some (w.disk.contents old.opened.file.value.cells.disk)) (As old.opened) seen (entry new call mark) s.rising
         (subst (λ (c : FaultCounts). c.faults ≤ w.disk.faults new.file.cells.disk) counts k.later.disk)
-        (subst (λ (c : FaultCounts). c.hard ≤ w.devices.faults new.devices) counts k.later.devices)
+        (subst (λ (c : FaultCounts). c.device_faults ≤ w.devices.faults new.devices) counts k.later.devices)
         (λ is. (n.holds.promise (tells is)).opened)
         (λ is. (n.holds.promise (tells is)).entered)
 

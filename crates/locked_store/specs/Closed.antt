@@ -26,7 +26,7 @@ pub record IsClosed {D A C : Type 0} (w : World D A C) (disk : D) (devices : A) 
   pub seen : All (λ (a : Account Entry). StartsWith turns a.seen) accounts
   pub called : All (λ (a : Account Entry). 0 < a.number → calls_by caller_of a.number (entries_of turns) ≡ a.calls) accounts
   pub legal : IsLegal w (entries_of turns)
-  pub counts : last_counts (opening_of w.disk w.devices w.rules w.opened).counts (entries_of turns) ≡ record { faults = w.disk.faults disk; hard = w.devices.faults devices }
+  pub counts : last_counts (opening_of w.disk w.devices w.rules w.opened).counts (entries_of turns) ≡ record { faults = w.disk.faults disk; device_faults = w.devices.faults devices }
   pub tells : is_some (w.disk.contents disk) ≡ is_some (w.disk.contents w.opened.file.value.cells.disk)
   pub promise : is_some (w.disk.contents w.opened.file.value.cells.disk) ≡ true → (start : Service) → IsStartOf w start →
       KeepsKeys (w.disk.left_since disk) (w.disk.moment disk) (opening_of w.disk w.devices w.rules w.opened).moment start (entries_of turns)

@@ -7,20 +7,15 @@ use Rattle.driver_dispatch.specs.declared.devices.Devices as devices
 use Rattle.admission.specs.declared.rules.Admission as admission
 use Rattle.key_slots.specs.Holdings.{Pairs}
 use Rattle.store_model.specs.Prelude.{Plain, OnHandle, Abort, Service, IsCaller, Entry}
-use Rattle.store_core.specs.declared.store.Opened.{Opened}
 use Rattle.store_core.specs.declared.store.Store.{Store}
 use Rattle.store_core.specs.Prelude.{StandsFor, AreRising, IsStart, opening_of}
 
 -- an entry of no history: one is named where none is made
 abbrev pub some_entry : Entry
-some_entry = record { caller = 0; call = OnHandle 1 Abort; mark = Plain; done = 0; faults = 0; hard = 0 }
+some_entry = record { caller = 0; call = OnHandle 1 Abort; mark = Plain; done = 0; faults = 0; device_faults = 0 }
 
 abbrev pub caller_of : Entry → ℕ
 caller_of e = e.caller
-
--- there is a start that an opening permits
-abbrev pub HasStart : {D A C : Type 0} → disk.Ghosts D → devices.Ghosts A → admission.Ghosts C → Opened D A C → Type 0
-HasStart d a c opened = (start : Service) × IsStart d a c opened start
 
 -- The store stands for the history, of calls by sixteen callers, from each start that its opening permits, and there is such a
 -- start. In the history no count of faults falls, and no moment. Between two turns the disk has its size and the buffer is

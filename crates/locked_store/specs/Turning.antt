@@ -71,7 +71,7 @@ turn_entry d a store caller call mark = record {
   mark = mark;
   done = d.moment store.file.cells.disk;
   faults = d.faults store.file.cells.disk;
-  hard = a.faults store.devices;
+  device_faults = a.faults store.devices;
 }
 
 -- PASSES

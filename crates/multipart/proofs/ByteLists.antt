@@ -1,6 +1,7 @@
 -- Bytes compared one by one.
 
 use Rattle.std.proofs.Common.{Bool, List, [], ap, arith, bytes_eq, eqb, false, length, refl, true, ℕ, ◌&&◌, ◌++◌, ◌∙◌, ◌∷◌, ◌≡◌}
+
 and_assoc : (a b c : Bool) → a && (b && c) ≡ a && b && c
 and_assoc true b c = refl
 and_assoc false b c = refl

@@ -36,10 +36,6 @@ full_of_settled slots slots' is full cell lt =
 pub placed_after : (slots slots' last : List Slot) (cell : ℕ) (slot : Slot) → slots' ≡ settled_slots slots → last ≡ set (settled_slots slots') cell slot → last ≡ set (settled_slots slots) cell slot
 placed_after slots slots' last cell slot is placed = placed ∙ ap (λ (l : List Slot). set l cell slot) (ap settled_slots is ∙ settled_twice slots)
 
--- what remains once nothing is in doubt, after the cells in doubt were closed
-pub missing_after : (slots slots' last : List Slot) (cell : ℕ) → slots' ≡ settled_slots slots → settled_slots last ≡ set (settled_slots slots') cell Free → settled_slots last ≡ set (settled_slots slots) cell Free
-missing_after slots slots' last cell is missing = missing ∙ ap (λ (l : List Slot). set l cell Free) (ap settled_slots is ∙ settled_twice slots)
-
 -- and where a cell was put in doubt
 pub missing_unsure : (slots slots' last : List Slot) (cell : ℕ) → settled_slots slots' ≡ settled_slots slots → last ≡ set slots' cell Unsure → settled_slots last ≡ set (settled_slots slots) cell Free
 missing_unsure slots slots' last cell same is = ap settled_slots is ∙ (map-set settled_slot slots' cell Unsure ∙ ap (λ (l : List Slot). set l cell Free) same)

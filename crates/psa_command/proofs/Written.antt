@@ -5,10 +5,6 @@ use Rattle.std.proofs.Math.Seq.{take-append-add, take-append_seam}
 use Rattle.std.proofs.lemmas.Grind.{flat_map-append}
 use Rattle.std.proofs.lemmas.List.{append-nil, drop_more, take-append-drop, take_more}
 
-pub appends_none : (taken : Option (List ℕ)) → Appends taken taken []
-appends_none None = tt
-appends_none (Some bytes) = sym (append-nil bytes)
-
 pub appends_both : (old mid new : Option (List ℕ)) (front piece : List ℕ) → Appends old mid front → Appends mid new piece → Appends old new (front ++ piece)
 appends_both None mid new front piece a b = tt
 appends_both (Some x) None new front piece a b = absurd a

@@ -2,6 +2,7 @@
 
 use Rattle.std.proofs.Common.{List, [], ap, refl, slice_index, ℕ, ◌%◌, ◌++◌, ◌/◌, ◌∷◌, ◌≡◌}
 use Rattle.script_lang.proofs.Common.{encode_lower, encode_with, lower_digits}
+
 pub encode_joined : (front rest : List ℕ) → encode_lower (front ++ rest) ≡ encode_lower front ++ encode_lower rest
 unfolding encode_with
 encode_joined [] rest = refl

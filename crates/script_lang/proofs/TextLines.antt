@@ -2,6 +2,7 @@
 
 use Rattle.std.proofs.Common.{Bool, List, [], ap, cond, false, refl, sym, true, ℕ, ◌==◌, ◌∙◌, ◌∷◌, ◌≡◌}
 use Rattle.script_lang.proofs.Common.{ended, onto_first, pieces, text_lines, without_return}
+
 abbrev IsSome : List (List ℕ) → Type 0
 IsSome ps = (p : List ℕ) × (rest : List (List ℕ)) × (ps ≡ p ∷ rest)
 

@@ -7,16 +7,16 @@ abbrev one : Bool → ℕ
 one b = cond b 1 0
 
 abbrev counts_of : Entry → FaultCounts
-counts_of e = record { faults = e.faults; hard = e.hard }
+counts_of e = record { faults = e.faults; device_faults = e.device_faults }
 
 -- the last counts are none below those before
 last_faults : (tells : Bool) (before : Opening) (h : List Entry) → AreRising tells before h → before.counts.faults ≤ (last_counts before.counts h).faults
 last_faults tells before [] rising = omega arith
 last_faults tells before (e ∷ h) rising = let a = rising.0.faults in let b = last_faults tells (opening_after e) h rising.1 in omega arith
 
-last_hard : (tells : Bool) (before : Opening) (h : List Entry) → AreRising tells before h → before.counts.hard ≤ (last_counts before.counts h).hard
-last_hard tells before [] rising = omega arith
-last_hard tells before (e ∷ h) rising = let a = rising.0.hard in let b = last_hard tells (opening_after e) h rising.1 in omega arith
+last_device_faults : (tells : Bool) (before : Opening) (h : List Entry) → AreRising tells before h → before.counts.device_faults ≤ (last_counts before.counts h).device_faults
+last_device_faults tells before [] rising = omega arith
+last_device_faults tells before (e ∷ h) rising = let a = rising.0.device_faults in let b = last_device_faults tells (opening_after e) h rising.1 in omega arith
 
 rose_by_one : (before now : ℕ) → Rose before now → now < 2 ^ 64 - 1 → before + 1 ≤ now
 rose_by_one before now rose below = grind arith
@@ -33,7 +33,7 @@ by_storage tells before e (Storage access) fault is = fault
 by_storage tells before e Hardware fault is = cc
 by_storage tells before e Corrupt fault is = cc
 
-by_hardware : (tells : Bool) (before : FaultCounts) (e : Entry) (mark : FaultMark) → HasFault tells before e mark → is_hardware mark ≡ true → Rose before.hard e.hard
+by_hardware : (tells : Bool) (before : FaultCounts) (e : Entry) (mark : FaultMark) → HasFault tells before e mark → is_hardware mark ≡ true → Rose before.device_faults e.device_faults
 by_hardware tells before e Plain fault is = cc
 by_hardware tells before e (Storage access) fault is = cc
 by_hardware tells before e Hardware fault is = fault
@@ -52,12 +52,12 @@ storage_bound tells before (e ∷ h) caused rising below =
     counted (is_storage e.mark) before.counts.faults e.faults (last_counts (counts_of e) h).faults (marked is_storage h) rising.0.faults
     (by_storage tells before.counts e e.mark caused.0) (last_faults tells (opening_after e) h rising.1) below (storage_bound tells (opening_after e) h caused.1 rising.1 below)
 
-hardware_bound : (tells : Bool) (before : Opening) (h : List Entry) → IsCaused tells before.counts h → AreRising tells before h → (last_counts before.counts h).hard < 2 ^ 64 - 1 →
-    before.counts.hard + marked is_hardware h ≤ (last_counts before.counts h).hard
+hardware_bound : (tells : Bool) (before : Opening) (h : List Entry) → IsCaused tells before.counts h → AreRising tells before h → (last_counts before.counts h).device_faults < 2 ^ 64 - 1 →
+    before.counts.device_faults + marked is_hardware h ≤ (last_counts before.counts h).device_faults
 hardware_bound tells before [] caused rising below = omega arith
 hardware_bound tells before (e ∷ h) caused rising below =
-    counted (is_hardware e.mark) before.counts.hard e.hard (last_counts (counts_of e) h).hard (marked is_hardware h) rising.0.hard
-    (by_hardware tells before.counts e e.mark caused.0) (last_hard tells (opening_after e) h rising.1) below (hardware_bound tells (opening_after e) h caused.1 rising.1 below)
+    counted (is_hardware e.mark) before.counts.device_faults e.device_faults (last_counts (counts_of e) h).device_faults (marked is_hardware h) rising.0.device_faults
+    (by_hardware tells before.counts e e.mark caused.0) (last_device_faults tells (opening_after e) h rising.1) below (hardware_bound tells (opening_after e) h caused.1 rising.1 below)
 
 none_corrupt : (before : FaultCounts) (h : List Entry) → IsCaused true before h → marked is_corrupt h ≡ 0
 none_corrupt before [] caused = refl

@@ -204,9 +204,6 @@ snoc_parts (x ∷ xs) (y ∷ ys) a b e =
     let heads : x ≡ y = cc in let tails : xs ++ a ∷ [] ≡ ys ++ b ∷ [] = cc in
     let r = snoc_parts xs ys a b tails in ((λ i. heads i ∷ r.0 i), r.1)
 
-get_snoc : {X : Type 0} (xs : List X) (x d : X) → get_or (xs ++ x ∷ []) (length xs) d ≡ x
-get_snoc xs x d = get_or_push xs x d (length xs) refl
-
 get_front : {X : Type 0} (xs more : List X) (i : ℕ) (d : X) → i < length xs → get_or (xs ++ more) i d ≡ get_or xs i d
 get_front [] more i d lt = absurd (omega arith)
 get_front (y ∷ xs) more zero d lt = refl

@@ -3,6 +3,7 @@
 -- statuses are told apart as the marks are that they come of
 use Rattle.std.proofs.Common.{Bool, List, None, Option, Some, [], ap, ap₂, arith, cond, count_by, eqb, false, inl, inr, leb, map, refl, suc, sum_by, sym, true, zero, ℕ, ◌+◌, ◌∙◌, ◌∷◌, ◌≡◌, ◌≤◌}
 use Rattle.session_host.proofs.Common.{Corrupt, DataCorrupt, Entry, FaultMark, Hardware, HardwareFailure, LinesAreBounded, Plain, ReplyLine, Status, Storage, StorageAccess, StorageFailure, eqb_tells, failure_marked, failure_of, failure_told, failures_of, failures_to, is_corrupt, is_data_corrupt, is_hardware, is_hardware_failure, is_of_fault, is_storage, is_storage_failure, leb_tells, marked, saying, sum_by-append, sum_by-cons}
+
 record Agrees (says : Status → Bool) (marks : FaultMark → Bool) : Type 0 where
   plain : marks Plain ≡ false
   others : (status : Status) → is_of_fault status ≡ false → says status ≡ false

@@ -13,10 +13,6 @@ turns-append n service (x ∷ xs) ys =
     ap (λ ts. turn_at n service x ∷ ts) (turns-append (n + 1) next xs ys
     ∙ ap (λ k. turns_from (n + 1) next xs ++ turns_from k (replay next xs) ys) (let m : n + 1 + length xs ≡ n + length (x ∷ xs) = omega arith in m))
 
-pub replay_more : (service : Service) (es : List Entry) (e : Entry) → replay service (es ++ e ∷ []) ≡ (outcome_of (replay service es) e).service
-replay_more service [] e = refl
-replay_more service (x ∷ es) e = replay_more (outcome_of service x).service es e
-
 -- where no entry is the session's, no turn is
 
 not_empty : {A : Type 0} (x : A) (xs : List A) → x ∷ xs ≡ [] → ⊥

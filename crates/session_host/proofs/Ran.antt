@@ -29,7 +29,7 @@ module _ {D A C : Type 0} (disks : Disk.Ghosts D) (elements : Devices.Ghosts A) 
   before = opening_of disks elements admits opened
 
   abbrev after : FaultCounts
-  after = record { faults = disks.faults disk_after; hard = elements.faults devices_after }
+  after = record { faults = disks.faults disk_after; device_faults = elements.faults devices_after }
 
   few_marks : AreBounded (is_some (disks.contents disk)) before.counts after closed.history
   few_marks =

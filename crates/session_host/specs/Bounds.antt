@@ -30,7 +30,7 @@ marked p (e ∷ es) = cond (p e.mark) 1 0 + marked p es
 -- to their type's end. None met corrupt bytes of a disk that tells its bytes.
 pub record AreBounded (tells : Bool) (before after : FaultCounts) (history : List Entry) : Type 0 where
   pub storage : after.faults < 2 ^ 64 - 1 → before.faults + marked is_storage history ≤ after.faults
-  pub hardware : after.hard < 2 ^ 64 - 1 → before.hard + marked is_hardware history ≤ after.hard
+  pub hardware : after.device_faults < 2 ^ 64 - 1 → before.device_faults + marked is_hardware history ≤ after.device_faults
   pub corrupt : tells ≡ true → marked is_corrupt history ≡ 0
 
 -- so it is of every history whose marks have causes, and along which no count falls
@@ -60,7 +60,7 @@ saying p replies = count_by (λ r. p r.status) replies
 -- where the counts haven't come to their type's end. None says DATA_CORRUPT where the disk tells its bytes.
 pub record AreBoundedLines (tells : Bool) (before after : FaultCounts) (replies : List ReplyLine) : Type 0 where
   pub storage : after.faults < 2 ^ 64 - 1 → before.faults + saying is_storage_failure replies ≤ after.faults
-  pub hardware : after.hard < 2 ^ 64 - 1 → before.hard + saying is_hardware_failure replies ≤ after.hard
+  pub hardware : after.device_faults < 2 ^ 64 - 1 → before.device_faults + saying is_hardware_failure replies ≤ after.device_faults
   pub corrupt : tells ≡ true → saying is_data_corrupt replies ≡ 0
 
 -- so it is of lines that tell of the failures that the marks of sessions 1 to n are of, where it is of the history

@@ -54,7 +54,7 @@ module _ {D A C : Type 0} (disks : Disk.Ghosts D) (elements : Devices.Ghosts A) 
     pub opening : IsOpening (world_of disks elements admits lock opened) disk devices named seed
     pub history : List Entry
     pub left : IsLeft (world_of disks elements admits lock opened) history disk_after devices_after
-    pub bounded : AreBounded (is_some (disks.contents disk)) (opening_of disks elements admits opened).counts (record { faults = disks.faults disk_after; hard = elements.faults devices_after }) history
+    pub bounded : AreBounded (is_some (disks.contents disk)) (opening_of disks elements admits opened).counts (record { faults = disks.faults disk_after; device_faults = elements.faults devices_after }) history
 
   -- The calls of these lines were made in one order, and these are the replies. Each session has a call in the order for each of
   -- its lines, and a reply to each, with its rank. The calls are those of the lines, in each session's own order, and the replies
@@ -67,7 +67,7 @@ module _ {D A C : Type 0} (disks : Disk.Ghosts D) (elements : Devices.Ghosts A) 
     pub heads : map head_of replies ≡ heads_to 16 run.history
     pub answers : OfStarts (world_of disks elements admits run.lock run.opened) run.history (λ start. AreReplies start lines run.history replies)
     pub so_far : OfBeginnings (world_of disks elements admits run.lock run.opened) run.history (λ start beginning. AreRepliesSoFar start lines beginning replies)
-    pub failures : AreBoundedLines (is_some (disks.contents disk)) (opening_of disks elements admits run.opened).counts (record { faults = disks.faults disk_after; hard = elements.faults devices_after }) replies
+    pub failures : AreBoundedLines (is_some (disks.contents disk)) (opening_of disks elements admits run.opened).counts (record { faults = disks.faults disk_after; device_faults = elements.faults devices_after }) replies
     pub line_order : workers ≡ 1 → IsInLineOrder lines run.history
 
   -- The replies to these lines are kept in this form, those of each session by themselves.

@@ -2,6 +2,7 @@
 
 use Rattle.std.proofs.Common.{refl}
 use Rattle.single_part.proofs.Common.{AeadDecrypt, AeadEncrypt, CipherDecrypt, CipherEncrypt, Compare, Compute, Export, HashCallsRead, KeyedCallsRead, MacCompute, MacVerify}
+
 pub keyed : KeyedCallsRead
 keyed service caller Export id room = (refl, refl)
 keyed service caller (MacCompute alg input) id room = (refl, refl)

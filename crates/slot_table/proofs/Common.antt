@@ -4,9 +4,9 @@ pub use Rattle.slot_states.specs.declared.SlotState.{SlotState}
 pub use Rattle.slot_states.specs.declared.SlotState.TheVariants.{Empty, Filling, Full, Pending}
 pub use Rattle.slot_table.specs.Changes.{full_slot, recency_without}
 pub use Rattle.slot_table.specs.Lent.{Reserved}
-pub use Rattle.slot_table.specs.Rows.{AreRows, NoneBefore, empty_head, head_at, head_holds_key, no_key, slot_of, slots_of, stored_at}
-pub use Rattle.slot_table.specs.Slots.{CanReserve, IsEmptyAt, IsLawful, IsLawfulSlot, IsNext, NoKey, NoneEmpty, Slot, Table, empty_slot, filling_slot, holds_key, is_empty_state, is_full, is_idle, is_last, is_pending, slot_at, times}
+pub use Rattle.slot_table.specs.Rows.{AreRows, empty_head, head_at, head_holds_key, no_key, slot_of, slots_of, stored_at}
+pub use Rattle.slot_table.specs.Slots.{CanReserve, IsEmptyAt, IsLawful, IsLawfulSlot, IsNext, NoKey, NoneEmpty, Slot, Table, empty_slot, holds_key, is_empty_state, is_full, is_idle, is_last, is_pending, slot_at, times}
 pub use Rattle.slot_table.specs.declared.place.Head.{Head}
 pub use Rattle.std.proofs.lemmas.Bool.{cases_eq, cases_lt, false≢true}
-pub use Rattle.std.proofs.lemmas.Bool.Decides.{eqb_tells, nat_tests}
+pub use Rattle.std.proofs.lemmas.Bool.Decides.{nat_tests}
 pub use Rattle.std.proofs.lemmas.List.{get_or_past, get_or_read, length-replicate, set-get_or}

@@ -1,6 +1,6 @@
 -- What keeps the law of a table.
 use Rattle.std.proofs.Common.{Bool, List, MatchOption, None, Option, Some, [], add-zero, ap, arith, cond, false, find, inl, inr, is_some, length, refl, replicate, rules, set, suc, sym, true, zero, ℕ, ⊎_elim, ◌&&◌, ◌++◌, ◌+◌, ◌-◌, ◌<◌, ◌==◌, ◌∙◌, ◌∷◌, ◌≡◌, ◌≢◌, ◌≤◌}
-use Rattle.slot_table.proofs.Common.{CanReserve, Empty, Filling, Full, IsEmptyAt, IsLawful, IsLawfulSlot, NoKey, NoneEmpty, Pending, Slot, SlotState, Table, buffer_of, cases_eq, empty_slot, false≢true, filling_slot, full_slot, get_or_past, holds_key, is_empty_state, is_full, is_idle, is_last, is_pending, length-replicate, nat_tests, recency_without, slot_at, times}
+use Rattle.slot_table.proofs.Common.{CanReserve, Empty, Filling, Full, IsEmptyAt, IsLawful, IsLawfulSlot, NoKey, NoneEmpty, Pending, Slot, SlotState, Table, buffer_of, cases_eq, empty_slot, false≢true, full_slot, get_or_past, holds_key, is_empty_state, is_full, is_idle, is_last, is_pending, length-replicate, nat_tests, recency_without, slot_at, times}
 use Rattle.std.proofs.lemmas.List.{length-set}
 use Rattle.key_attributes.specs.declared.Attributes.{Attributes}
 use Rattle.slot_table.proofs.AtSlots.{at_each, full_test, read_within, key_is_full, idle_is_full, idle_is_unread, bytes-buffer_of, find_passes}
@@ -27,9 +27,6 @@ keeps_law t i s recency law c = record {
 
 pub lawful_empty : IsLawfulSlot empty_slot
 lawful_empty = record { empty = λ h. refl; filling = λ h. absurd (cc); pending = λ h. absurd (cc); short = omega arith; rest = refl }
-
-pub lawful_filling : IsLawfulSlot filling_slot
-lawful_filling = record { empty = λ h. absurd (cc); filling = λ h. refl; pending = λ h. absurd (cc); short = omega arith; rest = refl }
 
 pub lawful_new : (creation : ℕ) (attributes : Attributes) (bytes : List ℕ) → length bytes ≤ 1024 → IsLawfulSlot (full_slot creation attributes bytes)
 lawful_new creation attributes bytes short = record {

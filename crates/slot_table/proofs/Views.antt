@@ -1,6 +1,6 @@
 -- Two rows as the slots of a table.
-use Rattle.std.proofs.Common.{List, [], ap, arith, get_or, get_or-set_other, get_or-set_same, inl, inr, length, min, refl, replicate, set, suc, sym, zero, ℕ, ◌&&◌, ◌<◌, ◌==◌, ◌∙◌, ◌∷◌, ◌≡◌}
-use Rattle.slot_table.proofs.Common.{AreRows, Head, NoneBefore, Slot, empty_head, empty_slot, eqb_tells, head_at, head_holds_key, holds_key, is_empty_state, is_full, length-replicate, no_key, set-get_or, slot_at, slot_of, slots_of, stored_at}
+use Rattle.std.proofs.Common.{List, [], ap, arith, get_or, length, refl, replicate, set, suc, sym, zero, ℕ, ◌&&◌, ◌<◌, ◌==◌, ◌∙◌, ◌∷◌, ◌≡◌}
+use Rattle.slot_table.proofs.Common.{AreRows, Head, Slot, empty_head, empty_slot, head_at, head_holds_key, holds_key, is_full, length-replicate, no_key, set-get_or, slot_at, slot_of, slots_of, stored_at}
 use Rattle.key_attributes.specs.declared.KeyId.{KeyId}
 use Rattle.slot_table.specs.declared.place.Stored.{Stored}
 
@@ -86,16 +86,4 @@ AreRows-replicate = record {
 
 -- WRITES
 
--- a head whose state stays leaves none before a place empty
-pub none_still : (heads : List Head) (first i : ℕ) (head : Head) → NoneBefore heads first → i < length heads → head.state ≡ (head_at heads i).state → NoneBefore (set heads i head) first
-none_still heads first i head none within same k lt = elim (eqb_tells k i) [
-  | inl here ↦
-      ap (λ (h : Head). is_empty_state h.state) (ap (λ j. get_or (set heads i head) j empty_head) here.1 ∙ get_or-set_same heads i head empty_head within)
-      ∙ (ap is_empty_state same ∙ (ap (λ j. is_empty_state (head_at heads j).state) (sym here.1) ∙ none k lt))
-  | inr other ↦ ap (λ (h : Head). is_empty_state h.state) (get_or-set_other heads i k head empty_head other.1) ∙ none k lt
 ]
-
--- and another one none before its own
-pub none_before_it : (heads : List Head) (first i : ℕ) (head : Head) → NoneBefore heads first → NoneBefore (set heads i head) (min first i)
-none_before_it heads first i head none k lt =
-    ap (λ (h : Head). is_empty_state h.state) (get_or-set_other heads i k head empty_head (λ e. omega (arith, e, lt))) ∙ none k (omega (arith, lt))

@@ -210,7 +210,7 @@ pub unrefused : (o : Option Status) (P : Type 0) (result : Result ℕ NotCompute
 unrefused None P result failed decided = refl
 unrefused (Some status) P result failed decided = cc
 
-pub fault_of : (result : Result ℕ NotComputed) (tells : Bool) (before : FaultCounts) (e : Entry) → (IsErrOf result Failed → Rose before.hard e.hard) → HasFault tells before e (mark_computed result)
+pub fault_of : (result : Result ℕ NotComputed) (tells : Bool) (before : FaultCounts) (e : Entry) → (IsErrOf result Failed → Rose before.device_faults e.device_faults) → HasFault tells before e (mark_computed result)
 fault_of (Ok n) tells before e rose = tt
 fault_of (Err (Refused status)) tells before e rose = tt
 fault_of (Err Failed) tells before e rose = rose refl

@@ -98,8 +98,8 @@ module _ {D A C : Type 0} (disks : Disk.Ghosts D) (elements : Devices.Ghosts A) 
     pub turns : IsTurn disks elements admits new mark e → StandsHere disks elements admits new start opening (h ++ e ∷ []) more
     turns is = record { holds = holds; counts = counts_push opening.counts h e ∙ counted_here }
       where
-        counted_here : counts_of e.faults e.hard ≡ counts_of (disks.faults now) (elements.faults new.devices)
-        counted_here = ap (λ (n : ℕ). counts_of n e.hard) is.disk_faults ∙ ap (counts_of (disks.faults now)) is.device_faults
+        counted_here : counts_of e.faults e.device_faults ≡ counts_of (disks.faults now) (elements.faults new.devices)
+        counted_here = ap (λ (n : ℕ). counts_of n e.device_faults) is.disk_faults ∙ ap (counts_of (disks.faults now)) is.device_faults
 
         holds : HoldsHere disks elements admits Known new start opening (h ++ e ∷ []) more
         holds = record {

@@ -26,12 +26,6 @@ apart n k differ = grind (arith, nat_tests)
 pub volatile_by : (a : Attributes) → a.lifetime.0 % 2 ^ 8 ≡ 0 → is_volatile a ≡ true
 volatile_by a is = eq-eqb (a.lifetime.0 % 2 ^ 8) 0 is
 
-pub lasting_by : (a : Attributes) → a.lifetime.0 % 2 ^ 8 ≢ 0 → is_volatile a ≡ false
-lasting_by a is = apart (a.lifetime.0 % 2 ^ 8) 0 is
-
-pub opaque_by : (a : Attributes) → a.lifetime.0 / 2 ^ 8 ≡ 1 → is_opaque a ≡ true
-opaque_by a is = eq-eqb (a.lifetime.0 / 2 ^ 8) 1 is
-
 pub local_by : (a : Attributes) → a.lifetime.0 / 2 ^ 8 ≢ 1 → is_opaque a ≡ false
 local_by a is = apart (a.lifetime.0 / 2 ^ 8) 1 is
 

@@ -50,14 +50,14 @@ module _ {D A C : Type 0} (disks : Disk.Ghosts D) (elements : Devices.Ghosts A) 
       IsSince disks elements admits (record old { buffer = buffer }) (last_counts opening.counts h)
   since_stands old buffer start opening h all s = record {
     faults_since = (let same = ap (λ (c : FaultCounts). c.faults) s.counts in omega arith);
-    hard_since = (let same = ap (λ (c : FaultCounts). c.hard) s.counts in omega arith);
+    device_faults_since = (let same = ap (λ (c : FaultCounts). c.device_faults) s.counts in omega arith);
   }
 
   pub since_later : (old mid : Store D A C) (counts : FaultCounts) → counts ≡ counts_of (disks.faults old.file.cells.disk) (elements.faults old.devices) → disks.faults old.file.cells.disk ≤ disks.faults mid.file.cells.disk → mid.devices ≡ old.devices →
       IsSince disks elements admits mid counts
   since_later old mid counts is later same = record {
     faults_since = (let at = ap (λ (c : FaultCounts). c.faults) is in omega arith);
-    hard_since = (let at = ap (λ (c : FaultCounts). c.hard) is in let here = ap elements.faults same in omega arith);
+    device_faults_since = (let at = ap (λ (c : FaultCounts). c.device_faults) is in let here = ap elements.faults same in omega arith);
   }
 
   -- the request makes the key that was decided

@@ -17,9 +17,9 @@ pub replay_push : (service : Service) (h : List Entry) (e : Entry) → replay se
 replay_push service [] e = refl
 replay_push service (first ∷ h) e = replay_push (outcome_of service first).service h e
 
-pub counts_push : (before : FaultCounts) (h : List Entry) (e : Entry) → last_counts before (h ++ e ∷ []) ≡ record { faults = e.faults; hard = e.hard }
+pub counts_push : (before : FaultCounts) (h : List Entry) (e : Entry) → last_counts before (h ++ e ∷ []) ≡ record { faults = e.faults; device_faults = e.device_faults }
 counts_push before [] e = refl
-counts_push before (first ∷ h) e = counts_push (record { faults = first.faults; hard = first.hard }) h e
+counts_push before (first ∷ h) e = counts_push (record { faults = first.faults; device_faults = first.device_faults }) h e
 
 -- WHAT IS TOLD
 

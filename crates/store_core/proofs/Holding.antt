@@ -21,7 +21,7 @@ promise_stays past since before now opening start h P p call here = record {
   either least image few old (inr now) = fits_least after FitsCourse (opened start) h (length h) least image few (fits_whole after FitsCourse (opened start) h image (here image now))
 
 abbrev pub counts_of : ℕ → ℕ → FaultCounts
-counts_of n m = record { faults = n; hard = m }
+counts_of n m = record { faults = n; device_faults = m }
 
 -- the same keys as a directory and a device have them
 pub same_directory : (slots : List _) (m : model.Store) → IsDirectory slots m → IsDirectory slots (counted m)
@@ -206,8 +206,8 @@ module _ {D A C : Type 0} (disks : Disk.Ghosts D) (elements : Devices.Ghosts A) 
         (after : StandsHere (turned old slots) start opening (h ++ e ∷ []) more) × (after.holds.model ≡ counted s.model)
     ends_quiet s agrees holdings fault may still is = (record { holds = holds; counts = counts_push opening.counts h e ∙ counted_here }, refl)
       where
-        counted_here : counts_of e.faults e.hard ≡ counts_of (disks.faults disk_here) (elements.faults old.devices)
-        counted_here = ap (λ (n : ℕ). counts_of n e.hard) is.disk_faults ∙ ap (counts_of (disks.faults disk_here)) is.device_faults
+        counted_here : counts_of e.faults e.device_faults ≡ counts_of (disks.faults disk_here) (elements.faults old.devices)
+        counted_here = ap (λ (n : ℕ). counts_of n e.device_faults) is.disk_faults ∙ ap (counts_of (disks.faults disk_here)) is.device_faults
 
         holds : HoldsHere Known (turned old slots) start opening (h ++ e ∷ []) more
         holds = record {

@@ -202,7 +202,7 @@ module _ {D A C : Type 0} (disks : Disk.Ghosts D) (elements : Devices.Ghosts A) 
     }) (λ service known. ap (λ (x : FaultMark). (serve service e.caller e.call x).service.store) is.marked ∙ marked_counts service e.caller e.call Hardware tt making.keeps)
         (λ c known at stands. subst (Leading c.doubt m) (sym (doubt_is c known at)) (stays disks disk old.file.cells.slots.items (durable_keys m) (durable_keys m) c.doubt (λ q. refl) stands))
         (λ c known at sure none. sure (sym (doubt_is c known at) ∙ none))
-        (rose_since (last_counts opening.counts h).hard (elements.faults old.devices) e.hard since.hard_since (subst (Rose (elements.faults old.devices)) (sym is.device_faults) rose))
+        (rose_since (last_counts opening.counts h).device_faults (elements.faults old.devices) e.device_faults since.device_faults_since (subst (Rose (elements.faults old.devices)) (sym is.device_faults) rose))
         (λ service known at. ap (λ b. b || asks_device service e.caller e.call) (ap is_opaque_key (changed service known at) ∙ opaque)) is
       where
         changed : (service : Service) → IsMakingAt e caller a r.bytes service → m ≡ service.store → key_changed service e.caller e.call ≡ Some own

@@ -31,7 +31,7 @@ few_readers slots m all i a law inside =
 
 -- an entry that asks for a key
 abbrev pub asks_for : ℕ → Entry
-asks_for id = record { caller = 1; call = OnStore (GetAttributes id); mark = Plain; done = 0; faults = 0; hard = 0 }
+asks_for id = record { caller = 1; call = OnStore (GetAttributes id); mark = Plain; done = 0; faults = 0; device_faults = 0 }
 
 module _ {D A C : Type 0} (disks : Disk.Ghosts D) (elements : Devices.Ghosts A) (admits : Admission.Ghosts C)
     (only_now : (disk : D) (image : List ℕ) → disks.left_since disk (disks.moment disk) image → disks.may_leave disk image)

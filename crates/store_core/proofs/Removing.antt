@@ -36,9 +36,6 @@ settled_opens (Open own creation) id number is = is
 settled_opens Shut id number is = cc
 settled_opens Unsure id number is = cc
 
-opens_settled : (slot : cell.Slot) (id number : ℕ) → slot ≡ Open id number → settled_slot slot ≡ Open id number
-opens_settled slot id number is = ap settled_slot is
-
 pub settled_at : (slots : List cell.Slot) (c : ℕ) → cell_slot (settled_slots slots) c ≡ settled_slot (cell_slot slots c)
 settled_at slots c = elim (cases_lt c (length slots)) [
   | inl lt ↦ get_or-map settled_slot slots c Free Free lt

@@ -232,7 +232,7 @@ module _ {D A C : Type 0} (disks : Disk.Ghosts D) (elements : Devices.Ghosts A) 
             caused = tt;
             allowed = λ t. tt;
           };
-          counts = ap (λ (f : KeyFile D). record { faults = disks.faults f.cells.disk; hard = elements.faults store.opened.devices.value }) new.saw_file ∙ ap (λ (v : A). record { faults = disks.faults disk; hard = elements.faults v }) new.saw_devices;
+          counts = ap (λ (f : KeyFile D). record { faults = disks.faults f.cells.disk; device_faults = elements.faults store.opened.devices.value }) new.saw_file ∙ ap (λ (v : A). record { faults = disks.faults disk; device_faults = elements.faults v }) new.saw_devices;
         }
 
   -- an opening that had no memory left the disk as it was

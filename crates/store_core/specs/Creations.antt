@@ -184,7 +184,7 @@ module _ {D A C : Type 0} (disks : Disk.Ghosts D) (elements : Devices.Ghosts A) 
   -- no device has failed less often than at the last entry
   pub record IsSince (store : Store D A C) (counts : FaultCounts) : Type 0 where
     pub faults_since : counts.faults ≤ disks.faults store.file.cells.disk
-    pub hard_since : counts.hard ≤ elements.faults store.devices
+    pub device_faults_since : counts.device_faults ≤ elements.faults store.devices
 
   -- the turn ends with the key made, or not, and P holds of the model before
   abbrev pub Enters : (old new : Store D A C) (caller : ℕ) → Attributes → (source : Option ℕ) → ℕ × ℕ → FaultMark → (model.Store → Type 0) → Type 0

@@ -87,7 +87,7 @@ module _ {D A C : Type 0} (disks : Disk.Ghosts D) (elements : Devices.Ghosts A) 
   -- as that is told, and no device was called since the last entry.
   pub record StandsFor (store : Store D A C) (start : Service) (opening : Opening) (h : List Entry) (all : List Pairs) : Type 0 where
     pub holds : Holds (Told store start h) store start opening h all
-    pub counts : last_counts opening.counts h ≡ record { faults = disks.faults store.file.cells.disk; hard = elements.faults store.devices }
+    pub counts : last_counts opening.counts h ≡ record { faults = disks.faults store.file.cells.disk; device_faults = elements.faults store.devices }
 
   -- an entry as a ranked turn leaves it: by one of sixteen callers, with its mark, the disk's moment and both counts
   pub record IsEntry (store : Store D A C) (mark : FaultMark) (e : Entry) : Type 0 where
@@ -96,7 +96,7 @@ module _ {D A C : Type 0} (disks : Disk.Ghosts D) (elements : Devices.Ghosts A) 
     pub marked : e.mark ≡ mark
     pub done : e.done ≡ disks.moment store.file.cells.disk
     pub disk_faults : e.faults ≡ disks.faults store.file.cells.disk
-    pub device_faults : e.hard ≡ elements.faults store.devices
+    pub device_faults : e.device_faults ≡ elements.faults store.devices
 
   -- The request of an entry leaves all keys: as far as that is told, the one-thread store is as it was but for the count of
   -- calls, and no key is made or destroyed.

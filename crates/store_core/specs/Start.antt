@@ -35,7 +35,7 @@ module _ {D A C : Type 0} (disks : Disk.Ghosts D) (elements : Devices.Ghosts A) 
   abbrev pub opening_of : Opened D A C → Opening
   opening_of opened = record {
     moment = disks.moment opened.file.value.cells.disk;
-    counts = record { faults = disks.faults opened.file.value.cells.disk; hard = elements.faults opened.devices.value };
+    counts = record { faults = disks.faults opened.file.value.cells.disk; device_faults = elements.faults opened.devices.value };
   }
 
   -- a store stands for each such service, an empty history, and callers who have nothing out

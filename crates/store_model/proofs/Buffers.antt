@@ -3,6 +3,7 @@
 -- a reply which, where it refuses, leaves the buffer but for zeros
 use Rattle.std.proofs.Common.{Bool, List, ap, arith, cond, drop, false, refl, replicate, sym, true, ℕ, ◌++◌, ◌-◌, ◌∙◌, ◌≡◌}
 use Rattle.store_model.proofs.Common.{Reply, Status, Success, buffer_after, refusal, spoiled, spoils}
+
 abbrev pub LeavesBuffer : Reply → Type 0
 LeavesBuffer reply = (reply.status ≡ Success → ⊥) → (old : List ℕ) → buffer_after old reply ≡ cond (spoils reply.status) (replicate reply.needed 0 ++ drop reply.needed old) old
 

@@ -2,9 +2,10 @@
 
 use Rattle.std.proofs.Common.{[], ◌∷◌}
 use Rattle.store_model.proofs.Common.{AllowedGoOn, CausesGoOn, outcome_of}
+
 pub go_on : CausesGoOn
 go_on tells counts [] e caused fault = (fault, tt)
-go_on tells counts (first ∷ h) e caused fault = (caused.0, go_on tells (record { faults = first.faults; hard = first.hard }) h e caused.1 fault)
+go_on tells counts (first ∷ h) e caused fault = (caused.0, go_on tells (record { faults = first.faults; device_faults = first.device_faults }) h e caused.1 fault)
 
 pub allowed_go_on : AllowedGoOn
 allowed_go_on service [] e allowed may = (may, tt)

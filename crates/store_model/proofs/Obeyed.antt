@@ -3,6 +3,7 @@
 -- a rule keeps these attributes as they are
 use Rattle.std.proofs.Common.{Bool, List, Ok, Result, [], ap, bit_and, cond, false, not, refl, subst, sym, true, ℕ, ◌&&◌, ◌==◌, ◌∙◌, ◌∷◌, ◌≡◌}
 use Rattle.store_model.proofs.Common.{Aes256, Attributes, Keep, Label, NoCopy, NoEcb, NoExport, Refuse, Status, Verdict, after_rules, after_verdict, and_assoc, and_comm, and_self, identified, narrowed, only_usage}
+
 abbrev pub Obeys : Label → Attributes → Type 0
 Obeys label a = narrowed label a ≡ Keep a
 

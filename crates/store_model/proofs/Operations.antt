@@ -38,11 +38,6 @@ pub drawn_most : (n : ℕ) (service : Service) (store : Store) (caller other : �
 drawn_most n service store caller other own h =
     set_related (λ (x y : Own). y.drawn ≤ x.drawn + n) service.owns caller other own new_own (λ x. omega arith) h
 
--- each caller's words are left
-pub drawn_same : (service : Service) (store : Store) (caller other : ℕ) (own : Own) → own.drawn ≡ (own_of service caller).drawn →
-    (own_of (with_own service store caller own) other).drawn ≡ (own_of service other).drawn
-drawn_same service store caller other own h = set_related (λ (x y : Own). y.drawn ≡ x.drawn) service.owns caller other own new_own (λ x. refl) h
-
 -- OPERATIONS
 
 -- all operations are left
@@ -70,32 +65,6 @@ repeated : {A : Type 0} (P : A → Type 0) (n i : ℕ) (a d : A) → P a → P d
 repeated P zero i a d one other = other
 repeated P (suc n) zero a d one other = one
 repeated P (suc n) (suc i) a d one other = repeated P n i a d one other
-
-new_inactive : (h : ℕ) → slice_index_or new_own.operations h Inactive ≡ Inactive
-new_inactive h = repeated (λ (o : HandleOperation). o ≡ Inactive) 5 h Inactive Inactive refl refl
-
--- the operation that is set, or, where there is no such handle, an inactive one before and after
-abbrev pub OperationAfter : Service → Service → (caller handle : ℕ) → HandleOperation → Type 0
-OperationAfter before after caller handle operation =
-    (operation_of after caller handle ≡ operation) ⊎ ((operation_of after caller handle ≡ Inactive) × (operation_of before caller handle ≡ Inactive))
-
-pub own_operation : (service : Service) (store : Store) (caller handle : ℕ) (operation : HandleOperation) (own : Own) → Sets service caller handle operation own →
-    OperationAfter service (with_own service store caller own) caller handle operation
-own_operation service store caller handle operation own sets = of (set_own service store caller own) (set_or_not (own_of service caller).operations handle operation Inactive)
-  where
-    at : Own → HandleOperation
-    at o = slice_index_or o.operations handle Inactive
-
-    there : own_of (with_own service store caller own) caller ≡ own → operation_of (with_own service store caller own) caller handle ≡ slice_index_or (slice_set (own_of service caller).operations handle operation) handle Inactive
-    there e = ap at e ∙ ap (λ (l : List HandleOperation). slice_index_or l handle Inactive) sets
-
-    of : OwnAfter service store caller own →
-        (slice_index_or (slice_set (own_of service caller).operations handle operation) handle Inactive ≡ operation)
-        ⊎ ((slice_index_or (slice_set (own_of service caller).operations handle operation) handle Inactive ≡ Inactive) × (operation_of service caller handle ≡ Inactive)) →
-        OperationAfter service (with_own service store caller own) caller handle operation
-    of (inl e) (inl f) = inl (there e ∙ f)
-    of (inl e) (inr f) = inr (there e ∙ f.0, f.1)
-    of (inr e) f = inr (ap at e.0 ∙ new_inactive handle, ap at e.1 ∙ new_inactive handle)
 
 -- an operation that is set again changes nothing
 pub same_operation : (own : Own) (handle : ℕ) → with_operation own handle (slice_index_or own.operations handle Inactive) ≡ own

@@ -1,6 +1,6 @@
 -- What a creation records, and its refusals.
 use Rattle.std.proofs.Common.{Bool, Err, IfOk, List, None, Ok, Result, [], ap, arith, cond, false, nat_le, not, refl, subst, sym, true, ℕ, ◌&&◌, ◌==◌, ◌∙◌, ◌∷◌, ◌≡◌, ◌≤◌}
-use Rattle.store_model.proofs.Common.{Aes256, AlreadyExists, Attributes, InsufficientStorage, InvalidArgument, IsWithin, IsWithin-refl, IsWithin-trans, Keep, KeyLimit, Label, NoCopy, NoEcb, NoExport, NotPermitted, NotSupported, Refuse, Rows, Status, Store, Verdict, after_rules, after_verdict, as_stated, attribute_rows, checked, file_rows, filled, first_row, has_secure_element, identified, is_volatile, narrowed, nat_tests, permits_size, recorded_of, room_for_key_rows, unless, unless-err, unless-ok, with_implied}
+use Rattle.store_model.proofs.Common.{Aes256, AlreadyExists, Attributes, InsufficientStorage, InvalidArgument, IsWithin, IsWithin-refl, IsWithin-trans, Keep, KeyLimit, Label, NoCopy, NoEcb, NoExport, NotPermitted, NotSupported, Refuse, Rows, Status, Store, Verdict, after_rules, after_verdict, attribute_rows, checked, file_rows, filled, first_row, has_secure_element, is_volatile, narrowed, nat_tests, permits_size, recorded_of, room_for_key_rows, unless, unless-err, unless-ok, with_implied}
 use Rattle.psa_status.specs.Rows.{◌>>=◌}
 use Rattle.policy_rules.proofs.Rules.{narrowed-within}
 use Rattle.store_model.proofs.Filled.{filled-checked, only_usage-checked}
@@ -129,11 +129,3 @@ by_kind false id h = (grind (arith, nat_tests), grind (arith, nat_tests))
 
 pub stated_id : (a : Attributes) (n : ℕ) (driver : Bool) → checked a n driver ≡ Ok a → IsStated (is_volatile a) a.id.0
 stated_id a n driver h = by_kind (is_volatile a) a.id.0 (none_holds (attribute_rows a n driver) 1 (unless-ok (first_row (attribute_rows a n driver)) (filled a n) a h).0)
-
-same_stated : (a : Attributes) (volatile : Bool) → IsStated volatile a.id.0 → cond volatile (identified a 0) a ≡ a
-same_stated a true none = ap (identified a) (sym none)
-same_stated a false some = refl
-
--- they are as they could be stated
-pub as_they_are : (a : Attributes) (n : ℕ) (driver : Bool) → checked a n driver ≡ Ok a → as_stated a ≡ a
-as_they_are a n driver h = same_stated a (is_volatile a) (stated_id a n driver h)

@@ -3,6 +3,7 @@
 -- whether a row of a table holds
 use Rattle.std.proofs.Common.{Bool, None, Option, Some, [], cond, false, not, refl, subst, suc, true, zero, ℕ, ◌&&◌, ◌∷◌, ◌≡◌}
 use Rattle.store_model.proofs.Common.{Rows, Status, first_row, is_of_fault}
+
 abbrev pub holds_at : Rows → ℕ → Bool
 holds_at [] n = false
 holds_at (row ∷ rows) zero = row.0
@@ -16,10 +17,6 @@ pub none_holds : (rows : Rows) (n : ℕ) → first_row rows ≡ None → holds_a
 none_holds [] n h = refl
 none_holds (row ∷ rows) zero h = (passed row.0 row.1 (first_row rows) h).0
 none_holds (row ∷ rows) (suc n) h = none_holds rows n (passed row.0 row.1 (first_row rows) h).1
-
--- a table of which no row holds, without its first one
-pub rest_holds : (b : Bool) (s : Status) (o : Option Status) → cond b (Some s) o ≡ None → o ≡ None
-rest_holds b s o h = (passed b s o h).1
 
 -- what holds of the status of each row that holds
 abbrev pub AllRows : (Status → Type 0) → Rows → Type 0

@@ -90,13 +90,13 @@ MayBeMarked service caller request Corrupt = IsTrue (reads_persistent service ca
 -- how often the disk and the drivers have failed
 pub record FaultCounts : Type 0 where
   pub faults : ℕ
-  pub hard : ℕ
+  pub device_faults : ℕ
 
 -- a mark is made only where the count of the device that failed rose, and Corrupt never of a disk that tells its bytes
 abbrev pub HasFault : (tells : Bool) → FaultCounts → Entry → FaultMark → Type 0
 HasFault tells before e Plain = Unit {0}
 HasFault tells before e (Storage access) = Rose before.faults e.faults
-HasFault tells before e Hardware = Rose before.hard e.hard
+HasFault tells before e Hardware = Rose before.device_faults e.device_faults
 HasFault tells before e Corrupt = tells ≡ false
 
 -- each mark of a history stands where it may
@@ -107,9 +107,9 @@ AreAllowed service (e ∷ es) = MayBeMarked service e.caller e.call e.mark × Ar
 -- and each has its fault since the entry before it, or since the opening
 abbrev pub IsCaused : (tells : Bool) → FaultCounts → List Entry → Type 0
 IsCaused tells before [] = Unit {0}
-IsCaused tells before (e ∷ es) = HasFault tells before e e.mark × IsCaused tells (record { faults = e.faults; hard = e.hard }) es
+IsCaused tells before (e ∷ es) = HasFault tells before e e.mark × IsCaused tells (record { faults = e.faults; device_faults = e.device_faults }) es
 
 -- the counts of a history's last entry, or those before it where it has none
 abbrev pub last_counts : FaultCounts → List Entry → FaultCounts
 last_counts before [] = before
-last_counts before (e ∷ es) = last_counts (record { faults = e.faults; hard = e.hard }) es
+last_counts before (e ∷ es) = last_counts (record { faults = e.faults; device_faults = e.device_faults }) es

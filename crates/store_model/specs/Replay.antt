@@ -6,14 +6,14 @@ use Rattle.store_model.specs.Handles.{Service, Served}
 use Rattle.store_model.specs.Requests.{Request, serve}
 
 -- A call as it was made: who made it, and its mark. As its turn ended, `done` was the disk's moment, `faults`
--- the disk's count of faults, and `hard` the drivers'. Replay ignores these three.
+-- the disk's count of faults, and `device_faults` the drivers'. Replay ignores these three.
 pub record Entry : Type 0 where
   pub caller : ℕ
   pub call : Request
   pub mark : FaultMark
   pub done : ℕ
   pub faults : ℕ
-  pub hard : ℕ
+  pub device_faults : ℕ
 
 abbrev pub outcome_of : Service → Entry → Served
 outcome_of service e = serve service e.caller e.call e.mark

@@ -53,10 +53,6 @@ found_from n (key ∷ keys) =
 abbrev pub start_of : Settings → List OpenedKey → Store
 start_of settings found = record { keys = found_from 0 found; made = replicate (caller_count + 1) 0; calls = 0; found = length found; settings = settings }
 
--- a seed of zeros, no rule, no driver and no file
-abbrev pub plain_settings : Settings
-plain_settings = record { seed = replicate 32 0; labels = []; locations = []; has_file = false }
-
 -- how many volatile keys a caller has made
 abbrev pub made_of : Store → ℕ → ℕ
 made_of store caller = get_or store.made caller 0

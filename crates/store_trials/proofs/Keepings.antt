@@ -74,7 +74,7 @@ module _ {D A C : Type 0} (disks : Disk.Ghosts D) (elements : Devices.Ghosts A) 
   module _ (old new : Store D A C) (all : List Pairs) where
     -- the entry of a caller's call, as the turn leaves it
     abbrev entry : ℕ → Request → FaultMark → Entry
-    entry caller request mark = record { caller = caller; call = request; mark = mark; done = disks.moment new.file.cells.disk; faults = disks.faults new.file.cells.disk; hard = elements.faults new.devices }
+    entry caller request mark = record { caller = caller; call = request; mark = mark; done = disks.moment new.file.cells.disk; faults = disks.faults new.file.cells.disk; device_faults = elements.faults new.devices }
 
     is_entry : (caller : ℕ) (request : Request) (mark : FaultMark) → 1 ≤ caller → caller ≤ 16 → IsEntry disks elements admits new mark (entry caller request mark)
     is_entry caller request mark first last = record { from_first = first; to_last = last; marked = refl; done = refl; disk_faults = refl; device_faults = refl }

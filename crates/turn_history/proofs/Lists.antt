@@ -2,6 +2,7 @@
 
 use Rattle.std.proofs.Common.{All, List, None, Option, Some, [], ap, append_assoc, arith, eq-eqb, eqb, false, get_or, get_or-set_other, get_or-set_same, inl, inr, length, length-append, map, ne_eqb, refl, set, subst, suc, sym, true, zero, ℕ, ⊎_elim, ◌++◌, ◌+◌, ◌-◌, ◌<◌, ◌∙◌, ◌∷◌, ◌≡◌, ◌≢◌, ◌≤◌, ◌⊎◌}
 use Rattle.turn_history.proofs.Common.{Holding, StartsWith, calls_by, choose, entries_of, get_elem?, option_list, own_of, some, some-injective, some-ne-none, total, with_own, ℕ_discrete}
+
 abbrev pick : {P : Type 0} → Dec P → ℕ → ℕ → ℕ
 pick (yes _) a b = a
 pick (no _) a b = b

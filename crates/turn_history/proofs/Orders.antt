@@ -1,5 +1,5 @@
 -- A call's rank is its place among all calls, and no two calls have one rank.
-use Rattle.std.proofs.Common.{List, None, Option, Some, [], ap, append_assoc, arith, drop, eq-eqb, eqb, length, length-append, refl, slice_get, subst, suc, sym, take, zero, ℕ, ◌++◌, ◌+◌, ◌-◌, ◌<◌, ◌∙◌, ◌∷◌, ◌≡◌, ◌≢◌, ◌≤◌}
+use Rattle.std.proofs.Common.{List, None, Some, [], ap, append_assoc, arith, drop, eq-eqb, eqb, length, length-append, refl, slice_get, suc, sym, take, zero, ℕ, ◌++◌, ◌+◌, ◌-◌, ◌<◌, ◌∙◌, ◌∷◌, ◌≡◌, ◌≢◌, ◌≤◌}
 use Rattle.turn_history.proofs.Common.{StartsWith, calls_by, choose}
 use Rattle.turn_history.proofs.Lists.{calls-append}
 

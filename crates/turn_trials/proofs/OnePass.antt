@@ -3,6 +3,7 @@
 -- all its entries are those of the pass
 use Rattle.std.proofs.Common.{All, List, [], ap, arith, eq-eqb, refl, suc, sym, ℕ, ◌%◌, ◌++◌, ◌+◌, ◌<◌, ◌^◌, ◌∙◌, ◌∷◌, ◌≡◌, ◌≤◌}
 use Rattle.turn_trials.proofs.Common.{Entry, addition, calls_by, choose, signer, sum_after}
+
 pub all_own : (es : List Entry) → All (λ (e : Entry). (0 < signer e) × (signer e ≤ 1)) es → calls_by signer 1 es ≡ es
 all_own [] signed = refl
 all_own (e ∷ es) signed = let first = signed 0 e (omega arith) in let some = first.0 in let few = first.1 in

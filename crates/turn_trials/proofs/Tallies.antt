@@ -2,6 +2,7 @@
 
 use Rattle.std.proofs.Common.{Bool, List, [], ap, arith, get_or, length, length-append, refl, replicate, set, suc, sym, zero, ℕ, ◌%◌, ◌++◌, ◌+◌, ◌-◌, ◌<◌, ◌^◌, ◌∙◌, ◌∷◌, ◌≡◌, ◌≤◌}
 use Rattle.turn_trials.proofs.Common.{Entry, Gains, Holding, IsTallyOf, addition, out_of, own_of, sum_after, with_own}
+
 pub none_out : (n : ℕ) → out_of (replicate n []) ≡ 0
 none_out zero = refl
 none_out (suc n) = let r = none_out n in omega arith

@@ -135,7 +135,7 @@ create-made-requires-clause-ready g c = λ κs lives.
     let caller = c.args.caller in
     let stated = c.args.attributes.now in
     let own = c.requires.out in
-    let e : Entry = record { caller = caller; call = OnStore (Copy source stated); mark = Plain; done = 0; faults = 0; hard = 0 } in
+    let e : Entry = record { caller = caller; call = OnStore (Copy source stated); mark = Plain; done = 0; faults = 0; device_faults = 0 } in
     let slot = slot_at mid.slots.table.slots c.in-Ok.slot in
     let brought = c.in-Ok.ensures.found own.0 own.1 own.2 own.3 e own.4 (λ k. refl) in
     let n = brought.0 in

@@ -53,7 +53,7 @@ returns-in-Ok-clause-made g c = λ start opening h all e s is turn.
     (model_call call id (length c.args.out.now)) (mark_computed c.compute.result) (IsAnswered held id call c.args.out.now c.compute.new.out c.compute.result) s is (keeps_keys call id (length c.args.out.now))
     c.compute.ensures.keys c.compute.ensures.locations
     (fault_of c.compute.result _ (last_counts opening.counts h) e (λ failed.
-    subst (Rose (last_counts opening.counts h).hard) (sym turn.device_faults) (subst (λ n. Rose n (v.faults c.compute.new.devices)) (sym (ap (λ (x : FaultCounts). x.hard) s.counts)) (c.compute.ensures.failed failed))))
+    subst (Rose (last_counts opening.counts h).device_faults) (sym turn.device_faults) (subst (λ n. Rose n (v.faults c.compute.new.devices)) (sym (ap (λ (x : FaultCounts). x.device_faults) s.counts)) (c.compute.ensures.failed failed))))
     (λ service same. mark_may held id call c.args.out.now c.compute.new.out c.compute.result m decided opaque service e.caller same) answer turn
 
 pub returns-in-Err-clause-made : goal.returns-in-Err-clause-made
