@@ -83,7 +83,3 @@ AreRows-replicate = record {
   named = λ i. ap (λ (h : Head). h.id) (get_or-replicate_same 384 i empty_head) ∙ sym (ap (λ (k : Stored). k.attributes.id) (get_or-replicate_same 384 i no_key));
   none_before = λ i lt. absurd (omega (arith, lt));
 }
-
--- WRITES
-
-]
