@@ -9,7 +9,7 @@ use Rattle.hash_ops.specs.declared.Hash.TheVariants.{Sha224, Sha256, Sha384, Sha
 use Rattle.hash_ops.proofs.Digests.{length-hash_of}
 use Rattle.derivation_states.specs.declared.output.Output.{Output}
 use Rattle.derivation_states.proofs.Lengths.{HasBlocks}
-use Rattle.derivation_states.proofs.Derived.{next_byte, next_derived_add}
+use Rattle.derivation_states.proofs.Derived.{next_byte, next_derived_add, length-next_derived}
 
 empty : (l : List ℕ) → length l ≡ 0 → l ≡ []
 empty [] e = refl
@@ -42,11 +42,26 @@ placed h o w eh blocks running left (suc i) e =
     next_byte w h blocks i o.used (omega (arith, running.place)) (omega arith)
     ∙ ap (λ (b : ℕ). b ∷ []) (sym (ap (λ (l : List ℕ). get_or l o.used 0) block) ∙ get_or-take o.length o.block o.used 0 left)
 
+pub byte_taken : (i : Inputs) (o : Output) (w : DerivationWork) → HoldsInputs i w → IsRunning o w → is_some w.secret ≡ true → o.used < o.length → next_derived w 1 ≡ slice_index_or o.block o.used 0 ∷ []
+byte_taken i o w inputs running secret left = placed (digest_length o.kdf.hash) o w refl (has_blocks o.kdf i w running.kdf inputs secret) running left o.number refl
+
 -- so many bytes, and then one more
 pub one_more : (i : Inputs) (o : Output) (w : DerivationWork) → HoldsInputs i w → IsRunning o w → is_some w.secret ≡ true → (n byte : ℕ) (front : List ℕ)
     → front ≡ next_derived w n → next_derived (without w n) 1 ≡ byte ∷ [] → front ++ byte ∷ [] ≡ next_derived w (n + 1)
 one_more i o w inputs running secret n byte front before next =
     ap₂ (λ (xs ys : List ℕ). xs ++ ys) before (sym next) ∙ sym (next_derived_add w (digest_length o.kdf.hash) (has_blocks o.kdf i w running.kdf inputs secret) n 1)
+
+pub none_taken : (w : DerivationWork) (h : ℕ) → HasBlocks w h → next_derived w 0 ≡ []
+none_taken w h blocks = empty (next_derived w 0) (length-next_derived w h blocks 0)
+
+pub inputs_without : (i : Inputs) (w : DerivationWork) (n : ℕ) → HoldsInputs i w → HoldsInputs i (without w n)
+inputs_without i w n h = record { cost = h.cost; salt = h.salt; key = h.key; info = h.info; by_key = h.by_key; salted = h.salted; costed = h.costed }
+
+pub without_twice : (w : DerivationWork) (n k : ℕ) → without (without w n) k ≡ without w (n + k)
+without_twice w n k =
+    let taken : w.taken + n + k ≡ w.taken + (n + k) = omega arith in
+    let capacity : w.capacity - n - k ≡ w.capacity - (n + k) = omega arith in
+    ap₂ (λ (t c : ℕ). let v : DerivationWork = record w { taken = t; capacity = c } in v) taken capacity
 
 pub without_none : (w : DerivationWork) → w ≡ without w 0
 without_none w =

@@ -1,6 +1,6 @@
 -- A key of a cell's derived bytes.
-use Rattle.std.proofs.Common.{Bool, List, None, Ok, Option, Some, [], ap, cond, false, is_some, nat_lt, not, refl, subst, sym, true, ℕ, ◌%◌, ◌++◌, ◌==◌, ◌||◌, ◌∙◌, ◌∷◌, ◌≡◌}
-use Rattle.operation_handles.proofs.Common.{Active, After, AreStates, Attributes, BadState, Cell, DerivationState, DerivationWork, Derivations, Deriving, FamilyStates, HandleOperation, InError, Inactive, InsufficientData, InvalidArgument, IsDerivationOperation, IsDerivedKey, IsOperation, KeyCreation, MayHave, NotPermitted, NotSupported, Operation, Status, Success, by_key, derivation_part, derived_key, exhausted, first_row, first_row-back, first_row-front, given, goes_on, is_active, key_of_operation, location, next_derived, on_active, output_key_refusal, output_key_rows, part_of, stated_bytes, taken_from, unless_failed, without}
+use Rattle.std.proofs.Common.{Bool, Err, List, None, Ok, Option, Some, [], ap, cond, false, is_some, nat_lt, not, refl, subst, sym, true, ℕ, ◌%◌, ◌++◌, ◌==◌, ◌||◌, ◌∙◌, ◌∷◌, ◌≡◌}
+use Rattle.operation_handles.proofs.Common.{Active, After, AreStates, Attributes, BadState, Bytes, Cell, DerivationState, DerivationWork, Derivations, Deriving, FamilyStates, HandleOperation, InError, Inactive, InsufficientData, InvalidArgument, IsDerivationOperation, IsDerivedKey, IsOperation, KeyCreation, MayHave, NotPermitted, NotSupported, Nothing, Operation, Reply, Status, Success, by_key, derivation_part, derived_key, exhausted, first_row, first_row-back, first_row-front, given, goes_on, is_active, key_of_operation, location, next_derived, on_active, output_key_refusal, output_key_rows, part_of, refusal, stated_bytes, taken_from, unless_failed, without}
 use Rattle.derivation_states.specs.Replies.{AnswersFront}
 use Rattle.operation_handles.proofs.Deriving.{derived_goes, goes_with, key_stays}
 use Rattle.operation_handles.proofs.Families.{View, Busy, Idle, keeps_all, put_derivation, view}
@@ -80,6 +80,15 @@ refused_unanswered InError a count old out refused h = bad_state h.0
 
 -- a key that isn't refused is answered by bytes
 
+not_given : (bytes : List ℕ) (status : Status) → given bytes ≡ refusal status → ⊥
+not_given bytes status e = other bytes (ap (λ (r : Reply). r.output) e)
+  where
+    other : (bytes : List ℕ) → Bytes bytes ≡ Nothing → ⊥
+    other bytes e = cc
+
+pub due_answered : (w : DerivationWork) (a : Attributes) (status : Status) (old out : List ℕ) → IsDue w a → AnswersFront 1025 (Err status) old out (derived_key w a).reply → ⊥
+due_answered w a status old out due h = not_given (next_derived w (stated_bytes a)) status (sym (ap (λ (x : After DerivationWork). x.reply) (derived_is w a due)) ∙ h.0)
+
 -- WHAT THE HANDLE HAS
 
 pub due_work : (own : Operation DerivationWork) (a : Attributes) → output_key_refusal own a ≡ None → (w : DerivationWork) × (own ≡ Active w) × IsDue w a
@@ -125,6 +134,15 @@ refused_not_given c a count old out some refused code =
     let stands = answers Derivations c some.0 true (λ w. derived_key w a) some.1 in
     refused_unanswered stands.own a count old out
     (λ w e none. refused some.0 some.1 (ap (λ o. output_key_refusal o a) (stands.seen w e) ∙ none)) (code stands.own stands.is.state)
+
+-- a refusal of a key that isn't refused
+pub due_not_refused : (c : Cell) (a : Attributes) (status : Status) (old out : List ℕ) → (operation : HandleOperation) × IsOperation c operation →
+    ((operation : HandleOperation) → IsOperation c operation → output_key_refusal (part_of derivation_part operation) a ≡ None) →
+    ((own : Operation DerivationWork) → IsDerivationOperation c.states.derivation own → AnswersFront 1025 (Err status) old out (on_active own (λ w. derived_key w a)).reply) → ⊥
+due_not_refused c a status old out some due code =
+    let work = due_work (part_of derivation_part some.0) a (due some.0 some.1) in
+    let found = seen Derivations c.states c.states some.1.key some.0 (keeps_all Derivations c.states) some.1.are work.0 work.1 in
+    due_answered work.0 a status old out work.2 (code (Active work.0) found.is.state)
 
 -- the bytes of a key that isn't refused
 pub derived : (c : Cell) (state : DerivationState) (a : Attributes) (count : ℕ) (old out : List ℕ) (operation : HandleOperation) (w : DerivationWork) → IsOperation c operation → part_of derivation_part operation ≡ Active w →
