@@ -36,4 +36,5 @@ pub use Rattle.std.proofs.lemmas.List.{at_drop_all, length_push}
 pub use Rattle.std.proofs.lemmas.List.Sums.{AllPass-from_list_all, count_by-le-length, length-filter, list_all-from_AllPass, sum_by_push}
 pub use Rattle.std.proofs.lemmas.Slice.Eq.{bytes_eq-Decides}
 pub use Rattle.std.specs.List.{list_all, position_or_len}
-pub use Rattle.std.specs.Map.{KeepsOthers, lookup}
+unfoldable pub use Rattle.std.specs.Map.{KeepsOthers}
+pub use Rattle.std.specs.Map.{lookup}
