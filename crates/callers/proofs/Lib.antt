@@ -8,6 +8,7 @@ pub mod Asking
 pub mod Storing
 pub mod Changing
 pub mod Handling
+pub mod Handled
 pub mod Stepping
 pub mod Aborting
 pub mod SettingUp

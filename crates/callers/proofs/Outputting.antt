@@ -1,12 +1,14 @@
 -- A caller after a call that creates a key of derived bytes.
 use Rattle.std.proofs.Common.{All, Bool, Err, List, None, Ok, Option, Result, Some, [], ap, arith, count_by, false, get_or, if◌then◌else◌, inr, length, min, nat_lt, not, refl, subst, sym, take, take_all, true, vec_capacity, ℕ, ◌&&◌, ◌+◌, ◌-◌, ◌<◌, ◌==◌, ◌∙◌, ◌∷◌, ◌≡◌, ◌≤◌}
-use Rattle.callers.proofs.Common.{Active, AreOperations, Attributes, Caller, Cell, CreatesKey, DerivationWork, Deriving, Entry, HandleOperation, InError, Inactive, InsufficientData, IsAnswered, IsAt, IsBack, IsCalled, IsChanged, IsClear, IsCreated, IsDerivedKey, IsMade, IsOperation, IsOwn, IsOwnPart, IsReady, IsReplied, IsSound, IsUnmade, KeyId, KnowsBefore, LeavesAllKeys, Legal, NotMade, OnHandle, Operation, OutputKey, Pairs, Plain, RandomStream, Reading, RecordsStated, Reply, Request, Served, Service, Status, Store, Success, TellsFailure, World, applied, created, derivation_part, derived_key_refused, draws_none, entries_of, exhausted, fails, first_row, first_row-back, goes_on, has_live_key, is_active, is_alive, is_destruction, key_of_operation, leases_of, mark_unmade, next_derived, on_part, operation_at, operation_of, outcome_of, output_key_refusal, output_key_rows, outputs, own_of, part_of, plain_step, refused_by, replay, start_of, stated_bytes, status_unmade, taken_from, unless_failed, with_operation, with_operation_at, without}
-use Rattle.std.proofs.lemmas.List.{length-take-le, set-set}
+use Rattle.callers.proofs.Common.{Active, AreOperations, Attributes, Caller, Cell, CreatesKey, DecidesBefore, DerivationWork, Deriving, Entry, HandleOperation, InError, Inactive, InsufficientData, IsAnswered, IsAt, IsBack, IsCalled, IsChanged, IsClear, IsCreated, IsDerivedKey, IsMade, IsOperation, IsOwn, IsOwnPart, IsReady, IsReplied, IsSound, IsUnmade, KeyId, KnowsBefore, LeavesAllKeys, Legal, NotMade, OnHandle, Operation, OutputKey, Pairs, Plain, RandomStream, Reading, RecordsStated, Reply, Request, Served, Service, Status, Store, Success, TellsFailure, World, applied, created, derivation_part, derived_key_refused, draws_none, entries_of, exhausted, fails, first_row, first_row-back, goes_on, has_live_key, is_active, is_alive, is_destruction, key_of_operation, leases_of, mark_unmade, next_derived, on_part, operation_at, operation_of, outcome_of, output_key_refusal, output_key_rows, outputs, own_of, part_of, plain_step, refused_by, replay, start_of, stated_bytes, status_unmade, taken_from, unless_failed, with_operation, with_operation_at, without}
+use Rattle.std.proofs.lemmas.List.{get_or-set_same, length-take-le, set-set}
+use Rattle.callers.specs.HandleCalls.{FailsDerivation, without_bytes}
 use Rattle.service_calls.specs.declared.output.Output.TheVariants as output
 use Rattle.store_model.specs.Prelude.{given as given_bytes}
 use Rattle.derivation_states.specs.KeySteps as alone
 use Rattle.callers.proofs.Asking.{leased_key, unleased_key}
-use Rattle.callers.proofs.CellLists.{busy_put, named_alike, names_is, names_lease, once}
+use Rattle.callers.proofs.Beginning.{at_handle}
+use Rattle.callers.proofs.CellLists.{busy_put, cell_at, named_alike, names_is, names_lease, once, tally-cons}
 use Rattle.callers.proofs.Deriving.{IsLeaseOf, derived_leaves, derived_replies, made_owns, underived_key}
 use Rattle.callers.proofs.Handling.{few_turns, handled_answered, handled_ready, made as turned_back, waits}
 use Rattle.callers.proofs.Inputting.{derives_busy, refused_drawn}
@@ -14,9 +16,10 @@ use Rattle.callers.proofs.Made.{made_gives}
 use Rattle.callers.proofs.Owned.{set_operation, set_own, sound_replay}
 use Rattle.callers.proofs.Readying.{known, outcome_is, own_there, ready}
 use Rattle.callers.proofs.SettingUp.{undrawn_own}
+use Rattle.callers.proofs.Storing.{decided_known}
 
 -- the lease of a cell is of its operation's key
-pub lease_of : (cell : Cell) (operation : HandleOperation) → IsOperation cell operation → (is_active operation ≡ false → cell.lease ≡ None) → IsLeaseOf cell.lease (key_of_operation operation)
+lease_of : (cell : Cell) (operation : HandleOperation) → IsOperation cell operation → (is_active operation ≡ false → cell.lease ≡ None) → IsLeaseOf cell.lease (key_of_operation operation)
 lease_of cell operation stands over = by cell.lease refl
   where
     by : (l : Option Reading) → cell.lease ≡ l → IsLeaseOf l (key_of_operation operation)
@@ -33,23 +36,92 @@ changed_twice old mid new operations handle first second lease one two = record 
   mine = λ l is. let a = two.mine l is in let b = named_alike (leases_of mid) (leases_of old) l.slot (l.creation + 1) one.leases in omega arith;
 }
 
+-- A KEY THAT A DERIVATION GIVES
+
+due_work : (own : Operation DerivationWork) (a : Attributes) → output_key_refusal own a ≡ None → (w : DerivationWork) × (own ≡ Active w)
+due_work (Active w) a none = (w, refl)
+due_work Inactive a none = cc
+due_work InError a none = cc
+
+given_short : (w : DerivationWork) (a : Attributes) (count : ℕ) (out : List ℕ) → IsDerivedKey w a count out → count ≡ min (stated_bytes a) 1025 → length (take count out) ≡ min (stated_bytes a) 1025
+given_short w a count out d size = ap length d.bytes ∙ (length-take-le count (next_derived w (stated_bytes a)) (let z = d.size in omega arith) ∙ size)
+
+given_front : (w : DerivationWork) (a : Attributes) (count : ℕ) (out : List ℕ) → IsDerivedKey w a count out → count ≡ min (stated_bytes a) 1025 → stated_bytes a ≤ 1024 → take count out ≡ next_derived w (stated_bytes a)
+given_front w a count out d size few =
+    let derived : List ℕ = next_derived w (stated_bytes a) in
+    let whole : length derived ≤ count = omega (arith, d.size, size) in
+    d.bytes ∙ take_all count derived whole
+
+-- the lease of a handle's cell is out, beside whatever else is
+lease_is_out : (own : Pairs) (cells : List Cell) (handle : ℕ) (cell : Cell) (lease : Option Reading) → handle - 1 < length cells → cell ≡ get_or cells (handle - 1) cell → ((f : ℕ × ℕ → Bool) → count_by f (leases_of cells) ≤ count_by f own) →
+    lease ≡ cell.lease → IsOwn lease own
+lease_is_out own cells handle cell None inside at more is = tt
+lease_is_out own cells handle cell (Some l) inside at more is =
+    let a = names_lease cells (handle - 1) cell l inside at (sym is) in let b = names_is l.slot (l.creation + 1) (leases_of cells) in let c = names_is l.slot (l.creation + 1) own in
+    let d = more (λ p. p.0 == l.slot && p.1 == (l.creation + 1)) in omega arith
+
+-- what is known of a handle's derivation once a key's bytes are taken from it, and of the lease of its own key
+pub record IsTaken {D A C : Type 0} {w : World D A C} (old : Caller D A C) (r : IsReady w 4 old) (handle : ℕ) (a : Attributes) (cells : List Cell) (lease : Option Reading) (bytes : List ℕ) : Type 0 where
+  pub work : DerivationWork
+  pub derives : part_of derivation_part (operation_at r.operations handle) ≡ Active work
+  pub passes : output_key_refusal (part_of derivation_part (operation_at r.operations handle)) a ≡ None
+  pub of : IsLeaseOf lease (key_of_operation (operation_at r.operations handle))
+  pub short : length bytes ≡ min (stated_bytes a) 1025
+  pub front : stated_bytes a ≤ 1024 → bytes ≡ next_derived work (stated_bytes a)
+  pub change : IsChanged old.handles.cells.items cells r.operations handle (without_bytes (operation_at r.operations handle) work (stated_bytes a)) None
+
+module _ {D A C : Type 0} {w : World D A C} (old : Caller D A C) (r : IsReady w 4 old) (handle : ℕ) (a : Attributes) (cells : List Cell) (lease : Option Reading) (first : 1 ≤ handle) (last : handle ≤ 4)
+    (held : (c : Cell) → c ≡ get_or cells (handle - 1) c → lease ≡ c.lease) where
+  pub taken : (count : ℕ) (out : List ℕ) →
+      ((c : Cell) (o : HandleOperation) → c ≡ get_or old.handles.cells.items (handle - 1) c → IsOperation c o → output_key_refusal (part_of derivation_part o) a ≡ None) →
+      ((operations : List HandleOperation) (work : DerivationWork) → AreOperations old.handles.cells.items operations → part_of derivation_part (operation_at operations handle) ≡ Active work →
+      IsChanged old.handles.cells.items cells operations handle (without_bytes (operation_at operations handle) work (stated_bytes a)) None × IsDerivedKey work a count out) →
+      count ≡ min (stated_bytes a) 1025 → IsTaken old r handle a cells lease (take count out)
+  taken count out due gives size =
+      let passes = at_handle (λ o. output_key_refusal (part_of derivation_part o) a ≡ None) old.handles.cells.items r.operations handle r.stand first last due in
+      let work = due_work (part_of derivation_part (operation_at r.operations handle)) a passes in let given = gives r.operations work.0 r.stand work.1 in
+      let left : HandleOperation = without_bytes (operation_at r.operations handle) work.0 (stated_bytes a) in
+      let cell = cell_at cells (handle - 1) (let z = given.0.stand.cells_are in omega arith) in let inside : handle - 1 < 4 = omega (arith, first, last) in
+      let stands = subst (IsOperation cell.0) (get_or-set_same r.operations (handle - 1) left Inactive (let z = r.stand.count in omega arith)) (given.0.stand.each (handle - 1) cell.0 inside cell.1) in record {
+        work = work.0;
+        derives = work.1;
+        passes = passes;
+        of = subst (λ l. IsLeaseOf l (key_of_operation (operation_at r.operations handle))) (sym (held cell.0 cell.1)) (lease_of cell.0 left stands (λ over. let clash : true ≡ false = over in cc));
+        short = given_short work.0 a count out given.1 size;
+        front = given_front work.0 a count out given.1 size;
+        change = given.0;
+      }
+
+  -- and the operation then fails
+  pub failed : {bytes : List ℕ} (t : IsTaken old r handle a cells lease bytes) (last_cells : List Cell) (back : Option Reading) → FailsDerivation cells last_cells handle back →
+      IsChanged old.handles.cells.items last_cells r.operations handle InError back
+  failed t last_cells back fails =
+      let left : HandleOperation = without_bytes (operation_at r.operations handle) t.work (stated_bytes a) in
+      changed_twice old.handles.cells.items cells last_cells r.operations handle left InError back t.change
+      (fails (with_operation_at r.operations handle left) (without t.work (stated_bytes a)) t.change.stand (ap (part_of derivation_part) (get_or-set_same r.operations (handle - 1) left Inactive (let z = r.stand.count in omega (arith, first, last)))))
+
+  -- the lease is out, beside what was taken before
+  pub taken_is_out : {bytes : List ℕ} (t : IsTaken old r handle a cells lease bytes) (pair : ℕ × ℕ) (own : Pairs) → own ≡ pair ∷ old.pass.me.0.holding → IsOwn lease own
+  taken_is_out t pair own more =
+      let cell = cell_at cells (handle - 1) (let z = t.change.stand.cells_are in omega arith) in
+      lease_is_out own cells handle cell.0 lease (let z = t.change.stand.cells_are in omega arith) cell.1
+      (λ f. let x = ap (count_by f) more in let m = tally-cons f pair old.pass.me.0.holding in let y = r.leases f in let z = t.change.leases f in omega arith) (held cell.0 cell.1)
+
 module _ {D A C : Type 0} (w : World D A C) (old : Caller D A C) (r : IsReady w 4 old) (request : Request) (handle : ℕ) (a : Attributes) (asks : request ≡ OnHandle handle (OutputKey a)) (first : 1 ≤ handle) (last : handle ≤ 4)
-    (work : DerivationWork) (derives : part_of derivation_part (operation_at r.operations handle) ≡ Active work) (passes : output_key_refusal (part_of derivation_part (operation_at r.operations handle)) a ≡ None)
-    (lease : Option Reading) (of : IsLeaseOf lease (key_of_operation (operation_at r.operations handle))) (bytes : List ℕ) (short : length bytes ≡ min (stated_bytes a) 1025)
-    (front : stated_bytes a ≤ 1024 → bytes ≡ next_derived work (stated_bytes a)) where
-  abbrev given : HandleOperation
-  given = Active (record { key = key_of_operation (operation_at r.operations handle); work = Deriving (without work (stated_bytes a)) })
+    (cells : List Cell) (lease : Option Reading) (bytes : List ℕ) (given : IsTaken old r handle a cells lease bytes) where
+  abbrev after : HandleOperation
+  after = without_bytes (operation_at r.operations handle) given.work (stated_bytes a)
 
   -- what is known of a service that has the caller's operations
   module _ (service : Service) (sound : IsSound service) (mine : operation_of service old.number handle ≡ operation_at r.operations handle) where
-    abbrev pub derives_here : part_of derivation_part (operation_of service old.number handle) ≡ Active work
-    derives_here = ap (part_of derivation_part) mine ∙ derives
+    abbrev pub derives_here : part_of derivation_part (operation_of service old.number handle) ≡ Active given.work
+    derives_here = ap (part_of derivation_part) mine ∙ given.derives
 
     abbrev pub passes_here : output_key_refusal (part_of derivation_part (operation_of service old.number handle)) a ≡ None
-    passes_here = ap (λ o. output_key_refusal (part_of derivation_part o) a) mine ∙ passes
+    passes_here = ap (λ o. output_key_refusal (part_of derivation_part o) a) mine ∙ given.passes
 
     abbrev pub lease_here : IsLeaseOf lease (key_of_operation (operation_of service old.number handle))
-    lease_here = subst (λ o. IsLeaseOf lease (key_of_operation o)) (sym mine) of
+    lease_here = subst (λ o. IsLeaseOf lease (key_of_operation o)) (sym mine) given.of
 
   pub derived_creates : CreatesKey w old.pass.me.0 old.number request (RecordsStated lease old.number a (length bytes)) bytes
   derived_creates = record {
@@ -57,11 +129,11 @@ module _ {D A C : Type 0} (w : World D A C) (old : Caller D A C) (r : IsReady w 
     leaves = λ start is h on tells kept records.
         let service = replay start h in let sound = sound_replay start (start_of is.settings is.found) h is.is (r.sound start is) on.signed in let mine = (own_there w 4 old r start h is on tells).each handle first last in
         ap (λ q. (plain_step service old.number q).service.store) asks
-        ∙ derived_leaves service old.number handle a work sound (derives_here service sound mine) (passes_here service sound mine) lease (lease_here service sound mine) bytes short front kept records;
+        ∙ derived_leaves service old.number handle a given.work sound (derives_here service sound mine) (passes_here service sound mine) lease (lease_here service sound mine) bytes given.short given.front kept records;
     answers = λ start is h on tells kept records.
         let service = replay start h in let sound = sound_replay start (start_of is.settings is.found) h is.is (r.sound start is) on.signed in let mine = (own_there w 4 old r start h is on tells).each handle first last in
         ap (λ q. (plain_step service old.number q).reply) asks
-        ∙ derived_replies service old.number handle a work sound (derives_here service sound mine) (passes_here service sound mine) lease (lease_here service sound mine) bytes short front kept records;
+        ∙ derived_replies service old.number handle a given.work sound (derives_here service sound mine) (passes_here service sound mine) lease (lease_here service sound mine) bytes given.short given.front kept records;
   }
 
   abbrev Records : Store → Result Attributes Status → Type 0
@@ -69,30 +141,33 @@ module _ {D A C : Type 0} (w : World D A C) (old : Caller D A C) (r : IsReady w 
 
   module _ (new : Caller D A C) (rank : ℕ) where
     -- THE KEY IS MADE
-    module _ (id : KeyId) (Decided : List Entry → Entry → Type 0) (c : IsCreated old.pass.me.0 new.pass.me.0 request Plain rank Decided) (made : KnowsBefore w (λ service. IsMade Records old.number id.0 service.store) c.before c.entry) where
-      pub output_ready : IsChanged old.handles.cells.items new.handles.cells.items r.operations handle given None → new.number ≡ old.number → new.stream ≡ old.stream → new.spares ≡ old.spares → new.spent ≡ old.spent →
+    module _ (id : KeyId) (c : IsCreated old.pass.me.0 new.pass.me.0 request Plain rank (DecidesBefore w (IsMade Records old.number id.0))) where
+      made : KnowsBefore w (λ service. IsMade Records old.number id.0 service.store) c.before c.entry
+      made = decided_known w (IsMade Records old.number id.0) c.before c.entry c.decided
+
+      pub output_ready : IsChanged old.handles.cells.items new.handles.cells.items r.operations handle after None → new.number ≡ old.number → new.stream ≡ old.stream → new.spares ≡ old.spares → new.spent ≡ old.spent →
           IsAt w new.pass → Legal w (entries_of new.pass.me.0.seen) → IsReady w 0 new
       output_ready change number stream spares spent at legal =
           let left = c.called.left in let sp = spent in
-          ready w 4 old new r 2 request Plain rank c.before c.entry c.called (with_operation_at r.operations handle given) 0 at legal (record {
+          ready w 4 old new r 2 request Plain rank c.before c.entry c.called (with_operation_at r.operations handle after) 0 at legal (record {
             number = number;
             stand = change.stand;
             own = λ start is tells.
                 let service = replay start c.before in
                 let k = known w 4 old new r 2 request Plain rank c.before c.entry c.called start is tells in let mine = k.own.each handle first last in
                 let there = made start is tells in
-                let owns = made_owns service old.number handle a work k.sound (derives_here service k.sound mine) (passes_here service k.sound mine) lease (lease_here service k.sound mine) bytes short there.0 there.1 in
-                let key : given ≡ Active (record { key = key_of_operation (operation_of service old.number handle); work = Deriving (without work (stated_bytes a)) }) =
-                sym (ap (λ o. Active (record { key = key_of_operation o; work = Deriving (without work (stated_bytes a)) })) mine) in
-                let store = (created service.store old.number there.0 (next_derived work (stated_bytes a))).store in
+                let owns = made_owns service old.number handle a given.work k.sound (derives_here service k.sound mine) (passes_here service k.sound mine) lease (lease_here service k.sound mine) bytes given.short there.0 there.1 in
+                let key : after ≡ Active (record { key = key_of_operation (operation_of service old.number handle); work = Deriving (without given.work (stated_bytes a)) }) =
+                sym (ap (λ o. Active (record { key = key_of_operation o; work = Deriving (without given.work (stated_bytes a)) })) mine) in
+                let store = (created service.store old.number there.0 (next_derived given.work (stated_bytes a))).store in
                 let place = ap (λ (s : RandomStream). s.place) stream in
-                subst (λ (s : Served). IsOwnPart (with_operation_at r.operations handle given) new.stream.place (own_of s.service old.number))
+                subst (λ (s : Served). IsOwnPart (with_operation_at r.operations handle after) new.stream.place (own_of s.service old.number))
                 (sym (outcome_is service c.entry old.number (OnHandle handle (OutputKey a)) Plain (c.called.by ∙ r.number) (c.called.call_is ∙ asks) c.called.mark_is))
-                (subst (λ (s : Service). IsOwnPart (with_operation_at r.operations handle given) new.stream.place (own_of s old.number)) (sym owns)
-                (subst (IsOwnPart (with_operation_at r.operations handle given) new.stream.place) (sym (set_own service store old.number (with_operation (own_of service old.number) handle _) k.sound r.last))
-                (subst (λ o. IsOwnPart (with_operation_at r.operations handle given) new.stream.place (with_operation (own_of service old.number) handle o)) key
-                (subst (IsOwnPart (with_operation_at r.operations handle given) new.stream.place) (sym (undrawn_own (with_operation (own_of service old.number) handle given)))
-                (set_operation r.operations old.stream.place (own_of service old.number) handle given 0 new.stream.place k.own r.stand.count first last (let p = place in omega arith))))));
+                (subst (λ (s : Service). IsOwnPart (with_operation_at r.operations handle after) new.stream.place (own_of s old.number)) (sym owns)
+                (subst (IsOwnPart (with_operation_at r.operations handle after) new.stream.place) (sym (set_own service store old.number (with_operation (own_of service old.number) handle _) k.sound r.last))
+                (subst (λ o. IsOwnPart (with_operation_at r.operations handle after) new.stream.place (with_operation (own_of service old.number) handle o)) key
+                (subst (IsOwnPart (with_operation_at r.operations handle after) new.stream.place) (sym (undrawn_own (with_operation (own_of service old.number) handle after)))
+                (set_operation r.operations old.stream.place (own_of service old.number) handle after 0 new.stream.place k.own r.stand.count first last (let p = place in omega arith))))));
             leases = λ f. c.holding f ∙ (r.leases f ∙ sym (change.leases f));
             clear = subst (λ v. All IsClear v.items) (sym spares) r.clear;
             five = let x = change.fewer in let y = ap (λ v. length v.items) spares in let f = r.five in omega arith;
@@ -100,7 +175,7 @@ module _ {D A C : Type 0} (w : World D A C) (old : Caller D A C) (r : IsReady w 
             seed = ap (λ (s : RandomStream). s.seed) stream;
             stream_of = ap (λ (s : RandomStream). s.caller) stream;
             turns_are = let t = r.turns in
-                let b = busy_put r.operations (handle - 1) given (let z = r.stand.count in omega arith) in let o = ap (λ x. once (not x)) (derives_busy (operation_at r.operations handle) work derives) in omega arith;
+                let b = busy_put r.operations (handle - 1) after (let z = r.stand.count in omega arith) in let o = ap (λ x. once (not x)) (derives_busy (operation_at r.operations handle) given.work given.derives) in omega arith;
             words = let t = r.words in let y = ap (λ (s : RandomStream). s.place) stream in omega arith;
             spent = let t = r.spent in omega arith;
           })
@@ -117,14 +192,13 @@ module _ {D A C : Type 0} (w : World D A C) (old : Caller D A C) (r : IsReady w 
             let service = replay start c.before in
             let k = known w 4 old new r 2 request Plain rank c.before c.entry c.called start is tells in let mine = k.own.each handle first last in
             let gives = made_gives service old.number (OnHandle handle (OutputKey a)) Records bytes
-            (derived_replies service old.number handle a work k.sound (derives_here service k.sound mine) (passes_here service k.sound mine) lease (lease_here service k.sound mine) bytes short front) id (made start is tells) in
+            (derived_replies service old.number handle a given.work k.sound (derives_here service k.sound mine) (passes_here service k.sound mine) lease (lease_here service k.sound mine) bytes given.short given.front) id (made start is tells) in
             subst (λ (s : Served). IsReplied (Ok (output.Identifier id)) buffer buffer s.reply)
             (sym (outcome_is service c.entry old.number (OnHandle handle (OutputKey a)) Plain (c.called.by ∙ r.number) (c.called.call_is ∙ asks) c.called.mark_is)) (gives.answers, gives.unwritten buffer);
       }
 
     -- NONE IS MADE: the derivation is in error, and its lease goes back
-    module _ (settled : Caller D A C) (why : NotMade) (Decided : List Entry → Entry → Type 0) (c : IsCreated old.pass.me.0 settled.pass.me.0 request (mark_unmade why) rank Decided)
-        (unmade : KnowsBefore w (λ service. IsUnmade Records why service.store) c.before c.entry) (back_lease : Option Reading)
+    module _ (settled : Caller D A C) (why : NotMade) (c : IsCreated old.pass.me.0 settled.pass.me.0 request (mark_unmade why) rank (DecidesBefore w (IsUnmade Records why))) (back_lease : Option Reading)
         (change : IsChanged old.handles.cells.items settled.handles.cells.items r.operations handle InError back_lease) (back : IsBack back_lease settled new) where
       fails_there : (turns : ℕ) (made : IsCalled old.pass.me.0 new.pass.me.0 turns request (mark_unmade why) rank c.before c.entry) →
           KnowsBefore w (λ service. outcome_of service c.entry ≡ applied service old.number handle (fails (status_unmade why))) c.before c.entry
@@ -132,7 +206,7 @@ module _ {D A C : Type 0} (w : World D A C) (old : Caller D A C) (r : IsReady w 
           let service = replay start c.before in
           let k = known w 4 old new r turns request (mark_unmade why) rank c.before c.entry made start is tells in let mine = k.own.each handle first last in
           outcome_is service c.entry old.number (OnHandle handle (OutputKey a)) (mark_unmade why) (made.by ∙ r.number) (made.call_is ∙ asks) made.mark_is
-          ∙ underived_key service old.number handle a work k.sound (derives_here service k.sound mine) (passes_here service k.sound mine) lease (lease_here service k.sound mine) bytes short why (unmade start is tells)
+          ∙ underived_key service old.number handle a given.work k.sound (derives_here service k.sound mine) (passes_here service k.sound mine) lease (lease_here service k.sound mine) bytes given.short why (decided_known w (IsUnmade Records why) c.before c.entry c.decided start is tells)
 
       pub unmade_ready : settled.number ≡ old.number → settled.spares ≡ old.spares → settled.stream ≡ old.stream → settled.spent ≡ old.spent → IsAt w new.pass → Legal w (entries_of new.pass.me.0.seen) → IsReady w 0 new
       unmade_ready number spares stream spent at legal =
@@ -140,7 +214,7 @@ module _ {D A C : Type 0} (w : World D A C) (old : Caller D A C) (r : IsReady w 
           (fails_there _ (turned_back w 4 old settled new r request (mark_unmade why) rank c.before c.entry 2 c.called c.holding handle InError back_lease change back))
           0 at legal number spares (stream ∙ draws_none old.stream)
           (let x = r.turns in let b = waits w 4 old settled new r request (mark_unmade why) rank c.before c.entry 2 c.called c.holding handle InError back_lease change last in
-          let o = ap (λ x. once (not x)) (derives_busy (operation_at r.operations handle) work derives) in
+          let o = ap (λ x. once (not x)) (derives_busy (operation_at r.operations handle) given.work given.derives) in
           let d = few_turns w 4 old settled new r request (mark_unmade why) rank c.before c.entry 2 c.called c.holding handle InError back_lease change back_lease in let s = spent in omega arith)
           (let x = r.words in let s = spent in let p = ap (λ (s : RandomStream). s.place) stream in omega arith) (let x = r.spent in let s = spent in omega arith)
 
@@ -202,27 +276,3 @@ undue_leaves w old r request handle a first last asks refuses = inr (λ start is
     let refuses_here = λ (none : output_key_refusal (part_of derivation_part (operation_of service old.number handle)) a ≡ None). refuses (sym (ap (λ o. output_key_refusal (part_of derivation_part o) a) mine) ∙ none) in
     let served = ap (λ n. (plain_step service n request).reply.status) r.number ∙ (ap (λ q. (plain_step service old.number q).reply.status) asks ∙ ap (λ (s : Served). s.reply.status) (outputs.refused service old.number handle a refuses_here)) in
     undue_fails (part_of derivation_part (operation_of service old.number handle)) (operation_of service old.number handle) (has_live_key service old.number handle) a refuses_here (sym served ∙ success))
-
--- A KEY THAT IT GIVES
-
-pub due_work : (own : Operation DerivationWork) (a : Attributes) → output_key_refusal own a ≡ None → (w : DerivationWork) × (own ≡ Active w)
-due_work (Active w) a none = (w, refl)
-due_work Inactive a none = cc
-due_work InError a none = cc
-
-pub given_short : (w : DerivationWork) (a : Attributes) (count : ℕ) (out : List ℕ) → IsDerivedKey w a count out → count ≡ min (stated_bytes a) 1025 → length (take count out) ≡ min (stated_bytes a) 1025
-given_short w a count out d size = ap length d.bytes ∙ (length-take-le count (next_derived w (stated_bytes a)) (let z = d.size in omega arith) ∙ size)
-
-pub given_front : (w : DerivationWork) (a : Attributes) (count : ℕ) (out : List ℕ) → IsDerivedKey w a count out → count ≡ min (stated_bytes a) 1025 → stated_bytes a ≤ 1024 → take count out ≡ next_derived w (stated_bytes a)
-given_front w a count out d size few =
-    let derived : List ℕ = next_derived w (stated_bytes a) in
-    let whole : length derived ≤ count = omega (arith, d.size, size) in
-    d.bytes ∙ take_all count derived whole
-
--- the lease of a handle's cell is out, beside whatever else is
-pub lease_is_out : (own : Pairs) (cells : List Cell) (handle : ℕ) (cell : Cell) (lease : Option Reading) → handle - 1 < length cells → cell ≡ get_or cells (handle - 1) cell → ((f : ℕ × ℕ → Bool) → count_by f (leases_of cells) ≤ count_by f own) →
-    lease ≡ cell.lease → IsOwn lease own
-lease_is_out own cells handle cell None inside at more is = tt
-lease_is_out own cells handle cell (Some l) inside at more is =
-    let a = names_lease cells (handle - 1) cell l inside at (sym is) in let b = names_is l.slot (l.creation + 1) (leases_of cells) in let c = names_is l.slot (l.creation + 1) own in
-    let d = more (λ p. p.0 == l.slot && p.1 == (l.creation + 1)) in omega arith
