@@ -5,21 +5,23 @@
 mod limits;
 mod parts;
 
-ghost use Rattle.std.specs.Prelude.{◌≡◌, ◌≤◌, ℕ, All, length};
+ghost use Rattle.std.specs.Prelude.{◌≡◌, ◌≤◌, ℕ, All, Some, length};
 ghost use Rattle.driver_dispatch.specs.Calls.{Lacks};
+ghost use Rattle.driver_dispatch.specs.Held.{no_keys};
 ghost use Rattle.callers.specs.Ready.{IsReady};
 ghost use Rattle.locked_store.specs.Prelude.{world};
 ghost use Rattle.caller_service.specs.Replies.{MayCall};
 
-use crate::parts::{failing_element, new_disk};
+use crate::parts::{failing_driver, new_disk, without_keys};
 use admission::{Admission, Rules};
 use alg_encoding::Alg;
 use caller_service::{Closed, Service};
 use callers::{Caller, NoGate};
 use disk_face::Disk;
-use driver_dispatch::Devices;
+use driver_dispatch::{Devices, Driver, Drivers};
 use key_attributes::{Attributes, KeyId, KeyType, Lifetime, Policy, Usage};
 use psa_status::Status;
+use soft_driver::SoftDriver;
 use std::alloc::Global;
 use std::io;
 use std::process::ExitCode;
@@ -168,12 +170,32 @@ fn share_key<D: Disk + Drop, A: Devices, C: Admission, R: Wait>(
     }
 }
 
+// Puts the driver into a list of one, and shares the key over it. The list has a box in it, so that no function answers it.
+fn share_over_driver<D: Disk + Drop, C: Admission, R: Wait>(
+    rt: &R,
+    alloc: Global,
+    disk: D,
+    driver: SoftDriver,
+    rules: C,
+) -> Result<Seen, Status>
+    requires { ⟦<SoftDriver as Driver>⟧.keys driver ≡ Some no_keys }
+{
+    let mut list: Vec<Box<dyn Driver>> = Vec::new(alloc);
+    let Ok(boxed) = Box::new(alloc, driver) else {
+        return Err(Status::InsufficientMemory);
+    };
+    match list.push(boxed) {
+        Ok(()) => share_key(rt, alloc, disk, without_keys(Drivers::new(list)), rules),
+        Err(_) => Err(Status::InsufficientMemory),
+    }
+}
+
 // A store on an empty disk in memory, with a secure element that fails at its second call, and without rules.
 fn try_service<R: Wait>(rt: &R, alloc: Global) -> Result<Seen, Status> {
     let disk = new_disk(alloc)?;
-    let devices = failing_element(alloc)?;
+    let driver = failing_driver(alloc)?;
     let rules = Rules::pick(Vec::new(alloc), &[]);
-    share_key(rt, alloc, disk, devices, rules)
+    share_over_driver(rt, alloc, disk, driver, rules)
 }
 
 fn main(rt: HostRuntime) -> io::Result<ExitCode> {

@@ -17,30 +17,23 @@ pub fn new_disk(alloc: Global) -> Result<MemoryDisk, Status> {
     }
 }
 
-// Devices that hold no key lack every handle.
-fn without_keys<A: Devices>(devices: A) -> A
+/// Devices that hold no key lack every handle.
+pub fn without_keys<A: Devices>(devices: A) -> A
     requires { A.keys devices ≡ Some no_keys }
     ensures { (handle : ℕ) → Lacks (A.keys result) handle }
 {
     devices
 }
 
-/// A secure element that takes a key, and fails at its second call.
-pub fn failing_element(alloc: Global) -> Result<Drivers, Status>
-    ensures { IfOk result (λ devices. (handle : ℕ) → Lacks (⟦<Drivers as Devices>⟧.keys devices) handle) }
+/// The driver of a secure element that takes a key, and fails at its second call.
+pub fn failing_driver(alloc: Global) -> Result<SoftDriver, Status>
+    ensures { IfOk result (λ driver. ⟦<SoftDriver as Driver>⟧.keys driver ≡ Some no_keys) }
 {
     let Ok(fails) = vec![in alloc; 1u64] else {
         return Err(Status::InsufficientMemory);
     };
-    let Ok(driver) = SoftDriver::new(alloc, 1, fails) else {
-        return Err(Status::InsufficientMemory);
-    };
-    let mut list: Vec<Box<dyn Driver>> = Vec::new(alloc);
-    let Ok(boxed) = Box::new(alloc, driver) else {
-        return Err(Status::InsufficientMemory);
-    };
-    match list.push(boxed) {
-        Ok(()) => Ok(without_keys(Drivers::new(list))),
+    match SoftDriver::new(alloc, 1, fails) {
+        Ok(driver) => Ok(driver),
         Err(_) => Err(Status::InsufficientMemory),
     }
 }
