@@ -9,22 +9,11 @@ pub copy_key-requires-clause-new : goal.copy_key-requires-clause-new
 copy_key-requires-clause-new g c =
     rw (first_before _ _ _ c.index_mut.result.now _ c.element-place.ensures.first c.element-place.ensures.inside c.index_mut.ensures.value) at c.requires.new
 
-pub returns-clause-keys : goal.returns-clause-keys
-returns-clause-keys g c =
-    let first = first_at _ _ _ c.index_mut.result.now c.copy_key.new.self _ c.element-place.ensures.first c.element-place.ensures.inside c.index_mut.ensures.value c.copy_key.ensures.location in
-    rw (first.before, first.after) c.copy_key.ensures.keys
-
-pub returns-clause-served : goal.returns-clause-served
-returns-clause-served g c =
-    let first = first_at _ _ _ c.index_mut.result.now c.copy_key.new.self _ c.element-place.ensures.first c.element-place.ensures.inside c.index_mut.ensures.value c.copy_key.ensures.location in
-    rw (first.before, first.after) c.copy_key.ensures.served
-
-pub returns-clause-locations : goal.returns-clause-locations
-returns-clause-locations g c =
-    let first = first_at _ _ _ c.index_mut.result.now c.copy_key.new.self _ c.element-place.ensures.first c.element-place.ensures.inside c.index_mut.ensures.value c.copy_key.ensures.location in
-    first.locations
-
-pub returns-clause-cause : goal.returns-clause-cause
-returns-clause-cause g c =
-    let first = first_at _ _ _ c.index_mut.result.now c.copy_key.new.self _ c.element-place.ensures.first c.element-place.ensures.inside c.index_mut.ensures.value c.copy_key.ensures.location in
-    rw (first.before, first.after) c.copy_key.ensures.cause
+pub returns : goal.returns
+returns g c =
+    let first = first_at _ _ _ c.index_mut.result.now c.copy_key.new.self _ c.element-place.ensures.first c.element-place.ensures.inside c.index_mut.ensures.value c.copy_key.ensures.location in record {
+      keys = rw (first.before, first.after) c.copy_key.ensures.keys;
+      served = rw (first.before, first.after) c.copy_key.ensures.served;
+      locations = first.locations;
+      cause = rw (first.before, first.after) c.copy_key.ensures.cause;
+    }

@@ -5,22 +5,11 @@ pub destroy_key-requires : goal.destroy_key-requires
 destroy_key-requires g c =
     rw (first_before _ _ _ c.index_mut.result.now _ c.element-place.ensures.first c.element-place.ensures.inside c.index_mut.ensures.value) at c.requires.held
 
-pub returns-clause-keys : goal.returns-clause-keys
-returns-clause-keys g c =
-    let first = first_at _ _ _ c.index_mut.result.now c.destroy_key.new.self _ c.element-place.ensures.first c.element-place.ensures.inside c.index_mut.ensures.value c.destroy_key.ensures.location in
-    rw (first.before, first.after) c.destroy_key.ensures.keys
-
-pub returns-clause-served : goal.returns-clause-served
-returns-clause-served g c =
-    let first = first_at _ _ _ c.index_mut.result.now c.destroy_key.new.self _ c.element-place.ensures.first c.element-place.ensures.inside c.index_mut.ensures.value c.destroy_key.ensures.location in
-    rw (first.before, first.after) c.destroy_key.ensures.served
-
-pub returns-clause-locations : goal.returns-clause-locations
-returns-clause-locations g c =
-    let first = first_at _ _ _ c.index_mut.result.now c.destroy_key.new.self _ c.element-place.ensures.first c.element-place.ensures.inside c.index_mut.ensures.value c.destroy_key.ensures.location in
-    first.locations
-
-pub returns-clause-cause : goal.returns-clause-cause
-returns-clause-cause g c =
-    let first = first_at _ _ _ c.index_mut.result.now c.destroy_key.new.self _ c.element-place.ensures.first c.element-place.ensures.inside c.index_mut.ensures.value c.destroy_key.ensures.location in
-    rw (first.before, first.after) c.destroy_key.ensures.cause
+pub returns : goal.returns
+returns g c =
+    let first = first_at _ _ _ c.index_mut.result.now c.destroy_key.new.self _ c.element-place.ensures.first c.element-place.ensures.inside c.index_mut.ensures.value c.destroy_key.ensures.location in record {
+      keys = rw (first.before, first.after) c.destroy_key.ensures.keys;
+      served = rw (first.before, first.after) c.destroy_key.ensures.served;
+      locations = first.locations;
+      cause = rw (first.before, first.after) c.destroy_key.ensures.cause;
+    }
