@@ -1,0 +1,64 @@
+// What is done again and again.
+ghost use Rattle.std.specs.Prelude.{◌≡◌, ◌≤◌, ◌∷◌, [], ℕ, length, IfOk};
+ghost use Rattle.key_cells.specs.Prelude.{IsKeyOf};
+
+use crate::room::Room;
+use key_attributes::{Attributes, KeyId, KeyType, Lifetime, Policy, Usage};
+use key_cells::{CellFault, Cells, OpenFault};
+use std::alloc::Global;
+
+/// The attributes of a key of one byte that may be exported.
+pub fn one_byte_key(id: u32) -> Attributes
+    requires some { 1 ≤ id }
+    requires persistent { id ≤ 0x3fffffff }
+    ensures { (byte : ℕ) → IsKeyOf result (byte ∷ []) }
+{
+    Attributes {
+        lifetime: Lifetime(1),
+        id: KeyId(id),
+        key_type: KeyType::RAW_DATA,
+        bits: 8,
+        policy: Policy {
+            usage: Usage::EXPORT,
+            alg: 0,
+        },
+    }
+}
+
+/// A new store.
+pub fn new_store(alloc: Global) -> Result<Cells<Room>, OpenFault>
+    ensures size { IfOk result (λ cells. length cells.disk.bytes.items ≡ 557120) }
+    ensures slots { IfOk result (λ cells. length cells.slots.items ≡ 512) }
+{
+    match Cells::open(alloc, Room::new(alloc)) {
+        Ok(cells) => Ok(cells),
+        Err((_disk, fault)) => Err(fault),
+    }
+}
+
+/// Makes a key in each of 512 cells.
+pub fn fill(cells: &mut Cells<Room>) -> Result<(), CellFault>
+    requires size { length cells.old.disk.bytes.items ≡ 557120 }
+    requires slots { length cells.old.slots.items ≡ 512 }
+    ensures size { length cells.new.disk.bytes.items ≡ 557120 }
+    ensures slots { length cells.new.slots.items ≡ 512 }
+{
+    for id in 1..513u32 {
+        cells.create(0, &one_byte_key(id), &[0xa5])?;
+    }
+    Ok(())
+}
+
+/// Looks for the last two of 512 keys in turn. Which of them comes next hangs on what was found, so that no look can be
+/// left out.
+pub fn look(cells: &Cells<Room>, turns: usize) -> Option<usize> {
+    let mut last = cells.find(512);
+    'looks: for _ in 0..turns {
+        let id = match last {
+            Some(cell) => 512 - (cell & 1) as u32,
+            None => 512,
+        };
+        last = cells.find(id);
+    }
+    last
+}
