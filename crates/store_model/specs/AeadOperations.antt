@@ -1,12 +1,8 @@
 -- An AEAD in several parts.
 use Rattle.std.specs.Prelude.{ℕ, ◌+◌, ◌^◌, Bool, true, false, not, nat_lt, ◌&&◌, ◌||◌, ◌==◌, bytes_eq, List, [], ◌∷◌, ◌++◌, length, take, drop, Option, Some, None, is_some, if◌then◌else◌}
-use Rattle.std.specs.Option.{option_map_or}
-use Rattle.psa_status.specs.declared.Status.TheVariants.{BadState, InvalidArgument, InvalidSignature}
-use Rattle.psa_status.specs.Rows.{Rows, first_row}
+use Rattle.store_model.specs.Common.{BadState, InvalidArgument, InvalidSignature, Rows, done, first_row, given, option_map_or, tag_bytes}
 use Rattle.store_model.specs.Aeads.{is_ccm, permits_nonce, permits_payload, aead_text, aead_tag}
-use Rattle.store_model.specs.Algorithms.{tag_bytes}
 use Rattle.store_model.specs.Rules.{room_rows, total_limit}
-use Rattle.store_model.specs.Outcome.{given, done}
 use Rattle.store_model.specs.Operations.{Active, After, goes_on, ends, unless_failed}
 use Rattle.store_model.specs.CipherOperations.{bytes_or_empty}
 

@@ -1,15 +1,7 @@
 -- AEADs of a whole message: the ciphertext, and the tag behind it.
 use Rattle.std.specs.Prelude.{ℕ, ◌+◌, ◌-◌, ◌*◌, ◌^◌, not, nat_lt, nat_le, ◌||◌, ◌&&◌, ◌==◌, bytes_eq, Bool, false, true, List, ◌∷◌, ◌++◌, length, take, drop, if◌then◌else◌}
-use Rattle.psa_status.specs.declared.Status.TheVariants.{InvalidArgument, InvalidSignature}
-use Rattle.psa_status.specs.Rows.{Rows, first_row}
-use Rattle.alg_encoding.specs.declared.table.Class.TheVariants.{Aead}
-use Rattle.alg_encoding.specs.Encoding.{base_of}
-use Rattle.crypto_specs.specs.Prelude.{aes_encrypt, ccm_text, ccm_tag, gcm_text, gcm_tag}
-use Rattle.store_model.specs.Store.{Store}
-use Rattle.store_model.specs.Call.{Reply}
-use Rattle.store_model.specs.Algorithms.{tag_bytes}
+use Rattle.store_model.specs.Common.{Aead, InvalidArgument, InvalidSignature, Outcome, Reply, Rows, Store, aes_encrypt, base_of, ccm_tag, ccm_text, first_row, gcm_tag, gcm_text, given, replies, reply_unless, spoiled, tag_bytes}
 use Rattle.store_model.specs.Rules.{using_key, room_rows, total_limit, cipher_usage}
-use Rattle.store_model.specs.Outcome.{Outcome, reply_unless, replies, given, spoiled}
 
 abbrev pub is_ccm : ℕ → Bool
 is_ccm alg = base_of alg == 0x05400100

@@ -1,12 +1,8 @@
 -- A cipher in several parts.
 use Rattle.std.specs.Prelude.{ℕ, ◌-◌, ◌*◌, ◌/◌, ◌%◌, Bool, not, ◌&&◌, ◌||◌, ◌==◌, List, [], ◌∷◌, ◌++◌, length, take, drop, Option, Some, None, is_some, if◌then◌else◌}
-use Rattle.std.specs.Option.{option_map_or}
-use Rattle.psa_status.specs.declared.Status.TheVariants.{BadState, InvalidArgument, InvalidPadding}
-use Rattle.psa_status.specs.Rows.{Rows, first_row}
-use Rattle.crypto_specs.specs.Prelude.{aes_encrypt, aes_decrypt, ctr_xor, cbc_encrypt, cbc_decrypt, ecb_encrypt, ecb_decrypt}
+use Rattle.store_model.specs.Common.{BadState, InvalidArgument, InvalidPadding, Rows, aes_decrypt, aes_encrypt, cbc_decrypt, cbc_encrypt, ctr_xor, done, ecb_decrypt, ecb_encrypt, first_row, given, option_map_or, spoiled}
 use Rattle.store_model.specs.Ciphers.{Mode, Ctr, CbcNoPadding, CbcPkcs7, EcbNoPadding, mode_of, iv_length, takes_whole_blocks, is_ciphertext_length, enciphered, deciphered}
 use Rattle.store_model.specs.Rules.{room_rows}
-use Rattle.store_model.specs.Outcome.{given, done, spoiled}
 use Rattle.store_model.specs.Operations.{InError, Active, After, goes_on, ends, unless_failed}
 use Rattle.store_model.specs.HashOperations.{total_rows}
 

@@ -1,14 +1,7 @@
 -- Ciphers of a whole message.
 use Rattle.std.specs.Prelude.{ℕ, ◌+◌, ◌-◌, ◌%◌, not, nat_lt, ◌||◌, ◌&&◌, ◌==◌, Bool, true, false, List, ◌∷◌, ◌++◌, length, take, drop, Option, Some, None, if◌then◌else◌}
-use Rattle.psa_status.specs.declared.Status.TheVariants.{InvalidArgument, InvalidPadding}
-use Rattle.psa_status.specs.Rows.{Rows, first_row}
-use Rattle.alg_encoding.specs.declared.table.Class.TheVariants.{Cipher}
-use Rattle.crypto_specs.specs.Prelude.{aes_encrypt, aes_decrypt, ctr_xor, cbc_encrypt, cbc_decrypt, ecb_encrypt, ecb_decrypt, pkcs7_padded, pkcs7_unpadded}
-use Rattle.store_model.specs.Store.{Store}
-use Rattle.store_model.specs.Call.{Reply}
-use Rattle.store_model.specs.Draws.{Random}
+use Rattle.store_model.specs.Common.{Cipher, Computed, InvalidArgument, InvalidPadding, Outcome, Random, Reply, Rows, Store, aes_decrypt, aes_encrypt, cbc_decrypt, cbc_encrypt, computed_unless, ctr_xor, ecb_decrypt, ecb_encrypt, first_row, given, pkcs7_padded, pkcs7_unpadded, replies, reply_unless, spoiled}
 use Rattle.store_model.specs.Rules.{using_key, room_rows, total_limit, cipher_usage}
-use Rattle.store_model.specs.Outcome.{Outcome, Computed, computed_unless, reply_unless, replies, given, spoiled}
 
 pub data Mode : Type 0 where
   Ctr : Mode

@@ -1,15 +1,7 @@
 -- COPY: a key of the source's bytes, with what both its policy and the stated one permit.
 use Rattle.std.specs.Prelude.{ℕ, Bool, not, ◌&&◌, ◌||◌, ◌==◌, [], ◌∷◌, length, bit_and, Option, Some, None, ok_or, Result, Err}
 use Rattle.std.specs.FinMap as map
-use Rattle.psa_status.specs.declared.Status.{Status}
-use Rattle.psa_status.specs.declared.Status.TheVariants.{NotPermitted, NotSupported, InvalidArgument, InvalidHandle}
-use Rattle.psa_status.specs.Rows.{Rows, first_row, unless, ◌>>=◌}
-use Rattle.key_attributes.specs.declared.Attributes.{Attributes}
-use Rattle.key_attributes.specs.declared.Policy.{Policy}
-use Rattle.key_attributes.specs.Checks.{location}
-use Rattle.policy_rules.specs.Policy.{meet_of}
-use Rattle.store_model.specs.Store.{Key, Store}
-use Rattle.store_model.specs.Outcome.{Outcome}
+use Rattle.store_model.specs.Common.{Attributes, InvalidArgument, InvalidHandle, Key, NotPermitted, NotSupported, Outcome, Policy, Rows, Status, Store, first_row, location, meet_of, unless, ◌>>=◌}
 use Rattle.store_model.specs.KeyUse.{bytes_of}
 use Rattle.store_model.specs.Creation.{recorded_of, created_unless}
 

@@ -1,15 +1,7 @@
 -- Calls that create a key.
 use Rattle.std.specs.Prelude.{ℕ, ◌+◌, ◌/◌, ◌%◌, ◌^◌, not, nat_le, ◌==◌, ◌||◌, ◌&&◌, List, [], ◌∷◌, length, slice_set, is_some, Result, Ok, Err, if◌then◌else◌}
 use Rattle.std.specs.FinMap as map
-use Rattle.psa_status.specs.declared.Status.{Status}
-use Rattle.psa_status.specs.declared.Status.TheVariants.{Success, NotSupported, InvalidArgument, KeyLimit, AlreadyExists, InsufficientStorage}
-use Rattle.psa_status.specs.Rows.{Rows, first_row, unless, ◌>>=◌}
-use Rattle.key_attributes.specs.declared.Attributes.{Attributes}
-use Rattle.key_attributes.specs.Checks.{checked}
-use Rattle.policy_rules.specs.Narrow.{after_rules}
-use Rattle.store_model.specs.Store.{Key, Store, made_of, has_secure_element, is_volatile, next_volatile, live_volatile, count_persistent}
-use Rattle.store_model.specs.Call.{Identifier}
-use Rattle.store_model.specs.Outcome.{Outcome, refused, counted}
+use Rattle.store_model.specs.Common.{AlreadyExists, Attributes, Identifier, InsufficientStorage, InvalidArgument, Key, KeyLimit, NotSupported, Outcome, Rows, Status, Store, Success, after_rules, checked, count_persistent, counted, first_row, has_secure_element, is_volatile, live_volatile, made_of, next_volatile, refused, unless, ◌>>=◌}
 
 -- a key is kept where there is a file
 abbrev pub file_rows : Store → Attributes → Rows

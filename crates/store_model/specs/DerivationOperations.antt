@@ -1,14 +1,7 @@
 -- A derivation of bytes and keys: HKDF (RFC 5869) and PBKDF2 (RFC 8018).
 use Rattle.std.specs.Prelude.{ℕ, ◌+◌, ◌-◌, ◌*◌, ◌/◌, ◌^◌, Bool, true, false, not, nat_lt, ◌&&◌, ◌||◌, ◌==◌, bytes_eq, List, [], ◌∷◌, ◌++◌, length, drop, Option, Some, None, is_some, if◌then◌else◌}
-use Rattle.psa_status.specs.declared.Status.TheVariants.{Success, BadState, InvalidArgument, NotSupported, NotPermitted, InsufficientData, InvalidSignature}
-use Rattle.psa_status.specs.Rows.{Rows, first_row}
-use Rattle.key_attributes.specs.declared.Attributes.{Attributes}
-use Rattle.key_attributes.specs.Checks.{location}
-use Rattle.crypto_specs.specs.Prelude.{extract, expand, pbkdf2}
-use Rattle.store_model.specs.Algorithms.{digest, hash_block_length, hash_length_of, low_byte}
+use Rattle.store_model.specs.Common.{Attributes, BadState, InsufficientData, InvalidArgument, InvalidSignature, NotPermitted, NotSupported, Number, Reply, Rows, Success, digest, done, expand, extract, first_row, given, hash_block_length, hash_length_of, location, low_byte, pbkdf2, refusal}
 pub use Rattle.store_model.specs.Algorithms.{number_or_zero}
-use Rattle.store_model.specs.Call.{Reply, Number}
-use Rattle.store_model.specs.Outcome.{given, done, refusal}
 use Rattle.store_model.specs.Operations.{After, goes_on, unless_failed}
 use Rattle.store_model.specs.CipherOperations.{bytes_or_empty}
 use Rattle.store_model.specs.Creation.{stated_bits_rows}

@@ -1,11 +1,6 @@
 -- GENERATE: a key of random bytes, as many as the stated bits say. A refusal draws no word.
 use Rattle.std.specs.Prelude.{ℕ, Result, Ok, Err}
-use Rattle.psa_status.specs.declared.Status.{Status}
-use Rattle.psa_status.specs.Rows.{first_row, unless, ◌>>=◌}
-use Rattle.key_attributes.specs.declared.Attributes.{Attributes}
-use Rattle.store_model.specs.Store.{Store}
-use Rattle.store_model.specs.Draws.{Random}
-use Rattle.store_model.specs.Outcome.{Outcome, refused}
+use Rattle.store_model.specs.Common.{Attributes, Outcome, Random, Status, Store, first_row, refused, unless, ◌>>=◌}
 use Rattle.store_model.specs.Creation.{recorded_of, created, stated_bytes, stated_bits_rows}
 
 abbrev pub generation_of : Store → ℕ → Attributes → Result Attributes Status

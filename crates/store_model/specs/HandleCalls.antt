@@ -1,16 +1,8 @@
 -- Calls on a handle.
 use Rattle.std.specs.Prelude.{ℕ, Bool, true, false, not, nat_lt, ◌&&◌, ◌||◌, ◌==◌, List, [], ◌∷◌, ◌++◌, Option, Some, None, Result, Ok, Err}
-use Rattle.std.specs.Option.{option_map}
+use Rattle.store_model.specs.Common.{Attributes, BadState, Class, InsufficientData, InvalidArgument, InvalidHandle, Key, NotPermitted, NotSupported, Outcome, Rows, Status, Store, done, first_row, is_opaque, may_use, option_map, unless, ◌>>=◌}
 use Rattle.std.specs.FinMap as map
-use Rattle.psa_status.specs.declared.Status.{Status}
-use Rattle.psa_status.specs.declared.Status.TheVariants.{BadState, InvalidHandle, NotPermitted, NotSupported, InvalidArgument, InsufficientData}
-use Rattle.psa_status.specs.Rows.{Rows, first_row, unless, ◌>>=◌}
-use Rattle.alg_encoding.specs.declared.table.Class.{Class}
 use Rattle.alg_encoding.specs.declared.table.Class.TheVariants as class
-use Rattle.key_attributes.specs.declared.Attributes.{Attributes}
-use Rattle.policy_rules.specs.Policy.{may_use}
-use Rattle.store_model.specs.Store.{Key, Store, is_opaque}
-use Rattle.store_model.specs.Outcome.{Outcome, done}
 use Rattle.store_model.specs.Rules.{class_rows, use_rows, mac_usage, cipher_usage}
 use Rattle.store_model.specs.KeyUse.{bytes_of}
 use Rattle.store_model.specs.Creation.{recorded_of, created}

@@ -1,14 +1,8 @@
 -- The service: the store, and the operations of the callers' handles.
 use Rattle.std.specs.Prelude.{ℕ, ◌+◌, Bool, true, false, ◌==◌, List, replicate, get_or, slice_set, Option, Some, None}
-use Rattle.std.specs.Option.{option_map_or}
+use Rattle.store_model.specs.Common.{BadState, OpenedKey, Random, Reply, Settings, Status, Store, caller_count, counted, option_map_or, refusal, start_of}
 use Rattle.std.specs.FinMap as map
-use Rattle.psa_status.specs.declared.Status.{Status}
-use Rattle.psa_status.specs.declared.Status.TheVariants.{BadState}
-use Rattle.store_model.specs.Store.{Store, Settings, OpenedKey, caller_count, start_of}
-use Rattle.store_model.specs.Call.{Reply}
 use Rattle.random_streams.specs.RandomWords.{random_bytes, words_used}
-use Rattle.store_model.specs.Draws.{Random}
-use Rattle.store_model.specs.Outcome.{counted, refusal}
 use Rattle.store_model.specs.Operations.{Operation, Inactive, InError, Active, After, with_live_key}
 use Rattle.store_model.specs.HashOperations.{HashWork}
 use Rattle.store_model.specs.MacOperations.{MacWork}

@@ -1,10 +1,7 @@
 -- A hash in several parts.
 use Rattle.std.specs.Prelude.{ℕ, ◌+◌, not, nat_lt, bytes_eq, List, [], ◌∷◌, ◌++◌, length}
-use Rattle.psa_status.specs.declared.Status.TheVariants.{InvalidArgument, InvalidSignature}
-use Rattle.psa_status.specs.Rows.{Rows, first_row}
-use Rattle.store_model.specs.Algorithms.{hash_of, hash_length_of}
+use Rattle.store_model.specs.Common.{InvalidArgument, InvalidSignature, Rows, done, first_row, given, hash_length_of, hash_of}
 use Rattle.store_model.specs.Rules.{room_rows, total_limit}
-use Rattle.store_model.specs.Outcome.{given, done}
 use Rattle.store_model.specs.Operations.{After, goes_on, ends, unless_failed}
 
 -- the algorithm, and the message so far

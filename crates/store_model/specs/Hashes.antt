@@ -1,13 +1,7 @@
 -- Hashes of a whole message.
 use Rattle.std.specs.Prelude.{ℕ, not, bytes_eq, List, [], ◌∷◌, ◌++◌}
-use Rattle.psa_status.specs.declared.Status.TheVariants.{InvalidSignature}
-use Rattle.psa_status.specs.Rows.{Rows, first_row}
-use Rattle.alg_encoding.specs.declared.table.Class.TheVariants.{Hash}
-use Rattle.store_model.specs.Store.{Store}
-use Rattle.store_model.specs.Algorithms.{hash_of, hash_length_of}
+use Rattle.store_model.specs.Common.{Hash, InvalidSignature, Outcome, Reply, Rows, Store, done, first_row, given, hash_length_of, hash_of, replies, reply_unless, with_computed}
 use Rattle.store_model.specs.Rules.{class_rows, room_rows}
-use Rattle.store_model.specs.Call.{Reply}
-use Rattle.store_model.specs.Outcome.{Outcome, with_computed, replies, reply_unless, given, done}
 
 abbrev pub compute_rows : (alg room : ℕ) → Rows
 compute_rows alg room = class_rows Hash alg ++ room_rows (hash_length_of alg) room

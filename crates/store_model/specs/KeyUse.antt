@@ -1,12 +1,7 @@
 -- Calls on a key that is there.
 use Rattle.std.specs.Prelude.{ℕ, true, not, nat_lt, ◌==◌, ◌&&◌, List, [], ◌∷◌, length, bit_and, Option, Some, None, is_some}
-use Rattle.std.specs.Option.{option_map_or}
+use Rattle.store_model.specs.Common.{BufferTooSmall, Description, InvalidHandle, Key, NotPermitted, NotSupported, Outcome, Reply, Rows, Store, Success, counted, decided, done, first_row, given, is_opaque, option_map_or, refusal, replies, reply_unless, with_computed}
 use Rattle.std.specs.FinMap as map
-use Rattle.psa_status.specs.declared.Status.TheVariants.{Success, NotPermitted, NotSupported, InvalidHandle, BufferTooSmall}
-use Rattle.psa_status.specs.Rows.{Rows, first_row}
-use Rattle.store_model.specs.Store.{Key, Store, is_opaque}
-use Rattle.store_model.specs.Call.{Reply, Description}
-use Rattle.store_model.specs.Outcome.{Outcome, counted, decided, refusal, reply_unless, replies, with_computed, done, given}
 
 -- EXPORT, whose flag is 1, of a key that no secure element holds
 abbrev pub export_rows : Option Key → ℕ → Rows

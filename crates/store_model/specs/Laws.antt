@@ -1,14 +1,8 @@
 -- Laws of every request.
 use Rattle.std.specs.Prelude.{◌≡◌, ◌≤◌, ◌↔◌, ◌⊎◌, ◌+◌, ℕ, Bool, false, true, Option, None, Some, Ok, List, [], ◌∷◌, ◌++◌, replicate, drop, if◌then◌else◌}
 use Rattle.std.specs.FinMap as map
-use Rattle.psa_status.specs.declared.Status.{Status}
-use Rattle.psa_status.specs.declared.Status.TheVariants.{Success, BadState}
-use Rattle.policy_rules.specs.Narrow.{after_rules}
-use Rattle.store_model.specs.Store.{Key, Store, made_of}
-use Rattle.store_model.specs.Faults.{FaultMark, Plain, is_of_fault}
-use Rattle.store_model.specs.Outcome.{counted}
+use Rattle.store_model.specs.Common.{BadState, Copy, Destroy, FaultMark, Generate, Import, Key, Plain, Reply, Status, Store, Success, after_rules, buffer_after, counted, is_of_fault, made_of}
 use Rattle.store_model.specs.Handles.{HandleOperation, Service, Served, own_of, operation_of, with_own, with_operation, untouched}
-use Rattle.store_model.specs.Call.{Import, Destroy, Copy, Generate, Reply, buffer_after}
 use Rattle.store_model.specs.HandleCalls.{HandleCall, OutputKey, is_setup}
 use Rattle.store_model.specs.Requests.{Request, OnStore, OnHandle, serve}
 use Rattle.store_model.specs.Replay.{Entry, replay}

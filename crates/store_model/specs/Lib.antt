@@ -4,6 +4,7 @@ pub mod Faults
 pub mod Outcome
 pub mod Draws
 pub mod Algorithms
+pub mod Common
 pub mod Rules
 pub mod Creation
 pub mod Copies

@@ -1,10 +1,7 @@
 -- A MAC in several parts.
 use Rattle.std.specs.Prelude.{ℕ, Bool, not, bytes_eq, List, [], ◌∷◌, ◌++◌, length}
-use Rattle.psa_status.specs.declared.Status.TheVariants.{BadState, InvalidSignature}
-use Rattle.psa_status.specs.Rows.{Rows, first_row}
-use Rattle.store_model.specs.Algorithms.{mac_of, tag_bytes}
+use Rattle.store_model.specs.Common.{BadState, InvalidSignature, Rows, done, first_row, given, mac_of, tag_bytes}
 use Rattle.store_model.specs.Rules.{room_rows}
-use Rattle.store_model.specs.Outcome.{given, done}
 use Rattle.store_model.specs.Operations.{After, goes_on, ends, unless_failed}
 use Rattle.store_model.specs.HashOperations.{total_rows}
 

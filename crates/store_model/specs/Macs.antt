@@ -1,13 +1,7 @@
 -- MACs of a whole message.
 use Rattle.std.specs.Prelude.{ℕ, false, true, not, nat_lt, length, bytes_eq, List, [], ◌∷◌}
-use Rattle.psa_status.specs.declared.Status.TheVariants.{InvalidArgument, InvalidSignature}
-use Rattle.psa_status.specs.Rows.{Rows, first_row}
-use Rattle.alg_encoding.specs.declared.table.Class.TheVariants.{Mac}
-use Rattle.store_model.specs.Store.{Store}
-use Rattle.store_model.specs.Call.{Reply}
-use Rattle.store_model.specs.Algorithms.{mac_of, tag_bytes}
+use Rattle.store_model.specs.Common.{InvalidArgument, InvalidSignature, Mac, Outcome, Reply, Rows, Store, done, first_row, given, mac_of, replies, reply_unless, tag_bytes}
 use Rattle.store_model.specs.Rules.{using_key, room_rows, total_limit, mac_usage}
-use Rattle.store_model.specs.Outcome.{Outcome, reply_unless, replies, given, done}
 
 -- mac_compute
 abbrev pub compute_rows : (alg bytes room : ℕ) → Rows

@@ -1,14 +1,8 @@
 -- Where the mark of a call may stand, and by what it is caused.
 use Rattle.std.specs.Prelude.{◌≡◌, ℕ, Bool, true, false, not, ◌||◌, ◌&&◌, List, [], ◌∷◌, Option, Some, None, is_some, IsTrue, if◌then◌else◌}
-use Rattle.std.specs.Option.{option_and_then}
+use Rattle.store_model.specs.Common.{AeadDecrypt, AeadEncrypt, Call, CipherDecrypt, CipherEncrypt, Copy, Corrupt, Destroy, Export, FaultMark, GetAttributes, Hardware, Identifier, InvalidSignature, Key, MacCompute, MacVerify, Output, Plain, Reading, Status, Storage, Store, Success, Writing, first_row, is_opaque_key, is_persistent_key, option_and_then}
 use Rattle.std.specs.FinMap as map
-use Rattle.psa_status.specs.declared.Status.{Status}
-use Rattle.psa_status.specs.declared.Status.TheVariants.{Success, InvalidSignature}
-use Rattle.psa_status.specs.Rows.{first_row}
 use Rattle.psa_status.specs.Causes.{Rose}
-use Rattle.store_model.specs.Store.{Key, Store, is_persistent_key, is_opaque_key}
-use Rattle.store_model.specs.Call.{Call, Export, GetAttributes, Destroy, Copy, MacCompute, MacVerify, CipherEncrypt, CipherDecrypt, AeadEncrypt, AeadDecrypt, Output, Identifier}
-use Rattle.store_model.specs.Faults.{FaultMark, Plain, Storage, Hardware, Corrupt, Reading, Writing}
 use Rattle.store_model.specs.Operations.{Operation, Active, is_inactive}
 use Rattle.store_model.specs.DerivationOperations.{DerivationWork, key_step_rows}
 use Rattle.store_model.specs.Handles.{Service, Served, operation_of, key_of_operation, is_alive, part_of, derivation_part}

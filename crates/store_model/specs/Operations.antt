@@ -1,9 +1,6 @@
 -- Operations in several parts.
 use Rattle.std.specs.Prelude.{ℕ, Bool, true, false, Option, Some, None}
-use Rattle.psa_status.specs.declared.Status.{Status}
-use Rattle.psa_status.specs.declared.Status.TheVariants.{BadState, InvalidHandle}
-use Rattle.store_model.specs.Call.{Reply}
-use Rattle.store_model.specs.Outcome.{refusal, done}
+use Rattle.store_model.specs.Common.{BadState, InvalidHandle, Reply, Status, done, refusal}
 
 -- an operation is inactive, has failed, or is active with its work: all that was given to it, whole, however it was cut
 pub data Operation (W : Type 0) : Type 0 where

@@ -1,12 +1,8 @@
 -- Where a copy comes from, over a history.
 use Rattle.std.specs.Prelude.{◌≡◌, ◌≤◌, ℕ, List, [], ◌∷◌, ◌++◌, ◌==◌, find, map as each, Option, None, Some, if◌then◌else◌}
 use Rattle.std.specs.List.{AllByRecursion}
-use Rattle.std.specs.Option.{option_map, option_map_or}
+use Rattle.store_model.specs.Common.{Copy, IsWithin, Key, Policy, Settings, Store, caller_count, option_map, option_map_or, start_of}
 use Rattle.std.specs.FinMap as map
-use Rattle.key_attributes.specs.declared.Policy.{Policy}
-use Rattle.policy_rules.specs.Policy.{IsWithin}
-use Rattle.store_model.specs.Store.{Key, Store, Settings, caller_count, start_of}
-use Rattle.store_model.specs.Call.{Copy}
 use Rattle.store_model.specs.Marks.{key_answered}
 use Rattle.store_model.specs.Handles.{Service, Served}
 use Rattle.store_model.specs.Requests.{Request, OnStore}

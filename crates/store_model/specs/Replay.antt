@@ -1,7 +1,6 @@
 -- A history of calls, and its replay on the one-thread service.
 use Rattle.std.specs.Prelude.{ℕ, zero, suc, List, [], ◌∷◌, Option, Some, None}
-use Rattle.store_model.specs.Call.{Reply}
-use Rattle.store_model.specs.Faults.{FaultMark}
+use Rattle.store_model.specs.Common.{FaultMark, Reply}
 use Rattle.store_model.specs.Handles.{Service, Served}
 use Rattle.store_model.specs.Requests.{Request, serve}
 

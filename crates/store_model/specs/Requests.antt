@@ -1,10 +1,8 @@
 -- One call on the service: on the store, or on a handle.
 use Rattle.std.specs.Prelude.{ℕ, if◌then◌else◌}
-use Rattle.store_model.specs.Call.{Call, Destroy}
-use Rattle.store_model.specs.Faults.{FaultMark, Plain, marked_reply}
+use Rattle.store_model.specs.Common.{Call, Destroy, FaultMark, Outcome, Plain, counted, marked_reply}
 use Rattle.store_model.specs.Step.{step}
 use Rattle.store_model.specs.KeyUse.{destroyed}
-use Rattle.store_model.specs.Outcome.{Outcome, counted}
 use Rattle.store_model.specs.Operations.{InError}
 use Rattle.store_model.specs.Handles.{HandleOperation, Service, Served, own_of, operation_of, with_own, with_operation, with_drawn, next_random}
 use Rattle.store_model.specs.HandleCalls.{HandleCall, is_setup, handle_step}

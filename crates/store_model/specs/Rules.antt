@@ -1,17 +1,9 @@
 -- The refusals that calls with an algorithm share, in their order.
-use Rattle.std.specs.Option.{option_map_or}
+use Rattle.store_model.specs.Common.{BufferTooSmall, Class, Computed, InvalidArgument, InvalidHandle, Key, NotPermitted, NotSupported, Outcome, Rows, Store, class_of, computed_unless, first_row, is_concrete, is_hmac, is_opaque, may_use, option_map_or, with_computed}
 use Rattle.std.specs.FinMap as map
 use Rattle.std.specs.Prelude.{ℕ, ◌-◌, ◌^◌, Bool, true, false, not, nat_lt, ◌&&◌, ◌==◌, [], ◌∷◌, ◌++◌, Option, Some, None, is_some, if◌then◌else◌, List}
-use Rattle.psa_status.specs.declared.Status.TheVariants.{NotPermitted, NotSupported, InvalidArgument, InvalidHandle, BufferTooSmall}
-use Rattle.psa_status.specs.Rows.{Rows, first_row}
-use Rattle.alg_encoding.specs.declared.table.Class.{Class}
 use Rattle.alg_encoding.specs.declared.table.Class.TheVariants as class
-use Rattle.alg_encoding.specs.Encoding.{class_of, is_concrete}
-use Rattle.policy_rules.specs.Policy.{may_use}
-use Rattle.store_model.specs.Store.{Key, Store, is_opaque}
 use Rattle.store_model.specs.KeyUse.{bytes_of}
-use Rattle.store_model.specs.Outcome.{Outcome, Computed, computed_unless, with_computed}
-use Rattle.store_model.specs.Algorithms.{is_hmac}
 
 -- the classes are told apart by a number each
 abbrev pub class_number : Class → ℕ

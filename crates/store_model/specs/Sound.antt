@@ -1,15 +1,11 @@
 -- What holds of each service that requests lead to.
 use Rattle.std.specs.Prelude.{◌≡◌, ◌≤◌, ◌<◌, ◌↔◌, ◌⊎◌, ℕ, ◌+◌, ◌^◌, ◌==◌, true, false, List, [], ◌∷◌, length, find, Option, None, Some, is_some, Ok, if◌then◌else◌}
 use Rattle.std.specs.FinMap as map
-use Rattle.key_attributes.specs.declared.Attributes.{Attributes}
-use Rattle.key_attributes.specs.Checks.{checked}
-use Rattle.store_model.specs.Store.{Key, Store, Settings, OpenedKey, start_of, caller_count, made_of, first_volatile, has_secure_element, is_volatile, live_volatile, count_persistent}
-use Rattle.store_model.specs.Faults.{FaultMark}
+use Rattle.store_model.specs.Common.{Attributes, Destroy, FaultMark, Key, OpenedKey, Settings, Store, caller_count, checked, count_persistent, first_volatile, has_secure_element, is_volatile, live_volatile, made_of, start_of}
 use Rattle.store_model.specs.Creation.{identified}
 use Rattle.store_model.specs.Operations.{Active}
 use Rattle.store_model.specs.DerivationOperations.{DerivationWork, full_capacity, is_hkdf}
 use Rattle.store_model.specs.Handles.{KeyCreation, Work, Deriving, Held, HandleOperation, Service, handle_count, service_start, own_of, operation_of, key_of_operation, is_alive}
-use Rattle.store_model.specs.Call.{Destroy}
 use Rattle.store_model.specs.Requests.{Request, OnStore, serve}
 
 -- THE STORE

@@ -1,9 +1,6 @@
 -- One call on the store, by a caller whose next random bytes these are.
 use Rattle.std.specs.Prelude.{ℕ}
-use Rattle.store_model.specs.Store.{Store}
-use Rattle.store_model.specs.Call.{Call, Import, Export, GetAttributes, Destroy, Purge, Copy, Generate, HashCompute, HashCompare, MacCompute, MacVerify, CipherEncrypt, CipherDecrypt, AeadEncrypt, AeadDecrypt}
-use Rattle.store_model.specs.Draws.{Random}
-use Rattle.store_model.specs.Outcome.{Outcome}
+use Rattle.store_model.specs.Common.{AeadDecrypt, AeadEncrypt, Call, CipherDecrypt, CipherEncrypt, Copy, Destroy, Export, Generate, GetAttributes, HashCompare, HashCompute, Import, MacCompute, MacVerify, Outcome, Purge, Random, Store}
 use Rattle.store_model.specs.Creation.{step_import}
 use Rattle.store_model.specs.Copies.{step_copy}
 use Rattle.store_model.specs.Generation.{step_generate}
