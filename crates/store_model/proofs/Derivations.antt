@@ -41,13 +41,11 @@ bytes_sound w bytes false false due h = record {
   keyed = λ e some. h.salted e (salted (is_some w.secret) (is_hkdf w.alg) (is_some w.salt) due e);
 }
 
-not_zero : (value n : ℕ) → (value == 0) ≡ false → ◌≡◌ {A = Option ℕ} (Some value) (Some n) → 1 ≤ n
-not_zero value n h e = let same : value ≡ n = cc in grind (arith, nat_tests)
 
 cost_sound : (w : DerivationWork) (value : ℕ) → (value == 0) ≡ false → IsSoundDerivation w → IsSoundDerivation (record w { cost = Some value })
 cost_sound w value some h = record {
   capacity = h.capacity;
-  cost = λ n e. not_zero value n some e;
+  cost = λ n e. let same : value ≡ n = cc in grind (arith, nat_tests);
   salted = λ e salt. refl;
   keyed = λ e secret. refl;
 }
@@ -62,8 +60,6 @@ start_sound alg = record {
 
 -- outputs
 
-exhausted_sound : (w : DerivationWork) → IsSoundDerivation w → IsSoundDerivation (record w { capacity = 0 })
-exhausted_sound w h = record { capacity = let c = h.capacity in omega arith; cost = h.cost; salted = h.salted; keyed = h.keyed }
 
 lowered_sound : (w : DerivationWork) (n : ℕ) → n ≤ w.capacity → IsSoundDerivation w → IsSoundDerivation (record w { capacity = n })
 lowered_sound w n less h = record { capacity = let c = h.capacity in omega arith; cost = h.cost; salted = h.salted; keyed = h.keyed }
@@ -90,7 +86,7 @@ module _ {call : HandleCall} (store : Store) (key : Option KeyCreation) where
 
   pub exhausted_step : (w : DerivationWork) → held_derivation key (record w { capacity = 0 }) ≡ left_by call (held_derivation key w) InsufficientData →
       IsStep call store (held_derivation key w) (held_after key Deriving (exhausted w))
-  exhausted_step w left = stays_step w (record w { capacity = 0 }) InsufficientData refl left (exhausted_sound w)
+  exhausted_step w left = stays_step w (record w { capacity = 0 }) InsufficientData refl left (lowered_sound w 0 (omega arith))
 
   taken_step : (w : DerivationWork) (n : ℕ) (reply : Reply) (b : Bool) → nat_lt w.capacity n ≡ b →
       (nat_lt w.capacity n ≡ true → held_derivation key (record w { capacity = 0 }) ≡ left_by call (held_derivation key w) InsufficientData) →
@@ -115,12 +111,8 @@ module _ (store : Store) (key : Option KeyCreation) where
 
   -- a call on a derivation whose key is gone
   pub derivation_lost : (w : DerivationWork) (step : DerivationStep) → Loses (OnDerivation step) (held_derivation key w) InvalidHandle
-  derivation_lost w GetCapacity = refl
   derivation_lost w (SetCapacity n) = refl
-  derivation_lost w (InputBytes step bytes) = refl
-  derivation_lost w (InputInteger step value) = refl
-  derivation_lost w (OutputBytes n) = refl
-  derivation_lost w (VerifyBytes expected) = refl
+  derivation_lost w step = refl
 
   pub derivation_is_step : (w : DerivationWork) (step : DerivationStep) → IsStep (OnDerivation step) store (held_derivation key w) (held_after key Deriving (derivation_step w step))
   derivation_is_step w GetCapacity = goes_step store key Deriving w w _ refl (λ a. refl) (λ h. h)

@@ -66,10 +66,7 @@ length-digest : (byte : ℕ) (m : List ℕ) → length (digest byte m) ≡ table
 length-digest byte m = digest_of (byte == 8) (byte == 9) (byte == 10) m
 
 some_bytes : (b c d : Bool) → 1 ≤ cond b 28 (cond c 32 (cond d 48 64))
-some_bytes true c d = omega arith
-some_bytes false true d = omega arith
-some_bytes false false true = omega arith
-some_bytes false false false = omega arith
+some_bytes b c d = grind arith
 
 length_by_scheme : (w : DerivationWork) (n : ℕ) (hkdf : Bool) → (hkdf ≡ false → 1 ≤ number_or_zero w.cost) →
     let hash : List ℕ → List ℕ = digest (low_byte w.alg) in

@@ -10,14 +10,8 @@ six : (b c d e f g : Bool) →
     first_row ((b, NotSupported) ∷ (c, InvalidArgument) ∷ (d, InvalidArgument) ∷ (e, NotSupported) ∷ (f, InvalidArgument) ∷ (g, InvalidArgument) ∷ []) ≡ None →
     (x y : Bool) → x ≡ false → y ≡ false →
     first_row ((b, NotSupported) ∷ (c, InvalidArgument) ∷ (x, InvalidArgument) ∷ (e, NotSupported) ∷ (f, InvalidArgument) ∷ (y, InvalidArgument) ∷ []) ≡ None
-six true c d e f g h x y i j = cc
-six false true d e f g h x y i j = cc
-six false false true e f g h x y i j = cc
-six false false false true f g h x y i j = cc
-six false false false false true g h x y i j = cc
-six false false false false false g h true y i j = cc
-six false false false false false g h false true i j = cc
 six false false false false false g h false false i j = refl
+six b c d e f g h x y i j = cc
 
 -- the bits of no flag of the standard
 abbrev no_flag : ℕ

@@ -84,31 +84,22 @@ stayed service caller handle status operation e =
 setup_stays : (service : Service) (caller handle : ℕ) (refused : Option Status) (held : Held) (operation : HandleOperation) → operation ≡ operation_of service caller handle →
     is_inactive operation ≡ false → applied service caller handle (set_up operation refused held) ≡ untouched service BadState
 setup_stays service caller handle refused held Inactive e h = cc
-setup_stays service caller handle refused held InError e h = stayed service caller handle BadState InError e
-setup_stays service caller handle refused held (Active other) e h = stayed service caller handle BadState (Active other) e
+setup_stays service caller handle refused held operation e h = stayed service caller handle BadState operation e
 
 stepped_stays : {W : Type 0} (service : Service) (caller handle : ℕ) (embed : W → Work) (f : W → After W) (now : Operation W) → is_active now ≡ false →
     stepped service caller handle embed now f ≡ untouched service BadState
 stepped_stays service caller handle embed f (Active w) h = cc
-stepped_stays service caller handle embed f Inactive h = refl
-stepped_stays service caller handle embed f InError h = refl
+stepped_stays service caller handle embed f now h = refl
 
 input_stays : (service : Service) (caller handle : ℕ) (now : Operation DerivationWork) (step id : ℕ) → is_active now ≡ false → input_key service caller handle now step id ≡ untouched service BadState
 input_stays service caller handle (Active w) step id h = cc
-input_stays service caller handle Inactive step id h = refl
-input_stays service caller handle InError step id h = refl
+input_stays service caller handle now step id h = refl
 
 output_stays : (service : Service) (caller handle : ℕ) (now : Operation DerivationWork) (a : Attributes) → is_active now ≡ false → output_key service caller handle now a ≡ untouched service BadState
 output_stays service caller handle (Active w) a h = cc
-output_stays service caller handle Inactive a h = refl
-output_stays service caller handle InError a h = refl
+output_stays service caller handle now a h = refl
 
 pub unready_stay : UnreadyHandlesStay
-unready_stay service caller handle (HashSetup alg) h = setup_stays service caller handle _ _ _ refl h
-unready_stay service caller handle (MacSetup verifies id alg) h = setup_stays service caller handle _ _ _ refl h
-unready_stay service caller handle (CipherSetup encrypts id alg) h = setup_stays service caller handle _ _ _ refl h
-unready_stay service caller handle (AeadSetup encrypts id alg) h = setup_stays service caller handle _ _ _ refl h
-unready_stay service caller handle (DerivationSetup alg) h = setup_stays service caller handle _ _ _ refl h
 unready_stay service caller handle (OnHash step) h = stepped_stays service caller handle _ _ _ h
 unready_stay service caller handle (OnMac step) h = stepped_stays service caller handle _ _ _ h
 unready_stay service caller handle (OnCipher step) h = stepped_stays service caller handle _ _ _ h
@@ -117,6 +108,7 @@ unready_stay service caller handle (OnDerivation step) h = stepped_stays service
 unready_stay service caller handle (InputKey step id) h = input_stays service caller handle _ step id h
 unready_stay service caller handle (OutputKey a) h = output_stays service caller handle _ a h
 unready_stay service caller handle Abort h = cc
+unready_stay service caller handle setup h = setup_stays service caller handle _ _ _ refl h
 
 -- A REFUSED SETUP
 
@@ -125,8 +117,7 @@ refused_stays : (service : Service) (caller handle : ℕ) (refused : Option Stat
     (applied service caller handle (set_up operation refused held)).service ≡ record service { store = counted service.store }
 refused_stays service caller handle None held Inactive e failed = absurd (failed refl)
 refused_stays service caller handle (Some status) held Inactive e failed = ap (λ (s : Served). s.service) (stayed service caller handle status Inactive e)
-refused_stays service caller handle refused held InError e failed = ap (λ (s : Served). s.service) (stayed service caller handle BadState InError e)
-refused_stays service caller handle refused held (Active other) e failed = ap (λ (s : Served). s.service) (stayed service caller handle BadState (Active other) e)
+refused_stays service caller handle refused held operation e failed = ap (λ (s : Served). s.service) (stayed service caller handle BadState operation e)
 
 setups_left : (service : Service) (caller handle : ℕ) (call : HandleCall) → is_setup call ≡ true → ((serve service caller (OnHandle handle call) Plain).reply.status ≡ Success → ⊥) →
     (serve service caller (OnHandle handle call) Plain).service ≡ record service { store = counted service.store }
@@ -135,17 +126,8 @@ setups_left service caller handle (MacSetup verifies id alg) h failed = refused_
 setups_left service caller handle (CipherSetup encrypts id alg) h failed = refused_stays service caller handle _ _ _ refl failed
 setups_left service caller handle (AeadSetup encrypts id alg) h failed = refused_stays service caller handle _ _ _ refl failed
 setups_left service caller handle (DerivationSetup alg) h failed = refused_stays service caller handle _ _ _ refl failed
-setups_left service caller handle (OnHash step) h failed = cc
-setups_left service caller handle (OnMac step) h failed = cc
-setups_left service caller handle (OnCipher step) h failed = cc
-setups_left service caller handle (OnAead step) h failed = cc
-setups_left service caller handle (OnDerivation step) h failed = cc
-setups_left service caller handle (InputKey step id) h failed = cc
-setups_left service caller handle (OutputKey a) h failed = cc
-setups_left service caller handle Abort h failed = cc
+setups_left service caller handle call h failed = cc
 
 pub setups_stay : RefusedSetupsLeaveAll
 setups_stay service caller handle call Plain h failed = setups_left service caller handle call h failed
-setups_stay service caller handle call (Storage access) h failed = sym (setup_fails service caller handle call h)
-setups_stay service caller handle call Hardware h failed = sym (setup_fails service caller handle call h)
-setups_stay service caller handle call Corrupt h failed = sym (setup_fails service caller handle call h)
+setups_stay service caller handle call mark h failed = sym (setup_fails service caller handle call h)

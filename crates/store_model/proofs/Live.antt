@@ -8,8 +8,7 @@ use Rattle.std.specs.declared.cmp.Ordering.TheVariants.{Equal}
 both : {X : Type 0} (b c : Bool) (x y : Option X) → (b ≡ true → c ≡ true) → cond c (cond b x y) None ≡ cond b x (cond c y None)
 both true true x y h = refl
 both true false x y h = let e = h refl in cc
-both false true x y h = refl
-both false false x y h = refl
+both false c x y h = refl
 
 neither : {X : Type 0} (b c : Bool) (x y : Option X) → (b ≡ true → c ≡ false) → cond c (cond b x y) None ≡ cond c y None
 neither true true x y h = let e = h refl in cc
@@ -59,8 +58,7 @@ module _ {X : Type 0} (p : ℕ → Bool) where
   dropped m k q = get-remove nat_cmp_total m k q ∙ ap (λ b. cond b None (get m q)) (unsigned_tied q k)
 
   swapped : (b c : Bool) (o : Option X) → cond b (cond c None o) None ≡ cond c None (cond b o None)
-  swapped true true o = refl
-  swapped true false o = refl
+  swapped true c o = refl
   swapped false true o = refl
   swapped false false o = refl
 

@@ -35,20 +35,7 @@ module _ (service : Service) (caller : ℕ) (P : Served → Type 0) where
   -- a device failed in the turn of a call on the store
   store_fails : (call : Call) → FailedCases service caller (OnStore call) P → (reply : Reply) → IsQuiet reply → P (record { service = failed_step service caller (OnStore call); reply = reply })
   store_fails (Destroy id) cases reply quiet = cases.destroyed_too reply quiet id refl
-  store_fails (Import a bytes) cases reply quiet = cases.counted_too reply quiet
-  store_fails (Export id room) cases reply quiet = cases.counted_too reply quiet
-  store_fails (GetAttributes id) cases reply quiet = cases.counted_too reply quiet
-  store_fails (Purge id) cases reply quiet = cases.counted_too reply quiet
-  store_fails (Copy source stated) cases reply quiet = cases.counted_too reply quiet
-  store_fails (Generate a) cases reply quiet = cases.counted_too reply quiet
-  store_fails (HashCompute alg input room) cases reply quiet = cases.counted_too reply quiet
-  store_fails (HashCompare alg input hash) cases reply quiet = cases.counted_too reply quiet
-  store_fails (MacCompute id alg input room) cases reply quiet = cases.counted_too reply quiet
-  store_fails (MacVerify id alg input mac) cases reply quiet = cases.counted_too reply quiet
-  store_fails (CipherEncrypt id alg input room) cases reply quiet = cases.counted_too reply quiet
-  store_fails (CipherDecrypt id alg input room) cases reply quiet = cases.counted_too reply quiet
-  store_fails (AeadEncrypt id alg nonce ad input room) cases reply quiet = cases.counted_too reply quiet
-  store_fails (AeadDecrypt id alg nonce ad input room) cases reply quiet = cases.counted_too reply quiet
+  store_fails call cases reply quiet = cases.counted_too reply quiet
 
   -- and of a call on a handle, by whether it is a setup
   handle_fails : (handle : ℕ) (call : HandleCall) → FailedCases service caller (OnHandle handle call) P → (reply : Reply) → IsQuiet reply → (setup : Bool) → is_setup call ≡ setup →

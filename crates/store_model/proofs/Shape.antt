@@ -45,9 +45,8 @@ abbrev SetsUp : HandleCall → Type 0
 SetsUp call = (operation : HandleOperation) → is_ready call operation ≡ is_inactive operation
 
 setup_left : (call : HandleCall) → SetsUp call → (operation : HandleOperation) (status : Status) → operation ≡ left_by call operation status
-setup_left call sets Inactive status = ap (λ (b : Bool). cond b Inactive Inactive) (sym (sets Inactive))
-setup_left call sets InError status = ap (λ (b : Bool). cond b InError InError) (sym (sets InError))
 setup_left call sets (Active held) status = sym (otherwise (is_ready call (Active held)) _ (Active held) (sets (Active held)))
+setup_left call sets other status = ap (λ (b : Bool). cond b other other) (sym (sets other))
 
 stayed_step : (call : HandleCall) → SetsUp call → (store : Store) (operation : HandleOperation) (status : Status) → NoFault status → IsStep call store operation (stays operation status)
 stayed_step call sets store operation status plain = record {
@@ -63,8 +62,7 @@ stayed_step call sets store operation status plain = record {
 set_up_step : (call : HandleCall) → SetsUp call → (store : Store) (before : HandleOperation) (refused : Option Status) (held : Held) → RefusesPlainly refused → (IsSoundStore store → IsSoundHeld store held) → IsStep call store before (set_up before refused held)
 set_up_step call sets store Inactive None held plain sound = record { few = omega arith; undrawn = λ no. refl; plain = refl; left = λ no. absurd (no refl); no_key = λ a. refl; buffer = λ no. absurd (no refl); sound = λ s h. sound s }
 set_up_step call sets store Inactive (Some status) held plain sound = stayed_step call sets store Inactive status (plain status refl)
-set_up_step call sets store InError refused held plain sound = stayed_step call sets store InError BadState refl
-set_up_step call sets store (Active other) refused held plain sound = stayed_step call sets store (Active other) BadState refl
+set_up_step call sets store other refused held plain sound = stayed_step call sets store other BadState refl
 
 keyed_step : (call : HandleCall) → SetsUp call → (store : Store) (before : HandleOperation) (class : Class) (usage alg id : ℕ) (work : List ℕ → Work) → ((key : List ℕ) → IsSoundWork (work key)) →
     let found : Option Key = map.get store.keys id in
@@ -79,43 +77,27 @@ keyed_step call sets store before class usage alg id work sound =
 held_as : {W : Type 0} (part : Work → Operation W) (embed : W → Work) → ((work : Work) (w : W) → part work ≡ Active w → work ≡ embed w) →
     (operation : HandleOperation) (w : W) → part_of part operation ≡ Active w → operation ≡ Active (record { key = key_of_operation operation; work = embed w })
 held_as part embed own (Active held) w e = ap (λ work. Active (record { key = held.key; work = work })) (own held.work w e)
-held_as part embed own Inactive w e = cc
-held_as part embed own InError w e = cc
+held_as part embed own other w e = cc
 
 own_hash : (work : Work) (w : HashWork) → hash_part work ≡ Active w → work ≡ Hashing w
 own_hash (Hashing v) w e = cc
-own_hash (Authenticating v) w e = cc
-own_hash (Ciphering v) w e = cc
-own_hash (Sealing v) w e = cc
-own_hash (Deriving v) w e = cc
+own_hash other w e = cc
 
 own_mac : (work : Work) (w : MacWork) → mac_part work ≡ Active w → work ≡ Authenticating w
-own_mac (Hashing v) w e = cc
 own_mac (Authenticating v) w e = cc
-own_mac (Ciphering v) w e = cc
-own_mac (Sealing v) w e = cc
-own_mac (Deriving v) w e = cc
+own_mac other w e = cc
 
 own_cipher : (work : Work) (w : CipherWork) → cipher_part work ≡ Active w → work ≡ Ciphering w
-own_cipher (Hashing v) w e = cc
-own_cipher (Authenticating v) w e = cc
 own_cipher (Ciphering v) w e = cc
-own_cipher (Sealing v) w e = cc
-own_cipher (Deriving v) w e = cc
+own_cipher other w e = cc
 
 own_aead : (work : Work) (w : AeadWork) → aead_part work ≡ Active w → work ≡ Sealing w
-own_aead (Hashing v) w e = cc
-own_aead (Authenticating v) w e = cc
-own_aead (Ciphering v) w e = cc
 own_aead (Sealing v) w e = cc
-own_aead (Deriving v) w e = cc
+own_aead other w e = cc
 
 own_derivation : (work : Work) (w : DerivationWork) → derivation_part work ≡ Active w → work ≡ Deriving w
-own_derivation (Hashing v) w e = cc
-own_derivation (Authenticating v) w e = cc
-own_derivation (Ciphering v) w e = cc
-own_derivation (Sealing v) w e = cc
 own_derivation (Deriving v) w e = cc
+own_derivation other w e = cc
 
 module _ (service : Service) (caller handle : ℕ) (call : HandleCall) (P : Served → Type 0) (cases : CallCases service caller handle call P) where
   abbrev before : HandleOperation
@@ -133,8 +115,7 @@ module _ (service : Service) (caller handle : ℕ) (call : HandleCall) (P : Serv
       (is_active (part_of part before) ≡ false → left_by call before BadState ≡ before) → (now : Operation W) → part_of part before ≡ now → P (stepped service caller handle embed now f)
   stepped_shape part embed own f lost steps idle (Active w) e =
       steps_shape embed w _ (held_as part embed own before w e) (alive_step service.store own_key embed (begun own_key embed w) (is_alive service.store own_key) (f w) (lost w) (steps w))
-  stepped_shape part embed own f lost steps idle Inactive e = cases.untouched_too (idle (ap is_active e))
-  stepped_shape part embed own f lost steps idle InError e = cases.untouched_too (idle (ap is_active e))
+  stepped_shape part embed own f lost steps idle other e = cases.untouched_too (idle (ap is_active e))
 
 -- A KEY AS THE SECRET
 
@@ -167,8 +148,7 @@ module _ (service : Service) (caller handle step id : ℕ) (P : Served → Type 
       steps_shape service caller handle _ P cases Deriving w _ (held_as derivation_part Deriving own_derivation (operation_of service caller handle) w e)
       (alive_step service.store key Deriving (held_derivation the_key w) (is_alive service.store the_key) _ refl
       (unless_step service.store key Deriving (held_derivation the_key w) (first_row (input_key_rows w found_key step)) (goes_on (with_key w (bytes_of found_key)) done) (input_plainly w found_key step) (λ status refused. refl) (given_step w)))
-  input_key_shape Inactive e = cases.untouched_too (unready_left (InputKey step id) (operation_of service caller handle) (ap is_active e))
-  input_key_shape InError e = cases.untouched_too (unready_left (InputKey step id) (operation_of service caller handle) (ap is_active e))
+  input_key_shape other e = cases.untouched_too (unready_left (InputKey step id) (operation_of service caller handle) (ap is_active e))
 
 -- A KEY OF DERIVED BYTES
 
@@ -224,8 +204,7 @@ module _ (service : Service) (caller handle : ℕ) (a : Attributes) (P : Served 
 
   output_key_shape : (now : Operation DerivationWork) → part_of derivation_part (operation_of service caller handle) ≡ now → P (output_key service caller handle now a)
   output_key_shape (Active w) e = derived_shape w (held_as derivation_part Deriving own_derivation (operation_of service caller handle) w e) _ refl
-  output_key_shape Inactive e = cases.untouched_too (unready_left (OutputKey a) (operation_of service caller handle) (ap is_active e))
-  output_key_shape InError e = cases.untouched_too (unready_left (OutputKey a) (operation_of service caller handle) (ap is_active e))
+  output_key_shape other e = cases.untouched_too (unready_left (OutputKey a) (operation_of service caller handle) (ap is_active e))
 
 -- ANY CALL
 

@@ -78,10 +78,7 @@ module _ {W : Type 0} {call : HandleCall} (store : Store) (key : Option KeyCreat
   }
 
 short_nonce : (a b c : Bool) → cond a 12 (cond b 13 (cond c 12 11)) ≤ 16
-short_nonce true b c = omega arith
-short_nonce false true c = omega arith
-short_nonce false false true = omega arith
-short_nonce false false false = omega arith
+short_nonce a b c = grind arith
 
 module _ (store : Store) (key : Option KeyCreation) where
   pub hash_is_step : (w : HashWork) (step : HashStep) → IsStep (OnHash step) store (begun key Hashing w) (held_after key Hashing (hash_step w step))

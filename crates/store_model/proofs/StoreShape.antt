@@ -139,9 +139,7 @@ generated_plainly store caller a =
 
 short_iv : (mode : Mode) → iv_length mode ≤ 16
 short_iv Ctr = omega arith
-short_iv CbcNoPadding = omega arith
-short_iv CbcPkcs7 = omega arith
-short_iv EcbNoPadding = omega arith
+short_iv mode = omega arith
 
 -- the random bytes are as many as were asked for
 abbrev pub IsRandom : Random → Type 0

@@ -1,14 +1,5 @@
 use Rattle.store_model.proofs.LeftAll.{leaves_all, leaves_buffers, unready_stay, setups_stay}
 use Rattle.store_model.proofs.refusals_leave_all.Goals as goal
 
-pub returns-clause-refusals : goal.returns-clause-refusals
-returns-clause-refusals c = leaves_all
-
-pub returns-clause-unready : goal.returns-clause-unready
-returns-clause-unready c = unready_stay
-
-pub returns-clause-setups : goal.returns-clause-setups
-returns-clause-setups c = setups_stay
-
-pub returns-clause-buffers : goal.returns-clause-buffers
-returns-clause-buffers c = leaves_buffers
+pub returns : goal.returns
+returns c = record { refusals = leaves_all; buffers = leaves_buffers; unready = unready_stay; setups = setups_stay }
