@@ -41,7 +41,6 @@ bytes_sound w bytes false false due h = record {
   keyed = λ e some. h.salted e (salted (is_some w.secret) (is_hkdf w.alg) (is_some w.salt) due e);
 }
 
-
 cost_sound : (w : DerivationWork) (value : ℕ) → (value == 0) ≡ false → IsSoundDerivation w → IsSoundDerivation (record w { cost = Some value })
 cost_sound w value some h = record {
   capacity = h.capacity;
@@ -59,7 +58,6 @@ start_sound alg = record {
 }
 
 -- outputs
-
 
 lowered_sound : (w : DerivationWork) (n : ℕ) → n ≤ w.capacity → IsSoundDerivation w → IsSoundDerivation (record w { capacity = n })
 lowered_sound w n less h = record { capacity = let c = h.capacity in omega arith; cost = h.cost; salted = h.salted; keyed = h.keyed }

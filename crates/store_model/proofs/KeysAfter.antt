@@ -1,10 +1,10 @@
 -- The keys after a request: each stays until it is destroyed, and each new one obeys the rules.
 use Rattle.std.proofs.Common.{Bool, List, None, Ok, Option, Some, ap, arith, cond, false, inl, inr, refl, subst, sym, true, ℕ, ◌==◌, ◌∙◌, ◌≡◌, ◌⊎◌}
-use Rattle.store_model.proofs.Common.{Attributes, Destroy, IsSoundStore, Key, KeysStay, OnHandle, OnStore, Request, RulesAreFollowed, Served, Service, Store, after_rules, created, destroyed, first_row, identified, nat_tests, new_id, new_key, next_derived, room_for_key_rows}
+use Rattle.store_model.proofs.Common.{Attributes, Destroy, IsSoundStore, Key, KeysStay, OnStore, Request, RulesAreFollowed, Store, after_rules, created, destroyed, first_row, identified, nat_tests, new_id, new_key, room_for_key_rows}
 use Rattle.std.specs.FinMap as map
 use Rattle.store_model.proofs.Obeyed.{AreObeyed, obeyed_again, identified_obeyed}
 use Rattle.store_model.proofs.Sound.{put, taken, left, new_is_free}
-use Rattle.store_model.proofs.Served.{FailedCases, on_store_shape, on_handle_shape}
+use Rattle.store_model.proofs.Served.{request_shape}
 
 -- EACH STAYS
 
@@ -35,27 +35,12 @@ stays_destroyed : (store : Store) (request : Request) (id q : ℕ) (key : Key) �
 stays_destroyed store request id q key is e =
     subst (StaysIn request q key) (sym (taken store.keys id q)) (beside_destroyed request id q key (map.get store.keys q) (q == id) refl is e)
 
-abbrev StaysServed : Request → ℕ → Key → Served → Type 0
-StaysServed request q key served = StaysIn request q key (map.get served.service.store.keys q)
-
-failed_stays : (service : Service) (caller : ℕ) (request : Request) (q : ℕ) (key : Key) → map.get service.store.keys q ≡ Some key → FailedCases service caller request (StaysServed request q key)
-failed_stays service caller request q key e = record {
-  counted_too = λ reply quiet. inl e;
-  destroyed_too = λ reply quiet id is. stays_destroyed service.store request id q key is e;
-  lost_too = λ reply quiet handle on. inl e;
-}
-
 pub keys_stay : KeysStay
-keys_stay service caller (OnStore call) mark q key sound e = on_store_shape service caller call mark (StaysServed (OnStore call) q key) (record {
-  counted_too = λ reply drawn is. inl e;
-  created_too = λ kept bytes drawn changes made. inl (stays_created service.store caller kept bytes q key sound.store made.may.room e);
-  destroyed_too = λ id is. stays_destroyed service.store (OnStore call) id q key is e;
-}) (failed_stays service caller (OnStore call) q key e)
-keys_stay service caller (OnHandle handle call) mark q key sound e = on_handle_shape service caller handle call mark (StaysServed (OnHandle handle call) q key) (record {
-  untouched_too = λ may. inl e;
-  applied_too = λ after step. inl e;
-  created_too = λ changes held w n kept made. inl (stays_created service.store caller kept (next_derived w n) q key sound.store made.may.room e);
-}) (failed_stays service caller (OnHandle handle call) q key e)
+keys_stay service caller request mark q key sound e = request_shape service caller (λ served. StaysIn request q key (map.get served.service.store.keys q)) request mark (record {
+  counted_too = λ own reply is quiet. inl e;
+  created_too = λ own kept bytes is made. inl (stays_created service.store caller kept bytes q key sound.store made.may.room e);
+  destroyed_too = λ own reply id is quiet on. stays_destroyed service.store request id q key on e;
+})
 
 -- NEW ONES OBEY
 
@@ -81,24 +66,9 @@ created_obeys store caller kept bytes q key obeyed e =
 destroyed_was : (store : Store) (id q : ℕ) (key : Key) → ObeysOrWas store q key (destroyed store id).store
 destroyed_was store id q key e = inl (left (q == id) _ key (sym (taken store.keys id q) ∙ e))
 
-abbrev ObeysServed : Service → ℕ → Key → Served → Type 0
-ObeysServed service q key served = ObeysOrWas service.store q key served.service.store
-
-failed_was : (service : Service) (caller : ℕ) (request : Request) (q : ℕ) (key : Key) → FailedCases service caller request (ObeysServed service q key)
-failed_was service caller request q key = record {
-  counted_too = λ reply quiet e. inl e;
-  destroyed_too = λ reply quiet id is. destroyed_was service.store id q key;
-  lost_too = λ reply quiet handle on e. inl e;
-}
-
 pub rules_followed : RulesAreFollowed
-rules_followed service caller (OnStore call) mark q key = on_store_shape service caller call mark (ObeysServed service q key) (record {
-  counted_too = λ reply drawn is e. inl e;
-  created_too = λ kept bytes drawn changes made. created_obeys service.store caller kept bytes q key made.may.rules;
-  destroyed_too = λ id is. destroyed_was service.store id q key;
-}) (failed_was service caller (OnStore call) q key)
-rules_followed service caller (OnHandle handle call) mark q key = on_handle_shape service caller handle call mark (ObeysServed service q key) (record {
-  untouched_too = λ may e. inl e;
-  applied_too = λ after step e. inl e;
-  created_too = λ changes held w n kept made. created_obeys service.store caller kept (next_derived w n) q key made.may.rules;
-}) (failed_was service caller (OnHandle handle call) q key)
+rules_followed service caller request mark q key = request_shape service caller (λ served. ObeysOrWas service.store q key served.service.store) request mark (record {
+  counted_too = λ own reply is quiet e. inl e;
+  created_too = λ own kept bytes is made. created_obeys service.store caller kept bytes q key made.may.rules;
+  destroyed_too = λ own reply id is quiet on. destroyed_was service.store id q key;
+})

@@ -1,11 +1,11 @@
 -- What a request that doesn't succeed leaves.
 use Rattle.std.proofs.Common.{None, Option, Some, ap, arith, false, refl, slice_set, sym, true, ℕ, ◌+◌, ◌∙◌, ◌≡◌}
-use Rattle.store_model.proofs.Common.{Abort, Active, AeadSetup, After, Attributes, BadState, Call, CipherSetup, Corrupt, DerivationSetup, DerivationWork, HandleCall, HandleOperation, Hardware, HashSetup, Held, InError, Inactive, InputKey, MacSetup, OnAead, OnCipher, OnDerivation, OnHandle, OnHash, OnMac, OnStore, Operation, OutputKey, Own, Plain, RefusalsLeaveAll, RefusalsLeaveBuffers, RefusedSetupsLeaveAll, Request, Served, Service, Status, Storage, Success, UnreadyHandlesStay, Work, applied, counted, input_key, is_active, is_inactive, is_setup, left_all, left_by, next_random, on_store, operation_of, output_key, own_of, refusal, serve, set_up, stepped, untouched, with_drawn, with_operation, with_own, words_used}
+use Rattle.store_model.proofs.Common.{Abort, Active, AeadSetup, After, Attributes, BadState, Call, CipherSetup, DerivationSetup, DerivationWork, HandleCall, HandleOperation, HashSetup, Held, Inactive, InputKey, MacSetup, OnAead, OnCipher, OnDerivation, OnHandle, OnHash, OnMac, OnStore, Operation, OutputKey, Own, Plain, RefusalsLeaveAll, RefusalsLeaveBuffers, RefusedSetupsLeaveAll, Served, Service, Status, Success, UnreadyHandlesStay, Work, applied, counted, input_key, is_active, is_inactive, is_setup, left_all, left_by, next_random, on_store, operation_of, output_key, own_of, refusal, serve, set_up, stepped, untouched, with_drawn, with_operation, with_own, words_used}
 use Rattle.store_model.proofs.DrawnBytes.{length-random}
 use Rattle.store_model.proofs.StoreShape.{store_shape}
 use Rattle.store_model.proofs.Operations.{same_own, same_service}
-use Rattle.store_model.proofs.Buffers.{LeavesBuffer, refusal_leaves}
-use Rattle.store_model.proofs.Served.{FailedCases, stays_put, setup_fails, on_store_shape, on_handle_shape}
+use Rattle.store_model.proofs.Buffers.{LeavesBuffer}
+use Rattle.store_model.proofs.Served.{stays_put, setup_fails, request_shape}
 use Rattle.store_model.proofs.Shape.{shape}
 
 -- no word is drawn
@@ -54,22 +54,12 @@ leaves_all service caller (OnHandle handle call) failed = own_left service calle
 
 -- BUFFERS
 
-failed_buffers : (service : Service) (caller : ℕ) (request : Request) → FailedCases service caller request (λ served. LeavesBuffer served.reply)
-failed_buffers service caller request = record { counted_too = λ reply quiet. quiet.buffer; destroyed_too = λ reply quiet id is. quiet.buffer; lost_too = λ reply quiet handle on. quiet.buffer }
-
 pub leaves_buffers : RefusalsLeaveBuffers
-leaves_buffers service caller (OnStore call) mark old refuses =
-    on_store_shape service caller call mark (λ served. LeavesBuffer served.reply) (record {
-      counted_too = λ reply drawn is. is.quiet.buffer;
-      created_too = λ kept bytes drawn changes made fails. absurd (fails refl);
-      destroyed_too = λ id is fails. absurd (fails refl);
-    }) (failed_buffers service caller (OnStore call)) refuses old
-leaves_buffers service caller (OnHandle handle call) mark old refuses =
-    on_handle_shape service caller handle call mark (λ served. LeavesBuffer served.reply) (record {
-      untouched_too = λ same. refusal_leaves BadState;
-      applied_too = λ after step. step.buffer;
-      created_too = λ changes key w n kept made fails. absurd (fails refl);
-    }) (failed_buffers service caller (OnHandle handle call)) refuses old
+leaves_buffers service caller request mark old refuses = request_shape service caller (λ served. LeavesBuffer served.reply) request mark (record {
+  counted_too = λ own reply is quiet. quiet.buffer;
+  created_too = λ own kept bytes is made fails. absurd (fails refl);
+  destroyed_too = λ own reply id is quiet on. quiet.buffer;
+}) refuses old
 
 -- A CALL THAT ISN'T IN ORDER
 

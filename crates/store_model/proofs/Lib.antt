@@ -15,7 +15,6 @@ pub mod Shape
 pub mod DerivedBytes
 pub mod Operations
 pub mod Others
-pub mod FewWords
 pub mod LeftAll
 pub mod Follows
 pub mod SoundService

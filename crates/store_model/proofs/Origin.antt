@@ -1,9 +1,9 @@
 -- No chain of copies gains a flag or an algorithm.
 use Rattle.std.proofs.Common.{Bool, IfSome, List, None, Option, Some, [], ap, arith, cond, false, inl, inr, refl, subst, sym, true, ℕ, ◌++◌, ◌+◌, ◌<◌, ◌==◌, ◌∙◌, ◌∷◌, ◌≡◌, ◌⊎◌}
-use Rattle.store_model.proofs.Common.{Attributes, Call, HasOrigin, IsFilled, IsSoundStore, IsWithin, IsWithin-implied, IsWithin-refl, IsWithin-trans, Key, Made, OnStore, Policy, Reply, Store, counted, created, creation_at, creation_from, destroyed, identified, is_volatile, key_answered, meet-within_source, meet_of, nat_tests, new_id, new_key, option_map_or, origin_from, origin_of, source_of, unless-ok, with_implied}
+use Rattle.store_model.proofs.Common.{Attributes, HasOrigin, IsFilled, IsSoundStore, IsWithin, IsWithin-implied, IsWithin-refl, IsWithin-trans, Key, Made, Policy, Reply, Request, Store, counted, created, creation_at, creation_from, destroyed, identified, is_volatile, key_answered, meet-within_source, meet_of, nat_tests, new_id, new_key, option_map_or, origin_from, origin_of, source_of, unless-ok, with_implied}
 use Rattle.std.specs.Ordering.{nat_cmp}
 use Rattle.std.specs.FinMap as map
-use Rattle.store_model.proofs.StoreShape.{MakesNone, IsCopied, StoreCases}
+use Rattle.store_model.proofs.StoreShape.{MakesNone, IsCopied}
 use Rattle.store_model.proofs.Sound.{put, taken, left}
 
 -- the creations so far, beside the store that they led to
@@ -161,11 +161,11 @@ copy_policy : (source stated met : Policy) → IsFilled source → meet_of sourc
 copy_policy source stated met filled e = (IsWithin-implied source met filled (subst (λ o. IfSome o (λ m. IsWithin m source)) e (meet-within_source source stated))).1
 
 -- where the policy of what a call creates comes from
-created_source : (store : Store) (call : Call) (kept : Attributes) (made : List Made) → IsSoundStore store → Tracks store made → (source : Option ℕ) → source_of store (OnStore call) ≡ source →
-    (source_of store (OnStore call) ≡ None) ⊎ IsCopied store call kept.policy → HasSource made source kept.policy
-created_source store call kept made sound t None e h = tt
-created_source store call kept made sound t (Some number) e (inl none) = let clash = sym e ∙ none in cc
-created_source store call kept made sound t (Some number) e (inr copy) =
+pub created_source : (store : Store) (request : Request) (kept : Attributes) (made : List Made) → IsSoundStore store → Tracks store made → (source : Option ℕ) → source_of store request ≡ source →
+    (source_of store request ≡ None) ⊎ IsCopied store request kept.policy → HasSource made source kept.policy
+created_source store request kept made sound t None e h = tt
+created_source store request kept made sound t (Some number) e (inl none) = let clash = sym e ∙ none in cc
+created_source store request kept made sound t (Some number) e (inr copy) =
     let older = t.alive copy.id copy.source copy.there in
     let same : copy.source.number ≡ number = some_same (sym copy.number ∙ e) in
     let own = copy.source.attributes.policy in
@@ -175,12 +175,3 @@ created_source store call kept made sound t (Some number) e (inr copy) =
   where
     some_same : {m n : ℕ} → Some m ≡ Some n → m ≡ n
     some_same e = cc
-
-pub step_tracks : (store : Store) (caller : ℕ) (call : Call) (made : List Made) → IsSoundStore store → Tracks store made →
-    StoreCases store caller call (λ outcome. TracksReply made (source_of store (OnStore call)) outcome.store outcome.reply)
-step_tracks store caller call made sound t = record {
-  counted_too = λ reply drawn is. none_tracks (counted store) made (source_of store (OnStore call)) reply is.quiet.no_key (counted_tracks store made t);
-  created_too = λ kept bytes drawn changes creates.
-      created_tracks store caller kept bytes (source_of store (OnStore call)) made sound t (created_source store call kept made sound t (source_of store (OnStore call)) refl creates.source);
-  destroyed_too = λ id is. destroyed_tracks store id made t;
-}

@@ -1,6 +1,6 @@
 -- The shape of any call on the store: it is counted alone, or creates a key, or destroys one.
 use Rattle.std.proofs.Common.{Bool, Err, List, None, Ok, Option, Result, Some, ap, arith, bytes_eq, cond, drop, false, inl, inr, length, ok_or, refl, subst, sym, take, true, ℕ, ◌++◌, ◌-◌, ◌∙◌, ◌≡◌, ◌≤◌, ◌⊎◌}
-use Rattle.store_model.proofs.Common.{AeadDecrypt, AeadEncrypt, Attributes, Call, CbcNoPadding, CbcPkcs7, CipherDecrypt, CipherEncrypt, Class, Computed, Copy, Ctr, Destroy, EcbNoPadding, Export, Generate, GetAttributes, HashCompare, HashCompute, Import, InvalidArgument, InvalidHandle, InvalidPadding, InvalidSignature, IsWithin, Key, MacCompute, MacVerify, Mode, OnStore, Outcome, Policy, Purge, Reply, Status, Store, Success, attributes_reply, bytes_of, computed_unless, counted, created, created_unless, decided, deciphered, destroy_rows, destroyed, done, enciphered, export_rows, first_row, given, has_secure_element, hash_of, is_ctr, is_of_fault, iv_length, key_answered, mac_of, may_change_keys, meet_of, mode_of, plain_or_zeros, purge_reply, recorded_of, refusal, refused, replies, reply_unless, source_of, spoiled, spoils, stated_bits_rows, stated_bytes, tag_bytes, unless, unless-ok, use_rows, with_computed, with_implied}
+use Rattle.store_model.proofs.Common.{AeadDecrypt, AeadEncrypt, Attributes, Call, CipherDecrypt, CipherEncrypt, Class, Computed, Copy, Ctr, Destroy, Export, Generate, GetAttributes, HashCompare, HashCompute, Import, InvalidArgument, InvalidHandle, InvalidPadding, InvalidSignature, IsWithin, Key, MacCompute, MacVerify, Mode, OnStore, Outcome, Request, Policy, Purge, Reply, Status, Store, Success, attributes_reply, bytes_of, computed_unless, counted, created, created_unless, decided, deciphered, destroy_rows, destroyed, done, enciphered, export_rows, first_row, given, has_secure_element, hash_of, is_ctr, is_of_fault, iv_length, key_answered, mac_of, may_change_keys, meet_of, mode_of, plain_or_zeros, purge_reply, recorded_of, refusal, refused, replies, reply_unless, source_of, spoiled, spoils, stated_bits_rows, stated_bytes, tag_bytes, unless, unless-ok, use_rows, with_computed, with_implied}
 use Rattle.std.specs.Option.{option_map}
 use Rattle.std.specs.FinMap as map
 use Rattle.store_model.specs.Draws.{Random}
@@ -34,13 +34,13 @@ pub record IsCounted (reply : Reply) (drawn : ℕ) : Type 0 where
   pub quiet : IsQuiet reply
 
 -- the policy that a copy records is within the meet of its source's with the stated one
-pub record IsCopied (store : Store) (call : Call) (policy : Policy) : Type 0 where
+pub record IsCopied (store : Store) (request : Request) (policy : Policy) : Type 0 where
   pub id : ℕ
   pub source : Key
   pub stated : Policy
   pub met : Policy
   pub there : map.get store.keys id ≡ Some source
-  pub number : source_of store (OnStore call) ≡ Some source.number
+  pub number : source_of store request ≡ Some source.number
   pub meets : meet_of source.attributes.policy stated ≡ Some met
   pub within : IsWithin policy (with_implied met)
 
@@ -48,7 +48,7 @@ pub record IsCopied (store : Store) (call : Call) (policy : Policy) : Type 0 whe
 pub record Creates (store : Store) (caller : ℕ) (call : Call) (kept : Attributes) (bytes : List ℕ) (drawn : ℕ) : Type 0 where
   pub few : drawn ≤ 1024
   pub may : MayBeKept store caller kept (length bytes)
-  pub source : (source_of store (OnStore call) ≡ None) ⊎ IsCopied store call kept.policy
+  pub source : (source_of store (OnStore call) ≡ None) ⊎ IsCopied store (OnStore call) kept.policy
 
 -- what is to be shown of each kind of outcome
 pub record StoreCases (store : Store) (caller : ℕ) (call : Call) (P : Outcome → Type 0) : Type 0 where

@@ -1,4 +1,4 @@
-use Rattle.store_model.proofs.FewWords.{draws}
+use Rattle.store_model.proofs.Others.{draws}
 use Rattle.store_model.proofs.draws_few_words.Goals as goal
 
 pub returns : goal.returns
