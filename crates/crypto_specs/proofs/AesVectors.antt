@@ -1,8 +1,10 @@
 -- AES: the examples of FIPS 197. Appendix C has the ciphers for all three key sizes.
 
 -- sections 4.2 and 4.2.1
-use Rattle.std.proofs.Common.{List, [], drop, refl, ℕ, ◌∷◌, ◌≡◌}
-use Rattle.crypto_specs.proofs.Common.{aes_decrypt, aes_encrypt, affine_bits, expanded, gf_mul, inv_affine_bits, inv_rounds, inv_sbox, inverse_from, key_schedule, power_of_x, rounds, sbox, sum_of_shifts, xtime}
+use Rattle.std.proofs.Common.{List, [], ap, drop, refl, sym, ℕ, ◌∙◌, ◌∷◌, ◌≡◌}
+use Rattle.crypto_specs.proofs.CipherInverseLists.{tried_bytes}
+use Rattle.crypto_specs.proofs.CipherInverseKeys.{decryption_undoes}
+use Rattle.crypto_specs.proofs.Common.{aes_decrypt, aes_encrypt, affine_bits, expanded, gf_mul, inverse_from, key_schedule, power_of_x, rounds, sbox, sum_of_shifts, xtime}
 
 product : gf_mul 0x57 0x83 ≡ 0xc1
 unfolding sum_of_shifts
@@ -44,8 +46,7 @@ unfolding sum_of_shifts inverse_from affine_bits sbox rounds power_of_x expanded
 cipher_128 = refl
 
 inverse_cipher_128 : aes_decrypt key_128 cipher_text_128 ≡ plain_text
-unfolding sum_of_shifts inverse_from affine_bits sbox inv_affine_bits inv_sbox inv_rounds power_of_x expanded key_schedule aes_decrypt
-inverse_cipher_128 = refl
+inverse_cipher_128 = ap (aes_decrypt key_128) (sym cipher_128) ∙ (decryption_undoes key_128 (tried_bytes key_128 refl)).undone plain_text (record { long = refl; bytes = tried_bytes plain_text refl })
 
 -- appendix C.2
 abbrev key_192 : List ℕ
@@ -59,8 +60,7 @@ unfolding sum_of_shifts inverse_from affine_bits sbox rounds power_of_x expanded
 cipher_192 = refl
 
 inverse_cipher_192 : aes_decrypt key_192 cipher_text_192 ≡ plain_text
-unfolding sum_of_shifts inverse_from affine_bits sbox inv_affine_bits inv_sbox inv_rounds power_of_x expanded key_schedule aes_decrypt
-inverse_cipher_192 = refl
+inverse_cipher_192 = ap (aes_decrypt key_192) (sym cipher_192) ∙ (decryption_undoes key_192 (tried_bytes key_192 refl)).undone plain_text (record { long = refl; bytes = tried_bytes plain_text refl })
 
 -- appendix C.3
 abbrev key_256 : List ℕ
@@ -74,5 +74,4 @@ unfolding sum_of_shifts inverse_from affine_bits sbox rounds power_of_x expanded
 cipher_256 = refl
 
 inverse_cipher_256 : aes_decrypt key_256 cipher_text_256 ≡ plain_text
-unfolding sum_of_shifts inverse_from affine_bits sbox inv_affine_bits inv_sbox inv_rounds power_of_x expanded key_schedule aes_decrypt
-inverse_cipher_256 = refl
+inverse_cipher_256 = ap (aes_decrypt key_256) (sym cipher_256) ∙ (decryption_undoes key_256 (tried_bytes key_256 refl)).undone plain_text (record { long = refl; bytes = tried_bytes plain_text refl })

@@ -1,6 +1,8 @@
 -- CCM: examples of SP 800-38C, appendix C.
-use Rattle.std.proofs.Common.{List, [], ap, refl, ℕ, ◌∙◌, ◌∷◌, ◌≡◌}
+use Rattle.std.proofs.Common.{List, [], ap, arith, refl, sym, ℕ, ◌∙◌, ◌∷◌, ◌≡◌}
 use Rattle.crypto_specs.proofs.Common.{aes_encrypt, blocks, ccm_counter_block, ccm_stream, ccm_tag, ccm_text, chained, control_block, encoded_data, encoded_length, formatted_blocks, power_of_x, sum_of_shifts}
+use Rattle.crypto_specs.proofs.Blocks.{length-aes_encrypt}
+use Rattle.crypto_specs.proofs.ModeLaws.{ccm_text_undoes_itself}
 use Rattle.crypto_specs.proofs.TableAes.{by_table, rounds_by, expanded_by, schedule_by, encrypt_by, table_encrypt, encrypts_by_table}
 
 abbrev key : List ℕ
@@ -24,8 +26,8 @@ unfolding sum_of_shifts power_of_x by_table rounds_by expanded_by schedule_by en
 enciphers = ap (λ (e : List ℕ → List ℕ). ccm_text e nonce payload) (encrypts_by_table key) ∙ refl
 
 deciphers : ccm_text (aes_encrypt key) nonce cipher_text ≡ payload
-unfolding sum_of_shifts power_of_x by_table rounds_by expanded_by schedule_by encrypt_by table_encrypt ccm_counter_block ccm_stream ccm_text
-deciphers = ap (λ (e : List ℕ → List ℕ). ccm_text e nonce cipher_text) (encrypts_by_table key) ∙ refl
+deciphers =
+    ap (ccm_text (aes_encrypt key) nonce) (sym enciphers) ∙ ccm_text_undoes_itself (aes_encrypt key) (λ b h. length-aes_encrypt key b) nonce payload (omega arith) (omega arith)
 
 tags : ccm_tag (aes_encrypt key) 4 nonce associated_data payload ≡ 0x4d ∷ 0xac ∷ 0x25 ∷ 0x5d ∷ []
 unfolding sum_of_shifts power_of_x by_table rounds_by expanded_by schedule_by encrypt_by table_encrypt blocks chained control_block encoded_data formatted_blocks ccm_counter_block ccm_tag

@@ -126,7 +126,14 @@ rounds_zero : (w s : List ℕ) → rounds w s 0 ≡ keyed w s 0
 unfolding rounds keyed
 rounds_zero w s = refl
 
-rounds_suc : (w s : List ℕ) (n : ℕ) → rounds w s (suc n) ≡ keyed w (mixed_columns (substituted (rounds w s n))) (n + 1)
+-- a round from one substitution to the next, and an inverse round
+abbrev forth : List ℕ → ℕ → List ℕ → List ℕ
+forth w n s = substituted (keyed w (mixed_columns s) (n + 1))
+
+abbrev back : List ℕ → ℕ → ℕ → List ℕ → List ℕ
+back w nr n s = unmixed_columns (keyed w (restored s) (nr - (n + 1)))
+
+rounds_suc : (w s : List ℕ) (n : ℕ) → substituted (rounds w s (suc n)) ≡ forth w n (substituted (rounds w s n))
 unfolding rounds keyed mixed_columns substituted
 rounds_suc w s n = refl
 
@@ -138,7 +145,7 @@ inv_rounds_zero : (w s : List ℕ) (nr : ℕ) → inv_rounds w nr s 0 ≡ keyed 
 unfolding inv_rounds keyed
 inv_rounds_zero w s nr = refl
 
-inv_rounds_suc : (w s : List ℕ) (nr n : ℕ) → inv_rounds w nr s (suc n) ≡ unmixed_columns (keyed w (restored (inv_rounds w nr s n)) (nr - (n + 1)))
+inv_rounds_suc : (w s : List ℕ) (nr n : ℕ) → inv_rounds w nr s (suc n) ≡ back w nr n (inv_rounds w nr s n)
 unfolding inv_rounds keyed unmixed_columns restored
 inv_rounds_suc w s nr n = refl
 
@@ -156,13 +163,16 @@ inv_cipher_state w key nr s =
     let before : IsState (restored (inv_rounds w nr s (nr - 1))) = restored_state (inv_rounds w nr s (nr - 1)) in
     rw (inv_cipher_is w s nr) (keyed_state w (restored (inv_rounds w nr s (nr - 1))) 0 key before.bytes)
 
-module _ (w : List ℕ) (key : HasBytes w) (nr : ℕ) (some : 1 ≤ nr) where
-  rounds_state : (s : List ℕ) → IsState s → (n : ℕ) → IsState (rounds w s n)
-  rounds_state s h zero = rw (rounds_zero w s) (keyed_state w s 0 key h.bytes)
-  rounds_state s h (suc n) =
-      let before : IsState (substituted (rounds w s n)) = substituted_state (rounds w s n) in
-      rw (rounds_suc w s n) (keyed_state w (mixed_columns (substituted (rounds w s n))) (n + 1) key (mixed_state (substituted (rounds w s n)) before.bytes).bytes)
+-- a sequence that undoes another's steps, the last one first, goes back along it
+mirrored : (f g : ℕ → List ℕ → List ℕ) (u v : ℕ → List ℕ) (last : ℕ) → ((n : ℕ) → u (suc n) ≡ f n (u n)) → ((n : ℕ) → v (suc n) ≡ g n (v n))
+    → ((n m : ℕ) → n + m + 1 ≡ last → g n (f m (u m)) ≡ u m) → v 0 ≡ u last → (n : ℕ) → n ≤ last → v n ≡ u (last - n)
+mirrored f g u v last us vs undone start zero k = start ∙ ap u (omega arith)
+mirrored f g u v last us vs undone start (suc n) k =
+    let m : ℕ = last - suc n in
+    let row : last - n ≡ suc m = omega arith in
+    vs n ∙ ap (g n) (mirrored f g u v last us vs undone start n (omega arith) ∙ ap u row ∙ us m) ∙ undone n m (omega arith)
 
+module _ (w : List ℕ) (key : HasBytes w) (nr : ℕ) (some : 1 ≤ nr) where
   inv_rounds_state : (s : List ℕ) → IsState s → (n : ℕ) → IsState (inv_rounds w nr s n)
   inv_rounds_state s h zero = rw (inv_rounds_zero w s nr) (keyed_state w s nr key h.bytes)
   inv_rounds_state s h (suc n) =
@@ -170,59 +180,44 @@ module _ (w : List ℕ) (key : HasBytes w) (nr : ℕ) (some : 1 ≤ nr) where
       let now : IsState (keyed w (restored (inv_rounds w nr s n)) (nr - (n + 1))) = keyed_state w (restored (inv_rounds w nr s n)) (nr - (n + 1)) key before.bytes in
       rw (inv_rounds_suc w s nr n) (unmixed_state (keyed w (restored (inv_rounds w nr s n)) (nr - (n + 1))) now.bytes)
 
-  -- n inverse rounds take back the last n rounds
-  taken_back : (s : List ℕ) → IsState s → (n : ℕ) → n + 1 ≤ nr → inv_rounds w nr (cipher w nr s) n ≡ substituted (rounds w s (nr - 1 - n))
-  taken_back s h zero k =
-      inv_rounds_zero w (cipher w nr s) nr ∙ ap (λ (t : List ℕ). keyed w t nr) (cipher_is w s nr)
-      ∙ keyed_twice w (substituted (rounds w s (nr - 1))) nr (substituted_state (rounds w s (nr - 1)))
-      ∙ ap (λ (m : ℕ). substituted (rounds w s m)) (omega arith)
-  taken_back s h (suc n) k =
-      let m : ℕ = nr - 1 - suc n in
-      let row : nr - 1 - n ≡ suc m = omega arith in
+  back_of_forth : (n m : ℕ) → n + m + 1 ≡ nr - 1 → (s : List ℕ) → IsState s → back w nr n (forth w m s) ≡ s
+  back_of_forth n m e s h =
       let place : nr - (n + 1) ≡ m + 1 = omega arith in
-      let last : List ℕ = substituted (rounds w s m) in
-      let is : IsState last = substituted_state (rounds w s m) in
-      let mixed_is : IsState (mixed_columns last) = mixed_state last is.bytes in
-      let back : restored (inv_rounds w nr (cipher w nr s) n) ≡ keyed w (mixed_columns last) (m + 1) =
-      ap restored (taken_back s h n (omega arith) ∙ ap (λ (j : ℕ). substituted (rounds w s j)) row)
-      ∙ restored_of_substituted (rounds w s (suc m)) (rounds_state s h (suc m)) ∙ rounds_suc w s m in
-      inv_rounds_suc w (cipher w nr s) nr n
-      ∙ ap unmixed_columns (ap₂ (keyed w) back place ∙ keyed_twice w (mixed_columns last) (m + 1) mixed_is)
-      ∙ unmixed_of_mixed last is
+      let mixed_is : IsState (mixed_columns s) = mixed_state s h.bytes in
+      ap unmixed_columns (ap₂ (keyed w) (restored_of_substituted (keyed w (mixed_columns s) (m + 1)) (keyed_state w (mixed_columns s) (m + 1) key mixed_is.bytes)) place
+      ∙ keyed_twice w (mixed_columns s) (m + 1) mixed_is)
+      ∙ unmixed_of_mixed s h
+
+  forth_of_back : (n m : ℕ) → n + m + 1 ≡ nr - 1 → (s : List ℕ) → IsState s → forth w n (back w nr m s) ≡ s
+  forth_of_back n m e s h =
+      let place : n + 1 ≡ nr - (m + 1) = omega arith in
+      let is : IsState (restored s) = restored_state s in
+      ap substituted (ap₂ (keyed w) (mixed_of_unmixed (keyed w (restored s) (nr - (m + 1))) (keyed_state w (restored s) (nr - (m + 1)) key is.bytes)) place
+      ∙ keyed_twice w (restored s) (nr - (m + 1)) is)
+      ∙ substituted_of_restored s h
 
   pub inv_cipher_of_cipher : (s : List ℕ) → IsState s → inv_cipher w nr (cipher w nr s) ≡ s
   inv_cipher_of_cipher s h =
       let first : nr - 1 - (nr - 1) ≡ 0 = omega arith in
+      let u : ℕ → List ℕ = λ n. substituted (rounds w s n) in
+      let start : inv_rounds w nr (cipher w nr s) 0 ≡ u (nr - 1) =
+      inv_rounds_zero w (cipher w nr s) nr ∙ ap (λ (t : List ℕ). keyed w t nr) (cipher_is w s nr) ∙ keyed_twice w (u (nr - 1)) nr (substituted_state (rounds w s (nr - 1))) in
+      let all : inv_rounds w nr (cipher w nr s) (nr - 1) ≡ u (nr - 1 - (nr - 1)) =
+      mirrored (forth w) (back w nr) u (inv_rounds w nr (cipher w nr s)) (nr - 1) (rounds_suc w s) (inv_rounds_suc w (cipher w nr s) nr)
+      (λ n m e. back_of_forth n m e (u m) (substituted_state (rounds w s m))) start (nr - 1) (omega arith) in
       inv_cipher_is w (cipher w nr s) nr
-      ∙ ap (λ (t : List ℕ). keyed w t 0) (ap restored (taken_back s h (nr - 1) (omega arith) ∙ ap (λ (j : ℕ). substituted (rounds w s j)) first)
-      ∙ restored_of_substituted (rounds w s 0) (rounds_state s h 0) ∙ rounds_zero w s)
+      ∙ ap (λ (t : List ℕ). keyed w t 0) (ap restored (all ∙ ap u first ∙ ap substituted (rounds_zero w s))
+      ∙ restored_of_substituted (keyed w s 0) (keyed_state w s 0 key h.bytes))
       ∙ keyed_twice w s 0 h
-
-  -- n rounds take back the last n inverse rounds
-  brought_back : (s : List ℕ) → IsState s → (n : ℕ) → n + 1 ≤ nr → rounds w (inv_cipher w nr s) n ≡ restored (inv_rounds w nr s (nr - 1 - n))
-  brought_back s h zero k =
-      rounds_zero w (inv_cipher w nr s) ∙ ap (λ (t : List ℕ). keyed w t 0) (inv_cipher_is w s nr)
-      ∙ keyed_twice w (restored (inv_rounds w nr s (nr - 1))) 0 (restored_state (inv_rounds w nr s (nr - 1)))
-      ∙ ap (λ (m : ℕ). restored (inv_rounds w nr s m)) (omega arith)
-  brought_back s h (suc n) k =
-      let m : ℕ = nr - 1 - suc n in
-      let row : nr - 1 - n ≡ suc m = omega arith in
-      let place : nr - (m + 1) ≡ n + 1 = omega arith in
-      let last : List ℕ = restored (inv_rounds w nr s m) in
-      let is : IsState last = restored_state (inv_rounds w nr s m) in
-      let keyed_is : IsState (keyed w last (n + 1)) = keyed_state w last (n + 1) key is.bytes in
-      let back : substituted (rounds w (inv_cipher w nr s) n) ≡ unmixed_columns (keyed w last (n + 1)) =
-      ap substituted (brought_back s h n (omega arith) ∙ ap (λ (j : ℕ). restored (inv_rounds w nr s j)) row)
-      ∙ substituted_of_restored (inv_rounds w nr s (suc m)) (inv_rounds_state s h (suc m)) ∙ inv_rounds_suc w s nr m
-      ∙ ap (λ (j : ℕ). unmixed_columns (keyed w last j)) place in
-      rounds_suc w (inv_cipher w nr s) n
-      ∙ ap (λ (t : List ℕ). keyed w t (n + 1)) (ap mixed_columns back ∙ mixed_of_unmixed (keyed w last (n + 1)) keyed_is)
-      ∙ keyed_twice w last (n + 1) is
 
   pub cipher_of_inv_cipher : (s : List ℕ) → IsState s → cipher w nr (inv_cipher w nr s) ≡ s
   cipher_of_inv_cipher s h =
       let first : nr - 1 - (nr - 1) ≡ 0 = omega arith in
-      cipher_is w (inv_cipher w nr s) nr
-      ∙ ap (λ (t : List ℕ). keyed w t nr) (ap substituted (brought_back s h (nr - 1) (omega arith) ∙ ap (λ (j : ℕ). restored (inv_rounds w nr s j)) first)
-      ∙ substituted_of_restored (inv_rounds w nr s 0) (inv_rounds_state s h 0) ∙ inv_rounds_zero w s nr)
-      ∙ keyed_twice w s nr h
+      let u : ℕ → List ℕ = inv_rounds w nr s in
+      let v : ℕ → List ℕ = λ n. substituted (rounds w (inv_cipher w nr s) n) in
+      let start : v 0 ≡ u (nr - 1) =
+      ap substituted (rounds_zero w (inv_cipher w nr s) ∙ ap (λ (t : List ℕ). keyed w t 0) (inv_cipher_is w s nr) ∙ keyed_twice w (restored (u (nr - 1))) 0 (restored_state (u (nr - 1))))
+      ∙ substituted_of_restored (u (nr - 1)) (inv_rounds_state s h (nr - 1)) in
+      let all : v (nr - 1) ≡ u (nr - 1 - (nr - 1)) =
+      mirrored (back w nr) (forth w) u v (nr - 1) (inv_rounds_suc w s nr) (rounds_suc w (inv_cipher w nr s)) (λ n m e. forth_of_back n m e (u m) (inv_rounds_state s h m)) start (nr - 1) (omega arith) in
+      cipher_is w (inv_cipher w nr s) nr ∙ ap (λ (t : List ℕ). keyed w t nr) (all ∙ ap u first ∙ inv_rounds_zero w s nr) ∙ keyed_twice w s nr h

@@ -1,8 +1,7 @@
 -- The S-box and its inverse undo each other.
 use Rattle.std.proofs.Common.{Bool, ap, arith, eqb, false, refl, suc, true, zero, ℕ, ◌*◌, ◌+◌, ◌<◌, ◌^◌, ◌∙◌, ◌≡◌, ◌≤◌}
 use Rattle.crypto_specs.proofs.Common.{affine_bit, affine_bits, gf_inverse, gf_mul, inv_affine_bit, inv_affine_bits, inv_sbox, inverse_from, sbox, sum_of_shifts}
-use Rattle.std.proofs.lemmas.Bool.{eqb-true}
-use Rattle.crypto_specs.proofs.FieldLaws.{all_below, below_all}
+use Rattle.crypto_specs.proofs.FieldLaws.{all_below, same_below}
 
 inverse_test : all_below 256 (λ b. eqb (gf_inverse (gf_inverse b)) b) ≡ true
 unfolding all_below sum_of_shifts inverse_from
@@ -15,9 +14,6 @@ affine_test = refl
 inv_affine_test : all_below 256 (λ b. eqb (affine_bits (inv_affine_bits b 8) 8) b) ≡ true
 unfolding all_below affine_bits inv_affine_bits
 inv_affine_test = refl
-
-tested : (f : ℕ → ℕ) → all_below 256 (λ b. eqb (f b) b) ≡ true → (b : ℕ) → b < 256 → f b ≡ b
-tested f t b h = eqb-true (f b) b (below_all 256 (λ b. eqb (f b) b) t b h)
 
 inverse_from-below : (n y b m : ℕ) → y + n ≤ m → 0 < m → inverse_from n y b < m
 unfolding inverse_from
@@ -57,10 +53,10 @@ inv_sbox-byte b = gf_inverse-byte (inv_affine_bits b 8)
 pub inv_sbox_of_sbox : (b : ℕ) → b < 256 → inv_sbox (sbox b) ≡ b
 unfolding sbox inv_sbox
 inv_sbox_of_sbox b h =
-    ap gf_inverse (tested (λ b. inv_affine_bits (affine_bits b 8) 8) affine_test (gf_inverse b) (gf_inverse-byte b)) ∙ tested (λ b. gf_inverse (gf_inverse b)) inverse_test b h
+    ap gf_inverse (same_below 256 (λ b. inv_affine_bits (affine_bits b 8) 8) (λ b. b) affine_test (gf_inverse b) (gf_inverse-byte b)) ∙ same_below 256 (λ b. gf_inverse (gf_inverse b)) (λ b. b) inverse_test b h
 
 pub sbox_of_inv_sbox : (b : ℕ) → b < 256 → sbox (inv_sbox b) ≡ b
 unfolding sbox inv_sbox
 sbox_of_inv_sbox b h =
-    ap (λ (n : ℕ). affine_bits n 8) (tested (λ b. gf_inverse (gf_inverse b)) inverse_test (inv_affine_bits b 8) (inv_affine_bits-below b 8))
-    ∙ tested (λ b. affine_bits (inv_affine_bits b 8) 8) inv_affine_test b h
+    ap (λ (n : ℕ). affine_bits n 8) (same_below 256 (λ b. gf_inverse (gf_inverse b)) (λ b. b) inverse_test (inv_affine_bits b 8) (inv_affine_bits-below b 8))
+    ∙ same_below 256 (λ b. affine_bits (inv_affine_bits b 8) 8) (λ b. b) inv_affine_test b h

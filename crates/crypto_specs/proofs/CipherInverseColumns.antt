@@ -1,8 +1,7 @@
 -- The matrices of MixColumns and InvMixColumns undo each other on a column.
-use Rattle.std.proofs.Common.{Bool, ap, ap₂, bit_xor, eqb, refl, sym, true, ℕ, ◌&&◌, ◌<◌, ◌∙◌, ◌≡◌}
+use Rattle.std.proofs.Common.{ap, ap₂, bit_xor, refl, sym, ℕ, ◌<◌, ◌∙◌, ◌≡◌}
 use Rattle.crypto_specs.proofs.Common.{gf_mul, mixed, sum_of_shifts, xor_assoc, xor_comm, xor_lt, xor_zero_r}
-use Rattle.std.proofs.lemmas.Bool.{eqb-true}
-use Rattle.crypto_specs.proofs.FieldLaws.{all_below, below_all, both, xor_four, gf_mul-xor, gf_mul-byte}
+use Rattle.crypto_specs.proofs.FieldLaws.{all_below, same_below, xor_four, gf_mul-xor, gf_mul-byte}
 
 abbrev pub sum_four : ℕ → ℕ → ℕ → ℕ → ℕ
 sum_four a b c d = bit_xor (bit_xor (bit_xor a b) c) d
@@ -80,40 +79,20 @@ module _ (c0 c1 c2 c3 p0 p1 p2 p3 : ℕ) where
 
 -- ---- the two matrices of AES, tried at every byte
 
-product_test : ℕ → ℕ → ℕ → ℕ → ℕ → ℕ → ℕ → ℕ → (ℕ → ℕ) → Bool
-product_test c0 c1 c2 c3 p0 p1 p2 p3 f = all_below 256 (λ b. eqb (composed c0 c1 c2 c3 p0 p1 p2 p3 b) (f b))
-
-product_tested : (c0 c1 c2 c3 p0 p1 p2 p3 : ℕ) (f : ℕ → ℕ) → product_test c0 c1 c2 c3 p0 p1 p2 p3 f ≡ true
-    → (b : ℕ) → b < 256 → composed c0 c1 c2 c3 p0 p1 p2 p3 b ≡ f b
-unfolding product_test
-product_tested c0 c1 c2 c3 p0 p1 p2 p3 f t b h =
-    eqb-true (composed c0 c1 c2 c3 p0 p1 p2 p3 b) (f b)
-    (below_all 256 (λ b. eqb (composed c0 c1 c2 c3 p0 p1 p2 p3 b) (f b)) t b h)
-
-products_test : ℕ → ℕ → ℕ → ℕ → ℕ → ℕ → ℕ → ℕ → Bool
-products_test c0 c1 c2 c3 p0 p1 p2 p3 =
-    product_test c0 c1 c2 c3 p0 p3 p2 p1 (λ b. b) &&
-    (product_test c0 c1 c2 c3 p1 p0 p3 p2 (λ b. 0) &&
-    (product_test c0 c1 c2 c3 p2 p1 p0 p3 (λ b. 0) &&
-    product_test c0 c1 c2 c3 p3 p2 p1 p0 (λ b. 0)))
-
-products_tested : (c0 c1 c2 c3 p0 p1 p2 p3 : ℕ) → products_test c0 c1 c2 c3 p0 p1 p2 p3 ≡ true → IsInverse c0 c1 c2 c3 p0 p1 p2 p3
-unfolding products_test
-products_tested c0 c1 c2 c3 p0 p1 p2 p3 h =
-    let one = both _ _ h in
-    let two = both _ _ one.1 in
-    let three = both _ _ two.1 in
-    record {
-      first = product_tested c0 c1 c2 c3 p0 p3 p2 p1 (λ b. b) one.0;
-      second = product_tested c0 c1 c2 c3 p1 p0 p3 p2 (λ b. 0) two.0;
-      third = product_tested c0 c1 c2 c3 p2 p1 p0 p3 (λ b. 0) three.0;
-      fourth = product_tested c0 c1 c2 c3 p3 p2 p1 p0 (λ b. 0) three.1;
-    }
-
 pub inv_mix_of_mix : IsInverse 14 11 13 9 2 3 1 1
-unfolding products_test product_test all_below sum_of_shifts
-inv_mix_of_mix = products_tested 14 11 13 9 2 3 1 1 refl
+unfolding all_below sum_of_shifts
+inv_mix_of_mix = record {
+  first = same_below 256 (composed 14 11 13 9 2 1 1 3) (λ b. b) refl;
+  second = same_below 256 (composed 14 11 13 9 3 2 1 1) (λ b. 0) refl;
+  third = same_below 256 (composed 14 11 13 9 1 3 2 1) (λ b. 0) refl;
+  fourth = same_below 256 (composed 14 11 13 9 1 1 3 2) (λ b. 0) refl;
+}
 
 pub mix_of_inv_mix : IsInverse 2 3 1 1 14 11 13 9
-unfolding products_test product_test all_below sum_of_shifts
-mix_of_inv_mix = products_tested 2 3 1 1 14 11 13 9 refl
+unfolding all_below sum_of_shifts
+mix_of_inv_mix = record {
+  first = same_below 256 (composed 2 3 1 1 14 9 13 11) (λ b. b) refl;
+  second = same_below 256 (composed 2 3 1 1 11 14 9 13) (λ b. 0) refl;
+  third = same_below 256 (composed 2 3 1 1 13 11 14 9) (λ b. 0) refl;
+  fourth = same_below 256 (composed 2 3 1 1 9 13 11 14) (λ b. 0) refl;
+}

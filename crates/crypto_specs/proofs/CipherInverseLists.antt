@@ -1,5 +1,7 @@
 -- Lists of bytes, as what each place reads as.
-use Rattle.std.proofs.Common.{List, [], arith, drop, inl, inr, length, slice_index, suc, take, zero, ℕ, ◌++◌, ◌+◌, ◌<◌, ◌∷◌}
+use Rattle.std.proofs.Common.{List, [], arith, drop, inl, inr, length, nat_lt, slice_index, suc, take, true, zero, ℕ, ◌++◌, ◌+◌, ◌<◌, ◌∷◌, ◌≡◌}
+use Rattle.std.specs.List.{list_all}
+use Rattle.std.proofs.lemmas.Bool.{and_parts, ltb-true}
 use Rattle.crypto_specs.proofs.Common.{AreBytes, cases_lt, get_or_default, get_or_past, xor_bytes, xor_lt}
 use Rattle.std.proofs.lemmas.List.{get_or-take, get_or-drop, length-take}
 
@@ -45,3 +47,11 @@ pub xored_bytes : (xs ys : List ℕ) → HasBytes xs → HasBytes ys → HasByte
 xored_bytes [] ys h k = none_bytes
 xored_bytes (x ∷ xs) [] h k = none_bytes
 xored_bytes (x ∷ xs) (y ∷ ys) h k = more_bytes (xor_lt 8 x y (h.at 0) (k.at 0)) (xored_bytes xs ys (rest_bytes x xs h) (rest_bytes y ys k))
+
+-- a list whose bytes are tried one by one
+pub tried_bytes : (xs : List ℕ) → list_all (λ b. nat_lt b 256) xs ≡ true → AreBytes xs
+tried_bytes xs h = all_of_bytes xs (each xs h)
+  where
+    each : (xs : List ℕ) → list_all (λ b. nat_lt b 256) xs ≡ true → HasBytes xs
+    each [] h = none_bytes
+    each (x ∷ xs) h = let two = and_parts (nat_lt x 256) (list_all (λ b. nat_lt b 256) xs) h in more_bytes (ltb-true x 256 two.0) (each xs two.1)

@@ -1,25 +1,24 @@
 -- Laws of the field GF(2^8): what is tried at every byte, and products of sums.
-use Rattle.std.proofs.Common.{Bool, ap, ap₂, arith, bit_xor, cond, eqb, false, inl, inr, nat_lt, refl, suc, sym, true, zero, ℕ, ◌%◌, ◌&&◌, ◌*◌, ◌+◌, ◌/◌, ◌<◌, ◌^◌, ◌∙◌, ◌≡◌, ◌≤◌}
-use Rattle.crypto_specs.proofs.Common.{cases_eq, cases_lt, gf_mul, sum_of_shifts, xor_assoc, xor_block, xor_comm, xor_lt, xor_self, xor_shr, xor_zero_r, xtime}
-use Rattle.std.proofs.lemmas.Bool.{ltb-true, le-ltb, lt-ltb}
+use Rattle.std.proofs.Common.{Bool, ap, ap₂, arith, bit_xor, cond, eqb, false, inl, inr, nat_lt, refl, suc, sym, true, zero, ℕ, ◌%◌, ◌&&◌, ◌*◌, ◌+◌, ◌/◌, ◌<◌, ◌^◌, ◌∙◌, ◌≡◌, ◌⊎◌}
+use Rattle.crypto_specs.proofs.Common.{cases_eq, cases_lt, gf_mul, xor_mod, sum_of_shifts, xor_assoc, xor_block, xor_comm, xor_lt, xor_self, xor_shr, xor_zero_r, xtime}
+use Rattle.std.proofs.lemmas.Bool.{and_parts, eqb-true, ltb-true, le-ltb, lt-ltb}
 
 -- the test holds at each number below n
 unfoldable pub all_below : ℕ → (ℕ → Bool) → Bool
 all_below zero test = true
 all_below (suc n) test = test n && all_below n test
 
-pub both : (a b : Bool) → (a && b) ≡ true → (a ≡ true) × (b ≡ true)
-both true true h = (refl, refl)
-both true false h = (refl, h)
-both false b h = cc
-
 pub below_all : (n : ℕ) (test : ℕ → Bool) → all_below n test ≡ true → (i : ℕ) → i < n → test i ≡ true
 unfolding all_below
 below_all zero test h i k = absurd (omega arith)
 below_all (suc n) test h i k = elim (cases_eq i n) [
-  | inl e ↦ rw e ((both (test n) (all_below n test) h).0)
-  | inr e ↦ below_all n test ((both (test n) (all_below n test) h).1) i (omega arith)
+  | inl e ↦ rw e ((and_parts (test n) (all_below n test) h).0)
+  | inr e ↦ below_all n test ((and_parts (test n) (all_below n test) h).1) i (omega arith)
 ]
+
+-- two functions that agree on each number below n
+pub same_below : (n : ℕ) (f g : ℕ → ℕ) → all_below n (λ b. eqb (f b) (g b)) ≡ true → (b : ℕ) → b < n → f b ≡ g b
+same_below n f g t b h = eqb-true (f b) (g b) (below_all n (λ b. eqb (f b) (g b)) t b h)
 
 -- ---- sums of four, and of two doubled
 
@@ -40,52 +39,36 @@ double-xor a b =
 
 -- ---- the product by x
 
-correction : ℕ → ℕ
-correction b = cond (nat_lt b 128) 0 0x11b
+parity : (a : ℕ) → (a % 2 ≡ 0) ⊎ (a % 2 ≡ 1)
+parity a = elim (cases_eq (a % 2) 1) [ inl e ↦ inr e | inr n ↦ inl (omega arith) ]
 
-corrected : (b : ℕ) → xtime b ≡ bit_xor (2 * b) (correction b)
-unfolding correction
-corrected b = by_case (nat_lt b 128)
-  where
-    by_case : (t : Bool) → cond t (2 * b) (bit_xor (2 * b) 0x11b) ≡ bit_xor (2 * b) (cond t 0 0x11b)
-    by_case true = sym (xor_zero_r (2 * b))
-    by_case false = refl
-
-low : (b : ℕ) → b < 128 → correction b ≡ 0
-unfolding correction
-low b h = rw (lt-ltb b 128 h) refl
-
-high : (b : ℕ) → 128 ≤ b → correction b ≡ 0x11b
-unfolding correction
-high b h = rw (le-ltb b 128 h) refl
-
-correction-xor : (a b : ℕ) → a < 256 → b < 256 → correction (bit_xor a b) ≡ bit_xor (correction a) (correction b)
-correction-xor a b ha hb =
-    let top : bit_xor a b / 128 ≡ bit_xor (a / 128) (b / 128) = xor_shr a b 7 in
-    elim (cases_lt a 128) [
-      | inl la ↦ elim (cases_lt b 128) [
-        | inl lb ↦ rw (low a la, low b lb) (low (bit_xor a b) (xor_lt 7 a b la lb))
-        | inr gb ↦
-            let none : a / 128 ≡ 0 = omega arith in
-            let one : b / 128 ≡ 1 = omega arith in
-            rw (low a la, high b gb) (high (bit_xor a b) (omega (arith, rw (none, one) at top)))
-      ]
-      | inr ga ↦ elim (cases_lt b 128) [
-        | inl lb ↦
-            let one : a / 128 ≡ 1 = omega arith in
-            let none : b / 128 ≡ 0 = omega arith in
-            rw (high a ga, low b lb) (high (bit_xor a b) (omega (arith, rw (one, none) at top)))
-        | inr gb ↦
-            let one : a / 128 ≡ 1 = omega arith in
-            let other : b / 128 ≡ 1 = omega arith in
-            rw (high a ga, high b gb) (low (bit_xor a b) (omega (arith, rw (one, other) at top)))
-      ]
+-- what an odd sum chooses is the sum of what its parts choose
+pub chosen-xor : (a b v : ℕ) → cond (eqb (bit_xor a b % 2) 1) v 0 ≡ bit_xor (cond (eqb (a % 2) 1) v 0) (cond (eqb (b % 2) 1) v 0)
+chosen-xor a b v =
+    let parts : bit_xor a b % 2 ≡ bit_xor (a % 2) (b % 2) = xor_mod a b 1 in
+    elim (parity a) [
+      | inl ea ↦ elim (parity b) [ inl eb ↦ rw (parts, ea, eb) refl | inr eb ↦ rw (parts, ea, eb) refl ]
+      | inr ea ↦ elim (parity b) [ inl eb ↦ rw (parts, ea, eb) (sym (xor_zero_r v)) | inr eb ↦ rw (parts, ea, eb) (sym (xor_self v)) ]
     ]
+
+correction : ℕ → ℕ
+correction b = cond (eqb (b / 128 % 2) 1) 0x11b 0
+
+corrected : (b : ℕ) → b < 256 → xtime b ≡ bit_xor (2 * b) (correction b)
+unfolding correction
+corrected b h = elim (cases_lt b 128) [
+  | inl l ↦ let none : b / 128 % 2 ≡ 0 = omega arith in rw (lt-ltb b 128 l, none) (sym (xor_zero_r (2 * b)))
+  | inr g ↦ let one : b / 128 % 2 ≡ 1 = omega arith in rw (le-ltb b 128 g, one) refl
+]
+
+correction-xor : (a b : ℕ) → correction (bit_xor a b) ≡ bit_xor (correction a) (correction b)
+unfolding correction
+correction-xor a b = ap (λ (m : ℕ). cond (eqb (m % 2) 1) 0x11b 0) (xor_shr a b 7) ∙ chosen-xor (a / 128) (b / 128) 0x11b
 
 pub xtime-xor : (a b : ℕ) → a < 256 → b < 256 → xtime (bit_xor a b) ≡ bit_xor (xtime a) (xtime b)
 xtime-xor a b ha hb =
-    corrected (bit_xor a b) ∙ ap₂ bit_xor (double-xor a b) (correction-xor a b ha hb)
-    ∙ xor_four (2 * a) (2 * b) (correction a) (correction b) ∙ sym (ap₂ bit_xor (corrected a) (corrected b))
+    corrected (bit_xor a b) (xor_lt 8 a b ha hb) ∙ ap₂ bit_xor (double-xor a b) (correction-xor a b)
+    ∙ xor_four (2 * a) (2 * b) (correction a) (correction b) ∙ sym (ap₂ bit_xor (corrected a ha) (corrected b hb))
 
 xtime-test : all_below 256 (λ b. nat_lt (xtime b) 256) ≡ true
 unfolding all_below
@@ -96,7 +79,7 @@ xtime-byte b h = ltb-true (xtime b) 256 (below_all 256 (λ b. nat_lt (xtime b) 2
 
 -- ---- products
 
-cond-xor : (t : Bool) (a b : ℕ) → cond t (bit_xor a b) 0 ≡ bit_xor (cond t a 0) (cond t b 0)
+pub cond-xor : (t : Bool) (a b : ℕ) → cond t (bit_xor a b) 0 ≡ bit_xor (cond t a 0) (cond t b 0)
 cond-xor true a b = refl
 cond-xor false a b = refl
 

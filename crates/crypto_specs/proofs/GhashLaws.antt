@@ -1,20 +1,8 @@
 -- The product of blocks in GHASH is linear in each factor.
-use Rattle.std.proofs.Common.{Bool, ap, ap₂, arith, bit_xor, cond, eqb, false, inl, inr, refl, suc, sym, true, zero, ℕ, ◌%◌, ◌/◌, ◌^◌, ◌∙◌, ◌≡◌, ◌⊎◌}
-use Rattle.crypto_specs.proofs.Common.{bit_at, block_product, cases_eq, reduction, times_x, xor_mod, xor_self, xor_shr, xor_zero_r}
+use Rattle.std.proofs.Common.{Bool, ap, ap₂, bit_xor, cond, eqb, refl, suc, zero, ℕ, ◌%◌, ◌/◌, ◌^◌, ◌∙◌, ◌≡◌}
+use Rattle.crypto_specs.proofs.Common.{bit_at, block_product, reduction, times_x, xor_shr}
 use Rattle.crypto_specs.specs.Ghash.{sum_of_shifts}
-use Rattle.crypto_specs.proofs.FieldLaws.{xor_four}
-
-parity : (a : ℕ) → (a % 2 ≡ 0) ⊎ (a % 2 ≡ 1)
-parity a = elim (cases_eq (a % 2) 1) [ inl e ↦ inr e | inr n ↦ inl (omega arith) ]
-
--- what an odd sum chooses is the sum of what its parts choose
-chosen-xor : (a b v : ℕ) → cond (eqb (bit_xor a b % 2) 1) v 0 ≡ bit_xor (cond (eqb (a % 2) 1) v 0) (cond (eqb (b % 2) 1) v 0)
-chosen-xor a b v =
-    let parts : bit_xor a b % 2 ≡ bit_xor (a % 2) (b % 2) = xor_mod a b 1 in
-    elim (parity a) [
-      | inl ea ↦ elim (parity b) [ inl eb ↦ rw (parts, ea, eb) refl | inr eb ↦ rw (parts, ea, eb) refl ]
-      | inr ea ↦ elim (parity b) [ inl eb ↦ rw (parts, ea, eb) (sym (xor_zero_r v)) | inr eb ↦ rw (parts, ea, eb) (sym (xor_self v)) ]
-    ]
+use Rattle.crypto_specs.proofs.FieldLaws.{chosen-xor, cond-xor, xor_four}
 
 -- ---- in the first factor
 
@@ -36,10 +24,6 @@ unfolding times_x
 times_x-xor a b =
     ap₂ bit_xor (xor_shr a b 1) (chosen-xor a b reduction)
     ∙ xor_four (a / 2) (b / 2) (cond (eqb (a % 2) 1) reduction 0) (cond (eqb (b % 2) 1) reduction 0)
-
-cond-xor : (t : Bool) (v w : ℕ) → cond t (bit_xor v w) 0 ≡ bit_xor (cond t v 0) (cond t w 0)
-cond-xor true v w = refl
-cond-xor false v w = refl
 
 second_factor : (n a v w : ℕ) → sum_of_shifts n a (bit_xor v w) ≡ bit_xor (sum_of_shifts n a v) (sum_of_shifts n a w)
 unfolding sum_of_shifts

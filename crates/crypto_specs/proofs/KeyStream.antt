@@ -1,5 +1,5 @@
 -- The key stream byte by byte.
-use Rattle.std.proofs.Common.{List, [], ap, ap₂, arith, bit_xor, drop, inl, inr, length, refl, slice_index, slice_set, suc, take, zero, ℕ, ◌%◌, ◌*◌, ◌++◌, ◌+◌, ◌-◌, ◌/◌, ◌<◌, ◌∙◌, ◌∷◌, ◌≡◌, ◌≤◌}
+use Rattle.std.proofs.Common.{List, [], ap, ap₂, arith, bit_xor, inl, inr, length, refl, slice_index, suc, zero, ℕ, ◌%◌, ◌*◌, ◌++◌, ◌+◌, ◌-◌, ◌/◌, ◌<◌, ◌∙◌, ◌∷◌, ◌≡◌, ◌≤◌}
 use Rattle.crypto_specs.proofs.Common.{block_count, cases_lt, counter_block, ctr_xor, get_or-append_right, get_or_append_left, key_stream, stream_byte, xor_bytes, xor_stream}
 use Rattle.std.proofs.lemmas.List.{length-append}
 
@@ -47,26 +47,5 @@ module _ (e : List ℕ → List ℕ) (iv : List ℕ) (long : (n : ℕ) → lengt
       (λ i lt. byte_of_blocks n i (omega arith) ∙ ap (stream_byte e iv) (omega arith))
 
 -- the same, where every list is enciphered to 16 bytes
-module _ (e : List ℕ → List ℕ) (long : (b : List ℕ) → length (e b) ≡ 16) (iv : List ℕ) where
-  pub xor_stream-append : (xs ys : List ℕ) (j : ℕ) → xor_stream e iv j (xs ++ ys) ≡ xor_stream e iv j xs ++ xor_stream e iv (j + length xs) ys
-  xor_stream-append xs ys j = xor_stream_of_parts e iv xs ys j
-
-  pub length-key_stream : (n : ℕ) → length (key_stream e iv n) ≡ 16 * n
-  length-key_stream n = length-blocks_of_stream e iv (λ k. long (counter_block iv k)) n
-
-  pub byte_of_stream : (n j : ℕ) → j < 16 * n → slice_index (key_stream e iv n) j ≡ stream_byte e iv j
-  byte_of_stream n j h = byte_of_blocks e iv (λ k. long (counter_block iv k)) n j h
-
-  pub ctr_by_byte : (text : List ℕ) → ctr_xor e iv text ≡ xor_stream e iv 0 text
-  ctr_by_byte text = ctr_by_blocks e iv (λ k. long (counter_block iv k)) text
-
--- one more byte xored in place
-pub xor_stream_next : (e : List ℕ → List ℕ) (iv text : List ℕ) (i j : ℕ) → i < length text
-    → let now : List ℕ = xor_stream e iv j (take i text) ++ drop i text in slice_set now i (bit_xor (slice_index now i) (stream_byte e iv (j + i))) ≡ xor_stream e iv j (take (i + 1) text) ++ drop (i + 1) text
-unfolding xor_stream
-xor_stream_next e iv [] i j h = absurd (omega arith)
-xor_stream_next e iv (x ∷ xs) zero j h = ap (λ (n : ℕ). bit_xor x (stream_byte e iv n) ∷ xs) (omega arith)
-xor_stream_next e iv (x ∷ xs) (suc i) j h =
-    let s : suc i + 1 ≡ suc (i + 1) = omega arith in
-    let at : j + suc i ≡ suc j + i = omega arith in
-    rw (s, at) (ap (λ (l : List ℕ). bit_xor x (stream_byte e iv j) ∷ l) (xor_stream_next e iv xs i (suc j) (omega arith)))
+pub length-key_stream : (e : List ℕ → List ℕ) → ((b : List ℕ) → length (e b) ≡ 16) → (iv : List ℕ) (n : ℕ) → length (key_stream e iv n) ≡ 16 * n
+length-key_stream e long iv n = length-blocks_of_stream e iv (λ k. long (counter_block iv k)) n

@@ -1,11 +1,9 @@
 mod Common
 pub mod XorBytes
 pub mod Blocks
-pub mod Tags
 pub mod CodeLengths
 pub mod Tables
 pub mod KeyStream
-pub mod Absorbing
 pub mod CipherInverseLists
 pub mod FieldLaws
 pub mod CipherInverseBytes

@@ -153,12 +153,8 @@ length-gcm_stream : (e : List ℕ → List ℕ) → KeepsLength e → (y n : ℕ
 unfolding gcm_stream
 length-gcm_stream e keeps y zero = refl
 length-gcm_stream e keeps y (suc n) =
-    omega (
-      arith,
-      length-append (gcm_stream e y n) (e (number_block (increased y (n + 1)))),
-      length-gcm_stream e keeps y n,
-      keeps (number_block (increased y (n + 1))) (length-number_block (increased y (n + 1))),
-    )
+    let block : List ℕ = number_block (increased y (n + 1)) in
+    omega (arith, length-append (gcm_stream e y n) (e block), length-gcm_stream e keeps y n, keeps block (length-number_block (increased y (n + 1))))
 
 pub gcm_text_undoes_itself : GcmTextUndoesItself
 unfolding gcm_text

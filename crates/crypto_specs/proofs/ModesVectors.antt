@@ -1,7 +1,10 @@
 -- ECB, CBC and CTR: examples of SP 800-38A, appendix F, for AES-128. PKCS#7: RFC 5652, 6.3.
-use Rattle.std.proofs.Common.{List, None, Some, [], ap, refl, replicate, take, ℕ, ◌++◌, ◌∙◌, ◌∷◌, ◌≡◌}
-use Rattle.crypto_specs.proofs.Common.{aes_decrypt, aes_encrypt, block_number, blocks, cbc_blocks, cbc_decrypt, cbc_encrypt, cbc_plain_blocks, counter_block, ctr_xor, ecb_decrypt, ecb_encrypt, key_stream, number_block, pkcs7_padded, pkcs7_unpadded, power_of_x, sum_of_shifts}
-use Rattle.crypto_specs.proofs.TableAes.{by_table, rounds_by, inv_rounds_by, expanded_by, schedule_by, encrypt_by, decrypt_by, table_encrypt, table_decrypt, encrypts_by_table, decrypts_by_table}
+use Rattle.std.proofs.Common.{List, None, Some, [], ap, refl, replicate, sym, take, ℕ, ◌++◌, ◌∙◌, ◌∷◌, ◌≡◌}
+use Rattle.crypto_specs.proofs.Common.{aes_decrypt, aes_encrypt, block_number, blocks, cbc_blocks, cbc_decrypt, cbc_encrypt, counter_block, ctr_xor, ecb_decrypt, ecb_encrypt, key_stream, number_block, pkcs7_padded, pkcs7_unpadded, power_of_x, sum_of_shifts}
+use Rattle.crypto_specs.proofs.CipherInverseLists.{tried_bytes}
+use Rattle.crypto_specs.proofs.CipherInverseKeys.{decryption_undoes}
+use Rattle.crypto_specs.proofs.ModeLaws.{ecb_decryption_undoes_encryption, cbc_decryption_undoes_encryption}
+use Rattle.crypto_specs.proofs.TableAes.{by_table, rounds_by, expanded_by, schedule_by, encrypt_by, table_encrypt, encrypts_by_table}
 
 abbrev key : List ℕ
 key = 0x2b ∷ 0x7e ∷ 0x15 ∷ 0x16 ∷ 0x28 ∷ 0xae ∷ 0xd2 ∷ 0xa6 ∷ 0xab ∷ 0xf7 ∷ 0x15 ∷ 0x88 ∷ 0x09 ∷ 0xcf ∷ 0x4f ∷ 0x3c ∷ []
@@ -19,8 +22,9 @@ unfolding sum_of_shifts power_of_x by_table rounds_by expanded_by schedule_by en
 ecb_encrypts = ap (λ (e : List ℕ → List ℕ). ecb_encrypt e (take 16 plain_text)) (encrypts_by_table key) ∙ refl
 
 ecb_decrypts : ecb_decrypt (aes_decrypt key) ecb_text ≡ take 16 plain_text
-unfolding sum_of_shifts power_of_x by_table inv_rounds_by expanded_by schedule_by decrypt_by table_decrypt blocks ecb_decrypt
-ecb_decrypts = ap (λ (e : List ℕ → List ℕ). ecb_decrypt e ecb_text) (decrypts_by_table key) ∙ refl
+ecb_decrypts =
+    ap (ecb_decrypt (aes_decrypt key)) (sym ecb_encrypts)
+    ∙ ecb_decryption_undoes_encryption (aes_encrypt key) (aes_decrypt key) (decryption_undoes key (tried_bytes key refl)) (take 16 plain_text) (tried_bytes (take 16 plain_text) refl) refl
 
 abbrev iv : List ℕ
 iv = 0x00 ∷ 0x01 ∷ 0x02 ∷ 0x03 ∷ 0x04 ∷ 0x05 ∷ 0x06 ∷ 0x07 ∷ 0x08 ∷ 0x09 ∷ 0x0a ∷ 0x0b ∷ 0x0c ∷ 0x0d ∷ 0x0e ∷ 0x0f ∷ []
@@ -34,8 +38,9 @@ unfolding sum_of_shifts power_of_x by_table rounds_by expanded_by schedule_by en
 cbc_encrypts = ap (λ (e : List ℕ → List ℕ). cbc_encrypt e iv plain_text) (encrypts_by_table key) ∙ refl
 
 cbc_decrypts : cbc_decrypt (aes_decrypt key) iv cbc_text ≡ plain_text
-unfolding sum_of_shifts power_of_x by_table inv_rounds_by expanded_by schedule_by decrypt_by table_decrypt blocks cbc_plain_blocks cbc_decrypt
-cbc_decrypts = ap (λ (e : List ℕ → List ℕ). cbc_decrypt e iv cbc_text) (decrypts_by_table key) ∙ refl
+cbc_decrypts =
+    ap (cbc_decrypt (aes_decrypt key) iv) (sym cbc_encrypts)
+    ∙ cbc_decryption_undoes_encryption (aes_encrypt key) (aes_decrypt key) (decryption_undoes key (tried_bytes key refl)) iv plain_text (record { long = refl; bytes = tried_bytes iv refl }) (tried_bytes plain_text refl) refl
 
 abbrev initial_counter : List ℕ
 initial_counter = 0xf0 ∷ 0xf1 ∷ 0xf2 ∷ 0xf3 ∷ 0xf4 ∷ 0xf5 ∷ 0xf6 ∷ 0xf7 ∷ 0xf8 ∷ 0xf9 ∷ 0xfa ∷ 0xfb ∷ 0xfc ∷ 0xfd ∷ 0xfe ∷ 0xff ∷ []

@@ -1,9 +1,8 @@
 -- PKCS#7: unpadding undoes padding, and only that.
 use Rattle.std.proofs.Common.{Bool, List, None, Option, Some, ap, ap₂, arith, bytes_eq, cond, drop, false, length, nat_le, refl, replicate, slice_index, sym, take, true, ℕ, ◌%◌, ◌&&◌, ◌++◌, ◌+◌, ◌-◌, ◌∙◌, ◌≡◌, ◌≤◌}
 use Rattle.crypto_specs.proofs.Common.{OnlyPaddedTextsUnpad, PaddingFillsBlocks, UnpaddingUndoesPadding, and_from, bytes_eq-Decides, get_or-append_right, get_or-replicate, length-replicate, pkcs7_padded, pkcs7_unpadded}
-use Rattle.std.proofs.lemmas.Bool.{le-leb, leb-true}
+use Rattle.std.proofs.lemmas.Bool.{and_parts, le-leb, leb-true}
 use Rattle.std.proofs.lemmas.List.{length-append, length-drop, take_at, drop_at, take-append-drop}
-use Rattle.crypto_specs.proofs.FieldLaws.{both}
 
 -- the text from place n on is p bytes of value p, where p is 1 to 16
 abbrev is_padding : List ℕ → ℕ → ℕ → Bool
@@ -23,8 +22,8 @@ record IsPadding (text : List ℕ) (p n : ℕ) : Type 0 where
 
 padding_told : (text : List ℕ) (p n : ℕ) → is_padding text p n ≡ true → IsPadding text p n
 padding_told text p n h =
-    let all : ((nat_le 1 p && nat_le p 16) ≡ true) × (bytes_eq (drop n text) (replicate p p) ≡ true) = both (nat_le 1 p && nat_le p 16) (bytes_eq (drop n text) (replicate p p)) h in
-    let bounds : (nat_le 1 p ≡ true) × (nat_le p 16 ≡ true) = both (nat_le 1 p) (nat_le p 16) all.0 in
+    let all : ((nat_le 1 p && nat_le p 16) ≡ true) × (bytes_eq (drop n text) (replicate p p) ≡ true) = and_parts (nat_le 1 p && nat_le p 16) (bytes_eq (drop n text) (replicate p p)) h in
+    let bounds : (nat_le 1 p ≡ true) × (nat_le p 16 ≡ true) = and_parts (nat_le 1 p) (nat_le p 16) all.0 in
     record {
       above = leb-true 1 p bounds.0;
       below = leb-true p 16 bounds.1;

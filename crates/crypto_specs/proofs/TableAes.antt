@@ -1,7 +1,7 @@
--- AES with its S-boxes read from tables, so that the examples of the modes compute fast. It is the
+-- AES with its S-box read from a table, so that the examples of the modes compute fast. It is the
 -- same function.
-use Rattle.std.proofs.Common.{List, [], ap, ap₂, cond, eqb, false, inl, inr, length, nat_lt, refl, slice_index, suc, sym, true, zero, ℕ, ◌%◌, ◌&&◌, ◌*◌, ◌++◌, ◌+◌, ◌-◌, ◌/◌, ◌∙◌, ◌∷◌, ◌≡◌}
-use Rattle.crypto_specs.proofs.Common.{add_round_key, aes_decrypt, aes_encrypt, affine_bits, cases_lt, entry, expanded, inv_affine_bits, inv_mix_columns, inv_rounds, inv_sbox, inv_shift_rows, inverse_from, key_schedule, key_words, mix_columns, rot_word, round_constant, round_count, rounds, sbox, shift_rows, state_of, sum_of_shifts, word_at, xor_words}
+use Rattle.std.proofs.Common.{List, [], ap, cond, eqb, false, inl, inr, length, nat_lt, refl, slice_index, suc, sym, true, zero, ℕ, ◌%◌, ◌&&◌, ◌*◌, ◌++◌, ◌+◌, ◌-◌, ◌/◌, ◌∙◌, ◌∷◌, ◌≡◌}
+use Rattle.crypto_specs.proofs.Common.{add_round_key, aes_encrypt, affine_bits, cases_lt, entry, expanded, inverse_from, key_schedule, key_words, mix_columns, rot_word, round_constant, round_count, rounds, sbox, shift_rows, state_of, sum_of_shifts, word_at, xor_words}
 use Rattle.std.proofs.lemmas.Bool.{lt-ltb, le-ltb}
 use Rattle.crypto_specs.proofs.Tables.{holds_values, value_of}
 
@@ -24,32 +24,9 @@ sbox_table =
     0xe1 ∷ 0xf8 ∷ 0x98 ∷ 0x11 ∷ 0x69 ∷ 0xd9 ∷ 0x8e ∷ 0x94 ∷ 0x9b ∷ 0x1e ∷ 0x87 ∷ 0xe9 ∷ 0xce ∷ 0x55 ∷ 0x28 ∷ 0xdf ∷
     0x8c ∷ 0xa1 ∷ 0x89 ∷ 0x0d ∷ 0xbf ∷ 0xe6 ∷ 0x42 ∷ 0x68 ∷ 0x41 ∷ 0x99 ∷ 0x2d ∷ 0x0f ∷ 0xb0 ∷ 0x54 ∷ 0xbb ∷ 0x16 ∷ []
 
-abbrev inv_sbox_table : List ℕ
-inv_sbox_table =
-    0x52 ∷ 0x09 ∷ 0x6a ∷ 0xd5 ∷ 0x30 ∷ 0x36 ∷ 0xa5 ∷ 0x38 ∷ 0xbf ∷ 0x40 ∷ 0xa3 ∷ 0x9e ∷ 0x81 ∷ 0xf3 ∷ 0xd7 ∷ 0xfb ∷
-    0x7c ∷ 0xe3 ∷ 0x39 ∷ 0x82 ∷ 0x9b ∷ 0x2f ∷ 0xff ∷ 0x87 ∷ 0x34 ∷ 0x8e ∷ 0x43 ∷ 0x44 ∷ 0xc4 ∷ 0xde ∷ 0xe9 ∷ 0xcb ∷
-    0x54 ∷ 0x7b ∷ 0x94 ∷ 0x32 ∷ 0xa6 ∷ 0xc2 ∷ 0x23 ∷ 0x3d ∷ 0xee ∷ 0x4c ∷ 0x95 ∷ 0x0b ∷ 0x42 ∷ 0xfa ∷ 0xc3 ∷ 0x4e ∷
-    0x08 ∷ 0x2e ∷ 0xa1 ∷ 0x66 ∷ 0x28 ∷ 0xd9 ∷ 0x24 ∷ 0xb2 ∷ 0x76 ∷ 0x5b ∷ 0xa2 ∷ 0x49 ∷ 0x6d ∷ 0x8b ∷ 0xd1 ∷ 0x25 ∷
-    0x72 ∷ 0xf8 ∷ 0xf6 ∷ 0x64 ∷ 0x86 ∷ 0x68 ∷ 0x98 ∷ 0x16 ∷ 0xd4 ∷ 0xa4 ∷ 0x5c ∷ 0xcc ∷ 0x5d ∷ 0x65 ∷ 0xb6 ∷ 0x92 ∷
-    0x6c ∷ 0x70 ∷ 0x48 ∷ 0x50 ∷ 0xfd ∷ 0xed ∷ 0xb9 ∷ 0xda ∷ 0x5e ∷ 0x15 ∷ 0x46 ∷ 0x57 ∷ 0xa7 ∷ 0x8d ∷ 0x9d ∷ 0x84 ∷
-    0x90 ∷ 0xd8 ∷ 0xab ∷ 0x00 ∷ 0x8c ∷ 0xbc ∷ 0xd3 ∷ 0x0a ∷ 0xf7 ∷ 0xe4 ∷ 0x58 ∷ 0x05 ∷ 0xb8 ∷ 0xb3 ∷ 0x45 ∷ 0x06 ∷
-    0xd0 ∷ 0x2c ∷ 0x1e ∷ 0x8f ∷ 0xca ∷ 0x3f ∷ 0x0f ∷ 0x02 ∷ 0xc1 ∷ 0xaf ∷ 0xbd ∷ 0x03 ∷ 0x01 ∷ 0x13 ∷ 0x8a ∷ 0x6b ∷
-    0x3a ∷ 0x91 ∷ 0x11 ∷ 0x41 ∷ 0x4f ∷ 0x67 ∷ 0xdc ∷ 0xea ∷ 0x97 ∷ 0xf2 ∷ 0xcf ∷ 0xce ∷ 0xf0 ∷ 0xb4 ∷ 0xe6 ∷ 0x73 ∷
-    0x96 ∷ 0xac ∷ 0x74 ∷ 0x22 ∷ 0xe7 ∷ 0xad ∷ 0x35 ∷ 0x85 ∷ 0xe2 ∷ 0xf9 ∷ 0x37 ∷ 0xe8 ∷ 0x1c ∷ 0x75 ∷ 0xdf ∷ 0x6e ∷
-    0x47 ∷ 0xf1 ∷ 0x1a ∷ 0x71 ∷ 0x1d ∷ 0x29 ∷ 0xc5 ∷ 0x89 ∷ 0x6f ∷ 0xb7 ∷ 0x62 ∷ 0x0e ∷ 0xaa ∷ 0x18 ∷ 0xbe ∷ 0x1b ∷
-    0xfc ∷ 0x56 ∷ 0x3e ∷ 0x4b ∷ 0xc6 ∷ 0xd2 ∷ 0x79 ∷ 0x20 ∷ 0x9a ∷ 0xdb ∷ 0xc0 ∷ 0xfe ∷ 0x78 ∷ 0xcd ∷ 0x5a ∷ 0xf4 ∷
-    0x1f ∷ 0xdd ∷ 0xa8 ∷ 0x33 ∷ 0x88 ∷ 0x07 ∷ 0xc7 ∷ 0x31 ∷ 0xb1 ∷ 0x12 ∷ 0x10 ∷ 0x59 ∷ 0x27 ∷ 0x80 ∷ 0xec ∷ 0x5f ∷
-    0x60 ∷ 0x51 ∷ 0x7f ∷ 0xa9 ∷ 0x19 ∷ 0xb5 ∷ 0x4a ∷ 0x0d ∷ 0x2d ∷ 0xe5 ∷ 0x7a ∷ 0x9f ∷ 0x93 ∷ 0xc9 ∷ 0x9c ∷ 0xef ∷
-    0xa0 ∷ 0xe0 ∷ 0x3b ∷ 0x4d ∷ 0xae ∷ 0x2a ∷ 0xf5 ∷ 0xb0 ∷ 0xc8 ∷ 0xeb ∷ 0xbb ∷ 0x3c ∷ 0x83 ∷ 0x53 ∷ 0x99 ∷ 0x61 ∷
-    0x17 ∷ 0x2b ∷ 0x04 ∷ 0x7e ∷ 0xba ∷ 0x77 ∷ 0xd6 ∷ 0x26 ∷ 0xe1 ∷ 0x69 ∷ 0x14 ∷ 0x63 ∷ 0x55 ∷ 0x21 ∷ 0x0c ∷ 0x7d ∷ []
-
 sbox_holds : holds_values sbox 0 sbox_table ≡ true
 unfolding sum_of_shifts inverse_from affine_bits sbox
 sbox_holds = refl
-
-inv_sbox_holds : holds_values inv_sbox 0 inv_sbox_table ≡ true
-unfolding sum_of_shifts inverse_from inv_affine_bits inv_sbox
-inv_sbox_holds = refl
 
 -- f at every number, read from a table where that is long enough
 unfoldable pub by_table : (ℕ → ℕ) → List ℕ → ℕ → ℕ
@@ -70,10 +47,6 @@ substituted s state = state_of (λ r c. s (entry state r c))
 unfoldable pub rounds_by : (ℕ → ℕ) → List ℕ → List ℕ → ℕ → List ℕ
 rounds_by s w block zero = add_round_key w block 0
 rounds_by s w block (suc n) = add_round_key w (mix_columns (shift_rows (substituted s (rounds_by s w block n)))) (n + 1)
-
-unfoldable pub inv_rounds_by : (ℕ → ℕ) → List ℕ → ℕ → List ℕ → ℕ → List ℕ
-inv_rounds_by s w nr block zero = add_round_key w block nr
-inv_rounds_by s w nr block (suc n) = inv_mix_columns (add_round_key w (substituted s (inv_shift_rows (inv_rounds_by s w nr block n))) (nr - (n + 1)))
 
 abbrev sub_word_by : (ℕ → ℕ) → List ℕ → List ℕ
 sub_word_by s t = s (slice_index t 0) ∷ s (slice_index t 1) ∷ s (slice_index t 2) ∷ s (slice_index t 3) ∷ []
@@ -97,21 +70,10 @@ encrypt_by s k block =
     let w : List ℕ = schedule_by s k in
     add_round_key w (shift_rows (substituted s (rounds_by s w block (round_count k - 1)))) (round_count k)
 
-unfoldable pub decrypt_by : (ℕ → ℕ) → (ℕ → ℕ) → List ℕ → List ℕ → List ℕ
-decrypt_by s t k block =
-    let w : List ℕ = schedule_by s k in
-    add_round_key w (substituted t (inv_shift_rows (inv_rounds_by t w (round_count k) block (round_count k - 1)))) 0
-
 rounds_same : (w block : List ℕ) (n : ℕ) → rounds w block n ≡ rounds_by sbox w block n
 unfolding rounds rounds_by
 rounds_same w block zero = refl
 rounds_same w block (suc n) = ap (λ (s : List ℕ). add_round_key w (mix_columns (shift_rows (substituted sbox s))) (n + 1)) (rounds_same w block n)
-
-inv_rounds_same : (w : List ℕ) (nr : ℕ) (block : List ℕ) (n : ℕ) → inv_rounds w nr block n ≡ inv_rounds_by inv_sbox w nr block n
-unfolding inv_rounds inv_rounds_by
-inv_rounds_same w nr block zero = refl
-inv_rounds_same w nr block (suc n) =
-    ap (λ (s : List ℕ). inv_mix_columns (add_round_key w (substituted inv_sbox (inv_shift_rows s)) (nr - (n + 1)))) (inv_rounds_same w nr block n)
 
 expanded_same : (nk : ℕ) (k : List ℕ) (n : ℕ) → expanded nk k n ≡ expanded_by sbox nk k n
 unfolding expanded expanded_by
@@ -129,30 +91,14 @@ encrypt_same k block =
     ap (λ (w : List ℕ). add_round_key w (shift_rows (substituted sbox (rounds w block (round_count k - 1)))) (round_count k)) (schedule_same k)
     ∙ ap (λ (s : List ℕ). add_round_key (schedule_by sbox k) (shift_rows (substituted sbox s)) (round_count k)) (rounds_same (schedule_by sbox k) block (round_count k - 1))
 
-decrypt_same : (k block : List ℕ) → aes_decrypt k block ≡ decrypt_by sbox inv_sbox k block
-unfolding aes_decrypt decrypt_by
-decrypt_same k block =
-    ap (λ (w : List ℕ). add_round_key w (substituted inv_sbox (inv_shift_rows (inv_rounds w (round_count k) block (round_count k - 1)))) 0) (schedule_same k)
-    ∙ ap (λ (s : List ℕ). add_round_key (schedule_by sbox k) (substituted inv_sbox (inv_shift_rows s)) 0) (inv_rounds_same (schedule_by sbox k) (round_count k) block (round_count k - 1))
-
 -- ---- AES by tables
 
 unfoldable pub table_encrypt : List ℕ → List ℕ → List ℕ
 table_encrypt k block = encrypt_by (by_table sbox sbox_table) k block
 
-unfoldable pub table_decrypt : List ℕ → List ℕ → List ℕ
-table_decrypt k block = decrypt_by (by_table sbox sbox_table) (by_table inv_sbox inv_sbox_table) k block
-
 forward : sbox ≡ by_table sbox sbox_table
 forward = λ i b. by_table_same sbox sbox_table sbox_holds b i
-
-backward : inv_sbox ≡ by_table inv_sbox inv_sbox_table
-backward = λ i b. by_table_same inv_sbox inv_sbox_table inv_sbox_holds b i
 
 pub encrypts_by_table : (k : List ℕ) → aes_encrypt k ≡ table_encrypt k
 unfolding table_encrypt
 encrypts_by_table k = λ i block. (encrypt_same k block ∙ ap (λ (s : ℕ → ℕ). encrypt_by s k block) forward) i
-
-pub decrypts_by_table : (k : List ℕ) → aes_decrypt k ≡ table_decrypt k
-unfolding table_decrypt
-decrypts_by_table k = λ i block. (decrypt_same k block ∙ ap₂ (λ (s t : ℕ → ℕ). decrypt_by s t k block) forward backward) i

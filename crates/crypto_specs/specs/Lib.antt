@@ -12,6 +12,5 @@ pub mod Gcm
 pub mod Hmac
 pub mod Hkdf
 pub mod Pbkdf2
-pub mod Absorb
 pub mod Laws
 pub mod Prelude

@@ -1,9 +1,12 @@
 -- Key wrap: the example of RFC 3394, section 4.1.
-use Rattle.std.proofs.Common.{List, Some, [], ap, refl, ℕ, ◌∙◌, ◌∷◌, ◌≡◌}
+use Rattle.std.proofs.Common.{List, Some, [], ap, arith, refl, sym, ℕ, ◌∙◌, ◌∷◌, ◌≡◌}
 use Rattle.crypto_specs.specs.Field.{sum_of_shifts}
 use Rattle.crypto_specs.specs.Prelude.{power_of_x, aes_encrypt, aes_decrypt}
-use Rattle.key_wrap.specs.KeyWrap.{wrap_steps, wrap, unwrap_steps, unwrap}
-use Rattle.crypto_specs.proofs.TableAes.{by_table, rounds_by, inv_rounds_by, expanded_by, schedule_by, encrypt_by, decrypt_by, table_encrypt, table_decrypt, encrypts_by_table, decrypts_by_table}
+use Rattle.key_wrap.specs.KeyWrap.{wrap_steps, wrap, unwrap}
+use Rattle.crypto_specs.proofs.CipherInverseKeys.{decryption_undoes}
+use Rattle.crypto_specs.proofs.CipherInverseLists.{tried_bytes}
+use Rattle.crypto_specs.proofs.TableAes.{by_table, rounds_by, expanded_by, schedule_by, encrypt_by, table_encrypt, encrypts_by_table}
+use Rattle.key_wrap.proofs.KeyWrapLaws.{unwrapping_undoes}
 
 abbrev wrapping_key : List ℕ
 wrapping_key = 0x00 ∷ 0x01 ∷ 0x02 ∷ 0x03 ∷ 0x04 ∷ 0x05 ∷ 0x06 ∷ 0x07 ∷ 0x08 ∷ 0x09 ∷ 0x0a ∷ 0x0b ∷ 0x0c ∷ 0x0d ∷ 0x0e ∷ 0x0f ∷ []
@@ -19,5 +22,6 @@ unfolding sum_of_shifts power_of_x by_table rounds_by expanded_by schedule_by en
 wraps = ap (λ (e : List ℕ → List ℕ). wrap e key_data) (encrypts_by_table wrapping_key) ∙ refl
 
 unwraps : unwrap (aes_decrypt wrapping_key) wrapped ≡ Some key_data
-unfolding sum_of_shifts power_of_x by_table inv_rounds_by expanded_by schedule_by decrypt_by table_decrypt unwrap_steps unwrap
-unwraps = ap (λ (e : List ℕ → List ℕ). unwrap e wrapped) (decrypts_by_table wrapping_key) ∙ refl
+unwraps =
+    ap (unwrap (aes_decrypt wrapping_key)) (sym wraps)
+    ∙ unwrapping_undoes (aes_encrypt wrapping_key) (aes_decrypt wrapping_key) (decryption_undoes wrapping_key (tried_bytes wrapping_key refl)) key_data (tried_bytes key_data refl) (omega arith)
