@@ -54,15 +54,11 @@ leaves_handles service caller other request mark h =
 
 -- THE STORE
 
-different : (b : Bool) → b ≡ true → b ≡ false → ⊥
-different true e f = cc
-different false e f = cc
-
 pub leaves_shared : LeavesShared
 leaves_shared service caller request mark h = request_shape service caller (λ served. served.service.store ≡ counted service.store) request mark (record {
   counted_too = λ own reply is quiet. refl;
-  created_too = λ own kept bytes is made. absurd (different _ made.changes h);
-  destroyed_too = λ own reply id is quiet on. absurd (different _ (ap may_change_keys on) h);
+  created_too = λ own kept bytes is made. let clash = sym made.changes ∙ h in cc;
+  destroyed_too = λ own reply id is quiet on. let clash = sym (ap may_change_keys on) ∙ h in cc;
 })
 
 -- what each request leaves of the store, and how it counts

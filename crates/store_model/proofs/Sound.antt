@@ -15,6 +15,18 @@ put m k v q = map.get-insert nat_cmp_total m k v q ∙ ap (λ b. cond b (Some v)
 pub taken : (m : map.FinMap nat_cmp Key) (k q : ℕ) → map.get (map.remove m k) q ≡ cond (q == k) None (map.get m q)
 taken m k q = map.get-remove nat_cmp_total m k q ∙ ap (λ b. cond b None (map.get m q)) (unsigned_tied q k)
 
+-- no number comes twice after a new key whose number none had
+pub put_apart : (m : map.FinMap nat_cmp Key) (id : ℕ) (new : Key) → ((q : ℕ) (key : Key) → map.get m q ≡ Some key → key.number ≡ new.number → ⊥) →
+    ((q r : ℕ) (key same : Key) → map.get m q ≡ Some key → map.get m r ≡ Some same → key.number ≡ same.number → q ≡ r) →
+    (q r : ℕ) (key same : Key) → map.get (map.insert m id new) q ≡ Some key → map.get (map.insert m id new) r ≡ Some same → key.number ≡ same.number → q ≡ r
+put_apart m id new fresh apart q r key same e f g = of (q == id) (r == id) refl refl (sym (put m id new q) ∙ e) (sym (put m id new r) ∙ f)
+  where
+    of : (b c : Bool) → (q == id) ≡ b → (r == id) ≡ c → cond b (Some new) (map.get m q) ≡ Some key → cond c (Some new) (map.get m r) ≡ Some same → q ≡ r
+    of true true t u e f = grind (arith, nat_tests)
+    of true false t u e f = let is : new ≡ key = cc in absurd (fresh r same f (sym g ∙ ap (λ (k : Key). k.number) (sym is)))
+    of false true t u e f = let is : new ≡ same = cc in absurd (fresh q key e (g ∙ ap (λ (k : Key). k.number) (sym is)))
+    of false false t u e f = apart q r key same e f g
+
 -- a key stays sound
 key_stays : (store after : Store) → store.found + store.calls ≤ after.found + after.calls → has_secure_element store ≡ has_secure_element after → ((c : ℕ) → made_of store c ≤ made_of after c) →
     (id : ℕ) (key : Key) → IsSoundKey store id key → IsSoundKey after id key
@@ -224,27 +236,12 @@ module _ (store : Store) (caller : ℕ) (kept : Attributes) (bytes : List ℕ) (
       subst (IsSoundKey after q) is (subst (λ k. IsSoundKey after k new) same new_sound)
   new_or_old q key false t e = key_stays store after (omega arith) refl (more_made (is_volatile kept)) q key (h.keys q key e)
 
-  apart : (q r : ℕ) (key same : Key) (b c : Bool) → (q == id) ≡ b → (r == id) ≡ c → cond b (Some new) (map.get store.keys q) ≡ Some key → cond c (Some new) (map.get store.keys r) ≡ Some same →
-      key.number ≡ same.number → q ≡ r
-  apart q r key same true true t u e f g = grind (arith, nat_tests)
-  apart q r key same true false t u e f g =
-      let is : new ≡ key = cc in
-      let n : store.found + store.calls ≡ key.number = ap (λ k. k.number) is in
-      let k = (h.keys r same f).given in
-      absurd (omega arith)
-  apart q r key same false true t u e f g =
-      let is : new ≡ same = cc in
-      let n : store.found + store.calls ≡ same.number = ap (λ k. k.number) is in
-      let k = (h.keys q key e).given in
-      absurd (omega arith)
-  apart q r key same false false t u e f g = h.numbers q r key same e f g
-
   pub created_sound : IsSoundStore (created store caller kept bytes).store
   created_sound =
       let none = new_is_free store caller kept h may.room in
       record {
         keys = λ q key e. new_or_old q key (q == id) refl (sym (put store.keys id new q) ∙ e);
-        numbers = λ q r key same e f g. apart q r key same (q == id) (r == id) refl refl (sym (put store.keys id new q) ∙ e) (sym (put store.keys id new r) ∙ f) g;
+        numbers = put_apart store.keys id new (λ q key e same. let k = (h.keys q key e).given in let number : key.number ≡ store.found + store.calls = same in omega arith) h.numbers;
         made = few_made (is_volatile kept) room;
         live = λ c. few_step 16 (is_volatile_of c id) (live_volatile after.keys c) (live_volatile store.keys c) (len_kept-insert (is_volatile_of c) store.keys id new none) (h.live c)
             (live_before (is_volatile kept) room stated c);

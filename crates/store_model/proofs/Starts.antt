@@ -3,7 +3,7 @@ use Rattle.std.proofs.Common.{Bool, List, None, Some, [], ap, arith, cond, false
 use Rattle.store_model.proofs.Common.{AreFoundKeys, IsChecked, IsSoundStore, Key, OpenedKey, Settings, Store, found_from, has_secure_element, is_volatile, is_volatile_of, nat_tests, start_of}
 use Rattle.std.specs.Ordering.{nat_cmp}
 use Rattle.std.specs.FinMap as map
-use Rattle.store_model.proofs.Sound.{put, low_id, of_volatile}
+use Rattle.store_model.proofs.Sound.{put, put_apart, low_id, of_volatile}
 use Rattle.store_model.proofs.Live.{len_kept-insert, len_kept-empty}
 
 no_key_at : (id : ℕ) (key : Key) → map.get (map.empty {X = Key} {R = nat_cmp}) id ≡ Some key → ⊥
@@ -39,23 +39,8 @@ module _ (store : Store) where
       key.number ≡ same.number → q ≡ r
   apart n [] are q r key same e f g = absurd (no_key_at q key e)
   apart n (k ∷ ks) are q r key same e f g =
-      let id = k.attributes.id.0 in
-      of (apart (n + 1) ks are.3 q r key same) (q == id) (r == id) refl refl (sym (put (found_from (n + 1) ks) id (new_at n k) q) ∙ e) (sym (put (found_from (n + 1) ks) id (new_at n k) r) ∙ f)
-    where
-      of : (map.get (found_from (n + 1) ks) q ≡ Some key → map.get (found_from (n + 1) ks) r ≡ Some same → key.number ≡ same.number → q ≡ r) →
-          (b c : Bool) → (q == k.attributes.id.0) ≡ b → (r == k.attributes.id.0) ≡ c → cond b (Some (new_at n k)) (map.get (found_from (n + 1) ks) q) ≡ Some key → cond c (Some (new_at n k)) (map.get (found_from (n + 1) ks) r) ≡ Some same → q ≡ r
-      of rest true true t u e f = grind (arith, nat_tests)
-      of rest true false t u e f =
-          let is : new_at n k ≡ key = cc in
-          let first : n ≡ key.number = ap (λ x. x.number) is in
-          let later = (found_key (n + 1) ks are.3 r same f).from in
-          absurd (omega arith)
-      of rest false true t u e f =
-          let is : new_at n k ≡ same = cc in
-          let first : n ≡ same.number = ap (λ x. x.number) is in
-          let later = (found_key (n + 1) ks are.3 q key e).from in
-          absurd (omega arith)
-      of rest false false t u e f = rest e f g
+      let later = λ (q : ℕ) (key : Key) (e : map.get (found_from (n + 1) ks) q ≡ Some key). (found_key (n + 1) ks are.3 q key e).from in
+      put_apart (found_from (n + 1) ks) k.attributes.id.0 (new_at n k) (λ q key e number. let l = later q key e in let at : key.number ≡ n = number in omega arith) (apart (n + 1) ks are.3) q r key same e f g
 
   low : (k : OpenedKey) (ks : List OpenedKey) → AreFoundKeys store (k ∷ ks) → k.attributes.id.0 ≤ 0x3fffffff
   low k ks are = (low_id k.attributes (length k.bytes) (has_secure_element store) are.1 are.0).1
@@ -101,17 +86,13 @@ none_made zero c = refl
 none_made (suc n) zero = refl
 none_made (suc n) (suc c) = none_made n c
 
-volatile_or_not : (b : Bool) → b ≡ false → b ≡ true → ⊥
-volatile_or_not true e f = cc
-volatile_or_not false e f = cc
-
 pub store_starts : (settings : Settings) (found : List OpenedKey) → AreFoundKeys (start_of settings found) found → length found ≤ 512 → IsSoundStore (start_of settings found)
 store_starts settings found are few =
     let start = start_of settings found in
     record {
       keys = λ id key e.
           let f = found_key start 0 found are id key e in
-          record { identifier = f.identifier; given = (let l = f.below in omega arith); attributes = f.attributes; volatile = λ v. absurd (volatile_or_not (is_volatile key.attributes) f.persistent v) };
+          record { identifier = f.identifier; given = (let l = f.below in omega arith); attributes = f.attributes; volatile = λ v. let clash = sym f.persistent ∙ v in cc };
       numbers = apart start 0 found are;
       made = λ c. let e = none_made 17 c in omega arith;
       live = λ c. let e = none_live start c 0 found are in omega arith;
