@@ -46,9 +46,7 @@ not_free_as slots cell slot is not_free free = not_free (sym is ∙ free)
 
 pub open_not_free : (slot : Slot) → is_open slot ≡ true → slot ≡ Free → ⊥
 open_not_free Free is free = cc
-open_not_free (Open id creation) is free = cc
-open_not_free Shut is free = cc
-open_not_free Unsure is free = cc
+open_not_free slot is free = cc
 
 -- where no cell is in doubt, neither is one of a directory that is the same
 pub sure_still : (slots now : List Slot) (cell : ℕ) → length slots ≡ 512 → cell < 512 → now ≡ slots → IsSure slots → settled_slot (cell_slot now cell) ≡ cell_slot now cell
