@@ -1,74 +1,54 @@
 -- How cells are made zeros that are left over from a crash.
 use Rattle.std.proofs.Common.{List, None, Option, Some, ap, arith, drop, get_or, is_some, length, refl, replicate, set, subst, sym, take, ℕ, ⊎_elim, ◌+◌, ◌<◌, ◌∙◌, ◌≡◌, ◌≤◌}
-use Rattle.key_cells.proofs.Common.{Absent, Clearing, Content, Doubtful, Elapses, Follows, Free, HoldsAround, HoldsWritten, IsSettled, LeavesWhatIsRead, Open, Present, Shows, Shut, Slot, Sound, SoundBy, Spares, StandsForContents, Torn, Unsure, Within, body, cases_eq, cell_slot, cells, closed, gate, get_or-map, length-map, part, place, settled_slot, settled_slots, within_one, written, written_torn, zeros}
+use Rattle.key_cells.proofs.Common.{Absent, Clearing, ClearsOn, Content, Doubtful, Elapses, Follows, Free, HoldsAround, HoldsWritten, IsSettled, LeavesWhatIsRead, Open, Present, Shows, Shut, Slot, Sound, SoundBy, Spares, StandsForContents, Torn, Unsure, Within, body, cases_eq, cell_slot, cells, closed, gate, get_or-map, length-map, part, place, settled_slot, settled_slots, within_both, within_one, written, written_torn, zeros}
 use Rattle.disk_face.specs.declared.Disk as Disk
 use Rattle.std.proofs.lemmas.List.{get_or-set_same, get_or-set_other, ext_get_or}
-use Rattle.key_cells.proofs.Parts.{part_before, part_written}
+use Rattle.key_cells.proofs.Parts.{part_written}
 use Rattle.key_cells.proofs.Images.{sound_after, same_all, same_slots}
-use Rattle.key_cells.proofs.Steps.{zeros_are}
+use Rattle.key_cells.proofs.Steps.{body_torn, body_whole, zeros_are}
 use Rattle.key_cells.proofs.CellsRead.{gate_read, body_read}
 
 spares_shut : (content : Content) (g b b' : List ℕ) → Spares Shut content g b → Spares Shut content g b'
 spares_shut Absent g b b' s = s
-spares_shut (Present bytes) g b b' s = s
-spares_shut (Doubtful bytes) g b b' s = s
+spares_shut content g b b' s = s
 
 spares_unsure : (content : Content) (g b g' b' : List ℕ) → Spares Unsure content g b → Spares Unsure content g' b'
 spares_unsure Absent g b g' b' s = s
-spares_unsure (Present bytes) g b g' b' s = s
-spares_unsure (Doubtful bytes) g b g' b' s = s
+spares_unsure content g b g' b' s = s
 
-shut_freed : (content : Content) (g b b' : List ℕ) → Spares Shut content g b → b' ≡ zeros → Spares Free content g b'
-shut_freed Absent g b b' s are = (s, are)
-shut_freed (Present bytes) g b b' s are = s
-shut_freed (Doubtful bytes) g b b' s are = s
+shut_freed : (content : Content) (g b : List ℕ) → Spares Shut content g b → Spares Free content g (replicate 1087 0)
+shut_freed Absent g b s = (s, zeros_are)
+shut_freed content g b s = s
 
 unsure_freed : (content : Content) (g b g' b' : List ℕ) → Spares Unsure content g b → g' ≡ closed → b' ≡ zeros → Spares Free content g' b'
 unsure_freed Absent g b g' b' s is are = (is, are)
-unsure_freed (Present bytes) g b g' b' s is are = s
-unsure_freed (Doubtful bytes) g b g' b' s is are = s
+unsure_freed content g b g' b' s is are = s
 
-module _ (cell : ℕ) (lt : cell < cells) (slots : List Slot) (contents : List Content) where
+module _ (cell : ℕ) (lt : cell < cells) (slots : List Slot) (contents : List Content) (p : ℕ) (at : p ≡ place cell) where
   -- a torn write of the body of a shut cell, or of the whole of an unsure one
-  pub torn_shut : cell_slot slots cell ≡ Shut → (before image : List ℕ) → Torn (place cell + 1) 1087 before image → SoundBy Spares slots contents before → SoundBy Spares slots contents image
-  torn_shut is before image torn s =
-      let same : gate cell image ≡ gate cell before = part_before (place cell + 1) 1087 (place cell) 1 before image torn (omega arith) in
-      let shown : Spares Shut (get_or contents cell Absent) (gate cell before) (body cell before) = subst (λ (x : Slot). Spares x (get_or contents cell Absent) (gate cell before) (body cell before)) is (s.each cell lt) in
-      sound_after Spares cell (place cell + 1) 1087 slots slots contents contents before image (omega arith) (omega arith) torn (same_all cell slots contents)
-      (rw (is, same) (spares_shut (get_or contents cell Absent) (gate cell before) (body cell before) (body cell image) shown)) s
+  pub torn_shut : cell_slot slots cell ≡ Shut → (before image : List ℕ) → Torn (p + 1) 1087 before image → SoundBy Spares slots contents before → SoundBy Spares slots contents image
+  torn_shut is before image torn =
+      body_torn Spares cell lt slots slots contents contents (same_all cell slots contents) p at 1087 refl before image torn (rw is (spares_shut (get_or contents cell Absent) (gate cell before) (body cell before) (body cell image)))
 
-  pub torn_unsure : cell_slot slots cell ≡ Unsure → (before image : List ℕ) → Torn (place cell) 1088 before image → SoundBy Spares slots contents before → SoundBy Spares slots contents image
+  pub torn_unsure : cell_slot slots cell ≡ Unsure → (before image : List ℕ) → Torn p 1088 before image → SoundBy Spares slots contents before → SoundBy Spares slots contents image
   torn_unsure is before image torn s =
-      let shown : Spares Unsure (get_or contents cell Absent) (gate cell before) (body cell before) = subst (λ (x : Slot). Spares x (get_or contents cell Absent) (gate cell before) (body cell before)) is (s.each cell lt) in
-      sound_after Spares cell (place cell) 1088 slots slots contents contents before image (omega arith) (omega arith) torn (same_all cell slots contents)
-      (rw is (spares_unsure (get_or contents cell Absent) (gate cell before) (body cell before) (gate cell image) (body cell image) shown)) s
+      sound_after Spares cell p 1088 slots slots contents contents before image (omega (arith, at)) (omega (arith, at)) torn (same_all cell slots contents)
+      (rw is (spares_unsure (get_or contents cell Absent) (gate cell before) (body cell before) (gate cell image) (body cell image) (rw is at (s.each cell lt)))) s
 
-  pub shut_cleared : length slots ≡ 512 → cell_slot slots cell ≡ Shut → (read : List ℕ) → SoundBy Spares slots contents read → SoundBy Spares (set slots cell Free) contents (written read (place cell + 1) (replicate 1087 0))
-  shut_cleared count is read s =
-      let bytes : List ℕ = replicate 1087 0 in
-      let fits : place cell + 1 + 1087 ≤ length read = omega (arith, s.size) in
-      let image : List ℕ = written read (place cell + 1) bytes in
-      let torn : Torn (place cell + 1) 1087 read image = written_torn read bytes (place cell + 1) fits in
-      let same : gate cell image ≡ gate cell read = part_before (place cell + 1) 1087 (place cell) 1 read image torn (omega arith) in
-      let are : body cell image ≡ zeros = part_written read bytes (place cell + 1) 1087 refl fits ∙ zeros_are in
-      let slot : get_or (set slots cell Free) cell Free ≡ Free = get_or-set_same slots cell Free Free (omega (arith, count)) in
-      let shown : Spares Shut (get_or contents cell Absent) (gate cell read) (body cell read) = subst (λ (x : Slot). Spares x (get_or contents cell Absent) (gate cell read) (body cell read)) is (s.each cell lt) in
-      sound_after Spares cell (place cell + 1) 1087 slots (set slots cell Free) contents contents read image (omega arith) (omega arith) torn (same_slots cell slots contents Free)
-      (rw (slot, same) (shut_freed (get_or contents cell Absent) (gate cell read) (body cell read) (body cell image) shown are)) s
+  pub shut_cleared : length slots ≡ 512 → cell_slot slots cell ≡ Shut → (read : List ℕ) → SoundBy Spares slots contents read → SoundBy Spares (set slots cell Free) contents (written read (p + 1) (replicate 1087 0))
+  shut_cleared count is read =
+      body_whole Spares cell lt slots (set slots cell Free) contents contents (same_slots cell slots contents Free) p at (replicate 1087 0) read refl
+      (rw (is, get_or-set_same slots cell Free Free (omega (arith, count))) (shut_freed (get_or contents cell Absent) (gate cell read) (body cell read)))
 
-  pub unsure_cleared : length slots ≡ 512 → cell_slot slots cell ≡ Unsure → (read : List ℕ) → SoundBy Spares slots contents read → SoundBy Spares (set slots cell Free) contents (written read (place cell) (replicate 1088 0))
+  pub unsure_cleared : length slots ≡ 512 → cell_slot slots cell ≡ Unsure → (read : List ℕ) → SoundBy Spares slots contents read → SoundBy Spares (set slots cell Free) contents (written read p (replicate 1088 0))
   unsure_cleared count is read s =
-      let bytes : List ℕ = replicate 1088 0 in
-      let fits : place cell + 1088 ≤ length read = omega (arith, s.size) in
-      let image : List ℕ = written read (place cell) bytes in
-      let torn : Torn (place cell) 1088 read image = written_torn read bytes (place cell) fits in
-      let whole : part (place cell) 1088 image ≡ bytes = part_written read bytes (place cell) 1088 refl fits in
+      let image : List ℕ = written read p (replicate 1088 0) in
+      let torn : Torn p 1088 read image = written_torn read (replicate 1088 0) p (omega (arith, s.size, at)) in
+      let whole : part (place cell) 1088 image ≡ replicate 1088 0 = ap (λ (k : ℕ). part k 1088 image) (sym at) ∙ part_written read (replicate 1088 0) p 1088 refl (omega (arith, s.size, at)) in
       let now : gate cell image ≡ closed = sym (gate_read cell image) ∙ ap (take 1) whole in
       let are : body cell image ≡ zeros = sym (body_read cell image) ∙ (ap (drop 1) whole ∙ zeros_are) in
-      let slot : get_or (set slots cell Free) cell Free ≡ Free = get_or-set_same slots cell Free Free (omega (arith, count)) in
-      let shown : Spares Unsure (get_or contents cell Absent) (gate cell read) (body cell read) = subst (λ (x : Slot). Spares x (get_or contents cell Absent) (gate cell read) (body cell read)) is (s.each cell lt) in
-      sound_after Spares cell (place cell) 1088 slots (set slots cell Free) contents contents read image (omega arith) (omega arith) torn (same_slots cell slots contents Free)
-      (rw slot (unsure_freed (get_or contents cell Absent) (gate cell read) (body cell read) (gate cell image) (body cell image) shown now are)) s
+      sound_after Spares cell p 1088 slots (set slots cell Free) contents contents read image (omega (arith, at)) (omega (arith, at)) torn (same_slots cell slots contents Free)
+      (rw (get_or-set_same slots cell Free Free (omega (arith, count))) (unsure_freed (get_or contents cell Absent) (gate cell read) (body cell read) (gate cell image) (body cell image) (rw is at (s.each cell lt)) now are)) s
 
 held : (told told' : Option (List ℕ)) (now bytes : List ℕ) (p : ℕ) → told ≡ Some now → HoldsWritten told p bytes told' → told' ≡ Some (written now p bytes)
 held None told' now bytes p is holds = cc
@@ -79,19 +59,29 @@ held_around None told' now p n is holds = cc
 held_around (Some old) None now p n is holds = absurd holds
 held_around (Some old) (Some new) now p n is holds = let same : old ≡ now = cc in (new, refl, subst (λ (l : List ℕ). Torn p n l new) same holds)
 
-module _ {D : Type 0} (disks : Disk.Ghosts D) (old new : D) (cell p n : ℕ) (first slots : List Slot) (contents : List Content) where
+module _ {D : Type 0} (disks : Disk.Ghosts D) (old new : D) (cell p n : ℕ) (first slots : List Slot) (contents : List Content) (s : Clearing disks old first slots contents) (crash : Follows (Torn p n) (disks.may_leave old) (disks.may_leave new))
+    (time : Elapses (disks.moment old) (disks.moment new) (disks.left_since old) (disks.left_since new) (disks.may_leave new))
+    (torn : (before image : List ℕ) → Torn p n before image → SoundBy Spares first contents before → SoundBy Spares first contents image) where
+  each : (image : List ℕ) → disks.may_leave new image → SoundBy Spares first contents image
+  each image left = let from = crash image left in torn from.0 image from.2 (s.each from.0 from.1)
+
+  within : Within (disks.moment old) (disks.moment new) (disks.left_since old) (disks.left_since new) (SoundBy Spares first contents)
+  within = within_one (disks.moment old) (disks.moment new) (disks.left_since old) (disks.left_since new) (SoundBy Spares first contents) (disks.may_leave new) time each
+
   -- a write that was done
-  pub clearing_done : (bytes : List ℕ) → Clearing disks old first slots contents → length slots ≡ 512 → cell < cells → HoldsWritten (disks.contents old) p bytes (disks.contents new) → Follows (Torn p n) (disks.may_leave old) (disks.may_leave new)
-      → ((before image : List ℕ) → Torn p n before image → SoundBy Spares first contents before → SoundBy Spares first contents image)
+  pub clearing_done : (bytes : List ℕ) → length slots ≡ 512 → cell < cells → HoldsWritten (disks.contents old) p bytes (disks.contents new)
       → ((read : List ℕ) → SoundBy Spares slots contents read → SoundBy Spares (set slots cell Free) contents (written read p bytes))
-      → Clearing disks new first (set slots cell Free) contents
-  clearing_done bytes s count lt holds crash torn cleared = record {
-    now = written s.now p bytes;
-    is_told = held (disks.contents old) (disks.contents new) s.now bytes p s.is_told holds;
-    reads = cleared s.now s.reads;
-    each = λ image left. let from = crash image left in torn from.0 image from.2 (s.each from.0 from.1);
-    shut = λ other less is. s.shut other less (still other less Shut is (λ e. cc));
-    unsure = λ other less is. s.unsure other less (still other less Unsure is (λ e. cc));
+      → ClearsOn disks old new first (set slots cell Free) contents
+  clearing_done bytes count lt holds cleared = record {
+    goes_on = record {
+      now = written s.now p bytes;
+      is_told = held (disks.contents old) (disks.contents new) s.now bytes p s.is_told holds;
+      reads = cleared s.now s.reads;
+      each = each;
+      shut = λ other less is. s.shut other less (still other less Shut is (λ e. cc));
+      unsure = λ other less is. s.unsure other less (still other less Unsure is (λ e. cc));
+    };
+    within = within;
   }
     where
       still : (other : ℕ) → other < cells → (slot : Slot) → cell_slot (set slots cell Free) other ≡ slot → (Free ≡ slot → ⊥) → cell_slot slots other ≡ slot
@@ -102,28 +92,26 @@ module _ {D : Type 0} (disks : Disk.Ghosts D) (old new : D) (cell p n : ℕ) (fi
           (cases_eq other cell)
 
   -- a write that failed
-  pub clearing_failed : Clearing disks old first slots contents → HoldsAround (disks.contents old) p n (disks.contents new) → Follows (Torn p n) (disks.may_leave old) (disks.may_leave new)
-      → ((before image : List ℕ) → Torn p n before image → SoundBy Spares first contents before → SoundBy Spares first contents image)
+  pub clearing_failed : HoldsAround (disks.contents old) p n (disks.contents new)
       → ((before image : List ℕ) → Torn p n before image → SoundBy Spares slots contents before → SoundBy Spares slots contents image)
-      → Clearing disks new first slots contents
-  clearing_failed s holds crash torn torn_read =
+      → ClearsOn disks old new first slots contents
+  clearing_failed holds torn_read =
       let now = held_around (disks.contents old) (disks.contents new) s.now p n s.is_told holds in
       record {
-        now = now.0;
-        is_told = now.1;
-        reads = torn_read s.now now.0 now.2 s.reads;
-        each = λ image left. let from = crash image left in torn from.0 image from.2 (s.each from.0 from.1);
-        shut = s.shut;
-        unsure = s.unsure;
+        goes_on = record { now = now.0; is_told = now.1; reads = torn_read s.now now.0 now.2 s.reads; each = each; shut = s.shut; unsure = s.unsure };
+        within = within;
       }
 
-  pub clearing_within : Clearing disks old first slots contents → Follows (Torn p n) (disks.may_leave old) (disks.may_leave new)
-      → Elapses (disks.moment old) (disks.moment new) (disks.left_since old) (disks.left_since new) (disks.may_leave new)
-      → ((before image : List ℕ) → Torn p n before image → SoundBy Spares first contents before → SoundBy Spares first contents image)
-      → Within (disks.moment old) (disks.moment new) (disks.left_since old) (disks.left_since new) (SoundBy Spares first contents)
-  clearing_within s crash time torn =
-      within_one (disks.moment old) (disks.moment new) (disks.left_since old) (disks.left_since new) (SoundBy Spares first contents) (disks.may_leave new) time
-      (λ image left. let from = crash image left in torn from.0 image from.2 (s.each from.0 from.1))
+-- one step more
+pub goes_on : {D : Type 0} (disks : Disk.Ghosts D) (a b c : D) (first slots slots' : List Slot) (contents : List Content) → ClearsOn disks a b first slots contents
+    → (Clearing disks b first slots contents → ClearsOn disks b c first slots' contents) → ClearsOn disks a c first slots' contents
+goes_on disks a b c first slots slots' contents so_far step =
+    let next = step so_far.goes_on in
+    let P = SoundBy Spares first contents in
+    record {
+      goes_on = next.goes_on;
+      within = within_both (disks.moment a) (disks.moment b) (disks.moment c) (disks.left_since a) (disks.left_since b) (disks.left_since c) P P P so_far.within next.within (λ image h. h) (λ image h. h);
+    }
 
 -- once each cell was looked at, and that is made sure of, the directory stands
 is_sure : (slot : Slot) (content : Content) (g b : List ℕ) → slot ≡ settled_slot slot → Spares slot content g b → Shows slot content g b

@@ -13,7 +13,7 @@ pub use Rattle.key_cells.specs.Image.{IsDamaged, IsStoreFile, SparesOpen}
 unfoldable pub use Rattle.key_cells.specs.Image.{identifier_in}
 pub use Rattle.key_cells.specs.Layout.{body, cells, closed, gate, opened_gate, part, place}
 unfoldable pub use Rattle.key_cells.specs.Layout.{header, zeros}
-pub use Rattle.key_cells.specs.Opening.{Clearing, Finds, GivesPart, HasOneEach, IsBadCell, IsDirectory, IsFoundIn, IsNamed, IsNumbered, IsSettled, Reads, ReadsBelow, ReadsCell, Spares, WithinSpares, content_of, found_in}
+pub use Rattle.key_cells.specs.Opening.{Clearing, ClearsOn, Finds, GivesPart, HasOneEach, IsBadCell, IsDirectory, IsFoundIn, IsNamed, IsNumbered, IsSettled, Reads, ReadsBelow, ReadsCell, Spares, WithinSpares, content_of, found_in}
 unfoldable pub use Rattle.key_cells.specs.Opening.{contents_of}
 pub use Rattle.key_cells.specs.declared.reading.OpenFault.TheVariants.{DamagedCell, Disk, NotAStore}
 pub use Rattle.key_cells.specs.declared.reading.TheConstants.{HEADER}
@@ -24,5 +24,5 @@ pub use Rattle.std.proofs.lemmas.Bool.{cases_eq, cases_lt}
 pub use Rattle.std.proofs.lemmas.Bool.Decides.{Decides-eqb}
 pub use Rattle.std.proofs.lemmas.List.{drop-replicate, drop-take, get_or-map, get_or-replicate, get_or_read, length-map, length-replicate, map-set, nil_from_length, set-get_or, take-map, take-replicate, take-set-le, take_more, take_more_set}
 pub use Rattle.std.proofs.lemmas.List.Sums.{count_by_more_no, count_by_more_yes, sum_by-cons}
-pub use Rattle.std.proofs.lemmas.Result.{IfErr-weaker, IfOk-weaker, on_ok_weaker}
+pub use Rattle.std.proofs.lemmas.Result.{IfErr-weaker, IfOk-weaker, on_err_weaker, on_ok_weaker}
 pub use Rattle.std.proofs.lemmas.Slice.Eq.{slice_eq-Decides}

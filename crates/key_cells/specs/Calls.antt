@@ -1,13 +1,15 @@
 -- What a call makes of whatever the cells stand for.
 use Rattle.disk_face.specs.declared.Disk as Disk
-use Rattle.std.specs.Prelude.{◌≡◌, ℕ, true, List, set}
-use Rattle.disk_face.specs.Moments.{Within}
+use Rattle.std.specs.Prelude.{◌≡◌, ℕ, true, List, length, set}
+use Rattle.disk_face.specs.Disk.{Torn}
+use Rattle.disk_face.specs.Moments.{Within, written}
 use Rattle.key_attributes.specs.declared.Attributes.{Attributes}
 use Rattle.key_cells.specs.declared.slot.Slot.{Slot}
 use Rattle.key_cells.specs.declared.cells.Cells.{Cells}
-use Rattle.key_cells.specs.Contents.{Content, Absent, Present, Doubtful, SoundBy, StandsForContents, Moves, MovesEither, CreationFailed, settled, content_at, cell_slot, has_id}
-use Rattle.key_cells.specs.Opening.{Clearing, Spares}
+use Rattle.key_cells.specs.Contents.{Content, Absent, Present, Doubtful, Sound, SoundBy, StandsForContents, Moves, MovesEither, CreationFailed, settled, content_at, cell_slot, has_id}
+use Rattle.key_cells.specs.Opening.{Clearing, ClearsOn, Spares}
 use Rattle.key_cells.specs.Body.{HoldsKey, HoldsId}
+use Rattle.key_cells.specs.Layout.{cells}
 
 module _ {D : Type 0} (disks : Disk.Ghosts D) where
   -- the disk and the directory of the cells stand for these contents
@@ -22,6 +24,11 @@ module _ {D : Type 0} (disks : Disk.Ghosts D) where
   abbrev pub IsCorrupt : Cells D → ℕ → Type 0
   IsCorrupt cells cell = (contents : List Content) (body : List ℕ) (id : ℕ) → content_at contents cell ≡ Present body →
       StandFor cells contents → has_id id (cell_slot cells.slots.items cell) ≡ true → HoldsId id body → ⊥
+
+  -- what a crash leaves of a write of these bytes shows what the directory says
+  abbrev pub TearsSafely : Cells D → List Content → ℕ → List ℕ → Type 0
+  TearsSafely cells contents place bytes =
+      (before image : List ℕ) → Sound cells.slots.items contents before → Torn place (length bytes) before image → Sound cells.slots.items contents image
 
   -- none of the cells that are left over from a crash was made zeros so far
   abbrev pub BeginsClearing : Cells D → List Content → Type 0
@@ -60,12 +67,19 @@ module _ {D : Type 0} (disks : Disk.Ghosts D) where
     -- a step of making those cells zeros that are left over
     abbrev pub GoesOnClearing : Type 0
     GoesOnClearing = (first : List Slot) (contents : List Content) → Clearing disks old.disk first old.slots.items contents →
-        Clearing disks new.disk first new.slots.items contents
+        ClearsOn disks old.disk new.disk first new.slots.items contents
 
     -- every image within calls has each open cell byte for byte
     abbrev pub SparesWithin : List Slot → List Content → Type 0
     SparesWithin first contents =
         Within (disks.moment old.disk) (disks.moment new.disk) (disks.left_since old.disk) (disks.left_since new.disk) (SoundBy Spares first contents)
 
-    abbrev pub SparesWhileClearing : Type 0
-    SparesWhileClearing = (first : List Slot) (contents : List Content) → Clearing disks old.disk first old.slots.items contents → SparesWithin first contents
+    -- a write was made sure of, or failed: it leads on where what is torn of it shows what the directory says
+    abbrev pub Writes : ℕ → List ℕ → List Slot → Type 0
+    Writes place bytes slots = (from to : List Content) → length to ≡ cells → StandFor old from → TearsSafely old from place bytes →
+        ((read : List ℕ) → Sound old.slots.items from read → Sound slots to (written read place bytes)) →
+        Moves disks old.disk new.disk old.slots.items new.slots.items from to
+
+    abbrev pub FailsToWrite : ℕ → List ℕ → Type 0
+    FailsToWrite place bytes = (contents : List Content) → StandFor old contents → TearsSafely old contents place bytes →
+        Moves disks old.disk new.disk old.slots.items new.slots.items contents contents

@@ -1,34 +1,50 @@
 // The steps of a call: each is one write that is made sure of.
-ghost use Rattle.std.specs.Prelude.{◌≡◌, ◌<◌, List, ℕ, length, set, OnOk, OnErr, IfErr};
+ghost use Rattle.std.specs.Prelude.{◌≡◌, ◌≢◌, ◌<◌, ◌≤◌, ◌+◌, List, ℕ, length, set, OnOk, OnErr, IfErr};
 ghost use Rattle.psa_status.specs.Causes.{HasCause};
-ghost use Rattle.disk_face.specs.Disk.{Follows, StillTells, Torn};
-ghost use Rattle.disk_face.specs.Moments.{AfterStep, LeavesWritten, Within};
-ghost use Rattle.key_cells.specs.Layout.{opened_gate, place};
+ghost use Rattle.disk_face.specs.Disk.{StillTells};
 ghost use Rattle.key_cells.specs.declared.slot.Slot.TheVariants.{Free, Open, Shut, Unsure};
-ghost use Rattle.key_cells.specs.Contents.{Content, Present, Doubtful, Moves, Keeps, StaysFree, cell_slot, content_at, settled_slots};
-ghost use Rattle.key_cells.specs.Calls.{StandFor, ChangesCell};
+ghost use Rattle.key_cells.specs.Contents.{Content, Present, Doubtful, Moves, Keeps, StaysFree, cell_slot, content_at, settled_slot, settled_slots};
+ghost use Rattle.key_cells.specs.Calls.{StandFor, ChangesCell, Writes, FailsToWrite};
 
 use crate::Slot;
 use crate::cells::{CLOSED, CellFault, Cells, OPENED, ZEROS, place};
 use disk_face::{Disk, write_through};
 use psa_status::Failed;
 
-// Writes that a cell is open, and makes sure of it: else a crash could take back a creation that was answered.
-fn write_open_gate<D: Disk>(disk: &mut D, cell: usize) -> Result<(), Failed>
-    requires size { D.size disk.old ≡ 557120 }
-    requires within { cell < 512 }
-    ensures durable { OnOk result (LeavesWritten (D.contents disk.old) (place cell) opened_gate (D.may_leave disk.new)) }
-    ensures torn { Follows (Torn (place cell) 1) (D.may_leave disk.old) (D.may_leave disk.new) }
-    ensures within { Within (D.moment disk.old) (D.moment disk.new) (D.left_since disk.old) (D.left_since disk.new)
-        (AfterStep (Torn (place cell) 1) (D.may_leave disk.old)) }
-    ensures tells { StillTells (D.contents disk.old) (D.contents disk.new) }
-    ensures size { D.size disk.new ≡ 557120 }
-    ensures cause { HasCause (D.faults disk.old) (D.faults disk.new) result }
-{
-    write_through(disk, place(cell), &[OPENED])
-}
-
 impl<D: Disk> Cells<D> {
+    // Writes bytes into a cell, and makes sure of them: else a crash could take back a call that was answered. The
+    // directory has this slot for the cell from then on.
+    fn write_cell(
+        &mut self,
+        cell: usize,
+        at: u64,
+        bytes: &[u8],
+        slot: Slot,
+    ) -> Result<(), CellFault>
+        requires size { D.size self.old.disk ≡ 557120 }
+        requires slots { length self.old.slots.items ≡ 512 }
+        requires within { cell < 512 }
+        requires fits { at + length bytes.now ≤ 557120 }
+        ensures size { D.size self.new.disk ≡ 557120 }
+        ensures ok { OnOk result (self.new.slots.items ≡ set self.old.slots.items cell slot) }
+        ensures err { OnErr result (self.new.slots.items ≡ self.old.slots.items) }
+        ensures slots { settled_slot slot ≡ settled_slot (cell_slot self.old.slots.items cell) → settled_slots self.new.slots.items ≡ settled_slots self.old.slots.items }
+        ensures free { cell_slot self.old.slots.items cell ≢ Free → StaysFree self.old.slots.items self.new.slots.items }
+        ensures done { OnOk result (Writes D.Disk self.old self.new at bytes.now (set self.old.slots.items cell slot)) }
+        ensures failed { OnErr result (FailsToWrite D.Disk self.old self.new at bytes.now) }
+        ensures tells { StillTells (D.contents self.old.disk) (D.contents self.new.disk) }
+        ensures cause { HasCause (D.faults self.old.disk) (D.faults self.new.disk) result }
+        ensures fault { IfErr result (λ fault. fault ≡ CellFault.Disk) }
+    {
+        match write_through(&mut self.disk, at, bytes) {
+            Ok(()) => {
+                self.slots[cell] = slot;
+                Ok(())
+            }
+            Err(Failed) => Err(CellFault::Disk),
+        }
+    }
+
     // Closes the gate of a cell whose body is whole.
     pub(crate) fn close_gate(&mut self, cell: usize) -> Result<(), CellFault>
         requires size { D.size self.old.disk ≡ 557120 }
@@ -45,13 +61,7 @@ impl<D: Disk> Cells<D> {
         ensures cause { HasCause (D.faults self.old.disk) (D.faults self.new.disk) result }
         ensures fault { IfErr result (λ fault. fault ≡ CellFault.Disk) }
     {
-        match write_through(&mut self.disk, place(cell), &[CLOSED]) {
-            Ok(()) => {
-                self.slots[cell] = Slot::Shut;
-                Ok(())
-            }
-            Err(Failed) => Err(CellFault::Disk),
-        }
+        self.write_cell(cell, place(cell), &[CLOSED], Slot::Shut)
     }
 
     // Makes a closed cell all zeros.
@@ -70,13 +80,7 @@ impl<D: Disk> Cells<D> {
         ensures cause { HasCause (D.faults self.old.disk) (D.faults self.new.disk) result }
         ensures fault { IfErr result (λ fault. fault ≡ CellFault.Disk) }
     {
-        match write_through(&mut self.disk, place(cell) + 1, &ZEROS) {
-            Ok(()) => {
-                self.slots[cell] = Slot::Free;
-                Ok(())
-            }
-            Err(Failed) => Err(CellFault::Disk),
-        }
+        self.write_cell(cell, place(cell) + 1, &ZEROS, Slot::Free)
     }
 
     // Writes the body of a closed cell, behind its gate.
@@ -96,13 +100,7 @@ impl<D: Disk> Cells<D> {
         ensures cause { HasCause (D.faults self.old.disk) (D.faults self.new.disk) result }
         ensures fault { IfErr result (λ fault. fault ≡ CellFault.Disk) }
     {
-        match write_through(&mut self.disk, place(cell) + 1, body) {
-            Ok(()) => {
-                self.slots[cell] = Slot::Unsure;
-                Ok(())
-            }
-            Err(Failed) => Err(CellFault::Disk),
-        }
+        self.write_cell(cell, place(cell) + 1, body, Slot::Unsure)
     }
 
     // Opens the gate of a cell whose body is whole.
@@ -120,12 +118,6 @@ impl<D: Disk> Cells<D> {
         ensures cause { HasCause (D.faults self.old.disk) (D.faults self.new.disk) result }
         ensures fault { IfErr result (λ fault. fault ≡ CellFault.Disk) }
     {
-        match write_open_gate(&mut self.disk, cell) {
-            Ok(()) => {
-                self.slots[cell] = Slot::Open { id, creation };
-                Ok(())
-            }
-            Err(Failed) => Err(CellFault::Disk),
-        }
+        self.write_cell(cell, place(cell), &[OPENED], Slot::Open { id, creation })
     }
 }
