@@ -1,5 +1,5 @@
 -- How cells are made zeros that are left over from a crash.
-use Rattle.std.proofs.Common.{List, None, Option, Some, ap, arith, drop, get_or, is_some, length, refl, replicate, set, subst, sym, take, ℕ, ⊎_elim, ◌+◌, ◌<◌, ◌∙◌, ◌≡◌, ◌≤◌}
+use Rattle.std.proofs.Common.{List, None, Option, Some, ap, arith, drop, get_or, is_some, length, refl, replicate, set, subst, sym, take, ℕ, ⊎_elim, ◌+◌, ◌<◌, ◌∙◌, ◌≡◌}
 use Rattle.key_cells.proofs.Common.{Absent, Clearing, ClearsOn, Content, Doubtful, Elapses, Follows, Free, HoldsAround, HoldsWritten, IsSettled, LeavesWhatIsRead, Open, Present, Shows, Shut, Slot, Sound, SoundBy, Spares, StandsForContents, Torn, Unsure, Within, body, cases_eq, cell_slot, cells, closed, gate, get_or-map, length-map, part, place, settled_slot, settled_slots, within_both, within_one, written, written_torn, zeros}
 use Rattle.disk_face.specs.declared.Disk as Disk
 use Rattle.std.proofs.lemmas.List.{get_or-set_same, get_or-set_other, ext_get_or}

@@ -1,5 +1,5 @@
-use Rattle.std.proofs.Common.{List, ap, arith, length, refl, subst, sym, take, ◌+◌, ◌∙◌, ◌≡◌}
-use Rattle.key_cells.proofs.Common.{IsSettled, Slot, SoundBy, Spares, cell_slot, length-map, on_ok_weaker, settled_slot, settled_slots, within_more, within_none}
+use Rattle.std.proofs.Common.{ap, arith, length, refl, sym, take, ◌+◌, ◌∙◌, ◌≡◌}
+use Rattle.key_cells.proofs.Common.{SoundBy, Spares, cell_slot, length-map, on_ok_weaker, settled_slot, settled_slots, within_more, within_none}
 use Rattle.std.proofs.lemmas.List.{length-set, take_all}
 use Rattle.key_cells.proofs.Images.{front_more, settled_set}
 use Rattle.key_cells.proofs.Clearing.{all_settled, goes_on, settled_settled, settled_twice, clear_already, clear_sure}
