@@ -1,26 +1,11 @@
 -- A join keeps the rule.
 use Rattle.std.proofs.Common.{All, List, Option, [], ap, arith, cond, false, get_or, inl, inr, length, length-append, refl, set, subst, suc, sym, true, true≢false, ℕ, ⊎_elim, ◌++◌, ◌+◌, ◌<◌, ◌∙◌, ◌∷◌, ◌≡◌, ◌≢◌, ◌⊎◌}
-use Rattle.turn_history.proofs.Common.{Account, All-append, All-cons, Allows, Away, Course, Holding, Home, Joins, Kept, Knows, Mine, Remembers, StartsWith, State, View, account, at_set, calls_by, compared, dec_lt, dite, entries_of, gathering, get_elem?, keeps, longer, merged, none, own_of, set_else, some, spent, step, ℕ_discrete}
+use Rattle.turn_history.proofs.Common.{Account, All-append, All-cons, All-nil, Allows, Away, Course, Holding, Home, Joins, Kept, Knows, Mine, Remembers, StartsWith, State, View, account, at_set, calls_by, compared, dec_lt, dite, entries_of, gathering, get_elem?, keeps, longer, merged, none, own_of, set_else, some, spent, step, ℕ_discrete}
 use Rattle.std.proofs.lemmas.Bool.{le-ltb, lt-ltb}
 use Rattle.turn_history.proofs.Lists.{put, put_here, put_else, two_beginnings, between, total_set}
-use Rattle.turn_history.proofs.Keeping.{loaded, quiet, later, place_stays, some_is_not, all_set, nobody_still, same_at, there_still, none_recalled}
+use Rattle.turn_history.proofs.Keeping.{loaded, quiet, later, place_kept, place_stays, knows_nothing, all_set, nobody_still, same_at, there_still}
 
 module _ {V E B : Type 0} (by : E → ℕ) (stands : V → List E → List Holding → Type 0) (base : V → B) (key : B) (passes : ℕ) where
-  abbrev S : Type 0
-  S = View E B
-
-  abbrev St : Type 0
-  St = State (Option V) S
-
-  abbrev Rule : St → Type 0
-  Rule = Kept by stands base key passes
-
-  abbrev At_home : Course E B → St → Type 0
-  At_home = Home by stands base
-
-  abbrev Gone : St → Type 0
-  Gone = Away by stands base
-
   longer_whole : (whole a b : List (Option E)) → a ≡ whole → StartsWith whole b → longer a b ≡ whole
   longer_whole whole a b is st = let n = length-append b st.0 in let w = ap (λ (l : List (Option E)). length l) st.1 in let la = ap (λ (l : List (Option E)). length l) is in
       ap (λ c. cond c b a) (le-ltb (length a) (length b) (omega arith)) ∙ is
@@ -28,41 +13,31 @@ module _ {V E B : Type 0} (by : E → ℕ) (stands : V → List E → List Holdi
   longer_one : (P : List (Option E) → Type 0) (a b : List (Option E)) → P a → (length a < length b → P b) → P (longer a b)
   longer_one P a b pa pb = dite (dec_lt (length a) (length b)) (λ lt. subst (λ c. P (cond c b a)) (sym (lt-ltb (length a) (length b) lt)) (pb lt)) (λ ge. subst (λ c. P (cond c b a)) (sym (le-ltb (length a) (length b) (omega arith))) pa)
 
-  joins_kept : (s : St) (k : Rule s) (id other : ℕ) (v w both : S) (seat' : ℕ → ℕ) → get_elem? s.views id ≡ some v → other ≢ id → get_elem? s.views other ≡ some w
+  joins_kept : (s : State (Option V) (View E B)) (k : Kept by stands base key passes s) (id other : ℕ) (v w both : View E B) (seat' : ℕ → ℕ) → get_elem? s.views id ≡ some v → other ≢ id → get_elem? s.views other ≡ some w
       → both.number ≡ v.number → both.in_turn ≡ v.in_turn → both.turns_left ≡ v.turns_left + w.turns_left → both.weight ≡ v.weight + w.weight → w.in_turn ≡ false → w.holding ≡ []
       → ((n : ℕ) → 0 < n → n ≢ w.number → seat' n ≡ k.course.seat n) → Knows by (record k.course { seat = seat' }) id both
-      → Rule record { words = s.words; homes = s.homes; views = set (set s.views id both) other spent }
-  joins_kept s k id other v w both seat' at apart there number turn left weight idle empty seats mine = let r = k.course in let r' : Course E B = record r { seat = seat' } in let vs : List S = set s.views id both in
+      → Kept by stands base key passes record { words = s.words; homes = s.homes; views = set (set s.views id both) other spent }
+  joins_kept s k id other v w both seat' at apart there number turn left weight idle empty seats mine = let r = k.course in let r' : Course E B = record r { seat = seat' } in let vs : List (View E B) = set s.views id both in
       let there' : get_elem? vs other ≡ some w = set_else s.views id other both apart ∙ there in let theirs_w = k.each other w there in
       let foreign : (n j : ℕ) → 0 < n → r.seat n ≡ j → j ≢ other → n ≢ w.number = λ n j some_n is ne same. let nu = theirs_w.numbered (omega arith) in ne (sym is ∙ (ap r.seat same ∙ nu.0)) in record {
         course = r';
         words = k.words;
         order = k.order;
-        fuel = let a = total_set (λ (u : S). u.turns_left) s.views id v both at in let b = total_set (λ (u : S). u.turns_left) vs other w spent there' in let f = k.fuel in omega arith;
-        weighs = let a = total_set (λ (u : S). u.weight) s.views id v both at in let b = total_set (λ (u : S). u.weight) vs other w spent there' in let f = k.weighs in omega arith;
+        fuel = let a = total_set (λ (u : View E B). u.turns_left) s.views id v both at in let b = total_set (λ (u : View E B). u.turns_left) vs other w spent there' in let f = k.fuel in omega arith;
+        weighs = let a = total_set (λ (u : View E B). u.weight) s.views id v both at in let b = total_set (λ (u : View E B). u.weight) vs other w spent there' in let f = k.weighs in omega arith;
         sized = k.sized;
         based = k.based;
         signed = k.signed;
         owned = λ m some_m. dite (ℕ_discrete m w.number)
             (λ e. inl (ap (own_of r.holdings) e ∙ (theirs_w.has (omega arith) ∙ empty)))
             (λ ne. ⊎_elim (λ e. inl e)
-            (λ (x : (u : S) × (get_elem? s.views (r.seat m) ≡ some u) × (u.number ≡ m)). let z = there_still by stands base key passes (λ (u : S). u.number ≡ m) s.views id (r.seat m) v both x.0 at (λ e. number ∙ e) x.1 x.2 in
-            let far : r.seat m ≢ other = λ e. ne (sym x.2 ∙ ap (λ (y : S). y.number) (same_at by stands base key passes s.views other (r.seat m) w x.0 there x.1 e)) in
+            (λ (x : (u : View E B) × (get_elem? s.views (r.seat m) ≡ some u) × (u.number ≡ m)). let z = there_still by stands base key passes (λ (u : View E B). u.number ≡ m) s.views id (r.seat m) v both x.0 at (λ e. number ∙ e) x.1 x.2 in
+            let far : r.seat m ≢ other = λ e. ne (sym x.2 ∙ ap (λ (y : View E B). y.number) (same_at by stands base key passes s.views other (r.seat m) w x.0 there x.1 e)) in
             inr (z.0, ap (get_elem? (set vs other spent)) (seats m some_m ne) ∙ (set_else vs other (r.seat m) spent far ∙ z.1), z.2)) (k.owned m some_m));
         each = all_set by stands base key passes r' vs other spent
-            record {
-              seen = (r.turns, refl);
-              based = λ b e. absurd (some_is_not b e);
-              numbered = λ z. absurd (omega arith);
-              called = λ z. absurd (omega arith);
-              has = λ z. absurd (omega arith);
-              waits = λ t z. absurd (some_is_not t z);
-              in_its_turn = λ z. absurd (true≢false (sym z));
-              makes = λ z. absurd (omega arith);
-              accounts = none_recalled by stands base key passes r' other 0;
-            }
+            (knows_nothing by stands base key passes r' other)
             (λ j u far e. ⊎_elim
-            (λ (x : (j ≡ id) × (both ≡ u)). subst (λ (y : ℕ × S). Knows by r' y.0 y.1) (λ i. (sym x.0 i, x.1 i)) mine)
+            (λ (x : (j ≡ id) × (both ≡ u)). subst (λ (y : ℕ × View E B). Knows by r' y.0 y.1) (λ i. (sym x.0 i, x.1 i)) mine)
             (λ (x : (j ≢ id) × (get_elem? s.views j ≡ some u)). let theirs = k.each j u x.1 in record {
               seen = theirs.seen;
               based = theirs.based;
@@ -74,31 +49,16 @@ module _ {V E B : Type 0} (by : E → ℕ) (stands : V → List E → List Holdi
               makes = theirs.makes;
               accounts = λ q d lt. let a = theirs.accounts q d lt in let g = get_or u.accounts q d in record { seen = a.seen; called = λ z. let b = a.called z in (seats g.number z (foreign g.number j z b.0 far) ∙ b.0, b.1, b.2, b.3) };
             }) (at_set s.views id j both u e));
-        place = ⊎_elim
-            (λ (h : At_home r s). inl record {
-              value = h.value;
-              at_home = h.at_home;
-              stood = h.stood;
-              same_base = h.same_base;
-              nobody = nobody_still by stands base key passes vs other spent refl (λ j u _ e. nobody_still by stands base key passes s.views id both (turn ∙ h.nobody id v at) (λ i x _ th. h.nobody i x th) j u e);
-            })
-            (λ (h : Gone s). let z = there_still by stands base key passes (λ (u : S). u.in_turn ≡ true) s.views id h.who v both h.view at (λ e. turn ∙ e) h.there h.turns_now in
-            let far : h.who ≢ other = λ e. true≢false (sym h.turns_now ∙ (ap (λ (y : S). y.in_turn) (same_at by stands base key passes s.views other h.who w h.view there h.there e) ∙ idle)) in inr record {
-              away = h.away;
-              who = h.who;
-              view = z.0;
-              there = set_else vs other h.who spent far ∙ z.1;
-              turns_now = z.2;
-            }) k.place;
+        place = place_kept by stands base key passes s r r' s.words (set vs other spent) refl refl refl
+            (λ nobody. nobody_still by stands base key passes vs other spent refl (λ j u _ e. nobody_still by stands base key passes s.views id both (turn ∙ nobody id v at) (λ i x _ th. nobody i x th) j u e))
+            (λ j u at' now. let z = there_still by stands base key passes (λ (y : View E B). y.in_turn ≡ true) s.views id j v both u at (λ e. turn ∙ e) at' now in
+            let far : j ≢ other = λ e. true≢false (sym now ∙ (ap (λ (y : View E B). y.in_turn) (same_at by stands base key passes s.views other j w u there at' e) ∙ idle)) in (z.0, set_else vs other j spent far ∙ z.1, z.2)) k.place;
       }
 
-  was_there : (views : List S) (id other : ℕ) (both w : S) → ¬ (other ≡ id) → get_elem? (set views id both) other ≡ some w → get_elem? views other ≡ some w
+  was_there : (views : List (View E B)) (id other : ℕ) (both w : View E B) → ¬ (other ≡ id) → get_elem? (set views id both) other ≡ some w → get_elem? views other ≡ some w
   was_there views id other both w apart e = sym (set_else views id other both apart) ∙ e
 
-  recalls_more : (r : Course E B) (j number : ℕ) (gs : List (Account E)) (g : Account E) → All (Remembers by r j number) gs → Remembers by r j number g → All (Remembers by r j number) (gs ++ g ∷ [])
-  recalls_more r j number gs g all one = All-append (Remembers by r j number) gs (g ∷ []) all (All-cons (Remembers by r j number) g [] one (none_recalled by stands base key passes r j number))
-
-  pub joins : (id other : ℕ) (v w : S) → w.in_turn ≡ false → w.holding ≡ [] → Joins Rule id v other w (merged v w) spent
+  pub joins : (id other : ℕ) (v w : View E B) → w.in_turn ≡ false → w.holding ≡ [] → Joins (Kept by stands base key passes) id v other w (merged v w) spent
   joins id other v w idle empty s k at apart e = let there = was_there s.views id other (merged v w) w apart e in let r = k.course in let mine = k.each id v at in let theirs = k.each other w there in
       joins_kept s k id other v w (merged v w) r.seat at apart there refl refl refl refl idle empty (λ n _ _. refl)
       record {
@@ -114,12 +74,12 @@ module _ {V E B : Type 0} (by : E → ℕ) (stands : V → List E → List Holdi
         waits = mine.waits;
         in_its_turn = λ z. let a = mine.in_its_turn z in (a.0, longer_whole r.turns v.seen w.seen a.1 theirs.seen, a.2);
         makes = mine.makes;
-        accounts = All-append (Remembers by r id v.number) v.accounts (account 0 v.seen [] ∷ account 0 w.seen [] ∷ []) mine.accounts
-            (All-cons (Remembers by r id v.number) (account 0 v.seen []) (account 0 w.seen [] ∷ []) record { seen = mine.seen; called = λ z. absurd (omega arith) }
-            (All-cons (Remembers by r id v.number) (account 0 w.seen []) [] record { seen = theirs.seen; called = λ z. absurd (omega arith) } (none_recalled by stands base key passes r id v.number)));
+        accounts = All-append (Remembers by r.turns r.seat r.made id v.number) v.accounts (account 0 v.seen [] ∷ account 0 w.seen [] ∷ []) mine.accounts
+            (All-cons (Remembers by r.turns r.seat r.made id v.number) (account 0 v.seen []) (account 0 w.seen [] ∷ []) record { seen = mine.seen; called = λ z. absurd (omega arith) }
+            (All-cons (Remembers by r.turns r.seat r.made id v.number) (account 0 w.seen []) [] record { seen = theirs.seen; called = λ z. absurd (omega arith) } (All-nil (Remembers by r.turns r.seat r.made id v.number))));
       }
 
-  pub gathers : (id other : ℕ) (v w : S) → v.number ≡ 0 → w.in_turn ≡ false → w.holding ≡ [] → Joins Rule id v other w (gathering v w) spent
+  pub gathers : (id other : ℕ) (v w : View E B) → v.number ≡ 0 → w.in_turn ≡ false → w.holding ≡ [] → Joins (Kept by stands base key passes) id v other w (gathering v w) spent
   gathers id other v w watching idle empty s k at apart e = let there = was_there s.views id other (gathering v w) w apart e in let r = k.course in let mine = k.each id v at in let theirs = k.each other w there in
       let seat' : ℕ → ℕ = put r.seat w.number id in let r' : Course E B = record r { seat = seat' } in
       joins_kept s k id other v w (gathering v w) seat' at apart there refl refl refl refl idle empty (λ n _ ne. put_else r.seat w.number id n ne)
@@ -132,39 +92,29 @@ module _ {V E B : Type 0} (by : E → ℕ) (stands : V → List E → List Holdi
         waits = mine.waits;
         in_its_turn = mine.in_its_turn;
         makes = mine.makes;
-        accounts = recalls_more r' id v.number v.accounts (account w.number w.seen w.calls)
+        accounts = let P : Account E → Type 0 = Remembers by r.turns seat' r.made id v.number in let g = account w.number w.seen w.calls in All-append P v.accounts (g ∷ [])
             (λ q d lt. let a = mine.accounts q d lt in let g = get_or v.accounts q d in record {
               seen = a.seen;
               called = λ z. let b = a.called z in
                   (put_else r.seat w.number id g.number (λ same. let nu = theirs.numbered (omega arith) in apart (sym nu.0 ∙ (ap r.seat (sym same) ∙ b.0))) ∙ b.0, b.1, b.2, b.3);
             })
-            record { seen = theirs.seen; called = λ z. (put_here r.seat w.number id, watching, (theirs.numbered z).1, (theirs.called z).0) };
+            (All-cons P g [] record { seen = theirs.seen; called = λ z. (put_here r.seat w.number id, watching, (theirs.numbered z).1, (theirs.called z).0) } (All-nil P));
       }
 
   -- a pass that forgets those that it took in
-  pub compares : (slots id : ℕ) (me : Mine V E B) → Allows Rule slots id me 0 (λ n. n) (compared by (step slots 0 0 0 none) me)
-  compares slots id me s k deep at fits = let r = k.course in let T : ℕ = r.tickets in let v = me.0 in let mine = k.each id v at in let ws = loaded by stands base key passes s k in let w : S = record v { accounts = [] } in (
+  pub compares : (slots id : ℕ) (me : Mine V E B) → Allows (Kept by stands base key passes) slots id me 0 (λ n. n) (compared by (step slots 0 0 0 none) me)
+  compares slots id me s k deep at fits = let r = k.course in let T : ℕ = r.tickets in let v = me.0 in let mine = k.each id v at in let ws = loaded by stands base key passes s k in let w : View E B = record v { accounts = [] } in (
     w,
     keeps,
     tt,
-    subst (λ (x : List ℕ). Rule record { words = x; homes = s.homes; views = set s.views id w }) (sym ws)
+    subst (λ (x : List ℕ). Kept by stands base key passes record { words = x; homes = s.homes; views = set s.views id w }) (sym ws)
         (quiet by stands base key passes s k T r.holder s.homes id v w at (omega arith) (λ x lt. refl) refl refl refl
-        record {
-          seen = mine.seen;
-          based = mine.based;
-          numbered = mine.numbered;
-          called = mine.called;
-          has = mine.has;
-          waits = mine.waits;
-          in_its_turn = mine.in_its_turn;
-          makes = mine.makes;
-          accounts = none_recalled by stands base key passes (later by stands base key passes r T r.holder) id v.number;
-        }
+        (let none = All-nil (Remembers by r.turns r.seat r.made id v.number) in assumption)
         (place_stays by stands base key passes s r (length r.turns ∷ T ∷ []) id v w at refl (later by stands base key passes r T r.holder) refl refl refl k.place)),
     (refl, (r.turns, λ i d lt. (mine.accounts i d lt).seen), λ z. (mine.called z).1),
   )
 
-  pub one_of_two : (m m1 m2 : Mine V E B) (w : S) (n slots : ℕ) → m1 ≡ (merged m.0 w, m.1) → compared by (step slots 0 0 0 none) m1 n m2 → StartsWith m.0.seen w.seen ⊎ StartsWith w.seen m.0.seen
+  pub one_of_two : (m m1 m2 : Mine V E B) (w : View E B) (n slots : ℕ) → m1 ≡ (merged m.0 w, m.1) → compared by (step slots 0 0 0 none) m1 n m2 → StartsWith m.0.seen w.seen ⊎ StartsWith w.seen m.0.seen
   one_of_two m m1 m2 w n slots is told = let turns = told.1.0 in let gs = m.0.accounts in let all : All (λ (g : Account E). StartsWith turns g.seen) (gs ++ account 0 m.0.seen [] ∷ account 0 w.seen [] ∷ []) = subst (λ (y : Mine V E B). All (λ (g : Account E). StartsWith turns g.seen) y.0.accounts) is told.1.1 in
       let k = length gs in let d = account 0 m.0.seen [] in
       let a : StartsWith turns m.0.seen = subst (λ (g : Account E). StartsWith turns g.seen) (next_at gs d (account 0 w.seen [] ∷ []) d) (all k d (omega (arith, length-append gs (account 0 m.0.seen [] ∷ account 0 w.seen [] ∷ [])))) in

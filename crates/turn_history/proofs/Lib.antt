@@ -7,5 +7,4 @@ pub mod Splitting
 pub mod Joining
 pub mod Ends
 pub mod Passes
-pub mod Orders
 pub mod Using

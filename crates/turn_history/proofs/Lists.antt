@@ -1,46 +1,26 @@
 -- Lists: beginnings, entries, calls and totals.
 
-use Rattle.std.proofs.Common.{All, List, None, Option, Some, [], ap, append_assoc, arith, eq-eqb, eqb, false, get_or, get_or-set_other, get_or-set_same, inl, inr, length, length-append, map, ne_eqb, refl, set, subst, suc, sym, true, zero, ℕ, ⊎_elim, ◌++◌, ◌+◌, ◌-◌, ◌<◌, ◌∙◌, ◌∷◌, ◌≡◌, ◌≢◌, ◌≤◌, ◌⊎◌}
-use Rattle.turn_history.proofs.Common.{Holding, StartsWith, calls_by, choose, entries_of, get_elem?, option_list, own_of, some, some-injective, some-ne-none, total, with_own, ℕ_discrete}
-
-abbrev pick : {P : Type 0} → Dec P → ℕ → ℕ → ℕ
-pick (yes _) a b = a
-pick (no _) a b = b
+use Rattle.std.proofs.Common.{All, List, None, Option, Some, [], ap, append-nil, append_assoc, arith, cond, eq-eqb, eqb, false, get_or, get_or-set_other, get_or-set_same, inl, inr, length, length-append, map, ne_eqb, refl, set, subst, suc, sym, true, zero, ℕ, ⊎_elim, ◌++◌, ◌+◌, ◌-◌, ◌<◌, ◌∙◌, ◌∷◌, ◌≡◌, ◌≢◌, ◌≤◌, ◌⊎◌}
+use Rattle.std.proofs.lemmas.List.{nil_from_length}
+use Rattle.turn_history.proofs.Common.{Holding, StartsWith, calls_by, choose, entries_of, get_elem?, option_list, own_of, some, some-injective, some-ne-none, total, with_own}
 
 pub put : (ℕ → ℕ) → ℕ → ℕ → ℕ → ℕ
-put f i c j = pick (ℕ_discrete j i) c (f j)
+put f i c j = cond (eqb j i) c (f j)
 
 pub put_here : (f : ℕ → ℕ) (i c : ℕ) → put f i c i ≡ c
 unfolding put
-put_here f i c = go (ℕ_discrete i i)
-  where
-    go : (d : Dec (i ≡ i)) → pick d c (f i) ≡ c
-    go (yes _) = refl
-    go (no n) = absurd (n refl)
+put_here f i c = ap (λ b. cond b c (f i)) (eq-eqb i i refl)
 
 pub put_else : (f : ℕ → ℕ) (i c j : ℕ) → j ≢ i → put f i c j ≡ f j
 unfolding put
-put_else f i c j other = go (ℕ_discrete j i)
-  where
-    go : (d : Dec (j ≡ i)) → pick d c (f j) ≡ f j
-    go (yes e) = absurd (other e)
-    go (no _) = refl
+put_else f i c j other = ap (λ b. cond b c (f j)) (ne_eqb j i other)
 
 module _ {A : Type 0} where
   pub begins_itself : (xs : List A) → StartsWith xs xs
-  begins_itself xs = ([], sym (append_nil xs))
-    where
-      append_nil : (ys : List A) → ys ++ [] ≡ ys
-      append_nil [] = refl
-      append_nil (y ∷ ys) = ap (λ l. y ∷ l) (append_nil ys)
+  begins_itself xs = ([], sym (append-nil xs))
 
   pub begins_longer : (whole part more : List A) → StartsWith whole part → StartsWith (whole ++ more) part
   begins_longer whole part more s = (s.0 ++ more, ap (λ l. l ++ more) s.1 ∙ append_assoc part s.0 more)
-
-  pub at_beyond : (xs : List A) (i : ℕ) (a : A) → length xs ≤ i → get_elem? xs i ≡ some a → ⊥
-  at_beyond [] i a le e = some-ne-none a (sym e)
-  at_beyond (x ∷ xs) zero a le e = absurd (omega arith)
-  at_beyond (x ∷ xs) (suc i) a le e = at_beyond xs i a (omega arith) e
 
   pub at_here : (xs : List A) (i : ℕ) (a b : A) → get_elem? xs i ≡ some a → get_elem? (set xs i b) i ≡ some b
   at_here [] i a b e = absurd (some-ne-none a (sym e))
@@ -52,10 +32,6 @@ module _ {A : Type 0} where
   at_snoc_end [] a b (suc j) e = absurd (some-ne-none b (sym e))
   at_snoc_end (x ∷ xs) a b zero e = inl e
   at_snoc_end (x ∷ xs) a b (suc j) e = ⊎_elim (λ h. inl h) (λ (h : (a ≡ b) × (j ≡ length xs)). inr (h.0, ap suc h.1)) (at_snoc_end xs a b j e)
-
-  pub at_end : (xs : List A) (a : A) → get_elem? (xs ++ a ∷ []) (length xs) ≡ some a
-  at_end [] a = refl
-  at_end (x ∷ xs) a = at_end xs a
 
   -- two beginnings of one list: the shorter begins the longer
   pub two_beginnings : (whole a b : List A) → StartsWith whole a → StartsWith whole b → length a ≤ length b → StartsWith b a
@@ -121,11 +97,7 @@ module _ {E : Type 0} where
     calls_snoc_own ts e own = ap (calls_by by n) (entries-append ts (e ∷ []) ∙ ap (λ l. entries_of ts ++ l) (entries_one e)) ∙ (calls-append (entries_of ts) (option_list e) ∙ ap (λ l. calls_by by n (entries_of ts) ++ l) (calls_own e own))
 
     pub calls_snoc_other : (ts : List (Option E)) (e : Option E) → ((x : E) → e ≡ Some x → by x ≢ n) → calls_by by n (entries_of (ts ++ e ∷ [])) ≡ calls_by by n (entries_of ts)
-    calls_snoc_other ts e other = ap (calls_by by n) (entries-append ts (e ∷ []) ∙ ap (λ l. entries_of ts ++ l) (entries_one e)) ∙ (calls-append (entries_of ts) (option_list e) ∙ (ap (λ l. calls_by by n (entries_of ts) ++ l) (calls_other e other) ∙ append_none (calls_by by n (entries_of ts))))
-      where
-        append_none : (zs : List E) → zs ++ [] ≡ zs
-        append_none [] = refl
-        append_none (z ∷ zs) = ap (λ l. z ∷ l) (append_none zs)
+    calls_snoc_other ts e other = ap (calls_by by n) (entries-append ts (e ∷ []) ∙ ap (λ l. entries_of ts ++ l) (entries_one e)) ∙ (calls-append (entries_of ts) (option_list e) ∙ (ap (λ l. calls_by by n (entries_of ts) ++ l) (calls_other e other) ∙ append-nil (calls_by by n (entries_of ts))))
 
 pub own_here : (all : List Holding) (n : ℕ) (own : Holding) → 0 < n → n ≤ length all → own_of (with_own all n own) n ≡ own
 own_here all n own some_n inside = get_or-set_same all (n - 1) own [] (omega arith)
@@ -151,11 +123,7 @@ module _ {E : Type 0} (by : E → ℕ) (n : ℕ) where
       let one : C b ≡ C a ++ C t.0 = ap C t.1 ∙ calls_parts a t.0 in
       let two : C whole ≡ (C a ++ C t.0) ++ C s.0 = ap C s.1 ∙ (calls_parts b s.0 ∙ ap (λ l. l ++ C s.0) one) in
       let three : C a ++ (C t.0 ++ C s.0) ≡ C a = sym (append_assoc (C a) (C t.0) (C s.0)) ∙ (sym two ∙ sym same) in
-      one ∙ (ap (λ l. C a ++ l) (first_none (C t.0) (C s.0) (no_more (C a) (C t.0 ++ C s.0) three)) ∙ append_nil_right (C a))
-    where
-      append_nil_right : (zs : List E) → zs ++ [] ≡ zs
-      append_nil_right [] = refl
-      append_nil_right (z ∷ zs) = ap (λ l. z ∷ l) (append_nil_right zs)
+      one ∙ (ap (λ l. C a ++ l) (first_none (C t.0) (C s.0) (no_more (C a) (C t.0 ++ C s.0) three)) ∙ append-nil (C a))
 
   -- a number above all has no calls
   pub no_calls : (made : ℕ) (es : List E) → made < n → All (λ (e : E). (0 < by e) × (by e ≤ made)) es → calls_by by n es ≡ []
@@ -176,12 +144,10 @@ module _ {A : Type 0} where
   map_snoc f (y ∷ ys) x = ap (λ l. f y ∷ l) (map_snoc f ys x)
 
   pub append_none : (xs : List A) → xs ++ [] ≡ xs
-  append_none [] = refl
-  append_none (x ∷ xs) = ap (λ l. x ∷ l) (append_none xs)
+  append_none = append-nil
 
   pub none_left : (xs : List A) → length xs ≡ 0 → xs ≡ []
-  none_left [] e = refl
-  none_left (x ∷ xs) e = absurd (omega arith)
+  none_left = nil_from_length
 
   pub none_more : (whole part rest : List A) → whole ≡ part ++ rest → length rest ≡ 0 → whole ≡ part
   none_more whole part rest is none = is ∙ (ap (λ l. part ++ l) (none_left rest none) ∙ append_none part)

@@ -1,75 +1,55 @@
 -- Each step of a turn keeps the rule.
-use Rattle.std.proofs.Common.{All, List, None, Option, Some, [], ap, arith, false, get_or, inl, inr, length, length-append, length-set, refl, set, subst, sym, true, true≢false, ℕ, ⊎_elim, ◌%◌, ◌++◌, ◌+◌, ◌-◌, ◌<◌, ◌^◌, ◌∙◌, ◌∷◌, ◌≡◌, ◌≢◌, ◌≤◌}
-use Rattle.turn_history.proofs.Common.{All-append, All-cons, All-nil, Allows, Away, CanEnter, Course, Found, Holding, Home, Kept, Mine, StartsWith, State, View, after_turn, calls_by, dite, drawn, ended, entered, entries_of, fronted, get_elem?, gives, homes_after, in_its_turn_at, keeps, looked, none, option_list, rest, set-get_or, set_again, some, step, takes, with_own, with_ticket, ℕ_discrete}
+use Rattle.std.proofs.Common.{All, Bool, List, None, Option, Some, [], ap, arith, false, get_or, inl, inr, length, length-append, length-set, refl, set, subst, sym, true, true≢false, ℕ, ⊎_elim, ◌%◌, ◌++◌, ◌+◌, ◌-◌, ◌<◌, ◌^◌, ◌∙◌, ◌∷◌, ◌≡◌, ◌≢◌, ◌≤◌}
+use Rattle.turn_history.proofs.Common.{All-append, All-cons, All-nil, Allows, Away, CanEnter, Course, Found, Holding, Home, Kept, Knows, Mine, StartsWith, State, View, after_turn, calls_by, dite, drawn, ended, entered, entries_of, fronted, get_elem?, gives, homes_after, in_its_turn_at, keeps, looked, none, option_list, rest, some, step, takes, with_own, with_ticket, ℕ_discrete}
 use mathlib.Core.Option as maybe
 use Rattle.turn_history.proofs.Lists.{put, put_here, put_else, begins_itself, begins_longer, at_here, total_set, entries-append, entries_one, calls_snoc_own, calls_snoc_other, own_here, own_else}
-use Rattle.turn_history.proofs.Keeping.{Signed, some_same, some_is_not, not_true, first_carried, all_set, nobody_still, same_at, there_still, place_stays, later, quiet, loaded}
+use Rattle.turn_history.proofs.Keeping.{Signed, some_same, some_is_not, not_true, first_carried, all_set, nobody_still, same_at, there_still, place_stays, later, quiet, loaded, still}
 
 module _ {V E B : Type 0} (by : E → ℕ) (stands : V → List E → List Holding → Type 0) (base : V → B) (key : B) (passes : ℕ) where
-  abbrev S : Type 0
-  S = View E B
-
-  abbrev St : Type 0
-  St = State (Option V) S
-
-  abbrev Rule : St → Type 0
-  Rule = Kept by stands base key passes
-
-  abbrev At_home : Course E B → St → Type 0
-  At_home = Home by stands base
-
-  abbrev Gone : St → Type 0
-  Gone = Away by stands base
-
-  pub draws : (slots id : ℕ) (me : Mine V E B) → CanEnter me → Allows Rule slots id me 1 (λ n. (n + 1) % 2 ^ 64) (drawn (step slots 1 1 0 none) me)
-  draws slots id me can s k deep at fits = let n : ℕ = get_or s.words 1 0 in let r = k.course in let T : ℕ = r.tickets in let free = can.0 in let v = me.0 in let w : S = with_ticket v T in
+  pub draws : (slots id : ℕ) (me : Mine V E B) → CanEnter me → Allows (Kept by stands base key passes) slots id me 1 (λ n. (n + 1) % 2 ^ 64) (drawn (step slots 1 1 0 none) me)
+  draws slots id me can s k deep at fits = let n : ℕ = get_or s.words 1 0 in let r = k.course in let T : ℕ = r.tickets in let free = can.0 in let v = me.0 in let w : View E B = with_ticket v T in
       let found : n ≡ T = ap (λ (l : List ℕ). get_or l 1 0) k.words in let left = can.2 in
-      let e = total_set (λ (u : S). u.turns_left) s.views id v (record v { turns_left = 0 }) at in let f = k.fuel in let o = k.order in
+      let e = total_set (λ (u : View E B). u.turns_left) s.views id v (record v { turns_left = 0 }) at in let f = k.fuel in let o = k.order in
       let next : (n + 1) % 18446744073709551616 ≡ T + 1 = omega arith in
       let ws : set s.words 1 ((n + 1) % 18446744073709551616) ≡ length r.turns ∷ (T + 1) ∷ [] = ap (λ (l : List ℕ). set l 1 ((n + 1) % 18446744073709551616)) k.words ∙ ap (λ (x : ℕ). length r.turns ∷ x ∷ []) next in
       let h : ℕ → ℕ = put r.holder T id in let mine = k.each id v at in let r' : Course E B = later by stands base key passes r (T + 1) h in (
         with_ticket v n,
         keeps,
         tt,
-        subst (λ (x : List ℕ × ℕ). Rule record { words = x.0; homes = s.homes; views = set s.views id (with_ticket v x.1) }) (λ i. (sym ws i, sym found i))
+        subst (λ (x : List ℕ × ℕ). Kept by stands base key passes record { words = x.0; homes = s.homes; views = set s.views id (with_ticket v x.1) }) (λ i. (sym ws i, sym found i))
             (quiet by stands base key passes s k (T + 1) h s.homes id v w at (omega arith) (λ x lt. put_else r.holder T id x (λ z. omega arith)) refl (omega arith) refl
-            record {
-              seen = mine.seen;
-              based = mine.based;
-              numbered = mine.numbered;
-              called = mine.called;
-              has = mine.has;
-              waits = λ t e. let same = some_same T t e in (omega arith, omega arith, subst (λ (x : ℕ). put r.holder T id x ≡ id) same (put_here r.holder T id), can.1);
-              in_its_turn = λ e. absurd (true≢false (sym e ∙ free.1));
-              makes = mine.makes;
-              accounts = λ i d lt. let a = mine.accounts i d lt in record { seen = a.seen; called = a.called };
-            }
+            (let waits : (t : ℕ) → Some T ≡ Some t → (length r.turns ≤ t) × (t < T + 1) × (h t ≡ id) × (0 < v.number) = λ t e. let same = some_same T t e in (omega arith, omega arith, subst (λ (x : ℕ). h x ≡ id) same (put_here r.holder T id), can.1) in
+            let none : v.in_turn ≡ true → (Some T ≡ Some (length r.turns)) × (v.seen ≡ r.turns) × (v.holdings ≡ r.holdings) = λ e. absurd (true≢false (sym e ∙ free.1)) in assumption)
             (place_stays by stands base key passes s r (length r.turns ∷ (T + 1) ∷ []) id v w at refl r' refl refl refl k.place)),
         refl,
       )
 
-  pub looks : (slots id : ℕ) (me : Mine V E B) (t : ℕ) → me.0.ticket ≡ Some t → me.0.in_turn ≡ false → Allows Rule slots id me 0 (λ n. n) (looked by stands base (step slots 0 0 0 none) me)
+  -- a pass that sees all turns
+  sees_all : (r : Course E B) (j : ℕ) (v : View E B) (now : Bool) (held : List Holding) → Knows by r j v → (now ≡ true → (v.ticket ≡ Some (length r.turns)) × (held ≡ r.holdings)) → Knows by r j (record v { seen = r.turns; in_turn = now; holdings = held })
+  sees_all r j v now held k turn = record {
+    seen = begins_itself r.turns;
+    based = k.based;
+    numbered = k.numbered;
+    called = λ z. ((k.called z).0, (k.called z).0);
+    has = k.has;
+    waits = k.waits;
+    in_its_turn = λ z. ((turn z).0, refl, (turn z).1);
+    makes = k.makes;
+    accounts = k.accounts;
+  }
+
+  pub looks : (slots id : ℕ) (me : Mine V E B) (t : ℕ) → me.0.ticket ≡ Some t → me.0.in_turn ≡ false → Allows (Kept by stands base key passes) slots id me 0 (λ n. n) (looked by stands base (step slots 0 0 0 none) me)
   looks slots id me t drew out s k deep at fits = let n : ℕ = get_or s.words 0 0 in let r = k.course in let T : ℕ = r.tickets in let v = me.0 in let mine = k.each id v at in let ws = loaded by stands base key passes s k in
       let found : n ≡ length r.turns = ap (λ (l : List ℕ). get_or l 0 0) k.words in let ready = mine.waits t drew in
       dite (ℕ_discrete n t)
       (λ own. ⊎_elim
-      (λ (h : At_home r s). let w : S = in_its_turn_at v r.turns r.holdings in let room = k.sized in let nu = mine.numbered ready.3 in let within = nu.1 in let before = ready.1 in (
+      (λ (h : Home by stands base r s). let w : View E B = in_its_turn_at v r.turns r.holdings in let room = k.sized in let nu = mine.numbered ready.3 in let within = nu.1 in let before = ready.1 in (
         w,
         takes 0 (Some h.value),
         ap (λ (l : List (maybe.Option (Option V))). get_elem? l 0) h.at_home,
-        subst (λ (x : List ℕ × List (maybe.Option (Option V))). Rule record { words = x.0; homes = x.1; views = set s.views id w }) (λ i. (sym ws i, set (sym h.at_home i) 0 none))
+        subst (λ (x : List ℕ × List (maybe.Option (Option V))). Kept by stands base key passes record { words = x.0; homes = x.1; views = set s.views id w }) (λ i. (sym ws i, set (sym h.at_home i) 0 none))
             (quiet by stands base key passes s k T r.holder (none ∷ []) id v w at (omega arith) (λ x lt. refl) refl refl refl
-            record {
-              seen = begins_itself r.turns;
-              based = mine.based;
-              numbered = mine.numbered;
-              called = λ z. ((mine.called z).0, (mine.called z).0);
-              has = mine.has;
-              waits = mine.waits;
-              in_its_turn = λ _. (drew ∙ ap (λ (x : ℕ). let y : Option ℕ = Some x in y) (sym own ∙ found), refl, refl);
-              makes = mine.makes;
-              accounts = λ i d lt. let a = mine.accounts i d lt in record { seen = a.seen; called = a.called };
-            }
+            (sees_all r id v true r.holdings mine (λ _. (drew ∙ ap (λ (x : ℕ). let y : Option ℕ = Some x in y) (sym own ∙ found), refl)))
             (inr record { away = refl; who = id; view = w; there = at_here s.views id v w at; turns_now = refl })),
         (
           (λ _. (
@@ -91,14 +71,14 @@ module _ {V E B : Type 0} (by : E → ℕ) (stands : V → List E → List Holdi
           λ ne. absurd (ne (drew ∙ ap (λ (x : ℕ). let y : Option ℕ = Some x in y) (sym own))),
         ),
       ))
-      (λ (h : Gone s). let theirs = k.each h.who h.view h.there in let due = theirs.in_its_turn h.turns_now in let their = theirs.waits (length r.turns) due.0 in
-      let same : h.who ≡ id = sym their.2 ∙ (ap r.holder (sym found ∙ own) ∙ ready.2) in absurd (true≢false (sym h.turns_now ∙ (ap (λ (y : S). y.in_turn) (same_at by stands base key passes s.views id h.who v h.view at h.there same) ∙ out))))
+      (λ (h : Away by stands base s). let theirs = k.each h.who h.view h.there in let due = theirs.in_its_turn h.turns_now in let their = theirs.waits (length r.turns) due.0 in
+      let same : h.who ≡ id = sym their.2 ∙ (ap r.holder (sym found ∙ own) ∙ ready.2) in absurd (true≢false (sym h.turns_now ∙ (ap (λ (y : View E B). y.in_turn) (same_at by stands base key passes s.views id h.who v h.view at h.there same) ∙ out))))
       k.place)
       (λ other. (
         v,
         keeps,
         tt,
-        subst (λ (x : List ℕ × List S). Rule record { words = x.0; homes = s.homes; views = x.1 }) (λ i. (sym (set-get_or s.words 0 0) i, sym (set_again s.views id v at) i)) k,
+        still by stands base key passes s k id v at,
         ((λ e. absurd (other (some_same n t (sym e ∙ drew)))), λ _. refl),
       ))
 
@@ -110,10 +90,10 @@ module _ {V E B : Type 0} (by : E → ℕ) (stands : V → List E → List Holdi
   signed_more made n turns e some_n within own all = subst (All (Signed by stands base key passes made)) (sym (entries-append turns (e ∷ []) ∙ ap (λ l. entries_of turns ++ l) (entries_one e))) (All-append (Signed by stands base key passes made) (entries_of turns) (option_list e) all (signed_one made n e some_n within own))
 
   pub ends : (slots id : ℕ) (me : Mine V E B) (x : V) (e : Option E) (own : Holding) → me.0.in_turn ≡ true → me.1 ≡ (0, Some x) ∷ [] → 0 < me.0.number → ((z : E) → e ≡ Some z → by z ≡ me.0.number)
-      → stands x (entries_of me.0.seen ++ option_list e) (with_own me.0.holdings me.0.number own) → Some (base x) ≡ me.0.base → Allows Rule slots id me 0 (λ n. (n + 1) % 2 ^ 64) (ended by e own (step slots 0 1 0 none) me)
+      → stands x (entries_of me.0.seen ++ option_list e) (with_own me.0.holdings me.0.number own) → Some (base x) ≡ me.0.base → Allows (Kept by stands base key passes) slots id me 0 (λ n. (n + 1) % 2 ^ 64) (ended by e own (step slots 0 1 0 none) me)
   ends slots id me x e own now carries some_n signs stood based s k deep at fits = let n : ℕ = get_or s.words 0 0 in let r = k.course in let T : ℕ = r.tickets in let v = me.0 in let mine = k.each id v at in
       let L : ℕ = length r.turns in let found : n ≡ L = ap (λ (l : List ℕ). get_or l 0 0) k.words in let due = mine.in_its_turn now in let ready = mine.waits L due.0 in let before = ready.1 in
-      let f = k.fuel in let w : S = after_turn v e own in let m : ℕ = v.number in let nu = mine.numbered some_n in let size = k.sized in let within = nu.1 in
+      let f = k.fuel in let w : View E B = after_turn v e own in let m : ℕ = v.number in let nu = mine.numbered some_n in let size = k.sized in let within = nu.1 in
       let inside : m ≤ length r.holdings = omega arith in
       let turns' : List (Option E) = r.turns ++ e ∷ [] in let all' : List Holding = with_own r.holdings m own in let r' : Course E B = record r { turns = turns'; holdings = all' } in
       let longer : length turns' ≡ L + 1 = length-append r.turns (e ∷ []) in
@@ -121,25 +101,25 @@ module _ {V E B : Type 0} (by : E → ℕ) (stands : V → List E → List Holdi
       let ws : set s.words 0 ((n + 1) % 18446744073709551616) ≡ length turns' ∷ T ∷ [] = ap (λ (l : List ℕ). set l 0 ((n + 1) % 18446744073709551616)) k.words ∙ ap (λ (y : ℕ). y ∷ T ∷ []) next in
       let new_calls : calls_by by m (entries_of turns') ≡ v.calls ++ option_list e = calls_snoc_own by m r.turns e signs ∙ ap (λ l. l ++ option_list e) (mine.called some_n).0 in
       ⊎_elim
-      (λ (h : At_home r s). absurd (true≢false (sym now ∙ h.nobody id v at)))
-      (λ (h : Gone s). (
+      (λ (h : Home by stands base r s). absurd (true≢false (sym now ∙ h.nobody id v at)))
+      (λ (h : Away by stands base s). (
         w,
         gives,
         tt,
-        subst (λ (y : List ℕ × List (maybe.Option (Option V))). Rule record { words = y.0; homes = y.1; views = set s.views id w }) (λ i. (sym ws i, put_home (s.homes) (me.1) x h.away carries i))
+        subst (λ (y : List ℕ × List (maybe.Option (Option V))). Kept by stands base key passes record { words = y.0; homes = y.1; views = set s.views id w }) (λ i. (sym ws i, put_home (s.homes) (me.1) x h.away carries i))
             record {
               course = r';
               words = refl;
               order = omega arith;
-              fuel = let t = total_set (λ (u : S). u.turns_left) s.views id v w at in omega arith;
-              weighs = let t = total_set (λ (u : S). u.weight) s.views id v w at in let g = k.weighs in omega arith;
+              fuel = let t = total_set (λ (u : View E B). u.turns_left) s.views id v w at in omega arith;
+              weighs = let t = total_set (λ (u : View E B). u.weight) s.views id v w at in let g = k.weighs in omega arith;
               sized = (length-set r.holdings (m - 1) own ∙ size.0, size.1);
               based = k.based;
               signed = signed_more r.made m r.turns e some_n nu.1 signs k.signed;
               owned = λ i some_i. dite (ℕ_discrete i m)
                   (λ same. inr (w, subst (λ (j : ℕ). get_elem? (set s.views id w) j ≡ some w) (sym nu.0 ∙ ap r.seat (sym same)) (at_here s.views id v w at), sym same))
                   (λ other. ⊎_elim (λ none_out. inl (own_else r.holdings m i own some_n some_i other ∙ none_out))
-                  (λ (z : (u : S) × (get_elem? s.views (r.seat i) ≡ some u) × (u.number ≡ i)). inr (there_still by stands base key passes (λ (u : S). u.number ≡ i) s.views id (r.seat i) v w z.0 at (λ y. y) z.1 z.2)) (k.owned i some_i));
+                  (λ (z : (u : View E B) × (get_elem? s.views (r.seat i) ≡ some u) × (u.number ≡ i)). inr (there_still by stands base key passes (λ (u : View E B). u.number ≡ i) s.views id (r.seat i) v w z.0 at (λ y. y) z.1 z.2)) (k.owned i some_i));
               each = all_set by stands base key passes r' s.views id w
                   record {
                     seen = subst (λ (l : List (Option E)). StartsWith (r.turns ++ e ∷ []) (l ++ e ∷ [])) (sym due.1) (begins_itself (r.turns ++ e ∷ []));
@@ -181,33 +161,23 @@ module _ {V E B : Type 0} (by : E → ℕ) (stands : V → List E → List Holdi
       put_home : (homes : List (maybe.Option (Option V))) (c : List (ℕ × Option V)) (y : V) → homes ≡ none ∷ [] → c ≡ (0, Some y) ∷ [] → some (Some y) ∷ [] ≡ homes_after homes c gives
       put_home homes c y a b = sym (ap (λ (z : List (maybe.Option (Option V)) × List (ℕ × Option V)). homes_after z.0 z.1 gives) (λ i. (a i, b i)))
 
-  pub fronts : (slots id : ℕ) (me : Mine V E B) → Allows Rule slots id me 0 (λ n. n) (fronted by (step slots 0 0 0 none) me)
-  fronts slots id me s k deep at fits = let n : ℕ = get_or s.words 0 0 in let r = k.course in let T : ℕ = r.tickets in let v = me.0 in let mine = k.each id v at in let ws = loaded by stands base key passes s k in let w : S = record v { seen = r.turns } in
+  pub fronts : (slots id : ℕ) (me : Mine V E B) → Allows (Kept by stands base key passes) slots id me 0 (λ n. n) (fronted by (step slots 0 0 0 none) me)
+  fronts slots id me s k deep at fits = let n : ℕ = get_or s.words 0 0 in let r = k.course in let T : ℕ = r.tickets in let v = me.0 in let mine = k.each id v at in let ws = loaded by stands base key passes s k in let w : View E B = record v { seen = r.turns } in
       let found : n ≡ length r.turns = ap (λ (l : List ℕ). get_or l 0 0) k.words in (
         w,
         keeps,
         tt,
-        subst (λ (x : List ℕ). Rule record { words = x; homes = s.homes; views = set s.views id w }) (sym ws)
+        subst (λ (x : List ℕ). Kept by stands base key passes record { words = x; homes = s.homes; views = set s.views id w }) (sym ws)
             (quiet by stands base key passes s k T r.holder s.homes id v w at (omega arith) (λ x lt. refl) refl refl refl
-            record {
-              seen = begins_itself r.turns;
-              based = mine.based;
-              numbered = mine.numbered;
-              called = λ z. ((mine.called z).0, (mine.called z).0);
-              has = mine.has;
-              waits = mine.waits;
-              in_its_turn = λ z. let a = mine.in_its_turn z in (a.0, refl, a.2);
-              makes = mine.makes;
-              accounts = λ i d lt. let a = mine.accounts i d lt in record { seen = a.seen; called = a.called };
-            }
+            (sees_all r id v v.in_turn v.holdings mine (λ z. let a = mine.in_its_turn z in (a.0, a.2)))
             (place_stays by stands base key passes s r (length r.turns ∷ T ∷ []) id v w at refl (later by stands base key passes r T r.holder) refl refl refl k.place)),
         (refl, sym found, mine.seen, λ z. (mine.called z).0),
       )
 
   pub ends_at : (slots id : ℕ) (me was : Mine V E B) (x : V) (e : Option E) (own : Holding) → me ≡ (was.0, (0, Some x) ∷ rest was.1) → was.1 ≡ (0, None) ∷ [] → was.0.in_turn ≡ true → 0 < was.0.number → ((z : E) → e ≡ Some z → by z ≡ was.0.number)
-      → stands x (entries_of was.0.seen ++ option_list e) (with_own was.0.holdings was.0.number own) → Some (base x) ≡ was.0.base → Allows Rule slots id me 0 (λ n. (n + 1) % 2 ^ 64) (ended by e own (step slots 0 1 0 none) me)
+      → stands x (entries_of was.0.seen ++ option_list e) (with_own was.0.holdings was.0.number own) → Some (base x) ≡ was.0.base → Allows (Kept by stands base key passes) slots id me 0 (λ n. (n + 1) % 2 ^ 64) (ended by e own (step slots 0 1 0 none) me)
   ends_at slots id me was x e own is carries now some_n signs stood based = let is' : me ≡ (was.0, (0, Some x) ∷ []) = is ∙ ap (λ (c : List (ℕ × Option V)). let y : Mine V E B = (was.0, (0, Some x) ∷ rest c) in y) carries in
-      subst (λ (m : Mine V E B). Allows Rule slots id m 0 (λ n. (n + 1) % 2 ^ 64) (ended by e own (step slots 0 1 0 none) m)) (sym is') (ends slots id (was.0, (0, Some x) ∷ []) x e own now refl some_n signs stood based)
+      subst (λ (m : Mine V E B). Allows (Kept by stands base key passes) slots id m 0 (λ n. (n + 1) % 2 ^ 64) (ended by e own (step slots 0 1 0 none) m)) (sym is') (ends slots id (was.0, (0, Some x) ∷ []) x e own now refl some_n signs stood based)
 
   pub carried_rest : (c d : List (ℕ × Option V)) (y : ℕ × Option V) → c ≡ y ∷ d → c ≡ y ∷ rest c
   carried_rest c d y is = is ∙ ap (λ (l : List (ℕ × Option V)). y ∷ l) (sym (ap rest is))
@@ -228,7 +198,7 @@ module _ {V E B : Type 0} (by : E → ℕ) (stands : V → List E → List Holdi
       let none_else : rest m3.1 ≡ [] = ap rest a.4 ∙ (ap (λ (y : Mine V E B). y.1) m2_is ∙ bare) in
       let view : m3.0 ≡ in_its_turn_at (with_ticket m.0 t) a.1 a.2 = a.3 ∙ ap (λ (y : Mine V E B). in_its_turn_at y.0 a.1 a.2) m2_is in
       let f = a.5 in let v_is = ap (λ (y : Mine V E B). y.0) m2_is in let w_is : m3.0 ≡ m4.0 = sym (ap (λ (y : Mine V E B). y.0) gave) in
-      let f' : Found by stands base (with_ticket m.0 t) x m4.0 = subst (λ (y : S × S). Found by stands base y.0 x y.1) (λ i. (v_is i, w_is i)) f in
+      let f' : Found by stands base (with_ticket m.0 t) x m4.0 = subst (λ (y : View E B × View E B). Found by stands base y.0 x y.1) (λ i. (v_is i, w_is i)) f in
       let now : m4 ≡ (in_its_turn_at (with_ticket m.0 t) a.1 a.2, (0, None) ∷ []) = gave ∙ (λ i. (view i, (0, None) ∷ none_else i)) in record {
         value = x;
         is = ap first_carried pairs;

@@ -28,12 +28,12 @@ pub record Course (E B : Type 0) : Type 0 where
   pub holder : ℕ → ℕ
   pub base : B
 
-module _ {E B : Type 0} (by : E → ℕ) where
-  -- what the pass `number` on the seat j knows of one that it took in
-  pub record Remembers (r : Course E B) (j number : ℕ) (a : Account E) : Type 0 where
-    pub seen : StartsWith r.turns a.seen
-    pub called : 0 < a.number → (r.seat a.number ≡ j) × (number ≡ 0) × (a.number ≤ r.made) × (calls_by by a.number (entries_of r.turns) ≡ a.calls)
+-- what the pass `number` on the seat j knows of one that it took in
+pub record Remembers {E : Type 0} (by : E → ℕ) (turns : List (Option E)) (seat : ℕ → ℕ) (made j number : ℕ) (a : Account E) : Type 0 where
+  pub seen : StartsWith turns a.seen
+  pub called : 0 < a.number → (seat a.number ≡ j) × (number ≡ 0) × (a.number ≤ made) × (calls_by by a.number (entries_of turns) ≡ a.calls)
 
+module _ {E B : Type 0} (by : E → ℕ) where
   -- what the view v on the seat j knows is so
   pub record Knows (r : Course E B) (j : ℕ) (v : View E B) : Type 0 where
     pub seen : StartsWith r.turns v.seen
@@ -44,7 +44,7 @@ module _ {E B : Type 0} (by : E → ℕ) where
     pub waits : (t : ℕ) → v.ticket ≡ Some t → (length r.turns ≤ t) × (t < r.tickets) × (r.holder t ≡ j) × (0 < v.number)
     pub in_its_turn : v.in_turn ≡ true → (v.ticket ≡ Some (length r.turns)) × (v.seen ≡ r.turns) × (v.holdings ≡ r.holdings)
     pub makes : 0 < v.next_number → (v.next_number ≡ r.made + 1) × (r.maker ≡ j)
-    pub accounts : All (Remembers r j v.number) v.accounts
+    pub accounts : All (Remembers by r.turns r.seat r.made j v.number) v.accounts
 
 module _ {V E B : Type 0} (by : E → ℕ) (stands : V → List E → List Holding → Type 0) (base : V → B) where
   -- the value is in its slot, and no pass is in its turn
