@@ -1,6 +1,6 @@
 -- The rule at the making and at the end of a lock.
-use Rattle.std.proofs.Common.{List, Option, Some, [], ap, arith, false, get_or, inl, inr, length, refl, replicate, subst, suc, sym, true≢false, zero, ℕ, ⊎_elim, ◌++◌, ◌-◌, ◌<◌, ◌∙◌, ◌∷◌, ◌≡◌, ◌≢◌, ◌≤◌}
-use Rattle.turn_history.proofs.Common.{All-nil, Away, Closing, Course, Enters, Final, Holding, Home, Kept, Knows, Mine, Seen, State, View, at_longer, at_set, came, dite, entries_of, first_view, get_elem?, length-replicate, none, opening, own_of, some, some-ne-none, spent, step, ℕ_discrete}
+use Rattle.std.proofs.Common.{List, Option, Some, [], ap, arith, false, get_or, inl, inr, length, refl, replicate, subst, suc, sym, zero, ℕ, ⊎_elim, ◌++◌, ◌-◌, ◌<◌, ◌∙◌, ◌∷◌, ◌≡◌, ◌≢◌, ◌≤◌}
+use Rattle.turn_history.proofs.Common.{All-nil, Away, Closing, Course, Enters, Final, Holding, Home, Kept, Knows, Mine, Seen, View, at_longer, at_set, came, dite, entries_of, first_view, get_elem?, length-replicate, none, opening, own_of, some, some-ne-none, spent, step, ℕ_discrete}
 use mathlib.Core.Option as maybe
 use Rattle.turn_history.proofs.Lists.{at_snoc_end, total_two, total_snoc}
 use Rattle.turn_history.proofs.Keeping.{Signed, knows_nothing, no_pass, place_kept, same_at, some_same}

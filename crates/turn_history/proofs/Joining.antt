@@ -1,6 +1,6 @@
 -- A join keeps the rule.
 use Rattle.std.proofs.Common.{All, List, Option, [], ap, arith, cond, false, get_or, inl, inr, length, length-append, refl, set, subst, suc, sym, true, true≢false, ℕ, ⊎_elim, ◌++◌, ◌+◌, ◌<◌, ◌∙◌, ◌∷◌, ◌≡◌, ◌≢◌, ◌⊎◌}
-use Rattle.turn_history.proofs.Common.{Account, All-append, All-cons, All-nil, Allows, Away, Course, Holding, Home, Joins, Kept, Knows, Mine, Remembers, StartsWith, State, View, account, at_set, calls_by, compared, dec_lt, dite, entries_of, gathering, get_elem?, keeps, longer, merged, none, own_of, set_else, some, spent, step, ℕ_discrete}
+use Rattle.turn_history.proofs.Common.{Account, All-append, All-cons, All-nil, Allows, Course, Holding, Joins, Kept, Knows, Mine, Remembers, StartsWith, State, View, account, at_set, calls_by, compared, dec_lt, dite, entries_of, gathering, get_elem?, keeps, longer, merged, none, own_of, set_else, some, spent, step, ℕ_discrete}
 use Rattle.std.proofs.lemmas.Bool.{le-ltb, lt-ltb}
 use Rattle.turn_history.proofs.Lists.{put, put_here, put_else, two_beginnings, between, total_set}
 use Rattle.turn_history.proofs.Keeping.{loaded, quiet, later, place_kept, place_stays, knows_nothing, all_set, nobody_still, same_at, there_still}

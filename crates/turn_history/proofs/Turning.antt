@@ -1,6 +1,6 @@
 -- Each step of a turn keeps the rule.
 use Rattle.std.proofs.Common.{All, Bool, List, None, Option, Some, [], ap, arith, false, get_or, inl, inr, length, length-append, length-set, refl, set, subst, sym, true, true≢false, ℕ, ⊎_elim, ◌%◌, ◌++◌, ◌+◌, ◌-◌, ◌<◌, ◌^◌, ◌∙◌, ◌∷◌, ◌≡◌, ◌≢◌, ◌≤◌}
-use Rattle.turn_history.proofs.Common.{All-append, All-cons, All-nil, Allows, Away, CanEnter, Course, Found, Holding, Home, Kept, Knows, Mine, StartsWith, State, View, after_turn, calls_by, dite, drawn, ended, entered, entries_of, fronted, get_elem?, gives, homes_after, in_its_turn_at, keeps, looked, none, option_list, rest, some, step, takes, with_own, with_ticket, ℕ_discrete}
+use Rattle.turn_history.proofs.Common.{All-append, All-cons, All-nil, Allows, Away, CanEnter, Course, Found, Holding, Home, Kept, Knows, Mine, StartsWith, View, after_turn, calls_by, dite, drawn, ended, entered, entries_of, fronted, get_elem?, gives, homes_after, in_its_turn_at, keeps, looked, none, option_list, rest, some, step, takes, with_own, with_ticket, ℕ_discrete}
 use mathlib.Core.Option as maybe
 use Rattle.turn_history.proofs.Lists.{put, put_here, put_else, begins_itself, begins_longer, at_here, total_set, entries-append, entries_one, calls_snoc_own, calls_snoc_other, own_here, own_else}
 use Rattle.turn_history.proofs.Keeping.{Signed, some_same, some_is_not, not_true, first_carried, all_set, nobody_still, same_at, there_still, place_stays, later, quiet, loaded, still}

@@ -1,9 +1,8 @@
-use Rattle.std.proofs.Common.{Some, ap, arith, refl, rules, subst, sym, ◌∙◌}
+use Rattle.std.proofs.Common.{Some, ap, arith, refl, rules, subst, sym, ◌∙◌, ◌≡◌}
 use Rattle.turn_history.proofs.Common.{Found, boxed_base, boxed_stands, entries_of}
 use Rattle.turn_history.proofs.Boxed.{found_value}
 use Rattle.turn_history.proofs.Lists.{entries_fewer}
 use Rattle.turn_history.proofs.Turning.{draws, looks, finds_value, Entered, enters}
-use Rattle.turn_history.proofs.Keeping.{some_same}
 use Rattle.turn_history.proofs.lock.HistoryLock.enter.Goals as goal
 
 pub fetch_add-ticket-requires : goal.fetch_add-ticket-requires
@@ -30,22 +29,18 @@ it_entered g c = enters g.V.Historic.by (boxed_stands g.V.Historic.stands) (boxe
     c.requires.free.0.2 c.fetch_add-ticket.ensures.2 c.loop.invariant.2 c.load-ended.ensures.2 c.if-ended-ticket.true c.exchange.ensures.2 c.exchange.ensures.3
 
 pub returns-then-ended-ticket-clause-pass : goal.returns-then-ended-ticket-clause-pass
-returns-then-ended-ticket-clause-pass g c = let e = it_entered g c in e.now
+returns-then-ended-ticket-clause-pass g c = (it_entered g c).now
+
+it_found : (g : _) (c : goal.After-drop-iterator g) (b : _) → c.exchange.result ≡ Some b → Found g.V.Historic.by g.V.Historic.stands g.V.Historic.base c.args.pass.now.me.0 b.value c.exchange.new.seat.me.0
+it_found g c = found_value g.V.Historic.by g.V.Historic.stands g.V.Historic.base (it_entered g c)
 
 pub returns-then-ended-ticket-clause-value : goal.returns-then-ended-ticket-clause-value
-returns-then-ended-ticket-clause-value g c = let e = it_entered g c in
-    found_value g.V.Historic.by g.V.Historic.stands g.V.Historic.base c.args.pass.now.me.0 c.unwrap-value.result c.exchange.new.seat.me.0
-    (subst (λ x. Found g.V.Historic.by (boxed_stands g.V.Historic.stands) (boxed_base g.V.Historic.base) c.args.pass.now.me.0 x c.exchange.new.seat.me.0) (some_same e.value c.unwrap-value.result (sym e.is ∙ c.unwrap-value.ensures)) e.found)
-
--- the value stands for what the pass then sees
-it_stands : (g : _) (c : goal.After-drop-iterator g) → g.V.Historic.stands c.as_ref.result.now (entries_of c.exchange.new.seat.me.0.seen) c.exchange.new.seat.me.0.holdings
-it_stands g c = let e = it_entered g c in
-    subst (λ x. g.V.Historic.stands x (entries_of c.exchange.new.seat.me.0.seen) c.exchange.new.seat.me.0.holdings) (sym c.as_ref.ensures)
-    (subst (λ x. boxed_stands g.V.Historic.stands x (entries_of c.exchange.new.seat.me.0.seen) c.exchange.new.seat.me.0.holdings) (some_same e.value c.unwrap-value.result (sym e.is ∙ c.unwrap-value.ensures)) e.found.stood)
+returns-then-ended-ticket-clause-value g c = it_found g c c.unwrap-value.result c.unwrap-value.ensures
 
 pub returns-then-ended-ticket-clause-entries : goal.returns-then-ended-ticket-clause-entries
-returns-then-ended-ticket-clause-entries g c = c.entries-entries.ensures _ _ (it_stands g c)
+returns-then-ended-ticket-clause-entries g c = let f = it_found g c c.unwrap-value.result c.unwrap-value.ensures in
+    c.entries-entries.ensures _ _ (subst (λ x. g.V.Historic.stands x (entries_of c.exchange.new.seat.me.0.seen) c.exchange.new.seat.me.0.holdings) (sym c.as_ref.ensures) f.stood)
 
 pub returns-then-ended-ticket-clause-few : goal.returns-then-ended-ticket-clause-few
-returns-then-ended-ticket-clause-few g c = let e = it_entered g c in let f = e.found.few in let n = entries_fewer c.exchange.new.seat.me.0.seen in
-    let is = c.entries-entries.ensures _ _ (it_stands g c) in omega arith
+returns-then-ended-ticket-clause-few g c = let f = it_found g c c.unwrap-value.result c.unwrap-value.ensures in let few = f.few in let n = entries_fewer c.exchange.new.seat.me.0.seen in
+    let is = c.entries-entries.ensures _ _ (subst (λ x. g.V.Historic.stands x (entries_of c.exchange.new.seat.me.0.seen) c.exchange.new.seat.me.0.holdings) (sym c.as_ref.ensures) f.stood) in omega arith
