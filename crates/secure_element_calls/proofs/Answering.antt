@@ -1,7 +1,7 @@
 -- What the model replies to a call, and what its answer is.
-use Rattle.std.proofs.Common.{Bool, Err, List, MatchOption, None, Ok, Option, Result, Some, [], ap, ap₂, arith, cond, drop, false, if◌then◌else◌, length, not, refl, replicate, subst, sym, true, ℕ, ◌++◌, ◌-◌, ◌∙◌, ◌∷◌, ◌≡◌}
+use Rattle.std.proofs.Common.{Bool, Err, List, MatchOption, None, Ok, Option, Result, Some, [], ap, ap₂, arith, cond, drop, false, if◌then◌else◌, length, not, refl, replicate, subst, sym, true, ℕ, ◌++◌, ◌-◌, ◌∙◌, ◌≡◌}
 use Rattle.secure_element_calls.proofs.Common.{Bytes, Compares, Computed, CtrDecrypt, CtrEncrypt, ElementCall, HardwareFailure, HeldKey, HeldKeys, HoldsHandle, InvalidArgument, InvalidSignature, MacCompute, MacVerify, Reply, Status, Success, agrees_by, buffer_after, computed_unless, done, element_reply, first_row, given, given_by, length-replicate, needed_by, refusal, reply_unless, rows_before, spoiled, unless, unless-ok}
-use Rattle.std.proofs.lemmas.List.{append-nil, drop_at}
+use Rattle.std.proofs.lemmas.List.{append-nil, drop_at, nil_from_length}
 use Rattle.secure_element_calls.specs.declared.calls.NotComputed.{NotComputed}
 use Rattle.secure_element_calls.specs.declared.calls.NotComputed.TheVariants.{Refused, Failed}
 use Rattle.secure_element_calls.specs.Answers.{AnswersCall, IsComputed, IsOfElement, reply_to}
@@ -16,29 +16,22 @@ row_second : (b : Bool) (s : Status) (o : Option Status) → cond b (Some s) Non
 row_second true s o e = cc
 row_second false s o e = refl
 
-replied : (o : Option Status) (reply : Reply) (status : Status) → o ≡ Some status → reply_unless o reply ≡ refusal status
-replied o reply status e = ap (λ p. reply_unless p reply) e
+replied : (o p : Option Status) (reply : Reply) → o ≡ p → reply_unless o reply ≡ reply_unless p reply
+replied o p reply e = ap (λ q. reply_unless q reply) e
 
-computed : (o : Option Status) (c : Computed) (status : Status) → o ≡ Some status → (computed_unless o c).reply ≡ refusal status
-computed o c status e = ap (λ p. (computed_unless p c).reply) e
+computed : (o p : Option Status) (c : Computed) → o ≡ p → (computed_unless o c).reply ≡ (computed_unless p c).reply
+computed o p c e = ap (λ q. (computed_unless q c).reply) e
 
 -- a refusal before the element is asked is the model's reply
 pub refused_before : (call : ElementCall) (key : List ℕ) (room : ℕ) (status : Status) → first_row (rows_before call room) ≡ Some status → element_reply call key room ≡ refusal status
-refused_before (MacCompute alg input) key room status e = replied _ _ status e
-refused_before (MacVerify alg input mac) key room status e = replied _ _ status (row_first _ _ status _ e)
-refused_before (CtrEncrypt iv input) key room status e = computed _ _ status e
-refused_before (CtrDecrypt input) key room status e = replied _ _ status e
+refused_before (MacVerify alg input mac) key room status e = replied _ (Some status) _ (row_first _ _ status _ e)
+refused_before (CtrEncrypt iv input) key room status e = computed _ (Some status) _ e
+refused_before _ key room status e = replied _ (Some status) _ e
 
 -- what the model replies where none refuses
 abbrev pub reply_given : ElementCall → (key : List ℕ) → Reply
 reply_given (MacVerify alg input mac) key = if agrees_by (MacVerify alg input mac) key then done else refusal InvalidSignature
 reply_given call key = record { status = Success; output = Bytes (given_by call key); needed = needed_by call }
-
-unrefused : (o : Option Status) (reply : Reply) → o ≡ None → reply_unless o reply ≡ reply
-unrefused o reply e = ap (λ p. reply_unless p reply) e
-
-unrefused_computed : (o : Option Status) (c : Computed) → o ≡ None → (computed_unless o c).reply ≡ c.reply
-unrefused_computed o c e = ap (λ p. (computed_unless p c).reply) e
 
 compared : (b : Bool) → reply_unless (cond (not b) (Some InvalidSignature) None) done ≡ (if b then done else refusal InvalidSignature)
 compared true = refl
@@ -49,12 +42,12 @@ as_long bytes n e i = record { status = Success; output = Bytes bytes; needed = 
 
 pub passed_before : (call : ElementCall) (key : List ℕ) (room : ℕ) → first_row (rows_before call room) ≡ None → length (given_by call key) ≡ needed_by call →
     element_reply call key room ≡ reply_given call key
-passed_before (MacCompute alg input) key room e long = unrefused _ _ e ∙ as_long _ _ long
 passed_before (MacVerify alg input mac) key room e long =
     ap (λ o. reply_unless o done) (row_second _ InvalidArgument (cond (not (agrees_by (MacVerify alg input mac) key)) (Some InvalidSignature) None) e)
     ∙ compared (agrees_by (MacVerify alg input mac) key)
-passed_before (CtrEncrypt iv input) key room e long = unrefused_computed _ _ e ∙ as_long _ _ long
-passed_before (CtrDecrypt input) key room e long = unrefused _ _ e
+passed_before (CtrEncrypt iv input) key room e long = computed _ None _ e ∙ as_long _ _ long
+passed_before (MacCompute alg input) key room e long = replied _ None _ e ∙ as_long _ _ long
+passed_before (CtrDecrypt input) key room e long = replied _ None _ e
 
 by_reply : (held : Option HeldKeys) (handle : ℕ) (call : ElementCall) (old new : List ℕ) (result : Result ℕ NotComputed) (P : HeldKey → Type 0) →
     HoldsHandle held handle P → MatchOption (first_row (rows_before call (length old))) (IsOfElement call result) (λ status. result ≡ Err (Refused status)) →
@@ -70,18 +63,14 @@ by_reply held handle call old new result P p decided answer spoilt kept rest = r
   rest = rest;
 }
 
-decided_some : (o : Option Status) (status : Status) (P : Type 0) (result : Result ℕ NotComputed) → o ≡ Some status → result ≡ Err (Refused status) →
-    MatchOption o P (λ status. result ≡ Err (Refused status))
-decided_some o status P result e r = subst (λ o. MatchOption o P (λ status. result ≡ Err (Refused status))) (sym e) r
-
-decided_none : (o : Option Status) (P : Type 0) (result : Result ℕ NotComputed) → o ≡ None → P → MatchOption o P (λ status. result ≡ Err (Refused status))
-decided_none o P result e p = subst (λ o. MatchOption o P (λ status. result ≡ Err (Refused status))) (sym e) p
+decided : (o p : Option Status) (P : Type 0) (result : Result ℕ NotComputed) → o ≡ p → MatchOption p P (λ status. result ≡ Err (Refused status)) → MatchOption o P (λ status. result ≡ Err (Refused status))
+decided o p P result e r = subst (λ o. MatchOption o P (λ status. result ≡ Err (Refused status))) (sym e) r
 
 -- a call that is refused before
 pub refused : (held : Option HeldKeys) (handle : ℕ) (call : ElementCall) (old : List ℕ) (status : Status) (P : HeldKey → Type 0) → HoldsHandle held handle P →
     first_row (rows_before call (length old)) ≡ Some status → IsComputed held handle call old old (Err (Refused status))
 refused held handle call old status P p e =
-    by_reply held handle call old old (Err (Refused status)) P p (decided_some _ status _ _ e refl)
+    by_reply held handle call old old (Err (Refused status)) P p (decided _ (Some status) _ _ e refl)
     (λ key k.
     let same : refusal status ≡ reply_to call (Err (Refused status)) key.bytes (length old) = sym (refused_before call key.bytes (length old) status e) in
     subst (λ reply. AnswersCall call (Err (Refused status)) reply × (old ≡ buffer_after old reply)) same ((refl, refl), refl))
@@ -96,10 +85,8 @@ needed_given true = refl
 needed_given false = refl
 
 needed_is : (call : ElementCall) (key : List ℕ) → (reply_given call key).needed ≡ needed_by call
-needed_is (MacCompute alg input) key = refl
 needed_is (MacVerify alg input mac) key = needed_given (agrees_by (MacVerify alg input mac) key)
-needed_is (CtrEncrypt iv input) key = refl
-needed_is (CtrDecrypt input) key = refl
+needed_is _ key = refl
 
 rest_after : (old part : List ℕ) (n m : ℕ) → length part ≡ n → n ≡ m → drop m (part ++ drop n old) ≡ drop m old
 rest_after old part n m long e = ap (λ k. drop k (part ++ drop n old)) (sym e) ∙ drop_at part (drop n old) n long ∙ ap (λ k. drop k old) e
@@ -114,7 +101,7 @@ failed held handle call old part needed P p e long zeros =
     ap (λ (r : Reply). r.needed) (passed_before call key (length old) row.0 (long key)) ∙ needed_is call key ∙ sym row.1 in
     let left : (key : List ℕ) → part ++ drop needed old ≡ buffer_after old (spoiled HardwareFailure (element_reply call key (length old)).needed) = λ key.
     ap (λ l. l ++ drop needed old) (zeros ∙ ap (λ n. replicate n 0) (omega arith)) ∙ ap (λ n. buffer_after old (spoiled HardwareFailure n)) (sym (count key)) in
-    by_reply held handle call old (part ++ drop needed old) (Err Failed) P p (decided_none _ _ _ row.0 tt)
+    by_reply held handle call old (part ++ drop needed old) (Err Failed) P p (decided _ None _ _ row.0 tt)
     (λ key k. ((refl, refl), left key.bytes)) (λ key e. left key) (λ status e. cc)
     (rest_after old part needed (needed_by call) (ap length zeros ∙ length-replicate needed 0) row.1)
 
@@ -125,23 +112,17 @@ filled bytes old n long =
 
 -- a call that gives what it is to give
 answered : (call : ElementCall) (key : List ℕ) (needed : ℕ) → true ≡ agrees_by call key → needed ≡ needed_by call → length (given_by call key) ≡ needed_by call → AnswersCall call (Ok needed) (reply_given call key)
-answered (MacCompute alg input) key needed agrees e long = (refl, e ∙ sym long, refl)
 answered (MacVerify alg input mac) key needed agrees e long = (e, ap (λ b. if b then done else refusal InvalidSignature) (sym agrees))
-answered (CtrEncrypt iv input) key needed agrees e long = (refl, e ∙ sym long, refl)
-answered (CtrDecrypt input) key needed agrees e long = (refl, e ∙ sym long, refl)
+answered _ key needed agrees e long = (refl, e ∙ sym long, refl)
 
 written : (call : ElementCall) (key old : List ℕ) → true ≡ agrees_by call key → length (given_by call key) ≡ needed_by call →
     given_by call key ++ drop (needed_by call) old ≡ buffer_after old (reply_given call key)
-written (MacCompute alg input) key old agrees long = filled _ old _ long
 written (MacVerify alg input mac) key old agrees long = filled [] old 0 refl ∙ ap (λ b. buffer_after old (if b then done else refusal InvalidSignature)) agrees
-written (CtrEncrypt iv input) key old agrees long = filled _ old _ long
-written (CtrDecrypt input) key old agrees long = filled _ old _ long
+written _ key old agrees long = filled _ old _ long
 
 may_be_given : (call : ElementCall) (n : ℕ) → n ≡ needed_by call → IsOfElement call (Ok n)
-may_be_given (MacCompute alg input) n e = e
 may_be_given (MacVerify alg input mac) n e = e
-may_be_given (CtrEncrypt iv input) n e = e
-may_be_given (CtrDecrypt input) n e = e
+may_be_given _ n e = e
 
 pub gave : (held : Option HeldKeys) (handle : ℕ) (call : ElementCall) (old part : List ℕ) (needed : ℕ) →
     HoldsHandle held handle (λ key. part ≡ given_by call key.bytes) → HoldsHandle held handle (λ key. true ≡ agrees_by call key.bytes) →
@@ -151,16 +132,12 @@ gave held handle call old part needed given agrees e long size =
     let row = passed call (length old) needed e in
     let P : HeldKey → Type 0 = λ key. (part ≡ given_by call key.bytes) × (true ≡ agrees_by call key.bytes) in
     by_reply held handle call old (part ++ drop needed old) (Ok needed) P (holds_both held handle _ _ P given agrees (λ key p q. (p, q)))
-    (decided_none _ _ _ row.0 (may_be_given call needed row.1))
+    (decided _ None _ _ row.0 (may_be_given call needed row.1))
     (λ key k.
     let same : reply_given call key.bytes ≡ reply_to call (Ok needed) key.bytes (length old) = sym (passed_before call key.bytes (length old) row.0 (long key.bytes)) in
     subst (λ reply. AnswersCall call (Ok needed) reply × (part ++ drop needed old ≡ buffer_after old reply)) same
     (answered call key.bytes needed k.1 row.1 (long key.bytes), ap₂ (λ p n. p ++ drop n old) k.0 row.1 ∙ written call key.bytes old k.1 (long key.bytes)))
     (λ key e. cc) (λ status e. cc) (rest_after old part needed (needed_by call) size row.1)
-
-none_of : (bytes : List ℕ) → length bytes ≡ 0 → bytes ≡ []
-none_of [] e = refl
-none_of (x ∷ xs) e = absurd (omega arith)
 
 -- a MAC that isn't the message's
 pub differed : (held : Option HeldKeys) (handle : ℕ) (call : ElementCall) (old part : List ℕ) (needed : ℕ) → Compares call →
@@ -171,8 +148,8 @@ differed held handle (MacVerify alg input mac) old part needed c differs e long 
     let call : ElementCall = MacVerify alg input mac in
     let row = passed call (length old) needed e in
     let result : Result ℕ NotComputed = Err (Refused InvalidSignature) in
-    let same : part ++ drop needed old ≡ old = ap₂ (λ (p q : List ℕ). p ++ q) (none_of part (size ∙ row.1)) (ap (λ n. drop n old) row.1) in
-    by_reply held handle call old (part ++ drop needed old) result (λ key. false ≡ agrees_by call key.bytes) differs (decided_none _ _ _ row.0 refl)
+    let same : part ++ drop needed old ≡ old = ap₂ (λ (p q : List ℕ). p ++ q) (nil_from_length part (size ∙ row.1)) (ap (λ n. drop n old) row.1) in
+    by_reply held handle call old (part ++ drop needed old) result (λ key. false ≡ agrees_by call key.bytes) differs (decided _ None _ _ row.0 refl)
     (λ key k.
     let reply : refusal InvalidSignature ≡ reply_to call result key.bytes (length old) =
     ap (λ b. if b then done else refusal InvalidSignature) k ∙ sym (passed_before call key.bytes (length old) row.0 (long key.bytes)) in

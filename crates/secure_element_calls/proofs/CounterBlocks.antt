@@ -1,17 +1,13 @@
 -- Counter blocks that are enciphered each by itself.
-use Rattle.std.proofs.Common.{List, [], ap, ap₂, arith, drop, length, map, refl, suc, sym, take, zero, ℕ, ◌%◌, ◌*◌, ◌++◌, ◌+◌, ◌/◌, ◌<◌, ◌^◌, ◌∙◌, ◌∷◌, ◌≡◌}
+use Rattle.std.proofs.Common.{List, [], ap, ap₂, arith, drop, length, map, suc, sym, take, zero, ℕ, ◌%◌, ◌*◌, ◌++◌, ◌+◌, ◌/◌, ◌<◌, ◌^◌, ◌∙◌, ◌∷◌, ◌≡◌}
 use Rattle.secure_element_calls.proofs.Common.{blocks, counter_block, counter_block_is, drop-append-le, ecb_encrypt, joined, key_stream, key_stream_next, length-number_block, map-append, number_block, number_of_block, take-append-le}
-use Rattle.std.proofs.lemmas.List.{append-nil, length-append, length-drop, take_all}
+use Rattle.std.proofs.lemmas.List.{append-nil, length-append, length-drop, nil_from_length, take_all}
 use Rattle.std.proofs.lemmas.Grind.{flat_map-append}
-
-none_left : (xs : List ℕ) → length xs ≡ 0 → xs ≡ []
-none_left [] e = refl
-none_left (x ∷ xs) e = absurd (omega arith)
 
 -- one more block
 blocks_more : (n : ℕ) (xs b : List ℕ) → length xs ≡ 16 * n → length b ≡ 16 → blocks (suc n) (xs ++ b) ≡ blocks n xs ++ b ∷ []
 unfolding blocks
-blocks_more zero xs b e f = ap (λ l. take 16 (l ++ b) ∷ []) (none_left xs (omega arith)) ∙ ap (λ l. l ∷ []) (take_all 16 b (omega arith))
+blocks_more zero xs b e f = ap (λ l. take 16 (l ++ b) ∷ []) (nil_from_length xs (omega arith)) ∙ ap (λ l. l ∷ []) (take_all 16 b (omega arith))
 blocks_more (suc n) xs b e f =
     ap₂ (λ (p : List ℕ) (q : List (List ℕ)). p ∷ q) (take-append-le 16 xs b (omega arith))
     (ap (blocks (suc n)) (drop-append-le 16 xs b (omega arith)) ∙ blocks_more n (drop 16 xs) b (omega (arith, length-drop 16 xs)) f)

@@ -15,15 +15,10 @@ abbrev found : Service → ℕ → Option Key
 found service id = map.get service.store.keys id
 
 pub replies_are : RepliesAreTheModels
-replies_are service caller id room (MacCompute alg input) drawn =
-    one_reply (first_row (key_rows (MacCompute alg input) (found service id))) (replies (element_reply (MacCompute alg input) (bytes_of (found service id)) room))
-replies_are service caller id room (MacVerify alg input mac) drawn =
-    one_reply (first_row (key_rows (MacVerify alg input mac) (found service id))) (replies (element_reply (MacVerify alg input mac) (bytes_of (found service id)) room))
 replies_are service caller id room (CtrEncrypt iv input) drawn =
     one_reply (first_row (key_rows (CtrEncrypt iv input) (found service id))) (encrypted Ctr (next_random service caller 16) (bytes_of (found service id)) input.now room)
     ∙ ap (λ vector. reply_unless (first_row (key_rows (CtrEncrypt iv input) (found service id))) (encrypted Ctr vector (bytes_of (found service id)) input.now room).reply) (sym drawn)
-replies_are service caller id room (CtrDecrypt input) drawn =
-    one_reply (first_row (key_rows (CtrDecrypt input) (found service id))) (replies (element_reply (CtrDecrypt input) (bytes_of (found service id)) room))
+replies_are service caller id room call drawn = one_reply (first_row (key_rows call (found service id))) (replies (element_reply call (bytes_of (found service id)) room))
 
 -- no row of two tables holds
 neither : (xs ys : Rows) → first_row (xs ++ ys) ≡ None → (first_row xs ≡ None) × (first_row ys ≡ None)
@@ -74,10 +69,8 @@ of_call service caller id room (CtrDecrypt input) key rows =
     (of_reply (first_row (rows_before (CtrDecrypt input) room)) (plain_or_zeros (length input.now - 16) (deciphered Ctr key_bytes (take 16 input.now) (drop 16 input.now))) rows refl)
 
 computes_with : (service : Service) (id room : ℕ) (call : ElementCall) → option_and_then (map.get service.store.keys) (computed_with (model_call call id room)) ≡ found service id
-computes_with service id room (MacCompute alg input) = refl
 computes_with service id room (MacVerify alg input mac) = refl
-computes_with service id room (CtrEncrypt iv input) = refl
-computes_with service id room (CtrDecrypt input) = refl
+computes_with service id room _ = refl
 
 pub asks : AsksDevice
 asks service caller id room call opaque none =

@@ -25,31 +25,20 @@ needed_is n None = refl
 needed_is n (Some text) = refl
 
 -- a decryption that no row refuses
-pub decrypted_buffer : (mode : Mode) (key bytes input old iv cipher new : List ℕ) (needed : ℕ) →
-    Ok needed ≡ unless (first_row (decrypt_rows mode (length input) (length old))) (length input - iv_length mode) →
-    needed ≤ length old → iv ≡ take (iv_length mode) input → cipher ≡ drop (iv_length mode) input → bytes ≡ key →
-    new ≡ buffer_after (take needed old) (plain_or_zeros (length cipher) (deciphered mode bytes iv cipher)) →
-    new ++ drop needed old ≡ buffer_after old (decrypted_reply mode key input (length old))
-decrypted_buffer mode key bytes input old iv cipher new needed passed fits vector rest same h =
-    let both = unless-ok _ (length input - iv_length mode) needed (sym passed) in
-    let whole = plain_or_zeros (length input - iv_length mode) (deciphered mode key (take (iv_length mode) input) (drop (iv_length mode) input)) in
-    let text = plain_or_zeros (length cipher) (deciphered mode bytes iv cipher) in
-    let count : length cipher ≡ length input - iv_length mode = ap length rest ∙ length-drop (iv_length mode) input in
-    let reply : text ≡ whole = λ i. plain_or_zeros (count i) (deciphered mode (same i) (vector i) (rest i)) in
-    ap (λ l. l ++ drop needed old) h
-    ∙ front_written old needed text (needed_is (length cipher) (deciphered mode bytes iv cipher) ∙ count ∙ both.1) fits
-    ∙ ap (buffer_after old) (reply ∙ ap (λ o. reply_unless o whole) (sym both.0))
+module _ (mode : Mode) (key bytes input iv cipher : List ℕ) (room needed : ℕ) (passed : Ok needed ≡ unless (first_row (decrypt_rows mode (length input) room)) (length input - iv_length mode))
+    (vector : iv ≡ take (iv_length mode) input) (rest : cipher ≡ drop (iv_length mode) input) (same : bytes ≡ key) where
+  pub decrypted_is : plain_or_zeros (length cipher) (deciphered mode bytes iv cipher) ≡ decrypted_reply mode key input room
+  decrypted_is =
+      (λ i. plain_or_zeros ((ap length rest ∙ length-drop (iv_length mode) input) i) (deciphered mode (same i) (vector i) (rest i)))
+      ∙ ap (λ o. reply_unless o (plain_or_zeros (length input - iv_length mode) (deciphered mode key (take (iv_length mode) input) (drop (iv_length mode) input)))) (sym (unless-ok _ (length input - iv_length mode) needed (sym passed)).0)
 
-pub decrypted_answer : (mode : Mode) (key bytes input iv cipher : List ℕ) (room needed : ℕ) (r : Result ℕ Status) →
-    Ok needed ≡ unless (first_row (decrypt_rows mode (length input) room)) (length input - iv_length mode) →
-    iv ≡ take (iv_length mode) input → cipher ≡ drop (iv_length mode) input → bytes ≡ key →
-    AnswersOrSpoils r (plain_or_zeros (length cipher) (deciphered mode bytes iv cipher)) → AnswersOrSpoils r (decrypted_reply mode key input room)
-decrypted_answer mode key bytes input iv cipher room needed r passed vector rest same h =
-    let both = unless-ok _ (length input - iv_length mode) needed (sym passed) in
-    let whole = plain_or_zeros (length input - iv_length mode) (deciphered mode key (take (iv_length mode) input) (drop (iv_length mode) input)) in
-    let count : length cipher ≡ length input - iv_length mode = ap length rest ∙ length-drop (iv_length mode) input in
-    let reply : plain_or_zeros (length cipher) (deciphered mode bytes iv cipher) ≡ whole = λ i. plain_or_zeros (count i) (deciphered mode (same i) (vector i) (rest i)) in
-    subst (λ (x : Reply). AnswersOrSpoils r x) (reply ∙ ap (λ o. reply_unless o whole) (sym both.0)) h
+  pub decrypted_buffer : (old new : List ℕ) → room ≡ length old → needed ≤ room → new ≡ buffer_after (take needed old) (plain_or_zeros (length cipher) (deciphered mode bytes iv cipher)) →
+      new ++ drop needed old ≡ buffer_after old (decrypted_reply mode key input room)
+  decrypted_buffer old new size fits h =
+      ap (λ l. l ++ drop needed old) h
+      ∙ front_written old needed (plain_or_zeros (length cipher) (deciphered mode bytes iv cipher))
+      (needed_is (length cipher) (deciphered mode bytes iv cipher) ∙ ap length rest ∙ length-drop (iv_length mode) input ∙ (unless-ok _ (length input - iv_length mode) needed (sym passed)).1) (omega (arith, fits, size))
+      ∙ ap (buffer_after old) decrypted_is
 
 -- an encryption that no row refuses
 

@@ -1,6 +1,6 @@
 -- What calls with a key draw.
 use Rattle.std.proofs.Common.{Bool, List, None, Option, Some, arith, length, refl, true, ℕ, ◌++◌, ◌+◌, ◌≡◌, ◌≤◌}
-use Rattle.single_part.proofs.Common.{AeadDecrypt, AeadEncrypt, CbcNoPadding, CbcPkcs7, Cipher, CipherDecrypt, CipherEncrypt, Class, Computed, Ctr, DrawsAVector, DrawsOnSuccess, EcbNoPadding, Export, Key, MacCompute, MacVerify, Mode, RandomStream, Reply, Status, Success, bytes_of, cipher_usage, computed_unless, drawn_from, enciphered, encrypt_rows, first_row, given, is_ctr, iv_length, mode_of, replies, use_rows, words_used}
+use Rattle.single_part.proofs.Common.{Cipher, CipherEncrypt, Class, Computed, Ctr, DrawsAVector, DrawsOnSuccess, Export, Key, Mode, RandomStream, Reply, Status, Success, bytes_of, cipher_usage, computed_unless, drawn_from, enciphered, encrypt_rows, first_row, given, is_ctr, iv_length, mode_of, replies, use_rows, words_used}
 use Rattle.std.specs.FinMap as map
 use Rattle.store_model.proofs.Tables.{refused_by}
 
@@ -10,9 +10,7 @@ draws_none stream = let words : stream.place ≡ stream.place + words_used 0 = o
 
 vector_within : (mode : Mode) → iv_length mode ≤ 16
 vector_within Ctr = omega arith
-vector_within CbcNoPadding = omega arith
-vector_within CbcPkcs7 = omega arith
-vector_within EcbNoPadding = omega arith
+vector_within _ = omega arith
 
 one_vector : (o : Option Status) (mode : Mode) (reply : Reply) → (computed_unless o (record { reply = reply; drawn = iv_length mode })).drawn ≤ 16
 one_vector None mode reply = vector_within mode
@@ -22,12 +20,7 @@ pub few : DrawsAVector
 few (CipherEncrypt alg input) key random room =
     let vector : List ℕ = random (iv_length (mode_of alg.0)) in
     one_vector (first_row (encrypt_rows (mode_of alg.0) (length input.now) room)) (mode_of alg.0) (given (vector ++ enciphered (mode_of alg.0) key vector input.now))
-few Export key random room = omega arith
-few (MacCompute alg input) key random room = omega arith
-few (MacVerify alg input mac) key random room = omega arith
-few (CipherDecrypt alg input) key random room = omega arith
-few (AeadEncrypt alg nonce ad input) key random room = omega arith
-few (AeadDecrypt alg nonce ad input) key random room = omega arith
+few _ key random room = omega arith
 
 -- no row answers SUCCESS
 
@@ -65,8 +58,4 @@ exact store caller random (CipherEncrypt alg input) id room =
     (vector ++ enciphered mode (bytes_of found) vector input.now) (iv_length mode)
     (use_refuses (is_ctr mode) Cipher (cipher_usage true) alg.0 found) (encrypt_refuses mode (length input.now) room)
 exact store caller random Export id room = (λ is. refl, λ is. refl)
-exact store caller random (MacCompute alg input) id room = draws_nothing _ _
-exact store caller random (MacVerify alg input mac) id room = draws_nothing _ _
-exact store caller random (CipherDecrypt alg input) id room = draws_nothing _ _
-exact store caller random (AeadEncrypt alg nonce ad input) id room = draws_nothing _ _
-exact store caller random (AeadDecrypt alg nonce ad input) id room = draws_nothing _ _
+exact store caller random _ id room = draws_nothing _ _

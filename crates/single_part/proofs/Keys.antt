@@ -1,16 +1,11 @@
 -- Which key a call in one part reads.
 
 use Rattle.std.proofs.Common.{refl}
-use Rattle.single_part.proofs.Common.{AeadDecrypt, AeadEncrypt, CipherDecrypt, CipherEncrypt, Compare, Compute, Export, HashCallsRead, KeyedCallsRead, MacCompute, MacVerify}
+use Rattle.single_part.proofs.Common.{Compare, Compute, Export, HashCallsRead, KeyedCallsRead}
 
 pub keyed : KeyedCallsRead
 keyed service caller Export id room = (refl, refl)
-keyed service caller (MacCompute alg input) id room = (refl, refl)
-keyed service caller (MacVerify alg input mac) id room = (refl, refl)
-keyed service caller (CipherEncrypt alg input) id room = (refl, refl)
-keyed service caller (CipherDecrypt alg input) id room = (refl, refl)
-keyed service caller (AeadEncrypt alg nonce ad input) id room = (refl, refl)
-keyed service caller (AeadDecrypt alg nonce ad input) id room = (refl, refl)
+keyed service caller _ id room = (refl, refl)
 
 pub hashes : HashCallsRead
 hashes service caller (Compute alg input) room = (refl, refl)

@@ -51,11 +51,7 @@ module _ {X : Type 0} where
   grown (Some v) n top e h = absurd (omega (arith, e, h))
 
   pub len_at_most : (m : FinMap nat_cmp X) (k : ℕ) (v : X) → len (insert m k v) ≤ len m + 1
-  len_at_most m k v = at_most (is_some (get m k)) (len m) (len-insert nat_cmp_total m k v)
-    where
-      at_most : (b : Bool) (n : ℕ) → len (insert m k v) ≡ cond b n (n + 1) → len (insert m k v) ≤ n + 1
-      at_most true n e = omega (arith, e)
-      at_most false n e = omega (arith, e)
+  len_at_most m k v = let e = len-insert nat_cmp_total m k v in grind arith
 
   -- an insertion that lengthens the map as far as can be brings a new key
   pub was_new : (m : FinMap nat_cmp X) (k : ℕ) (v : X) (top : ℕ) → len (insert m k v) ≡ top + 1 → len m ≤ top → (get m k ≡ None) × (len m ≡ top)

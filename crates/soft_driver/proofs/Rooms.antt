@@ -1,5 +1,5 @@
 -- The list of held keys and its map.
-use Rattle.std.proofs.Common.{All, Bool, IfSome, List, None, Option, Some, [], ap, arith, cond, false, find, get_or, length, ltb, map, refl, replicate, slice_get, subst, suc, sym, take, true, zero, ℕ, ◌++◌, ◌+◌, ◌-◌, ◌<◌, ◌==◌, ◌∙◌, ◌∷◌, ◌≡◌, ◌≤◌}
+use Rattle.std.proofs.Common.{All, Bool, IfSome, List, None, Option, Some, [], ap, arith, cond, eq-eqb, false, find, get_or, length, ltb, map, ne_eqb, refl, replicate, slice_get, subst, suc, sym, take, true, zero, ℕ, ◌++◌, ◌+◌, ◌-◌, ◌<◌, ◌==◌, ◌∙◌, ◌∷◌, ◌≡◌, ◌≤◌}
 use Rattle.soft_driver.proofs.Common.{AreSized, Buffer, Held, HeldKey, HeldKeys, IsClear, IsKeyRoom, IsSized, IsSomeKey, buffer_of, bytes_of, held_key, key_held, keys_of, nat_cmp_total, nat_tests, no_keys, with_held_key, without_key}
 use Rattle.std.specs.Prelude.{⊤}
 use Rattle.std.specs.Option.{is_some, option_map}
@@ -51,22 +51,14 @@ first_new h held e = was_new (keys_of held) h.handle (key_held h) (length held) 
 pub in_map : (held : List Held) (i : ℕ) (d : Held) → finite.len (keys_of held) ≡ length held → i < length held →
     held_key (keys_of held) (get_or held i d).handle ≡ Some (key_held (get_or held i d))
 in_map [] i d e within = absurd (omega (arith, within))
-in_map (h ∷ held) zero d e within = put (keys_of held) h.handle (key_held h) h.handle ∙ same (h.handle == h.handle) (grind (arith, nat_tests))
-  where
-    same : (b : Bool) → b ≡ true → cond b (Some (key_held h)) (held_key (keys_of held) h.handle) ≡ Some (key_held h)
-    same true t = refl
-    same false t = cc
+in_map (h ∷ held) zero d e within = put (keys_of held) h.handle (key_held h) h.handle ∙ ap (λ b. cond b (Some (key_held h)) (held_key (keys_of held) h.handle)) (eq-eqb h.handle h.handle refl)
 in_map (h ∷ held) (suc i) d e within =
     let parts = first_new h held e in
     let later = in_map held i d parts.1 (omega (arith, within)) in
     put (keys_of held) h.handle (key_held h) (get_or held i d).handle
-    ∙ passed ((get_or held i d).handle == h.handle) _ _ (λ t. let same : (get_or held i d).handle ≡ h.handle = grind (arith, nat_tests) in
-    let gone : ◌≡◌ {A = Option HeldKey} (Some (key_held (get_or held i d))) None = sym later ∙ ap (held_key (keys_of held)) same ∙ parts.0 in cc)
+    ∙ ap (λ b. cond b (Some (key_held h)) (held_key (keys_of held) (get_or held i d).handle)) (ne_eqb (get_or held i d).handle h.handle (λ same.
+    let gone : ◌≡◌ {A = Option HeldKey} (Some (key_held (get_or held i d))) None = sym later ∙ ap (held_key (keys_of held)) same ∙ parts.0 in cc))
     ∙ later
-  where
-    passed : (b : Bool) (v : HeldKey) (o : Option HeldKey) → (b ≡ true → ⊥) → cond b (Some v) o ≡ o
-    passed true v o h = absurd (h refl)
-    passed false v o h = refl
 
 -- a key that leaves the list leaves the map
 pub removed : (held : List Held) (i : ℕ) (d : Held) → finite.len (keys_of held) ≡ length held → i < length held →

@@ -1,4 +1,4 @@
-use Rattle.std.proofs.Common.{None, Ok, Some, ap, arith, length, refl, subst, sym, take, ◌++◌, ◌∙◌, ◌≡◌, ◌≤◌}
+use Rattle.std.proofs.Common.{None, Ok, ap, arith, length, refl, subst, sym, take, ◌++◌, ◌∙◌, ◌≡◌, ◌≤◌}
 use Rattle.single_part.proofs.Common.{AnswersLength, Computed, buffer_after, computed_unless, drawn_from, enciphered, encrypt_rows, encrypted, err_from_is_err_and, first_row, given, iv_length, model_mode, next_bytes, unless-err, unless-ok}
 use Rattle.std.proofs.lemmas.List.{length-take}
 use Rattle.single_part.proofs.Ciphering.{vector_fits, sealed_is, sealed_buffer, part_length}
@@ -61,16 +61,11 @@ returns-clause-stream c =
     ∙ ap (λ iv. drawn_from c.args.stream.now (encrypted (model_mode c.args.mode) iv c.args.key.now c.args.input.now (length c.args.out.now)).drawn) (vector c)
 
 -- a refusal of the table
-refused : (c : goal.After-from_residual) → first_row (encrypt_rows (model_mode c.args.mode) (length c.args.input.now) (length c.args.out.now)) ≡ Some c.in_err-needed.field-0.0
-refused c = unless-err _ _ _ (sym c.in_err-needed.ensures.value)
-
-pub returns-in_err-needed-clause-reply : goal.returns-in_err-needed-clause-reply
-returns-in_err-needed-clause-reply c =
+pub returns-in_err-needed : goal.returns-in_err-needed
+returns-in_err-needed c =
     let p = err_from_is_err_and c.from_residual.result c.from_residual.ensures.1 in
-    refused_answer c.from_residual.result _ _ p.0 c.in_err-needed.field-0.0 p.1 p.2 (refused c)
-
-pub returns-in_err-needed-clause-buffer : goal.returns-in_err-needed-clause-buffer
-returns-in_err-needed-clause-buffer c = kept_buffer c.args.out.now _ _ _ (refused c)
-
-pub returns-in_err-needed-clause-stream : goal.returns-in_err-needed-clause-stream
-returns-in_err-needed-clause-stream c = kept_stream c.args.stream.now _ _ _ (refused c)
+    let refused = unless-err _ _ _ (sym c.in_err-needed.ensures.value) in record {
+      reply = refused_answer c.from_residual.result _ _ p.0 c.in_err-needed.field-0.0 p.1 p.2 refused;
+      buffer = kept_buffer c.args.out.now _ _ _ refused;
+      stream = kept_stream c.args.stream.now _ _ _ refused;
+    }

@@ -1,8 +1,5 @@
 use Rattle.single_part.proofs.Draws.{exact, few}
 use Rattle.single_part.proofs.laws.keyed_calls_draw.Goals as goal
 
-pub returns-clause-few : goal.returns-clause-few
-returns-clause-few c = few
-
-pub returns-clause-exact : goal.returns-clause-exact
-returns-clause-exact c = exact
+pub returns : goal.returns
+returns c = record { few = few; exact = exact }
