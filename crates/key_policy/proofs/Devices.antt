@@ -8,12 +8,8 @@ abbrev Last : (a b c d last : Bool) → Option Status
 Last a b c d last = cond a (Some NotSupported) (cond b (Some InvalidArgument) (cond c (Some NotPermitted) (cond d (Some InvalidArgument) (cond last (Some NotSupported) None))))
 
 refused_before : (a b c d opaque : Bool) (status : Status) → Last a b c d (opaque && false) ≡ Some status → Last a b c d (opaque && true) ≡ Some status
-refused_before true b c d opaque status is = is
-refused_before false true c d opaque status is = is
-refused_before false false true d opaque status is = is
-refused_before false false false true opaque status is = is
 refused_before false false false false true status is = cc
-refused_before false false false false false status is = cc
+refused_before a b c d opaque status is = is
 
 -- what refuses a call that the device computes refuses also one that it doesn't
 pub refused_alike : (class : Class) (usage alg : ℕ) (key : Key) (status : Status) → first_row (use_rows true class usage alg (Some key)) ≡ Some status → first_row (use_rows false class usage alg (Some key)) ≡ Some status
@@ -23,5 +19,5 @@ refused_alike class usage alg key status is = refused_before _ _ (not (may_use k
 pub local_alike : (on_device : Bool) (class : Class) (usage alg : ℕ) (key : Key) → is_opaque key.attributes ≡ false →
     first_row (use_rows on_device class usage alg (Some key)) ≡ first_row (use_rows false class usage alg (Some key))
 local_alike on_device class usage alg key local =
-    ap (λ b. first_row (class_rows class alg ++ (not (may_use key.attributes.policy usage alg), NotPermitted) ∷ (not (fits_type alg key.attributes.key_type.0), InvalidArgument) ∷ (b && not on_device, NotSupported) ∷ [])) local
-    ∙ sym (ap (λ b. first_row (class_rows class alg ++ (not (may_use key.attributes.policy usage alg), NotPermitted) ∷ (not (fits_type alg key.attributes.key_type.0), InvalidArgument) ∷ (b && not false, NotSupported) ∷ [])) local)
+    let rows = λ (b on : Bool). first_row (class_rows class alg ++ (not (may_use key.attributes.policy usage alg), NotPermitted) ∷ (not (fits_type alg key.attributes.key_type.0), InvalidArgument) ∷ (b && not on, NotSupported) ∷ []) in
+    ap (λ b. rows b on_device) local ∙ sym (ap (λ b. rows b false) local)

@@ -1,6 +1,4 @@
 mod Common
 pub mod Parsing
 pub mod Devices
-pub mod Exports
-pub mod Derivations
 pub mod Refusals

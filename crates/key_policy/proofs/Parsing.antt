@@ -2,7 +2,7 @@
 use Rattle.std.proofs.Common.{Bool, IfSome, List, None, Option, Some, ap, arith, cond, false, is_some, leb, not, refl, subst, sym, true, ℕ, ◌%◌, ◌&&◌, ◌/◌, ◌==◌, ◌^◌, ◌||◌, ◌∙◌, ◌≡◌, ◌≤◌}
 use Rattle.key_policy.proofs.Common.{Class, algorithm_at, base_of, class_in, class_number, class_of, cmac_base, digest, entry_of, hash_block_length, is_concrete, is_hmac, is_hmac_in, lengths_of, low_byte, mode_of, tag_length_of, whole_mac}
 use Rattle.std.specs.Option.{option_map, option_map_or}
-use Rattle.std.proofs.lemmas.Bool.{and_parts, eqb-true, eq-eqb, leb-true}
+use Rattle.std.proofs.lemmas.Bool.{and_parts, eqb-true, eq-eqb, leb-true, not-true}
 use Rattle.alg_encoding.specs.declared.table.Base.{Base}
 use Rattle.alg_encoding.specs.declared.table.Class.TheVariants as class
 use Rattle.alg_encoding.specs.declared.table.Lengths.{Lengths}
@@ -76,10 +76,8 @@ is_named (Some a) tag number b =
 -- ---- what the tests say
 
 same_bool : (a b : Bool) → same a b ≡ true → a ≡ b
-same_bool true true h = refl
-same_bool true false h = cc
-same_bool false true h = cc
-same_bool false false h = refl
+same_bool true b h = sym h
+same_bool false b h = sym (not-true b h)
 
 same_class : (c d : Class) → (class_number c == class_number d) ≡ true → d ≡ c
 same_class class.Hash class.Hash h = refl
@@ -98,13 +96,7 @@ names_hash alg hash h = by_byte hash (sym (eqb-true (base_of alg % 2 ^ 8) (byte_
   where
     by_byte : (hash : Hash) → byte_of hash ≡ low_byte alg → NamesHash alg hash
     by_byte Sha224 e = record { digest = ap digest e; length = ap hash_length e; block = ap hash_block_length e }
-    by_byte Sha256 e = record { digest = ap digest e; length = ap hash_length e; block = ap hash_block_length e }
-    by_byte Sha384 e = record { digest = ap digest e; length = ap hash_length e; block = ap hash_block_length e }
-    by_byte Sha512 e = record { digest = ap digest e; length = ap hash_length e; block = ap hash_block_length e }
-
-not_true : (x : Bool) → not x ≡ true → x ≡ false
-not_true true h = cc
-not_true false h = refl
+    by_byte hash e = record { digest = ap digest e; length = ap hash_length e; block = ap hash_block_length e }
 
 -- the MAC of an algorithm, by whether that is CMAC
 abbrev mac_if : Bool → (alg : ℕ) (key m : List ℕ) → List ℕ
@@ -116,7 +108,7 @@ whole alg (Hmac hash) key m h =
     let n = names_hash alg hash parts.1 in
     ap (λ (f : List ℕ → List ℕ). hmac f (hashes.block_length hash) key m) n.digest
     ∙ ap (λ (k : ℕ). hmac (digest (low_byte alg)) k key m) n.block
-    ∙ ap (λ t. mac_if t alg key m) (sym (not_true (base_of alg == cmac_base) parts.0))
+    ∙ ap (λ t. mac_if t alg key m) (sym (not-true (base_of alg == cmac_base) parts.0))
 whole alg Cmac key m h = ap (λ t. mac_if t alg key m) (sym h)
 
 cmac_only : (alg : ℕ) (kind : MacKind) → is_kind kind (base_of alg) ≡ true → is_cmac kind ≡ true → base_of alg ≡ cmac_base
@@ -124,10 +116,8 @@ cmac_only alg (Hmac hash) h is = cc
 cmac_only alg Cmac h is = eqb-true (base_of alg) cmac_base h
 
 within : (l : Lengths) (n whole : ℕ) → permits_length l n ≡ true → are_up_to l whole ≡ true → n ≤ whole
-within lengths.NoLength n whole h f = cc
 within (lengths.UpTo full) n whole h f = omega (arith, leb-true n full (and_parts (leb 4 n) (leb n full) h).1, leb-true full whole f)
-within lengths.Ccm n whole h f = cc
-within lengths.Gcm n whole h f = cc
+within l n whole h f = cc
 
 permitted : (l : Lengths) (kind : AeadKind) (n : ℕ) → permits_length l n ≡ true → are_of l kind ≡ true → IsTagLength kind n
 permitted lengths.Ccm Ccm n h f = h
@@ -136,9 +126,7 @@ permitted l kind n h f = cc
 
 is_mode : (alg : ℕ) (mode : Mode) → alg ≡ mode_base mode → NamesMode alg mode
 is_mode alg Ctr e = ap mode_of (sym e)
-is_mode alg CbcNoPadding e = ap mode_of (sym e)
-is_mode alg CbcPkcs7 e = ap mode_of (sym e)
-is_mode alg EcbNoPadding e = ap mode_of (sym e)
+is_mode alg mode e = ap mode_of (sym e)
 
 -- ---- the algorithm of a concrete number
 
@@ -202,11 +190,7 @@ module _ (alg : ℕ) where
 
   row_named : (b : Base) (tag : Option ℕ) → entry_of alg ≡ Some b → (not (has_length b.lengths) || is_some tag) ≡ true → is_named (algorithm_at (base_of alg) tag) tag (base_of alg) b ≡ true
   row_named b (Some n) e h = entry_of-all (λ k r. is_named (algorithm_at k (Some n)) (Some n) k r) alg b (rw (eq-eqb n n refl) refl) e
-  row_named b None e h = without (has_length b.lengths) _ h (entry_of-all (λ k r. has_length r.lengths || is_named (algorithm_at k None) None k r) alg b refl e)
-    where
-      without : (x y : Bool) → (not x || false) ≡ true → (x || y) ≡ true → y ≡ true
-      without true y h k = cc
-      without false y h k = k
+  row_named b None e h = grind (arith, h, entry_of-all (λ k r. has_length r.lengths || is_named (algorithm_at k None) None k r) alg b refl e)
 
   pub parsed : is_concrete alg ≡ true → Parsed alg (algorithm_at (base_of alg) (tag_length_of alg))
   unfolding is_concrete
