@@ -1,4 +1,3 @@
-pub mod Keyed
 pub mod HashStates
 pub mod MacStates
 pub mod Setups

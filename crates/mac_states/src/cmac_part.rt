@@ -1,7 +1,7 @@
 // A CMAC's place in a MAC's state.
 ghost use Rattle.std.specs.Prelude.{◌≡◌, ◌≤◌, ℕ, List, [], ◌++◌, true, IsTrue, take};
 ghost use Rattle.crypto_specs.specs.Prelude.{IsKey, aes_encrypt, cmac};
-ghost use Rattle.mac_states.specs.Keyed.{has_key};
+ghost use Rattle.key_policy.specs.Keys.{is_key};
 
 use cmac_ops::CmacState;
 use key_policy::aes_key;
@@ -12,7 +12,7 @@ use multipart::move_to_front;
 pub struct CmacPart {
     pub(crate) runs: bool,
     state: CmacState,
-    ghost keyed: { runs ≡ true → IsTrue (has_key state) },
+    ghost keyed: { runs ≡ true → IsTrue (is_key state.key) },
 }
 
 impl CmacPart {

@@ -1,18 +1,19 @@
 // A hash in several parts.
-ghost use Rattle.std.specs.Prelude.{◌≡◌, Bool};
+ghost use Rattle.std.specs.Prelude.{◌≡◌, false};
 ghost use Rattle.service_calls.specs.Answers.{plain_reply};
-ghost use Rattle.store_model.specs.Prelude.{Operation, Inactive, is_inactive, HashWork};
-ghost use Rattle.multipart.specs.declared.Phase.TheVariants as phase;
+ghost use Rattle.service_calls.specs.Meanings.{model_hash_step};
+ghost use Rattle.store_model.specs.Prelude.{Operation, Inactive, is_inactive, refusal, HashWork, hash_step};
 ghost use Rattle.mac_states.specs.HashStates.{IsClearHash, IsHashOperation};
-ghost use Rattle.multipart.specs.Turns.{is_active};
+ghost use Rattle.multipart.specs.Turns.{is_active, loses_key};
 ghost use Rattle.mac_states.specs.Setups.{hash_setup};
 
 use crate::running_hash::RunningHash;
 use alg_encoding::Alg;
 use hash_ops::Hash;
 use key_policy::hash_algorithm;
-use multipart::{OperationState, Phase};
+use multipart::{Family, OperationState, Phase, Steps};
 use psa_status::Status;
+use service_calls::{HashStep, Output};
 
 /// A hash in several parts: a setup, any number of updates, and a finish or a verify.
 #[derive(Drop)]
@@ -65,5 +66,39 @@ impl HashOpState {
         self.state.work = RunningHash::new(which);
         self.state.phase = Phase::Active;
         Ok(())
+    }
+}
+
+impl<'a> Family<HashStep<'a>> for HashOpState {
+    ghost Work = { HashWork };
+
+    ghost stands = { IsHashOperation };
+
+    ghost meaning = { λ random w step room. hash_step w (model_hash_step step room) };
+
+    ghost takes = { λ step. false };
+
+    fn lose_key(&mut self) -> Status
+        ensures state { (own : Operation HashWork) → IsHashOperation self.old own → IsHashOperation self.new (loses_key own).operation }
+        ensures reply { (own : Operation HashWork) → IsHashOperation self.old own → refusal result ≡ (loses_key own).reply }
+    {
+        self.state.lose_key()
+    }
+
+    fn takes_random(step: &HashStep<'a>) -> bool {
+        RunningHash::takes_random(step)
+    }
+
+    fn draws(&self, step: &HashStep<'a>, room: usize) -> usize {
+        self.state.draws(step, room)
+    }
+
+    fn step(
+        &mut self,
+        step: HashStep<'a>,
+        random: &[u8; 16],
+        out: &mut [u8],
+    ) -> Result<Output, Status> {
+        self.state.step(step, random, out)
     }
 }

@@ -2,7 +2,6 @@
 #![tactic(auto)]
 
 mod cmac_part;
-mod family;
 mod hash_state;
 mod mac_state;
 mod running_hash;

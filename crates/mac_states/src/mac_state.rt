@@ -1,20 +1,22 @@
 // A MAC in several parts.
-ghost use Rattle.std.specs.Prelude.{◌≡◌, Bool, true, false};
+ghost use Rattle.std.specs.Prelude.{◌≡◌, true, false};
 ghost use Rattle.crypto_specs.specs.Prelude.{IsKey};
 ghost use Rattle.alg_encoding.specs.Encoding.{base_of};
-ghost use Rattle.store_model.specs.Prelude.{cmac_base, Operation, Inactive, is_inactive, MacWork};
+ghost use Rattle.store_model.specs.Prelude.{cmac_base, Operation, Inactive, is_inactive, refusal, MacWork, mac_step};
 ghost use Rattle.service_calls.specs.Answers.{plain_reply};
+ghost use Rattle.service_calls.specs.Meanings.{model_mac_step};
 ghost use Rattle.alg_encoding.specs.declared.table.Class.TheVariants.{Mac};
 ghost use Rattle.key_policy.specs.Names.{IsOfClass};
 ghost use Rattle.mac_states.specs.MacStates.{IsClearMac, IsMacOperation};
-ghost use Rattle.multipart.specs.Turns.{is_active};
+ghost use Rattle.multipart.specs.Turns.{is_active, loses_key};
 ghost use Rattle.mac_states.specs.Setups.{mac_setup};
 
 use crate::running_mac::RunningMac;
 use alg_encoding::Alg;
 use key_policy::mac_algorithm;
-use multipart::{OperationState, Phase};
+use multipart::{Family, OperationState, Phase, Steps};
 use psa_status::Status;
+use service_calls::{MacStep, Output};
 
 /// A MAC in several parts: a setup with a key, any number of updates, and a finish that makes the MAC or verifies one.
 #[derive(Drop)]
@@ -91,5 +93,39 @@ impl MacState {
             plain_reply result ≡ (mac_setup op true alg.0 key.now).reply }
     {
         self.setup(true, key, alg)
+    }
+}
+
+impl<'a> Family<MacStep<'a>> for MacState {
+    ghost Work = { MacWork };
+
+    ghost stands = { IsMacOperation };
+
+    ghost meaning = { λ random w step room. mac_step w (model_mac_step step room) };
+
+    ghost takes = { λ step. false };
+
+    fn lose_key(&mut self) -> Status
+        ensures state { (own : Operation MacWork) → IsMacOperation self.old own → IsMacOperation self.new (loses_key own).operation }
+        ensures reply { (own : Operation MacWork) → IsMacOperation self.old own → refusal result ≡ (loses_key own).reply }
+    {
+        self.state.lose_key()
+    }
+
+    fn takes_random(step: &MacStep<'a>) -> bool {
+        RunningMac::takes_random(step)
+    }
+
+    fn draws(&self, step: &MacStep<'a>, room: usize) -> usize {
+        self.state.draws(step, room)
+    }
+
+    fn step(
+        &mut self,
+        step: MacStep<'a>,
+        random: &[u8; 16],
+        out: &mut [u8],
+    ) -> Result<Output, Status> {
+        self.state.step(step, random, out)
     }
 }

@@ -1,10 +1,11 @@
 // The MAC of a message that comes piece by piece.
-ghost use Rattle.std.specs.Prelude.{◌≡◌, ◌≤◌, ◌++◌, ℕ, Bool, true, IfOk, OnOk, length, take};
+ghost use Rattle.std.specs.Prelude.{◌≡◌, ◌≤◌, ◌++◌, ℕ, Bool, false, true, IfOk, OnOk, length, take};
 ghost use Rattle.std.specs.Result.{result_err};
 ghost use Rattle.psa_status.specs.Rows.{first_row};
 ghost use Rattle.crypto_specs.specs.Prelude.{IsKey};
-ghost use Rattle.store_model.specs.Prelude.{mac_of, tag_bytes, whole_mac, total_rows, MacWork, mac_work, sign_rows, buffer_after, given, reply_unless};
+ghost use Rattle.store_model.specs.Prelude.{mac_of, mac_step, tag_bytes, whole_mac, total_rows, MacWork, mac_work, sign_rows, buffer_after, given, reply_unless};
 ghost use Rattle.store_model.specs.MacOperations.{verify_rows};
+ghost use Rattle.service_calls.specs.Meanings.{model_mac_step};
 ghost use Rattle.key_policy.specs.Names.{NamesMac, is_cmac};
 ghost use Rattle.mac_states.specs.MacStates.{HoldsMac, IsClearRunningMac};
 
@@ -13,8 +14,9 @@ use crate::total::Total;
 use hash_ops::Hash;
 use hmac_ops::HmacState;
 use key_policy::{MacAlgorithm, MacKind};
-use multipart::{give_front, is_front};
+use multipart::{Stepped, Steps, Work, give_front, is_front};
 use psa_status::Status;
+use service_calls::MacStep;
 
 /// A message that is authenticated piece by piece: it stands for its pieces, one after another. Its MAC is made, or
 /// verified.
@@ -48,7 +50,7 @@ impl RunningMac {
         requires { is_cmac mac.kind ≡ true → IsKey key.now }
         ensures { (alg : ℕ) → NamesMac alg mac → HoldsMac self.new (mac_work verifies alg key.now) }
     {
-        self.wipe();
+        self.forget();
         self.length = mac.length;
         self.verifies = verifies;
         match mac.kind {
@@ -134,13 +136,45 @@ impl RunningMac {
             Err(Status::InvalidSignature)
         }
     }
+}
 
-    /// Forgets key and message.
-    pub fn wipe(&mut self)
-        ensures { IsClearRunningMac self.new }
-    {
+impl Work for RunningMac {
+    ghost Said = { MacWork };
+
+    ghost is_clear = { IsClearRunningMac };
+
+    ghost holds = { HoldsMac };
+
+    fn forget(&mut self) {
         self.total = Total::none();
         self.hmac.wipe();
         self.cmac.wipe();
+    }
+}
+
+impl<'a> Steps<MacStep<'a>> for RunningMac {
+    ghost Given = { MacWork };
+
+    ghost has = { HoldsMac };
+
+    ghost meaning = { λ random w step room. mac_step w (model_mac_step step room) };
+
+    ghost takes = { λ step. false };
+
+    fn takes_random(_step: &MacStep<'a>) -> bool {
+        false
+    }
+
+    fn draws(&self, _step: &MacStep<'a>, _room: usize) -> usize {
+        0
+    }
+
+    #[tactic(auto, using(multipart::proofs::Stepping::going_on, multipart::proofs::Stepping::ending))]
+    fn advance(&mut self, step: MacStep<'a>, _random: &[u8; 16], out: &mut [u8]) -> Stepped {
+        match step {
+            MacStep::Update(input) => Stepped::going_on(self.update(input)),
+            MacStep::SignFinish => Stepped::ending_with_bytes(self.sign(out)),
+            MacStep::VerifyFinish(expected) => Stepped::ending(self.verify(expected)),
+        }
     }
 }

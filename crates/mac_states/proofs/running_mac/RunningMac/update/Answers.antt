@@ -1,10 +1,6 @@
-use Rattle.std.proofs.Common.{List, ap, length, length-append, sym, ℕ, ◌++◌, ◌+◌, ◌∙◌, ◌≡◌}
+use Rattle.std.proofs.Common.{arith, length-append}
 use Rattle.mac_states.proofs.Running.{is_cmac, is_hmac, runs_cmac, runs_hmac}
 use Rattle.mac_states.proofs.running_mac.RunningMac.update.Goals as goal
-
--- the total of a longer message
-longer : (m piece : List ℕ) (old new : ℕ) → old ≡ length m → new ≡ old + length piece → new ≡ length (m ++ piece)
-longer m piece old new e f = f ∙ ap (λ n. n + length piece) e ∙ sym (length-append m piece)
 
 pub returns-then-self-clause-holds : goal.returns-then-self-clause-holds
 returns-then-self-clause-holds c = λ w h.
@@ -13,7 +9,7 @@ returns-then-self-clause-holds c = λ w h.
     record {
       tag = h.tag;
       verifies = h.verifies;
-      total = longer w.message c.args.input.now _ _ h.total c.in_ok-add.ensures.sum;
+      total = omega (arith, length-append w.message c.args.input.now, h.total, c.in_ok-add.ensures.sum);
       message = runs_cmac _ _ r.runs (record { whole = one.whole; message = r });
     }
 
@@ -24,6 +20,6 @@ returns-else-self-clause-holds c = λ w h.
     record {
       tag = h.tag;
       verifies = h.verifies;
-      total = longer w.message c.args.input.now _ _ h.total c.in_ok-add.ensures.sum;
+      total = omega (arith, length-append w.message c.args.input.now, h.total, c.in_ok-add.ensures.sum);
       message = runs_hmac _ _ c.if-self.false (record { which = one.which; whole = one.whole; message = r });
     }
