@@ -161,13 +161,10 @@ impl Algorithm {
     pub fn is_hmac(self) -> bool
         ensures { result ≡ is_hmac_in self }
     {
-        matches!(
-            self,
-            Algorithm::Mac(MacAlgorithm {
-                kind: MacKind::Hmac(_),
-                ..
-            })
-        )
+        match self {
+            Algorithm::Mac(mac) => !matches!(mac.kind, MacKind::Cmac),
+            _ => false,
+        }
     }
 }
 

@@ -27,10 +27,7 @@ pub fn iv_length(mode: Mode) -> usize
 pub fn takes_whole_blocks(mode: Mode) -> bool
     ensures { result ≡ takes_whole_blocks (model_mode mode) }
 {
-    match mode {
-        Mode::CbcNoPadding | Mode::EcbNoPadding => true,
-        Mode::Ctr | Mode::CbcPkcs7 => false,
-    }
+    matches!(mode, Mode::CbcNoPadding | Mode::EcbNoPadding)
 }
 
 /// The bytes of the ciphertext of so many bytes.

@@ -18,6 +18,16 @@ pub struct Stepped {
 }
 
 impl Stepped {
+    /// A step after which the operation goes on, whether it is refused or not.
+    pub fn staying(answer: Result<Output, Status>) -> Stepped
+        ensures { result ≡ record { phase = phase.Active; answer = answer } }
+    {
+        Stepped {
+            phase: Phase::Active,
+            answer,
+        }
+    }
+
     /// A step without a result, after which the operation goes on. A refusal puts it in error.
     pub fn going_on(answer: Result<(), Status>) -> Stepped
         ensures phase { result.phase ≡ (if is_ok answer then phase.Active else phase.InError) }
