@@ -1,83 +1,40 @@
--- What is in the grammar is read.
-use Rattle.std.proofs.Common.{List, Ok, Some, [], ap, append_assoc, false, refl, sym, true, ℕ, ◌++◌, ◌∙◌, ◌∷◌, ◌≡◌}
-use Rattle.script_lang.proofs.Common.{AreFields, AreFixed, Field, FieldValue, Fields, Fixed, IsField, IsFixed, IsLine, IsStep, Kind, Places, Read, Shape, cut_of, field_name, field_named, has_field, is_allowed, no_words, parts_at, read_field, read_fields, read_fixed, with_word, words_at}
+-- What is in the grammar is read, and a text that is outside isn't: the answer is its first reason.
+use Rattle.std.proofs.Common.{Bool, Err, List, None, Ok, Option, Result, Some, [], ap, append_assoc, arith, cond, false, inl, inr, le-ltb, length, lt-ltb, nat_lt, not, ok_or, refl, subst, suc, sym, true, ℕ, ◌++◌, ◌+◌, ◌∙◌, ◌∷◌, ◌≡◌, ◌⊎◌}
+use Rattle.script_lang.proofs.Common.{AreBadAfter, AreBadFields, AreBadFixed, AreBadWords, AreFields, AreFixed, AreSteps, BadKey, BadLine, Field, FieldValue, Fields, Fixed, Given, IsBadCommand, IsBadField, IsBadFixed, IsBadValue, IsFault, IsField, IsFixed, IsForm, IsKey, IsLine, IsScript, IsStep, KeyWord, Kind, Line, MissingField, Places, Read, Reason, RepeatedField, ScriptFault, ScriptLine, Shape, UnknownCommand, UnknownField, cut_of, demand, field_name, field_named, field_value, form_of, goes_on, has_field, has_required, is_allowed, is_name, key_at, line_words, lines_at, no_words, nothing_read, parts_at, read_field, read_fields, read_fixed, row_named, script_of, session_of, text_lines, with_call, with_word, words_at}
+use Rattle.std.proofs.lemmas.Bool.{false_from_ne_true}
 use Rattle.std.proofs.lemmas.List.{append-nil}
 use Rattle.script_lang.specs.Steps.{◌>>=◌}
-use Rattle.script_lang.proofs.Texts.{name_again, key_again, handle_again, value_again, session_again}
-use Rattle.script_lang.specs.declared.fields.Field.TheVariants as field
+use Rattle.script_lang.proofs.Ends.{Ends, fails, found, reads}
+use Rattle.script_lang.proofs.Meant.{field_joined, named_read, row_read}
+use Rattle.script_lang.proofs.Named.{name_cut, named_again}
+use Rattle.script_lang.proofs.Texts.{handle_again, handle_ends, key_again, key_ends, name_again, name_means, session_again, session_means, value_again, value_ends}
+use Rattle.script_lang.specs.declared.faults.ScriptFault.TheVariants as faults
 use Rattle.script_lang.specs.declared.commands.Kind.TheVariants as kind
 
--- a field's name is cut before its `=`, and names that field alone
-pub cut_name : (f : Field) (text : List ℕ) → cut_of 61 (field_name f ++ 61 ∷ text) ≡ Some (field_name f, text)
-cut_name field.Type text = refl
-cut_name field.Usage text = refl
-cut_name field.Alg text = refl
-cut_name field.Data text = refl
-cut_name field.Life text = refl
-cut_name field.Id text = refl
-cut_name field.Bits text = refl
-cut_name field.Room text = refl
-cut_name field.Hash text = refl
-cut_name field.Mac text = refl
-cut_name field.Nonce text = refl
-cut_name field.Ad text = refl
-cut_name field.Iv text = refl
-cut_name field.Tag text = refl
-cut_name field.AdLength text = refl
-cut_name field.PlainLength text = refl
-cut_name field.Capacity text = refl
-cut_name field.Value text = refl
-cut_name field.Length text = refl
-cut_name field.Step text = refl
+-- IN THE GRAMMAR
 
-pub field_again : (f : Field) → field_named (field_name f) ≡ Some f
-field_again field.Type = refl
-field_again field.Usage = refl
-field_again field.Alg = refl
-field_again field.Data = refl
-field_again field.Life = refl
-field_again field.Id = refl
-field_again field.Bits = refl
-field_again field.Room = refl
-field_again field.Hash = refl
-field_again field.Mac = refl
-field_again field.Nonce = refl
-field_again field.Ad = refl
-field_again field.Iv = refl
-field_again field.Tag = refl
-field_again field.AdLength = refl
-field_again field.PlainLength = refl
-field_again field.Capacity = refl
-field_again field.Value = refl
-field_again field.Length = refl
-field_again field.Step = refl
-
-pub one_again : (row : Shape) (done : Fields) (w : List ℕ) (f : Field × FieldValue) → IsField w f → is_allowed row f.0 ≡ true → has_field done f.0 ≡ false → read_field row done w ≡ Ok f
+field_again : (row : Shape) (done : Fields) (w : List ℕ) (f : Field × FieldValue) → IsField w f → is_allowed row f.0 ≡ true → has_field done f.0 ≡ false → read_field row done w ≡ Ok f
 unfolding read_field
-one_again row done w f p allowed new = rw (p.1, cut_name f.0 p.0, field_again f.0, allowed, new, value_again f.0 p.0 f.1 p.2) refl
+field_again row done w f p allowed new = rw (name_cut w f.0 p.0 p.1, named_again f.0, allowed, new, value_again f.0 p.0 f.1 p.2) refl
 
 fields_again : (row : Shape) (done : Fields) (ws : List (List ℕ)) (fs : Fields) → AreFields row done ws fs → read_fields row done ws ≡ Ok (done ++ fs)
 unfolding read_fields
 fields_again row done [] [] h = ap Ok (sym (append-nil done))
-fields_again row done (w ∷ ws) (f ∷ fs) h =
-    ap (λ r. r >>= λ f. read_fields row (done ++ f ∷ []) ws) (one_again row done w f h.0 h.1 h.2) ∙ fields_again row (done ++ f ∷ []) ws fs h.3 ∙ ap Ok (append_assoc done (f ∷ []) fs)
-fields_again row done [] (f ∷ fs) h = absurd h
-fields_again row done (w ∷ ws) [] h = absurd h
+fields_again row done (w ∷ ws) (f ∷ fs) h = rw (field_again row done w f h.0 h.1 h.2, fields_again row (done ++ f ∷ []) ws fs h.3) (ap Ok (append_assoc done (f ∷ []) fs))
+fields_again row done ws fs h = absurd h
 
-pub word_again : (places : Places) (k : Kind) (fixed : Fixed) (w : List ℕ) (next : Fixed) → IsFixed places k fixed w next → with_word places k fixed w ≡ Ok next
+word_again : (places : Places) (k : Kind) (fixed : Fixed) (w : List ℕ) (next : Fixed) → IsFixed places k fixed w next → with_word places k fixed w ≡ Ok next
 unfolding with_word
 word_again places kind.Name fixed w next h = rw (name_again w h.0) (ap Ok h.1)
 word_again places kind.Key fixed w next h = rw (key_again places w h.0 h.1) (ap Ok h.2)
 word_again places kind.Handle fixed w next h = rw (handle_again w h.0 h.1) (ap Ok h.2)
 
-pub fixed_again : (places : Places) (ks : List Kind) (fixed : Fixed) (front rest : List (List ℕ)) (last : Fixed) → AreFixed places ks fixed front last →
+fixed_again : (places : Places) (ks : List Kind) (fixed : Fixed) (front rest : List (List ℕ)) (last : Fixed) → AreFixed places ks fixed front last →
     read_fixed places ks fixed (front ++ rest) ≡ Ok (last, rest)
 unfolding read_fixed
 fixed_again places [] fixed [] rest last h = ap (λ f. Ok (f, rest)) h
-fixed_again places (k ∷ ks) fixed (w ∷ ws) rest last h =
-    ap (λ r. r >>= λ next. read_fixed places ks next (ws ++ rest)) (word_again places k fixed w h.0 h.1) ∙ fixed_again places ks h.0 ws rest last h.2
-fixed_again places [] fixed (w ∷ ws) rest last h = absurd h
-fixed_again places (k ∷ ks) fixed [] rest last h = absurd h
+fixed_again places (k ∷ ks) fixed (w ∷ ws) rest last h = rw (word_again places k fixed w h.0 h.1) (fixed_again places ks h.0 ws rest last h.2)
+fixed_again places ks fixed front rest last h = absurd h
 
 words_again : (read next : Read) (ws : List (List ℕ)) → IsLine read ws next → words_at read ws ≡ Ok next
 unfolding words_at parts_at
@@ -92,7 +49,117 @@ words_again read next ws l =
       l.after,
     ) refl
 
-pub line_again : (read next : Read) (ws : List (List ℕ)) → IsStep read ws next → words_at read ws ≡ Ok next
+line_again : (read next : Read) (ws : List (List ℕ)) → IsStep read ws next → words_at read ws ≡ Ok next
 unfolding words_at
 line_again read next [] h = ap Ok h
 line_again read next (w ∷ ws) h = words_again read next (w ∷ ws) h
+
+lines_again : (n : ℕ) (read : Read) (texts : List (List ℕ)) (last : Read) → AreSteps read texts last → lines_at n read texts ≡ Ok last.lines
+unfolding lines_at
+lines_again n read [] last h = ap (λ (r : Read). Ok r.lines) h
+lines_again n read (text ∷ texts) last h = rw (line_again read h.0 (line_words text) h.1) (lines_again (n + 1) h.0 texts last h.2)
+
+pub script_again : (text : List ℕ) (calls : List ScriptLine) → IsScript text calls → script_of text ≡ Ok calls
+unfolding script_of
+script_again text calls s =
+    rw (le-ltb 4194304 (length text) s.short, le-ltb 20000 (length (text_lines text)) s.few) (lines_again 1 nothing_read (text_lines text) s.last s.steps ∙ ap Ok s.are_calls)
+
+-- OUTSIDE IT
+
+no_such : {X : Type 0} (o : Option X) → ((x : X) → o ≡ Some x → ⊥) → o ≡ None
+no_such None never = refl
+no_such (Some x) never = absurd (never x refl)
+
+-- what can only be refused for one reason
+refused : {A : Type 0} {Good : A → Type 0} {More : Reason → Type 0} {x : Result A Reason} {r : Reason} → Ends Good (λ e. (e ≡ r) × More e) x → ((v : A) → Good v → ⊥) → x ≡ Err r
+refused (reads {x = v} good) never = absurd (never v good)
+refused (fails bad) never = ap Err bad.0
+
+key_unread : (places : Places) (word : List ℕ) (r : Reason) → IsBadFixed places kind.Key word r → key_at places word ≡ Err r
+unfolding key_at
+key_unread places word r (inl h) = go (key_ends places word) ∙ ap Err (sym h.0)
+  where
+    go : {x : Result KeyWord Reason} → Ends (IsKey places word) (IsBadFixed places kind.Key word) x → x ≡ Err BadKey
+    go (reads {x = key} is) = absurd (h.1 places key is)
+    go (fails (inl bad)) = ap Err bad.0
+    go (fails (inr bad)) = absurd (h.1 (λ name. Some 0) (Line 0) (subst (λ w. IsKey (λ name. Some 0) w (Line 0)) (sym bad.1.1) (refl, bad.1.2, refl)))
+key_unread places word r (inr h) = rw (h.1.1, name_again h.1.0 h.1.2, h.1.3, h.0) refl
+
+word_unread : (places : Places) (k : Kind) (fixed : Fixed) (w : List ℕ) (r : Reason) → IsBadFixed places k w r → with_word places k fixed w ≡ Err r
+unfolding with_word
+word_unread places kind.Name fixed w r h = rw (false_from_ne_true (is_name w) (λ t. h.1 (name_means w t)), h.0) refl
+word_unread places kind.Key fixed w r h = rw (key_unread places w r h) refl
+word_unread places kind.Handle fixed w r h = rw (refused (handle_ends w) h.1, h.0) refl
+
+fixed_unread : (places : Places) (ks : List Kind) (fixed : Fixed) (ws : List (List ℕ)) (r : Reason) → AreBadFixed places ks fixed ws r → read_fixed places ks fixed ws ≡ Err r
+unfolding read_fixed
+fixed_unread places [] fixed ws r h = absurd h
+fixed_unread places (k ∷ ks) fixed [] r h = ap Err (sym h)
+fixed_unread places (k ∷ ks) fixed (w ∷ ws) r (inl h) = rw (word_unread places k fixed w r h) refl
+fixed_unread places (k ∷ ks) fixed (w ∷ ws) r (inr h) = rw (word_again places k fixed w h.0 h.1) (fixed_unread places ks h.0 ws r h.2)
+
+abbrev if_new : Fields → Field → List ℕ → Result (Field × FieldValue) Reason
+if_new done f text = demand (not (has_field done f)) RepeatedField >>= λ _. field_value f text >>= λ v. Ok (f, v)
+
+abbrev if_allowed : Shape → Fields → Field → List ℕ → Result (Field × FieldValue) Reason
+if_allowed row done f text = demand (is_allowed row f) UnknownField >>= λ _. if_new done f text
+
+field_unread : (row : Shape) (done : Fields) (w : List ℕ) (r : Reason) → IsBadField row done w r → read_field row done w ≡ Err r
+unfolding read_field
+field_unread row done w r (inl h) = by_parts (cut_of 61 w) refl
+  where
+    by_field : (parts : List ℕ × List ℕ) → cut_of 61 w ≡ Some parts → (o : Option Field) → field_named parts.0 ≡ o → (ok_or o UnknownField >>= λ f. if_allowed row done f parts.1) ≡ Err r
+    by_field parts cut None at = ap Err (sym h.0)
+    by_field parts cut (Some f) at = rw (h.1 f parts.1 (field_joined w parts f cut at), h.0) refl
+
+    by_parts : (o : Option (List ℕ × List ℕ)) → cut_of 61 w ≡ o → (ok_or o UnknownField >>= λ parts. ok_or (field_named parts.0) UnknownField >>= λ f. if_allowed row done f parts.1) ≡ Err r
+    by_parts None cut = ap Err (sym h.0)
+    by_parts (Some parts) cut = by_field parts cut (field_named parts.0) refl
+field_unread row done w r (inr h) = rw (name_cut w h.0 h.1 h.2, named_again h.0, h.3) (known h.0 h.1 h.4)
+  where
+    known : (f : Field) (text : List ℕ) → IsBadValue done f text r → if_new done f text ≡ Err r
+    known f text (inl k) = rw (k.1, k.0) refl
+    known f text (inr k) = rw (k.1, refused (value_ends f text) k.2, k.0) refl
+
+-- what is read of fields, where the row's are all there
+abbrev all_read : {A : Type 0} → Shape → (Fields → A) → Result Fields Reason → Result A Reason
+all_read row made x = x >>= λ fs. demand (has_required row fs) MissingField >>= λ _. Ok (made fs)
+
+fields_unread : {A : Type 0} (row : Shape) (made : Fields → A) (done : Fields) (ws : List (List ℕ)) (r : Reason) → AreBadFields row done ws r → all_read row made (read_fields row done ws) ≡ Err r
+unfolding read_fields
+fields_unread row made done [] r h = rw (h.1, h.0) refl
+fields_unread row made done (w ∷ ws) r (inl h) = rw (field_unread row done w r h) refl
+fields_unread row made done (w ∷ ws) r (inr h) = rw (field_again row done w h.0 h.1 h.2 h.3) (fields_unread row made (done ++ h.0 ∷ []) ws r h.4)
+
+parts_unread : (places : Places) (row : Shape) (ws : List (List ℕ)) (r : Reason) →
+    AreBadFixed places row.fixed no_words ws r ⊎ AreBadAfter places row ws r → parts_at places row ws ≡ Err r
+unfolding parts_at
+parts_unread places row ws r (inl h) = rw (fixed_unread places row.fixed no_words ws r h) refl
+parts_unread places row ws r (inr h) =
+    rw (h.joined, fixed_again places row.fixed no_words h.fixed_words h.field_words h.fixed h.are_fixed) (fields_unread row _ [] h.field_words r h.are_bad)
+
+words_unread : (read : Read) (ws : List (List ℕ)) (r : Reason) → AreBadWords read ws r → words_at read ws ≡ Err r
+unfolding words_at
+words_unread read [] r h = absurd h
+words_unread read (w ∷ ws) r (inl h) = rw (no_such (session_of w) (λ s e. h.1 s (session_means w s e)), h.0) refl
+words_unread read (w ∷ []) r (inr h) = rw (session_again w h.0 h.1, h.2) refl
+words_unread read (w ∷ name ∷ ws) r (inr (s, is, inl h)) =
+    rw (session_again w s is, no_such (row_named name) (λ row e. h.1 row (row_read name row e) (named_read name row e)), h.0) refl
+words_unread read (w ∷ name ∷ ws) r (inr (s, is, inr h)) = rw (session_again w s is, sym h.2, h.1, parts_unread (read.places s) h.0 ws r h.3) refl
+
+lines_unread : (n : ℕ) (read last : Read) (before after : List (List ℕ)) (line : List ℕ) (r : Reason) → AreSteps read before last → AreBadWords last (line_words line) r →
+    lines_at n read (before ++ line ∷ after) ≡ Err (BadLine (n + length before) r)
+unfolding lines_at
+lines_unread n read last [] after line r steps bad = let same : n ≡ n + 0 = omega arith in rw (steps, words_unread last (line_words line) r bad) (ap (λ m. Err (BadLine m r)) same)
+lines_unread n read last (text ∷ before) after line r steps bad =
+    let same : n + 1 + length before ≡ n + suc (length before) = omega arith in
+    rw (line_again read steps.0 (line_words text) steps.1) (lines_unread (n + 1) steps.0 last before after line r steps.2 bad ∙ ap (λ m. Err (BadLine m r)) same)
+
+pub fault_again : (text : List ℕ) (fault : ScriptFault) → IsFault text fault → script_of text ≡ Err fault
+unfolding script_of
+fault_again text faults.TooLong h = rw (lt-ltb 4194304 (length text) h) refl
+fault_again text faults.TooManyLines h = rw (le-ltb 4194304 (length text) h.0, lt-ltb 20000 (length (text_lines text)) h.1) refl
+fault_again text (faults.BadLine number r) h =
+    let place : number ≡ 1 + length h.before = omega (arith, h.place) in
+    rw (le-ltb 4194304 (length text) h.short, le-ltb 20000 (length (text_lines text)) h.few, h.joined, place) (lines_unread 1 nothing_read h.read h.before h.after h.line r h.steps h.bad)
+fault_again text faults.Memory h = absurd h

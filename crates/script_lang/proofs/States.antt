@@ -1,8 +1,10 @@
 -- What is known of the sessions, from line to line.
-use Rattle.std.proofs.Common.{All, Bool, IfSome, List, None, Option, Some, [], ap, arith, cond, false, filter, get_or, length, refl, slice_get, slice_set, subst, suc, sym, true, zero, ℕ, ◌++◌, ◌+◌, ◌<◌, ◌==◌, ◌∙◌, ◌∷◌, ◌≡◌, ◌≢◌, ◌≤◌}
-use Rattle.script_lang.proofs.Common.{AreCounted, IsNew, Places, ScriptCall, ScriptLine, count_by-le-length, given_place, length-filter, lines_of, nat_tests, nothing_read, places_in, places_of, read_of, with_call}
+use Rattle.std.proofs.Common.{All, Bool, IfSome, List, None, Option, Some, [], ap, arith, cond, eqb-true, false, get_or, length, length-append, refl, slice_get, slice_set, subst, suc, sym, true, zero, ℕ, ◌++◌, ◌+◌, ◌<◌, ◌==◌, ◌∙◌, ◌∷◌, ◌≡◌, ◌≢◌, ◌≤◌}
+use Rattle.script_lang.proofs.Common.{AreCounted, IsNew, Places, ScriptCall, ScriptLine, count_by-le-length, given_place, length-filter, lines_of, nothing_read, places_in, places_of, read_of, with_call}
 use Rattle.std.proofs.Math.ListN.{length-set}
-use Rattle.std.proofs.lemmas.Option.{slice_get_read}
+use Rattle.std.proofs.lemmas.Bool.{eqb-false}
+use Rattle.std.proofs.lemmas.List.Elements.{filter-append}
+use Rattle.std.proofs.lemmas.Option.{IfSome_then, slice_get_read}
 use Rattle.script_lang.specs.declared.sessions.Session.{Session}
 
 pointwise : {A B : Type 0} (f g : A → B) → ((x : A) → f x ≡ g x) → f ≡ g
@@ -12,10 +14,6 @@ all_at : {X : Type 0} (P : X → Type 0) (xs : List X) (i : ℕ) → All P xs �
 all_at P [] i h = tt
 all_at P (x ∷ xs) zero h = h 0 x (omega arith)
 all_at P (x ∷ xs) (suc i) h = all_at P xs i (λ k d l. h (suc k) d (omega arith))
-
-weaker : {X : Type 0} (P Q : X → Type 0) (o : Option X) → ((x : X) → P x → Q x) → IfSome o P → IfSome o Q
-weaker P Q None f h = tt
-weaker P Q (Some x) f h = f x h
 
 set_same : {X : Type 0} (xs : List X) (i : ℕ) (y : X) → i < length xs → slice_get (slice_set xs i y) i ≡ Some y
 set_same [] i y h = absurd (omega arith)
@@ -29,12 +27,8 @@ set_other (x ∷ xs) zero (suc j) y h = refl
 set_other (x ∷ xs) (suc i) zero y h = refl
 set_other (x ∷ xs) (suc i) (suc j) y h = set_other xs i j y (λ e. h (ap suc e))
 
--- an element that was read stands at its place
-pub found : {X : Type 0} (xs : List X) (i : ℕ) (x : X) → i < length xs → x ≡ get_or xs i x → slice_get xs i ≡ Some x
-found xs i x h e = slice_get_read xs (length xs) i x refl h e
-
 pub places_found : (lines : List ScriptLine) (xs : List Session) (i : ℕ) (x : Session) → i < length xs → x ≡ get_or xs i x → places_of x ≡ (read_of lines xs).places i
-places_found lines xs i x h e = sym (ap places_in (found xs i x h e))
+places_found lines xs i x h e = sym (ap places_in (slice_get_read xs (length xs) i x refl h e))
 
 -- the count that a session keeps
 pub count_found : (lines : List ScriptLine) (xs : List Session) (i : ℕ) (x : Session) → AreCounted lines xs → slice_get xs i ≡ Some x → x.calls ≡ length (lines_of i lines)
@@ -56,22 +50,16 @@ new_read xs h =
 pub new_counted : (xs : List Session) → length xs ≡ 17 → All IsNew xs → AreCounted [] xs
 new_counted xs e h = record {
   seventeen = e;
-  counts = λ s. weaker IsNew (λ session. session.calls ≡ length (lines_of s [])) (slice_get xs s) (λ x n. n.calls) (all_at IsNew xs s h);
+  counts = λ s. IfSome_then (slice_get xs s) (all_at IsNew xs s h) (λ x n. n.calls);
 }
 
-calls_turn : (b : Bool) (s n : ℕ) (x : ScriptLine) (fs gs : List ScriptLine) → length fs ≡ length gs + n →
-    length (cond b (x ∷ fs) fs) ≡ length (cond b (x ∷ gs) gs) + n
-calls_turn true s n x fs gs e = omega arith
-calls_turn false s n x fs gs e = e
+one_more : (b : Bool) (line : ScriptLine) → length (cond b (line ∷ []) []) ≡ cond b 1 0
+one_more true line = refl
+one_more false line = refl
 
-calls_last : (b : Bool) (l : ScriptLine) → length (cond b (l ∷ []) []) ≡ cond b 1 0
-calls_last true l = refl
-calls_last false l = refl
-
-calls_more : (s : ℕ) (lines : List ScriptLine) (l : ScriptLine) → length (lines_of s (lines ++ l ∷ [])) ≡ length (lines_of s lines) + cond (l.session == s) 1 0
-calls_more s [] l = calls_last (l.session == s) l ∙ omega arith
-calls_more s (x ∷ xs) l =
-    calls_turn (x.session == s) s (cond (l.session == s) 1 0) x (filter (λ line. line.session == s) (xs ++ l ∷ [])) (filter (λ line. line.session == s) xs) (calls_more s xs l)
+calls_more : (s : ℕ) (lines : List ScriptLine) (line : ScriptLine) → length (lines_of s (lines ++ line ∷ [])) ≡ length (lines_of s lines) + cond (line.session == s) 1 0
+calls_more s lines line =
+    rw (filter-append (λ (l : ScriptLine). l.session == s) lines (line ∷ []), length-append (lines_of s lines)) (ap (λ n. length (lines_of s lines) + n) (one_more (line.session == s) line))
 
 -- one more call of a session
 pub record IsMore (lines : List ScriptLine) (xs : List Session) (i : ℕ) (old new : Session) (name : Option (List ℕ)) : Type 0 where
@@ -88,21 +76,15 @@ same_names : (new : Session) (n : List ℕ) → places_of (counted_on new) n ≡
 unfolding places_of
 same_names new n = refl
 
-test_same : (a b : ℕ) → (a == b) ≡ true → a ≡ b
-test_same a b h = grind (arith, nat_tests)
-
-test_other : (a b : ℕ) → (a == b) ≡ false → a ≢ b
-test_other a b h = λ e. absurd (grind (arith, nat_tests))
-
 places_turn : (lines : List ScriptLine) (xs : List Session) (i : ℕ) (old new : Session) (name : Option (List ℕ)) → IsMore lines xs i old new name →
     (s : ℕ) (n : List ℕ) (b : Bool) → (s == i) ≡ b →
     places_in (slice_get (slice_set xs i (counted_on new)) s) n ≡ cond b (given_place (places_in (slice_get xs s)) name (length (lines_of i lines))) (places_in (slice_get xs s)) n
 places_turn lines xs i old new name m s n true t =
-    let e = test_same s i t in
+    let e = eqb-true s i t in
     rw (e, set_same xs i (counted_on new) m.within, m.old_is)
     (same_names new n ∙ m.places n ∙ ap (λ k. given_place (places_of old) name k n) (count_found lines xs i old m.counted m.old_is))
 places_turn lines xs i old new name m s n false t =
-    ap (λ o. places_in o n) (set_other xs i s (counted_on new) (test_other s i t))
+    ap (λ o. places_in o n) (set_other xs i s (counted_on new) (eqb-false s i t))
 
 pub more_read : (lines : List ScriptLine) (xs : List Session) (i : ℕ) (old new : Session) (name : Option (List ℕ)) (call : ScriptCall) → IsMore lines xs i old new name →
     read_of (lines ++ record { session = i; call = call } ∷ []) (slice_set xs i (counted_on new)) ≡ with_call (read_of lines xs) i name call
@@ -115,22 +97,21 @@ more_read lines xs i old new name call m =
 counts_turn : (lines : List ScriptLine) (xs : List Session) (i : ℕ) (old new : Session) (name : Option (List ℕ)) (call : ScriptCall) → IsMore lines xs i old new name →
     (s : ℕ) (b : Bool) → (i == s) ≡ b → IfSome (slice_get (slice_set xs i (counted_on new)) s) (λ session. session.calls ≡ length (lines_of s lines) + cond b 1 0)
 counts_turn lines xs i old new name call m s true t =
-    let e : s ≡ i = sym (test_same i s t) in
+    let e : s ≡ i = sym (eqb-true i s t) in
     rw (e, set_same xs i (counted_on new) m.within) (ap (λ k. k + 1) (m.calls ∙ count_found lines xs i old m.counted m.old_is))
 counts_turn lines xs i old new name call m s false t =
-    rw (set_other xs i s (counted_on new) (λ e. test_other i s t (sym e)))
-    (weaker (λ session. session.calls ≡ length (lines_of s lines)) (λ session. session.calls ≡ length (lines_of s lines) + 0) (slice_get xs s) (λ x h. omega (arith, h)) (m.counted.counts s))
+    rw (set_other xs i s (counted_on new) (λ e. eqb-false i s t (sym e)))
+    (IfSome_then (slice_get xs s) (m.counted.counts s) (λ x h. omega (arith, h)))
 
 pub more_counted : (lines : List ScriptLine) (xs : List Session) (i : ℕ) (old new : Session) (name : Option (List ℕ)) (call : ScriptCall) → IsMore lines xs i old new name →
     AreCounted (lines ++ record { session = i; call = call } ∷ []) (slice_set xs i (counted_on new))
 more_counted lines xs i old new name call m = record {
   seventeen = length-set xs i (counted_on new) ∙ m.counted.seventeen;
-  counts = λ s. weaker (λ session. session.calls ≡ length (lines_of s lines) + cond (i == s) 1 0) (λ session. session.calls ≡ length (lines_of s (lines ++ record { session = i; call = call } ∷ [])))
-      (slice_get (slice_set xs i (counted_on new)) s) (λ x h. h ∙ sym (calls_more s lines (record { session = i; call = call }))) (counts_turn lines xs i old new name call m s (i == s) refl);
+  counts = λ s. IfSome_then (slice_get (slice_set xs i (counted_on new)) s) (counts_turn lines xs i old new name call m s (i == s) refl) (λ x h. h ∙ sym (calls_more s lines (record { session = i; call = call })));
 }
 
 pub is_more : (lines : List ScriptLine) (xs : List Session) (i : ℕ) (old new : Session) (name : Option (List ℕ)) → AreCounted lines xs → i ≤ 16 → old ≡ get_or xs i old →
     new.calls ≡ old.calls → ((n : List ℕ) → places_of new n ≡ given_place (places_of old) name old.calls n) → IsMore lines xs i old new name
 is_more lines xs i old new name counted fits at calls places =
     let within : i < length xs = omega (arith, counted.seventeen) in
-    record { counted = counted; within = within; old_is = found xs i old within at; calls = calls; places = places }
+    record { counted = counted; within = within; old_is = slice_get_read xs (length xs) i old refl within at; calls = calls; places = places }

@@ -1,95 +1,60 @@
 -- Numbers, sessions, names, keys and values: what is read of a text is what the grammar says of it.
-use Rattle.std.proofs.Common.{Bool, Err, List, None, Ok, Option, Result, Some, [], ap, arith, cond, false, get_or, length, nat_le, nat_lt, ok_or, option_and_then, option_map, refl, subst, sym, true, ℕ, ◌&&◌, ◌*◌, ◌+◌, ◌-◌, ◌<◌, ◌==◌, ◌^◌, ◌||◌, ◌∙◌, ◌∷◌, ◌≡◌, ◌≤◌}
-use Rattle.script_lang.proofs.Common.{AllPass-from_list_all, BadHandle, BadKey, BadValue, BytesForm, Field, FieldValue, Form, Given, IsForm, IsKey, IsLetter, IsName, IsNameByte, IsNumber, IsOneTo, KeyWord, Line, LongForm, Places, Reason, ShortForm, UnknownName, WordForm, begins_with, decode_of, field_value, form_of, form_value, from_least, handle_at, is_letter, is_name, is_name_byte, key_at, list_all, list_all-from_AllPass, nat_tests, number, number_from, session_of}
+use Rattle.std.proofs.Common.{Bool, Err, List, None, Ok, Option, Result, Some, inl, inr, le-ltb, [], ap, arith, cond, eq-eqb, eqb-true, false, get_or, le-leb, leb-true, length, lt-ltb, ltb-false, ltb-true, nat_le, nat_lt, ne_eqb, ok_or, option_and_then, option_map, refl, subst, sym, true, ℕ, ◌&&◌, ◌*◌, ◌+◌, ◌-◌, ◌<◌, ◌==◌, ◌^◌, ◌||◌, ◌∙◌, ◌∷◌, ◌≡◌, ◌≤◌}
+use Rattle.script_lang.proofs.Common.{AllPass-from_list_all, BadHandle, BadKey, BadValue, BytesForm, Field, FieldValue, Form, Given, IsBadFixed, IsForm, IsKey, IsLetter, IsName, IsNameByte, IsNumber, IsOneTo, KeyWord, Line, LongForm, Places, ShortForm, UnknownName, WordForm, begins_with, decode_of, digit_in, field_value, form_of, form_value, from_least, handle_at, is_letter, is_name, is_name_byte, key_at, list_all, list_all-from_AllPass, nat_tests, number, number_from, session_of}
+use Rattle.std.specs.Bool.{Decides}
 use Rattle.std.specs.Result.{result_ok}
 use Rattle.std.specs.Char.{digit_value}
 use Rattle.std.specs.Fmt.{decimal}
 use Rattle.std.specs.Str.Parse.{AllDigits, digits_value, digits_value_after}
+use Rattle.std.proofs.lemmas.Bool.{and_from, and_parts, both_ways, cond-true, eqb-false, or_parts}
+use Rattle.std.proofs.lemmas.Option.{cond_some, none-some, option_and_then_some, same_Some}
 use Rattle.std.proofs.lemmas.Fmt.{decimal_is_IsNumeral, length-decimal-le, first_decimal, decimal-digits_value, decimal_digit}
 use Rattle.std.proofs.lemmas.Str.Parse.{IsNumeralModel}
 use Rattle.script_lang.proofs.Digits.{if_below, number_is, found}
+use Rattle.script_lang.proofs.Ends.{Ends, asked, fails, reads}
+use Rattle.script_lang.specs.declared.commands.Kind.TheVariants as kind
 use Rattle.script_lang.specs.declared.fields.FieldValue.TheVariants.{Short, Word, Long, Bytes}
-
-abbrev pub some : {X : Type 0} → X → Option X
-some x = Some x
-
-pub some_is : {X : Type 0} (x y : X) → some x ≡ some y → x ≡ y
-some_is x y e = cc
-
-abbrev pub fine : {X : Type 0} → X → Result X Reason
-fine x = Ok x
-
-pub fine_is : {X : Type 0} (x y : X) → fine x ≡ fine y → x ≡ y
-fine_is x y e = cc
 
 -- numbers
 
-from_turn : (base front c : ℕ) (cs : List ℕ) (n : ℕ) (b : Bool) → nat_lt (digit_value c) base ≡ b →
-    ((m : ℕ) → number_from base m cs ≡ Some n → AllDigits base cs × (digits_value_after base m cs ≡ n)) →
-    option_and_then (λ d. number_from base (front * base + d) cs) (cond b (Some (digit_value c)) None) ≡ Some n →
-    AllDigits base (c ∷ cs) × (digits_value_after base front (c ∷ cs) ≡ n)
-from_turn base front c cs n true t ih e =
-    let h = ih (front * base + digit_value c) e in
-    let small : digit_value c < base = grind (arith, nat_tests) in ((small, h.0), h.1)
-from_turn base front c cs n false t ih e = absurd cc
-
 from_some : (base front : ℕ) (cs : List ℕ) (n : ℕ) → number_from base front cs ≡ Some n → AllDigits base cs × (digits_value_after base front cs ≡ n)
 unfolding number_from
-from_some base front [] n e = (tt, some_is front n e)
-from_some base front (c ∷ cs) n e = from_turn base front c cs n (nat_lt (digit_value c) base) refl (λ m. from_some base m cs n) e
-
-digit_small : (c base : ℕ) → digit_value c < base → nat_lt (digit_value c) base ≡ true
-digit_small c base h = below (digit_value c) base h
-  where
-    below : (v b : ℕ) → v < b → nat_lt v b ≡ true
-    below v b h = grind (arith, nat_tests)
+from_some base front [] n e = (tt, same_Some front n e)
+from_some base front (c ∷ cs) n e = option_and_then_some (λ d. number_from base (front * base + d) cs) (digit_in base c) n e (λ d is more.
+    let t = cond_some (nat_lt (digit_value c) base) (digit_value c) d is in
+    let h = from_some base (front * base + d) cs n more in
+    ((ltb-true _ _ t.0, h.0), ap (λ d. digits_value_after base (front * base + d) cs) t.1 ∙ h.1))
 
 from_digits : (base front : ℕ) (cs : List ℕ) → AllDigits base cs → number_from base front cs ≡ Some (digits_value_after base front cs)
 unfolding number_from
 from_digits base front [] h = refl
-from_digits base front (c ∷ cs) h =
-    ap (λ b. option_and_then (λ d. number_from base (front * base + d) cs) (cond b (Some (digit_value c)) None)) (digit_small c base h.0)
-    ∙ from_digits base (front * base + digit_value c) cs h.1
-
-below_ok : (limit n m : ℕ) (b : Bool) → nat_lt m limit ≡ b → cond b (Some m) None ≡ Some n → (m ≡ n) × (n < limit)
-below_ok limit n m true t e = let same : m ≡ n = some_is m n e in (same, subst (λ k. k < limit) same (grind (arith, nat_tests)))
-below_ok limit n m false t e = absurd cc
-
-then_ok : (limit n : ℕ) (o : Option ℕ) → option_and_then (if_below limit) o ≡ Some n → (o ≡ Some n) × (n < limit)
-then_ok limit n None e = absurd cc
-then_ok limit n (Some m) e = let h = below_ok limit n m (nat_lt m limit) refl e in (ap some h.0, h.1)
-
-range_ok : (base most limit : ℕ) (text : List ℕ) (n : ℕ) (b : Bool) → (nat_lt (length text) 1 || nat_lt most (length text)) ≡ b →
-    cond b None (option_and_then (if_below limit) (number_from base 0 text)) ≡ Some n → IsNumber base most limit text n
-range_ok base most limit text n true t e = absurd cc
-range_ok base most limit text n false t e =
-    let h = then_ok limit n (number_from base 0 text) e in
-    let d = from_some base 0 text n h.0 in
-    let r = in_range (length text) most t in ((r.0, d.0), r.1, d.1, h.1)
-  where
-    in_range : (k m : ℕ) → (nat_lt k 1 || nat_lt m k) ≡ false → (0 < k) × (k ≤ m)
-    in_range k m t = grind (arith, nat_tests)
+from_digits base front (c ∷ cs) h = rw (lt-ltb (digit_value c) base h.0) (from_digits base (front * base + digit_value c) cs h.1)
 
 pub number_means : (base most limit : ℕ) (text : List ℕ) (n : ℕ) → number base most limit text ≡ Some n → IsNumber base most limit text n
-number_means base most limit text n e = range_ok base most limit text n (nat_lt (length text) 1 || nat_lt most (length text)) refl e
+number_means base most limit text n e = go (nat_lt (length text) 1 || nat_lt most (length text)) refl e
+  where
+    go : (b : Bool) → (nat_lt (length text) 1 || nat_lt most (length text)) ≡ b →
+        cond b None (option_and_then (if_below limit) (number_from base 0 text)) ≡ Some n → IsNumber base most limit text n
+    go true t f = absurd (none-some n f)
+    go false t f = option_and_then_some (if_below limit) (number_from base 0 text) n f (λ m is below.
+        let d = from_some base 0 text m is in
+        let b = cond_some (nat_lt m limit) m n below in
+        let r = or_parts _ _ t in
+        ((ltb-false _ _ r.0, d.0), ltb-false _ _ r.1, d.1 ∙ b.1, subst (λ k. k < limit) b.1 (ltb-true _ _ b.0)))
 
 pub number_again : (base most limit : ℕ) (text : List ℕ) (n : ℕ) → IsNumber base most limit text n → number base most limit text ≡ Some n
 number_again base most limit text n h =
-    number_is base most limit text (Some n) (omega (arith, h.0.0)) h.1 (sym (from_digits base 0 text h.0.1 ∙ ap some h.2))
+    number_is base most limit text (Some n) (omega (arith, h.0.0)) h.1 (sym (from_digits base 0 text h.0.1 ∙ ap Some h.2))
     ∙ found limit n h.3
 
 -- a least number
 
-least_turn : (least m n : ℕ) (b : Bool) → nat_le least m ≡ b → cond b (Some m) None ≡ Some n → (m ≡ n) × (least ≤ n)
-least_turn least m n true t e = let same : m ≡ n = some_is m n e in (same, subst (λ k. least ≤ k) same (grind (arith, nat_tests)))
-least_turn least m n false t e = absurd cc
-
-from_least_ok : (least n : ℕ) (o : Option ℕ) → from_least least o ≡ Some n → (o ≡ Some n) × (least ≤ n)
-from_least_ok least n None e = absurd cc
-from_least_ok least n (Some m) e = let h = least_turn least m n (nat_le least m) refl e in (ap some h.0, h.1)
+from_least_means : (least n : ℕ) (o : Option ℕ) → from_least least o ≡ Some n → (o ≡ Some n) × (least ≤ n)
+from_least_means least n o e = option_and_then_some _ o n e (λ m is low.
+    let b = cond_some (nat_le least m) m n low in (is ∙ ap Some b.1, subst (λ k. least ≤ k) b.1 (leb-true _ _ b.0)))
 
 from_least_again : (least n : ℕ) → least ≤ n → from_least least (Some n) ≡ Some n
-from_least_again least n h = let t : nat_le least n ≡ true = grind (arith, nat_tests) in ap (λ b. cond b (Some n) None) t
+from_least_again least n h = cond-true (nat_le least n) (Some n) None (le-leb least n h)
 
 -- sessions
 
@@ -98,30 +63,23 @@ own = record { to = λ ds h. h; from = λ ds h. h; same = λ ds h. refl }
 
 not_zero_first : (word : List ℕ) → begins_with 48 word ≡ false → get_or word 0 0 ≡ 48 → length word ≡ 1
 not_zero_first [] h e = absurd (omega arith)
-not_zero_first (c ∷ cs) h e = absurd (clash c h e)
-  where
-    clash : (c : ℕ) → (c == 48) ≡ false → c ≡ 48 → ⊥
-    clash c h e = grind (arith, nat_tests)
-
-session_read : (word : List ℕ) (s : ℕ) (b : Bool) → begins_with 48 word ≡ b →
-    cond b None (from_least 1 (number 10 2 17 word)) ≡ Some s → IsOneTo 16 word s
-session_read word s true t e = absurd cc
-session_read word s false t e =
-    let h = from_least_ok 1 s (number 10 2 17 word) e in
-    let n = number_means 10 2 17 word s h.0 in
-    let fits : digits_value 10 word < 2 ^ 64 = omega (arith, n.2, n.3) in
-    (sym (decimal-digits_value own word n.0.1 n.0.0 (not_zero_first word t) fits) ∙ ap decimal n.2, h.1, omega (arith, n.3))
+not_zero_first (c ∷ cs) h e = absurd (eqb-false c 48 h e)
 
 pub session_means : (word : List ℕ) (s : ℕ) → session_of word ≡ Some s → IsOneTo 16 word s
 unfolding session_of
-session_means word s e = session_read word s (begins_with 48 word) refl e
+session_means word s e = go (begins_with 48 word) refl e
+  where
+    go : (b : Bool) → begins_with 48 word ≡ b → cond b None (from_least 1 (number 10 2 17 word)) ≡ Some s → IsOneTo 16 word s
+    go true t f = absurd (none-some s f)
+    go false t f =
+        let h = from_least_means 1 s (number 10 2 17 word) f in
+        let n = number_means 10 2 17 word s h.0 in
+        let fits : digits_value 10 word < 2 ^ 64 = omega (arith, n.2, n.3) in
+        (sym (decimal-digits_value own word n.0.1 n.0.0 (not_zero_first word t) fits) ∙ ap decimal n.2, h.1, omega (arith, n.3))
 
 first_is_not_zero : (word : List ℕ) → 48 < get_or word 0 0 → begins_with 48 word ≡ false
 first_is_not_zero [] h = refl
-first_is_not_zero (c ∷ cs) h = above c h
-  where
-    above : (c : ℕ) → 48 < c → (c == 48) ≡ false
-    above c h = grind (arith, nat_tests)
+first_is_not_zero (c ∷ cs) h = ne_eqb c 48 (λ e. absurd (omega arith))
 
 pub session_again : (word : List ℕ) (s : ℕ) → IsOneTo 16 word s → session_of word ≡ Some s
 unfolding session_of
@@ -133,77 +91,57 @@ session_again word s h =
 
 -- names
 
-pub and_true : (a b : Bool) → (a && b) ≡ true → (a ≡ true) × (b ≡ true)
-and_true true b e = (refl, e)
-and_true false b e = absurd cc
+letter : (c : ℕ) → Decides (is_letter c) (IsLetter c)
+letter c = (λ e. grind (arith, nat_tests), λ h. grind (arith, nat_tests))
 
-letter_means : (c : ℕ) → is_letter c ≡ true → IsLetter c
-letter_means c e = grind (arith, nat_tests)
-
-letter_again : (c : ℕ) → IsLetter c → is_letter c ≡ true
-letter_again c h = grind (arith, nat_tests)
-
-name_byte_means : (c : ℕ) → is_name_byte c ≡ true → IsNameByte c
-name_byte_means c e = grind (arith, nat_tests)
-
-name_byte_again : (c : ℕ) → IsNameByte c → is_name_byte c ≡ true
-name_byte_again c h = grind (arith, nat_tests)
+name_byte : (c : ℕ) → Decides (is_name_byte c) (IsNameByte c)
+name_byte c = (λ e. grind (arith, nat_tests), λ h. grind (arith, nat_tests))
 
 pub name_means : (word : List ℕ) → is_name word ≡ true → IsName word
 unfolding is_name
 name_means [] e = cc
 name_means (c ∷ cs) e =
-    let h = and_true (is_letter c && nat_le (length cs) 15) (list_all is_name_byte cs) e in
-    let k = and_true (is_letter c) (nat_le (length cs) 15) h.0 in
-    (letter_means c k.0, at_most (length cs) k.1, λ i d l. name_byte_means (get_or cs i d) (AllPass-from_list_all is_name_byte cs h.1 i d l))
-  where
-    at_most : (n : ℕ) → nat_le n 15 ≡ true → n ≤ 15
-    at_most n e = grind (arith, nat_tests)
+    let h = and_parts _ _ e in
+    let k = and_parts _ _ h.0 in
+    ((letter c).0 k.0, leb-true _ _ k.1, λ i d l. (name_byte (get_or cs i d)).0 (AllPass-from_list_all is_name_byte cs h.1 i d l))
 
 pub name_again : (word : List ℕ) → IsName word → is_name word ≡ true
 unfolding is_name
 name_again [] h = absurd h
 name_again (c ∷ cs) h =
-    rw (letter_again c h.0, at_most (length cs) h.1) (list_all-from_AllPass is_name_byte cs (λ i d l. name_byte_again (get_or cs i d) (h.2 i d l)))
-  where
-    at_most : (n : ℕ) → n ≤ 15 → nat_le n 15 ≡ true
-    at_most n h = grind (arith, nat_tests)
+    rw ((letter c).1 h.0, le-leb (length cs) 15 h.1) (list_all-from_AllPass is_name_byte cs (λ i d l. (name_byte (get_or cs i d)).1 (h.2 i d l)))
 
 -- keys
-
-pub ok_or_ok : {X : Type 0} (r : Reason) (o : Option X) (x : X) → ok_or o r ≡ Ok x → o ≡ Some x
-ok_or_ok r (Some y) x e = ap some (fine_is y x e)
-ok_or_ok r None x e = absurd cc
-
-mapped : {X Y : Type 0} (f : X → Y) (o : Option X) (y : Y) → option_map f o ≡ Some y → (x : X) × (o ≡ Some x) × (f x ≡ y)
-mapped f (Some x) y e = (x, refl, some_is (f x) y e)
-mapped f None y e = absurd cc
 
 abbrev pub given : ℕ → KeyWord
 given n = Given (record { 0 = n })
 
-key_turn : (places : Places) (c : ℕ) (cs : List ℕ) (key : KeyWord) (b d : Bool) → (c == 35) ≡ b → (c == 36 && is_name cs) ≡ d →
-    cond b (ok_or (option_map given (number 16 8 (2 ^ 32) cs)) BadKey) (cond d (ok_or (option_map Line (places cs)) UnknownName) (Err BadKey)) ≡ Ok key →
-    IsKey places (c ∷ cs) key
-key_turn places c cs key true d t u e =
-    let m = mapped given (number 16 8 (2 ^ 32) cs) key (ok_or_ok BadKey (option_map given (number 16 8 (2 ^ 32) cs)) key e) in
-    subst (IsKey places (c ∷ cs)) m.2 (same c t, number_means 16 8 (2 ^ 32) cs m.0 m.1)
-  where
-    same : (c : ℕ) → (c == 35) ≡ true → c ≡ 35
-    same c t = grind (arith, nat_tests)
-key_turn places c cs key false true t u e =
-    let m = mapped Line (places cs) key (ok_or_ok UnknownName (option_map Line (places cs)) key e) in
-    let h = and_true (c == 36) (is_name cs) u in
-    subst (IsKey places (c ∷ cs)) m.2 (same c h.0, name_means cs h.1, m.1)
-  where
-    same : (c : ℕ) → (c == 36) ≡ true → c ≡ 36
-    same c t = grind (arith, nat_tests)
-key_turn places c cs key false false t u e = absurd cc
-
-pub key_means : (places : Places) (word : List ℕ) (key : KeyWord) → key_at places word ≡ Ok key → IsKey places word key
+pub key_ends : (places : Places) (word : List ℕ) → Ends (IsKey places word) (IsBadFixed places kind.Key word) (key_at places word)
 unfolding key_at
-key_means places [] key e = absurd cc
-key_means places (c ∷ cs) key e = key_turn places c cs key (c == 35) (c == 36 && is_name cs) refl refl e
+key_ends places [] = fails (inl (refl, λ names key is. is))
+key_ends places (c ∷ cs) = go (c == 35) (c == 36 && is_name cs) refl refl
+  where
+    none : number 16 8 (2 ^ 32) cs ≡ None → c ≡ 35 → (names : Places) (key : KeyWord) → IsKey names (c ∷ cs) key → ⊥
+    none e hash names (Given id) is = none-some id.0 (sym e ∙ number_again 16 8 (2 ^ 32) cs id.0 is.1)
+    none e hash names (Line place) is = absurd (omega (arith, hash, is.0))
+
+    neither : (c == 35) ≡ false → (c == 36 && is_name cs) ≡ false → (names : Places) (key : KeyWord) → IsKey names (c ∷ cs) key → ⊥
+    neither t u names (Given id) is = eqb-false c 35 t is.0
+    neither t u names (Line place) is = both_ways _ u (and_from _ _ (eq-eqb c 36 is.0) (name_again cs is.1))
+
+    by_number : (o : Option ℕ) → number 16 8 (2 ^ 32) cs ≡ o → c ≡ 35 → Ends (IsKey places (c ∷ cs)) (IsBadFixed places kind.Key (c ∷ cs)) (ok_or (option_map given o) BadKey)
+    by_number None e hash = fails (inl (refl, none e hash))
+    by_number (Some n) e hash = reads (hash, number_means 16 8 (2 ^ 32) cs n e)
+
+    by_name : (o : Option ℕ) → places cs ≡ o → (c ≡ 36) × IsName cs → Ends (IsKey places (c ∷ cs)) (IsBadFixed places kind.Key (c ∷ cs)) (ok_or (option_map Line o) UnknownName)
+    by_name None e is = fails (inr (refl, (cs, ap (λ d. d ∷ cs) is.0, is.1, e)))
+    by_name (Some place) e is = reads (is.0, is.1, e)
+
+    go : (b d : Bool) → (c == 35) ≡ b → (c == 36 && is_name cs) ≡ d → Ends (IsKey places (c ∷ cs)) (IsBadFixed places kind.Key (c ∷ cs))
+        (cond b (ok_or (option_map given (number 16 8 (2 ^ 32) cs)) BadKey) (cond d (ok_or (option_map Line (places cs)) UnknownName) (Err BadKey)))
+    go true d t u = by_number (number 16 8 (2 ^ 32) cs) refl (eqb-true c 35 t)
+    go false true t u = let k = and_parts _ _ u in by_name (places cs) refl (eqb-true c 36 k.0, name_means cs k.1)
+    go false false t u = fails (inl (refl, neither t u))
 
 pub key_again : (places : Places) (word : List ℕ) (key : KeyWord) → IsKey places word key → key_at places word ≡ Ok key
 unfolding key_at
@@ -213,52 +151,39 @@ key_again places (c ∷ cs) (Line place) h = rw (h.0, name_again cs h.1, h.2) re
 
 -- handles
 
-handle_turn : (c h : ℕ) (b : Bool) → (nat_le 49 c && nat_le c 52) ≡ b → cond b (fine (c - 48)) (Err BadHandle) ≡ Ok h → IsOneTo 4 (c ∷ []) h
-handle_turn c h true t e =
-    let is : c - 48 ≡ h = fine_is (c - 48) h e in
-    let within = in_range c t in
-    let digit : 48 + h ≡ c = omega (arith, is, within.0) in
-    let small : h < 10 = omega (arith, is, within.1) in
-    (sym (decimal_digit h small ∙ ap (λ d. d ∷ []) digit), omega (arith, is, within.0), omega (arith, is, within.1))
-  where
-    in_range : (c : ℕ) → (nat_le 49 c && nat_le c 52) ≡ true → (49 ≤ c) × (c ≤ 52)
-    in_range c t = grind (arith, nat_tests)
-handle_turn c h false t e = absurd cc
+one_digit : (word : List ℕ) (h : ℕ) → IsOneTo 4 word h → word ≡ (48 + h) ∷ []
+one_digit word h is = is.0 ∙ decimal_digit h (omega (arith, is.2))
 
-pub handle_means : (word : List ℕ) (h : ℕ) → handle_at word ≡ Ok h → IsOneTo 4 word h
-handle_means [] h e = absurd cc
-handle_means (c ∷ []) h e = handle_turn c h (nat_le 49 c && nat_le c 52) refl e
-handle_means (c ∷ d ∷ cs) h e = absurd cc
+pub handle_ends : (word : List ℕ) → Ends (IsOneTo 4 word) (λ e. (e ≡ BadHandle) × ((h : ℕ) → IsOneTo 4 word h → ⊥)) (handle_at word)
+handle_ends [] = fails (refl, λ h is. let e = one_digit [] h is in cc)
+handle_ends (c ∷ []) = go (nat_le 49 c && nat_le c 52) refl
+  where
+    go : (b : Bool) → (nat_le 49 c && nat_le c 52) ≡ b → Ends (IsOneTo 4 (c ∷ [])) (λ e. (e ≡ BadHandle) × ((h : ℕ) → IsOneTo 4 (c ∷ []) h → ⊥)) (cond b (Ok (c - 48)) (Err BadHandle))
+    go true t =
+        let k = and_parts _ _ t in let low = leb-true 49 c k.0 in let high = leb-true c 52 k.1 in let same : 48 + (c - 48) ≡ c = omega arith in
+        reads (sym (decimal_digit (c - 48) (omega arith) ∙ ap (λ d. d ∷ []) same), omega arith, omega arith)
+    go false t = fails (
+      refl,
+      λ h is. let e = one_digit (c ∷ []) h is in let same : c ≡ 48 + h = cc in let low = is.1 in let high = is.2 in
+          both_ways _ t (and_from _ _ (le-leb 49 c (omega arith)) (le-leb c 52 (omega arith))),
+    )
+handle_ends (c ∷ d ∷ cs) = fails (refl, λ h is. let e = one_digit (c ∷ d ∷ cs) h is in cc)
 
 pub handle_again : (word : List ℕ) (h : ℕ) → IsOneTo 4 word h → handle_at word ≡ Ok h
 handle_again word h is =
-    let small : h < 10 = omega (arith, is.2) in
-    let same : 48 + h - 48 ≡ h = omega arith in
-    ap handle_at (is.0 ∙ decimal_digit h small) ∙ ap (λ b. cond b (fine (48 + h - 48)) (Err BadHandle)) (in_range h is.1 is.2) ∙ ap fine same
-  where
-    in_range : (h : ℕ) → 1 ≤ h → h ≤ 4 → (nat_le 49 (48 + h) && nat_le (48 + h) 52) ≡ true
-    in_range h a b = grind (arith, nat_tests)
+    let low = is.1 in let high = is.2 in let same : 48 + h - 48 ≡ h = omega arith in
+    rw (one_digit word h is, le-leb 49 (48 + h) (omega arith), le-leb (48 + h) 52 (omega arith)) (ap Ok same)
 
 -- values
 
-bytes_turn : (text : List ℕ) (v : FieldValue) (b : Bool) → nat_lt 32768 (length text) ≡ b →
-    cond b None (option_map Bytes (result_ok (decode_of text))) ≡ Some v → IsForm BytesForm text v
-bytes_turn text v true t e = absurd cc
-bytes_turn text v false t e =
-    let m = mapped Bytes (result_ok (decode_of text)) v e in
-    subst (IsForm BytesForm text) m.2 (at_most (length text) t, read_ok (decode_of text) m.0 m.1)
-  where
-    at_most : (n : ℕ) → nat_lt 32768 n ≡ false → n ≤ 32768
-    at_most n t = grind (arith, nat_tests)
-
-    read_ok : {E : Type 0} (r : Result (List ℕ) E) (bytes : List ℕ) → result_ok r ≡ Some bytes → r ≡ Ok bytes
-    read_ok (Ok x) bytes e = ap Ok (some_is x bytes e)
-    read_ok (Err d) bytes e = absurd cc
+mapped : {X Y : Type 0} (f : X → Y) (o : Option X) (y : Y) → option_map f o ≡ Some y → (x : X) × (o ≡ Some x) × (f x ≡ y)
+mapped f (Some x) y e = (x, refl, same_Some (f x) y e)
+mapped f None y e = absurd (none-some y e)
 
 form_means : (form : Form) (text : List ℕ) (v : FieldValue) → form_value form text ≡ Some v → IsForm form text v
 form_means (ShortForm base most least limit) text v e =
     let m = mapped Short (from_least least (number base most limit text)) v e in
-    let l = from_least_ok least m.0 (number base most limit text) m.1 in
+    let l = from_least_means least m.0 (number base most limit text) m.1 in
     subst (IsForm (ShortForm base most least limit) text) m.2 (number_means base most limit text m.0 l.0, l.1)
 form_means WordForm text v e =
     let m = mapped Word (number 16 8 (2 ^ 32) text) v e in
@@ -266,34 +191,28 @@ form_means WordForm text v e =
 form_means LongForm text v e =
     let m = mapped Long (number 10 20 (2 ^ 64) text) v e in
     subst (IsForm LongForm text) m.2 (number_means 10 20 (2 ^ 64) text m.0 m.1)
-form_means BytesForm text v e = bytes_turn text v (nat_lt 32768 (length text)) refl e
+form_means BytesForm text v e = go (nat_lt 32768 (length text)) refl e
+  where
+    decoded : {E : Type 0} (r : Result (List ℕ) E) (bytes : List ℕ) → result_ok r ≡ Some bytes → r ≡ Ok bytes
+    decoded (Ok x) bytes f = ap Ok (same_Some x bytes f)
+    decoded (Err d) bytes f = absurd (none-some bytes f)
+
+    go : (b : Bool) → nat_lt 32768 (length text) ≡ b → cond b None (option_map Bytes (result_ok (decode_of text))) ≡ Some v → IsForm BytesForm text v
+    go true t f = absurd (none-some v f)
+    go false t f =
+        let m = mapped Bytes (result_ok (decode_of text)) v f in
+        subst (IsForm BytesForm text) m.2 (ltb-false _ _ t, decoded (decode_of text) m.0 m.1)
 
 form_again : (form : Form) (text : List ℕ) (v : FieldValue) → IsForm form text v → form_value form text ≡ Some v
-form_again (ShortForm base most least limit) text (Short n) h =
-    ap (λ o. option_map Short (from_least least o)) (number_again base most limit text n h.0)
-    ∙ ap (option_map Short) (from_least_again least n h.1)
-form_again (ShortForm base most least limit) text (Word n) h = absurd h
-form_again (ShortForm base most least limit) text (Long n) h = absurd h
-form_again (ShortForm base most least limit) text (Bytes b) h = absurd h
-form_again WordForm text (Short n) h = absurd h
+form_again (ShortForm base most least limit) text (Short n) h = rw (number_again base most limit text n h.0) (ap (option_map Short) (from_least_again least n h.1))
 form_again WordForm text (Word n) h = ap (option_map Word) (number_again 16 8 (2 ^ 32) text n h)
-form_again WordForm text (Long n) h = absurd h
-form_again WordForm text (Bytes b) h = absurd h
-form_again LongForm text (Short n) h = absurd h
-form_again LongForm text (Word n) h = absurd h
 form_again LongForm text (Long n) h = ap (option_map Long) (number_again 10 20 (2 ^ 64) text n h)
-form_again LongForm text (Bytes b) h = absurd h
-form_again BytesForm text (Short n) h = absurd h
-form_again BytesForm text (Word n) h = absurd h
-form_again BytesForm text (Long n) h = absurd h
-form_again BytesForm text (Bytes b) h = rw (at_most (length text) h.0, h.1) refl
-  where
-    at_most : (n : ℕ) → n ≤ 32768 → nat_lt 32768 n ≡ false
-    at_most n h = grind (arith, nat_tests)
+form_again BytesForm text (Bytes b) h = rw (le-ltb 32768 (length text) h.0, h.1) refl
+form_again form text v h = absurd h
 
-pub value_means : (f : Field) (text : List ℕ) (v : FieldValue) → field_value f text ≡ Ok v → IsForm (form_of f) text v
+pub value_ends : (f : Field) (text : List ℕ) → Ends (IsForm (form_of f) text) (λ e. (e ≡ BadValue) × ((v : FieldValue) → IsForm (form_of f) text v → ⊥)) (field_value f text)
 unfolding field_value
-value_means f text v e = form_means (form_of f) text v (ok_or_ok BadValue (form_value (form_of f) text) v e)
+value_ends f text = asked (form_value (form_of f) text) BadValue (form_means (form_of f) text) (form_again (form_of f) text)
 
 pub value_again : (f : Field) (text : List ℕ) (v : FieldValue) → IsForm (form_of f) text v → field_value f text ≡ Ok v
 unfolding field_value

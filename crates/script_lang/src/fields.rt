@@ -94,28 +94,7 @@ impl Field {
     pub fn number(self) -> u8
         ensures { result ≡ field_number self }
     {
-        match self {
-            Field::Type => 0,
-            Field::Usage => 1,
-            Field::Alg => 2,
-            Field::Data => 3,
-            Field::Life => 4,
-            Field::Id => 5,
-            Field::Bits => 6,
-            Field::Room => 7,
-            Field::Hash => 8,
-            Field::Mac => 9,
-            Field::Nonce => 10,
-            Field::Ad => 11,
-            Field::Iv => 12,
-            Field::Tag => 13,
-            Field::AdLength => 14,
-            Field::PlainLength => 15,
-            Field::Capacity => 16,
-            Field::Value => 17,
-            Field::Length => 18,
-            Field::Step => 19,
-        }
+        self as u8
     }
 
     /// The field of a name.
@@ -237,26 +216,13 @@ fn value_of(alloc: Global, field: Field, text: &[u8]) -> Result<FieldValue, Line
     ensures { Gives (λ v. v) result (field_value field text.now) }
 {
     match field {
-        Field::Type => short(16, 4, 0, 0xffff, text),
-        Field::Usage => word(text),
-        Field::Alg => word(text),
-        Field::Data => decoded(alloc, text),
-        Field::Life => word(text),
-        Field::Id => word(text),
+        Field::Type | Field::Step => short(16, 4, 0, 0xffff, text),
         Field::Bits => short(10, 20, 0, 0xffff, text),
         Field::Room => short(10, 20, 0, ROOM as u64, text),
-        Field::Hash => decoded(alloc, text),
-        Field::Mac => decoded(alloc, text),
-        Field::Nonce => decoded(alloc, text),
-        Field::Ad => decoded(alloc, text),
-        Field::Iv => decoded(alloc, text),
-        Field::Tag => decoded(alloc, text),
-        Field::AdLength => long(text),
-        Field::PlainLength => long(text),
-        Field::Capacity => long(text),
-        Field::Value => long(text),
         Field::Length => short(10, 20, 1, LENGTH_LIMIT, text),
-        Field::Step => short(16, 4, 0, 0xffff, text),
+        Field::Usage | Field::Alg | Field::Life | Field::Id => word(text),
+        Field::AdLength | Field::PlainLength | Field::Capacity | Field::Value => long(text),
+        _ => decoded(alloc, text),
     }
 }
 

@@ -1,17 +1,9 @@
 // Texts cut at a byte: the lines of a text and the words of a line.
-ghost use Rattle.std.specs.Prelude.{◌≡◌, ◌==◌, ◌∷◌, ◌<◌, [], length, position, option_map, MatchOption, IfSome};
+ghost use Rattle.std.specs.Prelude.{◌≡◌, ◌∷◌, ◌<◌, [], length, option_map, MatchOption, IfSome};
 ghost use Rattle.script_lang.specs.Pieces.{pieces, words, cut_of, without_return, text_lines};
 
 use memchr::memchr;
 use std::marker::Model;
-
-/// Where the first separator stands.
-fn place_of(text: &[u8], separator: u8) -> Option<usize>
-    ensures place { result ≡ position (λ b. b == separator) text.now }
-    ensures within { IfSome result (λ i. i < length text.now) }
-{
-    memchr(separator, text)
-}
 
 /// The text before the first separator and the text after it.
 pub(crate) fn cut(text: &[u8], separator: u8) -> Option<(&[u8], &[u8])>
@@ -20,7 +12,7 @@ pub(crate) fn cut(text: &[u8], separator: u8) -> Option<(&[u8], &[u8])>
     ensures exact { option_map (λ p. (p.0.now, p.1.now)) result ≡ cut_of separator text.now }
     ensures shorter { IfSome result (λ p. length p.1.now < length text.now) }
 {
-    match place_of(text, separator) {
+    match memchr(separator, text) {
         None => None,
         Some(place) => Some((&text[..place], &text[place + 1..])),
     }

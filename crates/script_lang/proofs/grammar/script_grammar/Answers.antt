@@ -1,16 +1,12 @@
-use Rattle.script_lang.proofs.WholeMeans.{script_means, script_again}
-use Rattle.script_lang.proofs.OutsideMeans.{fault_means}
-use Rattle.script_lang.proofs.OutsideAgain.{fault_again}
+use Rattle.script_lang.proofs.Again.{script_again, fault_again}
+use Rattle.script_lang.proofs.Ends.{failure_is, read_is}
+use Rattle.script_lang.proofs.Meant.{script_ends}
 use Rattle.script_lang.proofs.grammar.script_grammar.Goals as goal
 
-pub returns-clause-calls : goal.returns-clause-calls
-returns-clause-calls c = script_means
-
-pub returns-clause-calls_again : goal.returns-clause-calls_again
-returns-clause-calls_again c = script_again
-
-pub returns-clause-fault : goal.returns-clause-fault
-returns-clause-fault c = fault_means
-
-pub returns-clause-fault_again : goal.returns-clause-fault_again
-returns-clause-fault_again c = fault_again
+pub returns : goal.returns
+returns c = record {
+  calls = λ text. read_is (script_ends text);
+  calls_again = script_again;
+  fault = λ text. failure_is (script_ends text);
+  fault_again = fault_again;
+}

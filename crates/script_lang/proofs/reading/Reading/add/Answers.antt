@@ -1,6 +1,7 @@
-use Rattle.std.proofs.Common.{ap, arith, length, slice_set, subst, sym, ◌<◌, ◌∙◌, ◌≡◌}
+use Rattle.std.proofs.Common.{ap, arith, length, refl, slice_set, subst, sym, ◌<◌, ◌∙◌, ◌≡◌}
 use Rattle.script_lang.proofs.Common.{AreCounted, lines_of, read_of}
-use Rattle.script_lang.proofs.States.{counted_on, is_more, more_read, more_counted, count_found, count_fits, found}
+use Rattle.script_lang.proofs.States.{counted_on, is_more, more_read, more_counted, count_found, count_fits}
+use Rattle.std.proofs.lemmas.Option.{slice_get_read}
 use Rattle.script_lang.proofs.reading.Reading.add.Goals as goal
 
 pub overflow_add-state : goal.overflow_add-state
@@ -8,7 +9,7 @@ overflow_add-state c =
     let old = c.index_mut-state.result.now in
     let within : c.args.session < length c.args.self.now.sessions.items = omega (arith, c.requires.counted.seventeen) in
     let count : old.calls ≡ length (lines_of c.args.session c.args.self.now.lines.items) =
-    count_found c.args.self.now.lines.items c.args.self.now.sessions.items c.args.session old c.requires.counted (found c.args.self.now.sessions.items c.args.session old within c.index_mut-state.ensures.value) in
+    count_found c.args.self.now.lines.items c.args.self.now.sessions.items c.args.session old c.requires.counted (slice_get_read c.args.self.now.sessions.items (length c.args.self.now.sessions.items) c.args.session old refl within c.index_mut-state.ensures.value) in
     omega (arith, c.give.ensures.calls, count, count_fits c.args.self.now.lines.items c.args.session, c.requires.few)
 
 pub returns-clause-ok : goal.returns-clause-ok
