@@ -4,6 +4,7 @@ use Rattle.command_words.proofs.Common.{App, Generate, Label, Names, Row, Rule, 
 use Rattle.clap.specs.Words.{first_of}
 use Rattle.command_words.specs.declared.command.Command.{Command}
 use Rattle.command_words.proofs.Hyphens.{IsBare, AreBare, bare, are_bare, no_number, no_option}
+use Rattle.command_words.proofs.OptionWords.{mapped}
 use Rattle.command_words.proofs.Rows.{option_built, HasValues, texts_are_in}
 use Rattle.command_words.proofs.RunWalk.{run_rules, run_shape, between, Ends, follows}
 use Rattle.command_words.proofs.Settings.{text_at, reads_all}
@@ -145,22 +146,16 @@ finds given (word ∷ words) command e = run (bytes_eq word (codes "run")) refl 
     other : (b : Bool) → bytes_eq word (codes "generate") ≡ b → cond b (option_map (λ count. Generate count) (count_of words)) None ≡ Some command → Finds given (word ∷ words)
     other true t f =
         let same : word ≡ codes "generate" = (bytes_eq-Decides word (codes "generate")).0 t in
-        subst (λ w. Finds given (w ∷ words)) (sym same) (generate (count_of words) refl f)
-      where
-        generate : (o : Option ℕ) → count_of words ≡ o → option_map (λ count. Generate count) o ≡ Some command → Finds given (codes "generate" ∷ words)
-        generate None is g = absurd (none-some command g)
-        generate (Some count) is g = finds_generate given words count is
+        let counts = mapped (λ count. Generate count) (count_of words) command f in
+        subst (λ w. Finds given (w ∷ words)) (sym same) (finds_generate given words counts.0 counts.1)
     other false t f = absurd (none-some command f)
 
     run : (b : Bool) → bytes_eq word (codes "run") ≡ b →
         cond b (option_map Run (run_of given words)) (cond (bytes_eq word (codes "generate")) (option_map (λ count. Generate count) (count_of words)) None) ≡ Some command → Finds given (word ∷ words)
     run true t f =
         let same : word ≡ codes "run" = (bytes_eq-Decides word (codes "run")).0 t in
-        subst (λ w. Finds given (w ∷ words)) (sym same) (options (run_of given words) refl f)
-      where
-        options : (o : Option RunOptions) → run_of given words ≡ o → option_map Run o ≡ Some command → Finds given (codes "run" ∷ words)
-        options None is g = absurd (none-some command g)
-        options (Some found) is g = finds_run given words found is
+        let options = mapped Run (run_of given words) command f in
+        subst (λ w. Finds given (w ∷ words)) (sym same) (finds_run given words options.0 options.1)
     run false t f = other (bytes_eq word (codes "generate")) refl f
 
 known : {X : Type 0} (o : Option X) → is_some o ≡ true → (x : X) × (o ≡ Some x)

@@ -1,7 +1,8 @@
 -- Good values don't begin with a hyphen.
-use Rattle.std.proofs.Common.{Bool, Err, List, None, Option, Some, [], ap, arith, bytes_eq, cond, eqb-true, false, get_or, option_and_then, refl, replicate, sym, true, ℕ, ◌<◌, ◌==◌, ◌^◌, ◌∙◌, ◌∷◌, ◌≡◌}
+use Rattle.std.proofs.Common.{Bool, Err, List, None, Option, Some, [], ap, arith, bytes_eq, cond, false, ne_eqb, get_or, option_and_then, refl, replicate, sym, true, ℕ, ◌<◌, ◌==◌, ◌^◌, ◌∙◌, ◌∷◌, ◌≡◌}
 use Rattle.command_words.proofs.Common.{Label, Rules, RunOption, RunOptions, Seed, Texts, Workers, bytes_eq-Decides, first_decimal, label_named, label_word, labels_in, labels_named, long_of, long_of_rest, none-some, number_to, onto_first, option_and_then_some, run_options, seed_in, short_of, short_of_rest, slice_split, strip_byte, value_or}
 use Rattle.std.specs.Fmt.{decimal}
+use Rattle.std.proofs.lemmas.Bool.{false_from_ne_true}
 use Rattle.std.specs.Result.{result_ok}
 use Rattle.hex.specs.Hex.{decode_pairs}
 use Rattle.hex.specs.declared.error.FromHexError.TheVariants.{OddLength, InvalidStringLength}
@@ -20,13 +21,7 @@ pub record TakesNoHyphen {X : Type 0} (read : List ℕ → Option X) : Type 0 wh
 -- what such a reading takes is bare
 pub bare : {X : Type 0} (read : List ℕ → Option X) (text : List ℕ) (x : X) → TakesNoHyphen read → read text ≡ Some x → IsBare text
 bare read [] x takes e = refl
-bare {X} read (c ∷ cs) x takes e = go (c == 45) refl
-  where
-    go : (b : Bool) → (c == 45) ≡ b → IsBare (c ∷ cs)
-    go false t = rw t refl
-    go true t =
-        let same : c ≡ 45 = eqb-true c 45 t in
-        absurd (none-some x (sym (takes.none cs) ∙ ap (λ d. read (d ∷ cs)) (sym same) ∙ e))
+bare {X} read (c ∷ cs) x takes e = rw (ne_eqb c 45 (λ same. none-some x (sym (takes.none cs) ∙ ap (λ d. read (d ∷ cs)) (sym same) ∙ e))) refl
 
 pub no_number : (most : ℕ) → most < 2 ^ 32 → TakesNoHyphen (number_to most)
 no_number most fits = record {
@@ -93,13 +88,7 @@ pub record IsNoOption (word : List ℕ) : Type 0 where
 
 pub no_option : (word : List ℕ) → IsBare word → IsNoOption word
 no_option word bare = record {
-  dashes = go (bytes_eq word (45 ∷ 45 ∷ [])) refl;
+  dashes = false_from_ne_true _ (λ t. none-some (45 ∷ []) (sym bare ∙ ap (strip_byte 45) ((bytes_eq-Decides word (45 ∷ 45 ∷ [])).0 t)));
   long = ap (λ o. option_and_then long_of_rest (option_and_then (strip_byte 45) o)) bare;
   short = ap (option_and_then short_of_rest) bare;
 }
-  where
-    go : (b : Bool) → bytes_eq word (45 ∷ 45 ∷ []) ≡ b → b ≡ false
-    go false t = refl
-    go true t =
-        let same : word ≡ 45 ∷ 45 ∷ [] = (bytes_eq-Decides word (45 ∷ 45 ∷ [])).0 t in
-        absurd (none-some (45 ∷ []) (sym bare ∙ ap (strip_byte 45) same))

@@ -4,10 +4,7 @@ use Rattle.command_words.proofs.Common.{bytes_eq-Decides, decimal_injective, num
 use Rattle.std.specs.Fmt.{decimal}
 use Rattle.std.specs.Str.Parse.{ParsesUnsigned}
 use Rattle.std.proofs.Math.Nat.{eq-or-lt_of_le}
-
-not_true : (b : Bool) → (b ≡ true → ⊥) → b ≡ false
-not_true true h = absurd (h refl)
-not_true false h = refl
+use Rattle.std.proofs.lemmas.Bool.{false_from_ne_true, not-false}
 
 find_none : (p : ℕ → Bool) (a n : ℕ) → ((m : ℕ) → a ≤ m → m < a + n → p m ≡ false) → find p (range_with_len a n) ≡ None
 find_none p a zero h = refl
@@ -25,15 +22,12 @@ pub written : (most n : ℕ) (text : List ℕ) → 1 ≤ n → n ≤ most → mo
 unfolding number_to
 written most n text low high fits e =
     find_only (λ m. bytes_eq (decimal m) text) 1 most n low (omega arith) ((bytes_eq-Decides (decimal n) text).1 e)
-    (λ k i j. not_true _ (λ t. let same : k ≡ n = decimal_injective k n (omega arith) (omega arith) ((bytes_eq-Decides (decimal k) text).0 t ∙ sym e) in absurd (omega arith)))
+    (λ k i j. false_from_ne_true _ (λ t. let same : k ≡ n = decimal_injective k n (omega arith) (omega arith) ((bytes_eq-Decides (decimal k) text).0 t ∙ sym e) in absurd (omega arith)))
 
 -- no number in range has this text
 pub not_written : (most : ℕ) (text : List ℕ) → ((n : ℕ) → 1 ≤ n → n ≤ most → decimal n ≡ text → ⊥) → number_to most text ≡ None
 unfolding number_to
-not_written most text h = find_none (λ m. bytes_eq (decimal m) text) 1 most (λ m i j. not_true _ (λ t. h m i (omega arith) ((bytes_eq-Decides (decimal m) text).0 t)))
-
-ok_same : {E : Type 0} (r : Result ℕ E) (n m : ℕ) → r ≡ Ok n → r ≡ Ok m → n ≡ m
-ok_same r n m e f = cc
+not_written most text h = find_none (λ m. bytes_eq (decimal m) text) 1 most (λ m i j. false_from_ne_true _ (λ t. h m i (omega arith) ((bytes_eq-Decides (decimal m) text).0 t)))
 
 -- what reads as no number is none
 pub unread : {E : Type 0} (most : ℕ) (text : List ℕ) (e : E) (r : Result ℕ E) → most < 2 ^ 32 → ParsesUnsigned 32 10 text r → r ≡ Err e → number_to most text ≡ None
@@ -45,15 +39,11 @@ pub read_other : {E : Type 0} (most m : ℕ) (text : List ℕ) (r : Result ℕ E
     (1 ≤ m → m ≤ most → decimal m ≡ text → ⊥) → number_to most text ≡ None
 read_other {E} most m text r fits parses is other = not_written most text
     (λ n low high same. let read : r ≡ Ok n = parse-decimal {E = E} 32 n text r (omega arith) (omega arith) (sym same) parses in
-    let e : n ≡ m = ok_same r n m read is in other (subst (λ k. 1 ≤ k) e low) (subst (λ k. k ≤ most) e high) (subst (λ k. decimal k ≡ text) e same))
-
-of_not : (b : Bool) → false ≡ not b → b ≡ true
-of_not true e = refl
-of_not false e = cc
+    let e : n ≡ m = cc (read, is) in other (subst (λ k. 1 ≤ k) e low) (subst (λ k. k ≤ most) e high) (subst (λ k. decimal k ≡ text) e same))
 
 -- texts that a test found the same, or found different
 pub same_texts : (x y : List ℕ) (differ : Bool) → differ ≡ not (bytes_eq x y) → differ ≡ false → x ≡ y
-same_texts x y differ e f = (bytes_eq-Decides x y).0 (of_not _ (sym f ∙ e))
+same_texts x y differ e f = (bytes_eq-Decides x y).0 (not-false _ (sym e ∙ f))
 
 pub other_texts : (x y : List ℕ) (differ : Bool) → differ ≡ not (bytes_eq x y) → differ ≡ true → x ≡ y → ⊥
 other_texts x y differ e f same = let t : bytes_eq x y ≡ true = (bytes_eq-Decides x y).1 same in let u : true ≡ false = sym f ∙ e ∙ ap not t in cc

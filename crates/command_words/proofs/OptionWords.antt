@@ -1,6 +1,7 @@
 -- What is an option's word to the grammar is one to `clap`.
 
 use Rattle.std.proofs.Common.{Bool, List, None, Option, Some, [], ap, arith, bytes_eq, cond, drop, false, find, option_map, refl, subst, suc, sym, take, true, ℕ, ◌+◌, ◌∙◌, ◌∷◌, ◌≡◌}
+use Rattle.std.proofs.lemmas.Bool.{false_from_ne_true}
 use Rattle.command_words.proofs.Common.{Rules, RunOption, Seed, Workers, after_first, all_options, before_first, bytes_eq-Decides, is_equals, list_any, long_of, long_of_rest, none-some, option_id, option_in, option_name, option_named, position_or_len, same_Some}
 
 found_passes : {X : Type 0} (p : X → Bool) (xs : List X) (x : X) → find p xs ≡ Some x → p x ≡ true
@@ -69,7 +70,7 @@ name_alone Workers = refl
 name_alone Seed = refl
 name_alone Rules = refl
 
-mapped : {X Y : Type 0} (f : X → Y) (o : Option X) (y : Y) → option_map f o ≡ Some y → (x : X) × (o ≡ Some x) × (f x ≡ y)
+pub mapped : {X Y : Type 0} (f : X → Y) (o : Option X) (y : Y) → option_map f o ≡ Some y → (x : X) × (o ≡ Some x) × (f x ≡ y)
 mapped f None y e = absurd (none-some y e)
 mapped f (Some x) y e = (x, refl, same_Some (f x) y e)
 
@@ -89,10 +90,4 @@ long_of_option word option value e = go (list_any is_equals word) refl
 
 -- such a word isn't `--` alone
 pub not_dashes : (word : List ℕ) (option : RunOption) (value : Option (List ℕ)) → option_in word ≡ Some (option, value) → bytes_eq word (45 ∷ 45 ∷ []) ≡ false
-not_dashes word option value e = go (bytes_eq word (45 ∷ 45 ∷ [])) refl
-  where
-    go : (b : Bool) → bytes_eq word (45 ∷ 45 ∷ []) ≡ b → b ≡ false
-    go false t = refl
-    go true t =
-        let same : word ≡ 45 ∷ 45 ∷ [] = (bytes_eq-Decides word (45 ∷ 45 ∷ [])).0 t in
-        absurd (none-some _ (ap option_in (sym same) ∙ e))
+not_dashes word option value e = false_from_ne_true _ (λ t. none-some _ (ap option_in (sym ((bytes_eq-Decides word (45 ∷ 45 ∷ [])).0 t)) ∙ e))

@@ -4,7 +4,7 @@ use Rattle.command_words.proofs.Common.{Row, Rule, Rules, RunOption, Seed, Texts
 use Rattle.clap.specs.Walk.{first_of}
 use Rattle.clap.specs.declared.builder.value_parser.Reading.TheVariants.{AsWritten}
 use Rattle.clap.specs.declared.parser.matches.ValueSource.TheVariants.{CommandLine}
-use Rattle.command_words.proofs.Settings.{text_at, put, put_at, same_option, or_none}
+use Rattle.command_words.proofs.Settings.{text_at, put, put_at, same_option, or_none, unmapped}
 
 -- an option as `clap` builds it
 abbrev pub option_built : RunOption → Rule
@@ -19,10 +19,6 @@ one value = value ∷ []
 -- each option has the row of its value, where it has one
 pub record HasValues (texts : Texts) (rows : List Row) : Type 0 where
   pub value : (option : RunOption) → all_of (option_id option) rows ≡ option_map (λ value. value ∷ []) (text_at texts option)
-
-find_none : {X Y : Type 0} (f : X → Y) (o : Option X) → option_map f o ≡ None → o ≡ None
-find_none f None e = refl
-find_none f (Some x) e = absurd (none-some (f x) (sym e))
 
 has_is : (id : List ℕ) (rows : List Row) → has_row id rows ≡ is_some (find (is_row id) rows)
 has_is id [] = refl
@@ -45,7 +41,7 @@ abbrev row_of : RunOption → List ℕ → Row
 row_of option value = record { id = option_id option; values = one value; count = None; source = Some CommandLine; reading = AsWritten }
 
 row_missing : (option : RunOption) (texts : Texts) (rows : List Row) → HasValues texts rows → text_at texts option ≡ None → find (is_row (option_id option)) rows ≡ None
-row_missing option texts rows has new = find_none (λ row. row.values) _ (has.value option ∙ ap (option_map one) new)
+row_missing option texts rows has new = unmapped (λ row. row.values) _ (has.value option ∙ ap (option_map one) new)
 
 -- an option that has no value yet has no row
 pub no_row : (option : RunOption) (texts : Texts) (rows : List Row) → HasValues texts rows → text_at texts option ≡ None → has_row (option_id option) rows ≡ false
@@ -56,16 +52,11 @@ used_new option value rows e =
     let kept : without (option_id option) rows ≡ rows = at_new (option_id option) (λ _. []) [] rows e ∙ append-nil rows in
     rw kept (at_new (option_id option) (more_values CommandLine (value ∷ [])) (row_of option value ∷ []) rows e)
 
-same_id : (option other : RunOption) (value : List ℕ) → bytes_eq (option_id option) (option_id other) ≡ is_of other (option, value)
+pub same_id : (option other : RunOption) (value : List ℕ) → bytes_eq (option_id option) (option_id other) ≡ is_of other (option, value)
 same_id Workers Workers value = refl
-same_id Workers Seed value = refl
-same_id Workers Rules value = refl
-same_id Seed Workers value = refl
 same_id Seed Seed value = refl
-same_id Seed Rules value = refl
-same_id Rules Workers value = refl
-same_id Rules Seed value = refl
 same_id Rules Rules value = refl
+same_id option other value = refl
 
 -- an option's value joins the others
 pub has_next : (texts : Texts) (rows : List Row) (option : RunOption) (value : List ℕ) → text_at texts option ≡ None → HasValues texts rows →

@@ -5,8 +5,8 @@ use Rattle.clap.specs.Walk.{option as for_option}
 use Rattle.command_words.specs.Reading.{settled as settled_state}
 use Rattle.command_words.proofs.Hyphens.{IsBare, AreBare, no_option}
 use Rattle.command_words.proofs.OptionWords.{long_of_option, not_dashes}
-use Rattle.command_words.proofs.Rows.{option_built, HasValues, no_row, has_next}
-use Rattle.command_words.proofs.Settings.{text_at, put, put_at, same_option, with_is}
+use Rattle.command_words.proofs.Rows.{option_built, HasValues, no_row, has_next, same_id}
+use Rattle.command_words.proofs.Settings.{text_at, put, put_at, same_option, is_of_itself, with_is}
 
 -- what `clap` builds of `run`
 abbrev pub run_rules : List Rule
@@ -39,9 +39,7 @@ by_id Seed = refl
 by_id Rules = refl
 
 itself : (option : RunOption) → bytes_eq (option_id option) (option_id option) ≡ true
-itself Workers = refl
-itself Seed = refl
-itself Rules = refl
+itself option = same_id option option [] ∙ is_of_itself option []
 
 -- a name alone: its option waits for a value
 name_turn : (held : Held) (word : List ℕ) (option : RunOption) → option_in word ≡ Some (option, None) → settle_passes run_rules false held ≡ true →
@@ -128,9 +126,7 @@ goes texts option value words final e = go (text_at texts option) refl (rw (← 
     go (Some text) is f = absurd (none-some final f)
 
 first_value : (option : RunOption) (texts : Texts) (value : List ℕ) → text_at (put texts option value) option ≡ Some value
-first_value Workers texts value = refl
-first_value Seed texts value = refl
-first_value Rules texts value = refl
+first_value option texts value = rw (put_at texts option option value, is_of_itself option value) refl
 
 -- what follows one word, where the words behind it follow
 abbrev Rest : List (List ℕ) → Texts → Type 0

@@ -1,10 +1,11 @@
 -- Options that are read one after another are those that the words give.
-use Rattle.std.proofs.Common.{Bool, List, None, Option, Some, [], add-one, ap, append-nil, append_assoc, arith, cond, count_by, drop, drop-cons, false, find, get_or, is_some, length, map, nat_le, refl, subst, sym, true, ℕ, ◌&&◌, ◌++◌, ◌+◌, ◌<◌, ◌∙◌, ◌∷◌, ◌≡◌, ◌≤◌}
+use Rattle.std.proofs.Common.{Bool, List, None, Option, Some, [], add-one, ap, append-nil, append_assoc, arith, cond, count_by, drop, drop-cons, false, find, get_or, is_some, length, map, nat_le, refl, subst, sym, true, ℕ, ◌++◌, ◌+◌, ◌<◌, ◌∙◌, ◌∷◌, ◌≡◌, ◌≤◌}
 use Rattle.command_words.proofs.Common.{Rules, RunOption, Seed, Setting, State, Texts, Workers, after_word, after_words, all_options, are_single, at_end, find-append, if_new, is_of, list_all, option_in, option_or, options_in, state, texts_of, value_of, with_option}
 use Rattle.std.specs.Option.{option_map, option_and_then}
 use Rattle.std.specs.Borrow.{Bor}
 use Rattle.std.proofs.lemmas.List.{at_drop_all}
 use Rattle.std.proofs.lemmas.List.Sums.{sum_by-append}
+use Rattle.std.proofs.lemmas.Bool.{and_left, and_right}
 use Rattle.std.proofs.lemmas.Bool.Decides.{nat_tests}
 use Rattle.command_words.specs.Reading.{settled}
 use Rattle.command_words.specs.declared.options.Reading.{Reading}
@@ -39,27 +40,17 @@ with_is texts Rules value = refl
 
 pub put_at : (texts : Texts) (o p : RunOption) (value : List ℕ) → text_at (put texts o value) p ≡ cond (is_of p (o, value)) (Some value) (text_at texts p)
 put_at texts Workers Workers value = refl
-put_at texts Workers Seed value = refl
-put_at texts Workers Rules value = refl
-put_at texts Seed Workers value = refl
 put_at texts Seed Seed value = refl
-put_at texts Seed Rules value = refl
-put_at texts Rules Workers value = refl
-put_at texts Rules Seed value = refl
 put_at texts Rules Rules value = refl
+put_at texts o p value = refl
 
 pub same_option : (o p : RunOption) (value : List ℕ) → is_of p (o, value) ≡ true → o ≡ p
 same_option Workers Workers value e = refl
-same_option Workers Seed value e = absurd (cc)
-same_option Workers Rules value e = absurd (cc)
-same_option Seed Workers value e = absurd (cc)
 same_option Seed Seed value e = refl
-same_option Seed Rules value e = absurd (cc)
-same_option Rules Workers value e = absurd (cc)
-same_option Rules Seed value e = absurd (cc)
 same_option Rules Rules value e = refl
+same_option o p value e = absurd (cc)
 
-is_of_itself : (o : RunOption) (value : List ℕ) → is_of o (o, value) ≡ true
+pub is_of_itself : (o : RunOption) (value : List ℕ) → is_of o (o, value) ≡ true
 is_of_itself Workers value = refl
 is_of_itself Seed value = refl
 is_of_itself Rules value = refl
@@ -68,16 +59,16 @@ pub or_none : {X : Type 0} (o : Option X) → option_or o None ≡ o
 or_none None = refl
 or_none (Some x) = refl
 
-found_none : (o : Option Setting) → None ≡ option_map (λ s. s.1) o → o ≡ None
-found_none None e = refl
-found_none (Some s) e = absurd (cc)
+pub unmapped : {X Y : Type 0} (f : X → Y) (o : Option X) → option_map f o ≡ None → o ≡ None
+unmapped f None e = refl
+unmapped f (Some x) e = absurd (cc)
 
 -- one more setting, of the option or of another
 stands_next : (settings : List Setting) (x : Setting) (p : RunOption) (old : Option (List ℕ)) (b : Bool) → is_of p x ≡ b → (b ≡ true → old ≡ None) →
     Stands settings p old → Stands (settings ++ x ∷ []) p (cond b (Some x.1) old)
 stands_next settings x p old true e new h = record {
   found =
-      let none : find (is_of p) settings ≡ None = found_none _ (sym (new refl) ∙ h.found) in
+      let none : find (is_of p) settings ≡ None = unmapped _ _ (sym (sym (new refl) ∙ h.found)) in
       rw (find-append (is_of p) settings (x ∷ []), none, e) refl;
   count = rw (sum_by-append (λ y. cond (is_of p y) 1 0) settings (x ∷ []), h.count, new refl, e) refl;
 }
@@ -94,12 +85,9 @@ match_next texts settings o value new h p = subst (λ v. Stands (settings ++ (o,
 -- an option that stands twice
 
 one_fails : (f : RunOption → Bool) (o : RunOption) → f o ≡ false → list_all f all_options ≡ false
-one_fails f Workers e = rw e refl
-one_fails f Seed e = rw e (elim (f Workers) as (λ b. (b && false) ≡ false) [ true ↦ refl | false ↦ refl ])
-one_fails f Rules e = rw e (elim (f Workers) as (λ b. (b && (f Seed && false)) ≡ false) [
-  | true ↦ elim (f Seed) as (λ b. (b && false) ≡ false) [ true ↦ refl | false ↦ refl ]
-  | false ↦ refl
-])
+one_fails f Workers e = and_left _ _ e
+one_fails f Seed e = and_right _ _ (and_left _ _ e)
+one_fails f Rules e = and_right _ _ (and_right _ _ (and_left _ _ e))
 
 twice : (settings more : List Setting) (o : RunOption) (value text : List ℕ) → Stands settings o (Some text) → texts_of (settings ++ (o, value) ∷ more) ≡ None
 twice settings more o value text h =
