@@ -1,5 +1,5 @@
 -- What a step of reading comes to: what is said of the value that it read, or of the reason why it read none.
-use Rattle.std.proofs.Common.{Bool, Err, None, Ok, Option, Result, Some, ap, cond, false, not, ok_or, refl, subst, true, ◌≡◌}
+use Rattle.std.proofs.Common.{Bool, Err, None, Ok, Option, Result, Some, false, not, ok_or, refl, subst, true, ◌≡◌}
 use Rattle.script_lang.proofs.Common.{Reason, demand}
 use Rattle.script_lang.specs.Steps.{◌>>=◌}
 

@@ -1,6 +1,6 @@
 -- A text is read as calls where the grammar says that it says them, and refused where it is outside, for the reason that
 -- is answered.
-use Rattle.std.proofs.Common.{Bool, Err, List, None, Ok, Option, Result, Some, [], ap, append_assoc, ap₂, arith, cond, drop, false, find, inl, inr, length, ltb-false, ltb-true, nat_lt, option_map, refl, slice_get, subst, suc, sym, true, ℕ, ◌++◌, ◌+◌, ◌==◌, ◌∙◌, ◌∷◌, ◌≡◌, ◌⊎◌}
+use Rattle.std.proofs.Common.{Bool, Err, List, None, Ok, Option, Result, Some, [], ap, append_assoc, ap₂, arith, cond, false, find, inl, inr, length, ltb-false, ltb-true, nat_lt, option_map, refl, subst, suc, sym, true, ℕ, ◌++◌, ◌+◌, ◌==◌, ◌∙◌, ◌∷◌, ◌≡◌, ◌⊎◌}
 use Rattle.script_lang.proofs.Common.{AreBadAfter, AreBadFields, AreBadFixed, AreBadWords, AreFields, AreFixed, AreSteps, BadLine, BadName, BadSession, Field, FieldValue, Fields, Fixed, IsBadField, IsBadFixed, IsFault, IsField, IsFixed, IsRow, IsScript, IsStep, Kind, MissingField, Places, Read, Reason, RepeatedField, ScriptCall, ScriptFault, ScriptLine, Shape, TooLong, TooManyLines, UnknownCommand, UnknownField, all_fields, bytes_eq-Decides, call_of, cut_of, field_name, field_named, goes_on, has_field, has_required, is_allowed, is_name, line_words, lines_at, no_words, nothing_read, parts_at, read_field, read_fields, read_fixed, row_named, rows, script_of, session_of, text_lines, with_call, with_word, words_at}
 use Rattle.std.proofs.lemmas.Bool.{both_ways, eqb-true}
 use Rattle.std.proofs.lemmas.List.{append-nil}

@@ -1,6 +1,6 @@
 -- Numbers, sessions, names, keys and values: what is read of a text is what the grammar says of it.
 use Rattle.std.proofs.Common.{Bool, Err, List, None, Ok, Option, Result, Some, inl, inr, le-ltb, [], ap, arith, cond, eq-eqb, eqb-true, false, get_or, le-leb, leb-true, length, lt-ltb, ltb-false, ltb-true, nat_le, nat_lt, ne_eqb, ok_or, option_and_then, option_map, refl, subst, sym, true, ℕ, ◌&&◌, ◌*◌, ◌+◌, ◌-◌, ◌<◌, ◌==◌, ◌^◌, ◌||◌, ◌∙◌, ◌∷◌, ◌≡◌, ◌≤◌}
-use Rattle.script_lang.proofs.Common.{AllPass-from_list_all, BadHandle, BadKey, BadValue, BytesForm, Field, FieldValue, Form, Given, IsBadFixed, IsForm, IsKey, IsLetter, IsName, IsNameByte, IsNumber, IsOneTo, KeyWord, Line, LongForm, Places, ShortForm, UnknownName, WordForm, begins_with, decode_of, digit_in, field_value, form_of, form_value, from_least, handle_at, is_letter, is_name, is_name_byte, key_at, list_all, list_all-from_AllPass, nat_tests, number, number_from, session_of}
+use Rattle.script_lang.proofs.Common.{AllPass-from_list_all, BadHandle, BadKey, BadValue, BytesForm, Field, FieldValue, Form, Given, IsBadFixed, IsForm, IsKey, IsLetter, IsName, IsNameByte, IsNumber, IsOneTo, KeyWord, Line, LongForm, Places, ShortForm, UnknownName, WordForm, begins_with, decode_of, digit_in, field_value, form_of, form_value, from_least, handle_at, is_letter, is_name, is_name_byte, key_at, list_all-from_AllPass, nat_tests, number, number_from, session_of}
 use Rattle.std.specs.Bool.{Decides}
 use Rattle.std.specs.Result.{result_ok}
 use Rattle.std.specs.Char.{digit_value}
