@@ -18,14 +18,18 @@ some_of None (Some k) e = absurd (cc)
 some_of (Some k) None e = absurd (cc)
 some_of (Some k) (Some l) e = refl
 
+-- of the store
+pub record AlikeStores (caller : ℕ) (a b : Store) : Type 0 where
+  pub made : made_of a caller ≡ made_of b caller
+  pub mades : length a.made ≡ length b.made
+  pub settings : a.settings ≡ b.settings
+  pub keys : (id : ℕ) → is_volatile_of caller id ≡ true → plain (map.get a.keys id) ≡ plain (map.get b.keys id)
+  pub live : live_volatile a.keys caller ≡ live_volatile b.keys caller
+
 pub record Alike (caller : ℕ) (a b : Service) : Type 0 where
   pub own : own_of a caller ≡ own_of b caller
   pub owns : length a.owns ≡ length b.owns
-  pub made : made_of a.store caller ≡ made_of b.store caller
-  pub mades : length a.store.made ≡ length b.store.made
-  pub settings : a.store.settings ≡ b.store.settings
-  pub keys : (id : ℕ) → is_volatile_of caller id ≡ true → plain (map.get a.store.keys id) ≡ plain (map.get b.store.keys id)
-  pub live : live_volatile a.store.keys caller ≡ live_volatile b.store.keys caller
+  pub stores : AlikeStores caller a.store b.store
 
 -- no key has the identifier 0
 abbrev pub NoZero : Service → Type 0
@@ -37,7 +41,7 @@ OwnId caller id = (id ≡ 0) ⊎ (is_volatile_of caller id ≡ true)
 
 pub looked : (caller : ℕ) (a b : Service) (id : ℕ) → Alike caller a b → NoZero a → NoZero b → OwnId caller id → plain (map.get a.store.keys id) ≡ plain (map.get b.store.keys id)
 looked caller a b id h za zb (inl e) = rw (e, za, zb) refl
-looked caller a b id h za zb (inr e) = h.keys id e
+looked caller a b id h za zb (inr e) = h.stores.keys id e
 
 -- one element written in two lists
 pub set_both : {X : Type 0} (xs ys : List X) (i : ℕ) (v w d : X) → length xs ≡ length ys → get_or xs i d ≡ get_or ys i d → v ≡ w →
@@ -48,17 +52,6 @@ set_both (x ∷ xs) [] i v w d l e f = absurd (omega arith)
 set_both (x ∷ xs) (y ∷ ys) zero v w d l e f = f
 set_both (x ∷ xs) (y ∷ ys) (suc i) v w d l e f = set_both xs ys i v w d (omega arith) e f
 
--- what each of two alike services draws and leaves, where its store is another
-pub record AlikeStores (caller : ℕ) (a b : Store) : Type 0 where
-  pub made : made_of a caller ≡ made_of b caller
-  pub mades : length a.made ≡ length b.made
-  pub settings : a.settings ≡ b.settings
-  pub keys : (id : ℕ) → is_volatile_of caller id ≡ true → plain (map.get a.keys id) ≡ plain (map.get b.keys id)
-  pub live : live_volatile a.keys caller ≡ live_volatile b.keys caller
-
-pub stores_of : (caller : ℕ) (a b : Service) → Alike caller a b → AlikeStores caller a.store b.store
-stores_of caller a b h = record { made = h.made; mades = h.mades; settings = h.settings; keys = h.keys; live = h.live }
-
 pub after_both : (caller : ℕ) (a b : Service) (one other : Outcome) → Alike caller a b → one.drawn ≡ other.drawn → AlikeStores caller one.store other.store →
     Alike caller (on_store a caller one).service (on_store b caller other).service
 after_both caller a b one other h d stores =
@@ -66,9 +59,5 @@ after_both caller a b one other h d stores =
     record {
       own = set_both a.owns b.owns caller _ _ new_own h.owns h.own next;
       owns = length-set a.owns caller _ ∙ h.owns ∙ sym (length-set b.owns caller _);
-      made = stores.made;
-      mades = stores.mades;
-      settings = stores.settings;
-      keys = stores.keys;
-      live = stores.live;
+      stores = stores;
     }

@@ -1,6 +1,7 @@
 -- The generator's lines in any order: each session is answered as if it were alone.
-use Rattle.std.proofs.Common.{All, Bool, List, [], ap, arith, codes, cond, count_by, false, filter, flat_map, get_or, inl, map, not, refl, subst, suc, sum, sym, true, zero, ℕ, ◌%◌, ◌*◌, ◌++◌, ◌+◌, ◌-◌, ◌/◌, ◌==◌, ◌∙◌, ◌∷◌, ◌≡◌}
-use Rattle.line_generator.proofs.Common.{All-head, All-tail, AreCalls, Entry, Plain, Reply, ReplyLine, Request, Served, Service, Turn, attributes_at, call, count_line, counted, encode_lower, fields, generator_line, generator_lines, id_given, import_fields, is_success, length-map, lines_of, map-append, nat_tests, numbered, outcome_of, output_bytes, range_with_len, replies_to, request_of, serve, sha256, sum-map, summary_of, turns_from, turns_of, unranked_text}
+use Rattle.std.proofs.Common.{All, Bool, List, [], ap, codes, cond, count_by, eq-eqb, eqb-true, false, filter, flat_map, get_or, inl, map, not, refl, subst, suc, sym, true, zero, ℕ, ◌%◌, ◌*◌, ◌++◌, ◌+◌, ◌-◌, ◌/◌, ◌==◌, ◌∙◌, ◌∷◌, ◌≡◌}
+use Rattle.line_generator.proofs.Common.{All-head, All-tail, AreCalls, Entry, Plain, Reply, ReplyLine, Request, Served, Service, Turn, attributes_at, call, count_line, counted, encode_lower, fields, generator_line, generator_lines, id_given, import_fields, is_success, length-map, lines_of, map-append, numbered, outcome_of, output_bytes, range_with_len, replies_to, request_of, serve, sha256, sum_by-cons, summary_of, turns_from, turns_of, unranked_text}
+use Rattle.std.proofs.lemmas.Bool.{eqb-false}
 use Rattle.script_lang.specs.declared.commands.Command.TheVariants.{Key, SinglePart}
 use Rattle.script_lang.specs.declared.store_commands.KeyCommand.TheVariants.{Import, Export, Destroy}
 use Rattle.script_lang.specs.declared.store_commands.SinglePartCommand.TheVariants.{CipherEncrypt, MacCompute}
@@ -93,15 +94,6 @@ record Known (session : ℕ) (turns : List Turn) : Type 0 where
   keys : Each KeyLine lines
   calls : AreCalls ids lines turns
 
-same : (n m : ℕ) → (n == m) ≡ true → n ≡ m
-same n m t = grind (arith, nat_tests)
-
-differ : (n m : ℕ) → (n == m) ≡ false → m ≡ n → ⊥
-differ n m t e = grind (arith, nat_tests)
-
-same_itself : (n : ℕ) → (n == n) ≡ true
-same_itself n = grind (arith, nat_tests)
-
 -- what the head of a session's calls is
 record Head (a : Service) (e : Entry) (session : ℕ) (rest : List Turn) : Type 0 where
   asks : KeyCall
@@ -134,13 +126,12 @@ head_of rank a e session rest ids (line ∷ lines) p m own keys calls =
 
 known_next : (rank : ℕ) (a : Service) (e : Entry) (session : ℕ) (rest : List Turn) (b : Bool) → (e.caller == session) ≡ b → e.mark ≡ Plain →
     Known session (cond b (turn rank a e ∷ rest) rest) → Known session rest
-known_next rank a e session rest true t m k = (head_of rank a e session rest k.ids k.lines (same e.caller session t) m k.own k.keys k.calls).after
+known_next rank a e session rest true t m k = (head_of rank a e session rest k.ids k.lines (eqb-true e.caller session t) m k.own k.keys k.calls).after
 known_next rank a e session rest false t m k = k
 
-head_at : (rank : ℕ) (a : Service) (e : Entry) (rest : List Turn) (b : Bool) → (e.caller == e.caller) ≡ b → b ≡ true → e.mark ≡ Plain →
-    Known e.caller (cond b (turn rank a e ∷ rest) rest) → Head a e e.caller rest
-head_at rank a e rest true t is m k = head_of rank a e e.caller rest k.ids k.lines refl m k.own k.keys k.calls
-head_at rank a e rest false t is m k = absurd (cc)
+head_at : (rank : ℕ) (a : Service) (e : Entry) (rest : List Turn) → e.mark ≡ Plain → Known e.caller (cond (e.caller == e.caller) (turn rank a e ∷ rest) rest) → Head a e e.caller rest
+head_at rank a e rest m known =
+    let k : Known e.caller (turn rank a e ∷ rest) = rw (eq-eqb e.caller e.caller refl) at known in head_of rank a e e.caller rest k.ids k.lines refl m k.own k.keys k.calls
 
 -- THE HISTORY
 
@@ -176,9 +167,9 @@ passed : (session rank : ℕ) (a b : Service) (e : Entry) (rest : List Turn) →
     NoZero (outcome_of a e).service × Alike session (outcome_of a e).service b
 unfolding turn
 passed session rank a b e rest f m za h known =
-    let head : Head a e e.caller (turns_of e.caller rest) = head_at rank a e (turns_of e.caller rest) (e.caller == e.caller) refl (same_itself e.caller) m (known e.caller) in (
+    let head : Head a e e.caller (turns_of e.caller rest) = head_at rank a e (turns_of e.caller rest) m (known e.caller) in (
       subst (λ (s : Served). NoZero s.service) (sym head.is) (zero_stays e.caller a head.asks head.own za),
-      subst (λ (s : Served). Alike session s.service b) (sym head.is) (other_step e.caller session a b head.asks (differ e.caller session f) head.own h),
+      subst (λ (s : Served). Alike session s.service b) (sym head.is) (other_step e.caller session a b head.asks (λ is. eqb-false e.caller session f (sym is)) head.own h),
     )
 
 step : (session : ℕ) (e : Entry) (es : List Entry) → Follows session es → (t : Bool) → (rank : ℕ) (a b : Service) (ids : List ℕ) (lines : List ScriptLine) → (e.caller == session) ≡ t →
@@ -191,7 +182,7 @@ step session e es later true rank a b ids [] t m ms za zb h own keys calls known
 step session e es later true rank a b ids (line ∷ lines) t m ms za zb h own keys calls known =
     let request : Request = request_of ids line.call in
     let asks : Asks session request = keys.0 session ids own in
-    let is : outcome_of a e ≡ serve a session request Plain = turn_is a e session request (same e.caller session t) calls.1 m in
+    let is : outcome_of a e ≡ serve a session request Plain = turn_is a e session request (eqb-true e.caller session t) calls.1 m in
     let both : SameStep session (outcome_of a e) (serve b session request Plain) =
     subst (λ (s : Served). SameStep session s (serve b session request Plain)) (sym is) (own_turn a b session request asks za zb h) in
     let next : List ℕ = ids ++ id_given (outcome_of a e).reply.output ∷ [] in
@@ -216,7 +207,7 @@ follows session (e ∷ es) rank a b ids lines ms za zb h own keys calls known =
 
 -- a service is alike to itself
 itself : (session : ℕ) (a : Service) → Alike session a a
-itself session a = record { own = refl; owns = refl; made = refl; mades = refl; settings = refl; keys = λ id t. refl; live = refl }
+itself session a = record { own = refl; owns = refl; stores = record { made = refl; mades = refl; settings = refl; keys = λ id t. refl; live = refl } }
 
 as_alone : (start : Service) (count : ℕ) (history : List Entry) (session : ℕ) → NoZero start → IsOrder start count history →
     replies_in (turns_of session (turns_from 0 start history)) ≡ alone session start [] (lines_of session (generator_lines count))
@@ -234,7 +225,7 @@ by_turn : (session number : ℕ) (t : Turn) (rest : List Turn) (b : Bool) → (t
     ((n : ℕ) → map without_rank (numbered n rest) ≡ unranked session n (replies_in rest)) →
     map without_rank (numbered number (cond b (t ∷ rest) rest)) ≡ unranked session number (replies_in (cond b (t ∷ rest) rest))
 unfolding unranked
-by_turn session number t rest true e later = λ i. record { session = same t.entry.caller session e i; number = number; rank = 0; status = t.reply.status; bytes = output_bytes t.reply.output } ∷ later (number + 1) i
+by_turn session number t rest true e later = λ i. record { session = eqb-true t.entry.caller session e i; number = number; rank = 0; status = t.reply.status; bytes = output_bytes t.reply.output } ∷ later (number + 1) i
 by_turn session number t rest false e later = later number
 
 lines_unranked : (session : ℕ) (ts : List Turn) (number : ℕ) → map without_rank (numbered number (turns_of session ts)) ≡ unranked session number (replies_in (turns_of session ts))
@@ -256,14 +247,10 @@ replies_alike start count one other z first second =
 
 -- WHAT IS SUMMED UP
 
-map_map : {X Y Z : Type 0} (f : X → Y) (g : Y → Z) (xs : List X) → map g (map f xs) ≡ map (λ x. g (f x)) xs
-map_map f g [] = refl
-map_map f g (x ∷ xs) = ap (λ ys. g (f x) ∷ ys) (map_map f g xs)
-
 counted_alike : (p : ReplyLine → Bool) (lines : List ReplyLine) → ((line : ReplyLine) → p (without_rank line) ≡ p line) → count_by p (map without_rank lines) ≡ count_by p lines
-counted_alike p lines h =
-    sym (sum-map (λ x. cond (p x) 1 0) (map without_rank lines)) ∙ ap sum (map_map without_rank (λ x. cond (p x) 1 0) lines ∙ (λ i. map (λ x. cond (h x i) 1 0) lines))
-    ∙ sum-map (λ x. cond (p x) 1 0) lines
+counted_alike p [] h = refl
+counted_alike p (line ∷ lines) h =
+    sum_by-cons (λ x. cond (p x) 1 0) (without_rank line) (map without_rank lines) ∙ (λ i. cond (h line i) 1 0 + counted_alike p lines h i) ∙ sym (sum_by-cons (λ x. cond (p x) 1 0) line lines)
 
 text_alike : (lines : List ReplyLine) → flat_map unranked_text (map without_rank lines) ≡ flat_map unranked_text lines
 unfolding unranked_text

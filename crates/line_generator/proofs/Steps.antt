@@ -1,7 +1,8 @@
 -- A call of a caller on its own volatile keys: what it answers, and what it leaves, is decided by what the caller sees.
-use Rattle.std.proofs.Common.{Bool, Err, List, None, Ok, Option, Result, Some, [], ap, arith, cond, false, inl, inr, is_some, length, not, refl, slice_set, subst, sym, true, ℕ, ◌&&◌, ◌*◌, ◌+◌, ◌-◌, ◌/◌, ◌<◌, ◌==◌, ◌^◌, ◌∙◌, ◌∷◌, ◌≡◌}
-use Rattle.line_generator.proofs.Common.{Attributes, CipherEncrypt, Computed, Destroy, Export, Identifier, Import, InvalidHandle, Key, MacCompute, OnStore, Own, Plain, Request, Served, Service, Settings, Status, Store, Success, bytes_of, cipher_usage, compute_rows, computed_unless, created, created_unless, decided, destroy_rows, destroyed, encrypt_rows, encrypted, export_reply, export_rows, first_row, given, id_given, is_ctr, is_volatile, is_volatile_of, iv_length, live_volatile, mac_reply, mac_usage, made_of, mode_of, nat_tests, new_id, new_key, on_store, put, recorded_of, refused, replies, reply_unless, room_for_key_rows, room_of, serve, taken, use_rows, with_computed}
+use Rattle.std.proofs.Common.{Bool, Err, List, None, Ok, Option, Result, Some, [], ap, arith, cond, eqb-true, false, inl, inr, is_some, length, not, refl, slice_set, subst, sym, true, ℕ, ◌&&◌, ◌*◌, ◌+◌, ◌-◌, ◌/◌, ◌<◌, ◌==◌, ◌^◌, ◌∙◌, ◌∷◌, ◌≡◌}
+use Rattle.line_generator.proofs.Common.{Attributes, CipherEncrypt, Computed, Destroy, Export, Identifier, Import, InvalidHandle, Key, MacCompute, OnStore, Outcome, Own, Plain, Request, Served, Service, Settings, Status, Store, Success, bytes_of, cipher_usage, compute_rows, computed_unless, created, created_unless, decided, destroy_rows, destroyed, encrypt_rows, encrypted, export_reply, export_rows, first_row, given, id_given, is_ctr, is_volatile, is_volatile_of, iv_length, live_volatile, mac_reply, mac_usage, made_of, mode_of, nat_tests, new_id, new_key, on_store, put, recorded_of, refused, replies, reply_unless, room_for_key_rows, room_of, serve, taken, use_rows, with_computed}
 use Rattle.std.specs.FinMap as map
+use Rattle.std.proofs.lemmas.Bool.{cond-false, false_from_ne_true}
 use Rattle.std.proofs.lemmas.List.{length-set}
 use Rattle.alg_encoding.specs.declared.table.Class.{Class}
 use Rattle.alg_encoding.specs.declared.table.Class.TheVariants.{Cipher, Mac}
@@ -9,7 +10,7 @@ use Rattle.random_streams.specs.RandomWords.{random_bytes}
 use Rattle.store_model.specs.Prelude.{counted}
 use Rattle.store_model.proofs.Others.{leaves_callers, leaves_settings}
 use Rattle.line_generator.proofs.Maps.{len_inserted, len_removed}
-use Rattle.line_generator.proofs.Alike.{Alike, AlikeStores, NoZero, OwnId, looked, stores_of, after_both, plain, some_of}
+use Rattle.line_generator.proofs.Alike.{Alike, AlikeStores, NoZero, OwnId, looked, after_both, plain, some_of}
 use Rattle.line_generator.proofs.Imports.{recorded_same, recorded_volatile, created_same}
 
 -- the calls that the generator's lines make
@@ -42,7 +43,7 @@ pub record SameStep (caller : ℕ) (one other : Served) : Type 0 where
   pub alike : Alike caller one.service other.service
 
 counted_both : (caller : ℕ) (a b : Service) → Alike caller a b → AlikeStores caller (counted a.store) (counted b.store)
-counted_both caller a b h = record { made = h.made; mades = h.mades; settings = h.settings; keys = h.keys; live = h.live }
+counted_both caller a b h = let s = h.stores in record { made = s.made; mades = s.mades; settings = s.settings; keys = s.keys; live = s.live }
 
 reading : (caller : ℕ) (a b : Service) (c d : Computed) → Alike caller a b → c ≡ d →
     SameStep caller (on_store a caller (with_computed a.store c)) (on_store b caller (with_computed b.store d))
@@ -76,7 +77,7 @@ used_same on_device class usage alg compute compute' o p e f =
 made_by : (caller : ℕ) (a b : Service) (bytes : List ℕ) (r : Result Attributes Status) → Alike caller a b →
     SameStep caller (on_store a caller (created_unless a.store caller r bytes)) (on_store b caller (created_unless b.store caller r bytes))
 made_by caller a b bytes (Ok kept) h =
-    let both = created_same caller a.store b.store kept bytes (stores_of caller a b h) in
+    let both = created_same caller a.store b.store kept bytes h.stores in
     record {
       reply = λ i. record { status = Success; output = Identifier (both.0 i); needed = 0 };
       alike = after_both caller a b (created a.store caller kept bytes) (created b.store caller kept bytes) h refl both.1;
@@ -87,7 +88,7 @@ imported : (caller : ℕ) (a b : Service) (attributes : Attributes) (bytes : Lis
     SameStep caller (serve a caller (OnStore (Import attributes bytes)) Plain) (serve b caller (OnStore (Import attributes bytes)) Plain)
 imported caller a b attributes bytes v h =
     subst (λ r. SameStep caller (serve a caller (OnStore (Import attributes bytes)) Plain) (on_store b caller (created_unless b.store caller r bytes)))
-    (recorded_same caller a.store b.store attributes (length bytes) (stores_of caller a b h) v)
+    (recorded_same caller a.store b.store attributes (length bytes) h.stores v)
     (made_by caller a b bytes (recorded_of a.store caller attributes (length bytes)) h)
 
 -- what a destruction leaves
@@ -101,14 +102,14 @@ fewer_same true one other n m e f = λ i. cond (e refl i) (f i - 1) (f i)
 fewer_same false one other n m e f = f
 
 destroyed_same : (caller id : ℕ) (a b : Service) → Alike caller a b → AlikeStores caller (destroyed a.store id).store (destroyed b.store id).store
-destroyed_same caller id a b h = record {
-  made = h.made;
-  mades = h.mades;
-  settings = h.settings;
-  keys = λ q own. ap plain (taken a.store.keys id q) ∙ plain_none (q == id) _ _ (h.keys q own) ∙ sym (ap plain (taken b.store.keys id q));
+destroyed_same caller id a b h = let s = h.stores in record {
+  made = s.made;
+  mades = s.mades;
+  settings = s.settings;
+  keys = λ q own. ap plain (taken a.store.keys id q) ∙ plain_none (q == id) _ _ (s.keys q own) ∙ sym (ap plain (taken b.store.keys id q));
   live =
       len_removed (is_volatile_of caller) a.store.keys id
-      ∙ fewer_same (is_volatile_of caller id) _ _ _ _ (λ own. some_of _ _ (h.keys id own)) h.live
+      ∙ fewer_same (is_volatile_of caller id) _ _ _ _ (λ own. some_of _ _ (s.keys id own)) s.live
       ∙ sym (len_removed (is_volatile_of caller) b.store.keys id);
 }
 
@@ -137,7 +138,7 @@ own_step caller a b (Signs id alg input room) own za zb h =
 own_step caller a b (Encrypts id alg input room) own za zb h =
     let random = λ (settings : Settings) (o : Own) (n : ℕ). random_bytes settings.seed caller o.drawn n in
     reading caller a b _ _ h (used_same (is_ctr (mode_of alg)) Cipher (cipher_usage true) alg _ _ _ _ (looked caller a b id h za zb own)
-    (λ i key. encrypted (mode_of alg) (random (h.settings i) (h.own i) (iv_length (mode_of alg))) key input room))
+    (λ i key. encrypted (mode_of alg) (random (h.stores.settings i) (h.own i) (iv_length (mode_of alg))) key input room))
 own_step caller a b (Destroys id) own za zb h = removed caller id a b h (some_of _ _ (looked caller a b id h za zb own))
 
 -- BY ANOTHER CALLER
@@ -152,23 +153,12 @@ no_other : (caller other id : ℕ) → (other ≡ caller → ⊥) → OwnId call
 no_other caller other id apart (inl zero) t = of_zero other (subst (λ n. is_volatile_of other n ≡ true) zero t)
 no_other caller other id apart (inr own) t = apart (one_place (id / 2 ^ 20) other caller t own)
 
-not_true : (b : Bool) → (b ≡ true → ⊥) → b ≡ false
-not_true true h = absurd (h refl)
-not_true false h = refl
-
-second : (b : Bool) (m n : ℕ) → b ≡ false → cond b m n ≡ n
-second true m n e = absurd (cc)
-second false m n e = refl
-
-same_number : (q id : ℕ) → (q == id) ≡ true → q ≡ id
-same_number q id t = grind (arith, nat_tests)
-
 -- no identifier of one caller's keys is one of another's
 beside : (caller other id : ℕ) → (other ≡ caller → ⊥) → OwnId caller id → is_volatile_of other id ≡ false
-beside caller other id apart own = not_true _ (no_other caller other id apart own)
+beside caller other id apart own = false_from_ne_true _ (no_other caller other id apart own)
 
 apart_from : (caller other q id : ℕ) → (other ≡ caller → ⊥) → OwnId caller id → is_volatile_of other q ≡ true → (q == id) ≡ false
-apart_from caller other q id apart own t = not_true _ (λ e. no_other caller other id apart own (subst (λ n. is_volatile_of other n ≡ true) (same_number q id e) t))
+apart_from caller other q id apart own t = false_from_ne_true _ (λ e. no_other caller other id apart own (subst (λ n. is_volatile_of other n ≡ true) (eqb-true q id e) t))
 
 new_place : (caller made : ℕ) → made < 2 ^ 20 → ((0x40000000 + caller * 2 ^ 20 + made) / 2 ^ 20 == 1024 + caller) ≡ true
 new_place caller made h = let e : (0x40000000 + caller * 2 ^ 20 + made) / 2 ^ 20 ≡ 1024 + caller = omega arith in grind (arith, nat_tests)
@@ -199,25 +189,25 @@ leaves_created caller other store kept bytes apart own =
     record {
       mades = length_made store.made caller (made_of store caller + 1) (is_volatile kept);
       keys = λ q t. put store.keys id new q ∙ ap (λ b. cond b (Some new) (map.get store.keys q)) (apart_from caller other q id apart (inr own) t);
-      live = len_inserted (is_volatile_of other) store.keys id new ∙ second _ _ _ (beside caller other id apart (inr own));
+      live = len_inserted (is_volatile_of other) store.keys id new ∙ cond-false _ _ _ (beside caller other id apart (inr own));
     }
 
 leaves_destroyed : (caller other id : ℕ) (store : Store) → (other ≡ caller → ⊥) → OwnId caller id → Leaves other store (destroyed store id).store
 leaves_destroyed caller other id store apart own = record {
   mades = refl;
   keys = λ q t. taken store.keys id q ∙ ap (λ b. cond b None (map.get store.keys q)) (apart_from caller other q id apart own t);
-  live = len_removed (is_volatile_of other) store.keys id ∙ second _ _ _ (beside caller other id apart own);
+  live = len_removed (is_volatile_of other) store.keys id ∙ cond-false _ _ _ (beside caller other id apart own);
 }
 
-leaves_made : (caller other : ℕ) (store : Store) (bytes : List ℕ) (r : Result Attributes Status) → (other ≡ caller → ⊥) →
-    ((kept : Attributes) → r ≡ Ok kept → is_volatile_of caller (new_id store caller kept) ≡ true) → Leaves other store (created_unless store caller r bytes).store
-leaves_made caller other store bytes (Ok kept) apart own = leaves_created caller other store kept bytes apart (own kept refl)
-leaves_made caller other store bytes (Err s) apart own = leaves_counted other store
+-- what holds of a creation and of a refusal holds of what is created unless it is refused, and so of a destruction
+created_or : (store : Store) (caller : ℕ) (bytes : List ℕ) (r : Result Attributes Status) (P : Outcome → Type 0) → ((kept : Attributes) → r ≡ Ok kept → P (created store caller kept bytes)) →
+    ((s : Status) → P (refused store s)) → P (created_unless store caller r bytes)
+created_or store caller bytes (Ok kept) P made not_made = made kept refl
+created_or store caller bytes (Err s) P made not_made = not_made s
 
-leaves_decided : (caller other id : ℕ) (store : Store) (refusal : Option Status) → (other ≡ caller → ⊥) → OwnId caller id →
-    Leaves other store (decided store refusal (destroyed store id)).store
-leaves_decided caller other id store None apart own = leaves_destroyed caller other id store apart own
-leaves_decided caller other id store (Some s) apart own = leaves_counted other store
+destroyed_or : (store : Store) (id : ℕ) (refusal : Option Status) (P : Outcome → Type 0) → P (destroyed store id) → ((s : Status) → P (refused store s)) → P (decided store refusal (destroyed store id))
+destroyed_or store id None P gone stays = gone
+destroyed_or store id (Some s) P gone stays = stays s
 
 pub new_of : (service : Service) (caller : ℕ) (attributes : Attributes) (bytes : List ℕ) → is_volatile attributes ≡ true → (kept : Attributes) →
     recorded_of service.store caller attributes (length bytes) ≡ Ok kept → is_volatile_of caller (new_id service.store caller kept) ≡ true
@@ -226,11 +216,11 @@ new_of service caller attributes bytes v kept e =
 
 leaves : (caller other : ℕ) (a : Service) (call : KeyCall) → (other ≡ caller → ⊥) → IsOwn caller call → Leaves other a.store (serve a caller (asked call) Plain).service.store
 leaves caller other a (Imports attributes bytes) apart own =
-    leaves_made caller other a.store bytes (recorded_of a.store caller attributes (length bytes)) apart (new_of a caller attributes bytes own)
-leaves caller other a (Exports id room) apart own = leaves_counted other a.store
-leaves caller other a (Signs id alg input room) apart own = leaves_counted other a.store
-leaves caller other a (Encrypts id alg input room) apart own = leaves_counted other a.store
-leaves caller other a (Destroys id) apart own = leaves_decided caller other id a.store (first_row (destroy_rows (map.get a.store.keys id) id)) apart own
+    created_or a.store caller bytes (recorded_of a.store caller attributes (length bytes)) (λ out. Leaves other a.store out.store)
+    (λ kept e. leaves_created caller other a.store kept bytes apart (new_of a caller attributes bytes own kept e)) (λ s. leaves_counted other a.store)
+leaves caller other a (Destroys id) apart own =
+    destroyed_or a.store id (first_row (destroy_rows (map.get a.store.keys id) id)) (λ out. Leaves other a.store out.store) (leaves_destroyed caller other id a.store apart own) (λ s. leaves_counted other a.store)
+leaves caller other a call apart own = leaves_counted other a.store
 
 owns_same : (caller : ℕ) (a : Service) (call : KeyCall) → length (serve a caller (asked call) Plain).service.owns ≡ length a.owns
 owns_same caller a (Imports attributes bytes) = length-set a.owns caller _
@@ -247,40 +237,37 @@ other_step caller other a b call apart own h =
     record {
       own = left.0 ∙ h.own;
       owns = owns_same caller a call ∙ h.owns;
-      made = left.1 ∙ h.made;
-      mades = rest.mades ∙ h.mades;
-      settings = (leaves_settings a caller (asked call) Plain).0 ∙ h.settings;
-      keys = λ q t. ap plain (rest.keys q t) ∙ h.keys q t;
-      live = rest.live ∙ h.live;
+      stores = record {
+        made = left.1 ∙ h.stores.made;
+        mades = rest.mades ∙ h.stores.mades;
+        settings = (leaves_settings a caller (asked call) Plain).0 ∙ h.stores.settings;
+        keys = λ q t. ap plain (rest.keys q t) ∙ h.stores.keys q t;
+        live = rest.live ∙ h.stores.live;
+      };
     }
 
 -- THE IDENTIFIER 0
 
 zero_apart : (caller id : ℕ) → is_volatile_of caller id ≡ true → (0 == id) ≡ false
-zero_apart caller id t = not_true _ (λ e. of_zero caller (subst (λ n. is_volatile_of caller n ≡ true) (sym (same_number 0 id e)) t))
+zero_apart caller id t = false_from_ne_true _ (λ e. of_zero caller (subst (λ n. is_volatile_of caller n ≡ true) (sym (eqb-true 0 id e)) t))
 
-zero_made : (store : Store) (caller : ℕ) (bytes : List ℕ) (r : Result Attributes Status) → map.get store.keys 0 ≡ None →
-    ((kept : Attributes) → r ≡ Ok kept → is_volatile_of caller (new_id store caller kept) ≡ true) → map.get (created_unless store caller r bytes).store.keys 0 ≡ None
-zero_made store caller bytes (Ok kept) z own =
+zero_made : (store : Store) (caller : ℕ) (bytes : List ℕ) (kept : Attributes) → map.get store.keys 0 ≡ None → is_volatile_of caller (new_id store caller kept) ≡ true →
+    map.get (created store caller kept bytes).store.keys 0 ≡ None
+zero_made store caller bytes kept z own =
     let id : ℕ = new_id store caller kept in
-    let new : Key = new_key store caller id kept bytes in
-    put store.keys id new 0 ∙ ap (λ b. cond b (Some new) (map.get store.keys 0)) (zero_apart caller id (own kept refl)) ∙ z
-zero_made store caller bytes (Err s) z own = z
+    put store.keys id (new_key store caller id kept bytes) 0 ∙ rw (zero_apart caller id own) z
 
 none_left : (b : Bool) (o : Option Key) → o ≡ None → cond b None o ≡ None
 none_left true o e = refl
 none_left false o e = e
 
-zero_decided : (store : Store) (id : ℕ) (refusal : Option Status) → map.get store.keys 0 ≡ None → map.get (decided store refusal (destroyed store id)).store.keys 0 ≡ None
-zero_decided store id None z = taken store.keys id 0 ∙ none_left (0 == id) _ z
-zero_decided store id (Some s) z = z
-
 pub zero_stays : (caller : ℕ) (a : Service) (call : KeyCall) → IsOwn caller call → NoZero a → NoZero (serve a caller (asked call) Plain).service
-zero_stays caller a (Imports attributes bytes) own z = zero_made a.store caller bytes (recorded_of a.store caller attributes (length bytes)) z (new_of a caller attributes bytes own)
-zero_stays caller a (Exports id room) own z = z
-zero_stays caller a (Signs id alg input room) own z = z
-zero_stays caller a (Encrypts id alg input room) own z = z
-zero_stays caller a (Destroys id) own z = zero_decided a.store id (first_row (destroy_rows (map.get a.store.keys id) id)) z
+zero_stays caller a (Imports attributes bytes) own z =
+    created_or a.store caller bytes (recorded_of a.store caller attributes (length bytes)) (λ out. map.get out.store.keys 0 ≡ None)
+    (λ kept e. zero_made a.store caller bytes kept z (new_of a caller attributes bytes own kept e)) (λ s. z)
+zero_stays caller a (Destroys id) own z =
+    destroyed_or a.store id (first_row (destroy_rows (map.get a.store.keys id) id)) (λ out. map.get out.store.keys 0 ≡ None) (taken a.store.keys id 0 ∙ none_left (0 == id) _ z) (λ s. z)
+zero_stays caller a call own z = z
 
 -- WHAT IS GIVEN
 
@@ -292,17 +279,9 @@ given_computed : (refusal : Option Status) (computed : Computed) → id_given co
 given_computed None computed e = e
 given_computed (Some s) computed e = refl
 
-given_made : (store : Store) (caller : ℕ) (bytes : List ℕ) (r : Result Attributes Status) →
-    ((kept : Attributes) → r ≡ Ok kept → is_volatile_of caller (new_id store caller kept) ≡ true) → OwnId caller (id_given (created_unless store caller r bytes).reply.output)
-given_made store caller bytes (Ok kept) own = inr (own kept refl)
-given_made store caller bytes (Err s) own = inl refl
-
-given_decided : (store : Store) (id : ℕ) (refusal : Option Status) → id_given (decided store refusal (destroyed store id)).reply.output ≡ 0
-given_decided store id None = refl
-given_decided store id (Some s) = refl
-
 pub given_own : (caller : ℕ) (a : Service) (call : KeyCall) → IsOwn caller call → OwnId caller (id_given (serve a caller (asked call) Plain).reply.output)
-given_own caller a (Imports attributes bytes) own = given_made a.store caller bytes (recorded_of a.store caller attributes (length bytes)) (new_of a caller attributes bytes own)
+given_own caller a (Imports attributes bytes) own =
+    created_or a.store caller bytes (recorded_of a.store caller attributes (length bytes)) (λ out. OwnId caller (id_given out.reply.output)) (λ kept e. inr (new_of a caller attributes bytes own kept e)) (λ s. inl refl)
 given_own caller a (Exports id room) own = inl (given_bytes (first_row (export_rows (map.get a.store.keys id) room)) (bytes_of (map.get a.store.keys id)))
 given_own caller a (Signs id alg input room) own =
     let found : Option Key = map.get a.store.keys id in
@@ -311,4 +290,4 @@ given_own caller a (Encrypts id alg input room) own =
     let found : Option Key = map.get a.store.keys id in
     let mode = mode_of alg in
     inl (given_computed (first_row (use_rows (is_ctr mode) Cipher (cipher_usage true) alg found)) _ (given_computed (first_row (encrypt_rows mode (length input) room)) _ refl))
-given_own caller a (Destroys id) own = inl (given_decided a.store id (first_row (destroy_rows (map.get a.store.keys id) id)))
+given_own caller a (Destroys id) own = destroyed_or a.store id (first_row (destroy_rows (map.get a.store.keys id) id)) (λ out. OwnId caller (id_given out.reply.output)) (inl refl) (λ s. inl refl)
