@@ -2,16 +2,6 @@
 ghost use Rattle.std.specs.Prelude.{◌≡◌, ◌≤◌, ◌*◌, ◌+◌, ◌<◌, ◌^◌, ◌⊎◌, ℕ, IfSome, IfNone};
 ghost use Rattle.script_lang.specs.Numbers.{digit_in, number, number_from};
 
-/// The value of a digit, in either case.
-fn digit(base: u8, c: u8) -> Option<u32>
-    requires first { 2 ≤ base }
-    requires last { base ≤ 16 }
-    ensures value { result ≡ digit_in base c }
-    ensures below { IfSome result (λ d. d < base) }
-{
-    char::from(c).to_digit(base as u32)
-}
-
 /// The number with one more digit at its end, where it is below 2 ^ 64.
 fn pushed(base: u8, front: u64, c: u8) -> Option<u64>
     requires first { 2 ≤ base }
@@ -19,7 +9,7 @@ fn pushed(base: u8, front: u64, c: u8) -> Option<u64>
     ensures none { IfNone result ((digit_in base c ≡ None) ⊎ ((d : ℕ) × (digit_in base c ≡ Some d) × (2 ^ 64 ≤ front * base + d))) }
     ensures some { IfSome result (λ n. (d : ℕ) × (digit_in base c ≡ Some d) × (n ≡ front * base + d)) }
 {
-    let digit = digit(base, c)? as u64;
+    let digit = char::from(c).to_digit(base as u32)? as u64;
     front.checked_mul(base as u64)?.checked_add(digit)
 }
 

@@ -129,32 +129,6 @@ impl Reading {
     }
 
     #[tactic(auto, unfolding(crate::specs::Lines::words_at))]
-    fn read_words(&mut self, alloc: Global, words: &mut Words) -> Result<(), LineError>
-        requires few { length self.old.lines.items < 2 ^ 31 }
-        requires counted { AreCounted self.old.lines.items self.old.sessions.items }
-        ensures ok { OnOk result (words_at (read_of self.old.lines.items self.old.sessions.items) words.old ≡ Ok (read_of self.new.lines.items self.new.sessions.items)) }
-        ensures err { IfErr result (λ e. Fails e (words_at (read_of self.old.lines.items self.old.sessions.items) words.old)) }
-        ensures counted { OnOk result (AreCounted self.new.lines.items self.new.sessions.items) }
-        ensures one { OnOk result (length self.new.lines.items ≤ length self.old.lines.items + 1) }
-        ensures sessions { OnOk result (All IsOfSession self.old.lines.items → All IsOfSession self.new.lines.items) }
-    {
-        let Some(word) = words.next() else {
-            return Ok(());
-        };
-        let Some(session) = session_of(word) else {
-            return Err(LineError::Bad(Reason::BadSession));
-        };
-        let Some(name) = words.next() else {
-            return Err(LineError::Bad(Reason::UnknownCommand));
-        };
-        let Some(row) = row_named(name) else {
-            return Err(LineError::Bad(Reason::UnknownCommand));
-        };
-        let (name, call) = read_parts(alloc, self.session(session), row, words)?;
-        self.add(session, name, call)
-    }
-
-    #[tactic(auto, unfolding(crate::specs::Lines::words_at))]
     fn read_line(&mut self, alloc: Global, text: &[u8]) -> Result<(), LineError>
         requires few { length self.old.lines.items < 2 ^ 31 }
         requires counted { AreCounted self.old.lines.items self.old.sessions.items }
@@ -168,7 +142,20 @@ impl Reading {
             return Ok(());
         }
         let mut words = Words::new(text);
-        self.read_words(alloc, &mut words)
+        let Some(word) = words.next() else {
+            return Ok(());
+        };
+        let Some(session) = session_of(word) else {
+            return Err(LineError::Bad(Reason::BadSession));
+        };
+        let Some(name) = words.next() else {
+            return Err(LineError::Bad(Reason::UnknownCommand));
+        };
+        let Some(row) = row_named(name) else {
+            return Err(LineError::Bad(Reason::UnknownCommand));
+        };
+        let (name, call) = read_parts(alloc, self.session(session), row, &mut words)?;
+        self.add(session, name, call)
     }
 }
 
