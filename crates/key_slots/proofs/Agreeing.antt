@@ -1,8 +1,11 @@
 -- What each change of a slot makes of slots that stand for the keys.
-use Rattle.std.proofs.Common.{Bool, List, None, Option, Some, [], ap, arith, cond, eq-eqb, false, inl, inr, length, refl, replicate, set, suc, sym, true, zero, ℕ, ◌&&◌, ◌+◌, ◌-◌, ◌<◌, ◌==◌, ◌∙◌, ◌≡◌, ◌≢◌}
-use Rattle.key_slots.proofs.Common.{Agrees, Attributes, Empty, Filling, Full, Gains, HasNumber, IsGone, IsLawful, IsLawfulSlot, IsNext, IsSoundStore, IsThereOrNew, IsVolatileKey, KeepsKeys, Key, NoKey, OnFalse, OnTrue, Pairs, Pending, Puts, Slot, SlotHasKey, SlotState, StandsAt, Store, Table, at_each, cases_eq, cases_lt, destroyed_slot, empty_slot, false≢true, filling_slot, find_passes, full_slot, full_within, holds_key, idle_is_full, idle_is_unread, is_empty_state, is_filling, is_full, is_idle, is_last, is_pending, is_volatile, key_is_full, left, named, nat_tests, next_is_unread, next_within, pairs_on, persistence, registered, same, slot_at, slot_at-set_other, slot_at-set_same}
+use Rattle.std.proofs.Common.{Bool, List, None, Option, Some, [], ap, arith, cond, eq-eqb, false, inl, inr, length, refl, replicate, set, sym, true, ℕ, ◌&&◌, ◌+◌, ◌-◌, ◌<◌, ◌==◌, ◌∙◌, ◌≡◌, ◌≢◌}
+use Rattle.key_slots.proofs.Common.{Agrees, Attributes, Empty, Filling, Full, Gains, EndsOnly, HasNumber, IsGone, IsIdleOf, IsLawful, IsLawfulSlot, IsNext, IsSoundStore, IsThereOrNew, IsVolatileKey, KeepsKeys, Key, NoKey, OnFalse, OnTrue, Pairs, Pending, Puts, Slot, SlotHasKey, SlotState, StandsAt, Store, Table, at_each, cases_eq, cases_lt, destroyed_slot, empty_slot, false≢true, filling_slot, find_passes, full_slot, full_within, holds_key, idle_is_full, idle_is_unread, is_empty_state, is_filling, is_full, is_idle, is_last, is_pending, is_volatile, key_is_full, left, named, nat_tests, next_is_unread, next_within, pairs_on, persistence, registered, same, slot_at, slot_at-set_other, slot_at-set_same}
 use Rattle.std.specs.FinMap as map
-use Rattle.std.proofs.lemmas.Bool.{eqb-true}
+use Rattle.std.proofs.lemmas.Bool.{and_parts, eqb-true}
+use Rattle.std.proofs.lemmas.List.{get_or-replicate}
+use Rattle.std.proofs.lemmas.Option.{none-some, same_Some}
+use Rattle.key_slots.proofs.Wiping.{ends_none, ends_one}
 use Rattle.key_slots.proofs.Pairs.{counted, elsewhere, was_out, nobody, nothing_out, one_more, one_less, one_filling, no_filling, is_lease, is_fill}
 
 -- A SLOT THAT IS SET
@@ -44,9 +47,7 @@ out_within slots store all i n a out = elim (cases_lt i 384) [
 
 only_filling : (state : SlotState) → is_filling state ≡ true → state ≡ Filling
 only_filling Filling is = refl
-only_filling Empty is = absurd (false≢true is)
-only_filling Full is = absurd (false≢true is)
-only_filling Pending is = absurd (false≢true is)
+only_filling state is = absurd (false≢true is)
 
 -- the slot of a filling that is out waits for its key
 pub is_waiting : (slots : List Slot) (store : Store) (all : List Pairs) (i : ℕ) → Agrees slots store all → 0 < named i 0 all → (i < 384) × ((slot_at slots i).state ≡ Filling)
@@ -80,52 +81,45 @@ unused : (s : Slot) (n : ℕ) → s.readers ≡ 0 → is_filling s.state ≡ fal
 unused s n unread still = ap (λ b. counted b s.creation s.readers n) still ∙ ap (λ r. counted false s.creation r n) unread ∙ nobody s.creation n
 
 -- the key of a slot that holds this identifier
+same_id : (id : ℕ) (s : Slot) → holds_key id s ≡ true → s.attributes.id.0 ≡ id
+same_id id s has = eqb-true s.attributes.id.0 id (and_parts (is_full s.state) (s.attributes.id.0 == id) has).1
+
 pub key_of_slot : (slots : List Slot) (store : Store) (all : List Pairs) (id i : ℕ) → Agrees slots store all → i < 384 → holds_key id (slot_at slots i) ≡ true → (key : Key) × (map.get store.keys id ≡ Some key) × SlotHasKey (slot_at slots i) key
 key_of_slot slots store all id i a inside has =
     let s = slot_at slots i in
     let f = (a.each i inside).full (ap is_full (key_is_full id s has)) in
-    (f.0, ap (map.get store.keys) (sym (same_id (is_full s.state) s.attributes.id.0 has)) ∙ f.1, f.2) where
-      same_id : (b : Bool) (n : ℕ) → b && (n == id) ≡ true → n ≡ id
-      same_id true n is = eqb-true n id is
-      same_id false n is = absurd (false≢true is)
+    (f.0, ap (map.get store.keys) (sym (same_id id s has)) ∙ f.1, f.2)
+
+-- the table has 384 slots
+inside_of : (t : Table) (i : ℕ) → IsLawful t → i < length t.slots → i < 384
+inside_of t i law short = let sized = law.sized in omega arith
 
 -- an idle slot has a persistent key
 idle_persists : (s : Slot) → is_idle s ≡ true → is_volatile s.attributes ≡ false
-idle_persists s is = apart (persistence s.attributes.lifetime.0) (middle (is_full s.state) (persistence s.attributes.lifetime.0 == 1) (s.readers == 0) is) where
-  middle : (a b c : Bool) → a && b && c ≡ true → b ≡ true
-  middle a true c is = refl
-  middle true false c is = absurd (false≢true is)
-  middle false false c is = absurd (false≢true is)
-
-  apart : (n : ℕ) → (n == 1) ≡ true → (n == 0) ≡ false
-  apart n is = grind (arith, nat_tests)
+idle_persists s is =
+    let kept = (and_parts (is_full s.state) _ (and_parts (is_full s.state && persistence s.attributes.lifetime.0 == 1) (s.readers == 0) is).0).1 in
+    ap (λ n. n == 0) (eqb-true (persistence s.attributes.lifetime.0) 1 kept)
 
 -- and so it has no volatile one
 not_volatile : (slots : List Slot) (store : Store) (all : List Pairs) (id i : ℕ) (key : Key) → Agrees slots store all → i < 384 → is_idle (slot_at slots i) ≡ true → map.get store.keys id ≡ Some key → is_volatile key.attributes ≡ true → holds_key id (slot_at slots i) ≡ true → ⊥
 not_volatile slots store all id i key a inside idle is volatile has =
     let k = key_of_slot slots store all id i a inside has in
-    let same : key ≡ k.0 = some_same key k.0 (sym is ∙ k.1) in
-    false≢true (sym (idle_persists (slot_at slots i) idle) ∙ ap is_volatile (k.2.attributes) ∙ ap (λ (x : Key). is_volatile x.attributes) (sym same) ∙ volatile) where
-      some_same : (a b : Key) → Some a ≡ Some b → a ≡ b
-      some_same a b e = cc
+    let same = same_Some key k.0 (sym is ∙ k.1) in
+    false≢true (sym (idle_persists (slot_at slots i) idle) ∙ ap is_volatile (k.2.attributes) ∙ ap (λ (x : Key). is_volatile x.attributes) (sym same) ∙ volatile)
 
 -- a persistent key that nobody reads leaves its slot
 pub evicts : (t : Table) (store : Store) (all : List Pairs) (i : ℕ) → IsLawful t → is_idle (slot_at t.slots i) ≡ true → Agrees t.slots store all → Agrees (set t.slots i empty_slot) store all
 evicts t store all i law idle a =
     let s = slot_at t.slots i in
     let full = idle_is_full s idle in
-    let short = full_within t.slots i full in
-    let sized = law.sized in
-    let inside : i < 384 = omega arith in
-    changed t.slots store all all i empty_slot sized inside a (λ j n other. refl)
+    let inside = inside_of t i law (full_within t.slots i full) in
+    changed t.slots store all all i empty_slot law.sized inside a (λ j n other. refl)
     (wiped store all i empty_slot refl refl (λ n. (a.each i inside).held n ∙ unused s n (idle_is_unread s idle) (ap is_filling full) ∙ sym (nobody 0 n)))
     (λ id key is volatile has. absurd (not_volatile t.slots store all id i key a inside idle is volatile has))
 
 only_empty : (state : SlotState) → is_empty_state state ≡ true → state ≡ Empty
 only_empty Empty is = refl
-only_empty Full is = absurd (false≢true is)
-only_empty Filling is = absurd (false≢true is)
-only_empty Pending is = absurd (false≢true is)
+only_empty state is = absurd (false≢true is)
 
 -- the slot that a reservation takes waits for no key
 next_is_still : (t : Table) (i : ℕ) → IsNext t i → is_filling (slot_at t.slots i).state ≡ false
@@ -144,27 +138,22 @@ next_not_volatile t store all id i key next a inside is volatile has = elim next
 -- a slot waits for its key
 pub reserves : (t : Table) (store : Store) (all more : List Pairs) (i : ℕ) → IsLawful t → IsNext t i → Gains all more (i, 0) → Agrees t.slots store all → Agrees (set t.slots i filling_slot) store more
 reserves t store all more i law next gains a =
-    let short = next_within t i next in
-    let sized = law.sized in
-    let inside : i < 384 = omega arith in
-    changed t.slots store all more i filling_slot sized inside a (elsewhere all more i 0 gains)
+    let inside = inside_of t i law (next_within t i next) in
+    changed t.slots store all more i filling_slot law.sized inside a (elsewhere all more i 0 gains)
     (wiped store more i filling_slot refl refl (λ n.
     let none : named i n all ≡ 0 = (a.each i inside).held n ∙ unused (slot_at t.slots i) n (next_is_unread t i law next) (next_is_still t i next) in
     let one = one_filling i n in
     let e = gains i n in
-    let sum : named i n more ≡ counted true 0 0 n = omega arith in
-    sum))
+    omega arith))
     (λ id key is volatile has. absurd (next_not_volatile t store all id i key next a inside is volatile has))
 
 -- a lease of a slot's key
 pub registers : (t : Table) (store : Store) (all more : List Pairs) (i : ℕ) → IsLawful t → (slot_at t.slots i).state ≡ Full → Gains all more (i, (slot_at t.slots i).creation + 1) → Agrees t.slots store all → Agrees (set t.slots i (registered (slot_at t.slots i))) store more
 registers t store all more i law full gains a =
     let s = slot_at t.slots i in
-    let short = full_within t.slots i full in
-    let sized = law.sized in
-    let inside : i < 384 = omega arith in
+    let inside = inside_of t i law (full_within t.slots i full) in
     let at = a.each i inside in
-    changed t.slots store all more i (registered s) sized inside a (elsewhere all more i (s.creation + 1) gains)
+    changed t.slots store all more i (registered s) law.sized inside a (elsewhere all more i (s.creation + 1) gains)
     (record {
       held = λ n. gains i n ∙ ap (λ m. m + same i n (i, s.creation + 1)) (at.held n) ∙ one_more (is_filling s.state) i s.creation s.readers n;
       full = λ is. let f = at.full is in (f.0, f.1, record { number = f.2.number; attributes = f.2.attributes; bytes = f.2.bytes });
@@ -198,19 +187,12 @@ leaves t store all less i c law gains a =
     changed t.slots store all less i (left s) law.sized r.0 a (λ j n other. sym (elsewhere less all i (c + 1) gains j n other))
     (stands s at fewer (is_last s) refl)
     (λ id key is volatile has. keeps s id has (is_last s) refl) where
-      pending_one : (b c : Bool) → b && c ≡ true → (b ≡ true) × (c ≡ true)
-      pending_one true true is = (refl, refl)
-      pending_one true false is = absurd (false≢true is)
-      pending_one false c is = absurd (false≢true is)
-
       only_pending : (state : SlotState) → is_pending state ≡ true → state ≡ Pending
       only_pending Pending is = refl
-      only_pending Empty is = absurd (false≢true is)
-      only_pending Filling is = absurd (false≢true is)
-      only_pending Full is = absurd (false≢true is)
+      only_pending state is = absurd (false≢true is)
 
       last_is : (s : Slot) → is_last s ≡ true → (s.state ≡ Pending) × (s.readers ≡ 1)
-      last_is s is = let two = pending_one (is_pending s.state) (s.readers == 1) is in (only_pending s.state two.0, eqb-true s.readers 1 two.1)
+      last_is s is = let two = and_parts (is_pending s.state) (s.readers == 1) is in (only_pending s.state two.0, eqb-true s.readers 1 two.1)
 
       stands : (s : Slot) → StandsAt store all i s → ((n : ℕ) → named i n less ≡ counted (is_filling s.state) s.creation (s.readers - 1) n) → (b : Bool) → is_last s ≡ b →
           StandsAt store less i (cond b empty_slot (record s { readers = s.readers - 1 }))
@@ -234,71 +216,57 @@ lives t store all i c law a out =
     let r = is_read t.slots store all i c a out in
     let at = a.each i r.0 in
     (λ is. let f = at.full is in (s.attributes.id.0, f.0, f.1, sym f.2.number ∙ sym r.1), λ has. full_one s (law.each i) at r.1 r.2 has s.state refl) where
-      clears : (s : Slot) (x : Slot) → 0 < s.readers → x.readers ≡ 0 → s ≡ x → ⊥
-      clears s x read none same = let e : s.readers ≡ x.readers = ap (λ (y : Slot). y.readers) same in omega arith
-
       full_one : (s : Slot) → IsLawfulSlot s → StandsAt store all i s → c ≡ s.creation → 0 < s.readers → HasNumber store c → (state : SlotState) → s.state ≡ state → is_full state ≡ true
       full_one s own at same read has Full is = refl
-      full_one s own at same read has Empty is = absurd (clears s empty_slot read refl (own.empty is))
-      full_one s own at same read has Filling is = absurd (clears s filling_slot read refl (own.filling is))
+      full_one s own at same read has Empty is = absurd (let none = ap (λ (y : Slot). y.readers) (own.empty is) in omega arith)
+      full_one s own at same read has Filling is = absurd (let none = ap (λ (y : Slot). y.readers) (own.filling is) in omega arith)
       full_one s own at same read has Pending is = absurd ((at.pending (ap is_pending is)).absent has.0 has.1 has.2 (has.3 ∙ same))
 
--- a purge: b says whether the slot was idle
-pub purges : (t new : Table) (b : Bool) (store : Store) (all : List Pairs) (i : ℕ) → IsLawful t → b ≡ is_idle (slot_at t.slots i) → OnTrue b (new.slots ≡ set t.slots i empty_slot) → OnFalse b (new ≡ t) → Agrees t.slots store all → Agrees new.slots store all
-purges t new true store all i law is emptied same a = rw emptied (evicts t store all i law (sym is) a)
-purges t new false store all i law is emptied same a = rw same a
+-- what a purge makes of a table
+pub record IsPurged (id : ℕ) (old new : Table) : Type 0 where
+  pub stays : (store : Store) (all : List Pairs) → Agrees old.slots store all → Agrees new.slots store all
+  pub wiped : (k : ℕ) → holds_key id (slot_at new.slots k) ≡ true → is_idle (slot_at new.slots k) ≡ false
+  pub others : (k : ℕ) → holds_key id (slot_at old.slots k) ≡ false → slot_at new.slots k ≡ slot_at old.slots k
+  pub wipes : EndsOnly old.slots new.slots (λ k s. IsIdleOf id s)
+  pub emptied : (k : ℕ) → IsIdleOf id (slot_at old.slots k) → slot_at new.slots k ≡ empty_slot
 
--- after it no idle slot has its key
-pub purged : (t new : Table) (b : Bool) (id i : ℕ) → IsLawful t → holds_key id (slot_at t.slots i) ≡ true → b ≡ is_idle (slot_at t.slots i) → OnTrue b (new.slots ≡ set t.slots i empty_slot) → OnFalse b (new ≡ t) →
-    (k : ℕ) → holds_key id (slot_at new.slots k) ≡ true → is_idle (slot_at new.slots k) ≡ false
-purged t new true id i law has is emptied same k =
-    rw emptied (at_each (λ j x. holds_key id x ≡ true → is_idle x ≡ false) t.slots i empty_slot (full_within t.slots i (key_is_full id (slot_at t.slots i) has)) (λ had. absurd (false≢true had)) (λ j other had. absurd (other (law.one id j i had has))) k)
-purged t new false id i law has is emptied same k = rw same (λ had. ap (λ j. is_idle (slot_at t.slots j)) (law.one id k i had has) ∙ sym is)
-
--- and the other slots stay
-pub purge_leaves : (t new : Table) (b : Bool) (id i : ℕ) → holds_key id (slot_at t.slots i) ≡ true → OnTrue b (new.slots ≡ set t.slots i empty_slot) → OnFalse b (new ≡ t) → (k : ℕ) → holds_key id (slot_at t.slots k) ≡ false → slot_at new.slots k ≡ slot_at t.slots k
-purge_leaves t new true id i has emptied same k without =
-    ap (λ (ss : List Slot). slot_at ss k) emptied ∙ slot_at-set_other t.slots i k empty_slot (λ here. false≢true (sym without ∙ ap (λ j. holds_key id (slot_at t.slots j)) here ∙ has))
-purge_leaves t new false id i has emptied same k without = ap (λ (x : Table). slot_at x.slots k) same
+-- b says whether the slot was idle
+pub purges : (t new : Table) (b : Bool) (id i : ℕ) → IsLawful t → holds_key id (slot_at t.slots i) ≡ true → b ≡ is_idle (slot_at t.slots i) → OnTrue b (new.slots ≡ set t.slots i empty_slot) → OnFalse b (new ≡ t) → IsPurged id t new
+purges t new true id i law has is emptied same =
+    let within = full_within t.slots i (key_is_full id (slot_at t.slots i) has) in
+    record {
+      stays = λ store all a. rw emptied (evicts t store all i law (sym is) a);
+      wiped = λ k. rw emptied (at_each (λ j x. holds_key id x ≡ true → is_idle x ≡ false) t.slots i empty_slot within (λ had. absurd (false≢true had)) (λ j other had. absurd (other (law.one id j i had has))) k);
+      others = λ k without. ap (λ (ss : List Slot). slot_at ss k) emptied ∙ slot_at-set_other t.slots i k empty_slot (λ here. false≢true (sym without ∙ ap (λ j. holds_key id (slot_at t.slots j)) here ∙ has));
+      wipes = rw emptied (ends_one t.slots i empty_slot (λ k s. IsIdleOf id s) (inr (has, sym is)) within);
+      emptied = λ k idle. rw (emptied, law.one id k i idle.0 has) (slot_at-set_same t.slots i empty_slot within);
+    }
+purges t new false id i law has is emptied same = record {
+  stays = λ store all a. rw same a;
+  wiped = λ k. rw same (λ had. ap (λ j. is_idle (slot_at t.slots j)) (law.one id k i had has) ∙ sym is);
+  others = λ k without. ap (λ (x : Table). slot_at x.slots k) same;
+  wipes = rw same (ends_none t.slots (λ k s. IsIdleOf id s));
+  emptied = λ k idle. absurd (false≢true (is ∙ ap (λ j. is_idle (slot_at t.slots j)) (sym (law.one id k i idle.0 has)) ∙ idle.1));
+}
 
 -- KEYS THAT CHANGE
-
-some_same : {A : Type 0} (a b : A) → Some a ≡ Some b → a ≡ b
-some_same a b e = cc
-
-none_some : {A : Type 0} (a : A) → None ≡ Some a → ⊥
-none_some a e = cc
-
-same_id : (id : ℕ) (s : Slot) → holds_key id s ≡ true → s.attributes.id.0 ≡ id
-same_id id s has = go (is_full s.state) s.attributes.id.0 has where
-  go : (b : Bool) (n : ℕ) → b && (n == id) ≡ true → n ≡ id
-  go true n is = eqb-true n id is
-  go false n is = absurd (false≢true is)
 
 pub holds_its_key : (id : ℕ) (s : Slot) → is_full s.state ≡ true → s.attributes.id.0 ≡ id → holds_key id s ≡ true
 holds_its_key id s full same = ap (λ b. b && (s.attributes.id.0 == id)) full ∙ eq-eqb s.attributes.id.0 id same
 
--- a key that is gone stays so
-gone_fewer : (old new : Store) (id c : ℕ) → Puts old new id None → IsGone old c → IsGone new c
-gone_fewer old new id c puts gone = record {
+-- a key that is gone stays so, where what is put isn't it
+gone_on : (old new : Store) (id c : ℕ) (found : Option Key) → Puts old new id found → ((key : Key) → found ≡ Some key → key.number ≡ c → ⊥) → IsGone old c → IsGone new c
+gone_on old new id c found puts not_it gone = record {
   given = let before = gone.given in let more = puts.given in omega arith;
   absent = λ q key is number. elim (cases_eq q id) [
-    | inl same ↦ none_some key (sym puts.here ∙ ap (map.get new.keys) (sym same) ∙ is)
+    | inl same ↦ not_it key (sym puts.here ∙ ap (map.get new.keys) (sym same) ∙ is) number
     | inr other ↦ gone.absent q key (sym (puts.others q other) ∙ is) number
   ];
 }
 
-gone_more : (old new : Store) (id c : ℕ) (key : Key) → Puts old new id (Some key) → IsThereOrNew old id key → IsGone old c → IsGone new c
-gone_more old new id c key puts known gone = record {
-  given = let before = gone.given in let more = puts.given in omega arith;
-  absent = λ q x is number. elim (cases_eq q id) [
-    | inl same ↦ not_it (ap (λ (y : Key). y.number) (some_same key x (sym puts.here ∙ ap (map.get new.keys) (sym same) ∙ is)) ∙ number) known
-    | inr other ↦ gone.absent q x (sym (puts.others q other) ∙ is) number
-  ];
-} where
-  not_it : key.number ≡ c → IsThereOrNew old id key → ⊥
-  not_it number (inl there) = gone.absent id key there number
-  not_it number (inr new) = let given = gone.given in omega arith
+not_new : (old : Store) (id c : ℕ) (key : Key) → IsThereOrNew old id key → IsGone old c → key.number ≡ c → ⊥
+not_new old id c key (inl there) gone number = gone.absent id key there number
+not_new old id c key (inr new) gone number = let given = gone.given in omega arith
 
 -- a slot that hasn't the key which changes
 keeps_at : (old new : Store) (all more : List Pairs) (id k : ℕ) (found : Option Key) (s : Slot) → Puts old new id found → ((n : ℕ) → named k n more ≡ named k n all) → (holds_key id s ≡ true → ⊥) → (IsGone old s.creation → IsGone new s.creation) →
@@ -326,7 +294,7 @@ fills t old new all less key i number attributes bytes law unknown gains puts ha
             full = λ is. (key, puts.here, has);
             pending = λ is. absurd (false≢true is);
           })
-          (λ k other lt. keeps_at old new all less id k (Some key) (slot_at t.slots k) puts (λ n. sym (elsewhere less all i 0 gains k n other)) (λ is. false≢true (sym (unknown k) ∙ is)) (gone_more old new id (slot_at t.slots k).creation key puts known) (a.each k lt));
+          (λ k other lt. keeps_at old new all less id k (Some key) (slot_at t.slots k) puts (λ n. sym (elsewhere less all i 0 gains k n other)) (λ is. false≢true (sym (unknown k) ∙ is)) (λ gone. gone_on old new id (slot_at t.slots k).creation (Some key) puts (λ x same number. not_new old id (slot_at t.slots k).creation key known gone (ap (λ (y : Key). y.number) (same_Some key x same) ∙ number)) gone) (a.each k lt));
       beyond = λ k n past. let other : k ≢ i = omega arith in sym (elsewhere less all i 0 gains k n other) ∙ a.beyond k n past;
       found = λ q x is volatile. elim (cases_eq q id) [
         | inl same ↦ (i, inside, ap (holds_key q) (slot_at-set_same t.slots i s within) ∙ eq-eqb id q (sym same))
@@ -340,13 +308,11 @@ pub destroys : (t : Table) (old new : Store) (all : List Pairs) (id i : ℕ) →
 destroys t old new all id i law sound has puts a =
     let full = key_is_full id (slot_at t.slots i) has in
     let within = full_within t.slots i full in
-    let sized = law.sized in
-    let inside : i < 384 = omega arith in
     let s = slot_at t.slots i in
     record {
       each = at_each (λ k x. k < 384 → StandsAt new all k x) t.slots i (destroyed_slot s) within
           (λ lt. here s (a.each i lt) full (key_of_slot t.slots old all id i a lt has) (s.readers == 0) refl)
-          (λ k other lt. keeps_at old new all all id k None (slot_at t.slots k) puts (λ n. refl) (λ had. other (law.one id k i had has)) (gone_fewer old new id (slot_at t.slots k).creation puts) (a.each k lt));
+          (λ k other lt. keeps_at old new all all id k None (slot_at t.slots k) puts (λ n. refl) (λ had. other (law.one id k i had has)) (gone_on old new id (slot_at t.slots k).creation None puts (λ x same. absurd (none-some x same))) (a.each k lt));
       beyond = a.beyond;
       found = λ q x is volatile.
           let other = not_id q x is in
@@ -354,7 +320,7 @@ destroys t old new all id i law sound has puts a =
           (f.0, f.1, at_each (λ k y. holds_key q (slot_at t.slots k) ≡ true → holds_key q y ≡ true) t.slots i (destroyed_slot s) within (λ had. absurd (other (sym (same_id q s had) ∙ same_id id s has))) (λ k apart had. had) f.0 f.2);
     } where
       not_id : (q : ℕ) (x : Key) → map.get new.keys q ≡ Some x → q ≢ id
-      not_id q x is same = none_some x (sym puts.here ∙ ap (map.get new.keys) (sym same) ∙ is)
+      not_id q x is same = none-some x (sym puts.here ∙ ap (map.get new.keys) (sym same) ∙ is)
 
       here : (s : Slot) → StandsAt old all i s → s.state ≡ Full → (key : Key) × (map.get old.keys id ≡ Some key) × SlotHasKey s key → (b : Bool) → (s.readers == 0) ≡ b → StandsAt new all i (cond b empty_slot (record s { state = Pending }))
       here s at full k true unread = wiped new all i empty_slot refl refl (λ n. at.held n ∙ unused s n (eqb-true s.readers 0 unread) (ap is_filling full) ∙ sym (nobody 0 n))
@@ -387,11 +353,7 @@ quiet slots old new all a keeps = record {
 -- empty slots
 pub empty_ones : (store : Store) (callers : ℕ) → ((id : ℕ) → IsVolatileKey (map.get store.keys id) → ⊥) → Agrees (replicate 384 empty_slot) store (replicate callers [])
 empty_ones store callers none = record {
-  each = λ k lt. rw (all_empty 384 k) (wiped store (replicate callers []) k empty_slot refl refl (λ n. nothing_out callers k n ∙ sym (nobody 0 n)));
+  each = λ k lt. rw (get_or-replicate 384 k empty_slot empty_slot lt) (wiped store (replicate callers []) k empty_slot refl refl (λ n. nothing_out callers k n ∙ sym (nobody 0 n)));
   beyond = λ k n past. nothing_out callers k n;
   found = λ q x is volatile. absurd (none q (rw is volatile));
-} where
-  all_empty : (n i : ℕ) → slot_at (replicate n empty_slot) i ≡ empty_slot
-  all_empty zero i = refl
-  all_empty (suc n) zero = refl
-  all_empty (suc n) (suc i) = all_empty n i
+}

@@ -1,6 +1,7 @@
 -- How many slots are in use.
-use Rattle.std.proofs.Common.{All, Bool, List, None, Ok, Option, Some, [], ap, arith, cond, count_by, false, inl, inr, is_some, length, nat_lt, not, refl, suc, sym, true, ℕ, ◌&&◌, ◌*◌, ◌+◌, ◌-◌, ◌/◌, ◌<◌, ◌==◌, ◌^◌, ◌||◌, ◌∙◌, ◌∷◌, ◌≡◌, ◌≢◌, ◌≤◌, ◌⊎◌}
+use Rattle.std.proofs.Common.{All, Bool, List, None, Ok, Option, Some, [], ap, arith, cond, count_by, false, inl, inr, is_some, length, nat_lt, not, refl, suc, sym, true, ℕ, ◌&&◌, ◌*◌, ◌+◌, ◌-◌, ◌/◌, ◌<◌, ◌==◌, ◌^◌, ◌||◌, ◌∙◌, ◌∷◌, ◌≡◌, ◌≢◌, ◌≤◌, ◌⊎◌, ⊎_elim, eq-eqb}
 use Rattle.key_slots.proofs.Common.{Agrees, AreHoldings, Attributes, CanReserve, Empty, Filling, Full, IsChecked, IsHolding, IsLawful, IsLawfulSlot, IsSoundStore, Key, Pairs, Pending, Slot, SlotHasKey, SlotState, Store, Table, as_stated, cases_eq, false≢true, has_secure_element, identified, is_empty_state, is_filling, is_full, is_idle, is_lifetime, is_volatile, is_volatile_of, location, named, names, nat_tests, persistence, ranked, same, slot_at}
+use Rattle.std.proofs.lemmas.Bool.{and_from, and_parts, or_cases}
 use Rattle.std.proofs.lemmas.List.Elements.{All-head, All-tail}
 use Rattle.std.proofs.lemmas.List.Sums.{sum_by-cons}
 use Rattle.std.specs.declared.cmp.Ordering.TheVariants.{Equal}
@@ -37,23 +38,17 @@ named_fit m test n b each few (own ∷ all) law =
     let times : suc (length all) * b ≡ length all * b + b = grind arith in
     omega arith
 
-is_filling_pair : (i : ℕ) (p : ℕ × ℕ) → same i 0 p ≤ cond (p.1 == 0) 1 0
-is_filling_pair i p = grind (arith, nat_tests)
-
-is_lease_pair : (i c : ℕ) (p : ℕ × ℕ) → same i (c + 1) p ≤ cond (nat_lt 0 p.1) 1 0
-is_lease_pair i c p = grind (arith, nat_tests)
-
 -- at most 16 fillings are out
 pub few_fillings : (all : List Pairs) (n : ℕ) → AreHoldings all → total (λ i. named i 0 all) n ≤ 16
 few_fillings all n law =
-    let fit = named_fit (λ i. 0) (λ p. p.1 == 0) n 1 is_filling_pair (λ own own_law. own_law.fillings) all law.each in
+    let fit = named_fit (λ i. 0) (λ p. p.1 == 0) n 1 (λ i p. grind (arith, nat_tests)) (λ own own_law. own_law.fillings) all law.each in
     let callers = law.callers in
     omega arith
 
 -- and at most 80 leases
 pub few_leases : (all : List Pairs) (c : ℕ → ℕ) (n : ℕ) → AreHoldings all → total (λ i. named i (c i + 1) all) n ≤ 80
 few_leases all c n law =
-    let fit = named_fit (λ i. c i + 1) (λ p. nat_lt 0 p.1) n 5 (λ i p. is_lease_pair i (c i) p) (λ own own_law. own_law.leases) all law.each in
+    let fit = named_fit (λ i. c i + 1) (λ p. nat_lt 0 p.1) n 5 (λ i p. grind (arith, nat_tests)) (λ own own_law. own_law.leases) all law.each in
     let callers = law.callers in
     omega arith
 
@@ -70,15 +65,6 @@ few_of_one all i c law =
 abbrev is_of_caller : ℕ → Slot → Bool
 is_of_caller caller s = is_full s.state && (is_volatile s.attributes && is_volatile_of caller s.attributes.id.0)
 
-three : (a b c : Bool) → a && (b && c) ≡ true → (a ≡ true) × (b ≡ true) × (c ≡ true)
-three true true true is = (refl, refl, refl)
-three true true false is = absurd (false≢true is)
-three true false c is = absurd (false≢true is)
-three false b c is = absurd (false≢true is)
-
-three_back : (a b c : Bool) → a ≡ true → b ≡ true → c ≡ true → a && (b && c) ≡ true
-three_back a b c first second third = ap (λ x. x && (b && c)) first ∙ ap (λ x. x && c) second ∙ third
-
 -- at most 16 slots have a volatile key of one caller
 few_of_caller : (t : Table) (store : Store) (all : List Pairs) → IsLawful t → Agrees t.slots store all → IsSoundStore store → (caller : ℕ) →
     total (λ i. cond (is_of_caller caller (slot_at t.slots i)) 1 0) 384 ≤ 16
@@ -86,8 +72,8 @@ few_of_caller t store all law a sound caller =
     let fit = into_map (map.retain_keys store.keys (is_volatile_of caller)) (λ i. (slot_at t.slots i).attributes.id.0) (λ i. is_of_caller caller (slot_at t.slots i)) 384 has one in
     let live = sound.live caller in
     omega arith where
-      parts : (i : ℕ) → is_of_caller caller (slot_at t.slots i) ≡ true → (is_full (slot_at t.slots i).state ≡ true) × (is_volatile (slot_at t.slots i).attributes ≡ true) × (is_volatile_of caller (slot_at t.slots i).attributes.id.0 ≡ true)
-      parts i is = let s = slot_at t.slots i in three (is_full s.state) (is_volatile s.attributes) (is_volatile_of caller s.attributes.id.0) is
+      parts : (i : ℕ) → is_of_caller caller (slot_at t.slots i) ≡ true → (is_full (slot_at t.slots i).state ≡ true) × ((is_volatile (slot_at t.slots i).attributes ≡ true) × (is_volatile_of caller (slot_at t.slots i).attributes.id.0 ≡ true))
+      parts i is = let s = slot_at t.slots i in let rest = and_parts (is_full s.state) _ is in (rest.0, and_parts (is_volatile s.attributes) (is_volatile_of caller s.attributes.id.0) rest.1)
 
       kept : (q : ℕ) → map.get (map.retain_keys store.keys (is_volatile_of caller)) q ≡ cond (is_volatile_of caller q) (map.get store.keys q) None
       kept q = map.get-retain_keys store.keys (is_volatile_of caller) q (λ x tied. ap (is_volatile_of caller) (sym (ranked q x Equal (sym tied))))
@@ -97,7 +83,7 @@ few_of_caller t store all law a sound caller =
           let p = parts i is in
           let id = (slot_at t.slots i).attributes.id.0 in
           let f = (a.each i lt).full p.0 in
-          ap is_some (kept id ∙ ap (λ b. cond b (map.get store.keys id) None) p.2 ∙ f.1)
+          ap is_some (kept id ∙ ap (λ b. cond b (map.get store.keys id) None) p.1.1 ∙ f.1)
 
       one : (i j : ℕ) → i < 384 → j < 384 → is_of_caller caller (slot_at t.slots i) ≡ true → is_of_caller caller (slot_at t.slots j) ≡ true → (slot_at t.slots i).attributes.id.0 ≡ (slot_at t.slots j).attributes.id.0 → i ≡ j
       one i j at_i at_j is_i is_j same_id =
@@ -116,10 +102,6 @@ few_volatile t store all law a sound =
     let most = total-most (λ c. total (λ i. cond (is_of_caller (c + 1) (slot_at t.slots i)) 1 0) 384) 16 (λ c lt. few_of_caller t store all law a sound (c + 1)) in
     omega arith
 
--- an identifier's creator
-creator_of : (id c n : ℕ) → id ≡ 0x40000000 + c * 2 ^ 20 + n → n < 2 ^ 20 → id / 2 ^ 20 ≡ 1024 + c
-creator_of id c n is lt = omega arith
-
 -- each of them is counted
 callers_of-at : (s : Slot) (c : ℕ) → c < 16 → cond (is_of_caller (c + 1) s) 1 0 ≤ callers_of s
 unfolding callers_of
@@ -134,22 +116,23 @@ has_caller store s sound full volatile k =
     let last = own.to_last in
     let least = own.made.1 in
     let made = sound.made c in
-    let from = creator_of s.attributes.id.0 c own.made.0 own.made.2 (omega arith) in
+    let at = own.made.2 in
+    let from : s.attributes.id.0 / 2 ^ 20 ≡ 1024 + c = omega arith in
     let back : c - 1 + 1 ≡ c = omega arith in
-    let its : is_of_caller (c - 1 + 1) s ≡ true = three_back (is_full s.state) (is_volatile s.attributes) (is_volatile_of (c - 1 + 1) s.attributes.id.0) full volatile (by_number (s.attributes.id.0 / 2 ^ 20) (1024 + (c - 1 + 1)) (omega arith)) in
+    let its : is_of_caller (c - 1 + 1) s ≡ true = and_from (is_full s.state) _ full (and_from (is_volatile s.attributes) _ volatile (eq-eqb (s.attributes.id.0 / 2 ^ 20) (1024 + (c - 1 + 1)) (omega arith))) in
     let one : ◌≡◌ {A = ℕ} (cond (is_of_caller (c - 1 + 1) s) 1 0) 1 = ap (λ b. cond b 1 0) its in
-    let at = callers_of-at s (c - 1) (omega arith) in
-    omega arith where
-      by_number : (a b : ℕ) → a ≡ b → (a == b) ≡ true
-      by_number a b e = grind (arith, nat_tests)
+    let counted = callers_of-at s (c - 1) (omega arith) in
+    omega arith
 
 -- a sound key is volatile or persistent
 lifetime_of : (a : Attributes) (bytes : ℕ) (store : Store) → IsChecked a bytes store → (is_volatile a ≡ true) ⊎ ((persistence a.lifetime.0 == 1) ≡ true)
 lifetime_of a bytes store checked =
     let l = (as_stated a).lifetime.0 in
     let same : l ≡ a.lifetime.0 = as_stated_lifetime (is_volatile a) in
-    either (persistence a.lifetime.0 == 0) (location a.lifetime.0 == 0 || (location a.lifetime.0 == 1 && has_secure_element store)) (persistence a.lifetime.0 == 1) (location a.lifetime.0 == 0)
-    (ap (λ n. is_lifetime n (has_secure_element store)) (sym same) ∙ passed (is_lifetime l (has_secure_element store)) _ _ _ checked) where
+    let driven = location a.lifetime.0 == 0 || (location a.lifetime.0 == 1 && has_secure_element store) in
+    let lifetime : is_lifetime a.lifetime.0 (has_secure_element store) ≡ true = ap (λ n. is_lifetime n (has_secure_element store)) (sym same) ∙ passed (is_lifetime l (has_secure_element store)) _ _ _ checked in
+    ⊎_elim (λ h. inl (and_parts (is_volatile a) driven h).0) (λ h. inr (and_parts (persistence a.lifetime.0 == 1) (location a.lifetime.0 == 0) h).0)
+    (or_cases (is_volatile a && driven) (persistence a.lifetime.0 == 1 && location a.lifetime.0 == 0) lifetime) where
       as_stated_lifetime : (b : Bool) → (cond b (identified a 0) a).lifetime.0 ≡ a.lifetime.0
       as_stated_lifetime true = refl
       as_stated_lifetime false = refl
@@ -157,11 +140,6 @@ lifetime_of a bytes store checked =
       passed : (b : Bool) (rest : Option Status) (x y : Attributes) → unless (cond (not b) (Some NotSupported) rest) x ≡ Ok y → b ≡ true
       passed true rest x y h = refl
       passed false rest x y h = absurd (cc)
-
-      either : (p q r s : Bool) → (p && q) || (r && s) ≡ true → (p ≡ true) ⊎ (r ≡ true)
-      either true q r s h = inl refl
-      either false q true s h = inr refl
-      either false q false s h = absurd (false≢true h)
 
 -- ALL SLOTS
 
@@ -173,13 +151,10 @@ is_free s = is_empty_state s.state || is_idle s
 is_used : (s : Slot) (fillings readers callers : ℕ) → IsLawfulSlot s → is_free s ≡ false → fillings ≡ cond (is_filling s.state) 1 0 → readers ≡ s.readers →
     (is_full s.state ≡ true → (1 ≤ callers) ⊎ ((persistence s.attributes.lifetime.0 == 1) ≡ true)) → 1 ≤ fillings + readers + callers
 is_used s fillings readers callers law used fills reads kept = by_state s.state refl where
-  zero_test : (n : ℕ) → n ≡ 0 → (n == 0) ≡ true
-  zero_test n e = grind (arith, nat_tests)
-
   idle : s.state ≡ Full → (persistence s.attributes.lifetime.0 == 1) ≡ true → s.readers ≡ 0 → is_free s ≡ true
   idle is persistent unread =
       ap (λ x. is_empty_state x || (is_full x && (persistence s.attributes.lifetime.0 == 1) && (s.readers == 0))) is
-      ∙ ap (λ b. b && (s.readers == 0)) persistent ∙ zero_test s.readers unread
+      ∙ ap (λ b. b && (s.readers == 0)) persistent ∙ eq-eqb s.readers 0 unread
 
   by_state : (state : SlotState) → s.state ≡ state → 1 ≤ fillings + readers + callers
   by_state Empty is = absurd (false≢true (sym used ∙ ap (λ x. is_empty_state x || is_idle s) is))

@@ -1,6 +1,6 @@
 -- Sums over the numbers below a bound, and how many keys of a map can be named.
-use Rattle.std.proofs.Common.{Bool, None, ap, arith, cond, false, inl, inr, is_some, refl, suc, sym, true, zero, ℕ, ◌*◌, ◌+◌, ◌-◌, ◌<◌, ◌==◌, ◌∙◌, ◌≡◌, ◌≢◌, ◌≤◌, ◌⊎◌}
-use Rattle.key_slots.proofs.Common.{cases_eq, false≢true, nat_cmp_total, nat_tests}
+use Rattle.std.proofs.Common.{Bool, None, ap, arith, cond, false, inl, inr, is_some, refl, suc, sym, true, zero, ℕ, ◌*◌, ◌+◌, ◌-◌, ◌<◌, ◌∙◌, ◌≡◌, ◌≢◌, ◌≤◌, ◌⊎◌, ne_eqb}
+use Rattle.key_slots.proofs.Common.{cases_eq, false≢true, nat_cmp_total}
 use Rattle.std.specs.Cmp.{unsigned_tied}
 use Rattle.std.specs.Ordering.{nat_cmp}
 use Rattle.std.specs.FinMap as map
@@ -13,11 +13,6 @@ pub total-add : (f g : ℕ → ℕ) (n : ℕ) → total (λ i. f i + g i) n ≡ 
 unfolding total
 total-add f g zero = refl
 total-add f g (suc n) = let rest = total-add f g n in omega arith
-
-pub total-le : (f g : ℕ → ℕ) (n : ℕ) → ((i : ℕ) → i < n → f i ≤ g i) → total f n ≤ total g n
-unfolding total
-total-le f g zero each = omega arith
-total-le f g (suc n) each = let here = each n (omega arith) in let rest = total-le f g n (λ i lt. each i (omega arith)) in omega arith
 
 pub total-least : (f : ℕ → ℕ) (n : ℕ) → ((i : ℕ) → i < n → 1 ≤ f i) → n ≤ total f n
 unfolding total
@@ -95,10 +90,8 @@ into_map m f t (suc n) has one = elim (t n) as (λ b. t n ≡ b → cond b 1 0 +
       let rest = into_map (map.remove m (f n)) f t n
       (λ i lt passes.
       let other : f i ≢ f n = λ same. let e = one i n (omega arith) (omega arith) passes is same in omega arith in
-      ap is_some (map.get-remove nat_cmp_total m (f n) (f i) ∙ ap (λ b. cond b None (map.get m (f i))) (unsigned_tied (f i) (f n) ∙ apart (f i) (f n) other)) ∙ has i (omega arith) passes)
+      ap is_some (map.get-remove nat_cmp_total m (f n) (f i) ∙ ap (λ b. cond b None (map.get m (f i))) (unsigned_tied (f i) (f n) ∙ ne_eqb (f i) (f n) other)) ∙ has i (omega arith) passes)
       (λ i j at_i at_j. one i j (omega arith) (omega arith)) in
       omega arith
   | false ↦ λ is. let rest = into_map m f t n (λ i lt. has i (omega arith)) (λ i j at_i at_j. one i j (omega arith) (omega arith)) in omega arith
-] refl where
-  apart : (a b : ℕ) → a ≢ b → (a == b) ≡ false
-  apart a b other = grind (arith, nat_tests)
+] refl

@@ -1,8 +1,8 @@
 -- What each change of a slot ends.
 
 -- a slot keeps all
-use Rattle.std.proofs.Common.{Bool, List, Some, ap, cond, false, find, inl, inr, length, refl, set, sym, true, ℕ, ⊎_elim, ◌-◌, ◌<◌, ◌∙◌, ◌≡◌, ◌≢◌, ◌⊎◌}
-use Rattle.key_slots.proofs.Common.{EndsOnly, IsEmptyAt, IsEmptyOrIdle, IsIdleOf, IsLastOf, IsLawful, IsNext, Keeps, NoneEmpty, OnFalse, OnTrue, Slot, Table, cases_eq, destroyed_slot, empty_slot, false≢true, find_passes, full_within, holds_key, is_idle, is_last, key_is_full, left, registered, slot_at, slot_at-set_other, slot_at-set_same}
+use Rattle.std.proofs.Common.{Bool, List, Some, ap, cond, false, find, inl, inr, length, refl, set, true, ℕ, ⊎_elim, ◌-◌, ◌<◌, ◌∙◌, ◌≡◌, ◌≢◌, ◌⊎◌}
+use Rattle.key_slots.proofs.Common.{EndsOnly, IsEmptyAt, IsEmptyOrIdle, IsLastOf, IsLawful, IsNext, Keeps, NoneEmpty, Slot, Table, cases_eq, destroyed_slot, empty_slot, find_passes, full_within, holds_key, is_idle, is_last, key_is_full, left, slot_at, slot_at-set_other, slot_at-set_same}
 
 pub keeps_all : (s : Slot) → Keeps s s
 keeps_all s = record { state = refl; creation = refl; attributes = refl; buffer = refl }
@@ -52,10 +52,6 @@ next_taken t i next =
     (λ (idle : NoneEmpty t.slots × (find (λ k. is_idle (slot_at t.slots k)) t.recency ≡ Some i)). inr (find_passes (λ k. is_idle (slot_at t.slots k)) t.recency i idle.1))
     next
 
--- a lease is given
-pub lend_ends : (slots : List Slot) (i : ℕ) → i < length slots → EndsOnly slots (set slots i (registered (slot_at slots i))) (λ k s. ⊥)
-lend_ends slots i within = ends_one slots i (registered (slot_at slots i)) (λ k s. ⊥) (inl (record { state = refl; creation = refl; attributes = refl; buffer = refl })) within
-
 -- a lease is given back
 pub leave_ends : (slots : List Slot) (i : ℕ) → i < length slots → EndsOnly slots (set slots i (left (slot_at slots i))) (IsLastOf i)
 leave_ends slots i within = ends_one slots i (left (slot_at slots i)) (IsLastOf i) (here (slot_at slots i) (is_last (slot_at slots i)) refl) within where
@@ -67,23 +63,7 @@ pub last_empties : (slots : List Slot) (i : ℕ) → i < length slots → is_las
 last_empties slots i within last = slot_at-set_same slots i (left (slot_at slots i)) within ∙ ap (λ b. cond b empty_slot (record (slot_at slots i) { readers = (slot_at slots i).readers - 1 })) last
 
 -- a key is destroyed
-pub destroy_ends : (slots : List Slot) (id i : ℕ) → holds_key id (slot_at slots i) ≡ true → EndsOnly slots (set slots i (destroyed_slot (slot_at slots i))) (λ k s. holds_key id s ≡ true)
-destroy_ends slots id i has = ends_one slots i (destroyed_slot (slot_at slots i)) (λ k s. holds_key id s ≡ true) (inr has) (full_within slots i (key_is_full id (slot_at slots i) has))
-
 pub destroy_leaves : (t : Table) (id i : ℕ) → IsLawful t → holds_key id (slot_at t.slots i) ≡ true → (k : ℕ) → holds_key id (slot_at t.slots k) ≡ true →
     slot_at (set t.slots i (destroyed_slot (slot_at t.slots i))) k ≡ destroyed_slot (slot_at t.slots k)
 destroy_leaves t id i law has k had =
     rw (law.one id k i had has) (slot_at-set_same t.slots i (destroyed_slot (slot_at t.slots i)) (full_within t.slots i (key_is_full id (slot_at t.slots i) has)))
-
--- a purge: b says whether the slot was idle
-pub purge_ends : (t new : Table) (b : Bool) (id i : ℕ) → holds_key id (slot_at t.slots i) ≡ true → b ≡ is_idle (slot_at t.slots i) → OnTrue b (new.slots ≡ set t.slots i empty_slot) → OnFalse b (new ≡ t) →
-    EndsOnly t.slots new.slots (λ k s. IsIdleOf id s)
-purge_ends t new true id i has is emptied same = rw emptied (ends_one t.slots i empty_slot (λ k s. IsIdleOf id s) (inr (has, sym is)) (full_within t.slots i (key_is_full id (slot_at t.slots i) has)))
-purge_ends t new false id i has is emptied same = rw same (ends_none t.slots (λ k s. IsIdleOf id s))
-
-pub purge_empties : (t new : Table) (b : Bool) (id i : ℕ) → IsLawful t → holds_key id (slot_at t.slots i) ≡ true → b ≡ is_idle (slot_at t.slots i) → OnTrue b (new.slots ≡ set t.slots i empty_slot) → OnFalse b (new ≡ t) →
-    (k : ℕ) → IsIdleOf id (slot_at t.slots k) → slot_at new.slots k ≡ empty_slot
-purge_empties t new true id i law has is emptied same k idle =
-    rw (emptied, law.one id k i idle.0 has) (slot_at-set_same t.slots i empty_slot (full_within t.slots i (key_is_full id (slot_at t.slots i) has)))
-purge_empties t new false id i law has is emptied same k idle =
-    absurd (false≢true (is ∙ ap (λ j. is_idle (slot_at t.slots j)) (sym (law.one id k i idle.0 has)) ∙ idle.1))

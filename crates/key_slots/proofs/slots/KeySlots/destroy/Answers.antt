@@ -1,14 +1,16 @@
+use Rattle.std.proofs.Common.{inr, true, ◌≡◌}
+use Rattle.key_slots.proofs.Common.{full_within, holds_key, key_is_full, slot_at}
 use Rattle.key_slots.proofs.Agreeing.{destroys}
-use Rattle.key_slots.proofs.Wiping.{destroy_ends, destroy_leaves}
+use Rattle.key_slots.proofs.Wiping.{destroy_leaves, ends_one}
 use Rattle.key_slots.proofs.slots.KeySlots.destroy.Goals as goal
 
-pub returns-in-Some-clause-forgets : goal.returns-in-Some-clause-forgets
-returns-in-Some-clause-forgets c = λ old new all a sound puts.
-    rw c.mark.ensures.slots (destroys c.args.self.now.table old new all c.args.id.0 c.in-Some.slot c.args.self.now.lawful sound c.in-Some.ensures.found puts a)
-
-pub returns-in-Some-clause-wipes : goal.returns-in-Some-clause-wipes
-returns-in-Some-clause-wipes c = rw c.mark.ensures.slots (destroy_ends c.args.self.now.table.slots c.args.id.0 c.in-Some.slot c.in-Some.ensures.found)
-
-pub returns-in-Some-clause-ended : goal.returns-in-Some-clause-ended
-returns-in-Some-clause-ended c = λ k had.
-    rw c.mark.ensures.slots (destroy_leaves c.args.self.now.table c.args.id.0 c.in-Some.slot c.args.self.now.lawful c.in-Some.ensures.found k had)
+pub returns-in-Some : goal.returns-in-Some
+returns-in-Some c =
+    let t = c.args.self.now.table in
+    let i = c.in-Some.slot in
+    let has = c.in-Some.ensures.found in
+    record {
+      forgets = λ old new all a sound puts. rw c.mark.ensures.slots (destroys t old new all c.args.id.0 i c.args.self.now.lawful sound has puts a);
+      wipes = rw c.mark.ensures.slots (ends_one t.slots i _ (λ k s. holds_key c.args.id.0 s ≡ true) (inr has) (full_within t.slots i (key_is_full c.args.id.0 (slot_at t.slots i) has)));
+      ended = λ k had. rw c.mark.ensures.slots (destroy_leaves t c.args.id.0 i c.args.self.now.lawful has k had);
+    }

@@ -1,7 +1,6 @@
 use Rattle.std.proofs.Common.{inr, refl}
-use Rattle.key_slots.proofs.Common.{IsFillingOf, filling_within, full_slot}
-use Rattle.key_slots.proofs.Agreeing.{fills}
-use Rattle.key_slots.proofs.Agreeing.{is_waiting}
+use Rattle.key_slots.proofs.Common.{IsFillingOf, filling_within}
+use Rattle.key_slots.proofs.Agreeing.{fills, is_waiting}
 use Rattle.key_slots.proofs.Wiping.{ends_one}
 use Rattle.key_slots.proofs.slots.KeySlots.fill.Goals as goal
 
@@ -12,7 +11,6 @@ returns-clause-takes c = λ old new all less key a gains puts has known.
 pub returns-clause-wipes : goal.returns-clause-wipes
 returns-clause-wipes c =
     let slots = c.args.self.now.table.slots in
-    let i = c.args.filling.slot in
     let out = c.requires.out in
-    let w = is_waiting slots out.store out.all i out.agrees out.out in
-    rw c.finish.ensures.slots (ends_one slots i (full_slot c.args.number c.args.attributes.now c.args.bytes.now) (IsFillingOf i) (inr (refl, w.1)) (filling_within slots i w.1))
+    let waiting = (is_waiting slots out.store out.all c.args.filling.slot out.agrees out.out).1 in
+    rw c.finish.ensures.slots (ends_one slots c.args.filling.slot _ (IsFillingOf c.args.filling.slot) (inr (refl, waiting)) (filling_within slots c.args.filling.slot waiting))

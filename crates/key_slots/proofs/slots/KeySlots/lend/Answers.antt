@@ -1,8 +1,8 @@
-use Rattle.std.proofs.Common.{ap}
+use Rattle.std.proofs.Common.{ap, inl, refl}
 use Rattle.key_slots.proofs.Common.{full_within}
 use Rattle.slot_table.specs.Lent.{Reading}
 use Rattle.key_slots.proofs.Agreeing.{registers}
-use Rattle.key_slots.proofs.Wiping.{lend_ends}
+use Rattle.key_slots.proofs.Wiping.{ends_one}
 use Rattle.key_slots.proofs.slots.KeySlots.lend.Goals as goal
 
 pub returns-clause-gives : goal.returns-clause-gives
@@ -13,4 +13,4 @@ returns-clause-gives c = λ store all more a gains.
 pub returns-clause-wipes : goal.returns-clause-wipes
 returns-clause-wipes c =
     let slots = c.args.self.now.table.slots in
-    rw c.register.ensures.slots (lend_ends slots c.args.slot (full_within slots c.args.slot c.requires.full))
+    rw c.register.ensures.slots (ends_one slots c.args.slot _ (λ k s. ⊥) (inl (record { state = refl; creation = refl; attributes = refl; buffer = refl })) (full_within slots c.args.slot c.requires.full))
