@@ -1,18 +1,15 @@
 -- A store with one key more.
-use Rattle.std.proofs.Common.{Bool, List, None, Option, Some, [], ap, arith, cond, eq-eqb, false, inl, inr, length, nat_lt, refl, set, slice_index, slice_set, subst, sym, true, ℕ, ◌*◌, ◌+◌, ◌/◌, ◌<◌, ◌==◌, ◌^◌, ◌∙◌, ◌≡◌, ◌≢◌, ◌≤◌, ◌⊎◌}
+use Rattle.std.proofs.Common.{ne_eqb, Bool, List, None, Option, Some, [], ap, arith, cond, eq-eqb, false, inl, inr, length, nat_lt, refl, set, slice_index, slice_set, subst, sym, true, ℕ, ◌*◌, ◌+◌, ◌/◌, ◌<◌, ◌==◌, ◌^◌, ◌∙◌, ◌≡◌, ◌≢◌, ◌≤◌, ◌⊎◌}
 use Rattle.store_core.proofs.Common.{Attributes, Free, HeldKey, HeldKeys, HoldsHandle, HoldsKeys, IsDirectory, IsFirstWithoutKey, IsPut, IsSomeKey, IsSoundStore, IsStated, IsThereOrNew, Key, Lacks, MayBeKept, Open, Puts, Shut, SlotHasKey, Unsure, bytes-buffer_of, cases_eq, cell_slot, count_persistent, counted, created, durable_keys, false≢true, full_slot, held_key, identified, is_opaque, is_open, is_volatile, is_volatile_of, kept, len_kept-insert, length-map, live_volatile, made_of, made_with, nat_cmp_total, nat_tests, new_id, new_is_free, new_key, of_volatile, put, room_of, settled_slot, settled_slots, stated_id, stored, unsigned_tied, with_held_key}
 use Rattle.std.proofs.lemmas.Bool.{eqb-true}
+use Rattle.std.proofs.lemmas.Option.{none-some, same_Some}
 use Rattle.std.proofs.lemmas.List.{get_or-set_same, get_or-set_other}
 use Rattle.std.specs.Option.{option_map}
 use Rattle.std.specs.FinMap as map
 use Rattle.key_cells.specs.declared.slot.Slot as cell
 use Rattle.store_model.specs.Store as model
 use Rattle.store_core.proofs.Kept.{HasCellKey}
-use Rattle.store_core.proofs.Replaced.{some_same}
 use Rattle.store_core.proofs.Removing.{settled_at, settled_opens}
-
-apart : (n k : ℕ) → n ≢ k → (n == k) ≡ false
-apart n k differ = grind (arith, nat_tests)
 
 module _ (m : model.Store) (caller : ℕ) (recorded : Attributes) (bytes : List ℕ) (first : 1 ≤ caller) (last : caller ≤ 16) (sound : IsSoundStore m) (may : MayBeKept m caller recorded (length bytes)) where
   abbrev pub id : ℕ
@@ -31,7 +28,7 @@ module _ (m : model.Store) (caller : ℕ) (recorded : Attributes) (bytes : List 
   put_here = put m.keys id new id ∙ ap (λ b. cond b (Some new) (map.get m.keys id)) (eq-eqb id id refl)
 
   pub put_other : (q : ℕ) → q ≢ id → map.get after.keys q ≡ map.get m.keys q
-  put_other q other = put m.keys id new q ∙ ap (λ b. cond b (Some new) (map.get m.keys q)) (apart q id other)
+  put_other q other = put m.keys id new q ∙ ap (λ b. cond b (Some new) (map.get m.keys q)) (ne_eqb q id other)
 
   -- what is found afterwards was there, or is the new key
   abbrev pub IsOldOrNew : ℕ → Key → Type 0
@@ -39,7 +36,7 @@ module _ (m : model.Store) (caller : ℕ) (recorded : Attributes) (bytes : List 
 
   pub old_or_new : (q : ℕ) (k : Key) → map.get after.keys q ≡ Some k → IsOldOrNew q k
   old_or_new q k is = elim (cases_eq q id) [
-    | inl same ↦ inl (same, some_same new k (sym put_here ∙ (ap (map.get after.keys) (sym same) ∙ is)))
+    | inl same ↦ inl (same, same_Some new k (sym put_here ∙ (ap (map.get after.keys) (sym same) ∙ is)))
     | inr other ↦ inr (other, sym (put_other q other) ∙ is)
   ]
 
@@ -112,7 +109,7 @@ module _ (m : model.Store) (caller : ℕ) (recorded : Attributes) (bytes : List 
     of_caller c = let at = volatile_id in let few = few_made in omega arith
 
     live_other : (c : ℕ) → c ≢ caller → live_volatile after.keys c ≡ live_volatile m.keys c
-    live_other c differ = counts (is_volatile_of c) ∙ ap (λ b. cond b (live_volatile m.keys c + 1) (live_volatile m.keys c)) (apart (id / 2 ^ 20) (1024 + c) (λ same. let own = of_caller c in differ (omega arith)))
+    live_other c differ = counts (is_volatile_of c) ∙ ap (λ b. cond b (live_volatile m.keys c + 1) (live_volatile m.keys c)) (ne_eqb (id / 2 ^ 20) (1024 + c) (λ same. let own = of_caller c in differ (omega arith)))
 
     live_own : live_volatile after.keys caller ≡ live_volatile m.keys caller + 1
     live_own = counts (is_volatile_of caller) ∙ ap (λ b. cond b (live_volatile m.keys caller + 1) (live_volatile m.keys caller)) (eq-eqb (id / 2 ^ 20) (1024 + caller) (of_caller caller))
@@ -158,11 +155,8 @@ module _ (m : model.Store) (caller : ℕ) (recorded : Attributes) (bytes : List 
     only = λ c q number lt at. let k = d.only c q number lt at in (k.0, put_other q (λ same. not_new q k.0 k.1 same) ∙ k.1, k.2, k.3);
     one = d.one;
   } where
-    none_some : (k : Key) → None ≡ Some k → ⊥
-    none_some k e = cc
-
     not_new : (q : ℕ) (k : Key) → map.get m.keys q ≡ Some k → q ≡ id → ⊥
-    not_new q k e same = none_some k (sym none_here ∙ (ap (map.get m.keys) (sym same) ∙ e))
+    not_new q k e same = none-some k (sym none_here ∙ (ap (map.get m.keys) (sym same) ∙ e))
 
     in_cell : (q : ℕ) (k : Key) → IsOldOrNew q k → is_volatile k.attributes ≡ false → (c : ℕ) × (c < 512) × (cell_slot slots c ≡ Open q k.number)
     in_cell q k (inl here) lasts = absurd (false≢true (sym lasts ∙ (ap (λ (x : Key). is_volatile x.attributes) (sym here.1) ∙ is)))
@@ -181,18 +175,7 @@ module _ (m : model.Store) (caller : ℕ) (recorded : Attributes) (bytes : List 
     elsewhere other differ = ap (λ (l : List cell.Slot). cell_slot l other) placed ∙ (get_or-set_other (settled_slots slots) c other (Open recorded.id.0 (m.found + m.calls)) Free differ ∙ settled_at slots other)
 
     opens_twice : (q n r k : ℕ) → Open q n ≡ Open r k → (q ≡ r) × (n ≡ k)
-    opens_twice q n r k e = (ap id_in e, ap number_in e) where
-      id_in : cell.Slot → ℕ
-      id_in (Open q n) = q
-      id_in Free = 0
-      id_in Shut = 0
-      id_in Unsure = 0
-
-      number_in : cell.Slot → ℕ
-      number_in (Open q n) = n
-      number_in Free = 0
-      number_in Shut = 0
-      number_in Unsure = 0
+    opens_twice q n r k e = (cc, cc)
 
     -- an open cell is the new key's, or was there
     abbrev IsOpenCell : (x q n : ℕ) → Type 0
@@ -208,11 +191,8 @@ module _ (m : model.Store) (caller : ℕ) (recorded : Attributes) (bytes : List 
     not_first : (x q n : ℕ) → cell_slot slots x ≡ Open q n → x ≢ c
     not_first x q n at same = false≢true (sym without.here ∙ (ap (λ k. is_open (cell_slot slots k)) (sym same) ∙ ap is_open at))
 
-    none_some : (k : Key) → None ≡ Some k → ⊥
-    none_some k e = cc
-
     not_new : (q : ℕ) (k : Key) → map.get m.keys q ≡ Some k → q ≢ recorded.id.0
-    not_new q k e same = none_some k (sym (none_stated is) ∙ (ap (map.get m.keys) (sym same) ∙ e))
+    not_new q k e same = none-some k (sym (none_stated is) ∙ (ap (map.get m.keys) (sym same) ∙ e))
 
     pub directory_placed : IsDirectory slots' after
     directory_placed = record {
@@ -255,7 +235,7 @@ module _ (m : model.Store) (caller : ℕ) (recorded : Attributes) (bytes : List 
   held_here held number = map.get-insert nat_cmp_total held number own_key number ∙ ap (λ b. cond b (Some own_key) (held_key held number)) (unsigned_tied number number ∙ eq-eqb number number refl)
 
   held_other : (held : HeldKeys) (number handle : ℕ) → handle ≢ number → held_key (with_held_key number own_key held) handle ≡ held_key held handle
-  held_other held number handle differ = map.get-insert nat_cmp_total held number own_key handle ∙ ap (λ b. cond b (Some own_key) (held_key held handle)) (unsigned_tied handle number ∙ apart handle number differ)
+  held_other held number handle differ = map.get-insert nat_cmp_total held number own_key handle ∙ ap (λ b. cond b (Some own_key) (held_key held handle)) (unsigned_tied handle number ∙ ne_eqb handle number differ)
 
   others_held : (held : Option HeldKeys) (number handle : ℕ) (P : HeldKey → Type 0) → handle ≢ number → HoldsHandle held handle P → HoldsHandle (option_map (with_held_key number own_key) held) handle P
   others_held None number handle P differ is = tt

@@ -1,6 +1,7 @@
 -- What a creation records, as the store's counts have it.
-use Rattle.std.proofs.Common.{Bool, Err, List, None, Ok, Option, Result, Some, ap, arith, cond, eq-eqb, false, inl, inr, is_some, nat_le, not, refl, true, ℕ, ◌%◌, ◌&&◌, ◌<◌, ◌==◌, ◌^◌, ◌||◌, ◌∙◌, ◌≡◌, ◌≢◌, ◌≤◌, ◌⊎◌}
+use Rattle.std.proofs.Common.{ne_eqb, Bool, Err, List, None, Ok, Option, Result, Some, ap, arith, cond, eq-eqb, false, inl, inr, is_some, nat_le, not, refl, true, ℕ, ◌%◌, ◌&&◌, ◌<◌, ◌==◌, ◌^◌, ◌||◌, ◌∙◌, ◌≡◌, ◌≢◌, ◌≤◌, ◌⊎◌}
 use Rattle.store_core.proofs.Common.{AlreadyExists, Attributes, InsufficientStorage, KeyLimit, Label, NotSupported, Status, after_rules, checked, count_persistent, first_row, has_secure_element, is_volatile, live_volatile, made_of, nat_tests, recorded_of, room_for_key_rows, unless}
+use Rattle.std.proofs.lemmas.Bool.{le-leb, lt-leb, or_right}
 use Rattle.std.specs.FinMap as map
 use Rattle.psa_status.specs.Rows.{◌>>=◌}
 use Rattle.store_model.specs.Store as model
@@ -36,24 +37,12 @@ module _ (m : model.Store) (caller : ℕ) (a : Attributes) (n : ℕ) (element : 
 
 -- THE ROOM
 
-at_least : (least n : ℕ) → least ≤ n → nat_le least n ≡ true
-at_least least n is = grind (arith, nat_tests)
-
-below : (least n : ℕ) → n < least → nat_le least n ≡ false
-below least n is = grind (arith, nat_tests)
-
-apart : (n k : ℕ) → n ≢ k → (n == k) ≡ false
-apart n k differ = grind (arith, nat_tests)
-
 many : (live made : ℕ) → (16 ≤ live) ⊎ (2 ^ 20 ≤ made) → (nat_le 16 live || nat_le (2 ^ 20) made) ≡ true
-many live made (inl is) = ap (λ b. b || nat_le (2 ^ 20) made) (at_least 16 live is)
-many live made (inr is) = either (nat_le 16 live) (nat_le (2 ^ 20) made) (at_least (2 ^ 20) made is) where
-  either : (a b : Bool) → b ≡ true → (a || b) ≡ true
-  either true b is = refl
-  either false b is = is
+many live made (inl is) = ap (λ b. b || nat_le (2 ^ 20) made) (le-leb 16 live is)
+many live made (inr is) = or_right (nat_le 16 live) (nat_le (2 ^ 20) made) (le-leb (2 ^ 20) made is)
 
 few : (live made : ℕ) → live < 16 → made < 2 ^ 20 → (nat_le 16 live || nat_le (2 ^ 20) made) ≡ false
-few live made alive all = ap (λ b. b || nat_le (2 ^ 20) made) (below 16 live alive) ∙ below (2 ^ 20) made all
+few live made alive all = ap (λ b. b || nat_le (2 ^ 20) made) (lt-leb 16 live alive) ∙ lt-leb (2 ^ 20) made all
 
 abbrev RowsAre : (volatile there limit full : Bool) → Option Status
 RowsAre volatile there limit full = cond (volatile && limit) (Some KeyLimit) (cond (not volatile && there) (Some AlreadyExists) (cond (not volatile && full) (Some InsufficientStorage) None))
@@ -83,13 +72,13 @@ module _ (m : model.Store) (caller : ℕ) (a : Attributes) where
       (ap (λ n. nat_le 16 n || nat_le (2 ^ 20) (made_of m caller)) lives ∙ (ap (λ n. nat_le 16 live || nat_le (2 ^ 20) n) makes ∙ few live made alive all)) refl
 
   lasts : a.lifetime.0 % 2 ^ 8 ≢ 0 → is_volatile a ≡ false
-  lasts not = apart (a.lifetime.0 % 2 ^ 8) 0 not
+  lasts not = ne_eqb (a.lifetime.0 % 2 ^ 8) 0 not
 
   pub exists : a.lifetime.0 % 2 ^ 8 ≢ 0 → there_is ≡ true → here ≡ Some AlreadyExists
   exists not is = rows (is_volatile a) there_is limit_is full_is false true limit_is full_is (lasts not) is refl refl
 
   pub crowded : (kept : ℕ) → a.lifetime.0 % 2 ^ 8 ≢ 0 → there_is ≡ false → count_persistent m.keys ≡ kept → 512 ≤ kept → here ≡ Some InsufficientStorage
-  crowded kept not none count is = rows (is_volatile a) there_is limit_is full_is false false limit_is true (lasts not) none refl (ap (nat_le 512) count ∙ at_least 512 kept is)
+  crowded kept not none count is = rows (is_volatile a) there_is limit_is full_is false false limit_is true (lasts not) none refl (ap (nat_le 512) count ∙ le-leb 512 kept is)
 
   pub fits : (kept : ℕ) → a.lifetime.0 % 2 ^ 8 ≢ 0 → there_is ≡ false → count_persistent m.keys ≡ kept → kept < 512 → here ≡ None
-  fits kept not none count is = rows (is_volatile a) there_is limit_is full_is false false limit_is false (lasts not) none refl (ap (nat_le 512) count ∙ below 512 kept is)
+  fits kept not none count is = rows (is_volatile a) there_is limit_is full_is false false limit_is false (lasts not) none refl (ap (nat_le 512) count ∙ lt-leb 512 kept is)

@@ -1,6 +1,7 @@
 -- Turns in which the secure element computes.
-use Rattle.std.proofs.Common.{Bool, Err, IsErrOf, IsTrue, List, MatchOption, None, Ok, Option, Result, Some, [], ap, arith, cond, false, is_some, length, not, refl, subst, sym, true, ℕ, ◌&&◌, ◌++◌, ◌==◌, ◌||◌, ◌∙◌, ◌∷◌, ◌≡◌}
-use Rattle.store_core.proofs.Common.{AnswersCall, Attributes, Call, Entry, Failed, FaultCounts, FaultMark, Hardware, HasFault, HeldKey, HeldKeys, HoldsHandle, HoldsKeys, IsAnswered, IsComputed, IsOfElement, IsSomeKey, IsSoundStore, IsTold, IsVolatileKey, Key, MayBeMarked, OnStore, Opening, Pairs, Refused, Rose, Service, Status, Store, algorithm_asked, all_rows, attribute_rows, buffer_after, checked, class_asked, counted, element_reply, filled, first_row, first_row-back, first_row-front, fits_type, has_secure_element, held_key, identified, is_opaque, is_opaque_key, is_volatile, key_rows, last_counts, location, mark_computed, marked_reply, may_change_keys, model_call, nat_tests, none_holds, persistence, refusal, replay, reply_on, reply_to, reply_unless, rows_before, unless, unless-ok, usage_asked, use_rows}
+use Rattle.std.proofs.Common.{inl, Bool, Err, IsErrOf, IsTrue, List, MatchOption, None, Ok, Option, Result, Some, [], ap, arith, cond, false, is_some, length, not, refl, subst, sym, true, ℕ, ◌&&◌, ◌++◌, ◌==◌, ◌||◌, ◌∙◌, ◌∷◌, ◌≡◌}
+use Rattle.store_core.proofs.Common.{AnswersCall, Attributes, Call, Entry, Failed, FaultCounts, FaultMark, Hardware, HasFault, HeldKey, HeldKeys, Holds, HoldsHandle, HoldsKeys, IsAnswered, IsComputed, IsEntry, IsOfElement, IsSomeKey, IsSoundStore, IsTold, IsVolatileKey, Key, MayBeMarked, OnStore, Opening, Pairs, Refused, Rose, Service, StandsFor, Status, Store, algorithm_asked, all_rows, attribute_rows, buffer_after, checked, class_asked, counted, element_reply, filled, first_row, first_row-back, first_row-front, fits_type, has_secure_element, held_key, identified, is_opaque, is_opaque_key, is_volatile, key_rows, last_counts, location, mark_computed, marked_reply, may_change_keys, model_call, nat_tests, none_holds, persistence, refusal, replay, reply_on, reply_to, reply_unless, rows_before, unless, unless-ok, usage_asked, use_rows}
+use Rattle.std.proofs.lemmas.Bool.{eqb-true, false_from_ne_true, not-false, true_from_ne_false}
 use Rattle.disk_face.specs.declared.Disk as Disk
 use Rattle.driver_dispatch.specs.declared.devices.Devices as Devices
 use Rattle.admission.specs.declared.rules.Admission as Admission
@@ -12,7 +13,7 @@ use Rattle.secure_element_calls.specs.declared.calls.ElementCall.TheVariants.{Ma
 use Rattle.secure_element_calls.specs.declared.calls.NotComputed.{NotComputed}
 use Rattle.secure_element_calls.proofs.Replying.{asks}
 use Rattle.store_core.proofs.Histories.{told_before, quiet_leaves}
-use Rattle.store_core.proofs.Holding.{HoldsHere, StandsHere, IsTurn, turned, goes_on, left_alone, ends_quiet}
+use Rattle.store_core.proofs.Holding.{turned, carries, left_alone, ends_quiet}
 
 -- THE KEY
 
@@ -30,21 +31,14 @@ stays_local false true one lasts driver a b e = cc
 stays_local false false one true driver a b e = cc
 stays_local false false one false driver a b e = cc
 
-elsewhere : (l : ℕ) → (l == 1) ≡ true → (l == 0) ≡ false
-elsewhere l is = grind (arith, nat_tests)
-
 pub opaque_is_volatile : (m : model.Store) (id : ℕ) (key : Key) → map.get m.keys id ≡ Some key → IsSoundStore m → is_opaque key.attributes ≡ true → is_volatile key.attributes ≡ true
-opaque_is_volatile m id key there sound opaque = by_persistence (is_volatile key.attributes) refl
-  where
-    by_persistence : (b : Bool) → is_volatile key.attributes ≡ b → is_volatile key.attributes ≡ true
-    by_persistence true volatile = volatile
-    by_persistence false lasts =
-        let a : Attributes = key.attributes in
-        let n : ℕ = length key.bytes in
-        let driver : Bool = has_secure_element m in
-        let check = subst (λ (x : Attributes). checked x n driver ≡ Ok x) (ap (λ b. cond b (identified a 0) a) lasts) (sound.keys id key there).attributes in
-        let row = none_holds (attribute_rows a n driver) 0 (unless-ok (first_row (attribute_rows a n driver)) (filled a n) a check).0 in
-        absurd (stays_local (persistence a.lifetime.0 == 0) (location a.lifetime.0 == 0) (location a.lifetime.0 == 1) (persistence a.lifetime.0 == 1) driver lasts (elsewhere (location a.lifetime.0) opaque) row)
+opaque_is_volatile m id key there sound opaque = true_from_ne_false (is_volatile key.attributes) (λ lasts.
+    let a : Attributes = key.attributes in
+    let n : ℕ = length key.bytes in
+    let driver : Bool = has_secure_element m in
+    let check = subst (λ (x : Attributes). checked x n driver ≡ Ok x) (ap (λ b. cond b (identified a 0) a) lasts) (sound.keys id key there).attributes in
+    let row = none_holds (attribute_rows a n driver) 0 (unless-ok (first_row (attribute_rows a n driver)) (filled a n) a check).0 in
+    stays_local (persistence a.lifetime.0 == 0) (location a.lifetime.0 == 0) (location a.lifetime.0 == 1) (persistence a.lifetime.0 == 1) driver lasts (ap (λ l. l == 0) (eqb-true (location a.lifetime.0) 1 opaque)) row)
 
 -- so it has a slot
 pub has_slot : (m : model.Store) (id : ℕ) → IsSoundStore m → is_opaque_key (map.get m.keys id) ≡ true → IsVolatileKey (map.get m.keys id)
@@ -56,21 +50,13 @@ has_slot m id sound opaque = by_key (map.get m.keys id) refl opaque
 
 -- a key of which no slot has a volatile one isn't the element's
 pub not_opaque : (m : model.Store) (id : ℕ) → IsSoundStore m → (IsVolatileKey (map.get m.keys id) → ⊥) → is_opaque_key (map.get m.keys id) ≡ false
-not_opaque m id sound none = by_test (is_opaque_key (map.get m.keys id)) refl
-  where
-    by_test : (b : Bool) → is_opaque_key (map.get m.keys id) ≡ b → is_opaque_key (map.get m.keys id) ≡ false
-    by_test true opaque = absurd (none (has_slot m id sound opaque))
-    by_test false local = local
+not_opaque m id sound none = false_from_ne_true (is_opaque_key (map.get m.keys id)) (λ opaque. none (has_slot m id sound opaque))
 
 -- WHAT THE KEY'S ROWS LEAVE OPEN
 
-of_not : (b : Bool) → not b ≡ false → b ≡ true
-of_not true e = refl
-of_not false e = cc
-
 module _ (call : ElementCall) (key : Key) (none : first_row (key_rows call (Some key)) ≡ None) where
   pub type_fits : IsTrue (fits_type (algorithm_asked call) key.attributes.key_type.0)
-  type_fits = of_not (fits_type (algorithm_asked call) key.attributes.key_type.0) (none_holds (key_rows call (Some key)) 3 none)
+  type_fits = not-false (fits_type (algorithm_asked call) key.attributes.key_type.0) (none_holds (key_rows call (Some key)) 3 none)
 
 -- THE ANSWER
 
@@ -147,54 +133,20 @@ module _ {D A C : Type 0} (disks : Disk.Ghosts D) (elements : Devices.Ghosts A) 
   abbrev Known : Type 0
   Known = IsTold (disks.contents old.file.cells.disk) start (h ++ e ∷ [])
 
-  device_computed : (s : HoldsHere disks elements admits Known old start opening h all) →
-      elements.keys devices ≡ elements.keys old.devices → elements.locations devices ≡ elements.locations old.devices →
-      (n : HoldsHere disks elements admits Known computed_by start opening h all) × (n.model ≡ s.model)
-  device_computed s same there = (
-    record {
-      model = s.model;
-      replayed = s.replayed;
-      sound = s.sound;
-      labels_are = s.labels_are;
-      locations_are = s.locations_are ∙ sym there;
-      has_file = s.has_file;
-      found = s.found;
-      few = s.few;
-      calls = s.calls;
-      made = s.made;
-      live = s.live;
-      kept = s.kept;
-      ranked = s.ranked;
-      slots = s.slots;
-      holdings = s.holdings;
-      directory = s.directory;
-      device = subst (λ keys. HoldsKeys keys s.model) (sym same) s.device;
-      file = s.file;
-      sure = s.sure;
-      promise = s.promise;
-      caused = s.caused;
-      allowed = s.allowed;
-    },
-    refl,
-  )
-
   -- a turn ends in which the element was asked or not
-  pub ends_computed : (call : Call) (mark : FaultMark) (P : model.Store → Type 0) → (s : StandsHere disks elements admits old start opening h all) →
+  pub ends_computed : (call : Call) (mark : FaultMark) (P : model.Store → Type 0) → (s : StandsFor disks elements admits old start opening h all) →
       e.call ≡ OnStore call → may_change_keys (OnStore call) ≡ false → elements.keys devices ≡ elements.keys old.devices → elements.locations devices ≡ elements.locations old.devices →
       HasFault (is_some (disks.contents old.file.cells.disk)) (last_counts opening.counts h) e mark →
       ((service : Service) → service.store ≡ s.holds.model → MayBeMarked service e.caller (OnStore call) mark) → P (counted s.holds.model) →
-      IsTurn disks elements admits new mark e →
-      (n : StandsHere disks elements admits new start opening (h ++ e ∷ []) all) × P n.holds.model
+      IsEntry disks elements admits new mark e →
+      (n : StandsFor disks elements admits new start opening (h ++ e ∷ []) all) × P n.holds.model
   ends_computed call mark P s is still same there fault may holds turn =
       let told_here = disks.contents old.file.cells.disk in
-      let n = goes_on disks elements admits old start opening h old.file old.slots old.buffer all Known
-      (left_alone disks elements admits old.file) (told_before told_here start h e) s.holds s.holds.slots in
-      let d = device_computed n.0 same there in
-      let model_is : d.0.model ≡ s.holds.model = d.1 ∙ n.1 in
+      let d = carries disks elements admits Known old.file old.slots old.buffer devices (left_alone disks elements admits old.file) same there s.holds inl (told_before told_here start h e) s.holds.slots s.holds.holdings in
       let ends = ends_quiet disks elements admits only_now computed_by old.slots mark start opening h all all e d.0 d.0.slots d.0.holdings fault
-      (λ k. subst (λ request. MayBeMarked (replay start h) e.caller request mark) (sym is) (may (replay start h) (sym (d.0.replayed k) ∙ model_is)))
+      (λ k. subst (λ request. MayBeMarked (replay start h) e.caller request mark) (sym is) (may (replay start h) (sym (d.0.replayed k) ∙ d.1)))
       (quiet_leaves disks elements admits computed_by start h e (ap may_change_keys is ∙ still)) turn in
-      (ends.0, subst P (sym (ends.1 ∙ ap counted model_is)) holds)
+      (ends.0, subst P (sym (ends.1 ∙ ap counted d.1)) holds)
 
 -- the element failed
 pub may_fail : (service : Service) (caller id room : ℕ) (call : ElementCall) → is_opaque_key (map.get service.store.keys id) ≡ true → first_row (all_rows call room (map.get service.store.keys id)) ≡ None →

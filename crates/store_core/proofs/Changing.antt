@@ -1,13 +1,13 @@
 -- A ranked turn that changes keys.
 use Rattle.std.proofs.Common.{List, Option, [], ap, arith, inl, inr, is_some, length-append, slice_index, subst, sym, true, ℕ, ⊎_elim, ◌++◌, ◌+◌, ◌∙◌, ◌∷◌, ◌≡◌, ◌≤◌, ◌⊎◌}
-use Rattle.store_core.proofs.Common.{Agrees, AreHoldings, Course, Entry, FaultCounts, FaultMark, FitsCourse, FitsKeys, HasFault, HoldsKeys, IsCaused, IsDirectory, IsSoundStore, IsSure, IsTold, Leads, MayBeMarked, Opening, Pairs, Service, StandsForKeys, Store, Within, after, allowed_go_on, count_persistent, course_of, doubt_after, durable_keys, go_on, last_counts, live_volatile, opened, outcome_of, promise_goes_on, replay, stands_fits}
+use Rattle.store_core.proofs.Common.{Agrees, AreHoldings, Course, Entry, FaultCounts, FaultMark, FitsCourse, FitsKeys, HasFault, Holds, HoldsKeys, IsCaused, IsDirectory, IsEntry, IsSoundStore, IsSure, IsTold, Leads, MayBeMarked, Opening, Pairs, Service, StandsFor, StandsForKeys, Store, Within, after, allowed_go_on, count_persistent, course_of, doubt_after, durable_keys, go_on, last_counts, live_volatile, opened, outcome_of, promise_goes_on, replay, stands_fits}
 use Rattle.disk_face.specs.declared.Disk as Disk
 use Rattle.driver_dispatch.specs.declared.devices.Devices as Devices
 use Rattle.admission.specs.declared.rules.Admission as Admission
 use Rattle.std.specs.Prelude.{⊤}
 use Rattle.store_model.specs.Store as model
 use Rattle.store_core.proofs.Histories.{replay_push, counts_push, told_before, course_service, course_push}
-use Rattle.store_core.proofs.Holding.{HoldsHere, StandsHere, IsTurn, counts_of}
+use Rattle.store_core.proofs.Holding.{counts_of}
 
 -- what is told of one disk is told of another that tells as much
 pub retold : (old new : Option (List ℕ)) (start : Service) (h : List Entry) → is_some new ≡ is_some old → IsTold new start h → IsTold old start h
@@ -43,7 +43,7 @@ module _ {D A C : Type 0} (disks : Disk.Ghosts D) (elements : Devices.Ghosts A) 
 
   module _ (only_now : (disk : D) (image : List ℕ) → disks.left_since disk (disks.moment disk) image → disks.may_leave disk image)
       (S : Service → Type 0) (K : Type 0) (old new : Store D A C) (start : Service) (opening : Opening) (h : List Entry) (all more : List Pairs) (e : Entry) (mark : FaultMark) (m' : model.Store)
-      (s : HoldsHere disks elements admits K old start opening h all) (know : IsTold (disks.contents new.file.cells.disk) start (h ++ e ∷ []) → K)
+      (s : Holds disks elements admits K old start opening h all) (know : IsTold (disks.contents new.file.cells.disk) start (h ++ e ∷ []) → K)
       (holds_before : IsTold (disks.contents new.file.cells.disk) start (h ++ e ∷ []) → S (replay start h)) (t : Turns S old new more e mark (last_counts opening.counts h) s.model m') where
     abbrev m : model.Store
     m = s.model
@@ -95,13 +95,13 @@ module _ {D A C : Type 0} (disks : Disk.Ghosts D) (elements : Devices.Ghosts A) 
       fits_now image left =
           fits_new image (stands_fits disks now new.file.cells.slots.items (durable_keys m') (doubt_after e course) image leads_here.stands (only_now now image left))
 
-    pub turns : IsTurn disks elements admits new mark e → StandsHere disks elements admits new start opening (h ++ e ∷ []) more
+    pub turns : IsEntry disks elements admits new mark e → StandsFor disks elements admits new start opening (h ++ e ∷ []) more
     turns is = record { holds = holds; counts = counts_push opening.counts h e ∙ counted_here }
       where
         counted_here : counts_of e.faults e.device_faults ≡ counts_of (disks.faults now) (elements.faults new.devices)
         counted_here = ap (λ (n : ℕ). counts_of n e.device_faults) is.disk_faults ∙ ap (counts_of (disks.faults now)) is.device_faults
 
-        holds : HoldsHere disks elements admits Known new start opening (h ++ e ∷ []) more
+        holds : Holds disks elements admits Known new start opening (h ++ e ∷ []) more
         holds = record {
           model = m';
           replayed = λ k. t.becomes (replay start h) (holds_before k) (s.replayed (know k)) ∙ ap (λ (x : Service). x.store) (sym (replay_push start h e));
@@ -132,9 +132,9 @@ module _ {D A C : Type 0} (disks : Disk.Ghosts D) (elements : Devices.Ghosts A) 
   -- a turn of a store that stands for something, whatever the service before it is
   module _ (only_now : (disk : D) (image : List ℕ) → disks.left_since disk (disks.moment disk) image → disks.may_leave disk image)
       (old new : Store D A C) (start : Service) (opening : Opening) (h : List Entry) (all more : List Pairs) (e : Entry) (mark : FaultMark) (m' : model.Store)
-      (s : StandsHere disks elements admits old start opening h all) where
+      (s : StandsFor disks elements admits old start opening h all) where
     pub turns_standing : Turns (λ service. ⊤) old new more e mark (counts_of (disks.faults old.file.cells.disk) (elements.faults old.devices)) s.holds.model m' →
-        IsTurn disks elements admits new mark e → StandsHere disks elements admits new start opening (h ++ e ∷ []) more
+        IsEntry disks elements admits new mark e → StandsFor disks elements admits new start opening (h ++ e ∷ []) more
     turns_standing t is =
         turns only_now (λ service. ⊤) (IsTold (disks.contents old.file.cells.disk) start h) old new start opening h all more e mark m' s.holds
         (λ k. retold (disks.contents old.file.cells.disk) (disks.contents new.file.cells.disk) start h t.tells (told_before (disks.contents new.file.cells.disk) start h e k)) (λ k. tt)

@@ -1,7 +1,8 @@
 -- What the table of creations has decided of a key that is to be made.
-use Rattle.std.proofs.Common.{Bool, List, None, Ok, Some, ap, arith, bit_and, cond, eq-eqb, false, is_some, length, nat_lt, not, refl, subst, sym, true, ℕ, ◌%◌, ◌&&◌, ◌*◌, ◌/◌, ◌<◌, ◌==◌, ◌^◌, ◌||◌, ◌∙◌, ◌≡◌, ◌≢◌, ◌≤◌}
+use Rattle.std.proofs.Common.{ne_eqb, Bool, List, None, Ok, Some, ap, arith, bit_and, cond, eq-eqb, false, is_some, length, nat_lt, not, refl, subst, sym, true, ℕ, ◌%◌, ◌&&◌, ◌*◌, ◌/◌, ◌<◌, ◌==◌, ◌^◌, ◌||◌, ◌∙◌, ◌≡◌, ◌≢◌, ◌≤◌}
 use Rattle.store_core.proofs.Common.{Agrees, Attributes, Free, HasNoKey, InvalidArgument, IsDirectory, IsFull, IsKeyOf, IsSoundStore, IsStated, Key, NoKey, NotSupported, Open, Pairs, Shut, Slot, Unsure, attribute_rows, cell_slot, checked, count_persistent, creation_of_slot, false≢true, filled, first_row, full_within, has_id, has_secure_element, holds_key, implied_usage, is_key_type, is_lifetime, is_opaque, is_open, is_volatile, key_is_full, key_of_slot, location, low_id, nat_tests, none_holds, permits_size, persistence, ranked, size_rows, slot_at, stated_id, unless, unless-ok}
-use Rattle.std.proofs.lemmas.Bool.{eqb-true}
+use Rattle.std.proofs.lemmas.Bool.{and_from, eqb-true, false_from_ne_true, lt-ltb, not-false}
+use Rattle.std.proofs.lemmas.Option.{none-some}
 use Rattle.std.specs.declared.cmp.Ordering.TheVariants.{Equal}
 use Rattle.std.specs.FinMap as map
 use Rattle.key_cells.specs.declared.slot.Slot as cell
@@ -10,16 +11,6 @@ use Rattle.store_model.specs.Store as model
 use Rattle.store_core.proofs.Kept.{key_of_cell}
 use Rattle.store_core.proofs.Destroyed.{needs_element}
 
-of_not : (b : Bool) → not b ≡ false → b ≡ true
-of_not true is = refl
-of_not false is = absurd (false≢true (sym is))
-
-both : (a b : Bool) → a ≡ true → b ≡ true → (a && b) ≡ true
-both a b one other = ap (λ x. x && b) one ∙ other
-
-apart : (n k : ℕ) → n ≢ k → (n == k) ≡ false
-apart n k differ = grind (arith, nat_tests)
-
 -- THE ATTRIBUTES
 
 -- a lifetime as the code looks at it
@@ -27,7 +18,7 @@ pub volatile_by : (a : Attributes) → a.lifetime.0 % 2 ^ 8 ≡ 0 → is_volatil
 volatile_by a is = eq-eqb (a.lifetime.0 % 2 ^ 8) 0 is
 
 pub local_by : (a : Attributes) → a.lifetime.0 / 2 ^ 8 ≢ 1 → is_opaque a ≡ false
-local_by a is = apart (a.lifetime.0 / 2 ^ 8) 1 is
+local_by a is = ne_eqb (a.lifetime.0 / 2 ^ 8) 1 is
 
 kept_lifetime : (l : ℕ) (driver : Bool) → (l % 2 ^ 8 == 0) ≡ false → is_lifetime l driver ≡ true → l ≡ 1
 kept_lifetime l driver lasts is = at (l % 2 ^ 8 == 0) (l / 2 ^ 8 == 0 || (l / 2 ^ 8 == 1 && driver)) (l % 2 ^ 8 == 1) (l / 2 ^ 8 == 0) lasts is refl refl where
@@ -48,13 +39,13 @@ module _ (a : Attributes) (bytes : List ℕ) (driver : Bool) (checks : checked a
   passed = unless-ok (first_row (attribute_rows a (length bytes) driver)) (filled a (length bytes)) a checks
 
   pub known_type : is_key_type a.key_type.0 ≡ true
-  known_type = of_not (is_key_type a.key_type.0) (none_holds (attribute_rows a (length bytes) driver) 3 passed.0)
+  known_type = not-false (is_key_type a.key_type.0) (none_holds (attribute_rows a (length bytes) driver) 3 passed.0)
 
   pub known_size : permits_size a.key_type.0 (length bytes) ≡ true
-  known_size = of_not (permits_size a.key_type.0 (length bytes)) (none_holds (attribute_rows a (length bytes) driver) 4 passed.0)
+  known_size = not-false (permits_size a.key_type.0 (length bytes)) (none_holds (attribute_rows a (length bytes) driver) 4 passed.0)
 
   pub lifetime_is : is_lifetime a.lifetime.0 driver ≡ true
-  lifetime_is = of_not (is_lifetime a.lifetime.0 driver) (none_holds (attribute_rows a (length bytes) driver) 0 passed.0)
+  lifetime_is = not-false (is_lifetime a.lifetime.0 driver) (none_holds (attribute_rows a (length bytes) driver) 0 passed.0)
 
   -- only where there is a secure element is a key its own
   pub element_is : is_opaque a ≡ true → driver ≡ true
@@ -71,8 +62,8 @@ module _ (a : Attributes) (bytes : List ℕ) (driver : Bool) (checks : checked a
       size = ap (λ o. unless o (8 * length bytes)) sizes ∙ ap Ok (ap (λ (x : Attributes). x.bits) passed.1);
       some = some_bytes a.key_type.0 (length bytes) known_size;
       short = few_bytes a.key_type.0 (length bytes) known_size;
-      usage = both (bit_and a.policy.usage.0 0xffff00f8 == 0) (implied_usage a.policy.usage.0 == a.policy.usage.0)
-          (of_not (bit_and a.policy.usage.0 0xffff00f8 == 0) (none_holds (attribute_rows a (length bytes) driver) 2 passed.0)) (same_usage (implied_usage a.policy.usage.0) a.policy.usage.0 (ap (λ (x : Attributes). x.policy.usage.0) passed.1));
+      usage = and_from (bit_and a.policy.usage.0 0xffff00f8 == 0) (implied_usage a.policy.usage.0 == a.policy.usage.0)
+          (not-false (bit_and a.policy.usage.0 0xffff00f8 == 0) (none_holds (attribute_rows a (length bytes) driver) 2 passed.0)) (same_usage (implied_usage a.policy.usage.0) a.policy.usage.0 (ap (λ (x : Attributes). x.policy.usage.0) passed.1));
       type_fits = type_fits;
       usage_fits = usage_fits;
       alg_fits = alg_fits;
@@ -88,47 +79,33 @@ module _ (a : Attributes) (bytes : List ℕ) (driver : Bool) (checks : checked a
 
 -- A KEY THAT ISN'T THERE
 
-none_some : (key : Key) → None ≡ Some key → ⊥
-none_some key e = cc
-
-not_true : (b : Bool) → (b ≡ true → ⊥) → b ≡ false
-not_true true never = absurd (never refl)
-not_true false never = refl
-
 -- no cell has it
 pub in_no_cell : (slots : List cell.Slot) (m : model.Store) (id : ℕ) → IsDirectory slots m → map.get m.keys id ≡ None → HasNoKey slots id
-in_no_cell slots m id d none c lt = not_true (has_id id (cell_slot slots c)) (λ has.
+in_no_cell slots m id d none c lt = false_from_ne_true (has_id id (cell_slot slots c)) (λ has.
     let sized = d.sized in
     let key = key_of_cell slots m id c d (omega arith) has in
-    none_some key.0 (sym none ∙ key.1))
+    none-some key.0 (sym none ∙ key.1))
 
 -- and no slot
 pub in_no_slot : (slots : List Slot) (m : model.Store) (all : List Pairs) (id : ℕ) → length slots ≡ 384 → Agrees slots m all → map.get m.keys id ≡ None → NoKey id slots
-in_no_slot slots m all id sized agrees none i = not_true (holds_key id (slot_at slots i)) (λ has.
+in_no_slot slots m all id sized agrees none i = false_from_ne_true (holds_key id (slot_at slots i)) (λ has.
     let key = key_of_slot slots m all id i agrees (inside i has) has in
-    none_some key.0 (sym none ∙ key.1)) where
+    none-some key.0 (sym none ∙ key.1)) where
       inside : (i : ℕ) → holds_key id (slot_at slots i) ≡ true → i < 384
       inside i has = subst (λ n. i < n) sized (full_within slots i (key_is_full id (slot_at slots i) has))
 
 -- A FULL DIRECTORY
 
 abbrev id_in : cell.Slot → ℕ
-id_in Free = 0
 id_in (Open id number) = id
-id_in Shut = 0
-id_in Unsure = 0
+id_in slot = 0
 
 opens_so : (slot : cell.Slot) → is_open slot ≡ true → slot ≡ Open (id_in slot) (creation_of_slot slot)
-opens_so Free is = absurd (false≢true is)
 opens_so (Open id number) is = refl
-opens_so Shut is = absurd (false≢true is)
-opens_so Unsure is = absurd (false≢true is)
+opens_so slot is = absurd (false≢true is)
 
 abbrev is_low : ℕ → Bool
 is_low n = nat_lt n 0x40000000
-
-low : (n : ℕ) → n ≤ 0x3fffffff → is_low n ≡ true
-low n most = grind (arith, nat_tests)
 
 -- where each cell has a key there are as many persistent keys as cells
 pub full_counts : (slots : List cell.Slot) (m : model.Store) → IsDirectory slots m → IsSoundStore m → IsFull slots → 512 ≤ count_persistent m.keys
@@ -146,7 +123,7 @@ full_counts slots m d sound full =
           let k = sound.keys id key.0 key.1 in
           let most = (low_id key.0.attributes (length key.0.bytes) (has_secure_element m) k.attributes key.2).1 in
           let named = k.identifier in
-          ap is_some (kept id ∙ (ap (λ b. cond b (map.get m.keys id) None) (low id (omega arith)) ∙ key.1))
+          ap is_some (kept id ∙ (ap (λ b. cond b (map.get m.keys id) None) (lt-ltb id 0x40000000 (omega arith)) ∙ key.1))
 
       one : (c other : ℕ) → c < 512 → other < 512 → is_open (cell_slot slots c) ≡ true → is_open (cell_slot slots other) ≡ true → id_in (cell_slot slots c) ≡ id_in (cell_slot slots other) → c ≡ other
       one c other lt less is also same =

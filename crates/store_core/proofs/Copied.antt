@@ -1,7 +1,7 @@
 -- What a copy records of its source.
 use Rattle.std.proofs.Common.{Bool, Err, IfOk, List, Ok, Result, Some, [], ap, arith, cond, false, length, not, ok_or, refl, subst, sym, true, ℕ, ◌&&◌, ◌*◌, ◌/◌, ◌==◌, ◌∙◌, ◌∷◌, ◌≡◌}
 use Rattle.store_core.proofs.Common.{Attributes, InvalidArgument, IsSoundKey, Key, Label, Status, after_rules, after_verdict, as_stated, attribute_rows, checked, copy_attributes, false≢true, file_rows, filled, first_row, has_secure_element, identified, is_opaque, is_volatile, location, narrowed, none_holds, recorded_copy, recorded_of, room_for_key_rows, source_rows, then_ok, unless, unless-ok}
-use Rattle.std.proofs.lemmas.Bool.{eqb-true}
+use Rattle.std.proofs.lemmas.Bool.{eqb-true, not-false}
 use Rattle.policy_rules.specs.declared.narrowing.Label.TheVariants.{NoExport, NoCopy, NoEcb, Aes256}
 use Rattle.policy_rules.specs.declared.narrowing.Verdict.{Verdict}
 use Rattle.policy_rules.specs.declared.narrowing.Verdict.TheVariants.{Keep, Refuse}
@@ -79,10 +79,7 @@ pub record IsCopied (m : model.Store) (caller : ℕ) (key : Key) (recorded : Att
   pub opaque : is_opaque recorded ≡ is_opaque key.attributes
 
 same_number : (n k : ℕ) → not (n == k) ≡ false → n ≡ k
-same_number n k is = eqb-true n k (of_not (n == k) is) where
-  of_not : (b : Bool) → not b ≡ false → b ≡ true
-  of_not true is = refl
-  of_not false is = absurd (false≢true (sym is))
+same_number n k is = eqb-true n k (not-false (n == k) is)
 
 pub copies : (m : model.Store) (caller : ℕ) (key : Key) (stated recorded : Attributes) → recorded_copy m caller (Some key) stated ≡ Ok recorded → IsCopied m caller key recorded
 copies m caller key stated recorded e =

@@ -1,6 +1,6 @@
 -- A turn that copies a key.
-use Rattle.std.proofs.Common.{Bool, Err, IsErrOf, List, None, Ok, Option, Result, Some, [], ap, cond, false, if◌then◌else◌, is_some, length, refl, subst, sym, true, ℕ, ◌++◌, ◌+◌, ◌∙◌, ◌∷◌, ◌≡◌}
-use Rattle.store_core.proofs.Common.{Agrees, AreHoldings, Attributes, Buffer, Copy, Corrupt, Disk, Entry, FaultCounts, HoldsHandle, InvalidHandle, IsMaking, IsMaterial, IsReady, IsTold, Key, KeySlots, Missing, OnStore, Opening, Outcome, Pairs, Reading, Request, Rose, Service, Slot, SlotHasKey, Status, Storage, Store, Unread, buffer_of, bytes-buffer_of, bytes_of, created_unless, id_read, is_destruction, is_opaque, is_persistent_key, mark_of, plain_step, reads_persistent, recorded_copy, recorded_of, replay, status_of, step_copy, there_rows}
+use Rattle.std.proofs.Common.{inl, Bool, Err, IsErrOf, List, None, Ok, Option, Result, Some, [], ap, cond, false, if◌then◌else◌, is_some, length, refl, subst, sym, true, ℕ, ◌++◌, ◌+◌, ◌∙◌, ◌∷◌, ◌≡◌}
+use Rattle.store_core.proofs.Common.{Agrees, AreHoldings, Attributes, Buffer, Copy, Corrupt, Disk, Entry, FaultCounts, Holds, HoldsHandle, InvalidHandle, IsEntry, IsMaking, IsMaterial, IsReady, IsTold, Key, KeySlots, Missing, OnStore, Opening, Outcome, Pairs, Reading, Request, Rose, Service, Slot, SlotHasKey, StandsFor, Status, Storage, Store, Unread, buffer_of, bytes-buffer_of, bytes_of, created_unless, id_read, is_destruction, is_opaque, is_persistent_key, mark_of, plain_step, reads_persistent, recorded_copy, recorded_of, replay, status_of, step_copy, there_rows}
 use Rattle.disk_face.specs.declared.Disk as Disk
 use Rattle.driver_dispatch.specs.declared.devices.Devices as Devices
 use Rattle.admission.specs.declared.rules.Admission as Admission
@@ -9,7 +9,7 @@ use Rattle.store_model.specs.Store as model
 use Rattle.store_model.specs.KeyUse as key_use
 use Rattle.store_model.specs.Faults as fault
 use Rattle.store_core.specs.Uses.{IsRefused}
-use Rattle.store_core.proofs.Holding.{HoldsHere, StandsHere, IsTurn, with_buffer}
+use Rattle.store_core.proofs.Holding.{with_buffer}
 use Rattle.store_core.proofs.Loading.{reads_it}
 use Rattle.store_core.proofs.Makes.{IsRefusedAt}
 use Rattle.store_core.proofs.Copied.{copies}
@@ -51,7 +51,7 @@ module _ (e : Entry) (caller source : ℕ) (stated : Attributes) (by : e.caller 
 
   module _ {D A C : Type 0} (disks : Disk.Ghosts D) (elements : Devices.Ghosts A) (admits : Admission.Ghosts C)
       (mid : Store D A C) (start : Service) (opening : Opening) (h : List Entry) (all : List Pairs)
-      (n : HoldsHere disks elements admits (IsTold (disks.contents mid.file.cells.disk) start (h ++ e ∷ [])) mid start opening h all) where
+      (n : Holds disks elements admits (IsTold (disks.contents mid.file.cells.disk) start (h ++ e ∷ [])) mid start opening h all) where
     pub reads_kept : is_persistent_key (map.get n.model.keys source) ≡ true → IsTold (disks.contents mid.file.cells.disk) start (h ++ e ∷ []) → reads_persistent (replay start h) e.caller e.call ≡ true
     reads_kept is k = reads_it (replay start h) e.caller e.call source n.model (reads_source (replay start h)) (n.replayed k) ∙ is
 
@@ -88,7 +88,7 @@ module _ (e : Entry) (caller source : ℕ) (stated : Attributes) (by : e.caller 
       abbrev pub ready : IsReady disks elements admits filled_store caller recorded material_of start opening h all e
       ready =
           let c = copies n.model caller key stated recorded (sym decided) in
-          let f = with_buffer disks elements admits (IsTold (disks.contents mid.file.cells.disk) start (h ++ e ∷ [])) mid buffer start opening h all n in
+          let f = with_buffer disks elements admits (IsTold (disks.contents mid.file.cells.disk) start (h ++ e ∷ [])) mid buffer start opening h all inl n in
           record { holds = f.0; bytes = key.bytes; material = material; stated = c.copy; decided = subst (λ (m : model.Store). recorded_of m caller c.copy (length key.bytes) ≡ Ok recorded) (sym f.1) c.decided }
 
       pub making : IsMaking disks elements admits filled_store start h e caller recorded key.bytes
@@ -112,19 +112,19 @@ either Corrupt X missing unread = unread (λ e. cc)
 module _ {D A C : Type 0} (disks : Disk.Ghosts D) (elements : Devices.Ghosts A) (admits : Admission.Ghosts C)
     (only_now : (disk : D) (image : List ℕ) → disks.left_since disk (disks.moment disk) image → disks.may_leave disk image)
     (old mid : Store D A C) (slots : KeySlots) (start : Service) (opening : Opening) (h : List Entry) (all less : List Pairs) (e : Entry) (caller source : ℕ) (stated : Attributes) (by : e.caller ≡ caller) (call : e.call ≡ OnStore (Copy source stated))
-    (s : StandsHere disks elements admits old start opening h all) (agrees : (m : model.Store) → Agrees mid.slots.table.slots m all → Agrees slots.table.slots m less) (law : AreHoldings less) where
+    (s : StandsFor disks elements admits old start opening h all) (agrees : (m : model.Store) → Agrees mid.slots.table.slots m all → Agrees slots.table.slots m less) (law : AreHoldings less) where
   abbrev Brought : (model.Store → Type 0) → Type 0
-  Brought P = (n : HoldsHere disks elements admits (IsTold (disks.contents mid.file.cells.disk) start (h ++ e ∷ [])) mid start opening h all) × P n.model
+  Brought P = (n : Holds disks elements admits (IsTold (disks.contents mid.file.cells.disk) start (h ++ e ∷ [])) mid start opening h all) × P n.model
 
   abbrev ended : Store D A C
   ended = record mid { slots = slots; ranked = mid.ranked + 1 }
 
   abbrev Ends : (model.Store → Type 0) → Type 0
-  Ends P = StandsHere disks elements admits ended start opening (h ++ e ∷ []) less × (m : model.Store) × (IsTold (disks.contents mid.file.cells.disk) start (h ++ e ∷ []) → m ≡ (replay start h).store) × P m
+  Ends P = StandsFor disks elements admits ended start opening (h ++ e ∷ []) less × (m : model.Store) × (IsTold (disks.contents mid.file.cells.disk) start (h ++ e ∷ []) → m ≡ (replay start h).store) × P m
 
   pub uncopied : (why : Unread) → (IsWhy why Missing → Brought (λ m. map.get m.keys source ≡ None)) → ((IsWhy why Missing → ⊥) → Brought (λ m. is_persistent_key (map.get m.keys source) ≡ true)) →
       (IsWhy why Disk → Rose (disks.faults old.file.cells.disk) (disks.faults mid.file.cells.disk)) → (IsWhy why Corrupt → is_some (disks.contents mid.file.cells.disk) ≡ false) →
-      IsTurn disks elements admits ended (mark_of (status_of why)) e → Ends (IsRefused there_rows source (status_of why))
+      IsEntry disks elements admits ended (mark_of (status_of why)) e → Ends (IsRefused there_rows source (status_of why))
   uncopied Missing missing not_read rose blind is =
       let n = missing refl in (
         refuses disks elements admits only_now mid slots start opening h all less e (keeps e caller source stated by call) InvalidHandle n.0

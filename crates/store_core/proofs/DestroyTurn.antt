@@ -1,6 +1,6 @@
 -- A ranked turn that destroys a key.
 use Rattle.std.proofs.Common.{List, None, Some, [], ap, arith, false, is_some, length, not, refl, set, slice_index, slice_set, subst, sym, true, ℕ, ◌++◌, ◌+◌, ◌-◌, ◌/◌, ◌<◌, ◌^◌, ◌∙◌, ◌∷◌, ◌≡◌, ◌⊎◌}
-use Rattle.store_core.proofs.Common.{Agrees, Destroy, Doubt, Entry, FaultMark, Free, HasFault, HasNoKey, IsDirectory, IsPut, IsSoundStore, IsSure, Key, KeyFile, KeySlots, Keys, Leads, MayBeMarked, OnStore, Opening, Pairs, Plain, Puts, Service, Slot, SlotHasKey, StandsForKeys, Store, Stored, cell_slot, counted, counted_sound, creation_of_slot, destroyed_sound, doubt_by, durable_keys, has_id, holds_key, is_persistent_key, is_volatile, kept, key_changed, key_of_slot, quiet, ranked_on, settled_slots, slot_at, stays, stored, without_key}
+use Rattle.store_core.proofs.Common.{Agrees, Destroy, Doubt, Entry, FaultMark, Free, HasFault, HasNoKey, IsDirectory, IsEntry, IsPut, IsSoundStore, IsSure, Key, KeyFile, KeySlots, Keys, Leads, MayBeMarked, OnStore, Opening, Pairs, Plain, Puts, Service, Slot, SlotHasKey, StandsFor, StandsForKeys, Store, Stored, cell_slot, counted, counted_sound, creation_of_slot, destroyed_sound, doubt_by, durable_keys, has_id, holds_key, is_persistent_key, is_volatile, kept, key_changed, key_of_slot, quiet, ranked_on, settled_slots, slot_at, stays, stored, without_key}
 use Rattle.disk_face.specs.declared.Disk as Disk
 use Rattle.driver_dispatch.specs.declared.devices.Devices as Devices
 use Rattle.admission.specs.declared.rules.Admission as Admission
@@ -8,7 +8,7 @@ use Rattle.std.specs.Option.{option_map}
 use Rattle.std.specs.FinMap as map
 use Rattle.key_cells.specs.declared.slot.Slot as cell
 use Rattle.store_model.specs.Store as model
-use Rattle.store_core.proofs.Holding.{StandsHere, IsTurn, counts_of, same_directory, same_device}
+use Rattle.store_core.proofs.Holding.{counts_of, same_directory, same_device}
 use Rattle.store_core.proofs.Kept.{key_of_cell}
 use Rattle.store_core.proofs.Changing.{turns_standing}
 use Rattle.store_core.proofs.Removing.{gone, takes_out, without_kept, kept_here, kept_same, directory_emptied, directory_stays, device_stays, device_loses}
@@ -37,13 +37,13 @@ module _ {D A C : Type 0} (disks : Disk.Ghosts D) (elements : Devices.Ghosts A) 
   cells = old.file.cells.slots.items
 
   abbrev StandsOld : Type 0
-  StandsOld = StandsHere disks elements admits old start opening h all
+  StandsOld = StandsFor disks elements admits old start opening h all
 
   abbrev StandsNew : Store D A C → Type 0
-  StandsNew new = StandsHere disks elements admits new start opening (h ++ e ∷ []) all
+  StandsNew new = StandsFor disks elements admits new start opening (h ++ e ∷ []) all
 
   abbrev IsTurnTo : Store D A C → FaultMark → Type 0
-  IsTurnTo new mark = IsTurn disks elements admits new mark e
+  IsTurnTo new mark = IsEntry disks elements admits new mark e
 
   -- there is no key to destroy
   pub nothing : (s : StandsOld) → map.get s.holds.model.keys id ≡ None → IsTurnTo (ranked_on old) Plain → StandsNew (ranked_on old)

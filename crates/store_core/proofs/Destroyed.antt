@@ -1,7 +1,7 @@
 -- The one-thread store and the devices without a key that is destroyed.
-use Rattle.std.proofs.Common.{Bool, List, None, Ok, Option, Some, [], ap, arith, cond, eq-eqb, false, inl, inr, length, nat_lt, not, refl, slice_index, slice_set, sym, true, ℕ, ◌&&◌, ◌+◌, ◌-◌, ◌/◌, ◌<◌, ◌==◌, ◌^◌, ◌||◌, ◌∙◌, ◌≡◌, ◌≢◌, ◌≤◌}
+use Rattle.std.proofs.Common.{ne_eqb, Bool, List, None, Ok, Option, Some, [], ap, arith, cond, eq-eqb, false, inl, inr, length, nat_lt, not, refl, slice_index, slice_set, sym, true, ℕ, ◌&&◌, ◌+◌, ◌-◌, ◌/◌, ◌<◌, ◌==◌, ◌^◌, ◌||◌, ◌∙◌, ◌≡◌, ◌≢◌, ◌≤◌}
 use Rattle.store_core.proofs.Common.{Attributes, Course, Destroy, Doubt, Entry, FaultMark, Free, Hardware, HasNoKey, HeldKey, HeldKeys, HoldsHandle, InvalidHandle, IsDirectory, IsSomeKey, IsSoundStore, IsVolatileOf, Key, KeyMap, OnStore, Open, Plain, Request, Service, Shut, Status, Storage, Stored, Unsure, Writing, as_stated, attribute_rows, cases_eq, cases_lt, checked, count_persistent, counted, creation_of_slot, decided, destroy_rows, destroyed, doubt_after, doubt_by, doubt_undestroyed, false≢true, filled, first_row, get_or_past, has_id, has_secure_element, held_key, identified, is_destruction, is_lifetime, is_opaque, is_volatile, is_volatile_of, kept, key_changed, live_volatile, location, low_id, nat_tests, none_holds, of_volatile, option_map_or, outcome_of, persistence, serve, unless-ok}
-use Rattle.std.proofs.lemmas.Bool.{eqb-true}
+use Rattle.std.proofs.lemmas.Bool.{eqb-true, le-ltb, lt-ltb, not-false, true_from_ne_false}
 use Rattle.std.proofs.lemmas.List.{get_or-set_same, get_or-set_other}
 use Rattle.std.specs.Prelude.{⊤}
 use Rattle.std.specs.FinMap as map
@@ -11,9 +11,6 @@ use Rattle.store_model.specs.Prelude.{Corrupt}
 use Rattle.store_core.proofs.Removing.{one_less, nothing_removed, gone}
 
 -- THE MODEL
-
-apart : (n k : ℕ) → n ≢ k → (n == k) ≡ false
-apart n k differ = grind (arith, nat_tests)
 
 pub rows_there : (id : ℕ) (o : Option Key) (key : Key) → o ≡ Some key → first_row (destroy_rows o id) ≡ None
 rows_there id o key is = ap (λ (x : Option Key). first_row (destroy_rows x id)) is ∙ passes (not (id == 0)) where
@@ -25,14 +22,12 @@ pub rows_zero : (id : ℕ) (o : Option Key) → id ≡ 0 → first_row (destroy_
 rows_zero id o zero = ap (λ (n : ℕ). first_row (destroy_rows o n)) zero
 
 pub rows_missing : (id : ℕ) (o : Option Key) → id ≢ 0 → o ≡ None → first_row (destroy_rows o id) ≡ Some InvalidHandle
-rows_missing id o differ none = ap (λ (x : Option Key). first_row (destroy_rows x id)) none ∙ ap (λ b. cond (not b && true) (Some InvalidHandle) None) (apart id 0 differ)
+rows_missing id o differ none = ap (λ (x : Option Key). first_row (destroy_rows x id)) none ∙ ap (λ b. cond (not b && true) (Some InvalidHandle) None) (ne_eqb id 0 differ)
 
 after_destruction : (service : Service) (caller : ℕ) (mark : FaultMark) (id : ℕ) (key : Key) → map.get service.store.keys id ≡ Some key →
     (serve service caller (OnStore (Destroy id)) mark).service.store ≡ (destroyed service.store id).store
 after_destruction service caller Plain id key is = ap (λ (o : Option Status). (decided service.store o (destroyed service.store id)).store) (rows_there id (map.get service.store.keys id) key is)
-after_destruction service caller (Storage access) id key is = refl
-after_destruction service caller Hardware id key is = refl
-after_destruction service caller Corrupt id key is = refl
+after_destruction service caller mark id key is = refl
 
 after_nothing : (service : Service) (caller id : ℕ) → map.get service.store.keys id ≡ None → (serve service caller (OnStore (Destroy id)) Plain).service.store ≡ counted service.store
 after_nothing service caller id none = by_rows (first_row (destroy_rows (map.get service.store.keys id) id)) where
@@ -71,27 +66,16 @@ still_doubted false key doubt none = cc
 -- KEYS BY THEIR IDENTIFIERS
 
 pub opens_with : (slot : cell.Slot) (id : ℕ) → has_id id slot ≡ true → slot ≡ Open id (creation_of_slot slot)
-opens_with Free id is = absurd (false≢true is)
 opens_with (Open own number) id is = ap (λ (n : ℕ). Open n number) (eqb-true own id is)
-opens_with Shut id is = absurd (false≢true is)
-opens_with Unsure id is = absurd (false≢true is)
+opens_with slot id is = absurd (false≢true is)
 
 -- a key that no cell has is volatile
 pub in_no_cell : (slots : List cell.Slot) (m : model.Store) (id : ℕ) (key : Key) → IsDirectory slots m → HasNoKey slots id → map.get m.keys id ≡ Some key → is_volatile key.attributes ≡ true
-in_no_cell slots m id key d none is = go (is_volatile key.attributes) refl where
-  go : (b : Bool) → is_volatile key.attributes ≡ b → is_volatile key.attributes ≡ true
-  go true volatile = volatile
-  go false persistent =
-      let there = d.there id key is persistent in
-      let sized = d.sized in
-      let inside = there.1 in
-      absurd (false≢true (sym (none there.0 (omega arith)) ∙ (ap (has_id id) there.2 ∙ eq-eqb id id refl)))
-
-is_low : (id : ℕ) → id ≤ 0x3fffffff → nat_lt id 0x40000000 ≡ true
-is_low id low = grind (arith, nat_tests)
-
-is_high : (id : ℕ) → 0x40000000 ≤ id → nat_lt id 0x40000000 ≡ false
-is_high id high = grind (arith, nat_tests)
+in_no_cell slots m id key d none is = true_from_ne_false (is_volatile key.attributes) (λ persistent.
+    let there = d.there id key is persistent in
+    let sized = d.sized in
+    let inside = there.1 in
+    false≢true (sym (none there.0 (omega arith)) ∙ (ap (has_id id) there.2 ∙ eq-eqb id id refl)))
 
 counted_true : (b : Bool) (n m : ℕ) → n ≡ cond b (m + 1) m → b ≡ true → n ≡ m + 1
 counted_true b n m is counts = is ∙ ap (λ x. cond x (m + 1) m) counts
@@ -117,7 +101,7 @@ module _ (m : model.Store) (id : ℕ) (key : Key) (there : map.get m.keys id ≡
     low_here = let k = sound.keys id key there in let l = (low_id key.attributes (length key.bytes) (has_secure_element m) k.attributes persistent).1 in let same = k.identifier in omega arith
 
     pub fewer_kept : count_persistent m.keys ≡ count_persistent less.keys + 1
-    fewer_kept = counted_true (low id) _ _ (one_less low m.keys id key there) (is_low id low_here)
+    fewer_kept = counted_true (low id) _ _ (one_less low m.keys id key there) (lt-ltb id 0x40000000 (let most = low_here in omega arith))
 
     pub as_many_live : (c : ℕ) → live_volatile less.keys c ≡ live_volatile m.keys c
     as_many_live c = sym (counted_false (is_volatile_of c id) _ _ (one_less (is_volatile_of c) m.keys id key there) (not_of (is_volatile_of c id) refl)) where
@@ -136,14 +120,14 @@ module _ (m : model.Store) (id : ℕ) (key : Key) (there : map.get m.keys id ≡
     of_creator caller named = let is = creation.made.2 in let few = creation.made.1 in let most = sound.made key.creator in let last = creation.to_last in omega arith
 
     pub as_many_kept : count_persistent less.keys ≡ count_persistent m.keys
-    as_many_kept = sym (counted_false (low id) _ _ (one_less low m.keys id key there) (is_high id high_here))
+    as_many_kept = sym (counted_false (low id) _ _ (one_less low m.keys id key there) (le-ltb id 0x40000000 high_here))
 
     module _ (caller : ℕ) (named : 1024 + caller ≡ id / 2 ^ 20) where
       pub fewer_live : live_volatile m.keys caller ≡ live_volatile less.keys caller + 1
       fewer_live = counted_true (is_volatile_of caller id) _ _ (one_less (is_volatile_of caller) m.keys id key there) (eq-eqb (id / 2 ^ 20) (1024 + caller) (sym named))
 
       other_live : (c : ℕ) → c ≢ caller → live_volatile less.keys c ≡ live_volatile m.keys c
-      other_live c differ = sym (counted_false (is_volatile_of c id) _ _ (one_less (is_volatile_of c) m.keys id key there) (apart (id / 2 ^ 20) (1024 + c) (λ same. differ (omega arith))))
+      other_live c differ = sym (counted_false (is_volatile_of c id) _ _ (one_less (is_volatile_of c) m.keys id key there) (ne_eqb (id / 2 ^ 20) (1024 + c) (λ same. differ (omega arith))))
 
       pub live_after : (live : List ℕ) → ((c : ℕ) → c ≤ 16 → live_volatile m.keys c ≡ slice_index live c) → (c : ℕ) → c ≤ 16 → live_volatile less.keys c ≡ slice_index (slice_set live caller (slice_index live caller - 1)) c
       live_after live before c le = elim (cases_eq c caller) [
@@ -170,16 +154,12 @@ none_at_zero m id sound zero = go (map.get m.keys id) refl where
 -- THE DEVICE
 
 lifetime_stated : (a : Attributes) (n : ℕ) (driver : Bool) → checked (as_stated a) n driver ≡ Ok (as_stated a) → is_lifetime a.lifetime.0 driver ≡ true
-lifetime_stated a n driver is = of_not (is_lifetime a.lifetime.0 driver)
+lifetime_stated a n driver is = not-false (is_lifetime a.lifetime.0 driver)
     (ap (λ (l : ℕ). not (is_lifetime l driver)) (sym (same (is_volatile a))) ∙ none_holds (attribute_rows (as_stated a) n driver) 0 (unless-ok (first_row (attribute_rows (as_stated a) n driver)) (filled (as_stated a) n) (as_stated a) is).0)
   where
     same : (b : Bool) → (cond b (identified a 0) a).lifetime.0 ≡ a.lifetime.0
     same true = refl
     same false = refl
-
-    of_not : (b : Bool) → not b ≡ false → b ≡ true
-    of_not true is = refl
-    of_not false is = absurd (false≢true (sym is))
 
 -- only a secure element that is there has a key
 pub needs_element : (p l : ℕ) (driver : Bool) → (l == 1) ≡ true → ((p == 0 && (l == 0 || (l == 1 && driver))) || (p == 1 && l == 0)) ≡ true → driver ≡ true

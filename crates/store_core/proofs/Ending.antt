@@ -1,6 +1,7 @@
 -- Which slots the calls within a turn end.
 use Rattle.std.proofs.Common.{List, None, Some, ap, arith, inl, inr, subst, sym, true, ℕ, ⊎_elim, ◌∙◌, ◌≡◌, ◌⊎◌}
 use Rattle.store_core.proofs.Common.{Agrees, EndsOnly, IsEmptyOrIdle, IsFillingOf, IsLawful, IsLawfulSlot, IsTakenOf, Keeps, KeepsOrEmpties, Key, Pairs, Slot, Table, TakesOne, empty_slot, ends_then, full_within, holds_key, keeps_all, key_is_full, key_of_slot, slot_at}
+use Rattle.std.proofs.lemmas.Option.{none-some}
 use Rattle.std.specs.FinMap as map
 use Rattle.store_model.specs.Store as model
 
@@ -29,9 +30,7 @@ lacks_key t m all id law agrees none i has =
     let within = full_within t.slots i (key_is_full id (slot_at t.slots i) has) in
     let sized = law.sized in
     let k = key_of_slot t.slots m all id i agrees (omega arith) has in
-    apart k.0 (sym none ∙ k.1) where
-      apart : (key : Key) → None ≡ Some key → ⊥
-      apart key same = cc
+    none-some k.0 (sym none ∙ k.1)
 
 -- no slot changes
 pub empties_none : (slots : List Slot) → KeepsOrEmpties slots slots

@@ -1,6 +1,6 @@
 -- Turns that finish a creation: what was decided of it, and how the turn ends.
 use Rattle.std.proofs.Common.{Err, List, None, Ok, Option, Result, Some, [], ap, arith, false, inl, inr, is_some, refl, subst, sym, true, ℕ, ◌++◌, ◌+◌, ◌∙◌, ◌∷◌, ◌≡◌, ◌≤◌}
-use Rattle.store_core.proofs.Common.{Agrees, AreHoldings, Attributes, Buffer, Course, Doubt, Entry, FaultCounts, FaultMark, Hardware, HasFault, InvalidHandle, IsCreating, IsMaking, IsSince, IsTold, KeySlots, Leads, MayBeMarked, Opening, Pairs, Plain, Reading, RecordsStated, Service, Status, Storage, Store, Stored, Writing, counted, created_unless, doubt_after, doubt_by, durable_keys, is_destruction, kept, key_changed, last_counts, option_map_or, outcome_of, quiet, reads_persistent, recorded_of, replay, serve, stays}
+use Rattle.store_core.proofs.Common.{Agrees, AreHoldings, Attributes, Buffer, Course, Doubt, Entry, FaultCounts, FaultMark, Hardware, HasFault, Holds, InvalidHandle, IsCreating, IsEntry, IsMaking, IsSince, IsTold, KeySlots, Leads, MayBeMarked, Opening, Pairs, Plain, Reading, RecordsStated, Service, StandsFor, Status, Storage, Store, Stored, Writing, counted, created_unless, doubt_after, doubt_by, durable_keys, is_destruction, kept, key_changed, last_counts, option_map_or, outcome_of, quiet, reads_persistent, recorded_of, replay, serve, stays}
 use Rattle.disk_face.specs.declared.Disk as Disk
 use Rattle.driver_dispatch.specs.declared.devices.Devices as Devices
 use Rattle.admission.specs.declared.rules.Admission as Admission
@@ -8,7 +8,7 @@ use Rattle.slot_table.specs.Lent as lent
 use Rattle.store_model.specs.Store as model
 use Rattle.store_model.specs.Prelude.{Corrupt}
 use Rattle.store_core.proofs.Histories.{told_before}
-use Rattle.store_core.proofs.Holding.{HoldsHere, StandsHere, IsTurn, goes_on, left_alone, same_directory, same_device, counts_of}
+use Rattle.store_core.proofs.Holding.{goes_on, left_alone, same_directory, same_device, counts_of}
 use Rattle.store_core.proofs.Makes.{IsFailure, IsRefusedAt, unmade, marked_counts, plain_counts, doubted, changes_none}
 
 -- what is recorded of stated attributes, where nothing refuses it
@@ -29,24 +29,24 @@ IsReadFault (Storage (Writing closed_first)) = ⊥
 
 module _ {D A C : Type 0} (disks : Disk.Ghosts D) (elements : Devices.Ghosts A) (admits : Admission.Ghosts C) where
   abbrev HoldsWith : Store D A C → Service → Opening → List Entry → List Pairs → Entry → Type 0
-  HoldsWith store start opening h all e = HoldsHere disks elements admits (IsTold (disks.contents store.file.cells.disk) start (h ++ e ∷ [])) store start opening h all
+  HoldsWith store start opening h all e = Holds disks elements admits (IsTold (disks.contents store.file.cells.disk) start (h ++ e ∷ [])) store start opening h all
 
   -- a store that stands for something, with another buffer, as a turn that ends with an entry sees it
   pub within : (old : Store D A C) (buffer : Buffer) (start : Service) (opening : Opening) (h : List Entry) (all : List Pairs) (e : Entry) →
-      (s : StandsHere disks elements admits old start opening h all) → (n : HoldsWith (record old { buffer = buffer }) start opening h all e) × (n.model ≡ s.holds.model)
+      (s : StandsFor disks elements admits old start opening h all) → (n : HoldsWith (record old { buffer = buffer }) start opening h all e) × (n.model ≡ s.holds.model)
   within old buffer start opening h all e s =
       goes_on disks elements admits old start opening h old.file old.slots buffer all (IsTold (disks.contents old.file.cells.disk) start (h ++ e ∷ []))
       (left_alone disks elements admits old.file) (told_before (disks.contents old.file.cells.disk) start h e) s.holds s.holds.slots
 
-  pub rebuffered : (store : Store D A C) (buffer : Buffer) (start : Service) (opening : Opening) (h : List Entry) (all : List Pairs) → StandsHere disks elements admits store start opening h all →
-      StandsHere disks elements admits (record store { buffer = buffer }) start opening h all
+  pub rebuffered : (store : Store D A C) (buffer : Buffer) (start : Service) (opening : Opening) (h : List Entry) (all : List Pairs) → StandsFor disks elements admits store start opening h all →
+      StandsFor disks elements admits (record store { buffer = buffer }) start opening h all
   rebuffered store buffer start opening h all s = record {
     holds = (goes_on disks elements admits store start opening h store.file store.slots buffer all (IsTold (disks.contents store.file.cells.disk) start h)
         (left_alone disks elements admits store.file) (λ k. k) s.holds s.holds.slots).0;
     counts = s.counts;
   }
 
-  pub since_stands : (old : Store D A C) (buffer : Buffer) (start : Service) (opening : Opening) (h : List Entry) (all : List Pairs) → StandsHere disks elements admits old start opening h all →
+  pub since_stands : (old : Store D A C) (buffer : Buffer) (start : Service) (opening : Opening) (h : List Entry) (all : List Pairs) → StandsFor disks elements admits old start opening h all →
       IsSince disks elements admits (record old { buffer = buffer }) (last_counts opening.counts h)
   since_stands old buffer start opening h all s = record {
     faults_since = (let same = ap (λ (c : FaultCounts). c.faults) s.counts in omega arith);
@@ -100,7 +100,7 @@ module _ {D A C : Type 0} (disks : Disk.Ghosts D) (elements : Devices.Ghosts A) 
     pub gives_up : (S : Service → Type 0) (mark : FaultMark) (s : HoldsWith mid start opening h all e) → (IsTold (disks.contents disk) start (h ++ e ∷ []) → S (replay start h)) → Agrees slots.table.slots s.model less → AreHoldings less →
         ((service : Service) → S service → (outcome_of service e).service.store ≡ counted service.store) → ((c : Course) → S c.service → doubt_after e c ≡ c.doubt) →
         HasFault (is_some (disks.contents disk)) (last_counts opening.counts h) e mark → ((service : Service) → S service → s.model ≡ service.store → MayBeMarked service e.caller e.call mark) →
-        IsTurn disks elements admits given_up mark e → StandsHere disks elements admits given_up start opening (h ++ e ∷ []) less
+        IsEntry disks elements admits given_up mark e → StandsFor disks elements admits given_up start opening (h ++ e ∷ []) less
     gives_up S mark s before agrees law counts doubts fault may is = unmade disks elements admits only_now mid given_up start opening h all less e S mark s keeps before law (record {
       rules = refl;
       devices = refl;
@@ -121,7 +121,7 @@ module _ {D A C : Type 0} (disks : Disk.Ghosts D) (elements : Devices.Ghosts A) 
 
     -- since it is refused
     pub refuses : (status : Status) (s : HoldsWith mid start opening h all e) → (IsTold (disks.contents disk) start (h ++ e ∷ []) → IsRefusedAt e status (replay start h)) → Agrees slots.table.slots s.model less → AreHoldings less →
-        IsTurn disks elements admits given_up Plain e → StandsHere disks elements admits given_up start opening (h ++ e ∷ []) less
+        IsEntry disks elements admits given_up Plain e → StandsFor disks elements admits given_up start opening (h ++ e ∷ []) less
     refuses status s refused agrees law is = gives_up (IsRefusedAt e status) Plain s refused agrees law (λ service known. plain_counts e keeps service is.marked ∙ known.leaves)
         (λ c known. doubted e keeps c Plain None None is.marked (changes_none e keeps status c.service known) refl) tt (λ service known at. tt) is
 
@@ -138,11 +138,8 @@ module _ {D A C : Type 0} (disks : Disk.Ghosts D) (elements : Devices.Ghosts A) 
     same_doubt (Storage (Writing closed_first)) is o doubt = absurd is
 
     failing : (mark : FaultMark) → IsReadFault mark → IsFailure mark
-    failing (Storage Reading) is = tt
-    failing Corrupt is = tt
     failing Plain is = is
-    failing Hardware is = tt
-    failing (Storage (Writing closed_first)) is = tt
+    failing mark is = tt
 
     may_read : (mark : FaultMark) → IsReadFault mark → (service : Service) → Reads service → MayBeMarked service e.caller e.call mark
     may_read (Storage Reading) is service reads = reads
@@ -154,7 +151,7 @@ module _ {D A C : Type 0} (disks : Disk.Ghosts D) (elements : Devices.Ghosts A) 
     -- or since its source could not be read
     pub unread : (mark : FaultMark) → IsReadFault mark → (s : HoldsWith mid start opening h all e) → (IsTold (disks.contents disk) start (h ++ e ∷ []) → Reads (replay start h)) → Agrees slots.table.slots s.model less → AreHoldings less →
         HasFault (is_some (disks.contents disk)) (last_counts opening.counts h) e mark →
-        IsTurn disks elements admits given_up mark e → StandsHere disks elements admits given_up start opening (h ++ e ∷ []) less
+        IsEntry disks elements admits given_up mark e → StandsFor disks elements admits given_up start opening (h ++ e ∷ []) less
     unread mark kind s reads agrees law fault is = gives_up Reads mark s reads agrees law
         (λ service known. ap (λ (x : FaultMark). (serve service e.caller e.call x).service.store) is.marked ∙ marked_counts service e.caller e.call mark (failing mark kind) keeps)
         (λ c known. doubted e keeps c mark (key_changed c.service e.caller e.call) (kept (key_changed c.service e.caller e.call)) is.marked refl refl ∙ same_doubt mark kind (kept (key_changed c.service e.caller e.call)) c.doubt)

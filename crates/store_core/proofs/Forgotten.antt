@@ -1,12 +1,13 @@
 -- What a device has of the keys that are destroyed.
 use Rattle.std.proofs.Common.{Bool, List, Option, ap, cond, false, refl, subst, sym, true, ℕ, ◌<◌, ◌∙◌, ◌≡◌}
 use Rattle.store_core.proofs.Common.{Agrees, HeldKeys, IsDirectory, IsForgotten, IsLawful, IsSoundStore, Key, Pairs, Slot, Table, cell_slot, false≢true, has_id, holds_key, is_opaque, is_volatile, key_of_slot, slot_at, without_key}
+use Rattle.std.proofs.lemmas.Bool.{false_from_ne_true}
+use Rattle.std.proofs.lemmas.Option.{same_Some}
 use Rattle.std.specs.Option.{option_map}
 use Rattle.key_cells.specs.declared.slot.Slot as cell
 use Rattle.store_model.specs.Store as model
 use Rattle.store_core.proofs.ByElement.{opaque_is_volatile}
 use Rattle.store_core.proofs.Kept.{key_of_cell}
-use Rattle.store_core.proofs.Replaced.{some_same}
 
 -- a device had no key of a slot that isn't the element's
 pub local_forgotten : (slot : Slot) (held : Option HeldKeys) → is_opaque slot.attributes ≡ false → IsForgotten slot held held
@@ -15,15 +16,12 @@ local_forgotten slot held local = sym (ap (λ b. cond b (option_map (without_key
 -- nor one of a key that a cell has
 pub kept_forgotten : (cells : List cell.Slot) (slots : List Slot) (m : model.Store) (all : List Pairs) (id c i : ℕ) (held : Option HeldKeys) → IsDirectory cells m → IsSoundStore m → Agrees slots m all →
     c < 512 → has_id id (cell_slot cells c) ≡ true → i < 384 → holds_key id (slot_at slots i) ≡ true → IsForgotten (slot_at slots i) held held
-kept_forgotten cells slots m all id c i held d sound agrees within has lt holds = local_forgotten (slot_at slots i) held (by_test (is_opaque (slot_at slots i).attributes) refl) where
-  by_test : (b : Bool) → is_opaque (slot_at slots i).attributes ≡ b → is_opaque (slot_at slots i).attributes ≡ false
-  by_test false local = local
-  by_test true opaque =
-      let k = key_of_slot slots m all id i agrees lt holds in
-      let own = key_of_cell cells m id c d within has in
-      let same : k.0 ≡ own.0 = some_same k.0 own.0 (sym k.1 ∙ own.1) in
-      let volatile = opaque_is_volatile m id k.0 k.1 sound (ap is_opaque (sym k.2.attributes) ∙ opaque) in
-      absurd (false≢true (sym own.2 ∙ (ap (λ (x : Key). is_volatile x.attributes) (sym same) ∙ volatile)))
+kept_forgotten cells slots m all id c i held d sound agrees within has lt holds = local_forgotten (slot_at slots i) held (false_from_ne_true (is_opaque (slot_at slots i).attributes) (λ opaque.
+    let k = key_of_slot slots m all id i agrees lt holds in
+    let own = key_of_cell cells m id c d within has in
+    let same : k.0 ≡ own.0 = same_Some k.0 own.0 (sym k.1 ∙ own.1) in
+    let volatile = opaque_is_volatile m id k.0 k.1 sound (ap is_opaque (sym k.2.attributes) ∙ opaque) in
+    false≢true (sym own.2 ∙ (ap (λ (x : Key). is_volatile x.attributes) (sym same) ∙ volatile))))
 
 -- all slots of a destroyed key's identifier are one
 pub slot_forgotten : (t : Table) (id slot i : ℕ) (old new : Option HeldKeys) → IsLawful t → holds_key id (slot_at t.slots slot) ≡ true → holds_key id (slot_at t.slots i) ≡ true →

@@ -31,22 +31,6 @@ pub same_device : (held : Option HeldKeys) (m : model.Store) → HoldsKeys held 
 same_device held m d = record { there = d.there; new = λ handle le. d.new handle (omega (arith, le)) }
 
 module _ {D A C : Type 0} (disks : Disk.Ghosts D) (elements : Devices.Ghosts A) (admits : Admission.Ghosts C) where
-  -- the definitions over these
-  abbrev pub HoldsHere : Type 0 → Store D A C → Service → Opening → List Entry → List Pairs → Type 0
-  HoldsHere = Holds disks elements admits
-
-  abbrev pub StandsHere : Store D A C → Service → Opening → List Entry → List Pairs → Type 0
-  StandsHere = StandsFor disks elements admits
-
-  abbrev pub IsTurn : Store D A C → FaultMark → Entry → Type 0
-  IsTurn = IsEntry disks elements admits
-
-  abbrev pub LeavesHere : Store D A C → Service → List Entry → Entry → Type 0
-  LeavesHere = LeavesKeys disks elements admits
-
-  abbrev pub IsReadingHere : Store D A C → Service → List Entry → Entry → ℕ → Type 0
-  IsReadingHere = IsReading disks elements admits
-
   -- a store after its file was read
   abbrev pub moved : Store D A C → KeyFile D → KeySlots → Buffer → Store D A C
   moved store file slots buffer = record store { file = file; slots = slots; buffer = buffer }
@@ -69,96 +53,17 @@ module _ {D A C : Type 0} (disks : Disk.Ghosts D) (elements : Devices.Ghosts A) 
     keeps = λ keys doubt s. stays disks file.cells.disk file.cells.slots.items keys keys doubt (λ id. refl) s;
   }
 
-  module _ (old : Store D A C) (start : Service) (opening : Opening) (h : List Entry) where
-    abbrev tells : Type 0
-    tells = is_some (disks.contents old.file.cells.disk) ≡ true
-
-    -- what the keys of the model are, over a disk that tells
-    fits_now : (m : model.Store) → m ≡ (replay start h).store → (image : List ℕ) → FitsKeys (durable_keys m) (course_of start h).doubt image → FitsCourse (course_of start h) image
-    fits_now m is image fits =
-        subst (λ (x : model.Store). FitsKeys (durable_keys x) (course_of start h).doubt image) (is ∙ ap (λ (s : Service). s.store) (sym (course_service start h))) fits
-
-    -- no key changes, and no entry is added
-    pub goes_on : (file : KeyFile D) (slots : KeySlots) (buffer : Buffer) (all : List Pairs) (K : Type 0) → IsReadOn old.file file → (K → IsTold (disks.contents old.file.cells.disk) start h) →
-        (s : HoldsHere (IsTold (disks.contents old.file.cells.disk) start h) old start opening h all) → Agrees slots.table.slots s.model all →
-        (n : HoldsHere K (moved old file slots buffer) start opening h all) × (n.model ≡ s.model)
-    goes_on file slots buffer all K read known s agrees = (
-      record {
-        model = s.model;
-        replayed = λ k. s.replayed (known k);
-        sound = s.sound;
-        labels_are = s.labels_are;
-        locations_are = s.locations_are;
-        has_file = s.has_file;
-        found = s.found;
-        few = s.few;
-        calls = s.calls;
-        made = s.made;
-        live = s.live;
-        kept = s.kept;
-        ranked = s.ranked;
-        slots = agrees;
-        holdings = s.holdings;
-        directory = subst (λ (c : _). IsDirectory c.items s.model) (sym read.slots) s.directory;
-        device = s.device;
-        file = λ is. (leads is).stands;
-        sure = λ is none. subst (λ (c : _). IsSure c.items) (sym read.slots) (s.sure (before is) none);
-        promise = λ is. promise_stays (disks.left_since old.file.cells.disk) (disks.left_since file.cells.disk) (disks.moment old.file.cells.disk) (disks.moment file.cells.disk) opening.moment start h
-            (FitsEitherKeys (durable_keys s.model) (course_of start h).doubt (durable_keys s.model) (course_of start h).doubt) (s.promise (before is)) (leads is).within
-            (λ image fits. fits_now s.model (s.replayed (inl (before is))) image (⊎_elim (λ f. f) (λ f. f) fits));
-        caused = subst (λ (t : Option (List ℕ)). IsCaused (is_some t) opening.counts h) (sym read.same) s.caused;
-        allowed = λ t. s.allowed (subst (λ (o : Option (List ℕ)). IsTold o start h) read.same t);
-      },
-      refl,
-    ) where
-      before : is_some (disks.contents file.cells.disk) ≡ true → tells
-      before is = ap is_some (sym read.same) ∙ is
-
-      leads : is_some (disks.contents file.cells.disk) ≡ true →
-          Leads disks old.file.cells.disk file.cells.disk old.file.cells.slots.items file.cells.slots.items (durable_keys s.model) (course_of start h).doubt (durable_keys s.model) (course_of start h).doubt
-      leads is = read.keeps (durable_keys s.model) (course_of start h).doubt (s.file (before is))
-
-    -- a turn without rank
-    pub unranked : (slots : KeySlots) (all more : List Pairs) (s : StandsHere old start opening h all) → Agrees slots.table.slots s.holds.model more → AreHoldings more →
-        StandsHere (record old { slots = slots }) start opening h more
-    unranked slots all more s agrees holdings = record {
-      holds = record {
-        model = s.holds.model;
-        replayed = s.holds.replayed;
-        sound = s.holds.sound;
-        labels_are = s.holds.labels_are;
-        locations_are = s.holds.locations_are;
-        has_file = s.holds.has_file;
-        found = s.holds.found;
-        few = s.holds.few;
-        calls = s.holds.calls;
-        made = s.holds.made;
-        live = s.holds.live;
-        kept = s.holds.kept;
-        ranked = s.holds.ranked;
-        slots = agrees;
-        holdings = holdings;
-        directory = s.holds.directory;
-        device = s.holds.device;
-        file = s.holds.file;
-        sure = s.holds.sure;
-        promise = s.holds.promise;
-        caused = s.holds.caused;
-        allowed = s.holds.allowed;
-      };
-      counts = s.counts;
-    }
-
-  -- another buffer
-  pub with_buffer : (K : Type 0) (old : Store D A C) (buffer : Buffer) (start : Service) (opening : Opening) (h : List Entry) (all : List Pairs) → (s : HoldsHere K old start opening h all) →
-      (n : HoldsHere K (record old { buffer = buffer }) start opening h all) × (n.model ≡ s.model)
-  with_buffer K old buffer start opening h all s = (
+  -- No key changes, and no entry is added: the file was read, the slots have these holdings, and a device has what it had.
+  pub carries : {K : Type 0} {old : Store D A C} {start : Service} {opening : Opening} {h : List Entry} {all more : List Pairs} (K' : Type 0) (file : KeyFile D) (slots : KeySlots) (buffer : Buffer) (devices : A) → IsReadOn old.file file →
+      elements.keys devices ≡ elements.keys old.devices → elements.locations devices ≡ elements.locations old.devices → (s : Holds disks elements admits K old start opening h all) → (is_some (disks.contents old.file.cells.disk) ≡ true → K) → (K' → K) →
+      Agrees slots.table.slots s.model more → AreHoldings more → (n : Holds disks elements admits K' (record old { file = file; slots = slots; buffer = buffer; devices = devices }) start opening h more) × (n.model ≡ s.model)
+  carries {K} {old} {start} {opening} {h} K' file slots buffer devices read keys places s told known agrees holdings = (
     record {
       model = s.model;
-      replayed = s.replayed;
+      replayed = λ k. s.replayed (known k);
       sound = s.sound;
       labels_are = s.labels_are;
-      locations_are = s.locations_are;
+      locations_are = s.locations_are ∙ sym places;
       has_file = s.has_file;
       found = s.found;
       few = s.few;
@@ -167,18 +72,46 @@ module _ {D A C : Type 0} (disks : Disk.Ghosts D) (elements : Devices.Ghosts A) 
       live = s.live;
       kept = s.kept;
       ranked = s.ranked;
-      slots = s.slots;
-      holdings = s.holdings;
-      directory = s.directory;
-      device = s.device;
-      file = s.file;
-      sure = s.sure;
-      promise = s.promise;
-      caused = s.caused;
-      allowed = s.allowed;
+      slots = agrees;
+      holdings = holdings;
+      directory = subst (λ (c : _). IsDirectory c.items s.model) (sym read.slots) s.directory;
+      device = subst (λ (held : Option HeldKeys). HoldsKeys held s.model) (sym keys) s.device;
+      file = λ is. (leads is).stands;
+      sure = λ is none. subst (λ (c : _). IsSure c.items) (sym read.slots) (s.sure (before is) none);
+      promise = λ is. promise_stays (disks.left_since old.file.cells.disk) (disks.left_since file.cells.disk) (disks.moment old.file.cells.disk) (disks.moment file.cells.disk) opening.moment start h
+          (FitsEitherKeys (durable_keys s.model) (course_of start h).doubt (durable_keys s.model) (course_of start h).doubt) (s.promise (before is)) (leads is).within
+          (λ image fits. subst (λ (x : model.Store). FitsKeys (durable_keys x) (course_of start h).doubt image) (s.replayed (told (before is)) ∙ ap (λ (x : Service). x.store) (sym (course_service start h))) (⊎_elim (λ f. f) (λ f. f) fits));
+      caused = subst (λ (t : Option (List ℕ)). IsCaused (is_some t) opening.counts h) (sym read.same) s.caused;
+      allowed = λ t. s.allowed (subst (λ (o : Option (List ℕ)). IsTold o start h) read.same t);
     },
     refl,
-  )
+  ) where
+    before : is_some (disks.contents file.cells.disk) ≡ true → is_some (disks.contents old.file.cells.disk) ≡ true
+    before is = ap is_some (sym read.same) ∙ is
+
+    leads : is_some (disks.contents file.cells.disk) ≡ true →
+        Leads disks old.file.cells.disk file.cells.disk old.file.cells.slots.items file.cells.slots.items (durable_keys s.model) (course_of start h).doubt (durable_keys s.model) (course_of start h).doubt
+    leads is = read.keeps (durable_keys s.model) (course_of start h).doubt (s.file (before is))
+
+  module _ (old : Store D A C) (start : Service) (opening : Opening) (h : List Entry) where
+    -- no key changes, and no entry is added
+    pub goes_on : (file : KeyFile D) (slots : KeySlots) (buffer : Buffer) (all : List Pairs) (K : Type 0) → IsReadOn old.file file → (K → IsTold (disks.contents old.file.cells.disk) start h) →
+        (s : Holds disks elements admits (IsTold (disks.contents old.file.cells.disk) start h) old start opening h all) → Agrees slots.table.slots s.model all →
+        (n : Holds disks elements admits K (moved old file slots buffer) start opening h all) × (n.model ≡ s.model)
+    goes_on file slots buffer all K read known s agrees = carries K file slots buffer old.devices read refl refl s inl known agrees s.holdings
+
+    -- a turn without rank
+    pub unranked : (slots : KeySlots) (all more : List Pairs) (s : StandsFor disks elements admits old start opening h all) → Agrees slots.table.slots s.holds.model more → AreHoldings more →
+        StandsFor disks elements admits (record old { slots = slots }) start opening h more
+    unranked slots all more s agrees holdings = record {
+      holds = (carries (IsTold (disks.contents old.file.cells.disk) start h) old.file slots old.buffer old.devices (left_alone old.file) refl refl s.holds inl (λ k. k) agrees holdings).0;
+      counts = s.counts;
+    }
+
+  -- another buffer
+  pub with_buffer : (K : Type 0) (old : Store D A C) (buffer : Buffer) (start : Service) (opening : Opening) (h : List Entry) (all : List Pairs) → (is_some (disks.contents old.file.cells.disk) ≡ true → K) → (s : Holds disks elements admits K old start opening h all) →
+      (n : Holds disks elements admits K (record old { buffer = buffer }) start opening h all) × (n.model ≡ s.model)
+  with_buffer K old buffer start opening h all told s = carries K old.file old.slots buffer old.devices (left_alone old.file) refl refl s told (λ k. k) s.slots s.holdings
 
   -- A ranked turn ends whose request leaves all keys.
   module _ (only_now : (disk : D) (image : List ℕ) → disks.left_since disk (disks.moment disk) image → disks.may_leave disk image)
@@ -189,11 +122,11 @@ module _ {D A C : Type 0} (disks : Disk.Ghosts D) (elements : Devices.Ghosts A) 
     abbrev Known : Type 0
     Known = IsTold (disks.contents disk_here) start (h ++ e ∷ [])
 
-    counted_now : LeavesHere old start h e → Known → (m : model.Store) → m ≡ (replay start h).store → counted m ≡ (outcome_of (replay start h) e).service.store
+    counted_now : LeavesKeys disks elements admits old start h e → Known → (m : model.Store) → m ≡ (replay start h).store → counted m ≡ (outcome_of (replay start h) e).service.store
     counted_now still known m is = ap counted is ∙ sym (still.counted_only known)
 
     -- the disk fits the course with the entry
-    fits_after : LeavesHere old start h e → Known → (m : model.Store) → m ≡ (replay start h).store → StandsForKeys disks disk_here old.file.cells.slots.items (durable_keys m) (course_of start h).doubt →
+    fits_after : LeavesKeys disks elements admits old start h e → Known → (m : model.Store) → m ≡ (replay start h).store → StandsForKeys disks disk_here old.file.cells.slots.items (durable_keys m) (course_of start h).doubt →
         (image : List ℕ) → disks.left_since disk_here (disks.moment disk_here) image → FitsCourse (after e (course_of start h)) image
     fits_after still known m is stands image left =
         let same : counted m ≡ (after e (course_of start h)).service.store = counted_now still known m is ∙ ap (λ (s : Service). (outcome_of s e).service.store) (sym (course_service start h)) in
@@ -201,15 +134,15 @@ module _ {D A C : Type 0} (disks : Disk.Ghosts D) (elements : Devices.Ghosts A) 
         subst (λ (x : model.Store). FitsKeys (durable_keys x) (after e (course_of start h)).doubt image) same
         (subst (λ (d : Doubt). FitsKeys (durable_keys m) d image) (sym (course_doubt start h e (still.changes_none known))) fits)
 
-    pub ends_quiet : (s : HoldsHere Known old start opening h all) → Agrees slots.table.slots s.model more → AreHoldings more → HasFault (is_some (disks.contents disk_here)) (last_counts opening.counts h) e mark →
-        (Known → MayBeMarked (replay start h) e.caller e.call mark) → LeavesHere old start h e → IsTurn (turned old slots) mark e →
-        (after : StandsHere (turned old slots) start opening (h ++ e ∷ []) more) × (after.holds.model ≡ counted s.model)
+    pub ends_quiet : (s : Holds disks elements admits Known old start opening h all) → Agrees slots.table.slots s.model more → AreHoldings more → HasFault (is_some (disks.contents disk_here)) (last_counts opening.counts h) e mark →
+        (Known → MayBeMarked (replay start h) e.caller e.call mark) → LeavesKeys disks elements admits old start h e → IsEntry disks elements admits (turned old slots) mark e →
+        (after : StandsFor disks elements admits (turned old slots) start opening (h ++ e ∷ []) more) × (after.holds.model ≡ counted s.model)
     ends_quiet s agrees holdings fault may still is = (record { holds = holds; counts = counts_push opening.counts h e ∙ counted_here }, refl)
       where
         counted_here : counts_of e.faults e.device_faults ≡ counts_of (disks.faults disk_here) (elements.faults old.devices)
         counted_here = ap (λ (n : ℕ). counts_of n e.device_faults) is.disk_faults ∙ ap (counts_of (disks.faults disk_here)) is.device_faults
 
-        holds : HoldsHere Known (turned old slots) start opening (h ++ e ∷ []) more
+        holds : Holds disks elements admits Known (turned old slots) start opening (h ++ e ∷ []) more
         holds = record {
           model = counted s.model;
           replayed = λ k. counted_now still k s.model (s.replayed k) ∙ ap (λ (x : Service). x.store) (sym (replay_push start h e));
@@ -238,8 +171,8 @@ module _ {D A C : Type 0} (disks : Disk.Ghosts D) (elements : Devices.Ghosts A) 
 
   -- and one that leaves the file
   pub counts_on : (only_now : (disk : D) (image : List ℕ) → disks.left_since disk (disks.moment disk) image → disks.may_leave disk image) (old : Store D A C) (slots : KeySlots) (start : Service) (opening : Opening) (h : List Entry) (all : List Pairs) (e : Entry) →
-      (s : StandsHere old start opening h all) → Agrees slots.table.slots s.holds.model all → LeavesHere old start h e → IsTurn (turned old slots) Plain e →
-      (n : StandsHere (turned old slots) start opening (h ++ e ∷ []) all) × (n.holds.model ≡ counted s.holds.model)
+      (s : StandsFor disks elements admits old start opening h all) → Agrees slots.table.slots s.holds.model all → LeavesKeys disks elements admits old start h e → IsEntry disks elements admits (turned old slots) Plain e →
+      (n : StandsFor disks elements admits (turned old slots) start opening (h ++ e ∷ []) all) × (n.holds.model ≡ counted s.holds.model)
   counts_on only_now old slots start opening h all e s agrees still is =
       let told_here = disks.contents old.file.cells.disk in
       let n = goes_on old start opening h old.file old.slots old.buffer all (IsTold told_here start (h ++ e ∷ [])) (left_alone old.file) (told_before told_here start h e) s.holds s.holds.slots in

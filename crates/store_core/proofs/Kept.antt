@@ -1,7 +1,7 @@
 -- What the directory says of the keys, and keys as a file keeps them.
 use Rattle.std.proofs.Common.{Bool, List, None, Ok, Option, Some, [], ap, arith, bit_and, cond, eq-eqb, false, is_some, length, nat_le, not, refl, subst, sym, true, ℕ, ◌&&◌, ◌*◌, ◌<◌, ◌==◌, ◌∙◌, ◌∷◌, ◌≡◌, ◌≤◌}
 use Rattle.store_core.proofs.Common.{Attributes, Free, HasNoKey, InvalidArgument, InvalidHandle, IsDirectory, IsKeyOf, IsVolatileKey, Key, NotSupported, Open, Shut, Status, Unsure, as_stated, attribute_rows, cell_slot, checked, creation_of_slot, false≢true, filled, first_row, first_row-back, has_id, identified, implied_usage, is_lifetime, is_opaque, is_persistent_key, is_stated_id, is_volatile, nat_tests, persistence, size_rows, there_rows, unless, unless-ok}
-use Rattle.std.proofs.lemmas.Bool.{eqb-true}
+use Rattle.std.proofs.lemmas.Bool.{and_parts, and_right, cond-false, eqb-true}
 use Rattle.std.specs.FinMap as map
 use Rattle.key_cells.specs.declared.slot.Slot as cell
 use Rattle.store_model.specs.Store as model
@@ -15,10 +15,8 @@ HasCellKey m id number = (key : Key) × (map.get m.keys id ≡ Some key) × (is_
 pub key_of_cell : (slots : List cell.Slot) (m : model.Store) (id c : ℕ) → IsDirectory slots m → c < 512 → has_id id (cell_slot slots c) ≡ true → HasCellKey m id (creation_of_slot (cell_slot slots c))
 key_of_cell slots m id c d lt has = go (cell_slot slots c) refl has where
   go : (slot : cell.Slot) → cell_slot slots c ≡ slot → has_id id slot ≡ true → HasCellKey m id (creation_of_slot slot)
-  go Free at is = absurd (false≢true is)
   go (Open own number) at is = subst (λ (n : ℕ). HasCellKey m n number) (eqb-true own id is) (d.only c own number lt at)
-  go Shut at is = absurd (false≢true is)
-  go Unsure at is = absurd (false≢true is)
+  go slot at is = absurd (false≢true is)
 
 pub is_persistent : (o : Option Key) (key : Key) → o ≡ Some key → is_volatile key.attributes ≡ false → is_persistent_key o ≡ true
 is_persistent o key is lasts = ap is_persistent_key is ∙ ap not lasts
@@ -49,21 +47,6 @@ no_key slots m id d none lasts = go (map.get m.keys id) refl lasts where
 
 -- THE ATTRIBUTES OF A KEY THAT IS KEPT
 
-skip : (b : Bool) (s : Status) (o : Option Status) → b ≡ false → cond b (Some s) o ≡ o
-skip b s o isnt = ap (λ x. cond x (Some s) o) isnt
-
-and_false : (a b : Bool) → b ≡ false → (a && b) ≡ false
-and_false true b isnt = isnt
-and_false false b isnt = refl
-
-and_left : (a b : Bool) → (a && b) ≡ true → a ≡ true
-and_left true b is = refl
-and_left false b is = absurd (false≢true is)
-
-and_right : (a b : Bool) → (a && b) ≡ true → b ≡ true
-and_right true b is = is
-and_right false b is = absurd (false≢true is)
-
 between : (id : ℕ) → 1 ≤ id → id ≤ 0x3fffffff → (nat_le 1 id && nat_le id 0x3fffffff) ≡ true
 between id least most = grind (arith, nat_tests)
 
@@ -82,15 +65,15 @@ module _ (a : Attributes) (bytes : List ℕ) (is : IsKeyOf a bytes) where
     sizes = unless-ok (first_row (size_rows a.key_type.0 (length bytes))) (8 * length bytes) a.bits is.kept.size
 
     bits_fit : (not (a.bits == 0) && not (a.bits == 8 * length bytes)) ≡ false
-    bits_fit = and_false (not (a.bits == 0)) (not (a.bits == 8 * length bytes)) (ap not (eq-eqb a.bits (8 * length bytes) (sym sizes.1)))
+    bits_fit = and_right (not (a.bits == 0)) (not (a.bits == 8 * length bytes)) (ap not (eq-eqb a.bits (8 * length bytes) (sym sizes.1)))
 
     rows_pass : first_row (attribute_rows a (length bytes) driver) ≡ None
     rows_pass =
-        skip (not (is_lifetime a.lifetime.0 driver)) NotSupported _ (ap (λ n. not (is_lifetime n driver)) is.kept.lifetime)
-        ∙ skip (not (is_stated_id a.lifetime.0 a.id.0)) InvalidArgument _ (ap (λ n. not (is_stated_id n a.id.0)) is.kept.lifetime ∙ ap not (between a.id.0 is.named.0 is.named.1))
-        ∙ skip (not (bit_and usage 0xffff00f8 == 0)) InvalidArgument _ (ap not (and_left (bit_and usage 0xffff00f8 == 0) (implied_usage usage == usage) is.kept.usage))
+        cond-false (not (is_lifetime a.lifetime.0 driver)) (Some NotSupported) _ (ap (λ n. not (is_lifetime n driver)) is.kept.lifetime)
+        ∙ cond-false (not (is_stated_id a.lifetime.0 a.id.0)) (Some InvalidArgument) _ (ap (λ n. not (is_stated_id n a.id.0)) is.kept.lifetime ∙ ap not (between a.id.0 is.named.0 is.named.1))
+        ∙ cond-false (not (bit_and usage 0xffff00f8 == 0)) (Some InvalidArgument) _ (ap not (and_parts (bit_and usage 0xffff00f8 == 0) (implied_usage usage == usage) is.kept.usage).0)
         ∙ first_row-back (size_rows a.key_type.0 (length bytes)) ((not (a.bits == 0) && not (a.bits == 8 * length bytes), InvalidArgument) ∷ []) sizes.0
-        ∙ skip (not (a.bits == 0) && not (a.bits == 8 * length bytes)) InvalidArgument None bits_fit
+        ∙ cond-false (not (a.bits == 0) && not (a.bits == 8 * length bytes)) (Some InvalidArgument) None bits_fit
 
     abbrev with_parts : ℕ → ℕ → Attributes
     with_parts bits flags = record a { bits = bits; policy = record { usage = record { 0 = flags }; alg = a.policy.alg } }
@@ -98,7 +81,7 @@ module _ (a : Attributes) (bytes : List ℕ) (is : IsKeyOf a bytes) where
     filled_same : filled a (length bytes) ≡ a
     filled_same =
         ap (λ n. with_parts n (implied_usage usage)) sizes.1
-        ∙ ap (with_parts a.bits) (eqb-true (implied_usage usage) usage (and_right (bit_and usage 0xffff00f8 == 0) (implied_usage usage == usage) is.kept.usage))
+        ∙ ap (with_parts a.bits) (eqb-true (implied_usage usage) usage (and_parts (bit_and usage 0xffff00f8 == 0) (implied_usage usage == usage) is.kept.usage).1)
 
     checks : checked a (length bytes) driver ≡ Ok a
     checks = ap (λ o. unless o (filled a (length bytes))) rows_pass ∙ ap (λ (x : Attributes). unless None x) filled_same

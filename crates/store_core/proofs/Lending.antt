@@ -1,6 +1,7 @@
 -- The bytes of a key that is lent.
 use Rattle.std.proofs.Common.{Bool, IsTrue, None, Some, [], ap, cond, false, length, not, refl, subst, true, ℕ, ◌≡◌}
 use Rattle.store_core.proofs.Common.{Attributes, IsSoundKey, Key, KeyUse, as_stated, attribute_rows, filled, first_row, has_secure_element, identified, is_volatile, local, none_holds, permits_size, slot_bytes, unless-ok, use_refusal}
+use Rattle.std.proofs.lemmas.Bool.{not-false}
 use Rattle.store_model.specs.Store as model
 
 -- the slot of a local key has its bytes
@@ -12,10 +13,6 @@ same_type : (volatile : Bool) (a : Attributes) → (cond volatile (identified a 
 same_type true a = refl
 same_type false a = refl
 
-holds : (b : Bool) → not b ≡ false → IsTrue b
-holds true is = refl
-holds false is = cc
-
 -- a key has a number of bytes that its type permits
 pub sized : (m : model.Store) (id : ℕ) (key : Key) → IsSoundKey m id key → IsTrue (permits_size key.attributes.key_type.0 (length key.bytes))
 sized m id key sound =
@@ -23,4 +20,4 @@ sized m id key sound =
     let n = length key.bytes in
     let rows = attribute_rows a n (has_secure_element m) in
     subst (λ t. IsTrue (permits_size t n)) (same_type (is_volatile key.attributes) key.attributes)
-    (holds (permits_size a.key_type.0 n) (none_holds rows 4 (unless-ok (first_row rows) (filled a n) a sound.attributes).0))
+    (not-false (permits_size a.key_type.0 n) (none_holds rows 4 (unless-ok (first_row rows) (filled a n) a sound.attributes).0))

@@ -1,6 +1,6 @@
 -- A key that was loaded from the file.
 use Rattle.std.proofs.Common.{Bool, List, None, Option, Some, [], ap, arith, cond, false, inl, inr, is_some, nat_lt, refl, subst, sym, true, ℕ, ◌++◌, ◌<◌, ◌∙◌, ◌∷◌, ◌≡◌}
-use Rattle.store_core.proofs.Common.{Agrees, Attributes, Buffer, Entry, Gains, IsCaused, IsDirectory, IsKeyOf, IsTold, Key, KeyFile, KeySlots, NoKey, Opening, Pairs, Puts, Request, Service, Slot, SlotHasKey, Store, Stored, bytes-buffer_of, cell_slot, creation_of_slot, durable_keys, false≢true, full_slot, has_id, id_read, is_opaque, is_persistent_key, is_volatile_of, kept, reads_persistent, replay, stored}
+use Rattle.store_core.proofs.Common.{Agrees, Attributes, Buffer, Entry, Gains, Holds, IsCaused, IsDirectory, IsKeyOf, IsTold, Key, KeyFile, KeySlots, NoKey, Opening, Pairs, Puts, Request, Service, Slot, SlotHasKey, Store, Stored, bytes-buffer_of, cell_slot, creation_of_slot, durable_keys, false≢true, full_slot, has_id, id_read, is_opaque, is_persistent_key, is_volatile_of, kept, reads_persistent, replay, stored}
 use Rattle.disk_face.specs.declared.Disk as Disk
 use Rattle.driver_dispatch.specs.declared.devices.Devices as Devices
 use Rattle.admission.specs.declared.rules.Admission as Admission
@@ -8,7 +8,7 @@ use Rattle.std.specs.Option.{option_and_then}
 use Rattle.std.specs.FinMap as map
 use Rattle.store_model.specs.Store as model
 use Rattle.store_core.proofs.Histories.{reads_last, told_before}
-use Rattle.store_core.proofs.Holding.{HoldsHere, IsReadOn, moved, goes_on}
+use Rattle.store_core.proofs.Holding.{IsReadOn, moved, goes_on}
 use Rattle.store_core.proofs.Kept.{HasCellKey, key_of_cell, is_persistent, local}
 use Rattle.store_core.proofs.Replaced.{replaced, same_count, put_here, sound_after, directory_after, device_after, agrees_after}
 
@@ -67,10 +67,10 @@ module _ {D A C : Type 0} (disks : Disk.Ghosts D) (elements : Devices.Ghosts A) 
   told_here = disks.contents old.file.cells.disk
 
   abbrev pub HoldsBefore : Type 0
-  HoldsBefore = HoldsHere disks elements admits (IsTold told_here start h) old start opening h all
+  HoldsBefore = Holds disks elements admits (IsTold told_here start h) old start opening h all
 
   abbrev pub HoldsAfter : Type 0
-  HoldsAfter = HoldsHere disks elements admits (IsTold (disks.contents file.cells.disk) start (h ++ e ∷ [])) (moved disks elements admits old file slots buffer) start opening h all
+  HoldsAfter = Holds disks elements admits (IsTold (disks.contents file.cells.disk) start (h ++ e ∷ [])) (moved disks elements admits old file slots buffer) start opening h all
 
   known : disks.contents file.cells.disk ≡ told_here → IsTold (disks.contents file.cells.disk) start (h ++ e ∷ []) → IsTold told_here start (h ++ e ∷ [])
   known same k = subst (λ (t : Option (List ℕ)). IsTold t start (h ++ e ∷ [])) same k

@@ -1,13 +1,12 @@
 -- A ranked turn that creates a key.
 use Rattle.std.proofs.Common.{Bool, List, None, Option, Some, [], ap, arith, cond, false, is_some, length, min, refl, slice_index, subst, sym, true, ℕ, ◌++◌, ◌+◌, ◌-◌, ◌^◌, ◌∙◌, ◌∷◌, ◌≡◌, ◌≤◌}
-use Rattle.store_core.proofs.Common.{Agrees, AreHoldings, Attributes, Course, Destroy, Doubt, Entry, FaultMark, Hardware, HasFault, HoldsKeys, IsDirectory, IsSure, IsTold, Key, Leads, MayBeKept, MayBeMarked, OnHandle, OnStore, Opening, Pairs, Plain, Reply, Request, Rose, Service, StandsForKeys, Status, Storage, Store, Stored, count_persistent, counted, counted_sound, created, created_sound, doubt_after, doubt_by, durable_keys, failed_step, false≢true, is_destruction, is_volatile, kept, key_answered, key_changed, last_counts, live_volatile, new_id, new_key, option_map_or, outcome_of, plain_step, refusal, replay, serve, stored}
+use Rattle.store_core.proofs.Common.{Agrees, AreHoldings, Attributes, Course, Destroy, Doubt, Entry, FaultMark, Hardware, HasFault, Holds, HoldsKeys, IsDirectory, IsEntry, IsSure, IsTold, Key, Leads, MayBeKept, MayBeMarked, OnHandle, OnStore, Opening, Pairs, Plain, Reply, Request, Rose, Service, StandsFor, StandsForKeys, Status, Storage, Store, Stored, count_persistent, counted, counted_sound, created, created_sound, doubt_after, doubt_by, durable_keys, failed_step, false≢true, is_destruction, is_volatile, kept, key_answered, key_changed, last_counts, live_volatile, new_id, new_key, option_map_or, outcome_of, plain_step, refusal, replay, serve, stored}
 use Rattle.disk_face.specs.declared.Disk as Disk
 use Rattle.driver_dispatch.specs.declared.devices.Devices as Devices
 use Rattle.admission.specs.declared.rules.Admission as Admission
 use Rattle.std.specs.FinMap as map
 use Rattle.store_model.specs.Store as model
 use Rattle.store_model.specs.Prelude.{Corrupt}
-use Rattle.store_core.proofs.Holding.{HoldsHere, StandsHere, IsTurn}
 use Rattle.store_core.proofs.Changing.{turns, retold}
 use Rattle.store_core.proofs.Added.{put_here}
 
@@ -37,15 +36,11 @@ failed_counts service caller (OnHandle handle call) keeps = refl
 
 abbrev pub IsFailure : FaultMark → Type 0
 IsFailure Plain = ⊥
-IsFailure (Storage access) = Unit {0}
-IsFailure Hardware = Unit {0}
-IsFailure Corrupt = Unit {0}
+IsFailure mark = Unit {0}
 
 pub marked_counts : (service : Service) (caller : ℕ) (request : Request) (mark : FaultMark) → IsFailure mark → is_destruction request ≡ false → (serve service caller request mark).service.store ≡ counted service.store
 marked_counts service caller request Plain failed keeps = absurd failed
-marked_counts service caller request (Storage access) failed keeps = failed_counts service caller request keeps
-marked_counts service caller request Hardware failed keeps = failed_counts service caller request keeps
-marked_counts service caller request Corrupt failed keeps = failed_counts service caller request keeps
+marked_counts service caller request mark failed keeps = failed_counts service caller request keeps
 
 module _ (e : Entry) (keeps : is_destruction e.call ≡ false) where
   pub plain_counts : (service : Service) → e.mark ≡ Plain → (outcome_of service e).service.store ≡ (plain_step service e.caller e.call).service.store
@@ -86,13 +81,13 @@ module _ {D A C : Type 0} (disks : Disk.Ghosts D) (elements : Devices.Ghosts A) 
   disk = old.file.cells.disk
 
   abbrev HoldsOld : Type 0
-  HoldsOld = HoldsHere disks elements admits (IsTold (disks.contents disk) start (h ++ e ∷ [])) old start opening h all
+  HoldsOld = Holds disks elements admits (IsTold (disks.contents disk) start (h ++ e ∷ [])) old start opening h all
 
   abbrev StandsNew : Type 0
-  StandsNew = StandsHere disks elements admits new start opening (h ++ e ∷ []) less
+  StandsNew = StandsFor disks elements admits new start opening (h ++ e ∷ []) less
 
   abbrev IsTurnTo : FaultMark → Type 0
-  IsTurnTo mark = IsTurn disks elements admits new mark e
+  IsTurnTo mark = IsEntry disks elements admits new mark e
 
   -- what a turn leaves of a store, whatever key it makes
   pub record IsSameBut (m' : model.Store) : Type 0 where

@@ -1,6 +1,6 @@
 -- A ranked turn that creates a key of the file.
 use Rattle.std.proofs.Common.{Bool, List, None, Option, Some, [], ap, arith, cond, false, is_some, length, not, refl, set, subst, sym, true, ℕ, ◌++◌, ◌+◌, ◌<◌, ◌^◌, ◌∙◌, ◌∷◌, ◌≡◌, ◌≤◌}
-use Rattle.store_core.proofs.Common.{Agrees, AreHoldings, Attributes, Course, Doubt, Entry, FaultMark, HasNoKey, IsFirstWithoutKey, IsFull, IsKeyOf, IsMaking, IsMaterial, IsPut, IsReady, IsSince, IsSure, IsThereOrNew, Key, KeyFile, KeySlots, Keys, Leads, MayBeKept, NoKey, Open, Opening, Pairs, Plain, Puts, Rose, Service, SlotHasKey, StandsForKeys, Storage, Store, Stored, Told, Writing, bytes_of, counted, created, doubt_after, doubt_by, doubt_unmade, durable_keys, false≢true, full_slot, has_secure_element, is_opaque, is_persistent_key, is_volatile, kept, key_changed, last_counts, new_id, new_key, outcome_of, quiet, recorded, replay, serve, settled_slots, stored}
+use Rattle.store_core.proofs.Common.{Agrees, AreHoldings, Attributes, Course, Doubt, Entry, FaultMark, HasNoKey, IsEntry, IsFirstWithoutKey, IsFull, IsKeyOf, IsMaking, IsMaterial, IsPut, IsReady, IsSince, IsSure, IsThereOrNew, Key, KeyFile, KeySlots, Keys, Leads, MayBeKept, NoKey, Open, Opening, Pairs, Plain, Puts, Rose, Service, SlotHasKey, StandsFor, StandsForKeys, Storage, Store, Stored, Told, Writing, bytes_of, counted, created, doubt_after, doubt_by, doubt_unmade, durable_keys, false≢true, full_slot, has_secure_element, is_opaque, is_persistent_key, is_volatile, kept, key_changed, last_counts, new_id, new_key, outcome_of, quiet, recorded, replay, serve, settled_slots, stored}
 use Rattle.disk_face.specs.declared.Disk as Disk
 use Rattle.driver_dispatch.specs.declared.devices.Devices as Devices
 use Rattle.admission.specs.declared.rules.Admission as Admission
@@ -8,15 +8,15 @@ use Rattle.std.specs.FinMap as map
 use Rattle.key_cells.specs.declared.slot.Slot as cell
 use Rattle.persistent_keys.specs.declared.file.MakeFault.TheVariants.{Disk}
 use Rattle.store_model.specs.Store as model
-use Rattle.store_core.proofs.Holding.{StandsHere, IsTurn, same_directory, same_device}
+use Rattle.store_core.proofs.Holding.{same_directory, same_device}
 use Rattle.store_core.proofs.Sure.{set_sure}
 use Rattle.store_core.proofs.Removing.{directory_settled}
 use Rattle.store_core.proofs.Added.{none_stated, few_kept, puts, is_new, named_as_stated, stated_here, local_fills, put_here, put_kept, persistent_kept, directory_placed, as_many_live, one_more_kept, made_same, device_same}
 use Rattle.store_core.proofs.Checked.{key_of_checked, kept_local, in_no_cell, in_no_slot, full_counts}
 use Rattle.store_core.proofs.Makes.{IsMakingAt, makes, unmade, marked_counts, doubted, changes_new, rose_since}
 
-module _ {D A C : Type 0} (disks : Disk.Ghosts D) (elements : Devices.Ghosts A) (admits : Admission.Ghosts C)
-    (old : Store D A C) (caller : ℕ) (a : Attributes) (source : Option ℕ) (start : Service) (opening : Opening) (h : List Entry) (all : List Pairs) (e : Entry)
+module _ {D A C : Type 0} {disks : Disk.Ghosts D} {elements : Devices.Ghosts A} {admits : Admission.Ghosts C}
+    {old : Store D A C} {caller : ℕ} {a : Attributes} {source : Option ℕ} {start : Service} {opening : Opening} {h : List Entry} {all : List Pairs} {e : Entry}
     (r : IsReady disks elements admits old caller a source start opening h all e) where
   abbrev m : model.Store
   m = r.holds.model
@@ -118,7 +118,7 @@ module _ {D A C : Type 0} (disks : Disk.Ghosts D) (elements : Devices.Ghosts A) 
       with_kept = record old { file = file; slots = slots; kept = old.kept + 1; ranked = old.ranked + 1 }
 
       pub makes_kept : IsFiled → Agrees slots.table.slots after less →
-          IsTurn disks elements admits with_kept Plain e → StandsHere disks elements admits with_kept start opening (h ++ e ∷ []) less
+          IsEntry disks elements admits with_kept Plain e → StandsFor disks elements admits with_kept start opening (h ++ e ∷ []) less
       makes_kept f agrees is = makes disks elements admits only_now old with_kept start opening h all less e caller a r.bytes r.holds first last ready_may making.keeps is_making holdings (record {
         rules = refl;
         devices = refl;
@@ -148,7 +148,7 @@ module _ {D A C : Type 0} (disks : Disk.Ghosts D) (elements : Devices.Ghosts A) 
       with_none = record old { file = file; slots = slots; ranked = old.ranked + 1 }
 
       pub fails_kept : (closed_first : Bool) → IsUnfiled closed_first → Agrees slots.table.slots m less → IsSince disks elements admits old (last_counts opening.counts h) →
-          IsTurn disks elements admits with_none (Storage (Writing closed_first)) e → StandsHere disks elements admits with_none start opening (h ++ e ∷ []) less
+          IsEntry disks elements admits with_none (Storage (Writing closed_first)) e → StandsFor disks elements admits with_none start opening (h ++ e ∷ []) less
       fails_kept closed_first f agrees since is = unmade disks elements admits only_now old with_none start opening h all less e (IsMakingAt e caller a r.bytes) (Storage (Writing closed_first)) r.holds making.keeps is_making holdings (record {
         rules = refl;
         devices = refl;

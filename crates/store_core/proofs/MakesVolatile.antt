@@ -1,6 +1,6 @@
 -- A ranked turn that creates a volatile key, in memory or in the device.
 use Rattle.std.proofs.Common.{IfSome, List, None, Option, Some, [], ap, arith, cond, false, length, refl, slice_index, slice_set, subst, sym, true, ℕ, ◌++◌, ◌+◌, ◌<◌, ◌^◌, ◌||◌, ◌∙◌, ◌∷◌, ◌≡◌, ◌≤◌, ◌⊎◌}
-use Rattle.store_core.proofs.Common.{Agrees, AreHoldings, Attributes, Buffer, Course, Doubt, Entry, FaultMark, Hardware, HeldKey, HeldKeys, HoldsHandle, HoldsKeys, IsMaking, IsMaterial, IsReady, IsSince, IsSomeKey, IsThereOrNew, Key, KeySlots, Lacks, Leads, MayBeKept, NoKey, Opening, Pairs, Plain, Puts, Rose, Service, SlotHasKey, Store, Told, asks_device, bytes_of, counted, created, doubt_after, durable_keys, first_volatile, full_slot, has_element, has_secure_element, identified, is_key_type, is_opaque, is_opaque_key, is_volatile, key_changed, last_counts, new_id, new_key, permits_size, quiet, replay, serve, stays, stored, with_copy, with_held_key, with_key_or_same}
+use Rattle.store_core.proofs.Common.{Agrees, AreHoldings, Attributes, Buffer, Course, Doubt, Entry, FaultMark, Hardware, HeldKey, HeldKeys, HoldsHandle, HoldsKeys, IsEntry, IsMaking, IsMaterial, IsReady, IsSince, IsSomeKey, IsThereOrNew, Key, KeySlots, Lacks, Leads, MayBeKept, NoKey, Opening, Pairs, Plain, Puts, Rose, Service, SlotHasKey, StandsFor, Store, Told, asks_device, bytes_of, counted, created, doubt_after, durable_keys, first_volatile, full_slot, has_element, has_secure_element, identified, is_key_type, is_opaque, is_opaque_key, is_volatile, key_changed, last_counts, new_id, new_key, permits_size, quiet, replay, serve, stays, stored, with_copy, with_held_key, with_key_or_same}
 use Rattle.disk_face.specs.declared.Disk as Disk
 use Rattle.driver_dispatch.specs.declared.devices.Devices as Devices
 use Rattle.admission.specs.declared.rules.Admission as Admission
@@ -9,15 +9,15 @@ use Rattle.std.specs.Option.{option_map}
 use Rattle.std.specs.FinMap as map
 use Rattle.driver_dispatch.specs.Held as held_keys
 use Rattle.store_model.specs.Store as model
-use Rattle.store_core.proofs.Holding.{StandsHere, IsTurn, same_directory}
+use Rattle.store_core.proofs.Holding.{same_directory}
 use Rattle.store_core.proofs.Added.{none_here, puts, is_new, put_here, volatile_id, few_live, few_made, made_here, live_here, volatile_kept, as_many_kept, directory_same, device_same, device_gains, device_failed, local_fills, opaque_fills}
 use Rattle.store_core.proofs.Checked.{known_type, known_size, element_is, in_no_slot}
 use Rattle.store_core.proofs.Destroyed.{holds_some}
 use Rattle.store_core.proofs.Makes.{IsMakingAt, makes, unmade, marked_counts, doubted, changes_new, rose_since}
 use Rattle.store_core.proofs.MakesKept.{ready_may, in_buffer}
 
-module _ {D A C : Type 0} (disks : Disk.Ghosts D) (elements : Devices.Ghosts A) (admits : Admission.Ghosts C)
-    (old : Store D A C) (caller : ℕ) (a : Attributes) (source : Option ℕ) (start : Service) (opening : Opening) (h : List Entry) (all : List Pairs) (e : Entry)
+module _ {D A C : Type 0} {disks : Disk.Ghosts D} {elements : Devices.Ghosts A} {admits : Admission.Ghosts C}
+    {old : Store D A C} {caller : ℕ} {a : Attributes} {source : Option ℕ} {start : Service} {opening : Opening} {h : List Entry} {all : List Pairs} {e : Entry}
     (r : IsReady disks elements admits old caller a source start opening h all e) (first : 1 ≤ caller) (last : caller ≤ 16) (volatile : is_volatile a ≡ true) where
   abbrev m : model.Store
   m = r.holds.model
@@ -26,7 +26,7 @@ module _ {D A C : Type 0} (disks : Disk.Ghosts D) (elements : Devices.Ghosts A) 
   disk = old.file.cells.disk
 
   abbrev may : MayBeKept m caller a (length r.bytes)
-  may = ready_may disks elements admits old caller a source start opening h all e r
+  may = ready_may r
 
   abbrev number : ℕ
   number = old.found + old.ranked
@@ -66,7 +66,7 @@ module _ {D A C : Type 0} (disks : Disk.Ghosts D) (elements : Devices.Ghosts A) 
   local_takes local =
       subst (λ n. SlotHasKey (full_slot n (identified a next) (bytes_of old.buffer)) own) (sym number_is)
       (subst (λ n. SlotHasKey (full_slot (m.found + m.calls) (identified a n) (bytes_of old.buffer)) own) next_is
-      (subst (λ (b : List ℕ). SlotHasKey (full_slot (m.found + m.calls) (identified a (new_id m caller a)) b) own) (sym (in_buffer disks elements admits old caller a source start opening h all e r local))
+      (subst (λ (b : List ℕ). SlotHasKey (full_slot (m.found + m.calls) (identified a (new_id m caller a)) b) own) (sym (in_buffer r local))
       (local_fills m caller a r.bytes first last r.holds.sound may local)))
 
   pub opaque_takes : is_opaque a ≡ true → SlotHasKey (full_slot number (identified a next) []) own
@@ -153,7 +153,7 @@ module _ {D A C : Type 0} (disks : Disk.Ghosts D) (elements : Devices.Ghosts A) 
     }
 
     pub makes_volatile : length old.live ≡ 17 → elements.locations devices ≡ elements.locations old.devices → HoldsKeys (elements.keys devices) after → Agrees slots.table.slots after less →
-        IsTurn disks elements admits with_volatile Plain e → StandsHere disks elements admits with_volatile start opening (h ++ e ∷ []) less
+        IsEntry disks elements admits with_volatile Plain e → StandsFor disks elements admits with_volatile start opening (h ++ e ∷ []) less
     makes_volatile sized places device agrees is = makes disks elements admits only_now old with_volatile start opening h all less e caller a r.bytes r.holds first last may making.keeps is_making holdings (record {
       rules = refl;
       devices = places;
@@ -185,7 +185,7 @@ module _ {D A C : Type 0} (disks : Disk.Ghosts D) (elements : Devices.Ghosts A) 
     -- the device failed
     pub fails_volatile : is_opaque a ≡ true → elements.locations devices ≡ elements.locations old.devices → ((elements.keys devices ≡ elements.keys old.devices) ⊎ (elements.keys devices ≡ option_map (with_held_key number held_key) (elements.keys old.devices))) →
         Rose (elements.faults old.devices) (elements.faults devices) → Agrees slots.table.slots m less → IsSince disks elements admits old (last_counts opening.counts h) →
-        IsTurn disks elements admits with_failed Hardware e → StandsHere disks elements admits with_failed start opening (h ++ e ∷ []) less
+        IsEntry disks elements admits with_failed Hardware e → StandsFor disks elements admits with_failed start opening (h ++ e ∷ []) less
     fails_volatile opaque places changes rose agrees since is = unmade disks elements admits only_now old with_failed start opening h all less e (IsMakingAt e caller a r.bytes) Hardware r.holds making.keeps is_making holdings (record {
       rules = refl;
       devices = places;

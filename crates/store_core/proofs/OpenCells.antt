@@ -36,10 +36,8 @@ pub record IsOpenSlot (slot : cell.Slot) : Type 0 where
   pub is : slot ≡ Open id number
 
 pub open_slot : (slot : cell.Slot) → is_open slot ≡ true → IsOpenSlot slot
-open_slot Free o = absurd (false≢true o)
 open_slot (Open id number) o = record { id = id; number = number; is = refl }
-open_slot Shut o = absurd (false≢true o)
-open_slot Unsure o = absurd (false≢true o)
+open_slot slot o = absurd (false≢true o)
 
 pub has_own : (slot : cell.Slot) (id number : ℕ) → slot ≡ Open id number → has_id id slot ≡ true
 has_own slot id number is = ap (has_id id) is ∙ eq-eqb id id refl

@@ -158,12 +158,10 @@ module _ (slots : List cell.Slot) (image now : List ℕ) (are : AreTold slots im
     }
       where
         of : (id c : ℕ) → c < 512 → (s : cell.Slot) → cell_slot slots c ≡ s → has_id id s ≡ true → (key : Stored) × (durable_keys (start_of settings found) id ≡ Some key)
-        of id c lt Free is has = absurd (false≢true has)
         of id c lt (Open own number) is has =
             let k = keys.each c own number lt is in
             (stored number k.0.attributes k.0.bytes, ap (durable_keys (start_of settings found)) (sym (k.2 ∙ eqb-true own id has)) ∙ durable number k.0 k.1 k.3)
-        of id c lt Shut is has = absurd (false≢true has)
-        of id c lt Unsure is has = absurd (false≢true has)
+        of id c lt slot is has = absurd (false≢true has)
 
 -- TWO STARTS
 

@@ -1,6 +1,6 @@
 -- A ranked turn that looked for a key.
 use Rattle.std.proofs.Common.{Err, IsErrOf, List, None, Option, Some, [], ap, arith, false, is_some, refl, subst, sym, true, ℕ, ◌++◌, ◌-◌, ◌<◌, ◌^◌, ◌∙◌, ◌∷◌, ◌≡◌}
-use Rattle.store_core.proofs.Common.{Agrees, AreHoldings, Corrupt, Disk, Entry, FaultCounts, FaultMark, GetAttributes, InvalidHandle, IsTold, Key, KeySlots, KeyUse, Missing, OnStore, Opening, Pairs, Plain, Rose, Service, Slot, Status, Store, Unread, counted, few_of_one, is_persistent_key, mark_of, readers_out, reads_persistent, refused_so, replay, slot_at, status_of, use_refusal}
+use Rattle.store_core.proofs.Common.{Agrees, AreHoldings, Corrupt, Disk, Entry, FaultCounts, FaultMark, GetAttributes, Holds, InvalidHandle, IsEntry, IsReading, IsTold, Key, KeySlots, KeyUse, Missing, OnStore, Opening, Pairs, Plain, Rose, Service, Slot, StandsFor, Status, Store, Unread, counted, few_of_one, is_persistent_key, mark_of, readers_out, reads_persistent, refused_so, replay, slot_at, status_of, use_refusal}
 use Rattle.disk_face.specs.declared.Disk as Disk
 use Rattle.driver_dispatch.specs.declared.devices.Devices as Devices
 use Rattle.admission.specs.declared.rules.Admission as Admission
@@ -8,7 +8,7 @@ use Rattle.std.specs.FinMap as map
 use Rattle.store_model.specs.Store as model
 use Rattle.store_core.specs.Uses.{IsRefused}
 use Rattle.store_core.proofs.Histories.{told_before, quiet_leaves}
-use Rattle.store_core.proofs.Holding.{HoldsHere, StandsHere, IsTurn, IsReadingHere, turned, ends_quiet}
+use Rattle.store_core.proofs.Holding.{turned, ends_quiet}
 use Rattle.store_core.proofs.Loading.{reads_it}
 
 -- a search ended so
@@ -41,13 +41,13 @@ module _ {D A C : Type 0} (disks : Disk.Ghosts D) (elements : Devices.Ghosts A) 
 
   -- what was brought
   abbrev Brought : (model.Store → Type 0) → Type 0
-  Brought P = (n : HoldsHere disks elements admits (IsTold (disks.contents mid.file.cells.disk) start (h ++ e ∷ [])) mid start opening h all) × P n.model
+  Brought P = (n : Holds disks elements admits (IsTold (disks.contents mid.file.cells.disk) start (h ++ e ∷ [])) mid start opening h all) × P n.model
 
   abbrev SameTold : Type 0
   SameTold = disks.contents mid.file.cells.disk ≡ disks.contents old.file.cells.disk
 
   -- the entry reads a persistent key
-  read_persistent : SameTold → IsReadingHere disks elements admits old start h e id → Brought (λ m. is_persistent_key (map.get m.keys id) ≡ true) →
+  read_persistent : SameTold → IsReading disks elements admits old start h e id → Brought (λ m. is_persistent_key (map.get m.keys id) ≡ true) →
       IsTold (disks.contents mid.file.cells.disk) start (h ++ e ∷ []) → reads_persistent (replay start h) e.caller e.call ≡ true
   read_persistent same is n k =
       let known = told_before (disks.contents old.file.cells.disk) start h e (subst (λ (t : Option (List ℕ)). IsTold t start (h ++ e ∷ [])) same k) in
@@ -55,31 +55,31 @@ module _ {D A C : Type 0} (disks : Disk.Ghosts D) (elements : Devices.Ghosts A) 
 
   -- the turn ends with what was brought
   abbrev pub Ends : (model.Store → Type 0) → Type 0
-  Ends P = (n : StandsHere disks elements admits new start opening (h ++ e ∷ []) all) × P n.holds.model
+  Ends P = (n : StandsFor disks elements admits new start opening (h ++ e ∷ []) all) × P n.holds.model
 
   -- its key was found, and is lent or not
-  pub ends_found : (slots : KeySlots) (more : List Pairs) (P : model.Store → Type 0) → IsReadingHere disks elements admits old start h e id →
-      (n : HoldsHere disks elements admits (IsTold (disks.contents mid.file.cells.disk) start (h ++ e ∷ [])) mid start opening h all) → P (counted n.model) → Agrees slots.table.slots n.model more → AreHoldings more →
-      IsTurn disks elements admits (turned disks elements admits mid slots) Plain e →
-      (after : StandsHere disks elements admits (turned disks elements admits mid slots) start opening (h ++ e ∷ []) more) × P after.holds.model
+  pub ends_found : (slots : KeySlots) (more : List Pairs) (P : model.Store → Type 0) → IsReading disks elements admits old start h e id →
+      (n : Holds disks elements admits (IsTold (disks.contents mid.file.cells.disk) start (h ++ e ∷ [])) mid start opening h all) → P (counted n.model) → Agrees slots.table.slots n.model more → AreHoldings more →
+      IsEntry disks elements admits (turned disks elements admits mid slots) Plain e →
+      (after : StandsFor disks elements admits (turned disks elements admits mid slots) start opening (h ++ e ∷ []) more) × P after.holds.model
   ends_found slots more P is n holds agrees holdings turn =
       let ends = ends_quiet disks elements admits only_now mid slots Plain start opening h all more e n agrees holdings tt (λ k. tt) (quiet_leaves disks elements admits mid start h e is.quiet) turn in
       (ends.0, subst P (sym ends.1) holds)
 
   -- a row refuses it
-  pub ends_refused : (rows : Option Key → Option Status) (status : Status) → IsPlain status → IsReadingHere disks elements admits old start h e id →
-      (n : HoldsHere disks elements admits (IsTold (disks.contents mid.file.cells.disk) start (h ++ e ∷ [])) mid start opening h all) → rows (map.get n.model.keys id) ≡ Some status →
-      IsTurn disks elements admits new (mark_of status) e → Ends (IsRefused rows id status)
+  pub ends_refused : (rows : Option Key → Option Status) (status : Status) → IsPlain status → IsReading disks elements admits old start h e id →
+      (n : Holds disks elements admits (IsTold (disks.contents mid.file.cells.disk) start (h ++ e ∷ [])) mid start opening h all) → rows (map.get n.model.keys id) ≡ Some status →
+      IsEntry disks elements admits new (mark_of status) e → Ends (IsRefused rows id status)
   ends_refused rows status plain is n refused turn =
       ends_found mid.slots all (IsRefused rows id status) is n (plain.1 rows id (counted n.model) refused) n.slots n.holdings
-      (subst (λ (mark : FaultMark). IsTurn disks elements admits new mark e) plain.0 turn)
+      (subst (λ (mark : FaultMark). IsEntry disks elements admits new mark e) plain.0 turn)
 
   -- its key is not there, or could not be read
   pub ends_unread : (rows : Option Key → Option Status) (why : Unread) → rows None ≡ Some InvalidHandle → SameTold →
-      StandsHere disks elements admits old start opening h all → IsReadingHere disks elements admits old start h e id →
+      StandsFor disks elements admits old start opening h all → IsReading disks elements admits old start h e id →
       (IsWhy why Missing → Brought (λ m. map.get m.keys id ≡ None)) → ((IsWhy why Missing → ⊥) → Brought (λ m. is_persistent_key (map.get m.keys id) ≡ true)) →
       (IsWhy why Disk → Rose (disks.faults old.file.cells.disk) (disks.faults mid.file.cells.disk)) → (IsWhy why Corrupt → is_some (disks.contents mid.file.cells.disk) ≡ false) →
-      IsTurn disks elements admits new (mark_of (status_of why)) e → Ends (IsRefused rows id (status_of why))
+      IsEntry disks elements admits new (mark_of (status_of why)) e → Ends (IsRefused rows id (status_of why))
   ends_unread rows Missing none same s is missing unread rose blind turn =
       let n = missing refl in
       let ends = ends_quiet disks elements admits only_now mid mid.slots _ start opening h all all e n.0 n.0.slots n.0.holdings tt (λ k. tt) (quiet_leaves disks elements admits mid start h e is.quiet) turn in

@@ -1,17 +1,15 @@
 -- A store of which one key is removed.
-use Rattle.std.proofs.Common.{Bool, List, None, Option, Some, ap, arith, cond, eq-eqb, false, inl, inr, length, refl, set, subst, sym, true, ℕ, ◌+◌, ◌<◌, ◌==◌, ◌∙◌, ◌≡◌, ◌≢◌, ◌⊎◌}
+use Rattle.std.proofs.Common.{ne_eqb, Bool, List, None, Option, Some, ap, arith, cond, eq-eqb, false, inl, inr, length, refl, set, subst, sym, true, ℕ, ◌+◌, ◌<◌, ◌==◌, ◌∙◌, ◌≡◌, ◌≢◌, ◌⊎◌}
 use Rattle.store_core.proofs.Common.{Free, HeldKey, HeldKeys, HoldsHandle, HoldsKeys, IsDirectory, IsPut, IsSomeKey, IsSoundStore, Key, KeyMap, Lacks, Open, Puts, Shut, Stored, Unsure, cases_eq, cases_lt, cell_slot, destroyed, durable_keys, false≢true, get_or-map, get_or_past, held_key, is_volatile, kept, left, len_kept-insert, length-map, nat_cmp_total, nat_tests, settled_slot, settled_slots, stored, taken, unsigned_tied, without_key}
 use Rattle.std.proofs.lemmas.Bool.{eqb-true}
+use Rattle.std.proofs.lemmas.Option.{none-some, same_Some}
 use Rattle.std.proofs.lemmas.List.{get_or-set_same, get_or-set_other}
 use Rattle.std.specs.Option.{option_map}
 use Rattle.std.specs.FinMap as map
 use Rattle.key_cells.specs.declared.slot.Slot as cell
 use Rattle.store_model.specs.Store as model
 use Rattle.store_core.proofs.Kept.{HasCellKey}
-use Rattle.store_core.proofs.Replaced.{back_again, some_same}
-
-apart : (n k : ℕ) → n ≢ k → (n == k) ≡ false
-apart n k differ = grind (arith, nat_tests)
+use Rattle.store_core.proofs.Replaced.{back_again}
 
 -- as many keys are kept of the map as without the key, and that where it counts
 pub one_less : (p : ℕ → Bool) (keys : KeyMap) (id : ℕ) (key : Key) → map.get keys id ≡ Some key →
@@ -31,10 +29,8 @@ nothing_removed keys id none = map.same_map nat_cmp_total map.nat_cmp-IsAntisymm
 -- THE DIRECTORY
 
 pub settled_opens : (slot : cell.Slot) (id number : ℕ) → settled_slot slot ≡ Open id number → slot ≡ Open id number
-settled_opens Free id number is = cc
 settled_opens (Open own creation) id number is = is
-settled_opens Shut id number is = cc
-settled_opens Unsure id number is = cc
+settled_opens slot id number is = cc
 
 pub settled_at : (slots : List cell.Slot) (c : ℕ) → cell_slot (settled_slots slots) c ≡ settled_slot (cell_slot slots c)
 settled_at slots c = elim (cases_lt c (length slots)) [
@@ -88,15 +84,13 @@ module _ (m : model.Store) (id : ℕ) where
   none_here = taken m.keys id id ∙ ap (λ b. cond b None (map.get m.keys id)) (eq-eqb id id refl)
 
   pub others_stay : (q : ℕ) → q ≢ id → map.get gone.keys q ≡ map.get m.keys q
-  others_stay q other = taken m.keys id q ∙ ap (λ b. cond b None (map.get m.keys q)) (apart q id other)
+  others_stay q other = taken m.keys id q ∙ ap (λ b. cond b None (map.get m.keys q)) (ne_eqb q id other)
 
   pub was_there : (q : ℕ) (k : Key) → map.get gone.keys q ≡ Some k → (q ≢ id) × (map.get m.keys q ≡ Some k)
   was_there q k is = (
-    (λ same. not_both k (sym none_here ∙ (ap (map.get gone.keys) (sym same) ∙ is))),
+    (λ same. none-some k (sym none_here ∙ (ap (map.get gone.keys) (sym same) ∙ is))),
     left (q == id) (map.get m.keys q) k (sym (taken m.keys id q) ∙ is),
-  ) where
-    not_both : (k : Key) → None ≡ Some k → ⊥
-    not_both k is = cc
+  )
 
   pub takes_out : Puts m gone id None
   takes_out = record { here = none_here; others = others_stay; given = omega arith }
@@ -147,7 +141,7 @@ module _ (m : model.Store) (id : ℕ) where
       one = d.one;
     } where
       not_it : (q : ℕ) {n : ℕ} → HasCellKey m q n → q ≡ id → ⊥
-      not_it q k same = false≢true (sym k.2 ∙ (ap (λ (x : Key). is_volatile x.attributes) (some_same k.0 key (sym k.1 ∙ (ap (map.get m.keys) same ∙ there))) ∙ volatile))
+      not_it q k same = false≢true (sym k.2 ∙ (ap (λ (x : Key). is_volatile x.attributes) (same_Some k.0 key (sym k.1 ∙ (ap (map.get m.keys) same ∙ there))) ∙ volatile))
 
     -- THE DEVICE
 
@@ -158,7 +152,7 @@ module _ (m : model.Store) (id : ℕ) where
     }
 
     held_apart : (held : HeldKeys) (handle : ℕ) → handle ≢ key.number → held_key (without_key key.number held) handle ≡ held_key held handle
-    held_apart held handle differ = map.get-remove nat_cmp_total held key.number handle ∙ ap (λ b. cond b None (held_key held handle)) (unsigned_tied handle key.number ∙ apart handle key.number differ)
+    held_apart held handle differ = map.get-remove nat_cmp_total held key.number handle ∙ ap (λ b. cond b None (held_key held handle)) (unsigned_tied handle key.number ∙ ne_eqb handle key.number differ)
 
     held_none : (held : HeldKeys) (handle : ℕ) → held_key held handle ≡ None → held_key (without_key key.number held) handle ≡ None
     held_none held handle none = elim (cases_eq handle key.number) [

@@ -1,7 +1,8 @@
 -- A store of which one key that is kept in the file has other attributes and bytes.
-use Rattle.std.proofs.Common.{Bool, List, None, Option, Some, ap, arith, cond, false, inl, inr, nat_lt, refl, subst, sym, true, ℕ, ◌<◌, ◌==◌, ◌∙◌, ◌≡◌, ◌≢◌, ◌≤◌, ◌⊎◌}
+use Rattle.std.proofs.Common.{eq-eqb, ne_eqb, Bool, List, None, Option, Some, ap, arith, cond, false, inl, inr, nat_lt, refl, subst, sym, true, ℕ, ◌<◌, ◌==◌, ◌∙◌, ◌≡◌, ◌≢◌, ◌≤◌, ◌⊎◌}
 use Rattle.store_core.proofs.Common.{Agrees, Attributes, HeldKeys, HoldsHandle, HoldsKeys, IsDirectory, IsGone, IsKeyOf, IsSoundKey, IsSoundStore, Key, KeyMap, NoKey, Open, Pairs, Slot, cases_eq, cell_slot, false≢true, holds_its_key, holds_key, is_opaque, is_volatile, is_volatile_of, len_kept-insert, nat_cmp_total, nat_tests, put, slot_at, taken}
 use Rattle.std.proofs.lemmas.Bool.{eqb-true}
+use Rattle.std.proofs.lemmas.Option.{same_Some}
 use Rattle.std.specs.FinMap as map
 use Rattle.key_cells.specs.declared.slot.Slot as cell
 use Rattle.store_model.specs.Store as model
@@ -27,15 +28,9 @@ back_again keys id key is = map.same_map nat_cmp_total map.nat_cmp-IsAntisymmetr
 pub same_count : (p : ℕ → Bool) (keys : KeyMap) (id : ℕ) (key new : Key) → map.get keys id ≡ Some key → map.len (map.retain_keys (map.insert keys id new) p) ≡ map.len (map.retain_keys keys p)
 same_count p keys id key new is =
     let left = map.remove keys id in
-    let none : map.get left id ≡ None = taken keys id id ∙ ap (λ b. cond b None (map.get keys id)) (same_number id) in
+    let none : map.get left id ≡ None = taken keys id id ∙ ap (λ b. cond b None (map.get keys id)) (eq-eqb id id refl) in
     let count : KeyMap → ℕ = λ m. map.len (map.retain_keys m p) in
     ap count (over_removed keys id new) ∙ len_kept-insert p left id new none ∙ sym (ap count (back_again keys id key is) ∙ len_kept-insert p left id key none)
-  where
-    same_number : (n : ℕ) → (n == n) ≡ true
-    same_number n = grind (arith, nat_tests)
-
-pub some_same : (x y : Key) → Some x ≡ Some y → x ≡ y
-some_same x y e = cc
 
 abbrev pub replaced : model.Store → ℕ → Key → model.Store
 replaced m id new = record m { keys = map.insert m.keys id new }
@@ -46,20 +41,14 @@ IsFoundIn m id new q k = ((q ≡ id) × (new ≡ k)) ⊎ ((q ≢ id) × (map.get
 
 module _ (m : model.Store) (id : ℕ) (new : Key) where
   pub put_here : map.get (map.insert m.keys id new) id ≡ Some new
-  put_here = put m.keys id new id ∙ ap (λ b. cond b (Some new) (map.get m.keys id)) (same id)
-    where
-      same : (n : ℕ) → (n == n) ≡ true
-      same n = grind (arith, nat_tests)
+  put_here = put m.keys id new id ∙ ap (λ b. cond b (Some new) (map.get m.keys id)) (eq-eqb id id refl)
 
   pub put_other : (q : ℕ) → q ≢ id → map.get (map.insert m.keys id new) q ≡ map.get m.keys q
-  put_other q other = put m.keys id new q ∙ ap (λ b. cond b (Some new) (map.get m.keys q)) (apart q id other)
-    where
-      apart : (n k : ℕ) → n ≢ k → (n == k) ≡ false
-      apart n k differ = grind (arith, nat_tests)
+  put_other q other = put m.keys id new q ∙ ap (λ b. cond b (Some new) (map.get m.keys q)) (ne_eqb q id other)
 
   found_in : (q : ℕ) (k : Key) → map.get (map.insert m.keys id new) q ≡ Some k → IsFoundIn m id new q k
   found_in q k is = elim (cases_eq q id) [
-    | inl same ↦ inl (same, some_same new k (sym put_here ∙ (ap (map.get (map.insert m.keys id new)) (sym same) ∙ is)))
+    | inl same ↦ inl (same, same_Some new k (sym put_here ∙ (ap (map.get (map.insert m.keys id new)) (sym same) ∙ is)))
     | inr other ↦ inr (other, sym (put_other q other) ∙ is)
   ]
 
@@ -115,7 +104,7 @@ module _ (m : model.Store) (id : ℕ) (key : Key) (a : Attributes) (bytes : List
 
     of_cell : (q number : ℕ) → ((q ≡ id) ⊎ (q ≢ id)) → HasCellKey m q number → HasCellKey after q number
     of_cell q number (inl same) k =
-        let own : k.0 ≡ key = some_same k.0 key (sym k.1 ∙ (ap (map.get m.keys) same ∙ there)) in
+        let own : k.0 ≡ key = same_Some k.0 key (sym k.1 ∙ (ap (map.get m.keys) same ∙ there)) in
         (loaded, ap (map.get after.keys) same ∙ put_here m id loaded, lasting a bytes is, sym (ap (λ (x : Key). x.number) own) ∙ k.3)
     of_cell q number (inr other) k = (k.0, put_other m id loaded q other ∙ k.1, k.2, k.3)
 

@@ -1,6 +1,7 @@
 -- A store that was opened stands for a start, before any call.
 use Rattle.std.proofs.Common.{Bool, IfSome, List, None, Option, Some, [], ap, arith, count_by, false, is_some, length, nat_lt, refl, replicate, slice_get, slice_index, slice_index_or, subst, suc, sym, true, zero, ℕ, ◌+◌, ◌↔◌, ◌∙◌, ◌≡◌, ◌≤◌}
 use Rattle.store_core.proofs.Common.{Agrees, AreFound, AreHoldings, AreOpened, Attributes, HasKey, HasOneEach, HeldKeys, HoldsKeys, IsDirectory, IsHolding, IsNumbered, IsOpened, IsRefused, IsStart, IsVolatileKey, KeepsKeys, Key, KeyFile, Keys, Lacks, Memory, Open, OpenedKey, Opening, Pairs, Service, Settings, Sound, StandsFor, StandsForContents, StandsForKeys, Store, cell_slot, count_by-le-length, durable_keys, empty_ones, empty_slot, false≢true, for_told, found_in, is_opaque, is_open, is_volatile, is_volatile_of, length-replicate, nat_tests, of_volatile, opening_of, service_start, some_weaker, stands_fits, start_of}
+use Rattle.std.proofs.lemmas.Bool.{lt-ltb}
 use Rattle.disk_face.specs.declared.Disk as Disk
 use Rattle.driver_dispatch.specs.declared.devices.Devices as Devices
 use Rattle.admission.specs.declared.rules.Admission as Admission
@@ -63,11 +64,8 @@ module _ (told : Option (List ℕ)) (slots : List cell.Slot) (found : List Opene
   pub none_live : (c : ℕ) → model.live_volatile first.keys c ≡ 0
   none_live c = counted (is_volatile_of c) false 0 found once (λ i key e. not_of c (id_of key) (low i key e) (is_volatile_of c (id_of key)) refl)
 
-  below : (n : ℕ) → n ≤ 0x3fffffff → nat_lt n 0x40000000 ≡ true
-  below n le = grind (arith, nat_tests)
-
   pub all_persistent : model.count_persistent first.keys ≡ length found
-  all_persistent = counted (λ id. nat_lt id 0x40000000) true 0 found once (λ i key e. below (id_of key) (low i key e))
+  all_persistent = counted (λ id. nat_lt id 0x40000000) true 0 found once (λ i key e. lt-ltb (id_of key) 0x40000000 (let most = low i key e in omega arith))
 
   -- a directory of so many numbered cells has these keys
   module _ (sized : length slots ≡ 512) (numbered_by : IsNumbered 512 slots) (one : HasOneEach 512 slots) (are : AreOpened told slots found) where

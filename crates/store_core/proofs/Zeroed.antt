@@ -1,6 +1,7 @@
 -- Cells that stay zeros over the calls of a turn.
 use Rattle.std.proofs.Common.{List, None, Option, Some, [], ap, arith, cond, length, refl, set, subst, sym, true, ℕ, ⊎_elim, ◌<◌, ◌==◌, ◌∙◌, ◌∷◌, ◌≡◌}
 use Rattle.store_core.proofs.Common.{FileStaysZeros, Free, HasZeros, IsDirectory, Key, KeyFile, Keys, LeavesZeros, Open, Shut, StaysFree, Store, Stored, Unsure, Within, cell_slot, false≢true, has_id, last_store, length-map, settled_slot, settled_slots, stays, within_both, within_none}
+use Rattle.std.proofs.lemmas.Option.{none-some}
 use Rattle.disk_face.specs.declared.Disk as Disk
 use Rattle.driver_dispatch.specs.declared.devices.Devices as Devices
 use Rattle.admission.specs.declared.rules.Admission as Admission
@@ -32,10 +33,8 @@ module _ {D : Type 0} (disks : Disk.Ghosts D) where
 
 -- a cell that has an identifier is open
 open_of : (id : ℕ) (slot : cell.Slot) → has_id id slot ≡ true → (number : ℕ) × (slot ≡ Open id number)
-open_of id Free has = absurd (false≢true has)
 open_of id (Open own number) has = (number, ap (λ (n : ℕ). Open n number) (eqb-true own id has))
-open_of id Shut has = absurd (false≢true has)
-open_of id Unsure has = absurd (false≢true has)
+open_of id slot has = absurd (false≢true has)
 
 -- the cells that have a destroyed key's identifier are free
 pub freed : (slots slots' : List cell.Slot) (m : model.Store) (id at : ℕ) → IsDirectory slots m → at < 512 → has_id id (cell_slot slots at) ≡ true → slots' ≡ set (settled_slots slots) at Free →
@@ -52,9 +51,7 @@ pub lacks_cell : (slots : List cell.Slot) (m : model.Store) (id : ℕ) → IsDir
 lacks_cell slots m id d none c lt has =
     let o = open_of id (cell_slot slots c) has in
     let k = d.only c id o.0 lt o.1 in
-    apart k.0 (sym none ∙ k.1) where
-      apart : (key : Key) → None ≡ Some key → ⊥
-      apart key same = cc
+    none-some k.0 (sym none ∙ k.1)
 
 -- a file that stays as it is
 pub untouched : {D : Type 0} (disks : Disk.Ghosts D) (old new : KeyFile D) → new ≡ old → LeavesZeros disks old new

@@ -11,7 +11,7 @@ ghost use Rattle.store_model.specs.Store as model;
 ghost use Rattle.store_model.specs.Prelude.{Key, is_opaque, recorded_copy};
 ghost use Rattle.store_core.specs.Represents.{HasOut, ranked_on};
 ghost use Rattle.store_core.specs.Rising.{NoFewerFaults};
-ghost use Rattle.store_core.specs.Zeros.{FileStaysZeros, StaysZeros};
+ghost use Rattle.store_core.specs.Zeros.{StaysZeros};
 ghost use Rattle.store_core.specs.Uses.{KeepsOrEmpties};
 ghost use Rattle.store_core.specs.Creations.{CopiesMade, CopiesUnmade, HoldsWithin, OnUnread, status_uncopied};
 
@@ -74,43 +74,11 @@ impl<D: Disk, A: Devices, C: Admission> Store<D, A, C> {
         ensures knows { is_some (A.keys self.new.devices) ≡ is_some (A.keys self.old.devices) }
         ensures opened { self.new.opened ≡ self.old.opened }
     {
-        let made = self.make_copy(caller, filling, source, attributes);
-        self.ranked += 1;
-        made
-    }
-
-    // Copies a key, in all but the count of the turn.
-    fn make_copy(
-        &mut self,
-        caller: u8,
-        filling: Filling,
-        source: KeyId,
-        attributes: &Attributes,
-    ) -> Result<KeyId, NotCopied>
-        requires first { 1 ≤ caller }
-        requires last { caller ≤ 16 }
-        requires out { HasOut D.Disk A.Devices C.Admission self.old (filling.slot, 0) }
-        requires size { D.size self.old.file.cells.disk ≡ 557120 }
-        requires clear { IsClear self.old.buffer }
-        requires few { self.old.ranked < 2 ^ 62 }
-        ensures size { D.size self.new.file.cells.disk ≡ 557120 }
-        ensures clear { IsClear self.new.buffer }
-        ensures made { IfOk result (λ id. CopiesMade D.Disk A.Devices C.Admission self.old (ranked_on self.new) caller source.0 attributes.now filling.slot id.0) }
-        ensures uncopied { IfErr result (λ why. CopiesUnmade D.Disk A.Devices C.Admission self.old (ranked_on self.new) caller source.0 attributes.now filling.slot why) }
-        ensures wipes { (slot : ℕ) × EndsOnly self.old.slots.table.slots self.new.slots.table.slots (λ i s. IsFillingOf filling.slot i s ⊎ IsTakenOf slot i s) }
-        ensures emptied { OnErr result (slot_at self.new.slots.table.slots filling.slot ≡ empty_slot) }
-        ensures unread { IfErr result (λ why. OnUnread why (KeepsOrEmpties self.old.slots.table.slots self.new.slots.table.slots)) }
-        ensures zeros { FileStaysZeros D.Disk self.old.file self.new.file }
-        ensures later { NoFewerFaults D.faults A.faults self.old self.new }
-        ensures tells { StillTells (D.contents self.old.file.cells.disk) (D.contents self.new.file.cells.disk) }
-        ensures knows { is_some (A.keys self.new.devices) ≡ is_some (A.keys self.old.devices) }
-        ensures ranked { self.new.ranked ≡ self.old.ranked }
-        ensures opened { self.new.opened ≡ self.old.opened }
-    {
         let slot = match self.bring(source) {
             Ok(slot) => slot,
             Err(why) => {
                 self.slots.give_up(filling);
+                self.ranked += 1;
                 return Err(NotCopied::Unread(why));
             }
         };
@@ -118,6 +86,7 @@ impl<D: Disk, A: Devices, C: Admission> Store<D, A, C> {
             Ok(recorded) => recorded,
             Err(status) => {
                 self.slots.give_up(filling);
+                self.ranked += 1;
                 return Err(NotCopied::NotMade(NotMade::Refused(status)));
             }
         };
@@ -125,6 +94,7 @@ impl<D: Disk, A: Devices, C: Admission> Store<D, A, C> {
         let held = self.held_number(slot);
         let made = self.create(caller, filling, recorded, held);
         self.buffer.wipe();
+        self.ranked += 1;
         match made {
             Ok(id) => Ok(id),
             Err(why) => Err(NotCopied::NotMade(NotMade::Failed(why))),

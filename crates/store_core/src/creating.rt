@@ -101,45 +101,12 @@ impl<D: Disk, A: Devices, C: Admission> Store<D, A, C> {
         ensures knows { is_some (A.keys self.new.devices) ≡ is_some (A.keys self.old.devices) }
         ensures opened { self.new.opened ≡ self.old.opened }
     {
-        let made = self.make(caller, filling, attributes, bytes, lease);
-        self.ranked += 1;
-        made
-    }
-
-    // Makes a key, in all but the count of the turn.
-    fn make(
-        &mut self,
-        caller: u8,
-        filling: Filling,
-        attributes: &Attributes,
-        bytes: &[u8],
-        lease: Option<&Lease>,
-    ) -> Result<KeyId, NotMade>
-        requires first { 1 ≤ caller }
-        requires last { caller ≤ 16 }
-        requires out { HasOutBeside D.Disk A.Devices C.Admission self.old (filling.slot, 0) (option_map (λ l. l.now) lease) }
-        requires size { D.size self.old.file.cells.disk ≡ 557120 }
-        requires few { self.old.ranked < 2 ^ 62 }
-        ensures size { D.size self.new.file.cells.disk ≡ 557120 }
-        ensures clear { IsClear self.old.buffer → IsClear self.new.buffer }
-        ensures made { IfOk result (λ id. CreatesMade D.Disk A.Devices C.Admission self.old (ranked_on self.new) caller (option_map (λ l. l.now) lease.entry)
-            attributes.now bytes.now filling.slot id.0) }
-        ensures unmade { IfErr result (λ why. CreatesUnmade D.Disk A.Devices C.Admission self.old (ranked_on self.new) caller (option_map (λ l. l.now) lease.entry)
-            attributes.now bytes.now filling.slot why) }
-        ensures wipes { EndsOnly self.old.slots.table.slots self.new.slots.table.slots (IsFillingOf filling.slot) }
-        ensures emptied { OnErr result (slot_at self.new.slots.table.slots filling.slot ≡ empty_slot) }
-        ensures zeros { FileStaysZeros D.Disk self.old.file self.new.file }
-        ensures later { NoFewerFaults D.faults A.faults self.old self.new }
-        ensures tells { StillTells (D.contents self.old.file.cells.disk) (D.contents self.new.file.cells.disk) }
-        ensures knows { is_some (A.keys self.new.devices) ≡ is_some (A.keys self.old.devices) }
-        ensures ranked { self.new.ranked ≡ self.old.ranked }
-        ensures opened { self.new.opened ≡ self.old.opened }
-    {
         match self.decide(caller, attributes, bytes.len(), lease) {
             Ok(recorded) => {
                 self.buffer.fill_from(bytes);
                 let made = self.create(caller, filling, recorded, None);
                 self.buffer.wipe();
+                self.ranked += 1;
                 match made {
                     Ok(id) => Ok(id),
                     Err(why) => Err(NotMade::Failed(why)),
@@ -147,6 +114,7 @@ impl<D: Disk, A: Devices, C: Admission> Store<D, A, C> {
             }
             Err(status) => {
                 self.slots.give_up(filling);
+                self.ranked += 1;
                 Err(NotMade::Refused(status))
             }
         }

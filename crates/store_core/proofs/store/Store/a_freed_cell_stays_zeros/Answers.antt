@@ -5,16 +5,12 @@ use Rattle.store_core.proofs.store.Store.a_freed_cell_stays_zeros.Goals as goal
 
 pub returns-clause-within : goal.returns-clause-within
 returns-clause-within g c = λ turns cell lt free stays.
-    let d = g.D.Disk in
-    let v = g.A.Devices in
-    stays_zeros d v g.C.Admission cell lt c.args.self.now turns free stays
+    stays_zeros g.D.Disk g.A.Devices g.C.Admission cell lt c.args.self.now turns free stays
 
 pub returns-clause-zeros : goal.returns-clause-zeros
 returns-clause-zeros g c = λ turns cell lt free stands tells stays.
-    let d = g.D.Disk in
-    let v = g.A.Devices in
     let first = c.args.self.now in
     let f = stands.4.holds.file tells in
-    left_zeros d v g.C.Admission cell lt first (last_store first turns)
+    left_zeros g.D.Disk g.A.Devices g.C.Admission cell lt first (last_store first turns)
     (λ image left. shows_free _ _ _ _ free ((f.stands.each image (g.met.D.Disk.only_now first.file.cells.disk image left)).each cell lt))
-    (stays_zeros d v g.C.Admission cell lt first turns free stays)
+    (stays_zeros g.D.Disk g.A.Devices g.C.Admission cell lt first turns free stays)

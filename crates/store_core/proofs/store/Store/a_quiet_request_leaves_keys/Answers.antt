@@ -3,6 +3,4 @@ use Rattle.store_core.proofs.store.Store.a_quiet_request_leaves_keys.Goals as go
 
 pub returns : goal.returns
 returns g c = λ start h e quiet.
-    let d = g.D.Disk in
-    let v = g.A.Devices in
-    quiet_leaves d v g.C.Admission c.args.self.now start h e quiet
+    quiet_leaves g.D.Disk g.A.Devices g.C.Admission c.args.self.now start h e quiet

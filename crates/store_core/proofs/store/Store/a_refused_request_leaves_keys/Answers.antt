@@ -3,6 +3,4 @@ use Rattle.store_core.proofs.store.Store.a_refused_request_leaves_keys.Goals as 
 
 pub returns : goal.returns
 returns g c = λ start h e plain refused.
-    let d = g.D.Disk in
-    let v = g.A.Devices in
-    refused_leaves d v g.C.Admission c.args.self.now start h e plain refused
+    refused_leaves g.D.Disk g.A.Devices g.C.Admission c.args.self.now start h e plain refused

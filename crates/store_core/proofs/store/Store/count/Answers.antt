@@ -3,7 +3,5 @@ use Rattle.store_core.proofs.store.Store.count.Goals as goal
 
 pub returns-clause-adds : goal.returns-clause-adds
 returns-clause-adds g c = λ start opening h all e s still is.
-    let d = g.D.Disk in
-    let v = g.A.Devices in
     let old = c.args.self.now in
-    (counts_on d v g.C.Admission g.met.D.Disk.only_now old old.slots start opening h all e s s.holds.slots still is).0
+    (counts_on g.D.Disk g.A.Devices g.C.Admission g.met.D.Disk.only_now old old.slots start opening h all e s s.holds.slots still is).0

@@ -1,70 +1,36 @@
 use Rattle.std.proofs.Common.{List, Some, [], ap, length, slice_index, subst, sym, take, ℕ, ◌++◌, ◌+◌, ◌∙◌, ◌∷◌, ◌≡◌}
-use Rattle.store_core.proofs.Common.{IsThereOrNew, Plain, Puts, SlotHasKey, Store, bytes_of, created, first_volatile, full_slot, identified, new_id, new_key, permits_size, ranked_on}
-use Rattle.store_core.proofs.Holding.{StandsHere, IsTurn}
+use Rattle.store_core.proofs.Common.{IsEntry, IsThereOrNew, Plain, Puts, SlotHasKey, StandsFor, Store, bytes_of, created, first_volatile, full_slot, identified, new_id, new_key, permits_size, ranked_on}
 use Rattle.store_core.proofs.MakesVolatile.{ready_live, ready_made, ready_slots, ready_element, ready_handle, ready_type, ready_size, ready_source, next_is, next_puts, next_new, opaque_takes, makes_volatile, fails_volatile, taken_device, is_taken, is_either}
 use Rattle.store_core.proofs.store.Store.create_held.Goals as goal
 
 pub give-requires-clause-element : goal.give-requires-clause-element
-give-requires-clause-element g c κs within =
-    let d = g.D.Disk in
-    let v = g.A.Devices in
-    let q = c.requires.ready in
-    ready_element d v g.C.Admission c.args.self.now c.args.caller c.args.recorded c.args.source q.0 q.1 q.2 q.3 q.4 q.5 c.requires.first c.requires.last c.requires.volatile c.requires.opaque
+give-requires-clause-element g c κs within = ready_element c.requires.ready.5 c.requires.first c.requires.last c.requires.volatile c.requires.opaque
 
 pub give-requires-clause-new : goal.give-requires-clause-new
-give-requires-clause-new g c κs within =
-    let d = g.D.Disk in
-    let v = g.A.Devices in
-    let q = c.requires.ready in
-    ready_handle d v g.C.Admission c.args.self.now c.args.caller c.args.recorded c.args.source q.0 q.1 q.2 q.3 q.4 q.5 c.requires.first c.requires.last c.requires.volatile
+give-requires-clause-new g c κs within = ready_handle c.requires.ready.5 c.requires.first c.requires.last c.requires.volatile
 
 pub give-requires-clause-known : goal.give-requires-clause-known
-give-requires-clause-known g c κs within =
-    let d = g.D.Disk in
-    let v = g.A.Devices in
-    let q = c.requires.ready in
-    ready_type d v g.C.Admission c.args.self.now c.args.caller c.args.recorded c.args.source q.0 q.1 q.2 q.3 q.4 q.5 c.requires.first c.requires.last c.requires.volatile
+give-requires-clause-known g c κs within = ready_type c.requires.ready.5 c.requires.first c.requires.last c.requires.volatile
 
 pub give-requires-clause-size : goal.give-requires-clause-size
 give-requires-clause-size g c κs within =
-    let d = g.D.Disk in
-    let v = g.A.Devices in
-    let q = c.requires.ready in
     λ none. ap (λ (b : List ℕ). permits_size c.args.recorded.key_type.0 (length b)) c.as_slice.ensures.list
-    ∙ ready_size d v g.C.Admission c.args.self.now c.args.caller c.args.recorded c.args.source q.0 q.1 q.2 q.3 q.4 q.5 c.requires.first c.requires.last c.requires.volatile none
+    ∙ ready_size c.requires.ready.5 c.requires.first c.requires.last c.requires.volatile none
 
 pub give-requires-clause-held : goal.give-requires-clause-held
-give-requires-clause-held g c κs within =
-    let d = g.D.Disk in
-    let v = g.A.Devices in
-    let q = c.requires.ready in
-    ready_source d v g.C.Admission c.args.self.now c.args.caller c.args.recorded c.args.source q.0 q.1 q.2 q.3 q.4 q.5 c.requires.first c.requires.last c.requires.volatile
+give-requires-clause-held g c κs within = ready_source c.requires.ready.5 c.requires.first c.requires.last c.requires.volatile
 
 pub add-requires-clause-unknown : goal.add-requires-clause-unknown
-add-requires-clause-unknown g c κs within =
-    let d = g.D.Disk in
-    let v = g.A.Devices in
-    let q = c.requires.ready in
-    ready_slots d v g.C.Admission c.args.self.now c.args.caller c.args.recorded c.args.source q.0 q.1 q.2 q.3 q.4 q.5 c.requires.first c.requires.last c.requires.volatile c.args.self.now.slots.lawful.sized
+add-requires-clause-unknown g c κs within = ready_slots c.requires.ready.5 c.requires.first c.requires.last c.requires.volatile c.args.self.now.slots.lawful.sized
 
 pub add-requires-clause-made : goal.add-requires-clause-made
-add-requires-clause-made g c κs within =
-    let d = g.D.Disk in
-    let v = g.A.Devices in
-    let q = c.requires.ready in
-    ready_made d v g.C.Admission c.args.self.now c.args.caller c.args.recorded c.args.source q.0 q.1 q.2 q.3 q.4 q.5 c.requires.first c.requires.last c.requires.volatile
+add-requires-clause-made g c κs within = ready_made c.requires.ready.5 c.requires.first c.requires.last c.requires.volatile
 
 pub add-requires-clause-live : goal.add-requires-clause-live
-add-requires-clause-live g c κs within =
-    let d = g.D.Disk in
-    let v = g.A.Devices in
-    let q = c.requires.ready in
-    ready_live d v g.C.Admission c.args.self.now c.args.caller c.args.recorded c.args.source q.0 q.1 q.2 q.3 q.4 q.5 c.requires.first c.requires.last c.requires.volatile
+add-requires-clause-live g c κs within = ready_live c.requires.ready.5 c.requires.first c.requires.last c.requires.volatile
 
 pub returns-in-Ok-clause-made : goal.returns-in-Ok-clause-made
 returns-in-Ok-clause-made g c = λ start opening h all less e r since gains law making is.
-    let d = g.D.Disk in
-    let v = g.A.Devices in
     let old = c.args.self.now in
     let a = c.args.recorded in
     let caller = c.args.caller in
@@ -77,22 +43,20 @@ returns-in-Ok-clause-made g c = λ start opening h all less e r since gains law 
     let id = c.add.ensures.id in
     let rest = c.add.ensures.rest in
     let empty : bytes_of c.wipe.new.self ≡ [] = ap (λ n. take n c.wipe.new.self.bytes) c.wipe.ensures.none in
-    let taken = is_taken d v g.C.Admission old caller a c.args.source start opening h all e r first last volatile (v.keys c.give.new.devices) c.as_slice.result.now c.as_slice.ensures.list c.in-Ok.ensures.given c.in-Ok.ensures.copied in
-    let agrees = c.add.ensures.fills m after all less own r.holds.slots gains (subst (λ n. Puts m after n (Some own)) (sym id) (next_puts d v g.C.Admission old caller a c.args.source start opening h all e r first last volatile))
+    let taken = is_taken r first last volatile (g.A.Devices.keys c.give.new.devices) c.as_slice.result.now c.as_slice.ensures.list c.in-Ok.ensures.given c.in-Ok.ensures.copied in
+    let agrees = c.add.ensures.fills m after all less own r.holds.slots gains (subst (λ n. Puts m after n (Some own)) (sym id) (next_puts r first last volatile))
     (subst (λ n. SlotHasKey (full_slot (old.found + old.ranked) (identified a n) (bytes_of c.wipe.new.self)) own) (sym id)
-    (subst (λ (b : List ℕ). SlotHasKey (full_slot (old.found + old.ranked) (identified a (first_volatile caller + slice_index old.made caller)) b) own) (sym empty) (opaque_takes d v g.C.Admission old caller a c.args.source start opening h all e r first last volatile c.requires.opaque)))
-    (subst (λ n. IsThereOrNew m n own) (sym id) (next_new d v g.C.Admission old caller a c.args.source start opening h all e r first last volatile)) in (
-      subst (λ (s : Store _ _ _). StandsHere d v g.C.Admission (ranked_on s) start opening (h ++ e ∷ []) less) (sym rest)
-          (makes_volatile d v g.C.Admission old caller a c.args.source start opening h all e r first last volatile g.met.D.Disk.only_now c.give.new.devices c.add.new.self.slots c.wipe.new.self less making law c.add.ensures.sized c.in-Ok.ensures.locations
-          (taken_device d v g.C.Admission old caller a c.args.source start opening h all e r first last volatile g.met.D.Disk.only_now c.give.new.devices c.add.new.self.slots c.wipe.new.self less making law taken) agrees
-          (subst (λ (s : Store _ _ _). IsTurn d v g.C.Admission (ranked_on s) Plain e) rest is)),
-      id ∙ sym (next_is d v g.C.Admission old caller a c.args.source start opening h all e r first last volatile),
+    (subst (λ (b : List ℕ). SlotHasKey (full_slot (old.found + old.ranked) (identified a (first_volatile caller + slice_index old.made caller)) b) own) (sym empty) (opaque_takes r first last volatile c.requires.opaque)))
+    (subst (λ n. IsThereOrNew m n own) (sym id) (next_new r first last volatile)) in (
+      subst (λ (s : Store _ _ _). StandsFor g.D.Disk g.A.Devices g.C.Admission (ranked_on s) start opening (h ++ e ∷ []) less) (sym rest)
+          (makes_volatile r first last volatile g.met.D.Disk.only_now c.give.new.devices c.add.new.self.slots c.wipe.new.self less making law c.add.ensures.sized c.in-Ok.ensures.locations
+          (taken_device r first last volatile g.met.D.Disk.only_now c.give.new.devices c.add.new.self.slots c.wipe.new.self less making law taken) agrees
+          (subst (λ (s : Store _ _ _). IsEntry g.D.Disk g.A.Devices g.C.Admission (ranked_on s) Plain e) rest is)),
+      id ∙ sym (next_is r first last volatile),
     )
 
 pub returns-in-Err-clause-unkept : goal.returns-in-Err-clause-unkept
 returns-in-Err-clause-unkept g c = λ start opening h all less e r since gains law making is.
-    let d = g.D.Disk in
-    let v = g.A.Devices in
     let old = c.args.self.now in
     let a = c.args.recorded in
     let caller = c.args.caller in
@@ -100,7 +64,7 @@ returns-in-Err-clause-unkept g c = λ start opening h all less e r since gains l
     let last = c.requires.last in
     let volatile = c.requires.volatile in
     let ensures = c.in-Err.ensures in (
-      fails_volatile d v g.C.Admission old caller a c.args.source start opening h all e r first last volatile g.met.D.Disk.only_now c.give.new.devices c.give_up.new.self old.buffer less making law c.requires.opaque ensures.locations
-          (is_either d v g.C.Admission old caller a c.args.source start opening h all e r first last volatile (v.keys c.give.new.devices) c.as_slice.result.now c.as_slice.ensures.list ensures.given ensures.copied) ensures.cause.failed (c.give_up.ensures.takes r.holds.model all less r.holds.slots gains) since is,
+      fails_volatile r first last volatile g.met.D.Disk.only_now c.give.new.devices c.give_up.new.self old.buffer less making law c.requires.opaque ensures.locations
+          (is_either r first last volatile (g.A.Devices.keys c.give.new.devices) c.as_slice.result.now c.as_slice.ensures.list ensures.given ensures.copied) ensures.cause.failed (c.give_up.ensures.takes r.holds.model all less r.holds.slots gains) since is,
       c.requires.opaque,
     )

@@ -9,42 +9,21 @@ use Rattle.store_core.proofs.store.Store.create_kept.Goals as goal
 
 pub make-requires-clause-key : goal.make-requires-clause-key
 make-requires-clause-key g c =
-    let d = g.D.Disk in
-    let v = g.A.Devices in
-    let q = c.requires.ready in
     let n = c.read_numbers.ensures in
     subst (IsKeyOf c.args.recorded) (sym c.as_slice.ensures.list)
-    (ready_key d v g.C.Admission c.args.self.now c.args.caller c.args.recorded c.args.source q.0 q.1 q.2 q.3 q.4 q.5
-    c.requires.first c.requires.last c.requires.persistent n.key_type n.usage n.alg)
+    (ready_key c.requires.ready.5 c.requires.first c.requires.last c.requires.persistent n.key_type n.usage n.alg)
 
 pub make-requires-clause-none : goal.make-requires-clause-none
-make-requires-clause-none g c =
-    let d = g.D.Disk in
-    let v = g.A.Devices in
-    let q = c.requires.ready in
-    ready_cells d v g.C.Admission c.args.self.now c.args.caller c.args.recorded c.args.source q.0 q.1 q.2 q.3 q.4 q.5
-    c.requires.first c.requires.last c.requires.persistent
+make-requires-clause-none g c = ready_cells c.requires.ready.5 c.requires.first c.requires.last c.requires.persistent
 
 pub fill-requires-clause-unknown : goal.fill-requires-clause-unknown
-fill-requires-clause-unknown g c =
-    let d = g.D.Disk in
-    let v = g.A.Devices in
-    let q = c.requires.ready in
-    ready_slots d v g.C.Admission c.args.self.now c.args.caller c.args.recorded c.args.source q.0 q.1 q.2 q.3 q.4 q.5
-    c.requires.first c.requires.last c.requires.persistent c.args.self.now.slots.lawful.sized
+fill-requires-clause-unknown g c = ready_slots c.requires.ready.5 c.requires.first c.requires.last c.requires.persistent c.args.self.now.slots.lawful.sized
 
 pub unreachable-requires : goal.unreachable-requires
-unreachable-requires g c =
-    let d = g.D.Disk in
-    let v = g.A.Devices in
-    let q = c.requires.ready in
-    ready_room d v g.C.Admission c.args.self.now c.args.caller c.args.recorded c.args.source q.0 q.1 q.2 q.3 q.4 q.5
-    c.requires.first c.requires.last c.requires.persistent (c.in-Err-Full.ensures.full.0 (ap Err c.in-Err-Full.field-0-is))
+unreachable-requires g c = ready_room c.requires.ready.5 c.requires.first c.requires.last c.requires.persistent (c.in-Err-Full.ensures.full.0 (ap Err c.in-Err-Full.field-0-is))
 
 pub returns-in-Ok-clause-made : goal.returns-in-Ok-clause-made
 returns-in-Ok-clause-made g c = λ start opening h all less e r since gains law making is.
-    let d = g.D.Disk in
-    let v = g.A.Devices in
     let old = c.args.self.now in
     let a = c.args.recorded in
     let caller = c.args.caller in
@@ -57,7 +36,7 @@ returns-in-Ok-clause-made g c = λ start opening h all less e r since gains law 
     let last = c.requires.last in
     let lasts = c.requires.persistent in
     let list = c.as_slice-in-Ok.ensures.list in (
-      makes_kept d v g.C.Admission old caller a c.args.source start opening h all e r first last lasts g.met.D.Disk.only_now c.make.new.self c.fill.new.self less making law
+      makes_kept r first last lasts g.met.D.Disk.only_now c.make.new.self c.fill.new.self less making law
           (record {
             c = placed.0;
             without = placed.1;
@@ -67,31 +46,29 @@ returns-in-Ok-clause-made g c = λ start opening h all less e r since gains law 
             leads = λ keys keys' doubt stands put. ensures.made keys keys' doubt stands (subst (λ (b : List ℕ). IsPut keys keys' a.id.0 (Some (stored (old.found + old.ranked) a b))) (sym c.as_slice.ensures.list) put);
           })
           (c.fill.ensures.takes m after all less own r.holds.slots gains
-          (stated_puts d v g.C.Admission old caller a c.args.source start opening h all e r first last lasts g.met.D.Disk.only_now c.make.new.self c.fill.new.self less making law)
+          (stated_puts r first last lasts g.met.D.Disk.only_now c.make.new.self c.fill.new.self less making law)
           (subst (λ (b : List ℕ). SlotHasKey (full_slot (old.found + old.ranked) a b) own) (sym list)
-          (stated_fills d v g.C.Admission old caller a c.args.source start opening h all e r first last lasts g.met.D.Disk.only_now c.make.new.self c.fill.new.self less making law))
-          (stated_new d v g.C.Admission old caller a c.args.source start opening h all e r first last lasts g.met.D.Disk.only_now c.make.new.self c.fill.new.self less making law))
+          (stated_fills r first last lasts g.met.D.Disk.only_now c.make.new.self c.fill.new.self less making law))
+          (stated_new r first last lasts g.met.D.Disk.only_now c.make.new.self c.fill.new.self less making law))
           is,
-      sym (stated_here m caller a r.bytes first last r.holds.sound (ready_may d v g.C.Admission old caller a c.args.source start opening h all e r) lasts),
+      sym (stated_here m caller a r.bytes first last r.holds.sound (ready_may r) lasts),
     )
 
 pub returns-clause-unkept : goal.returns-clause-unkept
 returns-clause-unkept g c = rw c.in-Err-Disk.closed_first-is (λ start opening h all less e r since gains law making is.
-    let d = g.D.Disk in
-    let v = g.A.Devices in
     let old = c.args.self.now in
     let a = c.args.recorded in
     let ensures = c.in-Err-Disk.ensures in
     let caller = c.args.caller in
     let closed = c.in-Err-Disk.closed_first in
     let failed = ap Err (c.in-Err-Disk.field-0-is) in (
-      fails_kept d v g.C.Admission old caller a c.args.source start opening h all e r c.requires.first c.requires.last c.requires.persistent g.met.D.Disk.only_now c.make.new.self c.give_up.new.self less making law closed
+      fails_kept r c.requires.first c.requires.last c.requires.persistent g.met.D.Disk.only_now c.make.new.self c.give_up.new.self less making law closed
           (record {
             settled = ensures.unplaced;
             sized = ensures.slots;
             tells = ensures.tells;
-            leads = λ keys doubt stands. subst (λ (b : List ℕ). Leads d old.file.cells.disk c.make.new.self.cells.disk old.file.cells.slots.items c.make.new.self.cells.slots.items keys doubt keys (doubt_unmade (Disk closed) a b doubt)) c.as_slice.ensures.list
-                (subst (λ (f : MakeFault). Leads d old.file.cells.disk c.make.new.self.cells.disk old.file.cells.slots.items c.make.new.self.cells.slots.items keys doubt keys (doubt_unmade f a c.as_slice.result.now doubt)) c.in-Err-Disk.field-0-is (ensures.failed keys doubt stands));
+            leads = λ keys doubt stands. subst (λ (b : List ℕ). Leads g.D.Disk old.file.cells.disk c.make.new.self.cells.disk old.file.cells.slots.items c.make.new.self.cells.slots.items keys doubt keys (doubt_unmade (Disk closed) a b doubt)) c.as_slice.ensures.list
+                (subst (λ (f : MakeFault). Leads g.D.Disk old.file.cells.disk c.make.new.self.cells.disk old.file.cells.slots.items c.make.new.self.cells.slots.items keys doubt keys (doubt_unmade f a c.as_slice.result.now doubt)) c.in-Err-Disk.field-0-is (ensures.failed keys doubt stands));
             unclosed = λ unsettled. ensures.unclosed (failed ∙ ap (λ b. Err (Disk b)) unsettled);
             rose = ensures.cause closed failed;
           })

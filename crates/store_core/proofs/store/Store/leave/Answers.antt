@@ -6,7 +6,5 @@ take_back-requires g c = let s = c.requires.out.4.holds in record { store = s.mo
 
 pub returns-clause-takes : goal.returns-clause-takes
 returns-clause-takes g c = λ start opening h all less s gains law.
-    let d = g.D.Disk in
-    let v = g.A.Devices in
-    unranked d v g.C.Admission c.args.self.now start opening h c.take_back.new.self all less
+    unranked g.D.Disk g.A.Devices g.C.Admission c.args.self.now start opening h c.take_back.new.self all less
     s (c.take_back.ensures.takes s.holds.model all less s.holds.slots gains) law

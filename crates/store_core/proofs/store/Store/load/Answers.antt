@@ -31,8 +31,6 @@ give_up-requires g c =
 
 pub returns-in-Ok-clause-found : goal.returns-in-Ok-clause-found
 returns-in-Ok-clause-found g c = λ start opening h all e s is.
-    let d = g.D.Disk in
-    let v = g.A.Devices in
     let old = c.args.self.now in
     let id = c.args.id.0 in
     let a = c.in-Ok.attributes in
@@ -46,7 +44,7 @@ returns-in-Ok-clause-found g c = λ start opening h all e s is.
     let sized = s.holds.directory.sized in
     let there = c.requires.there.within in
     let numbered = c.creation-number.ensures in
-    let found = loads d v g.C.Admission old c.load.new.self c.fill-slot.new.self c.wipe.new.self start opening h all e id c.args.cell a bytes
+    let found = loads g.D.Disk g.A.Devices g.C.Admission old c.load.new.self c.fill-slot.new.self c.wipe.new.self start opening h all e id c.args.cell a bytes
     (record { same = c.load.ensures.same; slots = c.load.ensures.slots; keeps = c.load.ensures.keeps }) s.holds is (omega arith) c.requires.there.here key c.in-Ok.ensures.named
     (λ tells. subst (λ (b : List ℕ). durable_keys m id ≡ Some (stored (creation_of_slot (cell_slot old.file.cells.slots.items c.args.cell)) a b)) (sym list) (c.in-Ok.ensures.loaded (durable_keys m) (course_of start h).doubt (s.holds.file tells)))
     c.requires.unknown
@@ -67,8 +65,6 @@ returns-in-Ok-clause-found g c = λ start opening h all e s is.
 
 pub returns-in-Disk-clause-unread : goal.returns-in-Disk-clause-unread
 returns-in-Disk-clause-unread g c = λ failed start opening h all e s is.
-    let d = g.D.Disk in
-    let v = g.A.Devices in
     let old = c.args.self.now in
     let slot = c.reserve-filling.result.slot in
     let more : List Pairs = ((slot, 0) ∷ []) ∷ all in
@@ -77,15 +73,13 @@ returns-in-Disk-clause-unread g c = λ failed start opening h all e s is.
     let sized = s.holds.directory.sized in
     let there = c.requires.there.within in
     let key = key_of_cell old.file.cells.slots.items m c.args.id.0 c.args.cell s.holds.directory (omega arith) c.requires.there.here in
-    brings d v g.C.Admission old c.load.new.self c.give_up.new.self c.load.new.out start opening h all e
+    brings g.D.Disk g.A.Devices g.C.Admission old c.load.new.self c.give_up.new.self c.load.new.out start opening h all e
     (λ n. is_persistent_key (map.get n.keys c.args.id.0) ≡ true)
     (record { same = c.load.ensures.same; slots = c.load.ensures.slots; keeps = c.load.ensures.keeps }) s.holds
     (c.give_up.ensures.takes m more all (c.reserve-filling.ensures.gives m all more s.holds.slots gains) gains) (is_persistent (map.get m.keys c.args.id.0) key.0 key.1 key.2)
 
 pub returns-in-Corrupt-clause-unread : goal.returns-in-Corrupt-clause-unread
 returns-in-Corrupt-clause-unread g c = λ failed start opening h all e s is.
-    let d = g.D.Disk in
-    let v = g.A.Devices in
     let old = c.args.self.now in
     let slot = c.reserve-filling.result.slot in
     let more : List Pairs = ((slot, 0) ∷ []) ∷ all in
@@ -94,7 +88,7 @@ returns-in-Corrupt-clause-unread g c = λ failed start opening h all e s is.
     let sized = s.holds.directory.sized in
     let there = c.requires.there.within in
     let key = key_of_cell old.file.cells.slots.items m c.args.id.0 c.args.cell s.holds.directory (omega arith) c.requires.there.here in
-    brings d v g.C.Admission old c.load.new.self c.give_up.new.self c.load.new.out start opening h all e
+    brings g.D.Disk g.A.Devices g.C.Admission old c.load.new.self c.give_up.new.self c.load.new.out start opening h all e
     (λ n. is_persistent_key (map.get n.keys c.args.id.0) ≡ true)
     (record { same = c.load.ensures.same; slots = c.load.ensures.slots; keeps = c.load.ensures.keeps }) s.holds
     (c.give_up.ensures.takes m more all (c.reserve-filling.ensures.gives m all more s.holds.slots gains) gains) (is_persistent (map.get m.keys c.args.id.0) key.0 key.1 key.2)

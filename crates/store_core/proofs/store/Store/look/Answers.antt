@@ -15,15 +15,13 @@ lend-requires-clause-few g c =
 
 pub returns-in-Ok-check-clause-lent : goal.returns-in-Ok-check-clause-lent
 returns-in-Ok-check-clause-lent g c = λ start opening h all more e s gains law is turn.
-    let d = g.D.Disk in
-    let v = g.A.Devices in
     let n = c.in-Ok.ensures.found start opening h all e s is.reads in
     let k = n.1 in
     let lease = c.lend.ensures.lease in
     let own = subst (λ (i : ℕ). Gains all more (i, c.lend.result.creation + 1)) (ap (λ (l : lent.Reading). l.slot) lease) gains in
     let free = (unless-ok _ _ _ (sym (c.in-Ok-check.ensures.refusal k.0 (sym k.2.attributes ∙ sym c.attributes.ensures)))).0 in
     let bytes = ap (λ (l : lent.Reading). bytes_of l.buffer) lease ∙ (k.2.bytes ∙ has_bytes c.args.wanted k.0 free) in
-    ends_found d v g.C.Admission g.met.D.Disk.only_now c.args.self.now c.bring-brought.new.self start opening h all e c.args.id.0
+    ends_found g.D.Disk g.A.Devices g.C.Admission g.met.D.Disk.only_now c.args.self.now c.bring-brought.new.self start opening h all e c.args.id.0
     c.lend.new.self more (IsLent (use_refusal c.args.wanted) c.args.id.0 c.lend.result) is n.0
     (k.0, k.1, free, record { number = ap (λ (l : lent.Reading). l.creation) lease ∙ k.2.number; bytes = bytes })
     (c.lend.ensures.gives n.0.model all more n.0.slots own) law turn
@@ -41,21 +39,17 @@ returns-in-Ok-check-clause-fits g c =
 
 pub returns-in-Err-check-clause-refused : goal.returns-in-Err-check-clause-refused
 returns-in-Err-check-clause-refused g c = λ start opening h all e s is turn.
-    let d = g.D.Disk in
-    let v = g.A.Devices in
     let n = c.in-Ok.ensures.found start opening h all e s is.reads in
     let k = n.1 in
     let rows = use_refusal c.args.wanted in
     let refused = unless-err _ _ _ (sym (c.in-Err-check.ensures.refusal k.0 (sym k.2.attributes ∙ sym c.attributes.ensures))) in
-    ends_refused d v g.C.Admission g.met.D.Disk.only_now c.args.self.now c.bring-brought.new.self start opening h all e c.args.id.0
+    ends_refused g.D.Disk g.A.Devices g.C.Admission g.met.D.Disk.only_now c.args.self.now c.bring-brought.new.self start opening h all e c.args.id.0
     rows _ (use_plain c.args.wanted (Some k.0) _ refused) is n.0 (ap rows k.1 ∙ refused) turn
 
 pub returns-in-Err-clause-refused : goal.returns-in-Err-clause-refused
 returns-in-Err-clause-refused g c = rw c.status.ensures (λ start opening h all e s is turn.
-    let d = g.D.Disk in
-    let v = g.A.Devices in
     let b = c.in-Err.ensures in
-    ends_unread d v g.C.Admission g.met.D.Disk.only_now c.args.self.now c.bring-brought.new.self start opening h all e c.args.id.0
+    ends_unread g.D.Disk g.A.Devices g.C.Admission g.met.D.Disk.only_now c.args.self.now c.bring-brought.new.self start opening h all e c.args.id.0
     (use_refusal c.args.wanted) c.in-Err.unread (missing c.args.wanted) b.same s is (λ why. b.missing why start opening h all e s is.reads) (λ why. b.unread why start opening h all e s is.reads) b.disk b.corrupt turn)
 
 pub returns-in-Ok-check-clause-wipes : goal.returns-in-Ok-check-clause-wipes

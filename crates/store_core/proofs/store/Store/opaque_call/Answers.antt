@@ -33,10 +33,8 @@ compute-requires-clause-fits g c κs within =
 
 pub returns-in-Ok-clause-made : goal.returns-in-Ok-clause-made
 returns-in-Ok-clause-made g c = λ start opening h all e s is turn.
-    let d = g.D.Disk in
-    let v = g.A.Devices in
     let old = c.args.self.now in
-    let held = v.keys old.devices in
+    let held = g.A.Devices.keys old.devices in
     let m = s.holds.model in
     let call = c.args.call.now in
     let id = c.args.id.0 in
@@ -49,19 +47,17 @@ returns-in-Ok-clause-made g c = λ start opening h all e s is turn.
     let there = subst (λ n. HoldsHandle held n (λ h. h ≡ held_of k.0)) (sym (c.number.ensures ∙ k.2.number)) (s.holds.device.there id k.0 k.1 own) in
     let answer = answered held id call c.args.out.now c.compute.new.out c.compute.result (counted m) k.0 c.number.result k.1 there none c.compute.ensures.computed in
     let decided = answered held id call c.args.out.now c.compute.new.out c.compute.result m k.0 c.number.result k.1 there none c.compute.ensures.computed in
-    ends_computed d v g.C.Admission g.met.D.Disk.only_now old c.compute.new.devices start opening h all e
+    ends_computed g.D.Disk g.A.Devices g.C.Admission g.met.D.Disk.only_now old c.compute.new.devices start opening h all e
     (model_call call id (length c.args.out.now)) (mark_computed c.compute.result) (IsAnswered held id call c.args.out.now c.compute.new.out c.compute.result) s is (keeps_keys call id (length c.args.out.now))
     c.compute.ensures.keys c.compute.ensures.locations
     (fault_of c.compute.result _ (last_counts opening.counts h) e (λ failed.
-    subst (Rose (last_counts opening.counts h).device_faults) (sym turn.device_faults) (subst (λ n. Rose n (v.faults c.compute.new.devices)) (sym (ap (λ (x : FaultCounts). x.device_faults) s.counts)) (c.compute.ensures.failed failed))))
+    subst (Rose (last_counts opening.counts h).device_faults) (sym turn.device_faults) (subst (λ n. Rose n (g.A.Devices.faults c.compute.new.devices)) (sym (ap (λ (x : FaultCounts). x.device_faults) s.counts)) (c.compute.ensures.failed failed))))
     (λ service same. mark_may held id call c.args.out.now c.compute.new.out c.compute.result m decided opaque service e.caller same) answer turn
 
 pub returns-in-Err-clause-made : goal.returns-in-Err-clause-made
 returns-in-Err-clause-made g c = λ start opening h all e s is turn.
-    let d = g.D.Disk in
-    let v = g.A.Devices in
     let old = c.args.self.now in
-    let held = v.keys old.devices in
+    let held = g.A.Devices.keys old.devices in
     let m = s.holds.model in
     let call = c.args.call.now in
     let id = c.args.id.0 in
@@ -70,6 +66,6 @@ returns-in-Err-clause-made g c = λ start opening h all e s is turn.
     let rows = checked_rows call k.0 c.class.result c.usage.result.0 c.algorithm.result.0 c.check_use.result c.class.ensures c.usage.ensures c.algorithm.ensures
     (c.check_use.ensures.refusal k.0 (sym k.2.attributes ∙ sym c.attributes-attributes.ensures)) in
     let refused = unless-err (first_row (key_rows call (Some k.0))) tt c.in-Err.status (sym rows ∙ c.in-Err.is) in
-    ends_computed d v g.C.Admission g.met.D.Disk.only_now old old.devices start opening h all e
+    ends_computed g.D.Disk g.A.Devices g.C.Admission g.met.D.Disk.only_now old old.devices start opening h all e
     (model_call call id (length out)) Plain (IsAnswered held id call out out (Err (Refused c.in-Err.status))) s is (keeps_keys call id (length out)) refl refl tt (λ service same. tt)
     (unused held id call out (counted m) k.0 c.in-Err.status k.1 refused) turn

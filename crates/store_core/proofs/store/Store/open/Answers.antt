@@ -45,26 +45,20 @@ is_new g c =
 
 pub returns-in-Ok-open-clause-stands : goal.returns-in-Ok-open-clause-stands
 returns-in-Ok-open-clause-stands g c = λ start callers s few.
-    let d = g.D.Disk in
-    let v = g.A.Devices in
     let store = c.with_file.result in
-    stands d v g.C.Admission c.args.disk store (is_new g c) (g.met.D.Disk.read_is_image store.file.cells.disk)
-    (λ handle. subst (λ x. Lacks (v.keys x) handle) (sym c.with_file.ensures.devices) (c.requires.empty handle)) (g.met.D.Disk.only_now store.file.cells.disk) start callers s few
+    stands g.D.Disk g.A.Devices g.C.Admission c.args.disk store (is_new g c) (g.met.D.Disk.read_is_image store.file.cells.disk)
+    (λ handle. subst (λ x. Lacks (g.A.Devices.keys x) handle) (sym c.with_file.ensures.devices) (c.requires.empty handle)) (g.met.D.Disk.only_now store.file.cells.disk) start callers s few
 
 pub returns-in-Ok-open-clause-starts : goal.returns-in-Ok-open-clause-starts
 returns-in-Ok-open-clause-starts g c =
-    let d = g.D.Disk in
-    let v = g.A.Devices in
     let store = c.with_file.result in
-    starts d v g.C.Admission c.args.disk store (is_new g c) (g.met.D.Disk.read_is_image store.file.cells.disk)
-    (record { seed = store.opened.seed.value; labels = g.C.Admission.labels store.rules; locations = v.locations store.devices; has_file = true }) refl refl refl refl
+    starts g.D.Disk g.A.Devices g.C.Admission c.args.disk store (is_new g c) (g.met.D.Disk.read_is_image store.file.cells.disk)
+    (record { seed = store.opened.seed.value; labels = g.C.Admission.labels store.rules; locations = g.A.Devices.locations store.devices; has_file = true }) refl refl refl refl
 
 pub returns-in-Ok-open-clause-keys : goal.returns-in-Ok-open-clause-keys
 returns-in-Ok-open-clause-keys g c =
-    let d = g.D.Disk in
-    let v = g.A.Devices in
     let store = c.with_file.result in
-    exactly d v g.C.Admission c.args.disk store (is_new g c) (g.met.D.Disk.read_is_image store.file.cells.disk)
+    exactly g.D.Disk g.A.Devices g.C.Admission c.args.disk store (is_new g c) (g.met.D.Disk.read_is_image store.file.cells.disk)
 
 pub returns-in-Ok-open-clause-opened : goal.returns-in-Ok-open-clause-opened
 returns-in-Ok-open-clause-opened g c = (is_new g c).file

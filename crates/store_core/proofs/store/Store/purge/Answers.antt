@@ -12,11 +12,9 @@ returns-then-not-has g c = record {
   missing = (
     refl,
     λ start opening h all e s still is.
-        let d = g.D.Disk in
-        let v = g.A.Devices in
         let old = c.args.self.now in
         let m = s.holds.model in
-        let n = counts_on d v g.C.Admission g.met.D.Disk.only_now old old.slots start opening h all e s s.holds.slots still is in
+        let n = counts_on g.D.Disk g.A.Devices g.C.Admission g.met.D.Disk.only_now old old.slots start opening h all e s s.holds.slots still is in
         (n.0, subst (λ (x : model.Store). there_rows (map.get x.keys c.args.id.0) ≡ Some InvalidHandle) (sym n.1) (is_missing (map.get m.keys c.args.id.0) (c.if-not-has.ensures m all s.holds.slots s.holds.directory))),
   );
   wiped = tt;
@@ -31,11 +29,9 @@ returns-then-not-has g c = record {
 pub returns : goal.returns
 returns g c = record {
   there = λ start opening h all e s still is.
-      let d = g.D.Disk in
-      let v = g.A.Devices in
       let old = c.args.self.now in
       let m = s.holds.model in
-      let n = counts_on d v g.C.Admission g.met.D.Disk.only_now old c.purge.new.self start opening h all e s (c.purge.ensures.stays m all s.holds.slots) still is in
+      let n = counts_on g.D.Disk g.A.Devices g.C.Admission g.met.D.Disk.only_now old c.purge.new.self start opening h all e s (c.purge.ensures.stays m all s.holds.slots) still is in
       (n.0, subst (λ (x : model.Store). there_rows (map.get x.keys c.args.id.0) ≡ None) (sym n.1) (is_there (map.get m.keys c.args.id.0) (c.if-not-has.ensures m all s.holds.slots s.holds.directory)));
   missing = tt;
   wiped = c.purge.ensures.wiped;

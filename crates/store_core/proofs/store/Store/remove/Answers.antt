@@ -8,21 +8,17 @@ use Rattle.store_core.proofs.store.Store.remove.Goals as goal
 
 pub returns-then-id-eq0-clause-destroyed : goal.returns-then-id-eq0-clause-destroyed
 returns-then-id-eq0-clause-destroyed g c = λ start opening h all e s call is.
-    let d = g.D.Disk in
-    let v = g.A.Devices in
     let m = s.holds.model in
     let zero = c.if-id-eq0.true in (
-      nothing d v g.C.Admission g.met.D.Disk.only_now c.args.self.now start opening h all e c.args.id.0 call s (none_at_zero m c.args.id.0 s.holds.sound zero) is,
+      nothing g.D.Disk g.A.Devices g.C.Admission g.met.D.Disk.only_now c.args.self.now start opening h all e c.args.id.0 call s (none_at_zero m c.args.id.0 s.holds.sound zero) is,
       rows_zero c.args.id.0 (map.get m.keys c.args.id.0) zero,
     )
 
 pub returns-in_default-find-clause-failed : goal.returns-in_default-find-clause-failed
 returns-in_default-find-clause-failed g c = λ start opening h all e s call is.
-    let d = g.D.Disk in
-    let v = g.A.Devices in
     let m = s.holds.model in
     let none = no_key c.args.self.now.file.cells.slots.items m c.args.id.0 s.holds.directory c.in_default.ensures (c.in_default-find.ensures.none m all s.holds.slots) in (
-      nothing d v g.C.Admission g.met.D.Disk.only_now c.args.self.now start opening h all e c.args.id.0 call s none is,
+      nothing g.D.Disk g.A.Devices g.C.Admission g.met.D.Disk.only_now c.args.self.now start opening h all e c.args.id.0 call s none is,
       rows_missing c.args.id.0 (map.get m.keys c.args.id.0) c.if-id-eq0.false none,
     )
 

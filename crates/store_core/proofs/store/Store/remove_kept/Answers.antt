@@ -22,15 +22,13 @@ overflow_sub-self g c =
 
 pub returns-in-Ok-clause-destroyed : goal.returns-in-Ok-clause-destroyed
 returns-in-Ok-clause-destroyed g c = λ start opening h all e s call is.
-    let d = g.D.Disk in
-    let v = g.A.Devices in
     let m = s.holds.model in
     let ensures = c.in-Ok.ensures in
     let sized = s.holds.directory.sized in
     let there = c.requires.there.within in
     let within : c.args.cell < 512 = omega arith in
     let key = key_of_cell c.args.self.now.file.cells.slots.items m c.args.id.0 c.args.cell s.holds.directory within c.requires.there.here in (
-      destroys_kept d v g.C.Admission g.met.D.Disk.only_now c.args.self.now start opening h all e c.args.id.0 call c.destroy-closed.new.self c.destroy.new.self Plain c.args.cell s
+      destroys_kept g.D.Disk g.A.Devices g.C.Admission g.met.D.Disk.only_now c.args.self.now start opening h all e c.args.id.0 call c.destroy-closed.new.self c.destroy.new.self Plain c.args.cell s
           (record { within = within; key = c.requires.there.here; sized = ensures.slots; missing = ensures.missing; tells = ensures.tells; leads = λ keys keys' doubt own stands there put. ensures.destroyed keys keys' doubt stands put; settles = λ own doubt none. set_sure c.args.self.now.file.cells.slots.items c.destroy-closed.new.self.cells.slots.items c.args.cell Free refl ensures.gone })
           c.destroy.ensures.forgets tt (λ service persistent. tt) is,
       rows_there c.args.id.0 (map.get m.keys c.args.id.0) key.0 key.1,
@@ -38,8 +36,6 @@ returns-in-Ok-clause-destroyed g c = λ start opening h all e s call is.
 
 pub returns-in-Err-clause-failed : goal.returns-in-Err-clause-failed
 returns-in-Err-clause-failed g c = λ start opening h all e s call is.
-    let d = g.D.Disk in
-    let v = g.A.Devices in
     let m = s.holds.model in
     let old = c.args.self.now.file.cells in
     let new = c.destroy-closed.new.self.cells in
@@ -49,18 +45,18 @@ returns-in-Err-clause-failed g c = λ start opening h all e s call is.
     let there = c.requires.there.within in
     let within : c.args.cell < 512 = omega arith in
     let key = key_of_cell old.slots.items m c.args.id.0 c.args.cell s.holds.directory within c.requires.there.here in (
-      destroys_kept d v g.C.Admission g.met.D.Disk.only_now c.args.self.now start opening h all e c.args.id.0 call c.destroy-closed.new.self c.destroy.new.self (Storage (Writing closed)) c.args.cell s
+      destroys_kept g.D.Disk g.A.Devices g.C.Admission g.met.D.Disk.only_now c.args.self.now start opening h all e c.args.id.0 call c.destroy-closed.new.self c.destroy.new.self (Storage (Writing closed)) c.args.cell s
           (record {
             within = within;
             key = c.requires.there.here;
             sized = ensures.slots;
             missing = ensures.missing;
             tells = ensures.tells;
-            leads = λ keys keys' doubt own stands there put. subst (Leads d old.disk new.disk old.slots.items new.slots.items keys doubt keys') (undestroyed_doubt closed own doubt)
+            leads = λ keys keys' doubt own stands there put. subst (Leads g.D.Disk old.disk new.disk old.slots.items new.slots.items keys doubt keys') (undestroyed_doubt closed own doubt)
                 (ensures.failed keys keys' doubt own stands there put);
             settles = λ own doubt none. absurd (still_doubted closed own doubt none);
           })
-          c.destroy.ensures.forgets (subst (Rose (d.faults old.disk)) (sym is.disk_faults) ensures.cause.failed) (λ service persistent. persistent) is,
+          c.destroy.ensures.forgets (subst (Rose (g.D.Disk.faults old.disk)) (sym is.disk_faults) ensures.cause.failed) (λ service persistent. persistent) is,
       is_persistent (map.get m.keys c.args.id.0) key.0 key.1 key.2,
     )
 
@@ -69,11 +65,10 @@ returns-in-Ok-clause-zeros g c = λ keys doubt stands. (c.in-Ok.ensures.destroye
 
 pub returns-in-Err-clause-zeros : goal.returns-in-Err-clause-zeros
 returns-in-Err-clause-zeros g c = λ keys doubt stands.
-    let d = g.D.Disk in
     let old = c.args.self.now.file.cells in
     let sized = c.requires.stands.4.holds.directory.sized in
     let there = c.requires.there.within in
-    let k = file.key_of_cell d old.disk old.slots.items keys doubt c.args.id.0 c.args.cell (omega arith) c.requires.there.here stands in
+    let k = file.key_of_cell g.D.Disk old.disk old.slots.items keys doubt c.args.id.0 c.args.cell (omega arith) c.requires.there.here stands in
     (c.in-Err.ensures.failed keys (keys_put keys c.args.id.0 None) doubt k.0 stands k.1 (λ other. refl)).zeros
 
 pub returns-in-Ok-clause-freed : goal.returns-in-Ok-clause-freed

@@ -10,7 +10,5 @@ reserve-requires g c =
 
 pub returns-clause-gives : goal.returns-clause-gives
 returns-clause-gives g c = λ start opening h all more s gains law.
-    let d = g.D.Disk in
-    let v = g.A.Devices in
-    unranked d v g.C.Admission c.args.self.now start opening h c.reserve.new.self all more
+    unranked g.D.Disk g.A.Devices g.C.Admission c.args.self.now start opening h c.reserve.new.self all more
     s (c.reserve.ensures.gives s.holds.model all more s.holds.slots gains) law

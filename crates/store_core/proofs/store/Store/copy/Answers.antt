@@ -1,19 +1,17 @@
-use Rattle.std.proofs.Common.{Option, [], ap, refl, subst, sym, ℕ, ◌++◌, ◌∙◌, ◌∷◌, ◌≡◌}
-use Rattle.store_core.proofs.Common.{Copy, Enters, Entry, IsOut, IsReady, IsTold, IsUnkept, Key, OnStore, Plain, Store, buffer_of, bytes_of, last_counts, mark_unkept, new_id, ranked_on, recorded_copy, replay, slot_at}
+use Rattle.std.proofs.Common.{inl, Option, [], ap, refl, subst, sym, ℕ, ◌++◌, ◌∙◌, ◌∷◌, ◌≡◌}
+use Rattle.store_core.proofs.Common.{Copy, Enters, Entry, IsEntry, IsOut, IsReady, IsTold, IsUnkept, Key, OnStore, Plain, Store, buffer_of, bytes_of, course_of, durable_keys, last_counts, mark_unkept, new_id, ranked_on, recorded_copy, replay, slot_at}
 use Rattle.store_model.specs.Store as model
 use Rattle.store_core.proofs.Changing.{retold}
-use Rattle.store_core.proofs.Holding.{IsTurn, with_buffer}
+use Rattle.store_core.proofs.Holding.{with_buffer}
 use Rattle.store_core.proofs.Refusing.{asks_for}
 use Rattle.store_core.proofs.Finishing.{rebuffered, refuses, since_later}
 use Rattle.store_core.proofs.CopyTurn.{reads_source, keeps, refused_here, material_of, ready, making, decided_here, either, uncopied}
 use Rattle.store_core.proofs.Ending.{copy_ends, copy_empties}
 use Rattle.store_core.proofs.Zeroed.{read_first}
-use Rattle.store_core.proofs.store.Store.make_copy.Goals as goal
+use Rattle.store_core.proofs.store.Store.copy.Goals as goal
 
 pub returns-in-Ok-made-clause-made : goal.returns-in-Ok-made-clause-made
 returns-in-Ok-made-clause-made g c = λ start opening h all less e s gains law by call is.
-    let d = g.D.Disk in
-    let v = g.A.Devices in
     let old = c.args.self.now in
     let mid = c.bring.new.self in
     let caller = c.args.caller in
@@ -31,21 +29,19 @@ returns-in-Ok-made-clause-made g c = λ start opening h all less e s gains law b
     let full : buffer ≡ buffer_of (bytes_of slot.buffer) = c.fill_from.ensures ∙ ap buffer_of c.bytes.ensures.list in
     let filled : Store _ _ _ = record mid { buffer = buffer } in
     let new = ranked_on c.create-made.new.self in
-    let held : Option ℕ = material_of e caller source stated by call d v g.C.Admission mid start opening h all n slot key there has a decided buffer full in
-    let enters = subst (λ (o : Option ℕ). Enters d v g.C.Admission filled new caller a o (c.args.filling.slot, 0) Plain (λ m. c.in-Ok-made.id.0 ≡ new_id m caller a)) c.held_number-held.ensures c.in-Ok-made.ensures.made in
-    let turn : IsTurn d v g.C.Admission new Plain e = record { from_first = is.from_first; to_last = is.to_last; marked = is.marked; done = is.done; disk_faults = is.disk_faults; device_faults = is.device_faults } in
-    let entered = enters start opening h all less e (ready e caller source stated by call d v g.C.Admission mid start opening h all n slot key there has a decided buffer full) (since_later d v g.C.Admission old filled (last_counts opening.counts h) s.counts c.in-Ok.ensures.later c.in-Ok.ensures.devices) gains law (making e caller source stated by call d v g.C.Admission mid start opening h all n slot key there has a decided buffer full) turn in
+    let held : Option ℕ = material_of e caller source stated by call g.D.Disk g.A.Devices g.C.Admission mid start opening h all n slot key there has a decided buffer full in
+    let enters = subst (λ (o : Option ℕ). Enters g.D.Disk g.A.Devices g.C.Admission filled new caller a o (c.args.filling.slot, 0) Plain (λ m. c.in-Ok-made.id.0 ≡ new_id m caller a)) c.held_number-held.ensures c.in-Ok-made.ensures.made in
+    let turn : IsEntry g.D.Disk g.A.Devices g.C.Admission new Plain e = record { from_first = is.from_first; to_last = is.to_last; marked = is.marked; done = is.done; disk_faults = is.disk_faults; device_faults = is.device_faults } in
+    let entered = enters start opening h all less e (ready e caller source stated by call g.D.Disk g.A.Devices g.C.Admission mid start opening h all n slot key there has a decided buffer full) (since_later g.D.Disk g.A.Devices g.C.Admission old filled (last_counts opening.counts h) s.counts c.in-Ok.ensures.later c.in-Ok.ensures.devices) gains law (making e caller source stated by call g.D.Disk g.A.Devices g.C.Admission mid start opening h all n slot key there has a decided buffer full) turn in
     let tells = c.create-made.ensures.tells in (
-      rebuffered d v g.C.Admission new c.wipe.new.self start opening (h ++ e ∷ []) less entered.0,
+      rebuffered g.D.Disk g.A.Devices g.C.Admission new c.wipe.new.self start opening (h ++ e ∷ []) less entered.0,
       n.model,
-      (λ k. n.replayed (retold (d.contents mid.file.cells.disk) (d.contents c.create-made.new.self.file.cells.disk) start (h ++ e ∷ []) tells k)),
-      (a, sym (decided_here e caller source stated by call d v g.C.Admission mid start opening h all n slot key there has a decided buffer full), entered.1 ∙ ap (λ (m : model.Store). new_id m caller a) (with_buffer d v g.C.Admission (IsTold (d.contents mid.file.cells.disk) start (h ++ e ∷ [])) mid buffer start opening h all n).1),
+      (λ k. n.replayed (retold (g.D.Disk.contents mid.file.cells.disk) (g.D.Disk.contents c.create-made.new.self.file.cells.disk) start (h ++ e ∷ []) tells k)),
+      (a, sym (decided_here e caller source stated by call g.D.Disk g.A.Devices g.C.Admission mid start opening h all n slot key there has a decided buffer full), entered.1 ∙ ap (λ (m : model.Store). new_id m caller a) (with_buffer g.D.Disk g.A.Devices g.C.Admission (IsTold (g.D.Disk.contents mid.file.cells.disk) start (h ++ e ∷ [])) mid buffer start opening h all inl n).1),
     )
 
 pub returns-in-Err-made-clause-uncopied : goal.returns-in-Err-made-clause-uncopied
 returns-in-Err-made-clause-uncopied g c = λ start opening h all less e s gains law by call is.
-    let d = g.D.Disk in
-    let v = g.A.Devices in
     let old = c.args.self.now in
     let mid = c.bring.new.self in
     let caller = c.args.caller in
@@ -63,21 +59,19 @@ returns-in-Err-made-clause-uncopied g c = λ start opening h all less e s gains 
     let full : buffer ≡ buffer_of (bytes_of slot.buffer) = c.fill_from.ensures ∙ ap buffer_of c.bytes.ensures.list in
     let filled : Store _ _ _ = record mid { buffer = buffer } in
     let new = ranked_on c.create-made.new.self in
-    let held : Option ℕ = material_of e caller source stated by call d v g.C.Admission mid start opening h all n slot key there has a decided buffer full in
-    let enters = subst (λ (o : Option ℕ). Enters d v g.C.Admission filled new caller a o (c.args.filling.slot, 0) (mark_unkept c.in-Err-made.why) (λ m. IsUnkept a c.in-Err-made.why)) c.held_number-held.ensures c.in-Err-made.ensures.unkept in
-    let turn : IsTurn d v g.C.Admission new (mark_unkept c.in-Err-made.why) e = record { from_first = is.from_first; to_last = is.to_last; marked = is.marked; done = is.done; disk_faults = is.disk_faults; device_faults = is.device_faults } in
-    let entered = enters start opening h all less e (ready e caller source stated by call d v g.C.Admission mid start opening h all n slot key there has a decided buffer full) (since_later d v g.C.Admission old filled (last_counts opening.counts h) s.counts c.in-Ok.ensures.later c.in-Ok.ensures.devices) gains law (making e caller source stated by call d v g.C.Admission mid start opening h all n slot key there has a decided buffer full) turn in
+    let held : Option ℕ = material_of e caller source stated by call g.D.Disk g.A.Devices g.C.Admission mid start opening h all n slot key there has a decided buffer full in
+    let enters = subst (λ (o : Option ℕ). Enters g.D.Disk g.A.Devices g.C.Admission filled new caller a o (c.args.filling.slot, 0) (mark_unkept c.in-Err-made.why) (λ m. IsUnkept a c.in-Err-made.why)) c.held_number-held.ensures c.in-Err-made.ensures.unkept in
+    let turn : IsEntry g.D.Disk g.A.Devices g.C.Admission new (mark_unkept c.in-Err-made.why) e = record { from_first = is.from_first; to_last = is.to_last; marked = is.marked; done = is.done; disk_faults = is.disk_faults; device_faults = is.device_faults } in
+    let entered = enters start opening h all less e (ready e caller source stated by call g.D.Disk g.A.Devices g.C.Admission mid start opening h all n slot key there has a decided buffer full) (since_later g.D.Disk g.A.Devices g.C.Admission old filled (last_counts opening.counts h) s.counts c.in-Ok.ensures.later c.in-Ok.ensures.devices) gains law (making e caller source stated by call g.D.Disk g.A.Devices g.C.Admission mid start opening h all n slot key there has a decided buffer full) turn in
     let tells = c.create-made.ensures.tells in (
-      rebuffered d v g.C.Admission new c.wipe.new.self start opening (h ++ e ∷ []) less entered.0,
+      rebuffered g.D.Disk g.A.Devices g.C.Admission new c.wipe.new.self start opening (h ++ e ∷ []) less entered.0,
       n.model,
-      (λ k. n.replayed (retold (d.contents mid.file.cells.disk) (d.contents c.create-made.new.self.file.cells.disk) start (h ++ e ∷ []) tells k)),
-      (a, sym (decided_here e caller source stated by call d v g.C.Admission mid start opening h all n slot key there has a decided buffer full), entered.1),
+      (λ k. n.replayed (retold (g.D.Disk.contents mid.file.cells.disk) (g.D.Disk.contents c.create-made.new.self.file.cells.disk) start (h ++ e ∷ []) tells k)),
+      (a, sym (decided_here e caller source stated by call g.D.Disk g.A.Devices g.C.Admission mid start opening h all n slot key there has a decided buffer full), entered.1),
     )
 
 pub returns-in-Err-decide_copy-clause-uncopied : goal.returns-in-Err-decide_copy-clause-uncopied
 returns-in-Err-decide_copy-clause-uncopied g c = λ start opening h all less e s gains law by call is.
-    let d = g.D.Disk in
-    let v = g.A.Devices in
     let old = c.args.self.now in
     let mid = c.bring.new.self in
     let caller = c.args.caller in
@@ -91,7 +85,7 @@ returns-in-Err-decide_copy-clause-uncopied g c = λ start opening h all less e s
     let has = brought.1.2 in
     let status = c.in-Err-decide_copy.status in
     let decided = ap (λ (o : Option Key). recorded_copy n.model caller o stated) there ∙ sym (c.in-Err-decide_copy.ensures.value start opening h all e n source key there has) in (
-      refuses d v g.C.Admission g.met.D.Disk.only_now mid c.give_up-in-Err-decide_copy.new.self start opening h all less e (keeps e caller source stated by call) status n (refused_here e caller source stated by call d v g.C.Admission mid start opening h all n status decided)
+      refuses g.D.Disk g.A.Devices g.C.Admission g.met.D.Disk.only_now mid c.give_up-in-Err-decide_copy.new.self start opening h all less e (keeps e caller source stated by call) status n (refused_here e caller source stated by call g.D.Disk g.A.Devices g.C.Admission mid start opening h all n status decided)
           (c.give_up-in-Err-decide_copy.ensures.takes n.model all less n.slots gains) law is,
       n.model,
       n.replayed,
@@ -100,14 +94,12 @@ returns-in-Err-decide_copy-clause-uncopied g c = λ start opening h all less e s
 
 pub returns-in-Err-clause-uncopied : goal.returns-in-Err-clause-uncopied
 returns-in-Err-clause-uncopied g c = λ start opening h all less e s gains law by call is.
-    let d = g.D.Disk in
-    let v = g.A.Devices in
     let old = c.args.self.now in
     let mid = c.bring.new.self in
     let source = c.args.source.0 in
     let b = c.in-Err.ensures in
     let reads = reads_source e c.args.caller source c.args.attributes.now by call (replay start h) in
-    uncopied d v g.C.Admission g.met.D.Disk.only_now old mid c.give_up.new.self start opening h all less e c.args.caller source c.args.attributes.now by call s (λ m agrees. c.give_up.ensures.takes m all less agrees gains) law c.in-Err.why
+    uncopied g.D.Disk g.A.Devices g.C.Admission g.met.D.Disk.only_now old mid c.give_up.new.self start opening h all less e c.args.caller source c.args.attributes.now by call s (λ m agrees. c.give_up.ensures.takes m all less agrees gains) law c.in-Err.why
     (λ why. b.missing why start opening h all e s (λ k. reads)) (λ why. b.unread why start opening h all e s (λ k. reads)) b.disk b.corrupt is
 
 pub give_up-requires : goal.give_up-requires
@@ -127,8 +119,6 @@ give_up-requires-in-Err-decide_copy g c =
 
 pub create-made-requires-clause-ready : goal.create-made-requires-clause-ready
 create-made-requires-clause-ready g c = λ κs lives.
-    let d = g.D.Disk in
-    let v = g.A.Devices in
     let old = c.args.self.now in
     let mid = c.bring.new.self in
     let source = c.args.source.0 in
@@ -146,8 +136,8 @@ create-made-requires-clause-ready g c = λ κs lives.
     let decided = c.in-Ok-decide_copy.ensures.value own.0 own.1 own.2 own.3 e n source key there has in
     let buffer = c.fill_from.new.self in
     let full : buffer ≡ buffer_of (bytes_of slot.buffer) = c.fill_from.ensures ∙ ap buffer_of c.bytes.ensures.list in
-    let r = subst (λ (o : Option ℕ). IsReady d v g.C.Admission (record mid { buffer = buffer }) caller a o own.0 own.1 own.2 own.3 e) (sym c.held_number-held.ensures)
-    (ready e caller source stated refl refl d v g.C.Admission mid own.0 own.1 own.2 own.3 n slot key there has a decided buffer full) in
+    let r = subst (λ (o : Option ℕ). IsReady g.D.Disk g.A.Devices g.C.Admission (record mid { buffer = buffer }) caller a o own.0 own.1 own.2 own.3 e) (sym c.held_number-held.ensures)
+    (ready e caller source stated refl refl g.D.Disk g.A.Devices g.C.Admission mid own.0 own.1 own.2 own.3 n slot key there has a decided buffer full) in
     (own.0, own.1, own.2, own.3, e, r, own.5)
 
 pub returns-in-Ok-made-clause-wipes : goal.returns-in-Ok-made-clause-wipes
@@ -167,15 +157,17 @@ returns-in-Err-clause-wipes g c =
     copy_ends c.args.self.now.slots.table.slots c.bring.new.self.slots.table.slots c.give_up.new.self.table.slots c.args.filling.slot c.bring.ensures.wipes c.give_up.ensures.wipes
 
 pub returns-in-Ok-made-clause-zeros : goal.returns-in-Ok-made-clause-zeros
-returns-in-Ok-made-clause-zeros g c =
-    let d = g.D.Disk in
-    read_first d c.args.self.now.file c.bring.new.self.file c.create-made.new.self.file c.bring.ensures.directory c.bring.ensures.keeps c.create-made.ensures.zeros
+returns-in-Ok-made-clause-zeros g c = λ start opening h all s tells. read_first g.D.Disk c.args.self.now.file c.bring.new.self.file c.create-made.new.self.file c.bring.ensures.directory c.bring.ensures.keeps c.create-made.ensures.zeros (durable_keys s.holds.model) (course_of start h).doubt (s.holds.file tells)
 
 pub returns-in-Err-made-clause-zeros : goal.returns-in-Err-made-clause-zeros
-returns-in-Err-made-clause-zeros g c =
-    let d = g.D.Disk in
-    read_first d c.args.self.now.file c.bring.new.self.file c.create-made.new.self.file c.bring.ensures.directory c.bring.ensures.keeps c.create-made.ensures.zeros
+returns-in-Err-made-clause-zeros g c = λ start opening h all s tells. read_first g.D.Disk c.args.self.now.file c.bring.new.self.file c.create-made.new.self.file c.bring.ensures.directory c.bring.ensures.keeps c.create-made.ensures.zeros (durable_keys s.holds.model) (course_of start h).doubt (s.holds.file tells)
 
 pub returns-in-Err-clause-unread : goal.returns-in-Err-clause-unread
 returns-in-Err-clause-unread g c =
     copy_empties c.args.self.now.slots.table.slots c.bring.new.self.slots.table.slots c.give_up.new.self.table c.args.filling.slot c.give_up.new.self.lawful c.in-Err.ensures.emptied c.give_up.ensures.wipes c.give_up.ensures.emptied
+
+pub returns-in-Err-decide_copy-clause-zeros : goal.returns-in-Err-decide_copy-clause-zeros
+returns-in-Err-decide_copy-clause-zeros g c = λ start opening h all s tells. (c.bring.ensures.keeps (durable_keys s.holds.model) (course_of start h).doubt (s.holds.file tells)).zeros
+
+pub returns-in-Err-clause-zeros : goal.returns-in-Err-clause-zeros
+returns-in-Err-clause-zeros g c = λ start opening h all s tells. (c.bring.ensures.keeps (durable_keys s.holds.model) (course_of start h).doubt (s.holds.file tells)).zeros
