@@ -1,6 +1,6 @@
 -- A ranked turn that changes keys.
 use Rattle.std.proofs.Common.{List, Option, [], ap, arith, inl, inr, is_some, length-append, slice_index, subst, sym, true, ℕ, ⊎_elim, ◌++◌, ◌+◌, ◌∙◌, ◌∷◌, ◌≡◌, ◌≤◌, ◌⊎◌}
-use Rattle.store_core.proofs.Common.{Agrees, AreHoldings, Course, Entry, FaultCounts, FaultMark, FitsCourse, FitsKeys, HasFault, Holds, HoldsKeys, IsCaused, IsDirectory, IsEntry, IsSoundStore, IsSure, IsTold, Leads, MayBeMarked, Opening, Pairs, Service, StandsFor, StandsForKeys, Store, Within, after, allowed_go_on, count_persistent, course_of, doubt_after, durable_keys, go_on, last_counts, live_volatile, opened, outcome_of, promise_goes_on, replay, stands_fits}
+use Rattle.store_core.proofs.Common.{counted, Agrees, AreHoldings, Course, Entry, FaultCounts, FaultMark, FitsCourse, FitsKeys, HasFault, Holds, HoldsKeys, IsCaused, IsDirectory, IsEntry, IsSoundStore, IsSure, IsTold, Leads, MayBeMarked, Opening, Pairs, Service, StandsFor, StandsForKeys, Store, Within, after, allowed_go_on, count_persistent, course_of, doubt_after, durable_keys, go_on, last_counts, live_volatile, opened, outcome_of, promise_goes_on, replay, stands_fits}
 use Rattle.disk_face.specs.declared.Disk as Disk
 use Rattle.driver_dispatch.specs.declared.devices.Devices as Devices
 use Rattle.admission.specs.declared.rules.Admission as Admission
@@ -14,21 +14,23 @@ pub retold : (old new : Option (List ℕ)) (start : Service) (h : List Entry) �
 retold old new start h same (inl tells) = inl (sym same ∙ tells)
 retold old new start h same (inr none) = inr none
 
+-- a ranked turn ends, of an opening that found as many keys, under the same rules
+pub record IsRankedOn {D A C : Type 0} (old new : Store D A C) : Type 0 where
+  pub rules : new.rules ≡ old.rules
+  pub found : new.found ≡ old.found
+  pub ranked : new.ranked ≡ old.ranked + 1
+
 module _ {D A C : Type 0} (disks : Disk.Ghosts D) (elements : Devices.Ghosts A) (admits : Admission.Ghosts C) where
   -- what a ranked turn makes of a store, and of the model that it holds, where S holds of the service before it
   pub record Turns (S : Service → Type 0) (old new : Store D A C) (all : List Pairs) (e : Entry) (mark : FaultMark) (before : FaultCounts) (m m' : model.Store) : Type 0 where
     pub becomes : (service : Service) → S service → m ≡ service.store → m' ≡ (outcome_of service e).service.store
     pub sound : IsSoundStore m'
-    pub settings : m'.settings ≡ m.settings
-    pub rules : admits.labels new.rules ≡ admits.labels old.rules
-    pub devices : elements.locations new.devices ≡ elements.locations old.devices
-    pub found : m'.found ≡ new.found
-    pub few : new.found ≤ 512
-    pub calls : m'.calls ≡ new.ranked
+    pub counts : m' ≡ record (counted m) { keys = m'.keys; made = m'.made }
+    pub goes_on : IsRankedOn old new
+    pub places : elements.locations new.devices ≡ elements.locations old.devices
     pub made : m'.made ≡ new.made
     pub live : (caller : ℕ) → caller ≤ 16 → live_volatile m'.keys caller ≡ slice_index new.live caller
     pub kept : count_persistent m'.keys ≡ new.kept
-    pub ranked : new.ranked ≡ old.ranked + 1
     pub slots : Agrees new.slots.table.slots m' all
     pub holdings : AreHoldings all
     pub directory : IsDirectory new.file.cells.slots.items m'
@@ -106,16 +108,16 @@ module _ {D A C : Type 0} (disks : Disk.Ghosts D) (elements : Devices.Ghosts A) 
           model = m';
           replayed = λ k. t.becomes (replay start h) (holds_before k) (s.replayed (know k)) ∙ ap (λ (x : Service). x.store) (sym (replay_push start h e));
           sound = t.sound;
-          labels_are = ap (λ (x : model.Settings). x.labels) t.settings ∙ (s.labels_are ∙ sym t.rules);
-          locations_are = ap (λ (x : model.Settings). x.locations) t.settings ∙ (s.locations_are ∙ sym t.devices);
-          has_file = ap (λ (x : model.Settings). x.has_file) t.settings ∙ s.has_file;
-          found = t.found;
-          few = t.few;
-          calls = t.calls;
+          labels_are = ap (λ (x : model.Store). x.settings.labels) t.counts ∙ (s.labels_are ∙ sym (ap admits.labels t.goes_on.rules));
+          locations_are = ap (λ (x : model.Store). x.settings.locations) t.counts ∙ (s.locations_are ∙ sym t.places);
+          has_file = ap (λ (x : model.Store). x.settings.has_file) t.counts ∙ s.has_file;
+          found = ap (λ (x : model.Store). x.found) t.counts ∙ (s.found ∙ sym t.goes_on.found);
+          few = subst (λ n. n ≤ 512) (sym t.goes_on.found) s.few;
+          calls = ap (λ (x : model.Store). x.calls) t.counts ∙ (ap (λ n. n + 1) s.calls ∙ sym t.goes_on.ranked);
           made = t.made;
           live = t.live;
           kept = t.kept;
-          ranked = omega (arith, s.ranked, t.ranked, length-append {A = Entry} h (e ∷ []));
+          ranked = omega (arith, s.ranked, t.goes_on.ranked, length-append {A = Entry} h (e ∷ []));
           slots = t.slots;
           holdings = t.holdings;
           directory = t.directory;

@@ -50,16 +50,12 @@ module _ {D A C : Type 0} (disks : Disk.Ghosts D) (elements : Devices.Ghosts A) 
   nothing s none is = let m = s.holds.model in turns_standing disks elements admits only_now old (ranked_on old) start opening h all all e Plain (counted m) s (record {
     becomes = λ service known same. ap counted same ∙ sym (entry_stays e id call service is.marked (ap (λ (x : model.Store). map.get x.keys id) (sym same) ∙ none));
     sound = counted_sound m s.holds.sound;
-    settings = refl;
-    rules = refl;
-    devices = refl;
-    found = s.holds.found;
-    few = s.holds.few;
-    calls = ap (λ (n : ℕ). n + 1) s.holds.calls;
+    counts = refl;
+    goes_on = record { rules = refl; found = refl; ranked = refl };
+    places = refl;
     made = s.holds.made;
     live = s.holds.live;
     kept = s.holds.kept;
-    ranked = refl;
     slots = quiet old.slots.table.slots m (counted m) all s.holds.slots (record { keys = refl; given = omega arith });
     holdings = s.holds.holdings;
     directory = same_directory cells m s.holds.directory;
@@ -108,16 +104,12 @@ module _ {D A C : Type 0} (disks : Disk.Ghosts D) (elements : Devices.Ghosts A) 
       turns_standing disks elements admits only_now old (unfiled file slots) start opening h all all e mark (gone m id) s (record {
         becomes = λ service known same. ap (λ (x : model.Store). gone x id) same ∙ sym (entry_removes e id call service key (ap (λ (x : model.Store). map.get x.keys id) (sym same) ∙ there));
         sound = destroyed_sound m id s.holds.sound;
-        settings = refl;
-        rules = refl;
-        devices = refl;
-        found = s.holds.found;
-        few = s.holds.few;
-        calls = ap (λ (n : ℕ). n + 1) s.holds.calls;
+        counts = refl;
+        goes_on = record { rules = refl; found = refl; ranked = refl };
+        places = refl;
         made = s.holds.made;
         live = λ caller le. as_many_live m id key there s.holds.sound persistent caller ∙ s.holds.live caller le;
         kept = omega (arith, fewer, was);
-        ranked = refl;
         slots = forgets m (gone m id) all s.holds.slots s.holds.sound (takes_out m id);
         holdings = s.holds.holdings;
         directory = directory_emptied m id key there cells file.cells.slots.items c (creation_of_slot (cell_slot cells c)) (record { sized = f.sized; inside = f.within; settled = f.missing }) (opens_with (cell_slot cells c) id f.key) s.holds.directory;
@@ -150,16 +142,12 @@ module _ {D A C : Type 0} (disks : Disk.Ghosts D) (elements : Devices.Ghosts A) 
       turns_standing disks elements admits only_now old (unslotted devices slots caller) start opening h all all e mark (gone m id) s (record {
         becomes = λ service known same. ap (λ (x : model.Store). gone x id) same ∙ sym (entry_removes e id call service key (ap (λ (x : model.Store). map.get x.keys id) (sym same) ∙ there));
         sound = destroyed_sound m id s.holds.sound;
-        settings = refl;
-        rules = refl;
-        devices = places;
-        found = s.holds.found;
-        few = s.holds.few;
-        calls = ap (λ (n : ℕ). n + 1) s.holds.calls;
+        counts = refl;
+        goes_on = record { rules = refl; found = refl; ranked = refl };
+        places = places;
         made = s.holds.made;
         live = live_after m id key there s.holds.sound volatile caller named old.live s.holds.live;
         kept = as_many_kept m id key there s.holds.sound volatile ∙ s.holds.kept;
-        ranked = refl;
         slots = forgets m (gone m id) all s.holds.slots s.holds.sound (takes_out m id);
         holdings = s.holds.holdings;
         directory = directory_stays m id key there cells volatile s.holds.directory;

@@ -102,13 +102,11 @@ module _ {D A C : Type 0} (disks : Disk.Ghosts D) (elements : Devices.Ghosts A) 
         HasFault (is_some (disks.contents disk)) (last_counts opening.counts h) e mark → ((service : Service) → S service → s.model ≡ service.store → MayBeMarked service e.caller e.call mark) →
         IsEntry disks elements admits given_up mark e → StandsFor disks elements admits given_up start opening (h ++ e ∷ []) less
     gives_up S mark s before agrees law counts doubts fault may is = unmade disks elements admits only_now mid given_up start opening h all less e S mark s keeps before law (record {
-      rules = refl;
-      devices = refl;
-      found = refl;
+      goes_on = record { rules = refl; found = refl; ranked = refl };
+      places = refl;
       made = s.made;
       live = s.live;
       kept = s.kept;
-      ranked = refl;
       slots = quiet slots.table.slots s.model (counted s.model) less agrees (record { keys = refl; given = omega arith });
       directory = same_directory mid.file.cells.slots.items s.model s.directory;
       device = same_device (elements.keys mid.devices) s.model s.device;

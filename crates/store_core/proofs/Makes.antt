@@ -7,7 +7,7 @@ use Rattle.admission.specs.declared.rules.Admission as Admission
 use Rattle.std.specs.FinMap as map
 use Rattle.store_model.specs.Store as model
 use Rattle.store_model.specs.Prelude.{Corrupt}
-use Rattle.store_core.proofs.Changing.{turns, retold}
+use Rattle.store_core.proofs.Changing.{IsRankedOn, retold, turns}
 use Rattle.store_core.proofs.Added.{put_here}
 
 -- THE REQUEST
@@ -91,13 +91,11 @@ module _ {D A C : Type 0} (disks : Disk.Ghosts D) (elements : Devices.Ghosts A) 
 
   -- what a turn leaves of a store, whatever key it makes
   pub record IsSameBut (m' : model.Store) : Type 0 where
-    pub rules : admits.labels new.rules ≡ admits.labels old.rules
-    pub devices : elements.locations new.devices ≡ elements.locations old.devices
-    pub found : new.found ≡ old.found
+    pub goes_on : IsRankedOn old new
+    pub places : elements.locations new.devices ≡ elements.locations old.devices
     pub made : m'.made ≡ new.made
     pub live : (caller : ℕ) → caller ≤ 16 → live_volatile m'.keys caller ≡ slice_index new.live caller
     pub kept : count_persistent m'.keys ≡ new.kept
-    pub ranked : new.ranked ≡ old.ranked + 1
     pub slots : Agrees new.slots.table.slots m' less
     pub directory : IsDirectory new.file.cells.slots.items m'
     pub device : HoldsKeys (elements.keys new.devices) m'
@@ -116,16 +114,12 @@ module _ {D A C : Type 0} (disks : Disk.Ghosts D) (elements : Devices.Ghosts A) 
       (retold (disks.contents disk) (disks.contents new.file.cells.disk) start (h ++ e ∷ []) same.tells) (λ k. making (retold (disks.contents disk) (disks.contents new.file.cells.disk) start (h ++ e ∷ []) same.tells k)) (record {
         becomes = λ service known at. ap (λ (x : model.Store). (created x caller recorded bytes).store) at ∙ sym (plain_counts e keeps service is.marked ∙ known.leaves);
         sound = created_sound s.model caller recorded bytes first last s.sound may;
-        settings = refl;
-        rules = same.rules;
-        devices = same.devices;
-        found = s.found ∙ sym same.found;
-        few = subst (λ n. n ≤ 512) (sym same.found) s.few;
-        calls = ap (λ (n : ℕ). n + 1) s.calls ∙ sym same.ranked;
+        counts = refl;
+        goes_on = same.goes_on;
+        places = same.places;
         made = same.made;
         live = same.live;
         kept = same.kept;
-        ranked = same.ranked;
         slots = same.slots;
         holdings = holdings;
         directory = same.directory;
@@ -163,16 +157,12 @@ module _ {D A C : Type 0} (disks : Disk.Ghosts D) (elements : Devices.Ghosts A) 
       (retold (disks.contents disk) (disks.contents new.file.cells.disk) start (h ++ e ∷ []) same.tells) (λ k. before (retold (disks.contents disk) (disks.contents new.file.cells.disk) start (h ++ e ∷ []) same.tells k)) (record {
         becomes = λ service known at. ap counted at ∙ sym (counts service known);
         sound = counted_sound s.model s.sound;
-        settings = refl;
-        rules = same.rules;
-        devices = same.devices;
-        found = s.found ∙ sym same.found;
-        few = subst (λ n. n ≤ 512) (sym same.found) s.few;
-        calls = ap (λ (n : ℕ). n + 1) s.calls ∙ sym same.ranked;
+        counts = refl;
+        goes_on = same.goes_on;
+        places = same.places;
         made = same.made;
         live = same.live;
         kept = same.kept;
-        ranked = same.ranked;
         slots = same.slots;
         holdings = holdings;
         directory = same.directory;

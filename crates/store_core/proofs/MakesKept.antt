@@ -120,13 +120,11 @@ module _ {D A C : Type 0} {disks : Disk.Ghosts D} {elements : Devices.Ghosts A} 
       pub makes_kept : IsFiled → Agrees slots.table.slots after less →
           IsEntry disks elements admits with_kept Plain e → StandsFor disks elements admits with_kept start opening (h ++ e ∷ []) less
       makes_kept f agrees is = makes disks elements admits only_now old with_kept start opening h all less e caller a r.bytes r.holds first last ready_may making.keeps is_making holdings (record {
-        rules = refl;
-        devices = refl;
-        found = refl;
+        goes_on = record { rules = refl; found = refl; ranked = refl };
+        places = refl;
         made = made_same m caller a r.bytes first last r.holds.sound ready_may persistent ∙ r.holds.made;
         live = λ c le. as_many_live m caller a r.bytes first last r.holds.sound ready_may persistent c ∙ r.holds.live c le;
         kept = one_more_kept m caller a r.bytes first last r.holds.sound ready_may persistent ∙ ap (λ n. n + 1) r.holds.kept;
-        ranked = refl;
         slots = agrees;
         directory = directory_placed m caller a r.bytes first last r.holds.sound ready_may cells file.cells.slots.items f.c persistent r.holds.directory f.without f.sized
             (f.placed ∙ ap (λ n. set (settled_slots cells) f.c (Open a.id.0 n)) number_is);
@@ -150,13 +148,11 @@ module _ {D A C : Type 0} {disks : Disk.Ghosts D} {elements : Devices.Ghosts A} 
       pub fails_kept : (closed_first : Bool) → IsUnfiled closed_first → Agrees slots.table.slots m less → IsSince disks elements admits old (last_counts opening.counts h) →
           IsEntry disks elements admits with_none (Storage (Writing closed_first)) e → StandsFor disks elements admits with_none start opening (h ++ e ∷ []) less
       fails_kept closed_first f agrees since is = unmade disks elements admits only_now old with_none start opening h all less e (IsMakingAt e caller a r.bytes) (Storage (Writing closed_first)) r.holds making.keeps is_making holdings (record {
-        rules = refl;
-        devices = refl;
-        found = refl;
+        goes_on = record { rules = refl; found = refl; ranked = refl };
+        places = refl;
         made = r.holds.made;
         live = r.holds.live;
         kept = r.holds.kept;
-        ranked = refl;
         slots = quiet slots.table.slots m (counted m) less agrees (record { keys = refl; given = omega arith });
         directory = same_directory file.cells.slots.items m (directory_settled cells file.cells.slots.items m f.sized f.settled r.holds.directory);
         device = same_device (elements.keys old.devices) m r.holds.device;

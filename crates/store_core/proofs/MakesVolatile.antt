@@ -155,13 +155,11 @@ module _ {D A C : Type 0} {disks : Disk.Ghosts D} {elements : Devices.Ghosts A} 
     pub makes_volatile : length old.live ≡ 17 → elements.locations devices ≡ elements.locations old.devices → HoldsKeys (elements.keys devices) after → Agrees slots.table.slots after less →
         IsEntry disks elements admits with_volatile Plain e → StandsFor disks elements admits with_volatile start opening (h ++ e ∷ []) less
     makes_volatile sized places device agrees is = makes disks elements admits only_now old with_volatile start opening h all less e caller a r.bytes r.holds first last may making.keeps is_making holdings (record {
-      rules = refl;
-      devices = places;
-      found = refl;
+      goes_on = record { rules = refl; found = refl; ranked = refl };
+      places = places;
       made = made_here m caller a r.bytes first last r.holds.sound may volatile old.made r.holds.made;
       live = live_here m caller a r.bytes first last r.holds.sound may volatile old.live sized r.holds.live;
       kept = as_many_kept m caller a r.bytes first last r.holds.sound may volatile ∙ r.holds.kept;
-      ranked = refl;
       slots = agrees;
       directory = directory_same m caller a r.bytes first last r.holds.sound may old.file.cells.slots.items volatile r.holds.directory;
       device = device;
@@ -187,13 +185,11 @@ module _ {D A C : Type 0} {disks : Disk.Ghosts D} {elements : Devices.Ghosts A} 
         Rose (elements.faults old.devices) (elements.faults devices) → Agrees slots.table.slots m less → IsSince disks elements admits old (last_counts opening.counts h) →
         IsEntry disks elements admits with_failed Hardware e → StandsFor disks elements admits with_failed start opening (h ++ e ∷ []) less
     fails_volatile opaque places changes rose agrees since is = unmade disks elements admits only_now old with_failed start opening h all less e (IsMakingAt e caller a r.bytes) Hardware r.holds making.keeps is_making holdings (record {
-      rules = refl;
-      devices = places;
-      found = refl;
+      goes_on = record { rules = refl; found = refl; ranked = refl };
+      places = places;
       made = r.holds.made;
       live = r.holds.live;
       kept = r.holds.kept;
-      ranked = refl;
       slots = quiet slots.table.slots m (counted m) less agrees (record { keys = refl; given = omega arith });
       directory = same_directory old.file.cells.slots.items m r.holds.directory;
       device = device_failed m caller a r.bytes first last r.holds.sound may (elements.keys old.devices) (elements.keys devices)
