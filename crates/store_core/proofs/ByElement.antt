@@ -13,7 +13,8 @@ use Rattle.secure_element_calls.specs.declared.calls.ElementCall.TheVariants.{Ma
 use Rattle.secure_element_calls.specs.declared.calls.NotComputed.{NotComputed}
 use Rattle.secure_element_calls.proofs.Replying.{asks}
 use Rattle.store_core.proofs.Histories.{told_before, quiet_leaves}
-use Rattle.store_core.proofs.Holding.{turned, carries, left_alone, ends_quiet}
+use Rattle.store_core.proofs.Holding.{turned, carries, left_alone}
+use Rattle.store_core.proofs.Changing.{ends_quiet}
 
 -- THE KEY
 
@@ -141,9 +142,8 @@ module _ {D A C : Type 0} (disks : Disk.Ghosts D) (elements : Devices.Ghosts A) 
       IsEntry disks elements admits new mark e →
       (n : StandsFor disks elements admits new start opening (h ++ e ∷ []) all) × P n.holds.model
   ends_computed call mark P s is still same there fault may holds turn =
-      let told_here = disks.contents old.file.cells.disk in
-      let d = carries disks elements admits Known old.file old.slots old.buffer devices (left_alone disks elements admits old.file) same there s.holds inl (told_before told_here start h e) s.holds.slots s.holds.holdings in
-      let ends = ends_quiet disks elements admits only_now computed_by old.slots mark start opening h all all e d.0 d.0.slots d.0.holdings fault
+      let d = carries disks elements admits Known old.file old.slots old.buffer devices (left_alone disks elements admits old.file) same there s.holds inl (told_before (disks.contents old.file.cells.disk) start h e) s.holds.slots s.holds.holdings in
+      let ends = ends_quiet disks elements admits only_now e mark old.slots d.0 (λ k. k) d.0.slots d.0.holdings fault
       (λ k. subst (λ request. MayBeMarked (replay start h) e.caller request mark) (sym is) (may (replay start h) (sym (d.0.replayed k) ∙ d.1)))
       (quiet_leaves disks elements admits computed_by start h e (ap may_change_keys is ∙ still)) turn in
       (ends.0, subst P (sym (ends.1 ∙ ap counted d.1)) holds)
@@ -172,9 +172,8 @@ pub mark_may : (held : Option HeldKeys) (id : ℕ) (call : ElementCall) (old new
 mark_may held id call old now (Ok n) m answer opaque service caller is = tt
 mark_may held id call old now (Err (Refused status)) m answer opaque service caller is = tt
 mark_may held id call old now (Err Failed) m answer opaque service caller is =
-    let none = unrefused (first_row (all_rows call (length old) (map.get m.keys id))) (IsOfElement call (Err Failed)) (Err Failed) refl answer.decided in
     may_fail service caller id (length old) call (subst (λ (x : model.Store). is_opaque_key (map.get x.keys id) ≡ true) (sym is) opaque)
-    (subst (λ (x : model.Store). first_row (all_rows call (length old) (map.get x.keys id)) ≡ None) (sym is) none)
+    (subst (λ (x : model.Store). first_row (all_rows call (length old) (map.get x.keys id)) ≡ None) (sym is) (unrefused (first_row (all_rows call (length old) (map.get m.keys id))) (IsOfElement call (Err Failed)) (Err Failed) refl answer.decided))
 
 -- what was checked are the key's rows
 pub checked_rows : (call : ElementCall) (key : Key) (class : Class) (usage alg : ℕ) (result : Result (Unit {0}) Status) → class ≡ class_asked call → usage ≡ usage_asked call → alg ≡ algorithm_asked call →

@@ -1,13 +1,13 @@
 -- A ranked turn that changes keys.
-use Rattle.std.proofs.Common.{List, Option, [], ap, arith, inl, inr, is_some, length-append, slice_index, subst, sym, true, ℕ, ⊎_elim, ◌++◌, ◌+◌, ◌∙◌, ◌∷◌, ◌≡◌, ◌≤◌, ◌⊎◌}
-use Rattle.store_core.proofs.Common.{counted, Agrees, AreHoldings, Course, Entry, FaultCounts, FaultMark, FitsCourse, FitsKeys, HasFault, Holds, HoldsKeys, IsCaused, IsDirectory, IsEntry, IsSoundStore, IsSure, IsTold, Leads, MayBeMarked, Opening, Pairs, Service, StandsFor, StandsForKeys, Store, Within, after, allowed_go_on, count_persistent, course_of, doubt_after, durable_keys, go_on, last_counts, live_volatile, opened, outcome_of, promise_goes_on, replay, stands_fits}
+use Rattle.std.proofs.Common.{List, Option, [], ap, arith, inl, inr, is_some, length-append, slice_index, subst, sym, true, ℕ, ⊎_elim, ◌++◌, ◌+◌, ◌∙◌, ◌∷◌, ◌≡◌, ◌≤◌, ◌⊎◌, None, refl}
+use Rattle.store_core.proofs.Common.{Agrees, AreHoldings, Course, Entry, FaultCounts, FaultMark, FitsCourse, FitsKeys, HasFault, Holds, HoldsKeys, IsCaused, IsDirectory, IsEntry, IsSoundStore, IsSure, IsTold, KeyFile, KeySlots, Leads, LeavesKeys, MayBeMarked, Opening, Pairs, Plain, Service, StandsFor, StandsForKeys, Store, Within, after, allowed_go_on, count_persistent, counted, counted_sound, course_of, doubt_after, durable_keys, go_on, key_changed, last_counts, live_volatile, opened, outcome_of, promise_goes_on, quiet, replay, stands_fits, stays}
 use Rattle.disk_face.specs.declared.Disk as Disk
 use Rattle.driver_dispatch.specs.declared.devices.Devices as Devices
 use Rattle.admission.specs.declared.rules.Admission as Admission
 use Rattle.std.specs.Prelude.{⊤}
 use Rattle.store_model.specs.Store as model
-use Rattle.store_core.proofs.Histories.{replay_push, counts_push, told_before, course_service, course_push}
-use Rattle.store_core.proofs.Holding.{counts_of}
+use Rattle.store_core.proofs.Histories.{replay_push, counts_push, told_before, course_service, course_push, quiet_doubt}
+use Rattle.store_core.proofs.Holding.{counts_of, same_device, same_directory, turned}
 
 -- what is told of one disk is told of another that tells as much
 pub retold : (old new : Option (List ℕ)) (start : Service) (h : List Entry) → is_some new ≡ is_some old → IsTold new start h → IsTold old start h
@@ -97,8 +97,8 @@ module _ {D A C : Type 0} (disks : Disk.Ghosts D) (elements : Devices.Ghosts A) 
       fits_now image left =
           fits_new image (stands_fits disks now new.file.cells.slots.items (durable_keys m') (doubt_after e course) image leads_here.stands (only_now now image left))
 
-    pub turns : IsEntry disks elements admits new mark e → StandsFor disks elements admits new start opening (h ++ e ∷ []) more
-    turns is = record { holds = holds; counts = counts_push opening.counts h e ∙ counted_here }
+    pub turns : IsEntry disks elements admits new mark e → (n : StandsFor disks elements admits new start opening (h ++ e ∷ []) more) × (n.holds.model ≡ m')
+    turns is = (record { holds = holds; counts = counts_push opening.counts h e ∙ counted_here }, refl)
       where
         counted_here : counts_of e.faults e.device_faults ≡ counts_of (disks.faults now) (elements.faults new.devices)
         counted_here = ap (λ (n : ℕ). counts_of n e.device_faults) is.disk_faults ∙ ap (counts_of (disks.faults now)) is.device_faults
@@ -138,6 +138,69 @@ module _ {D A C : Type 0} (disks : Disk.Ghosts D) (elements : Devices.Ghosts A) 
     pub turns_standing : Turns (λ service. ⊤) old new more e mark (counts_of (disks.faults old.file.cells.disk) (elements.faults old.devices)) s.holds.model m' →
         IsEntry disks elements admits new mark e → StandsFor disks elements admits new start opening (h ++ e ∷ []) more
     turns_standing t is =
-        turns only_now (λ service. ⊤) (IsTold (disks.contents old.file.cells.disk) start h) old new start opening h all more e mark m' s.holds
+        (turns only_now (λ service. ⊤) (IsTold (disks.contents old.file.cells.disk) start h) old new start opening h all more e mark m' s.holds
         (λ k. retold (disks.contents old.file.cells.disk) (disks.contents new.file.cells.disk) start h t.tells (told_before (disks.contents new.file.cells.disk) start h e k)) (λ k. tt)
-        (subst (λ (c : FaultCounts). Turns (λ service. ⊤) old new more e mark c s.holds.model m') (sym s.counts) t) is
+        (subst (λ (c : FaultCounts). Turns (λ service. ⊤) old new more e mark c s.holds.model m') (sym s.counts) t) is).0
+
+module _ {D A C : Type 0} (disks : Disk.Ghosts D) (elements : Devices.Ghosts A) (admits : Admission.Ghosts C)
+    (only_now : (disk : D) (image : List ℕ) → disks.left_since disk (disks.moment disk) image → disks.may_leave disk image)
+    {old : Store D A C} {start : Service} {opening : Opening} {h : List Entry} {all : List Pairs} (e : Entry) where
+  -- a turn that changes no key
+  module _ {more : List Pairs} {K : Type 0} (S : Service → Type 0) (mark : FaultMark) (slots : KeySlots) (devices : A)
+      (s : Holds disks elements admits K old start opening h all) (know : IsTold (disks.contents old.file.cells.disk) start (h ++ e ∷ []) → K)
+      (holds_before : IsTold (disks.contents old.file.cells.disk) start (h ++ e ∷ []) → S (replay start h)) (counts : (service : Service) → S service → (outcome_of service e).service.store ≡ counted service.store)
+      (agrees : Agrees slots.table.slots s.model more) (holdings : AreHoldings more) (places : elements.locations devices ≡ elements.locations old.devices) (device : HoldsKeys (elements.keys devices) (counted s.model))
+      (fault : HasFault (is_some (disks.contents old.file.cells.disk)) (last_counts opening.counts h) e mark) (may : (service : Service) → S service → s.model ≡ service.store → MayBeMarked service e.caller e.call mark) where
+    abbrev pub ended : KeyFile D → Store D A C
+    ended file = record old { file = file; slots = slots; devices = devices; ranked = old.ranked + 1 }
+
+    pub unmade : (file : KeyFile D) → IsDirectory file.cells.slots.items s.model → is_some (disks.contents file.cells.disk) ≡ is_some (disks.contents old.file.cells.disk) →
+        ((c : Course) → S c.service → s.model ≡ c.service.store → StandsForKeys disks old.file.cells.disk old.file.cells.slots.items (durable_keys s.model) c.doubt →
+        Leads disks old.file.cells.disk file.cells.disk old.file.cells.slots.items file.cells.slots.items (durable_keys s.model) c.doubt (durable_keys s.model) (doubt_after e c)) →
+        ((c : Course) → S c.service → s.model ≡ c.service.store → (c.doubt ≡ [] → IsSure old.file.cells.slots.items) → doubt_after e c ≡ [] → IsSure file.cells.slots.items) →
+        IsEntry disks elements admits (ended file) mark e → (n : StandsFor disks elements admits (ended file) start opening (h ++ e ∷ []) more) × (n.holds.model ≡ counted s.model)
+    unmade file directory tells leads settles is =
+        let told = retold (disks.contents old.file.cells.disk) (disks.contents file.cells.disk) start (h ++ e ∷ []) tells in
+        turns disks elements admits only_now S K old (ended file) start opening h all more e mark (counted s.model) s (λ k. know (told k)) (λ k. holds_before (told k)) (record {
+          becomes = λ service known at. ap counted at ∙ sym (counts service known);
+          sound = counted_sound s.model s.sound;
+          counts = refl;
+          goes_on = record { rules = refl; found = refl; ranked = refl };
+          places = places;
+          made = s.made;
+          live = s.live;
+          kept = s.kept;
+          slots = quiet slots.table.slots s.model (counted s.model) more agrees (record { keys = refl; given = omega arith });
+          holdings = holdings;
+          directory = same_directory file.cells.slots.items s.model directory;
+          device = device;
+          tells = tells;
+          leads = leads;
+          settles = settles;
+          fault = subst (λ b. HasFault b (last_counts opening.counts h) e mark) (sym tells) fault;
+          may = may;
+        }) is
+
+    -- nor the file
+    pub leaves : ((c : Course) → S c.service → doubt_after e c ≡ c.doubt) →
+        IsEntry disks elements admits (ended old.file) mark e → (n : StandsFor disks elements admits (ended old.file) start opening (h ++ e ∷ []) more) × (n.holds.model ≡ counted s.model)
+    leaves doubts = unmade old.file s.directory refl
+        (λ c known at stands. subst (Leads disks old.file.cells.disk old.file.cells.disk old.file.cells.slots.items old.file.cells.slots.items (durable_keys s.model) c.doubt (durable_keys s.model)) (sym (doubts c known))
+        (stays disks old.file.cells.disk old.file.cells.slots.items (durable_keys s.model) (durable_keys s.model) c.doubt (λ q. refl) stands))
+        (λ c known at sure none. sure (sym (doubts c known) ∙ none))
+
+  -- one whose request leaves all keys
+  pub ends_quiet : {more : List Pairs} {K : Type 0} (mark : FaultMark) (slots : KeySlots) (s : Holds disks elements admits K old start opening h all) → (IsTold (disks.contents old.file.cells.disk) start (h ++ e ∷ []) → K) →
+      Agrees slots.table.slots s.model more → AreHoldings more → HasFault (is_some (disks.contents old.file.cells.disk)) (last_counts opening.counts h) e mark →
+      (IsTold (disks.contents old.file.cells.disk) start (h ++ e ∷ []) → MayBeMarked (replay start h) e.caller e.call mark) → LeavesKeys disks elements admits old start h e → IsEntry disks elements admits (turned disks elements admits old slots) mark e →
+      (n : StandsFor disks elements admits (turned disks elements admits old slots) start opening (h ++ e ∷ []) more) × (n.holds.model ≡ counted s.model)
+  ends_quiet mark slots s know agrees holdings fault may still =
+      leaves (λ service. (service ≡ replay start h) × IsTold (disks.contents old.file.cells.disk) start (h ++ e ∷ [])) mark slots old.devices s know (λ k. (refl, k))
+      (λ service known. subst (λ (x : Service). (outcome_of x e).service.store ≡ counted x.store) (sym known.0) (still.counted_only known.1)) agrees holdings refl (same_device (elements.keys old.devices) s.model s.device) fault
+      (λ service known at. subst (λ (x : Service). MayBeMarked x e.caller e.call mark) (sym known.0) (may known.1))
+      (λ c known. quiet_doubt e c (subst (λ (x : Service). key_changed x e.caller e.call ≡ None) (sym known.0) (still.changes_none known.1)))
+
+  -- and leaves the file, of a store that stands for something
+  pub counts_on : (s : StandsFor disks elements admits old start opening h all) (slots : KeySlots) → Agrees slots.table.slots s.holds.model all → LeavesKeys disks elements admits old start h e → IsEntry disks elements admits (turned disks elements admits old slots) Plain e →
+      (n : StandsFor disks elements admits (turned disks elements admits old slots) start opening (h ++ e ∷ []) all) × (n.holds.model ≡ counted s.holds.model)
+  counts_on s slots agrees still = ends_quiet Plain slots s.holds (told_before (disks.contents old.file.cells.disk) start h e) agrees s.holds.holdings tt (λ k. tt) still

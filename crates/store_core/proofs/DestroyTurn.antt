@@ -9,8 +9,9 @@ use Rattle.std.specs.FinMap as map
 use Rattle.key_cells.specs.declared.slot.Slot as cell
 use Rattle.store_model.specs.Store as model
 use Rattle.store_core.proofs.Holding.{counts_of, same_directory, same_device}
+use Rattle.store_core.proofs.Histories.{told_before}
 use Rattle.store_core.proofs.Kept.{key_of_cell}
-use Rattle.store_core.proofs.Changing.{turns_standing}
+use Rattle.store_core.proofs.Changing.{leaves, turns_standing}
 use Rattle.store_core.proofs.Removing.{gone, takes_out, without_kept, kept_here, kept_same, directory_emptied, directory_stays, device_stays, device_loses}
 use Rattle.store_core.proofs.Destroyed.{entry_removes, entry_stays, changes_it, doubt_here, opens_with, in_no_cell, fewer_kept, as_many_live, as_many_kept, live_after}
 
@@ -47,27 +48,11 @@ module _ {D A C : Type 0} (disks : Disk.Ghosts D) (elements : Devices.Ghosts A) 
 
   -- there is no key to destroy
   pub nothing : (s : StandsOld) → map.get s.holds.model.keys id ≡ None → IsTurnTo (ranked_on old) Plain → StandsNew (ranked_on old)
-  nothing s none is = let m = s.holds.model in turns_standing disks elements admits only_now old (ranked_on old) start opening h all all e Plain (counted m) s (record {
-    becomes = λ service known same. ap counted same ∙ sym (entry_stays e id call service is.marked (ap (λ (x : model.Store). map.get x.keys id) (sym same) ∙ none));
-    sound = counted_sound m s.holds.sound;
-    counts = refl;
-    goes_on = record { rules = refl; found = refl; ranked = refl };
-    places = refl;
-    made = s.holds.made;
-    live = s.holds.live;
-    kept = s.holds.kept;
-    slots = quiet old.slots.table.slots m (counted m) all s.holds.slots (record { keys = refl; given = omega arith });
-    holdings = s.holds.holdings;
-    directory = same_directory cells m s.holds.directory;
-    device = same_device (elements.keys old.devices) m s.holds.device;
-    tells = refl;
-    leads = λ c known same stands. subst (Leads disks disk disk cells cells (durable_keys m) c.doubt (durable_keys m))
-        (sym (doubt_here e id call c Plain None is.marked (ap (λ (x : model.Store). durable_keys x id) (sym same) ∙ ap kept none)))
-        (stays disks disk cells (durable_keys m) (durable_keys m) c.doubt (λ q. refl) stands);
-    settles = λ c known same sure empty. sure (sym (doubt_here e id call c Plain None is.marked (ap (λ (x : model.Store). durable_keys x id) (sym same) ∙ ap kept none)) ∙ empty);
-    fault = tt;
-    may = λ service known same. tt;
-  }) is
+  nothing s none is =
+      let before = told_before (disks.contents disk) start h e in
+      (leaves disks elements admits only_now e (λ service. map.get service.store.keys id ≡ None) Plain old.slots old.devices s.holds before (λ k. ap (λ (x : model.Store). map.get x.keys id) (sym (s.holds.replayed (before k))) ∙ none)
+      (λ service known. entry_stays e id call service is.marked known) s.holds.slots s.holds.holdings refl (same_device (elements.keys old.devices) s.holds.model s.holds.device) tt (λ service known at. tt)
+      (λ c known. doubt_here e id call c Plain None is.marked (ap kept known)) is).0
 
   -- what the slots make of a key that is taken out
   abbrev pub Forgets : KeySlots → Type 0

@@ -9,7 +9,8 @@ use Rattle.store_model.specs.Store as model
 use Rattle.store_model.specs.Prelude.{Corrupt}
 use Rattle.store_core.proofs.Histories.{told_before}
 use Rattle.store_core.proofs.Holding.{goes_on, left_alone, same_directory, same_device, counts_of}
-use Rattle.store_core.proofs.Makes.{IsFailure, IsRefusedAt, unmade, marked_counts, plain_counts, doubted, changes_none}
+use Rattle.store_core.proofs.Changing.{leaves}
+use Rattle.store_core.proofs.Makes.{IsFailure, IsRefusedAt, marked_counts, plain_counts, doubted, changes_none}
 
 -- what is recorded of stated attributes, where nothing refuses it
 pub stated_ok : (lease : Option lent.Reading) (caller : ℕ) (a : Attributes) (n : ℕ) (m : model.Store) (recorded : Attributes) → RecordsStated lease caller a n m (Ok recorded) → recorded_of m caller a n ≡ Ok recorded
@@ -97,31 +98,11 @@ module _ {D A C : Type 0} (disks : Disk.Ghosts D) (elements : Devices.Ghosts A) 
     abbrev disk : D
     disk = mid.file.cells.disk
 
-    pub gives_up : (S : Service → Type 0) (mark : FaultMark) (s : HoldsWith mid start opening h all e) → (IsTold (disks.contents disk) start (h ++ e ∷ []) → S (replay start h)) → Agrees slots.table.slots s.model less → AreHoldings less →
-        ((service : Service) → S service → (outcome_of service e).service.store ≡ counted service.store) → ((c : Course) → S c.service → doubt_after e c ≡ c.doubt) →
-        HasFault (is_some (disks.contents disk)) (last_counts opening.counts h) e mark → ((service : Service) → S service → s.model ≡ service.store → MayBeMarked service e.caller e.call mark) →
-        IsEntry disks elements admits given_up mark e → StandsFor disks elements admits given_up start opening (h ++ e ∷ []) less
-    gives_up S mark s before agrees law counts doubts fault may is = unmade disks elements admits only_now mid given_up start opening h all less e S mark s keeps before law (record {
-      goes_on = record { rules = refl; found = refl; ranked = refl };
-      places = refl;
-      made = s.made;
-      live = s.live;
-      kept = s.kept;
-      slots = quiet slots.table.slots s.model (counted s.model) less agrees (record { keys = refl; given = omega arith });
-      directory = same_directory mid.file.cells.slots.items s.model s.directory;
-      device = same_device (elements.keys mid.devices) s.model s.device;
-      tells = refl;
-    }) counts
-        (λ c known at stands. subst (Leads disks disk disk mid.file.cells.slots.items mid.file.cells.slots.items (durable_keys s.model) c.doubt (durable_keys s.model)) (sym (doubts c known))
-        (stays disks disk mid.file.cells.slots.items (durable_keys s.model) (durable_keys s.model) c.doubt (λ q. refl) stands))
-        (λ c known at sure none. sure (sym (doubts c known) ∙ none))
-        fault may is
-
     -- since it is refused
     pub refuses : (status : Status) (s : HoldsWith mid start opening h all e) → (IsTold (disks.contents disk) start (h ++ e ∷ []) → IsRefusedAt e status (replay start h)) → Agrees slots.table.slots s.model less → AreHoldings less →
         IsEntry disks elements admits given_up Plain e → StandsFor disks elements admits given_up start opening (h ++ e ∷ []) less
-    refuses status s refused agrees law is = gives_up (IsRefusedAt e status) Plain s refused agrees law (λ service known. plain_counts e keeps service is.marked ∙ known.leaves)
-        (λ c known. doubted e keeps c Plain None None is.marked (changes_none e keeps status c.service known) refl) tt (λ service known at. tt) is
+    refuses status s refused agrees law is = (leaves disks elements admits only_now e (IsRefusedAt e status) Plain slots mid.devices s (λ k. k) refused (λ service known. plain_counts e keeps service is.marked ∙ known.leaves) agrees law refl
+        (same_device (elements.keys mid.devices) s.model s.device) tt (λ service known at. tt) (λ c known. doubted e keeps c Plain None None is.marked (changes_none e keeps status c.service known) refl) is).0
 
     abbrev Reads : Service → Type 0
     Reads service = reads_persistent service e.caller e.call ≡ true
@@ -150,7 +131,7 @@ module _ {D A C : Type 0} (disks : Disk.Ghosts D) (elements : Devices.Ghosts A) 
     pub unread : (mark : FaultMark) → IsReadFault mark → (s : HoldsWith mid start opening h all e) → (IsTold (disks.contents disk) start (h ++ e ∷ []) → Reads (replay start h)) → Agrees slots.table.slots s.model less → AreHoldings less →
         HasFault (is_some (disks.contents disk)) (last_counts opening.counts h) e mark →
         IsEntry disks elements admits given_up mark e → StandsFor disks elements admits given_up start opening (h ++ e ∷ []) less
-    unread mark kind s reads agrees law fault is = gives_up Reads mark s reads agrees law
-        (λ service known. ap (λ (x : FaultMark). (serve service e.caller e.call x).service.store) is.marked ∙ marked_counts service e.caller e.call mark (failing mark kind) keeps)
-        (λ c known. doubted e keeps c mark (key_changed c.service e.caller e.call) (kept (key_changed c.service e.caller e.call)) is.marked refl refl ∙ same_doubt mark kind (kept (key_changed c.service e.caller e.call)) c.doubt)
-        fault (λ service known at. may_read mark kind service known) is
+    unread mark kind s reads agrees law fault is = (leaves disks elements admits only_now e Reads mark slots mid.devices s (λ k. k) reads
+        (λ service known. ap (λ (x : FaultMark). (serve service e.caller e.call x).service.store) is.marked ∙ marked_counts service e.caller e.call mark (failing mark kind) keeps) agrees law refl
+        (same_device (elements.keys mid.devices) s.model s.device) fault (λ service known at. may_read mark kind service known)
+        (λ c known. doubted e keeps c mark (key_changed c.service e.caller e.call) (kept (key_changed c.service e.caller e.call)) is.marked refl refl ∙ same_doubt mark kind (kept (key_changed c.service e.caller e.call)) c.doubt) is).0

@@ -20,8 +20,7 @@ kept_forgotten cells slots m all id c i held d sound agrees within has lt holds 
     let k = key_of_slot slots m all id i agrees lt holds in
     let own = key_of_cell cells m id c d within has in
     let same : k.0 ≡ own.0 = same_Some k.0 own.0 (sym k.1 ∙ own.1) in
-    let volatile = opaque_is_volatile m id k.0 k.1 sound (ap is_opaque (sym k.2.attributes) ∙ opaque) in
-    false≢true (sym own.2 ∙ (ap (λ (x : Key). is_volatile x.attributes) (sym same) ∙ volatile))))
+    false≢true (sym own.2 ∙ (ap (λ (x : Key). is_volatile x.attributes) (sym same) ∙ (opaque_is_volatile m id k.0 k.1 sound (ap is_opaque (sym k.2.attributes) ∙ opaque))))))
 
 -- all slots of a destroyed key's identifier are one
 pub slot_forgotten : (t : Table) (id slot i : ℕ) (old new : Option HeldKeys) → IsLawful t → holds_key id (slot_at t.slots slot) ≡ true → holds_key id (slot_at t.slots i) ≡ true →

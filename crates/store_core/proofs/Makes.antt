@@ -110,7 +110,7 @@ module _ {D A C : Type 0} (disks : Disk.Ghosts D) (elements : Devices.Ghosts A) 
       ((doubt : Doubt) → (doubt ≡ [] → IsSure old.file.cells.slots.items) → cond (is_volatile recorded) doubt [] ≡ [] → IsSure new.file.cells.slots.items) →
       IsTurnTo Plain → StandsNew
   makes caller recorded bytes s first last may keeps making holdings same leads settles is =
-      turns disks elements admits only_now (IsMakingAt e caller recorded bytes) (IsTold (disks.contents disk) start (h ++ e ∷ [])) old new start opening h all less e Plain (created s.model caller recorded bytes).store s
+      (turns disks elements admits only_now (IsMakingAt e caller recorded bytes) (IsTold (disks.contents disk) start (h ++ e ∷ [])) old new start opening h all less e Plain (created s.model caller recorded bytes).store s
       (retold (disks.contents disk) (disks.contents new.file.cells.disk) start (h ++ e ∷ []) same.tells) (λ k. making (retold (disks.contents disk) (disks.contents new.file.cells.disk) start (h ++ e ∷ []) same.tells k)) (record {
         becomes = λ service known at. ap (λ (x : model.Store). (created x caller recorded bytes).store) at ∙ sym (plain_counts e keeps service is.marked ∙ known.leaves);
         sound = created_sound s.model caller recorded bytes first last s.sound may;
@@ -130,7 +130,7 @@ module _ {D A C : Type 0} (disks : Disk.Ghosts D) (elements : Devices.Ghosts A) 
         settles = λ c known at sure none. settles c.doubt sure (sym (doubt_is c known at) ∙ none);
         fault = tt;
         may = λ service known at. tt;
-      }) is
+      }) is).0
     where
       own : Key
       own = new_key s.model caller (new_id s.model caller recorded) recorded bytes
@@ -143,33 +143,3 @@ module _ {D A C : Type 0} (disks : Disk.Ghosts D) (elements : Devices.Ghosts A) 
           by_kind : (b : Bool) → option_map_or (λ (key : Stored). doubt_by Plain false key c.doubt) (cond b None (Some (stored own.number own.attributes own.bytes))) c.doubt ≡ cond b c.doubt []
           by_kind true = refl
           by_kind false = refl
-
-  -- none was made
-  pub unmade : (S : Service → Type 0) (mark : FaultMark) (s : HoldsOld) → is_destruction e.call ≡ false → (IsTold (disks.contents disk) start (h ++ e ∷ []) → S (replay start h)) → AreHoldings less → IsSameBut (counted s.model) →
-      ((service : Service) → S service → (outcome_of service e).service.store ≡ counted service.store) →
-      ((c : Course) → S c.service → s.model ≡ c.service.store → StandsForKeys disks disk old.file.cells.slots.items (durable_keys s.model) c.doubt →
-      Leads disks disk new.file.cells.disk old.file.cells.slots.items new.file.cells.slots.items (durable_keys s.model) c.doubt (durable_keys s.model) (doubt_after e c)) →
-      ((c : Course) → S c.service → s.model ≡ c.service.store → (c.doubt ≡ [] → IsSure old.file.cells.slots.items) → doubt_after e c ≡ [] → IsSure new.file.cells.slots.items) →
-      HasFault (is_some (disks.contents new.file.cells.disk)) (last_counts opening.counts h) e mark → ((service : Service) → S service → s.model ≡ service.store → MayBeMarked service e.caller e.call mark) →
-      IsTurnTo mark → StandsNew
-  unmade S mark s keeps before holdings same counts leads settles fault may is =
-      turns disks elements admits only_now S (IsTold (disks.contents disk) start (h ++ e ∷ [])) old new start opening h all less e mark (counted s.model) s
-      (retold (disks.contents disk) (disks.contents new.file.cells.disk) start (h ++ e ∷ []) same.tells) (λ k. before (retold (disks.contents disk) (disks.contents new.file.cells.disk) start (h ++ e ∷ []) same.tells k)) (record {
-        becomes = λ service known at. ap counted at ∙ sym (counts service known);
-        sound = counted_sound s.model s.sound;
-        counts = refl;
-        goes_on = same.goes_on;
-        places = same.places;
-        made = same.made;
-        live = same.live;
-        kept = same.kept;
-        slots = same.slots;
-        holdings = holdings;
-        directory = same.directory;
-        device = same.device;
-        tells = same.tells;
-        leads = leads;
-        settles = settles;
-        fault = fault;
-        may = may;
-      }) is

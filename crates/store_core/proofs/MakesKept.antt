@@ -13,7 +13,8 @@ use Rattle.store_core.proofs.Sure.{set_sure}
 use Rattle.store_core.proofs.Removing.{directory_settled}
 use Rattle.store_core.proofs.Added.{none_stated, few_kept, puts, is_new, named_as_stated, stated_here, local_fills, put_here, put_kept, persistent_kept, directory_placed, as_many_live, one_more_kept, made_same, device_same}
 use Rattle.store_core.proofs.Checked.{key_of_checked, kept_local, in_no_cell, in_no_slot, full_counts}
-use Rattle.store_core.proofs.Makes.{IsMakingAt, makes, unmade, marked_counts, doubted, changes_new, rose_since}
+use Rattle.store_core.proofs.Changing.{unmade}
+use Rattle.store_core.proofs.Makes.{IsMakingAt, makes, marked_counts, doubted, changes_new, rose_since}
 
 module _ {D A C : Type 0} {disks : Disk.Ghosts D} {elements : Devices.Ghosts A} {admits : Admission.Ghosts C}
     {old : Store D A C} {caller : ℕ} {a : Attributes} {source : Option ℕ} {start : Service} {opening : Opening} {h : List Entry} {all : List Pairs} {e : Entry}
@@ -147,21 +148,14 @@ module _ {D A C : Type 0} {disks : Disk.Ghosts D} {elements : Devices.Ghosts A} 
 
       pub fails_kept : (closed_first : Bool) → IsUnfiled closed_first → Agrees slots.table.slots m less → IsSince disks elements admits old (last_counts opening.counts h) →
           IsEntry disks elements admits with_none (Storage (Writing closed_first)) e → StandsFor disks elements admits with_none start opening (h ++ e ∷ []) less
-      fails_kept closed_first f agrees since is = unmade disks elements admits only_now old with_none start opening h all less e (IsMakingAt e caller a r.bytes) (Storage (Writing closed_first)) r.holds making.keeps is_making holdings (record {
-        goes_on = record { rules = refl; found = refl; ranked = refl };
-        places = refl;
-        made = r.holds.made;
-        live = r.holds.live;
-        kept = r.holds.kept;
-        slots = quiet slots.table.slots m (counted m) less agrees (record { keys = refl; given = omega arith });
-        directory = same_directory file.cells.slots.items m (directory_settled cells file.cells.slots.items m f.sized f.settled r.holds.directory);
-        device = same_device (elements.keys old.devices) m r.holds.device;
-        tells = f.tells;
-      }) (λ service known. marked_outcome service is.marked)
-          (λ c known at stands. subst (Leading (durable_keys m) c.doubt (durable_keys m)) (sym (doubt_is c known at)) (f.leads (durable_keys m) c.doubt stands))
-          (λ c known at sure none. absurd (in_doubt closed_first c.doubt f.unclosed sure (sym (doubt_is c known at) ∙ none)))
+      fails_kept closed_first f agrees since is =
+          (unmade disks elements admits only_now e (IsMakingAt e caller a r.bytes) (Storage (Writing closed_first)) slots old.devices r.holds (λ k. k) is_making (λ service known. marked_outcome service is.marked) agrees holdings refl
+          (same_device (elements.keys old.devices) m r.holds.device)
           (rose_since (last_counts opening.counts h).faults (disks.faults disk) e.faults since.faults_since (subst (Rose (disks.faults disk)) (sym is.disk_faults) f.rose))
-          (λ service known at. is_persistent_changed service known at) is
+          (λ service known at. is_persistent_changed service known at)
+          file (directory_settled cells file.cells.slots.items m f.sized f.settled r.holds.directory) f.tells
+          (λ c known at stands. subst (Leading (durable_keys m) c.doubt (durable_keys m)) (sym (doubt_is c known at)) (f.leads (durable_keys m) c.doubt stands))
+          (λ c known at sure none. absurd (in_doubt closed_first c.doubt f.unclosed sure (sym (doubt_is c known at) ∙ none))) is).0
         where
           marked_outcome : (service : Service) → e.mark ≡ Storage (Writing closed_first) → (outcome_of service e).service.store ≡ counted service.store
           marked_outcome service marked = ap (λ (x : FaultMark). (serve service e.caller e.call x).service.store) marked ∙ marked_counts service e.caller e.call (Storage (Writing closed_first)) tt making.keeps

@@ -13,7 +13,8 @@ use Rattle.store_core.proofs.Holding.{same_directory}
 use Rattle.store_core.proofs.Added.{none_here, puts, is_new, put_here, volatile_id, few_live, few_made, made_here, live_here, volatile_kept, as_many_kept, directory_same, device_same, device_gains, device_failed, local_fills, opaque_fills}
 use Rattle.store_core.proofs.Checked.{known_type, known_size, element_is, in_no_slot}
 use Rattle.store_core.proofs.Destroyed.{holds_some}
-use Rattle.store_core.proofs.Makes.{IsMakingAt, makes, unmade, marked_counts, doubted, changes_new, rose_since}
+use Rattle.store_core.proofs.Changing.{unmade}
+use Rattle.store_core.proofs.Makes.{IsMakingAt, makes, marked_counts, doubted, changes_new, rose_since}
 use Rattle.store_core.proofs.MakesKept.{ready_may, in_buffer}
 
 module _ {D A C : Type 0} {disks : Disk.Ghosts D} {elements : Devices.Ghosts A} {admits : Admission.Ghosts C}
@@ -184,22 +185,15 @@ module _ {D A C : Type 0} {disks : Disk.Ghosts D} {elements : Devices.Ghosts A} 
     pub fails_volatile : is_opaque a ≡ true → elements.locations devices ≡ elements.locations old.devices → ((elements.keys devices ≡ elements.keys old.devices) ⊎ (elements.keys devices ≡ option_map (with_held_key number held_key) (elements.keys old.devices))) →
         Rose (elements.faults old.devices) (elements.faults devices) → Agrees slots.table.slots m less → IsSince disks elements admits old (last_counts opening.counts h) →
         IsEntry disks elements admits with_failed Hardware e → StandsFor disks elements admits with_failed start opening (h ++ e ∷ []) less
-    fails_volatile opaque places changes rose agrees since is = unmade disks elements admits only_now old with_failed start opening h all less e (IsMakingAt e caller a r.bytes) Hardware r.holds making.keeps is_making holdings (record {
-      goes_on = record { rules = refl; found = refl; ranked = refl };
-      places = places;
-      made = r.holds.made;
-      live = r.holds.live;
-      kept = r.holds.kept;
-      slots = quiet slots.table.slots m (counted m) less agrees (record { keys = refl; given = omega arith });
-      directory = same_directory old.file.cells.slots.items m r.holds.directory;
-      device = device_failed m caller a r.bytes first last r.holds.sound may (elements.keys old.devices) (elements.keys devices)
-          (subst (λ n. (elements.keys devices ≡ elements.keys old.devices) ⊎ (elements.keys devices ≡ option_map (with_held_key n held_key) (elements.keys old.devices))) number_is changes) r.holds.device;
-      tells = refl;
-    }) (λ service known. ap (λ (x : FaultMark). (serve service e.caller e.call x).service.store) is.marked ∙ marked_counts service e.caller e.call Hardware tt making.keeps)
-        (λ c known at stands. subst (Leading c.doubt m) (sym (doubt_is c known at)) (stays disks disk old.file.cells.slots.items (durable_keys m) (durable_keys m) c.doubt (λ q. refl) stands))
-        (λ c known at sure none. sure (sym (doubt_is c known at) ∙ none))
+    fails_volatile opaque places changes rose agrees since is =
+        (unmade disks elements admits only_now e (IsMakingAt e caller a r.bytes) Hardware slots devices r.holds (λ k. k) is_making
+        (λ service known. ap (λ (x : FaultMark). (serve service e.caller e.call x).service.store) is.marked ∙ marked_counts service e.caller e.call Hardware tt making.keeps) agrees holdings places
+        (device_failed m caller a r.bytes first last r.holds.sound may (elements.keys old.devices) (elements.keys devices)
+        (subst (λ n. (elements.keys devices ≡ elements.keys old.devices) ⊎ (elements.keys devices ≡ option_map (with_held_key n held_key) (elements.keys old.devices))) number_is changes) r.holds.device)
         (rose_since (last_counts opening.counts h).device_faults (elements.faults old.devices) e.device_faults since.device_faults_since (subst (Rose (elements.faults old.devices)) (sym is.device_faults) rose))
-        (λ service known at. ap (λ b. b || asks_device service e.caller e.call) (ap is_opaque_key (changed service known at) ∙ opaque)) is
+        (λ service known at. ap (λ b. b || asks_device service e.caller e.call) (ap is_opaque_key (changed service known at) ∙ opaque)) old.file r.holds.directory refl
+        (λ c known at stands. subst (Leading c.doubt m) (sym (doubt_is c known at)) (stays disks disk old.file.cells.slots.items (durable_keys m) (durable_keys m) c.doubt (λ q. refl) stands))
+        (λ c known at sure none. sure (sym (doubt_is c known at) ∙ none)) is).0
       where
         changed : (service : Service) → IsMakingAt e caller a r.bytes service → m ≡ service.store → key_changed service e.caller e.call ≡ Some own
         changed service known at =

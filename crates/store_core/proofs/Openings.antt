@@ -114,8 +114,7 @@ module _ (slots : List cell.Slot) (image now : List ℕ) (are : AreTold slots im
       let c = has.0 in
       let l = listed slots image now are c has.1 has.2 in
       let k = keys.each c l.id l.number has.1 l.is in
-      let here = cell_in slots image now are c l.id l.number has.1 l.is in
-      let holds : HoldsKey k.0.attributes k.0.bytes (body c image) = subst (λ (b : List ℕ). HoldsKey k.0.attributes k.0.bytes b) here.same k.4 in
+      let holds : HoldsKey k.0.attributes k.0.bytes (body c image) = subst (λ (b : List ℕ). HoldsKey k.0.attributes k.0.bytes b) (cell_in slots image now are c l.id l.number has.1 l.is).same k.4 in
       (l.number, k.1 ∙ ap (λ (x : OpenedKey). Some x) (same_key k.0.attributes a k.0.bytes bytes (of_one_key k.0.attributes a k.0.bytes bytes (body c image) holds has.3)))
 
   in_image : (n : ℕ) (key : OpenedKey) → (p : IsPlaced (Some now) slots n key) → HoldsKey key.attributes key.bytes (body p.at image)

@@ -8,7 +8,8 @@ use Rattle.std.specs.FinMap as map
 use Rattle.store_model.specs.Store as model
 use Rattle.store_core.specs.Uses.{IsRefused}
 use Rattle.store_core.proofs.Histories.{told_before, quiet_leaves}
-use Rattle.store_core.proofs.Holding.{turned, ends_quiet}
+use Rattle.store_core.proofs.Holding.{turned}
+use Rattle.store_core.proofs.Changing.{ends_quiet}
 use Rattle.store_core.proofs.Loading.{reads_it}
 
 -- a search ended so
@@ -63,7 +64,7 @@ module _ {D A C : Type 0} (disks : Disk.Ghosts D) (elements : Devices.Ghosts A) 
       IsEntry disks elements admits (turned disks elements admits mid slots) Plain e →
       (after : StandsFor disks elements admits (turned disks elements admits mid slots) start opening (h ++ e ∷ []) more) × P after.holds.model
   ends_found slots more P is n holds agrees holdings turn =
-      let ends = ends_quiet disks elements admits only_now mid slots Plain start opening h all more e n agrees holdings tt (λ k. tt) (quiet_leaves disks elements admits mid start h e is.quiet) turn in
+      let ends = ends_quiet disks elements admits only_now e Plain slots n (λ k. k) agrees holdings tt (λ k. tt) (quiet_leaves disks elements admits mid start h e is.quiet) turn in
       (ends.0, subst P (sym ends.1) holds)
 
   -- a row refuses it
@@ -82,16 +83,16 @@ module _ {D A C : Type 0} (disks : Disk.Ghosts D) (elements : Devices.Ghosts A) 
       IsEntry disks elements admits new (mark_of (status_of why)) e → Ends (IsRefused rows id (status_of why))
   ends_unread rows Missing none same s is missing unread rose blind turn =
       let n = missing refl in
-      let ends = ends_quiet disks elements admits only_now mid mid.slots _ start opening h all all e n.0 n.0.slots n.0.holdings tt (λ k. tt) (quiet_leaves disks elements admits mid start h e is.quiet) turn in
+      let ends = ends_quiet disks elements admits only_now e _ mid.slots n.0 (λ k. k) n.0.slots n.0.holdings tt (λ k. tt) (quiet_leaves disks elements admits mid start h e is.quiet) turn in
       (ends.0, subst (λ (m : model.Store). rows (map.get m.keys id) ≡ Some InvalidHandle) (sym ends.1) (ap rows n.1 ∙ none))
   ends_unread rows Disk none same s is missing unread rose blind turn =
       let n = unread (λ e. cc) in
-      let ends = ends_quiet disks elements admits only_now mid mid.slots _ start opening h all all e n.0 n.0.slots n.0.holdings
+      let ends = ends_quiet disks elements admits only_now e _ mid.slots n.0 (λ k. k) n.0.slots n.0.holdings
       (subst (Rose _) (sym turn.disk_faults) (subst (λ (f : ℕ). Rose f (disks.faults mid.file.cells.disk)) (sym (ap (λ (c : FaultCounts). c.faults) s.counts)) (rose refl)))
       (λ k. read_persistent same is n k) (quiet_leaves disks elements admits mid start h e is.quiet) turn in
       (ends.0, subst (λ (m : model.Store). is_persistent_key (map.get m.keys id) ≡ true) (sym ends.1) n.1)
   ends_unread rows Corrupt none same s is missing unread rose blind turn =
       let n = unread (λ e. cc) in
-      let ends = ends_quiet disks elements admits only_now mid mid.slots _ start opening h all all e n.0 n.0.slots n.0.holdings (blind refl)
+      let ends = ends_quiet disks elements admits only_now e _ mid.slots n.0 (λ k. k) n.0.slots n.0.holdings (blind refl)
       (λ k. read_persistent same is n k) (quiet_leaves disks elements admits mid start h e is.quiet) turn in
       (ends.0, subst (λ (m : model.Store). is_persistent_key (map.get m.keys id) ≡ true) (sym ends.1) n.1)

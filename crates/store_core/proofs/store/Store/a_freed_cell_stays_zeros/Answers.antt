@@ -10,7 +10,6 @@ returns-clause-within g c = λ turns cell lt free stays.
 pub returns-clause-zeros : goal.returns-clause-zeros
 returns-clause-zeros g c = λ turns cell lt free stands tells stays.
     let first = c.args.self.now in
-    let f = stands.4.holds.file tells in
     left_zeros g.D.Disk g.A.Devices g.C.Admission cell lt first (last_store first turns)
-    (λ image left. shows_free _ _ _ _ free ((f.stands.each image (g.met.D.Disk.only_now first.file.cells.disk image left)).each cell lt))
+    (λ image left. shows_free _ _ _ _ free (((stands.4.holds.file tells).stands.each image (g.met.D.Disk.only_now first.file.cells.disk image left)).each cell lt))
     (stays_zeros g.D.Disk g.A.Devices g.C.Admission cell lt first turns free stays)

@@ -30,10 +30,9 @@ returns-in_default-find-clause-emptied g c = empties_none c.args.self.now.slots.
 pub returns-then-id-eq0-clause-missing : goal.returns-then-id-eq0-clause-missing
 returns-then-id-eq0-clause-missing g c = λ is_missing start opening h all e s is.
     let old = c.args.self.now in
-    let m = s.holds.model in
     brings g.D.Disk g.A.Devices g.C.Admission old old.file old.slots old.buffer start opening h all e
     (λ n. map.get n.keys c.args.id.0 ≡ None) (left_alone g.D.Disk g.A.Devices g.C.Admission old.file) s.holds s.holds.slots
-    (none_at_zero m c.args.id.0 s.holds.sound c.if-id-eq0.true)
+    (none_at_zero s.holds.model c.args.id.0 s.holds.sound c.if-id-eq0.true)
 
 pub returns-then-id-eq0-clause-emptied : goal.returns-then-id-eq0-clause-emptied
 returns-then-id-eq0-clause-emptied g c = empties_none c.args.self.now.slots.table.slots

@@ -80,11 +80,9 @@ returns-in-Err-decide_copy-clause-uncopied g c = λ start opening h all less e s
     let slot = slot_at mid.slots.table.slots c.in-Ok.slot in
     let brought = c.in-Ok.ensures.found start opening h all e s (λ k. reads_source e caller source stated by call (replay start h)) in
     let n = brought.0 in
-    let key = brought.1.0 in
     let there = brought.1.1 in
-    let has = brought.1.2 in
     let status = c.in-Err-decide_copy.status in
-    let decided = ap (λ (o : Option Key). recorded_copy n.model caller o stated) there ∙ sym (c.in-Err-decide_copy.ensures.value start opening h all e n source key there has) in (
+    let decided = ap (λ (o : Option Key). recorded_copy n.model caller o stated) there ∙ sym (c.in-Err-decide_copy.ensures.value start opening h all e n source brought.1.0 there brought.1.2) in (
       refuses g.D.Disk g.A.Devices g.C.Admission g.met.D.Disk.only_now mid c.give_up-in-Err-decide_copy.new.self start opening h all less e (keeps e caller source stated by call) status n (refused_here e caller source stated by call g.D.Disk g.A.Devices g.C.Admission mid start opening h all n status decided)
           (c.give_up-in-Err-decide_copy.ensures.takes n.model all less n.slots gains) law is,
       n.model,
@@ -94,12 +92,10 @@ returns-in-Err-decide_copy-clause-uncopied g c = λ start opening h all less e s
 
 pub returns-in-Err-clause-uncopied : goal.returns-in-Err-clause-uncopied
 returns-in-Err-clause-uncopied g c = λ start opening h all less e s gains law by call is.
-    let old = c.args.self.now in
-    let mid = c.bring.new.self in
     let source = c.args.source.0 in
     let b = c.in-Err.ensures in
     let reads = reads_source e c.args.caller source c.args.attributes.now by call (replay start h) in
-    uncopied g.D.Disk g.A.Devices g.C.Admission g.met.D.Disk.only_now old mid c.give_up.new.self start opening h all less e c.args.caller source c.args.attributes.now by call s (λ m agrees. c.give_up.ensures.takes m all less agrees gains) law c.in-Err.why
+    uncopied g.D.Disk g.A.Devices g.C.Admission g.met.D.Disk.only_now c.args.self.now c.bring.new.self c.give_up.new.self start opening h all less e c.args.caller source c.args.attributes.now by call s (λ m agrees. c.give_up.ensures.takes m all less agrees gains) law c.in-Err.why
     (λ why. b.missing why start opening h all e s (λ k. reads)) (λ why. b.unread why start opening h all e s (λ k. reads)) b.disk b.corrupt is
 
 pub give_up-requires : goal.give_up-requires
@@ -133,11 +129,10 @@ create-made-requires-clause-ready g c = λ κs lives.
     let there = brought.1.1 in
     let has = brought.1.2 in
     let a = c.in-Ok-decide_copy.recorded in
-    let decided = c.in-Ok-decide_copy.ensures.value own.0 own.1 own.2 own.3 e n source key there has in
     let buffer = c.fill_from.new.self in
     let full : buffer ≡ buffer_of (bytes_of slot.buffer) = c.fill_from.ensures ∙ ap buffer_of c.bytes.ensures.list in
     let r = subst (λ (o : Option ℕ). IsReady g.D.Disk g.A.Devices g.C.Admission (record mid { buffer = buffer }) caller a o own.0 own.1 own.2 own.3 e) (sym c.held_number-held.ensures)
-    (ready e caller source stated refl refl g.D.Disk g.A.Devices g.C.Admission mid own.0 own.1 own.2 own.3 n slot key there has a decided buffer full) in
+    (ready e caller source stated refl refl g.D.Disk g.A.Devices g.C.Admission mid own.0 own.1 own.2 own.3 n slot key there has a (c.in-Ok-decide_copy.ensures.value own.0 own.1 own.2 own.3 e n source key there has) buffer full) in
     (own.0, own.1, own.2, own.3, e, r, own.5)
 
 pub returns-in-Ok-made-clause-wipes : goal.returns-in-Ok-made-clause-wipes

@@ -43,28 +43,26 @@ returns-in-Ok-clause-made g c = λ start opening h all less e r since gains law 
     let id = c.add.ensures.id in
     let rest = c.add.ensures.rest in
     let empty : bytes_of c.wipe.new.self ≡ [] = ap (λ n. take n c.wipe.new.self.bytes) c.wipe.ensures.none in
-    let taken = is_taken r first last volatile (g.A.Devices.keys c.give.new.devices) c.as_slice.result.now c.as_slice.ensures.list c.in-Ok.ensures.given c.in-Ok.ensures.copied in
     let agrees = c.add.ensures.fills m after all less own r.holds.slots gains (subst (λ n. Puts m after n (Some own)) (sym id) (next_puts r first last volatile))
     (subst (λ n. SlotHasKey (full_slot (old.found + old.ranked) (identified a n) (bytes_of c.wipe.new.self)) own) (sym id)
     (subst (λ (b : List ℕ). SlotHasKey (full_slot (old.found + old.ranked) (identified a (first_volatile caller + slice_index old.made caller)) b) own) (sym empty) (opaque_takes r first last volatile c.requires.opaque)))
     (subst (λ n. IsThereOrNew m n own) (sym id) (next_new r first last volatile)) in (
       subst (λ (s : Store _ _ _). StandsFor g.D.Disk g.A.Devices g.C.Admission (ranked_on s) start opening (h ++ e ∷ []) less) (sym rest)
           (makes_volatile r first last volatile g.met.D.Disk.only_now c.give.new.devices c.add.new.self.slots c.wipe.new.self less making law c.add.ensures.sized c.in-Ok.ensures.locations
-          (taken_device r first last volatile g.met.D.Disk.only_now c.give.new.devices c.add.new.self.slots c.wipe.new.self less making law taken) agrees
+          (taken_device r first last volatile g.met.D.Disk.only_now c.give.new.devices c.add.new.self.slots c.wipe.new.self less making law (is_taken r first last volatile (g.A.Devices.keys c.give.new.devices) c.as_slice.result.now c.as_slice.ensures.list c.in-Ok.ensures.given c.in-Ok.ensures.copied)) agrees
           (subst (λ (s : Store _ _ _). IsEntry g.D.Disk g.A.Devices g.C.Admission (ranked_on s) Plain e) rest is)),
       id ∙ sym (next_is r first last volatile),
     )
 
 pub returns-in-Err-clause-unkept : goal.returns-in-Err-clause-unkept
 returns-in-Err-clause-unkept g c = λ start opening h all less e r since gains law making is.
-    let old = c.args.self.now in
     let a = c.args.recorded in
     let caller = c.args.caller in
     let first = c.requires.first in
     let last = c.requires.last in
     let volatile = c.requires.volatile in
     let ensures = c.in-Err.ensures in (
-      fails_volatile r first last volatile g.met.D.Disk.only_now c.give.new.devices c.give_up.new.self old.buffer less making law c.requires.opaque ensures.locations
+      fails_volatile r first last volatile g.met.D.Disk.only_now c.give.new.devices c.give_up.new.self c.args.self.now.buffer less making law c.requires.opaque ensures.locations
           (is_either r first last volatile (g.A.Devices.keys c.give.new.devices) c.as_slice.result.now c.as_slice.ensures.list ensures.given ensures.copied) ensures.cause.failed (c.give_up.ensures.takes r.holds.model all less r.holds.slots gains) since is,
       c.requires.opaque,
     )

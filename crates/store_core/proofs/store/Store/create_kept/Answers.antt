@@ -28,7 +28,6 @@ returns-in-Ok-clause-made g c = λ start opening h all less e r since gains law 
     let a = c.args.recorded in
     let caller = c.args.caller in
     let m = r.holds.model in
-    let after = (created m caller a r.bytes).store in
     let own = new_key m caller (new_id m caller a) a r.bytes in
     let ensures = c.in-Ok.ensures in
     let placed = ensures.placed in
@@ -45,7 +44,7 @@ returns-in-Ok-clause-made g c = λ start opening h all less e r since gains law 
             tells = ensures.tells;
             leads = λ keys keys' doubt stands put. ensures.made keys keys' doubt stands (subst (λ (b : List ℕ). IsPut keys keys' a.id.0 (Some (stored (old.found + old.ranked) a b))) (sym c.as_slice.ensures.list) put);
           })
-          (c.fill.ensures.takes m after all less own r.holds.slots gains
+          (c.fill.ensures.takes m ((created m caller a r.bytes).store) all less own r.holds.slots gains
           (stated_puts r first last lasts g.met.D.Disk.only_now c.make.new.self c.fill.new.self less making law)
           (subst (λ (b : List ℕ). SlotHasKey (full_slot (old.found + old.ranked) a b) own) (sym list)
           (stated_fills r first last lasts g.met.D.Disk.only_now c.make.new.self c.fill.new.self less making law))
@@ -78,8 +77,7 @@ returns-clause-unkept g c = rw c.in-Err-Disk.closed_first-is (λ start opening h
 
 pub returns-in-Ok-clause-zeros : goal.returns-in-Ok-clause-zeros
 returns-in-Ok-clause-zeros g c = λ keys doubt stands.
-    let key = stored (c.args.self.now.found + c.args.self.now.ranked) c.args.recorded c.as_slice.result.now in
-    (c.in-Ok.ensures.made keys (keys_put keys c.args.recorded.id.0 (Some key)) doubt stands (λ other. refl)).zeros
+    (c.in-Ok.ensures.made keys (keys_put keys c.args.recorded.id.0 (Some (stored (c.args.self.now.found + c.args.self.now.ranked) c.args.recorded c.as_slice.result.now))) doubt stands (λ other. refl)).zeros
 
 pub returns-clause-zeros : goal.returns-clause-zeros
 returns-clause-zeros g c = λ keys doubt stands. (c.in-Err-Disk.ensures.failed keys doubt stands).zeros

@@ -15,6 +15,5 @@ returns-in-Ok g c = record {
 pub returns-in-Err : goal.returns-in-Err
 returns-in-Err g c = record {
   value = λ start opening h all e s id key there has.
-      let same = sym has.attributes ∙ sym c.attributes-source.ensures in
-      sym (c.in-Err.ensures s.model c.args.caller key same);
+      sym (c.in-Err.ensures s.model c.args.caller key (sym has.attributes ∙ sym c.attributes-source.ensures));
 }

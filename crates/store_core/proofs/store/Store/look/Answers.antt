@@ -32,8 +32,7 @@ returns-in-Ok-check-clause-fits g c =
     let n = c.in-Ok.ensures.found at.0 at.1 at.2 at.3 (asks_for c.args.id.0) at.4 (λ t. refl) in
     let k = n.1 in
     let known = sym k.2.attributes ∙ sym c.attributes.ensures in
-    let free = (unless-ok _ _ _ (sym (c.in-Ok-check.ensures.refusal k.0 known))).0 in
-    let bytes = ap (λ (l : lent.Reading). bytes_of l.buffer) c.lend.ensures.lease ∙ (k.2.bytes ∙ has_bytes c.args.wanted k.0 free) in
+    let bytes = ap (λ (l : lent.Reading). bytes_of l.buffer) c.lend.ensures.lease ∙ (k.2.bytes ∙ has_bytes c.args.wanted k.0 ((unless-ok _ _ _ (sym (c.in-Ok-check.ensures.refusal k.0 known))).0)) in
     subst (FitsUse c.args.wanted) (sym bytes) (c.in-Ok-check.ensures.fits k.0.bytes
     (subst (λ (a : Attributes). IsTrue (permits_size a.key_type.0 (length k.0.bytes))) known (sized n.0.model c.args.id.0 k.0 (n.0.sound.keys c.args.id.0 k.0 k.1))))
 
@@ -60,8 +59,7 @@ pub returns-in-Err-check-clause-emptied : goal.returns-in-Err-check-clause-empti
 returns-in-Err-check-clause-emptied g c = λ fault.
     let at = c.requires.stands in
     let k = (c.in-Ok.ensures.found at.0 at.1 at.2 at.3 (asks_for c.args.id.0) at.4 (λ t. refl)).1 in
-    let refused = unless-err _ _ _ (sym (c.in-Err-check.ensures.refusal k.0 (sym k.2.attributes ∙ sym c.attributes.ensures))) in
-    absurd (fault (use_plain c.args.wanted (Some k.0) _ refused).0)
+    absurd (fault (use_plain c.args.wanted (Some k.0) _ (unless-err _ _ _ (sym (c.in-Err-check.ensures.refusal k.0 (sym k.2.attributes ∙ sym c.attributes.ensures))))).0)
 
 pub returns-in-Err-clause-emptied : goal.returns-in-Err-clause-emptied
 returns-in-Err-clause-emptied g c = λ fault. c.in-Err.ensures.emptied
@@ -70,8 +68,7 @@ pub returns-in-Err-check-clause-unmoved : goal.returns-in-Err-check-clause-unmov
 returns-in-Err-check-clause-unmoved g c = λ missing.
     let at = c.requires.stands in
     let k = (c.in-Ok.ensures.found at.0 at.1 at.2 at.3 (asks_for c.args.id.0) at.4 (λ t. refl)).1 in
-    let refused = unless-err _ _ _ (sym (c.in-Err-check.ensures.refusal k.0 (sym k.2.attributes ∙ sym c.attributes.ensures))) in
-    absurd (is_other c.args.wanted k.0 _ refused missing)
+    absurd (is_other c.args.wanted k.0 _ (unless-err _ _ _ (sym (c.in-Err-check.ensures.refusal k.0 (sym k.2.attributes ∙ sym c.attributes.ensures)))) missing)
 
 pub returns-in-Err-clause-unmoved : goal.returns-in-Err-clause-unmoved
 returns-in-Err-clause-unmoved g c = λ missing. c.in-Err.ensures.unmoved (is_missing_why c.in-Err.unread (sym c.status.ensures ∙ missing))

@@ -24,14 +24,11 @@ uncalled disks disk = record {
     always (Some image) f = f image
 
 is_new : (g : _) (c : goal.After-with_file g) →
-    let d = g.D.Disk in
-    let v = g.A.Devices in
-    IsNew d v g.C.Admission c.args.disk c.with_file.result
+    IsNew g.D.Disk g.A.Devices g.C.Admission c.args.disk c.with_file.result
 is_new g c =
-    let d = g.D.Disk in
     let e = c.with_file.ensures in
     record {
-      file = subst (λ (f : KeyFile _). IsOpened d c.args.disk f.cells.disk f.cells.slots.items) (sym e.file) c.in-Ok-open.ensures.opened;
+      file = subst (λ (f : KeyFile _). IsOpened g.D.Disk c.args.disk f.cells.disk f.cells.slots.items) (sym e.file) c.in-Ok-open.ensures.opened;
       slots = ap (λ (s : KeySlots). s.table.slots) e.slots ∙ c.in-Ok.ensures.slots;
       made = e.made;
       live = e.live;

@@ -22,6 +22,5 @@ returns-in-Err-check_room-clause-value g c = λ start opening h all e s.
     let n = c.args.bytes in
     let element = c.has_secure_element-element.result in
     let labels = g.C.Admission.labels c.args.self.now.rules in
-    let status = c.in-Err-check_room.status in
     sym (asks m caller a n element labels s.has_file (ap has_element s.locations_are ∙ sym c.has_secure_element-element.ensures) s.labels_are
-    ∙ by_room m caller a n element labels c.in-Ok.filled (sym c.in-Ok.ensures.value) c.in-Ok-apply.kept (Some status) (sym c.in-Ok-apply.ensures) (c.in-Err-check_room.ensures.refused start opening h all e s))
+    ∙ by_room m caller a n element labels c.in-Ok.filled (sym c.in-Ok.ensures.value) c.in-Ok-apply.kept (Some c.in-Err-check_room.status) (sym c.in-Ok-apply.ensures) (c.in-Err-check_room.ensures.refused start opening h all e s))

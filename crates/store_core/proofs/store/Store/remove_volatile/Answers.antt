@@ -60,10 +60,9 @@ pub returns-in-Ok-clause-destroyed : goal.returns-in-Ok-clause-destroyed
 returns-in-Ok-clause-destroyed g c = λ start opening h all e s call is.
     let old = c.args.self.now in
     let m = s.holds.model in
-    let slot = slot_at old.slots.table.slots c.args.slot in
     let k = slot_key old.file.cells.slots.items old.slots.table.slots m all c.args.id.0 c.args.slot s.holds.directory c.requires.absent s.holds.slots c.requires.within c.requires.there in
     let ensures = c.in-Ok.ensures in (
-      destroys_volatile g.D.Disk g.A.Devices g.C.Admission g.met.D.Disk.only_now old start opening h all e c.args.id.0 call c.forget-forgotten.new.devices c.destroy.new.self c.caller_of-caller.result Plain slot s k c.destroy.ensures.forgets c.caller_of-caller.ensures
+      destroys_volatile g.D.Disk g.A.Devices g.C.Admission g.met.D.Disk.only_now old start opening h all e c.args.id.0 call c.forget-forgotten.new.devices c.destroy.new.self c.caller_of-caller.result Plain (slot_at old.slots.table.slots c.args.slot) s k c.destroy.ensures.forgets c.caller_of-caller.ensures
           ensures.locations ensures.keys tt (λ service same. tt) is,
       rows_there c.args.id.0 (map.get m.keys c.args.id.0) k.key k.there,
     )
@@ -71,12 +70,10 @@ returns-in-Ok-clause-destroyed g c = λ start opening h all e s call is.
 pub returns-in-Err-clause-failed : goal.returns-in-Err-clause-failed
 returns-in-Err-clause-failed g c = λ start opening h all e s call is.
     let old = c.args.self.now in
-    let m = s.holds.model in
-    let slot = slot_at old.slots.table.slots c.args.slot in
-    let k = slot_key old.file.cells.slots.items old.slots.table.slots m all c.args.id.0 c.args.slot s.holds.directory c.requires.absent s.holds.slots c.requires.within c.requires.there in
+    let k = slot_key old.file.cells.slots.items old.slots.table.slots s.holds.model all c.args.id.0 c.args.slot s.holds.directory c.requires.absent s.holds.slots c.requires.within c.requires.there in
     let ensures = c.in-Err.ensures in
     let opaque = ap is_opaque_key k.there ∙ (ap is_opaque (sym k.has.attributes) ∙ ensures.opaque) in (
-      destroys_volatile g.D.Disk g.A.Devices g.C.Admission g.met.D.Disk.only_now old start opening h all e c.args.id.0 call c.forget-forgotten.new.devices c.destroy.new.self c.caller_of-caller.result Hardware slot s k c.destroy.ensures.forgets c.caller_of-caller.ensures
+      destroys_volatile g.D.Disk g.A.Devices g.C.Admission g.met.D.Disk.only_now old start opening h all e c.args.id.0 call c.forget-forgotten.new.devices c.destroy.new.self c.caller_of-caller.result Hardware (slot_at old.slots.table.slots c.args.slot) s k c.destroy.ensures.forgets c.caller_of-caller.ensures
           ensures.locations ensures.keys (subst (Rose (g.A.Devices.faults old.devices)) (sym is.device_faults) ensures.cause.failed)
           (λ service same. ap (λ b. b || asks_device service e.caller e.call) (ap is_opaque_key same ∙ opaque)) is,
       opaque,

@@ -1,7 +1,7 @@
 use Rattle.std.proofs.Common.{refl, subst, sym}
 use Rattle.store_core.proofs.Common.{HasNumber, false≢true}
 use Rattle.store_model.specs.Store as model
-use Rattle.store_core.proofs.Holding.{counts_on}
+use Rattle.store_core.proofs.Changing.{counts_on}
 use Rattle.store_core.proofs.store.Store.step_operation.Goals as goal
 
 pub is_alive-requires : goal.is_alive-requires
@@ -9,22 +9,18 @@ is_alive-requires g c = let s = c.requires.out.4.holds in record { store = s.mod
 
 pub returns-then-is_alive-clause-adds : goal.returns-then-is_alive-clause-adds
 returns-then-is_alive-clause-adds g c = λ start opening h all e s still is.
-    let old = c.args.self.now in
-    (counts_on g.D.Disk g.A.Devices g.C.Admission g.met.D.Disk.only_now old old.slots start opening h all e s s.holds.slots still is).0
+    (counts_on g.D.Disk g.A.Devices g.C.Admission g.met.D.Disk.only_now e s c.args.self.now.slots s.holds.slots still is).0
 
 pub returns-else-is_alive-clause-adds : goal.returns-else-is_alive-clause-adds
 returns-else-is_alive-clause-adds g c = λ start opening h all e s still is.
-    let old = c.args.self.now in
-    (counts_on g.D.Disk g.A.Devices g.C.Admission g.met.D.Disk.only_now old old.slots start opening h all e s s.holds.slots still is).0
+    (counts_on g.D.Disk g.A.Devices g.C.Admission g.met.D.Disk.only_now e s c.args.self.now.slots s.holds.slots still is).0
 
 pub returns-then-is_alive-clause-alive : goal.returns-then-is_alive-clause-alive
 returns-then-is_alive-clause-alive g c = λ start opening h all e s out still is.
-    let old = c.args.self.now in
-    let n = counts_on g.D.Disk g.A.Devices g.C.Admission g.met.D.Disk.only_now old old.slots start opening h all e s s.holds.slots still is in
+    let n = counts_on g.D.Disk g.A.Devices g.C.Admission g.met.D.Disk.only_now e s c.args.self.now.slots s.holds.slots still is in
     (n.0, subst (λ (m : model.Store). HasNumber m c.args.lease.now.creation) (sym n.1) ((c.if-is_alive.ensures s.holds.model all s.holds.slots out).0 refl))
 
 pub returns-else-is_alive-clause-gone : goal.returns-else-is_alive-clause-gone
 returns-else-is_alive-clause-gone g c = λ start opening h all e s out still is.
-    let old = c.args.self.now in
-    let n = counts_on g.D.Disk g.A.Devices g.C.Admission g.met.D.Disk.only_now old old.slots start opening h all e s s.holds.slots still is in
+    let n = counts_on g.D.Disk g.A.Devices g.C.Admission g.met.D.Disk.only_now e s c.args.self.now.slots s.holds.slots still is in
     (n.0, subst (λ (m : model.Store). HasNumber m c.args.lease.now.creation → ⊥) (sym n.1) (λ has. false≢true ((c.if-is_alive.ensures s.holds.model all s.holds.slots out).1 has)))
