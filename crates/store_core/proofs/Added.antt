@@ -1,7 +1,7 @@
 -- A store with one key more.
 use Rattle.std.proofs.Common.{ne_eqb, Bool, List, None, Option, Some, [], ap, arith, cond, eq-eqb, false, inl, inr, length, nat_lt, refl, set, slice_index, slice_set, subst, sym, true, ℕ, ◌*◌, ◌+◌, ◌/◌, ◌<◌, ◌==◌, ◌^◌, ◌∙◌, ◌≡◌, ◌≢◌, ◌≤◌, ◌⊎◌}
 use Rattle.store_core.proofs.Common.{Attributes, Free, HeldKey, HeldKeys, HoldsHandle, HoldsKeys, IsDirectory, IsFirstWithoutKey, IsPut, IsSomeKey, IsSoundStore, IsStated, IsThereOrNew, Key, Lacks, MayBeKept, Open, Puts, Shut, SlotHasKey, Unsure, bytes-buffer_of, cases_eq, cell_slot, count_persistent, counted, created, durable_keys, false≢true, full_slot, held_key, identified, is_opaque, is_open, is_volatile, is_volatile_of, kept, len_kept-insert, length-map, live_volatile, made_of, made_with, nat_cmp_total, nat_tests, new_id, new_is_free, new_key, of_volatile, put, room_of, settled_slot, settled_slots, stated_id, stored, unsigned_tied, with_held_key}
-use Rattle.std.proofs.lemmas.Bool.{eqb-true}
+use Rattle.std.proofs.lemmas.Bool.{le-ltb, lt-ltb, eqb-true}
 use Rattle.std.proofs.lemmas.Option.{none-some, same_Some}
 use Rattle.std.proofs.lemmas.List.{get_or-set_same, get_or-set_other}
 use Rattle.std.specs.Option.{option_map}
@@ -98,9 +98,7 @@ module _ (m : model.Store) (caller : ℕ) (recorded : Attributes) (bytes : List 
     made_here made same = made_after ∙ ap (λ (l : List ℕ). slice_set l caller (slice_index l caller + 1)) same
 
     is_high : nat_lt id 0x40000000 ≡ false
-    is_high = high id volatile_id where
-      high : (n : ℕ) → n ≡ 0x40000000 + caller * 2 ^ 20 + made_of m caller → nat_lt n 0x40000000 ≡ false
-      high n at = grind (arith, nat_tests)
+    is_high = le-ltb id 0x40000000 (let at = volatile_id in omega arith)
 
     pub as_many_kept : count_persistent after.keys ≡ count_persistent m.keys
     as_many_kept = counts (λ n. nat_lt n 0x40000000) ∙ ap (λ b. cond b (count_persistent m.keys + 1) (count_persistent m.keys)) is_high
@@ -129,9 +127,7 @@ module _ (m : model.Store) (caller : ℕ) (recorded : Attributes) (bytes : List 
     few_kept = (room_of m caller recorded false is may.room).1
 
     is_low : nat_lt id 0x40000000 ≡ true
-    is_low = low id (stated_here is) (low_here is).1 where
-      low : (n : ℕ) → n ≡ recorded.id.0 → recorded.id.0 ≤ 0x3fffffff → nat_lt n 0x40000000 ≡ true
-      low n at most = grind (arith, nat_tests)
+    is_low = lt-ltb id 0x40000000 (let at = stated_here is in let most = (low_here is).1 in omega arith)
 
     pub one_more_kept : count_persistent after.keys ≡ count_persistent m.keys + 1
     one_more_kept = counts (λ n. nat_lt n 0x40000000) ∙ ap (λ b. cond b (count_persistent m.keys + 1) (count_persistent m.keys)) is_low

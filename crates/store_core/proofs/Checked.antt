@@ -1,7 +1,7 @@
 -- What the table of creations has decided of a key that is to be made.
-use Rattle.std.proofs.Common.{ne_eqb, Bool, List, None, Ok, Some, ap, arith, bit_and, cond, eq-eqb, false, is_some, length, nat_lt, not, refl, subst, sym, true, ℕ, ◌%◌, ◌&&◌, ◌*◌, ◌/◌, ◌<◌, ◌==◌, ◌^◌, ◌||◌, ◌∙◌, ◌≡◌, ◌≢◌, ◌≤◌}
+use Rattle.std.proofs.Common.{⊎_elim, sym, ne_eqb, Bool, List, None, Ok, Some, ap, arith, bit_and, cond, eq-eqb, false, is_some, length, nat_lt, not, refl, subst, sym, true, ℕ, ◌%◌, ◌&&◌, ◌*◌, ◌/◌, ◌<◌, ◌==◌, ◌^◌, ◌||◌, ◌∙◌, ◌≡◌, ◌≢◌, ◌≤◌}
 use Rattle.store_core.proofs.Common.{Agrees, Attributes, Free, HasNoKey, InvalidArgument, IsDirectory, IsFull, IsKeyOf, IsSoundStore, IsStated, Key, NoKey, NotSupported, Open, Pairs, Shut, Slot, Unsure, attribute_rows, cell_slot, checked, count_persistent, creation_of_slot, false≢true, filled, first_row, full_within, has_id, has_secure_element, holds_key, implied_usage, is_key_type, is_lifetime, is_opaque, is_open, is_volatile, key_is_full, key_of_slot, location, low_id, nat_tests, none_holds, permits_size, persistence, ranked, size_rows, slot_at, stated_id, unless, unless-ok}
-use Rattle.std.proofs.lemmas.Bool.{and_from, eqb-true, false_from_ne_true, lt-ltb, not-false}
+use Rattle.std.proofs.lemmas.Bool.{and_from, and_parts, or_cases, eqb-true, false_from_ne_true, lt-ltb, not-false}
 use Rattle.std.proofs.lemmas.Option.{none-some}
 use Rattle.std.specs.declared.cmp.Ordering.TheVariants.{Equal}
 use Rattle.std.specs.FinMap as map
@@ -21,12 +21,11 @@ pub local_by : (a : Attributes) → a.lifetime.0 / 2 ^ 8 ≢ 1 → is_opaque a �
 local_by a is = ne_eqb (a.lifetime.0 / 2 ^ 8) 1 is
 
 kept_lifetime : (l : ℕ) (driver : Bool) → (l % 2 ^ 8 == 0) ≡ false → is_lifetime l driver ≡ true → l ≡ 1
-kept_lifetime l driver lasts is = at (l % 2 ^ 8 == 0) (l / 2 ^ 8 == 0 || (l / 2 ^ 8 == 1 && driver)) (l % 2 ^ 8 == 1) (l / 2 ^ 8 == 0) lasts is refl refl where
-  at : (a x b z : Bool) → a ≡ false → ((a && x) || (b && z)) ≡ true → (l % 2 ^ 8 == 1) ≡ b → (l / 2 ^ 8 == 0) ≡ z → l ≡ 1
-  at true x b z none is one zero = absurd (false≢true (sym none))
-  at false x true true none is one zero = let low = eqb-true (l % 2 ^ 8) 1 one in let high = eqb-true (l / 2 ^ 8) 0 zero in omega arith
-  at false x true false none is one zero = absurd (false≢true is)
-  at false x false z none is one zero = absurd (false≢true is)
+kept_lifetime l driver lasts is =
+    ⊎_elim
+    (λ first. absurd (false≢true (sym lasts ∙ (and_parts (l % 2 ^ 8 == 0) (l / 2 ^ 8 == 0 || (l / 2 ^ 8 == 1 && driver)) first).0)))
+    (λ second. let both = and_parts (l % 2 ^ 8 == 1) (l / 2 ^ 8 == 0) second in let low = eqb-true (l % 2 ^ 8) 1 both.0 in let high = eqb-true (l / 2 ^ 8) 0 both.1 in omega arith)
+    (or_cases (l % 2 ^ 8 == 0 && (l / 2 ^ 8 == 0 || (l / 2 ^ 8 == 1 && driver))) (l % 2 ^ 8 == 1 && l / 2 ^ 8 == 0) is)
 
 some_bytes : (key_type n : ℕ) → permits_size key_type n ≡ true → 1 ≤ n
 some_bytes key_type n is = grind (arith, nat_tests)

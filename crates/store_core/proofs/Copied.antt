@@ -78,9 +78,6 @@ pub record IsCopied (m : model.Store) (caller : ℕ) (key : Key) (recorded : Att
   pub key_type : recorded.key_type ≡ key.attributes.key_type
   pub opaque : is_opaque recorded ≡ is_opaque key.attributes
 
-same_number : (n k : ℕ) → not (n == k) ≡ false → n ≡ k
-same_number n k is = eqb-true n k (not-false (n == k) is)
-
 pub copies : (m : model.Store) (caller : ℕ) (key : Key) (stated recorded : Attributes) → recorded_copy m caller (Some key) stated ≡ Ok recorded → IsCopied m caller key recorded
 copies m caller key stated recorded e =
     let rows = source_rows key.attributes stated in
@@ -89,7 +86,7 @@ copies m caller key stated recorded e =
     let two = then_ok (ok_or (meet_of one.0.policy stated.policy) InvalidArgument) _ recorded one.1.1 in
     let copy = copy_attributes one.0 stated two.0 in
     let alike = recorded_alike m caller copy (length key.bytes) recorded two.1.1 in
-    let near : location stated.lifetime.0 ≡ location key.attributes.lifetime.0 = same_number (location stated.lifetime.0) (location key.attributes.lifetime.0) (none_holds rows 2 passed.0) in
+    let near : location stated.lifetime.0 ≡ location key.attributes.lifetime.0 = eqb-true (location stated.lifetime.0) (location key.attributes.lifetime.0) (not-false (location stated.lifetime.0 == location key.attributes.lifetime.0) (none_holds rows 2 passed.0)) in
     record {
       copy = copy;
       decided = two.1.1;

@@ -1,7 +1,7 @@
 -- The one-thread store and the devices without a key that is destroyed.
-use Rattle.std.proofs.Common.{ne_eqb, Bool, List, None, Ok, Option, Some, [], ap, arith, cond, eq-eqb, false, inl, inr, length, nat_lt, not, refl, slice_index, slice_set, sym, true, ℕ, ◌&&◌, ◌+◌, ◌-◌, ◌/◌, ◌<◌, ◌==◌, ◌^◌, ◌||◌, ◌∙◌, ◌≡◌, ◌≢◌, ◌≤◌}
+use Rattle.std.proofs.Common.{⊎_elim, ne_eqb, Bool, List, None, Ok, Option, Some, [], ap, arith, cond, eq-eqb, false, inl, inr, length, nat_lt, not, refl, slice_index, slice_set, sym, true, ℕ, ◌&&◌, ◌+◌, ◌-◌, ◌/◌, ◌<◌, ◌==◌, ◌^◌, ◌||◌, ◌∙◌, ◌≡◌, ◌≢◌, ◌≤◌}
 use Rattle.store_core.proofs.Common.{Attributes, Course, Destroy, Doubt, Entry, FaultMark, Free, Hardware, HasNoKey, HeldKey, HeldKeys, HoldsHandle, InvalidHandle, IsDirectory, IsSomeKey, IsSoundStore, IsVolatileOf, Key, KeyMap, OnStore, Open, Plain, Request, Service, Shut, Status, Storage, Stored, Unsure, Writing, as_stated, attribute_rows, cases_eq, cases_lt, checked, count_persistent, counted, creation_of_slot, decided, destroy_rows, destroyed, doubt_after, doubt_by, doubt_undestroyed, false≢true, filled, first_row, get_or_past, has_id, has_secure_element, held_key, identified, is_destruction, is_lifetime, is_opaque, is_volatile, is_volatile_of, kept, key_changed, live_volatile, location, low_id, nat_tests, none_holds, of_volatile, option_map_or, outcome_of, persistence, serve, unless-ok}
-use Rattle.std.proofs.lemmas.Bool.{eqb-true, le-ltb, lt-ltb, not-false, true_from_ne_false}
+use Rattle.std.proofs.lemmas.Bool.{and_parts, or_cases, eqb-true, le-ltb, lt-ltb, not-false, true_from_ne_false}
 use Rattle.std.proofs.lemmas.List.{get_or-set_same, get_or-set_other}
 use Rattle.std.specs.Prelude.{⊤}
 use Rattle.std.specs.FinMap as map
@@ -163,23 +163,13 @@ lifetime_stated a n driver is = not-false (is_lifetime a.lifetime.0 driver)
 
 -- only a secure element that is there has a key
 pub needs_element : (p l : ℕ) (driver : Bool) → (l == 1) ≡ true → ((p == 0 && (l == 0 || (l == 1 && driver))) || (p == 1 && l == 0)) ≡ true → driver ≡ true
-needs_element p l driver at is = go driver (p == 0) (p == 1) (l == 0) (l == 1) at (zero l at) is where
-  zero : (l : ℕ) → (l == 1) ≡ true → (l == 0) ≡ false
-  zero l at = grind (arith, nat_tests)
-
-  go : (d a b z o : Bool) → o ≡ true → z ≡ false → ((a && (z || (o && d))) || (b && z)) ≡ true → d ≡ true
-  go true a b z o one none is = refl
-  go false a b z o one none is = absurd (false≢true (sym (no a b) ∙ (ap (λ x. (a && (x || (o && false))) || (b && x)) (sym none) ∙ is)))
-    where
-      last : (o : Bool) → (o && false) ≡ false
-      last true = refl
-      last false = refl
-
-      no : (a b : Bool) → ((a && (false || (o && false))) || (b && false)) ≡ false
-      no true true = ap (λ x. x || false) (last o)
-      no true false = ap (λ x. x || false) (last o)
-      no false true = refl
-      no false false = refl
+needs_element p l driver at is =
+    ⊎_elim
+    (λ first. ⊎_elim (λ zero. absurd (clash zero)) (λ both. (and_parts (l == 1) driver both).1) (or_cases (l == 0) (l == 1 && driver) (and_parts (p == 0) (l == 0 || (l == 1 && driver)) first).1))
+    (λ second. absurd (clash (and_parts (p == 1) (l == 0) second).1))
+    (or_cases (p == 0 && (l == 0 || (l == 1 && driver))) (p == 1 && l == 0) is) where
+      clash : (l == 0) ≡ true → ⊥
+      clash zero = let one = eqb-true l 1 at in let none = eqb-true l 0 zero in omega arith
 
 pub element_there : (m : model.Store) (id : ℕ) (key : Key) → map.get m.keys id ≡ Some key → IsSoundStore m → is_opaque key.attributes ≡ true → has_secure_element m ≡ true
 element_there m id key there sound opaque =

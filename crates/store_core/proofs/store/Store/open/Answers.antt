@@ -85,23 +85,5 @@ returns-in-Ok-open-clause-saw_rules g c = (is_new g c).saw_rules
 pub returns-in-Err-open-clause-refused : goal.returns-in-Err-open-clause-refused
 returns-in-Err-open-clause-refused g c = c.in-Err-open.ensures.refused
 
-pub returns-in-Err : goal.returns-in-Err
-returns-in-Err g c = record {
-  stands = tt;
-  starts = tt;
-  keys = tt;
-  opened = tt;
-  later = tt;
-  size = tt;
-  clear = tt;
-  ranked = tt;
-  found = tt;
-  devices = tt;
-  rules = tt;
-  saw_file = tt;
-  saw_devices = tt;
-  saw_rules = tt;
-  saw_seed = tt;
-  refused = uncalled g.D.Disk c.args.disk;
-  returned = refl;
-}
+pub returns-in-Err-clause-refused : goal.returns-in-Err-clause-refused
+returns-in-Err-clause-refused g c = uncalled g.D.Disk c.args.disk
