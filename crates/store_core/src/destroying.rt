@@ -73,41 +73,22 @@ impl<D: Disk, A: Devices, C: Admission> Store<D, A, C> {
         ensures buffer { self.new.buffer ≡ self.old.buffer }
         ensures opened { self.new.opened ≡ self.old.opened }
     {
-        let result = self.remove(id);
-        self.ranked += 1;
-        result
-    }
-
-    // Destroys a key, in all but the count of the turn.
-    fn remove(&mut self, id: KeyId) -> Result<(), NotDestroyed>
-        requires stands { Stands D.Disk A.Devices C.Admission self.old }
-        requires size { D.size self.old.file.cells.disk ≡ 557120 }
-        ensures size { D.size self.new.file.cells.disk ≡ 557120 }
-        ensures destroyed { OnOk result (Destroys D.Disk A.Devices C.Admission self.old (ranked_on self.new) id.0 Plain (MayDestroy id.0)) }
-        ensures failed { IfErr result (λ why. DestroysUnsure D.Disk A.Devices C.Admission self.old (ranked_on self.new) id.0 why) }
-        ensures wipes { EndsOnly self.old.slots.table.slots self.new.slots.table.slots (λ i s. holds_key id.0 s ≡ true) }
-        ensures ended { EndsSlotsOf id.0 self.old.slots.table.slots self.new.slots.table.slots }
-        ensures forgotten { OnOk result (Forgets id.0 self.old.slots.table.slots (A.keys self.old.devices) (A.keys self.new.devices)) }
-        ensures unasked { NoKey id.0 self.old.slots.table.slots → self.new.devices ≡ self.old.devices }
-        ensures freed { OnOk result (FreesCellsOf id.0 self.old.file.cells.slots.items self.new.file.cells.slots.items) }
-        ensures zeros { FileStaysZeros D.Disk self.old.file self.new.file }
-        ensures later { NoFewerFaults D.faults A.faults self.old self.new }
-        ensures tells { StillTells (D.contents self.old.file.cells.disk) (D.contents self.new.file.cells.disk) }
-        ensures knows { is_some (A.keys self.new.devices) ≡ is_some (A.keys self.old.devices) }
-        ensures buffer { self.new.buffer ≡ self.old.buffer }
-        ensures ranked { self.new.ranked ≡ self.old.ranked }
-        ensures opened { self.new.opened ≡ self.old.opened }
-    {
         if id.0 == 0 {
+            self.ranked += 1;
             return Ok(());
         }
         if let Some(cell) = self.file.find(id.0) {
-            return self.remove_kept(id, cell);
+            let removed = self.remove_kept(id, cell);
+            self.ranked += 1;
+            return removed;
         }
         let Some(slot) = self.slots.find(id) else {
+            self.ranked += 1;
             return Err(NotDestroyed::Missing);
         };
-        self.remove_volatile(id, slot)
+        let removed = self.remove_volatile(id, slot);
+        self.ranked += 1;
+        removed
     }
 
     // Destroys the key of a cell.
