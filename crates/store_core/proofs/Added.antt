@@ -1,6 +1,6 @@
 -- A store with one key more.
-use Rattle.std.proofs.Common.{ne_eqb, Bool, List, None, Option, Some, [], ap, arith, cond, eq-eqb, false, inl, inr, length, nat_lt, refl, set, slice_index, slice_set, subst, sym, true, ℕ, ◌*◌, ◌+◌, ◌/◌, ◌<◌, ◌==◌, ◌^◌, ◌∙◌, ◌≡◌, ◌≢◌, ◌≤◌, ◌⊎◌}
-use Rattle.store_core.proofs.Common.{Attributes, Free, HeldKey, HeldKeys, HoldsHandle, HoldsKeys, IsDirectory, IsFirstWithoutKey, IsPut, IsSomeKey, IsSoundStore, IsStated, IsThereOrNew, Key, Lacks, MayBeKept, Open, Puts, Shut, SlotHasKey, Unsure, bytes-buffer_of, cases_eq, cell_slot, count_persistent, counted, created, durable_keys, false≢true, full_slot, held_key, identified, is_opaque, is_open, is_volatile, is_volatile_of, kept, len_kept-insert, length-map, live_volatile, made_of, made_with, nat_cmp_total, nat_tests, new_id, new_is_free, new_key, of_volatile, put, room_of, settled_slot, settled_slots, stated_id, stored, unsigned_tied, with_held_key}
+use Rattle.std.proofs.Common.{ne_eqb, Bool, List, None, Option, Some, [], ap, arith, cond, eq-eqb, false, inl, inr, length, nat_lt, refl, set, slice_index, slice_set, subst, sym, true, ℕ, ◌+◌, ◌/◌, ◌<◌, ◌==◌, ◌^◌, ◌∙◌, ◌≡◌, ◌≢◌, ◌≤◌, ◌⊎◌}
+use Rattle.store_core.proofs.Common.{Attributes, Free, HeldKey, HeldKeys, HoldsHandle, HoldsKeys, IsDirectory, IsFirstWithoutKey, IsPut, IsSomeKey, IsSoundStore, IsStated, IsThereOrNew, Key, Lacks, MayBeKept, Open, Puts, SlotHasKey, bytes-buffer_of, cases_eq, cell_slot, count_persistent, counted, created, durable_keys, false≢true, full_slot, held_key, identified, is_opaque, is_open, is_volatile, is_volatile_of, kept, len_kept-insert, length-map, live_volatile, made_of, made_with, nat_cmp_total, new_id, new_is_free, new_key, of_volatile, put, room_of, settled_slot, settled_slots, stated_id, stored, unsigned_tied, with_held_key}
 use Rattle.std.proofs.lemmas.Bool.{le-ltb, lt-ltb, eqb-true}
 use Rattle.std.proofs.lemmas.Option.{none-some, same_Some}
 use Rattle.std.proofs.lemmas.List.{get_or-set_same, get_or-set_other}

@@ -1,6 +1,6 @@
 -- What a creation records, as the store's counts have it.
-use Rattle.std.proofs.Common.{ne_eqb, Bool, Err, List, None, Ok, Option, Result, Some, ap, arith, cond, eq-eqb, false, inl, inr, is_some, nat_le, not, refl, true, ℕ, ◌%◌, ◌&&◌, ◌<◌, ◌==◌, ◌^◌, ◌||◌, ◌∙◌, ◌≡◌, ◌≢◌, ◌≤◌, ◌⊎◌}
-use Rattle.store_core.proofs.Common.{AlreadyExists, Attributes, InsufficientStorage, KeyLimit, Label, NotSupported, Status, after_rules, checked, count_persistent, first_row, has_secure_element, is_volatile, live_volatile, made_of, nat_tests, recorded_of, room_for_key_rows, unless}
+use Rattle.std.proofs.Common.{ne_eqb, Bool, Err, List, None, Ok, Option, Result, Some, ap, cond, eq-eqb, false, inl, inr, is_some, nat_le, not, refl, true, ℕ, ◌%◌, ◌&&◌, ◌<◌, ◌^◌, ◌||◌, ◌∙◌, ◌≡◌, ◌≢◌, ◌≤◌, ◌⊎◌}
+use Rattle.store_core.proofs.Common.{AlreadyExists, Attributes, InsufficientStorage, KeyLimit, Label, NotSupported, Status, after_rules, checked, count_persistent, first_row, has_secure_element, is_volatile, live_volatile, made_of, recorded_of, room_for_key_rows, unless}
 use Rattle.std.proofs.lemmas.Bool.{le-leb, lt-leb, or_right}
 use Rattle.std.specs.FinMap as map
 use Rattle.psa_status.specs.Rows.{◌>>=◌}

@@ -1,6 +1,6 @@
 -- Turns in which the secure element computes.
-use Rattle.std.proofs.Common.{inl, Bool, Err, IsErrOf, IsTrue, List, MatchOption, None, Ok, Option, Result, Some, [], ap, arith, cond, false, is_some, length, not, refl, subst, sym, true, ℕ, ◌&&◌, ◌++◌, ◌==◌, ◌||◌, ◌∙◌, ◌∷◌, ◌≡◌}
-use Rattle.store_core.proofs.Common.{AnswersCall, Attributes, Call, Entry, Failed, FaultCounts, FaultMark, Hardware, HasFault, HeldKey, HeldKeys, Holds, HoldsHandle, HoldsKeys, IsAnswered, IsComputed, IsEntry, IsOfElement, IsSomeKey, IsSoundStore, IsTold, IsVolatileKey, Key, MayBeMarked, OnStore, Opening, Pairs, Refused, Rose, Service, StandsFor, Status, Store, algorithm_asked, all_rows, attribute_rows, buffer_after, checked, class_asked, counted, element_reply, filled, first_row, first_row-back, first_row-front, fits_type, has_secure_element, held_key, identified, is_opaque, is_opaque_key, is_volatile, key_rows, last_counts, location, mark_computed, marked_reply, may_change_keys, model_call, nat_tests, none_holds, persistence, refusal, replay, reply_on, reply_to, reply_unless, rows_before, unless, unless-ok, usage_asked, use_rows}
+use Rattle.std.proofs.Common.{inl, Bool, Err, IsErrOf, IsTrue, List, MatchOption, None, Ok, Option, Result, Some, [], ap, cond, false, is_some, length, not, refl, subst, sym, true, ℕ, ◌&&◌, ◌++◌, ◌==◌, ◌||◌, ◌∙◌, ◌∷◌, ◌≡◌}
+use Rattle.store_core.proofs.Common.{AnswersCall, Attributes, Call, Entry, Failed, FaultCounts, FaultMark, Hardware, HasFault, HeldKey, HeldKeys, HoldsHandle, IsAnswered, IsComputed, IsEntry, IsOfElement, IsSomeKey, IsSoundStore, IsTold, IsVolatileKey, Key, MayBeMarked, OnStore, Opening, Pairs, Refused, Rose, Service, StandsFor, Status, Store, algorithm_asked, all_rows, attribute_rows, buffer_after, checked, class_asked, counted, element_reply, filled, first_row, first_row-back, first_row-front, fits_type, has_secure_element, held_key, identified, is_opaque, is_opaque_key, is_volatile, key_rows, last_counts, location, mark_computed, marked_reply, may_change_keys, model_call, none_holds, persistence, refusal, replay, reply_on, reply_to, reply_unless, rows_before, unless, unless-ok, usage_asked, use_rows}
 use Rattle.std.proofs.lemmas.Bool.{eqb-true, false_from_ne_true, not-false, true_from_ne_false}
 use Rattle.disk_face.specs.declared.Disk as Disk
 use Rattle.driver_dispatch.specs.declared.devices.Devices as Devices

@@ -1,6 +1,6 @@
 -- What a copy records of its source.
 use Rattle.std.proofs.Common.{Bool, Err, IfOk, List, Ok, Result, Some, [], ap, arith, cond, false, length, not, ok_or, refl, subst, sym, true, ℕ, ◌&&◌, ◌*◌, ◌/◌, ◌==◌, ◌∙◌, ◌∷◌, ◌≡◌}
-use Rattle.store_core.proofs.Common.{Attributes, InvalidArgument, IsSoundKey, Key, Label, Status, after_rules, after_verdict, as_stated, attribute_rows, checked, copy_attributes, false≢true, file_rows, filled, first_row, has_secure_element, identified, is_opaque, is_volatile, location, narrowed, none_holds, recorded_copy, recorded_of, room_for_key_rows, source_rows, then_ok, unless, unless-ok}
+use Rattle.store_core.proofs.Common.{Attributes, InvalidArgument, IsSoundKey, Key, Label, Status, after_rules, after_verdict, as_stated, attribute_rows, checked, copy_attributes, file_rows, filled, first_row, has_secure_element, identified, is_opaque, is_volatile, location, narrowed, none_holds, recorded_copy, recorded_of, room_for_key_rows, source_rows, then_ok, unless, unless-ok}
 use Rattle.std.proofs.lemmas.Bool.{eqb-true, not-false}
 use Rattle.policy_rules.specs.declared.narrowing.Label.TheVariants.{NoExport, NoCopy, NoEcb, Aes256}
 use Rattle.policy_rules.specs.declared.narrowing.Verdict.{Verdict}

@@ -1,6 +1,6 @@
 -- A ranked turn that destroys a key.
 use Rattle.std.proofs.Common.{List, None, Some, [], ap, arith, false, is_some, length, not, refl, set, slice_index, slice_set, subst, sym, true, ℕ, ◌++◌, ◌+◌, ◌-◌, ◌/◌, ◌<◌, ◌^◌, ◌∙◌, ◌∷◌, ◌≡◌, ◌⊎◌}
-use Rattle.store_core.proofs.Common.{Agrees, Destroy, Doubt, Entry, FaultMark, Free, HasFault, HasNoKey, IsDirectory, IsEntry, IsPut, IsSoundStore, IsSure, Key, KeyFile, KeySlots, Keys, Leads, MayBeMarked, OnStore, Opening, Pairs, Plain, Puts, Service, Slot, SlotHasKey, StandsFor, StandsForKeys, Store, Stored, cell_slot, counted, counted_sound, creation_of_slot, destroyed_sound, doubt_by, durable_keys, has_id, holds_key, is_persistent_key, is_volatile, kept, key_changed, key_of_slot, quiet, ranked_on, settled_slots, slot_at, stays, stored, without_key}
+use Rattle.store_core.proofs.Common.{Agrees, Destroy, Doubt, Entry, FaultMark, Free, HasFault, HasNoKey, IsDirectory, IsEntry, IsPut, IsSoundStore, IsSure, Key, KeyFile, KeySlots, Keys, Leads, MayBeMarked, OnStore, Opening, Pairs, Plain, Puts, Service, Slot, SlotHasKey, StandsFor, StandsForKeys, Store, Stored, cell_slot, creation_of_slot, destroyed_sound, doubt_by, durable_keys, has_id, holds_key, is_persistent_key, is_volatile, kept, key_changed, key_of_slot, ranked_on, settled_slots, slot_at, stays, stored, without_key}
 use Rattle.disk_face.specs.declared.Disk as Disk
 use Rattle.driver_dispatch.specs.declared.devices.Devices as Devices
 use Rattle.admission.specs.declared.rules.Admission as Admission
@@ -8,7 +8,7 @@ use Rattle.std.specs.Option.{option_map}
 use Rattle.std.specs.FinMap as map
 use Rattle.key_cells.specs.declared.slot.Slot as cell
 use Rattle.store_model.specs.Store as model
-use Rattle.store_core.proofs.Holding.{counts_of, same_directory, same_device}
+use Rattle.store_core.proofs.Holding.{counts_of, same_device}
 use Rattle.store_core.proofs.Histories.{told_before}
 use Rattle.store_core.proofs.Kept.{key_of_cell}
 use Rattle.store_core.proofs.Changing.{leaves, turns_standing}

@@ -1,6 +1,6 @@
 -- Turns that finish a creation: what was decided of it, and how the turn ends.
 use Rattle.std.proofs.Common.{Err, List, None, Ok, Option, Result, Some, [], ap, arith, false, inl, inr, is_some, refl, subst, sym, true, ℕ, ◌++◌, ◌+◌, ◌∙◌, ◌∷◌, ◌≡◌, ◌≤◌}
-use Rattle.store_core.proofs.Common.{Agrees, AreHoldings, Attributes, Buffer, Course, Doubt, Entry, FaultCounts, FaultMark, Hardware, HasFault, Holds, InvalidHandle, IsCreating, IsEntry, IsMaking, IsSince, IsTold, KeySlots, Leads, MayBeMarked, Opening, Pairs, Plain, Reading, RecordsStated, Service, StandsFor, Status, Storage, Store, Stored, Writing, counted, created_unless, doubt_after, doubt_by, durable_keys, is_destruction, kept, key_changed, last_counts, option_map_or, outcome_of, quiet, reads_persistent, recorded_of, replay, serve, stays}
+use Rattle.store_core.proofs.Common.{Agrees, AreHoldings, Attributes, Buffer, Doubt, Entry, FaultCounts, FaultMark, Hardware, HasFault, Holds, InvalidHandle, IsCreating, IsEntry, IsMaking, IsSince, IsTold, KeySlots, MayBeMarked, Opening, Pairs, Plain, Reading, RecordsStated, Service, StandsFor, Status, Storage, Store, Stored, Writing, created_unless, doubt_by, is_destruction, kept, key_changed, last_counts, option_map_or, reads_persistent, recorded_of, replay, serve}
 use Rattle.disk_face.specs.declared.Disk as Disk
 use Rattle.driver_dispatch.specs.declared.devices.Devices as Devices
 use Rattle.admission.specs.declared.rules.Admission as Admission
@@ -8,7 +8,7 @@ use Rattle.slot_table.specs.Lent as lent
 use Rattle.store_model.specs.Store as model
 use Rattle.store_model.specs.Prelude.{Corrupt}
 use Rattle.store_core.proofs.Histories.{told_before}
-use Rattle.store_core.proofs.Holding.{goes_on, left_alone, same_directory, same_device, counts_of}
+use Rattle.store_core.proofs.Holding.{goes_on, left_alone, same_device, counts_of}
 use Rattle.store_core.proofs.Changing.{leaves}
 use Rattle.store_core.proofs.Makes.{IsFailure, IsRefusedAt, marked_counts, plain_counts, doubted, changes_none}
 

@@ -1,5 +1,5 @@
 -- What a device has of the keys that are destroyed.
-use Rattle.std.proofs.Common.{Bool, List, Option, ap, cond, false, refl, subst, sym, true, ℕ, ◌<◌, ◌∙◌, ◌≡◌}
+use Rattle.std.proofs.Common.{List, Option, ap, cond, false, subst, sym, true, ℕ, ◌<◌, ◌∙◌, ◌≡◌}
 use Rattle.store_core.proofs.Common.{Agrees, HeldKeys, IsDirectory, IsForgotten, IsLawful, IsSoundStore, Key, Pairs, Slot, Table, cell_slot, false≢true, has_id, holds_key, is_opaque, is_volatile, key_of_slot, slot_at, without_key}
 use Rattle.std.proofs.lemmas.Bool.{false_from_ne_true}
 use Rattle.std.proofs.lemmas.Option.{same_Some}

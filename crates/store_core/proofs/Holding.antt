@@ -1,11 +1,11 @@
 -- A store that holds keys, after a turn that leaves all.
-use Rattle.std.proofs.Common.{List, Option, [], ap, arith, inl, inr, is_some, length, length-append, refl, subst, sym, true, ℕ, ⊎_elim, ◌++◌, ◌+◌, ◌∙◌, ◌∷◌, ◌≡◌, ◌≤◌, ◌⊎◌}
-use Rattle.store_core.proofs.Common.{Agrees, AreHoldings, Buffer, Doubt, Entry, FaultCounts, FaultMark, FitsCourse, FitsEitherKeys, FitsFrom, FitsKeys, HasFault, HeldKeys, Holds, HoldsKeys, IsCaused, IsDirectory, IsEntry, IsReading, IsSure, IsTold, KeepsPromise, KeyFile, KeySlots, Keys, Leads, LeavesKeys, MayBeMarked, Opening, Pairs, Plain, Service, StandsFor, StandsForKeys, Store, Within, after, allowed_go_on, counted, counted_sound, course_of, durable_keys, fits_least, fits_whole, go_on, last_counts, opened, outcome_of, promise_goes_on, quiet, replay, stands_fits, stays, within_none}
+use Rattle.std.proofs.Common.{List, Option, ap, arith, inl, inr, is_some, length, refl, subst, sym, true, ℕ, ⊎_elim, ◌+◌, ◌∙◌, ◌≡◌, ◌≤◌, ◌⊎◌}
+use Rattle.store_core.proofs.Common.{Agrees, AreHoldings, Buffer, Doubt, Entry, FaultCounts, FitsCourse, FitsEitherKeys, FitsFrom, FitsKeys, HeldKeys, Holds, HoldsKeys, IsCaused, IsDirectory, IsSure, IsTold, KeepsPromise, KeyFile, KeySlots, Keys, Leads, Opening, Pairs, Service, StandsFor, StandsForKeys, Store, Within, after, counted, course_of, durable_keys, fits_least, fits_whole, opened, stays}
 use Rattle.disk_face.specs.declared.Disk as Disk
 use Rattle.driver_dispatch.specs.declared.devices.Devices as Devices
 use Rattle.admission.specs.declared.rules.Admission as Admission
 use Rattle.store_model.specs.Store as model
-use Rattle.store_core.proofs.Histories.{replay_push, counts_push, told_before, course_service, course_doubt, doubt_stays}
+use Rattle.store_core.proofs.Histories.{course_service}
 
 -- calls after which a crash leaves the keys of now keep the promise of the same history
 pub promise_stays : (past since : ℕ → List ℕ → Type 0) (before now opening : ℕ) (start : Service) (h : List Entry) (P : List ℕ → Type 0) → KeepsPromise after FitsCourse (λ (e : Entry). e.done) past before opening (opened start) h →

@@ -1,6 +1,6 @@
 -- What the directory says of the keys, and keys as a file keeps them.
 use Rattle.std.proofs.Common.{Bool, List, None, Ok, Option, Some, [], ap, arith, bit_and, cond, eq-eqb, false, is_some, length, nat_le, not, refl, subst, sym, true, ℕ, ◌&&◌, ◌*◌, ◌<◌, ◌==◌, ◌∙◌, ◌∷◌, ◌≡◌, ◌≤◌}
-use Rattle.store_core.proofs.Common.{Attributes, Free, HasNoKey, InvalidArgument, InvalidHandle, IsDirectory, IsKeyOf, IsVolatileKey, Key, NotSupported, Open, Shut, Status, Unsure, as_stated, attribute_rows, cell_slot, checked, creation_of_slot, false≢true, filled, first_row, first_row-back, has_id, identified, implied_usage, is_lifetime, is_opaque, is_persistent_key, is_stated_id, is_volatile, nat_tests, persistence, size_rows, there_rows, unless, unless-ok}
+use Rattle.store_core.proofs.Common.{Attributes, HasNoKey, InvalidArgument, InvalidHandle, IsDirectory, IsKeyOf, IsVolatileKey, Key, NotSupported, Open, as_stated, attribute_rows, cell_slot, checked, creation_of_slot, false≢true, filled, first_row, first_row-back, has_id, identified, implied_usage, is_lifetime, is_opaque, is_persistent_key, is_stated_id, is_volatile, nat_tests, persistence, size_rows, there_rows, unless, unless-ok}
 use Rattle.std.proofs.lemmas.Bool.{and_parts, and_right, cond-false, eqb-true}
 use Rattle.std.specs.FinMap as map
 use Rattle.key_cells.specs.declared.slot.Slot as cell

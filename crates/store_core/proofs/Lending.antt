@@ -1,5 +1,5 @@
 -- The bytes of a key that is lent.
-use Rattle.std.proofs.Common.{Bool, IsTrue, None, Some, [], ap, cond, false, length, not, refl, subst, true, ℕ, ◌≡◌}
+use Rattle.std.proofs.Common.{Bool, IsTrue, None, Some, [], ap, cond, false, length, refl, subst, true, ℕ, ◌≡◌}
 use Rattle.store_core.proofs.Common.{Attributes, IsSoundKey, Key, KeyUse, as_stated, attribute_rows, filled, first_row, has_secure_element, identified, is_volatile, local, none_holds, permits_size, slot_bytes, unless-ok, use_refusal}
 use Rattle.std.proofs.lemmas.Bool.{not-false}
 use Rattle.store_model.specs.Store as model

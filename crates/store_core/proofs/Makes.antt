@@ -1,12 +1,11 @@
 -- A ranked turn that creates a key.
 use Rattle.std.proofs.Common.{Bool, List, None, Option, Some, [], ap, arith, cond, false, is_some, length, min, refl, slice_index, subst, sym, true, ℕ, ◌++◌, ◌+◌, ◌-◌, ◌^◌, ◌∙◌, ◌∷◌, ◌≡◌, ◌≤◌}
-use Rattle.store_core.proofs.Common.{Agrees, AreHoldings, Attributes, Course, Destroy, Doubt, Entry, FaultMark, Hardware, HasFault, Holds, HoldsKeys, IsDirectory, IsEntry, IsSure, IsTold, Key, Leads, MayBeKept, MayBeMarked, OnHandle, OnStore, Opening, Pairs, Plain, Reply, Request, Rose, Service, StandsFor, StandsForKeys, Status, Storage, Store, Stored, count_persistent, counted, counted_sound, created, created_sound, doubt_after, doubt_by, durable_keys, failed_step, false≢true, is_destruction, is_volatile, kept, key_answered, key_changed, last_counts, live_volatile, new_id, new_key, option_map_or, outcome_of, plain_step, refusal, replay, serve, stored}
+use Rattle.store_core.proofs.Common.{Agrees, AreHoldings, Attributes, Course, Destroy, Doubt, Entry, FaultMark, Holds, HoldsKeys, IsDirectory, IsEntry, IsSure, IsTold, Key, Leads, MayBeKept, OnHandle, OnStore, Opening, Pairs, Plain, Reply, Request, Rose, Service, StandsFor, StandsForKeys, Status, Store, Stored, count_persistent, counted, created, created_sound, doubt_after, doubt_by, durable_keys, failed_step, false≢true, is_destruction, is_volatile, kept, key_answered, key_changed, live_volatile, new_id, new_key, option_map_or, outcome_of, plain_step, refusal, replay, serve, stored}
 use Rattle.disk_face.specs.declared.Disk as Disk
 use Rattle.driver_dispatch.specs.declared.devices.Devices as Devices
 use Rattle.admission.specs.declared.rules.Admission as Admission
 use Rattle.std.specs.FinMap as map
 use Rattle.store_model.specs.Store as model
-use Rattle.store_model.specs.Prelude.{Corrupt}
 use Rattle.store_core.proofs.Changing.{IsRankedOn, retold, turns}
 use Rattle.store_core.proofs.Added.{put_here}
 

@@ -1,6 +1,6 @@
 -- A ranked turn that creates a key of the file.
 use Rattle.std.proofs.Common.{Bool, List, None, Option, Some, [], ap, arith, cond, false, is_some, length, not, refl, set, subst, sym, true, ℕ, ◌++◌, ◌+◌, ◌<◌, ◌^◌, ◌∙◌, ◌∷◌, ◌≡◌, ◌≤◌}
-use Rattle.store_core.proofs.Common.{Agrees, AreHoldings, Attributes, Course, Doubt, Entry, FaultMark, HasNoKey, IsEntry, IsFirstWithoutKey, IsFull, IsKeyOf, IsMaking, IsMaterial, IsPut, IsReady, IsSince, IsSure, IsThereOrNew, Key, KeyFile, KeySlots, Keys, Leads, MayBeKept, NoKey, Open, Opening, Pairs, Plain, Puts, Rose, Service, SlotHasKey, StandsFor, StandsForKeys, Storage, Store, Stored, Told, Writing, bytes_of, counted, created, doubt_after, doubt_by, doubt_unmade, durable_keys, false≢true, full_slot, has_secure_element, is_opaque, is_persistent_key, is_volatile, kept, key_changed, last_counts, new_id, new_key, outcome_of, quiet, recorded, replay, serve, settled_slots, stored}
+use Rattle.store_core.proofs.Common.{Agrees, AreHoldings, Attributes, Course, Doubt, Entry, FaultMark, HasNoKey, IsEntry, IsFirstWithoutKey, IsFull, IsKeyOf, IsMaking, IsMaterial, IsPut, IsReady, IsSince, IsSure, IsThereOrNew, Key, KeyFile, KeySlots, Keys, Leads, MayBeKept, NoKey, Open, Opening, Pairs, Plain, Puts, Rose, Service, SlotHasKey, StandsFor, StandsForKeys, Storage, Store, Stored, Told, Writing, bytes_of, counted, created, doubt_after, doubt_by, doubt_unmade, durable_keys, false≢true, full_slot, has_secure_element, is_opaque, is_persistent_key, is_volatile, kept, key_changed, last_counts, new_id, new_key, outcome_of, recorded, replay, serve, settled_slots, stored}
 use Rattle.disk_face.specs.declared.Disk as Disk
 use Rattle.driver_dispatch.specs.declared.devices.Devices as Devices
 use Rattle.admission.specs.declared.rules.Admission as Admission
@@ -8,7 +8,7 @@ use Rattle.std.specs.FinMap as map
 use Rattle.key_cells.specs.declared.slot.Slot as cell
 use Rattle.persistent_keys.specs.declared.file.MakeFault.TheVariants.{Disk}
 use Rattle.store_model.specs.Store as model
-use Rattle.store_core.proofs.Holding.{same_directory, same_device}
+use Rattle.store_core.proofs.Holding.{same_device}
 use Rattle.store_core.proofs.Sure.{set_sure}
 use Rattle.store_core.proofs.Removing.{directory_settled}
 use Rattle.store_core.proofs.Added.{none_stated, few_kept, puts, is_new, named_as_stated, stated_here, local_fills, put_here, put_kept, persistent_kept, directory_placed, as_many_live, one_more_kept, made_same, device_same}

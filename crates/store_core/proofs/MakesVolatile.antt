@@ -1,6 +1,6 @@
 -- A ranked turn that creates a volatile key, in memory or in the device.
 use Rattle.std.proofs.Common.{IfSome, List, None, Option, Some, [], ap, arith, cond, false, length, refl, slice_index, slice_set, subst, sym, true, ℕ, ◌++◌, ◌+◌, ◌<◌, ◌^◌, ◌||◌, ◌∙◌, ◌∷◌, ◌≡◌, ◌≤◌, ◌⊎◌}
-use Rattle.store_core.proofs.Common.{Agrees, AreHoldings, Attributes, Buffer, Course, Doubt, Entry, FaultMark, Hardware, HeldKey, HeldKeys, HoldsHandle, HoldsKeys, IsEntry, IsMaking, IsMaterial, IsReady, IsSince, IsSomeKey, IsThereOrNew, Key, KeySlots, Lacks, Leads, MayBeKept, NoKey, Opening, Pairs, Plain, Puts, Rose, Service, SlotHasKey, StandsFor, Store, Told, asks_device, bytes_of, counted, created, doubt_after, durable_keys, first_volatile, full_slot, has_element, has_secure_element, identified, is_key_type, is_opaque, is_opaque_key, is_volatile, key_changed, last_counts, new_id, new_key, permits_size, quiet, replay, serve, stays, stored, with_copy, with_held_key, with_key_or_same}
+use Rattle.store_core.proofs.Common.{Agrees, AreHoldings, Attributes, Buffer, Course, Doubt, Entry, FaultMark, Hardware, HeldKey, HeldKeys, HoldsHandle, HoldsKeys, IsEntry, IsMaking, IsMaterial, IsReady, IsSince, IsSomeKey, IsThereOrNew, Key, KeySlots, Lacks, Leads, MayBeKept, NoKey, Opening, Pairs, Plain, Puts, Rose, Service, SlotHasKey, StandsFor, Store, Told, asks_device, bytes_of, created, doubt_after, durable_keys, first_volatile, full_slot, has_element, has_secure_element, identified, is_key_type, is_opaque, is_opaque_key, is_volatile, key_changed, last_counts, new_id, new_key, permits_size, replay, serve, stays, stored, with_copy, with_held_key, with_key_or_same}
 use Rattle.disk_face.specs.declared.Disk as Disk
 use Rattle.driver_dispatch.specs.declared.devices.Devices as Devices
 use Rattle.admission.specs.declared.rules.Admission as Admission
@@ -9,7 +9,6 @@ use Rattle.std.specs.Option.{option_map}
 use Rattle.std.specs.FinMap as map
 use Rattle.driver_dispatch.specs.Held as held_keys
 use Rattle.store_model.specs.Store as model
-use Rattle.store_core.proofs.Holding.{same_directory}
 use Rattle.store_core.proofs.Added.{none_here, puts, is_new, put_here, volatile_id, few_live, few_made, made_here, live_here, volatile_kept, as_many_kept, directory_same, device_same, device_gains, device_failed, local_fills, opaque_fills}
 use Rattle.store_core.proofs.Checked.{known_type, known_size, element_is, in_no_slot}
 use Rattle.store_core.proofs.Destroyed.{holds_some}

@@ -1,6 +1,6 @@
 -- A store of which one key is removed.
 use Rattle.std.proofs.Common.{ne_eqb, Bool, List, None, Option, Some, ap, arith, cond, eq-eqb, false, inl, inr, length, refl, set, subst, sym, true, ℕ, ◌+◌, ◌<◌, ◌==◌, ◌∙◌, ◌≡◌, ◌≢◌, ◌⊎◌}
-use Rattle.store_core.proofs.Common.{Free, HeldKey, HeldKeys, HoldsHandle, HoldsKeys, IsDirectory, IsPut, IsSomeKey, IsSoundStore, Key, KeyMap, Lacks, Open, Puts, Shut, Stored, Unsure, cases_eq, cases_lt, cell_slot, destroyed, durable_keys, false≢true, get_or-map, get_or_past, held_key, is_volatile, kept, left, len_kept-insert, length-map, nat_cmp_total, nat_tests, settled_slot, settled_slots, stored, taken, unsigned_tied, without_key}
+use Rattle.store_core.proofs.Common.{Free, HeldKey, HeldKeys, HoldsHandle, HoldsKeys, IsDirectory, IsPut, IsSomeKey, IsSoundStore, Key, KeyMap, Lacks, Open, Puts, Stored, cases_eq, cases_lt, cell_slot, destroyed, durable_keys, false≢true, get_or-map, get_or_past, held_key, is_volatile, kept, left, len_kept-insert, length-map, nat_cmp_total, settled_slot, settled_slots, stored, taken, unsigned_tied, without_key}
 use Rattle.std.proofs.lemmas.Bool.{eqb-true}
 use Rattle.std.proofs.lemmas.Option.{none-some, same_Some}
 use Rattle.std.proofs.lemmas.List.{get_or-set_same, get_or-set_other}

@@ -1,6 +1,6 @@
 -- A store that was opened stands for a start, before any call.
 use Rattle.std.proofs.Common.{Bool, IfSome, List, None, Option, Some, [], ap, arith, count_by, false, is_some, length, nat_lt, refl, replicate, slice_get, slice_index, slice_index_or, subst, suc, sym, true, zero, ℕ, ◌+◌, ◌↔◌, ◌∙◌, ◌≡◌, ◌≤◌}
-use Rattle.store_core.proofs.Common.{Agrees, AreFound, AreHoldings, AreOpened, Attributes, HasKey, HasOneEach, HeldKeys, HoldsKeys, IsDirectory, IsHolding, IsNumbered, IsOpened, IsRefused, IsStart, IsVolatileKey, KeepsKeys, Key, KeyFile, Keys, Lacks, Memory, Open, OpenedKey, Opening, Pairs, Service, Settings, Sound, StandsFor, StandsForContents, StandsForKeys, Store, cell_slot, count_by-le-length, durable_keys, empty_ones, empty_slot, false≢true, for_told, found_in, is_opaque, is_open, is_volatile, is_volatile_of, length-replicate, nat_tests, of_volatile, opening_of, service_start, some_weaker, stands_fits, start_of}
+use Rattle.store_core.proofs.Common.{Agrees, AreFound, AreHoldings, AreOpened, Attributes, HasKey, HasOneEach, HeldKeys, HoldsKeys, IsDirectory, IsHolding, IsNumbered, IsOpened, IsRefused, IsStart, IsVolatileKey, KeepsKeys, Key, KeyFile, Keys, Lacks, Memory, Open, OpenedKey, Opening, Pairs, Service, Settings, Sound, StandsFor, StandsForContents, StandsForKeys, Store, cell_slot, count_by-le-length, durable_keys, empty_ones, empty_slot, false≢true, for_told, found_in, is_opaque, is_open, is_volatile, is_volatile_of, length-replicate, of_volatile, opening_of, service_start, some_weaker, stands_fits, start_of}
 use Rattle.std.proofs.lemmas.Bool.{lt-ltb}
 use Rattle.disk_face.specs.declared.Disk as Disk
 use Rattle.driver_dispatch.specs.declared.devices.Devices as Devices

@@ -1,6 +1,6 @@
 -- Cells that stay zeros over the calls of a turn.
-use Rattle.std.proofs.Common.{List, None, Option, Some, [], ap, arith, cond, length, refl, set, subst, sym, true, ℕ, ⊎_elim, ◌<◌, ◌==◌, ◌∙◌, ◌∷◌, ◌≡◌}
-use Rattle.store_core.proofs.Common.{FileStaysZeros, Free, HasZeros, IsDirectory, Key, KeyFile, Keys, LeavesZeros, Open, Shut, StaysFree, Store, Stored, Unsure, Within, cell_slot, false≢true, has_id, last_store, length-map, settled_slot, settled_slots, stays, within_both, within_none}
+use Rattle.std.proofs.Common.{List, None, Option, [], ap, arith, cond, length, refl, set, subst, sym, true, ℕ, ⊎_elim, ◌<◌, ◌==◌, ◌∙◌, ◌∷◌, ◌≡◌}
+use Rattle.store_core.proofs.Common.{FileStaysZeros, Free, HasZeros, IsDirectory, KeyFile, Keys, LeavesZeros, Open, StaysFree, Store, Stored, Within, cell_slot, false≢true, has_id, last_store, length-map, settled_slot, settled_slots, stays, within_both, within_none}
 use Rattle.std.proofs.lemmas.Option.{none-some}
 use Rattle.disk_face.specs.declared.Disk as Disk
 use Rattle.driver_dispatch.specs.declared.devices.Devices as Devices
