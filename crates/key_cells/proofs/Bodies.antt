@@ -1,8 +1,6 @@
 -- What the body of a key's cell has in its parts.
-use Rattle.std.proofs.Common.{List, None, Ok, Option, Some, ap, arith, drop, length, refl, replicate, subst, sym, take, ℕ, ⊎_elim, ◌*◌, ◌++◌, ◌+◌, ◌-◌, ◌<◌, ◌^◌, ◌∙◌, ◌≡◌, ◌≤◌}
-use Rattle.key_cells.proofs.Common.{Attributes, FoundKey, HoldsKey, HoldsNoKey, IsKept, IsKeyOf, IsLength, IsNoLength, IsNoRecord, IsPersistent, IsRecord, body_of, drop-replicate, drop-take, front_of, length-replicate, spelling, written}
+use Rattle.key_cells.proofs.Common.{Attributes, FoundKey, HoldsKey, HoldsNoKey, IsKept, IsKeyOf, IsLength, IsNoLength, IsNoRecord, IsPersistent, IsRecord, List, None, Ok, Option, Some, ap, arith, body_of, drop, drop-drop, drop-replicate, drop-take, drop_at, front_of, length, length-drop, length-replicate, length-take, refl, replicate, spelling, subst, sym, take, take-append-drop, take_all, take_at, written, ℕ, ⊎_elim, ◌*◌, ◌++◌, ◌+◌, ◌-◌, ◌<◌, ◌^◌, ◌∙◌, ◌≡◌, ◌≤◌}
 use Rattle.std.specs.Int.{w16, w32, from_le_bytes}
-use Rattle.std.proofs.lemmas.List.{take_at, drop_at, drop-drop, take-append-drop, length-drop, length-take, take-append-drop, take_all}
 use Rattle.std.proofs.lemmas.Nat.{from_le_bytes-to_le_bytes_2, from_le_bytes-to_le_bytes_4}
 use Rattle.psa_status.specs.declared.Status.{Status}
 use Rattle.psa_status.specs.Rows.{first_row, unless}

@@ -1,11 +1,10 @@
 -- How cells are made zeros that are left over from a crash.
-use Rattle.std.proofs.Common.{List, None, Option, Some, ap, arith, drop, get_or, is_some, length, refl, replicate, set, subst, sym, take, ℕ, ⊎_elim, ◌+◌, ◌<◌, ◌∙◌, ◌≡◌}
-use Rattle.key_cells.proofs.Common.{Absent, Clearing, ClearsOn, Content, Doubtful, Elapses, Follows, Free, HoldsAround, HoldsWritten, IsSettled, LeavesWhatIsRead, Open, Present, Shows, Shut, Slot, Sound, SoundBy, Spares, StandsForContents, Torn, Unsure, Within, body, cases_eq, cell_slot, cells, closed, gate, get_or-map, length-map, part, place, settled_slot, settled_slots, within_both, within_one, written, written_torn, zeros}
+use Rattle.key_cells.proofs.Common.{Absent, Clearing, ClearsOn, Content, Doubtful, Elapses, Follows, Free, HoldsAround, HoldsWritten, IsSettled, LeavesWhatIsRead, List, None, Open, Option, Present, Shows, Shut, Slot, Some, Sound, SoundBy, Spares, StandsForContents, Torn, Unsure, Within, ap, arith, body, cases_eq, cell_slot, cells, closed, drop, ext_get_or, gate, get_or, get_or-map, get_or-set_other, get_or-set_same, is_some, length, length-map, part, place, refl, replicate, set, settled_slot, settled_slots, subst, sym, take, within_both, within_one, written, written_torn, zeros, ℕ, ⊎_elim, ◌+◌, ◌<◌, ◌∙◌, ◌≡◌}
 use Rattle.disk_face.specs.declared.Disk as Disk
-use Rattle.std.proofs.lemmas.List.{get_or-set_same, get_or-set_other, ext_get_or}
 use Rattle.key_cells.proofs.Parts.{part_written}
 use Rattle.key_cells.proofs.Images.{sound_after, same_all, same_slots}
 use Rattle.key_cells.proofs.Steps.{body_torn, body_whole, zeros_are}
+use Rattle.key_cells.proofs.Moves.{settled_alike}
 use Rattle.key_cells.proofs.CellsRead.{gate_read, body_read}
 
 spares_shut : (content : Content) (g b b' : List ℕ) → Spares Shut content g b → Spares Shut content g b'
@@ -115,14 +114,11 @@ goes_on disks a b c first slots slots' contents so_far step =
 
 -- once each cell was looked at, and that is made sure of, the directory stands
 is_sure : (slot : Slot) (content : Content) (g b : List ℕ) → slot ≡ settled_slot slot → Spares slot content g b → Shows slot content g b
-is_sure Free Absent g b same s = s
-is_sure Free (Present bytes) g b same s = s
 is_sure Free (Doubtful bytes) g b same s = absurd s
-is_sure (Open id creation) Absent g b same s = s
-is_sure (Open id creation) (Present bytes) g b same s = s
+is_sure Free content g b same s = s
 is_sure (Open id creation) (Doubtful bytes) g b same s = s
-is_sure Shut content g b same s = cc
-is_sure Unsure content g b same s = cc
+is_sure (Open id creation) content g b same s = s
+is_sure slot content g b same s = cc
 
 pub sure_sound : (slots : List Slot) (contents : List Content) (image : List ℕ) → IsSettled cells slots → SoundBy Spares slots contents image → Sound slots contents image
 sure_sound slots contents image settled s = record {
@@ -132,10 +128,7 @@ sure_sound slots contents image settled s = record {
 }
 
 pub settled_twice : (slot : Slot) → settled_slot slot ≡ settled_slot (settled_slot slot)
-settled_twice Free = refl
-settled_twice (Open id creation) = refl
-settled_twice Shut = refl
-settled_twice Unsure = refl
+settled_twice slot = sym (settled_alike settled_slot refl refl slot)
 
 pub settled_settled : (slots slots' : List Slot) → length slots ≡ 512 → slots' ≡ settled_slots slots → IsSettled cells slots'
 settled_settled slots slots' count is cell lt =

@@ -1,8 +1,6 @@
 -- A destruction, of what its steps do: the cells in doubt are closed, and then the key's own.
-use Rattle.std.proofs.Common.{List, ap, arith, length, refl, set, true, ℕ, ◌<◌, ◌∙◌, ◌≡◌}
-use Rattle.key_cells.proofs.Common.{Absent, Content, Doubtful, Free, Keeps, Moves, Present, Slot, StandsForContents, StaysFree, Unsure, cell_slot, cells, content_at, get_or-map, is_open, settled, settled_content, settled_slot, settled_slots}
+use Rattle.key_cells.proofs.Common.{Absent, Content, Doubtful, Free, Keeps, List, Moves, Present, Slot, StandsForContents, StaysFree, Unsure, ap, arith, cell_slot, cells, content_at, get_or-map, get_or-set_same, is_open, length, refl, set, set-set, settled, settled_content, settled_slot, settled_slots, true, ℕ, ◌<◌, ◌∙◌, ◌≡◌}
 use Rattle.disk_face.specs.declared.Disk as Disk
-use Rattle.std.proofs.lemmas.List.{get_or-set_same, set-set}
 use Rattle.key_cells.specs.declared.cells.Cells.{Cells}
 use Rattle.key_cells.proofs.Counts.{count_same}
 use Rattle.key_cells.proofs.Moves.{close_begins, close_done, doubt_after, fill_failed, moves_after_settled, moves_settled, still_open}

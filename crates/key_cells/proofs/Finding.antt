@@ -1,8 +1,6 @@
 -- What the slots are that an opening reads, one cell after the other.
-use Rattle.std.proofs.Common.{Bool, IfSome, List, None, Option, Some, [], ap, arith, cond, count_by, drop, false, get_or, inl, inr, length, refl, set, subst, sym, take, true, ℕ, ⊎_elim, ◌*◌, ◌+◌, ◌<◌, ◌∙◌, ◌∷◌, ◌≡◌, ◌≢◌, ◌≤◌}
-use Rattle.key_cells.proofs.Common.{DamagedCell, Free, GivesPart, HasNoKey, HasOneEach, HoldsId, HoldsNoKey, IsBadCell, IsCaused, IsDamaged, IsNamed, IsNumbered, IsPersistent, IsStoreFile, Open, Reads, ReadsBelow, ReadsCell, Shut, Slot, Unsure, body, cases_eq, cell_slot, closed, count_by_more_no, count_by_more_yes, creation_of_slot, gate, has_id, identifier_in, is_open, opened_gate, take-set-le, zeros}
+use Rattle.key_cells.proofs.Common.{Bool, DamagedCell, Free, GivesPart, HasNoKey, HasOneEach, HoldsId, HoldsNoKey, IfSome, IsBadCell, IsCaused, IsDamaged, IsNamed, IsNumbered, IsPersistent, IsStoreFile, List, None, Open, Option, Reads, ReadsBelow, ReadsCell, Shut, Slot, Some, Unsure, [], ap, arith, body, cases_eq, cell_slot, closed, cond, count_by, count_by_more_no, count_by_more_yes, creation_of_slot, drop, false, gate, get_or, get_or-set_other, get_or-set_same, get_or-take, has_id, identifier_in, inl, inr, is_open, length, length-set, length-take, opened_gate, refl, set, subst, sym, take, take-set-le, true, zeros, ℕ, ⊎_elim, ◌*◌, ◌+◌, ◌<◌, ◌∙◌, ◌∷◌, ◌≡◌, ◌≢◌, ◌≤◌}
 use Rattle.std.proofs.lemmas.Bool.{eq-eqb, eqb-true}
-use Rattle.std.proofs.lemmas.List.{get_or-set_same, get_or-set_other, length-set, length-take, get_or-take}
 use Rattle.key_cells.proofs.Bodies.{parts_of}
 use Rattle.key_cells.proofs.CellsRead.{gate_read, body_read}
 

@@ -1,7 +1,6 @@
+use Rattle.key_cells.proofs.Common.{Free, IsSure, List, Slot, StaysFree, ap, arith, cases_eq, cell_slot, cells, get_or-map, get_or-set_other, is_open, length, set, settled_slot, subst, sym, true, ℕ, ⊎_elim, ◌<◌, ◌∙◌, ◌≡◌}
+
 -- Which cells are free before calls, between them and after them.
-use Rattle.std.proofs.Common.{List, ap, arith, length, set, subst, sym, true, ℕ, ⊎_elim, ◌<◌, ◌∙◌, ◌≡◌}
-use Rattle.key_cells.proofs.Common.{Free, IsSure, Slot, StaysFree, cases_eq, cell_slot, cells, get_or-map, is_open, settled_slot}
-use Rattle.std.proofs.lemmas.List.{get_or-set_other}
 
 -- slots that are free before two calls and after them are so between them
 abbrev pub FreeBetween : List Slot → List Slot → List Slot → Type 0

@@ -1,26 +1,20 @@
 -- How the parts of an opening follow one another.
-use Rattle.std.proofs.Common.{Bool, IfSome, List, None, Option, Some, [], ap, arith, cond, count_by, false, get_or, inl, inr, is_some, length, map, refl, replicate, subst, sym, take, true, ℕ, ⊎_elim, ◌+◌, ◌<◌, ◌==◌, ◌∙◌, ◌∷◌, ◌≡◌, ◌≢◌, ◌≤◌, ◌⊎◌}
-use Rattle.key_cells.proofs.Common.{Absent, Clearing, Content, Disk, Elapses, Finds, Free, HasOneEach, IsCaused, IsDirectory, IsDisk, IsFoundIn, IsNamed, IsNumbered, IsRefusal, IsStoreFile, LeavesWhatIsRead, NoNewImage, NotAStore, Open, Present, Reads, ReadsBelow, Shut, Slot, SoundBy, Spares, SparesOpen, StandsForContents, StillTells, Unsure, Within, WithinSpares, body, cell_slot, cells, closed, content_of, contents_of, creation_of_slot, found_in, gate, get_or-map, get_or-replicate, has_id, is_open, length-map, nil_from_length, opened_gate, settled_slot, settled_slots, sum_by-cons, take-map, within_both, within_none, within_one}
+use Rattle.key_cells.proofs.Common.{Absent, Bool, Clearing, Content, Disk, Elapses, Finds, Free, HasOneEach, IfSome, IsCaused, IsDirectory, IsDisk, IsFoundIn, IsNamed, IsNumbered, IsRefusal, IsStoreFile, LeavesWhatIsRead, List, NoNewImage, None, NotAStore, Open, Option, Present, Reads, ReadsBelow, Shut, Slot, Some, SoundBy, Spares, SparesOpen, StandsForContents, StillTells, Unsure, Within, WithinSpares, [], ap, arith, body, cell_slot, cells, closed, cond, content_of, contents_of, count_by, creation_of_slot, false, found_in, gate, get_or, get_or-map, get_or-replicate, has_id, inl, inr, is_open, is_some, length, length-map, map, nil_from_length, opened_gate, refl, replicate, settled_slot, settled_slots, subst, sum_by-cons, sym, take, take-map, true, within_both, within_none, within_one, ℕ, ⊎_elim, ◌+◌, ◌<◌, ◌==◌, ◌∙◌, ◌∷◌, ◌≡◌, ◌≢◌, ◌≤◌, ◌⊎◌}
 use Rattle.disk_face.specs.declared.Disk as Disk
 use Rattle.std.proofs.lemmas.Bool.{eqb-true}
 use Rattle.psa_status.specs.Causes.{Rose}
 use Rattle.key_cells.specs.declared.reading.OpenFault.{OpenFault}
-use Rattle.key_cells.specs.Opened.{IsOpened, IsRefused}
-use Rattle.key_cells.proofs.CellsRead.{content_there, for_told, length-contents_of}
+use Rattle.key_cells.specs.Opened.{Calm, IsOpened, IsRefused}
+use Rattle.key_cells.proofs.CellsRead.{content_there, for_told, length-contents_of, some_weaker}
 use Rattle.key_cells.proofs.Finding.{not_damaged}
+use Rattle.key_cells.proofs.Moves.{settled_alike, settled_open}
 
 module _ {D : Type 0} (disks : Disk.Ghosts D) where
-  -- steps that write nothing
-  pub record Calm (old new : D) : Type 0 where
-    pub same : disks.contents new ≡ disks.contents old
-    pub crash : NoNewImage (disks.may_leave old) (disks.may_leave new)
-    pub within : Within (disks.moment old) (disks.moment new) (disks.left_since old) (disks.left_since new) (disks.may_leave old)
-    pub later : disks.faults old ≤ disks.faults new
-
-  pub calm_none : (disk : D) → Calm disk disk
+  -- calls that write nothing
+  pub calm_none : (disk : D) → Calm disks disk disk
   calm_none disk = record { same = refl; crash = λ image left. left; within = within_none (disks.moment disk) (disks.left_since disk) (disks.may_leave disk); later = omega arith }
 
-  pub calm_one : (old new : D) → disks.contents new ≡ disks.contents old → NoNewImage (disks.may_leave old) (disks.may_leave new) → Elapses (disks.moment old) (disks.moment new) (disks.left_since old) (disks.left_since new) (disks.may_leave new) → disks.faults old ≤ disks.faults new → Calm old new
+  pub calm_one : (old new : D) → disks.contents new ≡ disks.contents old → NoNewImage (disks.may_leave old) (disks.may_leave new) → Elapses (disks.moment old) (disks.moment new) (disks.left_since old) (disks.left_since new) (disks.may_leave new) → disks.faults old ≤ disks.faults new → Calm disks old new
   calm_one old new same crash time later = record {
     same = same;
     crash = crash;
@@ -28,7 +22,7 @@ module _ {D : Type 0} (disks : Disk.Ghosts D) where
     later = later;
   }
 
-  pub calm_both : (a b c : D) → Calm a b → Calm b c → Calm a c
+  pub calm_both : (a b c : D) → Calm disks a b → Calm disks b c → Calm disks a c
   calm_both a b c first second = record {
     same = second.same ∙ first.same;
     crash = λ image left. first.crash image (second.crash image left);
@@ -36,11 +30,11 @@ module _ {D : Type 0} (disks : Disk.Ghosts D) where
     later = omega (arith, first.later, second.later);
   }
 
-  spares_calm : (old new : D) → Calm old new → (image : List ℕ) → WithinSpares (disks.moment old) (disks.moment new) (disks.left_since old) (disks.left_since new) (disks.may_leave old) image
+  spares_calm : (old new : D) → Calm disks old new → (image : List ℕ) → WithinSpares (disks.moment old) (disks.moment new) (disks.left_since old) (disks.left_since new) (disks.may_leave old) image
   spares_calm old new calm image = record { later = calm.within.later; each = λ t other le left. ⊎_elim (λ past. inl past) (λ h. inr (inl h)) (calm.within.each t other le left) }
 
   -- an opening that is refused before anything is written
-  pub refused_calm : (old new : D) (fault : OpenFault) → Calm old new → IfSome (disks.contents old) (λ image. IsCaused fault image) → (IsDisk fault → Rose (disks.faults old) (disks.faults new)) → (IsRefusal fault → LeavesWhatIsRead (disks.contents old) (disks.may_leave new))
+  pub refused_calm : (old new : D) (fault : OpenFault) → Calm disks old new → IfSome (disks.contents old) (λ image. IsCaused fault image) → (IsDisk fault → Rose (disks.faults old) (disks.faults new)) → (IsRefusal fault → LeavesWhatIsRead (disks.contents old) (disks.may_leave new))
       → IsRefused disks old new fault
   refused_calm old new fault calm caused rose durable = record {
     caused = caused;
@@ -51,28 +45,20 @@ module _ {D : Type 0} (disks : Disk.Ghosts D) where
     unwritten = λ is. calm.crash;
     unwritten_within = λ is. calm.within;
     durable = durable;
-    spares = always (disks.contents old) (λ image. IsStoreFile image → WithinSpares (disks.moment old) (disks.moment new) (disks.left_since old) (disks.left_since new) (disks.may_leave old) image) (λ image store. spares_calm old new calm image);
-    left = always (disks.contents old) (λ image. IsStoreFile image → NoNewImage (disks.may_leave old) (disks.may_leave new) ⊎ ((other : List ℕ) → disks.may_leave new other → SparesOpen image other)) (λ image store. inl calm.crash);
+    spares = for_told (disks.contents old) _ (λ image is store. spares_calm old new calm image);
+    left = for_told (disks.contents old) _ (λ image is store. inl calm.crash);
   }
-    where
-      always : (o : Option (List ℕ)) (P : List ℕ → Type 0) → ((image : List ℕ) → P image) → IfSome o P
-      always None P f = tt
-      always (Some image) P f = f image
 
   after : (o o' : Option (List ℕ)) (P Q : List ℕ → Type 0) → o' ≡ o → ((image : List ℕ) → P image → Q image) → IfSome o' P → IfSome o Q
-  after o o' P Q same f h = subst (λ (x : Option (List ℕ)). IfSome x Q) same (weaker o' h)
-    where
-      weaker : (x : Option (List ℕ)) → IfSome x P → IfSome x Q
-      weaker None h = tt
-      weaker (Some image) h = f image h
+  after o o' P Q same f h = subst (λ (x : Option (List ℕ)). IfSome x Q) same (some_weaker o' P Q f h)
 
-  spares_after : (a b c : D) → Calm a b → (image : List ℕ) → (IsStoreFile image → WithinSpares (disks.moment b) (disks.moment c) (disks.left_since b) (disks.left_since c) (disks.may_leave b) image) → IsStoreFile image → WithinSpares (disks.moment a) (disks.moment c) (disks.left_since a) (disks.left_since c) (disks.may_leave a) image
+  spares_after : (a b c : D) → Calm disks a b → (image : List ℕ) → (IsStoreFile image → WithinSpares (disks.moment b) (disks.moment c) (disks.left_since b) (disks.left_since c) (disks.may_leave b) image) → IsStoreFile image → WithinSpares (disks.moment a) (disks.moment c) (disks.left_since a) (disks.left_since c) (disks.may_leave a) image
   spares_after a b c calm image later store =
       within_both (disks.moment a) (disks.moment b) (disks.moment c) (disks.left_since a) (disks.left_since b) (disks.left_since c) (disks.may_leave a) (λ other. disks.may_leave b other ⊎ SparesOpen image other) (λ other. disks.may_leave a other ⊎ SparesOpen image other)
       calm.within (later store) (λ other h. inl h) (λ other h. ⊎_elim (λ left. inl (calm.crash other left)) (λ spared. inr spared) h)
 
   -- what an opening gives after steps that wrote nothing
-  pub opened_after : (a b c : D) (slots : List Slot) → Calm a b → IsOpened disks b c slots → IsOpened disks a c slots
+  pub opened_after : (a b c : D) (slots : List Slot) → Calm disks a b → IsOpened disks b c slots → IsOpened disks a c slots
   opened_after a b c slots calm o = record {
     sized = o.sized;
     one = o.one;
@@ -84,7 +70,7 @@ module _ {D : Type 0} (disks : Disk.Ghosts D) where
     spares = after (disks.contents a) (disks.contents b) _ _ calm.same (λ image h. spares_after a b c calm image h) o.spares;
   }
 
-  pub refused_after : (a b c : D) (fault : OpenFault) → Calm a b → IsRefused disks b c fault → IsRefused disks a c fault
+  pub refused_after : (a b c : D) (fault : OpenFault) → Calm disks a b → IsRefused disks b c fault → IsRefused disks a c fault
   refused_after a b c fault calm r = record {
     caused = after (disks.contents a) (disks.contents b) (λ image. IsCaused fault image) (λ image. IsCaused fault image) calm.same (λ image h. h) r.caused;
     tells = r.tells ∙ ap is_some calm.same;
@@ -129,29 +115,12 @@ spares_open slots image other s cell lt is =
     by (cell_slot slots cell) (gate cell other) (body cell other) (subst (λ (c : Content). Spares (cell_slot slots cell) c (gate cell other) (body cell other)) there (s.each cell lt))
   where
     by : (slot : Slot) (g b : List ℕ) → Spares slot (Present (body cell image)) g b → (g ≡ opened_gate) × (b ≡ body cell image)
-    by Free g b h = absurd h
     by (Open id creation) g b h = h
-    by Shut g b h = absurd h
-    by Unsure g b h = absurd h
+    by slot g b h = absurd h
 
 -- the directory once no cell is left over
 settled_has : (id : ℕ) (slot : Slot) → has_id id (settled_slot slot) ≡ has_id id slot
-settled_has id Free = refl
-settled_has id (Open own creation) = refl
-settled_has id Shut = refl
-settled_has id Unsure = refl
-
-settled_is_open : (slot : Slot) → is_open (settled_slot slot) ≡ is_open slot
-settled_is_open Free = refl
-settled_is_open (Open own creation) = refl
-settled_is_open Shut = refl
-settled_is_open Unsure = refl
-
-settled_creation : (slot : Slot) → creation_of_slot (settled_slot slot) ≡ creation_of_slot slot
-settled_creation Free = refl
-settled_creation (Open own creation) = refl
-settled_creation Shut = refl
-settled_creation Unsure = refl
+settled_has id slot = settled_alike (has_id id) refl refl slot
 
 key_of : Slot → ℕ
 key_of slot = cond (is_open slot) 1 0
@@ -161,7 +130,7 @@ unfolding key_of
 settled_count [] = refl
 settled_count (slot ∷ slots) =
     sum_by-cons key_of (settled_slot slot) (map settled_slot slots)
-    ∙ (ap (λ (b : Bool). cond b 1 0 + count_by is_open (map settled_slot slots)) (settled_is_open slot)
+    ∙ (ap (λ (b : Bool). cond b 1 0 + count_by is_open (map settled_slot slots)) (settled_open slot)
     ∙ (ap (λ (n : ℕ). key_of slot + n) (settled_count slots)
     ∙ sym (sum_by-cons key_of slot slots)))
 
@@ -180,15 +149,14 @@ module _ (slots slots' : List Slot) (count : length slots ≡ 512) (is : slots' 
 
   pub settled_numbered : IsNumbered cells slots → IsNumbered cells slots'
   settled_numbered numbered cell lt open_now =
-      ap creation_of_slot (at cell lt) ∙ (settled_creation (cell_slot slots cell)
-      ∙ (numbered cell lt (sym (settled_is_open (cell_slot slots cell)) ∙ (ap is_open (sym (at cell lt)) ∙ open_now))
+      ap creation_of_slot (at cell lt) ∙ (settled_alike creation_of_slot refl refl (cell_slot slots cell)
+      ∙ (numbered cell lt (sym (settled_open (cell_slot slots cell)) ∙ (ap is_open (sym (at cell lt)) ∙ open_now))
       ∙ (sym (settled_count (take cell slots)) ∙ ap (count_by is_open) (sym (ap (take cell) is ∙ take-map settled_slot cell slots)))))
 
   finds : (slot : Slot) (g b : List ℕ) → Reads slot g b → Finds (settled_slot slot) g b
   finds Free g b r = λ e. let clash : closed ≡ opened_gate = sym r.0 ∙ e in cc
-  finds (Open id creation) g b r = r
   finds Shut g b r = λ e. let clash : closed ≡ opened_gate = sym r ∙ e in cc
-  finds Unsure g b r = r
+  finds slot g b r = r
 
   pub settled_directory : (image : List ℕ) → IsStoreFile image → ReadsBelow cells slots image → HasOneEach cells slots → IsDirectory slots' image
   settled_directory image store reads one = record {
@@ -232,16 +200,9 @@ of_directory (Some []) slots h = absurd (omega (arith, h.opens.store.size))
 of_directory (Some (byte ∷ rest)) slots h = h
 
 -- no slot of a new store has a key
-pub none_has : (id cell : ℕ) (slots : List Slot) → slots ≡ replicate 512 Free → cell < cells → has_id id (cell_slot slots cell) ≡ true → ⊥
-none_has id cell slots are lt has =
-    let free : cell_slot slots cell ≡ Free = ap (λ (l : List Slot). cell_slot l cell) are ∙ get_or-replicate 512 cell Free Free lt in
-    let clash : false ≡ true = sym (ap (has_id id) free) ∙ has in
-    cc
-
-pub none_open : (cell : ℕ) (slots : List Slot) → slots ≡ replicate 512 Free → cell < cells → is_open (cell_slot slots cell) ≡ true → ⊥
-none_open cell slots are lt open_now =
-    let free : cell_slot slots cell ≡ Free = ap (λ (l : List Slot). cell_slot l cell) are ∙ get_or-replicate 512 cell Free Free lt in
-    let clash : false ≡ true = sym (ap is_open free) ∙ open_now in
+pub none_has : (f : Slot → Bool) (cell : ℕ) (slots : List Slot) → f Free ≡ false → slots ≡ replicate 512 Free → cell < cells → f (cell_slot slots cell) ≡ true → ⊥
+none_has f cell slots none are lt has =
+    let clash : false ≡ true = sym (ap f (ap (λ (l : List Slot). cell_slot l cell) are ∙ get_or-replicate 512 cell Free Free lt) ∙ none) ∙ has in
     cc
 
 module _ {D : Type 0} (disks : Disk.Ghosts D) (disk mid : D) (slots : List Slot) (calm : Calm disks disk mid) (durable : LeavesWhatIsRead (disks.contents disk) (disks.may_leave disk)) (store : IfSome (disks.contents disk) (λ image. IsStoreFile image)) (reads : IfSome (disks.contents disk) (λ image. ReadsBelow cells slots image)) where

@@ -12,6 +12,13 @@ use Rattle.key_cells.specs.Image.{IsStoreFile, SparesOpen}
 use Rattle.key_cells.specs.Causes.{IsCaused, IsDisk, IsRefusal}
 use Rattle.key_cells.specs.Opening.{found_in, IsFoundIn, HasOneEach, IsNumbered, IsNamed, WithinSpares}
 
+-- calls that wrote nothing
+pub record Calm {D : Type 0} (disks : Disk.Ghosts D) (old new : D) : Type 0 where
+  pub same : disks.contents new ≡ disks.contents old
+  pub crash : NoNewImage (disks.may_leave old) (disks.may_leave new)
+  pub within : Within (disks.moment old) (disks.moment new) (disks.left_since old) (disks.left_since new) (disks.may_leave old)
+  pub later : disks.faults old ≤ disks.faults new
+
 -- An opening found exactly the keys of the disk's image, and nothing is in doubt. Of a store that was there, every
 -- image within the opening has each open cell byte for byte, or might have been left before the opening.
 pub record IsOpened {D : Type 0} (disks : Disk.Ghosts D) (old new : D) (slots : List Slot) : Type 0 where

@@ -50,6 +50,7 @@ impl<D: Disk> Cells<D> {
     }
 
     // The attributes of a key, and its bytes into the buffer. The bytes of its cell are left in the room.
+    #[tactic(auto, using(crate::proofs::Loading::read_keeps))]
     fn read_into(
         &mut self,
         cell: usize,

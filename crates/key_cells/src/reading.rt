@@ -6,7 +6,7 @@ ghost use Rattle.key_cells.specs.Contents.{is_open, HasNoKey, IsFirstWithKey};
 ghost use Rattle.key_cells.specs.Image.{IsStoreFile};
 ghost use Rattle.key_cells.specs.Opening.{GivesPart, IsBadCell, ReadsCell, ReadsBelow, HasOneEach, IsNumbered, IsNamed};
 ghost use Rattle.key_cells.specs.Causes.{IsCaused, IsDisk};
-ghost use Rattle.disk_face.specs.Moments.{Within};
+ghost use Rattle.key_cells.specs.Opened.{Calm};
 ghost use Rattle.key_cells.specs.Layout.{opened_gate, zeros, header};
 
 use crate::Slot;
@@ -107,13 +107,12 @@ pub const HEADER: [u8; 64] = [
 ];
 
 // Reads the header.
+#[tactic(auto, using(crate::proofs::Opened::calm_one))]
 fn read_header<D: Disk>(disk: &mut D) -> Result<[u8; 64], Failed>
     requires { D.size disk.old ≡ 557120 }
     ensures bytes { IfOk result (λ bytes. GivesPart (D.contents disk.old) 0 64 bytes) }
-    ensures same { D.contents disk.new ≡ D.contents disk.old }
     ensures size { D.size disk.new ≡ D.size disk.old }
-    ensures crash { NoNewImage (D.may_leave disk.old) (D.may_leave disk.new) }
-    ensures time { Elapses (D.moment disk.old) (D.moment disk.new) (D.left_since disk.old) (D.left_since disk.new) (D.may_leave disk.new) }
+    ensures calm { Calm D.Disk disk.old disk.new }
     ensures cause { HasCause (D.faults disk.old) (D.faults disk.new) result }
 {
     let mut bytes = [0; 64];
@@ -131,6 +130,7 @@ pub enum OpenFault {
 }
 
 /// Reads the header and the cells, and writes nothing.
+#[tactic(auto, using(crate::proofs::Opened::calm_both))]
 pub fn read_store<D: Disk>(disk: &mut D, slots: &mut Vec<Slot>) -> Result<(), OpenFault>
     requires size { D.size disk.old ≡ 557120 }
     requires slots { length slots.old.items ≡ 512 }
@@ -141,11 +141,8 @@ pub fn read_store<D: Disk>(disk: &mut D, slots: &mut Vec<Slot>) -> Result<(), Op
     ensures named { OnOk result (IsNamed 512 slots.new.items) }
     ensures slots { length slots.new.items ≡ 512 }
     ensures cause { IfErr result (λ fault. IfSome (D.contents disk.old) (λ image. IsCaused fault image)) }
-    ensures same { D.contents disk.new ≡ D.contents disk.old }
     ensures size { D.size disk.new ≡ 557120 }
-    ensures crash { NoNewImage (D.may_leave disk.old) (D.may_leave disk.new) }
-    ensures within { Within (D.moment disk.old) (D.moment disk.new) (D.left_since disk.old) (D.left_since disk.new) (D.may_leave disk.old) }
-    ensures later { D.faults disk.old ≤ D.faults disk.new }
+    ensures calm { Calm D.Disk disk.old disk.new }
     ensures disk { IfErr result (λ fault. IsDisk fault → Rose (D.faults disk.old) (D.faults disk.new)) }
 {
     let bytes = match read_header(disk) {
@@ -162,6 +159,7 @@ pub fn read_store<D: Disk>(disk: &mut D, slots: &mut Vec<Slot>) -> Result<(), Op
 }
 
 // Reads the cells of a store. The bytes of the last one are left in the room.
+#[tactic(auto, using(crate::proofs::Opened::calm_none, crate::proofs::Opened::calm_one, crate::proofs::Opened::calm_both))]
 fn read_slots<D: Disk>(
     disk: &mut D,
     slots: &mut Vec<Slot>,
@@ -176,11 +174,8 @@ fn read_slots<D: Disk>(
     ensures named { OnOk result (IsNamed 512 slots.new.items) }
     ensures slots { length slots.new.items ≡ 512 }
     ensures cause { IfErr result (λ fault. IfSome (D.contents disk.old) (λ image. IsCaused fault image)) }
-    ensures same { D.contents disk.new ≡ D.contents disk.old }
     ensures size { D.size disk.new ≡ 557120 }
-    ensures crash { NoNewImage (D.may_leave disk.old) (D.may_leave disk.new) }
-    ensures within { Within (D.moment disk.old) (D.moment disk.new) (D.left_since disk.old) (D.left_since disk.new) (D.may_leave disk.old) }
-    ensures later { D.faults disk.old ≤ D.faults disk.new }
+    ensures calm { Calm D.Disk disk.old disk.new }
     ensures disk { IfErr result (λ fault. IsDisk fault → Rose (D.faults disk.old) (D.faults disk.new)) }
 {
     let mut found = 0;

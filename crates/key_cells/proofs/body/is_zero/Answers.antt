@@ -1,5 +1,4 @@
-use Rattle.std.proofs.Common.{length, replicate, sym, take, ℕ, ◌∙◌, ◌≡◌}
-use Rattle.key_cells.proofs.Common.{Decides-eqb, slice_eq-Decides, take-replicate}
+use Rattle.key_cells.proofs.Common.{Decides-eqb, length, replicate, slice_eq-Decides, sym, take, take-replicate, ℕ, ◌∙◌, ◌≡◌}
 use Rattle.key_cells.proofs.body.is_zero.Goals as goal
 
 pub returns : goal.returns

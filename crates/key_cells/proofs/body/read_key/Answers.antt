@@ -1,5 +1,4 @@
-use Rattle.std.proofs.Common.{List, false, length, refl, replicate, subst, sym, true, ℕ, ◌+◌, ◌∙◌, ◌≡◌}
-use Rattle.key_cells.proofs.Common.{IsNoRecord, IsRecord}
+use Rattle.key_cells.proofs.Common.{IsNoRecord, IsRecord, List, false, length, refl, replicate, subst, sym, true, ℕ, ◌+◌, ◌∙◌, ◌≡◌}
 use Rattle.key_cells.proofs.Bodies.{no_id, no_front, no_size, no_record, no_rest, key_found, tail_of, record_at}
 use Rattle.key_cells.proofs.body.read_key.Goals as goal
 

@@ -1,5 +1,4 @@
-use Rattle.std.proofs.Common.{false, ℕ, ◌<◌, ◌≡◌}
-use Rattle.key_cells.proofs.Common.{cell_slot, has_id}
+use Rattle.key_cells.proofs.Common.{cell_slot, false, has_id, ℕ, ◌<◌, ◌≡◌}
 use Rattle.key_cells.proofs.reading.find_key.Given as goal
 
 abbrev pub invariant-loop-cell : goal.invariant-loop-cell

@@ -1,5 +1,4 @@
-use Rattle.std.proofs.Common.{sym, ◌∙◌}
-use Rattle.key_cells.proofs.Common.{Decides-eqb, slice_eq-Decides}
+use Rattle.key_cells.proofs.Common.{Decides-eqb, slice_eq-Decides, sym, ◌∙◌}
 use Rattle.key_cells.proofs.CellsRead.{header_is}
 use Rattle.key_cells.proofs.reading.is_header.Goals as goal
 

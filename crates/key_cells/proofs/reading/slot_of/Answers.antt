@@ -1,5 +1,4 @@
-use Rattle.std.proofs.Common.{arith, drop, refl, sym, take, ◌∙◌, ◌≡◌}
-use Rattle.std.proofs.lemmas.List.{take_all, length-drop}
+use Rattle.key_cells.proofs.Common.{arith, drop, length-drop, refl, sym, take, take_all, ◌∙◌, ◌≡◌}
 use Rattle.key_cells.proofs.Finding.{free_read}
 use Rattle.key_cells.proofs.reading.slot_of.Goals as goal
 

@@ -1,6 +1,4 @@
-use Rattle.std.proofs.Common.{ap, arith, length, refl, sym, take, ◌+◌, ◌∙◌, ◌≡◌}
-use Rattle.key_cells.proofs.Common.{SoundBy, Spares, cell_slot, length-map, on_ok_weaker, settled_slot, settled_slots, within_more, within_none}
-use Rattle.std.proofs.lemmas.List.{length-set, take_all}
+use Rattle.key_cells.proofs.Common.{SoundBy, Spares, ap, arith, cell_slot, length, length-map, length-set, on_ok_weaker, refl, settled_slot, settled_slots, sym, take, take_all, within_more, within_none, ◌+◌, ◌∙◌, ◌≡◌}
 use Rattle.key_cells.proofs.Images.{front_more, settled_set}
 use Rattle.key_cells.proofs.Clearing.{all_settled, goes_on, settled_settled, settled_twice, clear_already, clear_sure}
 use Rattle.key_cells.proofs.cells.Cells.clear_leftovers.Goals as goal

@@ -1,4 +1,4 @@
-use Rattle.std.proofs.Common.{replicate, ◌+◌}
+use Rattle.key_cells.proofs.Common.{replicate, ◌+◌}
 use Rattle.key_cells.proofs.Clearing.{torn_shut, shut_cleared, clearing_done, clearing_failed}
 use Rattle.key_cells.proofs.cells.Cells.clear_shut.Goals as goal
 

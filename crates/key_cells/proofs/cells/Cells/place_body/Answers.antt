@@ -1,5 +1,4 @@
-use Rattle.std.proofs.Common.{inl, inr}
-use Rattle.key_cells.proofs.Common.{Created, CreationFailed, Doubtful, Nothing, Present}
+use Rattle.key_cells.proofs.Common.{Created, CreationFailed, Doubtful, Nothing, Present, inl, inr}
 use Rattle.key_cells.proofs.Entries.{adds}
 use Rattle.key_cells.proofs.Filling.{but_first, filled}
 use Rattle.key_cells.proofs.Moves.{keeps_none, on_err}

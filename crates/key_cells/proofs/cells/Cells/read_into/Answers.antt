@@ -1,35 +1,6 @@
-use Rattle.std.proofs.Common.{List, ap, arith, drop, subst, sym, take, ℕ, ◌-◌, ◌∙◌}
-use Rattle.key_cells.proofs.Common.{Free, HoldsKey, IsKeyOf, get_or_read, has_id}
-use Rattle.key_cells.proofs.Loading.{read_keeps, read_gives, filled_with, of_no_key, of_other_key}
+use Rattle.key_cells.proofs.Common.{Free, HoldsKey, IsKeyOf, List, ap, arith, drop, get_or_read, has_id, subst, sym, take, ℕ, ◌-◌, ◌∙◌}
+use Rattle.key_cells.proofs.Loading.{read_gives, filled_with, of_no_key, of_other_key}
 use Rattle.key_cells.proofs.cells.Cells.read_into.Goals as goal
-
-pub returns-in-Err-clause-keeps : goal.returns-in-Err-clause-keeps
-returns-in-Err-clause-keeps g c = λ contents stands.
-    let d = g.D.Disk in
-    let self = c.args.self.now in
-    let e = c.read_cell.ensures in
-    read_keeps d self.disk c.read_cell.new.disk self.slots.items contents stands e.same e.crash e.time
-
-pub returns-in_default-clause-keeps : goal.returns-in_default-clause-keeps
-returns-in_default-clause-keeps g c = λ contents stands.
-    let d = g.D.Disk in
-    let self = c.args.self.now in
-    let e = c.read_cell.ensures in
-    read_keeps d self.disk c.read_cell.new.disk self.slots.items contents stands e.same e.crash e.time
-
-pub returns-then-not-has-clause-keeps : goal.returns-then-not-has-clause-keeps
-returns-then-not-has-clause-keeps g c = λ contents stands.
-    let d = g.D.Disk in
-    let self = c.args.self.now in
-    let e = c.read_cell.ensures in
-    read_keeps d self.disk c.read_cell.new.disk self.slots.items contents stands e.same e.crash e.time
-
-pub returns-clause-keeps : goal.returns-clause-keeps
-returns-clause-keeps g c = λ contents stands.
-    let d = g.D.Disk in
-    let self = c.args.self.now in
-    let e = c.read_cell.ensures in
-    read_keeps d self.disk c.read_cell.new.disk self.slots.items contents stands e.same e.crash e.time
 
 pub returns-in_default-clause-corrupt : goal.returns-in_default-clause-corrupt
 returns-in_default-clause-corrupt g c = λ is contents body id present stands has holds.

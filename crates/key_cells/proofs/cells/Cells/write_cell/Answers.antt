@@ -1,4 +1,4 @@
-use Rattle.std.proofs.Common.{arith, length, set}
+use Rattle.key_cells.proofs.Common.{arith, length, set}
 use Rattle.key_cells.proofs.Images.{settled_set}
 use Rattle.key_cells.proofs.Steps.{write_failed, write_done}
 use Rattle.key_cells.proofs.Free.{stays_free_set}
