@@ -1,6 +1,5 @@
 -- What stands at the slots of a table, for this crate and those above it.
-use Rattle.std.proofs.Common.{Bool, List, Some, [], ap, arith, cond, eqb-true, false, find, length, refl, replicate, set, sym, true, ℕ, ⊎_elim, ◌&&◌, ◌-◌, ◌<◌, ◌==◌, ◌∙◌, ◌∷◌, ◌≡◌, ◌≢◌}
-use Rattle.slot_table.proofs.Common.{Empty, Filling, Full, IsEmptyAt, IsLawful, IsNext, NoneEmpty, Pending, Slot, SlotState, Table, buffer_of, bytes_of, cases_eq, cases_lt, empty_slot, false≢true, get_or_past, holds_key, is_empty_state, is_full, is_idle, slot_at}
+use Rattle.slot_table.proofs.Common.{Bool, Empty, Filling, Full, IsEmptyAt, IsLawful, IsNext, List, NoneEmpty, Pending, Slot, SlotState, Some, Table, [], ap, arith, buffer_of, bytes_of, cases_eq, cases_lt, cond, empty_slot, eqb-true, false, false≢true, find, get_or_past, holds_key, is_empty_state, is_full, is_idle, length, refl, replicate, set, slot_at, sym, true, ℕ, ⊎_elim, ◌&&◌, ◌-◌, ◌<◌, ◌==◌, ◌∙◌, ◌∷◌, ◌≡◌, ◌≢◌}
 use Rattle.std.proofs.lemmas.List.{get_or-set_same, get_or-set_other, take_at}
 use Rattle.key_attributes.specs.Checks.{persistence}
 
@@ -40,18 +39,14 @@ pub key_is_full : (id : ℕ) (s : Slot) → holds_key id s ≡ true → s.state 
 key_is_full id s has = only_full s.state (s.attributes.id.0 == id) has where
   only_full : (state : SlotState) (same : Bool) → is_full state && same ≡ true → state ≡ Full
   only_full Full same has = refl
-  only_full Empty same has = absurd (false≢true has)
-  only_full Filling same has = absurd (false≢true has)
-  only_full Pending same has = absurd (false≢true has)
+  only_full state same has = absurd (false≢true has)
 
 -- an idle slot is full and unread
 pub idle_is_full : (s : Slot) → is_idle s ≡ true → s.state ≡ Full
 idle_is_full s idle = by_state s.state (persistence s.attributes.lifetime.0 == 1) (s.readers == 0) idle where
   by_state : (state : SlotState) (persistent unread : Bool) → is_full state && persistent && unread ≡ true → state ≡ Full
   by_state Full persistent unread is = refl
-  by_state Empty persistent unread is = absurd (false≢true is)
-  by_state Filling persistent unread is = absurd (false≢true is)
-  by_state Pending persistent unread is = absurd (false≢true is)
+  by_state state persistent unread is = absurd (false≢true is)
 
 pub idle_is_unread : (s : Slot) → is_idle s ≡ true → s.readers ≡ 0
 idle_is_unread s idle = eqb-true _ _ (by_test (is_full s.state && persistence s.attributes.lifetime.0 == 1) (s.readers == 0) idle) where
@@ -90,6 +85,4 @@ next_is_unread t i law next =
     next where
       only_empty : (state : SlotState) → is_empty_state state ≡ true → state ≡ Empty
       only_empty Empty is = refl
-      only_empty Full is = absurd (false≢true is)
-      only_empty Filling is = absurd (false≢true is)
-      only_empty Pending is = absurd (false≢true is)
+      only_empty state is = absurd (false≢true is)

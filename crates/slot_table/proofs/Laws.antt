@@ -1,9 +1,9 @@
 -- What keeps the law of a table.
-use Rattle.std.proofs.Common.{Bool, List, MatchOption, None, Option, Some, [], add-zero, ap, arith, cond, false, find, inl, inr, is_some, length, refl, replicate, rules, set, suc, sym, true, zero, ℕ, ⊎_elim, ◌&&◌, ◌++◌, ◌+◌, ◌-◌, ◌<◌, ◌==◌, ◌∙◌, ◌∷◌, ◌≡◌, ◌≢◌, ◌≤◌}
-use Rattle.slot_table.proofs.Common.{CanReserve, Empty, Filling, Full, IsEmptyAt, IsLawful, IsLawfulSlot, NoKey, NoneEmpty, Pending, Slot, SlotState, Table, buffer_of, cases_eq, empty_slot, false≢true, full_slot, get_or_past, holds_key, is_empty_state, is_full, is_idle, is_last, is_pending, length-replicate, nat_tests, recency_without, slot_at, times}
+use Rattle.slot_table.proofs.Common.{Bool, CanReserve, Empty, Filling, Full, IsEmptyAt, IsLawful, IsLawfulSlot, List, MatchOption, NoKey, None, NoneEmpty, Option, Pending, Slot, SlotState, Some, Table, [], add-zero, ap, arith, buffer_of, cases_eq, cond, empty_slot, false, false≢true, find, full_slot, get_or_past, holds_key, inl, inr, is_empty_state, is_full, is_idle, is_last, is_pending, is_some, length, length-replicate, nat_tests, recency_without, refl, replicate, rules, set, slot_at, suc, sym, times, true, zero, ℕ, ⊎_elim, ◌&&◌, ◌++◌, ◌+◌, ◌-◌, ◌<◌, ◌==◌, ◌∙◌, ◌∷◌, ◌≡◌, ◌≢◌, ◌≤◌}
 use Rattle.std.proofs.lemmas.List.{length-set}
 use Rattle.key_attributes.specs.declared.Attributes.{Attributes}
 use Rattle.slot_table.proofs.AtSlots.{at_each, full_test, read_within, key_is_full, idle_is_full, idle_is_unread, bytes-buffer_of, find_passes}
+use Rattle.slot_table.proofs.Views.{get_or-replicate_same}
 use Rattle.slot_table.proofs.Times.{times-append, times-same, times-other, without_none, length_distinct}
 
 -- one slot changes, and recency with it
@@ -67,16 +67,17 @@ stays_unused t i s law within before after lawful = keeps_law t i s t.recency la
 })
 
 -- a full slot stays full with its attributes
+same_key : (s old : Slot) → old.state ≡ Full → s.state ≡ Full → s.attributes ≡ old.attributes → (id : ℕ) → holds_key id s ≡ true → holds_key id old ≡ true
+same_key s old before after same id has = ap (λ x. is_full x && (old.attributes.id.0 == id)) (before ∙ sym after) ∙ ap (λ (a : Attributes). is_full s.state && (a.id.0 == id)) (sym same) ∙ has
+
 pub stays_full : (t : Table) (i : ℕ) (s : Slot) → IsLawful t → i < length t.slots → (slot_at t.slots i).state ≡ Full → s.state ≡ Full → s.attributes ≡ (slot_at t.slots i).attributes → IsLawfulSlot s → IsLawful (record { slots = set t.slots i s; recency = t.recency })
 stays_full t i s law within before after same lawful = keeps_law t i s t.recency law (record {
   within = within;
   lawful = lawful;
   here = law.recent i ∙ ap (λ x. cond (is_full x) 1 0) (before ∙ sym after);
   others = λ k other. refl;
-  one = λ id has j had. law.one id j i had (same_key id has);
-}) where
-  same_key : (id : ℕ) → holds_key id s ≡ true → holds_key id (slot_at t.slots i) ≡ true
-  same_key id has = ap (λ x. is_full x && ((slot_at t.slots i).attributes.id.0 == id)) (before ∙ sym after) ∙ ap (λ (a : Attributes). is_full s.state && (a.id.0 == id)) (sym same) ∙ has
+  one = λ id has j had. law.one id j i had (same_key s (slot_at t.slots i) before after same id has);
+})
 
 times-alone : (k i : ℕ) → k ≢ i → times k (i ∷ []) ≡ 0
 times-alone k i other = search rules
@@ -88,13 +89,10 @@ becomes_last t i s law within before after same lawful = keeps_law t i s (recenc
   lawful = lawful;
   here = times-append i (recency_without i t.recency) (i ∷ []) ∙ ap (λ n. n + times i (i ∷ [])) (times-same i t.recency) ∙ once ∙ sym (ap (λ x. cond (is_full x) 1 0) after);
   others = λ k other. times-append k (recency_without i t.recency) (i ∷ []) ∙ ap (λ n. n + times k (i ∷ [])) (times-other k i t.recency other) ∙ ap (λ n. times k t.recency + n) (times-alone k i other) ∙ add-zero (times k t.recency);
-  one = λ id has j had. law.one id j i had (same_key id has);
+  one = λ id has j had. law.one id j i had (same_key s (slot_at t.slots i) before after same id has);
 }) where
   once : 0 + times i (i ∷ []) ≡ 1
   once = search rules
-
-  same_key : (id : ℕ) → holds_key id s ≡ true → holds_key id (slot_at t.slots i) ≡ true
-  same_key id has = ap (λ x. is_full x && ((slot_at t.slots i).attributes.id.0 == id)) (before ∙ sym after) ∙ ap (λ (a : Attributes). is_full s.state && (a.id.0 == id)) (sym same) ∙ has
 
 -- a full slot loses its key
 pub loses_key : (t : Table) (i : ℕ) (s : Slot) → IsLawful t → i < length t.slots → is_full s.state ≡ false → IsLawfulSlot s → IsLawful (record { slots = set t.slots i s; recency = recency_without i t.recency })
@@ -143,23 +141,17 @@ loses_reader t i law read more = by_state (slot_at t.slots i).state refl where
 pub pending_is_unused : (s : Slot) → is_last s ≡ true → is_full s.state ≡ false
 pending_is_unused s last = by_state s.state (s.readers == 1) last where
   by_state : (state : SlotState) (one : Bool) → is_pending state && one ≡ true → is_full state ≡ false
-  by_state Empty one is = refl
-  by_state Filling one is = refl
-  by_state Pending one is = refl
   by_state Full one is = absurd (false≢true is)
+  by_state state one is = refl
 
 -- the table as it begins
 pub lawful_start : (n : ℕ) → n ≡ 384 → IsLawful (record { slots = replicate n empty_slot; recency = [] })
 lawful_start n is = record {
   sized = length-replicate n empty_slot ∙ is;
-  each = λ i. rw (all_empty n i) lawful_empty;
-  recent = λ i. ap (λ (s : Slot). cond (is_full s.state) 1 0) (sym (all_empty n i));
-  one = λ id i j has has'. absurd (false≢true (ap (holds_key id) (sym (all_empty n i)) ∙ has));
-} where
-  all_empty : (n i : ℕ) → slot_at (replicate n empty_slot) i ≡ empty_slot
-  all_empty zero i = refl
-  all_empty (suc n) zero = refl
-  all_empty (suc n) (suc i) = all_empty n i
+  each = λ i. rw (get_or-replicate_same n i empty_slot) lawful_empty;
+  recent = λ i. rw (get_or-replicate_same n i empty_slot) refl;
+  one = λ id i j has has'. absurd (false≢true (ap (holds_key id) (sym (get_or-replicate_same n i empty_slot)) ∙ has));
+}
 
 -- recency has room while a slot isn't full
 pub recency_has_room : (t : Table) (i : ℕ) → IsLawful t → i < length t.slots → is_full (slot_at t.slots i).state ≡ false → length t.recency < 384
@@ -172,10 +164,6 @@ recency_has_room t i law within unused =
           let at : times k t.recency ≡ 0 = law.recent k ∙ ap (λ (s : Slot). cond (is_full s.state) 1 0) (get_or_past t.slots k empty_slot (omega (arith, law.sized))) in
           grind (arith, nat_tests)
 
-      few : (b : Bool) → cond b 1 0 ≤ 1
-      few true = omega arith
-      few false = omega arith
-
       once : (k : ℕ) → times k (i ∷ t.recency) ≤ 1
       once k =
           ⊎_elim
@@ -183,7 +171,7 @@ recency_has_room t i law within unused =
           let at : times i t.recency ≡ 0 = law.recent i ∙ ap (λ b. cond b 1 0) unused in
           rw same (grind (arith, nat_tests)))
           (λ (other : k ≢ i).
-          let at : times k t.recency ≤ 1 = rw (law.recent k) (few (is_full (slot_at t.slots k).state)) in
+          let at : times k t.recency ≤ 1 = rw (law.recent k) (grind (arith, nat_tests)) in
           grind (arith, nat_tests))
           (cases_eq k i)
 
@@ -220,10 +208,8 @@ idle_is_found t (Some oldest) law can full first = refl
 pub empty_is_not_recent : (t : Table) (i : ℕ) → IsLawful t → is_empty_state (slot_at t.slots i).state ≡ true → t.recency ≡ recency_without i t.recency
 empty_is_not_recent t i law empty = sym (without_none i t.recency (law.recent i ∙ ap (λ b. cond b 1 0) (unused (slot_at t.slots i).state empty))) where
   unused : (state : SlotState) → is_empty_state state ≡ true → is_full state ≡ false
-  unused Empty is = refl
   unused Full is = absurd (false≢true is)
-  unused Filling is = refl
-  unused Pending is = refl
+  unused state is = refl
 
 -- the first of recency that is idle
 pub first_is_full : (t : Table) (i : ℕ) → find (λ k. is_idle (slot_at t.slots k)) t.recency ≡ Some i → (slot_at t.slots i).state ≡ Full

@@ -1,6 +1,5 @@
 -- How often a number stands in a row.
-use Rattle.std.proofs.Common.{List, [], add_assoc, ap, arith, cond, eqb, false, get_or, length, not, refl, suc, sym, true, zero, zero-add, ℕ, ⊎_elim, ◌++◌, ◌+◌, ◌<◌, ◌∙◌, ◌∷◌, ◌≡◌, ◌≢◌, ◌≤◌}
-use Rattle.slot_table.proofs.Common.{cases_eq, nat_tests, recency_without, times}
+use Rattle.slot_table.proofs.Common.{List, [], add_assoc, ap, arith, cases_eq, cond, eqb, false, get_or, length, nat_tests, not, recency_without, refl, suc, sym, times, true, zero, zero-add, ℕ, ⊎_elim, ◌++◌, ◌+◌, ◌<◌, ◌∙◌, ◌∷◌, ◌≡◌, ◌≢◌, ◌≤◌}
 use Rattle.std.specs.List.{remove}
 
 pub times-append : (i : ℕ) (xs ys : List ℕ) → times i (xs ++ ys) ≡ times i xs + times i ys

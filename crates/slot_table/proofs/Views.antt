@@ -1,21 +1,18 @@
 -- Two rows as the slots of a table.
-use Rattle.std.proofs.Common.{List, [], ap, arith, get_or, length, refl, replicate, set, suc, sym, zero, ℕ, ◌&&◌, ◌<◌, ◌==◌, ◌∙◌, ◌∷◌, ◌≡◌}
-use Rattle.slot_table.proofs.Common.{AreRows, Head, Slot, empty_head, empty_slot, head_at, head_holds_key, holds_key, is_full, length-replicate, no_key, set-get_or, slot_at, slot_of, slots_of, stored_at}
+use Rattle.slot_table.proofs.Common.{AreRows, Head, List, Slot, [], ap, arith, empty_head, empty_slot, get_or, head_at, head_holds_key, holds_key, is_full, length, length-replicate, no_key, refl, replicate, set, set-get_or, slot_at, slot_of, slots_of, stored_at, suc, sym, zero, ℕ, ◌&&◌, ◌<◌, ◌==◌, ◌∙◌, ◌∷◌, ◌≡◌}
 use Rattle.key_attributes.specs.declared.KeyId.{KeyId}
 use Rattle.slot_table.specs.declared.place.Stored.{Stored}
 
 length-slots_of : (heads : List Head) (keys : List Stored) → length heads ≡ length keys → length (slots_of heads keys) ≡ length heads
 length-slots_of [] [] same = refl
-length-slots_of [] (key ∷ keys) same = absurd (omega arith)
-length-slots_of (head ∷ heads) [] same = absurd (omega arith)
 length-slots_of (head ∷ heads) (key ∷ keys) same = ap suc (length-slots_of heads keys (omega arith))
+length-slots_of heads keys same = absurd (omega arith)
 
 slot_at-slots_of : (heads : List Head) (keys : List Stored) (i : ℕ) → length heads ≡ length keys → slot_at (slots_of heads keys) i ≡ slot_of (head_at heads i) (stored_at keys i)
 slot_at-slots_of [] [] i same = refl
-slot_at-slots_of [] (key ∷ keys) i same = absurd (omega arith)
-slot_at-slots_of (head ∷ heads) [] i same = absurd (omega arith)
 slot_at-slots_of (head ∷ heads) (key ∷ keys) zero same = refl
 slot_at-slots_of (head ∷ heads) (key ∷ keys) (suc i) same = slot_at-slots_of heads keys i (omega arith)
+slot_at-slots_of heads keys i same = absurd (omega arith)
 
 slots_of-set : (heads : List Head) (keys : List Stored) (i : ℕ) (head : Head) (key : Stored) → slots_of (set heads i head) (set keys i key) ≡ set (slots_of heads keys) i (slot_of head key)
 slots_of-set [] [] i head key = refl
@@ -71,7 +68,7 @@ pub changed_both : (heads : List Head) (keys : List Stored) (slots : List Slot) 
 changed_both heads keys slots i head key s view is =
     slots_of-set heads keys i head key ∙ ap (λ ss. set ss i (slot_of head key)) view ∙ ap (set slots i) (sym is)
 
-get_or-replicate_same : {A : Type 0} (n i : ℕ) (x : A) → get_or (replicate n x) i x ≡ x
+pub get_or-replicate_same : {A : Type 0} (n i : ℕ) (x : A) → get_or (replicate n x) i x ≡ x
 get_or-replicate_same zero i x = refl
 get_or-replicate_same (suc n) zero x = refl
 get_or-replicate_same (suc n) (suc i) x = get_or-replicate_same n i x
@@ -80,6 +77,6 @@ pub AreRows-replicate : AreRows (replicate 384 empty_head) (replicate 384 no_key
 AreRows-replicate = record {
   heads_sized = length-replicate 384 empty_head;
   keys_sized = length-replicate 384 no_key;
-  named = λ i. ap (λ (h : Head). h.id) (get_or-replicate_same 384 i empty_head) ∙ sym (ap (λ (k : Stored). k.attributes.id) (get_or-replicate_same 384 i no_key));
+  named = λ i. rw (get_or-replicate_same 384 i empty_head, get_or-replicate_same 384 i no_key) refl;
   none_before = λ i lt. absurd (omega (arith, lt));
 }

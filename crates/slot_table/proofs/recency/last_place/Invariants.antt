@@ -1,5 +1,4 @@
-use Rattle.std.proofs.Common.{drop, ◌≡◌}
-use Rattle.slot_table.proofs.Common.{times}
+use Rattle.slot_table.proofs.Common.{drop, times, ◌≡◌}
 use Rattle.slot_table.proofs.recency.last_place.Given as goal
 
 abbrev pub invariant-loop-place : goal.invariant-loop-place

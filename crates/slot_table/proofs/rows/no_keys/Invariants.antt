@@ -1,5 +1,4 @@
-use Rattle.std.proofs.Common.{replicate, vec_capacity, ◌≡◌}
-use Rattle.slot_table.proofs.Common.{no_key}
+use Rattle.slot_table.proofs.Common.{no_key, replicate, vec_capacity, ◌≡◌}
 use Rattle.slot_table.proofs.rows.no_keys.Given as goal
 
 abbrev pub invariant-loop : goal.invariant-loop

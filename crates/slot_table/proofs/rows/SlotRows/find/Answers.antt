@@ -1,5 +1,4 @@
-use Rattle.std.proofs.Common.{ap, arith, below_more, length, sym, ⊎_elim, ◌<◌, ◌∙◌}
-use Rattle.slot_table.proofs.Common.{cases_lt, empty_head, get_or_past, get_or_read, head_holds_key}
+use Rattle.slot_table.proofs.Common.{ap, arith, below_more, cases_lt, empty_head, get_or_past, get_or_read, head_holds_key, length, sym, ⊎_elim, ◌<◌, ◌∙◌}
 use Rattle.slot_table.proofs.Views.{holds_key-head}
 use Rattle.slot_table.proofs.rows.SlotRows.find.Goals as goal
 

@@ -1,5 +1,4 @@
-use Rattle.std.proofs.Common.{false, ℕ, ◌<◌, ◌≡◌}
-use Rattle.slot_table.proofs.Common.{head_at, head_holds_key}
+use Rattle.slot_table.proofs.Common.{false, head_at, head_holds_key, ℕ, ◌<◌, ◌≡◌}
 use Rattle.slot_table.proofs.rows.SlotRows.find.Given as goal
 
 abbrev pub invariant-loop-i : goal.invariant-loop-i

@@ -1,5 +1,4 @@
-use Rattle.std.proofs.Common.{ap, arith, below_more, length, sym, ◌<◌, ◌∙◌}
-use Rattle.slot_table.proofs.Common.{Head, Slot, empty_head, get_or_read, is_empty_state}
+use Rattle.slot_table.proofs.Common.{Head, Slot, ap, arith, below_more, empty_head, get_or_read, is_empty_state, length, sym, ◌<◌, ◌∙◌}
 use Rattle.slot_table.proofs.Views.{slot_is, length_is}
 use Rattle.slot_table.proofs.rows.SlotRows.find_empty.Goals as goal
 

@@ -1,5 +1,4 @@
-use Rattle.std.proofs.Common.{false, ℕ, ◌<◌, ◌≡◌}
-use Rattle.slot_table.proofs.Common.{head_at, is_empty_state}
+use Rattle.slot_table.proofs.Common.{false, head_at, is_empty_state, ℕ, ◌<◌, ◌≡◌}
 use Rattle.slot_table.proofs.rows.SlotRows.find_empty.Given as goal
 
 abbrev pub invariant-loop-i : goal.invariant-loop-i

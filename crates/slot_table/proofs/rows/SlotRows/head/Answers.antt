@@ -1,5 +1,4 @@
-use Rattle.std.proofs.Common.{arith, refl}
-use Rattle.slot_table.proofs.Common.{empty_head, get_or_read}
+use Rattle.slot_table.proofs.Common.{arith, empty_head, get_or_read, refl}
 use Rattle.slot_table.proofs.Views.{stands_at}
 use Rattle.slot_table.proofs.rows.SlotRows.head.Goals as goal
 

@@ -1,5 +1,4 @@
-use Rattle.std.proofs.Common.{ap, arith, length, sym, ◌<◌}
-use Rattle.slot_table.proofs.Common.{empty_head, empty_slot, get_or_past, get_or_read, is_idle, no_key}
+use Rattle.slot_table.proofs.Common.{ap, arith, empty_head, empty_slot, get_or_past, get_or_read, is_idle, length, no_key, sym, ◌<◌}
 use Rattle.slot_table.proofs.Views.{slot_is, length_is}
 use Rattle.slot_table.proofs.rows.SlotRows.is_idle.Goals as goal
 

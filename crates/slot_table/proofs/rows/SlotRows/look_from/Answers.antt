@@ -1,5 +1,4 @@
-use Rattle.std.proofs.Common.{ap, sym, ◌∙◌}
-use Rattle.slot_table.proofs.Common.{Slot, is_empty_state}
+use Rattle.slot_table.proofs.Common.{Slot, ap, is_empty_state, sym, ◌∙◌}
 use Rattle.slot_table.proofs.Views.{slot_is}
 use Rattle.slot_table.proofs.rows.SlotRows.look_from.Goals as goal
 

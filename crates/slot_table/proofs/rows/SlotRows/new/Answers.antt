@@ -1,5 +1,4 @@
-use Rattle.std.proofs.Common.{ap, replicate, rules, ◌∙◌, ◌≡◌}
-use Rattle.slot_table.proofs.Common.{empty_head, slots_of}
+use Rattle.slot_table.proofs.Common.{ap, empty_head, replicate, rules, slots_of, ◌∙◌, ◌≡◌}
 use Rattle.slot_table.proofs.Views.{slots_of-replicate, AreRows-replicate}
 use Rattle.slot_table.proofs.rows.SlotRows.new.Goals as goal
 

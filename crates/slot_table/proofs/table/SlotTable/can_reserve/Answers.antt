@@ -1,5 +1,4 @@
-use Rattle.std.proofs.Common.{List, ap, subst, sym, ◌∙◌}
-use Rattle.slot_table.proofs.Common.{CanReserve, NoneEmpty, Slot, Table}
+use Rattle.slot_table.proofs.Common.{CanReserve, List, NoneEmpty, Slot, Table, ap, subst, sym, ◌∙◌}
 use Rattle.slot_table.proofs.Laws.{reserves_empty, reserves_idle, finds_none}
 use Rattle.slot_table.proofs.table.SlotTable.can_reserve.Goals as goal
 

@@ -1,5 +1,4 @@
-use Rattle.std.proofs.Common.{ap, refl, ◌≡◌}
-use Rattle.slot_table.proofs.Common.{Full, Table, slot_at}
+use Rattle.slot_table.proofs.Common.{Full, Table, ap, refl, slot_at, ◌≡◌}
 use Rattle.slot_table.proofs.AtSlots.{full_within}
 use Rattle.slot_table.proofs.Laws.{loses_key, lawful_empty}
 use Rattle.slot_table.proofs.table.SlotTable.discard.Goals as goal

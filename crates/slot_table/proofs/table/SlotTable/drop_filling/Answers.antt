@@ -1,5 +1,4 @@
-use Rattle.std.proofs.Common.{ap, refl, ◌≡◌}
-use Rattle.slot_table.proofs.Common.{Filling, Reserved, Table, is_full, slot_at}
+use Rattle.slot_table.proofs.Common.{Filling, Reserved, Table, ap, is_full, refl, slot_at, ◌≡◌}
 use Rattle.slot_table.proofs.AtSlots.{filling_within}
 use Rattle.slot_table.proofs.Laws.{stays_unused, lawful_empty}
 use Rattle.slot_table.proofs.table.SlotTable.drop_filling.Goals as goal

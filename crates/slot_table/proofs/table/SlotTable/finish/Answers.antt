@@ -1,5 +1,4 @@
-use Rattle.std.proofs.Common.{ap, refl, ◌≡◌}
-use Rattle.slot_table.proofs.Common.{Filling, NoKey, Reserved, Table, is_full, slot_at}
+use Rattle.slot_table.proofs.Common.{Filling, NoKey, Reserved, Table, ap, is_full, refl, slot_at, ◌≡◌}
 use Rattle.slot_table.proofs.AtSlots.{filling_within}
 use Rattle.slot_table.proofs.Laws.{gets_key, lawful_new, recency_has_room}
 use Rattle.slot_table.proofs.table.SlotTable.finish.Goals as goal

@@ -1,4 +1,4 @@
-use Rattle.std.proofs.Common.{refl}
+use Rattle.slot_table.proofs.Common.{refl}
 use Rattle.slot_table.proofs.Laws.{lawful_start}
 use Rattle.slot_table.proofs.table.SlotTable.new.Goals as goal
 

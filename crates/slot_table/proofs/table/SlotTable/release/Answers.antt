@@ -1,5 +1,4 @@
-use Rattle.std.proofs.Common.{ap, false, refl, sym, true, ◌<◌, ◌∙◌, ◌≡◌}
-use Rattle.slot_table.proofs.Common.{Table, is_last, slot_at}
+use Rattle.slot_table.proofs.Common.{Table, ap, false, is_last, refl, slot_at, sym, true, ◌<◌, ◌∙◌, ◌≡◌}
 use Rattle.slot_table.proofs.AtSlots.{read_within}
 use Rattle.slot_table.proofs.Laws.{stays_unused, loses_reader, lawful_empty, pending_is_unused}
 use Rattle.slot_table.proofs.table.SlotTable.release.Goals as goal

@@ -1,5 +1,4 @@
-use Rattle.std.proofs.Common.{ap, length, sym, ◌<◌, ◌∙◌}
-use Rattle.slot_table.proofs.Common.{Slot, Table, empty_slot, is_empty_state, recency_without}
+use Rattle.slot_table.proofs.Common.{Slot, Table, ap, empty_slot, is_empty_state, length, recency_without, sym, ◌<◌, ◌∙◌}
 use Rattle.std.proofs.lemmas.List.{set-set, length-set, get_or-set_same}
 use Rattle.slot_table.proofs.AtSlots.{full_within}
 use Rattle.slot_table.proofs.Laws.{first_is_full, empty_is_not_recent}
