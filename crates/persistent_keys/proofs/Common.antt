@@ -1,11 +1,14 @@
 -- What several proofs of this crate cite of its words, and of other crates'.
 pub use Rattle.key_attributes.specs.declared.Attributes.{Attributes}
 pub use Rattle.key_cells.proofs.Bodies.{of_one_key}
-pub use Rattle.key_cells.proofs.Moves.{doubt_after, moves_after_settled, moves_none, moves_settled, settled_open, some_image}
+pub use Rattle.key_cells.proofs.Moves.{doubt_after, moves_after_settled, moves_none, moves_settled, settled_alike, settled_open, some_image}
 pub use Rattle.key_cells.specs.Prelude.{Absent, Content, CreationFailed, Doubtful, Finds, FitsCell, HasKey, HasOneEach, HoldsId, HoldsKey, IsDamaged, IsFirstWithoutKey, IsFoundIn, IsFull, IsOpened, IsSure, Moves, MovesEither, Present, Shows, body, cell_slot, content_at, content_of, creation_of_slot, found_in, gate, has_id, is_open, opened_gate, settled, settled_content, settled_slot, settled_slots}
 unfoldable pub use Rattle.key_cells.specs.Prelude.{body_of}
 pub use Rattle.key_cells.specs.declared.slot.Slot.{Slot}
 pub use Rattle.key_cells.specs.declared.slot.Slot.TheVariants.{Free, Open, Shut, Unsure}
 pub use Rattle.persistent_keys.specs.Files.{AreFound, Doubt, FitsKeys, IsDoubted, IsDoubtedIn, IsFiled, IsOf, IsPut, Keys, Leads, StandsForKeys, Stored, TellsCell, stored}
 pub use Rattle.std.proofs.lemmas.Bool.{cases_eq}
-pub use Rattle.std.proofs.lemmas.List.{get_or-map, get_or-replicate, length-map, map-set}
+pub use Rattle.std.proofs.Common.{Err, IfSome, List, None, Option, Some, []}
+pub use Rattle.std.proofs.Common.{ap, arith, cond, eq-eqb, false, inl, inr, length, ne_eqb, refl, set, subst, suc, sym, true, zero, ℕ, ⊎_elim}
+pub use Rattle.std.proofs.Common.{◌+◌, ◌<◌, ◌==◌, ◌∙◌, ◌∷◌, ◌≡◌, ◌≢◌, ◌≤◌, ◌⊎◌}
+pub use Rattle.std.proofs.lemmas.List.{get_or-map, get_or-replicate, get_or-set_other, get_or-set_same, length-map, length-set, map-set}

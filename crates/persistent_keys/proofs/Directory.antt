@@ -1,16 +1,13 @@
 -- What calls make of the directory.
-use Rattle.std.proofs.Common.{List, [], ap, arith, false, length, refl, set, suc, sym, true, ℕ, ◌<◌, ◌∙◌, ◌∷◌, ◌≡◌}
-use Rattle.persistent_keys.proofs.Common.{Free, IsFirstWithoutKey, IsFull, IsSure, Open, Shut, Slot, Unsure, cell_slot, get_or-map, has_id, is_open, length-map, map-set, settled_open, settled_slot, settled_slots}
+use Rattle.persistent_keys.proofs.Common.{Free, IsFirstWithoutKey, IsFull, IsSure, List, Open, Shut, Slot, Unsure, [], ap, arith, cell_slot, false, get_or-map, has_id, is_open, length, length-map, map-set, refl, set, settled_open, settled_slot, settled_slots, suc, sym, true, ℕ, ◌<◌, ◌∙◌, ◌∷◌, ◌≡◌}
 use Rattle.std.proofs.lemmas.Bool.{eqb-true}
 use Rattle.persistent_keys.proofs.Filing.{settled_twice}
 
 -- where each cell has a key, none is in doubt
 pub full_is_sure : (slots : List Slot) → IsFull slots → IsSure slots
 full_is_sure [] full = refl
-full_is_sure (Free ∷ slots) full = let z : false ≡ true = full 0 (omega arith) in cc
 full_is_sure (Open id creation ∷ slots) full = ap (λ (l : List Slot). Open id creation ∷ l) (full_is_sure slots (λ cell lt. full (suc cell) (omega (arith, lt))))
-full_is_sure (Shut ∷ slots) full = let z : false ≡ true = full 0 (omega arith) in cc
-full_is_sure (Unsure ∷ slots) full = let z : false ≡ true = full 0 (omega arith) in cc
+full_is_sure (slot ∷ slots) full = let z : false ≡ true = full 0 (omega arith) in cc
 
 open_settled : (slots : List Slot) (cell : ℕ) → cell < length slots → is_open (cell_slot (settled_slots slots) cell) ≡ is_open (cell_slot slots cell)
 open_settled slots cell lt = ap is_open (get_or-map settled_slot slots cell Free Free lt) ∙ settled_open (cell_slot slots cell)
@@ -42,7 +39,5 @@ missing_unsure slots slots' last cell same is = ap settled_slots is ∙ (map-set
 
 -- a slot has one identifier
 pub same_id : (slot : Slot) (id other : ℕ) → has_id id slot ≡ true → has_id other slot ≡ true → other ≡ id
-same_id Free id other is is' = cc
 same_id (Open own creation) id other is is' = sym (eqb-true own other is') ∙ eqb-true own id is
-same_id Shut id other is is' = cc
-same_id Unsure id other is is' = cc
+same_id slot id other is is' = cc

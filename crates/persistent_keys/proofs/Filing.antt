@@ -1,7 +1,6 @@
 -- A filed store after a change of its cells.
-use Rattle.std.proofs.Common.{List, None, Option, Some, [], ap, arith, cond, eq-eqb, false, length, ne_eqb, refl, set, subst, sym, true, ℕ, ⊎_elim, ◌<◌, ◌∙◌, ◌∷◌, ◌≡◌, ◌≢◌}
-use Rattle.persistent_keys.proofs.Common.{Absent, Attributes, Content, Doubt, Doubtful, Free, HoldsId, HoldsKey, IsDoubted, IsDoubtedIn, IsFiled, IsOf, IsPut, Keys, Open, Present, Shut, Slot, Stored, TellsCell, Unsure, cases_eq, cell_slot, content_at, get_or-map, has_id, is_open, length-map, of_one_key, settled, settled_content, settled_open, settled_slot, settled_slots, stored}
-use Rattle.std.proofs.lemmas.List.{length-set, get_or-set_same, get_or-set_other}
+use Rattle.persistent_keys.proofs.Common.{Absent, Attributes, Content, Doubt, Doubtful, Free, HoldsId, HoldsKey, IsDoubted, IsDoubtedIn, IsFiled, IsOf, IsPut, Keys, List, None, Open, Option, Present, Shut, Slot, Some, Stored, TellsCell, Unsure, [], ap, arith, cases_eq, cell_slot, cond, content_at, eq-eqb, false, get_or-map, get_or-set_other, get_or-set_same, has_id, is_open, length, length-map, length-set, ne_eqb, of_one_key, refl, set, settled, settled_alike, settled_content, settled_open, settled_slot, settled_slots, stored, subst, sym, true, ℕ, ⊎_elim, ◌<◌, ◌∙◌, ◌∷◌, ◌≡◌, ◌≢◌}
+use Rattle.key_cells.proofs.Counts.{count_same}
 use Rattle.persistent_keys.proofs.Fitting.{tells_open}
 
 -- what is in doubt is in doubt there too
@@ -15,106 +14,58 @@ pub same_doubt : (doubt : Doubt) → IsWider doubt doubt
 same_doubt doubt a bytes d = d
 
 has_settled : (id : ℕ) (slot : Slot) → has_id id (settled_slot slot) ≡ has_id id slot
-has_settled id Free = refl
-has_settled id (Open own creation) = refl
-has_settled id Shut = refl
-has_settled id Unsure = refl
+has_settled id slot = settled_alike (has_id id) refl refl slot
 
 -- what is in doubt is gone
 tells_sure : (keys : Keys) (doubt doubt' : Doubt) (slot : Slot) (content : Content) → TellsCell keys doubt slot content → TellsCell keys doubt' slot (settled_content content)
-tells_sure keys doubt doubt' Free Absent t = tt
-tells_sure keys doubt doubt' Free (Present body) t = absurd t
-tells_sure keys doubt doubt' Free (Doubtful body) t = tt
-tells_sure keys doubt doubt' (Open id creation) Absent t = absurd t
 tells_sure keys doubt doubt' (Open id creation) (Present body) t = t
-tells_sure keys doubt doubt' (Open id creation) (Doubtful body) t = absurd t
-tells_sure keys doubt doubt' Shut Absent t = tt
-tells_sure keys doubt doubt' Shut (Present body) t = absurd t
-tells_sure keys doubt doubt' Shut (Doubtful body) t = tt
-tells_sure keys doubt doubt' Unsure Absent t = tt
-tells_sure keys doubt doubt' Unsure (Present body) t = absurd t
-tells_sure keys doubt doubt' Unsure (Doubtful body) t = tt
+tells_sure keys doubt doubt' (Open id creation) content t = absurd t
+tells_sure keys doubt doubt' slot (Present body) t = absurd t
+tells_sure keys doubt doubt' slot content t = tt
 
 of_settled : (id : ℕ) (content : Content) → IsOf id (settled_content content) → IsOf id content
-of_settled id Absent is = is
-of_settled id (Present body) is = is
 of_settled id (Doubtful body) is = absurd is
+of_settled id content is = is
 
 -- another slot that is as good once nothing is in doubt
 closed_alike : (keys : Keys) (doubt : Doubt) (slot slot' : Slot) (content : Content) → is_open slot ≡ false → is_open slot' ≡ false → TellsCell keys doubt slot content → TellsCell keys doubt slot' content
 closed_alike keys doubt slot slot' content shut shut' t = to slot' content shut' (from slot content shut t)
   where
     from : (slot : Slot) (content : Content) → is_open slot ≡ false → TellsCell keys doubt slot content → TellsCell keys doubt Free content
-    from Free content shut t = t
     from (Open id creation) content shut t = cc
-    from Shut Absent shut t = t
-    from Shut (Present body) shut t = t
-    from Shut (Doubtful body) shut t = t
-    from Unsure Absent shut t = t
-    from Unsure (Present body) shut t = t
-    from Unsure (Doubtful body) shut t = t
+    from slot Absent shut t = t
+    from slot content shut t = t
 
     to : (slot : Slot) (content : Content) → is_open slot ≡ false → TellsCell keys doubt Free content → TellsCell keys doubt slot content
-    to Free content shut t = t
     to (Open id creation) content shut t = cc
-    to Shut Absent shut t = t
-    to Shut (Present body) shut t = t
-    to Shut (Doubtful body) shut t = t
-    to Unsure Absent shut t = t
-    to Unsure (Present body) shut t = t
-    to Unsure (Doubtful body) shut t = t
+    to slot Absent shut t = t
+    to slot content shut t = t
 
 tells_alike : (keys : Keys) (doubt : Doubt) (slot slot' : Slot) (content : Content) → settled_slot slot' ≡ settled_slot slot → TellsCell keys doubt slot content → TellsCell keys doubt slot' content
-tells_alike keys doubt Free Free content same t = t
-tells_alike keys doubt Free (Open id creation) content same t = cc
-tells_alike keys doubt Free Shut content same t = closed_alike keys doubt Free Shut content refl refl t
-tells_alike keys doubt Free Unsure content same t = closed_alike keys doubt Free Unsure content refl refl t
-tells_alike keys doubt (Open id creation) slot' content same t = open_same slot' same
-  where
-    open_same : (slot' : Slot) → settled_slot slot' ≡ Open id creation → TellsCell keys doubt slot' content
-    open_same Free e = cc
-    open_same (Open id' creation') e = subst (λ (s : Slot). TellsCell keys doubt s content) (sym e) t
-    open_same Shut e = cc
-    open_same Unsure e = cc
-tells_alike keys doubt Shut Free content same t = closed_alike keys doubt Shut Free content refl refl t
-tells_alike keys doubt Shut (Open id creation) content same t = cc
-tells_alike keys doubt Shut Shut content same t = t
-tells_alike keys doubt Shut Unsure content same t = closed_alike keys doubt Shut Unsure content refl refl t
-tells_alike keys doubt Unsure Free content same t = closed_alike keys doubt Unsure Free content refl refl t
-tells_alike keys doubt Unsure (Open id creation) content same t = cc
-tells_alike keys doubt Unsure Shut content same t = closed_alike keys doubt Unsure Shut content refl refl t
-tells_alike keys doubt Unsure Unsure content same t = t
+tells_alike keys doubt (Open id creation) (Open id' creation') content same t = subst (λ (s : Slot). TellsCell keys doubt s content) (sym same) t
+tells_alike keys doubt (Open id creation) slot' content same t = cc
+tells_alike keys doubt slot (Open id creation) content same t = cc
+tells_alike keys doubt slot slot' content same t = closed_alike keys doubt slot slot' content refl refl t
 
 -- other keys, where the cell's own is the same
 tells_moved : (keys keys' : Keys) (doubt doubt' : Doubt) (slot : Slot) (content : Content) → ((id : ℕ) → has_id id slot ≡ true → keys' id ≡ keys id) → IsWider doubt doubt' → TellsCell keys doubt slot content → TellsCell keys' doubt' slot content
-tells_moved keys keys' doubt doubt' Free Absent same wider t = tt
-tells_moved keys keys' doubt doubt' Free (Present body) same wider t = absurd t
-tells_moved keys keys' doubt doubt' Free (Doubtful body) same wider t = (t.0, t.1, t.2, wider t.0 t.1 t.3)
-tells_moved keys keys' doubt doubt' (Open id creation) Absent same wider t = absurd t
 tells_moved keys keys' doubt doubt' (Open id creation) (Present body) same wider t = (t.0, t.1, t.2, t.3, same id (eq-eqb id id refl) ∙ t.4)
-tells_moved keys keys' doubt doubt' (Open id creation) (Doubtful body) same wider t = absurd t
-tells_moved keys keys' doubt doubt' Shut Absent same wider t = tt
-tells_moved keys keys' doubt doubt' Shut (Present body) same wider t = absurd t
-tells_moved keys keys' doubt doubt' Shut (Doubtful body) same wider t = (t.0, t.1, t.2, wider t.0 t.1 t.3)
-tells_moved keys keys' doubt doubt' Unsure Absent same wider t = tt
-tells_moved keys keys' doubt doubt' Unsure (Present body) same wider t = absurd t
-tells_moved keys keys' doubt doubt' Unsure (Doubtful body) same wider t = (t.0, t.1, t.2, wider t.0 t.1 t.3)
+tells_moved keys keys' doubt doubt' (Open id creation) content same wider t = absurd t
+tells_moved keys keys' doubt doubt' slot Absent same wider t = tt
+tells_moved keys keys' doubt doubt' slot (Present body) same wider t = absurd t
+tells_moved keys keys' doubt doubt' slot (Doubtful body) same wider t = (t.0, t.1, t.2, wider t.0 t.1 t.3)
 
 has_no_id : (id : ℕ) (slot : Slot) → is_open slot ≡ false → has_id id slot ≡ false
-has_no_id id Free shut = refl
 has_no_id id (Open own creation) shut = cc
-has_no_id id Shut shut = refl
-has_no_id id Unsure shut = refl
+has_no_id id slot shut = refl
 
 settled_slot_at : (slots : List Slot) (cell : ℕ) → length slots ≡ 512 → cell < 512 → cell_slot (settled_slots slots) cell ≡ settled_slot (cell_slot slots cell)
 settled_slot_at slots cell sized lt = get_or-map settled_slot slots cell Free Free (omega (arith, sized))
 
 pub settled_twice : (slots : List Slot) → settled_slots (settled_slots slots) ≡ settled_slots slots
 settled_twice [] = refl
-settled_twice (Free ∷ slots) = ap (λ (l : List Slot). Free ∷ l) (settled_twice slots)
 settled_twice (Open id creation ∷ slots) = ap (λ (l : List Slot). Open id creation ∷ l) (settled_twice slots)
-settled_twice (Shut ∷ slots) = ap (λ (l : List Slot). Free ∷ l) (settled_twice slots)
-settled_twice (Unsure ∷ slots) = ap (λ (l : List Slot). Free ∷ l) (settled_twice slots)
+settled_twice (slot ∷ slots) = ap (λ (l : List Slot). Free ∷ l) (settled_twice slots)
 
 -- nothing is in doubt any more
 pub settles : (keys : Keys) (doubt doubt' : Doubt) (slots : List Slot) (contents : List Content) → length contents ≡ 512 → IsFiled keys doubt slots contents → IsFiled keys doubt' slots (settled contents)
@@ -128,23 +79,22 @@ settles keys doubt doubt' slots contents count f = record {
     was : (id cell : ℕ) → cell < 512 → IsOf id (content_at (settled contents) cell) → IsOf id (content_at contents cell)
     was id cell lt is = of_settled id (content_at contents cell) (subst (λ (c : Content). IsOf id c) (get_or-map settled_content contents cell Absent Absent (omega (arith, count))) is)
 
--- a directory that is as good once nothing is in doubt
+-- a directory that is as good once nothing is in doubt: a cell that has a key has it there
+alike_at : (slots slots' : List Slot) (cell : ℕ) → length slots ≡ 512 → cell < 512 → settled_slots slots' ≡ settled_slots slots → settled_slot (cell_slot slots' cell) ≡ settled_slot (cell_slot slots cell)
+alike_at slots slots' cell sized lt same =
+    sym (settled_slot_at slots' cell (count_same slots slots' 512 same sized) lt) ∙ (ap (λ (l : List Slot). cell_slot l cell) same ∙ settled_slot_at slots cell sized lt)
+
+pub still_has : (slots slots' : List Slot) (id cell : ℕ) → length slots ≡ 512 → cell < 512 → settled_slots slots' ≡ settled_slots slots → has_id id (cell_slot slots cell) ≡ true → has_id id (cell_slot slots' cell) ≡ true
+still_has slots slots' id cell sized lt same has =
+    sym (has_settled id (cell_slot slots' cell)) ∙ (ap (has_id id) (alike_at slots slots' cell sized lt same) ∙ (has_settled id (cell_slot slots cell) ∙ has))
+
 pub resettles : (keys : Keys) (doubt : Doubt) (slots slots' : List Slot) (contents : List Content) → settled_slots slots' ≡ settled_slots slots → IsFiled keys doubt slots contents → IsFiled keys doubt slots' contents
 resettles keys doubt slots slots' contents same f = record {
-  sized = sized;
-  each = λ cell lt. tells_alike keys doubt (cell_slot slots cell) (cell_slot slots' cell) (content_at contents cell) (alike cell lt) (f.each cell lt);
-  found = λ id key is. let c = f.found id key is in (c.0, c.1, has id c.0 c.1 ∙ c.2);
+  sized = count_same slots slots' 512 same f.sized;
+  each = λ cell lt. tells_alike keys doubt (cell_slot slots cell) (cell_slot slots' cell) (content_at contents cell) (alike_at slots slots' cell f.sized lt same) (f.each cell lt);
+  found = λ id key is. let c = f.found id key is in (c.0, c.1, still_has slots slots' id c.0 f.sized c.1 same c.2);
   apart = f.apart;
 }
-  where
-    sized : length slots' ≡ 512
-    sized = sym (length-map slots' settled_slot) ∙ (ap length same ∙ (length-map slots settled_slot ∙ f.sized))
-
-    alike : (cell : ℕ) → cell < 512 → settled_slot (cell_slot slots' cell) ≡ settled_slot (cell_slot slots cell)
-    alike cell lt = sym (settled_slot_at slots' cell sized lt) ∙ (ap (λ (l : List Slot). cell_slot l cell) same ∙ settled_slot_at slots cell f.sized lt)
-
-    has : (id cell : ℕ) → cell < 512 → has_id id (cell_slot slots' cell) ≡ has_id id (cell_slot slots cell)
-    has id cell lt = sym (has_settled id (cell_slot slots' cell)) ∙ (ap (has_id id) (alike cell lt) ∙ has_settled id (cell_slot slots cell))
 
 -- the same keys, and more in doubt
 pub refiled : (keys keys' : Keys) (doubt doubt' : Doubt) (slots : List Slot) (contents : List Content) → ((id : ℕ) → keys' id ≡ keys id) → IsWider doubt doubt' → IsFiled keys doubt slots contents → IsFiled keys' doubt' slots contents
@@ -174,10 +124,8 @@ each_set keys doubt slots contents cell slot content sized count lt here else ot
     (cases_eq other cell)
 
 tells_shut : (keys : Keys) (doubt : Doubt) (slot : Slot) (body : List ℕ) → is_open slot ≡ false → IsDoubtedIn doubt body → TellsCell keys doubt slot (Doubtful body)
-tells_shut keys doubt Free body shut d = d
 tells_shut keys doubt (Open id creation) body shut d = cc
-tells_shut keys doubt Shut body shut d = d
-tells_shut keys doubt Unsure body shut d = d
+tells_shut keys doubt slot body shut d = d
 
 -- the content of one cell changes to one of an identifier that no other cell has
 apart_set : (contents : List Content) (cell : ℕ) (content : Content) → length contents ≡ 512 → cell < 512
@@ -213,14 +161,11 @@ none_settled keys doubt slots contents id count none f cell lt is =
     at = get_or-map settled_content contents cell Absent Absent (omega (arith, count))
 
     by : (slot : Slot) (content : Content) → TellsCell keys doubt slot (settled_content content) → IsOf id (settled_content content) → ⊥
-    by slot Absent t is = is
-    by Free (Present body) t is = t
     by (Open own creation) (Present body) t is =
         let same : own ≡ id = one_id own id body (t.0, t.1, t.2, t.3) is in
         let z : None ≡ Some (stored creation t.0 t.1) = sym none ∙ (ap keys (sym same) ∙ t.4) in cc
-    by Shut (Present body) t is = t
-    by Unsure (Present body) t is = t
-    by slot (Doubtful body) t is = is
+    by slot (Present body) t is = t
+    by slot content t is = is
 
 -- a key is in doubt in a cell that has none
 pub doubts : (keys : Keys) (doubt : Doubt) (slots : List Slot) (contents : List Content) (cell id : ℕ) (body : List ℕ) → length contents ≡ 512 → cell < 512 → is_open (cell_slot slots cell) ≡ false → HoldsId id body → IsDoubtedIn doubt body → HasNone id contents
@@ -302,19 +247,6 @@ no_key keys doubt slots contents id none f = go (keys id) refl
     go : (o : Option Stored) → keys id ≡ o → o ≡ None
     go None e = refl
     go (Some key) e = let c = f.found id key e in let z : false ≡ true = sym (none c.0 (omega (arith, f.sized, c.1))) ∙ c.2 in cc
-
--- a cell that has a key has it while those in doubt are closed
-pub still_has : (slots slots' : List Slot) (id cell : ℕ) → length slots ≡ 512 → cell < 512 → settled_slots slots' ≡ settled_slots slots → has_id id (cell_slot slots cell) ≡ true → has_id id (cell_slot slots' cell) ≡ true
-still_has slots slots' id cell sized lt same has =
-    let sized' : length slots' ≡ 512 = sym (length-map slots' settled_slot) ∙ (ap length same ∙ (length-map slots settled_slot ∙ sized)) in
-    let alike : settled_slot (cell_slot slots' cell) ≡ settled_slot (cell_slot slots cell) = sym (settled_slot_at slots' cell sized' lt) ∙ (ap (λ (l : List Slot). cell_slot l cell) same ∙ settled_slot_at slots cell sized lt) in
-    sym (has_settled id (cell_slot slots' cell)) ∙ (ap (has_id id) alike ∙ (has_settled id (cell_slot slots cell) ∙ has))
-
-pub has_is_open : (id : ℕ) (slot : Slot) → has_id id slot ≡ true → is_open slot ≡ true
-has_is_open id Free has = cc
-has_is_open id (Open own creation) has = refl
-has_is_open id Shut has = cc
-has_is_open id Unsure has = cc
 
 pub settled_shut : (slots : List Slot) (cell : ℕ) → length slots ≡ 512 → cell < 512 → is_open (cell_slot slots cell) ≡ false → is_open (cell_slot (settled_slots slots) cell) ≡ false
 settled_shut slots cell sized lt shut = ap is_open (settled_slot_at slots cell sized lt) ∙ (settled_open (cell_slot slots cell) ∙ shut)

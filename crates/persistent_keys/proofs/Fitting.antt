@@ -1,6 +1,5 @@
 -- An image that fits the contents of a filed store has its keys, and maybe some that are in doubt.
-use Rattle.std.proofs.Common.{List, Some, ap, arith, inl, inr, length, refl, subst, sym, true, ℕ, ⊎_elim, ◌<◌, ◌∙◌, ◌≡◌, ◌⊎◌}
-use Rattle.persistent_keys.proofs.Common.{Absent, Attributes, Content, Doubt, Doubtful, FitsCell, FitsKeys, Free, HasKey, HoldsKey, IsDamaged, IsDoubted, IsFiled, IsOf, Keys, Open, Present, Shut, Slot, Stored, TellsCell, Unsure, body, cell_slot, content_at, gate, has_id, of_one_key, opened_gate, stored}
+use Rattle.persistent_keys.proofs.Common.{Absent, Attributes, Content, Doubt, Doubtful, FitsCell, FitsKeys, Free, HasKey, HoldsKey, IsDamaged, IsDoubted, IsFiled, IsOf, Keys, List, Open, Present, Shut, Slot, Some, Stored, TellsCell, Unsure, ap, arith, body, cell_slot, content_at, gate, has_id, inl, inr, length, of_one_key, opened_gate, refl, stored, subst, sym, true, ℕ, ⊎_elim, ◌<◌, ◌∙◌, ◌≡◌, ◌⊎◌}
 use Rattle.std.proofs.lemmas.Bool.{eqb-true}
 use Rattle.key_cells.specs.Prelude.{Fits}
 use Rattle.key_cells.proofs.Finding.{id_of}
@@ -8,14 +7,11 @@ use Rattle.key_cells.proofs.Finding.{id_of}
 -- what is told of an open cell
 pub tells_open : (keys : Keys) (doubt : Doubt) (slot : Slot) (content : Content) (id : ℕ) → has_id id slot ≡ true → TellsCell keys doubt slot content
     → (creation : ℕ) × (body : List ℕ) × (a : Attributes) × (bytes : List ℕ) × (slot ≡ Open id creation) × (content ≡ Present body) × HoldsKey a bytes body × (a.id.0 ≡ id) × (keys id ≡ Some (stored creation a bytes))
-tells_open keys doubt Free content id has t = cc
-tells_open keys doubt (Open own creation) Absent id has t = absurd t
 tells_open keys doubt (Open own creation) (Present body) id has t =
     let same : own ≡ id = eqb-true own id has in
     (creation, body, t.0, t.1, ap (λ i. Open i creation) same, refl, t.2, t.3 ∙ same, ap keys (sym same) ∙ t.4)
-tells_open keys doubt (Open own creation) (Doubtful body) id has t = absurd t
-tells_open keys doubt Shut content id has t = cc
-tells_open keys doubt Unsure content id has t = cc
+tells_open keys doubt (Open own creation) content id has t = absurd t
+tells_open keys doubt slot content id has t = cc
 
 -- a cell that may be open has a key that is there, or one that is in doubt
 Tells : Keys → Doubt → Attributes → List ℕ → Type 0
@@ -28,17 +24,13 @@ open_tells keys doubt slot Absent g b t fits is = absurd (fits is)
 open_tells keys doubt slot (Present body) g b t fits is = present slot t
   where
     present : (slot : Slot) → TellsCell keys doubt slot (Present body) → (a : Attributes) × (bytes : List ℕ) × HoldsKey a bytes b × IsOf a.id.0 (Present body) × Tells keys doubt a bytes
-    present Free t = absurd t
     present (Open id creation) t = (t.0, t.1, subst (λ (x : List ℕ). HoldsKey t.0 t.1 x) (sym fits.1) t.2, (t.0, t.1, t.2, refl), inl (creation, ap keys t.3 ∙ t.4))
-    present Shut t = absurd t
-    present Unsure t = absurd t
+    present slot t = absurd t
 open_tells keys doubt slot (Doubtful body) g b t fits is = doubtful slot t
   where
     doubtful : (slot : Slot) → TellsCell keys doubt slot (Doubtful body) → (a : Attributes) × (bytes : List ℕ) × HoldsKey a bytes b × IsOf a.id.0 (Doubtful body) × Tells keys doubt a bytes
-    doubtful Free t = (t.0, t.1, subst (λ (x : List ℕ). HoldsKey t.0 t.1 x) (sym (fits is)) t.2, (t.0, t.1, t.2, refl), inr t.3)
     doubtful (Open id creation) t = absurd t
-    doubtful Shut t = (t.0, t.1, subst (λ (x : List ℕ). HoldsKey t.0 t.1 x) (sym (fits is)) t.2, (t.0, t.1, t.2, refl), inr t.3)
-    doubtful Unsure t = (t.0, t.1, subst (λ (x : List ℕ). HoldsKey t.0 t.1 x) (sym (fits is)) t.2, (t.0, t.1, t.2, refl), inr t.3)
+    doubtful slot t = (t.0, t.1, subst (λ (x : List ℕ). HoldsKey t.0 t.1 x) (sym (fits is)) t.2, (t.0, t.1, t.2, refl), inr t.3)
 
 module _ (keys : Keys) (doubt : Doubt) (slots : List Slot) (contents : List Content) (count : length contents ≡ 512) (f : IsFiled keys doubt slots contents) (image : List ℕ) (fits : Fits contents image) where
   at : (cell : ℕ) → cell < 512 → gate cell image ≡ opened_gate → (a : Attributes) × (bytes : List ℕ) × HoldsKey a bytes (body cell image) × IsOf a.id.0 (content_at contents cell) × Tells keys doubt a bytes

@@ -1,6 +1,5 @@
 -- What a file stands for that was opened.
-use Rattle.std.proofs.Common.{IfSome, List, None, Option, Some, [], ap, arith, cond, false, length, ne_eqb, refl, subst, suc, sym, true, zero, ℕ, ⊎_elim, ◌+◌, ◌<◌, ◌==◌, ◌∙◌, ◌∷◌, ◌≡◌, ◌≢◌, ◌≤◌}
-use Rattle.persistent_keys.proofs.Common.{Absent, AreFound, Content, Doubtful, Finds, Free, HasOneEach, HoldsId, HoldsKey, IsFiled, IsFoundIn, IsOf, IsOpened, Keys, Open, Present, Shut, Slot, StandsForKeys, Stored, TellsCell, Unsure, body, cases_eq, cell_slot, content_at, content_of, creation_of_slot, found_in, gate, get_or-replicate, has_id, stored}
+use Rattle.persistent_keys.proofs.Common.{Absent, AreFound, Content, Doubtful, Finds, Free, HasOneEach, HoldsId, HoldsKey, IfSome, IsFiled, IsFoundIn, IsOf, IsOpened, Keys, List, None, Open, Option, Present, Shut, Slot, Some, StandsForKeys, Stored, TellsCell, Unsure, [], ap, arith, body, cases_eq, cell_slot, cond, content_at, content_of, creation_of_slot, false, found_in, gate, get_or-replicate, has_id, length, ne_eqb, refl, stored, subst, suc, sym, true, zero, ℕ, ⊎_elim, ◌+◌, ◌<◌, ◌==◌, ◌∙◌, ◌∷◌, ◌≡◌, ◌≢◌, ◌≤◌}
 use Rattle.disk_face.specs.declared.Disk as Disk
 use Rattle.std.proofs.lemmas.Bool.{eqb-true, eq-eqb}
 use Rattle.key_cells.specs.Contents as cells
@@ -14,28 +13,19 @@ false_true e = cc
 -- the content of a cell, as an opening found it
 pub FoundIn : Slot → Content → List ℕ → Type 0
 FoundIn Free Absent body = Unit {0}
-FoundIn Free (Present bytes) body = ⊥
-FoundIn Free (Doubtful bytes) body = ⊥
-FoundIn (Open id creation) Absent body = ⊥
 FoundIn (Open id creation) (Present bytes) body = (bytes ≡ body) × HoldsId id body
-FoundIn (Open id creation) (Doubtful bytes) body = ⊥
-FoundIn Shut content body = ⊥
-FoundIn Unsure content body = ⊥
+FoundIn slot content body = ⊥
 
 found_cell : (slot : Slot) (g b : List ℕ) → Finds slot g b → FoundIn slot (content_of g b) b
 unfolding FoundIn
 found_cell Free g b f = subst (λ (c : Content). FoundIn Free c b) (sym (not_opened g b f)) tt
 found_cell (Open id creation) g b f = subst (λ (x : List ℕ). FoundIn (Open id creation) (content_of x b) b) (sym f.0) (refl, f.1)
-found_cell Shut g b f = absurd f
-found_cell Unsure g b f = absurd f
+found_cell slot g b f = absurd f
 
 module _ (slots : List Slot) (contents : List Content) (image : List ℕ) (sized : length slots ≡ 512) (one_each : HasOneEach 512 slots) (found : (cell : ℕ) → cell < 512 → FoundIn (cell_slot slots cell) (content_at contents cell) (body cell image)) (keys : Keys) (are : AreFound image slots keys) where
   tells : (cell : ℕ) → cell < 512 → (slot : Slot) (content : Content) → cell_slot slots cell ≡ slot → FoundIn slot content (body cell image) → TellsCell keys [] slot content
   unfolding FoundIn
   tells cell lt Free Absent is f = tt
-  tells cell lt Free (Present bytes) is f = f
-  tells cell lt Free (Doubtful bytes) is f = absurd f
-  tells cell lt (Open id creation) Absent is f = f
   tells cell lt (Open id creation) (Present bytes) is f =
       let has : has_id id (cell_slot slots cell) ≡ true = ap (has_id id) is ∙ eq-eqb id id refl in
       let k = are.all id cell lt has in
@@ -45,20 +35,13 @@ module _ (slots : List Slot) (contents : List Content) (image : List ℕ) (sized
       let number : k.0.creation ≡ creation = t.4 ∙ (ap (λ (j : ℕ). creation_of_slot (cell_slot slots j)) same ∙ ap creation_of_slot is) in
       let id_is : k.0.attributes.id.0 ≡ id = one_id k.0.attributes.id.0 id (body cell image) (k.0.attributes, k.0.bytes, holds, refl) f.1 in
       (k.0.attributes, k.0.bytes, subst (λ (b : List ℕ). HoldsKey k.0.attributes k.0.bytes b) (sym f.0) holds, id_is, k.1 ∙ ap (λ (n : ℕ). Some (stored n k.0.attributes k.0.bytes)) number)
-  tells cell lt (Open id creation) (Doubtful bytes) is f = f
-  tells cell lt Shut content is f = absurd f
-  tells cell lt Unsure content is f = absurd f
+  tells cell lt slot content is f = absurd f
 
   of_open : (id : ℕ) (slot : Slot) (content : Content) (b : List ℕ) → FoundIn slot content b → IsOf id content → has_id id slot ≡ true
   unfolding FoundIn
   of_open id Free Absent b f is = absurd is
-  of_open id Free (Present bytes) b f is = absurd f
-  of_open id Free (Doubtful bytes) b f is = absurd f
-  of_open id (Open own creation) Absent b f is = absurd f
   of_open id (Open own creation) (Present bytes) b f is = eq-eqb own id (one_id own id b f.1 (subst (λ (x : List ℕ). HoldsId id x) f.0 is))
-  of_open id (Open own creation) (Doubtful bytes) b f is = absurd f
-  of_open id Shut content b f is = absurd f
-  of_open id Unsure content b f is = absurd f
+  of_open id slot content b f is = absurd f
 
   found_filed : IsFiled keys [] slots contents
   found_filed = record {
@@ -127,8 +110,7 @@ keys_next image slots count below (Open own creation) g is f =
   where
     not_last : (id cell : ℕ) → id ≢ own → has_id id (cell_slot slots cell) ≡ true → cell ≢ count
     not_last id cell differs has same = differs (sym (eqb-true own id (sym (ap (has_id id) (ap (cell_slot slots) same ∙ is)) ∙ has)))
-keys_next image slots count below Shut g is f = absurd f
-keys_next image slots count below Unsure g is f = absurd f
+keys_next image slots count below slot g is f = absurd f
 
 keys_below : (image : List ℕ) (slots : List Slot) → ((cell : ℕ) → cell < 512 → Finds (cell_slot slots cell) (gate cell image) (body cell image)) → (count : ℕ) → count ≤ 512 → KeysBelow image slots count
 keys_below image slots each zero le = record {

@@ -1,10 +1,9 @@
 -- How calls of the cells lead from keys to keys.
-use Rattle.std.proofs.Common.{IfSome, List, None, Some, [], ap, arith, false, inl, inr, length, refl, set, subst, sym, true, ℕ, ⊎_elim, ◌<◌, ◌∙◌, ◌∷◌, ◌≡◌}
-use Rattle.persistent_keys.proofs.Common.{Absent, Attributes, Content, CreationFailed, Doubt, Doubtful, FitsKeys, Free, HoldsKey, IsDoubted, IsFiled, IsOf, IsPut, Keys, Leads, Moves, MovesEither, Open, Present, Shows, Shut, Slot, StandsForKeys, Stored, Unsure, body, cell_slot, content_at, creation_of_slot, doubt_after, gate, get_or-map, has_id, is_open, length-map, map-set, moves_after_settled, moves_none, moves_settled, of_one_key, settled, settled_content, settled_slot, settled_slots, some_image, stored}
+use Rattle.persistent_keys.proofs.Common.{Absent, Attributes, Content, CreationFailed, Doubt, Doubtful, FitsKeys, Free, HoldsKey, IfSome, IsDoubted, IsFiled, IsOf, IsPut, Keys, Leads, List, Moves, MovesEither, None, Open, Present, Shows, Shut, Slot, Some, StandsForKeys, Stored, Unsure, [], ap, arith, body, cell_slot, content_at, creation_of_slot, doubt_after, false, gate, get_or-map, get_or-set_same, has_id, inl, inr, is_open, length, length-map, map-set, moves_after_settled, moves_none, moves_settled, of_one_key, refl, set, settled, settled_content, settled_slot, settled_slots, some_image, stored, subst, sym, true, ℕ, ⊎_elim, ◌<◌, ◌∙◌, ◌∷◌, ◌≡◌}
 use Rattle.disk_face.specs.declared.Disk as Disk
-use Rattle.std.proofs.lemmas.List.{get_or-set_same}
 use Rattle.key_cells.specs.Contents as cells
 use Rattle.key_cells.proofs.Free.{free_set_after, not_free_as}
+use Rattle.key_cells.proofs.Counts.{count_same}
 use Rattle.key_cells.proofs.Images.{sound_fits}
 use Rattle.persistent_keys.proofs.Fitting.{filed_fits, tells_open}
 use Rattle.persistent_keys.proofs.Filing.{no_doubt, settles, resettles, settled_twice, adds, removes, doubts, still_has, settled_shut, refiled, no_key, none_settled}
@@ -57,10 +56,8 @@ module _ {D : Type 0} (disks : Disk.Ghosts D) where
       shut (cell_slot slots cell) (gate cell image.0) (body cell image.0) (rw is at ((s.each image.0 image.1).each cell lt))
     where
       shut : (slot : Slot) (gate body : List ℕ) → Shows slot (Doubtful body') gate body → is_open slot ≡ false
-      shut Free gate body h = refl
       shut (Open id creation) gate body h = absurd h
-      shut Shut gate body h = refl
-      shut Unsure gate body h = refl
+      shut slot gate body h = refl
 
   -- a call that changes no contents
   pub keeps_leads : (old new : D) (slots slots' : List Slot) (keys : Keys) (doubt : Doubt) → settled_slots slots' ≡ settled_slots slots
@@ -170,7 +167,7 @@ module _ {D : Type 0} (disks : Disk.Ghosts D) where
       let same_key : key ≡ stored o.0 o.2 o.3 = cc in
       let d : IsDoubted doubt' o.2 o.3 = inl (ap (λ (k : Stored). k.attributes) same_key, ap (λ (k : Stored). k.bytes) same_key) in
       let m = keeps c s.stands in
-      let sized' : length slots' ≡ 512 = sym (length-map slots' settled_slot) ∙ (ap length same ∙ (length-map slots settled_slot ∙ s.filed.sized)) in
+      let sized' : length slots' ≡ 512 = count_same slots slots' 512 same s.filed.sized in
       let unsure : cell_slot last cell ≡ Unsure = ap (λ (l : List Slot). cell_slot l cell) is ∙ get_or-set_same slots' cell Unsure Free (omega (arith, sized', lt)) in
       let free = free_set_after slots slots' last cell Unsure is (not_free_as last cell Unsure unsure (λ e. cc)) in
       let to = set c cell (Doubtful o.1) in

@@ -1,14 +1,15 @@
 use Rattle.persistent_keys.proofs.Common.{cell_slot}
-use Rattle.persistent_keys.proofs.Filing.{still_has, has_is_open}
+use Rattle.key_cells.proofs.Counts.{has_id_open}
+use Rattle.persistent_keys.proofs.Filing.{still_has}
 use Rattle.persistent_keys.proofs.Directory.{missing_unsure}
 use Rattle.persistent_keys.proofs.Leading.{destroyed_leads, undestroyed_leads, unreached_leads}
 use Rattle.persistent_keys.proofs.file.KeyFile.destroy.Goals as goal
 
 pub give_up-requires-clause-open : goal.give_up-requires-clause-open
-give_up-requires-clause-open g c = has_is_open c.args.id (cell_slot c.settle.new.self.slots.items c.args.cell) (still_has c.args.self.now.cells.slots.items c.settle.new.self.slots.items c.args.id c.args.cell c.requires.slots c.requires.within c.settle.ensures.slots c.requires.key)
+give_up-requires-clause-open g c = has_id_open c.args.id (cell_slot c.settle.new.self.slots.items c.args.cell) (still_has c.args.self.now.cells.slots.items c.settle.new.self.slots.items c.args.id c.args.cell c.requires.slots c.requires.within c.settle.ensures.slots c.requires.key)
 
 pub destroy-requires-clause-open : goal.destroy-requires-clause-open
-destroy-requires-clause-open g c = has_is_open c.args.id (cell_slot c.settle.new.self.slots.items c.args.cell) (still_has c.args.self.now.cells.slots.items c.settle.new.self.slots.items c.args.id c.args.cell c.requires.slots c.requires.within c.settle.ensures.slots c.requires.key)
+destroy-requires-clause-open g c = has_id_open c.args.id (cell_slot c.settle.new.self.slots.items c.args.cell) (still_has c.args.self.now.cells.slots.items c.settle.new.self.slots.items c.args.id c.args.cell c.requires.slots c.requires.within c.settle.ensures.slots c.requires.key)
 
 pub returns-in-Err-clause-failed : goal.returns-in-Err-clause-failed
 returns-in-Err-clause-failed g c = λ keys keys' doubt key s there put. let d = g.D.Disk in let e = c.give_up.ensures in

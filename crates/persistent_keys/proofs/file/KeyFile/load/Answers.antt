@@ -1,5 +1,4 @@
-use Rattle.std.proofs.Common.{ap}
-use Rattle.persistent_keys.proofs.Common.{cell_slot, settled_slots}
+use Rattle.persistent_keys.proofs.Common.{ap, cell_slot, settled_slots}
 use Rattle.std.proofs.lemmas.Result.{IfOk-weaker}
 use Rattle.secret_bytes.specs.Buffer.{bytes_of}
 use Rattle.persistent_keys.proofs.Directory.{same_id}

@@ -1,5 +1,4 @@
-use Rattle.std.proofs.Common.{Err, ap, arith, refl, ◌∙◌}
-use Rattle.persistent_keys.proofs.Common.{body_of}
+use Rattle.persistent_keys.proofs.Common.{Err, ap, arith, body_of, refl, ◌∙◌}
 use Rattle.persistent_keys.proofs.Directory.{full_is_sure, full_of_settled, first_of_settled, placed_after}
 use Rattle.persistent_keys.proofs.Leading.{keeps_leads, settled_leads, made_leads, unmade_leads, no_key_in}
 use Rattle.persistent_keys.proofs.file.KeyFile.make.Goals as goal
