@@ -1,9 +1,6 @@
 -- Blocks whose end is filled with zeros.
-use Rattle.std.proofs.Common.{Bool, IsTrue, List, ap, arith, drop, eqb, length, refl, replicate, suc, sym, take, zero, ℕ, ◌++◌, ◌-◌, ◌↔◌, ◌∙◌, ◌≡◌, ◌≤◌}
+use Rattle.cipher_blocks.proofs.Common.{Bool, IsTrue, List, ap, arith, block_number, drop, drop-replicate, eqb, length, length-append, length-replicate, number_block, number_of_filled, refl, replicate, suc, sym, take, take_at, zero, ℕ, ◌++◌, ◌-◌, ◌↔◌, ◌∙◌, ◌≡◌, ◌≤◌}
 use Rattle.std.proofs.lemmas.Bool.{eqb-true, eq-eqb}
-use Rattle.std.proofs.lemmas.List.{length-append, length-replicate, drop-replicate, take_at}
-use Rattle.crypto_specs.specs.Prelude.{block_number, number_block}
-use Rattle.crypto_specs.proofs.Blocks.{number_of_filled}
 use Rattle.cipher_blocks.proofs.BlockNumbers.{AreBytes, bytes-append, block_of_number}
 
 zeros-bytes : (n : ℕ) → AreBytes (replicate n 0)

@@ -1,11 +1,6 @@
 -- The block of a number in two halves.
-use Rattle.std.proofs.Common.{List, [], ap, ap₂, arith, drop, length, refl, suc, sym, take, zero, ℕ, ◌%◌, ◌*◌, ◌++◌, ◌+◌, ◌/◌, ◌<◌, ◌^◌, ◌∙◌, ◌∷◌, ◌≡◌, ◌≤◌}
-use Rattle.std.specs.Int.{w64, byte_at, bytes_high_first, to_be_bytes}
-use Rattle.std.proofs.lemmas.Nat.{shr-shr}
-use Rattle.std.proofs.lemmas.List.{append-nil, drop_all, drop_at, length-drop, length-take, take_all, take_at, take-append-drop}
+use Rattle.cipher_blocks.proofs.Common.{List, [], ap, append-nil, ap₂, arith, byte_at, bytes_high_first, drop, drop_all, drop_at, length, length-drop, length-take, length-xor_bytes, number_block, refl, shr-shr, suc, sym, take, take-append-drop, take_all, take_at, to_be_bytes, w64, xor_bytes, xor_bytes-append, zero, ℕ, ◌%◌, ◌*◌, ◌++◌, ◌+◌, ◌/◌, ◌<◌, ◌^◌, ◌∙◌, ◌∷◌, ◌≡◌, ◌≤◌}
 use borrow.Rule.Slice.PartMut.{put_mid}
-use Rattle.crypto_specs.specs.Prelude.{xor_bytes, number_block}
-use Rattle.crypto_specs.proofs.XorBytes.{length-xor_bytes, xor_bytes-append}
 use Rattle.cipher_blocks.proofs.BlockNumbers.{byte_at_is, power_of_256}
 
 byte_above : (k n : ℕ) → byte_at (k + 8) n ≡ byte_at k (n / 2 ^ 64)

@@ -1,3 +1,4 @@
+mod Common
 pub mod BlockNumbers
 pub mod FilledBlocks
 pub mod HalfBlocks

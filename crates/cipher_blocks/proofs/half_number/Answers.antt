@@ -1,6 +1,4 @@
-use Rattle.std.proofs.Common.{ap, arith, ◌∙◌}
-use Rattle.std.specs.Int.{w64, from_be_bytes}
-use Rattle.std.proofs.lemmas.Nat.{be_bytes_8}
+use Rattle.cipher_blocks.proofs.Common.{ap, arith, be_bytes_8, from_be_bytes, w64, ◌∙◌}
 use Rattle.cipher_blocks.proofs.half_number.Goals as goal
 
 pub returns : goal.returns

@@ -1,7 +1,4 @@
-use Rattle.std.proofs.Common.{ap, arith, length, refl, sym, take, ◌∙◌, ◌≡◌}
-use Rattle.std.proofs.lemmas.List.{length-take}
-use Rattle.crypto_specs.specs.Prelude.{number_block}
-use Rattle.crypto_specs.proofs.Blocks.{length-number_block}
+use Rattle.cipher_blocks.proofs.Common.{ap, arith, length, length-number_block, length-take, number_block, refl, sym, take, ◌∙◌, ◌≡◌}
 use Rattle.cipher_blocks.proofs.FilledBlocks.{pieces_told}
 use Rattle.cipher_blocks.proofs.is_front.Goals as goal
 

@@ -1,5 +1,4 @@
-use Rattle.std.proofs.Common.{ap, length, take, ◌∙◌}
-use Rattle.crypto_specs.specs.Prelude.{number_block}
+use Rattle.cipher_blocks.proofs.Common.{ap, length, number_block, take, ◌∙◌}
 use Rattle.cipher_blocks.proofs.set_front.Goals as goal
 
 pub returns : goal.returns

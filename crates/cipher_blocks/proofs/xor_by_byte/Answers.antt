@@ -1,6 +1,4 @@
-use Rattle.std.proofs.Common.{add-one, arith, drop, slice_index, sym, ◌+◌, ◌≡◌}
-use Rattle.std.proofs.lemmas.List.{get_or-drop, length-drop}
-use Rattle.crypto_specs.proofs.XorBytes.{xor_bytes_next}
+use Rattle.cipher_blocks.proofs.Common.{add-one, arith, drop, get_or-drop, length-drop, slice_index, sym, xor_bytes_next, ◌+◌, ◌≡◌}
 use Rattle.cipher_blocks.proofs.xor_by_byte.Goals as goal
 
 pub bytes-preserved : goal.bytes-preserved

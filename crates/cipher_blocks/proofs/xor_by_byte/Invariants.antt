@@ -1,5 +1,4 @@
-use Rattle.std.proofs.Common.{drop, take, ◌++◌, ◌≡◌}
-use Rattle.crypto_specs.specs.Prelude.{xor_bytes}
+use Rattle.cipher_blocks.proofs.Common.{drop, take, xor_bytes, ◌++◌, ◌≡◌}
 use Rattle.cipher_blocks.proofs.xor_by_byte.Given as goal
 
 abbrev pub invariant-bytes : goal.invariant-bytes

@@ -1,5 +1,4 @@
-use Rattle.std.proofs.Common.{ap, arith, drop, ℕ, ◌∙◌, ◌≡◌}
-use Rattle.crypto_specs.specs.Prelude.{xor_bytes}
+use Rattle.cipher_blocks.proofs.Common.{ap, arith, drop, xor_bytes, ℕ, ◌∙◌, ◌≡◌}
 use Rattle.cipher_blocks.proofs.xor_bytes_into.Goals as goal
 
 pub returns-then-piece-eq16 : goal.returns-then-piece-eq16

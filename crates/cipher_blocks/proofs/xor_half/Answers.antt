@@ -1,6 +1,4 @@
-use Rattle.std.proofs.Common.{List, ap, ℕ, ◌∙◌}
-use Rattle.std.specs.Int.{w64, to_be_bytes}
-use Rattle.crypto_specs.specs.Prelude.{xor_bytes}
+use Rattle.cipher_blocks.proofs.Common.{List, ap, to_be_bytes, w64, xor_bytes, ℕ, ◌∙◌}
 use Rattle.cipher_blocks.proofs.BlockNumbers.{xor_bytes_high_first}
 use Rattle.cipher_blocks.proofs.xor_half.Goals as goal
 

@@ -1,5 +1,4 @@
-use Rattle.std.proofs.Common.{ap, arith, ◌∙◌}
-use Rattle.crypto_specs.specs.Prelude.{xor_bytes, number_block}
+use Rattle.cipher_blocks.proofs.Common.{ap, arith, number_block, xor_bytes, ◌∙◌}
 use Rattle.cipher_blocks.proofs.HalfBlocks.{halves_xored}
 use Rattle.cipher_blocks.proofs.xor_into.Goals as goal
 
