@@ -1,18 +1,11 @@
 -- The product of blocks, four bits at a time.
-use Rattle.std.proofs.Common.{Bool, List, [], ap, ap₂, arith, bit_xor, cond, eqb, false, map, refl, slice_index, suc, sym, true, zero, ℕ, ◌%◌, ◌*◌, ◌+◌, ◌/◌, ◌<◌, ◌^◌, ◌∙◌, ◌∷◌, ◌≡◌}
+use Rattle.ghash.proofs.Common.{Bool, List, REDUCTIONS, [], ap, ap₂, arith, bit_at, bit_xor, cond, eqb, false, map, products_of, refl, shifted, shr-shr, slice_index, suc, sum_of_shifts, sym, times_x, times_x4, true, xor_assoc, xor_comm, xor_shifted, xor_zero_r, zero, ℕ, ◌%◌, ◌*◌, ◌+◌, ◌/◌, ◌<◌, ◌^◌, ◌∙◌, ◌∷◌, ◌≡◌}
 use Rattle.std.specs.List.{range_with_len}
-use Rattle.std.specs.Int.{bit_at}
-use Rattle.std.specs.Int.Bits.{xor_zero_r, xor_assoc, xor_shifted}
-use Rattle.std.proofs.lemmas.Nat.{shr-shr, xor_comm}
 use Rattle.std.proofs.lemmas.List.{get_or-map}
 use Rattle.std.proofs.lemmas.List.FromFn.{get_or-range_with_len}
-use Rattle.crypto_specs.specs.Ghash.{sum_of_shifts}
-use Rattle.crypto_specs.specs.Prelude.{times_x}
 use Rattle.crypto_specs.proofs.FieldLaws.{xor_four}
 use Rattle.crypto_specs.proofs.GhashLaws.{times_x-xor}
 use Rattle.crypto_specs.proofs.Tables.{holds_values, value_of}
-use Rattle.ghash.specs.Products.{products_of, shifted, times_x4}
-use Rattle.ghash.specs.declared.groups.TheConstants.{REDUCTIONS}
 use Rattle.ghash.proofs.BitProducts.{term, times_x_even}
 
 -- ---- a sum's product by x^4

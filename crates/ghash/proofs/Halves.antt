@@ -1,9 +1,5 @@
 -- The product of blocks by x^4 in two halves, and the bytes of a block.
-use Rattle.std.proofs.Common.{ap, ap₂, arith, bit_xor, slice_index, suc, sym, zero, ℕ, ◌%◌, ◌*◌, ◌+◌, ◌/◌, ◌<◌, ◌^◌, ◌∙◌, ◌≡◌}
-use Rattle.std.specs.Int.Bits.{xor_zero_r, xor_shifted}
-use Rattle.std.proofs.lemmas.Nat.{xor_block, xor_comm, shr-shr}
-use Rattle.ghash.specs.Products.{joined, times_x4}
-use Rattle.ghash.specs.declared.groups.TheConstants.{REDUCTIONS}
+use Rattle.ghash.proofs.Common.{REDUCTIONS, ap, ap₂, arith, bit_xor, joined, shr-shr, slice_index, suc, sym, times_x4, xor_block, xor_comm, xor_shifted, xor_zero_r, zero, ℕ, ◌%◌, ◌*◌, ◌+◌, ◌/◌, ◌<◌, ◌^◌, ◌∙◌, ◌≡◌}
 use Rattle.ghash.proofs.GroupProducts.{at_top, shifted_four}
 
 -- the sum of joined halves

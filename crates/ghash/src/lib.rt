@@ -5,7 +5,6 @@
 ghost use Rattle.std.specs.Prelude.{◌≡◌, bit_xor, replicate};
 ghost use Rattle.crypto_specs.specs.Prelude.{block_product};
 
-pub use bits::multiply;
 use groups::{multiply_by, products, times_x64};
 use std::marker::Model;
 

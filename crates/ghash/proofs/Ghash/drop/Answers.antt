@@ -1,5 +1,4 @@
-use Rattle.std.proofs.Common.{ap, sym, ℕ, ◌∙◌, ◌≡◌}
-use Rattle.ghash.specs.Products.{products_of, shifted}
+use Rattle.ghash.proofs.Common.{ap, products_of, shifted, sym, ℕ, ◌∙◌, ◌≡◌}
 use Rattle.ghash.proofs.GroupProducts.{products_of_zero, far_products_of_zero}
 use Rattle.ghash.proofs.Ghash.drop.Goals as goal
 

@@ -1,5 +1,4 @@
-use Rattle.std.proofs.Common.{List, ap, slice_index, sym, ℕ, ◌∙◌, ◌≡◌}
-use Rattle.ghash.specs.Products.{products_of, shifted}
+use Rattle.ghash.proofs.Common.{List, ap, products_of, shifted, slice_index, sym, ℕ, ◌∙◌, ◌≡◌}
 use Rattle.ghash.proofs.GroupProducts.{one_in_products}
 use Rattle.ghash.proofs.Ghash.new.Goals as goal
 

@@ -1,6 +1,4 @@
-use Rattle.std.proofs.Common.{List, ap, arith, bit_xor, refl, slice_index, ℕ, ◌%◌, ◌*◌, ◌+◌, ◌/◌, ◌<◌, ◌^◌, ◌∙◌, ◌≡◌}
-use Rattle.crypto_specs.specs.Ghash.{sum_of_shifts}
-use Rattle.ghash.specs.Products.{joined, products_of, shifted}
+use Rattle.ghash.proofs.Common.{List, ap, arith, bit_xor, joined, products_of, refl, shifted, slice_index, sum_of_shifts, ℕ, ◌%◌, ◌*◌, ◌+◌, ◌/◌, ◌<◌, ◌^◌, ◌∙◌, ◌≡◌}
 use Rattle.ghash.proofs.GroupProducts.{halves_summed, next_groups, product_in}
 use Rattle.ghash.proofs.Halves.{byte_is, low_group, high_group}
 use Rattle.ghash.proofs.groups.multiply_by.Goals as goal

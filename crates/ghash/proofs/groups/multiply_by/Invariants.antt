@@ -1,6 +1,4 @@
-use Rattle.std.proofs.Common.{bit_xor, ℕ, ◌*◌, ◌/◌, ◌^◌, ◌≡◌}
-use Rattle.crypto_specs.specs.Ghash.{sum_of_shifts}
-use Rattle.ghash.specs.Products.{joined, products_of, shifted}
+use Rattle.ghash.proofs.Common.{bit_xor, joined, products_of, shifted, sum_of_shifts, ℕ, ◌*◌, ◌/◌, ◌^◌, ◌≡◌}
 use Rattle.ghash.proofs.groups.multiply_by.Given as goal
 
 abbrev pub invariant-bytes : goal.invariant-bytes

@@ -1,6 +1,4 @@
-use Rattle.std.specs.Int.Bits.{xor_zero_r, xor_assoc}
-use Rattle.crypto_specs.specs.Ghash.{sum_of_shifts}
-use Rattle.ghash.specs.Products.{products_of}
+use Rattle.ghash.proofs.Common.{products_of, sum_of_shifts, xor_assoc, xor_zero_r}
 use Rattle.ghash.proofs.groups.products.Goals as goal
 
 pub returns : goal.returns

@@ -1,6 +1,4 @@
-use Rattle.std.proofs.Common.{ap, arith, ℕ, ◌*◌, ◌∙◌}
-use Rattle.std.specs.Int.Bits.{xor_zero_r}
-use Rattle.ghash.specs.Products.{joined, shifted, times_x4}
+use Rattle.ghash.proofs.Common.{ap, arith, joined, shifted, times_x4, xor_zero_r, ℕ, ◌*◌, ◌∙◌}
 use Rattle.ghash.proofs.GroupProducts.{shifted_more}
 use Rattle.ghash.proofs.groups.times_x64.Goals as goal
 

@@ -1,5 +1,4 @@
-use Rattle.std.proofs.Common.{◌*◌, ◌≡◌}
-use Rattle.ghash.specs.Products.{joined, shifted}
+use Rattle.ghash.proofs.Common.{joined, shifted, ◌*◌, ◌≡◌}
 use Rattle.ghash.proofs.groups.times_x64.Given as goal
 
 abbrev pub invariant-groups : goal.invariant-groups

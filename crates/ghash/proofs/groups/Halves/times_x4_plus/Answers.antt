@@ -1,5 +1,4 @@
-use Rattle.std.proofs.Common.{ap, arith, bit_xor, ◌∙◌}
-use Rattle.ghash.specs.Products.{joined, times_x4}
+use Rattle.ghash.proofs.Common.{ap, arith, bit_xor, joined, times_x4, ◌∙◌}
 use Rattle.ghash.proofs.Halves.{halves_shifted}
 use Rattle.ghash.proofs.groups.Halves.times_x4_plus.Goals as goal
 

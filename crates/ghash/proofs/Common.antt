@@ -1,0 +1,11 @@
+-- What several proofs of this crate cite of its words, and of other crates'.
+unfoldable pub use Rattle.crypto_specs.specs.Ghash.{sum_of_shifts}
+pub use Rattle.crypto_specs.specs.Prelude.{reduction}
+unfoldable pub use Rattle.crypto_specs.specs.Prelude.{times_x}
+pub use Rattle.ghash.specs.Products.{joined, times_x4}
+unfoldable pub use Rattle.ghash.specs.Products.{products_of, shifted}
+pub use Rattle.ghash.specs.declared.groups.TheConstants.{REDUCTIONS}
+pub use Rattle.std.proofs.Common.{Bool, List, [], ap, ap₂, arith, bit_xor, cond, eqb, false, map, refl, slice_index, suc, sym, true, zero, ℕ, ◌%◌, ◌*◌, ◌+◌, ◌-◌, ◌/◌, ◌<◌, ◌^◌, ◌∙◌, ◌∷◌, ◌≡◌}
+pub use Rattle.std.proofs.lemmas.Nat.{shr-shr, xor_block, xor_comm}
+pub use Rattle.std.specs.Int.{bit_at}
+pub use Rattle.std.specs.Int.Bits.{xor_assoc, xor_shifted, xor_zero_r}
