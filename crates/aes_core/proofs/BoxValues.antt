@@ -1,6 +1,5 @@
 -- The tables hold the S-box, its inverse and the round constants.
-use Rattle.std.proofs.Common.{arith, refl, slice_index, true, ℕ, ◌*◌, ◌-◌, ◌/◌, ◌<◌, ◌≡◌, ◌≤◌}
-use Rattle.aes_core.proofs.Common.{INV_SBOX, SBOX, affine_bits, div_below, holds_values, inv_affine_bits, inv_sbox, inverse_from, power_of_x, sbox, sum_of_shifts, value_of}
+use Rattle.aes_core.proofs.Common.{INV_SBOX, SBOX, affine_bits, arith, div_below, holds_values, inv_affine_bits, inv_sbox, inverse_from, power_of_x, refl, sbox, slice_index, sum_of_shifts, true, value_of, ℕ, ◌*◌, ◌-◌, ◌/◌, ◌<◌, ◌≡◌, ◌≤◌}
 use Rattle.aes_core.specs.declared.schedule.TheConstants.{ROUND_CONSTANTS}
 
 sbox-test : holds_values sbox 0 SBOX ≡ true

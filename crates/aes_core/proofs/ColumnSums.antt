@@ -1,6 +1,5 @@
 -- Four table entries sum up to a column.
-use Rattle.std.proofs.Common.{List, [], ap, ap₂, arith, bit_xor, refl, slice_index, suc, sym, zero, ℕ, ◌%◌, ◌*◌, ◌++◌, ◌+◌, ◌<◌, ◌∙◌, ◌∷◌, ◌≡◌}
-use Rattle.aes_core.proofs.Common.{be_bytes_4, byte_at, bytes_of, gf_mul, gf_mul-byte, mixed_column, products, xor_assoc, xor_comm}
+use Rattle.aes_core.proofs.Common.{List, [], ap, ap₂, arith, be_bytes_4, bit_xor, byte_at, bytes_of, gf_mul, gf_mul-byte, mixed_column, products, refl, slice_index, suc, sym, xor_assoc, xor_comm, zero, ℕ, ◌%◌, ◌*◌, ◌++◌, ◌+◌, ◌<◌, ◌∙◌, ◌∷◌, ◌≡◌}
 use Rattle.aes_core.proofs.WordBytes.{byte_of_xor-0, byte_of_xor-1, byte_of_xor-2, byte_of_xor-3, row_0, row_1, row_2, row_3, four_words}
 
 -- the bytes of a word of products

@@ -1,8 +1,5 @@
 -- The key schedule, word by word.
-use Rattle.std.proofs.Common.{List, [], ap, ap₂, arith, bit_xor, length, length-append, refl, set, slice_index, suc, sym, take, take-take, zero, ℕ, ◌%◌, ◌*◌, ◌++◌, ◌+◌, ◌-◌, ◌/◌, ◌<◌, ◌∙◌, ◌∷◌, ◌≡◌, ◌≤◌}
-use Rattle.aes_core.proofs.Common.{IsKey, add_word, bytes_of, expanded, key_schedule, next_word, power_of_x, rot_word, round_count, schedule_core, sub_word, take-length, xor_words}
-use Rattle.std.proofs.lemmas.Bool.{eq-eqb}
-use Rattle.std.proofs.lemmas.List.{get_or-take, take-append-le, take_more_set}
+use Rattle.aes_core.proofs.Common.{IsKey, List, [], add_word, ap, ap₂, arith, bit_xor, bytes_of, eq-eqb, expanded, get_or-take, key_schedule, length, length-append, next_word, power_of_x, refl, rot_word, round_count, schedule_core, set, slice_index, sub_word, suc, sym, take, take-append-le, take-length, take-take, take_more_set, xor_words, zero, ℕ, ◌%◌, ◌*◌, ◌++◌, ◌+◌, ◌-◌, ◌/◌, ◌<◌, ◌∙◌, ◌∷◌, ◌≡◌, ◌≤◌}
 use Rattle.aes_core.proofs.WordBytes.{bytes_of-take, bytes_of-append, bytes_of_xor, word_at_is}
 
 -- the first of the three cases

@@ -1,8 +1,5 @@
 -- The schedule of the equivalent inverse cipher, word by word.
-use Rattle.std.proofs.Common.{List, [], ap, arith, inl, inr, length, refl, set, slice_index, ℕ, ◌*◌, ◌+◌, ◌<◌, ◌∙◌, ◌∷◌, ◌≡◌, ◌≤◌, ◌⊎◌}
-use Rattle.aes_core.proofs.Common.{IsInvScheduleOf, bytes_of, inv_mixed_word}
-use Rattle.std.proofs.lemmas.Bool.{cases_eq}
-use Rattle.std.proofs.lemmas.List.{get_or-set_same, get_or-set_other}
+use Rattle.aes_core.proofs.Common.{IsInvScheduleOf, List, [], ap, arith, bytes_of, cases_eq, get_or-set_other, get_or-set_same, inl, inr, inv_mixed_word, length, refl, set, slice_index, ℕ, ◌*◌, ◌+◌, ◌<◌, ◌∙◌, ◌∷◌, ◌≡◌, ◌≤◌, ◌⊎◌}
 
 -- InvMixColumns is taken of the words from 4 up to n, and the others are those of the schedule
 pub record IsDoneBelow (n : ℕ) (schedule inverse : List ℕ) : Type 0 where

@@ -1,6 +1,5 @@
 -- What the fields of a key say of the ciphers under it.
-use Rattle.std.proofs.Common.{List, ap, arith, inl, inr, length, sym, take, ℕ, ◌*◌, ◌+◌, ◌-◌, ◌∙◌, ◌≡◌}
-use Rattle.aes_core.proofs.Common.{IsKey, IsReadyOrWiped, IsScheduleOf, aes_decrypt, aes_encrypt, bytes_of, cipher, inv_cipher, key_of, key_schedule}
+use Rattle.aes_core.proofs.Common.{IsKey, IsReadyOrWiped, IsScheduleOf, List, aes_decrypt, aes_encrypt, ap, arith, bytes_of, cipher, inl, inr, inv_cipher, key_of, key_schedule, length, sym, take, ℕ, ◌*◌, ◌+◌, ◌-◌, ◌∙◌, ◌≡◌}
 use Rattle.aes_core.proofs.WordBytes.{bytes_of-take}
 use Rattle.aes_core.proofs.RoundKeys.{AgreeBelow, agree_taken, cipher_same, inv_cipher_same}
 

@@ -1,6 +1,5 @@
 mod Common
 pub mod BoxValues
-pub mod Doublings
 pub mod WordBytes
 pub mod MixedTables
 pub mod ColumnSums

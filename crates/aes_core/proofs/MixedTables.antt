@@ -1,6 +1,5 @@
 -- The tables of the rounds and of the inverse rounds, entry by entry.
-use Rattle.std.proofs.Common.{List, [], ap, arith, bit_xor, get_or, length, refl, slice_index, true, ℕ, ◌<◌, ◌∙◌, ◌∷◌, ◌≡◌}
-use Rattle.aes_core.proofs.Common.{INV_MIXED_ROWS, INV_SBOX, MIXED_ROWS, SBOX, bytes_of, holds_values, mixed_column, products, sum_of_shifts, value_of}
+use Rattle.aes_core.proofs.Common.{INV_MIXED_ROWS, INV_SBOX, List, MIXED_ROWS, SBOX, [], ap, arith, bit_xor, byte_at, bytes_of, get_or, holds_values, length, mixed_column, products, refl, slice_index, sum_of_shifts, true, value_of, ℕ, ◌/◌, ◌<◌, ◌^◌, ◌∙◌, ◌∷◌, ◌≡◌}
 use Rattle.aes_core.proofs.ColumnSums.{column_of_entries}
 
 abbrev pub row : List (List ℕ) → ℕ → List ℕ
@@ -28,16 +27,17 @@ pub inv_mixed_rows : HoldRows INV_MIXED_ROWS INV_SBOX 14 11 13 9
 unfolding sum_of_shifts
 inv_mixed_rows = record { row_0 = refl; row_1 = refl; row_2 = refl; row_3 = refl; long_0 = refl; long_1 = refl; long_2 = refl; long_3 = refl }
 
--- an entry of each table, at the bytes p, q, r, s, where the box is the function f
-pub column_of_tables : (rows : List (List ℕ)) (box : List ℕ) (f : ℕ → ℕ) (a0 a1 a2 a3 p q r s : ℕ) → HoldRows rows box a0 a1 a2 a3
-    → ((x : ℕ) → x < 256 → slice_index box x ≡ f x) → ((x : ℕ) → f x < 256) → p < 256 → q < 256 → r < 256 → s < 256
-    → bytes_of (bit_xor (bit_xor (bit_xor (slice_index (row rows 0) p) (slice_index (row rows 1) q)) (slice_index (row rows 2) r)) (slice_index (row rows 3) s) ∷ [])
-    ≡ mixed_column a0 a1 a2 a3 (f p) (f q) (f r) (f s)
-column_of_tables rows box f a0 a1 a2 a3 p q r s h box_is all hp hq hr hs =
+-- an entry of each table, at a byte of each word, where the box is the function f
+pub column_of_tables : (rows : List (List ℕ)) (box : List ℕ) (f : ℕ → ℕ) (a0 a1 a2 a3 a b c d : ℕ) → HoldRows rows box a0 a1 a2 a3
+    → ((x : ℕ) → x < 256 → slice_index box x ≡ f x) → ((x : ℕ) → f x < 256) → a < 2 ^ 32
+    → bytes_of (bit_xor (bit_xor (bit_xor (slice_index (row rows 0) (a / 2 ^ 24)) (slice_index (row rows 1) (byte_at 2 b))) (slice_index (row rows 2) (byte_at 1 c))) (slice_index (row rows 3) (byte_at 0 d)) ∷ [])
+    ≡ mixed_column a0 a1 a2 a3 (f (byte_at 3 a)) (f (byte_at 2 b)) (f (byte_at 1 c)) (f (byte_at 0 d))
+column_of_tables rows box f a0 a1 a2 a3 a b c d h box_is all small =
     let at : (t : List ℕ) (b0 b1 b2 b3 x : ℕ) → HoldsRow t box b0 b1 b2 b3 → length t ≡ 256 → x < 256 → slice_index t x ≡ products b0 b1 b2 b3 (f x) =
     λ t b0 b1 b2 b3 x test long below. value_of (λ x. products b0 b1 b2 b3 (slice_index box x)) t x test (omega arith) ∙ ap (products b0 b1 b2 b3) (box_is x below) in
-    column_of_entries a0 a1 a2 a3 (f p) (f q) (f r) (f s) _ _ _ _ (all p) (all q) (all r) (all s)
-    (at (row rows 0) a0 a3 a2 a1 p h.row_0 h.long_0 hp)
-    (at (row rows 1) a1 a0 a3 a2 q h.row_1 h.long_1 hq)
-    (at (row rows 2) a2 a1 a0 a3 r h.row_2 h.long_2 hr)
-    (at (row rows 3) a3 a2 a1 a0 s h.row_3 h.long_3 hs)
+    let highest : a / 2 ^ 24 ≡ byte_at 3 a = omega arith in
+    column_of_entries a0 a1 a2 a3 (f (byte_at 3 a)) (f (byte_at 2 b)) (f (byte_at 1 c)) (f (byte_at 0 d)) _ _ _ _ (all (byte_at 3 a)) (all (byte_at 2 b)) (all (byte_at 1 c)) (all (byte_at 0 d))
+    (ap (slice_index (row rows 0)) highest ∙ at (row rows 0) a0 a3 a2 a1 (byte_at 3 a) h.row_0 h.long_0 (omega arith))
+    (at (row rows 1) a1 a0 a3 a2 (byte_at 2 b) h.row_1 h.long_1 (omega arith))
+    (at (row rows 2) a2 a1 a0 a3 (byte_at 1 c) h.row_2 h.long_2 (omega arith))
+    (at (row rows 3) a3 a2 a1 a0 (byte_at 0 d) h.row_3 h.long_3 (omega arith))

@@ -1,7 +1,6 @@
 -- The rounds one after another, and the round keys that they look at.
-use Rattle.std.proofs.Common.{List, ap, arith, bit_xor, refl, slice_index, suc, sym, take, zero, ℕ, ◌*◌, ◌+◌, ◌-◌, ◌<◌, ◌∙◌, ◌≡◌, ◌≤◌}
-use Rattle.aes_core.proofs.Common.{add_round_key, cipher, entry, inv_cipher, inv_mix_columns, inv_rounds, inv_shift_rows, inv_sub_bytes, mix_columns, rounds, shift_rows, state_of, sub_bytes}
-use Rattle.std.proofs.lemmas.List.{get_or-take}
+use Rattle.aes_core.proofs.Common.{IsTrue, List, add_round_key, ap, arith, bit_xor, cipher, entry, get_or-take, inv_cipher, inv_mix_columns, inv_rounds, inv_shift_rows, inv_sub_bytes, mix_columns, nat_lt, refl, rounds, shift_rows, slice_index, state_of, sub_bytes, suc, sym, take, zero, ℕ, ◌&&◌, ◌*◌, ◌+◌, ◌-◌, ◌<◌, ◌∙◌, ◌≡◌, ◌≤◌}
+use Rattle.std.proofs.lemmas.Bool.Decides.{nat_tests}
 
 pub rounds_none : (w s : List ℕ) (n : ℕ) → n ≡ 0 → add_round_key w s 0 ≡ rounds w s n
 unfolding rounds
@@ -37,29 +36,15 @@ AgreeBelow n w v = (i : ℕ) → i < n → slice_index w i ≡ slice_index v i
 pub agree_taken : (n : ℕ) (w v : List ℕ) → take n w ≡ v → AgreeBelow n w v
 agree_taken n w v e = λ i h. sym (get_or-take n w i 0 h) ∙ ap (λ (l : List ℕ). slice_index l i) e
 
-state_of_same : (f g : ℕ → ℕ → ℕ) → ((r c : ℕ) → r < 4 → c < 4 → f r c ≡ g r c) → state_of f ≡ state_of g
+abbrev IsInState : ℕ → ℕ → Type 0
+IsInState r c = IsTrue (nat_lt r 4 && nat_lt c 4)
+
+state_of_same : (f g : ℕ → ℕ → ℕ) → ((r c : ℕ) → IsInState r c → f r c ≡ g r c) → state_of f ≡ state_of g
 state_of_same f g h =
-    rw (
-      h 0 0 (omega arith) (omega arith),
-      h 1 0 (omega arith) (omega arith),
-      h 2 0 (omega arith) (omega arith),
-      h 3 0 (omega arith) (omega arith),
-      h 0 1 (omega arith) (omega arith),
-      h 1 1 (omega arith) (omega arith),
-      h 2 1 (omega arith) (omega arith),
-      h 3 1 (omega arith) (omega arith),
-      h 0 2 (omega arith) (omega arith),
-      h 1 2 (omega arith) (omega arith),
-      h 2 2 (omega arith) (omega arith),
-      h 3 2 (omega arith) (omega arith),
-      h 0 3 (omega arith) (omega arith),
-      h 1 3 (omega arith) (omega arith),
-      h 2 3 (omega arith) (omega arith),
-      h 3 3 (omega arith) (omega arith),
-    ) refl
+    rw (h 0 0 refl, h 1 0 refl, h 2 0 refl, h 3 0 refl, h 0 1 refl, h 1 1 refl, h 2 1 refl, h 3 1 refl, h 0 2 refl, h 1 2 refl, h 2 2 refl, h 3 2 refl, h 0 3 refl, h 1 3 refl, h 2 3 refl, h 3 3 refl) refl
 
 key_same : (w v s : List ℕ) (nr r : ℕ) → r ≤ nr → AgreeBelow (16 * (nr + 1)) w v → add_round_key w s r ≡ add_round_key v s r
-key_same w v s nr r h a = state_of_same _ _ (λ i c hi hc. ap (bit_xor (entry s i c)) (a (i + 4 * (c + 4 * r)) (omega arith)))
+key_same w v s nr r h a = state_of_same _ _ (λ i c is. ap (bit_xor (entry s i c)) (a (i + 4 * (c + 4 * r)) (grind (arith, nat_tests))))
 
 rounds_same : (w v s : List ℕ) (nr n : ℕ) → n ≤ nr → AgreeBelow (16 * (nr + 1)) w v → rounds w s n ≡ rounds v s n
 unfolding rounds

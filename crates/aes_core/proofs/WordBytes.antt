@@ -1,6 +1,5 @@
 -- The bytes of words: sums of words, words among others, and a block as four of them.
-use Rattle.std.proofs.Common.{List, [], ap, ap₂, arith, bit_xor, length, refl, slice_index, suc, sym, take, zero, ℕ, ◌%◌, ◌*◌, ◌++◌, ◌+◌, ◌/◌, ◌<◌, ◌^◌, ◌∙◌, ◌∷◌, ◌≡◌}
-use Rattle.aes_core.proofs.Common.{add_round_key, byte_at, bytes_of, number_block, word_at, xor_words}
+use Rattle.aes_core.proofs.Common.{List, [], add_round_key, ap, ap₂, arith, bit_xor, byte_at, bytes_of, length, number_block, refl, slice_index, suc, sym, take, word_at, xor_words, zero, ℕ, ◌%◌, ◌*◌, ◌++◌, ◌+◌, ◌/◌, ◌<◌, ◌^◌, ◌∙◌, ◌∷◌, ◌≡◌}
 use Rattle.cipher_blocks.proofs.BlockNumbers.{block_of_xor}
 
 -- ---- sums

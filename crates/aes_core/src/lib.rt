@@ -7,7 +7,7 @@ ghost use Rattle.aes_core.specs.KeyFields.{IsWiped};
 
 use cipher_blocks::number_of;
 use inv_schedule::inv_key_expansion;
-use rounds::{cipher, eq_inv_cipher, inv_cipher};
+use rounds::{cipher, eq_inv_cipher};
 use schedule::key_expansion;
 use std::marker::Model;
 
@@ -16,10 +16,8 @@ mod inv_columns;
 mod inv_mixed_tables;
 mod inv_schedule;
 mod mixed_tables;
-mod products;
 mod rounds;
 mod schedule;
-mod state;
 mod tables;
 
 /// A key with its schedules, for encryption and for decryption. A contract sees the key's bytes, and
@@ -76,7 +74,7 @@ impl AesKey {
         requires { IsKey self.now }
         ensures { block.new ≡ aes_decrypt self.now block.old }
     {
-        *block = inv_cipher(&self.schedule, self.rounds, *block);
+        *block = self.decrypt_number(number_of(block)).to_be_bytes();
     }
 
     /// The block enciphered, where a block is a number whose highest byte is the block's first.

@@ -1,4 +1,4 @@
-// The cipher and its inverse, round by round over the schedule (FIPS 197 sections 5.1 and 5.3).
+// The cipher and its inverse, round by round over the schedule (FIPS 197 sections 5.1 and 5.3.5).
 
 ghost use Rattle.std.specs.Prelude.{◌≡◌, ◌-◌, ◌%◌, ◌<◌, ◌≤◌, ℕ, List};
 ghost use Rattle.crypto_specs.specs.Prelude.{number_block, cipher, rounds, inv_cipher, inv_rounds};
@@ -7,7 +7,6 @@ ghost use Rattle.aes_core.specs.KeyFields.{IsInvScheduleOf};
 
 use crate::columns::{add_round_key, block_of, columns_of, last_columns, mixed_columns};
 use crate::inv_columns::{inv_last_columns, inv_mixed_columns};
-use crate::state::{add_key_bytes, inv_mix_columns, inv_shift_rows, inv_sub_bytes};
 
 // By tables. A block is a number whose highest byte is the first one.
 pub(crate) fn cipher(schedule: &[u32; 60], rounds: usize, block: u128) -> u128
@@ -67,21 +66,4 @@ fn first_inv_rounds(inverse: &[u32; 60], count: usize, block: u128) -> [u32; 4]
         return state;
     }
     add_round_key(inverse, inv_mixed_columns(state), count - 1)
-}
-
-// By the standard's steps, one after another.
-pub(crate) fn inv_cipher(schedule: &[u32; 60], rounds: usize, block: [u8; 16]) -> [u8; 16]
-    requires low { 1 ≤ rounds }
-    requires high { rounds < 15 }
-    ensures { result ≡ inv_cipher (bytes_of schedule.now) rounds block }
-{
-    let mut state = add_key_bytes(schedule, block, rounds);
-    'inv_rounds: for round in 1..rounds {
-        state = inv_mix_columns(add_key_bytes(
-            schedule,
-            inv_sub_bytes(inv_shift_rows(state)),
-            rounds - round,
-        ));
-    }
-    add_key_bytes(schedule, inv_sub_bytes(inv_shift_rows(state)), 0)
 }

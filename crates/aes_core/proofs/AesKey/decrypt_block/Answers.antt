@@ -1,8 +1,6 @@
-use Rattle.std.proofs.Common.{◌∙◌}
-use Rattle.aes_core.proofs.KeyRules.{ready, inv_cipher_of}
+use Rattle.aes_core.proofs.Common.{aes_decrypt, ap, number_block, ◌∙◌}
 use Rattle.aes_core.proofs.AesKey.decrypt_block.Goals as goal
 
 pub returns : goal.returns
-returns c =
-    let s = c.self.inside in
-    c.inv_cipher.ensures ∙ inv_cipher_of c.args.self.now s.schedule s.inverse c.args.block.now s.rounds (ready c.args.self.now s.schedule s.inverse s.rounds c.self.invariant c.self.view_is c.requires)
+unfolding number_block
+returns c = c.to_be_bytes.ensures ∙ c.decrypt_number.ensures ∙ ap (aes_decrypt c.args.self.now) c.number_of.ensures.block

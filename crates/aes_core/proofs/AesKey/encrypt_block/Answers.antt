@@ -1,5 +1,4 @@
-use Rattle.std.proofs.Common.{ap, ◌∙◌}
-use Rattle.aes_core.proofs.Common.{aes_encrypt, number_block}
+use Rattle.aes_core.proofs.Common.{aes_encrypt, ap, number_block, ◌∙◌}
 use Rattle.aes_core.proofs.AesKey.encrypt_block.Goals as goal
 
 pub returns : goal.returns

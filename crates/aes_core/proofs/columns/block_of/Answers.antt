@@ -1,4 +1,4 @@
-use Rattle.std.proofs.Common.{arith}
+use Rattle.aes_core.proofs.Common.{arith}
 use Rattle.aes_core.proofs.WordBytes.{block_of_words}
 use Rattle.aes_core.proofs.columns.block_of.Goals as goal
 

@@ -1,5 +1,4 @@
-use Rattle.std.proofs.Common.{ℕ}
-use Rattle.aes_core.proofs.Common.{mixed_column, sbox}
+use Rattle.aes_core.proofs.Common.{mixed_column, sbox, ℕ}
 use Rattle.aes_core.proofs.ColumnSums.{four_columns}
 use Rattle.aes_core.proofs.columns.mixed_columns.Goals as goal
 

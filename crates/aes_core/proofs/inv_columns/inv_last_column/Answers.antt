@@ -1,4 +1,4 @@
-use Rattle.std.proofs.Common.{refl, ◌∙◌}
+use Rattle.aes_core.proofs.Common.{refl, ◌∙◌}
 use Rattle.aes_core.proofs.inv_columns.inv_last_column.Goals as goal
 
 pub returns : goal.returns

@@ -1,5 +1,4 @@
-use Rattle.std.proofs.Common.{List, ap, arith, ℕ, ◌+◌, ◌-◌, ◌∙◌, ◌≡◌}
-use Rattle.aes_core.proofs.Common.{add_round_key, bytes_of, number_block, rounds, shift_rows, sub_bytes}
+use Rattle.aes_core.proofs.Common.{List, add_round_key, ap, arith, bytes_of, number_block, rounds, shift_rows, sub_bytes, ℕ, ◌+◌, ◌-◌, ◌∙◌, ◌≡◌}
 use Rattle.aes_core.proofs.RoundKeys.{rounds_next}
 use Rattle.aes_core.proofs.rounds.cipher.Goals as goal
 

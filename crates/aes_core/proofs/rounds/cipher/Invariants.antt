@@ -1,5 +1,4 @@
-use Rattle.std.proofs.Common.{◌%◌, ◌-◌, ◌≡◌, ◌≤◌}
-use Rattle.aes_core.proofs.Common.{bytes_of, number_block, rounds}
+use Rattle.aes_core.proofs.Common.{bytes_of, number_block, rounds, ◌%◌, ◌-◌, ◌≡◌, ◌≤◌}
 use Rattle.aes_core.proofs.rounds.cipher.Given as goal
 
 abbrev pub invariant-rounds : goal.invariant-rounds

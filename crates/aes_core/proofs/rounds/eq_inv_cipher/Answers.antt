@@ -1,5 +1,4 @@
-use Rattle.std.proofs.Common.{List, ap, ap₂, arith, inl, refl, ℕ, ◌+◌, ◌-◌, ◌∙◌, ◌≡◌, ◌≤◌}
-use Rattle.aes_core.proofs.Common.{IsInvScheduleOf, add_round_key, bytes_of, inv_rounds, inv_shift_rows, inv_sub_bytes, number_block}
+use Rattle.aes_core.proofs.Common.{IsInvScheduleOf, List, add_round_key, ap, ap₂, arith, bytes_of, inl, inv_rounds, inv_shift_rows, inv_sub_bytes, number_block, refl, ℕ, ◌+◌, ◌-◌, ◌∙◌, ◌≡◌, ◌≤◌}
 use Rattle.aes_core.proofs.InvColumns.{outer_key, eq_inv_next}
 use Rattle.aes_core.proofs.rounds.eq_inv_cipher.Goals as goal
 

@@ -1,5 +1,4 @@
-use Rattle.std.proofs.Common.{List, ℕ, ◌%◌, ◌-◌, ◌≡◌, ◌≤◌}
-use Rattle.aes_core.proofs.Common.{IsInvScheduleOf, bytes_of, inv_rounds, number_block}
+use Rattle.aes_core.proofs.Common.{IsInvScheduleOf, List, bytes_of, inv_rounds, number_block, ℕ, ◌%◌, ◌-◌, ◌≡◌, ◌≤◌}
 use Rattle.aes_core.proofs.rounds.eq_inv_cipher.Given as goal
 
 abbrev pub invariant-inv_rounds : goal.invariant-inv_rounds

@@ -1,5 +1,4 @@
-use Rattle.std.proofs.Common.{List, ap, arith, inr, ℕ, ◌-◌, ◌∙◌}
-use Rattle.aes_core.proofs.Common.{add_round_key, bytes_of, inv_rounds, number_block}
+use Rattle.aes_core.proofs.Common.{List, add_round_key, ap, arith, bytes_of, inr, inv_rounds, number_block, ℕ, ◌-◌, ◌∙◌}
 use Rattle.aes_core.proofs.InvColumns.{outer_key, eq_inv_next}
 use Rattle.aes_core.proofs.RoundKeys.{inv_rounds_none}
 use Rattle.aes_core.proofs.rounds.first_inv_rounds.Goals as goal

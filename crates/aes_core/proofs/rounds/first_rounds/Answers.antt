@@ -1,5 +1,4 @@
-use Rattle.std.proofs.Common.{List, ap, arith, ℕ, ◌-◌, ◌∙◌}
-use Rattle.aes_core.proofs.Common.{add_round_key, bytes_of, number_block, rounds}
+use Rattle.aes_core.proofs.Common.{List, add_round_key, ap, arith, bytes_of, number_block, rounds, ℕ, ◌-◌, ◌∙◌}
 use Rattle.aes_core.proofs.RoundKeys.{rounds_none, rounds_next}
 use Rattle.aes_core.proofs.rounds.first_rounds.Goals as goal
 

@@ -1,5 +1,4 @@
-use Rattle.std.proofs.Common.{arith, ◌*◌, ◌+◌, ◌-◌, ◌∙◌, ◌≡◌}
-use Rattle.std.proofs.lemmas.List.{length-set}
+use Rattle.aes_core.proofs.Common.{arith, length-set, ◌*◌, ◌+◌, ◌-◌, ◌∙◌, ◌≡◌}
 use Rattle.aes_core.proofs.Expansion.{word_added, expanded_next, schedule_done, schedule_begins, words_start}
 use Rattle.aes_core.proofs.schedule.key_expansion.Goals as goal
 

@@ -1,5 +1,4 @@
-use Rattle.std.proofs.Common.{length, take, ◌-◌, ◌≡◌}
-use Rattle.aes_core.proofs.Common.{bytes_of, expanded}
+use Rattle.aes_core.proofs.Common.{bytes_of, expanded, length, take, ◌-◌, ◌≡◌}
 use Rattle.aes_core.proofs.schedule.key_expansion.Given as goal
 
 abbrev pub invariant-words : goal.invariant-words

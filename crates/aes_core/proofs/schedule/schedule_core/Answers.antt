@@ -1,5 +1,4 @@
-use Rattle.std.proofs.Common.{ap, ◌∙◌}
-use Rattle.aes_core.proofs.Common.{sub_word}
+use Rattle.aes_core.proofs.Common.{ap, sub_word, ◌∙◌}
 use Rattle.aes_core.proofs.BoxValues.{round_constant_at}
 use Rattle.aes_core.proofs.Expansion.{core_at_start}
 use Rattle.aes_core.proofs.schedule.schedule_core.Goals as goal

@@ -1,6 +1,4 @@
-use Rattle.std.proofs.Common.{ap, arith, length, take, ℕ, ◌*◌, ◌/◌, ◌∙◌, ◌≡◌}
-use Rattle.aes_core.proofs.Common.{bytes_of, take-length}
-use Rattle.std.proofs.lemmas.List.{length-set}
+use Rattle.aes_core.proofs.Common.{ap, arith, bytes_of, length, length-set, take, take-length, ℕ, ◌*◌, ◌/◌, ◌∙◌, ◌≡◌}
 use Rattle.aes_core.proofs.Expansion.{key_word}
 use Rattle.aes_core.proofs.schedule.with_room.Goals as goal
 

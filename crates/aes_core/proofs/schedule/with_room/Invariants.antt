@@ -1,5 +1,4 @@
-use Rattle.std.proofs.Common.{length, take, ◌*◌, ◌≡◌}
-use Rattle.aes_core.proofs.Common.{bytes_of}
+use Rattle.aes_core.proofs.Common.{bytes_of, length, take, ◌*◌, ◌≡◌}
 use Rattle.aes_core.proofs.schedule.with_room.Given as goal
 
 abbrev pub invariant-words : goal.invariant-words
