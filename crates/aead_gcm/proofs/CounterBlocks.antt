@@ -1,8 +1,6 @@
 -- Counter blocks, and the key stream.
-use Rattle.std.proofs.Common.{List, [], add-one, ap, arith, length, refl, suc, zero, ℕ, ◌%◌, ◌*◌, ◌++◌, ◌+◌, ◌/◌, ◌^◌, ◌∙◌, ◌≡◌}
+use Rattle.aead_gcm.proofs.Common.{List, [], add-one, aes_encrypt, ap, arith, block_number, gcm_stream, ghash_of, hash_subkey, increased, initial_counter_block, length, length-append, number_block, refl, suc, zero, ℕ, ◌%◌, ◌*◌, ◌++◌, ◌+◌, ◌/◌, ◌^◌, ◌∙◌, ◌≡◌}
 use Rattle.std.proofs.lemmas.Bool.{eq-eqb, ne_eqb}
-use Rattle.std.proofs.lemmas.List.{length-append}
-use Rattle.crypto_specs.specs.Prelude.{aes_encrypt, block_number, number_block, gcm_stream, increased, ghash_of, initial_counter_block, hash_subkey}
 use Rattle.crypto_specs.proofs.Blocks.{length-aes_encrypt}
 
 pub one_more : (b : ℕ) → b / 2 ^ 32 * 2 ^ 32 + (b % 2 ^ 32 + 1) % 2 ^ 32 ≡ increased b 1

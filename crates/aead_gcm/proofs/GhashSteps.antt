@@ -1,7 +1,5 @@
 -- GHASH block by block.
-use Rattle.std.proofs.Common.{List, [], ap, ap₂, arith, bit_xor, drop, length, map, min, refl, suc, sym, take, ℕ, ◌*◌, ◌++◌, ◌+◌, ◌-◌, ◌<◌, ◌∙◌, ◌∷◌, ◌≡◌}
-use Rattle.std.proofs.lemmas.List.{drop-drop, take_min, length-drop}
-use Rattle.crypto_specs.specs.Prelude.{ghash_from, block_product, blocks, block_count, block_number, numbers_of, ghash_of, length_block}
+use Rattle.aead_gcm.proofs.Common.{List, [], ap, ap₂, arith, bit_xor, block_count, block_number, block_product, blocks, drop, drop-drop, ghash_from, ghash_of, length, length-drop, length_block, map, min, numbers_of, refl, suc, sym, take, take_min, ℕ, ◌*◌, ◌++◌, ◌+◌, ◌-◌, ◌<◌, ◌∙◌, ◌∷◌, ◌≡◌}
 
 -- GHASH of the n blocks that are left of a text
 abbrev pub rest_from : ℕ → ℕ → ℕ → List ℕ → ℕ

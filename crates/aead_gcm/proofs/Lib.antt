@@ -1,3 +1,4 @@
+mod Common
 pub mod GhashSteps
 pub mod CounterBlocks
 pub mod Tags

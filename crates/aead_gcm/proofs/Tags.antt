@@ -1,6 +1,5 @@
 -- The tag of a text, and the text.
-use Rattle.std.proofs.Common.{List, ap, ap₂, length, take, ℕ, ◌∙◌, ◌≡◌}
-use Rattle.crypto_specs.specs.Prelude.{xor_bytes, block_count, number_block, gcm_stream, ghash_of, initial_counter_block, hash_subkey, gcm_tag, gcm_text}
+use Rattle.aead_gcm.proofs.Common.{List, ap, ap₂, block_count, gcm_stream, gcm_tag, gcm_text, ghash_of, hash_subkey, initial_counter_block, length, number_block, take, xor_bytes, ℕ, ◌∙◌, ◌≡◌}
 
 pub tag_is : (e : List ℕ → List ℕ) (nonce ad text whole : List ℕ) (h y t : ℕ) → h ≡ hash_subkey e → (h ≡ hash_subkey e → y ≡ initial_counter_block e nonce)
     → whole ≡ xor_bytes (e (number_block y)) (number_block (ghash_of h ad text)) → take t whole ≡ gcm_tag e t nonce ad text

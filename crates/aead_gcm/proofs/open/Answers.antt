@@ -1,5 +1,4 @@
-use Rattle.std.proofs.Common.{false, length, true}
-use Rattle.crypto_specs.specs.Prelude.{aes_encrypt, number_block}
+use Rattle.aead_gcm.proofs.Common.{aes_encrypt, false, length, number_block, true}
 use Rattle.cipher_blocks.proofs.FilledBlocks.{decided_of_equal}
 use Rattle.aead_gcm.proofs.Tags.{tag_is, text_is}
 use Rattle.aead_gcm.proofs.open.Goals as goal

@@ -1,6 +1,4 @@
-use Rattle.std.proofs.Common.{ap, ap₂, ◌∙◌}
-use Rattle.crypto_specs.specs.Prelude.{xor_bytes, number_block}
-use Rattle.cipher_blocks.proofs.BlockNumbers.{block_of_xor}
+use Rattle.aead_gcm.proofs.Common.{ap, ap₂, block_of_xor, number_block, xor_bytes, ◌∙◌}
 use Rattle.aead_gcm.proofs.whole_tag.Goals as goal
 
 pub returns : goal.returns

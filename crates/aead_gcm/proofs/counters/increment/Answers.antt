@@ -1,4 +1,4 @@
-use Rattle.std.proofs.Common.{ap, arith, ℕ, ◌%◌, ◌+◌, ◌^◌, ◌∙◌}
+use Rattle.aead_gcm.proofs.Common.{ap, arith, ℕ, ◌%◌, ◌+◌, ◌^◌, ◌∙◌}
 use Rattle.aead_gcm.proofs.CounterBlocks.{one_more}
 use Rattle.aead_gcm.proofs.counters.increment.Goals as goal
 

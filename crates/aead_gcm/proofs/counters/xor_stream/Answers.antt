@@ -1,5 +1,4 @@
-use Rattle.std.proofs.Common.{List, ap, arith, drop, refl, sym, take, ℕ, ◌*◌, ◌++◌, ◌+◌, ◌∙◌}
-use Rattle.crypto_specs.specs.Prelude.{aes_encrypt, xor_bytes, number_block, gcm_stream}
+use Rattle.aead_gcm.proofs.Common.{List, aes_encrypt, ap, arith, drop, gcm_stream, number_block, refl, sym, take, xor_bytes, ℕ, ◌*◌, ◌++◌, ◌+◌, ◌∙◌}
 use Rattle.crypto_specs.proofs.XorBytes.{next_block_xored, blocks_xored}
 use Rattle.aead_gcm.proofs.CounterBlocks.{increased_by_0, increased_next, length-gcm_stream, gcm_stream_next}
 use Rattle.aead_gcm.proofs.counters.xor_stream.Goals as goal

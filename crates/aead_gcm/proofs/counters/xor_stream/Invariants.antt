@@ -1,5 +1,4 @@
-use Rattle.std.proofs.Common.{drop, take, ◌*◌, ◌++◌, ◌≡◌}
-use Rattle.crypto_specs.specs.Prelude.{xor_bytes, aes_encrypt, gcm_stream, increased}
+use Rattle.aead_gcm.proofs.Common.{aes_encrypt, drop, gcm_stream, increased, take, xor_bytes, ◌*◌, ◌++◌, ◌≡◌}
 use Rattle.aead_gcm.proofs.counters.xor_stream.Given as goal
 
 abbrev pub invariant-turns : goal.invariant-turns

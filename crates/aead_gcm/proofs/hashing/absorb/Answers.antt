@@ -1,5 +1,4 @@
-use Rattle.std.proofs.Common.{ap, ap₂, arith, bit_xor, ℕ, ◌∙◌}
-use Rattle.crypto_specs.specs.Prelude.{block_product, numbers_of}
+use Rattle.aead_gcm.proofs.Common.{ap, ap₂, arith, bit_xor, block_product, numbers_of, ℕ, ◌∙◌}
 use Rattle.aead_gcm.proofs.GhashSteps.{block_taken, all_taken}
 use Rattle.aead_gcm.proofs.hashing.absorb.Goals as goal
 

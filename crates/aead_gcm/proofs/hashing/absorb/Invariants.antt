@@ -1,5 +1,4 @@
-use Rattle.std.proofs.Common.{drop, length, ◌*◌, ◌-◌, ◌≡◌}
-use Rattle.crypto_specs.specs.Prelude.{block_count}
+use Rattle.aead_gcm.proofs.Common.{block_count, drop, length, ◌*◌, ◌-◌, ◌≡◌}
 use Rattle.aead_gcm.proofs.GhashSteps.{rest_from}
 use Rattle.aead_gcm.proofs.hashing.absorb.Given as goal
 

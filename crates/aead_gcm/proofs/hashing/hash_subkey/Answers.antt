@@ -1,6 +1,4 @@
-use Rattle.std.proofs.Common.{ap, sym, ◌∙◌}
-use Rattle.crypto_specs.specs.Prelude.{hash_subkey, block_number}
-use Rattle.cipher_blocks.proofs.BlockNumbers.{number_of_block}
+use Rattle.aead_gcm.proofs.Common.{ap, block_number, hash_subkey, number_of_block, sym, ◌∙◌}
 use Rattle.aead_gcm.proofs.hashing.hash_subkey.Goals as goal
 
 pub returns : goal.returns
