@@ -1,7 +1,5 @@
 -- The chain over the formatted blocks, in parts.
-use Rattle.std.proofs.Common.{List, ap, ap₂, arith, bit_xor, drop, length, min, refl, replicate, sym, take, ℕ, ◌*◌, ◌++◌, ◌+◌, ◌-◌, ◌<◌, ◌∙◌, ◌∷◌, ◌≡◌}
-use Rattle.aead_ccm.proofs.Common.{block_count, block_of_xor, chain_step, chained, chained_from, filled_block, filled_blocks, number_block, take_min, xor_bytes, xor_zero_l}
-use Rattle.std.proofs.lemmas.List.{drop-drop, length-drop}
+use Rattle.aead_ccm.proofs.Common.{List, ap, ap₂, arith, bit_xor, block_count, block_of_xor, chain_step, chained, chained_from, drop, drop-drop, filled_block, filled_blocks, length, length-drop, min, number_block, refl, replicate, sym, take, take_min, xor_bytes, xor_zero_l, ℕ, ◌*◌, ◌++◌, ◌+◌, ◌-◌, ◌<◌, ◌∙◌, ◌∷◌, ◌≡◌}
 use Rattle.std.proofs.lemmas.List.Sums.{fold-append}
 use Rattle.aead_ccm.proofs.FilledBlocks.{filled_blocks-next, filled_blocks-empty}
 
@@ -30,7 +28,7 @@ block_chained e v x w n end text below ee ex ew =
 pub all_chained : (e : List ℕ → List ℕ) (y text : List ℕ) (n : ℕ) → block_count (length text) ≡ n → y ≡ chained_from e y (filled_blocks (drop (16 * n) text))
 all_chained e y text n h = sym (ap (chained_from e y) (filled_blocks-empty (drop (16 * n) text) (omega (arith, length-drop (16 * n) text))))
 
-zero_block : number_block 0 ≡ replicate 16 0
+pub zero_block : number_block 0 ≡ replicate 16 0
 unfolding number_block
 zero_block = refl
 

@@ -1,8 +1,5 @@
 -- The blocks of a text whose end is filled with zeros.
-use Rattle.std.proofs.Common.{List, [], ap, ap₂, arith, drop, inl, inr, length, replicate, suc, sym, take, ℕ, ◌%◌, ◌++◌, ◌-◌, ◌<◌, ◌∙◌, ◌∷◌, ◌≡◌}
-use Rattle.aead_ccm.proofs.Common.{block_count, blocks, drop-append-le, filled_block, filled_blocks, length-replicate, take-append-le, zero_filled}
-use Rattle.std.proofs.lemmas.Bool.{cases_lt}
-use Rattle.std.proofs.lemmas.List.{length-append, length-drop, length-take, take_all, append-nil}
+use Rattle.aead_ccm.proofs.Common.{List, [], ap, append-nil, ap₂, arith, block_count, blocks, cases_lt, drop, drop-append-le, filled_block, filled_blocks, inl, inr, length, length-append, length-drop, length-replicate, length-take, replicate, suc, sym, take, take-append-le, take_all, zero_filled, ℕ, ◌%◌, ◌++◌, ◌-◌, ◌<◌, ◌∙◌, ◌∷◌, ◌≡◌}
 
 filled_block-whole : (block : List ℕ) → length block ≡ 16 → filled_block block ≡ block
 filled_block-whole block h =

@@ -1,9 +1,5 @@
 -- The formatted blocks, as they are written.
-use Rattle.std.proofs.Common.{List, [], ap, arith, drop, length, min, refl, replicate, slice_set, sym, take, ℕ, ◌++◌, ◌+◌, ◌-◌, ◌<◌, ◌∙◌, ◌∷◌, ◌≡◌, ◌≤◌}
-use Rattle.aead_ccm.proofs.Common.{byte_at, drop-replicate, drop_min, encoded_data, encoded_length, filled_block, in_bytes, to_be_bytes, w128}
-use Rattle.std.specs.Int.{w16, w32, w64}
-use Rattle.std.proofs.lemmas.Bool.{eq-eqb, ne_eqb, lt-ltb, le-ltb}
-use Rattle.std.proofs.lemmas.List.{drop-drop, length-append}
+use Rattle.aead_ccm.proofs.Common.{List, [], ap, arith, byte_at, drop, drop-drop, drop-replicate, drop_min, encoded_data, encoded_length, eq-eqb, filled_block, in_bytes, le-ltb, length, length-append, lt-ltb, min, ne_eqb, refl, replicate, slice_set, sym, take, to_be_bytes, w128, w16, w32, w64, ℕ, ◌++◌, ◌+◌, ◌-◌, ◌<◌, ◌∙◌, ◌∷◌, ◌≡◌, ◌≤◌}
 
 -- ---- a number in its bytes
 

@@ -1,8 +1,5 @@
 -- The key stream block by block.
-use Rattle.std.proofs.Common.{List, [], add-one, ap, ap₂, arith, bit_xor, drop, length, refl, replicate, suc, sym, take, zero, ℕ, ◌%◌, ◌*◌, ◌++◌, ◌+◌, ◌-◌, ◌<◌, ◌^◌, ◌∙◌, ◌∷◌, ◌≡◌, ◌≤◌}
-use Rattle.aead_ccm.proofs.Common.{aes_encrypt, block_count, block_of_xor, byte_at, byte_at_is, bytes_high_first, ccm_counter_block, ccm_stream, ccm_text, div-eq_of_lt, drop-append-le, drop-replicate, in_bytes, length-replicate, length-xor_bytes, masks, number_block, pow-le-pow_right, power_of_256, to_be_bytes, w128, xor_bytes, xor_bytes-append, xor_bytes_to_end, xor_zero_l, xor_zero_r}
-use Rattle.std.specs.Int.{w64}
-use Rattle.std.proofs.lemmas.List.{length-append, length-drop, length-take, take-append-drop, drop_at, drop-drop, append_assoc, append-nil}
+use Rattle.aead_ccm.proofs.Common.{List, [], add-one, aes_encrypt, ap, append-nil, append_assoc, ap₂, arith, bit_xor, block_count, block_of_xor, byte_at, byte_at_is, bytes_high_first, ccm_counter_block, ccm_stream, ccm_text, div-eq_of_lt, drop, drop-append-le, drop-drop, drop-replicate, drop_at, in_bytes, length, length-append, length-drop, length-replicate, length-take, length-xor_bytes, masks, number_block, pow-le-pow_right, power_of_256, refl, replicate, suc, sym, take, take-append-drop, to_be_bytes, w128, w64, xor_bytes, xor_bytes-append, xor_bytes_to_end, xor_zero_l, xor_zero_r, zero, ℕ, ◌%◌, ◌*◌, ◌++◌, ◌+◌, ◌-◌, ◌<◌, ◌^◌, ◌∙◌, ◌∷◌, ◌≡◌, ◌≤◌}
 use Rattle.crypto_specs.proofs.Blocks.{length-aes_encrypt}
 use Rattle.aead_ccm.specs.Lengths.{IsNonceLength, IsPayloadLength}
 use Rattle.aead_ccm.proofs.Formats.{last_bytes}
@@ -77,7 +74,7 @@ masks_are e nonce first (suc n) long is_first below =
     ap₂ (λ (l b : List ℕ). l ++ e b) (masks_are e nonce first n long is_first (omega arith)) (counter_is nonce first (n + 1) long is_first (omega arith))
 
 -- there are fewer blocks than counters
-blocks_fit : (n q : ℕ) → 2 ≤ q → n < 2 ^ (8 * q) → block_count n < 256 ^ q
+pub blocks_fit : (n q : ℕ) → 2 ≤ q → n < 2 ^ (8 * q) → block_count n < 256 ^ q
 blocks_fit n q h less =
     let same : 256 ^ q ≡ 2 ^ (8 * q) = power_of_256 q in
     let some : 2 ^ 16 ≤ 2 ^ (8 * q) = pow-le-pow_right {n = 2} (omega arith) {i = 16} {j = 8 * q} (omega arith) in

@@ -1,8 +1,6 @@
 -- Whether a payload's length fits.
-use Rattle.std.proofs.Common.{IsTrue, arith, eqb, ℕ, ◌*◌, ◌+◌, ◌/◌, ◌<◌, ◌^◌, ◌↔◌, ◌≡◌}
-use Rattle.aead_ccm.proofs.Common.{div-eq_of_lt, lt-div-mul-add}
+use Rattle.aead_ccm.proofs.Common.{IsTrue, arith, div-eq_of_lt, eq-eqb, eqb, eqb-true, lt-div-mul-add, ℕ, ◌*◌, ◌+◌, ◌/◌, ◌<◌, ◌^◌, ◌↔◌, ◌≡◌}
 use Rattle.std.proofs.lemmas.Nat.{pow_pos}
-use Rattle.std.proofs.lemmas.Bool.{eqb-true, eq-eqb}
 
 below : (p m : ℕ) → 0 < m → p / m ≡ 0 → p < m
 below p m some none =

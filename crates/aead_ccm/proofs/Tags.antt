@@ -1,6 +1,5 @@
 -- The tag of a payload.
-use Rattle.std.proofs.Common.{List, ap, ap₂, bit_xor, length, take, ℕ, ◌∙◌, ◌∷◌, ◌≡◌}
-use Rattle.aead_ccm.proofs.Common.{block_of_xor, ccm_counter_block, ccm_tag, chained, chained_from, control_block, encoded_data, filled_blocks, formatted_blocks, number_block, xor_bytes}
+use Rattle.aead_ccm.proofs.Common.{List, ap, ap₂, bit_xor, block_of_xor, ccm_counter_block, ccm_tag, chained, chained_from, control_block, encoded_data, filled_blocks, formatted_blocks, length, number_block, take, xor_bytes, ℕ, ◌∙◌, ◌∷◌, ◌≡◌}
 use Rattle.aead_ccm.proofs.Chains.{payload_chained}
 
 pub tag_is : (e : List ℕ → List ℕ) (nonce ad payload : List ℕ) (t chain mac first mask : ℕ)

@@ -1,5 +1,4 @@
-use Rattle.std.proofs.Common.{ap, false, length, sym, true, ℕ, ◌∙◌, ◌∷◌}
-use Rattle.aead_ccm.proofs.Common.{aes_encrypt, ccm_tag, chained, control_block, encoded_data, filled_blocks}
+use Rattle.aead_ccm.proofs.Common.{aes_encrypt, ap, ccm_tag, chained, control_block, encoded_data, false, filled_blocks, length, sym, true, ℕ, ◌∙◌, ◌∷◌}
 use Rattle.cipher_blocks.proofs.FilledBlocks.{decided_of_equal}
 use Rattle.aead_ccm.proofs.KeyStream.{text_is}
 use Rattle.aead_ccm.proofs.Tags.{tag_is}

@@ -1,6 +1,4 @@
-use Rattle.std.proofs.Common.{ap, arith, drop, length, sym, take, ◌-◌, ◌<◌, ◌∙◌, ◌≡◌}
-use Rattle.aead_ccm.proofs.Common.{aes_encrypt, chained_from, encoded_data, number_block}
-use Rattle.std.proofs.lemmas.List.{take_all, length-drop}
+use Rattle.aead_ccm.proofs.Common.{aes_encrypt, ap, arith, chained_from, drop, encoded_data, length, length-drop, number_block, sym, take, take_all, ◌-◌, ◌<◌, ◌∙◌, ◌≡◌}
 use Rattle.aead_ccm.proofs.FilledBlocks.{filled_blocks-empty}
 use Rattle.aead_ccm.proofs.Formats.{no_data, data_is_some}
 use Rattle.aead_ccm.proofs.Chains.{front_chained}

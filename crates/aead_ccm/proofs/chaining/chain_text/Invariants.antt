@@ -1,5 +1,4 @@
-use Rattle.std.proofs.Common.{drop, ◌*◌, ◌≡◌}
-use Rattle.aead_ccm.proofs.Common.{aes_encrypt, chained_from, filled_blocks, number_block}
+use Rattle.aead_ccm.proofs.Common.{aes_encrypt, chained_from, drop, filled_blocks, number_block, ◌*◌, ◌≡◌}
 use Rattle.aead_ccm.proofs.chaining.chain_text.Given as goal
 
 abbrev pub invariant-turns : goal.invariant-turns

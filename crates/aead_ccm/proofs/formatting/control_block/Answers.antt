@@ -1,5 +1,4 @@
-use Rattle.std.proofs.Common.{ap, length, ℕ, ◌++◌, ◌-◌, ◌∙◌, ◌∷◌}
-use Rattle.aead_ccm.proofs.Common.{control_block, in_bytes}
+use Rattle.aead_ccm.proofs.Common.{ap, control_block, in_bytes, length, ℕ, ◌++◌, ◌-◌, ◌∙◌, ◌∷◌}
 use Rattle.aead_ccm.proofs.formatting.control_block.Goals as goal
 
 pub returns : goal.returns

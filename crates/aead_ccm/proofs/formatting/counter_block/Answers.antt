@@ -1,5 +1,4 @@
-use Rattle.std.proofs.Common.{ap, arith, length, ℕ, ◌++◌, ◌-◌, ◌∙◌, ◌∷◌}
-use Rattle.aead_ccm.proofs.Common.{ccm_counter_block, in_bytes}
+use Rattle.aead_ccm.proofs.Common.{ap, arith, ccm_counter_block, in_bytes, length, ℕ, ◌++◌, ◌-◌, ◌∙◌, ◌∷◌}
 use Rattle.aead_ccm.proofs.formatting.counter_block.Goals as goal
 
 pub returns : goal.returns

@@ -1,5 +1,4 @@
-use Rattle.std.proofs.Common.{ap, arith, length, min, refl, take, ℕ, ◌∙◌, ◌≡◌}
-use Rattle.aead_ccm.proofs.Common.{take_min}
+use Rattle.aead_ccm.proofs.Common.{ap, arith, length, min, refl, take, take_min, ℕ, ◌∙◌, ◌≡◌}
 use Rattle.aead_ccm.proofs.Formats.{short_front, long_front, short_rest, long_rest}
 use Rattle.aead_ccm.proofs.formatting.data_front.Goals as goal
 

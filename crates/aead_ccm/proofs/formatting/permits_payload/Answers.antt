@@ -1,4 +1,4 @@
-use Rattle.std.proofs.Common.{◌*◌, ◌-◌}
+use Rattle.aead_ccm.proofs.Common.{◌*◌, ◌-◌}
 use Rattle.aead_ccm.proofs.Payloads.{fits}
 use Rattle.aead_ccm.proofs.formatting.permits_payload.Goals as goal
 

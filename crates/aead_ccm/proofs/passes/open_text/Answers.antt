@@ -1,5 +1,4 @@
-use Rattle.std.proofs.Common.{List, ap, arith, drop, length, refl, sym, take, ℕ, ◌*◌, ◌++◌, ◌+◌, ◌-◌, ◌∙◌, ◌≡◌}
-use Rattle.aead_ccm.proofs.Common.{aes_encrypt, block_count, blocks_xored, chained_from, filled_block, filled_blocks, masks, next_block_xored, number_block, xor_bytes}
+use Rattle.aead_ccm.proofs.Common.{List, aes_encrypt, ap, arith, block_count, blocks_xored, chained_from, drop, filled_block, filled_blocks, length, masks, next_block_xored, number_block, refl, sym, take, xor_bytes, ℕ, ◌*◌, ◌++◌, ◌+◌, ◌-◌, ◌∙◌, ◌≡◌}
 use Rattle.aead_ccm.proofs.Chains.{block_chained, all_chained}
 use Rattle.aead_ccm.proofs.KeyStream.{length-masks, masks_next, piece_is, length_xored}
 use Rattle.aead_ccm.proofs.passes.open_text.Goals as goal

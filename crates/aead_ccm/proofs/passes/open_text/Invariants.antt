@@ -1,5 +1,4 @@
-use Rattle.std.proofs.Common.{drop, length, take, ◌*◌, ◌++◌, ◌≡◌}
-use Rattle.aead_ccm.proofs.Common.{aes_encrypt, block_count, chained_from, filled_blocks, masks, number_block, xor_bytes}
+use Rattle.aead_ccm.proofs.Common.{aes_encrypt, block_count, chained_from, drop, filled_blocks, length, masks, number_block, take, xor_bytes, ◌*◌, ◌++◌, ◌≡◌}
 use Rattle.aead_ccm.proofs.passes.open_text.Given as goal
 
 abbrev pub invariant-turns : goal.invariant-turns

@@ -1,5 +1,4 @@
-use Rattle.std.proofs.Common.{List, ap, arith, drop, refl, sym, take, ℕ, ◌*◌, ◌++◌, ◌+◌, ◌-◌, ◌∙◌}
-use Rattle.aead_ccm.proofs.Common.{aes_encrypt, blocks_xored, filled_block, masks, next_block_xored, number_block, xor_bytes}
+use Rattle.aead_ccm.proofs.Common.{List, aes_encrypt, ap, arith, blocks_xored, drop, filled_block, masks, next_block_xored, number_block, refl, sym, take, xor_bytes, ℕ, ◌*◌, ◌++◌, ◌+◌, ◌-◌, ◌∙◌}
 use Rattle.aead_ccm.proofs.Chains.{block_chained, all_chained}
 use Rattle.aead_ccm.proofs.KeyStream.{length-masks, masks_next, left_over}
 use Rattle.aead_ccm.proofs.passes.seal_text.Goals as goal
@@ -25,12 +24,11 @@ turns-preserved c =
           ∙ c.turns.invariant.chain;
     }
 
-pub returns-clause-text : goal.returns-clause-text
-returns-clause-text c =
+pub returns : goal.returns
+returns c =
     let e = aes_encrypt c.args.key.now in
-    blocks_xored c.args.text.now c.turns.text (masks e c.args.first c.turns.n) c.turns.n (omega arith) c.turns.invariant.text
-    ∙ ap (λ (n : ℕ). xor_bytes c.args.text.now (masks e c.args.first n)) (omega arith)
-
-pub returns-clause-chain : goal.returns-clause-chain
-returns-clause-chain c =
-    all_chained (aes_encrypt c.args.key.now) (number_block c.turns.value) c.args.text.now c.turns.n (omega arith) ∙ c.turns.invariant.chain
+    record {
+      text = blocks_xored c.args.text.now c.turns.text (masks e c.args.first c.turns.n) c.turns.n (omega arith) c.turns.invariant.text
+          ∙ ap (λ (n : ℕ). xor_bytes c.args.text.now (masks e c.args.first n)) (omega arith);
+      chain = all_chained e (number_block c.turns.value) c.args.text.now c.turns.n (omega arith) ∙ c.turns.invariant.chain;
+    }
