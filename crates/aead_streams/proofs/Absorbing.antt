@@ -1,18 +1,12 @@
 -- The chain over a text in pieces.
-use Rattle.std.proofs.Common.{List, [], ap, ap₂, arith, bit_xor, drop, length, refl, replicate, sym, take, ℕ, ◌++◌, ◌-◌, ◌<◌, ◌∙◌, ◌∷◌, ◌≡◌, ◌≤◌}
-use Rattle.aead_streams.proofs.Common.{block_of_xor, chained, chained_from, drop_all, filled_block, filled_blocks, length-number_block, length-replicate, number_block, xor_bytes}
-use Rattle.std.proofs.lemmas.List.{length-append, length-take, take-append-drop, take_at, drop_at, take_all, append-nil, append_assoc}
+use Rattle.aead_streams.proofs.Common.{List, [], ap, append-nil, append_assoc, ap₂, arith, bit_xor, block_of_xor, chained, chained_from, drop, drop_all, drop_at, filled_block, filled_blocks, length, length-append, length-number_block, length-replicate, length-take, number_block, refl, replicate, sym, take, take-append-drop, take_all, take_at, xor_bytes, ℕ, ◌++◌, ◌-◌, ◌<◌, ◌∙◌, ◌∷◌, ◌≡◌, ◌≤◌}
 use Rattle.std.specs.Int.Bits.{xor_zero_l}
 use Rattle.aead_ccm.proofs.FilledBlocks.{filled_blocks-empty}
-use Rattle.aead_ccm.proofs.Chains.{front_chained}
+use Rattle.aead_ccm.proofs.Chains.{front_chained, zero_block}
 
 -- nothing more is taken in
 pub chained_from-nothing : (e : List ℕ → List ℕ) (y : List ℕ) → chained_from e y (filled_blocks []) ≡ y
 chained_from-nothing e y = ap (chained_from e y) (filled_blocks-empty [] refl)
-
-zero_block : number_block 0 ≡ replicate 16 0
-unfolding number_block
-zero_block = refl
 
 -- a block that waits is absorbed ahead of what follows it
 pub full_absorbed : (e : List ℕ → List ℕ) (v x w : ℕ) (waiting left rest : List ℕ) → length waiting ≡ 16 → number_block x ≡ filled_block waiting → number_block w ≡ e (number_block (bit_xor v x)) → left ≡ []

@@ -1,8 +1,8 @@
 -- A payload under the key stream, in pieces.
-use Rattle.std.proofs.Common.{List, ap, ap₂, arith, length, sym, ℕ, ◌++◌, ◌+◌, ◌∙◌, ◌≡◌, ◌≤◌}
-use Rattle.aead_streams.proofs.Common.{Whole, aes_encrypt, ccm_counter_block, ccm_text, number_block, text_xor}
-use Rattle.std.proofs.lemmas.List.{length-append}
+use Rattle.aead_streams.proofs.Common.{IsAt, List, Whole, aes_encrypt, ap, ap₂, arith, ccm_counter_block, ccm_text, length, length-append, number_block, sym, text_xor, ℕ, ◌++◌, ◌+◌, ◌∙◌, ◌≡◌, ◌≤◌}
 use Rattle.aead_ccm.specs.Lengths.{IsNonceLength, IsPayloadLength}
+use Rattle.aead_streams.specs.CcmStates.{CountsFor}
+use Rattle.aead_streams.specs.declared.key_stream.KeyStream.{KeyStream}
 use Rattle.aead_streams.proofs.StreamLaws.{text_xor-append, length-text_xor}
 use Rattle.aead_streams.proofs.ModeStreams.{aes_keeps_length}
 use Rattle.aead_streams.proofs.CcmStreams.{ccm_is_from}
@@ -23,3 +23,7 @@ pub length-ccm_text : (key nonce text : List ℕ) (start p : ℕ) → IsNonceLen
     → length text ≤ p → length (ccm_text (aes_encrypt key) nonce text) ≡ length text
 length-ccm_text key nonce text start p nl pl first fits =
     ap length (ccm_is_from (aes_encrypt key) (aes_keeps_length key) nonce nl.low nl.high start text first (omega arith)) ∙ length-text_xor (aes_encrypt key) Whole start 0 text
+
+-- the key stream goes on, and all else that counts stays
+pub counted_on : {first n m p : ℕ} {s t : KeyStream} {key nonce : List ℕ} (h : CountsFor first s key nonce p n) → IsAt t (aes_encrypt key) Whole h.start m → CountsFor first t key nonce p m
+counted_on h stream = record { nonce_length = h.nonce_length; payload_length = h.payload_length; first = h.first; start = h.start; next = h.next; stream = stream }

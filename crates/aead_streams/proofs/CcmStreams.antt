@@ -1,10 +1,6 @@
 -- The stream of CCM is a key stream, as far as its counters go.
-use Rattle.std.proofs.Common.{List, ap, ap₂, arith, drop, length, refl, subst, suc, sym, take, zero, ℕ, ◌%◌, ◌*◌, ◌++◌, ◌+◌, ◌-◌, ◌/◌, ◌<◌, ◌^◌, ◌∙◌, ◌∷◌, ◌≡◌, ◌≤◌}
-use Rattle.aead_streams.proofs.Common.{AreBytes, KeepsLength, Whole, block_count, block_number, block_of_number, byte_at_is, bytes-append, bytes_high_first, ccm_counter_block, ccm_stream, ccm_text, div-mul-add, in_bytes, length-bytes_high_first, mod-mul-add, number_block, pow-le-pow_right, power_of_256, stream_block, text_xor}
-use Rattle.std.proofs.lemmas.List.{take_at, drop_at, length-append}
-use Rattle.std.proofs.lemmas.Nat.{div-add-mod'}
-use Rattle.std.proofs.Math.Nat.{mod-eq_of_lt}
-use Rattle.aead_streams.proofs.StreamLaws.{further_piece}
+use Rattle.aead_streams.proofs.Common.{AreBytes, KeepsLength, List, Whole, ap, ap₂, arith, block_count, block_number, block_of_number, byte_at_is, bytes-append, bytes_high_first, ccm_counter_block, ccm_stream, ccm_text, div-add-mod', div-mul-add, drop, drop_at, in_bytes, length, length-append, length-bytes_high_first, mod-eq_of_lt, mod-mul-add, number_block, pow-le-pow_right, power_of_256, refl, stream_block, subst, suc, sym, take, take_at, text_xor, zero, ℕ, ◌%◌, ◌*◌, ◌++◌, ◌+◌, ◌-◌, ◌/◌, ◌<◌, ◌^◌, ◌∙◌, ◌∷◌, ◌≡◌, ◌≤◌}
+use Rattle.aead_ccm.proofs.KeyStream.{blocks_fit}
 use Rattle.aead_streams.proofs.HighFirst.{high_and_low, same_bytes, same_remainder}
 use Rattle.aead_streams.proofs.ModeStreams.{text_is}
 
@@ -51,22 +47,6 @@ next_counter nonce start n low high e below =
     ∙ counted_up front q start n (omega arith) below (e ∙ ap (λ (l : List ℕ). front ++ l) (in_bytes_is q 1 (omega arith)))
     ∙ ap (λ (l : List ℕ). front ++ l) (sym (in_bytes_is q (n + 1) (omega arith)))
 
--- there are fewer blocks than counters
-blocks_fit : (n q : ℕ) → 2 ≤ q → n < 2 ^ (8 * q) → block_count n < 256 ^ q
-blocks_fit n q h lt =
-    let same : 256 ^ q ≡ 2 ^ (8 * q) = power_of_256 q in
-    let some : 2 ^ 16 ≤ 2 ^ (8 * q) = pow-le-pow_right {n = 2} (omega arith) {i = 16} {j = 8 * q} (omega arith) in
-    omega arith
-
-bytes-cons : (x : ℕ) (xs : List ℕ) → x < 256 → AreBytes xs → AreBytes (x ∷ xs)
-bytes-cons x xs h all zero = h
-bytes-cons x xs h all (suc i) = all i
-
-bytes-high_first : (k n : ℕ) → AreBytes (bytes_high_first k n)
-bytes-high_first zero n i = omega arith
-bytes-high_first (suc k) n zero = omega (arith, byte_at_is k n)
-bytes-high_first (suc k) n (suc i) = bytes-high_first k n i
-
 module _ (e : List ℕ → List ℕ) (keeps : KeepsLength e) (nonce : List ℕ) (low : 7 ≤ length nonce) (high : length nonce ≤ 13) where
   -- from the number of the first counter block
   pub ccm_is_from : (start : ℕ) (text : List ℕ) → number_block start ≡ ccm_counter_block nonce 1 → length text < 2 ^ (8 * (15 - length nonce)) → ccm_text e nonce text ≡ text_xor e Whole start 0 text
@@ -76,21 +56,3 @@ module _ (e : List ℕ → List ℕ) (keeps : KeepsLength e) (nonce : List ℕ) 
       let below : count < 256 ^ (15 - length nonce) = blocks_fit (length text) (15 - length nonce) (omega arith) fits in
       text_is e keeps Whole start count (ccm_stream e nonce) refl
       (λ n h. ap (λ (b : List ℕ). ccm_stream e nonce n ++ e b) (sym (next_counter nonce start n low high first (omega arith)))) text (omega arith)
-
-  pub ccm_further_from : (start : ℕ) (before piece : List ℕ) → number_block start ≡ ccm_counter_block nonce 1 → length (before ++ piece) < 2 ^ (8 * (15 - length nonce))
-      → drop (length before) (ccm_text e nonce (before ++ piece)) ≡ text_xor e Whole start (length before) piece
-  ccm_further_from start before piece first fits =
-      ap (drop (length before)) (ccm_is_from start (before ++ piece) first fits) ∙ further_piece e Whole start before piece 0 ∙ ap (λ (n : ℕ). text_xor e Whole start n piece) (omega arith)
-
-  first_block_is : AreBytes nonce → number_block (block_number (ccm_counter_block nonce 1)) ≡ ccm_counter_block nonce 1
-  unfolding ccm_counter_block
-  first_block_is bytes =
-      let q : ℕ = 15 - length nonce in
-      let last : List ℕ = in_bytes q 1 in
-      let same : last ≡ bytes_high_first q 1 = in_bytes_is q 1 (omega arith) in
-      let long : length last ≡ q = ap length same ∙ length-bytes_high_first q 1 in
-      block_of_number ((q - 1) ∷ nonce ++ last) (omega (arith, length-append nonce last)) (λ i.
-      bytes-cons (q - 1) (nonce ++ last) (omega arith) (bytes-append nonce last bytes (subst (λ (l : List ℕ). AreBytes l) (sym same) (bytes-high_first q 1))) i)
-
-  pub ccm_is : AreBytes nonce → (text : List ℕ) → length text < 2 ^ (8 * (15 - length nonce)) → ccm_text e nonce text ≡ text_xor e Whole (block_number (ccm_counter_block nonce 1)) 0 text
-  ccm_is bytes text = ccm_is_from (block_number (ccm_counter_block nonce 1)) text (first_block_is bytes)

@@ -13,8 +13,9 @@ pub use Rattle.cipher_blocks.proofs.BlockNumbers.{AreBytes, block_of_number, blo
 pub use Rattle.crypto_specs.proofs.Blocks.{blocks-append, length-aes_encrypt, length-number_block, number_of_filled}
 pub use Rattle.crypto_specs.specs.Prelude.{KeepsLength, block_count, block_product, chain_step, encoded_length, filled_blocks, in_bytes, length_block, xor_bytes}
 unfoldable pub use Rattle.crypto_specs.specs.Prelude.{aes_encrypt, block_number, blocks, ccm_counter_block, ccm_stream, ccm_tag, ccm_text, chained, control_block, counter_block, ctr_xor, encoded_data, formatted_blocks, gcm_stream, gcm_tag, gcm_text, ghash_from, ghash_of, hash_subkey, increased, initial_counter_block, key_stream, number_block, numbers_of}
-pub use Rattle.std.proofs.Math.Nat.{div-div-eq-div-mul, pow-le-pow_right}
+pub use Rattle.std.proofs.Common.{List, [], ap, ap₂, arith, bit_xor, drop, inl, inr, length, map, min, refl, replicate, slice_index, subst, suc, sym, take, zero, ℕ, ◌%◌, ◌*◌, ◌++◌, ◌+◌, ◌-◌, ◌/◌, ◌<◌, ◌^◌, ◌∙◌, ◌∷◌, ◌≡◌, ◌≤◌, ◌⊎◌}
+pub use Rattle.std.proofs.Math.Nat.{div-div-eq-div-mul, mod-eq_of_lt, mul_comm, pow-le-pow_right, pow-suc}
 pub use Rattle.std.proofs.lemmas.Bool.{cases_lt, false≢true}
-pub use Rattle.std.proofs.lemmas.List.{drop-append-le, drop-replicate, drop_all, get_or-append_right, get_or_append_left, length-replicate}
-pub use Rattle.std.proofs.lemmas.Nat.{div-mul-add, mod-mul-add, mod_below, same_from_place}
+pub use Rattle.std.proofs.lemmas.List.{append-nil, append_assoc, drop-append-le, drop-drop, drop-replicate, drop_all, drop_at, get_or-append_right, get_or-drop, get_or_append_left, length-append, length-drop, length-replicate, length-take, take-append-drop, take_all, take_at}
+pub use Rattle.std.proofs.lemmas.Nat.{div-add-mod', div-mul-add, mod-mul-add, mod_below, pow-add, same_from_place}
 pub use Rattle.std.specs.Int.{byte_at, bytes_high_first}

@@ -1,7 +1,5 @@
 -- Blocks whose end is zeros.
-use Rattle.std.proofs.Common.{List, ap, arith, drop, length, replicate, sym, take, ℕ, ◌++◌, ◌+◌, ◌-◌, ◌∙◌, ◌≡◌, ◌≤◌}
-use Rattle.aead_streams.proofs.Common.{block_number, drop-replicate, number_of_filled}
-use Rattle.std.proofs.lemmas.List.{take-append-drop, drop_at, length-append, length-take}
+use Rattle.aead_streams.proofs.Common.{List, ap, arith, block_number, drop, drop-replicate, drop_at, length, length-append, length-take, number_of_filled, replicate, sym, take, take-append-drop, ℕ, ◌++◌, ◌+◌, ◌-◌, ◌∙◌, ◌≡◌, ◌≤◌}
 use Rattle.aead_streams.specs.Filled.{HasZerosPast}
 
 -- the bytes in use have the number of the block

@@ -1,7 +1,5 @@
 -- GHASH of the blocks of a text, part by part.
-use Rattle.std.proofs.Common.{List, [], ap, arith, bit_xor, drop, length, map, refl, suc, take, zero, ℕ, ◌*◌, ◌++◌, ◌+◌, ◌∙◌, ◌≡◌, ◌≤◌}
-use Rattle.aead_streams.proofs.Common.{block_number, block_product, blocks, blocks-append, ghash_from, rest_from}
-use Rattle.std.proofs.lemmas.List.{drop-drop}
+use Rattle.aead_streams.proofs.Common.{List, [], ap, arith, bit_xor, block_number, block_product, blocks, blocks-append, drop, drop-drop, ghash_from, length, map, refl, rest_from, suc, take, zero, ℕ, ◌*◌, ◌++◌, ◌+◌, ◌∙◌, ◌≡◌, ◌≤◌}
 
 pub rest-append : (n h y : ℕ) (xs ys : List ℕ) → 16 * n ≤ length xs → rest_from h y n (xs ++ ys) ≡ rest_from h y n xs
 rest-append n h y xs ys fits = ap (λ (bs : List (List ℕ)). ghash_from h y (map block_number bs)) (blocks-append n xs ys fits)

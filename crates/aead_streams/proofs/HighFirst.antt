@@ -1,9 +1,6 @@
 -- Numbers in bytes, first byte highest.
-use Rattle.std.proofs.Common.{List, ap, ap₂, arith, refl, suc, sym, zero, ℕ, ◌%◌, ◌*◌, ◌++◌, ◌+◌, ◌/◌, ◌<◌, ◌^◌, ◌∙◌, ◌∷◌, ◌≡◌}
-use Rattle.aead_streams.proofs.Common.{byte_at, byte_at_is, bytes_high_first, div-div-eq-div-mul, mod_below, power_positive, same_from_place}
-use Rattle.std.proofs.Math.Nat.{pow-suc, mul_comm}
+use Rattle.aead_streams.proofs.Common.{List, ap, ap₂, arith, byte_at, byte_at_is, bytes_high_first, div-div-eq-div-mul, mod_below, mul_comm, pow-add, pow-suc, power_positive, refl, same_from_place, suc, sym, zero, ℕ, ◌%◌, ◌*◌, ◌++◌, ◌+◌, ◌/◌, ◌<◌, ◌^◌, ◌∙◌, ◌∷◌, ◌≡◌}
 use Rattle.std.proofs.Math.Arith.{mod-mul}
-use Rattle.std.proofs.lemmas.Nat.{pow-add}
 
 -- the high bytes are those of the quotient
 pub high_and_low : (h k n : ℕ) → bytes_high_first (h + k) n ≡ bytes_high_first h (n / 256 ^ k) ++ bytes_high_first k n

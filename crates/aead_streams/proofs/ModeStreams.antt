@@ -1,7 +1,5 @@
 -- The streams of CTR and GCM are key streams.
-use Rattle.std.proofs.Common.{List, [], ap, ap₂, arith, drop, inl, inr, length, refl, slice_index, suc, zero, ℕ, ◌%◌, ◌*◌, ◌++◌, ◌+◌, ◌-◌, ◌/◌, ◌<◌, ◌∙◌, ◌≡◌, ◌≤◌}
-use Rattle.aead_streams.proofs.Common.{CounterWidth, KeepsLength, Low32, Whole, aes_encrypt, block_count, block_number, byte_of_stream, cases_lt, counted, counter_block, ctr_xor, gcm_stream, gcm_text, get_or-append_right, get_or_append_left, increased, initial_counter_block, key_stream, length-aes_encrypt, length-number_block, number_block, stream_block, text_xor, xor_bytes}
-use Rattle.std.proofs.lemmas.List.{length-append}
+use Rattle.aead_streams.proofs.Common.{CounterWidth, KeepsLength, List, Low32, Whole, [], aes_encrypt, ap, ap₂, arith, block_count, block_number, byte_of_stream, cases_lt, counted, counter_block, ctr_xor, drop, gcm_stream, gcm_text, get_or-append_right, get_or_append_left, increased, initial_counter_block, inl, inr, key_stream, length, length-aes_encrypt, length-append, length-number_block, number_block, refl, slice_index, stream_block, suc, text_xor, xor_bytes, zero, ℕ, ◌%◌, ◌*◌, ◌++◌, ◌+◌, ◌-◌, ◌/◌, ◌<◌, ◌∙◌, ◌≡◌, ◌≤◌}
 use Rattle.aead_streams.proofs.StreamLaws.{by_byte, further_piece}
 
 pub aes_keeps_length : (key : List ℕ) → KeepsLength (aes_encrypt key)
@@ -60,8 +58,3 @@ module _ (e : List ℕ → List ℕ) (keeps : KeepsLength e) where
   pub gcm_is : (nonce text : List ℕ) → gcm_text e nonce text ≡ text_xor e Low32 (increased (initial_counter_block e nonce) 1) 0 text
   unfolding gcm_text
   gcm_is nonce text = gcm_is_from (initial_counter_block e nonce) text
-
-  pub gcm_further : (nonce before piece : List ℕ) → drop (length before) (gcm_text e nonce (before ++ piece)) ≡ text_xor e Low32 (increased (initial_counter_block e nonce) 1) (length before) piece
-  gcm_further nonce before piece =
-      let start : ℕ = increased (initial_counter_block e nonce) 1 in
-      ap (drop (length before)) (gcm_is nonce (before ++ piece)) ∙ further_piece e Low32 start before piece 0 ∙ ap (λ (n : ℕ). text_xor e Low32 start n piece) (omega arith)

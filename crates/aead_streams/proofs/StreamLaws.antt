@@ -1,7 +1,5 @@
 -- Laws of the key stream.
-use Rattle.std.proofs.Common.{List, [], ap, ap₂, arith, bit_xor, drop, length, refl, slice_index, suc, ℕ, ◌++◌, ◌+◌, ◌<◌, ◌∙◌, ◌∷◌, ◌≡◌, ◌≤◌}
-use Rattle.aead_streams.proofs.Common.{CounterWidth, byte_of_stream, text_xor, xor_bytes}
-use Rattle.std.proofs.lemmas.List.{drop_at}
+use Rattle.aead_streams.proofs.Common.{CounterWidth, List, [], ap, ap₂, arith, bit_xor, byte_of_stream, drop, drop_at, length, refl, slice_index, suc, text_xor, xor_bytes, ℕ, ◌++◌, ◌+◌, ◌<◌, ◌∙◌, ◌∷◌, ◌≡◌, ◌≤◌}
 
 module _ (e : List ℕ → List ℕ) (width : CounterWidth) (start : ℕ) where
   -- any cutting: the second part goes on where the first ended

@@ -1,8 +1,7 @@
 -- A key stream's place, one block and one piece on.
-use Rattle.std.proofs.Common.{List, ap, append_assoc, ap₂, arith, drop, length, slice_index, sym, take, ℕ, ◌%◌, ◌++◌, ◌+◌, ◌-◌, ◌/◌, ◌<◌, ◌^◌, ◌∙◌, ◌≡◌, ◌≤◌}
-use Rattle.aead_streams.proofs.Common.{CounterWidth, IsAt, Low32, Whole, byte_of_stream, counted, increased, number_block, stream_block, text_xor, xor_bytes}
+use Rattle.aead_streams.proofs.Common.{CounterWidth, IsAt, List, Low32, Whole, ap, ap₂, arith, byte_of_stream, counted, drop, drop-drop, drop_at, get_or-drop, increased, length, length-drop, length-take, number_block, slice_index, stream_block, sym, take, take_at, text_xor, xor_bytes, ℕ, ◌%◌, ◌++◌, ◌+◌, ◌-◌, ◌/◌, ◌<◌, ◌^◌, ◌∙◌, ◌≡◌, ◌≤◌}
+use Rattle.std.proofs.Common.{append_assoc}
 use Rattle.std.proofs.Math.Seq.{take-add}
-use Rattle.std.proofs.lemmas.List.{get_or-drop, length-drop, length-take, take_at, drop_at, drop-drop}
 use Rattle.aead_streams.specs.declared.key_stream.KeyStream.{KeyStream}
 use Rattle.aead_streams.proofs.StreamLaws.{by_byte, text_xor-append, length-text_xor}
 

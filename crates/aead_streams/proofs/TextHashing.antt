@@ -1,7 +1,6 @@
 -- The steps of a hash of a text in pieces.
-use Rattle.std.proofs.Common.{List, [], ap, append_assoc, ap₂, arith, bit_xor, drop, inl, inr, length, min, refl, subst, sym, take, ℕ, ◌*◌, ◌++◌, ◌+◌, ◌-◌, ◌/◌, ◌<◌, ◌∙◌, ◌∷◌, ◌≡◌, ◌≤◌, ◌⊎◌}
-use Rattle.aead_streams.proofs.Common.{HasTaken, block_count, block_number, block_product, blocks, cases_lt, drop-append-le, drop_all, ghash_from, numbers_of, rest_from}
-use Rattle.std.proofs.lemmas.List.{length-append, length-drop, length-take, take-append-drop, drop-drop, take_all, append-nil}
+use Rattle.aead_streams.proofs.Common.{HasTaken, List, [], ap, append-nil, ap₂, arith, bit_xor, block_count, block_number, block_product, blocks, cases_lt, drop, drop-append-le, drop-drop, drop_all, ghash_from, inl, inr, length, length-append, length-drop, length-take, min, numbers_of, refl, rest_from, subst, sym, take, take-append-drop, take_all, ℕ, ◌*◌, ◌++◌, ◌+◌, ◌-◌, ◌/◌, ◌<◌, ◌∙◌, ◌∷◌, ◌≡◌, ◌≤◌, ◌⊎◌}
+use Rattle.std.proofs.Common.{append_assoc}
 use Rattle.aead_streams.specs.declared.text_hash.TextHash.{TextHash}
 use Rattle.aead_streams.proofs.HashSteps.{rest-append, rest_split, one_block}
 

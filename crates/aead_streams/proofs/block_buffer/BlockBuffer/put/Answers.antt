@@ -1,5 +1,4 @@
-use Rattle.std.proofs.Common.{arith, take}
-use Rattle.std.proofs.lemmas.List.{length-take}
+use Rattle.aead_streams.proofs.Common.{arith, length-take, take}
 use Rattle.aead_streams.proofs.Filling.{put_in}
 use Rattle.aead_streams.proofs.block_buffer.BlockBuffer.put.Goals as goal
 

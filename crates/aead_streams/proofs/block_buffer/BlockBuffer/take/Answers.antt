@@ -1,5 +1,4 @@
-use Rattle.std.proofs.Common.{ap, ◌∙◌}
-use Rattle.aead_streams.proofs.Common.{block_number}
+use Rattle.aead_streams.proofs.Common.{ap, block_number, ◌∙◌}
 use Rattle.aead_streams.proofs.Filling.{number_of_used}
 use Rattle.aead_streams.proofs.block_buffer.BlockBuffer.take.Goals as goal
 

@@ -1,5 +1,4 @@
-use Rattle.std.proofs.Common.{List, drop, length, ℕ, ◌++◌, ◌-◌, ◌≡◌, ◌≤◌}
-use Rattle.aead_streams.proofs.Common.{aes_encrypt, chain_after}
+use Rattle.aead_streams.proofs.Common.{List, aes_encrypt, chain_after, drop, length, ℕ, ◌++◌, ◌-◌, ◌≡◌, ◌≤◌}
 use Rattle.aead_streams.proofs.ccm_chain.Chain.absorb.Given as goal
 
 abbrev pub invariant-runs : goal.invariant-runs

@@ -1,5 +1,4 @@
-use Rattle.std.proofs.Common.{◌++◌, ◌∙◌}
-use Rattle.aead_streams.proofs.Common.{aes_encrypt}
+use Rattle.aead_streams.proofs.Common.{aes_encrypt, ◌++◌, ◌∙◌}
 use Rattle.aead_streams.proofs.Absorbing.{put_waits}
 use Rattle.aead_streams.proofs.ccm_chain.Chain.absorb_run.Goals as goal
 

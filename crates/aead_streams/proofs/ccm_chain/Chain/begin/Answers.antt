@@ -1,5 +1,4 @@
-use Rattle.std.proofs.Common.{List, ap, ℕ, ◌++◌, ◌∙◌}
-use Rattle.aead_streams.proofs.Common.{aes_encrypt, chained_from, control_block, data_front, filled_blocks}
+use Rattle.aead_streams.proofs.Common.{List, aes_encrypt, ap, chained_from, control_block, data_front, filled_blocks, ℕ, ◌++◌, ◌∙◌}
 use Rattle.aead_streams.proofs.Absorbing.{first_chained}
 use Rattle.aead_streams.proofs.ccm_chain.Chain.begin.Goals as goal
 

@@ -1,5 +1,4 @@
-use Rattle.std.proofs.Common.{[], arith, length}
-use Rattle.aead_streams.proofs.Common.{aes_encrypt, chain_after, chain_start}
+use Rattle.aead_streams.proofs.Common.{[], aes_encrypt, arith, chain_after, chain_start, length}
 use Rattle.aead_streams.proofs.CcmTags.{data_ended}
 use Rattle.aead_streams.proofs.ccm_state.CcmState.begin_text.Goals as goal
 

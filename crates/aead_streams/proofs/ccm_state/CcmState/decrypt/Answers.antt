@@ -1,7 +1,5 @@
-use Rattle.std.proofs.Common.{List, ap, arith, length, subst, sym, ℕ, ◌++◌, ◌+◌, ◌∙◌, ◌≡◌}
-use Rattle.aead_streams.proofs.Common.{IsAt, Whole, aes_encrypt, ccm_text, chain_start, chained_from, encoded_data, filled_blocks, text_xor}
-use Rattle.std.proofs.lemmas.List.{append_assoc, length-append}
-use Rattle.aead_streams.proofs.CcmPayloads.{piece_counted, length-ccm_text}
+use Rattle.aead_streams.proofs.Common.{IsAt, List, Whole, aes_encrypt, ap, append_assoc, arith, ccm_text, chain_start, chained_from, encoded_data, filled_blocks, length, length-append, subst, sym, text_xor, ℕ, ◌++◌, ◌+◌, ◌∙◌, ◌≡◌}
+use Rattle.aead_streams.proofs.CcmPayloads.{counted_on, piece_counted, length-ccm_text}
 use Rattle.aead_streams.proofs.ccm_state.CcmState.decrypt.Goals as goal
 
 pub returns-clause-text : goal.returns-clause-text
@@ -28,14 +26,7 @@ returns-clause-holds c = λ t nonce p ad cipher fits h.
     length-ccm_text key nonce (cipher ++ piece) start p h.counts.nonce_length h.counts.payload_length h.counts.next (omega (arith, length-append cipher piece)) in
     let place : length plain + length piece ≡ length (ccm_text e nonce (cipher ++ piece)) = omega (arith, length-append cipher piece) in
     record {
-      counts = record {
-        nonce_length = h.counts.nonce_length;
-        payload_length = h.counts.payload_length;
-        first = h.counts.first;
-        start = h.counts.start;
-        next = h.counts.next;
-        stream = subst (λ (k : ℕ). IsAt c.xor.new.self e Whole start k) place (c.xor.ensures.at Whole start (length plain) h.counts.stream);
-      };
+      counts = counted_on h.counts (subst (λ (k : ℕ). IsAt c.xor.new.self e Whole start k) place (c.xor.ensures.at Whole start (length plain) h.counts.stream));
       within = omega (arith, length-append cipher piece);
       chain = λ rest. c.absorb.ensures rest ∙ h.chain (out ++ rest)
           ∙ ap (λ (l : List ℕ). chained_from e y (filled_blocks l)) (sym (append_assoc plain out rest) ∙ ap (λ (l : List ℕ). l ++ rest) (sym more));

@@ -1,7 +1,5 @@
-use Rattle.std.proofs.Common.{List, ap, arith, length, subst, sym, ℕ, ◌++◌, ◌∙◌}
-use Rattle.aead_streams.proofs.Common.{IsAt, Whole, aes_encrypt, chain_start, chained_from, encoded_data, filled_blocks}
-use Rattle.std.proofs.lemmas.List.{append_assoc, length-append}
-use Rattle.aead_streams.proofs.CcmPayloads.{piece_counted}
+use Rattle.aead_streams.proofs.Common.{IsAt, List, Whole, aes_encrypt, ap, append_assoc, arith, chain_start, chained_from, encoded_data, filled_blocks, length, length-append, subst, sym, ℕ, ◌++◌, ◌∙◌}
+use Rattle.aead_streams.proofs.CcmPayloads.{counted_on, piece_counted}
 use Rattle.aead_streams.proofs.ccm_state.CcmState.encrypt.Goals as goal
 
 pub returns-clause-holds : goal.returns-clause-holds
@@ -11,14 +9,7 @@ returns-clause-holds c = λ t nonce p ad plain fits h.
     let start = h.counts.start in
     let y : List ℕ = chained_from e (chain_start c.args.key.now t nonce (length ad) p) (filled_blocks (encoded_data ad)) in
     record {
-      counts = record {
-        nonce_length = h.counts.nonce_length;
-        payload_length = h.counts.payload_length;
-        first = h.counts.first;
-        start = h.counts.start;
-        next = h.counts.next;
-        stream = subst (λ (n : ℕ). IsAt c.xor.new.self e Whole start n) (sym (length-append plain piece)) (c.xor.ensures.at Whole start (length plain) h.counts.stream);
-      };
+      counts = counted_on h.counts (subst (λ (n : ℕ). IsAt c.xor.new.self e Whole start n) (sym (length-append plain piece)) (c.xor.ensures.at Whole start (length plain) h.counts.stream));
       within = omega (arith, length-append plain piece);
       chain = λ rest. c.absorb.ensures rest ∙ h.chain (piece ++ rest) ∙ ap (λ (l : List ℕ). chained_from e y (filled_blocks l)) (sym (append_assoc plain piece rest));
     }

@@ -1,5 +1,4 @@
-use Rattle.std.proofs.Common.{arith}
-use Rattle.aead_streams.proofs.Common.{aes_encrypt}
+use Rattle.aead_streams.proofs.Common.{aes_encrypt, arith}
 use Rattle.aead_streams.proofs.ccm_state.CcmState.start.Goals as goal
 
 pub returns : goal.returns

@@ -1,5 +1,4 @@
-use Rattle.std.proofs.Common.{[], ap, ◌∙◌}
-use Rattle.aead_streams.proofs.Common.{aes_encrypt, chain_after, number_block}
+use Rattle.aead_streams.proofs.Common.{[], aes_encrypt, ap, chain_after, number_block, ◌∙◌}
 use Rattle.aead_streams.proofs.CcmTags.{tag_of_chain}
 use Rattle.aead_streams.proofs.ccm_state.CcmState.tag.Goals as goal
 

@@ -1,6 +1,4 @@
-use Rattle.std.proofs.Common.{List, ap, arith, sym, ℕ, ◌++◌, ◌∙◌}
-use Rattle.aead_streams.proofs.Common.{aes_encrypt, chain_start, chained_from, data_front, filled_blocks}
-use Rattle.std.proofs.lemmas.List.{append_assoc, length-append}
+use Rattle.aead_streams.proofs.Common.{List, aes_encrypt, ap, append_assoc, arith, chain_start, chained_from, data_front, filled_blocks, length-append, sym, ℕ, ◌++◌, ◌∙◌}
 use Rattle.aead_streams.proofs.ccm_state.CcmState.update_ad.Goals as goal
 
 pub returns : goal.returns

@@ -1,5 +1,4 @@
-use Rattle.std.proofs.Common.{arith}
-use Rattle.aead_streams.proofs.Common.{increased}
+use Rattle.aead_streams.proofs.Common.{arith, increased}
 use Rattle.aead_streams.proofs.counter_width.CounterWidth.next.Goals as goal
 
 pub returns-in-Low32 : goal.returns-in-Low32

@@ -1,4 +1,4 @@
-use Rattle.std.proofs.Common.{length, refl}
+use Rattle.aead_streams.proofs.Common.{length, refl}
 use Rattle.aead_streams.proofs.GcmTexts.{further}
 use Rattle.aead_streams.proofs.gcm_state.GcmState.decrypt.Goals as goal
 

@@ -1,6 +1,4 @@
-use Rattle.std.proofs.Common.{List, arith, length, subst, sym, ℕ, ◌++◌, ◌+◌, ◌≡◌}
-use Rattle.aead_streams.proofs.Common.{HasTaken, IsAt, Low32, aes_encrypt, gcm_text, ghash_from, hash_subkey, increased, initial_counter_block, numbers_of}
-use Rattle.std.proofs.lemmas.List.{length-append}
+use Rattle.aead_streams.proofs.Common.{HasTaken, IsAt, List, Low32, aes_encrypt, arith, gcm_text, ghash_from, hash_subkey, increased, initial_counter_block, length, length-append, numbers_of, subst, sym, ℕ, ◌++◌, ◌+◌, ◌≡◌}
 use Rattle.aead_streams.proofs.GcmTexts.{further, length-gcm_text}
 use Rattle.aead_streams.proofs.gcm_state.GcmState.encrypt.Goals as goal
 

@@ -1,4 +1,4 @@
-use Rattle.std.proofs.Common.{arith, refl}
+use Rattle.aead_streams.proofs.Common.{arith, refl}
 use Rattle.aead_streams.proofs.StreamPlaces.{started}
 use Rattle.aead_streams.proofs.key_stream.KeyStream.new.Goals as goal
 

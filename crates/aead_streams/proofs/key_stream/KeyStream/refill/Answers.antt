@@ -1,5 +1,4 @@
-use Rattle.std.proofs.Common.{refl, ◌∙◌}
-use Rattle.aead_streams.proofs.Common.{aes_encrypt, number_block}
+use Rattle.aead_streams.proofs.Common.{aes_encrypt, number_block, refl, ◌∙◌}
 use Rattle.aead_streams.proofs.StreamPlaces.{refilled}
 use Rattle.aead_streams.proofs.key_stream.KeyStream.refill.Goals as goal
 

@@ -1,6 +1,4 @@
-use Rattle.std.proofs.Common.{List, [], ap, ap₂, arith, drop, length, refl, subst, take, ℕ, ◌++◌, ◌+◌, ◌-◌, ◌∙◌, ◌≡◌}
-use Rattle.aead_streams.proofs.Common.{IsAt, aes_encrypt, drop_all, text_xor}
-use Rattle.std.proofs.lemmas.List.{take_all, append-nil, length-drop}
+use Rattle.aead_streams.proofs.Common.{IsAt, List, [], aes_encrypt, ap, append-nil, ap₂, arith, drop, drop_all, length, length-drop, refl, subst, take, take_all, text_xor, ℕ, ◌++◌, ◌+◌, ◌-◌, ◌∙◌, ◌≡◌}
 use borrow.Rule.Slice.PartMut.{put_mid}
 use Rattle.aead_streams.proofs.StreamPlaces.{run_done}
 use Rattle.aead_streams.proofs.key_stream.KeyStream.xor.Goals as goal

@@ -1,5 +1,4 @@
-use Rattle.std.proofs.Common.{drop, length, take, ℕ, ◌++◌, ◌+◌, ◌-◌, ◌≡◌, ◌≤◌}
-use Rattle.aead_streams.proofs.Common.{CounterWidth, IsAt, aes_encrypt, text_xor}
+use Rattle.aead_streams.proofs.Common.{CounterWidth, IsAt, aes_encrypt, drop, length, take, text_xor, ℕ, ◌++◌, ◌+◌, ◌-◌, ◌≡◌, ◌≤◌}
 use Rattle.aead_streams.proofs.key_stream.KeyStream.xor.Given as goal
 
 abbrev pub invariant-runs : goal.invariant-runs

@@ -1,6 +1,4 @@
-use Rattle.std.proofs.Common.{List, ap, arith, drop, refl, take, ℕ, ◌++◌, ◌∙◌}
-use Rattle.aead_streams.proofs.Common.{aes_encrypt, length-aes_encrypt}
-use Rattle.std.proofs.lemmas.List.{length-take}
+use Rattle.aead_streams.proofs.Common.{List, aes_encrypt, ap, arith, drop, length-aes_encrypt, length-take, refl, take, ℕ, ◌++◌, ◌∙◌}
 use Rattle.aead_streams.proofs.StreamPlaces.{piece_is, moved}
 use Rattle.aead_streams.proofs.key_stream.KeyStream.xor_part.Goals as goal
 

@@ -1,4 +1,4 @@
-use Rattle.std.proofs.Common.{List, ap, drop, ℕ, ◌++◌}
+use Rattle.aead_streams.proofs.Common.{List, ap, drop, ℕ, ◌++◌}
 use Rattle.aead_streams.proofs.key_stream.KeyStream.xor_run.Goals as goal
 
 pub returns-clause-text : goal.returns-clause-text

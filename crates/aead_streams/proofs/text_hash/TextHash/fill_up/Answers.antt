@@ -1,5 +1,4 @@
-use Rattle.std.proofs.Common.{refl}
-use Rattle.aead_streams.proofs.Common.{false≢true}
+use Rattle.aead_streams.proofs.Common.{false≢true, refl}
 use Rattle.aead_streams.proofs.TextHashing.{ended_whole, ended_filled}
 use Rattle.aead_streams.proofs.text_hash.TextHash.fill_up.Goals as goal
 

@@ -1,5 +1,4 @@
-use Rattle.std.proofs.Common.{ap, ap₂, arith, bit_xor, ℕ, ◌∙◌, ◌≡◌}
-use Rattle.aead_streams.proofs.Common.{block_product}
+use Rattle.aead_streams.proofs.Common.{ap, ap₂, arith, bit_xor, block_product, ℕ, ◌∙◌, ◌≡◌}
 use Rattle.aead_streams.proofs.HashSteps.{value_of_none}
 use Rattle.aead_streams.proofs.text_hash.TextHash.finish.Goals as goal
 

@@ -1,5 +1,4 @@
-use Rattle.std.proofs.Common.{arith, length, refl, take, ◌<◌, ◌≡◌}
-use Rattle.aead_streams.proofs.Common.{false≢true}
+use Rattle.aead_streams.proofs.Common.{arith, false≢true, length, refl, take, ◌<◌, ◌≡◌}
 use Rattle.aead_streams.proofs.TextHashing.{put_more, put_full}
 use Rattle.aead_streams.proofs.text_hash.TextHash.take_in.Goals as goal
 

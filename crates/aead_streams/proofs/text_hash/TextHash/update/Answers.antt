@@ -1,5 +1,4 @@
-use Rattle.std.proofs.Common.{ap, arith, drop, length, refl, take, ℕ, ◌*◌, ◌+◌, ◌-◌, ◌/◌, ◌≡◌}
-use Rattle.std.proofs.lemmas.List.{take_all, length-drop}
+use Rattle.aead_streams.proofs.Common.{ap, arith, drop, length, length-drop, refl, take, take_all, ℕ, ◌*◌, ◌+◌, ◌-◌, ◌/◌, ◌≡◌}
 use Rattle.aead_streams.proofs.TextHashing.{updated}
 use Rattle.aead_streams.proofs.text_hash.TextHash.update.Goals as goal
 
