@@ -1,3 +1,4 @@
+mod Common
 pub mod Codes
 pub mod Padding
 pub mod Choices

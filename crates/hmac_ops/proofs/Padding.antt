@@ -1,9 +1,6 @@
 -- The key's block and its pads.
-use Rattle.std.proofs.Common.{Bool, List, ap, arith, bit_xor, cond, false, inl, inr, length, length-append, nat_lt, replicate, sym, take, true, ℕ, ◌++◌, ◌+◌, ◌-◌, ◌<◌, ◌∙◌, ◌≡◌, ◌≤◌}
+use Rattle.hmac_ops.proofs.Common.{Bool, List, ap, arith, bit_xor, cases_lt, cond, false, filled, inl, inr, key_block, le-ltb, length, length-append, length-map, length-replicate, lt-ltb, nat_lt, replicate, sym, take, take-map, take-replicate, true, xored_with, ℕ, ◌++◌, ◌+◌, ◌-◌, ◌<◌, ◌∙◌, ◌≡◌, ◌≤◌}
 use Rattle.std.proofs.Math.Seq.{take-append-add}
-use Rattle.std.proofs.lemmas.Bool.{cases_lt, le-ltb, lt-ltb}
-use Rattle.std.proofs.lemmas.List.{length-map, length-replicate, take-replicate, take-map}
-use Rattle.crypto_specs.specs.Prelude.{filled, key_block, xored_with}
 
 -- the front of a filled list
 fill_taken : (k : List ℕ) (b n : ℕ) → length k ≤ b → b ≤ n → take b (filled n k) ≡ filled b k

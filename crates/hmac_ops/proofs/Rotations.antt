@@ -1,9 +1,5 @@
 -- Rotations of words inside one another, bit by bit.
-use Rattle.std.proofs.Common.{add-zero, ap, ap₂, arith, bit_or, bit_xor, inl, inr, max, mod-lt, pow_pos, sym, ℕ, ◌%◌, ◌*◌, ◌+◌, ◌-◌, ◌/◌, ◌<◌, ◌^◌, ◌∙◌, ◌≡◌, ◌≤◌}
-use Rattle.std.proofs.lemmas.Bool.{cases_lt}
-use Rattle.std.proofs.lemmas.Nat.{or_lt, shr_le, shr_split, xor_lt}
-use Rattle.std.proofs.lemmas.Nat.Bits.{bit_at-zero, bit_at_above, bit_at_cat_high, bit_at_cat_low, bit_at_or, bit_at_xor, same_from_bits_below}
-use Rattle.std.specs.Int.{bit_at}
+use Rattle.hmac_ops.proofs.Common.{add-zero, ap, ap₂, arith, bit_at, bit_at-zero, bit_at_above, bit_at_cat_high, bit_at_cat_low, bit_at_or, bit_at_xor, bit_or, bit_xor, cases_lt, inl, inr, max, mod-lt, or_lt, pow_pos, same_from_bits_below, shr_le, shr_split, sym, xor_lt, ℕ, ◌%◌, ◌*◌, ◌+◌, ◌-◌, ◌/◌, ◌<◌, ◌^◌, ◌∙◌, ◌≡◌, ◌≤◌}
 
 -- a word's bits k places down, those that fall out at the top: `rotate_right` by k, from 1 to 31
 abbrev pub rotated : ℕ → ℕ → ℕ

@@ -1,7 +1,5 @@
 -- One more word of a schedule that is written from its front on.
-use Rattle.std.proofs.Common.{List, [], add-one, ap, ap₂, arith, length, slice_set, suc, sym, take, ℕ, ◌*◌, ◌++◌, ◌+◌, ◌-◌, ◌<◌, ◌∙◌, ◌∷◌, ◌≡◌, ◌≤◌}
-use Rattle.std.proofs.lemmas.List.{get_or-take, take_more_set}
-use Rattle.sha2.specs.Sha256.{first_words, next_word, schedule, word_at}
+use Rattle.hmac_ops.proofs.Common.{List, [], add-one, ap, ap₂, arith, first_words, get_or-take, length, next_word, schedule, slice_set, suc, sym, take, take_more_set, word_at, ℕ, ◌*◌, ◌++◌, ◌+◌, ◌-◌, ◌<◌, ◌∙◌, ◌∷◌, ◌≡◌, ◌≤◌}
 
 -- a word follows from those before it
 next_word-front : (w : List ℕ) (t : ℕ) → 16 ≤ t → next_word (take t w) t ≡ next_word w t

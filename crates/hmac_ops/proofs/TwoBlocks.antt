@@ -1,7 +1,5 @@
 -- A message of 96 bytes is two blocks.
-use Rattle.std.proofs.Common.{List, ap, append_assoc, ap₂, arith, drop, length, length-append, sym, take, ℕ, ◌++◌, ◌+◌, ◌/◌, ◌∙◌, ◌≡◌}
-use Rattle.std.proofs.lemmas.List.{take_at, drop_at, take_all}
-use Rattle.sha2.specs.Sha256.{compress, digest_bytes, hash_after, initial_hash_256, padded_message, padding, sha256}
+use Rattle.hmac_ops.proofs.Common.{List, ap, append_assoc, ap₂, arith, compress, digest_bytes, drop, drop_at, hash_after, initial_hash_256, length, length-append, padded_message, padding, sha256, sym, take, take_all, take_at, ℕ, ◌++◌, ◌+◌, ◌/◌, ◌∙◌, ◌≡◌}
 
 pub hash_after-two : (h x y : List ℕ) → length x ≡ 64 → length y ≡ 64 → hash_after h (x ++ y) 2 ≡ compress (compress h x) y
 unfolding hash_after

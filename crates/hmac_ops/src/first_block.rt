@@ -9,14 +9,7 @@ use crate::compression::compress;
 
 // H(0) (section 5.3.3).
 const INITIAL_HASH_VALUE: [u32; 8] = [
-    0x6a09_e667,
-    0xbb67_ae85,
-    0x3c6e_f372,
-    0xa54f_f53a,
-    0x510e_527f,
-    0x9b05_688c,
-    0x1f83_d9ab,
-    0x5be0_cd19,
+    0x6a09e667, 0xbb67ae85, 0x3c6ef372, 0xa54ff53a, 0x510e527f, 0x9b05688c, 0x1f83d9ab, 0x5be0cd19,
 ];
 
 // The second block of a message of 96 bytes without its first 32 bytes, which are the message's: a

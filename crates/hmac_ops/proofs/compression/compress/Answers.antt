@@ -1,5 +1,4 @@
-use Rattle.std.proofs.Common.{ap, ap₂, arith, refl, ◌*◌, ◌∙◌, ◌≡◌}
-use Rattle.sha2.specs.Sha256.{add_state, compress, rounds}
+use Rattle.hmac_ops.proofs.Common.{add_state, ap, ap₂, arith, compress, refl, rounds, ◌*◌, ◌∙◌, ◌≡◌}
 use Rattle.hmac_ops.proofs.compression.compress.Goals as goal
 
 pub turns-init : goal.turns-init

@@ -1,5 +1,4 @@
-use Rattle.std.proofs.Common.{◌*◌, ◌≡◌}
-use Rattle.sha2.specs.Sha256.{rounds}
+use Rattle.hmac_ops.proofs.Common.{rounds, ◌*◌, ◌≡◌}
 use Rattle.hmac_ops.proofs.compression.compress.Given as goal
 
 abbrev pub invariant-turns : goal.invariant-turns

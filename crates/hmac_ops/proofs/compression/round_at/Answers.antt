@@ -1,5 +1,4 @@
-use Rattle.std.proofs.Common.{List, ap, slice_index, sym, ℕ, ◌∙◌}
-use Rattle.sha2.specs.Sha256.{round, round_constants}
+use Rattle.hmac_ops.proofs.Common.{List, ap, round, round_constants, slice_index, sym, ℕ, ◌∙◌}
 use Rattle.sha2.proofs.Schedule256.{rounds_next}
 use Rattle.hmac_ops.proofs.compression.round_at.Goals as goal
 

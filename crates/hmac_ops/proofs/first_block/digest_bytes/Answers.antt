@@ -1,7 +1,5 @@
-use Rattle.std.proofs.Common.{arith, rules, sym, ◌∙◌, ◌≡◌}
-use Rattle.std.proofs.lemmas.List.{take_all}
+use Rattle.hmac_ops.proofs.Common.{arith, digest_bytes, rules, sym, take_all, ◌∙◌, ◌≡◌}
 use Rattle.std.proofs.lemmas.Slice.{overwrites}
-use Rattle.sha2.specs.Sha256.{digest_bytes}
 use Rattle.sha2.proofs.Absorbing256.{digest_more}
 use Rattle.hmac_ops.proofs.first_block.digest_bytes.Goals as goal
 

@@ -1,5 +1,4 @@
-use Rattle.std.proofs.Common.{length, take, ◌*◌, ◌≡◌}
-use Rattle.sha2.specs.Sha256.{digest_bytes}
+use Rattle.hmac_ops.proofs.Common.{digest_bytes, length, take, ◌*◌, ◌≡◌}
 use Rattle.hmac_ops.proofs.first_block.digest_bytes.Given as goal
 
 abbrev pub invariant-words : goal.invariant-words

@@ -1,4 +1,4 @@
-use Rattle.std.proofs.Common.{replicate, take, ◌++◌, ◌-◌, ◌≡◌}
+use Rattle.hmac_ops.proofs.Common.{replicate, take, ◌++◌, ◌-◌, ◌≡◌}
 use Rattle.hmac_ops.proofs.pads.filled.Given as goal
 
 abbrev pub invariant-bytes : goal.invariant-bytes

@@ -1,7 +1,4 @@
-use Rattle.std.proofs.Common.{ap, arith, length, refl, take, ◌∙◌, ◌≤◌}
-use Rattle.crypto_specs.specs.Prelude.{filled}
-use Rattle.hash_ops.specs.Hashes.{block_length, hash_of}
-use Rattle.hash_ops.proofs.Digests.{length-hash_of, length_bounds}
+use Rattle.hmac_ops.proofs.Common.{ap, arith, block_length, filled, hash_of, length, length-hash_of, length_bounds, refl, take, ◌∙◌, ◌≤◌}
 use Rattle.hmac_ops.proofs.Padding.{key_block_short, key_block_long}
 use Rattle.hmac_ops.proofs.pads.key_block.Goals as goal
 

@@ -1,5 +1,4 @@
-use Rattle.std.proofs.Common.{length, take, ◌≡◌}
-use Rattle.crypto_specs.specs.Prelude.{xored_with}
+use Rattle.hmac_ops.proofs.Common.{length, take, xored_with, ◌≡◌}
 use Rattle.hmac_ops.proofs.pads.xored_with.Given as goal
 
 abbrev pub invariant-bytes : goal.invariant-bytes

@@ -1,5 +1,4 @@
-use Rattle.std.proofs.Common.{rules}
-use Rattle.sha2.specs.Sha256.{schedule}
+use Rattle.hmac_ops.proofs.Common.{rules, schedule}
 use Rattle.hmac_ops.proofs.schedule.message_schedule.Goals as goal
 
 pub turns-init : goal.turns-init

@@ -1,5 +1,4 @@
-use Rattle.std.proofs.Common.{length, take, ◌*◌, ◌-◌, ◌≡◌}
-use Rattle.sha2.specs.Sha256.{schedule}
+use Rattle.hmac_ops.proofs.Common.{length, schedule, take, ◌*◌, ◌-◌, ◌≡◌}
 use Rattle.hmac_ops.proofs.schedule.message_schedule.Given as goal
 
 abbrev pub invariant-turns : goal.invariant-turns

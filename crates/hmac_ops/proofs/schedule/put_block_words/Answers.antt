@@ -1,5 +1,4 @@
-use Rattle.std.proofs.Common.{arith, rules}
-use Rattle.sha2.specs.Sha256.{first_words}
+use Rattle.hmac_ops.proofs.Common.{arith, first_words, rules}
 use Rattle.hmac_ops.proofs.ScheduleWords.{first_words-more}
 use Rattle.hmac_ops.proofs.schedule.put_block_words.Goals as goal
 

@@ -1,5 +1,4 @@
-use Rattle.std.proofs.Common.{length, take, ◌≡◌}
-use Rattle.sha2.specs.Sha256.{first_words}
+use Rattle.hmac_ops.proofs.Common.{first_words, length, take, ◌≡◌}
 use Rattle.hmac_ops.proofs.schedule.put_block_words.Given as goal
 
 abbrev pub invariant-words : goal.invariant-words

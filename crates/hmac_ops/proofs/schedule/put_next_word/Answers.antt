@@ -1,4 +1,4 @@
-use Rattle.std.proofs.Common.{arith, refl}
+use Rattle.hmac_ops.proofs.Common.{arith, refl}
 use Rattle.hmac_ops.proofs.ScheduleWords.{schedule-more}
 use Rattle.hmac_ops.proofs.schedule.put_next_word.Goals as goal
 

@@ -1,4 +1,4 @@
-use Rattle.std.proofs.Common.{ap, arith, bit_xor, ℕ, ◌/◌, ◌^◌}
+use Rattle.hmac_ops.proofs.Common.{ap, arith, bit_xor, ℕ, ◌/◌, ◌^◌}
 use Rattle.hmac_ops.proofs.Rotations.{rotated-two}
 use Rattle.hmac_ops.proofs.words.small_sigma0.Goals as goal
 

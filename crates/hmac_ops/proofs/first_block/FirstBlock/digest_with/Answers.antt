@@ -1,5 +1,4 @@
-use Rattle.std.proofs.Common.{List, ap, ap₂, arith, ℕ, ◌∙◌}
-use Rattle.sha2.specs.Sha256.{compress, digest_bytes}
+use Rattle.hmac_ops.proofs.Common.{List, ap, ap₂, arith, compress, digest_bytes, ℕ, ◌∙◌}
 use Rattle.hmac_ops.proofs.TwoBlocks.{sha256-two_blocks}
 use Rattle.hmac_ops.proofs.first_block.FirstBlock.digest_with.Goals as goal
 

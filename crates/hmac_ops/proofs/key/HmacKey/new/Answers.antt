@@ -1,5 +1,4 @@
-use Rattle.std.proofs.Common.{List, [], ap, subst, take, ℕ, ◌∙◌, ◌≡◌}
-use Rattle.hash_ops.specs.Hashes.{block_length}
+use Rattle.hmac_ops.proofs.Common.{List, [], ap, block_length, subst, take, ℕ, ◌∙◌, ◌≡◌}
 use Rattle.hash_ops.specs.States.{Holds}
 use Rattle.hmac_ops.proofs.Padding.{pad_of}
 use Rattle.hmac_ops.proofs.key.HmacKey.new.Goals as goal

@@ -1,8 +1,5 @@
-use Rattle.std.proofs.Common.{List, ap, arith, length, ℕ, ◌++◌, ◌∙◌, ◌≤◌}
-use Rattle.crypto_specs.specs.Prelude.{hmac, inner_pad, outer_pad}
-use Rattle.hash_ops.specs.Hashes.{hash_of}
+use Rattle.hmac_ops.proofs.Common.{List, ap, arith, hash_of, hmac, inner_pad, length, length-hash_of, outer_pad, ℕ, ◌++◌, ◌∙◌, ◌≤◌}
 use Rattle.hash_ops.specs.declared.Hash.TheVariants.{Sha256}
-use Rattle.hash_ops.proofs.Digests.{length-hash_of}
 use Rattle.hmac_ops.proofs.Padding.{length-pad}
 use Rattle.hmac_ops.proofs.short_message_key.ShortMessageKey.code.Goals as goal
 

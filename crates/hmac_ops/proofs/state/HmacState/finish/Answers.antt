@@ -1,6 +1,4 @@
-use Rattle.std.proofs.Common.{List, ap, ℕ, ◌++◌, ◌∙◌}
-use Rattle.crypto_specs.specs.Prelude.{hmac, inner_pad, outer_pad}
-use Rattle.hash_ops.specs.Hashes.{block_length, hash_of}
+use Rattle.hmac_ops.proofs.Common.{List, ap, block_length, hash_of, hmac, inner_pad, outer_pad, ℕ, ◌++◌, ◌∙◌}
 use Rattle.hmac_ops.proofs.state.HmacState.finish.Goals as goal
 
 pub returns-clause-code : goal.returns-clause-code
