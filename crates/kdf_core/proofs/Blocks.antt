@@ -1,6 +1,5 @@
 -- HKDF: the absent salt, and the next block.
-use Rattle.std.proofs.Common.{List, [], ap, arith, refl, suc, sym, zero, ℕ, ◌++◌, ◌+◌, ◌-◌, ◌∙◌, ◌∷◌, ◌≡◌, ◌≤◌}
-use Rattle.crypto_specs.specs.Prelude.{hmac, hash_length, extract, expand_block}
+use Rattle.kdf_core.proofs.Common.{List, [], ap, arith, expand_block, extract, hash_length, hmac, refl, suc, sym, zero, ℕ, ◌++◌, ◌+◌, ◌-◌, ◌∙◌, ◌∷◌, ◌≡◌, ◌≤◌}
 use Rattle.crypto_specs.proofs.HkdfLaws.{absent_salt_is_empty_key}
 
 pub extract_by_hmac : (hash : List ℕ → List ℕ) (n : ℕ) (salt secret : List ℕ) → hash_length hash ≤ n → hmac hash n salt secret ≡ extract hash n salt secret

@@ -1,2 +1,3 @@
+mod Common
 pub mod Blocks
 pub mod Turns

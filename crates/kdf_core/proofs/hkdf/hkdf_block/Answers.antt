@@ -1,5 +1,4 @@
-use Rattle.std.proofs.Common.{[], ◌∙◌}
-use Rattle.hash_ops.specs.Hashes.{block_length, hash_of}
+use Rattle.kdf_core.proofs.Common.{[], block_length, hash_of, ◌∙◌}
 use Rattle.kdf_core.proofs.Blocks.{next_block}
 use Rattle.kdf_core.proofs.hkdf.hkdf_block.Goals as goal
 

@@ -1,6 +1,4 @@
-use Rattle.std.proofs.Common.{[], arith, ◌∙◌, ◌≤◌}
-use Rattle.crypto_specs.specs.Prelude.{hash_length}
-use Rattle.hash_ops.specs.Hashes.{block_length, hash_of}
+use Rattle.kdf_core.proofs.Common.{[], arith, block_length, hash_length, hash_of, ◌∙◌, ◌≤◌}
 use Rattle.hash_ops.proofs.Digests.{length-hash_of, length_bounds}
 use Rattle.kdf_core.proofs.Blocks.{extract_by_hmac}
 use Rattle.kdf_core.proofs.hkdf.hkdf_extract.Goals as goal

@@ -1,8 +1,5 @@
-use Rattle.std.proofs.Common.{List, ap, arith, drop, length, sym, take, ℕ, ◌++◌, ◌+◌, ◌-◌, ◌∙◌, ◌≡◌}
+use Rattle.kdf_core.proofs.Common.{List, ap, arith, block_length, drop, drop-replicate, hash_of, hmac, length, length-take, pbkdf2_block, sym, take, ℕ, ◌++◌, ◌+◌, ◌-◌, ◌∙◌, ◌≡◌}
 use Rattle.std.specs.Int.{w32, to_be_bytes}
-use Rattle.std.proofs.lemmas.List.{drop-replicate, length-take}
-use Rattle.crypto_specs.specs.Prelude.{hmac, pbkdf2_block}
-use Rattle.hash_ops.specs.Hashes.{block_length, hash_of}
 use Rattle.kdf_core.proofs.Turns.{summed, summed-first, summed-next, summed-last, front_copied, xored_front}
 use Rattle.kdf_core.proofs.pbkdf2.pbkdf2_block.Goals as goal
 

@@ -1,6 +1,4 @@
-use Rattle.std.proofs.Common.{drop, length, replicate, take, ◌-◌, ◌≡◌}
-use Rattle.crypto_specs.specs.Prelude.{pbkdf2_block}
-use Rattle.hash_ops.specs.Hashes.{block_length, hash_of}
+use Rattle.kdf_core.proofs.Common.{block_length, drop, hash_of, length, pbkdf2_block, replicate, take, ◌-◌, ◌≡◌}
 use Rattle.kdf_core.proofs.Turns.{summed}
 use Rattle.kdf_core.proofs.pbkdf2.pbkdf2_block.Given as goal
 

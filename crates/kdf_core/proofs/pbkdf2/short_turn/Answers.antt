@@ -1,7 +1,4 @@
-use Rattle.std.proofs.Common.{ap, arith, drop, ◌∙◌}
-use Rattle.std.proofs.lemmas.List.{take_at, drop_at}
-use Rattle.crypto_specs.specs.Prelude.{hmac}
-use Rattle.hash_ops.specs.Hashes.{hash_of}
+use Rattle.kdf_core.proofs.Common.{ap, arith, drop, drop_at, hash_of, hmac, take_at, ◌∙◌}
 use Rattle.hash_ops.specs.declared.Hash.TheVariants.{Sha256}
 use Rattle.kdf_core.proofs.pbkdf2.short_turn.Goals as goal
 

@@ -1,5 +1,4 @@
-use Rattle.std.proofs.Common.{add-one, arith}
-use Rattle.crypto_specs.proofs.XorBytes.{xor_bytes_next}
+use Rattle.kdf_core.proofs.Common.{add-one, arith, xor_bytes_next}
 use Rattle.kdf_core.proofs.pbkdf2.xor_into.Goals as goal
 
 pub bytes-preserved : goal.bytes-preserved

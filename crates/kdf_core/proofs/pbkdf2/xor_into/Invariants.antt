@@ -1,5 +1,4 @@
-use Rattle.std.proofs.Common.{drop, take, ◌++◌, ◌≡◌}
-use Rattle.crypto_specs.specs.Prelude.{xor_bytes}
+use Rattle.kdf_core.proofs.Common.{drop, take, xor_bytes, ◌++◌, ◌≡◌}
 use Rattle.kdf_core.proofs.pbkdf2.xor_into.Given as goal
 
 abbrev pub invariant-bytes : goal.invariant-bytes
