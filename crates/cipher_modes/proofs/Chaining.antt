@@ -1,6 +1,5 @@
 -- CBC, one block at a time.
-use Rattle.std.proofs.Common.{List, ap, sym, ℕ, ◌∷◌, ◌≡◌}
-use Rattle.crypto_specs.specs.Prelude.{xor_bytes, cbc_blocks, cbc_plain_blocks}
+use Rattle.cipher_modes.proofs.Common.{List, ap, cbc_blocks, cbc_plain_blocks, sym, xor_bytes, ℕ, ◌∷◌, ◌≡◌}
 
 pub cbc_block : (e : List ℕ → List ℕ) (chain block out : List ℕ) → out ≡ e (xor_bytes block chain)
     → (rest : List (List ℕ)) → cbc_blocks e chain (block ∷ rest) ≡ out ∷ cbc_blocks e out rest

@@ -1,6 +1,5 @@
 -- The counter of CTR, and its key stream block by block.
-use Rattle.std.proofs.Common.{List, add-one, ap, arith, refl, ℕ, ◌%◌, ◌++◌, ◌+◌, ◌<◌, ◌^◌, ◌≡◌}
-use Rattle.crypto_specs.specs.Prelude.{key_stream, counter_block, block_number, number_block}
+use Rattle.cipher_modes.proofs.Common.{List, add-one, ap, arith, block_number, counter_block, key_stream, number_block, refl, ℕ, ◌%◌, ◌++◌, ◌+◌, ◌<◌, ◌^◌, ◌≡◌}
 
 pub key_stream_next : (e : List ℕ → List ℕ) (iv : List ℕ) (n : ℕ) → key_stream e iv (n + 1) ≡ key_stream e iv n ++ e (counter_block iv n)
 unfolding key_stream

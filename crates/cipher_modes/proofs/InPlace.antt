@@ -1,9 +1,7 @@
 -- A mode that takes a text block by block, in place.
-use Rattle.std.proofs.Common.{List, [], ap, append_assoc, ap₂, arith, drop, length, suc, sym, take, ℕ, ◌%◌, ◌*◌, ◌++◌, ◌+◌, ◌-◌, ◌/◌, ◌<◌, ◌∙◌, ◌∷◌, ◌≡◌, ◌≤◌}
-use Rattle.std.proofs.lemmas.List.{drop-drop, append-nil, take_all, length-append, length-take, length-drop}
+use Rattle.cipher_modes.proofs.Common.{List, [], ap, append-nil, append_assoc, ap₂, arith, blocks, drop, drop-drop, joined, length, length-append, length-drop, length-take, suc, sym, take, take_all, ℕ, ◌%◌, ◌*◌, ◌++◌, ◌+◌, ◌-◌, ◌/◌, ◌<◌, ◌∙◌, ◌∷◌, ◌≡◌, ◌≤◌}
 use Rattle.std.proofs.lemmas.Slice.{take-put_mid, drop-put_mid}
 use borrow.Rule.Slice.PartMut.{put_mid}
-use Rattle.crypto_specs.specs.Prelude.{blocks, joined}
 
 -- the first n blocks as they are, and what the mode makes of the rest
 abbrev pub mode_from : (List (List ℕ) → List (List ℕ)) → ℕ → List ℕ → List ℕ

@@ -1,3 +1,4 @@
+mod Common
 pub mod InPlace
 pub mod Chaining
 pub mod CounterBlocks

@@ -1,10 +1,7 @@
 -- PKCS#7 padding of a text of several blocks.
-use Rattle.std.proofs.Common.{Bool, List, None, Option, Some, ap, arith, bytes_eq, cond, drop, false, length, nat_le, refl, replicate, slice_index, sym, take, true, ℕ, ◌&&◌, ◌++◌, ◌+◌, ◌-◌, ◌∙◌, ◌≡◌, ◌≤◌}
+use Rattle.cipher_modes.proofs.Common.{Bool, List, None, Option, Some, ap, arith, bytes_eq, cond, drop, false, get_or-append-add, leb-true, length, length-append, nat_le, pkcs7_unpadded, refl, replicate, slice_index, sym, take, true, ℕ, ◌&&◌, ◌++◌, ◌+◌, ◌-◌, ◌∙◌, ◌≡◌, ◌≤◌}
 use Rattle.std.specs.Option.{option_map}
 use Rattle.std.proofs.Math.Seq.{drop-append-add, take-append-add}
-use Rattle.std.proofs.lemmas.Bool.{leb-true}
-use Rattle.std.proofs.lemmas.List.{length-append, get_or-append-add}
-use Rattle.crypto_specs.specs.Prelude.{pkcs7_unpadded}
 
 -- without the padding, by the last byte
 unpadded_at : List ℕ → ℕ → Option (List ℕ)

@@ -1,9 +1,7 @@
 -- PKCS#7 padding of one block.
-use Rattle.std.proofs.Common.{Bool, List, None, Some, [], ap, ap₂, arith, bytes_eq, cond, drop, false, inl, inr, length, nat_le, refl, replicate, slice_index, sym, take, true, ℕ, ◌%◌, ◌&&◌, ◌++◌, ◌+◌, ◌-◌, ◌<◌, ◌∙◌, ◌≡◌, ◌≤◌, ◌⊎◌}
-use Rattle.std.proofs.lemmas.Bool.{le-leb, lt-leb, cases_lt}
-use Rattle.std.proofs.lemmas.List.{length-take, length-drop, drop_all, append-nil, drop_at, get_or_at, take-append-drop}
+use Rattle.cipher_modes.proofs.Common.{Bool, List, None, Some, [], ap, append-nil, ap₂, arith, bytes_eq, cases_lt, cond, drop, drop_all, drop_at, false, get_or_at, inl, inr, le-leb, length, length-drop, length-take, lt-leb, nat_le, pkcs7_padded, pkcs7_unpadded, refl, replicate, slice_index, sym, take, take-append-drop, true, ℕ, ◌%◌, ◌&&◌, ◌++◌, ◌+◌, ◌-◌, ◌<◌, ◌∙◌, ◌≡◌, ◌≤◌, ◌⊎◌}
+use Rattle.std.proofs.lemmas.Bool.{false_from_ne_true}
 use Rattle.std.proofs.lemmas.Slice.Eq.{bytes_eq-Decides}
-use Rattle.crypto_specs.specs.Prelude.{pkcs7_padded, pkcs7_unpadded}
 
 -- the room after the first bytes, filled
 pub filled_to_end : (used : ℕ) (block filled : List ℕ) → length block ≡ 16 → used < 16 → filled ≡ replicate (length (take (16 - used) (drop used block))) (16 - used)
@@ -49,10 +47,6 @@ by_end : (block : List ℕ) (p kept : ℕ) → length block ≡ 16 → p ≡ sli
 by_end block p kept long last low high sum =
     unpadded block p long last ∙ rw (le-leb 1 p low, le-leb p 16 high)
     (ap (λ (k : ℕ). cond (bytes_eq (drop k block) (replicate p p)) (Some (take k block)) None) (omega (arith, sum)))
-
-by_test : (b : Bool) → (b ≡ true → ⊥) → b ≡ false
-by_test true h = absurd (h refl)
-by_test false h = refl
 
 -- a block whose last byte ends no padding isn't its front of 15 bytes, padded
 ends_otherwise : (block : List ℕ) (p : ℕ) → length block ≡ 16 → p ≡ slice_index block 15 → (p ≡ 0) ⊎ (16 < p) → pkcs7_padded (take 15 block) ≡ block → ⊥
@@ -100,6 +94,6 @@ misfits block p kept long last count not_is = elim (cases_lt p 1) [
         padded_by block p kept long low sum ∙ (ap (λ (l : List ℕ). take kept block ++ l) (sym e) ∙ take-append-drop kept block) in
         by_end block p kept long last low high sum
         ∙ ap (λ (b : Bool). cond b (Some (take kept block)) None)
-        (by_test (bytes_eq (drop kept block) (replicate p p)) (λ same. not_is (whole ((bytes_eq-Decides (drop kept block) (replicate p p)).0 same))))
+        (false_from_ne_true (bytes_eq (drop kept block) (replicate p p)) (λ same. not_is (whole ((bytes_eq-Decides (drop kept block) (replicate p p)).0 same))))
   ]
 ]

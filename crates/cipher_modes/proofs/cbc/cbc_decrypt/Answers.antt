@@ -1,7 +1,4 @@
-use Rattle.std.proofs.Common.{List, ap, arith, length, refl, sym, ℕ, ◌∙◌, ◌∷◌}
-use Rattle.crypto_specs.specs.Prelude.{xor_bytes, aes_decrypt, cbc_plain_blocks, number_block, cbc_decrypt}
-use Rattle.crypto_specs.proofs.Blocks.{length-number_block}
-use Rattle.cipher_blocks.proofs.BlockNumbers.{block_of_xor}
+use Rattle.cipher_modes.proofs.Common.{List, aes_decrypt, ap, arith, block_of_xor, cbc_decrypt, cbc_plain_blocks, length, length-number_block, number_block, refl, sym, xor_bytes, ℕ, ◌∙◌, ◌∷◌}
 use Rattle.cipher_modes.proofs.Chaining.{cbc_plain_block}
 use Rattle.cipher_modes.proofs.InPlace.{mode_from, block_done, all_done, none_done}
 use Rattle.cipher_modes.proofs.cbc.cbc_decrypt.Goals as goal

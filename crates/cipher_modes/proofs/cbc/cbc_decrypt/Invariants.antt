@@ -1,5 +1,4 @@
-use Rattle.std.proofs.Common.{◌≡◌}
-use Rattle.crypto_specs.specs.Prelude.{aes_decrypt, cbc_plain_blocks, number_block, cbc_decrypt}
+use Rattle.cipher_modes.proofs.Common.{aes_decrypt, cbc_decrypt, cbc_plain_blocks, number_block, ◌≡◌}
 use Rattle.cipher_modes.proofs.InPlace.{mode_from}
 use Rattle.cipher_modes.proofs.cbc.cbc_decrypt.Given as goal
 

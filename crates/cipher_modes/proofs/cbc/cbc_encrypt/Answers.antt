@@ -1,7 +1,4 @@
-use Rattle.std.proofs.Common.{List, ap, arith, length, refl, sym, ℕ, ◌∙◌, ◌∷◌}
-use Rattle.crypto_specs.specs.Prelude.{xor_bytes, aes_encrypt, cbc_blocks, number_block, cbc_encrypt}
-use Rattle.crypto_specs.proofs.Blocks.{length-number_block}
-use Rattle.cipher_blocks.proofs.BlockNumbers.{block_of_xor}
+use Rattle.cipher_modes.proofs.Common.{List, aes_encrypt, ap, arith, block_of_xor, cbc_blocks, cbc_encrypt, length, length-number_block, number_block, refl, sym, xor_bytes, ℕ, ◌∙◌, ◌∷◌}
 use Rattle.cipher_modes.proofs.Chaining.{cbc_block}
 use Rattle.cipher_modes.proofs.InPlace.{mode_from, block_done, all_done, none_done}
 use Rattle.cipher_modes.proofs.cbc.cbc_encrypt.Goals as goal

@@ -1,5 +1,4 @@
-use Rattle.std.proofs.Common.{◌≡◌}
-use Rattle.crypto_specs.specs.Prelude.{aes_encrypt, cbc_blocks, number_block, cbc_encrypt}
+use Rattle.cipher_modes.proofs.Common.{aes_encrypt, cbc_blocks, cbc_encrypt, number_block, ◌≡◌}
 use Rattle.cipher_modes.proofs.InPlace.{mode_from}
 use Rattle.cipher_modes.proofs.cbc.cbc_encrypt.Given as goal
 

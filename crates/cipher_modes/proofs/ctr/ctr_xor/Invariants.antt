@@ -1,5 +1,4 @@
-use Rattle.std.proofs.Common.{drop, take, ◌%◌, ◌*◌, ◌++◌, ◌+◌, ◌^◌, ◌≡◌}
-use Rattle.crypto_specs.specs.Prelude.{xor_bytes, aes_encrypt, key_stream, block_number}
+use Rattle.cipher_modes.proofs.Common.{aes_encrypt, block_number, drop, key_stream, take, xor_bytes, ◌%◌, ◌*◌, ◌++◌, ◌+◌, ◌^◌, ◌≡◌}
 use Rattle.cipher_modes.proofs.ctr.ctr_xor.Given as goal
 
 abbrev pub invariant-turns : goal.invariant-turns

@@ -1,6 +1,4 @@
-use Rattle.std.proofs.Common.{List, ap, arith, length, map, refl, sym, ℕ, ◌∙◌, ◌∷◌}
-use Rattle.crypto_specs.specs.Prelude.{aes_decrypt, ecb_blocks, ecb_decrypt}
-use Rattle.crypto_specs.proofs.Blocks.{length-number_block}
+use Rattle.cipher_modes.proofs.Common.{List, aes_decrypt, ap, arith, ecb_blocks, ecb_decrypt, length, length-number_block, map, refl, sym, ℕ, ◌∙◌, ◌∷◌}
 use Rattle.cipher_modes.proofs.InPlace.{block_done, all_done, none_done}
 use Rattle.cipher_modes.proofs.ecb.ecb_decrypt.Goals as goal
 

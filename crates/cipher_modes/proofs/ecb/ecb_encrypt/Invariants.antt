@@ -1,5 +1,4 @@
-use Rattle.std.proofs.Common.{◌≡◌}
-use Rattle.crypto_specs.specs.Prelude.{aes_encrypt, ecb_blocks, ecb_encrypt}
+use Rattle.cipher_modes.proofs.Common.{aes_encrypt, ecb_blocks, ecb_encrypt, ◌≡◌}
 use Rattle.cipher_modes.proofs.InPlace.{mode_from}
 use Rattle.cipher_modes.proofs.ecb.ecb_encrypt.Given as goal
 

@@ -1,6 +1,5 @@
-use Rattle.std.proofs.Common.{ap, arith, length, refl, slice_index, sym, take, ◌∙◌, ◌≡◌}
+use Rattle.cipher_modes.proofs.Common.{ap, arith, length, refl, slice_index, sym, take, take_all, ◌∙◌, ◌≡◌}
 use Rattle.std.proofs.lemmas.Bool.Decides.{not_from_Decides}
-use Rattle.std.proofs.lemmas.List.{take_all}
 use Rattle.cipher_modes.proofs.PaddingRules.{fits, misfits}
 use Rattle.cipher_modes.proofs.padding.unpad.Goals as goal
 
