@@ -1,8 +1,6 @@
 -- One more block of a message.
-use Rattle.std.proofs.Common.{List, [], ap, arith, drop, refl, suc, take, zero, ℕ, ◌*◌, ◌++◌, ◌+◌, ◌∙◌, ◌∷◌, ◌≡◌}
-use Rattle.std.proofs.lemmas.List.{drop-drop}
+use Rattle.cmac_ops.proofs.Common.{List, [], ap, arith, blocks, chain_step, chained, drop, drop-drop, refl, suc, take, xor_bytes, zero, ℕ, ◌*◌, ◌++◌, ◌+◌, ◌∙◌, ◌∷◌, ◌≡◌}
 use Rattle.std.proofs.lemmas.List.Sums.{fold-append}
-use Rattle.crypto_specs.specs.Prelude.{xor_bytes, chain_step, chained, blocks}
 
 -- one more block
 pub blocks-add-one : (n : ℕ) (xs : List ℕ) → blocks (n + 1) xs ≡ blocks n xs ++ take 16 (drop (16 * n) xs) ∷ []

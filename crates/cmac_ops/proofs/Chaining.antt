@@ -1,12 +1,8 @@
 -- The steps of a chain: a block is enciphered, a piece is added, the tag is made.
-use Rattle.std.proofs.Common.{Bool, List, [], ap, ap₂, arith, bit_xor, cond, drop, inl, inr, length, refl, replicate, sym, take, ℕ, ◌*◌, ◌++◌, ◌+◌, ◌-◌, ◌<◌, ◌^◌, ◌∙◌, ◌∷◌, ◌≡◌, ◌≤◌}
+use Rattle.cmac_ops.proofs.Common.{Bool, Holds, IsChained, List, [], aes_encrypt, ap, ap₂, arith, bit_xor, block_of_xor, blocks, chained, cmac, cond, doubled, drop, drop-append-le, drop_all, front_count, inl, inr, last_block, length, length-append, length-drop, number_block, refl, replicate, subkey1, subkey2, sym, take, take_all, xor_bytes, ℕ, ◌*◌, ◌++◌, ◌+◌, ◌-◌, ◌<◌, ◌^◌, ◌∙◌, ◌∷◌, ◌≡◌, ◌≤◌}
 use Rattle.std.proofs.lemmas.Bool.{cases_eq, eq-eqb, ne_eqb}
-use Rattle.std.proofs.lemmas.List.{length-append, length-drop, drop-append-le, take_all, drop_all}
-use Rattle.crypto_specs.specs.Prelude.{aes_encrypt, xor_bytes, chained, cmac, doubled, front_count, last_block, subkey1, subkey2, blocks, number_block}
-use Rattle.cmac_ops.specs.Chains.{Holds, IsChained}
 use Rattle.cmac_ops.specs.declared.chain.Chain.{Chain}
 use Rattle.crypto_specs.proofs.Blocks.{blocks-append}
-use Rattle.cipher_blocks.proofs.BlockNumbers.{block_of_xor}
 use Rattle.cmac_ops.proofs.Blocks.{blocks-add-one, chained_push}
 use Rattle.cmac_ops.proofs.Numbers.{length-block, number_from}
 

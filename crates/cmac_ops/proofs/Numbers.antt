@@ -1,7 +1,5 @@
 -- Blocks as numbers.
-use Rattle.std.proofs.Common.{List, ap, length, sym, ℕ, ◌<◌, ◌^◌, ◌∙◌, ◌≡◌}
-use Rattle.crypto_specs.specs.Prelude.{block_number, number_block}
-use Rattle.cipher_blocks.proofs.BlockNumbers.{number_of_block}
+use Rattle.cmac_ops.proofs.Common.{List, ap, block_number, length, number_block, number_of_block, sym, ℕ, ◌<◌, ◌^◌, ◌∙◌, ◌≡◌}
 
 -- a block has 16 bytes
 pub length-block : (n : ℕ) (b : List ℕ) → number_block n ≡ b → length b ≡ 16

@@ -1,4 +1,4 @@
-use Rattle.std.proofs.Common.{replicate, take, ◌++◌, ◌-◌, ◌≡◌}
+use Rattle.cmac_ops.proofs.Common.{replicate, take, ◌++◌, ◌-◌, ◌≡◌}
 use Rattle.cmac_ops.proofs.chain.Chain.filled.Given as goal
 
 abbrev pub invariant-bytes : goal.invariant-bytes

@@ -1,6 +1,4 @@
-use Rattle.std.proofs.Common.{List, ap, arith, length, replicate, sym, take, ℕ, ◌++◌, ◌-◌, ◌∙◌, ◌∷◌, ◌≡◌}
-use Rattle.std.proofs.lemmas.List.{length-take, take_all}
-use Rattle.crypto_specs.specs.Prelude.{aes_encrypt}
+use Rattle.cmac_ops.proofs.Common.{List, aes_encrypt, ap, arith, length, length-take, replicate, sym, take, take_all, ℕ, ◌++◌, ◌-◌, ◌∙◌, ◌∷◌, ◌≡◌}
 use Rattle.cmac_ops.proofs.Chaining.{whole_last, filled_last}
 use Rattle.cmac_ops.proofs.Numbers.{length-block}
 use Rattle.cmac_ops.proofs.chain.Chain.last_block.Goals as goal

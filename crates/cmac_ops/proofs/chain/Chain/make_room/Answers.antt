@@ -1,4 +1,4 @@
-use Rattle.std.proofs.Common.{refl}
+use Rattle.cmac_ops.proofs.Common.{refl}
 use Rattle.cmac_ops.proofs.Chaining.{enciphered}
 use Rattle.cmac_ops.proofs.chain.Chain.make_room.Goals as goal
 

@@ -1,5 +1,4 @@
-use Rattle.std.proofs.Common.{◌∙◌}
-use Rattle.crypto_specs.specs.Prelude.{number_block}
+use Rattle.cmac_ops.proofs.Common.{number_block, ◌∙◌}
 use Rattle.cmac_ops.proofs.Chaining.{tag_of}
 use Rattle.cmac_ops.proofs.chain.Chain.tag.Goals as goal
 

@@ -1,5 +1,4 @@
-use Rattle.std.proofs.Common.{arith, length, take, ℕ, ◌<◌}
-use Rattle.std.proofs.lemmas.List.{length-take}
+use Rattle.cmac_ops.proofs.Common.{arith, length, length-take, take, ℕ, ◌<◌}
 use Rattle.cmac_ops.proofs.Chaining.{put_some}
 use Rattle.cmac_ops.proofs.chain.Chain.take_in.Goals as goal
 

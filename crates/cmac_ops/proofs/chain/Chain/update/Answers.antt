@@ -1,7 +1,5 @@
-use Rattle.std.proofs.Common.{List, ap, append_assoc, arith, drop, length, subst, sym, take, ℕ, ◌++◌, ◌+◌, ◌-◌, ◌∙◌, ◌≡◌}
+use Rattle.cmac_ops.proofs.Common.{Holds, List, ap, append_assoc, arith, drop, length, length-drop, subst, sym, take, take_all, ℕ, ◌++◌, ◌+◌, ◌-◌, ◌∙◌, ◌≡◌}
 use Rattle.std.proofs.Math.Seq.{take-add}
-use Rattle.std.proofs.lemmas.List.{length-drop, take_all}
-use Rattle.cmac_ops.specs.Chains.{Holds}
 use Rattle.cmac_ops.proofs.chain.Chain.update.Goals as goal
 
 pub turns-preserved : goal.turns-preserved

@@ -1,5 +1,4 @@
-use Rattle.std.proofs.Common.{List, length, take, ℕ, ◌++◌, ◌-◌, ◌≤◌}
-use Rattle.cmac_ops.specs.Chains.{Holds}
+use Rattle.cmac_ops.proofs.Common.{Holds, List, length, take, ℕ, ◌++◌, ◌-◌, ◌≤◌}
 use Rattle.cmac_ops.proofs.chain.Chain.update.Given as goal
 
 abbrev pub invariant-turns : goal.invariant-turns
