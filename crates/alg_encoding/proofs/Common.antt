@@ -6,6 +6,8 @@ unfoldable pub use Rattle.alg_encoding.specs.Table.{base_at}
 pub use Rattle.alg_encoding.specs.declared.table.Base.{Base}
 pub use Rattle.alg_encoding.specs.declared.table.Lengths.{Lengths}
 pub use Rattle.alg_encoding.specs.declared.table.Lengths.TheVariants.{Ccm, Gcm, NoLength, UpTo}
-pub use Rattle.std.proofs.lemmas.Bool.{and_parts, both_ways, cases_lt, or_cases}
+pub use Rattle.std.proofs.Common.{Bool, List, None, Option, Some, [], ap, arith, cond, eqb, false, inl, inr, is_some, leb, not, refl, subst, sym, true, ℕ, ◌%◌, ◌&&◌, ◌*◌, ◌+◌, ◌/◌, ◌<◌, ◌^◌, ◌||◌, ◌∙◌, ◌∷◌, ◌≡◌, ◌≤◌}
+pub use Rattle.std.proofs.lemmas.Bool.{and_parts, both_ways, cases_lt, eqb-true, leb-true, ne_eqb, or_cases}
 pub use Rattle.std.proofs.lemmas.Nat.{and-not, and_comm, and_mask}
 pub use Rattle.std.specs.List.{list_all, list_any}
+pub use Rattle.std.specs.Option.{option_map, option_map_or}
