@@ -1,10 +1,7 @@
 -- The meet permits what both permit, and a copy gains nothing.
-use Rattle.std.proofs.Common.{Bool, IfSome, List, None, Option, Some, [], bit_and, eqb, subst, sym, true, ℕ, ◌&&◌, ◌↔◌, ◌∙◌, ◌∷◌, ◌≡◌}
+use Rattle.policy_rules.proofs.Common.{Bool, IfSome, IsFilled, IsWithin, List, MayUseBoth, None, Option, PermitsBoth, Some, [], and_from, and_parts, bit_and, both_ways, chain_of, copy_of, eq-eqb, eqb, eqb-true, has_usage, is_concrete, may_use, meet_algorithm, meet_of, permits_algorithm, subst, sym, true, with_algorithm, with_implied, ℕ, ◌&&◌, ◌↔◌, ◌∙◌, ◌∷◌, ◌≡◌}
 use Rattle.std.specs.Option.{option_map, option_and_then}
-use Rattle.std.proofs.lemmas.Bool.{and_parts, and_from, eqb-true, eq-eqb, both_ways}
 use Rattle.key_attributes.specs.declared.Policy.{Policy}
-use Rattle.alg_encoding.specs.Encoding.{is_concrete}
-use Rattle.policy_rules.specs.Policy.{has_usage, permits_algorithm, may_use, meet_algorithm, with_algorithm, meet_of, PermitsBoth, MayUseBoth, IsWithin, with_implied, copy_of, IsFilled, chain_of}
 use Rattle.policy_rules.proofs.Meets.{Both, meet_both}
 use Rattle.policy_rules.proofs.Usages.{Includes, includes-and_l, includes-and_r, includes-trans, includes-refl, includes-both, includes-implied, implied-implied}
 

@@ -1,8 +1,6 @@
 -- Worked examples: HMAC with SHA-256 of at least 8 bytes, and two ciphers.
-use Rattle.std.proofs.Common.{None, Some, false, refl, true, ◌≡◌}
+use Rattle.policy_rules.proofs.Common.{None, Some, base_of, entry_of, false, is_concrete, is_same_algorithm, is_wildcard, meet_algorithm, minimum_of, permits_algorithm, refl, tag_length_of, true, ◌≡◌}
 use Rattle.alg_encoding.specs.Table.{base_at}
-use Rattle.alg_encoding.specs.Encoding.{entry_of, base_of, tag_length_of, minimum_of, is_concrete, is_wildcard, is_same_algorithm}
-use Rattle.policy_rules.specs.Policy.{permits_algorithm, meet_algorithm}
 
 permits_8 : permits_algorithm 0x03888009 0x03880009 ≡ true
 unfolding permits_algorithm base_at entry_of base_of tag_length_of minimum_of is_concrete is_same_algorithm

@@ -1,3 +1,4 @@
+mod Common
 mod Permitted
 mod Meets
 pub mod Usages

@@ -1,9 +1,5 @@
 -- The meet of two algorithm numbers permits what both permit.
-use Rattle.std.proofs.Common.{Bool, None, Option, Some, ap, arith, cond, eqb, false, inl, inr, is_some, ltb, refl, subst, sym, true, ℕ, ◌&&◌, ◌<◌, ◌||◌, ◌∙◌, ◌≡◌, ◌≤◌}
-use Rattle.std.proofs.lemmas.Bool.{eqb-true, eq-eqb, both_ways, and_parts, and_from, or_parts, cond_both, false_from_ne_true, cases_Bool, leb-true, le-leb, ltb-true, ltb-false}
-use Rattle.alg_encoding.specs.Encoding.{is_concrete, is_wildcard, base_of, tag_length_of, minimum_of, same_length, is_same_algorithm}
-use Rattle.alg_encoding.proofs.Readings.{minimum_of-concrete, is_wildcard-minimum}
-use Rattle.policy_rules.specs.Policy.{reaches, permits_algorithm, longer_of, meet_algorithm}
+use Rattle.policy_rules.proofs.Common.{Bool, None, Option, Some, and_from, and_parts, ap, arith, base_of, both_ways, cases_Bool, cond, cond_both, eq-eqb, eqb, eqb-true, false, false_from_ne_true, inl, inr, is_concrete, is_same_algorithm, is_some, is_wildcard, is_wildcard-minimum, le-leb, leb-true, longer_of, ltb, ltb-false, ltb-true, meet_algorithm, minimum_of, minimum_of-concrete, or_parts, permits_algorithm, reaches, refl, same_length, subst, sym, tag_length_of, true, ℕ, ◌&&◌, ◌<◌, ◌||◌, ◌∙◌, ◌≡◌, ◌≤◌}
 use Rattle.policy_rules.proofs.Permitted.{fits, has, permits-has, permits-zero, has-concrete, has-minimum, same_length-true, same_length-refl}
 
 -- the law, as an equation of tests

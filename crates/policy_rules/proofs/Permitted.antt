@@ -1,9 +1,5 @@
 -- What a number other than 0 permits, by its base and its lengths.
-use Rattle.std.proofs.Common.{Bool, None, Option, Some, ap, cond, eqb, false, is_some, not, refl, true, ℕ, ◌&&◌, ◌||◌, ◌∙◌, ◌≡◌}
-use Rattle.std.proofs.lemmas.Bool.{eqb-true, eq-eqb, ne_eqb, both_ways}
-use Rattle.alg_encoding.specs.Encoding.{is_concrete, base_of, tag_length_of, minimum_of, same_length, is_same_algorithm}
-use Rattle.alg_encoding.proofs.Readings.{minimum_of-concrete}
-use Rattle.policy_rules.specs.Policy.{reaches, permits_algorithm}
+use Rattle.policy_rules.proofs.Common.{Bool, None, Option, Some, ap, base_of, both_ways, cond, eq-eqb, eqb, eqb-true, false, is_concrete, is_same_algorithm, is_some, minimum_of, minimum_of-concrete, ne_eqb, not, permits_algorithm, reaches, refl, same_length, tag_length_of, true, ℕ, ◌&&◌, ◌||◌, ◌∙◌, ◌≡◌}
 
 -- whether a number's lengths have this one: its own where it is concrete, and else those from its minimum on
 abbrev pub fits : Bool → Option ℕ → Option ℕ → Option ℕ → Bool

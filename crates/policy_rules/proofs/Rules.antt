@@ -1,9 +1,6 @@
 -- A rule keeps no flag and no algorithm that a key didn't have.
-use Rattle.std.proofs.Common.{Bool, cond, eqb, false, not, true, ◌&&◌}
-use Rattle.std.proofs.lemmas.Bool.{eq-eqb}
-use Rattle.key_attributes.specs.declared.Attributes.{Attributes}
+use Rattle.policy_rules.proofs.Common.{Aes256, Attributes, Bool, NoCopy, NoEcb, NoExport, cond, eq-eqb, eqb, false, not, true, ◌&&◌}
 use Rattle.policy_rules.specs.declared.narrowing.Label.{Label}
-use Rattle.policy_rules.specs.declared.narrowing.Label.TheVariants.{NoExport, NoCopy, NoEcb, Aes256}
 use Rattle.policy_rules.specs.declared.narrowing.Verdict.TheVariants.{Keep, Refuse}
 use Rattle.policy_rules.specs.Narrow.{narrowed, KeepsWithin}
 use Rattle.policy_rules.proofs.Usages.{includes-and_l}

@@ -1,10 +1,9 @@
 -- Sets of flags, as numbers.
-use Rattle.std.proofs.Common.{Bool, ap, arith, eqb, false, not, refl, sym, true, ℕ, ◌+◌, ◌∙◌, ◌≡◌}
+use Rattle.policy_rules.proofs.Common.{Bool, ap, arith, both_ways, eq-eqb, eqb, eqb-true, false, not, not-false, not_from_true, refl, sym, true, true_from_ne_false, ℕ, ◌+◌, ◌∙◌, ◌≡◌}
 use Rattle.std.specs.Int.Bits.{bit_and, and_self, and_zero_r, or_add_and}
 use Rattle.std.specs.Int.RustNames.{bit_or}
 use Rattle.std.proofs.lemmas.Nat.{and_comm, and_assoc, and_or_self, and_or_apart}
 use Rattle.std.proofs.lemmas.Nat.Bits.{same_from_bits, bit_at_and, bit_at_or}
-use Rattle.std.proofs.lemmas.Bool.{eqb-true, eq-eqb, both_ways, not-false, not_from_true, true_from_ne_false}
 use Rattle.key_attributes.specs.Checks.{implied_usage}
 
 -- a set's flags are in another
@@ -52,17 +51,11 @@ abbrev pub verifies : ℕ → Bool
 verifies usage = not (eqb (bit_and usage 0x2000) 0)
 
 -- a flag that isn't implied stays as it was
-apart_1 : (s v : Bool) (usage : ℕ) → bit_and (with_flags s v usage) 0x1000 ≡ bit_and usage 0x1000
-apart_1 true true usage = and_or_apart 0x1000 (bit_or usage 0x400) 0x800 refl ∙ and_or_apart 0x1000 usage 0x400 refl
-apart_1 true false usage = and_or_apart 0x1000 usage 0x400 refl
-apart_1 false true usage = and_or_apart 0x1000 usage 0x800 refl
-apart_1 false false usage = refl
-
-apart_2 : (s v : Bool) (usage : ℕ) → bit_and (with_flags s v usage) 0x2000 ≡ bit_and usage 0x2000
-apart_2 true true usage = and_or_apart 0x2000 (bit_or usage 0x400) 0x800 refl ∙ and_or_apart 0x2000 usage 0x400 refl
-apart_2 true false usage = and_or_apart 0x2000 usage 0x400 refl
-apart_2 false true usage = and_or_apart 0x2000 usage 0x800 refl
-apart_2 false false usage = refl
+apart : (flag : ℕ) → bit_and 0x400 flag ≡ 0 → bit_and 0x800 flag ≡ 0 → (s v : Bool) (usage : ℕ) → bit_and (with_flags s v usage) flag ≡ bit_and usage flag
+apart flag e f true true usage = and_or_apart flag (bit_or usage 0x400) 0x800 f ∙ and_or_apart flag usage 0x400 e
+apart flag e f true false usage = and_or_apart flag usage 0x400 e
+apart flag e f false true usage = and_or_apart flag usage 0x800 f
+apart flag e f false false usage = refl
 
 -- the implied usage, by the two tests
 implied : (s v : Bool) (usage : ℕ) → s ≡ signs usage → v ≡ verifies usage → implied_usage usage ≡ with_flags s v usage
@@ -96,8 +89,8 @@ implied-implied usage =
     let s = signs usage in
     let v = verifies usage in
     let once : implied_usage usage ≡ with_flags s v usage = implied-flags usage in
-    let same_s : s ≡ signs (with_flags s v usage) = ap (λ x. not (eqb x 0)) (sym (apart_1 s v usage)) in
-    let same_v : v ≡ verifies (with_flags s v usage) = ap (λ x. not (eqb x 0)) (sym (apart_2 s v usage)) in
+    let same_s : s ≡ signs (with_flags s v usage) = ap (λ x. not (eqb x 0)) (sym (apart 0x1000 refl refl s v usage)) in
+    let same_v : v ≡ verifies (with_flags s v usage) = ap (λ x. not (eqb x 0)) (sym (apart 0x2000 refl refl s v usage)) in
     ap implied_usage once ∙ implied s v (with_flags s v usage) same_s same_v ∙ twice s v usage ∙ sym once
 
 -- a flag of the inner set is in the outer one

@@ -1,7 +1,4 @@
-use Rattle.std.proofs.Common.{subst, sym}
-use Rattle.key_attributes.specs.declared.Attributes.{Attributes}
-use Rattle.policy_rules.specs.declared.narrowing.Label.TheVariants.{NoExport, NoCopy}
-use Rattle.policy_rules.specs.Policy.{IsWithin}
+use Rattle.policy_rules.proofs.Common.{Attributes, IsWithin, NoCopy, NoExport, subst, sym}
 use Rattle.policy_rules.proofs.Rules.{narrowed-within}
 use Rattle.policy_rules.proofs.narrowing.narrow.Goals as goal
 

@@ -1,5 +1,4 @@
-use Rattle.std.proofs.Common.{None, Some, ◌≡◌}
-use Rattle.policy_rules.specs.Policy.{meet_algorithm}
+use Rattle.policy_rules.proofs.Common.{None, Some, meet_algorithm, ◌≡◌}
 use Rattle.policy_rules.proofs.Copies.{may_use_both-some, may_use_both-none}
 use Rattle.policy_rules.proofs.policy.meet.Goals as goal
 
