@@ -1,10 +1,6 @@
 -- Words drawn one after another.
-use Rattle.std.proofs.Common.{List, [], ap, ap₂, arith, suc, zero, ℕ, ◌%◌, ◌++◌, ◌+◌, ◌^◌, ◌∙◌, ◌≡◌, ◌≤◌}
-use Rattle.std.specs.Int.{w32, to_le_bytes}
+use Rattle.random_streams.proofs.Common.{ChaCha, IsSound, List, [], ap, ap₂, arith, bytes_of_words, key_of, next_word, random_bytes, seed_of, suc, to_le_bytes, w32, word_at, words_offered, words_used, zero, ℕ, ◌%◌, ◌++◌, ◌+◌, ◌^◌, ◌∙◌, ◌≡◌, ◌≤◌}
 use Rattle.rand_core.specs.Steps as steps
-use Rattle.rand_chacha.specs.ChaCha.{ChaCha, next_word, word_at, key_of, seed_of}
-use Rattle.random_streams.specs.RandomWords.{bytes_of_words, random_bytes, words_used, words_offered}
-use Rattle.random_streams.specs.Generator.{IsSound}
 
 abbrev pub at_place : ChaCha → ℕ → ChaCha
 at_place g n = record g { word_pos = n }

@@ -1,7 +1,5 @@
 -- A new stream stands at its first word.
-use Rattle.std.proofs.Common.{List, ap, ap₂, arith, length, sym, ℕ, ◌∙◌, ◌≡◌}
-use Rattle.rand_chacha.specs.ChaCha.{ChaCha, of_seed, key_of}
-use Rattle.random_streams.specs.Generator.{IsSound, stream_of}
+use Rattle.random_streams.proofs.Common.{ChaCha, IsSound, List, ap, ap₂, arith, key_of, length, of_seed, stream_of, sym, ℕ, ◌∙◌, ◌≡◌}
 use Rattle.random_streams.proofs.SeedWords.{AreBytes, seed_of-key_of}
 
 abbrev pub first_of : List ℕ → ℕ → ChaCha

@@ -1,3 +1,4 @@
+mod Common
 pub mod SeedWords
 pub mod Drawing
 pub mod FirstWord

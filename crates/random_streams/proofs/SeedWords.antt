@@ -1,12 +1,9 @@
 -- The words of a seed give its bytes back.
-use Rattle.std.proofs.Common.{List, [], ap₂, arith, get_or, length, map, refl, slice_index, suc, sym, zero, ℕ, ◌*◌, ◌++◌, ◌+◌, ◌<◌, ◌∙◌, ◌∷◌, ◌≡◌}
+use Rattle.random_streams.proofs.Common.{List, [], ap₂, arith, get_or, key_of, length, map, refl, seed_of, slice_index, suc, sym, to_le_bytes, u32_at, w32, zero, ℕ, ◌*◌, ◌++◌, ◌+◌, ◌<◌, ◌∙◌, ◌∷◌, ◌≡◌}
 use Rattle.std.specs.List.{range_with_len}
-use Rattle.std.specs.Int.{w32, to_le_bytes}
 use Rattle.std.proofs.lemmas.Nat.{le_bytes_4}
 use Rattle.std.proofs.lemmas.List.{ext_get_or}
 use Rattle.std.proofs.lemmas.List.FromFn.{length-map-range_with_len, get_or-map-range_with_len}
-use Rattle.rand_core.specs.Steps.{u32_at}
-use Rattle.rand_chacha.specs.ChaCha.{key_of, seed_of}
 
 abbrev pub AreBytes : List ℕ → Type 0
 AreBytes bs = (i : ℕ) → slice_index bs i < 256

@@ -1,8 +1,6 @@
 -- Key streams that others computed, as the definition gives them.
-use Rattle.std.proofs.Common.{[], refl, replicate, ◌*◌, ◌+◌, ◌^◌, ◌∷◌, ◌≡◌}
-use Rattle.rand_core.specs.Steps.{u32_at}
+use Rattle.random_streams.proofs.Common.{[], bytes_of_words, random_bytes, random_word, refl, replicate, u32_at, ◌*◌, ◌+◌, ◌^◌, ◌∷◌, ◌≡◌}
 use Rattle.rand_chacha.specs.Block.{quarter_round, column_round, diagonal_round, double_rounds, block_word}
-use Rattle.random_streams.specs.RandomWords.{random_word, random_bytes, bytes_of_words}
 
 -- RFC 8439, A.1, test vector 1: the fifth byte uses a second word
 first_bytes : random_bytes (replicate 32 0) 0 0 5 ≡ 0x76 ∷ 0xb8 ∷ 0xe0 ∷ 0xad ∷ 0xa0 ∷ []

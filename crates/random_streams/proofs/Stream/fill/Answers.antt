@@ -1,6 +1,4 @@
-use Rattle.std.proofs.Common.{ap, length, sym, ◌+◌, ◌∙◌}
-use Rattle.random_streams.specs.RandomWords.{RandomStream, random_bytes, words_used}
-use Rattle.random_streams.specs.Generator.{stream_of}
+use Rattle.random_streams.proofs.Common.{RandomStream, ap, length, random_bytes, stream_of, sym, words_used, ◌+◌, ◌∙◌}
 use Rattle.random_streams.proofs.Drawing.{filled, still_sound}
 use Rattle.random_streams.proofs.Stream.fill.Goals as goal
 
@@ -10,14 +8,11 @@ invariant_of-self c =
     let done = filled c.self.inside.generator c.fill_bytes_via_u32.new.rng (length c.args.out.now) c.fill_bytes_via_u32.new.dst c.self.invariant fits c.fill_bytes_via_u32.ensures in
     rw done.1 (still_sound c.self.inside.generator _ c.self.invariant fits)
 
-pub returns-clause-bytes : goal.returns-clause-bytes
-returns-clause-bytes c =
+pub returns : goal.returns
+returns c =
     let fits = rw (sym c.self.view_is) at c.requires in
     let done = filled c.self.inside.generator c.fill_bytes_via_u32.new.rng (length c.args.out.now) c.fill_bytes_via_u32.new.dst c.self.invariant fits c.fill_bytes_via_u32.ensures in
-    done.0 ∙ ap (λ (s : RandomStream). random_bytes s.seed s.caller s.place (length c.args.out.now)) c.self.view_is
-
-pub returns-clause-place : goal.returns-clause-place
-returns-clause-place c =
-    let fits = rw (sym c.self.view_is) at c.requires in
-    let done = filled c.self.inside.generator c.fill_bytes_via_u32.new.rng (length c.args.out.now) c.fill_bytes_via_u32.new.dst c.self.invariant fits c.fill_bytes_via_u32.ensures in
-    ap stream_of done.1 ∙ ap (λ (s : RandomStream). record s { place = s.place + words_used (length c.args.out.now) }) c.self.view_is
+    record {
+      bytes = done.0 ∙ ap (λ (s : RandomStream). random_bytes s.seed s.caller s.place (length c.args.out.now)) c.self.view_is;
+      place = ap stream_of done.1 ∙ ap (λ (s : RandomStream). record s { place = s.place + words_used (length c.args.out.now) }) c.self.view_is;
+    }

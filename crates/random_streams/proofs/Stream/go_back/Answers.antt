@@ -1,6 +1,4 @@
-use Rattle.std.proofs.Common.{ap, arith, sym, ◌∙◌, ◌≤◌}
-use Rattle.random_streams.specs.RandomWords.{RandomStream, words_offered}
-use Rattle.random_streams.specs.Generator.{stream_of}
+use Rattle.random_streams.proofs.Common.{RandomStream, ap, arith, stream_of, sym, words_offered, ◌∙◌, ◌≤◌}
 use Rattle.random_streams.proofs.Drawing.{set_back, still_sound}
 use Rattle.random_streams.proofs.Stream.go_back.Goals as goal
 

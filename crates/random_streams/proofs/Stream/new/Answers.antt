@@ -1,5 +1,4 @@
-use Rattle.std.proofs.Common.{ap, ◌∙◌}
-use Rattle.random_streams.specs.Generator.{stream_of}
+use Rattle.random_streams.proofs.Common.{ap, stream_of, ◌∙◌}
 use Rattle.random_streams.proofs.FirstWord.{made, first_sound, first_stream}
 use Rattle.random_streams.proofs.Stream.new.Goals as goal
 
