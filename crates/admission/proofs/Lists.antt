@@ -1,6 +1,6 @@
 -- What is picked by a value of each element.
 
-use Rattle.std.proofs.Common.{Bool, List, [], ap, cond, false, filter, map, refl, true, ◌∙◌, ◌∷◌, ◌≡◌}
+use Rattle.admission.proofs.Common.{Bool, List, [], ap, cond, false, filter, map, refl, true, ◌∙◌, ◌∷◌, ◌≡◌}
 
 kept : {X Y : Type 0} (f : X → Y) (b : Bool) (x : X) (xs : List X) → map f (cond b (x ∷ xs) xs) ≡ cond b (f x ∷ map f xs) (map f xs)
 kept f true x xs = refl

@@ -1,15 +1,13 @@
 -- What rules leave, one after another.
-use Rattle.std.proofs.Common.{Bool, Err, IfOk, List, Ok, Result, [], ap, cond, eqb, false, not, refl, true, ◌&&◌, ◌∙◌, ◌∷◌, ◌≡◌}
+use Rattle.admission.proofs.Common.{Bool, Err, IfOk, Label, List, Narrows, Ok, Result, [], after_rules, ap, cond, eqb, false, not, refl, true, ◌&&◌, ◌∙◌, ◌∷◌, ◌≡◌}
 use Rattle.key_attributes.specs.declared.Attributes.{Attributes}
 use Rattle.psa_status.specs.declared.Status.{Status}
-use Rattle.policy_rules.specs.declared.narrowing.Label.{Label}
 use Rattle.policy_rules.specs.declared.narrowing.Label.TheVariants.{NoExport, NoCopy, NoEcb, Aes256}
 use Rattle.policy_rules.specs.declared.narrowing.Verdict.{Verdict}
 use Rattle.policy_rules.specs.declared.narrowing.Verdict.TheVariants.{Keep, Refuse}
 use Rattle.policy_rules.specs.Narrow.{narrowed, after_verdict, KeepsWithin}
 use Rattle.policy_rules.proofs.Rules.{narrowed-within}
 use Rattle.policy_rules.proofs.Copies.{IsWithin-refl, IsWithin-trans}
-use Rattle.admission.specs.Apply.{Narrows, after_rules}
 
 -- a verdict leaves all but the policy
 abbrev KeepsRest : Attributes → Verdict → Type 0

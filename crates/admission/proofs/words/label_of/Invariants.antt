@@ -1,5 +1,4 @@
-use Rattle.std.proofs.Common.{drop, map, ◌≡◌}
-use Rattle.admission.specs.Words.{label_named}
+use Rattle.admission.proofs.Common.{drop, label_named, map, ◌≡◌}
 use Rattle.admission.proofs.words.label_of.Given as goal
 
 abbrev pub invariant-loop-rule : goal.invariant-loop-rule

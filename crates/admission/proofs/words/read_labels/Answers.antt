@@ -1,6 +1,5 @@
-use Rattle.std.proofs.Common.{Some, [], ap, append-nil, arith, map, rules, sym, ◌∙◌}
+use Rattle.admission.proofs.Common.{Some, [], ap, append-nil, arith, labels_in, map, rules, sym, ◌∙◌}
 use Rattle.std.proofs.lemmas.Str.Pattern.{split_once_first}
-use Rattle.admission.specs.Words.{labels_in}
 use Rattle.admission.proofs.Texts.{first_word, last_word, read_on, read_none, behind}
 use Rattle.admission.proofs.words.read_labels.Goals as goal
 

@@ -1,6 +1,5 @@
-use Rattle.std.proofs.Common.{length, map, ◌≡◌}
+use Rattle.admission.proofs.Common.{labels_in, length, map, ◌≡◌}
 use Rattle.std.specs.Str.{IsUtf8}
-use Rattle.admission.specs.Words.{labels_in}
 use Rattle.admission.proofs.Texts.{behind}
 use Rattle.admission.proofs.words.read_labels.Given as goal
 

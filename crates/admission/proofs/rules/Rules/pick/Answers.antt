@@ -1,6 +1,5 @@
-use Rattle.std.proofs.Common.{ap, map, rules, ◌∙◌}
+use Rattle.admission.proofs.Common.{ap, is_one_of, map, rules, ◌∙◌}
 use Rattle.std.proofs.lemmas.Fn.{filter_same}
-use Rattle.admission.specs.Apply.{is_one_of}
 use Rattle.admission.proofs.Lists.{map-filter}
 use Rattle.admission.proofs.rules.Rules.pick.Goals as goal
 

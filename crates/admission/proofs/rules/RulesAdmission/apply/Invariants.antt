@@ -1,5 +1,4 @@
-use Rattle.std.proofs.Common.{drop, map, ◌≡◌}
-use Rattle.admission.specs.Apply.{after_rules}
+use Rattle.admission.proofs.Common.{after_rules, drop, map, ◌≡◌}
 use Rattle.admission.proofs.rules.RulesAdmission.apply.Given as goal
 
 abbrev pub invariant-loop-rule : goal.invariant-loop-rule
