@@ -1,6 +1,6 @@
 use Rattle.std.proofs.Common.{None, Some, ap, sym, ◌∙◌}
 use Rattle.store_core.proofs.Common.{has_element}
-use Rattle.store_core.proofs.Asked.{asks, by_room}
+use Rattle.store_core.proofs.Asked.{asks, by_room, unchecked, unruled}
 use Rattle.store_core.proofs.store.Store.recorded.Goals as goal
 
 pub returns-in-Ok-check_room-clause-value : goal.returns-in-Ok-check_room-clause-value
@@ -24,3 +24,25 @@ returns-in-Err-check_room-clause-value g c = λ start opening h all e s.
     let labels = g.C.Admission.labels c.args.self.now.rules in
     sym (asks m caller a n element labels s.has_file (ap has_element s.locations_are ∙ sym c.has_secure_element-element.ensures) s.labels_are
     ∙ by_room m caller a n element labels c.in-Ok.filled (sym c.in-Ok.ensures.value) c.in-Ok-apply.kept (Some c.in-Err-check_room.status) (sym c.in-Ok-apply.ensures) (c.in-Err-check_room.ensures.refused start opening h all e s))
+
+pub returns-in-Err-clause-value : goal.returns-in-Err-clause-value
+returns-in-Err-clause-value g c = λ start opening h all e s.
+    let m = s.model in
+    let caller = c.args.caller in
+    let a = c.args.attributes.now in
+    let n = c.args.bytes in
+    let element = c.has_secure_element-element.result in
+    let labels = g.C.Admission.labels c.args.self.now.rules in
+    sym (asks m caller a n element labels s.has_file (ap has_element s.locations_are ∙ sym c.has_secure_element-element.ensures) s.labels_are
+    ∙ unchecked m caller a n element labels c.in-Err.status (sym c.in-Err.ensures.value))
+
+pub returns-in-Err-apply-clause-value : goal.returns-in-Err-apply-clause-value
+returns-in-Err-apply-clause-value g c = λ start opening h all e s.
+    let m = s.model in
+    let caller = c.args.caller in
+    let a = c.args.attributes.now in
+    let n = c.args.bytes in
+    let element = c.has_secure_element-element.result in
+    let labels = g.C.Admission.labels c.args.self.now.rules in
+    sym (asks m caller a n element labels s.has_file (ap has_element s.locations_are ∙ sym c.has_secure_element-element.ensures) s.labels_are
+    ∙ unruled m caller a n element labels c.in-Ok.filled (sym c.in-Ok.ensures.value) c.in-Err-apply.status (sym c.in-Err-apply.ensures))
