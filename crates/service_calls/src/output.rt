@@ -22,10 +22,8 @@ pub fn plain(answer: Result<(), Status>) -> Result<Output, Status>
     ensures answer { (reply : Reply) → plain_reply answer ≡ reply → AnswersReply result reply }
     ensures unwritten { (reply : Reply) (old : List ℕ) → plain_reply answer ≡ reply → old ≡ buffer_after old reply }
 {
-    match answer {
-        Ok(()) => Ok(Output::Done),
-        Err(status) => Err(status),
-    }
+    answer?;
+    Ok(Output::Done)
 }
 
 /// The answer of a call that writes bytes to an output buffer.
@@ -33,10 +31,7 @@ pub fn bytes(answer: Result<usize, Status>) -> Result<Output, Status>
     ensures spoils { (reply : Reply) → AnswersOrSpoils answer reply → AnswersReply result reply }
     ensures length { (reply : Reply) → AnswersLength answer reply → AnswersReply result reply }
 {
-    match answer {
-        Ok(length) => Ok(Output::Bytes(length)),
-        Err(status) => Err(status),
-    }
+    Ok(Output::Bytes(answer?))
 }
 
 /// The answer of a call that creates a key.
@@ -44,10 +39,7 @@ pub fn identifier(answer: Result<KeyId, Status>) -> Result<Output, Status>
     ensures answer { (reply : Reply) → id_reply answer ≡ reply → AnswersReply result reply }
     ensures unwritten { (reply : Reply) (old : List ℕ) → id_reply answer ≡ reply → old ≡ buffer_after old reply }
 {
-    match answer {
-        Ok(id) => Ok(Output::Identifier(id)),
-        Err(status) => Err(status),
-    }
+    Ok(Output::Identifier(answer?))
 }
 
 /// The answer of a call that asks for attributes.
@@ -55,10 +47,7 @@ pub fn description(answer: Result<Attributes, Status>) -> Result<Output, Status>
     ensures answer { (reply : Reply) → attributes_answer answer ≡ reply → AnswersReply result reply }
     ensures unwritten { (reply : Reply) (old : List ℕ) → attributes_answer answer ≡ reply → old ≡ buffer_after old reply }
 {
-    match answer {
-        Ok(attributes) => Ok(Output::Description(attributes)),
-        Err(status) => Err(status),
-    }
+    Ok(Output::Description(answer?))
 }
 
 /// The answer of a call that gives a number.
@@ -66,8 +55,5 @@ pub fn number(answer: Result<u64, Status>) -> Result<Output, Status>
     ensures answer { (reply : Reply) → number_reply answer ≡ reply → AnswersReply result reply }
     ensures unwritten { (reply : Reply) (old : List ℕ) → number_reply answer ≡ reply → old ≡ buffer_after old reply }
 {
-    match answer {
-        Ok(number) => Ok(Output::Number(number)),
-        Err(status) => Err(status),
-    }
+    Ok(Output::Number(answer?))
 }
