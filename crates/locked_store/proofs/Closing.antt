@@ -1,24 +1,17 @@
 -- What is known once all passes are handed in.
 use Rattle.std.proofs.Common.{All, List, Option, inl, subst, ℕ, ◌<◌, ◌∙◌, ◌≡◌, ◌≤◌}
-use Rattle.locked_store.proofs.Common.{Entry, HasKeyOrZeros, HoldsHistory, IsClosed, Opened, Pairs, StartsWith, Store, World, caller_of, calls_by, course_of, durable_keys, entries_of}
+use Rattle.locked_store.proofs.Common.{Entry, HasKeyOrZeros, HoldsHistory, IsClosed, Pairs, StartsWith, Store, World, caller_of, calls_by, course_of, durable_keys, entries_of}
 use Rattle.turn_history.specs.declared.pass.Account.{Account}
 use Rattle.store_model.specs.Store as model
 use Rattle.store_core.proofs.Sure.{sure_cells}
-use Rattle.locked_store.proofs.Renewing.{legal}
+use Rattle.locked_store.proofs.Renewing.{At, legal}
 
 module _ {D A C : Type 0} (w : World D A C)
     (only_now : (disk : D) (image : List ℕ) → w.disk.left_since disk (w.disk.moment disk) image → w.disk.may_leave disk image) where
-  abbrev opened : Opened D A C
-  opened = w.opened
-
-  -- the same store, with what another opening saw
-  abbrev At : Opened D A C → World D A C
-  At o = record w { opened = o }
-
   closed_here : (store : Store D A C) (turns : List (Option Entry)) (all : List Pairs) (accounts : List (Account Entry)) → HoldsHistory w.disk w.devices w.rules store (entries_of turns) all →
       All (λ (e : Entry). (0 < e.caller) × (e.caller ≤ 16)) (entries_of turns) → All (λ (a : Account Entry). StartsWith turns a.seen) accounts →
       All (λ (a : Account Entry). 0 < a.number → calls_by caller_of a.number (entries_of turns) ≡ a.calls) accounts →
-      IsClosed (At store.opened) store.file.cells.disk store.devices accounts
+      IsClosed (At w store.opened) store.file.cells.disk store.devices accounts
   closed_here store turns all accounts s signed seen called = record {
     turns = turns;
     signed = signed;
@@ -36,11 +29,11 @@ module _ {D A C : Type 0} (w : World D A C)
         (sure_cells w.disk disk store.file.cells.slots.items (durable_keys holds.model) (course_of start (entries_of turns)).doubt (holds.file now) (holds.sure now none) image (only_now disk image left) cell lt);
   }
 
-  pub closed : (store : Store D A C) (passes : ℕ) (turns : List (Option Entry)) (all : List Pairs) (accounts : List (Account Entry)) → store.opened ≡ opened → passes ≡ 16 →
+  pub closed : (store : Store D A C) (passes : ℕ) (turns : List (Option Entry)) (all : List Pairs) (accounts : List (Account Entry)) → store.opened ≡ w.opened → passes ≡ 16 →
       HoldsHistory w.disk w.devices w.rules store (entries_of turns) all →
       All (λ (e : Entry). (0 < e.caller) × (e.caller ≤ passes)) (entries_of turns) → All (λ (a : Account Entry). StartsWith turns a.seen) accounts →
       All (λ (a : Account Entry). 0 < a.number → calls_by caller_of a.number (entries_of turns) ≡ a.calls) accounts →
       IsClosed w store.file.cells.disk store.devices accounts
   closed store passes turns all accounts same sixteen s signed seen called =
-      subst (λ o. IsClosed (At o) store.file.cells.disk store.devices accounts) same
+      subst (λ o. IsClosed (At w o) store.file.cells.disk store.devices accounts) same
       (closed_here store turns all accounts s (subst (λ n. All (λ (e : Entry). (0 < e.caller) × (e.caller ≤ n)) (entries_of turns)) sixteen signed) seen called)

@@ -6,7 +6,7 @@ pub use Rattle.locked_store.specs.Closed.{IsClosed}
 pub use Rattle.locked_store.specs.Shared.{world}
 unfoldable pub use Rattle.locked_store.specs.Shared.{lock_of, opened_of}
 pub use Rattle.locked_store.specs.Standing.{HoldsHistory, caller_of}
-pub use Rattle.locked_store.specs.Turning.{CreatesKey, DecidesAfter, DecidesBefore, GoesOn, HasNoFilling, HasRoomForLease, IsAt, IsBegun, IsEntered, IsEnteredAfter, IsLater, IsLegal, IsOwn, IsRanked, IsStartOf, LeavesAllKeys, ReadsKey, SpendsOneTurn, ToldBy, after_change, filling_pair, lease_pair, mark_met, turn_entry, without_pair}
+pub use Rattle.locked_store.specs.Turning.{CreatesKey, DecidesAfter, DecidesBefore, GoesOn, HasNoFilling, HasRoomForLease, IsAt, IsBegun, IsEntered, IsEnteredAfter, IsLater, IsLegal, IsOwn, IsRanked, IsStartOf, LeavesAllKeys, ReadsKey, SpendsOneTurn, ToldBy, after_change, filling_pair, lease_pair, mark_met, result_mark, turn_entry, without_pair}
 pub use Rattle.locked_store.specs.Worlds.{World, world_of}
 pub use Rattle.secret_bytes.specs.Buffer.{IsClear, bytes_of}
 pub use Rattle.secure_element_calls.specs.Answers.{mark_computed}
@@ -14,7 +14,7 @@ pub use Rattle.service_calls.specs.Meanings.{model_request}
 pub use Rattle.std.proofs.lemmas.Result.{IfErr-at_err, IfOk-at_ok, on_err_weaker, on_ok_weaker}
 pub use Rattle.std.specs.List.{AllByRecursion}
 pub use Rattle.store_core.proofs.Histories.{quiet_leaves, refused_leaves, told_before}
-pub use Rattle.store_core.specs.Prelude.{Adds, AddsAs, AreRising, Copies, Creates, Destroys, FindsKeysOf, Gives, HasAttributes, HasKeyOrZeros, HasOut, HasOutBeside, HoldsOf, IsAmong, IsAnswered, IsEntry, IsLent, IsMade, IsReading, IsRefused, IsStart, IsTold, IsUncopied, IsUndestroyed, IsUnmade, LeavesKeys, Makes, NoFewerFaults, Opening, Reads, ReadsAndGives, RecordsCopy, RecordsStated, Stands, StandsFor, Steps, Takes, course_of, durable_keys, mark_of, mark_uncopied, mark_undestroyed, mark_unmade, opening_of, there_rows}
+pub use Rattle.store_core.specs.Prelude.{Adds, AddsAs, AreRising, Copies, Creates, Destroys, FindsKeysOf, Gives, HasAttributes, HasKeyOrZeros, HasOut, HasOutBeside, HoldsOf, IsAmong, IsAnswered, IsEntry, IsLent, IsMade, IsReading, IsRefused, IsStart, IsTold, IsUncopied, IsUndestroyed, IsUnmade, LeavesKeys, Makes, MayDestroy, NoFewerFaults, Opening, Reads, ReadsAndGives, RecordsCopy, RecordsStated, Stands, StandsFor, Steps, Takes, course_of, durable_keys, mark_of, mark_uncopied, mark_undestroyed, mark_unmade, opening_of, there_rows}
 pub use Rattle.store_core.specs.declared.store.Opened.{Opened}
 pub use Rattle.store_core.specs.declared.store.Store.{Store}
 pub use Rattle.store_model.specs.Prelude.{Call, Copy, Destroy, Entry, FaultCounts, FaultMark, HasNumber, IsCaller, IsCaused, IsSoundStore, OnStore, Plain, Request, Service, created_unless, destroy_rows, id_read, is_opaque_key, may_change_keys, plain_step, replay}

@@ -22,9 +22,6 @@ module _ (all : List Pairs) (n : ℕ) (own : Pairs) (first : 1 ≤ n) (inside : 
   pub loses : (p : ℕ × ℕ) → ((i k : ℕ) → names i k own ≡ names i k (without_pair p own) + same i k p) → Gains (with_own all n (without_pair p own)) all p
   loses p splits i k = let r = named_set i k (n - 1) all (without_pair p own) within in let e = ap (names i k) is in let s = splits i k in omega arith
 
-  pub held_here : IsHolding own → AreHoldings all → AreHoldings (with_own all n own)
-  held_here holding are = record { callers = let z = length-set all (n - 1) own in let y = are.callers in omega arith; each = All-set IsHolding all (n - 1) own holding are.each }
-
 -- what the caller n may have, where it has it
 pub holding_of : (all : List Pairs) (n : ℕ) (own : Pairs) → 1 ≤ n → n ≤ length all → AreHoldings (with_own all n own) → IsHolding own
 holding_of all n own first inside are = let lt : n - 1 < length all = omega arith in

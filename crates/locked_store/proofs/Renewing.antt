@@ -1,28 +1,29 @@
 -- The store before a turn and after it, and what was decided between.
-use Rattle.std.proofs.Common.{List, Option, [], ap, arith, false, inl, inr, is_some, refl, subst, sym, true, ℕ, ⊎_elim, ◌++◌, ◌∙◌, ◌∷◌, ◌≡◌, ◌≤◌}
-use Rattle.locked_store.proofs.Common.{AllByRecursion, AreHoldings, AreRising, DecidesAfter, DecidesBefore, Entry, FaultMark, HoldsHistory, IsAt, IsBegun, IsCaller, IsCaused, IsClear, IsEntry, IsHolding, IsLegal, IsReading, IsStartOf, IsTold, Opened, Opening, OwnCalls, Pairs, ReadsKey, Request, Seat, Service, StandsFor, Store, ToldBy, View, World, after_turn, caller_of, entries_of, id_read, may_change_keys, opening_of, option_list, replay, told_before, turn_entry, with_own}
+use Rattle.std.proofs.Common.{List, None, Option, Some, [], ap, append-nil, arith, false, inl, inr, is_some, length, refl, subst, sym, true, ℕ, ⊎_elim, ◌++◌, ◌∙◌, ◌∷◌, ◌≡◌, ◌≤◌}
+use Rattle.locked_store.proofs.Common.{AllByRecursion, AreHoldings, AreRising, DecidesAfter, DecidesBefore, Entry, FaultMark, HoldsHistory, IsAt, IsBegun, IsCaller, IsCaused, IsClear, IsEntered, IsEntry, IsHolding, IsLater, IsLegal, IsReading, IsStartOf, IsTold, Opened, Opening, OwnCalls, Pairs, ReadsKey, Request, Seat, Service, StandsFor, Store, ToldBy, View, World, after_change, after_turn, caller_of, entries_of, id_read, may_change_keys, opening_of, option_list, replay, told_before, turn_entry, with_own}
 use Rattle.store_model.specs.Store as model
+use Rattle.locked_store.specs.declared.changes.Change.{Change}
 use Rattle.locked_store.proofs.Owning.{holding_of}
-use Rattle.locked_store.proofs.Passing.{goes_on, nothing_more, with_entry}
+use Rattle.locked_store.proofs.Passing.{after_one, goes_on, signed_front, with_entry}
 
 module _ {D A C : Type 0} (w : World D A C) where
   abbrev opened : Opened D A C
   opened = w.opened
 
   -- the same store, with what another opening saw
-  abbrev At : Opened D A C → World D A C
+  abbrev pub At : Opened D A C → World D A C
   At o = record w { opened = o }
 
-  abbrev Here : Store D A C → List Entry → List Pairs → Type 0
+  abbrev pub Here : Store D A C → List Entry → List Pairs → Type 0
   Here = HoldsHistory w.disk w.devices w.rules
 
-  abbrev For : Store D A C → Service → Opening → List Entry → List Pairs → Type 0
+  abbrev pub For : Store D A C → Service → Opening → List Entry → List Pairs → Type 0
   For = StandsFor w.disk w.devices w.rules
 
-  abbrev From : Opened D A C → Service → Type 0
+  abbrev pub From : Opened D A C → Service → Type 0
   From o = IsStartOf (At o)
 
-  abbrev As : Opened D A C → Opening
+  abbrev pub As : Opened D A C → Opening
   As = opening_of w.disk w.devices w.rules
 
   -- in a history neither counts nor moments fall from an opening on
@@ -51,7 +52,7 @@ module _ {D A C : Type 0} (w : World D A C) where
 
   -- no entry is added
   pub with_nothing : (store : Store D A C) (h : List Entry) (all : List Pairs) → Here store h all → Here store (h ++ []) all
-  with_nothing store h all s = subst (λ l. Here store l all) (sym (nothing_more h)) s
+  with_nothing store h all s = subst (λ l. Here store l all) (sym (append-nil h)) s
 
   -- a turn that leaves what the opening saw, and leads on from every start
   pub renewed : (old new : Store D A C) (h h' : List Entry) (all all' : List Pairs) → Here old h all → AllByRecursion IsCaller h' → Rises old.opened h' → new.opened ≡ old.opened → w.disk.size new.file.cells.disk ≡ 557120 → IsClear new.buffer →
@@ -111,6 +112,28 @@ module _ {D A C : Type 0} (w : World D A C) where
         Here store (entries_of p.me.0.seen ++ option_list e) (with_own p.me.0.holdings p.me.0.number own) → IsLegal w (entries_of q.me.0.seen)
     legal_after q e own store me same s = subst (IsLegal w) (sym (with_entry p.me.0 q.me.0 e own (ap (λ m. m.0) me)))
         (subst (λ o. IsLegal (At o) (entries_of p.me.0.seen ++ option_list e)) same (legal store (entries_of p.me.0.seen ++ option_list e) (with_own p.me.0.holdings p.me.0.number own) s))
+
+    -- what the turn added, without an entry and with one
+    pub later_after_turn : (q : Seat (Option V) (View Entry (Opened D A C))) (change : Change) → q.me ≡ (after_turn p.me.0 None (after_change change p.me.0.holding), []) → IsLater v q.me.0 (after_change change v.holding)
+    later_after_turn q change me = let is : q.me.0 ≡ after_turn p.me.0 None (after_change change p.me.0.holding) = ap (λ m. m.0) me in record {
+      on = after_one v p.me.0 q.me.0 None (after_change change p.me.0.holding) b.on is;
+      calls = ap (λ (x : View Entry (Opened D A C)). x.calls) is ∙ (append-nil p.me.0.calls ∙ b.same_calls);
+      holding = ap (λ (x : View Entry (Opened D A C)). x.holding) is ∙ ap (after_change change) b.same_holding;
+    }
+
+    pub entered_after_turn : (q : Seat (Option V) (View Entry (Opened D A C))) (e : Entry) (change : Change) (r : ℕ) → q.me ≡ (after_turn p.me.0 (Some e) (after_change change p.me.0.holding), []) → AllByRecursion IsCaller (entries_of p.me.0.seen ++ e ∷ []) →
+        r ≡ length (entries_of p.me.0.seen) → e.caller ≡ p.me.0.number → IsEntered v q.me.0 e.call e.mark r (after_change change v.holding) (entries_of p.me.0.seen) e
+    entered_after_turn q e change r me signed rank by = let is : q.me.0 ≡ after_turn p.me.0 (Some e) (after_change change p.me.0.holding) = ap (λ m. m.0) me in record {
+      on = after_one v p.me.0 q.me.0 (Some e) (after_change change p.me.0.holding) b.on is;
+      goes_on = goes_on v p.me.0 b.on b.same_calls b.first b.calls (signed_front (entries_of p.me.0.seen) (e ∷ []) signed);
+      seen = with_entry p.me.0 q.me.0 (Some e) (after_change change p.me.0.holding) is;
+      rank = rank;
+      by = by ∙ b.on.number;
+      call_is = refl;
+      mark_is = refl;
+      calls = ap (λ (x : View Entry (Opened D A C)). x.calls) is ∙ ap (λ l. l ++ e ∷ []) b.same_calls;
+      holding = ap (λ (x : View Entry (Opened D A C)). x.holding) is ∙ ap (after_change change) b.same_holding;
+    }
 
     -- a request that reads a key reads it in the turn
     pub reading : (store : Store D A C) (start : Service) (call : Request) (mark : FaultMark) (at : Store D A C) (id : ℕ) → AllByRecursion IsCaller (entries_of p.me.0.seen) → store.opened ≡ opened → is_some (w.disk.contents store.file.cells.disk) ≡ is_some (w.disk.contents store.opened.file.value.cells.disk) →

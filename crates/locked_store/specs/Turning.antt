@@ -1,6 +1,6 @@
 -- A caller's pass between two turns, and what a turn adds to what it knows.
 use Rattle.std.specs.List.{AllByRecursion}
-use Rattle.std.specs.Prelude.{◌≡◌, ◌⊎◌, ◌<◌, ◌≤◌, ◌^◌, ℕ, ◌+◌, ◌==◌, ◌&&◌, false, cond, Result, nat_lt, count_by, List, [], ◌∷◌, ◌++◌, length, Option, Some, None, is_some, Err}
+use Rattle.std.specs.Prelude.{◌≡◌, ◌⊎◌, ◌<◌, ◌≤◌, ◌^◌, ℕ, ◌+◌, ◌==◌, ◌&&◌, false, cond, Result, nat_lt, count_by, List, [], ◌∷◌, ◌++◌, length, Option, Some, None, is_some, Ok, Err}
 use Rattle.atomic_table.specs.declared.shared.Seat.{Seat}
 use Rattle.turn_history.specs.declared.pass.View.{View}
 use Rattle.turn_history.specs.Prelude.{entries_of, calls_by, StartsWith, own_of, IsInTurn, IsOutside, OwnCalls}
@@ -55,13 +55,19 @@ HasNoFilling own = count_by (λ p. p.1 == 0) own ≡ 0
 
 -- MARKS
 
+-- that of a result, by the mark of each refusal
+abbrev pub result_mark : {T E : Type 0} → (E → FaultMark) → Result T E → FaultMark
+result_mark mark (Ok _) = Plain
+result_mark mark (Err why) = mark why
+
 abbrev pub mark_met : Met → FaultMark
 mark_met met.Nothing = Plain
 mark_met (met.Unread status) = mark_of status
-mark_met (met.Unmade why) = mark_unmade why
-mark_met (met.Uncopied why) = mark_uncopied why
-mark_met (met.Undestroyed why) = mark_undestroyed why
-mark_met (met.Uncomputed why) = mark_computed (Err why)
+mark_met (met.Read read) = result_mark mark_of read.value
+mark_met (met.Made made) = result_mark mark_unmade made.value
+mark_met (met.Copied copied) = result_mark mark_uncopied copied.value
+mark_met (met.Destroyed destroyed) = result_mark mark_undestroyed destroyed.value
+mark_met (met.Computed computed) = mark_computed computed.value
 
 -- what a turn that leaves the store so adds to the history
 abbrev pub turn_entry : {D A C : Type 0} → disk.Ghosts D → devices.Ghosts A → Store D A C → (caller : ℕ) → Request → FaultMark → Entry

@@ -1,4 +1,5 @@
 //! What a turn names at its end.
+use key_attributes::{Attributes, KeyId};
 use psa_status::Status;
 use secure_element_calls::NotComputed;
 use slot_table::{Filling, Lease};
@@ -15,13 +16,14 @@ pub enum Change {
     TakesFilling(Snapshot<Filling>),
 }
 
-/// What a ranked turn met of faults, by its refusal.
-#[derive(Clone, Copy, Drop)]
+/// What a ranked turn met of faults, by its refusal or what came of it.
+#[derive(Drop)]
 pub enum Met {
     Nothing,
     Unread(Status),
-    Unmade(NotMade),
-    Uncopied(NotCopied),
-    Undestroyed(NotDestroyed),
-    Uncomputed(NotComputed),
+    Read(Snapshot<Result<Attributes, Status>>),
+    Made(Snapshot<Result<KeyId, NotMade>>),
+    Copied(Snapshot<Result<KeyId, NotCopied>>),
+    Destroyed(Snapshot<Result<(), NotDestroyed>>),
+    Computed(Snapshot<Result<usize, NotComputed>>),
 }

@@ -94,18 +94,9 @@ impl<D: Disk, A: Devices, C: Admission> SharedStore<D, A, C> {
             .value()
             .store
             .finish(caller, filling, attributes, bytes, lease);
-        match made {
-            Ok(id) => {
-                let met = Met::Nothing;
-                let rank = self.leave_ranked::<Brand>(pass, turn, before, call, room, met, &change);
-                (rank, Ok(id))
-            }
-            Err(why) => {
-                let met = Met::Unmade(why);
-                let rank = self.leave_ranked::<Brand>(pass, turn, before, call, room, met, &change);
-                (rank, Err(why))
-            }
-        }
+        let met = Met::Made(Snapshot::of(&made));
+        let rank = self.leave_ranked(pass, turn, before, call, room, met, &change);
+        (rank, made)
     }
 
     /// Makes a copy of a key, in the slot that waits for it, or gives the slot up. Ranked.
@@ -135,17 +126,9 @@ impl<D: Disk, A: Devices, C: Admission> SharedStore<D, A, C> {
         let before = Snapshot::of(pass);
         let change = Change::TakesFilling(Snapshot::of(&filling));
         let mut turn = self.enter(rt, pass);
-        match turn.value().store.copy(caller, filling, source, attributes) {
-            Ok(id) => {
-                let met = Met::Nothing;
-                let rank = self.leave_ranked::<Brand>(pass, turn, before, call, room, met, &change);
-                (rank, Ok(id))
-            }
-            Err(why) => {
-                let met = Met::Uncopied(why);
-                let rank = self.leave_ranked::<Brand>(pass, turn, before, call, room, met, &change);
-                (rank, Err(why))
-            }
-        }
+        let copied = turn.value().store.copy(caller, filling, source, attributes);
+        let met = Met::Copied(Snapshot::of(&copied));
+        let rank = self.leave_ranked(pass, turn, before, call, room, met, &change);
+        (rank, copied)
     }
 }

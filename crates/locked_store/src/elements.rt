@@ -26,7 +26,6 @@ use secret_bytes::Secret;
 use secure_element_calls::{ElementCall, NotComputed};
 use service_calls::Call;
 use slot_table::Lease;
-use std::marker::Brand;
 use std::snapshot::Snapshot;
 use std::sync::Wait;
 use turn_history::{Pass, Turn};
@@ -96,18 +95,10 @@ impl<D: Disk, A: Devices, C: Admission> SharedStore<D, A, C> {
         ensures computed { EndsAfter self.now before.value pass.old pass.new call.now (length out.old) (mark_computed result.1) result.0
             (IsAnswered (A.keys (world self.now).opened.devices.value) id.0 element.now out.old out.new result.1) }
     {
-        let (room, kept) = (out.len(), Change::Nothing);
-        match turn.value().store.opaque_call(id, element, out) {
-            Ok(length) => {
-                let met = Met::Nothing;
-                let rank = self.leave_ranked::<Brand>(pass, turn, before, call, room, met, &kept);
-                (rank, Ok(length))
-            }
-            Err(why) => {
-                let met = Met::Uncomputed(why);
-                let rank = self.leave_ranked::<Brand>(pass, turn, before, call, room, met, &kept);
-                (rank, Err(why))
-            }
-        }
+        let room = out.len();
+        let computed = turn.value().store.opaque_call(id, element, out);
+        let met = Met::Computed(Snapshot::of(&computed));
+        let rank = self.leave_ranked(pass, turn, before, call, room, met, &Change::Nothing);
+        (rank, computed)
     }
 }

@@ -14,6 +14,7 @@ use admission::Admission;
 use disk_face::Disk;
 use driver_dispatch::Devices;
 use service_calls::Call;
+use std::marker::Brand;
 use std::snapshot::Snapshot;
 use std::sync::Wait;
 use turn_history::{Naming, Pass, Turn};
@@ -37,7 +38,29 @@ impl<D: Disk, A: Devices, C: Admission> SharedStore<D, A, C> {
 
     // Ends a turn with an entry for a call, with an output buffer of so many bytes, and answers its rank. Beside it stands
     // what the pass was before the turn.
-    pub(crate) fn leave_ranked<N: Naming<Entry>>(
+    pub(crate) fn leave_ranked(
+        &self,
+        pass: &mut Pass<Held<D, A, C>>,
+        turn: Turn<Held<D, A, C>>,
+        before: Snapshot<Pass<Held<D, A, C>>>,
+        call: &Call<'_>,
+        room: usize,
+        met: Met,
+        change: &Change,
+    ) -> u64
+        requires begun { IsBegun (world self.now) before.value.me.0 pass.old turn.entries }
+        requires stands { StandsRanked D.Disk A.Devices C.Admission turn.value.value.store pass.old (model_request call.now room) met change.now }
+        requires opened { turn.value.value.store.opened ≡ (world self.now).opened }
+        ensures at { IsAt (world self.now) pass.new }
+        ensures legal { IsLegal (world self.now) (entries_of pass.new.me.0.seen) }
+        ensures entered { IsEntered before.value.me.0 pass.new.me.0 (model_request call.now room) (mark_met met) result (after_change change.now before.value.me.0.holding)
+            (entries_of pass.old.me.0.seen) (entry_left D.Disk A.Devices turn.value.value.store pass.old (model_request call.now room) met) }
+    {
+        self.leave_named::<Brand>(pass, turn, before, call, room, met, change)
+    }
+
+    // The same, where the entry and what the caller then has out are named.
+    fn leave_named<N: Naming<Entry>>(
         &self,
         pass: &mut Pass<Held<D, A, C>>,
         turn: Turn<Held<D, A, C>>,

@@ -19,7 +19,6 @@ use driver_dispatch::Devices;
 use key_attributes::{Attributes, KeyId};
 use psa_status::Status;
 use service_calls::Call;
-use std::marker::Brand;
 use std::snapshot::Snapshot;
 use std::sync::Wait;
 use store_core::NotDestroyed;
@@ -46,19 +45,10 @@ impl<D: Disk, A: Devices, C: Admission> SharedStore<D, A, C> {
     {
         let before = Snapshot::of(pass);
         let mut turn = self.enter(rt, pass);
-        let kept = Change::Nothing;
-        match turn.value().store.attributes(id) {
-            Ok(attributes) => {
-                let met = Met::Nothing;
-                let rank = self.leave_ranked::<Brand>(pass, turn, before, call, room, met, &kept);
-                (rank, Ok(attributes))
-            }
-            Err(status) => {
-                let met = Met::Unread(status);
-                let rank = self.leave_ranked::<Brand>(pass, turn, before, call, room, met, &kept);
-                (rank, Err(status))
-            }
-        }
+        let found = turn.value().store.attributes(id);
+        let met = Met::Read(Snapshot::of(&found));
+        let rank = self.leave_ranked(pass, turn, before, call, room, met, &Change::Nothing);
+        (rank, found)
     }
 
     /// Destroys a key. Ranked.
@@ -80,19 +70,10 @@ impl<D: Disk, A: Devices, C: Admission> SharedStore<D, A, C> {
     {
         let before = Snapshot::of(pass);
         let mut turn = self.enter(rt, pass);
-        let kept = Change::Nothing;
-        match turn.value().store.destroy(id) {
-            Ok(()) => {
-                let met = Met::Nothing;
-                let rank = self.leave_ranked::<Brand>(pass, turn, before, call, room, met, &kept);
-                (rank, Ok(()))
-            }
-            Err(why) => {
-                let met = Met::Undestroyed(why);
-                let rank = self.leave_ranked::<Brand>(pass, turn, before, call, room, met, &kept);
-                (rank, Err(why))
-            }
-        }
+        let destroyed = turn.value().store.destroy(id);
+        let met = Met::Destroyed(Snapshot::of(&destroyed));
+        let rank = self.leave_ranked(pass, turn, before, call, room, met, &Change::Nothing);
+        (rank, destroyed)
     }
 
     /// Forgets a key in memory that is in the file too and that nobody reads. Ranked.
@@ -115,16 +96,9 @@ impl<D: Disk, A: Devices, C: Admission> SharedStore<D, A, C> {
     {
         let before = Snapshot::of(pass);
         let mut turn = self.enter(rt, pass);
-        let (met, kept) = (Met::Nothing, Change::Nothing);
-        match turn.value().store.purge(id) {
-            Ok(()) => {
-                let rank = self.leave_ranked::<Brand>(pass, turn, before, call, room, met, &kept);
-                (rank, Ok(()))
-            }
-            Err(status) => {
-                let rank = self.leave_ranked::<Brand>(pass, turn, before, call, room, met, &kept);
-                (rank, Err(status))
-            }
-        }
+        let purged = turn.value().store.purge(id);
+        let met = Met::Nothing;
+        let rank = self.leave_ranked(pass, turn, before, call, room, met, &Change::Nothing);
+        (rank, purged)
     }
 }

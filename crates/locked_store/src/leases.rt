@@ -91,19 +91,11 @@ impl<D: Disk, A: Devices, C: Admission> SharedStore<D, A, C> {
         match turn.value().store.look(id, wanted, spare) {
             Ok(lease) => {
                 let change = Change::Lends(Snapshot::of(&lease));
-                let rank = self.leave_ranked::<Brand>(
-                    pass,
-                    turn,
-                    before,
-                    call,
-                    room,
-                    Met::Nothing,
-                    &change,
-                );
+                let rank = self.leave_ranked(pass, turn, before, call, room, Met::Nothing, &change);
                 (rank, Ok(lease))
             }
             Err((status, spare)) => {
-                let rank = self.leave_ranked::<Brand>(
+                let rank = self.leave_ranked(
                     pass,
                     turn,
                     before,

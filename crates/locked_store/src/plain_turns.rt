@@ -20,7 +20,6 @@ use key_attributes::{Attributes, KeyId};
 use psa_status::Status;
 use service_calls::Call;
 use slot_table::Lease;
-use std::marker::Brand;
 use std::snapshot::Snapshot;
 use std::sync::Wait;
 use turn_history::Pass;
@@ -44,7 +43,7 @@ impl<D: Disk, A: Devices, C: Admission> SharedStore<D, A, C> {
         let before = Snapshot::of(pass);
         let mut turn = self.enter(rt, pass);
         turn.value().store.count();
-        self.leave_ranked::<Brand>(
+        self.leave_ranked(
             pass,
             turn,
             before,
@@ -78,7 +77,7 @@ impl<D: Disk, A: Devices, C: Admission> SharedStore<D, A, C> {
         let before = Snapshot::of(pass);
         let mut turn = self.enter(rt, pass);
         let stepped = turn.value().store.step_operation(lease);
-        let rank = self.leave_ranked::<Brand>(
+        let rank = self.leave_ranked(
             pass,
             turn,
             before,

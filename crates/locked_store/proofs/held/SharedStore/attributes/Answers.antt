@@ -1,48 +1,35 @@
-use Rattle.std.proofs.Common.{ap, is_some, subst, sym, ◌∙◌}
-use Rattle.locked_store.proofs.Common.{HasAttributes, HoldsHistory, IsRefused, Plain, entries_of, mark_of, model_request, there_rows, with_own, world}
-use Rattle.locked_store.proofs.Turns.{IsSteady, few, led_decides, led_stands, ranked, reads, stands_some}
+use Rattle.std.proofs.Common.{ap, is_some}
+use Rattle.std.proofs.lemmas.Result.{IfErr-weaker, IfOk-weaker}
+use Rattle.locked_store.proofs.Common.{DecidesAfter, HasAttributes, IsRefused, Plain, mark_of, model_request, there_rows, world}
+use Rattle.locked_store.proofs.Turns.{AreTurned, IsSteady, few, in_turn, ranks_err, ranks_ok, reads, stands_some, turned_after, turned_stands}
 use Rattle.locked_store.proofs.held.SharedStore.attributes.Goals as goal
+use Rattle.locked_store.proofs.held.SharedStore.attributes.Goals.{After-of}
 
-pub attributes-requires-clause-stands : goal.attributes-requires-clause-stands
-attributes-requires-clause-stands g c κs within =
-    let s = subst (λ v. HoldsHistory g.D.Disk g.A.Devices g.C.Admission v.store (entries_of c.enter-turn.new.pass.me.0.seen) c.enter-turn.new.pass.me.0.holdings) (sym c.value.ensures.value) c.enter-turn.ensures.stands in
-    stands_some (world c.args.self.now) c.value.result.now.store (entries_of c.enter-turn.new.pass.me.0.seen) c.enter-turn.new.pass.me.0.holdings s
+pub attributes-found-requires-clause-stands : goal.attributes-found-requires-clause-stands
+attributes-found-requires-clause-stands g c κs within = stands_some (in_turn c.enter-turn.ensures.begun c.enter-turn.ensures.stands c.enter-turn.ensures.opened (ap (λ v. v.store) c.value.ensures.value))
 
-pub attributes-requires-clause-few : goal.attributes-requires-clause-few
-attributes-requires-clause-few g c κs within =
-    let s = subst (λ v. HoldsHistory g.D.Disk g.A.Devices g.C.Admission v.store (entries_of c.enter-turn.new.pass.me.0.seen) c.enter-turn.new.pass.me.0.holdings) (sym c.value.ensures.value) c.enter-turn.ensures.stands in
-    few (world c.args.self.now) c.args.pass.now.me.0 c.enter-turn.new.pass c.enter-turn.result.entries c.enter-turn.ensures.begun c.value.result.now.store (ap (λ v. v.store.opened) c.value.ensures.value ∙ c.enter-turn.ensures.opened) s
+pub attributes-found-requires-clause-few : goal.attributes-found-requires-clause-few
+attributes-found-requires-clause-few g c κs within = few (in_turn c.enter-turn.ensures.begun c.enter-turn.ensures.stands c.enter-turn.ensures.opened (ap (λ v. v.store) c.value.ensures.value))
+
+-- the turn, as the store ended it
+turned : (g : _) (c : goal.After-of g) → AreTurned (world c.args.self.now) c.enter-turn.new.pass c.attributes-found.new.self (model_request c.args.call.now c.args.room) mark_of c.enter-turn.new.pass.me.0.holding c.attributes-found.result
+    (λ known. DecidesAfter (world c.args.self.now) (HasAttributes c.args.id.0 known))
+    (λ status. DecidesAfter (world c.args.self.now) (IsRefused there_rows c.args.id.0 status))
+turned g c =
+    let t = in_turn c.enter-turn.ensures.begun c.enter-turn.ensures.stands c.enter-turn.ensures.opened (ap (λ v. v.store) c.value.ensures.value) in
+    let l = c.attributes-found.ensures in
+    let call = model_request c.args.call.now c.args.room in
+    let own = c.enter-turn.new.pass.me.0.holding in
+    let k : IsSteady (world c.args.self.now) c.value.result.now.store c.attributes-found.new.self = record { opened = l.opened; sized = l.size; clear = l.clear; tells = l.tells; knows = ap (λ d. is_some (g.A.Devices.keys d)) l.devices; later = l.later } in record {
+      ok = IfOk-weaker c.attributes-found.result _ _ (λ known read. turned_after t call Plain own (HasAttributes c.args.id.0 known) k (reads t c.attributes-found.new.self call c.args.id.0 Plain (HasAttributes c.args.id.0 known) read c.requires.quiet c.requires.reads)) l.known;
+      err = IfErr-weaker c.attributes-found.result _ _ (λ status read. turned_after t call (mark_of status) own (IsRefused there_rows c.args.id.0 status) k (reads t c.attributes-found.new.self call c.args.id.0 (mark_of status) (IsRefused there_rows c.args.id.0 status) read c.requires.quiet c.requires.reads)) l.refused;
+    }
 
 pub leave_ranked-rank-requires-clause-stands : goal.leave_ranked-rank-requires-clause-stands
-leave_ranked-rank-requires-clause-stands g c κs within =
-    let s = subst (λ v. HoldsHistory g.D.Disk g.A.Devices g.C.Admission v.store (entries_of c.enter-turn.new.pass.me.0.seen) c.enter-turn.new.pass.me.0.holdings) (sym c.value.ensures.value) c.enter-turn.ensures.stands in
-    let l = c.in-Ok.ensures in
-    let k : IsSteady (world c.args.self.now) c.value.result.now.store c.attributes.new.self = record { opened = l.opened; sized = l.size; clear = l.clear; tells = l.tells; knows = ap (λ d. is_some (g.A.Devices.keys d)) l.devices; later = l.later } in
-    (led_stands (world c.args.self.now) c.args.pass.now.me.0 c.enter-turn.new.pass c.enter-turn.result.entries c.enter-turn.ensures.begun c.value.result.now.store (ap (λ v. v.store.opened) c.value.ensures.value ∙ c.enter-turn.ensures.opened) s c.attributes.new.self (model_request c.args.call.now c.args.room) Plain (with_own c.enter-turn.new.pass.me.0.holdings c.enter-turn.new.pass.me.0.number c.enter-turn.new.pass.me.0.holding) (HasAttributes c.args.id.0 c.in-Ok.attributes) k
-    (reads (world c.args.self.now) c.args.pass.now.me.0 c.enter-turn.new.pass c.enter-turn.result.entries c.enter-turn.ensures.begun c.value.result.now.store (ap (λ v. v.store.opened) c.value.ensures.value ∙ c.enter-turn.ensures.opened) s c.attributes.new.self (model_request c.args.call.now c.args.room) c.args.id.0 Plain (HasAttributes c.args.id.0 c.in-Ok.attributes) l.known c.requires.quiet c.requires.reads))
+leave_ranked-rank-requires-clause-stands g c κs within = rw c.of.ensures (turned_stands c.attributes-found.result (turned g (goal.at.leave_ranked-rank-requires-clause-stands g c).After-of))
 
-pub returns-in-Ok-clause-known : goal.returns-in-Ok-clause-known
-returns-in-Ok-clause-known g c =
-    let s = subst (λ v. HoldsHistory g.D.Disk g.A.Devices g.C.Admission v.store (entries_of c.enter-turn.new.pass.me.0.seen) c.enter-turn.new.pass.me.0.holdings) (sym c.value.ensures.value) c.enter-turn.ensures.stands in
-    let l = c.in-Ok.ensures in
-    let k : IsSteady (world c.args.self.now) c.value.result.now.store c.attributes.new.self = record { opened = l.opened; sized = l.size; clear = l.clear; tells = l.tells; knows = ap (λ d. is_some (g.A.Devices.keys d)) l.devices; later = l.later } in
-    ranked (rw c.of-before.ensures at c.leave_ranked-rank.ensures.entered)
-    (led_decides (world c.args.self.now) c.args.pass.now.me.0 c.enter-turn.new.pass c.enter-turn.result.entries c.enter-turn.ensures.begun c.value.result.now.store (ap (λ v. v.store.opened) c.value.ensures.value ∙ c.enter-turn.ensures.opened) s c.attributes.new.self (model_request c.args.call.now c.args.room) Plain (with_own c.enter-turn.new.pass.me.0.holdings c.enter-turn.new.pass.me.0.number c.enter-turn.new.pass.me.0.holding) (HasAttributes c.args.id.0 c.in-Ok.attributes) k
-    (reads (world c.args.self.now) c.args.pass.now.me.0 c.enter-turn.new.pass c.enter-turn.result.entries c.enter-turn.ensures.begun c.value.result.now.store (ap (λ v. v.store.opened) c.value.ensures.value ∙ c.enter-turn.ensures.opened) s c.attributes.new.self (model_request c.args.call.now c.args.room) c.args.id.0 Plain (HasAttributes c.args.id.0 c.in-Ok.attributes) l.known c.requires.quiet c.requires.reads))
-
-pub leave_ranked-rank-requires-in-Err-clause-stands : goal.leave_ranked-rank-requires-in-Err-clause-stands
-leave_ranked-rank-requires-in-Err-clause-stands g c κs within =
-    let s = subst (λ v. HoldsHistory g.D.Disk g.A.Devices g.C.Admission v.store (entries_of c.enter-turn.new.pass.me.0.seen) c.enter-turn.new.pass.me.0.holdings) (sym c.value.ensures.value) c.enter-turn.ensures.stands in
-    let l = c.in-Err.ensures in
-    let k : IsSteady (world c.args.self.now) c.value.result.now.store c.attributes.new.self = record { opened = l.opened; sized = l.size; clear = l.clear; tells = l.tells; knows = ap (λ d. is_some (g.A.Devices.keys d)) l.devices; later = l.later } in
-    (led_stands (world c.args.self.now) c.args.pass.now.me.0 c.enter-turn.new.pass c.enter-turn.result.entries c.enter-turn.ensures.begun c.value.result.now.store (ap (λ v. v.store.opened) c.value.ensures.value ∙ c.enter-turn.ensures.opened) s c.attributes.new.self (model_request c.args.call.now c.args.room) (mark_of c.in-Err.status) (with_own c.enter-turn.new.pass.me.0.holdings c.enter-turn.new.pass.me.0.number c.enter-turn.new.pass.me.0.holding) (IsRefused there_rows c.args.id.0 c.in-Err.status) k
-    (reads (world c.args.self.now) c.args.pass.now.me.0 c.enter-turn.new.pass c.enter-turn.result.entries c.enter-turn.ensures.begun c.value.result.now.store (ap (λ v. v.store.opened) c.value.ensures.value ∙ c.enter-turn.ensures.opened) s c.attributes.new.self (model_request c.args.call.now c.args.room) c.args.id.0 (mark_of c.in-Err.status) (IsRefused there_rows c.args.id.0 c.in-Err.status) l.refused c.requires.quiet c.requires.reads))
+pub returns-clause-known : goal.returns-clause-known
+returns-clause-known g c = ranks_ok c.attributes-found.result (turned g (goal.at.returns-clause-known g c).After-of) (rw (c.of-before.ensures, c.of.ensures) at c.leave_ranked-rank.ensures.entered)
 
 pub returns-clause-refused : goal.returns-clause-refused
-returns-clause-refused g c =
-    let s = subst (λ v. HoldsHistory g.D.Disk g.A.Devices g.C.Admission v.store (entries_of c.enter-turn.new.pass.me.0.seen) c.enter-turn.new.pass.me.0.holdings) (sym c.value.ensures.value) c.enter-turn.ensures.stands in
-    let l = c.in-Err.ensures in
-    let k : IsSteady (world c.args.self.now) c.value.result.now.store c.attributes.new.self = record { opened = l.opened; sized = l.size; clear = l.clear; tells = l.tells; knows = ap (λ d. is_some (g.A.Devices.keys d)) l.devices; later = l.later } in
-    ranked (rw c.of-before.ensures at c.leave_ranked-rank-in-Err.ensures.entered)
-    (led_decides (world c.args.self.now) c.args.pass.now.me.0 c.enter-turn.new.pass c.enter-turn.result.entries c.enter-turn.ensures.begun c.value.result.now.store (ap (λ v. v.store.opened) c.value.ensures.value ∙ c.enter-turn.ensures.opened) s c.attributes.new.self (model_request c.args.call.now c.args.room) (mark_of c.in-Err.status) (with_own c.enter-turn.new.pass.me.0.holdings c.enter-turn.new.pass.me.0.number c.enter-turn.new.pass.me.0.holding) (IsRefused there_rows c.args.id.0 c.in-Err.status) k
-    (reads (world c.args.self.now) c.args.pass.now.me.0 c.enter-turn.new.pass c.enter-turn.result.entries c.enter-turn.ensures.begun c.value.result.now.store (ap (λ v. v.store.opened) c.value.ensures.value ∙ c.enter-turn.ensures.opened) s c.attributes.new.self (model_request c.args.call.now c.args.room) c.args.id.0 (mark_of c.in-Err.status) (IsRefused there_rows c.args.id.0 c.in-Err.status) l.refused c.requires.quiet c.requires.reads))
+returns-clause-refused g c = ranks_err c.attributes-found.result (turned g (goal.at.returns-clause-refused g c).After-of) (rw (c.of-before.ensures, c.of.ensures) at c.leave_ranked-rank.ensures.entered)

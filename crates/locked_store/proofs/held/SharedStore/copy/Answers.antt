@@ -1,55 +1,38 @@
-use Rattle.std.proofs.Common.{ap, subst, sym, ◌∙◌}
-use Rattle.locked_store.proofs.Common.{HoldsHistory, IsMade, IsUncopied, Plain, RecordsCopy, entries_of, filling_pair, mark_uncopied, model_request, with_own, without_pair, world}
-use Rattle.locked_store.proofs.Turns.{IsSteady, before_decides, before_stands, copies, few, is_last, out, ranked}
+use Rattle.std.proofs.Common.{ap}
+use Rattle.std.proofs.lemmas.Result.{IfErr-weaker, IfOk-weaker}
+use Rattle.locked_store.proofs.Common.{DecidesBefore, IsMade, IsUncopied, Plain, RecordsCopy, filling_pair, mark_uncopied, model_request, without_pair, world}
+use Rattle.locked_store.proofs.Turns.{AreTurned, IsSteady, copies, few, in_turn, is_last, out, ranks_err, ranks_ok, turned_before, turned_stands}
 use Rattle.locked_store.proofs.held.SharedStore.copy.Goals as goal
+use Rattle.locked_store.proofs.held.SharedStore.copy.Goals.{After-of-2}
 
-pub copy-requires-clause-last : goal.copy-requires-clause-last
-copy-requires-clause-last g c κs within =
-    let s = subst (λ v. HoldsHistory g.D.Disk g.A.Devices g.C.Admission v.store (entries_of c.enter-turn.new.pass.me.0.seen) c.enter-turn.new.pass.me.0.holdings) (sym c.value.ensures.value) c.enter-turn.ensures.stands in
-    is_last (world c.args.self.now) c.args.pass.now.me.0 c.enter-turn.new.pass c.enter-turn.result.entries c.enter-turn.ensures.begun c.value.result.now.store (ap (λ v. v.store.opened) c.value.ensures.value ∙ c.enter-turn.ensures.opened) s c.args.caller c.requires.caller
+pub copy-copied-requires-clause-last : goal.copy-copied-requires-clause-last
+copy-copied-requires-clause-last g c κs within = is_last (in_turn c.enter-turn.ensures.begun c.enter-turn.ensures.stands c.enter-turn.ensures.opened (ap (λ v. v.store) c.value.ensures.value)) c.args.caller c.requires.caller
 
-pub copy-requires-clause-out : goal.copy-requires-clause-out
-copy-requires-clause-out g c κs within =
-    let s = subst (λ v. HoldsHistory g.D.Disk g.A.Devices g.C.Admission v.store (entries_of c.enter-turn.new.pass.me.0.seen) c.enter-turn.new.pass.me.0.holdings) (sym c.value.ensures.value) c.enter-turn.ensures.stands in
-    out (world c.args.self.now) c.args.pass.now.me.0 c.enter-turn.new.pass c.enter-turn.result.entries c.enter-turn.ensures.begun c.value.result.now.store (ap (λ v. v.store.opened) c.value.ensures.value ∙ c.enter-turn.ensures.opened) s (filling_pair c.args.filling) c.requires.out
+pub copy-copied-requires-clause-out : goal.copy-copied-requires-clause-out
+copy-copied-requires-clause-out g c κs within = out (in_turn c.enter-turn.ensures.begun c.enter-turn.ensures.stands c.enter-turn.ensures.opened (ap (λ v. v.store) c.value.ensures.value)) (filling_pair c.args.filling) c.requires.out
 
-pub copy-requires-clause-few : goal.copy-requires-clause-few
-copy-requires-clause-few g c κs within =
-    let s = subst (λ v. HoldsHistory g.D.Disk g.A.Devices g.C.Admission v.store (entries_of c.enter-turn.new.pass.me.0.seen) c.enter-turn.new.pass.me.0.holdings) (sym c.value.ensures.value) c.enter-turn.ensures.stands in
-    few (world c.args.self.now) c.args.pass.now.me.0 c.enter-turn.new.pass c.enter-turn.result.entries c.enter-turn.ensures.begun c.value.result.now.store (ap (λ v. v.store.opened) c.value.ensures.value ∙ c.enter-turn.ensures.opened) s
+pub copy-copied-requires-clause-few : goal.copy-copied-requires-clause-few
+copy-copied-requires-clause-few g c κs within = few (in_turn c.enter-turn.ensures.begun c.enter-turn.ensures.stands c.enter-turn.ensures.opened (ap (λ v. v.store) c.value.ensures.value))
+
+-- the turn, as the store ended it
+turned : (g : _) (c : goal.After-of-2 g) → AreTurned (world c.args.self.now) c.enter-turn.new.pass c.copy-copied.new.self (model_request c.args.call.now c.args.room) mark_uncopied (without_pair (filling_pair c.args.filling) c.enter-turn.new.pass.me.0.holding) c.copy-copied.result
+    (λ id. DecidesBefore (world c.args.self.now) (IsMade (RecordsCopy c.args.caller c.args.source.0 c.args.attributes.now) c.args.caller id.0))
+    (λ why. DecidesBefore (world c.args.self.now) (IsUncopied (RecordsCopy c.args.caller c.args.source.0 c.args.attributes.now) c.args.source.0 why))
+turned g c =
+    let t = in_turn c.enter-turn.ensures.begun c.enter-turn.ensures.stands c.enter-turn.ensures.opened (ap (λ v. v.store) c.value.ensures.value) in
+    let l = c.copy-copied.ensures in
+    let call = model_request c.args.call.now c.args.room in
+    let own = (without_pair (filling_pair c.args.filling) c.enter-turn.new.pass.me.0.holding) in
+    let k : IsSteady (world c.args.self.now) c.value.result.now.store c.copy-copied.new.self = record { opened = l.opened; sized = l.size; clear = l.clear; tells = l.tells; knows = l.knows; later = l.later } in record {
+      ok = IfOk-weaker c.copy-copied.result _ _ (λ id made. turned_before t call Plain own (IsMade (RecordsCopy c.args.caller c.args.source.0 c.args.attributes.now) c.args.caller id.0) k (copies t c.copy-copied.new.self call c.args.caller c.args.source.0 c.args.attributes.now (filling_pair c.args.filling) Plain (IsMade (RecordsCopy c.args.caller c.args.source.0 c.args.attributes.now) c.args.caller id.0) k made c.requires.at.holding c.requires.out c.requires.caller c.requires.copies)) l.made;
+      err = IfErr-weaker c.copy-copied.result _ _ (λ why made. turned_before t call (mark_uncopied why) own (IsUncopied (RecordsCopy c.args.caller c.args.source.0 c.args.attributes.now) c.args.source.0 why) k (copies t c.copy-copied.new.self call c.args.caller c.args.source.0 c.args.attributes.now (filling_pair c.args.filling) (mark_uncopied why) (IsUncopied (RecordsCopy c.args.caller c.args.source.0 c.args.attributes.now) c.args.source.0 why) k made c.requires.at.holding c.requires.out c.requires.caller c.requires.copies)) l.uncopied;
+    }
 
 pub leave_ranked-rank-requires-clause-stands : goal.leave_ranked-rank-requires-clause-stands
-leave_ranked-rank-requires-clause-stands g c κs within =
-    let s = subst (λ v. HoldsHistory g.D.Disk g.A.Devices g.C.Admission v.store (entries_of c.enter-turn.new.pass.me.0.seen) c.enter-turn.new.pass.me.0.holdings) (sym c.value.ensures.value) c.enter-turn.ensures.stands in
-    let l = c.in-Ok.ensures in
-    let k : IsSteady (world c.args.self.now) c.value.result.now.store c.copy.new.self = record { opened = l.opened; sized = l.size; clear = l.clear; tells = l.tells; knows = l.knows; later = l.later } in
-    rw c.of.ensures
-    (before_stands (world c.args.self.now) c.args.pass.now.me.0 c.enter-turn.new.pass c.enter-turn.result.entries c.enter-turn.ensures.begun c.value.result.now.store (ap (λ v. v.store.opened) c.value.ensures.value ∙ c.enter-turn.ensures.opened) s c.copy.new.self (model_request c.args.call.now c.args.room) Plain (with_own c.enter-turn.new.pass.me.0.holdings c.enter-turn.new.pass.me.0.number (without_pair (filling_pair c.args.filling) c.enter-turn.new.pass.me.0.holding)) (IsMade (RecordsCopy c.args.caller c.args.source.0 c.args.attributes.now) c.args.caller c.in-Ok.id.0) k
-    (copies (world c.args.self.now) c.args.pass.now.me.0 c.enter-turn.new.pass c.enter-turn.result.entries c.enter-turn.ensures.begun c.value.result.now.store (ap (λ v. v.store.opened) c.value.ensures.value ∙ c.enter-turn.ensures.opened) s c.copy.new.self (model_request c.args.call.now c.args.room) c.args.caller c.args.source.0 c.args.attributes.now (filling_pair c.args.filling) Plain (IsMade (RecordsCopy c.args.caller c.args.source.0 c.args.attributes.now) c.args.caller c.in-Ok.id.0) k l.made c.requires.at.holding c.requires.out c.requires.caller c.requires.copies))
+leave_ranked-rank-requires-clause-stands g c κs within = rw (c.of.ensures, c.of-2.ensures) (turned_stands c.copy-copied.result (turned g (goal.at.leave_ranked-rank-requires-clause-stands g c).After-of-2))
 
-pub returns-in-Ok-clause-made : goal.returns-in-Ok-clause-made
-returns-in-Ok-clause-made g c =
-    let s = subst (λ v. HoldsHistory g.D.Disk g.A.Devices g.C.Admission v.store (entries_of c.enter-turn.new.pass.me.0.seen) c.enter-turn.new.pass.me.0.holdings) (sym c.value.ensures.value) c.enter-turn.ensures.stands in
-    let l = c.in-Ok.ensures in
-    let k : IsSteady (world c.args.self.now) c.value.result.now.store c.copy.new.self = record { opened = l.opened; sized = l.size; clear = l.clear; tells = l.tells; knows = l.knows; later = l.later } in
-    ranked (rw (c.of-before.ensures, c.of.ensures) at c.leave_ranked-rank.ensures.entered)
-    (before_decides (world c.args.self.now) c.args.pass.now.me.0 c.enter-turn.new.pass c.enter-turn.result.entries c.enter-turn.ensures.begun c.value.result.now.store (ap (λ v. v.store.opened) c.value.ensures.value ∙ c.enter-turn.ensures.opened) s c.copy.new.self (model_request c.args.call.now c.args.room) Plain (with_own c.enter-turn.new.pass.me.0.holdings c.enter-turn.new.pass.me.0.number (without_pair (filling_pair c.args.filling) c.enter-turn.new.pass.me.0.holding)) (IsMade (RecordsCopy c.args.caller c.args.source.0 c.args.attributes.now) c.args.caller c.in-Ok.id.0)
-    (copies (world c.args.self.now) c.args.pass.now.me.0 c.enter-turn.new.pass c.enter-turn.result.entries c.enter-turn.ensures.begun c.value.result.now.store (ap (λ v. v.store.opened) c.value.ensures.value ∙ c.enter-turn.ensures.opened) s c.copy.new.self (model_request c.args.call.now c.args.room) c.args.caller c.args.source.0 c.args.attributes.now (filling_pair c.args.filling) Plain (IsMade (RecordsCopy c.args.caller c.args.source.0 c.args.attributes.now) c.args.caller c.in-Ok.id.0) k l.made c.requires.at.holding c.requires.out c.requires.caller c.requires.copies))
-
-pub leave_ranked-rank-requires-in-Err-clause-stands : goal.leave_ranked-rank-requires-in-Err-clause-stands
-leave_ranked-rank-requires-in-Err-clause-stands g c κs within =
-    let s = subst (λ v. HoldsHistory g.D.Disk g.A.Devices g.C.Admission v.store (entries_of c.enter-turn.new.pass.me.0.seen) c.enter-turn.new.pass.me.0.holdings) (sym c.value.ensures.value) c.enter-turn.ensures.stands in
-    let l = c.in-Err.ensures in
-    let k : IsSteady (world c.args.self.now) c.value.result.now.store c.copy.new.self = record { opened = l.opened; sized = l.size; clear = l.clear; tells = l.tells; knows = l.knows; later = l.later } in
-    rw c.of.ensures
-    (before_stands (world c.args.self.now) c.args.pass.now.me.0 c.enter-turn.new.pass c.enter-turn.result.entries c.enter-turn.ensures.begun c.value.result.now.store (ap (λ v. v.store.opened) c.value.ensures.value ∙ c.enter-turn.ensures.opened) s c.copy.new.self (model_request c.args.call.now c.args.room) (mark_uncopied c.in-Err.why) (with_own c.enter-turn.new.pass.me.0.holdings c.enter-turn.new.pass.me.0.number (without_pair (filling_pair c.args.filling) c.enter-turn.new.pass.me.0.holding)) (IsUncopied (RecordsCopy c.args.caller c.args.source.0 c.args.attributes.now) c.args.source.0 c.in-Err.why) k
-    (copies (world c.args.self.now) c.args.pass.now.me.0 c.enter-turn.new.pass c.enter-turn.result.entries c.enter-turn.ensures.begun c.value.result.now.store (ap (λ v. v.store.opened) c.value.ensures.value ∙ c.enter-turn.ensures.opened) s c.copy.new.self (model_request c.args.call.now c.args.room) c.args.caller c.args.source.0 c.args.attributes.now (filling_pair c.args.filling) (mark_uncopied c.in-Err.why) (IsUncopied (RecordsCopy c.args.caller c.args.source.0 c.args.attributes.now) c.args.source.0 c.in-Err.why) k l.uncopied c.requires.at.holding c.requires.out c.requires.caller c.requires.copies))
+pub returns-clause-made : goal.returns-clause-made
+returns-clause-made g c = ranks_ok c.copy-copied.result (turned g (goal.at.returns-clause-made g c).After-of-2) (rw (c.of-before.ensures, c.of.ensures, c.of-2.ensures) at c.leave_ranked-rank.ensures.entered)
 
 pub returns-clause-uncopied : goal.returns-clause-uncopied
-returns-clause-uncopied g c =
-    let s = subst (λ v. HoldsHistory g.D.Disk g.A.Devices g.C.Admission v.store (entries_of c.enter-turn.new.pass.me.0.seen) c.enter-turn.new.pass.me.0.holdings) (sym c.value.ensures.value) c.enter-turn.ensures.stands in
-    let l = c.in-Err.ensures in
-    let k : IsSteady (world c.args.self.now) c.value.result.now.store c.copy.new.self = record { opened = l.opened; sized = l.size; clear = l.clear; tells = l.tells; knows = l.knows; later = l.later } in
-    ranked (rw (c.of-before.ensures, c.of.ensures) at c.leave_ranked-rank-in-Err.ensures.entered)
-    (before_decides (world c.args.self.now) c.args.pass.now.me.0 c.enter-turn.new.pass c.enter-turn.result.entries c.enter-turn.ensures.begun c.value.result.now.store (ap (λ v. v.store.opened) c.value.ensures.value ∙ c.enter-turn.ensures.opened) s c.copy.new.self (model_request c.args.call.now c.args.room) (mark_uncopied c.in-Err.why) (with_own c.enter-turn.new.pass.me.0.holdings c.enter-turn.new.pass.me.0.number (without_pair (filling_pair c.args.filling) c.enter-turn.new.pass.me.0.holding)) (IsUncopied (RecordsCopy c.args.caller c.args.source.0 c.args.attributes.now) c.args.source.0 c.in-Err.why)
-    (copies (world c.args.self.now) c.args.pass.now.me.0 c.enter-turn.new.pass c.enter-turn.result.entries c.enter-turn.ensures.begun c.value.result.now.store (ap (λ v. v.store.opened) c.value.ensures.value ∙ c.enter-turn.ensures.opened) s c.copy.new.self (model_request c.args.call.now c.args.room) c.args.caller c.args.source.0 c.args.attributes.now (filling_pair c.args.filling) (mark_uncopied c.in-Err.why) (IsUncopied (RecordsCopy c.args.caller c.args.source.0 c.args.attributes.now) c.args.source.0 c.in-Err.why) k l.uncopied c.requires.at.holding c.requires.out c.requires.caller c.requires.copies))
+returns-clause-uncopied g c = ranks_err c.copy-copied.result (turned g (goal.at.returns-clause-uncopied g c).After-of-2) (rw (c.of-before.ensures, c.of.ensures, c.of-2.ensures) at c.leave_ranked-rank.ensures.entered)

@@ -1,56 +1,39 @@
-use Rattle.std.proofs.Common.{ap, length, subst, sym, ◌∙◌}
-use Rattle.locked_store.proofs.Common.{HoldsHistory, IsMade, IsUnmade, Plain, RecordsStated, entries_of, filling_pair, mark_unmade, model_request, with_own, without_pair, world}
+use Rattle.std.proofs.Common.{ap, length}
+use Rattle.std.proofs.lemmas.Result.{IfErr-weaker, IfOk-weaker}
 use Rattle.std.specs.Option.{option_map}
-use Rattle.locked_store.proofs.Turns.{IsSteady, before_decides, before_stands, creates, few, is_last, out_beside, ranked}
+use Rattle.locked_store.proofs.Common.{DecidesBefore, IsMade, IsUnmade, Plain, RecordsStated, filling_pair, mark_unmade, model_request, without_pair, world}
+use Rattle.locked_store.proofs.Turns.{AreTurned, IsSteady, creates, few, in_turn, is_last, out_beside, ranks_err, ranks_ok, turned_before, turned_stands}
 use Rattle.locked_store.proofs.held.SharedStore.finish.Goals as goal
+use Rattle.locked_store.proofs.held.SharedStore.finish.Goals.{After-of-2}
 
 pub finish-made-requires-clause-last : goal.finish-made-requires-clause-last
-finish-made-requires-clause-last g c κs within =
-    let s = subst (λ v. HoldsHistory g.D.Disk g.A.Devices g.C.Admission v.store (entries_of c.enter-turn.new.pass.me.0.seen) c.enter-turn.new.pass.me.0.holdings) (sym c.value.ensures.value) c.enter-turn.ensures.stands in
-    is_last (world c.args.self.now) c.args.pass.now.me.0 c.enter-turn.new.pass c.enter-turn.result.entries c.enter-turn.ensures.begun c.value.result.now.store (ap (λ v. v.store.opened) c.value.ensures.value ∙ c.enter-turn.ensures.opened) s c.args.caller c.requires.caller
+finish-made-requires-clause-last g c κs within = is_last (in_turn c.enter-turn.ensures.begun c.enter-turn.ensures.stands c.enter-turn.ensures.opened (ap (λ v. v.store) c.value.ensures.value)) c.args.caller c.requires.caller
 
 pub finish-made-requires-clause-out : goal.finish-made-requires-clause-out
-finish-made-requires-clause-out g c κs within =
-    let s = subst (λ v. HoldsHistory g.D.Disk g.A.Devices g.C.Admission v.store (entries_of c.enter-turn.new.pass.me.0.seen) c.enter-turn.new.pass.me.0.holdings) (sym c.value.ensures.value) c.enter-turn.ensures.stands in
-    out_beside (world c.args.self.now) c.args.pass.now.me.0 c.enter-turn.new.pass c.enter-turn.result.entries c.enter-turn.ensures.begun c.value.result.now.store (ap (λ v. v.store.opened) c.value.ensures.value ∙ c.enter-turn.ensures.opened) s (filling_pair c.args.filling) (option_map (λ l. l.now) c.args.lease) c.requires.out c.requires.lent
+finish-made-requires-clause-out g c κs within = out_beside (in_turn c.enter-turn.ensures.begun c.enter-turn.ensures.stands c.enter-turn.ensures.opened (ap (λ v. v.store) c.value.ensures.value)) (filling_pair c.args.filling) (option_map (λ l. l.now) c.args.lease) c.requires.out c.requires.lent
 
 pub finish-made-requires-clause-few : goal.finish-made-requires-clause-few
-finish-made-requires-clause-few g c κs within =
-    let s = subst (λ v. HoldsHistory g.D.Disk g.A.Devices g.C.Admission v.store (entries_of c.enter-turn.new.pass.me.0.seen) c.enter-turn.new.pass.me.0.holdings) (sym c.value.ensures.value) c.enter-turn.ensures.stands in
-    few (world c.args.self.now) c.args.pass.now.me.0 c.enter-turn.new.pass c.enter-turn.result.entries c.enter-turn.ensures.begun c.value.result.now.store (ap (λ v. v.store.opened) c.value.ensures.value ∙ c.enter-turn.ensures.opened) s
+finish-made-requires-clause-few g c κs within = few (in_turn c.enter-turn.ensures.begun c.enter-turn.ensures.stands c.enter-turn.ensures.opened (ap (λ v. v.store) c.value.ensures.value))
+
+-- the turn, as the store ended it
+turned : (g : _) (c : goal.After-of-2 g) → AreTurned (world c.args.self.now) c.enter-turn.new.pass c.finish-made.new.self (model_request c.args.call.now c.args.room) mark_unmade (without_pair (filling_pair c.args.filling) c.enter-turn.new.pass.me.0.holding) c.finish-made.result
+    (λ id. DecidesBefore (world c.args.self.now) (IsMade (RecordsStated (option_map (λ l. l.now) c.args.lease) c.args.caller c.args.attributes.now (length c.args.bytes.now)) c.args.caller id.0))
+    (λ why. DecidesBefore (world c.args.self.now) (IsUnmade (RecordsStated (option_map (λ l. l.now) c.args.lease) c.args.caller c.args.attributes.now (length c.args.bytes.now)) why))
+turned g c =
+    let t = in_turn c.enter-turn.ensures.begun c.enter-turn.ensures.stands c.enter-turn.ensures.opened (ap (λ v. v.store) c.value.ensures.value) in
+    let l = c.finish-made.ensures in
+    let call = model_request c.args.call.now c.args.room in
+    let own = (without_pair (filling_pair c.args.filling) c.enter-turn.new.pass.me.0.holding) in
+    let k : IsSteady (world c.args.self.now) c.value.result.now.store c.finish-made.new.self = record { opened = l.opened; sized = l.size; clear = l.clear t.stands.clear; tells = l.tells; knows = l.knows; later = l.later } in record {
+      ok = IfOk-weaker c.finish-made.result _ _ (λ id made. turned_before t call Plain own (IsMade (RecordsStated (option_map (λ l. l.now) c.args.lease) c.args.caller c.args.attributes.now (length c.args.bytes.now)) c.args.caller id.0) k (creates t c.finish-made.new.self call c.args.caller (option_map (λ l. l.now) c.args.lease) (RecordsStated (option_map (λ l. l.now) c.args.lease) c.args.caller c.args.attributes.now (length c.args.bytes.now)) c.args.bytes.now (filling_pair c.args.filling) Plain (IsMade (RecordsStated (option_map (λ l. l.now) c.args.lease) c.args.caller c.args.attributes.now (length c.args.bytes.now)) c.args.caller id.0) made c.requires.at.holding c.requires.out c.requires.lent c.requires.caller c.requires.creates)) l.made;
+      err = IfErr-weaker c.finish-made.result _ _ (λ why made. turned_before t call (mark_unmade why) own (IsUnmade (RecordsStated (option_map (λ l. l.now) c.args.lease) c.args.caller c.args.attributes.now (length c.args.bytes.now)) why) k (creates t c.finish-made.new.self call c.args.caller (option_map (λ l. l.now) c.args.lease) (RecordsStated (option_map (λ l. l.now) c.args.lease) c.args.caller c.args.attributes.now (length c.args.bytes.now)) c.args.bytes.now (filling_pair c.args.filling) (mark_unmade why) (IsUnmade (RecordsStated (option_map (λ l. l.now) c.args.lease) c.args.caller c.args.attributes.now (length c.args.bytes.now)) why) made c.requires.at.holding c.requires.out c.requires.lent c.requires.caller c.requires.creates)) l.unmade;
+    }
 
 pub leave_ranked-rank-requires-clause-stands : goal.leave_ranked-rank-requires-clause-stands
-leave_ranked-rank-requires-clause-stands g c κs within =
-    let s = subst (λ v. HoldsHistory g.D.Disk g.A.Devices g.C.Admission v.store (entries_of c.enter-turn.new.pass.me.0.seen) c.enter-turn.new.pass.me.0.holdings) (sym c.value.ensures.value) c.enter-turn.ensures.stands in
-    let l = c.in-Ok.ensures in
-    let k : IsSteady (world c.args.self.now) c.value.result.now.store c.finish-made.new.self = record { opened = l.opened; sized = l.size; clear = l.clear s.clear; tells = l.tells; knows = l.knows; later = l.later } in
-    rw c.of.ensures
-    (before_stands (world c.args.self.now) c.args.pass.now.me.0 c.enter-turn.new.pass c.enter-turn.result.entries c.enter-turn.ensures.begun c.value.result.now.store (ap (λ v. v.store.opened) c.value.ensures.value ∙ c.enter-turn.ensures.opened) s c.finish-made.new.self (model_request c.args.call.now c.args.room) Plain (with_own c.enter-turn.new.pass.me.0.holdings c.enter-turn.new.pass.me.0.number (without_pair (filling_pair c.args.filling) c.enter-turn.new.pass.me.0.holding)) (IsMade (RecordsStated (option_map (λ l. l.now) c.args.lease) c.args.caller c.args.attributes.now (length c.args.bytes.now)) c.args.caller c.in-Ok.id.0) k
-    (creates (world c.args.self.now) c.args.pass.now.me.0 c.enter-turn.new.pass c.enter-turn.result.entries c.enter-turn.ensures.begun c.value.result.now.store (ap (λ v. v.store.opened) c.value.ensures.value ∙ c.enter-turn.ensures.opened) s c.finish-made.new.self (model_request c.args.call.now c.args.room) c.args.caller (option_map (λ l. l.now) c.args.lease) (RecordsStated (option_map (λ l. l.now) c.args.lease) c.args.caller c.args.attributes.now (length c.args.bytes.now)) c.args.bytes.now (filling_pair c.args.filling) Plain (IsMade (RecordsStated (option_map (λ l. l.now) c.args.lease) c.args.caller c.args.attributes.now (length c.args.bytes.now)) c.args.caller c.in-Ok.id.0) l.made c.requires.at.holding c.requires.out c.requires.lent c.requires.caller c.requires.creates))
+leave_ranked-rank-requires-clause-stands g c κs within = rw (c.of.ensures, c.of-2.ensures) (turned_stands c.finish-made.result (turned g (goal.at.leave_ranked-rank-requires-clause-stands g c).After-of-2))
 
-pub returns-in-Ok-clause-made : goal.returns-in-Ok-clause-made
-returns-in-Ok-clause-made g c =
-    let s = subst (λ v. HoldsHistory g.D.Disk g.A.Devices g.C.Admission v.store (entries_of c.enter-turn.new.pass.me.0.seen) c.enter-turn.new.pass.me.0.holdings) (sym c.value.ensures.value) c.enter-turn.ensures.stands in
-    let l = c.in-Ok.ensures in
-    let k : IsSteady (world c.args.self.now) c.value.result.now.store c.finish-made.new.self = record { opened = l.opened; sized = l.size; clear = l.clear s.clear; tells = l.tells; knows = l.knows; later = l.later } in
-    ranked (rw (c.of-before.ensures, c.of.ensures) at c.leave_ranked-rank.ensures.entered)
-    (before_decides (world c.args.self.now) c.args.pass.now.me.0 c.enter-turn.new.pass c.enter-turn.result.entries c.enter-turn.ensures.begun c.value.result.now.store (ap (λ v. v.store.opened) c.value.ensures.value ∙ c.enter-turn.ensures.opened) s c.finish-made.new.self (model_request c.args.call.now c.args.room) Plain (with_own c.enter-turn.new.pass.me.0.holdings c.enter-turn.new.pass.me.0.number (without_pair (filling_pair c.args.filling) c.enter-turn.new.pass.me.0.holding)) (IsMade (RecordsStated (option_map (λ l. l.now) c.args.lease) c.args.caller c.args.attributes.now (length c.args.bytes.now)) c.args.caller c.in-Ok.id.0)
-    (creates (world c.args.self.now) c.args.pass.now.me.0 c.enter-turn.new.pass c.enter-turn.result.entries c.enter-turn.ensures.begun c.value.result.now.store (ap (λ v. v.store.opened) c.value.ensures.value ∙ c.enter-turn.ensures.opened) s c.finish-made.new.self (model_request c.args.call.now c.args.room) c.args.caller (option_map (λ l. l.now) c.args.lease) (RecordsStated (option_map (λ l. l.now) c.args.lease) c.args.caller c.args.attributes.now (length c.args.bytes.now)) c.args.bytes.now (filling_pair c.args.filling) Plain (IsMade (RecordsStated (option_map (λ l. l.now) c.args.lease) c.args.caller c.args.attributes.now (length c.args.bytes.now)) c.args.caller c.in-Ok.id.0) l.made c.requires.at.holding c.requires.out c.requires.lent c.requires.caller c.requires.creates))
-
-pub leave_ranked-rank-requires-in-Err-clause-stands : goal.leave_ranked-rank-requires-in-Err-clause-stands
-leave_ranked-rank-requires-in-Err-clause-stands g c κs within =
-    let s = subst (λ v. HoldsHistory g.D.Disk g.A.Devices g.C.Admission v.store (entries_of c.enter-turn.new.pass.me.0.seen) c.enter-turn.new.pass.me.0.holdings) (sym c.value.ensures.value) c.enter-turn.ensures.stands in
-    let l = c.in-Err.ensures in
-    let k : IsSteady (world c.args.self.now) c.value.result.now.store c.finish-made.new.self = record { opened = l.opened; sized = l.size; clear = l.clear s.clear; tells = l.tells; knows = l.knows; later = l.later } in
-    rw c.of.ensures
-    (before_stands (world c.args.self.now) c.args.pass.now.me.0 c.enter-turn.new.pass c.enter-turn.result.entries c.enter-turn.ensures.begun c.value.result.now.store (ap (λ v. v.store.opened) c.value.ensures.value ∙ c.enter-turn.ensures.opened) s c.finish-made.new.self (model_request c.args.call.now c.args.room) (mark_unmade c.in-Err.why) (with_own c.enter-turn.new.pass.me.0.holdings c.enter-turn.new.pass.me.0.number (without_pair (filling_pair c.args.filling) c.enter-turn.new.pass.me.0.holding)) (IsUnmade (RecordsStated (option_map (λ l. l.now) c.args.lease) c.args.caller c.args.attributes.now (length c.args.bytes.now)) c.in-Err.why) k
-    (creates (world c.args.self.now) c.args.pass.now.me.0 c.enter-turn.new.pass c.enter-turn.result.entries c.enter-turn.ensures.begun c.value.result.now.store (ap (λ v. v.store.opened) c.value.ensures.value ∙ c.enter-turn.ensures.opened) s c.finish-made.new.self (model_request c.args.call.now c.args.room) c.args.caller (option_map (λ l. l.now) c.args.lease) (RecordsStated (option_map (λ l. l.now) c.args.lease) c.args.caller c.args.attributes.now (length c.args.bytes.now)) c.args.bytes.now (filling_pair c.args.filling) (mark_unmade c.in-Err.why) (IsUnmade (RecordsStated (option_map (λ l. l.now) c.args.lease) c.args.caller c.args.attributes.now (length c.args.bytes.now)) c.in-Err.why) l.unmade c.requires.at.holding c.requires.out c.requires.lent c.requires.caller c.requires.creates))
+pub returns-clause-made : goal.returns-clause-made
+returns-clause-made g c = ranks_ok c.finish-made.result (turned g (goal.at.returns-clause-made g c).After-of-2) (rw (c.of-before.ensures, c.of.ensures, c.of-2.ensures) at c.leave_ranked-rank.ensures.entered)
 
 pub returns-clause-unmade : goal.returns-clause-unmade
-returns-clause-unmade g c =
-    let s = subst (λ v. HoldsHistory g.D.Disk g.A.Devices g.C.Admission v.store (entries_of c.enter-turn.new.pass.me.0.seen) c.enter-turn.new.pass.me.0.holdings) (sym c.value.ensures.value) c.enter-turn.ensures.stands in
-    let l = c.in-Err.ensures in
-    let k : IsSteady (world c.args.self.now) c.value.result.now.store c.finish-made.new.self = record { opened = l.opened; sized = l.size; clear = l.clear s.clear; tells = l.tells; knows = l.knows; later = l.later } in
-    ranked (rw (c.of-before.ensures, c.of.ensures) at c.leave_ranked-rank-in-Err.ensures.entered)
-    (before_decides (world c.args.self.now) c.args.pass.now.me.0 c.enter-turn.new.pass c.enter-turn.result.entries c.enter-turn.ensures.begun c.value.result.now.store (ap (λ v. v.store.opened) c.value.ensures.value ∙ c.enter-turn.ensures.opened) s c.finish-made.new.self (model_request c.args.call.now c.args.room) (mark_unmade c.in-Err.why) (with_own c.enter-turn.new.pass.me.0.holdings c.enter-turn.new.pass.me.0.number (without_pair (filling_pair c.args.filling) c.enter-turn.new.pass.me.0.holding)) (IsUnmade (RecordsStated (option_map (λ l. l.now) c.args.lease) c.args.caller c.args.attributes.now (length c.args.bytes.now)) c.in-Err.why)
-    (creates (world c.args.self.now) c.args.pass.now.me.0 c.enter-turn.new.pass c.enter-turn.result.entries c.enter-turn.ensures.begun c.value.result.now.store (ap (λ v. v.store.opened) c.value.ensures.value ∙ c.enter-turn.ensures.opened) s c.finish-made.new.self (model_request c.args.call.now c.args.room) c.args.caller (option_map (λ l. l.now) c.args.lease) (RecordsStated (option_map (λ l. l.now) c.args.lease) c.args.caller c.args.attributes.now (length c.args.bytes.now)) c.args.bytes.now (filling_pair c.args.filling) (mark_unmade c.in-Err.why) (IsUnmade (RecordsStated (option_map (λ l. l.now) c.args.lease) c.args.caller c.args.attributes.now (length c.args.bytes.now)) c.in-Err.why) l.unmade c.requires.at.holding c.requires.out c.requires.lent c.requires.caller c.requires.creates))
+returns-clause-unmade g c = ranks_err c.finish-made.result (turned g (goal.at.returns-clause-unmade g c).After-of-2) (rw (c.of-before.ensures, c.of.ensures, c.of-2.ensures) at c.leave_ranked-rank.ensures.entered)

@@ -1,7 +1,6 @@
-use Rattle.std.proofs.Common.{None, ap, ◌∙◌}
-use Rattle.locked_store.proofs.Common.{after_change, after_turn, entries_of, lock_of, opened_of, with_own, world}
-use Rattle.locked_store.proofs.Passing.{later}
-use Rattle.locked_store.proofs.Renewing.{at_after, legal_after, with_nothing}
+use Rattle.std.proofs.Common.{None}
+use Rattle.locked_store.proofs.Common.{after_change, entries_of, lock_of, opened_of, with_own, world}
+use Rattle.locked_store.proofs.Renewing.{at_after, later_after_turn, legal_after, with_nothing}
 use Rattle.locked_store.proofs.held.SharedStore.leave_unranked.Goals as goal
 
 pub leave-requires-clause-value : goal.leave-requires-clause-value
@@ -9,39 +8,20 @@ unfolding lock_of opened_of
 leave-requires-clause-value g c =
     let w = c.args.pass.now.me.0 in
     rw (c.requires.names.0, c.requires.names.1)
-    (with_nothing (world c.args.self.now) c.args.turn.value.value.store
-    (entries_of w.seen) (with_own w.holdings w.number (after_change c.args.change.now w.holding)) c.requires.stands)
+    (with_nothing (world c.args.self.now) c.args.turn.value.value.store (entries_of w.seen) (with_own w.holdings w.number (after_change c.args.change.now w.holding)) c.requires.stands)
 
-pub returns-clause-at : goal.returns-clause-at
+pub returns : goal.returns
 unfolding lock_of opened_of
-returns-clause-at g c =
+returns g c =
+    let r = c.requires in
     let w = c.args.pass.now.me.0 in
     let own = after_change c.args.change.now w.holding in
-    let me = rw (c.requires.names.0, c.requires.names.1) at c.leave.ensures.pass in
-    at_after (world c.args.self.now) c.args.before.value.me.0 c.args.pass.now c.args.turn.entries c.requires.begun
-    c.leave.new.pass None own c.args.turn.value.value.store c.leave.ensures.same.0 me c.leave.ensures.calls c.requires.opened
-    (with_nothing (world c.args.self.now) c.args.turn.value.value.store
-    (entries_of w.seen) (with_own w.holdings w.number own) c.requires.stands)
-
-pub returns-clause-legal : goal.returns-clause-legal
-unfolding lock_of opened_of
-returns-clause-legal g c =
-    let w = c.args.pass.now.me.0 in
-    let own = after_change c.args.change.now w.holding in
-    let me = rw (c.requires.names.0, c.requires.names.1) at c.leave.ensures.pass in
-    legal_after (world c.args.self.now) c.args.before.value.me.0 c.args.pass.now c.args.turn.entries c.requires.begun
-    c.leave.new.pass None own c.args.turn.value.value.store me c.requires.opened
-    (with_nothing (world c.args.self.now) c.args.turn.value.value.store
-    (entries_of w.seen) (with_own w.holdings w.number own) c.requires.stands)
-
-pub returns-clause-later : goal.returns-clause-later
-unfolding lock_of opened_of
-returns-clause-later g c =
-    let w = c.args.pass.now.me.0 in
-    let b = c.requires.begun in
-    let me = rw (c.requires.names.0, c.requires.names.1) at c.leave.ensures.pass in
-    later c.args.before.value.me.0 w c.leave.new.pass.me.0 (after_change c.args.change.now c.args.before.value.me.0.holding) b.on b.same_calls
-    (ap (λ m. m.0) me ∙ ap (λ h. after_turn w None (after_change c.args.change.now h)) b.same_holding)
+    let me = rw (r.names.0, r.names.1) at c.leave.ensures.pass in
+    let stands = with_nothing (world c.args.self.now) c.args.turn.value.value.store (entries_of w.seen) (with_own w.holdings w.number own) r.stands in record {
+      at = at_after (world c.args.self.now) c.args.before.value.me.0 c.args.pass.now c.args.turn.entries r.begun c.leave.new.pass None own c.args.turn.value.value.store c.leave.ensures.same.0 me c.leave.ensures.calls r.opened stands;
+      legal = legal_after (world c.args.self.now) c.args.before.value.me.0 c.args.pass.now c.args.turn.entries r.begun c.leave.new.pass None own c.args.turn.value.value.store me r.opened stands;
+      later = later_after_turn (world c.args.self.now) c.args.before.value.me.0 c.args.pass.now c.args.turn.entries r.begun c.leave.new.pass c.args.change.now me;
+    }
 
 pub leave-requires-clause-own : goal.leave-requires-clause-own
 unfolding lock_of opened_of

@@ -1,46 +1,38 @@
-use Rattle.std.proofs.Common.{None, Some, ap, subst, sym, ◌∙◌, ◌≡◌}
-use Rattle.locked_store.proofs.Common.{HoldsHistory, Plain, entries_of, model_request, there_rows, with_own, world}
+use Rattle.std.proofs.Common.{Err, None, Ok, Result, Some, ap, ◌≡◌}
+use Rattle.std.proofs.lemmas.Result.{IfErr-weaker, IfOk-weaker}
 use Rattle.std.specs.FinMap as map
-use Rattle.locked_store.proofs.Turns.{IsSteady, counts_as, few, led_decides, led_stands, ranked, steady}
+use Rattle.std.specs.Prelude.{IfErr, IfOk}
+use Rattle.psa_status.specs.declared.Status.TheVariants.{InvalidHandle}
+use Rattle.locked_store.proofs.Common.{DecidesAfter, Plain, model_request, there_rows, world}
+use Rattle.locked_store.proofs.Turns.{IsTurned, counts_as, few, in_turn, ranked, steady, turned_after}
 use Rattle.locked_store.proofs.held.SharedStore.purge.Goals as goal
+use Rattle.locked_store.proofs.held.SharedStore.purge.Goals.{After-purge-purged}
 
-pub purge-requires-clause-few : goal.purge-requires-clause-few
-purge-requires-clause-few g c κs within =
-    let s = subst (λ v. HoldsHistory g.D.Disk g.A.Devices g.C.Admission v.store (entries_of c.enter-turn.new.pass.me.0.seen) c.enter-turn.new.pass.me.0.holdings) (sym c.value.ensures.value) c.enter-turn.ensures.stands in
-    few (world c.args.self.now) c.args.pass.now.me.0 c.enter-turn.new.pass c.enter-turn.result.entries c.enter-turn.ensures.begun c.value.result.now.store (ap (λ v. v.store.opened) c.value.ensures.value ∙ c.enter-turn.ensures.opened) s
+pub purge-purged-requires-clause-few : goal.purge-purged-requires-clause-few
+purge-purged-requires-clause-few g c κs within = few (in_turn c.enter-turn.ensures.begun c.enter-turn.ensures.stands c.enter-turn.ensures.opened (ap (λ v. v.store) c.value.ensures.value))
+
+there : (g : _) (c : goal.After-purge-purged g) → IfOk c.purge-purged.result (λ _. IsTurned (world c.args.self.now) c.enter-turn.new.pass c.purge-purged.new.self (model_request c.args.call.now c.args.room) Plain c.enter-turn.new.pass.me.0.holding (DecidesAfter (world c.args.self.now) (λ m. there_rows (map.get m.keys c.args.id.0) ≡ None)))
+there g c =
+    let t = in_turn c.enter-turn.ensures.begun c.enter-turn.ensures.stands c.enter-turn.ensures.opened (ap (λ v. v.store) c.value.ensures.value) in
+    let l = c.purge-purged.ensures in
+    IfOk-weaker c.purge-purged.result _ _ (λ _ adds. turned_after t (model_request c.args.call.now c.args.room) Plain c.enter-turn.new.pass.me.0.holding (λ m. there_rows (map.get m.keys c.args.id.0) ≡ None) (steady t c.purge-purged.new.self l.opened l.file l.devices l.buffer) (counts_as t c.purge-purged.new.self (model_request c.args.call.now c.args.room) (λ m. there_rows (map.get m.keys c.args.id.0) ≡ None) adds c.requires.leaves)) l.there
+
+missing : (g : _) (c : goal.After-purge-purged g) → IfErr c.purge-purged.result (λ status. (status ≡ InvalidHandle) × IsTurned (world c.args.self.now) c.enter-turn.new.pass c.purge-purged.new.self (model_request c.args.call.now c.args.room) Plain c.enter-turn.new.pass.me.0.holding (DecidesAfter (world c.args.self.now) (λ m. there_rows (map.get m.keys c.args.id.0) ≡ Some status)))
+missing g c =
+    let t = in_turn c.enter-turn.ensures.begun c.enter-turn.ensures.stands c.enter-turn.ensures.opened (ap (λ v. v.store) c.value.ensures.value) in
+    let l = c.purge-purged.ensures in
+    IfErr-weaker c.purge-purged.result _ _ (λ status adds. (adds.0, turned_after t (model_request c.args.call.now c.args.room) Plain c.enter-turn.new.pass.me.0.holding (λ m. there_rows (map.get m.keys c.args.id.0) ≡ Some status) (steady t c.purge-purged.new.self l.opened l.file l.devices l.buffer) (counts_as t c.purge-purged.new.self (model_request c.args.call.now c.args.room) (λ m. there_rows (map.get m.keys c.args.id.0) ≡ Some status) adds.1 c.requires.leaves))) l.missing
+
+either : {T E X : Type 0} (result : Result T E) → IfOk result (λ _. X) → IfErr result (λ _. X) → X
+either (Ok _) ok err = ok
+either (Err _) ok err = err
 
 pub leave_ranked-rank-requires-clause-stands : goal.leave_ranked-rank-requires-clause-stands
 leave_ranked-rank-requires-clause-stands g c κs within =
-    let s = subst (λ v. HoldsHistory g.D.Disk g.A.Devices g.C.Admission v.store (entries_of c.enter-turn.new.pass.me.0.seen) c.enter-turn.new.pass.me.0.holdings) (sym c.value.ensures.value) c.enter-turn.ensures.stands in
-    let l = c.in-Ok.ensures in
-    let k : IsSteady (world c.args.self.now) c.value.result.now.store c.purge.new.self = steady (world c.args.self.now) c.value.result.now.store c.purge.new.self (entries_of c.enter-turn.new.pass.me.0.seen) c.enter-turn.new.pass.me.0.holdings s l.opened l.file l.devices l.buffer in
-    (led_stands (world c.args.self.now) c.args.pass.now.me.0 c.enter-turn.new.pass c.enter-turn.result.entries c.enter-turn.ensures.begun c.value.result.now.store (ap (λ v. v.store.opened) c.value.ensures.value ∙ c.enter-turn.ensures.opened) s c.purge.new.self (model_request c.args.call.now c.args.room) Plain (with_own c.enter-turn.new.pass.me.0.holdings c.enter-turn.new.pass.me.0.number c.enter-turn.new.pass.me.0.holding) (λ m. there_rows (map.get m.keys c.args.id.0) ≡ None) k
-    (counts_as (world c.args.self.now) c.args.pass.now.me.0 c.enter-turn.new.pass c.enter-turn.result.entries c.enter-turn.ensures.begun c.value.result.now.store (ap (λ v. v.store.opened) c.value.ensures.value ∙ c.enter-turn.ensures.opened) s c.purge.new.self (model_request c.args.call.now c.args.room) (λ m. there_rows (map.get m.keys c.args.id.0) ≡ None) l.there c.requires.leaves))
+    either c.purge-purged.result (IfOk-weaker c.purge-purged.result _ _ (λ _ turned. turned.stands) (there g (goal.at.leave_ranked-rank-requires-clause-stands g c).After-purge-purged)) (IfErr-weaker c.purge-purged.result _ _ (λ _ turned. turned.1.stands) (missing g (goal.at.leave_ranked-rank-requires-clause-stands g c).After-purge-purged))
 
-pub returns-in-Ok-clause-there : goal.returns-in-Ok-clause-there
-returns-in-Ok-clause-there g c =
-    let s = subst (λ v. HoldsHistory g.D.Disk g.A.Devices g.C.Admission v.store (entries_of c.enter-turn.new.pass.me.0.seen) c.enter-turn.new.pass.me.0.holdings) (sym c.value.ensures.value) c.enter-turn.ensures.stands in
-    let l = c.in-Ok.ensures in
-    let k : IsSteady (world c.args.self.now) c.value.result.now.store c.purge.new.self = steady (world c.args.self.now) c.value.result.now.store c.purge.new.self (entries_of c.enter-turn.new.pass.me.0.seen) c.enter-turn.new.pass.me.0.holdings s l.opened l.file l.devices l.buffer in
-    ranked (rw c.of-before.ensures at c.leave_ranked-rank.ensures.entered)
-    (led_decides (world c.args.self.now) c.args.pass.now.me.0 c.enter-turn.new.pass c.enter-turn.result.entries c.enter-turn.ensures.begun c.value.result.now.store (ap (λ v. v.store.opened) c.value.ensures.value ∙ c.enter-turn.ensures.opened) s c.purge.new.self (model_request c.args.call.now c.args.room) Plain (with_own c.enter-turn.new.pass.me.0.holdings c.enter-turn.new.pass.me.0.number c.enter-turn.new.pass.me.0.holding) (λ m. there_rows (map.get m.keys c.args.id.0) ≡ None) k
-    (counts_as (world c.args.self.now) c.args.pass.now.me.0 c.enter-turn.new.pass c.enter-turn.result.entries c.enter-turn.ensures.begun c.value.result.now.store (ap (λ v. v.store.opened) c.value.ensures.value ∙ c.enter-turn.ensures.opened) s c.purge.new.self (model_request c.args.call.now c.args.room) (λ m. there_rows (map.get m.keys c.args.id.0) ≡ None) l.there c.requires.leaves))
-
-pub leave_ranked-rank-requires-in-Err-clause-stands : goal.leave_ranked-rank-requires-in-Err-clause-stands
-leave_ranked-rank-requires-in-Err-clause-stands g c κs within =
-    let s = subst (λ v. HoldsHistory g.D.Disk g.A.Devices g.C.Admission v.store (entries_of c.enter-turn.new.pass.me.0.seen) c.enter-turn.new.pass.me.0.holdings) (sym c.value.ensures.value) c.enter-turn.ensures.stands in
-    let l = c.in-Err.ensures in
-    let k : IsSteady (world c.args.self.now) c.value.result.now.store c.purge.new.self = steady (world c.args.self.now) c.value.result.now.store c.purge.new.self (entries_of c.enter-turn.new.pass.me.0.seen) c.enter-turn.new.pass.me.0.holdings s l.opened l.file l.devices l.buffer in
-    (led_stands (world c.args.self.now) c.args.pass.now.me.0 c.enter-turn.new.pass c.enter-turn.result.entries c.enter-turn.ensures.begun c.value.result.now.store (ap (λ v. v.store.opened) c.value.ensures.value ∙ c.enter-turn.ensures.opened) s c.purge.new.self (model_request c.args.call.now c.args.room) Plain (with_own c.enter-turn.new.pass.me.0.holdings c.enter-turn.new.pass.me.0.number c.enter-turn.new.pass.me.0.holding) (λ m. there_rows (map.get m.keys c.args.id.0) ≡ Some c.in-Err.status) k
-    (counts_as (world c.args.self.now) c.args.pass.now.me.0 c.enter-turn.new.pass c.enter-turn.result.entries c.enter-turn.ensures.begun c.value.result.now.store (ap (λ v. v.store.opened) c.value.ensures.value ∙ c.enter-turn.ensures.opened) s c.purge.new.self (model_request c.args.call.now c.args.room) (λ m. there_rows (map.get m.keys c.args.id.0) ≡ Some c.in-Err.status) l.missing.1 c.requires.leaves))
+pub returns-clause-there : goal.returns-clause-there
+returns-clause-there g c = let entered = rw c.of-before.ensures at c.leave_ranked-rank.ensures.entered in IfOk-weaker c.purge-purged.result _ _ (λ _ turned. ranked entered turned.decided) (there g (goal.at.returns-clause-there g c).After-purge-purged)
 
 pub returns-clause-missing : goal.returns-clause-missing
-returns-clause-missing g c =
-    let s = subst (λ v. HoldsHistory g.D.Disk g.A.Devices g.C.Admission v.store (entries_of c.enter-turn.new.pass.me.0.seen) c.enter-turn.new.pass.me.0.holdings) (sym c.value.ensures.value) c.enter-turn.ensures.stands in
-    let l = c.in-Err.ensures in
-    let k : IsSteady (world c.args.self.now) c.value.result.now.store c.purge.new.self = steady (world c.args.self.now) c.value.result.now.store c.purge.new.self (entries_of c.enter-turn.new.pass.me.0.seen) c.enter-turn.new.pass.me.0.holdings s l.opened l.file l.devices l.buffer in (
-      l.missing.0,
-      ranked (rw c.of-before.ensures at c.leave_ranked-rank-in-Err.ensures.entered)
-          (led_decides (world c.args.self.now) c.args.pass.now.me.0 c.enter-turn.new.pass c.enter-turn.result.entries c.enter-turn.ensures.begun c.value.result.now.store (ap (λ v. v.store.opened) c.value.ensures.value ∙ c.enter-turn.ensures.opened) s c.purge.new.self (model_request c.args.call.now c.args.room) Plain (with_own c.enter-turn.new.pass.me.0.holdings c.enter-turn.new.pass.me.0.number c.enter-turn.new.pass.me.0.holding) (λ m. there_rows (map.get m.keys c.args.id.0) ≡ Some c.in-Err.status) k
-          (counts_as (world c.args.self.now) c.args.pass.now.me.0 c.enter-turn.new.pass c.enter-turn.result.entries c.enter-turn.ensures.begun c.value.result.now.store (ap (λ v. v.store.opened) c.value.ensures.value ∙ c.enter-turn.ensures.opened) s c.purge.new.self (model_request c.args.call.now c.args.room) (λ m. there_rows (map.get m.keys c.args.id.0) ≡ Some c.in-Err.status) l.missing.1 c.requires.leaves)),
-    )
+returns-clause-missing g c = let entered = rw c.of-before.ensures at c.leave_ranked-rank.ensures.entered in IfErr-weaker c.purge-purged.result _ _ (λ _ turned. (turned.0, ranked entered turned.1.decided)) (missing g (goal.at.returns-clause-missing g c).After-purge-purged)

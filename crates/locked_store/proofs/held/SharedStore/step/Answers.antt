@@ -1,40 +1,30 @@
-use Rattle.std.proofs.Common.{ap, subst, sym, ◌∙◌}
-use Rattle.locked_store.proofs.Common.{HasNumber, HoldsHistory, Plain, entries_of, lease_pair, model_request, on_err_weaker, on_ok_weaker, with_own, world}
-use Rattle.locked_store.proofs.Turns.{counts, few, led_decides, led_stands, out, ranked, steady, steps}
+use Rattle.std.proofs.Common.{ap}
+use Rattle.locked_store.proofs.Common.{HasNumber, Plain, lease_pair, model_request, on_err_weaker, on_ok_weaker, world}
+use Rattle.locked_store.proofs.Turns.{counts, few, in_turn, out, ranked, steady, steps, turned_after}
 use Rattle.locked_store.proofs.held.SharedStore.step.Goals as goal
 
 pub step_operation-stepped-requires-clause-few : goal.step_operation-stepped-requires-clause-few
-step_operation-stepped-requires-clause-few g c κs within =
-    let s = subst (λ v. HoldsHistory g.D.Disk g.A.Devices g.C.Admission v.store (entries_of c.enter-turn.new.pass.me.0.seen) c.enter-turn.new.pass.me.0.holdings) (sym c.value.ensures.value) c.enter-turn.ensures.stands in
-    few (world c.args.self.now) c.args.pass.now.me.0 c.enter-turn.new.pass c.enter-turn.result.entries c.enter-turn.ensures.begun c.value.result.now.store (ap (λ v. v.store.opened) c.value.ensures.value ∙ c.enter-turn.ensures.opened) s
+step_operation-stepped-requires-clause-few g c κs within = few (in_turn c.enter-turn.ensures.begun c.enter-turn.ensures.stands c.enter-turn.ensures.opened (ap (λ v. v.store) c.value.ensures.value))
 
 pub step_operation-stepped-requires-clause-out : goal.step_operation-stepped-requires-clause-out
-step_operation-stepped-requires-clause-out g c κs within =
-    let s = subst (λ v. HoldsHistory g.D.Disk g.A.Devices g.C.Admission v.store (entries_of c.enter-turn.new.pass.me.0.seen) c.enter-turn.new.pass.me.0.holdings) (sym c.value.ensures.value) c.enter-turn.ensures.stands in
-    out (world c.args.self.now) c.args.pass.now.me.0 c.enter-turn.new.pass c.enter-turn.result.entries c.enter-turn.ensures.begun c.value.result.now.store (ap (λ v. v.store.opened) c.value.ensures.value ∙ c.enter-turn.ensures.opened) s (lease_pair c.args.lease.now) c.requires.out
+step_operation-stepped-requires-clause-out g c κs within = out (in_turn c.enter-turn.ensures.begun c.enter-turn.ensures.stands c.enter-turn.ensures.opened (ap (λ v. v.store) c.value.ensures.value)) (lease_pair c.args.lease.now) c.requires.out
 
 pub leave_ranked-rank-requires-clause-stands : goal.leave_ranked-rank-requires-clause-stands
 leave_ranked-rank-requires-clause-stands g c κs within =
-    let s = subst (λ v. HoldsHistory g.D.Disk g.A.Devices g.C.Admission v.store (entries_of c.enter-turn.new.pass.me.0.seen) c.enter-turn.new.pass.me.0.holdings) (sym c.value.ensures.value) c.enter-turn.ensures.stands in
+    let t = in_turn c.enter-turn.ensures.begun c.enter-turn.ensures.stands c.enter-turn.ensures.opened (ap (λ v. v.store) c.value.ensures.value) in
     let l = c.step_operation-stepped.ensures in
-    let k = steady (world c.args.self.now) c.value.result.now.store c.step_operation-stepped.new.self (entries_of c.enter-turn.new.pass.me.0.seen) c.enter-turn.new.pass.me.0.holdings s l.opened l.file l.devices l.buffer in
-    led_stands (world c.args.self.now) c.args.pass.now.me.0 c.enter-turn.new.pass c.enter-turn.result.entries c.enter-turn.ensures.begun c.value.result.now.store (ap (λ v. v.store.opened) c.value.ensures.value ∙ c.enter-turn.ensures.opened) s c.step_operation-stepped.new.self (model_request c.args.call.now c.args.room) Plain (with_own c.enter-turn.new.pass.me.0.holdings c.enter-turn.new.pass.me.0.number c.enter-turn.new.pass.me.0.holding) (λ m. Unit {0}) k
-    (counts (world c.args.self.now) c.args.pass.now.me.0 c.enter-turn.new.pass c.enter-turn.result.entries c.enter-turn.ensures.begun c.value.result.now.store (ap (λ v. v.store.opened) c.value.ensures.value ∙ c.enter-turn.ensures.opened) s c.step_operation-stepped.new.self (model_request c.args.call.now c.args.room) l.adds c.requires.leaves)
+    (turned_after t (model_request c.args.call.now c.args.room) Plain c.enter-turn.new.pass.me.0.holding (λ m. Unit {0}) (steady t c.step_operation-stepped.new.self l.opened l.file l.devices l.buffer) (counts t c.step_operation-stepped.new.self (model_request c.args.call.now c.args.room) l.adds c.requires.leaves)).stands
 
 pub returns-clause-alive : goal.returns-clause-alive
 returns-clause-alive g c =
-    let s = subst (λ v. HoldsHistory g.D.Disk g.A.Devices g.C.Admission v.store (entries_of c.enter-turn.new.pass.me.0.seen) c.enter-turn.new.pass.me.0.holdings) (sym c.value.ensures.value) c.enter-turn.ensures.stands in
+    let t = in_turn c.enter-turn.ensures.begun c.enter-turn.ensures.stands c.enter-turn.ensures.opened (ap (λ v. v.store) c.value.ensures.value) in
     let l = c.step_operation-stepped.ensures in
-    let k = steady (world c.args.self.now) c.value.result.now.store c.step_operation-stepped.new.self (entries_of c.enter-turn.new.pass.me.0.seen) c.enter-turn.new.pass.me.0.holdings s l.opened l.file l.devices l.buffer in
-    on_ok_weaker c.step_operation-stepped.result
-    (λ stepped. ranked (rw c.of-before.ensures at c.leave_ranked-rank.ensures.entered) (led_decides (world c.args.self.now) c.args.pass.now.me.0 c.enter-turn.new.pass c.enter-turn.result.entries c.enter-turn.ensures.begun c.value.result.now.store (ap (λ v. v.store.opened) c.value.ensures.value ∙ c.enter-turn.ensures.opened) s c.step_operation-stepped.new.self (model_request c.args.call.now c.args.room) Plain (with_own c.enter-turn.new.pass.me.0.holdings c.enter-turn.new.pass.me.0.number c.enter-turn.new.pass.me.0.holding) (λ m. HasNumber m c.args.lease.now.creation) k
-    (steps (world c.args.self.now) c.args.pass.now.me.0 c.enter-turn.new.pass c.enter-turn.result.entries c.enter-turn.ensures.begun c.value.result.now.store (ap (λ v. v.store.opened) c.value.ensures.value ∙ c.enter-turn.ensures.opened) s c.step_operation-stepped.new.self (model_request c.args.call.now c.args.room) (lease_pair c.args.lease.now) (λ m. HasNumber m c.args.lease.now.creation) stepped c.requires.out c.requires.leaves))) l.alive
+    on_ok_weaker c.step_operation-stepped.result (λ stepped. ranked (rw c.of-before.ensures at c.leave_ranked-rank.ensures.entered)
+    (turned_after t (model_request c.args.call.now c.args.room) Plain c.enter-turn.new.pass.me.0.holding (λ m. HasNumber m c.args.lease.now.creation) (steady t c.step_operation-stepped.new.self l.opened l.file l.devices l.buffer) (steps t c.step_operation-stepped.new.self (model_request c.args.call.now c.args.room) (lease_pair c.args.lease.now) (λ m. HasNumber m c.args.lease.now.creation) stepped c.requires.out c.requires.leaves)).decided) l.alive
 
 pub returns-clause-gone : goal.returns-clause-gone
 returns-clause-gone g c =
-    let s = subst (λ v. HoldsHistory g.D.Disk g.A.Devices g.C.Admission v.store (entries_of c.enter-turn.new.pass.me.0.seen) c.enter-turn.new.pass.me.0.holdings) (sym c.value.ensures.value) c.enter-turn.ensures.stands in
+    let t = in_turn c.enter-turn.ensures.begun c.enter-turn.ensures.stands c.enter-turn.ensures.opened (ap (λ v. v.store) c.value.ensures.value) in
     let l = c.step_operation-stepped.ensures in
-    let k = steady (world c.args.self.now) c.value.result.now.store c.step_operation-stepped.new.self (entries_of c.enter-turn.new.pass.me.0.seen) c.enter-turn.new.pass.me.0.holdings s l.opened l.file l.devices l.buffer in
-    on_err_weaker c.step_operation-stepped.result
-    (λ stepped. ranked (rw c.of-before.ensures at c.leave_ranked-rank.ensures.entered) (led_decides (world c.args.self.now) c.args.pass.now.me.0 c.enter-turn.new.pass c.enter-turn.result.entries c.enter-turn.ensures.begun c.value.result.now.store (ap (λ v. v.store.opened) c.value.ensures.value ∙ c.enter-turn.ensures.opened) s c.step_operation-stepped.new.self (model_request c.args.call.now c.args.room) Plain (with_own c.enter-turn.new.pass.me.0.holdings c.enter-turn.new.pass.me.0.number c.enter-turn.new.pass.me.0.holding) (λ m. HasNumber m c.args.lease.now.creation → ⊥) k
-    (steps (world c.args.self.now) c.args.pass.now.me.0 c.enter-turn.new.pass c.enter-turn.result.entries c.enter-turn.ensures.begun c.value.result.now.store (ap (λ v. v.store.opened) c.value.ensures.value ∙ c.enter-turn.ensures.opened) s c.step_operation-stepped.new.self (model_request c.args.call.now c.args.room) (lease_pair c.args.lease.now) (λ m. HasNumber m c.args.lease.now.creation → ⊥) stepped c.requires.out c.requires.leaves))) l.gone
+    on_err_weaker c.step_operation-stepped.result (λ stepped. ranked (rw c.of-before.ensures at c.leave_ranked-rank.ensures.entered)
+    (turned_after t (model_request c.args.call.now c.args.room) Plain c.enter-turn.new.pass.me.0.holding (λ m. HasNumber m c.args.lease.now.creation → ⊥) (steady t c.step_operation-stepped.new.self l.opened l.file l.devices l.buffer) (steps t c.step_operation-stepped.new.self (model_request c.args.call.now c.args.room) (lease_pair c.args.lease.now) (λ m. HasNumber m c.args.lease.now.creation → ⊥) stepped c.requires.out c.requires.leaves)).decided) l.gone
