@@ -48,8 +48,7 @@ derived_goes w a =
 
 key_goes : (key : Option KeyCreation) (w : DerivationWork) (next : Operation DerivationWork) → GoesOnAs w next → MayHave Derivations key (Active w) → MayHave Derivations key next
 key_goes key w (Active v) h has = λ e. h.1 (has e)
-key_goes key w Inactive h has = tt
-key_goes key w InError h has = tt
+key_goes key w _ h has = tt
 
 pub key_stays : (f : DerivationWork → After DerivationWork) → ((w : DerivationWork) → GoesOnAs w (f w).operation) → (key : Option KeyCreation) (w : DerivationWork) → MayHave Derivations key (Active w) → MayHave Derivations key (f w).operation
 key_stays f goes key w has = key_goes key w (f w).operation (goes w) has
@@ -61,17 +60,13 @@ step_key step key w has = key_stays (λ v. derivation_step v step) (λ v. step_g
 
 alg_goes : (alg : ℕ) (w : DerivationWork) (next : Operation DerivationWork) → GoesOnAs w next → HasAlgorithm alg (Active w) → HasAlgorithm alg next
 alg_goes alg w (Active v) h has = (has.0 ∙ h.0, has.1)
-alg_goes alg w Inactive h has = tt
-alg_goes alg w InError h has = tt
+alg_goes alg w _ h has = tt
 
 by_key-goes : (alg : ℕ) (alive : Bool) (own : Operation DerivationWork) (f : DerivationWork → After DerivationWork) → ((w : DerivationWork) → GoesOnAs w (f w).operation) → HasAlgorithm alg own →
     HasAlgorithm alg (by_key alive own f).operation
 by_key-goes alg true (Active w) f goes h = alg_goes alg w (f w).operation (goes w) h
-by_key-goes alg true Inactive f goes h = h
-by_key-goes alg true InError f goes h = h
 by_key-goes alg false (Active w) f goes h = tt
-by_key-goes alg false Inactive f goes h = h
-by_key-goes alg false InError f goes h = h
+by_key-goes alg _ _ f goes h = h
 
 pub goes_with : (alg : ℕ) (alive : Bool) (state : DerivationState) (own : Operation DerivationWork) (f : DerivationWork → After DerivationWork) → ((w : DerivationWork) → GoesOnAs w (f w).operation) →
     HasAlgorithm alg own → IsDerivationOperation state (by_key alive own f).operation → IsDerivation alg state (by_key alive own f).operation

@@ -36,41 +36,31 @@ other_part _ _ w n = refl
 pub record Keeps (f : Family) (s t : FamilyStates) : Type 0 where
   pub others : (g : Family) (own : Operation (WorkOf g)) → (g ≡ f → ⊥) → StandsIn g s own → StandsIn g t own
 
-pub put_hash : (s : FamilyStates) (state : HashOpState) → Keeps Hashes s (record s { hash = state })
-put_hash s state = record { others = still }
-  where
-    still : (g : Family) (own : Operation (WorkOf g)) → (g ≡ Hashes → ⊥) → StandsIn g s own → StandsIn g (record s { hash = state }) own
-    still Hashes own n h = absurd (n refl)
-    still _ own n h = h
+-- a family's state; a derivation's beside its algorithm
+abbrev pub StateOf : Family → Type 0
+StateOf Hashes = HashOpState
+StateOf Macs = MacState
+StateOf Ciphers = CipherState
+StateOf Aeads = AeadState
+StateOf Derivations = DerivationState × Alg
 
-pub put_mac : (s : FamilyStates) (state : MacState) → Keeps Macs s (record s { mac = state })
-put_mac s state = record { others = still }
-  where
-    still : (g : Family) (own : Operation (WorkOf g)) → (g ≡ Macs → ⊥) → StandsIn g s own → StandsIn g (record s { mac = state }) own
-    still Macs own n h = absurd (n refl)
-    still _ own n h = h
+abbrev pub put : (f : Family) → FamilyStates → StateOf f → FamilyStates
+put Hashes s state = record s { hash = state }
+put Macs s state = record s { mac = state }
+put Ciphers s state = record s { cipher = state }
+put Aeads s state = record s { aead = state }
+put Derivations s state = record s { derivation = state.0; alg = state.1 }
 
-pub put_cipher : (s : FamilyStates) (state : CipherState) → Keeps Ciphers s (record s { cipher = state })
-put_cipher s state = record { others = still }
+pub keeps_put : (f : Family) (s : FamilyStates) (state : StateOf f) → Keeps f s (put f s state)
+keeps_put f s state = record { others = λ g own n h. still f g state own n h }
   where
-    still : (g : Family) (own : Operation (WorkOf g)) → (g ≡ Ciphers → ⊥) → StandsIn g s own → StandsIn g (record s { cipher = state }) own
-    still Ciphers own n h = absurd (n refl)
-    still _ own n h = h
-
-pub put_aead : (s : FamilyStates) (state : AeadState) → Keeps Aeads s (record s { aead = state })
-put_aead s state = record { others = still }
-  where
-    still : (g : Family) (own : Operation (WorkOf g)) → (g ≡ Aeads → ⊥) → StandsIn g s own → StandsIn g (record s { aead = state }) own
-    still Aeads own n h = absurd (n refl)
-    still _ own n h = h
-
--- a derivation's beside its algorithm
-pub put_derivation : (s : FamilyStates) (state : DerivationState) (alg : Alg) → Keeps Derivations s (record s { derivation = state; alg = alg })
-put_derivation s state alg = record { others = still }
-  where
-    still : (g : Family) (own : Operation (WorkOf g)) → (g ≡ Derivations → ⊥) → StandsIn g s own → StandsIn g (record s { derivation = state; alg = alg }) own
-    still Derivations own n h = absurd (n refl)
-    still _ own n h = h
+    still : (f g : Family) (state : StateOf f) (own : Operation (WorkOf g)) → (g ≡ f → ⊥) → StandsIn g s own → StandsIn g (put f s state) own
+    still Hashes Hashes state own n h = absurd (n refl)
+    still Macs Macs state own n h = absurd (n refl)
+    still Ciphers Ciphers state own n h = absurd (n refl)
+    still Aeads Aeads state own n h = absurd (n refl)
+    still Derivations Derivations state own n h = absurd (n refl)
+    still _ _ state own n h = h
 
 -- WHAT A FAMILY SEES
 

@@ -11,10 +11,7 @@ use Rattle.operation_handles.proofs.Families.{Keeps, which}
 
 may_be_inactive : (f : Family) → MayHave f None Inactive
 may_be_inactive Hashes = refl
-may_be_inactive Macs = tt
-may_be_inactive Ciphers = tt
-may_be_inactive Aeads = tt
-may_be_inactive Derivations = tt
+may_be_inactive _ = tt
 
 pub all_of : (s : FamilyStates) → IsHashOperation s.hash Inactive → IsMacOperation s.mac Inactive → IsCipherOperation s.cipher Inactive → IsAeadOperation s.aead Inactive → IsDerivationOperation s.derivation Inactive → AreInactive s
 all_of s hash mac cipher aead derivation Hashes = hash
@@ -68,10 +65,7 @@ lost_key f key InError e = (in_error f, refl)
   where
     in_error : (f : Family) → MayHave f None InError
     in_error Hashes = refl
-    in_error Macs = tt
-    in_error Ciphers = tt
-    in_error Aeads = tt
-    in_error Derivations = tt
+    in_error _ = tt
 lost_key f key (Active w) e = cc
 
 pub over : (s : FamilyStates) (key : Option KeyCreation) (operation : HandleOperation) → AreStates s key operation → is_active operation ≡ false → AreStates s None operation
@@ -83,14 +77,12 @@ over s key operation h e =
 -- each state of such an operation stands for one that isn't active
 
 pub own_active : {W : Type 0} (key : Option KeyCreation) (embed : W → Work) (own : Operation W) → is_active (held_with key embed own) ≡ is_active own
-own_active key embed Inactive = refl
-own_active key embed InError = refl
 own_active key embed (Active w) = refl
+own_active key embed _ = refl
 
 pub own_is_inactive : {W : Type 0} (key : Option KeyCreation) (embed : W → Work) (own : Operation W) → is_inactive (held_with key embed own) ≡ is_inactive own
-own_is_inactive key embed Inactive = refl
-own_is_inactive key embed InError = refl
 own_is_inactive key embed (Active w) = refl
+own_is_inactive key embed _ = refl
 
 pub record IsQuiet (f : Family) (s : FamilyStates) : Type 0 where
   pub own : Operation (WorkOf f)

@@ -4,7 +4,7 @@ use Rattle.operation_handles.proofs.Common.{Active, After, AreStates, BadState, 
 use Rattle.std.specs.Option.{option_map}
 use Rattle.key_policy.specs.declared.key_use.KeyUse.TheVariants.{Derivation}
 use Rattle.operation_handles.proofs.Deriving.{goes_with, key_stays, unless_goes}
-use Rattle.operation_handles.proofs.Families.{keeps_all, put_derivation}
+use Rattle.operation_handles.proofs.Families.{keeps_all, keeps_put}
 use Rattle.operation_handles.proofs.Leases.{leased_as}
 use Rattle.operation_handles.proofs.Steps.{Took, answers, same_work, seen}
 
@@ -100,7 +100,7 @@ pub taken : (c d : Cell) (state : DerivationState) (operation : HandleOperation)
 taken c d state operation w key step reading same kept number derives takes code h =
     let next : DerivationWork = with_key w (bytes_of reading.buffer) in
     let due : first_row (key_step_rows w step) ≡ None = subst (λ v. first_row (key_step_rows v step) ≡ None) (same_work takes.0 w (sym takes.1 ∙ derives)) takes.2 in
-    let found = seen Derivations c.states (record c.states { derivation = state }) h.key operation (put_derivation c.states state c.states.alg) h.are w derives in
+    let found = seen Derivations c.states (record c.states { derivation = state }) h.key operation (keeps_put Derivations c.states (state, c.states.alg)) h.are w derives in
     let has : IsDerivationOperation state (Active next) = subst (λ o. IsDerivationOperation state (unless_failed o (goes_on next done)).operation) due (code (Active w) found.is.state) in
     leased_as d (Active (record { key = Some key; work = Deriving next })) reading key kept number
     (subst (λ s. AreStates s (Some key) (Active (record { key = Some key; work = Deriving next }))) (sym same)
@@ -110,5 +110,5 @@ taken c d state operation w key step reading same kept number derives takes code
 pub failed : (c : Cell) (state : DerivationState) (operation : HandleOperation) (w : DerivationWork) → part_of derivation_part operation ≡ Active w → IsDerivationOperation state InError → IsOperation c operation →
     IsOperation (record c { states = record c.states { derivation = state } }) InError
 failed c state operation w derives is h =
-    let found = seen Derivations c.states (record c.states { derivation = state }) h.key operation (put_derivation c.states state c.states.alg) h.are w derives in
+    let found = seen Derivations c.states (record c.states { derivation = state }) h.key operation (keeps_put Derivations c.states (state, c.states.alg)) h.are w derives in
     record { key = h.key; leased = h.leased; are = found.put h.key InError (record { state = is; algorithm = tt }) tt }

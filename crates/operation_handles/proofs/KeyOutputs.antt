@@ -3,7 +3,7 @@ use Rattle.std.proofs.Common.{Bool, Err, List, None, Ok, Option, Some, [], ap, c
 use Rattle.operation_handles.proofs.Common.{Active, After, AreStates, Attributes, BadState, Bytes, Cell, DerivationState, DerivationWork, Derivations, Deriving, FamilyStates, HandleOperation, InError, Inactive, InsufficientData, InvalidArgument, IsDerivationOperation, IsDerivedKey, IsOperation, KeyCreation, MayHave, NotPermitted, NotSupported, Nothing, Operation, Reply, Status, Success, by_key, derivation_part, derived_key, exhausted, first_row, first_row-back, first_row-front, given, goes_on, is_active, key_of_operation, location, next_derived, on_active, output_key_refusal, output_key_rows, part_of, refusal, stated_bytes, taken_from, unless_failed, without}
 use Rattle.derivation_states.specs.Replies.{AnswersFront}
 use Rattle.operation_handles.proofs.Deriving.{derived_goes, goes_with, key_stays}
-use Rattle.operation_handles.proofs.Families.{View, Busy, Idle, keeps_all, put_derivation, view}
+use Rattle.operation_handles.proofs.Families.{View, Busy, Idle, keeps_all, keeps_put, view}
 use Rattle.operation_handles.proofs.Steps.{Took, answers, seen}
 
 -- what the derivation may give
@@ -153,7 +153,7 @@ pub derived : (c : Cell) (state : DerivationState) (a : Attributes) (count : ℕ
     × IsDerivedKey w a count out
 derived c state a count old out operation w h derives none code given =
     let due = due_of w a (sym (ap (λ o. output_key_refusal o a) derives) ∙ none) in
-    let found = seen Derivations c.states (record c.states { derivation = state }) h.key operation (put_derivation c.states state c.states.alg) h.are w derives in
+    let found = seen Derivations c.states (record c.states { derivation = state }) h.key operation (keeps_put Derivations c.states (state, c.states.alg)) h.are w derives in
     let next : DerivationWork = without w (stated_bytes a) in
     let has : IsDerivationOperation state (Active next) = subst (λ (x : After DerivationWork). IsDerivationOperation state x.operation) (derived_is w a due) (code (Active w) found.is.state) in
     let are : AreStates (record c.states { derivation = state }) h.key (Active (record { key = h.key; work = Deriving next })) =

@@ -4,7 +4,7 @@ use Rattle.operation_handles.proofs.Common.{Active, After, Alg, BadState, InErro
 use Rattle.store_model.proofs.Operations.{same_own, same_service}
 use Rattle.key_attributes.specs.declared.KeyId.{KeyId}
 use Rattle.service_calls.specs.declared.handle_calls.KeylessSetup.TheVariants as keyless
-use Rattle.service_calls.specs.declared.handle_calls.Purpose.TheVariants.{SignMac, VerifyMac, EncryptCipher, DecryptCipher, EncryptAead, DecryptAead}
+use Rattle.service_calls.specs.declared.handle_calls.Purpose.TheVariants.{SignMac}
 use Rattle.service_calls.specs.declared.handle_calls.Setup.TheVariants.{Keyless, Keyed}
 use Rattle.service_calls.specs.declared.steps.Step.TheVariants as steps
 
@@ -25,11 +25,7 @@ with_key : (service : Service) (caller handle : ℕ) (purpose : Purpose) (key : 
     handle_step service caller handle (model_keyed_setup purpose key.0 alg.0)
     ≡ applied service caller handle (set_up_with_key service.store (operation_of service caller handle) (record { key = key; purpose = purpose; alg = alg }))
 with_key service caller handle SignMac key alg = refl
-with_key service caller handle VerifyMac key alg = refl
-with_key service caller handle EncryptCipher key alg = refl
-with_key service caller handle DecryptCipher key alg = refl
-with_key service caller handle EncryptAead key alg = refl
-with_key service caller handle DecryptAead key alg = refl
+with_key service caller handle _ key alg = refl
 
 pub setups : SetupsAreTheModels
 setups service caller handle (Keyless (keyless.Hash alg)) = refl
@@ -38,7 +34,4 @@ setups service caller handle (Keyed setup) = with_key service caller handle setu
 
 pub steps_are : StepsAreTheModels
 steps_are service caller handle (steps.Hash s) room = stepped_is service caller handle _ _ _
-steps_are service caller handle (steps.Mac s) room = stepped_is service caller handle _ _ _
-steps_are service caller handle (steps.Cipher s) room = stepped_is service caller handle _ _ _
-steps_are service caller handle (steps.Aead s) room = stepped_is service caller handle _ _ _
-steps_are service caller handle (steps.Derivation s) room = stepped_is service caller handle _ _ _
+steps_are service caller handle _ room = stepped_is service caller handle _ _ _

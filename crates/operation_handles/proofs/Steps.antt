@@ -37,10 +37,7 @@ no_work InError w e f = cc
 -- a failed operation may have what it had
 in_error : (f : Family) (key : Option KeyCreation) (w : WorkOf f) → MayHave f key (Active w) → MayHave f key InError
 in_error Hashes key w h = h
-in_error Macs key w h = tt
-in_error Ciphers key w h = tt
-in_error Aeads key w h = tt
-in_error Derivations key w h = tt
+in_error _ key w h = tt
 
 key_after : (f : Family) (key : Option KeyCreation) (alive : Bool) (w : WorkOf f) (step : WorkOf f → After (WorkOf f)) → MayHave f key (Active w) → MayHave f key (step w).operation →
     MayHave f key (by_key alive (Active w) step).operation

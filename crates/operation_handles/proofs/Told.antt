@@ -1,70 +1,68 @@
--- Whether an operation is active or inactive, by what each state tells.
-use Rattle.std.proofs.Common.{Bool, Option, ap, false, inl, inr, refl, subst, sym, true, ◌∙◌, ◌≡◌}
-use Rattle.operation_handles.proofs.Common.{Aeads, AreStates, Ciphers, Derivations, Family, FamilyStates, HandleOperation, Hashes, Inactive, KeyCreation, Macs, Operation, StandsIn, WorkOf, embed_of, is_active, is_inactive}
-use Rattle.operation_handles.proofs.Families.{which}
+-- Whether an operation is active or inactive, by what each state tells of its own.
+use Rattle.std.proofs.Common.{Bool, Option, ap, false, refl, sym, true, ◌&&◌, ◌||◌, ◌∙◌, ◌≡◌}
+use Rattle.operation_handles.proofs.Common.{Active, Aeads, AreStates, Ciphers, Derivations, Family, FamilyStates, HandleOperation, Hashes, InError, Inactive, KeyCreation, Macs, Operation, StandsIn, WorkOf, embed_of, held_with, is_active, is_inactive}
+use Rattle.std.proofs.Math.Bool.{and-true, or-false}
 use Rattle.operation_handles.proofs.Fresh.{own_active, own_is_inactive}
 
--- a family's state tells whether its own is active
-abbrev pub TellsActive : (f : Family) → FamilyStates → Bool → Type 0
-TellsActive f s b = (own : Operation (WorkOf f)) → StandsIn f s own → b ≡ is_active own
+-- a question that is asked of each family's own operation
+abbrev pub Question : Type 0
+Question = (f : Family) → Operation (WorkOf f) → Bool
 
-abbrev pub TellsInactive : (f : Family) → FamilyStates → Bool → Type 0
-TellsInactive f s b = (own : Operation (WorkOf f)) → StandsIn f s own → b ≡ is_inactive own
+abbrev pub Tells : Question → (f : Family) → FamilyStates → Bool → Type 0
+Tells asks f s b = (own : Operation (WorkOf f)) → StandsIn f s own → b ≡ asks f own
 
--- the handle's family tells it of the handle
+-- the handle's family tells it of the handle, and each other one what it does of an inactive operation
+pub record AreTold (asks : Question) (told : Family → Bool) (answer : Bool) : Type 0 where
+  pub family : Family
+  pub own : told family ≡ answer
+  pub others : (f : Family) → (f ≡ family → ⊥) → told f ≡ asks f Inactive
 
-active_is : (s : FamilyStates) (key : Option KeyCreation) (operation : HandleOperation) (h : AreStates s key operation) (b : Bool) → TellsActive h.family s b → b ≡ is_active operation
-active_is s key operation h b tells = tells h.stands.own h.stands.is ∙ sym (own_active key (embed_of h.family) h.stands.own) ∙ ap is_active (sym h.stands.whole)
+are_told : (asks : Question) (whole : HandleOperation → Bool) → ((f : Family) (key : Option KeyCreation) (own : Operation (WorkOf f)) → whole (held_with key (embed_of f) own) ≡ asks f own) → (s : FamilyStates) (key : Option KeyCreation) (operation : HandleOperation) →
+    (told : Family → Bool) → ((f : Family) → Tells asks f s (told f)) → AreStates s key operation → AreTold asks told (whole operation)
+are_told asks whole like s key operation told tells h = record {
+  family = h.family;
+  own = tells h.family h.stands.own h.stands.is ∙ (sym (like h.family key h.stands.own) ∙ ap whole (sym h.stands.whole));
+  others = λ f n. tells f Inactive (h.stands.others f n);
+}
 
-inactive_is : (s : FamilyStates) (key : Option KeyCreation) (operation : HandleOperation) (h : AreStates s key operation) (b : Bool) → TellsInactive h.family s b → b ≡ is_inactive operation
-inactive_is s key operation h b tells = tells h.stands.own h.stands.is ∙ sym (own_is_inactive key (embed_of h.family) h.stands.own) ∙ ap is_inactive (sym h.stands.whole)
+all_told : (told : Family → Bool) (f : Family) → ((g : Family) → (g ≡ f → ⊥) → told g ≡ true) → ((((told Hashes && told Macs) && told Ciphers) && told Aeads) && told Derivations) ≡ told f
+all_told told Hashes o = simp (o Macs (λ e. cc), o Ciphers (λ e. cc), o Aeads (λ e. cc), o Derivations (λ e. cc), and-true)
+all_told told Macs o = simp (o Hashes (λ e. cc), o Ciphers (λ e. cc), o Aeads (λ e. cc), o Derivations (λ e. cc), and-true)
+all_told told Ciphers o = simp (o Hashes (λ e. cc), o Macs (λ e. cc), o Aeads (λ e. cc), o Derivations (λ e. cc), and-true)
+all_told told Aeads o = simp (o Hashes (λ e. cc), o Macs (λ e. cc), o Ciphers (λ e. cc), o Derivations (λ e. cc), and-true)
+all_told told Derivations o = simp (o Hashes (λ e. cc), o Macs (λ e. cc), o Ciphers (λ e. cc), o Aeads (λ e. cc), and-true)
 
--- one active state is the handle's
+any_told : (told : Family → Bool) (f : Family) → ((g : Family) → (g ≡ f → ⊥) → told g ≡ false) → ((((told Hashes || told Macs) || told Ciphers) || told Aeads) || told Derivations) ≡ told f
+any_told told Hashes o = simp (o Macs (λ e. cc), o Ciphers (λ e. cc), o Aeads (λ e. cc), o Derivations (λ e. cc), or-false)
+any_told told Macs o = simp (o Hashes (λ e. cc), o Ciphers (λ e. cc), o Aeads (λ e. cc), o Derivations (λ e. cc), or-false)
+any_told told Ciphers o = simp (o Hashes (λ e. cc), o Macs (λ e. cc), o Aeads (λ e. cc), o Derivations (λ e. cc), or-false)
+any_told told Aeads o = simp (o Hashes (λ e. cc), o Macs (λ e. cc), o Ciphers (λ e. cc), o Derivations (λ e. cc), or-false)
+any_told told Derivations o = simp (o Hashes (λ e. cc), o Macs (λ e. cc), o Ciphers (λ e. cc), o Aeads (λ e. cc), or-false)
 
-pub one_active : (f : Family) (s : FamilyStates) (key : Option KeyCreation) (operation : HandleOperation) (b : Bool) → b ≡ true → TellsActive f s b → AreStates s key operation → true ≡ is_active operation
-one_active f s key operation b e tells h = elim (which f h.family) [
-  | inl same ↦ sym e ∙ active_is s key operation h b (subst (λ x. TellsActive x s b) same tells)
-  | inr n ↦ absurd (clash (sym e ∙ tells Inactive (h.stands.others f n)))
-]
-  where
-    clash : true ≡ false → ⊥
-    clash e = cc
+-- what the states tell, in their order
+abbrev by_family : (hash mac cipher aead derivation : Bool) → Family → Bool
+by_family hash mac cipher aead derivation Hashes = hash
+by_family hash mac cipher aead derivation Macs = mac
+by_family hash mac cipher aead derivation Ciphers = cipher
+by_family hash mac cipher aead derivation Aeads = aead
+by_family hash mac cipher aead derivation Derivations = derivation
 
-pub one_busy : (f : Family) (s : FamilyStates) (key : Option KeyCreation) (operation : HandleOperation) (b : Bool) → b ≡ false → TellsInactive f s b → AreStates s key operation → false ≡ is_inactive operation
-one_busy f s key operation b e tells h = elim (which f h.family) [
-  | inl same ↦ sym e ∙ inactive_is s key operation h b (subst (λ x. TellsInactive x s b) same tells)
-  | inr n ↦ absurd (clash (sym e ∙ tells Inactive (h.stands.others f n)))
-]
-  where
-    clash : false ≡ true → ⊥
-    clash e = cc
+module _ (asks : Question) (s : FamilyStates) (hash mac cipher aead derivation : Bool) (tells : Tells asks Hashes s hash × Tells asks Macs s mac × Tells asks Ciphers s cipher × Tells asks Aeads s aead × Tells asks Derivations s derivation) where
+  tells_all : (f : Family) → Tells asks f s (by_family hash mac cipher aead derivation f)
+  tells_all Hashes = tells.0
+  tells_all Macs = tells.1
+  tells_all Ciphers = tells.2
+  tells_all Aeads = tells.3
+  tells_all Derivations = tells.4
 
--- where no other state is, the last one tells
+pub all_inactive_is : (s : FamilyStates) (key : Option KeyCreation) (operation : HandleOperation) (hash mac cipher aead derivation : Bool) → Tells (λ f. is_inactive) Hashes s hash × Tells (λ f. is_inactive) Macs s mac × Tells (λ f. is_inactive) Ciphers s cipher × Tells (λ f. is_inactive) Aeads s aead × Tells (λ f. is_inactive) Derivations s derivation →
+    AreStates s key operation → ((((hash && mac) && cipher) && aead) && derivation) ≡ is_inactive operation
+all_inactive_is s key operation hash mac cipher aead derivation tells h =
+    let t = are_told (λ f. is_inactive) is_inactive (λ f key own. own_is_inactive key (embed_of f) own) s key operation (by_family hash mac cipher aead derivation) (tells_all (λ f. is_inactive) s hash mac cipher aead derivation tells) h in
+    all_told (by_family hash mac cipher aead derivation) t.family t.others ∙ t.own
 
-others_active : (f : Family) (s : FamilyStates) → TellsActive Hashes s false → TellsActive Macs s false → TellsActive Ciphers s false → TellsActive Aeads s false → (Derivations ≡ f → ⊥) → TellsActive f s false
-others_active Hashes s hash mac cipher aead n = hash
-others_active Macs s hash mac cipher aead n = mac
-others_active Ciphers s hash mac cipher aead n = cipher
-others_active Aeads s hash mac cipher aead n = aead
-others_active Derivations s hash mac cipher aead n = absurd (n refl)
-
-pub last_active : (s : FamilyStates) (key : Option KeyCreation) (operation : HandleOperation) (b : Bool) → TellsActive Hashes s false → TellsActive Macs s false → TellsActive Ciphers s false → TellsActive Aeads s false →
-    TellsActive Derivations s b → AreStates s key operation → b ≡ is_active operation
-last_active s key operation b hash mac cipher aead tells h = elim (which Derivations h.family) [
-  | inl same ↦ active_is s key operation h b (subst (λ x. TellsActive x s b) same tells)
-  | inr n ↦ tells Inactive (h.stands.others Derivations n) ∙ active_is s key operation h false (others_active h.family s hash mac cipher aead n)
-]
-
-others_inactive : (f : Family) (s : FamilyStates) → TellsInactive Hashes s true → TellsInactive Macs s true → TellsInactive Ciphers s true → TellsInactive Aeads s true → (Derivations ≡ f → ⊥) → TellsInactive f s true
-others_inactive Hashes s hash mac cipher aead n = hash
-others_inactive Macs s hash mac cipher aead n = mac
-others_inactive Ciphers s hash mac cipher aead n = cipher
-others_inactive Aeads s hash mac cipher aead n = aead
-others_inactive Derivations s hash mac cipher aead n = absurd (n refl)
-
-pub last_inactive : (s : FamilyStates) (key : Option KeyCreation) (operation : HandleOperation) (b : Bool) → TellsInactive Hashes s true → TellsInactive Macs s true → TellsInactive Ciphers s true → TellsInactive Aeads s true →
-    TellsInactive Derivations s b → AreStates s key operation → b ≡ is_inactive operation
-last_inactive s key operation b hash mac cipher aead tells h = elim (which Derivations h.family) [
-  | inl same ↦ inactive_is s key operation h b (subst (λ x. TellsInactive x s b) same tells)
-  | inr n ↦ tells Inactive (h.stands.others Derivations n) ∙ inactive_is s key operation h true (others_inactive h.family s hash mac cipher aead n)
-]
+pub any_active_is : (s : FamilyStates) (key : Option KeyCreation) (operation : HandleOperation) (hash mac cipher aead derivation : Bool) → Tells (λ f. is_active) Hashes s hash × Tells (λ f. is_active) Macs s mac × Tells (λ f. is_active) Ciphers s cipher × Tells (λ f. is_active) Aeads s aead × Tells (λ f. is_active) Derivations s derivation →
+    AreStates s key operation → ((((hash || mac) || cipher) || aead) || derivation) ≡ is_active operation
+any_active_is s key operation hash mac cipher aead derivation tells h =
+    let t = are_told (λ f. is_active) is_active (λ f key own. own_active key (embed_of f) own) s key operation (by_family hash mac cipher aead derivation) (tells_all (λ f. is_active) s hash mac cipher aead derivation tells) h in
+    any_told (by_family hash mac cipher aead derivation) t.family t.others ∙ t.own

@@ -47,10 +47,10 @@ impl FamilyStates {
             result ≡ is_inactive operation }
     {
         self.hash.is_inactive()
-            && self.mac.is_inactive()
-            && self.cipher.is_inactive()
-            && self.aead.is_inactive()
-            && self.derivation.is_inactive()
+            & self.mac.is_inactive()
+            & self.cipher.is_inactive()
+            & self.aead.is_inactive()
+            & self.derivation.is_inactive()
     }
 
     // Whether the operation is active.
@@ -59,10 +59,10 @@ impl FamilyStates {
             result ≡ is_active operation }
     {
         self.hash.is_active()
-            || self.mac.is_active()
-            || self.cipher.is_active()
-            || self.aead.is_active()
-            || self.derivation.is_active()
+            | self.mac.is_active()
+            | self.cipher.is_active()
+            | self.aead.is_active()
+            | self.derivation.is_active()
     }
 
     // Forgets everything: all are inactive.

@@ -6,13 +6,7 @@ pub returns-clause-state : goal.returns-clause-state
 returns-clause-state c = λ operation h. settled c.args.self.now _ operation refl c.take.ensures.after (sym (c.is_active.ensures h.key operation h.are) ∙ c.if-is_active.false) h
 
 pub returns-then-is_active-clause-over : goal.returns-then-is_active-clause-over
-returns-then-is_active-clause-over c = λ operation h ended. absurd (clash (sym c.if-is_active.true ∙ c.is_active.ensures h.key operation h.are ∙ ended))
-  where
-    clash : true ≡ false → ⊥
-    clash e = cc
+returns-then-is_active-clause-over c = λ operation h ended. absurd (let e : true ≡ false = sym c.if-is_active.true ∙ c.is_active.ensures h.key operation h.are ∙ ended in cc)
 
 pub returns-clause-active : goal.returns-clause-active
-returns-clause-active c = λ operation h active. absurd (clash (sym c.if-is_active.false ∙ c.is_active.ensures h.key operation h.are ∙ active))
-  where
-    clash : false ≡ true → ⊥
-    clash e = cc
+returns-clause-active c = λ operation h active. absurd (let e : false ≡ true = sym c.if-is_active.false ∙ c.is_active.ensures h.key operation h.are ∙ active in cc)

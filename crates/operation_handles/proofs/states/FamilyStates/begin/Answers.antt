@@ -2,7 +2,7 @@ use Rattle.std.proofs.Common.{None, refl, subst, sym, ◌∙◌, ◌≡◌}
 use Rattle.operation_handles.proofs.Common.{AreStates, Derivations, Deriving, FamilyStates, Hashes, Hashing, Inactive, class_rows, derivation_work, first_row, hash_work, plain_reply, set_up_without_key}
 use Rattle.alg_encoding.specs.declared.table.Class.TheVariants as class
 use Rattle.operation_handles.proofs.Deriving.{set_up_has, set_up_may}
-use Rattle.operation_handles.proofs.Families.{put_hash, put_derivation}
+use Rattle.operation_handles.proofs.Families.{keeps_put}
 use Rattle.operation_handles.proofs.Fresh.{set_up_are, set_up_reply}
 use Rattle.operation_handles.proofs.states.FamilyStates.begin.Goals as goal
 
@@ -11,7 +11,7 @@ returns-in-Hash-clause-state c = λ all.
     let s = c.args.self.now in
     let t : FamilyStates = record s { hash = c.hash_setup.new.self } in
     subst (λ setup. AreStates t None (set_up_without_key Inactive setup).operation) (sym c.in-Hash.is)
-    (set_up_are Hashes s t (first_row (class_rows class.Hash c.in-Hash.alg.0)) (hash_work c.in-Hash.alg.0) (put_hash s c.hash_setup.new.self) all (c.hash_setup.ensures.state Inactive (all Hashes)) refl)
+    (set_up_are Hashes s t (first_row (class_rows class.Hash c.in-Hash.alg.0)) (hash_work c.in-Hash.alg.0) (keeps_put Hashes s c.hash_setup.new.self) all (c.hash_setup.ensures.state Inactive (all Hashes)) refl)
 
 pub returns-in-Hash-clause-reply : goal.returns-in-Hash-clause-reply
 returns-in-Hash-clause-reply c = λ all.
@@ -25,7 +25,7 @@ returns-in-Derivation-clause-state c = λ all.
     let refused = first_row (class_rows class.Derivation c.in-Derivation.alg.0) in
     let work = derivation_work c.in-Derivation.alg.0 in
     subst (λ setup. AreStates t None (set_up_without_key Inactive setup).operation) (sym c.in-Derivation.is)
-    (set_up_are Derivations s t refused work (put_derivation s c.key_derivation_setup.new.self c.in-Derivation.alg) all
+    (set_up_are Derivations s t refused work (keeps_put Derivations s (c.key_derivation_setup.new.self, c.in-Derivation.alg)) all
     (record { state = c.key_derivation_setup.ensures.state Inactive (all Derivations).state; algorithm = set_up_has class.Derivation c.in-Derivation.alg.0 }) (set_up_may refused work))
 
 pub returns-in-Derivation-clause-reply : goal.returns-in-Derivation-clause-reply
