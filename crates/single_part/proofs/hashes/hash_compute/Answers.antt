@@ -32,20 +32,16 @@ module _ (alg room : ℕ) (which : Hash) (names : NamesHash alg which) (none : N
       e ∙ ap (λ (o : Option Status). buffer_after old (reply_unless o (given bytes))) rows
       ∙ ap (λ (b : List ℕ). buffer_after old (reply_unless (first_row (compute_rows alg room)) (given b))) text
 
-pub returns-in_err-which-clause-reply : goal.returns-in_err-which-clause-reply
-returns-in_err-which-clause-reply c =
+pub returns-in_err-which : goal.returns-in_err-which
+returns-in_err-which c =
     let p = err_from_is_err_and c.from_residual.result c.from_residual.ensures.1 in
-    refused_length c.from_residual.result _ _ p.0 c.in_err-which.field-0.0 p.1 p.2 (no_hash c.args.alg.0 (length c.args.out.now) _ c.in_err-which.ensures.refusal)
+    let none = no_hash c.args.alg.0 (length c.args.out.now) _ c.in_err-which.ensures.refusal in
+    record { reply = refused_length c.from_residual.result _ _ p.0 c.in_err-which.field-0.0 p.1 p.2 none; buffer = refused_buffer c.args.out.now _ _ _ none }
 
-pub returns-in_err-which-clause-buffer : goal.returns-in_err-which-clause-buffer
-returns-in_err-which-clause-buffer c = refused_buffer c.args.out.now _ _ _ (no_hash c.args.alg.0 (length c.args.out.now) _ c.in_err-which.ensures.refusal)
-
-pub returns-clause-reply : goal.returns-clause-reply
-returns-clause-reply c =
-    hashed_length c.args.alg.0 (length c.args.out.now) c.in_ok-which.which c.in_ok-which.ensures.names c.in_ok-which.ensures.refusal c.args.input.now (take c.hash-length.result c.hash-length.new.out)
-    c.hash-length.ensures.digest c.give_front.result c.give_front.ensures.refusal c.give_front.ensures.length
-
-pub returns-clause-buffer : goal.returns-clause-buffer
-returns-clause-buffer c =
-    hashed_buffer c.args.alg.0 (length c.args.out.now) c.in_ok-which.which c.in_ok-which.ensures.names c.in_ok-which.ensures.refusal c.args.input.now (take c.hash-length.result c.hash-length.new.out)
-    c.hash-length.ensures.digest c.args.out.now c.give_front.new.out c.give_front.ensures.buffer
+pub returns : goal.returns
+returns c =
+    let which = c.in_ok-which in
+    let text = take c.hash-length.result c.hash-length.new.out in record {
+      reply = hashed_length c.args.alg.0 (length c.args.out.now) which.which which.ensures.names which.ensures.refusal c.args.input.now text c.hash-length.ensures.digest c.give_front.result c.give_front.ensures.refusal c.give_front.ensures.length;
+      buffer = hashed_buffer c.args.alg.0 (length c.args.out.now) which.which which.ensures.names which.ensures.refusal c.args.input.now text c.hash-length.ensures.digest c.args.out.now c.give_front.new.out c.give_front.ensures.buffer;
+    }
