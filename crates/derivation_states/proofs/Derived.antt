@@ -1,43 +1,30 @@
 -- The bytes of a derivation, block by block.
 use Rattle.std.proofs.Common.{List, [], add-one, ap, ap₂, arith, drop, get_or, inl, inr, length, refl, suc, sym, take, zero, ℕ, ◌*◌, ◌++◌, ◌+◌, ◌-◌, ◌/◌, ◌<◌, ◌∙◌, ◌∷◌, ◌≡◌, ◌≤◌}
-use Rattle.derivation_states.proofs.Common.{DerivationWork, block_at, bytes_or_empty, cases_Bool, derived, drop-append-le, expand, expand_block, expand_blocks, extract, hash_length, is_hkdf, next_derived, number_or_zero, pbkdf2, pbkdf2_block, pbkdf2_blocks, without, work_block_length, work_hash}
+use Rattle.derivation_states.proofs.Common.{DerivationWork, block_at, bytes_or_empty, cases_Bool, cond-false, cond-true, derived, drop-append-le, expand, expand_block, expand_blocks, extract, hash_length, is_hkdf, next_derived, number_or_zero, pbkdf2, pbkdf2_block, pbkdf2_blocks, without, work_block_length, work_hash}
 use Rattle.std.proofs.Math.Nat.{mul-suc, div-mul-le_self}
 use Rattle.std.proofs.lemmas.Nat.{le-div}
 use Rattle.std.proofs.lemmas.List.{length-take, length-drop, take-take, take-append-drop}
 use Rattle.multipart.specs.Dues.{DueGrows}
-use Rattle.derivation_states.proofs.Joined.{joined, joined_same, front_begins, length-joined, front, one_byte}
-use Rattle.derivation_states.proofs.Blocks.{at_true, at_false, block_of_hkdf, block_of_pbkdf2}
-use Rattle.derivation_states.proofs.Lengths.{HasBlocks, length-block_at}
-
-expand_blocks_joined : (hash : List ℕ → List ℕ) (b : ℕ) (prk info : List ℕ) (m : ℕ) → expand_blocks hash b prk info m ≡ joined (expand_block hash b prk info) m
-unfolding expand_blocks
-expand_blocks_joined hash b prk info zero = refl
-expand_blocks_joined hash b prk info (suc i) =
-    ap₂ (λ (xs ys : List ℕ). xs ++ ys) (expand_blocks_joined hash b prk info i) (ap (expand_block hash b prk info) (add-one i))
-
-pbkdf2_blocks_joined : (hash : List ℕ → List ℕ) (b : ℕ) (password salt : List ℕ) (c m : ℕ) → pbkdf2_blocks hash b password salt c m ≡ joined (pbkdf2_block hash b password salt c) m
-unfolding pbkdf2_blocks
-pbkdf2_blocks_joined hash b password salt c zero = refl
-pbkdf2_blocks_joined hash b password salt c (suc i) =
-    ap₂ (λ (xs ys : List ℕ). xs ++ ys) (pbkdf2_blocks_joined hash b password salt c i) (ap (pbkdf2_block hash b password salt c) (add-one i))
+use Rattle.derivation_states.proofs.Joined.{joined, joined_is, front_begins, length-joined, front, one_byte}
+use Rattle.derivation_states.proofs.Blocks.{HasBlocks, block_of_hkdf, block_of_pbkdf2, by_hkdf, by_pbkdf2, length-block_at, prk_of}
 
 -- the least number of blocks that have n bytes
 abbrev block_count : ℕ → ℕ → ℕ
 block_count h n = (n + h - 1) / h
 
 derived_blocks : (w : DerivationWork) (n : ℕ) → derived w n ≡ take n (joined (block_at w) (block_count (hash_length (work_hash w)) n))
-unfolding expand pbkdf2
+unfolding expand expand_blocks pbkdf2 pbkdf2_blocks
 derived_blocks w n =
     let count : ℕ = block_count (hash_length (work_hash w)) n in
+    let expanded : ℕ → List ℕ = expand_blocks (work_hash w) (work_block_length w) (prk_of w) (bytes_or_empty w.info) in
+    let stretched : ℕ → List ℕ = pbkdf2_blocks (work_hash w) (work_block_length w) (bytes_or_empty w.secret) (bytes_or_empty w.salt) (number_or_zero w.cost) in
     elim (cases_Bool (is_hkdf w.alg)) [
       | inl e ↦
-          let f : ℕ → List ℕ = expand_block (work_hash w) (work_block_length w) (extract (work_hash w) (work_block_length w) (bytes_or_empty w.salt) (bytes_or_empty w.secret)) (bytes_or_empty w.info) in
-          at_true (is_hkdf w.alg) _ _ e
-          ∙ ap (take n) (expand_blocks_joined _ _ _ _ _ ∙ joined_same f (block_at w) (λ i. sym (block_of_hkdf w e (suc i))) count)
+          cond-true (is_hkdf w.alg) _ _ e
+          ∙ ap (take n) (joined_is (block_at w) expanded refl (λ i. ap (λ (b : List ℕ). expanded i ++ b) (ap (by_hkdf w) (add-one i) ∙ sym (block_of_hkdf w e (suc i)))) count)
       | inr e ↦
-          let f : ℕ → List ℕ = pbkdf2_block (work_hash w) (work_block_length w) (bytes_or_empty w.secret) (bytes_or_empty w.salt) (number_or_zero w.cost) in
-          at_false (is_hkdf w.alg) _ _ e
-          ∙ ap (take n) (pbkdf2_blocks_joined _ _ _ _ _ _ ∙ joined_same f (block_at w) (λ i. sym (block_of_pbkdf2 w e i)) count)
+          cond-false (is_hkdf w.alg) _ _ e
+          ∙ ap (take n) (joined_is (block_at w) stretched refl (λ i. ap (λ (b : List ℕ). stretched i ++ b) (ap (by_pbkdf2 w) (add-one i) ∙ sym (block_of_pbkdf2 w e i))) count)
     ]
 
 derived_joined : (w : DerivationWork) (h : ℕ) → HasBlocks w h → (n : ℕ) → derived w n ≡ take n (joined (block_at w) (block_count h n))
@@ -73,12 +60,6 @@ module _ (w : DerivationWork) (h : ℕ) (blocks : HasBlocks w h) where
   length-derived n =
       omega (arith, ap length (derived_joined w h blocks n), length-take n (joined (block_at w) (block_count h n)), length-joined (block_at w) h (length-block_at w h blocks) (block_count h n), enough n)
 
-  -- fewer bytes are the front of more
-  derived_less : (n m : ℕ) → n ≤ m → take n (derived w m) ≡ derived w n
-  derived_less n m l =
-      let k : ℕ = block_count h m in
-      ap (take n) (derived_joined w h blocks m) ∙ take-take n m (joined (block_at w) k) l ∙ sym (derived_front n k (omega (arith, enough m)))
-
   pub length-next_derived : (n : ℕ) → length (next_derived w n) ≡ n
   length-next_derived n = omega (arith, length-drop w.taken (derived w (w.taken + n)), length-derived (w.taken + n))
 
@@ -88,8 +69,9 @@ module _ (w : DerivationWork) (h : ℕ) (blocks : HasBlocks w h) where
       let t : ℕ = w.taken in
       let place : t + (n + k) ≡ t + n + k = omega arith in
       let all : List ℕ = derived w (t + n + k) in
+      let less : take (t + n) all ≡ derived w (t + n) = ap (λ (j : ℕ). take j all) (sym (length-derived (t + n))) ∙ due_grows w (t + n) k in
       let parts : all ≡ derived w (t + n) ++ drop (t + n) all =
-      sym (take-append-drop (t + n) all) ∙ ap (λ (l : List ℕ). l ++ drop (t + n) all) (derived_less (t + n) (t + n + k) (omega arith)) in
+      sym (take-append-drop (t + n) all) ∙ ap (λ (l : List ℕ). l ++ drop (t + n) all) less in
       ap (λ (j : ℕ). drop t (derived w j)) place ∙ ap (drop t) parts
       ∙ drop-append-le t (derived w (t + n)) (drop (t + n) all) (omega (arith, length-derived (t + n)))
 

@@ -1,31 +1,25 @@
 -- The current block's next byte.
 use Rattle.std.proofs.Common.{List, None, Option, Some, [], ap, ap₂, arith, get_or, is_some, length, refl, slice_index_or, suc, sym, take, true, zero, ℕ, ◌*◌, ◌++◌, ◌+◌, ◌-◌, ◌<◌, ◌∙◌, ◌∷◌, ◌≡◌, ◌≤◌}
-use Rattle.derivation_states.proofs.Common.{DerivationWork, HoldsInputs, Inputs, IsRunning, KeyDerivation, NamesDerivation, block_at, digest_length, next_derived, number_or_zero, without}
+use Rattle.derivation_states.proofs.Common.{DerivationWork, HoldsInputs, Inputs, IsReady, IsRunning, KeyDerivation, NamesDerivation, block_at, digest_length, next_derived, number_or_zero, without}
 use Rattle.std.specs.Option.{ForSome}
 use Rattle.std.proofs.Math.Nat.{mul-suc}
-use Rattle.std.proofs.lemmas.List.{get_or-take}
+use Rattle.std.proofs.lemmas.List.{get_or-take, nil_from_length}
 use Rattle.hash_ops.specs.declared.Hash.{Hash}
-use Rattle.hash_ops.specs.declared.Hash.TheVariants.{Sha224, Sha256, Sha384, Sha512}
+use Rattle.hash_ops.specs.declared.Hash.TheVariants.{Sha224}
 use Rattle.hash_ops.proofs.Digests.{length-hash_of}
 use Rattle.derivation_states.specs.declared.output.Output.{Output}
-use Rattle.derivation_states.proofs.Lengths.{HasBlocks}
+use Rattle.derivation_states.proofs.Blocks.{HasBlocks}
 use Rattle.derivation_states.proofs.Derived.{next_byte, next_derived_add, length-next_derived}
 
-empty : (l : List ℕ) → length l ≡ 0 → l ≡ []
-empty [] e = refl
-empty (x ∷ xs) e = absurd (omega arith)
-
-pub some_digest : (which : Hash) → 1 ≤ digest_length which
+some_digest : (which : Hash) → 1 ≤ digest_length which
 some_digest Sha224 = omega arith
-some_digest Sha256 = omega arith
-some_digest Sha384 = omega arith
-some_digest Sha512 = omega arith
+some_digest which = omega arith
 
 some_turns : (cost given : Option ℕ) → cost ≡ given → is_some given ≡ true → ForSome cost (λ turns. 1 ≤ turns) → 1 ≤ number_or_zero given
 some_turns cost (Some n) e s h = h n e
 some_turns cost None e s h = cc
 
-pub has_blocks : (k : KeyDerivation) (i : Inputs) (w : DerivationWork) → NamesDerivation w.alg k → HoldsInputs i w → is_some w.secret ≡ true → HasBlocks w (digest_length k.hash)
+has_blocks : (k : KeyDerivation) (i : Inputs) (w : DerivationWork) → NamesDerivation w.alg k → HoldsInputs i w → is_some w.secret ≡ true → HasBlocks w (digest_length k.hash)
 has_blocks k i w kdf inputs secret = record {
   some = some_digest k.hash;
   digest = λ m. ap (λ (f : List ℕ → List ℕ). length (f m)) (sym kdf.hash.digest) ∙ length-hash_of k.hash m;
@@ -45,17 +39,19 @@ placed h o w eh blocks running left (suc i) e =
 pub byte_taken : (i : Inputs) (o : Output) (w : DerivationWork) → HoldsInputs i w → IsRunning o w → is_some w.secret ≡ true → o.used < o.length → next_derived w 1 ≡ slice_index_or o.block o.used 0 ∷ []
 byte_taken i o w inputs running secret left = placed (digest_length o.kdf.hash) o w refl (has_blocks o.kdf i w running.kdf inputs secret) running left o.number refl
 
--- so many bytes, and then one more
-pub one_more : (i : Inputs) (o : Output) (w : DerivationWork) → HoldsInputs i w → IsRunning o w → is_some w.secret ≡ true → (n byte : ℕ) (front : List ℕ)
-    → front ≡ next_derived w n → next_derived (without w n) 1 ≡ byte ∷ [] → front ++ byte ∷ [] ≡ next_derived w (n + 1)
-one_more i o w inputs running secret n byte front before next =
-    ap₂ (λ (xs ys : List ℕ). xs ++ ys) before (sym next) ∙ sym (next_derived_add w (digest_length o.kdf.hash) (has_blocks o.kdf i w running.kdf inputs secret) n 1)
+module _ (i : Inputs) (o : Output) (w : DerivationWork) (r : IsReady i o w) where
+  pub ready_blocks : HasBlocks w (digest_length o.kdf.hash)
+  ready_blocks = has_blocks o.kdf i w r.output.running.kdf r.inputs r.secret
 
-pub none_taken : (w : DerivationWork) (h : ℕ) → HasBlocks w h → next_derived w 0 ≡ []
-none_taken w h blocks = empty (next_derived w 0) (length-next_derived w h blocks 0)
+  pub length-given : (n : ℕ) → length (next_derived w n) ≡ n
+  length-given n = length-next_derived w (digest_length o.kdf.hash) ready_blocks n
 
-pub inputs_without : (i : Inputs) (w : DerivationWork) (n : ℕ) → HoldsInputs i w → HoldsInputs i (without w n)
-inputs_without i w n h = record { cost = h.cost; salt = h.salt; key = h.key; info = h.info; by_key = h.by_key; salted = h.salted; costed = h.costed }
+  pub none_taken : next_derived w 0 ≡ []
+  none_taken = nil_from_length (next_derived w 0) (length-given 0)
+
+  -- so many bytes, and then one more
+  pub one_more : (n byte : ℕ) (front : List ℕ) → front ≡ next_derived w n → next_derived (without w n) 1 ≡ byte ∷ [] → front ++ byte ∷ [] ≡ next_derived w (n + 1)
+  one_more n byte front before next = ap₂ (λ (xs ys : List ℕ). xs ++ ys) before (sym next) ∙ sym (next_derived_add w (digest_length o.kdf.hash) ready_blocks n 1)
 
 pub without_twice : (w : DerivationWork) (n k : ℕ) → without (without w n) k ≡ without w (n + k)
 without_twice w n k =

@@ -1,9 +1,11 @@
 -- What the output of a derivation stands for: the bytes that follow those that were taken.
-use Rattle.std.specs.Prelude.{◌≡◌, ◌+◌, ◌*◌, ◌≤◌, false, is_some, take, replicate}
+use Rattle.std.specs.Prelude.{◌≡◌, ◌+◌, ◌*◌, ◌≤◌, false, true, is_some, take, replicate}
 use Rattle.hash_ops.specs.Hashes.{digest_length}
 use Rattle.store_model.specs.Prelude.{DerivationWork}
 use Rattle.derivation_states.specs.Streams.{block_at}
 use Rattle.key_policy.specs.Names.{NamesDerivation}
+use Rattle.derivation_states.specs.Inputs.{HoldsInputs}
+use Rattle.derivation_states.specs.declared.inputs.Inputs.{Inputs}
 use Rattle.derivation_states.specs.declared.output.Output.{Output}
 
 pub record IsClearOutput (o : Output) : Type 0 where
@@ -27,3 +29,9 @@ pub record HoldsOutput (o : Output) (w : DerivationWork) : Type 0 where
   pub running : IsRunning o w
   pub fresh : w.taken ≡ 0 → o.number ≡ 0
   pub begun : is_some w.secret ≡ false → w.taken ≡ 0
+
+-- these are the inputs and the output of a derivation that has its secret, and so can give bytes
+pub record IsReady (i : Inputs) (o : Output) (w : DerivationWork) : Type 0 where
+  pub inputs : HoldsInputs i w
+  pub output : HoldsOutput o w
+  pub secret : is_some w.secret ≡ true

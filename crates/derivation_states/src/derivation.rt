@@ -1,17 +1,22 @@
 // What a derivation runs.
-ghost use Rattle.std.specs.Prelude.{◌≡◌, ◌≤◌, ◌+◌, ◌++◌, ◌∷◌, [], nat_lt, Some, IfOk, OnOk, length};
+ghost use Rattle.std.specs.Prelude.{◌≡◌, ◌≤◌, ◌++◌, ◌∷◌, [], false, true, nat_lt, is_some, bytes_eq, Some, IfOk, OnOk, length};
 ghost use Rattle.std.specs.Result.{result_err};
 ghost use Rattle.psa_status.specs.declared.Status.TheVariants.{InsufficientData};
 ghost use Rattle.psa_status.specs.Rows.{first_row, unless};
 ghost use Rattle.store_model.specs.DerivationOperations.{stated_bytes};
-ghost use Rattle.store_model.specs.Prelude.{DerivationWork, input_bytes_rows, input_integer_rows, key_step_rows, output_key_rows, output_rows, with_key};
-ghost use Rattle.derivation_states.specs.Inputs.{stands_at};
+ghost use Rattle.store_model.specs.Prelude.{DerivationWork, Reply, buffer_after, compared, derivation_step, given, input_bytes_rows, input_integer_rows, key_step_rows, next_derived, output_key_rows, output_rows, taken_from, with_bytes, with_key};
+ghost use Rattle.service_calls.specs.Answers.{AnswersLength, plain_reply};
+ghost use Rattle.service_calls.specs.Meanings.{model_derivation_step};
+ghost use Rattle.multipart.specs.Phases.{LeadsTo};
+ghost use Rattle.multipart.specs.declared.Phase.TheVariants as phase;
 ghost use Rattle.derivation_states.specs.States.{HoldsRunning, IsClearRunningDerivation};
 
 use crate::inputs::Inputs;
 use crate::output::Output;
 use key_attributes::Attributes;
+use multipart::{Stepped, Steps, Work};
 use psa_status::{Memory, Status};
+use service_calls::{DerivationStep, bytes, number, plain};
 use std::alloc::Global;
 
 /// The inputs that were given, and the bytes that can still be had.
@@ -21,55 +26,95 @@ pub(crate) struct RunningDerivation {
     pub(crate) output: Output,
 }
 
+impl Work for RunningDerivation {
+    ghost Said = { DerivationWork };
+
+    ghost is_clear = { IsClearRunningDerivation };
+
+    ghost holds = { HoldsRunning };
+
+    fn forget(&mut self) {
+        self.inputs.wipe();
+        self.output.wipe();
+    }
+}
+
+impl<'a> Steps<DerivationStep<'a>> for RunningDerivation {
+    ghost Given = { DerivationWork };
+
+    ghost has = { HoldsRunning };
+
+    ghost meaning = { λ random w step room. derivation_step w (model_derivation_step step room) };
+
+    ghost takes = { λ step. false };
+
+    fn takes_random(_step: &DerivationStep<'a>) -> bool {
+        false
+    }
+
+    fn draws(&self, _step: &DerivationStep<'a>, _room: usize) -> usize {
+        0
+    }
+
+    #[tactic(auto, using(multipart::proofs::Stepping::going_on))]
+    fn advance(&mut self, step: DerivationStep<'a>, _random: &[u8; 16], out: &mut [u8]) -> Stepped {
+        match step {
+            DerivationStep::GetCapacity => Stepped::staying(number(Ok(self.output.capacity))),
+            DerivationStep::SetCapacity(capacity) => Stepped::staying(plain(
+                self.output.lower_capacity(capacity),
+            )),
+            DerivationStep::InputBytes { step, bytes } => Stepped::going_on(self.input_bytes(
+                step, bytes,
+            )),
+            DerivationStep::InputInteger { step, value } => Stepped::going_on(self.input_integer(
+                step, value,
+            )),
+            DerivationStep::OutputBytes => match self.check_secret() {
+                Ok(()) => Stepped::staying(bytes(self.give_bytes(out))),
+                Err(status) => Stepped::going_on(Err(status)),
+            },
+            DerivationStep::VerifyBytes(expected) => match self.check_secret() {
+                Ok(()) => Stepped::staying(plain(self.verify_bytes(expected))),
+                Err(status) => Stepped::going_on(Err(status)),
+            },
+        }
+    }
+}
+
 impl RunningDerivation {
     // No inputs and no bytes; `Memory` where there is no room for the buffers.
     pub(crate) fn new(alloc: Global) -> Result<RunningDerivation, Memory>
         ensures { IfOk result (λ s. IsClearRunningDerivation s) }
     {
-        let inputs = Inputs::new(alloc)?;
         Ok(RunningDerivation {
-            inputs,
+            inputs: Inputs::new(alloc)?,
             output: Output::new(),
         })
     }
 
-    // Forgets all inputs and the output.
-    pub(crate) fn wipe(&mut self)
-        ensures { IsClearRunningDerivation self.new }
-    {
-        self.inputs.wipe();
-        self.output.wipe();
-    }
-
-    // The refusal of bytes at a step.
-    pub(crate) fn check_bytes(&self, step: u16, bytes: &[u8]) -> Result<(), Status>
-        ensures rows { (w : DerivationWork) → HoldsRunning self.now w →
-            result ≡ unless (first_row (input_bytes_rows w step bytes.now)) tt }
-        ensures room { OnOk result (length (stands_at self.now.inputs step) + length bytes.now ≤ 1024) }
+    // Takes bytes at a step. `InvalidArgument` where the step takes none, `BadState` where it isn't due, and
+    // `NotSupported` where it would have more than 1,024 bytes.
+    fn input_bytes(&mut self, step: u16, bytes: &[u8]) -> Result<(), Status>
+        ensures refusal { (w : DerivationWork) → HoldsRunning self.old w →
+            result_err result ≡ first_row (input_bytes_rows w step bytes.now) }
+        ensures holds { (w : DerivationWork) → HoldsRunning self.old w →
+            OnOk result (HoldsRunning self.new (with_bytes w step bytes.now)) }
     {
         let has_begun = self.output.has_begun();
         self.inputs
-            .check_bytes(self.output.kdf, has_begun, step, bytes)
+            .take_bytes(self.output.kdf, has_begun, step, bytes)?;
+        Ok(())
     }
 
-    // Takes a number at a step, as the cost.
-    pub(crate) fn input_integer(&mut self, step: u16, value: u64) -> Result<(), Status>
+    // Takes PBKDF2's cost. `InvalidArgument` at any other step and for 0, `BadState` for a second one, and `NotSupported`
+    // above 100,000.
+    fn input_integer(&mut self, step: u16, value: u64) -> Result<(), Status>
         ensures refusal { (w : DerivationWork) → HoldsRunning self.old w →
             result_err result ≡ first_row (input_integer_rows w step value) }
         ensures holds { (w : DerivationWork) → HoldsRunning self.old w →
             OnOk result (HoldsRunning self.new (record w { cost = Some value })) }
     {
-        let turns = self.inputs.check_integer(self.output.kdf, step, value)?;
-        self.inputs.put_cost(turns);
-        Ok(())
-    }
-
-    // The refusal of a key at a step, whatever the key is.
-    pub(crate) fn check_key_step(&self, step: u16) -> Result<(), Status>
-        ensures { (w : DerivationWork) → HoldsRunning self.now w →
-            result ≡ unless (first_row (key_step_rows w step)) tt }
-    {
-        self.inputs.check_key_step(self.output.kdf, step)
+        self.inputs.take_integer(self.output.kdf, step, value)
     }
 
     // Takes a key's bytes at a step.
@@ -80,7 +125,7 @@ impl RunningDerivation {
         ensures holds { (w : DerivationWork) → HoldsRunning self.old w →
             OnOk result (HoldsRunning self.new (with_key w key.now)) }
     {
-        self.check_key_step(step)?;
+        self.inputs.check_key_step(self.output.kdf, step)?;
         self.inputs.put_key(self.output.kdf, key);
         Ok(())
     }
@@ -93,6 +138,36 @@ impl RunningDerivation {
             Ok(())
         } else {
             Err(Status::BadState)
+        }
+    }
+
+    // Fills `out` with the next bytes, and answers their number. `InsufficientData` where there aren't so many: then none
+    // is left.
+    fn give_bytes(&mut self, out: &mut [u8]) -> Result<usize, Status>
+        ensures holds { (w : DerivationWork) → HoldsRunning self.old w → is_some w.secret ≡ true →
+            LeadsTo phase.Active (HoldsRunning self.new) (taken_from w (length out.old) (given (next_derived w (length out.old)))).operation }
+        ensures reply { (w : DerivationWork) → HoldsRunning self.old w → is_some w.secret ≡ true →
+            AnswersLength result (taken_from w (length out.old) (given (next_derived w (length out.old)))).reply }
+        ensures buffer { (w : DerivationWork) → HoldsRunning self.old w → is_some w.secret ≡ true →
+            out.new ≡ buffer_after out.old (taken_from w (length out.old) (given (next_derived w (length out.old)))).reply }
+    {
+        self.output.check_capacity(out.len())?;
+        self.output.fill(&self.inputs, out);
+        Ok(out.len())
+    }
+
+    // Takes as many bytes as were expected. `InvalidSignature` where they are others, and the refusal of `give_bytes`.
+    fn verify_bytes(&mut self, expected: &[u8]) -> Result<(), Status>
+        ensures holds { (w : DerivationWork) → HoldsRunning self.old w → is_some w.secret ≡ true → (reply : Reply) →
+            LeadsTo phase.Active (HoldsRunning self.new) (taken_from w (length expected.now) reply).operation }
+        ensures reply { (w : DerivationWork) → HoldsRunning self.old w → is_some w.secret ≡ true →
+            plain_reply result ≡ (taken_from w (length expected.now) (compared (bytes_eq expected.now (next_derived w (length expected.now))))).reply }
+    {
+        self.output.check_capacity(expected.len())?;
+        if self.output.gives(&self.inputs, expected) {
+            Ok(())
+        } else {
+            Err(Status::InvalidSignature)
         }
     }
 

@@ -22,13 +22,11 @@ impl Input {
     pub fn new(alloc: Global) -> Result<Input, Memory>
         ensures { IfOk result (λ input. IsClearInput input) }
     {
-        match Secret::new(alloc) {
-            Ok(bytes) => Ok(Input {
-                bytes,
-                is_given: false,
-            }),
-            Err(memory) => Err(memory),
-        }
+        let bytes = Secret::new(alloc)?;
+        Ok(Input {
+            bytes,
+            is_given: false,
+        })
     }
 
     /// Whether it was given.

@@ -2,6 +2,7 @@
 
 ghost use Rattle.std.specs.Prelude.{◌≡◌, ◌≤◌, ◌+◌, ◌==◌, ℕ, not, IfOk, OnOk, true, false, is_some, length};
 ghost use Rattle.std.specs.Option.{ForSome};
+ghost use Rattle.std.specs.Result.{result_err};
 ghost use Rattle.psa_status.specs.Rows.{first_row, unless};
 ghost use Rattle.store_model.specs.Prelude.{DerivationWork, input_bytes_rows, input_integer_rows, is_due, is_salt_due, is_secret_due, key_step, key_step_rows, takes_bytes, with_bytes, with_key};
 ghost use Rattle.key_policy.specs.Names.{NamesDerivation};
@@ -38,14 +39,11 @@ impl Inputs {
     pub fn new(alloc: Global) -> Result<Inputs, Memory>
         ensures { IfOk result (λ inputs. IsClearInputs inputs) }
     {
-        let salt = Input::new(alloc)?;
-        let key = Input::new(alloc)?;
-        let info = Input::new(alloc)?;
         Ok(Inputs {
             cost: None,
-            salt,
-            key,
-            info,
+            salt: Input::new(alloc)?,
+            key: Input::new(alloc)?,
+            info: Input::new(alloc)?,
             by_key: false,
         })
     }
@@ -104,30 +102,6 @@ impl Inputs {
         }
     }
 
-    /// The refusal of bytes at a step, where `has_begun` says whether output was taken.
-    pub fn check_bytes(
-        &self,
-        kdf: KeyDerivation,
-        has_begun: bool,
-        step: u16,
-        bytes: &[u8],
-    ) -> Result<(), Status>
-        ensures rows { (w : DerivationWork) → NamesDerivation w.alg kdf → HoldsInputs self.now w → has_begun ≡ not (w.taken == 0)
-            → result ≡ unless (first_row (input_bytes_rows w step bytes.now)) tt }
-        ensures room { OnOk result (length (stands_at self.now step) + length bytes.now ≤ 1024) }
-    {
-        if !takes_bytes(kdf, step) {
-            return Err(Status::InvalidArgument);
-        }
-        if !self.is_due(kdf, has_begun, step) {
-            return Err(Status::BadState);
-        }
-        if self.length_at(step) + bytes.len() > LONGEST_INPUT {
-            return Err(Status::NotSupported);
-        }
-        Ok(())
-    }
-
     // Takes a secret or a password.
     fn put_secret(&mut self, kdf: KeyDerivation, secret: &[u8])
         requires { length secret.now ≤ 1024 }
@@ -145,17 +119,34 @@ impl Inputs {
         }
     }
 
-    /// Takes bytes at a step that takes them and is due.
-    pub fn put_bytes(&mut self, kdf: KeyDerivation, step: u16, bytes: &[u8])
-        requires { length (stands_at self.old step) + length bytes.now ≤ 1024 }
-        ensures { (w : DerivationWork) → NamesDerivation w.alg kdf → HoldsInputs self.old w → is_due w step ≡ true
-            → HoldsInputs self.new (with_bytes w step bytes.now) }
+    /// Takes bytes at a step, where `has_begun` says whether output was taken.
+    pub fn take_bytes(
+        &mut self,
+        kdf: KeyDerivation,
+        has_begun: bool,
+        step: u16,
+        bytes: &[u8],
+    ) -> Result<(), Status>
+        ensures refusal { (w : DerivationWork) → NamesDerivation w.alg kdf → HoldsInputs self.old w → has_begun ≡ not (w.taken == 0)
+            → result_err result ≡ first_row (input_bytes_rows w step bytes.now) }
+        ensures holds { (w : DerivationWork) → NamesDerivation w.alg kdf → HoldsInputs self.old w → has_begun ≡ not (w.taken == 0)
+            → OnOk result (HoldsInputs self.new (with_bytes w step bytes.now)) }
     {
+        if !takes_bytes(kdf, step) {
+            return Err(Status::InvalidArgument);
+        }
+        if !self.is_due(kdf, has_begun, step) {
+            return Err(Status::BadState);
+        }
+        if self.length_at(step) + bytes.len() > LONGEST_INPUT {
+            return Err(Status::NotSupported);
+        }
         match step {
             SALT => self.salt.append(bytes),
             INFO => self.info.give(bytes),
             _ => self.put_secret(kdf, bytes),
         }
+        Ok(())
     }
 
     /// The refusal of a key at a step, whatever the key is.
@@ -182,11 +173,12 @@ impl Inputs {
         self.by_key = true;
     }
 
-    /// The number at a step as a cost, or its refusal.
-    pub fn check_integer(&self, kdf: KeyDerivation, step: u16, value: u64) -> Result<u32, Status>
-        ensures rows { (w : DerivationWork) → NamesDerivation w.alg kdf → HoldsInputs self.now w
-            → result ≡ unless (first_row (input_integer_rows w step value)) value }
-        ensures some_turns { IfOk result (λ turns. 1 ≤ turns) }
+    /// Takes a number at a step, as the cost.
+    pub fn take_integer(&mut self, kdf: KeyDerivation, step: u16, value: u64) -> Result<(), Status>
+        ensures refusal { (w : DerivationWork) → NamesDerivation w.alg kdf → HoldsInputs self.old w
+            → result_err result ≡ first_row (input_integer_rows w step value) }
+        ensures holds { (w : DerivationWork) → NamesDerivation w.alg kdf → HoldsInputs self.old w
+            → OnOk result (HoldsInputs self.new (record w { cost = Some value })) }
     {
         if kdf.scheme.is_hkdf() || step != COST {
             return Err(Status::InvalidArgument);
@@ -200,16 +192,8 @@ impl Inputs {
         if value > HIGHEST_COST {
             return Err(Status::NotSupported);
         }
-        Ok(value as u32)
-    }
-
-    /// Takes a cost.
-    pub fn put_cost(&mut self, turns: u32)
-        requires { 1 ≤ turns }
-        ensures { (w : DerivationWork) → HoldsInputs self.old w → is_some w.cost ≡ false
-            → HoldsInputs self.new (record w { cost = Some turns }) }
-    {
-        self.cost = Some(turns);
+        self.cost = Some(value as u32);
+        Ok(())
     }
 }
 

@@ -1,27 +1,28 @@
 //! The derivation of bytes and keys in several parts, by HKDF (RFC 5869) and PBKDF2 (RFC 8018).
 #![tactic(auto)]
 
-ghost use Rattle.std.specs.Prelude.{◌≡◌, ◌≤◌, ◌+◌, ◌/◌, min, IfOk, OnOk, OnErr, length};
-ghost use Rattle.store_model.specs.Prelude.{Operation, Inactive, InError, Active, is_inactive, DerivationWork, derivation_step, derived, GetCapacity, SetCapacity, InputBytes, InputInteger, OutputBytes, VerifyBytes, buffer_after, refusal};
-ghost use Rattle.service_calls.specs.Answers.{AnswersLength, plain_reply};
+ghost use Rattle.std.specs.Prelude.{◌≡◌, ◌≤◌, ◌+◌, ◌/◌, false, min, IfOk, length};
+ghost use Rattle.store_model.specs.Prelude.{Operation, Inactive, InError, is_inactive, DerivationWork, derivation_step, derived, refusal};
+ghost use Rattle.service_calls.specs.Answers.{plain_reply};
+ghost use Rattle.service_calls.specs.Meanings.{model_derivation_step};
 ghost use Rattle.multipart.specs.Dues.{DueGrows};
-ghost use Rattle.service_calls.specs.Answered.{number_reply};
+ghost use Rattle.multipart.specs.Turns.{is_active, loses_key, on_active};
 ghost use Rattle.derivation_states.specs.Replies.{AnswersFront};
+ghost use Rattle.derivation_states.specs.States.{IsClearDerivation, IsDerivationOperation};
 
 use alg_encoding::Alg;
 use derivation::RunningDerivation;
 use key_attributes::Attributes;
 use key_policy::derivation_algorithm;
-use multipart::{OperationState, Phase};
+use multipart::{Family, OperationState, Phase, Steps};
 use psa_status::{Memory, Status};
+use service_calls::{DerivationStep, Output};
 use std::alloc::Global;
 
 mod derivation;
-mod family;
 mod input;
 mod inputs;
 mod output;
-mod work;
 
 /// The most bytes of a derived key that are written: one more than a key may have, so that a longer one is seen.
 pub const KEY_ROOM: usize = 1025;
@@ -33,8 +34,6 @@ pub struct DerivationState {
 }
 
 impl DerivationState {
-    ghost use Rattle.derivation_states.specs.States.{IsClearDerivation, IsDerivationOperation};
-    ghost use Rattle.multipart.specs.Turns.{is_active, loses_key, on_active};
     ghost use Rattle.derivation_states.specs.KeySteps.{derivation_setup, derived_key, key_given, key_step_refusal, output_key_refusal};
 
     /// An inactive derivation; `Memory` where there is no room for its buffers.
@@ -100,70 +99,16 @@ impl DerivationState {
         Ok(())
     }
 
-    /// How many bytes can still be had.
-    pub fn key_derivation_get_capacity(&mut self) -> Result<u64, Status>
-        ensures state { (op : Operation DerivationWork) → IsDerivationOperation self.old op
-            → IsDerivationOperation self.new (on_active op (λ w. derivation_step w GetCapacity)).operation }
-        ensures reply { (op : Operation DerivationWork) → IsDerivationOperation self.old op
-            → number_reply result ≡ (on_active op (λ w. derivation_step w GetCapacity)).reply }
-    {
-        self.state.phase.check_active()?;
-        Ok(self.state.work.output.capacity)
-    }
-
-    /// Lowers how many bytes can be had. `InvalidArgument` where fewer can be had already; the derivation goes on.
-    pub fn key_derivation_set_capacity(&mut self, capacity: u64) -> Result<(), Status>
-        ensures state { (op : Operation DerivationWork) → IsDerivationOperation self.old op
-            → IsDerivationOperation self.new (on_active op (λ w. derivation_step w (SetCapacity capacity))).operation }
-        ensures reply { (op : Operation DerivationWork) → IsDerivationOperation self.old op
-            → plain_reply result ≡ (on_active op (λ w. derivation_step w (SetCapacity capacity))).reply }
-    {
-        self.state.phase.check_active()?;
-        let output = &mut self.state.work.output;
-        if capacity > output.capacity {
-            return Err(Status::InvalidArgument);
-        }
-        output.capacity = capacity;
-        Ok(())
-    }
-
-    /// Takes bytes at a step. `InvalidArgument` where the step takes none, `BadState` where it isn't due, and
-    /// `NotSupported` where it would have more than 1,024 bytes.
-    pub fn key_derivation_input_bytes(&mut self, step: u16, bytes: &[u8]) -> Result<(), Status>
-        ensures state { (op : Operation DerivationWork) → IsDerivationOperation self.old op
-            → IsDerivationOperation self.new (on_active op (λ w. derivation_step w (InputBytes step bytes.now))).operation }
-        ensures reply { (op : Operation DerivationWork) → IsDerivationOperation self.old op
-            → plain_reply result ≡ (on_active op (λ w. derivation_step w (InputBytes step bytes.now))).reply }
-    {
-        self.state.phase.check_active()?;
-        let checked = self.state.work.check_bytes(step, bytes);
-        self.settle(checked)?;
-        let work = &mut self.state.work;
-        work.inputs.put_bytes(work.output.kdf, step, bytes);
-        Ok(())
-    }
-
-    /// Takes PBKDF2's cost. `InvalidArgument` at any other step and for 0, `BadState` for a second one, and `NotSupported`
-    /// above 100,000.
-    pub fn key_derivation_input_integer(&mut self, step: u16, value: u64) -> Result<(), Status>
-        ensures state { (op : Operation DerivationWork) → IsDerivationOperation self.old op
-            → IsDerivationOperation self.new (on_active op (λ w. derivation_step w (InputInteger step value))).operation }
-        ensures reply { (op : Operation DerivationWork) → IsDerivationOperation self.old op
-            → plain_reply result ≡ (on_active op (λ w. derivation_step w (InputInteger step value))).reply }
-    {
-        self.state.phase.check_active()?;
-        let result = self.state.work.input_integer(step, value);
-        self.state.settle(Phase::after_step(result.is_ok()));
-        result
-    }
-
     /// What `key_derivation_input_key` would refuse whatever the key is.
     pub fn key_step_refusal(&self, step: u16) -> Option<Status>
         ensures { (op : Operation DerivationWork) → IsDerivationOperation self.now op
             → result ≡ key_step_refusal op step }
     {
         match self.state.phase.check_active() {
-            Ok(()) => self.state.work.check_key_step(step).err(),
+            Ok(()) => {
+                let work = &self.state.work;
+                work.inputs.check_key_step(work.output.kdf, step).err()
+            }
             Err(status) => Some(status),
         }
     }
@@ -180,25 +125,6 @@ impl DerivationState {
         let result = self.state.work.input_key(step, key);
         self.state.settle(Phase::after_step(result.is_ok()));
         result
-    }
-
-    /// Fills `out` with the next bytes, and answers their number. `BadState` before the secret; `InsufficientData` where
-    /// there aren't so many: then none is left, and the derivation goes on.
-    pub fn key_derivation_output_bytes(&mut self, out: &mut [u8]) -> Result<usize, Status>
-        ensures state { (op : Operation DerivationWork) → IsDerivationOperation self.old op
-            → IsDerivationOperation self.new (on_active op (λ w. derivation_step w (OutputBytes (length out.old)))).operation }
-        ensures reply { (op : Operation DerivationWork) → IsDerivationOperation self.old op
-            → AnswersLength result (on_active op (λ w. derivation_step w (OutputBytes (length out.old)))).reply }
-        ensures buffer { (op : Operation DerivationWork) → IsDerivationOperation self.old op
-            → out.new ≡ buffer_after out.old (on_active op (λ w. derivation_step w (OutputBytes (length out.old)))).reply }
-    {
-        self.state.phase.check_active()?;
-        let checked = self.state.work.check_secret();
-        self.settle(checked)?;
-        let work = &mut self.state.work;
-        work.output.check_capacity(out.len())?;
-        work.output.fill(&work.inputs, out);
-        Ok(out.len())
     }
 
     /// What `key_derivation_output_key` would refuse.
@@ -227,42 +153,46 @@ impl DerivationState {
     {
         self.state.phase.check_active()?;
         let checked = self.state.work.check_key_output(attributes);
-        self.settle(checked)?;
+        self.state.settle(Phase::after_step(checked.is_ok()));
+        checked?;
         let count = usize::from(attributes.bits / 8);
         let work = &mut self.state.work;
         work.output.check_capacity(count)?;
         Ok(work.output.fill_front(&work.inputs, count, out))
     }
+}
 
-    /// Takes as many bytes as were expected. `InvalidSignature` where they are others; the derivation goes on after them.
-    pub fn key_derivation_verify_bytes(&mut self, expected: &[u8]) -> Result<(), Status>
-        ensures state { (op : Operation DerivationWork) → IsDerivationOperation self.old op
-            → IsDerivationOperation self.new (on_active op (λ w. derivation_step w (VerifyBytes expected.now))).operation }
-        ensures reply { (op : Operation DerivationWork) → IsDerivationOperation self.old op
-            → plain_reply result ≡ (on_active op (λ w. derivation_step w (VerifyBytes expected.now))).reply }
+impl<'a> Family<DerivationStep<'a>> for DerivationState {
+    ghost Work = { DerivationWork };
+
+    ghost stands = { IsDerivationOperation };
+
+    ghost meaning = { λ random w step room. derivation_step w (model_derivation_step step room) };
+
+    ghost takes = { λ step. false };
+
+    fn lose_key(&mut self) -> Status
+        ensures state { (own : Operation DerivationWork) → IsDerivationOperation self.old own → IsDerivationOperation self.new (loses_key own).operation }
+        ensures reply { (own : Operation DerivationWork) → IsDerivationOperation self.old own → refusal result ≡ (loses_key own).reply }
     {
-        self.state.phase.check_active()?;
-        let checked = self.state.work.check_secret();
-        self.settle(checked)?;
-        let work = &mut self.state.work;
-        work.output.check_capacity(expected.len())?;
-        if work.output.gives(&work.inputs, expected) {
-            Ok(())
-        } else {
-            Err(Status::InvalidSignature)
-        }
+        DerivationState::lose_key(self)
     }
 
-    // Puts the derivation in error where a check refused.
-    fn settle(&mut self, checked: Result<(), Status>) -> Result<(), Status>
-        ensures same { result ≡ checked }
-        ensures kept { OnOk checked (self.new ≡ self.old) }
-        ensures failed { OnErr checked (IsDerivationOperation self.new InError) }
-    {
-        if checked.is_err() {
-            self.fail();
-        }
-        checked
+    fn takes_random(step: &DerivationStep<'a>) -> bool {
+        RunningDerivation::takes_random(step)
+    }
+
+    fn draws(&self, step: &DerivationStep<'a>, room: usize) -> usize {
+        self.state.draws(step, room)
+    }
+
+    fn step(
+        &mut self,
+        step: DerivationStep<'a>,
+        random: &[u8; 16],
+        out: &mut [u8],
+    ) -> Result<Output, Status> {
+        self.state.step(step, random, out)
     }
 }
 

@@ -3,7 +3,10 @@
 ghost use Rattle.std.specs.Prelude.{◌≡◌, ◌+◌, ◌*◌, ◌≤◌, ◌<◌, ◌==◌, [], ◌∷◌, ℕ, not, IfOk, IfErr, true, is_some, length, take, drop, min, bytes_eq};
 ghost use Rattle.psa_status.specs.declared.Status.TheVariants.{InsufficientData};
 ghost use Rattle.hash_ops.specs.Hashes.{digest_length};
-ghost use Rattle.store_model.specs.Prelude.{DerivationWork, derivation_work, next_derived, without};
+ghost use Rattle.store_model.specs.Prelude.{DerivationWork, SetCapacity, derivation_step, derivation_work, next_derived, without};
+ghost use Rattle.service_calls.specs.Answers.{plain_reply};
+ghost use Rattle.multipart.specs.Phases.{LeadsTo};
+ghost use Rattle.multipart.specs.declared.Phase.TheVariants as phase;
 ghost use Rattle.derivation_states.specs.Inputs.{HoldsInputs};
 ghost use Rattle.key_policy.specs.Names.{NamesDerivation, block_limit};
 ghost use Rattle.derivation_states.specs.Streams.{block_at};
@@ -32,7 +35,7 @@ pub struct Output {
 }
 
 impl Output {
-    ghost use Rattle.derivation_states.specs.Outputs.{HoldsOutput, IsClearOutput, IsRunning};
+    ghost use Rattle.derivation_states.specs.Outputs.{HoldsOutput, IsClearOutput, IsReady, IsRunning};
 
     /// No bytes.
     pub fn new() -> Output
@@ -55,11 +58,7 @@ impl Output {
     pub fn wipe(&mut self)
         ensures { IsClearOutput self.new }
     {
-        self.capacity = 0;
-        self.number = 0;
-        self.used = 0;
-        self.length = 0;
-        self.block = [0; 64];
+        *self = Output::new();
     }
 
     /// Makes it all bytes that a derivation can give.
@@ -76,6 +75,20 @@ impl Output {
         ensures { (w : DerivationWork) → HoldsOutput self.now w → result ≡ not (w.taken == 0) }
     {
         self.number != 0
+    }
+
+    /// Lowers how many bytes can be had. `InvalidArgument` where fewer can be had already.
+    pub fn lower_capacity(&mut self, capacity: u64) -> Result<(), Status>
+        ensures holds { (w : DerivationWork) → HoldsOutput self.old w
+            → LeadsTo phase.Active (HoldsOutput self.new) (derivation_step w (SetCapacity capacity)).operation }
+        ensures reply { (w : DerivationWork) → HoldsOutput self.old w
+            → plain_reply result ≡ (derivation_step w (SetCapacity capacity)).reply }
+    {
+        if capacity > self.capacity {
+            return Err(Status::InvalidArgument);
+        }
+        self.capacity = capacity;
+        Ok(())
     }
 
     /// `InsufficientData` where fewer than `count` bytes are left; then none is left.
@@ -143,8 +156,8 @@ impl Output {
     fn take_byte(&mut self, inputs: &Inputs) -> u8
         requires { 0 < self.old.capacity }
         ensures capacity { self.new.capacity + 1 ≡ self.old.capacity }
-        ensures holds { (w : DerivationWork) → HoldsInputs inputs.now w → IsRunning self.old w
-            → is_some w.secret ≡ true → HoldsOutput self.new (without w 1) }
+        ensures ready { (w : DerivationWork) → HoldsInputs inputs.now w → IsRunning self.old w
+            → is_some w.secret ≡ true → IsReady inputs.now self.new (without w 1) }
         ensures byte { (w : DerivationWork) → HoldsInputs inputs.now w → IsRunning self.old w
             → is_some w.secret ≡ true → next_derived w 1 ≡ result ∷ [] }
     {
@@ -159,10 +172,8 @@ impl Output {
     pub fn fill(&mut self, inputs: &Inputs, out: &mut [u8])
         requires { length out.old ≤ self.old.capacity }
         ensures capacity { self.new.capacity + length out.old ≡ self.old.capacity }
-        ensures holds { (w : DerivationWork) → HoldsInputs inputs.now w → HoldsOutput self.old w → is_some w.secret ≡ true
-            → HoldsOutput self.new (without w (length out.old)) }
-        ensures bytes { (w : DerivationWork) → HoldsInputs inputs.now w → HoldsOutput self.old w → is_some w.secret ≡ true
-            → out.new ≡ next_derived w (length out.old) }
+        ensures holds { (w : DerivationWork) → IsReady inputs.now self.old w → IsReady inputs.now self.new (without w (length out.old)) }
+        ensures bytes { (w : DerivationWork) → IsReady inputs.now self.old w → out.new ≡ next_derived w (length out.old) }
     {
         'bytes: for i in 0..out.len() {
             out[i] = self.take_byte(inputs);
@@ -172,8 +183,7 @@ impl Output {
     // Takes bytes that nobody sees.
     fn skip(&mut self, inputs: &Inputs, count: usize)
         requires { count ≤ self.old.capacity }
-        ensures { (w : DerivationWork) → HoldsInputs inputs.now w → HoldsOutput self.old w → is_some w.secret ≡ true
-            → HoldsOutput self.new (without w count) }
+        ensures { (w : DerivationWork) → IsReady inputs.now self.old w → IsReady inputs.now self.new (without w count) }
     {
         'bytes: for _ in 0..count {
             self.take_byte(inputs);
@@ -185,13 +195,9 @@ impl Output {
     pub fn fill_front(&mut self, inputs: &Inputs, count: usize, out: &mut [u8; KEY_ROOM]) -> usize
         requires { count ≤ self.old.capacity }
         ensures written { result ≡ min count 1025 }
-        ensures holds { (w : DerivationWork) → HoldsInputs inputs.now w → HoldsOutput self.old w → is_some w.secret ≡ true
-            → HoldsOutput self.new (without w count) }
-        ensures length { (w : DerivationWork) → HoldsInputs inputs.now w → HoldsOutput self.old w
-            → is_some w.secret ≡ true
-            → length (next_derived w count) ≡ count }
-        ensures front { (w : DerivationWork) → HoldsInputs inputs.now w → HoldsOutput self.old w → is_some w.secret ≡ true
-            → take result out.new ≡ take result (next_derived w count) }
+        ensures holds { (w : DerivationWork) → IsReady inputs.now self.old w → IsReady inputs.now self.new (without w count) }
+        ensures length { (w : DerivationWork) → IsReady inputs.now self.old w → length (next_derived w count) ≡ count }
+        ensures front { (w : DerivationWork) → IsReady inputs.now self.old w → take result out.new ≡ take result (next_derived w count) }
         ensures rest { drop result out.new ≡ drop result out.old }
     {
         let written = count.min(KEY_ROOM);
@@ -203,10 +209,8 @@ impl Output {
     /// Takes as many bytes as were expected, and answers whether they are those.
     pub fn gives(&mut self, inputs: &Inputs, expected: &[u8]) -> bool
         requires { length expected.now ≤ self.old.capacity }
-        ensures holds { (w : DerivationWork) → HoldsInputs inputs.now w → HoldsOutput self.old w → is_some w.secret ≡ true
-            → HoldsOutput self.new (without w (length expected.now)) }
-        ensures same { (w : DerivationWork) → HoldsInputs inputs.now w → HoldsOutput self.old w → is_some w.secret ≡ true
-            → result ≡ bytes_eq expected.now (next_derived w (length expected.now)) }
+        ensures holds { (w : DerivationWork) → IsReady inputs.now self.old w → IsReady inputs.now self.new (without w (length expected.now)) }
+        ensures same { (w : DerivationWork) → IsReady inputs.now self.old w → result ≡ bytes_eq expected.now (next_derived w (length expected.now)) }
     {
         let mut same = true;
         'bytes: for i in 0..expected.len() {
