@@ -83,6 +83,15 @@ impl Drop for Ghash {
     }
 }
 
+/// The product of two blocks, as polynomials modulo x^128 + x^7 + x^2 + x + 1 (SP 800-38D, section 6.3).
+pub fn multiply(x: u128, y: u128) -> u128
+    ensures { result ≡ block_product x y }
+{
+    let mut hash = Ghash::new(y);
+    hash.block(x);
+    hash.value()
+}
+
 // What is let go of a hash: zeros.
 fn release(products: &[u128; 16], far_products: &[u128; 16], value: u128)
     requires products { products.now ≡ replicate 16 0 }
