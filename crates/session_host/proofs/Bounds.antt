@@ -1,6 +1,6 @@
 -- Marks have causes, and so there are no more of them than failures.
 use Rattle.std.proofs.Common.{Bool, List, [], ap, arith, cond, false, refl, subst, true, ℕ, ◌+◌, ◌-◌, ◌<◌, ◌^◌, ◌∷◌, ◌≡◌, ◌≤◌}
-use Rattle.session_host.proofs.Common.{AreBounded, AreRising, Corrupt, Entry, FaultCounts, FaultMark, Hardware, HasFault, IsCaused, Opening, Plain, Storage, is_corrupt, is_hardware, is_storage, last_counts, marked, opening_after}
+use Rattle.session_host.proofs.Common.{AreBounded, AreRising, Corrupt, Entry, FaultCounts, FaultMark, Hardware, HasFault, IsCaused, Opening, Storage, is_corrupt, is_hardware, is_storage, last_counts, marked, opening_after}
 use Rattle.psa_status.specs.Causes.{Rose}
 
 abbrev one : Bool → ℕ
@@ -28,22 +28,16 @@ counted true before here after more later rose reached below rest = let r = rose
 counted false before here after more later rose reached below rest = omega arith
 
 by_storage : (tells : Bool) (before : FaultCounts) (e : Entry) (mark : FaultMark) → HasFault tells before e mark → is_storage mark ≡ true → Rose before.faults e.faults
-by_storage tells before e Plain fault is = cc
 by_storage tells before e (Storage access) fault is = fault
-by_storage tells before e Hardware fault is = cc
-by_storage tells before e Corrupt fault is = cc
+by_storage tells before e mark fault is = cc
 
 by_hardware : (tells : Bool) (before : FaultCounts) (e : Entry) (mark : FaultMark) → HasFault tells before e mark → is_hardware mark ≡ true → Rose before.device_faults e.device_faults
-by_hardware tells before e Plain fault is = cc
-by_hardware tells before e (Storage access) fault is = cc
 by_hardware tells before e Hardware fault is = fault
-by_hardware tells before e Corrupt fault is = cc
+by_hardware tells before e mark fault is = cc
 
 not_corrupt : (before : FaultCounts) (e : Entry) (mark : FaultMark) → HasFault true before e mark → is_corrupt mark ≡ false
-not_corrupt before e Plain fault = refl
-not_corrupt before e (Storage access) fault = refl
-not_corrupt before e Hardware fault = refl
 not_corrupt before e Corrupt fault = cc
+not_corrupt before e mark fault = refl
 
 storage_bound : (tells : Bool) (before : Opening) (h : List Entry) → IsCaused tells before.counts h → AreRising tells before h → (last_counts before.counts h).faults < 2 ^ 64 - 1 →
     before.counts.faults + marked is_storage h ≤ (last_counts before.counts h).faults

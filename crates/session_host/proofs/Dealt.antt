@@ -1,17 +1,12 @@
 -- The numbers of the sessions that are dealt to a worker.
 use Rattle.std.proofs.Common.{All, Bool, IfSome, List, None, [], ap, append_assoc, arith, cond, eq-eqb, false, get_or, get_or-set_other, get_or-set_same, inl, inr, length, length-append, length-set, ne_eqb, refl, set, subst, suc, sym, take, true, vec_capacity, zero, ℕ, ◌%◌, ◌++◌, ◌+◌, ◌-◌, ◌<◌, ◌==◌, ◌∙◌, ◌∷◌, ◌≡◌, ◌≢◌, ◌≤◌}
-use Rattle.session_host.proofs.Common.{All-nil, All-push, All-set, All-weaker, AreDealt, AreFirstCalls, AreFirstGiven, AreFirstReplies, AreKept, AreTaken, Caller, HasAnswered, HasMade, HasSeated, HasSeen, HaveOwn, IsFree, IsFrom, IsNewCaller, KnowsTurns, Replies, ReplyForm, Session, Worker, World, dealt, entries_of, eqb_tells, failures_of, get_or-map, get_or_push, heads, map-append, numbers_of, ranks_of, take_more}
+use Rattle.session_host.proofs.Common.{All-nil, All-push, All-set, All-weaker, AreDealt, AreFirstCalls, AreFirstGiven, AreFirstReplies, AreKept, AreTaken, Caller, HasAnswered, HasMade, HasSeated, HasSeen, HaveOwn, IsFree, IsFrom, IsNewCaller, KnowsTurns, Replies, ReplyForm, Session, Worker, World, dealt, entries_of, eqb_tells, failures_of, get_or-map, get_or_append_left, get_or_push, heads, map-append, numbers_of, ranks_of, take_more}
 use Rattle.std.proofs.lemmas.List.{append-nil}
 use Rattle.session_host.proofs.Told.{knows_none}
 use Rattle.session_host.specs.Workers as working
 
 abbrev AreApart : List ℕ → Type 0
 AreApart l = (i k : ℕ) → i < length l → k < length l → get_or l i 0 ≡ get_or l k 0 → i ≡ k
-
-get_left : (l : List ℕ) (x i : ℕ) → i < length l → get_or (l ++ x ∷ []) i 0 ≡ get_or l i 0
-get_left [] x i lt = absurd (omega arith)
-get_left (y ∷ l) x zero lt = refl
-get_left (y ∷ l) x (suc i) lt = get_left l x i (omega arith)
 
 -- one more number, which is none of those
 apart_more : (l : List ℕ) (x : ℕ) → AreApart l → ((i : ℕ) → i < length l → get_or l i 0 ≢ x) → AreApart (l ++ x ∷ [])
@@ -20,15 +15,15 @@ apart_more l x apart other i k lt le same = elim (eqb_tells i (length l)) [
     | inl b ↦ a.1 ∙ sym b.1
     | inr b ↦
         let low : k < length l = (let n = length-append l (x ∷ []) in let ne = b.1 in omega arith) in
-        absurd (other k low (sym (get_left l x k low) ∙ (sym same ∙ get_or_push l x 0 i (sym a.1))))
+        absurd (other k low (sym (get_or_append_left l (x ∷ []) 0 k low) ∙ (sym same ∙ get_or_push l x 0 i (sym a.1))))
   ]
   | inr a ↦
       let here : i < length l = (let n = length-append l (x ∷ []) in let ne = a.1 in omega arith) in
       elim (eqb_tells k (length l)) [
-        | inl b ↦ absurd (other i here (sym (get_left l x i here) ∙ (same ∙ get_or_push l x 0 k (sym b.1))))
+        | inl b ↦ absurd (other i here (sym (get_or_append_left l (x ∷ []) 0 i here) ∙ (same ∙ get_or_push l x 0 k (sym b.1))))
         | inr b ↦
             let low : k < length l = (let n = length-append l (x ∷ []) in let ne = b.1 in omega arith) in
-            apart i k here low (sym (get_left l x i here) ∙ (same ∙ get_left l x k low))
+            apart i k here low (sym (get_or_append_left l (x ∷ []) 0 i here) ∙ (same ∙ get_or_append_left l (x ∷ []) 0 k low))
       ]
 ]
 
@@ -39,7 +34,7 @@ above_more l x least true above i lt = elim (eqb_tells i (length l)) [
   | inl a ↦ let e : get_or (l ++ x ∷ []) i 0 ≡ x = get_or_push l x 0 i (sym a.1) in omega arith
   | inr a ↦
       let here : i < length l = (let n = length-append l (x ∷ []) in let ne = a.1 in omega arith) in
-      let e = get_left l x i here in let f = above i here in omega arith
+      let e = get_or_append_left l (x ∷ []) 0 i here in let f = above i here in omega arith
 ]
 above_more l x least false above i lt =
     let same : l ++ [] ≡ l = append-nil l in
@@ -72,9 +67,6 @@ dealt_few n r (suc j) =
 
 -- WORKERS
 
-same_number : (a b : ℕ) → a ≡ b → (a == b) ≡ true
-same_number a b e = eq-eqb a b e
-
 module _ {D A C : Type 0} where
   names_more : (old new : List (Session D A C)) (s : Session D A C) → new ≡ old ++ s ∷ [] → numbers_of new ≡ numbers_of old ++ s.caller.number ∷ []
   names_more old new s is = ap numbers_of is ∙ map-append (λ (s : Session D A C). s.caller.number) old (s ∷ [])
@@ -94,7 +86,7 @@ module _ {D A C : Type 0} where
             ∙ (names_more (get_or workers r d).sessions.items t.sessions.items s (seated d).sessions
             ∙ (ap (λ l. l ++ s.caller.number ∷ []) (own r d within ∙ ap (λ k. dealt (length workers) k j) (sym here.1))
             ∙ (ap (λ n. dealt (length workers) i j ++ n ∷ []) number
-            ∙ ap (λ b. dealt (length workers) i j ++ cond b ((16 - j) ∷ []) []) (sym (same_number r i (sym here.1))))))
+            ∙ ap (λ b. dealt (length workers) i j ++ cond b ((16 - j) ∷ []) []) (sym (eq-eqb r i (sym here.1))))))
         | inr other ↦
             ap (λ (x : Worker D A C). numbers_of x.sessions.items) (get_or-set_other workers r i t d other.1)
             ∙ (own i d (omega (arith, lt, count))
@@ -118,6 +110,15 @@ pub record IsDealing {D A C : Type 0} (w : World D A C) (form : ReplyForm) (j : 
   pub space : (i : ℕ) (d : Worker D A C) → i < length workers → 16 ≤ vec_capacity (get_or workers i d).sessions
   pub buffer : (i : ℕ) (d : Worker D A C) → i < length workers → 16448 ≤ length (get_or workers i d).buffer.items
   pub last : (i : ℕ) (d : Worker D A C) → i < length workers → (get_or workers i d).last ≡ None
+
+-- a new caller has made no call
+pub none_made : {D A C : Type 0} (w : World D A C) (n : ℕ) (c : Caller D A C) → IsNewCaller w n c → HasMade w [] c
+none_made w n c new = record {
+  ready = new.ready;
+  spent = let s = new.spent in omega arith;
+  count = ap length new.uncalled;
+  calls = subst (λ s. KnowsTurns w c.number (entries_of s) (AreFirstCalls [])) (sym new.unseen) (knows_none w c.number (AreFirstCalls []) tt);
+}
 
 pub same_long : {D A C : Type 0} (sessions : List (Session D A C)) → length (numbers_of sessions) ≡ length sessions
 same_long [] = refl
@@ -145,17 +146,9 @@ module _ {D A C : Type 0} (w : World D A C) (form : ReplyForm) where
         last = All-set (λ x. x.last ≡ None) workers r t (was.last ∙ h.last r t within) h.last;
       }
 
-  none_made : (n : ℕ) (c : Caller D A C) → IsNewCaller w n c → HasMade w [] c
-  none_made n c new = record {
-    ready = new.ready;
-    spent = let s = new.spent in omega arith;
-    count = ap length new.uncalled;
-    calls = subst (λ s. KnowsTurns w c.number (entries_of s) (AreFirstCalls [])) (sym new.unseen) (knows_none w c.number (AreFirstCalls []) tt);
-  }
-
   none_answered : (s : Session D A C) → IsFreshSession w form s → HasAnswered w [] s
   none_answered s f = record {
-    made = none_made f.number s.caller f.caller;
+    made = none_made w f.number s.caller f.caller;
     replies = record {
       told = [];
       kept = f.replies;
@@ -204,11 +197,6 @@ snoc_parts (x ∷ xs) (y ∷ ys) a b e =
     let heads : x ≡ y = cc in let tails : xs ++ a ∷ [] ≡ ys ++ b ∷ [] = cc in
     let r = snoc_parts xs ys a b tails in ((λ i. heads i ∷ r.0 i), r.1)
 
-get_front : {X : Type 0} (xs more : List X) (i : ℕ) (d : X) → i < length xs → get_or (xs ++ more) i d ≡ get_or xs i d
-get_front [] more i d lt = absurd (omega arith)
-get_front (y ∷ xs) more zero d lt = refl
-get_front (y ∷ xs) more (suc i) d lt = get_front xs more i d (omega arith)
-
 get_middle : {X : Type 0} (xs more : List X) (x d : X) → get_or (xs ++ x ∷ more) (length xs) d ≡ x
 get_middle [] more x d = refl
 get_middle (y ∷ xs) more x d = get_middle xs more x d
@@ -225,7 +213,7 @@ module _ {D A C : Type 0} where
       numbers_of (get_or now ((16 - m) % length now) d).sessions.items ≡ dealt (length now) ((16 - m) % length now) m ++ (16 - m) ∷ []
   last_is m now own within d =
       let r : ℕ = (16 - m) % length now in
-      own r d within ∙ ap (λ b. dealt (length now) r m ++ cond b ((16 - m) ∷ []) []) (same_number r r refl)
+      own r d within ∙ ap (λ b. dealt (length now) r m ++ cond b ((16 - m) ∷ []) []) (eq-eqb r r refl)
 
   -- the next session is there
   pub is_there : (m : ℕ) (now : List (Worker D A C)) (items : List (Session D A C)) → HaveOwn (suc m) now → (16 - m) % length now < length now → (d : Worker D A C) →
@@ -284,8 +272,8 @@ module _ {D A C : Type 0} where
             | inr other ↦
                 let low : k < length callers = (let f = i.taken.callers_are in let ne = other.1 in omega arith) in
                 let lowr : k < length replies = (let f = i.taken.callers_are in let g = i.taken.replies_are in omega arith) in
-                subst (λ z. IsFrom old (k + 1) z (get_or (replies ++ s.replies ∷ []) k y)) (sym (get_front callers (s.caller ∷ []) k c low))
-                (subst (λ z. IsFrom old (k + 1) (get_or callers k c) z) (sym (get_front replies (s.replies ∷ []) k y lowr)) (i.taken.each k c y (let f = i.taken.callers_are in omega arith)))
+                subst (λ z. IsFrom old (k + 1) z (get_or (replies ++ s.replies ∷ []) k y)) (sym (get_or_append_left callers (s.caller ∷ []) c k low))
+                (subst (λ z. IsFrom old (k + 1) (get_or callers k c) z) (sym (get_or_append_left replies (s.replies ∷ []) y k lowr)) (i.taken.each k c y (let f = i.taken.callers_are in omega arith)))
           ];
         };
       }

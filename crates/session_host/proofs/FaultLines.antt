@@ -1,8 +1,9 @@
 -- Reply lines that say the status of a failed device: no more than there are marks.
 
 -- statuses are told apart as the marks are that they come of
-use Rattle.std.proofs.Common.{Bool, List, None, Option, Some, [], ap, ap₂, arith, cond, count_by, eqb, false, inl, inr, leb, map, refl, suc, sum_by, sym, true, zero, ℕ, ◌+◌, ◌∙◌, ◌∷◌, ◌≡◌, ◌≤◌}
-use Rattle.session_host.proofs.Common.{Corrupt, DataCorrupt, Entry, FaultMark, Hardware, HardwareFailure, LinesAreBounded, Plain, ReplyLine, Status, Storage, StorageAccess, StorageFailure, eqb_tells, failure_marked, failure_of, failure_told, failures_of, failures_to, is_corrupt, is_data_corrupt, is_hardware, is_hardware_failure, is_of_fault, is_storage, is_storage_failure, leb_tells, marked, saying, sum_by-append, sum_by-cons}
+use Rattle.std.proofs.Common.{Bool, List, None, Option, Some, [], ap, ap₂, arith, cond, count_by, eqb, false, leb, map, refl, suc, sum_by, sym, true, zero, ℕ, ◌+◌, ◌∙◌, ◌∷◌, ◌≡◌, ◌≤◌}
+use Rattle.std.proofs.lemmas.Bool.Decides.{nat_tests}
+use Rattle.session_host.proofs.Common.{Corrupt, DataCorrupt, Entry, FaultMark, Hardware, HardwareFailure, LinesAreBounded, Plain, ReplyLine, Status, Storage, StorageAccess, StorageFailure, failure_marked, failure_of, failure_told, failures_of, failures_to, is_corrupt, is_data_corrupt, is_hardware, is_hardware_failure, is_of_fault, is_storage, is_storage_failure, marked, saying, sum_by-append, sum_by-cons}
 
 record Agrees (says : Status → Bool) (marks : FaultMark → Bool) : Type 0 where
   plain : marks Plain ≡ false
@@ -34,25 +35,7 @@ corrupt_agrees = record { plain = refl; others = no_corrupt; storage = λ access
 
 -- an amount that counts for the sessions to n + 1 counts for those to n, or for n + 1
 split : (caller n amount : ℕ) → cond (leb caller (suc n)) amount 0 ≡ cond (leb caller n) amount 0 + cond (eqb caller (suc n)) amount 0
-split caller n amount = elim (leb_tells caller n) [
-  | inl low ↦ elim (leb_tells caller (suc n)) [
-    | inl all ↦ elim (eqb_tells caller (suc n)) [
-      | inl last ↦ absurd (let a = low.1 in let b = last.1 in omega arith)
-      | inr other ↦ ap (λ b. cond b amount 0) all.0 ∙ sym (ap₂ (λ b c. cond b amount 0 + cond c amount 0) low.0 other.0 ∙ omega arith)
-    ]
-    | inr none ↦ absurd (let a = low.1 in let b = none.1 in omega arith)
-  ]
-  | inr high ↦ elim (eqb_tells caller (suc n)) [
-    | inl last ↦ elim (leb_tells caller (suc n)) [
-      | inl all ↦ ap (λ b. cond b amount 0) all.0 ∙ sym (ap₂ (λ b c. cond b amount 0 + cond c amount 0) high.0 last.0 ∙ omega arith)
-      | inr none ↦ absurd (let a = last.1 in let b = none.1 in omega arith)
-    ]
-    | inr other ↦ elim (leb_tells caller (suc n)) [
-      | inl all ↦ absurd (let a = high.1 in let b = all.1 in let c = other.1 in omega arith)
-      | inr none ↦ ap (λ b. cond b amount 0) none.0 ∙ sym (ap₂ (λ b c. cond b amount 0 + cond c amount 0) high.0 other.0 ∙ omega arith)
-    ]
-  ]
-]
+split caller n amount = grind (arith, nat_tests)
 
 at_most : (b : Bool) (amount : ℕ) → cond b amount 0 ≤ amount
 at_most true amount = omega arith

@@ -1,8 +1,8 @@
 -- From what threads have worked to what sixteen callers have made.
 use Rattle.std.proofs.Common.{All, List, None, Option, Some, [], ap, ap₂, arith, cond, flat_map, get_or, inl, inr, length, length-append, refl, subst, suc, sym, take, true, zero, ℕ, ◌++◌, ◌+◌, ◌-◌, ◌<◌, ◌∙◌, ◌∷◌, ◌≡◌, ◌≤◌}
-use Rattle.session_host.proofs.Common.{AreAllKept, AreCallers, AreDealt, AreFirstCalls, AreKept, AreStaff, AreTaken, Caller, HasMade, HasReplies, HasSeen, HasWorked, HaveKept, HaveMade, HaveOwn, HaveRun, HaveSeen, IsFrom, IsOfSession, IsOurs, IsWithin, KnowsTurns, Replies, ReplyForm, ReplyLine, ScriptLine, Session, Worker, World, all_replies, dealt, entries_of, get_or_default, is_success, sum_by-append, sum_by-cons, text_in}
+use Rattle.session_host.proofs.Common.{AreAllKept, AreCallers, AreDealt, AreKept, AreStaff, AreTaken, Caller, HasMade, HasReplies, HasSeen, HasWorked, HaveKept, HaveMade, HaveOwn, HaveRun, HaveSeen, IsFrom, IsOfSession, IsOurs, IsWithin, Replies, ReplyForm, ReplyLine, ScriptLine, Session, Worker, World, all_replies, dealt, entries_of, get_or_default, is_success, sum_by-append, sum_by-cons, text_in}
 use Rattle.std.proofs.lemmas.Grind.{flat_map-append}
-use Rattle.session_host.proofs.Told.{knows_none}
+use Rattle.session_host.proofs.Dealt.{none_made}
 
 -- some element of a list that has one
 pub some_of : {X : Type 0} (xs : List X) → 0 < length xs → X
@@ -10,20 +10,12 @@ some_of [] some = absurd (omega arith)
 some_of (x ∷ xs) some = x
 
 -- new callers have made no call
-pub none_made : {D A C : Type 0} (w : World D A C) (lines : List ScriptLine) (callers : List (Caller D A C)) → AreStaff w callers → HaveMade w lines callers
-none_made w lines callers staff = record {
-  are = record { sixteen = staff.sixteen; numbers = λ k d within. (staff.each k d (omega (arith, within, staff.sixteen))).number_is };
-  each = λ k d within.
-      let n = staff.each k d (omega (arith, within, staff.sixteen)) in let c = get_or callers k d in (
-        0,
-        record {
-          ready = n.ready;
-          spent = (let s = n.spent in omega arith);
-          count = ap length n.uncalled;
-          calls = subst (λ s. KnowsTurns w c.number (entries_of s) (AreFirstCalls [])) (sym n.unseen) (knows_none w c.number (AreFirstCalls []) tt);
-        },
-      );
-}
+pub have_made_none : {D A C : Type 0} (w : World D A C) (lines : List ScriptLine) (callers : List (Caller D A C)) → AreStaff w callers → HaveMade w lines callers
+have_made_none {D} {A} {C} w lines callers staff =
+    let each = λ (k : ℕ) (d : Caller D A C) (within : k < 16). staff.each k d (omega (arith, within, staff.sixteen)) in record {
+      are = record { sixteen = staff.sixteen; numbers = λ k d within. (each k d within).number_is };
+      each = λ k d within. (0, none_made w (k + 1) (get_or callers k d) (each k d within));
+    }
 
 at_each : {X Y : Type 0} (P : ℕ → X → Y → Type 0) (x : X) (xs : List X) (y : Y) (ys : List Y) → P 0 x y →
     ((k : ℕ) (a : X) (b : Y) → k < length xs → P (suc k) (get_or xs k a) (get_or ys k b)) → (k : ℕ) (a : X) (b : Y) → k < length (x ∷ xs) → P k (get_or (x ∷ xs) k a) (get_or (y ∷ ys) k b)

@@ -1,5 +1,5 @@
 -- Callers that have seen what others of their thread had.
-use Rattle.std.proofs.Common.{List, [], ap, ap₂, arith, get_or, get_or-set_other, get_or-set_same, length, length-set, refl, set, subst, suc, sym, zero, ℕ, ◌<◌, ◌∙◌, ◌∷◌, ◌≡◌}
+use Rattle.std.proofs.Common.{List, [], ap, ap₂, arith, get_or, get_or-set_other, get_or-set_same, length, length-set, refl, set, subst, sym, ℕ, ◌<◌, ◌∙◌, ◌∷◌, ◌≡◌}
 use Rattle.session_host.proofs.Common.{AreFirstCalls, AreFirstGiven, AreFirstReplies, AreKept, Caller, ChangesAt, Entry, HasAnswered, HasLearned, IsReady, KnowsTurns, Opened, Replies, ScriptLine, Session, StartsWith, View, World, begins_itself, caller_of, calls_by, entries_of, failure_marked, failures_of, heads, joined, lines_of, ranks_of, seen_begins}
 use Rattle.callers.specs.Parts.{SameButPass}
 use Rattle.std.specs.Global.{Vec}
@@ -61,11 +61,6 @@ module _ {D A C : Type 0} (w : World D A C) where
 pub item_of : {X : Type 0} (xs : List X) (i : ℕ) → i < length xs → X
 item_of [] i lt = absurd (omega arith)
 item_of (x ∷ xs) i lt = x
-
-pub set_itself : {X : Type 0} (xs : List X) (i : ℕ) (x : X) → i < length xs → x ≡ get_or xs i x → set xs i x ≡ xs
-set_itself [] i x lt is = absurd (omega arith)
-set_itself (y ∷ ys) zero x lt is = ap (λ z. z ∷ ys) is
-set_itself (y ∷ ys) (suc i) x lt is = ap (λ zs. y ∷ zs) (set_itself ys i x (omega arith) is)
 
 pub changes_set : {X : Type 0} (R : X → X → Type 0) (xs : List X) (place : ℕ) (x : X) → place < length xs → ((d : X) → R (get_or xs place d) x) → ChangesAt place R xs (set xs place x)
 changes_set R xs place x lt here = record {

@@ -1,5 +1,5 @@
 -- From what callers know, and from what a closed service says, to the one order of a script's calls.
-use Rattle.std.proofs.Common.{All, Bool, List, [], ap, append_assoc, arith, cond, eqb, false, flat_map, get_or, inl, inr, length, map, refl, subst, suc, sym, take, take_all, true, ℕ, ◌++◌, ◌+◌, ◌-◌, ◌<◌, ◌∙◌, ◌∷◌, ◌≡◌, ◌≤◌, ◌⊎◌}
+use Rattle.std.proofs.Common.{All, List, [], ap, append_assoc, arith, cond, eqb, false, flat_map, get_or, inl, inr, length, map, ne_eqb, refl, subst, suc, sym, take, take_all, ℕ, ◌++◌, ◌+◌, ◌-◌, ◌<◌, ◌∙◌, ◌∷◌, ◌≡◌, ◌≤◌, ◌⊎◌}
 use Rattle.session_host.proofs.Common.{All-head, All-nil, All-tail, AreCalls, AreFirstCalls, AreFirstReplies, AreReplies, AreRepliesSoFar, Caller, ElementTells, Entry, HasMade, HaveAnswered, HaveSeen, IsInLineOrder, IsOfSession, IsToldTo, IsWithin, KnowsTurns, ReplyLine, ScriptLine, Service, Starts, StartsWith, Turn, World, all_replies, begins_itself, caller_of, calls_by, choose, entries_of, eqb_tells, failure_marked, failure_of, failures_of, failures_to, head_of, heads, heads_to, leb_tells, lines_of, map-append, numbered, ranks_of, replies_of, replies_to, session_turns, turns_from, turns_of}
 use Rattle.std.proofs.lemmas.List.{append-nil}
 use Rattle.session_host.proofs.Fronts.{first_whole}
@@ -24,23 +24,16 @@ which session = elim (leb_tells session 16) [
   | inr high ↦ inr (inr high.1)
 ]
 
-apart : (session number : ℕ) → IsOther session → 1 ≤ number → number ≤ 16 → (b : Bool) → eqb number session ≡ b → b ≡ false
+apart : (session number : ℕ) → IsOther session → 1 ≤ number → number ≤ 16 → eqb number session ≡ false
 unfolding IsOther
-apart session number (inl none) low high true e = absurd (let same = eqb_says number session e in omega arith)
-  where
-    eqb_says : (a b : ℕ) → eqb a b ≡ true → a ≡ b
-    eqb_says a b e = grind arith
-apart session number (inr above) low high true e = absurd (let same = eqb_says number session e in omega arith)
-  where
-    eqb_says : (a b : ℕ) → eqb a b ≡ true → a ≡ b
-    eqb_says a b e = grind arith
-apart session number other low high false e = refl
+apart session number (inl none) low high = ne_eqb number session (λ same. absurd (omega arith))
+apart session number (inr above) low high = ne_eqb number session (λ same. absurd (omega arith))
 
 no_lines : (session : ℕ) (lines : List ScriptLine) → IsOther session → All IsOfSession lines → lines_of session lines ≡ []
 no_lines session [] other all = refl
 no_lines session (line ∷ lines) other all =
     let own : IsOfSession line = All-head IsOfSession line lines all in
-    ap (λ b. cond b (line ∷ lines_of session lines) (lines_of session lines)) (apart session line.session other own.0 own.1 (eqb line.session session) refl)
+    ap (λ b. cond b (line ∷ lines_of session lines) (lines_of session lines)) (apart session line.session other own.0 own.1)
     ∙ no_lines session lines other (All-tail IsOfSession line lines all)
 
 abbrev IsSigned : Entry → Type 0
@@ -50,7 +43,7 @@ no_entries : (session : ℕ) (history : List Entry) → IsOther session → All 
 no_entries session [] other all = refl
 no_entries session (e ∷ history) other all =
     let own : IsSigned e = All-head IsSigned e history all in
-    ap (λ b. choose b e (calls_by caller_of session history)) (apart session e.caller other (let l = own.0 in omega arith) own.1 (eqb e.caller session) refl)
+    ap (λ b. choose b e (calls_by caller_of session history)) (apart session e.caller other (let l = own.0 in omega arith) own.1)
     ∙ no_entries session history other (All-tail IsSigned e history all)
 
 -- WHAT STANDS BY SESSION
@@ -242,9 +235,6 @@ module _ {D A C : Type 0} (w : World D A C) (lines : List ScriptLine) (callers :
 
   -- one worker makes the calls in the order of the lines
   pub line_order : (d : Caller D A C) → ((k : ℕ) (d : Caller D A C) → k < 16 → HasMade w lines (get_or callers k d)) → HaveSeen lines callers → IsInLineOrder lines history
-  line_order d made (inl none) = in_order (subst (λ ls. IsWithin ls history) (sym none) tt)
-    where
-      in_order : IsWithin lines history → IsInLineOrder lines history
-      in_order within = in_line_order lines history within (counts_agree made d)
+  line_order d made (inl none) = in_line_order lines history (subst (λ ls. IsWithin ls history) (sym none) tt) (counts_agree made d)
   line_order d made (inr there) =
       in_line_order lines history (within_whole lines history (entries_of (get_or callers there.0 d).pass.me.0.seen) (seen there.0 d there.1) (there.2 d)) (counts_agree made d)

@@ -1,6 +1,8 @@
 -- The sessions of a thread, as a line is run.
-use Rattle.std.proofs.Common.{All, Bool, Err, IfOk, IfSome, List, MatchResult, None, Ok, Option, Result, Some, [], ap, ap₂, arith, cond, false, filter, get_or, get_or-set_other, get_or-set_same, inl, inr, length, length-append, length-set, map, refl, set, subst, suc, sym, take, true, ℕ, ◌++◌, ◌+◌, ◌-◌, ◌<◌, ◌==◌, ◌^◌, ◌∙◌, ◌∷◌, ◌≡◌, ◌≢◌, ◌≤◌, ◌⊎◌}
+use Rattle.std.proofs.Common.{All, Err, IfOk, IfSome, List, MatchResult, None, Ok, Option, Result, Some, [], ap, ap₂, arith, false, get_or, get_or-set_other, get_or-set_same, inl, inr, length, length-append, length-set, map, refl, set, subst, suc, sym, take, ℕ, ◌++◌, ◌+◌, ◌-◌, ◌<◌, ◌==◌, ◌^◌, ◌∙◌, ◌∷◌, ◌≡◌, ◌≢◌, ◌≤◌, ◌⊎◌}
 use Rattle.session_host.proofs.Common.{AreApart, AreKept, ChangesAt, GoesFurther, HasAnswered, HasLearned, HasMade, HasSeen, HasWorked, HaveForm, HaveRun, IsOurs, IsWithin, Memory, ReplyForm, ReplyLine, ScriptLine, Session, StartsWith, Worker, World, entries_of, eqb_tells, get_or_append_left, get_or_default, get_or_push, numbers_of, take_more}
+use Rattle.std.proofs.lemmas.Bool.{both_ways}
+use Rattle.std.proofs.lemmas.List.Sums.{count_by-le-length, length-filter}
 use Rattle.session_host.proofs.Order.{within_more, within_whole}
 use Rattle.session_host.proofs.Told.{answered_other}
 use Rattle.session_host.proofs.Meeting.{item_of, learned}
@@ -11,20 +13,12 @@ map_same f [] (y ∷ ys) e h = absurd (omega (arith, e))
 map_same f (x ∷ xs) [] e h = absurd (omega (arith, e))
 map_same f (x ∷ xs) (y ∷ ys) e h = ap₂ (λ a b. a ∷ b) (h 0 x (omega arith)) (map_same f xs ys (omega (arith, e)) (λ k d lt. h (suc k) d (omega arith)))
 
-shorter : {X : Type 0} (p : X → Bool) (xs : List X) → length (filter p xs) ≤ length xs
-shorter p [] = omega arith
-shorter p (x ∷ xs) = go (p x) (shorter p xs)
-  where
-    go : (b : Bool) → length (filter p xs) ≤ length xs → length (cond b (x ∷ filter p xs) (filter p xs)) ≤ length (x ∷ xs)
-    go true le = omega arith
-    go false le = omega arith
-
 module _ {D A C : Type 0} (w : World D A C) (lines : List ScriptLine) where
   pub few_replies : (s : Session D A C) → HasAnswered w lines s → length lines < 20000 → (told : List ReplyLine) × AreKept s.replies told × (length told < 2 ^ 32 - 1)
   few_replies s h few = (
     h.replies.told,
     h.replies.kept,
-    let a = h.replies.replies.count in let b = shorter (λ (l : ScriptLine). l.session == s.caller.number) lines in omega arith,
+    let a = h.replies.replies.count in let own = λ (l : ScriptLine). l.session == s.caller.number in omega (arith, length-filter own lines, count_by-le-length own lines),
   )
 
   -- A LINE OF NO SESSION HERE
@@ -130,9 +124,6 @@ module _ {D A C : Type 0} (w : World D A C) (lines : List ScriptLine) where
 
 -- AFTER SOME LINES OF A SCRIPT
 
-not_both : (b : Bool) → b ≡ false → b ≡ true → ⊥
-not_both b f t = cc
-
 module _ {D A C : Type 0} (w : World D A C) (lines : List ScriptLine) (i : ℕ) (line : ScriptLine) (lt : i < length lines) (is : line ≡ get_or lines i line) where
   one_more : take i lines ++ line ∷ [] ≡ take (i + 1) lines
   one_more = ap (λ l. take i lines ++ l ∷ []) is ∙ sym (take_more lines i line lt)
@@ -149,5 +140,5 @@ module _ {D A C : Type 0} (w : World D A C) (lines : List ScriptLine) (i : ℕ) 
       | inl a ↦ (i, a)
       | inr b ↦ (i + 1, subst (λ ls. HasMade w ls (get_or after.sessions.items k d).caller) one_more b)
     ];
-    whole = λ e. absurd (not_both after.whole whole e);
+    whole = λ e. absurd (both_ways after.whole whole e);
   }

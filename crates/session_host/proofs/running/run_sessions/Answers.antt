@@ -1,20 +1,18 @@
-use Rattle.std.proofs.Common.{All, List, [], ap, arith, length, refl, subst, suc, sym, take, zero, ℕ, ◌++◌, ◌∷◌, ◌≡◌}
+use Rattle.std.proofs.Common.{All, List, [], ap, arith, length, subst, sym, take, ℕ, ◌++◌, ◌∙◌, ◌≡◌}
+use Rattle.std.proofs.Math.Seq.{take-append_seam}
 use Rattle.session_host.proofs.Common.{world}
-use Rattle.session_host.proofs.Gathered.{none_made}
+use Rattle.session_host.proofs.Gathered.{have_made_none}
 use Rattle.session_host.proofs.running.run_sessions.Goals as goal
 
 -- what a loan of a whole list leaves in it
 kept : {X : Type 0} (xs ys : List X) (n : ℕ) → n ≡ length xs → take n (xs ++ ys) ≡ xs
-kept [] ys zero is = refl
-kept [] ys (suc n) is = absurd (omega arith)
-kept (x ∷ xs) ys zero is = absurd (omega arith)
-kept (x ∷ xs) ys (suc n) is = ap (λ l. x ∷ l) (kept xs ys n (omega arith))
+kept xs ys n is = ap (λ k. take k (xs ++ ys)) is ∙ take-append_seam xs ys
 
 pub returns-in_default-clause-made : goal.returns-in_default-clause-made
-returns-in_default-clause-made g c = none_made (world c.args.service.now.shared) c.args.lines.now c.args.callers.now.items c.requires.staff
+returns-in_default-clause-made g c = have_made_none (world c.args.service.now.shared) c.args.lines.now c.args.callers.now.items c.requires.staff
 
 pub returns-in_err-workers-clause-made : goal.returns-in_err-workers-clause-made
-returns-in_err-workers-clause-made g c = none_made (world c.args.service.now.shared) c.args.lines.now c.args.callers.now.items c.requires.staff
+returns-in_err-workers-clause-made g c = have_made_none (world c.args.service.now.shared) c.args.lines.now c.args.callers.now.items c.requires.staff
 
 pub free-requires-after_bounds : goal.free-requires-after_bounds
 free-requires-after_bounds g c κs within =

@@ -1,8 +1,8 @@
 use Rattle.std.proofs.Common.{ap, set, ◌∙◌}
-use Rattle.session_host.proofs.Meeting.{set_itself}
+use Rattle.std.proofs.lemmas.List.{set-get_or}
 use Rattle.session_host.proofs.worker.Worker.watch.Goals as goal
 
 pub returns-clause-items : goal.returns-clause-items
 returns-clause-items g c =
     let s = c.index_mut.result.now in let items = c.args.self.now.sessions.items in let i = c.args.place in
-    ap (λ k. set items i (record s { caller = k })) c.watch.ensures.same ∙ set_itself items i s c.requires.place c.index_mut.ensures.value
+    ap (λ k. set items i (record s { caller = k })) c.watch.ensures.same ∙ (ap (set items i) c.index_mut.ensures.value ∙ set-get_or items i s)
