@@ -1,5 +1,5 @@
 -- Why a command ends as it does.
-use Rattle.std.proofs.Common.{Err, IfSome, IsOk, List, MatchResult, None, Ok, Option, Result, Some, [], ap, arith, inl, inr, refl, subst, sym, ℕ, ◌∷◌, ◌≡◌, ◌⊎◌}
+use Rattle.std.proofs.Common.{Err, IfSome, IsOk, List, None, Ok, Option, Some, [], ap, arith, inl, inr, refl, subst, sym, ℕ, ◌∷◌, ◌≡◌, ◌⊎◌}
 use Rattle.psa_command.proofs.Common.{AreLinesOf, Command, DamagedCell, DiskFault, Done, EndsBy, Exit, HasStore, IsOfImage, IsOfReading, IsReadable, IsRun, IsUnrun, IsWritten, Memory, NotAStore, ReadFault, ReplyLine, Script, ScriptFault, ScriptLine, TellsThat, Usage, WriteFault, exit_of, exit_unanswered, labels_by, leb_tells, script_of, seed_by, text_by, workers_by}
 use Rattle.psa_status.specs.Causes.{Rose}
 use Rattle.policy_rules.specs.declared.narrowing.Label.{Label}
@@ -76,26 +76,15 @@ module _ {D A C : Type 0} (disks : Disk.Ghosts D) (elements : Devices.Ghosts A) 
   of_unrun exit u = subst HasCause (sym u.exit_is) (of_lines u.lines _ _ u.why u.unanswered)
 
   pub cause : (exit : Exit) (old new : Option (List ℕ)) → EndsSo exit old new → HasCause exit
-  cause Done old new ends = tt
-  cause Usage old new ends = tt
-  cause (Script fault) old new ends = tt
-  cause ReadFault old new ends = tt
-  cause WriteFault old new ends = tt
   cause NotAStore old new ends = of_unrun NotAStore ends
   cause (DamagedCell cell) old new ends = of_unrun (DamagedCell cell) ends
   cause DiskFault old new ends = of_unrun DiskFault ends
-  cause Memory old new ends = tt
+  cause exit old new ends = tt
 
   pub unwritten : (exit : Exit) (old new : Option (List ℕ)) → EndsSo exit old new → IsOfImage exit → IsUnwritten
-  unwritten Done old new ends image = absurd image
-  unwritten Usage old new ends image = absurd image
-  unwritten (Script fault) old new ends image = absurd image
-  unwritten ReadFault old new ends image = absurd image
-  unwritten WriteFault old new ends image = absurd image
   unwritten NotAStore old new ends image = (cause NotAStore old new ends).1
   unwritten (DamagedCell cell) old new ends image = (cause (DamagedCell cell) old new ends).1
-  unwritten DiskFault old new ends image = absurd image
-  unwritten Memory old new ends image = absurd image
+  unwritten exit old new ends image = absurd image
 
   -- a store that was opened was one, or was new
   was_found : (replies : List ReplyLine) → Answers replies → IfSome (disks.contents disk) (λ image. HasStore (Some image))
@@ -194,27 +183,17 @@ module _ {D A C : Type 0} (disks : Disk.Ghosts D) (elements : Devices.Ghosts A) 
 
   -- before its store is opened
   pub given_back : (exit : Exit) (old new : Option (List ℕ)) → IsOfReading exit → (disk_after ≡ disk) × (devices_after ≡ devices) → EndsSo exit old new
-  given_back Done old new reading same = absurd reading
-  given_back Usage old new reading same = absurd reading
   given_back (Script fault) old new reading same = same
   given_back ReadFault old new reading same = same
-  given_back WriteFault old new reading same = absurd reading
-  given_back NotAStore old new reading same = absurd reading
-  given_back (DamagedCell cell) old new reading same = absurd reading
-  given_back DiskFault old new reading same = absurd reading
   given_back Memory old new reading same = inl same
+  given_back exit old new reading same = absurd reading
 
   -- with replies
   pub answered_ends : (exit : Exit) (old new : Option (List ℕ)) (replies : List ReplyLine) → Answers replies → IsWritten (text_by command replies) old new exit → EndsSo exit old new
   answered_ends Done old new replies r w = (replies, r, w)
-  answered_ends Usage old new replies r w = absurd w
-  answered_ends (Script fault) old new replies r w = absurd w
-  answered_ends ReadFault old new replies r w = absurd w
   answered_ends WriteFault old new replies r w = (replies, r, w)
-  answered_ends NotAStore old new replies r w = absurd w
-  answered_ends (DamagedCell cell) old new replies r w = absurd w
-  answered_ends DiskFault old new replies r w = absurd w
   answered_ends Memory old new replies r w = inr (inr (replies, r))
+  answered_ends exit old new replies r w = absurd w
 
   -- without them
   pub unanswered_ends : (why : Unanswered) (old new : Option (List ℕ)) (lines : List ScriptLine) → AreLinesOf command left lines →
@@ -244,13 +223,6 @@ module _ {D A C : Type 0} (disks : Disk.Ghosts D) (elements : Devices.Ghosts A) 
       (subst (λ z. IsUnanswered disks elements admits disk devices (labels_by command given) z lines why disk_after devices_after) same_seed
       (subst (λ n. IsUnanswered disks elements admits disk devices n seed lines why disk_after devices_after) same_labels u))
 
--- what holds of a result that is this
-pub match_ok : {T E : Type 0} (P : T → Type 0) (Q : E → Type 0) (r : Result T E) (x : T) → r ≡ Ok x → MatchResult r P Q → P x
-match_ok P Q r x is m = subst (λ s. MatchResult s P Q) is m
-
-pub match_err : {T E : Type 0} (P : T → Type 0) (Q : E → Type 0) (r : Result T E) (x : E) → r ≡ Err x → MatchResult r P Q → Q x
-match_err P Q r x is m = subst (λ s. MatchResult s P Q) is m
-
 -- A TEXT THAT IS NO SCRIPT
 
 clash : (text : List ℕ) (lines : List ScriptLine) (f : ScriptFault) → script_of text ≡ Ok lines → script_of text ≡ Err f → ⊥
@@ -269,11 +241,9 @@ module _ {D A C : Type 0} (disks : Disk.Ghosts D) (elements : Devices.Ghosts A) 
       IfSome left (λ text. (f : ScriptFault) → script_of text ≡ Err f → (exit ≡ Script f) ⊎ (exit ≡ Memory))
   refused None exit old new read write known r = tt
   refused (Some text) Done old new read write known r = λ f e. absurd (clash text known.ends.1.lines f known.ends.1.lines_are e)
+  refused (Some text) WriteFault old new read write known r = λ f e. absurd (clash text known.ends.1.lines f known.ends.1.lines_are e)
   refused (Some text) Usage old new read write known r = absurd known.ends
   refused (Some text) (Script g) old new read write known r = λ f e. inl (one_fault text g f (known.script g refl) e)
   refused (Some text) ReadFault old new read write known r = absurd (r (known.read refl))
-  refused (Some text) WriteFault old new read write known r = λ f e. absurd (clash text known.ends.1.lines f known.ends.1.lines_are e)
-  refused (Some text) NotAStore old new read write known r = λ f e. absurd (clash text known.ends.lines f known.ends.lines_are e)
-  refused (Some text) (DamagedCell cell) old new read write known r = λ f e. absurd (clash text known.ends.lines f known.ends.lines_are e)
-  refused (Some text) DiskFault old new read write known r = λ f e. absurd (clash text known.ends.lines f known.ends.lines_are e)
   refused (Some text) Memory old new read write known r = λ f e. inr refl
+  refused (Some text) exit old new read write known r = λ f e. absurd (clash text known.ends.lines f known.ends.lines_are e)

@@ -1,12 +1,9 @@
 -- Why the calls of a script can't be read.
 use Rattle.std.proofs.Common.{Bool, Err, IfSome, List, None, Ok, Option, Result, Some, [], ap, arith, cond, false, length, length-append, nat_lt, refl, subst, sym, true, ℕ, ◌+◌, ◌<◌, ◌∙◌, ◌∷◌, ◌≡◌, ◌≤◌}
+use Rattle.std.proofs.lemmas.Option.{IfSome_then}
 use Rattle.psa_command.proofs.Common.{Consumes, Exit, Read, Script, ScriptFails, ScriptFault, ScriptLine, goes_on, line_words, lines_at, nat_tests, nothing_read, script_of, text_lines, words_at}
 use Rattle.script_lang.specs.declared.faults.Reason.{Reason}
 use Rattle.script_lang.specs.declared.faults.ScriptFault.TheVariants as faults
-
-if_some_weaker : {X : Type 0} (o : Option X) (P Q : X → Type 0) → ((x : X) → P x → Q x) → IfSome o P → IfSome o Q
-if_some_weaker None P Q f h = tt
-if_some_weaker (Some x) P Q f h = f x h
 
 pub too_long : (text : List ℕ) → 4194304 < length text → script_of text ≡ Err faults.TooLong
 unfolding script_of
@@ -56,4 +53,4 @@ not_too_long text read fault short same fails e =
     short_enough read (subst (λ t. length t ≤ 4194304) (sym same) short) (subst (λ f. ScriptFails f (script_of read)) (same_fault fault faults.TooLong e) fails)
 
 pub fault_told : (old : Option (List ℕ)) (f g : ScriptFault) → IfSome old (λ text. script_of text ≡ Err f) → Script f ≡ Script g → IfSome old (λ text. script_of text ≡ Err g)
-fault_told old f g h e = if_some_weaker old _ _ (λ text k. k ∙ ap Err (same_fault f g e)) h
+fault_told old f g h e = IfSome_then old h (λ text k. k ∙ ap Err (same_fault f g e))

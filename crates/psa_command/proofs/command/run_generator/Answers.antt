@@ -1,14 +1,15 @@
 use Rattle.std.proofs.Common.{refl, subst, sym, ◌∙◌}
+use Rattle.std.proofs.lemmas.Result.{MatchResult-at_err, MatchResult-at_ok}
 use Rattle.psa_command.proofs.Common.{AreAllKept}
 use Rattle.command_words.specs.declared.command.Command.TheVariants as commands
 use Rattle.script_lang.specs.declared.replies.ReplyForm.TheVariants.{Unranked}
-use Rattle.psa_command.proofs.Causes.{answered_ends, match_err, match_ok, of_answered, of_unanswered}
+use Rattle.psa_command.proofs.Causes.{answered_ends, of_answered, of_unanswered}
 use Rattle.psa_command.proofs.command.run_generator.Goals as goal
 
 pub returns-in-Ok-replies-clause-ends : goal.returns-in-Ok-replies-clause-ends
 returns-in-Ok-replies-clause-ends g c = λ given left named.
     let e = c.of-in-Ok-replies.ensures in let ran = c.answer_lines-replies.result in
-    let a = match_ok _ _ ran.replies c.in-Ok-replies.replies c.in-Ok-replies.is c.answer_lines-replies.ensures in
+    let a = MatchResult-at_ok _ _ c.in-Ok-replies.replies c.in-Ok-replies.is c.answer_lines-replies.ensures in
     rw (e.disk, e.devices, e.exit)
     (answered_ends g.D.Disk g.A.Devices g.C.Admission given left c.args.disk c.args.devices (commands.Generate c.args.count) ran.disk ran.devices c.write_summary_of.result _ _ a.replies
     (of_answered g.D.Disk g.A.Devices g.C.Admission given left c.args.disk c.args.devices (commands.Generate c.args.count) ran.disk ran.devices (g.C.Admission.labels c.args.rules) _ 1 c.deref.result.now a.replies
@@ -18,7 +19,7 @@ returns-in-Ok-replies-clause-ends g c = λ given left named.
 pub returns-clause-ends : goal.returns-clause-ends
 returns-clause-ends g c = λ given left named.
     let e = c.of-in-Err-replies.ensures in let ran = c.answer_lines-replies.result in
-    let u = match_err _ _ ran.replies c.in-Err-replies.why c.in-Err-replies.is c.answer_lines-replies.ensures in
+    let u = MatchResult-at_err _ _ c.in-Err-replies.why c.in-Err-replies.is c.answer_lines-replies.ensures in
     rw (e.disk, e.devices, e.exit, c.unanswered.ensures)
     (of_unanswered g.D.Disk g.A.Devices g.C.Admission given left c.args.disk c.args.devices (commands.Generate c.args.count) ran.disk ran.devices (g.C.Admission.labels c.args.rules) _ c.in-Err-replies.why _ _ c.deref.result.now
     named refl (c.deref.ensures.value ∙ c.in-Ok.ensures.lines) u)

@@ -1,13 +1,14 @@
 use Rattle.std.proofs.Common.{IfSome, Ok, ap, flat_map, refl, subst, sym, ◌∙◌, ◌≡◌}
+use Rattle.std.proofs.lemmas.Result.{MatchResult-at_ok}
 use Rattle.psa_command.proofs.Common.{IsWritten, Replies, script_of}
 use Rattle.command_words.specs.declared.command.Command.TheVariants as commands
-use Rattle.psa_command.proofs.Causes.{answered_ends, match_ok, of_answered}
+use Rattle.psa_command.proofs.Causes.{answered_ends, of_answered}
 use Rattle.psa_command.proofs.command.run_script.Goals as goal
 
 pub returns-in-Ok-replies-clause-ends : goal.returns-in-Ok-replies-clause-ends
 returns-in-Ok-replies-clause-ends g c = λ given named.
     let e = c.of-in-Ok-replies.ensures in let ran = c.answer_lines-run.result in let left = g.S.Source.left c.args.source.now in
-    let a = match_ok _ _ ran.replies c.in-Ok-replies.replies c.in-Ok-replies.is c.answer_lines-run.ensures in
+    let a = MatchResult-at_ok _ _ c.in-Ok-replies.replies c.in-Ok-replies.is c.answer_lines-run.ensures in
     let text = λ (k : Replies). k.text.items in
     let lines = subst (λ ls. IfSome left (λ text. script_of text ≡ Ok ls)) (sym c.lines.ensures) c.in-Ok.ensures.calls in
     let written = subst (λ t. IsWritten t (g.K.Sink.taken c.args.sink.now) (g.K.Sink.taken c.write_replies.new.sink) c.write_replies.result) (ap (flat_map text) c.deref.ensures.value ∙ a.all.text) c.write_replies.ensures.written in
