@@ -1,5 +1,5 @@
 -- What several proofs of this crate cite of its words, and of other crates'.
-pub use Rattle.caller_service.specs.Closing.{IsClosedOver, WasRetired, WereRetired, backwards}
+pub use Rattle.caller_service.specs.Closing.{IsClosedOver, WasRetired, WereRetired}
 pub use Rattle.caller_service.specs.Rooms.{IsRoom}
 pub use Rattle.caller_service.specs.Staff.{IsNewCaller}
 pub use Rattle.callers.specs.Handles.{AreIdle}
@@ -9,6 +9,7 @@ pub use Rattle.callers.specs.declared.caller.Caller.{Caller}
 pub use Rattle.locked_store.specs.Prelude.{IsClosed, World, caller_of, world, world_of}
 pub use Rattle.operation_handles.specs.Cells.{IsOperation}
 pub use Rattle.operation_handles.specs.States.{AreInactive}
-pub use Rattle.std.proofs.lemmas.List.{map-append}
+pub use Rattle.std.proofs.lemmas.List.{length_push, map-append}
+pub use Rattle.std.proofs.lemmas.List.Elements.{All-pop, All-push}
 pub use Rattle.store_model.specs.Prelude.{Entry, Inactive}
 pub use Rattle.turn_history.specs.Prelude.{IsIdle, StartsWith, account_of, calls_by, entries_of}

@@ -1,21 +1,29 @@
 -- What is known of callers once a service is closed, from what is known of those that were retired.
-use Rattle.std.proofs.Common.{All, List, [], ap, arith, get_or, get_or-set_other, get_or-set_same, inl, inr, length, length-append, length-set, map, set, subst, sym, ℕ, ◌++◌, ◌+◌, ◌<◌, ◌∙◌, ◌∷◌, ◌≡◌, ◌≤◌}
-use Rattle.caller_service.proofs.Common.{Caller, Entry, IsClosed, IsClosedOver, IsNewCaller, IsReady, StartsWith, WasRetired, WereRetired, World, account_of, backwards, caller_of, calls_by, entries_of}
+use Rattle.std.proofs.Common.{All, List, Some, [], ap, arith, get_or, get_or-set_other, get_or-set_same, inl, inr, length, length-append, length-set, map, refl, reverse, set, subst, sym, ℕ, ◌++◌, ◌+◌, ◌<◌, ◌∙◌, ◌∷◌, ◌≡◌, ◌≤◌}
+use Rattle.caller_service.proofs.Common.{All-pop, Caller, Entry, IsClosed, IsClosedOver, IsNewCaller, IsReady, StartsWith, WasRetired, WereRetired, World, account_of, caller_of, calls_by, entries_of, map-append}
 use Rattle.std.proofs.lemmas.Bool.Decides.{eqb_tells}
 use Rattle.turn_history.specs.declared.pass.Account.{Account}
 use Rattle.turn_history.proofs.Lists.{entries-append}
 use Rattle.callers.proofs.Journeys.{begins_through}
-use Rattle.caller_service.proofs.Lists.{all_reversed, get_left, get_mid}
+use Rattle.std.proofs.lemmas.List.{get_or_append_left, get_or_push, reverse-append}
+use Rattle.std.proofs.lemmas.List.Elements.{All-cons, All-nil}
+
+-- what holds of what is made of each, from the last on, holds of each
+all_reversed : {X Y : Type 0} (f : X → Y) (P : Y → Type 0) (xs : List X) → All P (map f (reverse xs)) → All (λ x. P (f x)) xs
+all_reversed f P [] all = All-nil (λ x. P (f x))
+all_reversed f P (x ∷ xs) all =
+    let parts = All-pop P (map f (reverse (x ∷ xs))) (map f (reverse xs)) (Some (f x)) (ap (map f) (reverse-append (x ∷ []) xs) ∙ map-append f (reverse xs) (x ∷ [])) all in
+    All-cons (λ y. P (f y)) x xs parts.1 (all_reversed f P xs parts.0)
 
 -- one more new caller
 pub new_each : {D A C : Type 0} (w : World D A C) (callers more : List (Caller D A C)) (c : Caller D A C) → more ≡ callers ++ c ∷ [] →
     ((k : ℕ) (d : Caller D A C) → k < length callers → IsNewCaller w (k + 1) (get_or callers k d)) → IsNewCaller w (length callers + 1) c →
     (k : ℕ) (d : Caller D A C) → k < length more → IsNewCaller w (k + 1) (get_or more k d)
 new_each w callers more c is each here k d lt = elim (eqb_tells k (length callers)) [
-  | inl last ↦ subst (λ j. IsNewCaller w (j + 1) (get_or more j d)) (sym last.1) (subst (IsNewCaller w (length callers + 1)) (sym (ap (λ l. get_or l (length callers) d) is ∙ get_mid callers [] c d)) here)
+  | inl last ↦ subst (λ j. IsNewCaller w (j + 1) (get_or more j d)) (sym last.1) (subst (IsNewCaller w (length callers + 1)) (sym (ap (λ l. get_or l (length callers) d) is ∙ get_or_push callers c d (length callers) refl)) here)
   | inr other ↦
       let low : k < length callers = (let n = ap length is ∙ length-append callers (c ∷ []) in let ne = other.1 in omega arith) in
-      subst (IsNewCaller w (k + 1)) (sym (ap (λ l. get_or l k d) is ∙ get_left callers (c ∷ []) k d low)) (each k d low)
+      subst (IsNewCaller w (k + 1)) (sym (ap (λ l. get_or l k d) is ∙ get_or_append_left callers (c ∷ []) d k low)) (each k d low)
 ]
 
 -- the first so many of these were retired, and the others are as they were
@@ -37,7 +45,7 @@ one_retired w at old now c r within here = record {
 
 module _ {D A C : Type 0} (w : World D A C) (disk : D) (devices : A) (old new : List (Caller D A C)) (accounts : List (Account Entry))
     (ready : All (IsReady w 0) old) (retired : WereRetired w old new)
-    (are : accounts ≡ map (λ (c : Caller D A C). account_of c.pass.me.0) (backwards new))
+    (are : accounts ≡ map (λ (c : Caller D A C). account_of c.pass.me.0) (reverse new))
     (closed : IsClosed w disk devices accounts) where
   each_seen : All (λ (c : Caller D A C). StartsWith closed.turns c.pass.me.0.seen) new
   each_seen = all_reversed (λ (c : Caller D A C). account_of c.pass.me.0) (λ a. StartsWith closed.turns a.seen) new (subst (All (λ a. StartsWith closed.turns a.seen)) are closed.seen)

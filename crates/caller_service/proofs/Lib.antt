@@ -1,3 +1,2 @@
 mod Common
-pub mod Lists
 pub mod Ended

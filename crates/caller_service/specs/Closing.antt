@@ -1,16 +1,11 @@
 -- What is known once a service is closed.
-use Rattle.std.specs.Prelude.{◌≡◌, ◌<◌, ◌≤◌, ℕ, true, List, [], ◌∷◌, ◌++◌, All, length, get_or, is_some}
+use Rattle.std.specs.Prelude.{◌≡◌, ◌<◌, ◌≤◌, ℕ, true, List, [], All, length, get_or, is_some}
 use Rattle.turn_history.specs.Prelude.{entries_of, calls_by, StartsWith}
 use Rattle.store_model.specs.Prelude.{Service, Entry, replay, last_counts}
 use Rattle.store_core.specs.Prelude.{KeepsKeys, course_of, durable_keys, opening_of, HasKeyOrZeros}
 use Rattle.locked_store.specs.Prelude.{caller_of, IsLegal, IsStartOf, World}
 use Rattle.callers.specs.Retired.{IsRetired, MakesNoCall}
 use Rattle.callers.specs.declared.caller.Caller.{Caller}
-
--- a list from its end on
-abbrev pub backwards : {X : Type 0} → List X → List X
-backwards [] = []
-backwards (x ∷ xs) = backwards xs ++ x ∷ []
 
 -- What is known of a history since an opening, and of the disk and the devices after it. Its calls are by sixteen callers. Each of
 -- its marks stands where it may and has its fault; the last entry's counts are those of disk and devices. The disk tells its

@@ -2,4 +2,5 @@ pub mod Rooms
 pub mod Staff
 pub mod Given
 pub mod Replies
+pub mod Clients
 pub mod Closing

@@ -4,6 +4,9 @@ use Rattle.std.specs.Result.{result_map_both}
 use Rattle.psa_status.specs.declared.Status.{Status}
 use Rattle.psa_status.specs.declared.Status.TheVariants.{PassWorn}
 use Rattle.service_calls.specs.declared.call.Call.{Call}
+use Rattle.service_calls.specs.declared.call.Call.TheVariants.{OnHandle}
+use Rattle.service_calls.specs.declared.handle_calls.HandleCall.TheVariants as handle_call
+use Rattle.service_calls.specs.declared.steps.Step.{Step}
 use Rattle.service_calls.specs.declared.output.Output.{Output}
 use Rattle.service_calls.specs.Meanings.{model_request}
 use Rattle.store_model.specs.Prelude.{HandleOperation}
@@ -18,6 +21,10 @@ use Rattle.locked_store.specs.Prelude.{world}
 use Rattle.callers.specs.declared.caller.Caller.{Caller}
 use Rattle.caller_service.specs.declared.replies.Reply.{Reply}
 use Rattle.caller_service.specs.declared.service.Service.{Service}
+
+-- a step of the operation at a handle
+abbrev pub steps_on : (op : ℕ) → Step → Call
+steps_on op step = OnHandle op (handle_call.Step step)
 
 -- what is read of an answer; a refusal stays as it is
 abbrev pub reads : {T : Type 0} → (Output → T) → Result Output Status → Result T Status

@@ -1,10 +1,10 @@
 // How the callers of a service end.
-ghost use Rattle.std.specs.Prelude.{◌≡◌, ◌<◌, ◌+◌, ◌++◌, ℕ, All, length, map};
+ghost use Rattle.std.specs.Prelude.{◌≡◌, ◌<◌, ◌+◌, ◌++◌, ℕ, All, length, map, reverse};
 ghost use Rattle.turn_history.specs.Prelude.{account_of};
 ghost use Rattle.callers.specs.Ready.{IsReady};
 ghost use Rattle.callers.specs.Retired.{IsRetired};
 ghost use Rattle.locked_store.specs.Prelude.{world};
-ghost use Rattle.caller_service.specs.Closing.{WereRetired, backwards};
+ghost use Rattle.caller_service.specs.Closing.{WereRetired};
 
 use admission::Admission;
 use callers::Caller;
@@ -36,7 +36,7 @@ pub(crate) fn hand_in<D: Disk, A: Devices, C: Admission>(
     requires retired { All (IsRetired ending.lock.table.shared.table_id) callers.items }
     requires one { All (λ c. c.pass.me.0.weight ≡ 1) callers.items }
     ensures lock { result.lock ≡ ending.lock }
-    ensures accounts { result.last.me.0.accounts ≡ ending.last.me.0.accounts ++ map (λ c. account_of c.pass.me.0) (backwards callers.items) }
+    ensures accounts { result.last.me.0.accounts ≡ ending.last.me.0.accounts ++ map (λ c. account_of c.pass.me.0) (reverse callers.items) }
     ensures weight { result.last.me.0.weight ≡ ending.last.me.0.weight + length callers.items }
 {
     let mut callers = callers;

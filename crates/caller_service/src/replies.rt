@@ -1,18 +1,11 @@
-// What calls by their names answer, and the one way in which they are made.
-ghost use Rattle.std.specs.Prelude.{◌≡◌, ◌≤◌, []};
+// What calls by their names answer.
+ghost use Rattle.std.specs.Prelude.{◌≡◌};
 ghost use Rattle.service_calls.specs.declared.output.Output.{Output};
 ghost use Rattle.caller_service.specs.Given.{description_of, identifier_of, length_of, nothing, number_of};
-ghost use Rattle.caller_service.specs.Replies.{IsReply, MayCall};
 
-use crate::service::Service;
-use admission::Admission;
-use callers::{Caller, Gate};
-use disk_face::Disk;
-use driver_dispatch::Devices;
 use key_attributes::{Attributes, KeyId, KeyType, Lifetime, Policy, Usage};
 use psa_status::Status;
-use service_calls::{Call, Output};
-use std::sync::Wait;
+use service_calls::Output;
 
 // Of an answer that describes no key.
 const NO_ATTRIBUTES: Attributes = Attributes {
@@ -89,39 +82,5 @@ impl Given for Attributes {
             Output::Description(attributes) => attributes,
             _ => NO_ATTRIBUTES,
         }
-    }
-}
-
-impl<D: Disk, A: Devices, C: Admission, G: Gate> Service<D, A, C, G> {
-    /// Makes a call, and reads its answer.
-    pub(crate) fn ask<T: Given, R: Wait>(
-        &self,
-        rt: &R,
-        caller: &mut Caller<D, A, C>,
-        call: &Call<'_>,
-        out: &mut [u8],
-    ) -> Reply<T>
-        requires { MayCall self.now caller.old }
-        ensures { IsReply self.now call.now T.given caller.old caller.new out.old out.new result }
-    {
-        let (rank, answer) = self.call(rt, caller, call, out);
-        let result = match answer {
-            Ok(output) => Ok(T::of(output)),
-            Err(status) => Err(status),
-        };
-        Reply { rank, result }
-    }
-
-    /// Makes a call that has no output buffer.
-    pub(crate) fn tell<T: Given, R: Wait>(
-        &self,
-        rt: &R,
-        caller: &mut Caller<D, A, C>,
-        call: &Call<'_>,
-    ) -> Reply<T>
-        requires { MayCall self.now caller.old }
-        ensures { IsReply self.now call.now T.given caller.old caller.new [] [] result }
-    {
-        self.ask(rt, caller, call, &mut [])
     }
 }

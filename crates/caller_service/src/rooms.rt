@@ -76,10 +76,7 @@ impl Room {
     {
         let spares = new_spares(alloc)?;
         let states = new_states(alloc)?;
-        let mut cells = match Vec::with_capacity(alloc, HANDLES) {
-            Ok(cells) => cells,
-            Err(_) => return Err(Memory),
-        };
+        let mut cells = with_room(alloc, HANDLES)?;
         into_cells(states, &mut cells);
         Ok(Room { spares, cells })
     }
@@ -116,10 +113,7 @@ pub(crate) fn take(alloc: Global, count: usize) -> Result<Vec<Room>, Memory>
     ensures count { IfOk result (λ rooms. length rooms.items ≡ count) }
     ensures rooms { IfOk result (λ rooms. All IsRoom rooms.items) }
 {
-    let mut rooms = match Vec::with_capacity(alloc, count) {
-        Ok(rooms) => rooms,
-        Err(_) => return Err(Memory),
-    };
+    let mut rooms = with_room(alloc, count)?;
     for _ in 0..count {
         match Room::new(alloc) {
             Ok(room) => rooms.push_reserved(room),

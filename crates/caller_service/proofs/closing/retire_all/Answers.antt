@@ -1,7 +1,7 @@
 use Rattle.std.proofs.Common.{ap, arith, get_or, length, subst, sym, ◌<◌, ◌∙◌}
 use Rattle.caller_service.proofs.Common.{IsReady, MakesNoCall, world}
 use Rattle.caller_service.proofs.Ended.{one_retired}
-use Rattle.caller_service.proofs.Lists.{get_same}
+use Rattle.std.proofs.lemmas.List.{get_or_default}
 use Rattle.caller_service.proofs.closing.retire_all.Goals as goal
 
 pub loop-caller-init : goal.loop-caller-init
@@ -25,5 +25,5 @@ loop-caller-preserved g c =
     (λ d. record {
       retired = c.retire.ensures.retired;
       quiet = subst (λ x. MakesNoCall x.pass.me.0 c.retire.new.self.pass.me.0)
-          (get_same c.loop-caller.caller-items at c.caller-item.result d lt ∙ i.rest at d (omega arith)) c.retire.ensures.quiet;
+          (get_or_default c.loop-caller.caller-items at c.caller-item.result d lt ∙ i.rest at d (omega arith)) c.retire.ensures.quiet;
     })

@@ -1,10 +1,6 @@
-use Rattle.std.proofs.Common.{None, [], ap, ◌++◌, ◌∙◌, ◌∷◌, ◌≡◌}
-use Rattle.caller_service.proofs.Common.{Inactive, IsOperation}
-use Rattle.std.specs.Option.{option_to_list}
-use Rattle.caller_service.proofs.Lists.{all_front}
+use Rattle.std.proofs.Common.{None, ◌≡◌}
+use Rattle.caller_service.proofs.Common.{All-pop, Inactive, IsOperation}
 use Rattle.caller_service.proofs.rooms.Room.free.Goals as goal
 
 pub loop-cell-preserved : goal.loop-cell-preserved
-loop-cell-preserved c =
-    let parts = c.pop.ensures.items ∙ ap (λ o. c.pop.new.self.items ++ option_to_list o) c.in-Some.is in
-    all_front (λ x. IsOperation x Inactive × (x.lease ≡ None)) c.pop.new.self.items (c.in-Some.cell ∷ []) c.loop-cell.cells.items parts c.loop-cell.invariant
+loop-cell-preserved c = (All-pop (λ x. IsOperation x Inactive × (x.lease ≡ None)) c.loop-cell.cells.items c.pop.new.self.items c.pop.result c.pop.ensures.items c.loop-cell.invariant).0

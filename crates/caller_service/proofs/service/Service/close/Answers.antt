@@ -1,5 +1,5 @@
-use Rattle.std.proofs.Common.{ap, arith, get_or, map, subst, sym, ◌++◌, ◌∙◌}
-use Rattle.caller_service.proofs.Common.{IsClosed, IsRetired, WereRetired, account_of, backwards, world_of}
+use Rattle.std.proofs.Common.{ap, arith, get_or, map, reverse, subst, sym, ◌++◌, ◌∙◌}
+use Rattle.caller_service.proofs.Common.{IsClosed, IsRetired, WereRetired, account_of, world_of}
 use Rattle.locked_store.specs.Shared.{lock_of, opened_of, world}
 use Rattle.caller_service.proofs.Ended.{closed_over}
 use Rattle.caller_service.proofs.service.Service.close.Goals as goal
@@ -19,6 +19,6 @@ returns g c =
     record {
       closed = closed_over w c.end-disk.result.0 c.end-disk.result.1 c.args.callers.items c.retire_all.new.callers.items c.hand_in.result.last.me.0.accounts
           c.requires.ready c.retire_all.ensures.retired
-          (c.hand_in.ensures.accounts ∙ ap (λ l. l ++ map (λ c. account_of c.pass.me.0) (backwards c.retire_all.new.callers.items)) c.start_ending.ensures.nothing.0) closed;
+          (c.hand_in.ensures.accounts ∙ ap (λ l. l ++ map (λ c. account_of c.pass.me.0) (reverse c.retire_all.new.callers.items)) c.start_ending.ensures.nothing.0) closed;
       wiped = subst (λ ended. WereRetired w c.args.callers.items ended.items) (sym c.of-ended.ensures) c.retire_all.ensures.retired;
     }

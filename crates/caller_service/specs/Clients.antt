@@ -1,0 +1,16 @@
+-- What is known of a call that a client makes.
+use Rattle.std.specs.Prelude.{◌≡◌, ℕ, List}
+use Rattle.service_calls.specs.declared.call.Call.{Call}
+use Rattle.service_calls.specs.declared.output.Output.{Output}
+use Rattle.disk_face.specs.declared.Disk as Disk
+use Rattle.driver_dispatch.specs.declared.devices.Devices as Devices
+use Rattle.admission.specs.declared.rules.Admission as Admission
+use Rattle.caller_service.specs.declared.client.Client.{Client}
+use Rattle.caller_service.specs.declared.replies.Reply.{Reply}
+use Rattle.caller_service.specs.Replies.{IsReply}
+
+module _ {D A C G R : Type 0} {d : Disk.Ghosts D} {a : Devices.Ghosts A} {c : Admission.Ghosts C} where
+  -- the client's caller made this call of its service, and has this reply
+  pub record Answers {T : Type 0} (call : Call) (given : Output → T) (old new : Client D A C G R d a c) (out_old out_new : List ℕ) (reply : Reply T) : Type 0 where
+    pub service : new.service.now ≡ old.service.now
+    pub reply_is : IsReply old.service.now call given old.caller new.caller out_old out_new reply
